@@ -1,0 +1,94 @@
+-- What the answers of an honest controller leave of a record that is being read.
+use Rattle.std.proofs.Common.{◌≡◌, ℕ, ◌+◌, ◌<◌, Bool, true, false, Option, None, Some, Result, Ok, Err, refl, sym, ap, subst, ◌∙◌, inl, inr, arith, ◌≤◌}
+use Rattle.std.specs.Prelude.{IsTrue, IsSome}
+use Rattle.std.proofs.lemmas.Bool.{cases_lt}
+use Rattle.ipmi_bus.specs.declared.controller.Shelf.{Shelf}
+use Rattle.ipmi_bus.specs.declared.step.Ended.{Ended}
+use Rattle.ipmi_bus.specs.declared.retrieval.Outcome.{Outcome}
+use Rattle.ipmi_bus.specs.declared.retrieval.Retrieval.{Retrieval}
+use Rattle.ipmi_bus.specs.Shelf.{Row, look}
+use Rattle.ipmi_bus.specs.Store.{Store, rows_of}
+use Rattle.ipmi_bus.specs.Seen.{Seen, KeepsStore, KeepsReservation, IsTroubled, current, StaysHonest}
+use Rattle.ipmi_bus.specs.Retrieval.{IsOpen, HasRead, IsReading, HoldsCurrent, GoesOn, HasGivenUp, CallAnswers, CallIsHonest, after_trouble, CountsTrouble}
+
+-- where a reservation is current, it was so before, and the store is the same
+pub store_kept : (shelf : Shelf) (s s' : Seen) (n : ℕ) → KeepsReservation shelf s s' → KeepsStore s s' → current shelf s' ≡ Some n → s'.store ≡ s.store
+store_kept shelf s s' n keeps store now = elim (cases_lt s.stores_added s'.stores_added) [
+  | inl more ↦ let gone = keeps.none_over_change more in cc (gone, now)
+  | inr le ↦ store.stays (omega (arith, store.grows))
+]
+
+pub read_moved : (r : Retrieval) (s s' : Seen) (row : Row) → s'.store ≡ s.store → HasRead r s row → HasRead r s' row
+read_moved r s s' row same read = record {
+  found = ap (λ (store : Store). look (rows_of r.shelf store) r.id) same ∙ read.found;
+  within = read.within;
+  bytes = read.bytes;
+  next = read.next;
+}
+
+-- a call that brought nothing leaves what was read
+pub reading_kept : (r : Retrieval) (s s' : Seen) → KeepsReservation r.shelf s s' → KeepsStore s s' → (0 < r.have → IsSome r.reservation) → IsReading r s → IsReading r s'
+reading_kept r s s' keeps store reserved reading = record {
+  piece = λ some now. at r.reservation refl (reserved some) some now;
+}
+  where
+    at : (o : Option ℕ) → r.reservation ≡ o → IsSome o → 0 < r.have → current r.shelf s' ≡ r.reservation → (row : Row) × HasRead r s' row
+    at None is h some now = cc h
+    at (Some n) is h some now =
+        let held : current r.shelf s' ≡ Some n = now ∙ is in
+        let before = reading.piece some (keeps.none_given n held ∙ sym is) in
+        (before.0, read_moved r s s' before.0 (store_kept r.shelf s s' n keeps store held) before.1)
+
+-- the count of troubles is no part of what was read
+reading_counted : (r : Retrieval) (s : Seen) (n : ℕ) → IsReading r s → IsReading (record r { troubles = n }) s
+reading_counted r s n reading = record {
+  piece = λ some now. let before = reading.piece some now in
+      (before.0, record { found = before.1.found; within = before.1.within; bytes = before.1.bytes; next = before.1.next });
+}
+
+reading_dropped : (r : Retrieval) (s : Seen) → r.have ≡ 0 → IsReading r s
+reading_dropped r s none = record { piece = λ some now. absurd (omega arith) }
+
+after_reading : (is_cancelled : Bool) (r : Retrieval) (s s' : Seen) → KeepsReservation r.shelf s s' → KeepsStore s s' → (0 < r.have → IsSome r.reservation) → IsReading r s → IsReading (after_trouble is_cancelled r) s'
+after_reading true r s s' keeps store reserved reading = reading_dropped _ s' refl
+after_reading false r s s' keeps store reserved reading = reading_counted r s' _ (reading_kept r s s' keeps store reserved reading)
+
+after_counts : (is_cancelled : Bool) (r : Retrieval) → (after_trouble is_cancelled r).troubles ≡ r.troubles + 1
+after_counts true r = refl
+after_counts false r = refl
+
+after_have : (is_cancelled : Bool) (r : Retrieval) → (after_trouble is_cancelled r).have ≤ r.have
+after_have true r = omega arith
+after_have false r = omega arith
+
+trouble_answers : (is_cancelled : Bool) (old new : Retrieval) (s s' : Seen) (result : Result Outcome Ended) → IsOpen old → IsReading old s → StaysHonest s s' → KeepsReservation old.shelf s s' → IsTroubled s s'
+    → CountsTrouble is_cancelled old new result → CallAnswers old new s s' result
+trouble_answers is_cancelled old new s s' (Ok turn) open_ reading stays keeps troubled counts =
+    let goes : GoesOn old (after_trouble is_cancelled old) s s' = record {
+      reading = after_reading is_cancelled old s s' keeps stays.store open_.reserved reading;
+      troubles = omega (arith, after_counts is_cancelled old, troubled.troubles);
+      fresh_troubles = omega (arith, after_counts is_cancelled old, troubled.fresh_troubles);
+      grows = omega (arith, after_counts is_cancelled old);
+      refusals = troubled.refusals;
+      last_code = troubled.last_code;
+      within = omega (arith, after_have is_cancelled old);
+    } in
+    subst (λ (t : Outcome). CallAnswers old new s s' (Ok t)) (sym counts.0) (subst (λ (r : Retrieval). GoesOn old r s s') (sym counts.1) goes)
+trouble_answers is_cancelled old new s s' (Err ended) open_ reading stays keeps troubled counts =
+    let given : HasGivenUp old old.id s s' = record {
+      id_is = refl;
+      troubles = omega (arith, troubled.troubles, counts.2);
+      fresh_troubles = omega (arith, troubled.fresh_troubles, counts.2);
+      refusals = troubled.refusals;
+      last_code = troubled.last_code;
+    } in
+    subst (λ (e : Ended). CallAnswers old new s s' (Err e)) (sym counts.0) given
+
+-- a trouble that an honest controller answered
+pub honest_trouble : (is_cancelled : Bool) (old new : Retrieval) (s s' : Seen) (result : Result Outcome Ended) → IsOpen old → IsReading old s → StaysHonest s s' → KeepsReservation old.shelf s s' → IsTroubled s s'
+    → CountsTrouble is_cancelled old new result → (IsTrue s.plain → HoldsCurrent old s → ⊥) → CallIsHonest old new s s' result
+honest_trouble is_cancelled old new s s' result open_ reading stays keeps troubled counts not_plain = record {
+  stays = stays;
+  answers = trouble_answers is_cancelled old new s s' result open_ reading stays keeps troubled counts;
+  plain = λ plain holds. absurd (not_plain plain holds);
+}

@@ -1,0 +1,91 @@
+-- The record that a cursor hands out is the row that it asked for.
+use Rattle.std.proofs.Common.{◌≡◌, ℕ, ◌+◌, ◌*◌, ◌≤◌, false, cond, nat_eq, Some, List, [], ◌∷◌, length, take, get_or, refl, sym, ap, subst, ◌∙◌, arith}
+use Rattle.std.specs.FinSet as set
+use Rattle.std.specs.FinSet.{contains-empty}
+use Rattle.std.specs.Ordering.{nat_cmp}
+use Rattle.std.proofs.lemmas.Bool.{ne_eqb}
+use Rattle.std.proofs.lemmas.List.{take_all}
+use Rattle.ipmi_bus.specs.Bounds.{digits}
+use Rattle.ipmi_bus.specs.declared.controller.Shelf.{Shelf}
+use Rattle.ipmi_bus.specs.declared.step.Place.{Place}
+use Rattle.ipmi_bus.specs.declared.step.Place.TheVariants.{First, Id, End}
+use Rattle.ipmi_bus.specs.declared.retrieval.Retrieval.{Retrieval}
+use Rattle.ipmi_bus.specs.declared.cursor.Handed.{Handed}
+use Rattle.ipmi_bus.specs.declared.cursor.Progress.{Progress}
+use Rattle.ipmi_bus.specs.Shelf.{Row, IsShelf, BeginsWithId, look, row_with_id, first_row}
+use Rattle.ipmi_bus.specs.Store.{rows_of}
+use Rattle.ipmi_bus.specs.Seen.{Seen, IsHonest}
+use Rattle.ipmi_bus.specs.Retrieval.{HasRead, SameRequest}
+use Rattle.ipmi_bus.specs.Since.{begun}
+use Rattle.ipmi_bus.specs.Handed.{handed_row, handed_id, IsAsked, IsUnseen}
+use Rattle.ipmi_bus.specs.Step.{asked_at}
+use Rattle.ipmi_bus.proofs.ShelfLemmas.{found_row, shelf_of}
+use Rattle.ipmi_bus.proofs.PartLemmas.{byte_read}
+
+-- rows with equal parts are equal
+same_row : (a b : Row) → a.id ≡ b.id → a.next ≡ b.next → a.bytes ≡ b.bytes → a ≡ b
+same_row a b id next bytes =
+    ap (λ (n : ℕ). record { id = n; next = a.next; bytes = a.bytes }) id
+    ∙ ap (λ (n : ℕ). record { id = b.id; next = n; bytes = a.bytes }) next
+    ∙ ap (λ (l : List ℕ). record { id = b.id; next = b.next; bytes = l }) bytes
+
+-- the id that is handed out is the row's
+begins : (rows : List Row) (row : Row) → BeginsWithId rows → first_row rows ≡ Some row → get_or row.bytes 0 0 + 256 * get_or row.bytes 1 0 ≡ row.id
+begins [] row ok found = cc found
+begins (r ∷ rows) row ok found = let e : r ≡ row = cc found in subst (λ (x : Row). get_or x.bytes 0 0 + 256 * get_or x.bytes 1 0 ≡ x.id) e ok.0
+
+pub id_is : (shelf : Shelf) (rows : List Row) (place : Place) (asked have : ℕ) (buffer : List ℕ) (row : Row) → IsShelf shelf rows → IsAsked place asked → look rows asked ≡ Some row → 5 ≤ have
+    → take have buffer ≡ take have row.bytes → handed_id place asked buffer ≡ row.id
+id_is shelf rows First asked have buffer row ok asks found some same =
+    let first : first_row rows ≡ Some row = subst (λ (n : ℕ). look rows n ≡ Some row) asks found in
+    let low = byte_read have 0 buffer row.bytes (omega arith) same in
+    let high = byte_read have 1 buffer row.bytes (omega arith) same in
+    let id = begins rows row ok.first first in omega arith
+id_is shelf rows (Id n) asked have buffer row ok asks found some same =
+    let not_first : nat_eq asked 0 ≡ false = ne_eqb asked 0 (λ e. asks.1 (sym asks.0 ∙ e)) in
+    let by_id : row_with_id asked rows ≡ Some row = sym (ap (λ b. cond b (first_row rows) (row_with_id asked rows)) not_first) ∙ found in
+    sym (found_row shelf rows asked row ok.all by_id).1
+id_is shelf rows End asked have buffer row ok asks found some same = absurd asks
+
+-- the row that is handed out is the one that was read
+pub handed_is : (place : Place) (asked : ℕ) (r : Retrieval) (s : Seen) (row : Row) → IsHonest s → IsAsked place asked → r.id ≡ asked → HasRead r s row → r.have ≡ length row.bytes → 5 ≤ r.have
+    → look (rows_of r.shelf s.store) asked ≡ Some (record { id = handed_id place asked r.buffer; next = r.next; bytes = take r.have r.buffer })
+handed_is place asked r s row honest asks is read whole some =
+    let found : look (rows_of r.shelf s.store) asked ≡ Some row = subst (λ (n : ℕ). look (rows_of r.shelf s.store) n ≡ Some row) is read.found in
+    let id = id_is r.shelf (rows_of r.shelf s.store) place asked r.have r.buffer row (shelf_of r.shelf s.store honest.store) asks found some read.bytes in
+    let bytes : take r.have r.buffer ≡ row.bytes = read.bytes ∙ ap (λ (n : ℕ). take n row.bytes) whole ∙ take_all _ row.bytes (omega arith) in
+    found ∙ ap Some (sym (same_row (record { id = handed_id place asked r.buffer; next = r.next; bytes = take r.have r.buffer }) row id read.next bytes))
+
+pub asked_is : (place : Place) (asked : ℕ) → IsAsked place asked → asked ≡ asked_at place
+asked_is First asked asks = asks
+asked_is (Id n) asked asks = asks.0
+asked_is End asked asks = absurd asks
+
+pub not_end : (place : Place) (asked : ℕ) → IsAsked place asked → place ≡ End → ⊥
+not_end First asked asks is = cc is
+not_end (Id n) asked asks is = cc is
+not_end End asked asks is = asks
+
+-- what is handed out was not handed out before
+pub unseen : (place : Place) (ids : set.FinSet nat_cmp) (asked : ℕ) (buffer : List ℕ) → (place ≡ First → ids ≡ set.empty) → IsAsked place asked → IsUnseen place ids asked → set.contains ids (handed_id place asked buffer) ≡ false
+unseen First ids asked buffer first asks new = ap (λ (s : set.FinSet nat_cmp). set.contains s (handed_id First asked buffer)) (first refl) ∙ contains-empty nat_cmp _
+unseen (Id n) ids asked buffer first asks new = new
+unseen End ids asked buffer first asks new = absurd asks
+
+-- the row as it is handed out
+pub hands_row : (old : Progress) (r : Retrieval) (new : Progress) (handed : Handed) (asked : ℕ) (s : Seen) → IsHonest s → IsAsked old.place asked → SameRequest (begun old.retrieval asked) r → (row : Row) → HasRead r s row
+    → r.have ≡ length row.bytes → 5 ≤ r.have → handed.id ≡ handed_id old.place asked r.buffer → handed.next ≡ r.next → handed.len ≡ r.have → new.retrieval ≡ r
+    → look (rows_of old.retrieval.shelf s.store) (asked_at old.place) ≡ Some (handed_row new handed)
+hands_row old r new handed asked s honest asks request row read whole some id next len retrieval =
+    let found = handed_is old.place asked r s row honest asks request.id read whole some in
+    let bytes : take r.have r.buffer ≡ take handed.len new.retrieval.buffer = ap (λ (n : ℕ). take n r.buffer) (sym len) ∙ ap (λ (x : Retrieval). take handed.len x.buffer) (sym retrieval) in
+    let shown = same_row (record { id = handed_id old.place asked r.buffer; next = r.next; bytes = take r.have r.buffer }) (handed_row new handed) (sym id) (sym next) bytes in
+    ap (λ (shelf : Shelf). look (rows_of shelf s.store) (asked_at old.place)) (sym request.shelf)
+    ∙ ap (look (rows_of r.shelf s.store)) (sym (asked_is old.place asked asks))
+    ∙ found ∙ ap Some shown
+
+-- a bound on calls, at equal part sizes and ids
+pub calls_moved : (calls before tries p q r : ℕ) (len : ℕ → ℕ) (asked at : ℕ) → asked ≡ at → q ≡ p → calls + digits p ≤ before + (tries + 1) * (len asked + 2) + digits r → calls + digits q ≤ before + (tries + 1) * (len at + 2) + digits r
+calls_moved calls before tries p q r len asked at same part bound =
+    subst (λ (n : ℕ). calls + digits n ≤ before + (tries + 1) * (len at + 2) + digits r) (sym part)
+    (subst (λ (n : ℕ). calls + digits p ≤ before + (tries + 1) * (len n + 2) + digits r) same bound)

@@ -1,0 +1,97 @@
+-- What a table of bits contains.
+use Rattle.std.proofs.Common.{◌≡◌, ◌≢◌, ℕ, zero, suc, ◌+◌, ◌≤◌, ◌*◌, ◌/◌, ◌%◌, ◌<◌, ◌^◌, Bool, true, false, cond, eqb, ◌&&◌, ◌||◌, nat_lt, nat_eq, List, get_or, set as put, length, replicate, refl, sym, ap, ◌∙◌, inl, inr, rules, arith}
+use Rattle.std.specs.Ordering.{nat_cmp}
+use Rattle.std.specs.Cmp.{nat_cmp_total, unsigned_tied}
+use Rattle.std.specs.Int.{bit_at}
+use Rattle.std.specs.Int.RustNames.{bit_or}
+use Rattle.std.specs.FinSet as set
+use Rattle.std.specs.FinSet.{members, nat_cmp-IsAntisymmetric, contains-insert, contains-empty, len-insert, len-empty}
+use Rattle.std.proofs.lemmas.Nat.Bits.{bit_at_set_same, bit_at_set_other, bit_at-zero}
+use Rattle.std.proofs.lemmas.Bool.{cases_eq, cases_lt, eq-eqb}
+use Rattle.std.proofs.lemmas.Bool.Decides.{nat_tests}
+use Rattle.std.proofs.lemmas.List.{get_or-set_same, get_or-set_other, get_or-replicate, get_or_past, length-replicate}
+use mir.Syntax.{w8}
+use mir.Val.{bits}
+use Rattle.ipmi_bus.specs.IdTable.{has_bit, ids_below, ids_in}
+
+step : (s : set.FinSet nat_cmp) (b p : Bool) (k q : ℕ) → (q ≡ k → p ≡ b) → set.contains s q ≡ (nat_lt q k && p) → set.contains (cond b (set.insert s k) s) q ≡ (nat_lt q (suc k) && p)
+step s true p k q same ih = grind (members, rules)
+step s false p k q same ih = grind (members, rules)
+
+contains-ids_below : (bytes : List ℕ) (k q : ℕ) → set.contains (ids_below bytes k) q ≡ (nat_lt q k && has_bit bytes q)
+unfolding ids_below
+contains-ids_below bytes zero q = grind (members, rules)
+contains-ids_below bytes (suc k) q = step (ids_below bytes k) (has_bit bytes k) (has_bit bytes q) k q (ap (has_bit bytes)) (contains-ids_below bytes k q)
+
+pub contains-ids_in : (bytes : List ℕ) (q : ℕ) → set.contains (ids_in bytes) q ≡ (nat_lt q 65536 && has_bit bytes q)
+unfolding ids_in
+contains-ids_in bytes q = contains-ids_below bytes 65536 q
+
+len-ids_below : (bytes : List ℕ) (k : ℕ) → set.len (ids_below bytes k) ≤ k
+unfolding ids_below
+len-ids_below bytes zero = omega (arith, len-empty nat_cmp)
+len-ids_below bytes (suc k) = by (has_bit bytes k) (len-ids_below bytes k)
+  where
+    put : (s : set.FinSet nat_cmp) (b : Bool) → set.contains s k ≡ b → set.len s ≤ k → set.len (set.insert s k) ≤ suc k
+    put s true is le = omega (arith, len-insert nat_cmp_total s k ∙ ap (λ (c : Bool). cond c (set.len s) (set.len s + 1)) is)
+    put s false is le = omega (arith, len-insert nat_cmp_total s k ∙ ap (λ (c : Bool). cond c (set.len s) (set.len s + 1)) is)
+
+    by : (b : Bool) → set.len (ids_below bytes k) ≤ k → set.len (cond b (set.insert (ids_below bytes k) k) (ids_below bytes k)) ≤ suc k
+    by true le = put (ids_below bytes k) (set.contains (ids_below bytes k) k) refl le
+    by false le = omega (arith, le)
+
+-- a table has no more ids than bits
+pub len-ids_in : (bytes : List ℕ) → set.len (ids_in bytes) ≤ 65536
+unfolding ids_in
+len-ids_in bytes = len-ids_below bytes 65536
+
+-- the byte at n / 8 with the bit of n set
+abbrev marked : List ℕ → ℕ → ℕ
+marked bytes n = bit_or (get_or bytes (n / 8) 0) (1 * 2 ^ (n % 8) % 2 ^ bits w8)
+
+-- the bit at q, after that at n is set
+has_bit-put_same : (bytes : List ℕ) (n : ℕ) → n / 8 < length bytes → has_bit (put bytes (n / 8) (marked bytes n)) n ≡ true
+has_bit-put_same bytes n within =
+    eq-eqb _ 1 (ap (λ x. bit_at x (n % 8)) (get_or-set_same bytes (n / 8) (marked bytes n) 0 within) ∙ bit_at_set_same w8 (get_or bytes (n / 8) 0) (n % 8) (omega arith))
+
+has_bit-put_other : (bytes : List ℕ) (n q : ℕ) → n / 8 < length bytes → q ≢ n → has_bit (put bytes (n / 8) (marked bytes n)) q ≡ has_bit bytes q
+has_bit-put_other bytes n q within ne = elim (cases_eq (q / 8) (n / 8)) [
+  | inl e ↦
+      let apart : q % 8 ≢ n % 8 = λ same. ne (omega arith) in
+      ap (λ x. eqb x 1) (
+      ap (λ i. bit_at (get_or (put bytes (n / 8) (marked bytes n)) i 0) (q % 8)) e
+      ∙ ap (λ x. bit_at x (q % 8)) (get_or-set_same bytes (n / 8) (marked bytes n) 0 within)
+      ∙ bit_at_set_other w8 (get_or bytes (n / 8) 0) (n % 8) (omega arith) (q % 8) apart
+      ∙ ap (λ i. bit_at (get_or bytes i 0) (q % 8)) (sym e))
+  | inr far ↦ ap (λ x. eqb (bit_at x (q % 8)) 1) (get_or-set_other bytes (n / 8) (q / 8) (marked bytes n) 0 far)
+]
+
+pub ids_in-put : (bytes : List ℕ) (n : ℕ) → length bytes ≡ 8192 → n < 65536 → ids_in (put bytes (n / 8) (marked bytes n)) ≡ set.insert (ids_in bytes) n
+ids_in-put bytes n len fits =
+    let within : n / 8 < length bytes = omega arith in
+    set.same_set nat_cmp_total nat_cmp-IsAntisymmetric _ _ (λ q.
+    joined q _ _ _ _ (contains-ids_in (put bytes (n / 8) (marked bytes n)) q) (contains-ids_in bytes q)
+    (λ e. ap (has_bit (put bytes (n / 8) (marked bytes n))) e ∙ has_bit-put_same bytes n within)
+    (has_bit-put_other bytes n q within)
+    ∙ sym (contains-insert nat_cmp_total (ids_in bytes) n q ∙ ap (λ b. b || set.contains (ids_in bytes) q) (unsigned_tied q n)))
+  where
+    joined : (q : ℕ) (a b x y : Bool) → a ≡ (nat_lt q 65536 && x) → b ≡ (nat_lt q 65536 && y) → (q ≡ n → x ≡ true) → (q ≢ n → x ≡ y) → a ≡ (nat_eq q n || b)
+    joined q a b x y p r same apart = elim (cases_eq q n) [ inl e ↦ grind (arith, nat_tests, same e) | inr ne ↦ grind (arith, nat_tests, apart ne) ]
+
+-- a table of zeros has no id
+pub ids_in-zeros : (zeros : List ℕ) → ((i : ℕ) → get_or zeros i 0 ≡ 0) → ids_in zeros ≡ set.empty
+ids_in-zeros zeros all =
+    set.same_set nat_cmp_total nat_cmp-IsAntisymmetric _ _ (λ q.
+    contains-ids_in zeros q
+    ∙ none q (has_bit zeros q) (ap (λ x. eqb (bit_at x (q % 8)) 1) (all (q / 8)) ∙ ap (λ x. eqb x 1) (bit_at-zero (q % 8)))
+    ∙ sym (contains-empty nat_cmp q))
+  where
+    none : (q : ℕ) (b : Bool) → b ≡ false → (nat_lt q 65536 && b) ≡ false
+    none q b e = grind (arith, nat_tests, e)
+
+-- each element of a list of zeros is zero, also past its end
+pub zero_at : (zeros : List ℕ) (n i : ℕ) → zeros ≡ replicate n 0 → get_or zeros i 0 ≡ 0
+zero_at zeros n i e = elim (cases_lt i n) [
+  | inl lt ↦ ap (λ xs. get_or xs i 0) e ∙ get_or-replicate n i 0 0 lt
+  | inr le ↦ get_or_past zeros i 0 (omega (arith, ap length e, length-replicate {A = ℕ}))
+]

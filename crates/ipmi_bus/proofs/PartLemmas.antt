@@ -1,0 +1,185 @@
+-- What a part of an honest controller leaves of a record that is being read.
+use Rattle.std.proofs.Common.{◌≡◌, ℕ, ◌+◌, ◌<◌, ◌≤◌, Bool, true, false, nat_eq, Option, None, Some, Result, Ok, Err, List, ◌++◌, length, take, drop, get_or, slice_range, refl, sym, ap, subst, ◌∙◌, inl, inr, arith}
+use Rattle.std.specs.Prelude.{IsOk, ◌⊎◌}
+use Rattle.std.proofs.lemmas.Bool.{cases_lt, ne_eqb}
+use Rattle.std.proofs.lemmas.Bool.Decides.{nat_tests}
+use Rattle.std.proofs.lemmas.List.{get_or-take, take-take}
+use Rattle.std.proofs.Math.Seq.{take-add}
+use Rattle.ipmi_bus.specs.declared.controller.Shelf.{Shelf}
+use Rattle.ipmi_bus.specs.declared.controller.Shelf.TheVariants.{Sdr, Sel}
+use Rattle.ipmi_bus.specs.declared.code.Code.{Code}
+use Rattle.ipmi_bus.specs.declared.controller.Part.{Part}
+use Rattle.ipmi_bus.specs.declared.step.Ended.{Ended}
+use Rattle.ipmi_bus.specs.declared.step.Ended.TheVariants.{Cycle, Missing, Refused, GaveUp, Stalled, Malformed}
+use Rattle.ipmi_bus.specs.declared.retrieval.Outcome.{Outcome}
+use Rattle.ipmi_bus.specs.declared.retrieval.Outcome.TheVariants.{Again, Whole, Absent}
+use Rattle.ipmi_bus.specs.declared.retrieval.Retrieval.{Retrieval}
+use Rattle.ipmi_bus.specs.Shelf.{Row, IsRow, look, whole_len, len_of, largest_len}
+use Rattle.ipmi_bus.specs.Store.{rows_of}
+use Rattle.ipmi_bus.specs.Seen.{Seen, IsHonest, KeepsStore, KeepsReservation, IsQuiet, current}
+use Rattle.ipmi_bus.specs.Answers.{CountsPiece, GivesPiece, PartIsPlain, PartAnswers}
+use Rattle.ipmi_bus.specs.Retrieval.{IsOpen, HasRead, IsReading, HoldsCurrent, IsCalm, GoesOn, HasWhole, CallAnswers, CallIsPlain, CallIsHonest, TakesPart, wanted_len, after_part, request_of}
+use Rattle.ipmi_bus.proofs.ShelfLemmas.{look_row, shelf_of}
+use Rattle.ipmi_bus.proofs.CallLemmas.{store_kept, read_moved}
+
+-- the byte at a place that is read
+pub byte_read : (have i : ℕ) (buffer bytes : List ℕ) → i < have → take have buffer ≡ take have bytes → get_or buffer i 0 ≡ get_or bytes i 0
+byte_read have i buffer bytes lt same = sym (get_or-take have buffer i 0 lt) ∙ ap (λ xs. get_or xs i 0) same ∙ get_or-take have bytes i 0 lt
+
+-- no more is wanted than the row has
+pub wanted_within : (shelf : Shelf) (have : ℕ) (buffer : List ℕ) (row : Row) → IsRow shelf row → take have buffer ≡ take have row.bytes → wanted_len shelf have buffer ≤ length row.bytes
+wanted_within Sdr have buffer row ok same = elim (cases_lt have 5) [
+  | inl lt ↦ let whole = ok.whole in grind (arith, nat_tests)
+  | inr le ↦ let whole = ok.whole in let b = byte_read have 4 buffer row.bytes (omega arith) same in grind (arith, nat_tests)
+]
+wanted_within Sel have buffer row ok same = omega (arith, ok.whole)
+
+-- what is as long as is wanted is whole
+pub wanted_whole : (shelf : Shelf) (have : ℕ) (buffer : List ℕ) (row : Row) → IsRow shelf row → take have buffer ≡ take have row.bytes → have ≡ wanted_len shelf have buffer → have ≡ length row.bytes
+wanted_whole Sdr have buffer row ok same is = elim (cases_lt have 5) [
+  | inl lt ↦ let short : wanted_len Sdr have buffer ≡ 5 = grind (arith, nat_tests) in absurd (omega arith)
+  | inr le ↦ let whole = ok.whole in let b = byte_read have 4 buffer row.bytes (omega arith) same in grind (arith, nat_tests)
+]
+wanted_whole Sel have buffer row ok same is = omega (arith, ok.whole)
+
+-- what was read before, in the store that the answer came from
+before_piece : (old : Retrieval) (s s' : Seen) (n : ℕ) (row : Row) → IsReading old s → KeepsReservation old.shelf s s' → KeepsStore s s' → old.reservation ≡ Some n
+    → (0 < old.have → current old.shelf s' ≡ Some n) → look (rows_of old.shelf s'.store) old.id ≡ Some row → take old.have old.buffer ≡ take old.have row.bytes
+before_piece old s s' n row reading keeps store held reserved found = elim (cases_lt 0 old.have) [
+  | inl some ↦
+      let now = reserved some in
+      let before = reading.piece some (keeps.none_given n now ∙ sym held) in
+      let same = store_kept old.shelf s s' n keeps store now in
+      let here = read_moved old s s' before.0 same before.1 in
+      let e : before.0 ≡ row = let f = here.found in cc (f, found) in
+      here.bytes ∙ ap (λ (r : Row). take old.have r.bytes) e
+  | inr none ↦ let zero : old.have ≡ 0 = omega arith in subst (λ (k : ℕ). take k old.buffer ≡ take k row.bytes) (sym zero) refl
+]
+
+-- and with the piece
+with_piece : (have got asked : ℕ) (before after bytes : List ℕ) → got ≤ asked → take have after ≡ take have before → take have before ≡ take have bytes
+    → take got (slice_range after have (have + asked)) ≡ take got (drop have bytes) → take (have + got) after ≡ take (have + got) bytes
+with_piece have got asked before after bytes fits front same piece =
+    let range : slice_range after have (have + asked) ≡ take asked (drop have after) = ap (λ (k : ℕ). take k (drop have after)) {y = asked} (omega arith) in
+    let inner : take got (drop have after) ≡ take got (drop have bytes) = sym (take-take got asked (drop have after) fits) ∙ sym (ap (take got) range) ∙ piece in
+    take-add have got after ∙ ap (λ xs. xs ++ take got (drop have after)) (front ∙ same) ∙ ap (λ ys. take have bytes ++ ys) inner ∙ sym (take-add have got bytes)
+
+read_piece : (old : Retrieval) (buffer : List ℕ) (s s' : Seen) (n asked : ℕ) (part : Part) (row : Row) → IsReading old s → KeepsReservation old.shelf s s' → KeepsStore s s' → old.reservation ≡ Some n
+    → take old.have buffer ≡ take old.have old.buffer → GivesPiece (request_of old n asked) part (slice_range buffer old.have (old.have + asked)) s s' row
+    → HasRead (after_part part (record old { buffer = buffer })) s' row
+read_piece old buffer s s' n asked part row reading keeps store held front gives = record {
+  found = gives.found;
+  within = gives.piece.within;
+  bytes = with_piece old.have part.got asked old.buffer buffer row.bytes gives.piece.fits front (before_piece old s s' n row reading keeps store held gives.reserved gives.found) gives.piece.bytes;
+  next = gives.piece.next;
+}
+
+calm_piece : (flag : Bool) (s s' : Seen) → CountsPiece flag s s' → IsCalm s s'
+calm_piece true s s' counts = record { troubles = counts.troubles; refusals = counts.refusals; last_code = counts.last_code }
+calm_piece false s s' counts = record { troubles = counts.troubles; refusals = counts.refusals; last_code = counts.last_code }
+
+-- with the piece taken
+abbrev taken : Retrieval → List ℕ → Part → Retrieval
+taken old buffer part = after_part part (record old { buffer = buffer })
+
+module _ (old : Retrieval) (buffer : List ℕ) (s s' : Seen) (n asked : ℕ) (part : Part) (row : Row) (ok : IsRow old.shelf row) (read : HasRead (taken old buffer part) s' row)
+    (gives : GivesPiece (request_of old n asked) part (slice_range buffer old.have (old.have + asked)) s s' row) where
+  calm : IsCalm s s'
+  calm = calm_piece _ s s' gives.counts
+
+  piece_goes_on : (0 < part.got) → old.have + part.got < wanted_len old.shelf (old.have + part.got) buffer → GoesOn old (taken old buffer part) s s'
+  piece_goes_on some more =
+      let within = wanted_within old.shelf (old.have + part.got) buffer row ok read.bytes in
+      let flag : nat_eq (old.have + part.got) (length row.bytes) ≡ false = ne_eqb _ _ (λ (e : old.have + part.got ≡ length row.bytes). absurd (omega arith)) in
+      let quiet : IsQuiet s s' = subst (λ (b : Bool). CountsPiece b s s') flag gives.counts in
+      record {
+        reading = record { piece = λ some now. (row, read) };
+        troubles = omega (arith, quiet.troubles);
+        fresh_troubles = omega (arith, quiet.fresh_troubles);
+        grows = omega arith;
+        refusals = quiet.refusals;
+        last_code = quiet.last_code;
+        within = let len = ap len_of gives.found in omega (arith, gives.piece.within, len);
+      }
+
+  piece_answers : (new : Retrieval) (result : Result Outcome Ended) → TakesPart part (record old { buffer = buffer }) new result → CallAnswers old new s s' result
+  piece_answers new (Ok Again) takes =
+      let more : old.have + part.got < wanted_len old.shelf (old.have + part.got) buffer = subst (λ (r : Retrieval). r.have < wanted_len r.shelf r.have r.buffer) takes.1 takes.2 in
+      subst (λ (r : Retrieval). GoesOn old r s s') (sym takes.1) (piece_goes_on takes.0 more)
+  piece_answers new (Ok Whole) takes =
+      let is : old.have + part.got ≡ wanted_len old.shelf (old.have + part.got) buffer = subst (λ (r : Retrieval). r.have ≡ wanted_len r.shelf r.have r.buffer) takes.1 takes.2 in
+      let whole : HasWhole (taken old buffer part) s s' row = record { calm = calm; read = read; whole = wanted_whole old.shelf (old.have + part.got) buffer row ok read.bytes is } in
+      (row, subst (λ (r : Retrieval). HasWhole r s s' row) (sym takes.1) whole)
+  piece_answers new (Ok Absent) takes = absurd takes
+  piece_answers new (Err (GaveUp id)) takes = absurd takes
+  piece_answers new (Err (Refused id code)) takes = absurd takes
+  piece_answers new (Err (Cycle id)) takes = absurd takes
+  piece_answers new (Err (Missing id)) takes = absurd takes
+  piece_answers new (Err (Stalled id)) takes = absurd (omega (arith, takes.0, gives.piece.some))
+  piece_answers new (Err (Malformed id)) takes =
+      let five : old.have + part.got ≡ 5 = ap (λ (r : Retrieval). r.have) (sym takes.1) ∙ takes.4 in
+      let whole : length row.bytes ≡ 5 + get_or row.bytes 4 0 = subst (λ (shelf : Shelf). length row.bytes ≡ whole_len shelf row.bytes) takes.3 ok.whole in
+      let byte = byte_read (old.have + part.got) 4 buffer row.bytes (omega arith) read.bytes in
+      let largest : largest_len old.shelf ≡ 256 = ap largest_len takes.3 in
+      absurd (omega (arith, takes.5, ok.fits, largest))
+
+  no_err : (new : Retrieval) (ended : Ended) → TakesPart part (record old { buffer = buffer }) new (Err ended) → ⊥
+  no_err new (GaveUp id) takes = takes
+  no_err new (Refused id code) takes = takes
+  no_err new (Cycle id) takes = takes
+  no_err new (Missing id) takes = takes
+  no_err new (Stalled id) takes = piece_answers new (Err (Stalled id)) takes
+  no_err new (Malformed id) takes = piece_answers new (Err (Malformed id)) takes
+
+  plain_taken : (turn : Outcome) → current old.shelf s' ≡ Some n → old.reservation ≡ Some n → CallIsPlain old (taken old buffer part) s' (Ok turn)
+  plain_taken turn now held = record { holds = record { held = λ m e. now ∙ (sym held ∙ e) }; fine = tt; troubles = refl }
+
+  -- no part is refused, nor is the reservation lost, by a plain controller
+  piece_plain : (new : Retrieval) (result : Result Outcome Ended) → TakesPart part (record old { buffer = buffer }) new result → current old.shelf s' ≡ Some n → old.reservation ≡ Some n → CallIsPlain old new s' result
+  piece_plain new (Ok Again) takes now held = subst (λ (r : Retrieval). CallIsPlain old r s' (Ok Again)) (sym takes.1) (plain_taken Again now held)
+  piece_plain new (Ok Whole) takes now held = subst (λ (r : Retrieval). CallIsPlain old r s' (Ok Whole)) (sym takes.1) (plain_taken Whole now held)
+  piece_plain new (Ok Absent) takes now held = absurd takes
+  piece_plain new (Err ended) takes now held = absurd (no_err new ended takes)
+
+-- a part that an honest controller gave
+pub honest_part : (old r new : Retrieval) (s s' : Seen) (n asked : ℕ) (part : Part) (result : Result Outcome Ended) → r ≡ record old { buffer = r.buffer } → take old.have r.buffer ≡ take old.have old.buffer
+    → IsReading old s → old.reservation ≡ Some n → PartAnswers (request_of old n asked) (Ok part) (slice_range r.buffer old.have (old.have + asked)) s s' → TakesPart part r new result
+    → CallIsHonest old new s s' result
+honest_part old r new s s' n asked part result is front reading held parts takes =
+    let row = parts.gives.0 in
+    let gives = parts.gives.1 in
+    let ok : IsRow old.shelf row = look_row old.shelf _ old.id row (shelf_of old.shelf s'.store parts.change.stays.honest.store) gives.found in
+    let read = read_piece old r.buffer s s' n asked part row reading parts.keeps parts.change.stays.store held front gives in
+    let takes' : TakesPart part (record old { buffer = r.buffer }) new result = subst (λ (x : Retrieval). TakesPart part x new result) is takes in
+    record {
+      stays = parts.change.stays;
+      answers = piece_answers old r.buffer s s' n asked part row ok read gives new result takes';
+      plain = λ plain holds. piece_plain old r.buffer s s' n asked part row ok read gives new result takes' (parts.keeps.plain plain ∙ holds.held n held) held;
+    }
+
+-- a plain controller answers a request for more with data, or that there is no such row
+plain_part : (old : Retrieval) (s : Seen) (n asked : ℕ) (result : Result Part Code) → IsHonest s → IsOpen old → IsReading old s → HoldsCurrent old s → old.reservation ≡ Some n
+    → PartIsPlain (request_of old n asked) result s → IsOk result ⊎ (result ≡ Err (record { 0 = 0xCB }))
+plain_part old s n asked result honest open_ reading holds held plain = by_row (look (rows_of old.shelf s.store) old.id) refl
+  where
+    by_row : (o : Option Row) → look (rows_of old.shelf s.store) old.id ≡ o → IsOk result ⊎ (result ≡ Err (record { 0 = 0xCB }))
+    by_row None found = inr (plain.absent found)
+    by_row (Some row) found =
+        let ok : IsRow old.shelf row = look_row old.shelf _ old.id row (shelf_of old.shelf s.store honest.store) found in
+        let same : take old.have old.buffer ≡ take old.have row.bytes = elim (cases_lt 0 old.have) [
+          | inl some ↦
+              let before = reading.piece some (holds.held n held ∙ sym held) in
+              let e : before.0 ≡ row = let f = before.1.found in cc (f, found) in
+              before.1.bytes ∙ ap (λ (r : Row). take old.have r.bytes) e
+          | inr none ↦ let zero : old.have ≡ 0 = omega arith in subst (λ (k : ℕ). take k old.buffer ≡ take k row.bytes) (sym zero) refl
+        ] in
+        let within = wanted_within old.shelf old.have old.buffer row ok same in
+        inl (plain.found row found (omega (arith, open_.more)) (λ some. holds.held n held))
+
+-- so it answers with no code but CBh
+pub plain_code : (old : Retrieval) (s : Seen) (n asked : ℕ) (code : Code) → IsHonest s → IsOpen old → IsReading old s → HoldsCurrent old s → old.reservation ≡ Some n
+    → PartIsPlain (request_of old n asked) (Err code) s → code.0 ≡ 0xCB
+plain_code old s n asked code honest open_ reading holds held plain = elim (plain_part old s n asked (Err code) honest open_ reading holds held plain) [
+  | inl ok ↦ cc ok
+  | inr is ↦ let e : code ≡ record { 0 = 0xCB } = cc is in ap (λ (c : Code). c.0) e
+]

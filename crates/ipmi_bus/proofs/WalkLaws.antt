@@ -1,0 +1,275 @@
+-- Exactly one walk from a place has an end.
+use Rattle.std.proofs.Common.{◌≡◌, ◌≢◌, ℕ, zero, suc, ◌+◌, ◌≤◌, Bool, true, false, cond, nat_eq, ◌==◌, ◌||◌, Option, None, Some, List, [], ◌∷◌, ◌++◌, refl, sym, ap, subst, ◌∙◌, inl, inr, append_assoc, rules, arith}
+use Rattle.std.specs.FinSet as set
+use Rattle.std.specs.FinSet.{contains-insert, contains-empty}
+use Rattle.std.specs.Ordering.{nat_cmp}
+use Rattle.std.specs.Cmp.{nat_cmp_total, unsigned_tied}
+use Rattle.std.specs.Prelude.{IsTrue}
+use Rattle.std.proofs.lemmas.Bool.{cases_eq, ne_eqb, eq-eqb, eqb-true, eqb-false}
+use Rattle.std.proofs.lemmas.List.{append-nil}
+use Rattle.ipmi_bus.specs.declared.controller.Shelf.{Shelf}
+use Rattle.ipmi_bus.specs.declared.step.Place.{Place}
+use Rattle.ipmi_bus.specs.declared.step.Place.TheVariants.{First, Id, End}
+use Rattle.ipmi_bus.specs.Shelf.{Row, IsShelf, look, row_with_id, first_row, DistinctIds, LacksId}
+use Rattle.ipmi_bus.specs.Walk.{row_at, Links, AllOf, IsWalk, place_after, place_at_end, has_id, WalkEnd, Done, CycleAt, MissingAt, EndsBy, EndsAfter, last_next, HasWalk}
+use Rattle.ipmi_bus.specs.Step.{asked_at, cycle_at}
+use Rattle.ipmi_bus.proofs.WalkLemmas.{row_next, next_unseen, asks_look, no_cycle, EndFacts, end_facts, place_at_last, id_of}
+
+-- the ids of a walk, as a set
+abbrev ids_of : List Row → set.FinSet nat_cmp
+ids_of [] = set.empty
+ids_of (row ∷ rows) = set.insert (ids_of rows) row.id
+
+contains-ids_of : (rows : List Row) (n : ℕ) → set.contains (ids_of rows) n ≡ has_id rows n
+contains-ids_of [] n = contains-empty nat_cmp n
+contains-ids_of (row ∷ rows) n = contains-insert nat_cmp_total (ids_of rows) row.id n ∙ ap (λ (b : Bool). b || set.contains (ids_of rows) n) (unsigned_tied n row.id) ∙ ap (λ (b : Bool). nat_eq n row.id || b) (contains-ids_of rows n)
+
+-- a walk that has an end has no row after it
+no_more : (shelf : Shelf) (rows : List Row) (start : Place) (done : List Row) (end : WalkEnd) (row : Row) → IsShelf shelf rows → EndsBy rows start done end → row_at (place_at_end start done) rows ≡ Some row → has_id done row.id ≡ false → ⊥
+no_more shelf rows start done end row ok ends found fresh =
+    by_end end (end_facts rows start done (place_at_end start done) (ids_of done) end ends refl (contains-ids_of done))
+  where
+    none : cycle_at (place_at_end start done) (ids_of done) ≡ None
+    none = no_cycle shelf rows (place_at_end start done) (ids_of done) done row ok (contains-ids_of done) fresh found
+
+    at_end : place_at_end start done ≡ End → ⊥
+    at_end is = let h = sym (ap (λ (p : Place). row_at p rows) is) ∙ found in cc h
+
+    at_first : place_at_end start done ≡ First → first_row rows ≡ None → ⊥
+    at_first is empty = let h = sym (ap (λ (p : Place). row_at p rows) is) ∙ found in cc (h, empty)
+
+    by_end : (e : WalkEnd) → EndFacts rows start (place_at_end start done) (ids_of done) e → ⊥
+    by_end Done facts = elim facts [ inl is ↦ at_end is | inr h ↦ at_first h.0 h.2 ]
+    by_end (CycleAt n) facts = let h = sym facts ∙ none in cc h
+    by_end (MissingAt n) facts = let h = sym (ap (λ (p : Place). look rows (asked_at p)) facts.0) ∙ asks_look (place_at_end start done) rows row found in cc (h, facts.2)
+
+-- two walks with an end that begin alike are one
+same_rest : (shelf : Shelf) (rows : List Row) (start : Place) (done a b : List Row) (e f : WalkEnd) → IsShelf shelf rows → IsWalk rows start (done ++ a) → EndsBy rows start (done ++ a) e → IsWalk rows start (done ++ b) → EndsBy rows start (done ++ b) f → a ≡ b
+same_rest shelf rows start done [] [] e f ok w ends w' ends' = refl
+same_rest shelf rows start done [] (s ∷ b) e f ok w ends w' ends' =
+    absurd (no_more shelf rows start done e s ok (subst (λ (l : List Row). EndsBy rows start l e) (append-nil done) ends) (row_next shelf rows start done s b ok w') (next_unseen done s b w'.distinct))
+same_rest shelf rows start done (r ∷ a) [] e f ok w ends w' ends' =
+    absurd (no_more shelf rows start done f r ok (subst (λ (l : List Row). EndsBy rows start l f) (append-nil done) ends') (row_next shelf rows start done r a ok w) (next_unseen done r a w.distinct))
+same_rest shelf rows start done (r ∷ a) (s ∷ b) e f ok w ends w' ends' =
+    let same : r ≡ s = let h = sym (row_next shelf rows start done r a ok w) ∙ row_next shelf rows start done s b ok w' in cc h in
+    let left : (done ++ r ∷ []) ++ a ≡ done ++ r ∷ a = append_assoc done (r ∷ []) a in
+    let right : (done ++ r ∷ []) ++ b ≡ done ++ s ∷ b = append_assoc done (r ∷ []) b ∙ ap (λ (x : Row). done ++ x ∷ b) same in
+    let rest = same_rest shelf rows start (done ++ r ∷ []) a b e f ok (subst (IsWalk rows start) (sym left) w) (subst (λ (l : List Row). EndsBy rows start l e) (sym left) ends)
+    (subst (IsWalk rows start) (sym right) w') (subst (λ (l : List Row). EndsBy rows start l f) (sym right) ends') in
+    ap (λ (x : Row). x ∷ a) same ∙ ap (λ (l : List Row). s ∷ l) rest
+
+-- a walk has one end
+same_end : (rows : List Row) (start : Place) (walk : List Row) (e f : WalkEnd) → EndsBy rows start walk e → EndsBy rows start walk f → e ≡ f
+same_end rows First [] Done Done ends ends' = refl
+same_end rows First [] Done (CycleAt n) ends ends' = absurd ends'
+same_end rows First [] Done (MissingAt n) ends ends' = absurd ends'
+same_end rows First [] (CycleAt m) f ends ends' = absurd ends
+same_end rows First [] (MissingAt m) f ends ends' = absurd ends
+same_end rows (Id id) [] Done f ends ends' = absurd ends
+same_end rows (Id id) [] (CycleAt m) Done ends ends' = absurd ends'
+same_end rows (Id id) [] (CycleAt m) (CycleAt n) ends ends' = ap CycleAt (ends.0 ∙ sym ends'.0)
+same_end rows (Id id) [] (CycleAt m) (MissingAt n) ends ends' = absurd (ends'.1 ends.1)
+same_end rows (Id id) [] (MissingAt m) Done ends ends' = absurd ends'
+same_end rows (Id id) [] (MissingAt m) (CycleAt n) ends ends' = absurd (ends.1 ends'.1)
+same_end rows (Id id) [] (MissingAt m) (MissingAt n) ends ends' = ap MissingAt (ends.0 ∙ sym ends'.0)
+same_end rows End [] Done Done ends ends' = refl
+same_end rows End [] Done (CycleAt n) ends ends' = absurd ends'
+same_end rows End [] Done (MissingAt n) ends ends' = absurd ends'
+same_end rows End [] (CycleAt m) f ends ends' = absurd ends
+same_end rows End [] (MissingAt m) f ends ends' = absurd ends
+same_end rows start (row ∷ walk) e f ends ends' = same_after (last_next row.next walk) e f ends ends'
+  where
+    not_both : (next : ℕ) → IsTrue ((next == 0) || has_id (row ∷ walk) next) → next ≢ 0 → has_id (row ∷ walk) next ≡ false → ⊥
+    not_both next cycle ne lacks =
+        let h = sym cycle ∙ (ap (λ (b : Bool). b || has_id (row ∷ walk) next) (ne_eqb next 0 ne) ∙ lacks) in cc h
+
+    same_after : (next : ℕ) (e f : WalkEnd) → EndsAfter rows (row ∷ walk) next e → EndsAfter rows (row ∷ walk) next f → e ≡ f
+    same_after next Done Done a b = refl
+    same_after next Done (CycleAt n) a b = absurd (b.1 a)
+    same_after next Done (MissingAt n) a b = absurd (b.1 a)
+    same_after next (CycleAt m) Done a b = absurd (a.1 b)
+    same_after next (CycleAt m) (CycleAt n) a b = ap CycleAt (a.0 ∙ sym b.0)
+    same_after next (CycleAt m) (MissingAt n) a b = absurd (not_both next a.2 b.2 b.3)
+    same_after next (MissingAt m) Done a b = absurd (a.1 b)
+    same_after next (MissingAt m) (CycleAt n) a b = absurd (not_both next b.2 a.2 a.3)
+    same_after next (MissingAt m) (MissingAt n) a b = ap MissingAt (a.0 ∙ sym b.0)
+
+pub same_walk : (shelf : Shelf) (rows : List Row) (start : Place) (a b : List Row) (e f : WalkEnd) → IsShelf shelf rows → IsWalk rows start a → EndsBy rows start a e → IsWalk rows start b → EndsBy rows start b f → (a ≡ b) × (e ≡ f)
+same_walk shelf rows start a b e f ok w ends w' ends' =
+    let same = same_rest shelf rows start [] a b e f ok w ends w' ends' in
+    (same, same_end rows start b e f (subst (λ (l : List Row). EndsBy rows start l e) same ends) ends')
+
+-- ---- there is one
+
+-- how many rows of the shelf are not among these
+abbrev left_over : List Row → List Row → ℕ
+left_over [] done = 0
+left_over (row ∷ rows) done = cond (has_id done row.id) 0 1 + left_over rows done
+
+has_id-snoc : (done : List Row) (row : Row) (n : ℕ) → has_id (done ++ row ∷ []) n ≡ (has_id done n || nat_eq n row.id)
+has_id-snoc [] row n = elim (nat_eq n row.id) as (λ b. (b || false) ≡ b) [ true ↦ refl | false ↦ refl ]
+has_id-snoc (d ∷ done) row n = ap (λ (b : Bool). nat_eq n d.id || b) (has_id-snoc done row n) ∙ or_assoc (nat_eq n d.id) _ _
+  where
+    or_assoc : (a b c : Bool) → (a || (b || c)) ≡ ((a || b) || c)
+    or_assoc true b c = refl
+    or_assoc false b c = refl
+
+left_over_le : (rows done : List Row) (row : Row) → left_over rows (done ++ row ∷ []) ≤ left_over rows done
+left_over_le [] done row = omega arith
+left_over_le (r ∷ rows) done row = let ih = left_over_le rows done row in let h = has_id-snoc done row r.id in by (has_id done r.id) (nat_eq r.id row.id) _ h ih
+  where
+    by : (a b c : Bool) → c ≡ (a || b) → left_over rows (done ++ row ∷ []) ≤ left_over rows done → cond c 0 1 + left_over rows (done ++ row ∷ []) ≤ cond a 0 1 + left_over rows done
+    by true b c e ih = subst (λ (x : Bool). cond x 0 1 + left_over rows (done ++ row ∷ []) ≤ 0 + left_over rows done) (sym e) (omega (arith, ih))
+    by false true c e ih = subst (λ (x : Bool). cond x 0 1 + left_over rows (done ++ row ∷ []) ≤ 1 + left_over rows done) (sym e) (omega (arith, ih))
+    by false false c e ih = subst (λ (x : Bool). cond x 0 1 + left_over rows (done ++ row ∷ []) ≤ 1 + left_over rows done) (sym e) (omega (arith, ih))
+
+left_over_lt : (rows done : List Row) (row : Row) → row_with_id row.id rows ≡ Some row → has_id done row.id ≡ false → left_over rows (done ++ row ∷ []) + 1 ≤ left_over rows done
+left_over_lt [] done row found fresh = cc found
+left_over_lt (r ∷ rows) done row found fresh =
+    by_id (λ h. left_over_lt rows done row h fresh) (nat_eq r.id row.id) refl found
+  where
+    by_id : (row_with_id row.id rows ≡ Some row → left_over rows (done ++ row ∷ []) + 1 ≤ left_over rows done) → (b : Bool) → nat_eq r.id row.id ≡ b → cond b (Some r) (row_with_id row.id rows) ≡ Some row
+        → left_over (r ∷ rows) (done ++ row ∷ []) + 1 ≤ left_over (r ∷ rows) done
+    by_id later true is h =
+        let same : r.id ≡ row.id = eqb-true r.id row.id is in
+        let old : has_id done r.id ≡ false = ap (has_id done) same ∙ fresh in
+        let new : has_id (done ++ row ∷ []) r.id ≡ true = has_id-snoc done row r.id ∙ ap (λ (b : Bool). b || nat_eq r.id row.id) old ∙ is in
+        let le = left_over_le rows done row in
+        subst (λ (x : Bool). (cond (has_id (done ++ row ∷ []) r.id) 0 1 + left_over rows (done ++ row ∷ [])) + 1 ≤ cond x 0 1 + left_over rows done) (sym old)
+        (subst (λ (x : Bool). (cond x 0 1 + left_over rows (done ++ row ∷ [])) + 1 ≤ 1 + left_over rows done) (sym new) (omega (arith, le)))
+    by_id later false is h =
+        let lt = later h in
+        let same : has_id (done ++ row ∷ []) r.id ≡ has_id done r.id = has_id-snoc done row r.id ∙ ap (λ (b : Bool). has_id done r.id || b) is ∙ or-nothing (has_id done r.id) in
+        subst (λ (x : Bool). (cond x 0 1 + left_over rows (done ++ row ∷ [])) + 1 ≤ cond (has_id done r.id) 0 1 + left_over rows done) (sym same) (omega (arith, lt))
+      where
+        or-nothing : (a : Bool) → (a || false) ≡ a
+        or-nothing true = refl
+        or-nothing false = refl
+
+-- a row at a place is a row of the shelf
+found_at : (shelf : Shelf) (place : Place) (rows : List Row) (row : Row) → IsShelf shelf rows → row_at place rows ≡ Some row → (look rows row.id ≡ Some row) × (row_with_id row.id rows ≡ Some row)
+found_at shelf First [] row ok found = cc found
+found_at shelf First (x ∷ rows) row ok found =
+    let same : x ≡ row = cc found in
+    let here : row_with_id row.id (x ∷ rows) ≡ Some row = ap (λ (b : Bool). cond b (Some x) (row_with_id row.id rows)) (eq-eqb x.id row.id (ap (λ (r : Row). r.id) same)) ∙ found in
+    (by (nat_eq row.id 0) here, here)
+  where
+    by : (b : Bool) → row_with_id row.id (x ∷ rows) ≡ Some row → cond b (Some x) (row_with_id row.id (x ∷ rows)) ≡ Some row
+    by true here = found
+    by false here = here
+found_at shelf (Id n) rows row ok found =
+    let is = id_of shelf rows n row ok found in
+    let looks = asks_look (Id n) rows row found in
+    let finds : row_with_id n rows ≡ Some row = sym (ap (λ (b : Bool). cond b (first_row rows) (row_with_id n rows)) is.0) ∙ looks in
+    (ap (look rows) is.1 ∙ looks, ap (λ (m : ℕ). row_with_id m rows) is.1 ∙ finds)
+found_at shelf End rows row ok found = cc found
+
+AllOf-snoc : (rows done : List Row) (row : Row) → AllOf rows done → look rows row.id ≡ Some row → AllOf rows (done ++ row ∷ [])
+AllOf-snoc rows [] row all here = (here, tt)
+AllOf-snoc rows (d ∷ done) row all here = (all.0, AllOf-snoc rows done row all.1 here)
+
+or_false : (a b : Bool) → (a || b) ≡ false → (a ≡ false) × (b ≡ false)
+or_false true b e = cc e
+or_false false b e = (refl, e)
+
+LacksId-snoc : (n : ℕ) (done : List Row) (row : Row) → LacksId n done → row.id ≢ n → LacksId n (done ++ row ∷ [])
+LacksId-snoc n [] row lacks ne = (ne, tt)
+LacksId-snoc n (d ∷ done) row lacks ne = (lacks.0, LacksId-snoc n done row lacks.1 ne)
+
+DistinctIds-snoc : (done : List Row) (row : Row) → DistinctIds done → has_id done row.id ≡ false → DistinctIds (done ++ row ∷ [])
+DistinctIds-snoc [] row distinct fresh = (tt, tt)
+DistinctIds-snoc (d ∷ done) row distinct fresh =
+    let parts = or_false (nat_eq row.id d.id) (has_id done row.id) fresh in
+    (LacksId-snoc d.id done row distinct.0 (eqb-false row.id d.id parts.0), DistinctIds-snoc done row distinct.1 parts.1)
+
+-- the place after a row leads to the next one by its id
+linked : (shelf : Shelf) (next : ℕ) (rows : List Row) (row : Row) → IsShelf shelf rows → row_at (place_after next) rows ≡ Some row → (next ≡ row.id) × (row.id ≢ 0)
+linked shelf next rows row ok found = by (nat_eq next 65535) found
+  where
+    by : (b : Bool) → row_at (cond b End (Id next)) rows ≡ Some row → (next ≡ row.id) × (row.id ≢ 0)
+    by true h = cc h
+    by false h = let is = id_of shelf rows next row ok h in (sym is.1, λ zero. eqb-false next 0 is.0 (sym is.1 ∙ zero))
+
+Links-snoc : (shelf : Shelf) (rows : List Row) (d : Row) (done : List Row) (row : Row) → IsShelf shelf rows → Links (d ∷ done) → row_at (place_at_end (place_after d.next) done) rows ≡ Some row → Links (d ∷ (done ++ row ∷ []))
+Links-snoc shelf rows d [] row ok links found = let l = linked shelf d.next rows row ok found in (l.0, l.1, tt)
+Links-snoc shelf rows d (x ∷ done) row ok links found = (links.0, links.1, Links-snoc shelf rows x done row ok links.2 found)
+
+longer : (shelf : Shelf) (rows : List Row) (start : Place) (done : List Row) (row : Row) → IsShelf shelf rows → IsWalk rows start done → row_at (place_at_end start done) rows ≡ Some row → has_id done row.id ≡ false → IsWalk rows start (done ++ row ∷ [])
+longer shelf rows start [] row ok w found fresh = record { of_shelf = ((found_at shelf start rows row ok found).0, tt); distinct = (tt, tt); first = found; links = tt }
+longer shelf rows start (d ∷ done) row ok w found fresh = record {
+  of_shelf = AllOf-snoc rows (d ∷ done) row w.of_shelf (found_at shelf (place_at_end (place_after d.next) done) rows row ok found).0;
+  distinct = DistinctIds-snoc (d ∷ done) row w.distinct fresh;
+  first = w.first;
+  links = Links-snoc shelf rows d done row ok w.links found;
+}
+
+-- ---- where no row follows, the walk has an end
+
+HasEnd : List Row → Place → List Row → Type 0
+HasEnd rows start walk = (end : WalkEnd) × EndsBy rows start walk end
+
+end_after : (rows : List Row) (walk : List Row) (next : ℕ) → (has_id walk next ≡ false → row_at (place_after next) rows ≡ None) → (end : WalkEnd) × EndsAfter rows walk next end
+end_after rows walk next none = elim (cases_eq next 65535) [ inl e ↦ (Done, e) | inr ne ↦ by ne (nat_eq next 0) (has_id walk next) refl refl ]
+  where
+    by : next ≢ 65535 → (a b : Bool) → nat_eq next 0 ≡ a → has_id walk next ≡ b → (end : WalkEnd) × EndsAfter rows walk next end
+    by ne true b p q = (CycleAt next, (refl, ne, ap (λ (x : Bool). x || has_id walk next) p))
+    by ne false true p q = (CycleAt next, (refl, ne, ap (λ (x : Bool). x || has_id walk next) p ∙ q))
+    by ne false false p q =
+        let place : place_after next ≡ Id next = ap (λ (b : Bool). cond b End (Id next)) (ne_eqb next 65535 ne) in
+        let empty = sym (ap (λ (b : Bool). cond b None (look rows next)) p) ∙ (sym (ap (λ (x : Place). row_at x rows) place) ∙ none q) in
+        (MissingAt next, (refl, ne, eqb-false next 0 p, q, empty))
+
+-- where the place has no row, or one that stands in the walk already
+ends_here : (shelf : Shelf) (rows : List Row) (start : Place) (walk : List Row) → IsShelf shelf rows → ((row : Row) → row_at (place_at_end start walk) rows ≡ Some row → has_id walk row.id ≡ true) → HasEnd rows start walk
+unfolding HasEnd
+ends_here shelf rows First [] ok none = by (first_row rows) refl
+  where
+    by : (o : Option Row) → first_row rows ≡ o → (end : WalkEnd) × EndsBy rows First [] end
+    by None is = (Done, is)
+    by (Some row) is = let h = none row is in cc h
+ends_here shelf rows (Id n) [] ok none = by (nat_eq n 0) refl (look rows n) refl
+  where
+    by : (b : Bool) → nat_eq n 0 ≡ b → (o : Option Row) → look rows n ≡ o → (end : WalkEnd) × EndsBy rows (Id n) [] end
+    by true p o is = (CycleAt n, (refl, eqb-true n 0 p))
+    by false p None is = (MissingAt n, (refl, eqb-false n 0 p, is))
+    by false p (Some row) is = let h = none row (ap (λ (b : Bool). cond b None (look rows n)) p ∙ is) in cc h
+ends_here shelf rows End [] ok none = (Done, tt)
+ends_here shelf rows start (d ∷ walk) ok none =
+    let next = last_next d.next walk in
+    let place = place_at_last d.next walk in
+    end_after rows (d ∷ walk) next (λ fresh. by fresh (row_at (place_after next) rows) refl place)
+  where
+    by : has_id (d ∷ walk) (last_next d.next walk) ≡ false → (o : Option Row) → row_at (place_after (last_next d.next walk)) rows ≡ o → place_at_end (place_after d.next) walk ≡ place_after (last_next d.next walk)
+        → row_at (place_after (last_next d.next walk)) rows ≡ None
+    by fresh None is place = is
+    by fresh (Some row) is place =
+        let stands = none row (ap (λ (p : Place). row_at p rows) place ∙ is) in
+        let id = linked shelf (last_next d.next walk) rows row ok is in
+        let h = sym (ap (has_id (d ∷ walk)) id.0 ∙ stands) ∙ fresh in cc h
+
+decide : (shelf : Shelf) (rows : List Row) (start : Place) (done : List Row) → IsShelf shelf rows → IsWalk rows start done
+    → ((row : Row) → row_at (place_at_end start done) rows ≡ Some row → has_id done row.id ≡ false → HasWalk rows start) → HasWalk rows start
+unfolding HasEnd
+decide shelf rows start done ok w go = by (row_at (place_at_end start done) rows) refl
+  where
+    ending : ((row : Row) → row_at (place_at_end start done) rows ≡ Some row → has_id done row.id ≡ true) → HasWalk rows start
+    ending none = let e = ends_here shelf rows start done ok none in (done, e.0, w, e.1)
+
+    stands : (row : Row) → row_at (place_at_end start done) rows ≡ Some row → (b : Bool) → has_id done row.id ≡ b → HasWalk rows start
+    stands row is true has = ending (λ r found. let same : r ≡ row = let h = sym found ∙ is in cc h in ap (λ (x : Row). has_id done x.id) same ∙ has)
+    stands row is false fresh = go row is fresh
+
+    by : (o : Option Row) → row_at (place_at_end start done) rows ≡ o → HasWalk rows start
+    by None is = ending (λ r found. let h = sym is ∙ found in cc h)
+    by (Some row) is = stands row is (has_id done row.id) refl
+
+-- the walk that goes on from these rows
+walk_from : (shelf : Shelf) (rows : List Row) (start : Place) → IsShelf shelf rows → (fuel : ℕ) (done : List Row) → IsWalk rows start done → left_over rows done ≤ fuel → HasWalk rows start
+walk_from shelf rows start ok zero done w left = decide shelf rows start done ok w (λ row found fresh.
+    let lt = left_over_lt rows done row (found_at shelf (place_at_end start done) rows row ok found).1 fresh in absurd (omega (arith, lt, left)))
+walk_from shelf rows start ok (suc n) done w left = decide shelf rows start done ok w (λ row found fresh.
+    let lt = left_over_lt rows done row (found_at shelf (place_at_end start done) rows row ok found).1 fresh in
+    walk_from shelf rows start ok n (done ++ row ∷ []) (longer shelf rows start done row ok w found fresh) (omega (arith, lt, left)))
+
+pub has_walk : (shelf : Shelf) (rows : List Row) (start : Place) → IsShelf shelf rows → HasWalk rows start
+has_walk shelf rows start ok = walk_from shelf rows start ok (left_over rows []) [] (record { of_shelf = tt; distinct = tt; first = search rules; links = tt }) (omega arith)

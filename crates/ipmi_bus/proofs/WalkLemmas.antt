@@ -1,0 +1,339 @@
+-- Walks, row after row.
+use Rattle.std.proofs.Common.{◌≡◌, ◌≢◌, ℕ, ◌+◌, ◌≤◌, ◌==◌, Bool, true, false, cond, nat_eq, ◌||◌, Option, None, Some, Result, Ok, Err, List, [], ◌∷◌, ◌++◌, length, take, drop, refl, sym, ap, subst, ◌∙◌, inl, inr, rules, arith}
+use Rattle.std.specs.Prelude.{◌⊎◌}
+use Rattle.std.specs.FinSet as set
+use Rattle.std.proofs.lemmas.Bool.{ne_eqb, eq-eqb}
+use Rattle.ipmi_bus.specs.declared.controller.Shelf.{Shelf}
+use Rattle.ipmi_bus.specs.declared.step.Place.{Place}
+use Rattle.ipmi_bus.specs.declared.step.Place.TheVariants.{First, Id, End}
+use Rattle.ipmi_bus.specs.Shelf.{Row, IsShelf, look, row_with_id, first_row, DistinctIds, LacksId}
+use Rattle.ipmi_bus.specs.Walk.{row_at, IsWalk, place_after, place_at_end, has_id, WalkEnd, Done, CycleAt, MissingAt, EndsBy, EndsAfter, EndsEmpty, last_next}
+use Rattle.ipmi_bus.specs.declared.step.Ended.{Ended}
+use Rattle.ipmi_bus.specs.declared.step.Ended.TheVariants.{Cycle, Missing, Refused, GaveUp, Stalled, Malformed}
+use Rattle.ipmi_bus.specs.CursorState.{CursorState}
+use Rattle.ipmi_bus.specs.Step.{asked_at, cycle_at, StaysThere, StepLeaves, StepAnswers, StepIsHonest, NoneAt}
+use Rattle.ipmi_bus.specs.Standing.{StandsAt, WalkStep, MayFail, FollowsWalks}
+use Rattle.std.specs.FinSet.{contains-insert, contains-empty}
+use Rattle.std.specs.Cmp.{nat_cmp_total, unsigned_tied}
+use Rattle.std.specs.Ordering.{nat_cmp}
+use Rattle.std.proofs.lemmas.List.{take_all, take-append-drop, length-drop}
+use Rattle.std.proofs.Math.Seq.{drop-nil, take-add}
+use Rattle.ipmi_bus.proofs.ShelfLemmas.{look_row, found_row, shelf_of}
+use Rattle.ipmi_bus.specs.Store.{Store, rows_of}
+use Rattle.ipmi_bus.specs.Seen.{Seen, IsHonest}
+
+place_of : (next : ℕ) → next ≢ 65535 → place_after next ≡ Id next
+place_of next ne = ap (λ (b : Bool). cond b End (Id next)) (ne_eqb next 65535 ne)
+
+-- the row at an id that is not 0000h
+row_at_id : (rows : List Row) (n : ℕ) → n ≢ 0 → row_at (Id n) rows ≡ look rows n
+row_at_id rows n ne = ap (λ (b : Bool). cond b None (look rows n)) (ne_eqb n 0 ne)
+
+-- what follows a walk's first row is a walk from the place after it
+pub walk_tail : (shelf : Shelf) (rows : List Row) (start : Place) (row : Row) (walk : List Row) → IsShelf shelf rows → IsWalk rows start (row ∷ walk) → IsWalk rows (place_after row.next) walk
+walk_tail shelf rows start row [] ok w = record { of_shelf = w.of_shelf.1; distinct = w.distinct.1; first = search rules; links = search rules }
+walk_tail shelf rows start row (after ∷ walk) ok w =
+    let found = w.of_shelf.1.0 in
+    let not_end : after.id ≢ 65535 = λ (e : after.id ≡ 65535). absurd (omega (arith, (look_row shelf rows after.id after ok found).id)) in
+    let place : place_after row.next ≡ Id after.id = ap place_after w.links.0 ∙ place_of after.id not_end in
+    record {
+      of_shelf = w.of_shelf.1;
+      distinct = w.distinct.1;
+      first = ap (λ (p : Place). row_at p rows) place ∙ (row_at_id rows after.id w.links.1 ∙ found);
+      links = w.links.2;
+    }
+
+-- the row after the first rows of a walk is the one at the place where they end
+pub row_next : (shelf : Shelf) (rows : List Row) (start : Place) (done : List Row) (row : Row) (walk : List Row) → IsShelf shelf rows → IsWalk rows start (done ++ row ∷ walk) → row_at (place_at_end start done) rows ≡ Some row
+row_next shelf rows start [] row walk ok w = w.first
+row_next shelf rows start (d ∷ done) row walk ok w = row_next shelf rows (place_after d.next) done row walk ok (walk_tail shelf rows start d (done ++ row ∷ walk) ok w)
+
+lacks_here : (n : ℕ) (done : List Row) (row : Row) (walk : List Row) → LacksId n (done ++ row ∷ walk) → row.id ≢ n
+lacks_here n [] row walk lacks = lacks.0
+lacks_here n (d ∷ done) row walk lacks = lacks_here n done row walk lacks.1
+
+-- and its id is not among theirs
+pub next_unseen : (done : List Row) (row : Row) (walk : List Row) → DistinctIds (done ++ row ∷ walk) → has_id done row.id ≡ false
+next_unseen [] row walk distinct = refl
+next_unseen (d ∷ done) row walk distinct =
+    let apart : nat_eq row.id d.id ≡ false = ne_eqb row.id d.id (lacks_here d.id done row walk distinct.0) in
+    ap (λ (b : Bool). b || has_id done row.id) apart ∙ next_unseen done row walk distinct.1
+
+-- the id asked for at a place that has a row
+pub asks_look : (place : Place) (rows : List Row) (row : Row) → row_at place rows ≡ Some row → look rows (asked_at place) ≡ Some row
+asks_look First rows row found = found
+asks_look (Id n) rows row found = by_zero (nat_eq n 0) found
+  where
+    by_zero : (b : Bool) → cond b None (look rows n) ≡ Some row → look rows n ≡ Some row
+    by_zero true h = cc h
+    by_zero false h = h
+asks_look End rows row found = cc found
+
+-- it is the row's
+pub id_of : (shelf : Shelf) (rows : List Row) (n : ℕ) (row : Row) → IsShelf shelf rows → row_at (Id n) rows ≡ Some row → (nat_eq n 0 ≡ false) × (row.id ≡ n)
+id_of shelf rows n row ok found = by_zero (nat_eq n 0) refl found
+  where
+    by_zero : (b : Bool) → nat_eq n 0 ≡ b → cond b None (cond b (first_row rows) (row_with_id n rows)) ≡ Some row → (nat_eq n 0 ≡ false) × (row.id ≡ n)
+    by_zero true is h = cc h
+    by_zero false is h = (is, (found_row shelf rows n row ok.all h).1)
+
+pub no_cycle : (shelf : Shelf) (rows : List Row) (place : Place) (ids : set.FinSet nat_cmp) (done : List Row) (row : Row) → IsShelf shelf rows → ((n : ℕ) → set.contains ids n ≡ has_id done n) → has_id done row.id ≡ false
+    → row_at place rows ≡ Some row → cycle_at place ids ≡ None
+no_cycle shelf rows First ids done row ok same fresh found = refl
+no_cycle shelf rows (Id n) ids done row ok same fresh found =
+    let is = id_of shelf rows n row ok found in
+    let out : set.contains ids n ≡ false = same n ∙ ap (has_id done) (sym is.1) ∙ fresh in
+    ap (λ (b : Bool). cond (b || set.contains ids n) (Some n) None) is.0 ∙ ap (λ (b : Bool). cond b (Some n) None) out
+no_cycle shelf rows End ids done row ok same fresh found = refl
+
+place_at_end-append : (start : Place) (done : List Row) (row : Row) → place_at_end start (done ++ row ∷ []) ≡ place_after row.next
+place_at_end-append start [] row = refl
+place_at_end-append start (d ∷ done) row = place_at_end-append (place_after d.next) done row
+
+has_id-append : (done : List Row) (row : Row) (n : ℕ) → has_id (done ++ row ∷ []) n ≡ (nat_eq n row.id || has_id done n)
+has_id-append [] row n = refl
+has_id-append (d ∷ done) row n = ap (λ (b : Bool). nat_eq n d.id || b) (has_id-append done row n) ∙ or_swap (nat_eq n d.id) (nat_eq n row.id) (has_id done n)
+  where
+    or_swap : (a b c : Bool) → (a || (b || c)) ≡ (b || (a || c))
+    or_swap true true c = refl
+    or_swap true false c = refl
+    or_swap false b c = refl
+
+-- ---- the place at a walk's end
+
+abbrev pub EndFacts : List Row → Place → Place → set.FinSet nat_cmp → WalkEnd → Type 0
+EndFacts rows start place ids Done = (place ≡ End) ⊎ ((place ≡ First) × (start ≡ First) × (first_row rows ≡ None))
+EndFacts rows start place ids (CycleAt n) = cycle_at place ids ≡ Some n
+EndFacts rows start place ids (MissingAt n) = (place ≡ Id n) × (cycle_at place ids ≡ None) × (look rows n ≡ None)
+
+pub place_at_last : (next : ℕ) (walk : List Row) → place_at_end (place_after next) walk ≡ place_after (last_next next walk)
+place_at_last next [] = refl
+place_at_last next (row ∷ walk) = place_at_last row.next walk
+
+after_facts : (rows : List Row) (start place : Place) (ids : set.FinSet nat_cmp) (walk : List Row) (next : ℕ) (end : WalkEnd) → EndsAfter rows walk next end → place ≡ place_after next → ((n : ℕ) → set.contains ids n ≡ has_id walk n)
+    → EndFacts rows start place ids end
+after_facts rows start place ids walk next Done ends p same = inl (p ∙ ap place_after ends)
+after_facts rows start place ids walk next (CycleAt n) ends p same =
+    let at : place ≡ Id next = p ∙ place_of next ends.1 in
+    ap (λ (q : Place). cycle_at q ids) at
+    ∙ ap (λ (b : Bool). cond ((next == 0) || b) (Some next) None) (same next)
+    ∙ ap (λ (b : Bool). cond b (Some next) None) ends.2
+    ∙ ap Some (sym ends.0)
+after_facts rows start place ids walk next (MissingAt n) ends p same =
+    let at : place ≡ Id next = p ∙ place_of next ends.1 in (
+      at ∙ ap Id (sym ends.0),
+      ap (λ (q : Place). cycle_at q ids) at
+          ∙ ap (λ (b : Bool). cond ((next == 0) || b) (Some next) None) (same next ∙ ends.3)
+          ∙ ap (λ (b : Bool). cond (b || false) (Some next) None) (ne_eqb next 0 ends.2),
+      ap (look rows) ends.0 ∙ ends.4,
+    )
+
+pub end_facts : (rows : List Row) (start : Place) (walk : List Row) (place : Place) (ids : set.FinSet nat_cmp) (end : WalkEnd) → EndsBy rows start walk end → place ≡ place_at_end start walk → ((n : ℕ) → set.contains ids n ≡ has_id walk n)
+    → EndFacts rows start place ids end
+end_facts rows start (row ∷ walk) place ids end ends p same = after_facts rows start place ids (row ∷ walk) (last_next row.next walk) end ends (p ∙ place_at_last row.next walk) same
+end_facts rows First [] place ids Done ends p same = inr (p, refl, ends)
+end_facts rows First [] place ids (CycleAt n) ends p same = absurd ends
+end_facts rows First [] place ids (MissingAt n) ends p same = absurd ends
+end_facts rows (Id id) [] place ids Done ends p same = absurd ends
+end_facts rows (Id id) [] place ids (CycleAt n) ends p same =
+    ap (λ (q : Place). cycle_at q ids) p ∙ ap (λ (b : Bool). cond (b || set.contains ids id) (Some id) None) (eq-eqb id 0 ends.1) ∙ ap Some (sym ends.0)
+end_facts rows (Id id) [] place ids (MissingAt n) ends p same = (
+  p ∙ ap Id (sym ends.0),
+  ap (λ (q : Place). cycle_at q ids) p ∙ ap (λ (b : Bool). cond (b || set.contains ids id) (Some id) None) (ne_eqb id 0 ends.1) ∙ ap (λ (b : Bool). cond b (Some id) None) (same id),
+  ap (look rows) ends.0 ∙ ends.2,
+)
+end_facts rows End [] place ids Done ends p same = inl p
+end_facts rows End [] place ids (CycleAt n) ends p same = absurd ends
+end_facts rows End [] place ids (MissingAt n) ends p same = absurd ends
+
+-- at the end of an empty shelf
+empty_facts : (rows : List Row) (start : Place) (walk : List Row) (place : Place) (ids : set.FinSet nat_cmp) (end : WalkEnd) → IsWalk rows start walk → EndsBy rows start walk end → place ≡ End → start ≡ First → first_row rows ≡ None
+    → EndFacts rows start place ids end
+empty_facts rows start (row ∷ walk) place ids end w ends p first none = let h = sym (ap (λ (q : Place). row_at q rows) first) ∙ w.first in absurd (no_row h none)
+  where
+    no_row : first_row rows ≡ Some row → first_row rows ≡ None → ⊥
+    no_row a b = cc (a, b)
+empty_facts rows start [] place ids Done w ends p first none = inl p
+empty_facts rows start [] place ids (CycleAt n) w ends p first none = absurd (subst (λ (q : Place). EndsEmpty rows q (CycleAt n)) first ends)
+empty_facts rows start [] place ids (MissingAt n) w ends p first none = absurd (subst (λ (q : Place). EndsEmpty rows q (MissingAt n)) first ends)
+
+-- ---- the law
+
+-- what a step found in the rows
+abbrev pub Finds : List Row → Place → Result (Option Row) Ended → Type 0
+Finds rows place (Ok (Some row)) = look rows (asked_at place) ≡ Some row
+Finds rows First (Ok None) = look rows 0 ≡ None
+Finds rows (Id n) (Ok None) = ⊥
+Finds rows End (Ok None) = Unit {0}
+Finds rows place (Err (Cycle n)) = Unit {0}
+Finds rows place (Err (Missing n)) = look rows n ≡ None
+Finds rows place (Err (GaveUp n)) = Unit {0}
+Finds rows place (Err (Refused n code)) = Unit {0}
+Finds rows place (Err (Stalled n)) = ⊥
+Finds rows place (Err (Malformed n)) = ⊥
+
+module _ (shelf : Shelf) (rows : List Row) (start : Place) (walk : List Row) (k : ℕ) (ok : IsShelf shelf rows) (w : IsWalk rows start walk) (c new : CursorState) (stands : StandsAt rows start walk k c) where
+  still : StaysThere c new → StandsAt rows start walk k new
+  still same = record {
+    within = stands.within;
+    place = elim stands.place [ inl p ↦ inl (same.place ∙ p) | inr e ↦ inr (same.place ∙ e.0, e.1, e.2) ];
+    ids = λ n. ap (λ (s : set.FinSet nat_cmp). set.contains s n) same.ids ∙ stands.ids n;
+  }
+
+  -- before the walk's end
+  module _ (row : Row) (rest : List Row) (split : drop k walk ≡ row ∷ rest) (end : WalkEnd) where
+    whole : walk ≡ take k walk ++ row ∷ rest
+    whole = sym (take-append-drop k walk) ∙ ap (λ (l : List Row). take k walk ++ l) split
+
+    w' : IsWalk rows start (take k walk ++ row ∷ rest)
+    w' = subst (IsWalk rows start) whole w
+
+    at_row : row_at c.place rows ≡ Some row
+    at_row = elim stands.place [
+      | inl p ↦ ap (λ (q : Place). row_at q rows) p ∙ row_next shelf rows start (take k walk) row rest ok w'
+      | inr e ↦ absurd (not_empty walk w split e.1 e.2)
+    ]
+      where
+        not_empty : (l : List Row) → IsWalk rows start l → drop k l ≡ row ∷ rest → start ≡ First → first_row rows ≡ None → ⊥
+        not_empty [] w some first none = let h = sym (drop-nil k) ∙ some in cc h
+        not_empty (x ∷ l) w some first none = let h = sym (ap (λ (q : Place). row_at q rows) first) ∙ w.first in cc (h, none)
+
+    unseen : has_id (take k walk) row.id ≡ false
+    unseen = next_unseen (take k walk) row rest w'.distinct
+
+    none : cycle_at c.place c.ids ≡ None
+    none = no_cycle shelf rows c.place c.ids (take k walk) row ok stands.ids unseen at_row
+
+    found : look rows (asked_at c.place) ≡ Some row
+    found = asks_look c.place rows row at_row
+
+    more : take (k + 1) walk ≡ take k walk ++ row ∷ []
+    more = take-add k 1 walk ∙ ap (λ (l : List Row). take k walk ++ take 1 l) split
+
+    len : k + 1 ≤ length walk
+    len = let h = ap (length {A = Row}) split in omega (arith, length-drop k walk, h)
+
+    inside : (result : Result (Option Row) Ended) → StepLeaves c new result → Finds rows c.place result → WalkStep rows start walk end k c new result
+    inside (Ok (Some r)) leaves finds =
+        let same : row ≡ r = cc (found, finds) in (
+          ap first_row split ∙ ap Some same,
+          record {
+            within = len;
+            place = inl (leaves.1.place ∙ ap (λ (x : Row). place_after x.next) (sym same) ∙ sym (place_at_end-append start (take k walk) row) ∙ ap (place_at_end start) (sym more));
+            ids = λ n.
+                ap (λ (s : set.FinSet nat_cmp). set.contains s n) leaves.1.ids
+                ∙ contains-insert nat_cmp_total c.ids r.id n
+                ∙ ap (λ (b : Bool). b || set.contains c.ids n) (unsigned_tied n r.id ∙ ap (λ (x : Row). nat_eq n x.id) (sym same))
+                ∙ ap (λ (b : Bool). nat_eq n row.id || b) (stands.ids n)
+                ∙ sym (has_id-append (take k walk) row n) ∙ ap (λ (l : List Row). has_id l n) (sym more);
+          },
+        )
+    inside (Ok None) leaves finds = absurd (no_none c.place finds found at_row)
+      where
+        no_none : (p : Place) → Finds rows p (Ok None) → look rows (asked_at p) ≡ Some row → row_at p rows ≡ Some row → ⊥
+        no_none First finds found at = cc (finds, found)
+        no_none (Id n) finds found at = finds
+        no_none End finds found at = cc at
+    inside (Err (Cycle n)) leaves finds = let h = sym none ∙ leaves.0 in cc h
+    inside (Err (Missing n)) leaves finds = let h = sym (ap (λ (p : Place). look rows (asked_at p)) leaves.2) ∙ found in cc (h, finds)
+    inside (Err (GaveUp n)) leaves finds = (still leaves.1.stays, λ (e : k ≡ length walk). absurd (omega (arith, len, e)))
+    inside (Err (Refused n code)) leaves finds = (still leaves.1.stays, λ (e : k ≡ length walk). absurd (omega (arith, len, e)))
+    inside (Err (Stalled n)) leaves finds = absurd finds
+    inside (Err (Malformed n)) leaves finds = absurd finds
+
+  -- at the walk's end
+  module _ (split : drop k walk ≡ []) (end : WalkEnd) (ends : EndsBy rows start walk end) where
+    at_end : k ≡ length walk
+    at_end = let h = ap (length {A = Row}) split in let within = stands.within in omega (arith, length-drop k walk, h)
+
+    all : take k walk ≡ walk
+    all = take_all k walk (omega (arith, at_end))
+
+    -- the place at the walk's end, by how it ends
+    facts : EndFacts rows start c.place c.ids end
+    facts = elim stands.place [
+      | inl p ↦ end_facts rows start walk c.place c.ids end ends (p ∙ ap (place_at_end start) all) (λ n. stands.ids n ∙ ap (λ (l : List Row). has_id l n) all)
+      | inr e ↦ empty_facts rows start walk c.place c.ids end w ends e.0 e.1 e.2
+    ]
+
+    may_fail : (e : WalkEnd) → EndFacts rows start c.place c.ids e → cycle_at c.place c.ids ≡ None → c.place ≢ End → MayFail e c.place
+    may_fail Done facts none open_ = elim facts [ inl p ↦ absurd (open_ p) | inr h ↦ h.0 ]
+    may_fail (CycleAt n) facts none open_ = let h = sym facts ∙ none in cc h
+    may_fail (MissingAt n) facts none open_ = tt
+
+    ending : (e : WalkEnd) → EndFacts rows start c.place c.ids e → (result : Result (Option Row) Ended) → StepLeaves c new result → Finds rows c.place result → WalkStep rows start walk e k c new result
+    ending Done facts (Ok (Some r)) leaves finds = absurd (elim facts [ inl p ↦ leaves.1.started p | inr h ↦ let found = sym (ap (λ (p : Place). look rows (asked_at p)) h.0) ∙ finds in no_row found h.2 ])
+      where
+        no_row : first_row rows ≡ Some r → first_row rows ≡ None → ⊥
+        no_row a b = cc (a, b)
+    ending (CycleAt n) facts (Ok (Some r)) leaves finds = let h = sym facts ∙ leaves.0 in cc h
+    ending (MissingAt n) facts (Ok (Some r)) leaves finds = let h = sym (ap (λ (p : Place). look rows (asked_at p)) facts.0) ∙ finds in cc (h, facts.2)
+    ending Done facts (Ok None) leaves finds = (
+      at_end,
+      refl,
+      record {
+        within = stands.within;
+        place = elim facts [ inl p ↦ elim stands.place [ inl q ↦ inl (leaves.1.place ∙ (sym p ∙ q)) | inr e ↦ inr (leaves.1.place, e.1, e.2) ] | inr h ↦ inr (leaves.1.place, h.1, h.2) ];
+        ids = λ n. ap (λ (s : set.FinSet nat_cmp). set.contains s n) leaves.1.ids ∙ stands.ids n;
+      },
+    )
+    ending (CycleAt n) facts (Ok None) leaves finds = let h = sym facts ∙ leaves.0 in cc h
+    ending (MissingAt n) facts (Ok None) leaves finds = absurd (subst (λ (p : Place). Finds rows p (Ok None)) facts.0 finds)
+    ending Done facts (Err (Cycle n)) leaves finds = absurd (elim facts [ inl p ↦ (let h = sym (ap (λ (q : Place). cycle_at q c.ids) p) ∙ leaves.0 in cc h) | inr f ↦ (let h = sym (ap (λ (q : Place). cycle_at q c.ids) f.0) ∙ leaves.0 in cc h) ])
+    ending (CycleAt m) facts (Err (Cycle n)) leaves finds = (at_end, same_cycle m n (sym facts ∙ leaves.0), still leaves.1)
+      where
+        same_cycle : (m n : ℕ) → Some m ≡ Some n → CycleAt m ≡ CycleAt n
+        same_cycle m n h = let e : m ≡ n = cc h in ap CycleAt e
+    ending (MissingAt m) facts (Err (Cycle n)) leaves finds = let h = sym facts.1 ∙ leaves.0 in cc h
+    ending Done facts (Err (Missing n)) leaves finds = absurd (elim facts [ inl p ↦ (let h = sym p ∙ leaves.2 in cc h) | inr f ↦ (let h = sym f.0 ∙ leaves.2 in cc h) ])
+    ending (CycleAt m) facts (Err (Missing n)) leaves finds = let h = sym facts ∙ leaves.0 in cc h
+    ending (MissingAt m) facts (Err (Missing n)) leaves finds = (at_end, same_id m n (sym facts.0 ∙ leaves.2), still leaves.1)
+      where
+        same_id : (m n : ℕ) → Id m ≡ Id n → MissingAt m ≡ MissingAt n
+        same_id m n h = let e : m ≡ n = cc h in ap MissingAt e
+    ending e facts (Err (GaveUp n)) leaves finds = (still leaves.1.stays, λ _. may_fail e facts leaves.0 leaves.1.started)
+    ending e facts (Err (Refused n code)) leaves finds = (still leaves.1.stays, λ _. may_fail e facts leaves.0 leaves.1.started)
+    ending e facts (Err (Stalled n)) leaves finds = absurd finds
+    ending e facts (Err (Malformed n)) leaves finds = absurd finds
+
+  -- a step on a walk that has an end
+  pub walk_law : (end : WalkEnd) → EndsBy rows start walk end → (result : Result (Option Row) Ended) → StepLeaves c new result → Finds rows c.place result → WalkStep rows start walk end k c new result
+  walk_law end ends result leaves finds = by_rest (drop k walk) refl
+    where
+      by_rest : (l : List Row) → drop k walk ≡ l → WalkStep rows start walk end k c new result
+      by_rest [] is = ending is end ends end (facts is end ends) result leaves finds
+      by_rest (row ∷ rest) is = inside row rest is end result leaves finds
+
+-- ---- the law over an honest controller, which keeps its store
+
+finds_of : (c : CursorState) (s s' : Seen) (result : Result (Option Row) Ended) → StepAnswers c s s' result → Finds (rows_of c.shelf s'.store) c.place result
+finds_of c s s' (Ok (Some row)) answers = answers.1
+finds_of c s s' (Ok None) answers = none c.place answers.1
+  where
+    none : (p : Place) → NoneAt p c.shelf s' → Finds (rows_of c.shelf s'.store) p (Ok None)
+    none First h = h
+    none (Id n) h = h
+    none End h = h
+finds_of c s s' (Err (Cycle n)) answers = tt
+finds_of c s s' (Err (Missing n)) answers = answers.1
+finds_of c s s' (Err (GaveUp n)) answers = tt
+finds_of c s s' (Err (Refused n code)) answers = tt
+finds_of c s s' (Err (Stalled n)) answers = answers
+finds_of c s s' (Err (Malformed n)) answers = answers
+
+pub follows_walks : (c new : CursorState) (s s' : Seen) (result : Result (Option Row) Ended) → IsHonest s → StepLeaves c new result → StepIsHonest c new s s' result → FollowsWalks c new s s' result
+follows_walks c new s s' result honest leaves step = record {
+  follows = λ same start walk end k w ends stands.
+      let store = step.stays.store.stays same in
+      let rows = rows_of c.shelf s.store in
+      let finds : Finds rows c.place result = subst (λ (x : Store). Finds (rows_of c.shelf x) c.place result) store (finds_of c s s' result step.answers) in
+      walk_law c.shelf rows start walk k (shelf_of c.shelf s.store honest.store) w c new stands end ends result leaves finds;
+}
+
+-- a new cursor stands at the start of each walk
+pub stands_at_start : (rows : List Row) (start : Place) (walk : List Row) (c : CursorState) → c.place ≡ start → c.ids ≡ set.empty → StandsAt rows start walk 0 c
+stands_at_start rows start walk c place ids = record {
+  within = omega arith;
+  place = inl place;
+  ids = λ n. ap (λ (s : set.FinSet nat_cmp). set.contains s n) ids ∙ contains-empty nat_cmp n;
+}

@@ -1,0 +1,54 @@
+use Rattle.std.proofs.Common.{◌≡◌, Bool, Ok, sym, ap, subst, ◌∙◌, arith, ℕ}
+use Rattle.std.specs.FinSet as set
+use Rattle.std.proofs.lemmas.List.{length-take}
+use Rattle.ipmi_bus.specs.declared.retrieval.Retrieval.{Retrieval}
+use Rattle.ipmi_bus.specs.Seen.{current}
+use Rattle.ipmi_bus.specs.Shelf.{look, len_of, largest_len}
+use Rattle.ipmi_bus.specs.Store.{rows_of}
+use Rattle.ipmi_bus.proofs.CursorLemmas.{hands_row, unseen, not_end, asked_is, calls_moved}
+use Rattle.ipmi_bus.proofs.cursor.Progress.advance.Goals as goal
+
+pub returns-in-Ok-Complete-clause-leaves : goal.returns-in-Ok-Complete-clause-leaves
+returns-in-Ok-Complete-clause-leaves g c =
+    let asks = c.in-Asks.ensures in
+    let old = c.args.self.now in (
+      asks.0,
+      record {
+        place = c.hand_out.ensures.place;
+        ids = c.hand_out.ensures.ids;
+        unseen = ap (set.contains old.ids) c.hand_out.ensures.id ∙ unseen old.place old.ids c.in-Asks.id c.read.new.self.buffer c.requires.first asks.1 asks.2;
+        started = not_end c.args.self.now.place c.in-Asks.id asks.1;
+        at_most = c.hand_out.ensures.at_most;
+        fits =
+            let len = c.hand_out.ensures.len in
+            let have = (rw c.in-Ok-Complete.field-0-is at c.in-Ok-Complete.ensures.leaves).1 in
+            let largest = ap largest_len c.read.ensures.request.shelf in
+            omega (arith, largest, length-take c.hand_out.result.len c.hand_out.new.self.retrieval.buffer);
+      },
+    )
+
+pub returns-in-Ok-Complete-clause-honest : goal.returns-in-Ok-Complete-clause-honest
+returns-in-Ok-Complete-clause-honest g c = λ h.
+    let asks = c.in-Asks.ensures in
+    let read = c.in-Ok-Complete.ensures.honest h in
+    let answers = rw c.in-Ok-Complete.field-0-is at read.answers in
+    let leaves = rw c.in-Ok-Complete.field-0-is at c.in-Ok-Complete.ensures.leaves in
+    let row = answers.0 in
+    let reads = answers.1 in
+    record {
+      stays = read.stays;
+      answers = (
+        reads.within,
+        hands_row c.args.self.now c.read.new.self c.hand_out.new.self c.hand_out.result c.in-Asks.id _ read.stays.honest asks.1 c.read.ensures.request row reads.read reads.whole leaves.0
+            c.hand_out.ensures.id c.hand_out.ensures.next c.hand_out.ensures.len c.hand_out.ensures.retrieval,
+      );
+      calls = λ same.
+          let bound = read.calls same in
+          let asked = asked_is c.args.self.now.place c.in-Asks.id asks.1 in
+          let part : c.hand_out.new.self.retrieval.part ≡ c.read.new.self.part = ap (λ (x : Retrieval). x.part) c.hand_out.ensures.retrieval in
+          calls_moved (g.C.Controller.seen c.read.new.ctl).calls (g.C.Controller.seen c.args.ctl.now).calls c.args.self.now.retrieval.tries c.read.new.self.part c.hand_out.new.self.retrieval.part c.args.self.now.retrieval.part
+          (λ (n : ℕ). len_of (look (rows_of c.args.self.now.retrieval.shelf (g.C.Controller.seen c.args.ctl.now).store) n)) c.in-Asks.id _ asked part bound;
+      plain = λ p holds.
+          let after = read.plain p (record { held = holds.held }) in
+          record { holds = record { held = λ n e. ap (λ (x : Retrieval). current x.shelf (g.C.Controller.seen c.read.new.ctl)) c.hand_out.ensures.retrieval ∙ after.holds.held n (sym (ap (λ (x : Retrieval). x.reservation) c.hand_out.ensures.retrieval) ∙ e) }; fine = tt };
+    }

@@ -1,0 +1,14 @@
+-- How many calls a retrieval may take.
+use Rattle.std.specs.Prelude.{ℕ, ◌+◌, ◌*◌, nat_le, if◌then◌else◌}
+
+-- of a record of this length: each try asks for a reservation and for each byte, and once more
+abbrev pub step_call_bound : ℕ → ℕ → ℕ
+step_call_bound tries len = (tries + 1) * (len + 2)
+
+-- the number reaches this power of two
+abbrev pub reaches : ℕ → ℕ → ℕ
+reaches power n = if nat_le power n then 1 else 0
+
+-- The binary digits of a part size. A fall of the part size, to half or less, takes one at least.
+abbrev pub digits : ℕ → ℕ
+digits n = reaches 1 n + reaches 2 n + reaches 4 n + reaches 8 n + reaches 16 n + reaches 32 n + reaches 64 n + reaches 128 n

@@ -1,0 +1,12 @@
+-- Completion codes by what they mean for a retrieval.
+use Rattle.std.specs.Prelude.{ℕ, ◌==◌, ◌||◌, if◌then◌else◌}
+use Rattle.ipmi_bus.specs.declared.code.CodeClass.{CodeClass}
+use Rattle.ipmi_bus.specs.declared.code.CodeClass.TheVariants.{Cancelled, Busy, SmallerPart, NotPresent, Refusal}
+
+abbrev pub class_of : ℕ → CodeClass
+class_of code =
+    if code == 0xC5 then Cancelled
+    else if (code == 0xC0) || ((code == 0xC3) || (code == 0x81)) then Busy
+    else if (code == 0xC7) || ((code == 0xC8) || (code == 0xCA)) then SmallerPart
+    else if code == 0xCB then NotPresent
+    else Refusal

@@ -1,0 +1,10 @@
+-- Numbers that clauses see of a controller, without a greatest value.
+use Rattle.std.specs.Prelude.{ℕ}
+
+pub record Counts : Type 0 where
+  pub calls : ℕ
+  pub troubles : ℕ
+  pub fresh_troubles : ℕ
+  pub refusals : ℕ
+  pub last_code : ℕ
+  pub stores_added : ℕ

@@ -1,0 +1,21 @@
+-- What contracts see of a cursor.
+use Rattle.std.specs.Prelude.{ℕ, Option, None, Some}
+use Rattle.std.specs.Ordering.{nat_cmp}
+use Rattle.std.specs.FinSet as set
+use Rattle.ipmi_bus.specs.declared.controller.Shelf.{Shelf}
+use Rattle.ipmi_bus.specs.declared.step.Place.{Place}
+use Rattle.ipmi_bus.specs.declared.step.Place.TheVariants.{First, Id}
+
+-- its shelf, its place, its part size in bytes, its tries, the ids that it has handed out, and the reservation that it holds
+pub record CursorState : Type 0 where
+  pub shelf : Shelf
+  pub place : Place
+  pub part : ℕ
+  pub tries : ℕ
+  pub ids : set.FinSet nat_cmp
+  pub reservation : Option ℕ
+
+-- where a cursor starts
+abbrev pub start_of : Option ℕ → Place
+start_of None = First
+start_of (Some id) = Id id

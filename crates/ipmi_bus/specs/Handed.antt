@@ -1,0 +1,53 @@
+-- A cursor's fields as contracts see them, and what it hands out.
+use Rattle.std.specs.Prelude.{◌≡◌, ◌≢◌, ℕ, false, ◌<◌, List, Option, None, Some, Result, Ok, Err, take}
+use Rattle.std.specs.FinSet as set
+use Rattle.ipmi_bus.specs.declared.step.Place.{Place}
+use Rattle.ipmi_bus.specs.declared.step.Place.TheVariants.{First, Id, End}
+use Rattle.ipmi_bus.specs.declared.step.Ended.{Ended}
+use Rattle.ipmi_bus.specs.declared.cursor.Handed.{Handed}
+use Rattle.ipmi_bus.specs.declared.cursor.Next.{Next}
+use Rattle.ipmi_bus.specs.declared.cursor.Next.TheVariants as next
+use Rattle.ipmi_bus.specs.declared.cursor.Progress.{Progress}
+use Rattle.ipmi_bus.specs.Shelf.{Row, id_in}
+use Rattle.ipmi_bus.specs.CursorState.{CursorState}
+use Rattle.ipmi_bus.specs.Step.{cycle_at}
+use Rattle.std.specs.Ordering.{nat_cmp}
+
+abbrev pub state_of : Progress → CursorState
+state_of p = record { shelf = p.retrieval.shelf; place = p.place; part = p.retrieval.part; tries = p.retrieval.tries; ids = p.ids; reservation = p.retrieval.reservation }
+
+pub record IsCursor (p : Progress) : Type 0 where
+  pub some : 0 < p.retrieval.part
+  pub fits : p.retrieval.part < 255
+  pub first : p.place ≡ First → p.ids ≡ set.empty
+
+-- the row that was handed out
+abbrev pub handed_row : Progress → Handed → Row
+handed_row p handed = record { id = handed.id; next = handed.next; bytes = take handed.len p.retrieval.buffer }
+
+abbrev pub handed_result : Progress → Result (Option Handed) Ended → Result (Option Row) Ended
+handed_result p (Ok (Some handed)) = Ok (Some (handed_row p handed))
+handed_result p (Ok None) = Ok None
+handed_result p (Err ended) = Err ended
+
+-- the id of a record: at the start the one that its bytes begin with, low first
+abbrev pub handed_id : Place → ℕ → List ℕ → ℕ
+handed_id First asked buffer = id_in buffer
+handed_id (Id n) asked buffer = asked
+handed_id End asked buffer = asked
+
+-- an id is asked for: 0000h at the start, and later one that was not handed out
+abbrev pub IsAsked : Place → ℕ → Type 0
+IsAsked First asked = asked ≡ 0
+IsAsked (Id n) asked = (asked ≡ n) × (n ≢ 0)
+IsAsked End asked = ⊥
+
+abbrev pub IsUnseen : Place → set.FinSet nat_cmp → ℕ → Type 0
+IsUnseen First ids asked = Unit {0}
+IsUnseen (Id n) ids asked = set.contains ids asked ≡ false
+IsUnseen End ids asked = Unit {0}
+
+abbrev pub IsNext : Place → set.FinSet nat_cmp → Next → Type 0
+IsNext place ids next.End = place ≡ End
+IsNext place ids (next.Cycle n) = cycle_at place ids ≡ Some n
+IsNext place ids (next.Asks asked) = (cycle_at place ids ≡ None) × IsAsked place asked × IsUnseen place ids asked

@@ -1,0 +1,17 @@
+pub mod Answers
+pub mod Bounds
+pub mod Code
+pub mod Counts
+pub mod CursorState
+pub mod Events
+pub mod Handed
+pub mod IdTable
+pub mod Lent
+pub mod Retrieval
+pub mod Seen
+pub mod Shelf
+pub mod Since
+pub mod Standing
+pub mod Step
+pub mod Store
+pub mod Walk

@@ -1,0 +1,173 @@
+-- A record that is being read in parts: what is there so far, and what one call may leave of it.
+use Rattle.std.specs.Prelude.{◌≡◌, ℕ, max, ◌+◌, ◌-◌, ◌*◌, ◌<◌, ◌≤◌, Bool, true, false, IsTrue, MatchResult, nat_lt, nat_le, if◌then◌else◌, Option, None, Some, IsSome, Result, Ok, Err, List, length, take, slice_index}
+use Rattle.ipmi_bus.specs.declared.controller.Shelf.{Shelf}
+use Rattle.ipmi_bus.specs.declared.controller.Shelf.TheVariants.{Sdr, Sel}
+use Rattle.ipmi_bus.specs.declared.controller.Part.{Part}
+use Rattle.ipmi_bus.specs.declared.step.Ended.{Ended}
+use Rattle.ipmi_bus.specs.declared.step.Ended.TheVariants.{Cycle, Missing, Refused, GaveUp, Stalled, Malformed}
+use Rattle.ipmi_bus.specs.declared.retrieval.Outcome.{Outcome}
+use Rattle.ipmi_bus.specs.declared.retrieval.Outcome.TheVariants.{Again, Whole, Absent}
+use Rattle.ipmi_bus.specs.declared.retrieval.Retrieval.{Retrieval}
+use Rattle.ipmi_bus.specs.Shelf.{Row, look, len_of, largest_len}
+use Rattle.ipmi_bus.specs.Store.{rows_of}
+use Rattle.ipmi_bus.specs.Seen.{Seen, current, IsRefused, StaysHonest}
+use Rattle.ipmi_bus.specs.Answers.{Asked}
+use Rattle.ipmi_bus.specs.Bounds.{digits}
+
+-- how many bytes are asked for, by those that are there: of a sensor data record the header comes first
+abbrev pub wanted_len : Shelf → ℕ → List ℕ → ℕ
+wanted_len Sdr have buffer = if nat_lt have 5 then 5 else 5 + slice_index buffer 4
+wanted_len Sel have buffer = 16
+
+-- a record that is not whole yet
+pub record IsOpen (r : Retrieval) : Type 0 where
+  pub part : 0 < r.part
+  pub part_fits : r.part < 255
+  pub more : r.have < wanted_len r.shelf r.have r.buffer
+  pub fits : wanted_len r.shelf r.have r.buffer ≤ largest_len r.shelf
+  pub troubles : r.troubles ≤ r.tries
+  pub reserved : 0 < r.have → IsSome r.reservation
+
+-- what stays over a call
+pub record SameRequest (old new : Retrieval) : Type 0 where
+  pub shelf : new.shelf ≡ old.shelf
+  pub tries : new.tries ≡ old.tries
+  pub id : new.id ≡ old.id
+  pub part : new.part ≤ old.part
+  pub some : 0 < new.part
+
+-- the bytes so far are the row's
+pub record HasRead (r : Retrieval) (seen : Seen) (row : Row) : Type 0 where
+  pub found : look (rows_of r.shelf seen.store) r.id ≡ Some row
+  pub within : r.have ≤ length row.bytes
+  pub bytes : take r.have r.buffer ≡ take r.have row.bytes
+  pub next : r.next ≡ row.next
+
+-- while the reservation is current, the bytes so far are of a row that stands
+pub record IsReading (r : Retrieval) (seen : Seen) : Type 0 where
+  pub piece : 0 < r.have → current r.shelf seen ≡ r.reservation → (row : Row) × HasRead r seen row
+
+-- a reservation that is held is current
+pub record HoldsCurrent (r : Retrieval) (seen : Seen) : Type 0 where
+  pub held : (n : ℕ) → r.reservation ≡ Some n → current r.shelf seen ≡ Some n
+
+-- neither a trouble nor a refusal came
+pub record IsCalm (old new : Seen) : Type 0 where
+  pub troubles : new.troubles ≡ old.troubles
+  pub refusals : new.refusals ≡ old.refusals
+  pub last_code : new.last_code ≡ old.last_code
+
+-- how many bytes the row has that is asked for, 0 where there is none
+abbrev pub row_len : Retrieval → Seen → ℕ
+row_len r seen = len_of (look (rows_of r.shelf seen.store) r.id)
+
+-- the troubles that came are those that the retrieval counted
+pub record GoesOn (old new : Retrieval) (s s' : Seen) : Type 0 where
+  pub reading : IsReading new s'
+  pub troubles : s'.troubles + old.troubles ≡ s.troubles + new.troubles
+  pub fresh_troubles : s'.fresh_troubles + old.troubles ≡ s.fresh_troubles + new.troubles
+  pub grows : old.troubles ≤ new.troubles
+  pub refusals : s'.refusals ≡ s.refusals
+  pub last_code : s'.last_code ≡ s.last_code
+  pub within : new.have ≤ max old.have (row_len new s')
+
+pub record HasWhole (new : Retrieval) (s s' : Seen) (row : Row) : Type 0 where
+  pub calm : IsCalm s s'
+  pub read : HasRead new s' row
+  pub whole : new.have ≡ length row.bytes
+
+pub record IsAbsent (new : Retrieval) (s s' : Seen) : Type 0 where
+  pub calm : IsCalm s s'
+  pub absent : look (rows_of new.shelf s'.store) new.id ≡ None
+
+-- one trouble more than the tries
+pub record HasGivenUp (old : Retrieval) (id : ℕ) (s s' : Seen) : Type 0 where
+  pub id_is : id ≡ old.id
+  pub troubles : s'.troubles + old.troubles ≡ s.troubles + old.tries + 1
+  pub fresh_troubles : s'.fresh_troubles + old.troubles ≡ s.fresh_troubles + old.tries + 1
+  pub refusals : s'.refusals ≡ s.refusals
+  pub last_code : s'.last_code ≡ s.last_code
+
+abbrev pub CallAnswers : Retrieval → Retrieval → Seen → Seen → Result Outcome Ended → Type 0
+CallAnswers old new s s' (Ok Again) = GoesOn old new s s'
+CallAnswers old new s s' (Ok Whole) = (row : Row) × HasWhole new s s' row
+CallAnswers old new s s' (Ok Absent) = IsAbsent new s s'
+CallAnswers old new s s' (Err (GaveUp id)) = HasGivenUp old id s s'
+CallAnswers old new s s' (Err (Refused id code)) = (id ≡ old.id) × IsRefused code.0 s s'
+CallAnswers old new s s' (Err (Cycle id)) = ⊥
+CallAnswers old new s s' (Err (Missing id)) = ⊥
+CallAnswers old new s s' (Err (Stalled id)) = ⊥
+CallAnswers old new s s' (Err (Malformed id)) = ⊥
+
+-- neither given up nor refused
+abbrev pub IsFine : Result Outcome Ended → Type 0
+IsFine (Ok turn) = Unit {0}
+IsFine (Err (GaveUp id)) = ⊥
+IsFine (Err (Refused id code)) = ⊥
+IsFine (Err (Cycle id)) = Unit {0}
+IsFine (Err (Missing id)) = Unit {0}
+IsFine (Err (Stalled id)) = Unit {0}
+IsFine (Err (Malformed id)) = Unit {0}
+
+pub record CallIsPlain (old new : Retrieval) (s' : Seen) (result : Result Outcome Ended) : Type 0 where
+  pub holds : HoldsCurrent new s'
+  pub fine : IsFine result
+  pub troubles : new.troubles ≡ old.troubles
+
+-- a call of an honest controller
+pub record CallIsHonest (old new : Retrieval) (s s' : Seen) (result : Result Outcome Ended) : Type 0 where
+  pub stays : StaysHonest s s'
+  pub answers : CallAnswers old new s s' result
+  pub plain : IsTrue s.plain → HoldsCurrent old s → CallIsPlain old new s' result
+
+-- after a trouble, of which one more may come
+abbrev pub after_trouble : Bool → Retrieval → Retrieval
+after_trouble true r = record r { troubles = r.troubles + 1; reservation = None; have = 0 }
+after_trouble false r = record r { troubles = r.troubles + 1 }
+
+-- the trouble is counted, or it was one too many
+abbrev pub CountsTrouble : Bool → Retrieval → Retrieval → Result Outcome Ended → Type 0
+CountsTrouble is_cancelled old new result = MatchResult result
+    (λ turn. (turn ≡ Again) × (new ≡ after_trouble is_cancelled old) × (old.troubles < old.tries))
+    (λ ended. (ended ≡ GaveUp old.id) × (new ≡ old) × (old.troubles ≡ old.tries))
+
+-- a request for the bytes after those that are there
+abbrev pub request_of : Retrieval → ℕ → ℕ → Asked
+request_of r reservation len = record { shelf = r.shelf; reservation = reservation; id = r.id; offset = r.have; len = len }
+
+-- with a part taken
+abbrev pub after_part : Part → Retrieval → Retrieval
+after_part part r = record r { have = r.have + part.got; next = part.next }
+
+-- the taken bytes make the record whole, or they don't; a header that says too much, or no bytes, end it
+abbrev pub TakesPart : Part → Retrieval → Retrieval → Result Outcome Ended → Type 0
+TakesPart part old new (Ok Again) = (0 < part.got) × (new ≡ after_part part old) × (new.have < wanted_len new.shelf new.have new.buffer) × (wanted_len new.shelf new.have new.buffer ≤ largest_len new.shelf)
+TakesPart part old new (Ok Whole) = (0 < part.got) × (new ≡ after_part part old) × (new.have ≡ wanted_len new.shelf new.have new.buffer) × (new.have ≤ largest_len new.shelf) × (5 ≤ new.have)
+TakesPart part old new (Ok Absent) = ⊥
+TakesPart part old new (Err (Stalled id)) = (part.got ≡ 0) × (id ≡ old.id) × (new ≡ old)
+TakesPart part old new (Err (Malformed id)) = (0 < part.got) × (new ≡ after_part part old) × (id ≡ old.id) × (old.shelf ≡ Sdr) × (new.have ≡ 5) × (0xFB < slice_index old.buffer 4)
+TakesPart part old new (Err (GaveUp id)) = ⊥
+TakesPart part old new (Err (Refused id code)) = ⊥
+TakesPart part old new (Err (Cycle id)) = ⊥
+TakesPart part old new (Err (Missing id)) = ⊥
+
+-- one call, for a reservation, where none is held
+abbrev pub unreserved : Option ℕ → ℕ
+unreserved None = 1
+unreserved (Some n) = 0
+
+-- the most calls that a record of this length can still take
+abbrev pub calls_left : ℕ → Retrieval → ℕ
+calls_left len r = (r.tries - r.troubles) * (len + 2) + unreserved r.reservation + (len - r.have) + 1 + digits r.part
+
+-- after a call there is less to do, or the record is whole, or an answer ends it
+abbrev pub CallLeaves : Retrieval → Retrieval → Result Outcome Ended → Type 0
+CallLeaves old new (Ok Again) = IsOpen new × ((len : ℕ) → new.have ≤ len → calls_left len new + 1 ≤ calls_left len old)
+CallLeaves old new (Ok Whole) = (new.part ≡ old.part) × (5 ≤ new.have) × (new.have ≤ largest_len new.shelf) × (new.have ≡ wanted_len new.shelf new.have new.buffer)
+CallLeaves old new (Ok Absent) = new.part ≡ old.part
+CallLeaves old new (Err (GaveUp id)) = (new.part ≡ old.part) × (id ≡ old.id)
+CallLeaves old new (Err (Refused id code)) = (new.part ≡ old.part) × (id ≡ old.id)
+CallLeaves old new (Err (Stalled id)) = (new.part ≡ old.part) × (id ≡ old.id)
+CallLeaves old new (Err (Malformed id)) = (new.part ≡ old.part) × (id ≡ old.id)
+CallLeaves old new (Err (Cycle id)) = ⊥
+CallLeaves old new (Err (Missing id)) = ⊥

@@ -1,0 +1,85 @@
+-- What contracts see of a management controller, and which controllers are honest and plain.
+use Rattle.std.specs.Prelude.{◌≡◌, ℕ, ◌+◌, ◌<◌, ◌≤◌, Bool, IsTrue, Option, None, Some}
+use Rattle.ipmi_bus.specs.declared.controller.Shelf.{Shelf}
+use Rattle.ipmi_bus.specs.declared.controller.Shelf.TheVariants.{Sdr, Sel}
+use Rattle.ipmi_bus.specs.Store.{Store, IsStore}
+
+-- The numbers have no greatest value. Fresh troubles are those since something was finished.
+pub record Seen : Type 0 where
+  pub store : Store
+  pub honest : Bool
+  pub plain : Bool
+  pub sdr_reservation : Option ℕ
+  pub sel_reservation : Option ℕ
+  pub calls : ℕ
+  pub troubles : ℕ
+  pub fresh_troubles : ℕ
+  pub refusals : ℕ
+  pub last_code : ℕ
+  pub stores_added : ℕ
+
+-- the shelf's current reservation
+abbrev pub current : Shelf → Seen → Option ℕ
+current Sdr seen = seen.sdr_reservation
+current Sel seen = seen.sel_reservation
+
+-- it says that it is honest, and what it holds is a store: the premise of all that is said of its answers
+pub record IsHonest (seen : Seen) : Type 0 where
+  pub said : IsTrue seen.honest
+  pub store : IsStore seen.store
+
+-- an honest one that cancels, refuses and changes nothing
+pub record IsPlain (seen : Seen) : Type 0 where
+  pub said : IsTrue seen.plain
+  pub honest : IsHonest seen
+
+-- ---- what an answer counts, beside the call
+
+pub record IsQuiet (old new : Seen) : Type 0 where
+  pub troubles : new.troubles ≡ old.troubles
+  pub fresh_troubles : new.fresh_troubles ≡ old.fresh_troubles
+  pub refusals : new.refusals ≡ old.refusals
+  pub last_code : new.last_code ≡ old.last_code
+
+pub record IsTroubled (old new : Seen) : Type 0 where
+  pub troubles : new.troubles ≡ old.troubles + 1
+  pub fresh_troubles : new.fresh_troubles ≡ old.fresh_troubles + 1
+  pub refusals : new.refusals ≡ old.refusals
+  pub last_code : new.last_code ≡ old.last_code
+
+pub record IsFinished (old new : Seen) : Type 0 where
+  pub troubles : new.troubles ≡ old.troubles
+  pub fresh_troubles : new.fresh_troubles ≡ 0
+  pub refusals : new.refusals ≡ old.refusals
+  pub last_code : new.last_code ≡ old.last_code
+
+pub record IsRefused (code : ℕ) (old new : Seen) : Type 0 where
+  pub troubles : new.troubles ≡ old.troubles
+  pub fresh_troubles : new.fresh_troubles ≡ old.fresh_troubles
+  pub refusals : new.refusals ≡ old.refusals + 1
+  pub last_code : new.last_code ≡ code
+
+-- ---- what stays
+
+-- the store stays unless a store is added
+pub record KeepsStore (old new : Seen) : Type 0 where
+  pub grows : old.stores_added ≤ new.stores_added
+  pub stays : new.stores_added ≡ old.stores_added → new.store ≡ old.store
+
+-- an honest controller stays honest, and a plain one plain, which adds no store
+pub record StaysHonest (old new : Seen) : Type 0 where
+  pub honest : IsHonest new
+  pub plain : IsTrue old.plain → IsTrue new.plain
+  pub store : KeepsStore old new
+  pub plain_store : IsTrue old.plain → new.stores_added ≡ old.stores_added
+
+-- one call adds at most one store
+pub record IsChange (old new : Seen) : Type 0 where
+  pub stays : StaysHonest old new
+  pub one : new.stores_added ≤ old.stores_added + 1
+
+-- No reservation of the shelf becomes current, and none stays so where a store is added. A plain controller cancels none.
+pub record KeepsReservation (shelf : Shelf) (old new : Seen) : Type 0 where
+  pub none_given : (r : ℕ) → current shelf new ≡ Some r → current shelf old ≡ Some r
+  pub none_over_change : old.stores_added < new.stores_added → current shelf new ≡ None
+  pub plain : IsTrue old.plain → current shelf new ≡ current shelf old

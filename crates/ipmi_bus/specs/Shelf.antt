@@ -1,0 +1,79 @@
+-- The two repositories of records, SDR and SEL, as lists of rows.
+use Rattle.std.specs.Prelude.{◌≡◌, ◌≢◌, ℕ, ◌+◌, ◌*◌, ◌<◌, ◌≤◌, ◌==◌, if◌then◌else◌, Option, Some, None, List, [], ◌∷◌, length, slice_index, All}
+use Rattle.ipmi_bus.specs.declared.controller.Shelf.{Shelf}
+use Rattle.ipmi_bus.specs.declared.controller.Shelf.TheVariants.{Sdr, Sel}
+
+-- a record of a shelf: its id, the id of the next one (FFFFh where there is no more), its bytes
+pub record Row : Type 0 where
+  pub id : ℕ
+  pub next : ℕ
+  pub bytes : List ℕ
+
+abbrev pub first_row : List Row → Option Row
+first_row [] = None
+first_row (row ∷ rows) = Some row
+
+abbrev pub row_with_id : ℕ → List Row → Option Row
+row_with_id n [] = None
+row_with_id n (row ∷ rows) = if row.id == n then Some row else row_with_id n rows
+
+-- the row that is asked for by an id: 0000h asks for the first
+abbrev pub look : List Row → ℕ → Option Row
+look rows n = if n == 0 then first_row rows else row_with_id n rows
+
+-- how many bytes the row has, 0 where there is none
+abbrev pub len_of : Option Row → ℕ
+len_of None = 0
+len_of (Some row) = length row.bytes
+
+-- ---- a well-formed shelf
+
+-- each is a byte
+abbrev pub AreBytes : List ℕ → Type 0
+AreBytes bytes = All (λ b. b < 256) bytes
+
+-- how many bytes a whole record has: a sensor data record says in its fifth byte how many follow
+abbrev pub whole_len : Shelf → List ℕ → ℕ
+whole_len Sdr bytes = 5 + slice_index bytes 4
+whole_len Sel bytes = 16
+
+-- the most bytes that a record may have
+abbrev pub largest_len : Shelf → ℕ
+largest_len Sdr = 256
+largest_len Sel = 16
+
+-- a row that may stand on the shelf
+pub record IsRow (shelf : Shelf) (row : Row) : Type 0 where
+  pub id : row.id < 65535
+  pub next : row.next < 65536
+  pub whole : length row.bytes ≡ whole_len shelf row.bytes
+  pub fits : length row.bytes ≤ largest_len shelf
+  pub bytes : AreBytes row.bytes
+
+abbrev pub AllRows : Shelf → List Row → Type 0
+AllRows shelf [] = Unit {0}
+AllRows shelf (row ∷ rows) = IsRow shelf row × AllRows shelf rows
+
+-- no row has this id
+abbrev pub LacksId : ℕ → List Row → Type 0
+LacksId n [] = Unit {0}
+LacksId n (row ∷ rows) = (row.id ≢ n) × LacksId n rows
+
+-- no id stands twice
+abbrev pub DistinctIds : List Row → Type 0
+DistinctIds [] = Unit {0}
+DistinctIds (row ∷ rows) = LacksId row.id rows × DistinctIds rows
+
+-- the number that the first two bytes are, low first
+abbrev pub id_in : List ℕ → ℕ
+id_in bytes = slice_index bytes 0 + 256 * slice_index bytes 1
+
+-- the first row's bytes begin with its id, and no later row has the id 0000h
+abbrev pub BeginsWithId : List Row → Type 0
+BeginsWithId [] = Unit {0}
+BeginsWithId (row ∷ rows) = (id_in row.bytes ≡ row.id) × LacksId 0 rows
+
+pub record IsShelf (shelf : Shelf) (rows : List Row) : Type 0 where
+  pub all : AllRows shelf rows
+  pub distinct : DistinctIds rows
+  pub first : BeginsWithId rows

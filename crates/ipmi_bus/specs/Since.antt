@@ -1,0 +1,105 @@
+-- What holds since the reading of a record began, and when it ends.
+use Rattle.std.specs.Prelude.{◌≡◌, ℕ, ◌+◌, ◌≤◌, IsTrue, None, Result, Ok, Err, length, ◌*◌}
+use Rattle.ipmi_bus.specs.declared.step.Ended.{Ended}
+use Rattle.ipmi_bus.specs.declared.step.Ended.TheVariants.{Cycle, Missing, Refused, GaveUp, Stalled, Malformed}
+use Rattle.ipmi_bus.specs.declared.retrieval.Retrieval.{Retrieval}
+use Rattle.ipmi_bus.specs.declared.retrieval.Retrieved.{Retrieved}
+use Rattle.ipmi_bus.specs.declared.retrieval.Retrieved.TheVariants.{Complete, Nothing}
+use Rattle.ipmi_bus.specs.Shelf.{Row, look, largest_len}
+use Rattle.ipmi_bus.specs.Store.{rows_of}
+use Rattle.ipmi_bus.specs.Seen.{Seen, IsHonest, StaysHonest}
+use Rattle.ipmi_bus.specs.Bounds.{digits, step_call_bound}
+use Rattle.ipmi_bus.specs.Retrieval.{IsOpen, SameRequest, HasRead, IsReading, HoldsCurrent, calls_left, row_len, wanted_len}
+
+-- a retrieval at the start of a record
+abbrev pub begun : Retrieval → ℕ → Retrieval
+begun r id = record r { id = id; troubles = 0; have = 0 }
+
+pub record PlainSince (now : Retrieval) (s' : Seen) : Type 0 where
+  pub holds : HoldsCurrent now s'
+  pub none : now.troubles ≡ 0
+
+pub record HonestSince (start now : Retrieval) (s s' : Seen) : Type 0 where
+  pub stays : StaysHonest s s'
+  pub reading : IsReading now s'
+  pub troubles : s'.troubles ≡ s.troubles + now.troubles
+  pub fresh_troubles : s'.fresh_troubles ≡ s.fresh_troubles + now.troubles
+  pub refusals : s'.refusals ≡ s.refusals
+  pub last_code : s'.last_code ≡ s.last_code
+  pub plain : IsTrue s.plain → HoldsCurrent start s → PlainSince now s'
+  pub within : s'.stores_added ≡ s.stores_added → now.have ≤ row_len start s
+  pub calls : s'.stores_added ≡ s.stores_added → s'.calls + calls_left (row_len start s) now ≤ s.calls + calls_left (row_len start s) start
+
+pub record Since (start now : Retrieval) (s s' : Seen) : Type 0 where
+  pub is_open : IsOpen now
+  pub request : SameRequest start now
+  pub calls : s'.calls + calls_left (largest_len start.shelf) now ≤ s.calls + calls_left (largest_len start.shelf) start
+  pub honest : IsHonest s → HonestSince start now s s'
+
+-- no more troubles than the tries, and no refusal
+pub record WithinTries (tries : ℕ) (old new : Seen) : Type 0 where
+  pub troubles : new.troubles ≤ old.troubles + tries
+  pub refusals : new.refusals ≡ old.refusals
+  pub last_code : new.last_code ≡ old.last_code
+
+-- a whole row, of the store that the controller has now
+pub record ReadsRow (old new : Retrieval) (s s' : Seen) (row : Row) : Type 0 where
+  pub within : WithinTries old.tries s s'
+  pub read : HasRead new s' row
+  pub whole : new.have ≡ length row.bytes
+
+pub record ReadsNone (old : Retrieval) (id : ℕ) (s s' : Seen) : Type 0 where
+  pub within : WithinTries old.tries s s'
+  pub absent : look (rows_of old.shelf s'.store) id ≡ None
+
+pub record GivesUp (tries : ℕ) (s s' : Seen) : Type 0 where
+  pub troubles : s'.troubles ≡ s.troubles + tries + 1
+  pub fresh_troubles : s'.fresh_troubles ≡ s.fresh_troubles + tries + 1
+  pub refusals : s'.refusals ≡ s.refusals
+  pub last_code : s'.last_code ≡ s.last_code
+
+pub record IsRefusedWith (tries code : ℕ) (s s' : Seen) : Type 0 where
+  pub troubles : s'.troubles ≤ s.troubles + tries
+  pub refusals : s'.refusals ≡ s.refusals + 1
+  pub last_code : s'.last_code ≡ code
+
+abbrev pub ReadAnswers : Retrieval → ℕ → Retrieval → Seen → Seen → Result Retrieved Ended → Type 0
+ReadAnswers old id new s s' (Ok Complete) = (row : Row) × ReadsRow old new s s' row
+ReadAnswers old id new s s' (Ok Nothing) = ReadsNone old id s s'
+ReadAnswers old id new s s' (Err (GaveUp n)) = GivesUp old.tries s s'
+ReadAnswers old id new s s' (Err (Refused n code)) = IsRefusedWith old.tries code.0 s s'
+ReadAnswers old id new s s' (Err (Cycle n)) = ⊥
+ReadAnswers old id new s s' (Err (Missing n)) = ⊥
+ReadAnswers old id new s s' (Err (Stalled n)) = ⊥
+ReadAnswers old id new s s' (Err (Malformed n)) = ⊥
+
+-- neither given up nor refused
+abbrev pub IsFineRead : Result Retrieved Ended → Type 0
+IsFineRead (Ok retrieved) = Unit {0}
+IsFineRead (Err (GaveUp id)) = ⊥
+IsFineRead (Err (Refused id code)) = ⊥
+IsFineRead (Err (Cycle id)) = Unit {0}
+IsFineRead (Err (Missing id)) = Unit {0}
+IsFineRead (Err (Stalled id)) = Unit {0}
+IsFineRead (Err (Malformed id)) = Unit {0}
+
+pub record ReadIsPlain (new : Retrieval) (s' : Seen) (result : Result Retrieved Ended) : Type 0 where
+  pub holds : HoldsCurrent new s'
+  pub fine : IsFineRead result
+
+pub record ReadIsHonest (old : Retrieval) (id : ℕ) (new : Retrieval) (s s' : Seen) (result : Result Retrieved Ended) : Type 0 where
+  pub stays : StaysHonest s s'
+  pub answers : ReadAnswers old id new s s' result
+  pub plain : IsTrue s.plain → HoldsCurrent old s → ReadIsPlain new s' result
+  pub calls : s'.stores_added ≡ s.stores_added → s'.calls + digits new.part ≤ s.calls + step_call_bound old.tries (row_len (begun old id) s) + digits old.part
+
+-- what comes of it over any controller
+abbrev pub ReadLeaves : ℕ → Retrieval → Result Retrieved Ended → Type 0
+ReadLeaves id new (Ok Complete) = (5 ≤ new.have) × (new.have ≤ largest_len new.shelf) × (new.have ≡ wanted_len new.shelf new.have new.buffer)
+ReadLeaves id new (Ok Nothing) = Unit {0}
+ReadLeaves id new (Err (GaveUp n)) = n ≡ id
+ReadLeaves id new (Err (Refused n code)) = n ≡ id
+ReadLeaves id new (Err (Stalled n)) = n ≡ id
+ReadLeaves id new (Err (Malformed n)) = n ≡ id
+ReadLeaves id new (Err (Cycle n)) = ⊥
+ReadLeaves id new (Err (Missing n)) = ⊥

@@ -1,0 +1,40 @@
+-- Where a cursor stands on a walk, and what a step does there.
+use Rattle.std.specs.Prelude.{◌≡◌, ℕ, ◌+◌, ◌≤◌, ◌⊎◌, Option, None, Some, Result, Ok, Err, List, length, take, drop}
+use Rattle.std.specs.FinSet as set
+use Rattle.ipmi_bus.specs.declared.step.Place.{Place}
+use Rattle.ipmi_bus.specs.declared.step.Place.TheVariants.{First, End}
+use Rattle.ipmi_bus.specs.declared.step.Ended.{Ended}
+use Rattle.ipmi_bus.specs.declared.step.Ended.TheVariants.{Cycle, Missing, Refused, GaveUp, Stalled, Malformed}
+use Rattle.ipmi_bus.specs.Shelf.{Row, first_row}
+use Rattle.ipmi_bus.specs.Walk.{IsWalk, place_at_end, has_id, WalkEnd, Done, CycleAt, MissingAt, EndsBy}
+use Rattle.ipmi_bus.specs.Store.{rows_of}
+use Rattle.ipmi_bus.specs.Seen.{Seen}
+use Rattle.ipmi_bus.specs.CursorState.{CursorState}
+
+-- the cursor has handed out the first k rows of the walk, and no others
+pub record StandsAt (rows : List Row) (start : Place) (walk : List Row) (k : ℕ) (c : CursorState) : Type 0 where
+  pub within : k ≤ length walk
+  pub place : (c.place ≡ place_at_end start (take k walk)) ⊎ ((c.place ≡ End) × (start ≡ First) × (first_row rows ≡ None))
+  pub ids : (n : ℕ) → set.contains c.ids n ≡ has_id (take k walk) n
+
+-- a step at a walk's end may give up or be refused: there is a call to make
+abbrev pub MayFail : WalkEnd → Place → Type 0
+MayFail Done place = place ≡ First
+MayFail (CycleAt n) place = ⊥
+MayFail (MissingAt n) place = Unit {0}
+
+-- what a step of a cursor that stands at k does: it hands out row k + 1, or answers by the walk's end
+abbrev pub WalkStep : List Row → Place → List Row → WalkEnd → ℕ → CursorState → CursorState → Result (Option Row) Ended → Type 0
+WalkStep rows start walk end k old new (Ok (Some row)) = (first_row (drop k walk) ≡ Some row) × StandsAt rows start walk (k + 1) new
+WalkStep rows start walk end k old new (Ok None) = (k ≡ length walk) × (end ≡ Done) × StandsAt rows start walk k new
+WalkStep rows start walk end k old new (Err (Cycle n)) = (k ≡ length walk) × (end ≡ CycleAt n) × StandsAt rows start walk k new
+WalkStep rows start walk end k old new (Err (Missing n)) = (k ≡ length walk) × (end ≡ MissingAt n) × StandsAt rows start walk k new
+WalkStep rows start walk end k old new (Err (GaveUp n)) = StandsAt rows start walk k new × (k ≡ length walk → MayFail end old.place)
+WalkStep rows start walk end k old new (Err (Refused n code)) = StandsAt rows start walk k new × (k ≡ length walk → MayFail end old.place)
+WalkStep rows start walk end k old new (Err (Stalled n)) = ⊥
+WalkStep rows start walk end k old new (Err (Malformed n)) = ⊥
+
+-- where no store is added, the step is one along each walk that has an end and on which the cursor stands
+pub record FollowsWalks (old new : CursorState) (s s' : Seen) (result : Result (Option Row) Ended) : Type 0 where
+  pub follows : s'.stores_added ≡ s.stores_added → (start : Place) (walk : List Row) (end : WalkEnd) (k : ℕ) → IsWalk (rows_of old.shelf s.store) start walk → EndsBy (rows_of old.shelf s.store) start walk end
+      → StandsAt (rows_of old.shelf s.store) start walk k old → WalkStep (rows_of old.shelf s.store) start walk end k old new result

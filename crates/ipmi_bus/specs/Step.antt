@@ -1,0 +1,124 @@
+-- One step of a cursor: what it leaves over any controller, and what it answers over an honest one.
+use Rattle.std.specs.Prelude.{◌≡◌, ◌≢◌, ℕ, ◌+◌, ◌<◌, ◌≤◌, ◌==◌, ◌||◌, false, IsTrue, if◌then◌else◌, Option, None, Some, IsSome, ◌⊎◌, Result, Ok, Err, length}
+use Rattle.std.specs.FinSet as set
+use Rattle.std.specs.Ordering.{nat_cmp}
+use Rattle.ipmi_bus.specs.declared.controller.Shelf.{Shelf}
+use Rattle.ipmi_bus.specs.declared.step.Place.{Place}
+use Rattle.ipmi_bus.specs.declared.step.Place.TheVariants.{First, Id, End}
+use Rattle.ipmi_bus.specs.declared.step.Ended.{Ended}
+use Rattle.ipmi_bus.specs.declared.step.Ended.TheVariants.{Cycle, Missing, Refused, GaveUp, Stalled, Malformed}
+use Rattle.ipmi_bus.specs.Shelf.{Row, look, len_of, largest_len, AreBytes}
+use Rattle.ipmi_bus.specs.Store.{rows_of}
+use Rattle.ipmi_bus.specs.Walk.{place_after}
+use Rattle.ipmi_bus.specs.Seen.{Seen, StaysHonest, current}
+use Rattle.ipmi_bus.specs.Since.{WithinTries, GivesUp, IsRefusedWith}
+use Rattle.ipmi_bus.specs.Bounds.{step_call_bound, digits}
+use Rattle.ipmi_bus.specs.CursorState.{CursorState}
+
+-- the id that is asked for: 0000h for the first record
+abbrev pub asked_at : Place → ℕ
+asked_at First = 0
+asked_at (Id n) = n
+asked_at End = 0
+
+-- the id at which the chain closes, if it does: 0000h, or one that was handed out
+abbrev pub cycle_at : Place → set.FinSet nat_cmp → Option ℕ
+cycle_at First ids = None
+cycle_at (Id n) ids = if (n == 0) || set.contains ids n then Some n else None
+cycle_at End ids = None
+
+-- ---- over any controller
+
+pub record SameCursor (old new : CursorState) : Type 0 where
+  pub shelf : new.shelf ≡ old.shelf
+  pub tries : new.tries ≡ old.tries
+  pub part : new.part ≤ old.part
+
+-- the cursor stands after a record that it handed out, and that it had not handed out before
+pub record HandsOut (old new : CursorState) (row : Row) : Type 0 where
+  pub place : new.place ≡ place_after row.next
+  pub ids : new.ids ≡ set.insert old.ids row.id
+  pub unseen : set.contains old.ids row.id ≡ false
+  pub at_most : set.len new.ids ≤ 65536
+  pub fits : length row.bytes ≤ largest_len old.shelf
+  pub started : old.place ≢ End
+
+-- the cursor stands where it stood, without a reservation
+pub record StaysThere (old new : CursorState) : Type 0 where
+  pub place : new.place ≡ old.place
+  pub ids : new.ids ≡ old.ids
+  pub reservation : new.reservation ≡ None
+
+-- there is no more: the cursor stood at the start or at the end, and stands at the end
+pub record IsAtEnd (old new : CursorState) : Type 0 where
+  pub place : new.place ≡ End
+  pub ids : new.ids ≡ old.ids
+  pub from : (n : ℕ) → old.place ≢ Id n
+
+-- the record that was asked for did not come, and the cursor stays
+pub record EndsAt (n : ℕ) (old new : CursorState) : Type 0 where
+  pub stays : StaysThere old new
+  pub asked : n ≡ asked_at old.place
+  pub started : old.place ≢ End
+
+-- Cycle comes exactly where the chain closes
+abbrev pub StepLeaves : CursorState → CursorState → Result (Option Row) Ended → Type 0
+StepLeaves old new (Ok (Some row)) = (cycle_at old.place old.ids ≡ None) × HandsOut old new row
+StepLeaves old new (Ok None) = (cycle_at old.place old.ids ≡ None) × IsAtEnd old new
+StepLeaves old new (Err (Cycle n)) = (cycle_at old.place old.ids ≡ Some n) × StaysThere old new
+StepLeaves old new (Err (Missing n)) = (cycle_at old.place old.ids ≡ None) × StaysThere old new × (old.place ≡ Id n)
+StepLeaves old new (Err (GaveUp n)) = (cycle_at old.place old.ids ≡ None) × EndsAt n old new
+StepLeaves old new (Err (Refused n code)) = (cycle_at old.place old.ids ≡ None) × EndsAt n old new
+StepLeaves old new (Err (Stalled n)) = (cycle_at old.place old.ids ≡ None) × EndsAt n old new
+StepLeaves old new (Err (Malformed n)) = (cycle_at old.place old.ids ≡ None) × EndsAt n old new
+
+-- the step makes no call: the cursor is at the end, or the chain closes
+abbrev pub MakesNoCall : CursorState → Type 0
+MakesNoCall c = (c.place ≡ End) ⊎ IsSome (cycle_at c.place c.ids)
+
+-- no more calls than the bound for a record of this length, but for those that made the part size fall
+abbrev pub StepCalls : ℕ → CursorState → CursorState → Seen → Seen → Type 0
+StepCalls len old new s s' = s'.calls + digits new.part ≤ s.calls + step_call_bound old.tries len + digits old.part
+
+-- ---- over an honest controller, whatever its store does
+
+-- there is nothing more: the cursor is at the end, or at the start of an empty shelf
+abbrev pub NoneAt : Place → Shelf → Seen → Type 0
+NoneAt First shelf seen = look (rows_of shelf seen.store) 0 ≡ None
+NoneAt (Id n) shelf seen = ⊥
+NoneAt End shelf seen = Unit {0}
+
+-- what is handed out is a whole row of the store as it is when the step ends
+abbrev pub StepAnswers : CursorState → Seen → Seen → Result (Option Row) Ended → Type 0
+StepAnswers old s s' (Ok (Some row)) = WithinTries old.tries s s' × (look (rows_of old.shelf s'.store) (asked_at old.place) ≡ Some row)
+StepAnswers old s s' (Ok None) = WithinTries old.tries s s' × NoneAt old.place old.shelf s'
+StepAnswers old s s' (Err (Cycle n)) = s' ≡ s
+StepAnswers old s s' (Err (Missing n)) = WithinTries old.tries s s' × (look (rows_of old.shelf s'.store) n ≡ None)
+StepAnswers old s s' (Err (GaveUp n)) = GivesUp old.tries s s'
+StepAnswers old s s' (Err (Refused n code)) = IsRefusedWith old.tries code.0 s s'
+StepAnswers old s s' (Err (Stalled n)) = ⊥
+StepAnswers old s s' (Err (Malformed n)) = ⊥
+
+-- a reservation that the cursor holds is current
+pub record CursorHoldsCurrent (c : CursorState) (seen : Seen) : Type 0 where
+  pub held : (n : ℕ) → c.reservation ≡ Some n → current c.shelf seen ≡ Some n
+
+-- neither given up nor refused
+abbrev pub IsFineStep : Result (Option Row) Ended → Type 0
+IsFineStep (Ok o) = Unit {0}
+IsFineStep (Err (GaveUp id)) = ⊥
+IsFineStep (Err (Refused id code)) = ⊥
+IsFineStep (Err (Cycle id)) = Unit {0}
+IsFineStep (Err (Missing id)) = Unit {0}
+IsFineStep (Err (Stalled id)) = Unit {0}
+IsFineStep (Err (Malformed id)) = Unit {0}
+
+pub record StepIsPlain (new : CursorState) (s' : Seen) (result : Result (Option Row) Ended) : Type 0 where
+  pub holds : CursorHoldsCurrent new s'
+  pub fine : IsFineStep result
+
+pub record StepIsHonest (old new : CursorState) (s s' : Seen) (result : Result (Option Row) Ended) : Type 0 where
+  pub stays : StaysHonest s s'
+  pub answers : StepAnswers old s s' result
+  pub plain : IsTrue s.plain → CursorHoldsCurrent old s → StepIsPlain new s' result
+  pub calls : s'.stores_added ≡ s.stores_added → StepCalls (len_of (look (rows_of old.shelf s.store) (asked_at old.place))) old new s s'

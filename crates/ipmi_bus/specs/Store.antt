@@ -1,0 +1,58 @@
+-- What a management controller holds: both shelves, FRU inventories, sensor readings and repository info.
+use Rattle.std.specs.Prelude.{◌≡◌, ◌≢◌, ℕ, ◌<◌, ◌≤◌, Option, IfSome, List, length, All, AllPairs}
+use Rattle.ipmi_text.specs.declared.reading.Reading.{Reading}
+use Rattle.ipmi_bus.specs.declared.controller.Shelf.{Shelf}
+use Rattle.ipmi_bus.specs.declared.controller.Shelf.TheVariants.{Sdr, Sel}
+use Rattle.ipmi_bus.specs.Shelf.{Row, AreBytes, IsShelf}
+
+-- the inventory of a FRU device
+pub record Inventory : Type 0 where
+  pub id : ℕ
+  pub bytes : List ℕ
+
+-- what the sensor with this number answers at this LUN
+pub record SensorReading : Type 0 where
+  pub lun : ℕ
+  pub number : ℕ
+  pub reading : Reading
+
+pub record Store : Type 0 where
+  pub sdr : List Row
+  pub sel : List Row
+  pub inventories : List Inventory
+  pub readings : List SensorReading
+  pub sdr_info : Option (List ℕ)
+  pub sel_info : Option (List ℕ)
+
+abbrev pub rows_of : Shelf → Store → List Row
+rows_of Sdr store = store.sdr
+rows_of Sel store = store.sel
+
+abbrev pub info_of : Shelf → Store → Option (List ℕ)
+info_of Sdr store = store.sdr_info
+info_of Sel store = store.sel_info
+
+-- FRU device FFh is no device, and an inventory's size is a 16-bit number
+pub record IsInventory (inventory : Inventory) : Type 0 where
+  pub id : inventory.id ≤ 254
+  pub fits : length inventory.bytes ≤ 65535
+  pub bytes : AreBytes inventory.bytes
+
+-- the answer of Get SDR Repository Info or Get SEL Info, after its completion code
+pub record IsInfo (bytes : List ℕ) : Type 0 where
+  pub len : length bytes ≡ 14
+  pub all : AreBytes bytes
+
+-- not the same sensor
+abbrev pub OtherSensor : SensorReading → SensorReading → Type 0
+OtherSensor a b = (a.lun ≡ b.lun) → (a.number ≢ b.number)
+
+-- a well-formed store
+pub record IsStore (store : Store) : Type 0 where
+  pub sdr : IsShelf Sdr store.sdr
+  pub sel : IsShelf Sel store.sel
+  pub inventories : All IsInventory store.inventories
+  pub distinct_inventories : AllPairs (λ a b. a.id ≢ b.id) store.inventories
+  pub distinct_readings : AllPairs OtherSensor store.readings
+  pub sdr_info : IfSome store.sdr_info IsInfo
+  pub sel_info : IfSome store.sel_info IsInfo

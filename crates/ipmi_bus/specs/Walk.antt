@@ -1,0 +1,95 @@
+-- Walks along the next ids of a shelf, as lists of rows, and how a walk ends.
+use Rattle.std.specs.Prelude.{◌≡◌, ◌≢◌, ℕ, ◌==◌, if◌then◌else◌, Option, Some, None, IfSome, List, [], ◌∷◌, Bool, false, ◌||◌, IsTrue}
+use Rattle.ipmi_bus.specs.declared.controller.Shelf.{Shelf}
+use Rattle.ipmi_bus.specs.declared.step.Place.{Place}
+use Rattle.ipmi_bus.specs.declared.step.Place.TheVariants.{First, Id, End}
+use Rattle.ipmi_bus.specs.Shelf.{Row, look, first_row, DistinctIds, IsShelf}
+
+-- the row that a walk from a place may begin with
+abbrev pub row_at : Place → List Row → Option Row
+row_at First rows = first_row rows
+row_at (Id n) rows = if n == 0 then None else look rows n
+row_at End rows = None
+
+-- each row's next is the id of the row after it, which is not 0000h
+abbrev pub Links : List Row → Type 0
+Links [] = Unit {0}
+Links (row ∷ []) = Unit {0}
+Links (row ∷ (after ∷ rows)) = (row.next ≡ after.id) × (after.id ≢ 0) × Links (after ∷ rows)
+
+-- each of these is the row of the shelf that has its id
+abbrev pub AllOf : List Row → List Row → Type 0
+AllOf rows [] = Unit {0}
+AllOf rows (row ∷ walk) = (look rows row.id ≡ Some row) × AllOf rows walk
+
+-- a walk from a place along the next ids of the shelf's rows
+pub record IsWalk (rows : List Row) (start : Place) (walk : List Row) : Type 0 where
+  pub of_shelf : AllOf rows walk
+  pub distinct : DistinctIds walk
+  pub first : IfSome (first_row walk) (λ row. row_at start rows ≡ Some row)
+  pub links : Links walk
+
+-- the place after a record with this next id
+abbrev pub place_after : ℕ → Place
+place_after next = if next == 65535 then End else Id next
+
+-- the place after these rows, or the start where there are none
+abbrev pub place_at_end : Place → List Row → Place
+place_at_end start [] = start
+place_at_end start (row ∷ rows) = place_at_end (place_after row.next) rows
+
+-- one of the rows has this id
+abbrev pub has_id : List Row → ℕ → Bool
+has_id [] n = false
+has_id (row ∷ rows) n = (n == row.id) || has_id rows n
+
+-- ---- how a walk ends
+
+-- all rows to the last; at an id that comes again, or 0000h; at an id that no row has
+pub data WalkEnd : Type 0 where
+  Done : WalkEnd
+  CycleAt : ℕ → WalkEnd
+  MissingAt : ℕ → WalkEnd
+
+-- the end of a walk whose last row has this next id
+abbrev pub EndsAfter : List Row → List Row → ℕ → WalkEnd → Type 0
+EndsAfter rows walk next Done = next ≡ 65535
+EndsAfter rows walk next (CycleAt n) = (n ≡ next) × (next ≢ 65535) × IsTrue ((next == 0) || has_id walk next)
+EndsAfter rows walk next (MissingAt n) = (n ≡ next) × (next ≢ 65535) × (next ≢ 0) × (has_id walk next ≡ false) × (look rows next ≡ None)
+
+-- the end of the empty walk
+abbrev pub EndsEmpty : List Row → Place → WalkEnd → Type 0
+EndsEmpty rows First Done = first_row rows ≡ None
+EndsEmpty rows First (CycleAt n) = ⊥
+EndsEmpty rows First (MissingAt n) = ⊥
+EndsEmpty rows (Id id) Done = ⊥
+EndsEmpty rows (Id id) (CycleAt n) = (n ≡ id) × (id ≡ 0)
+EndsEmpty rows (Id id) (MissingAt n) = (n ≡ id) × (id ≢ 0) × (look rows id ≡ None)
+EndsEmpty rows End Done = Unit {0}
+EndsEmpty rows End (CycleAt n) = ⊥
+EndsEmpty rows End (MissingAt n) = ⊥
+
+-- the next id of the last of these rows, or the one given where there are none
+abbrev pub last_next : ℕ → List Row → ℕ
+last_next next [] = next
+last_next next (row ∷ rows) = last_next row.next rows
+
+-- the walk ends so; a walk that can go on has no end
+abbrev pub EndsBy : List Row → Place → List Row → WalkEnd → Type 0
+EndsBy rows start [] end = EndsEmpty rows start end
+EndsBy rows start (row ∷ walk) end = EndsAfter rows (row ∷ walk) (last_next row.next walk) end
+
+-- ---- the law
+
+-- a walk from the place that has an end
+abbrev pub HasWalk : List Row → Place → Type 0
+HasWalk rows start = (walk : List Row) × (end : WalkEnd) × IsWalk rows start walk × EndsBy rows start walk end
+
+-- on each well-formed shelf there is one from each place
+abbrev pub WalkExists : Type 0
+WalkExists = (shelf : Shelf) (rows : List Row) (start : Place) → IsShelf shelf rows → HasWalk rows start
+
+-- and no other, with one end
+abbrev pub WalkIsUnique : Type 0
+WalkIsUnique = (shelf : Shelf) (rows : List Row) (start : Place) (a b : List Row) (e f : WalkEnd) → IsShelf shelf rows
+    → IsWalk rows start a → EndsBy rows start a e → IsWalk rows start b → EndsBy rows start b f → (a ≡ b) × (e ≡ f)

@@ -1,0 +1,59 @@
+//! A management controller as a retrieval asks it, with all that is promised of its answers.
+ghost use Rattle.std.specs.Prelude.{◌≡◌, ◌+◌, ◌<◌, ◌≤◌, IfOk, OnErr, length, drop};
+ghost use Rattle.ipmi_bus.specs.Seen.{Seen, IsHonest};
+ghost use Rattle.ipmi_bus.specs.Answers.{ReserveAnswers, PartAnswers};
+
+use crate::code::Code;
+
+/// The two repositories of records (IPMI v2.0, sections 31 and 33).
+#[derive(Clone, Copy, Debug, PartialEq, Eq)]
+pub enum Shelf {
+    /// Sensor data records.
+    Sdr,
+    /// The system event log.
+    Sel,
+}
+
+/// The answer of Get SDR or Get SEL Entry, beside the data.
+#[derive(Clone, Copy, Debug, PartialEq, Eq)]
+pub struct Part {
+    /// The id of the next record, FFFFh where there is no more.
+    pub next: u16,
+    /// How many bytes of data came.
+    pub got: u8,
+}
+
+/// A management controller.
+///
+/// The clauses `honest` speak of honest controllers alone, the others of every controller: it counts its
+/// calls, and keeps within the buffer that it is given.
+pub trait Controller {
+    /// What contracts see of it. It costs nothing when the program runs.
+    ghost seen: { Self → Seen };
+
+    /// Reserve SDR Repository or Reserve SEL (IPMI v2.0, sections 33.11 and 31.4): the reservation's number.
+    fn reserve(&mut self, shelf: Shelf) -> Result<u16, Code>
+        ensures counted { (seen self.new).calls ≡ (seen self.old).calls + 1 }
+        ensures honest { IsHonest (seen self.old) → ReserveAnswers shelf result (seen self.old) (seen self.new) };
+
+    /// Get SDR or Get SEL Entry (IPMI v2.0, sections 33.12 and 31.5): bytes of the record with this id, from
+    /// the offset on, as many as `into` has, 1 to 254. Id 0000h asks for the first record. At Ok the first
+    /// `got` bytes of `into` are the data.
+    fn part(
+        &mut self,
+        shelf: Shelf,
+        reservation: u16,
+        id: u16,
+        offset: u8,
+        into: &mut [u8],
+    ) -> Result<Part, Code>
+        requires some { 0 < length into.old }
+        requires fits { length into.old < 255 }
+        ensures counted { (seen self.new).calls ≡ (seen self.old).calls + 1 }
+        ensures fits { IfOk result (λ part. part.got ≤ length into.old) }
+        ensures rest { IfOk result (λ part. drop part.got into.new ≡ drop part.got into.old) }
+        ensures err { OnErr result (into.new ≡ into.old) }
+        ensures honest { IsHonest (seen self.old) →
+            PartAnswers (record { shelf = shelf; reservation = reservation; id = id; offset = offset; len = length into.old })
+            result into.new (seen self.old) (seen self.new) };
+}

@@ -1,0 +1,237 @@
+//! Hands out the records of a shelf, one a step, along their next ids.
+ghost use Rattle.std.specs.Prelude.{◌≡◌, ◌<◌, ◌≤◌, Ok, Err, Some, None, IfOk, IfSome, List, length};
+ghost use Rattle.std.specs.FinSet as set;
+ghost use Rattle.std.specs.Option.{ForSome};
+ghost use Rattle.std.specs.Borrow.{sem};
+ghost use Rattle.ipmi_bus.specs.Seen.{IsHonest, StaysHonest};
+ghost use Rattle.ipmi_bus.specs.Shelf.{Row, largest_len};
+ghost use Rattle.ipmi_bus.specs.Walk.{place_after};
+ghost use Rattle.ipmi_bus.specs.Step.{SameCursor, StepLeaves, StepCalls, StepIsHonest, StepAnswers, MakesNoCall};
+ghost use Rattle.ipmi_bus.specs.Standing.{FollowsWalks, StandsAt};
+ghost use Rattle.ipmi_bus.specs.Handed.{state_of, IsCursor, handed_result, handed_id, IsNext};
+
+use crate::controller::{Controller, Shelf};
+use crate::id_table::IdTable;
+use crate::retrieval::{Retrieval, Retrieved};
+use crate::step::{Ended, Place, Record};
+use byteorder::{ByteOrder, LittleEndian};
+use std::alloc::{AllocError, Global};
+use std::marker::Model;
+
+/// A record in the buffer that stands to be handed out.
+#[derive(Clone, Copy)]
+pub(crate) struct Handed {
+    pub(crate) id: u16,
+    pub(crate) next: u16,
+    pub(crate) len: usize,
+}
+
+/// A cursor's retrieval, its place and the ids that it has handed out.
+#[derive(Drop)]
+pub(crate) struct Progress {
+    pub(crate) retrieval: Retrieval,
+    pub(crate) place: Place,
+    pub(crate) ids: IdTable,
+}
+
+/// What stands to be done.
+#[derive(Clone, Copy)]
+pub(crate) enum Next {
+    End,
+    Cycle(u16),
+    Asks(u16),
+}
+
+impl Progress {
+    /// What is to be asked for next.
+    fn next(&self) -> Next
+        ensures { IsNext self.now.place self.now.ids result }
+    {
+        match self.place {
+            Place::End => Next::End,
+            Place::First => Next::Asks(0),
+            Place::Id(id) => {
+                if id == 0 || self.ids.contains(id) {
+                    Next::Cycle(id)
+                } else {
+                    Next::Asks(id)
+                }
+            }
+        }
+    }
+
+    /// Goes on to the row that stands whole in the buffer.
+    fn hand_out(&mut self, asked: u16) -> Handed
+        requires within { self.old.retrieval.have ≤ 256 }
+        requires some { 5 ≤ self.old.retrieval.have }
+        ensures place { self.new.place ≡ place_after result.next }
+        ensures ids { self.new.ids ≡ set.insert self.old.ids result.id }
+        ensures at_most { set.len self.new.ids ≤ 65536 }
+        ensures id { result.id ≡ handed_id self.old.place asked self.old.retrieval.buffer }
+        ensures next { result.next ≡ self.old.retrieval.next }
+        ensures len { result.len ≡ self.old.retrieval.have }
+        ensures retrieval { self.new.retrieval ≡ self.old.retrieval }
+    {
+        let id = match self.place {
+            Place::First => LittleEndian::read_u16(&self.retrieval.buffer),
+            Place::Id(_) | Place::End => asked,
+        };
+        self.ids.insert(id);
+        let next = self.retrieval.next;
+        self.place = if next == 0xFFFF {
+            Place::End
+        } else {
+            Place::Id(next)
+        };
+        Handed {
+            id,
+            next,
+            len: self.retrieval.have,
+        }
+    }
+
+    /// Makes a step. A record that it hands out stands in the buffer.
+    fn advance<C: Controller>(&mut self, ctl: &mut C) -> Result<Option<Handed>, Ended>
+        requires { IsCursor self.old }
+        ensures cursor { IsCursor self.new }
+        ensures same { SameCursor (state_of self.old) (state_of self.new) }
+        ensures fits { IfOk result (λ o. IfSome o (λ handed. handed.len ≤ 256)) }
+        ensures leaves { StepLeaves (state_of self.old) (state_of self.new) (handed_result self.new result) }
+        ensures calls { StepCalls (largest_len self.old.retrieval.shelf) (state_of self.old) (state_of self.new) (C.seen ctl.old) (C.seen ctl.new) }
+        ensures no_call { MakesNoCall (state_of self.old) → C.seen ctl.new ≡ C.seen ctl.old }
+        ensures honest { IsHonest (C.seen ctl.old) → StepIsHonest (state_of self.old) (state_of self.new) (C.seen ctl.old) (C.seen ctl.new) (handed_result self.new result) }
+    {
+        let asked = match self.next() {
+            Next::End => return Ok(None),
+            Next::Cycle(id) => {
+                self.retrieval.reservation = None;
+                return Err(Ended::Cycle(id));
+            }
+            Next::Asks(id) => id,
+        };
+        match self.retrieval.read(ctl, asked) {
+            Ok(Retrieved::Complete) => Ok(Some(self.hand_out(asked))),
+            Ok(Retrieved::Nothing) => {
+                if self.place == Place::First {
+                    self.place = Place::End;
+                    return Ok(None);
+                }
+                self.retrieval.reservation = None;
+                Err(Ended::Missing(asked))
+            }
+            Err(ended) => {
+                self.retrieval.reservation = None;
+                Err(ended)
+            }
+        }
+    }
+}
+
+impl Progress {
+    /// A step, seen along the walks on which the cursor stands.
+    fn advance_along<C: Controller>(&mut self, ctl: &mut C) -> Result<Option<Handed>, Ended>
+        requires { IsCursor self.old }
+        ensures cursor { IsCursor self.new }
+        ensures same { SameCursor (state_of self.old) (state_of self.new) }
+        ensures fits { IfOk result (λ o. IfSome o (λ handed. handed.len ≤ 256)) }
+        ensures leaves { StepLeaves (state_of self.old) (state_of self.new) (handed_result self.new result) }
+        ensures calls { StepCalls (largest_len self.old.retrieval.shelf) (state_of self.old) (state_of self.new) (C.seen ctl.old) (C.seen ctl.new) }
+        ensures no_call { MakesNoCall (state_of self.old) → C.seen ctl.new ≡ C.seen ctl.old }
+        ensures honest { IsHonest (C.seen ctl.old) → StepIsHonest (state_of self.old) (state_of self.new) (C.seen ctl.old) (C.seen ctl.new) (handed_result self.new result) }
+        ensures walks { IsHonest (C.seen ctl.old) → FollowsWalks (state_of self.old) (state_of self.new) (C.seen ctl.old) (C.seen ctl.new) (handed_result self.new result) }
+    {
+        self.advance(ctl)
+    }
+}
+
+/// Hands out the records of a shelf, along their next ids.
+#[derive(Drop)]
+pub struct Cursor {
+    progress: Progress,
+}
+
+impl Model for Cursor {
+    ghost use Rattle.ipmi_bus.specs.CursorState.{CursorState};
+    ghost use Rattle.std.specs.Coded.{codes, coded_ℕ};
+    ghost use Rattle.std.specs.FinSet as set;
+    ghost use Rattle.std.specs.Ordering.{nat_cmp};
+    ghost use Rattle.ipmi_bus.specs.contracts.controller.Shelf as shelf;
+    ghost use Rattle.ipmi_bus.specs.contracts.step.Place as place;
+
+    ghost Value = { CursorState };
+
+    ghost coded = { Prim.hlevel (codes, set.code {R = nat_cmp} coded_ℕ, shelf.the_row.coded, place.the_row.coded) };
+
+    ghost use Rattle.ipmi_bus.specs.Handed.{state_of, IsCursor};
+
+    ghost view = { λ c. state_of c.progress };
+
+    ghost invariant = { λ c. IsCursor c.progress };
+}
+
+impl Cursor {
+    ghost use Rattle.ipmi_bus.specs.Lent.{CursorRests, IsStep, as_rows};
+    ghost use Rattle.ipmi_bus.specs.CursorState.{start_of};
+
+    /// A cursor at the start of the shelf, or at the record with the id `from`. It asks for at most `part`
+    /// bytes at once, and lets each record meet `tries` troubles. All the memory that it ever needs is taken here.
+    pub fn start(
+        alloc: Global,
+        shelf: Shelf,
+        from: Option<u16>,
+        part: u8,
+        tries: u8,
+    ) -> Result<Cursor, AllocError>
+        requires some { 0 < part }
+        requires fits { part < 255 }
+        requires from { ForSome from (λ id. (0 < id) × (id < 65535)) }
+        ensures stands { IfOk result (λ cursor. (rows walk : List Row) → StandsAt rows (start_of from) walk 0 cursor) }
+        ensures fresh { IfOk result (λ cursor. cursor ≡ record { shelf = shelf; place = start_of from; part = part; tries = tries; ids = set.empty; reservation = None }) }
+    {
+        Ok(Cursor {
+            progress: Progress {
+                retrieval: Retrieval {
+                    shelf,
+                    part,
+                    tries,
+                    reservation: None,
+                    id: 0,
+                    troubles: 0,
+                    have: 0,
+                    next: 0,
+                    buffer: [0; 256],
+                },
+                place: match from {
+                    None => Place::First,
+                    Some(id) => Place::Id(id),
+                },
+                ids: IdTable::new(alloc)?,
+            },
+        })
+    }
+
+    /// Where the next step begins.
+    pub fn resume_at(&self) -> Place
+        ensures { result ≡ self.now.place }
+    {
+        self.progress.place
+    }
+
+    /// Hands out the next record, lent out of the cursor until the next step. After an `Err` the cursor stands
+    /// where it stood and holds no reservation, so that a later step tries again.
+    pub fn step<C: Controller>(&mut self, ctl: &mut C) -> Result<Option<Record<'_>>, Ended>
+        ensures* after { sem 𝓛 (CursorRests self.entry (λ new. IsStep self.old new (C.seen ctl.old) (C.seen ctl.new) (as_rows result))) }
+        ensures no_call { MakesNoCall self.old → C.seen ctl.new ≡ C.seen ctl.old }
+        ensures fits { IfOk result (λ o. IfSome o (λ record_. length record_.bytes.now ≤ largest_len self.old.shelf)) }
+        ensures answers { IsHonest (C.seen ctl.old) → StaysHonest (C.seen ctl.old) (C.seen ctl.new) × StepAnswers self.old (C.seen ctl.old) (C.seen ctl.new) (as_rows result) }
+    {
+        match self.progress.advance_along(ctl)? {
+            None => Ok(None),
+            Some(handed) => Ok(Some(Record {
+                id: handed.id,
+                next: handed.next,
+                bytes: &self.progress.retrieval.buffer[..handed.len],
+            })),
+        }
+    }
+}

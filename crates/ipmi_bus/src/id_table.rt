@@ -1,0 +1,54 @@
+//! The ids that a cursor has handed out, in a table of bits.
+ghost use Rattle.std.specs.Prelude.{◌≡◌, ◌≤◌, IfOk};
+ghost use Rattle.std.specs.FinSet as set;
+
+use std::alloc::{AllocError, Global};
+use std::marker::Model;
+
+/// A set of ids, a bit for each.
+#[derive(Drop)]
+pub struct IdTable {
+    bytes: Vec<u8>,
+}
+
+impl Model for IdTable {
+    ghost use Rattle.std.specs.Prelude.{◌≡◌, vec_len};
+    ghost use Rattle.std.specs.Ordering.{nat_cmp};
+    ghost use Rattle.std.specs.Coded.{coded_ℕ};
+    ghost use Rattle.std.specs.FinSet as set;
+    ghost use Rattle.ipmi_bus.specs.IdTable.{ids_in};
+
+    ghost Value = { set.FinSet nat_cmp };
+
+    ghost coded = { set.code coded_ℕ };
+
+    ghost view = { λ t. ids_in t.bytes.items };
+
+    ghost invariant = { λ t. vec_len t.bytes ≡ 8192 };
+}
+
+impl IdTable {
+    /// A table that has no id. It takes all the memory that it ever needs.
+    pub fn new(alloc: Global) -> Result<Self, AllocError>
+        ensures { IfOk result (λ table. table ≡ set.empty) }
+    {
+        Ok(IdTable {
+            bytes: vec![in alloc; 0u8; 8192]?,
+        })
+    }
+
+    /// Whether the id is among them.
+    pub fn contains(&self, id: u16) -> bool
+        ensures { result ≡ set.contains self.now id }
+    {
+        (self.bytes[usize::from(id / 8)] >> (id % 8)) & 1 == 1
+    }
+
+    /// Puts the id among them.
+    pub fn insert(&mut self, id: u16)
+        ensures added { self.new ≡ set.insert self.old id }
+        ensures at_most { set.len self.new ≤ 65536 }
+    {
+        self.bytes[usize::from(id / 8)] |= 1 << (id % 8);
+    }
+}

@@ -1,0 +1,221 @@
+//! Reads one record in parts (IPMI v2.0, section 33.12.1: the header first, then the rest).
+ghost use Rattle.std.specs.Prelude.{◌≡◌, ◌+◌, ◌*◌, ◌<◌, ◌≤◌, None, Some, Ok, OnOk, OnErr, IfOk, IsOk, length, take, slice_range};
+ghost use Rattle.ipmi_bus.specs.Seen.{IsHonest};
+ghost use Rattle.ipmi_bus.specs.Answers.{PartAnswers};
+ghost use Rattle.ipmi_bus.specs.Shelf.{largest_len};
+ghost use Rattle.ipmi_bus.specs.Bounds.{digits, step_call_bound};
+
+use crate::code::{Code, CodeClass};
+use crate::controller::{Controller, Part, Shelf};
+use crate::step::Ended;
+
+/// What a call brought.
+#[derive(Clone, Copy)]
+pub(crate) enum Outcome {
+    /// There is more to ask for.
+    Again,
+    /// The record is whole.
+    Whole,
+    /// There is no such record.
+    Absent,
+}
+
+/// How the retrieval of a record ended.
+#[derive(Clone, Copy)]
+pub(crate) enum Retrieved {
+    /// The whole record stands in the buffer.
+    Complete,
+    /// There is no such record.
+    Nothing,
+}
+
+/// A record that is being read, and what is kept from record to record.
+#[derive(Drop)]
+pub(crate) struct Retrieval {
+    pub(crate) shelf: Shelf,
+    /// The most bytes to ask for at once, 1 to 254.
+    pub(crate) part: u8,
+    /// How many troubles one record may meet.
+    pub(crate) tries: u8,
+    pub(crate) reservation: Option<u16>,
+    /// The id that is asked for.
+    pub(crate) id: u16,
+    /// The troubles that the record has met.
+    pub(crate) troubles: u16,
+    /// How many bytes of the record are there.
+    pub(crate) have: usize,
+    /// The next id of the last part.
+    pub(crate) next: u16,
+    pub(crate) buffer: [u8; 256],
+}
+
+impl Retrieval {
+    ghost use Rattle.ipmi_bus.specs.Retrieval.{IsOpen, SameRequest, IsReading, CallIsHonest, wanted_len, CountsTrouble, TakesPart, request_of, CallLeaves};
+    ghost use Rattle.ipmi_bus.specs.Since.{begun, ReadLeaves, ReadIsHonest};
+
+    /// How many bytes are asked for in all, as far as the bytes that are there tell.
+    fn wanted(&self) -> usize
+        ensures { result ≡ wanted_len self.now.shelf self.now.have self.now.buffer }
+    {
+        match self.shelf {
+            Shelf::Sdr => {
+                if self.have < 5 {
+                    5
+                } else {
+                    5 + usize::from(self.buffer[4])
+                }
+            }
+            Shelf::Sel => 16,
+        }
+    }
+
+    /// Counts a trouble, and drops what was read if the reservation is gone.
+    fn trouble(&mut self, is_cancelled: bool) -> Result<Outcome, Ended>
+        requires { IsOpen self.old }
+        ensures counts { CountsTrouble is_cancelled self.old self.new result }
+    {
+        if self.troubles >= u16::from(self.tries) {
+            return Err(Ended::GaveUp(self.id));
+        }
+        self.troubles += 1;
+        if is_cancelled {
+            self.reservation = None;
+            self.have = 0;
+        }
+        Ok(Outcome::Again)
+    }
+
+    /// Asks for a reservation.
+    fn ask_reservation<C: Controller>(&mut self, ctl: &mut C) -> Result<Outcome, Ended>
+        requires is_open { IsOpen self.old }
+        requires none { self.old.reservation ≡ None }
+        ensures counted { (C.seen ctl.new).calls ≡ (C.seen ctl.old).calls + 1 }
+        ensures request { SameRequest self.old self.new }
+        ensures leaves { CallLeaves self.old self.new result }
+        ensures honest { IsHonest (C.seen ctl.old) → IsReading self.old (C.seen ctl.old) → CallIsHonest self.old self.new (C.seen ctl.old) (C.seen ctl.new) result }
+    {
+        match ctl.reserve(self.shelf) {
+            Ok(reservation) => {
+                self.reservation = Some(reservation);
+                Ok(Outcome::Again)
+            }
+            Err(code) => match code.class() {
+                CodeClass::Cancelled => self.trouble(true),
+                CodeClass::Busy => self.trouble(false),
+                CodeClass::SmallerPart | CodeClass::NotPresent | CodeClass::Refusal => {
+                    Err(Ended::Refused(self.id, code))
+                }
+            },
+        }
+    }
+
+    /// Takes the bytes that came in.
+    fn take_part(&mut self, part: Part) -> Result<Outcome, Ended>
+        requires is_open { IsOpen self.old }
+        requires fits { self.old.have + part.got ≤ wanted_len self.old.shelf self.old.have self.old.buffer }
+        ensures takes { TakesPart part self.old self.new result }
+    {
+        if part.got == 0 {
+            return Err(Ended::Stalled(self.id));
+        }
+        self.have += usize::from(part.got);
+        self.next = part.next;
+        if self.shelf == Shelf::Sdr && self.have == 5 && self.buffer[4] > 0xFB {
+            return Err(Ended::Malformed(self.id));
+        }
+        if self.have == self.wanted() {
+            Ok(Outcome::Whole)
+        } else {
+            Ok(Outcome::Again)
+        }
+    }
+
+    /// Asks for some of the bytes that are missing, into their place in the buffer.
+    fn request<C: Controller>(
+        &mut self,
+        ctl: &mut C,
+        reservation: u16,
+        asked: usize,
+    ) -> Result<Part, Code>
+        requires some { 0 < asked }
+        requires fits { asked < 255 }
+        requires within { self.old.have + asked ≤ 256 }
+        ensures counted { (C.seen ctl.new).calls ≡ (C.seen ctl.old).calls + 1 }
+        ensures got { IfOk result (λ part. part.got ≤ asked) }
+        ensures buffer { self.new ≡ record self.old { buffer = self.new.buffer } }
+        ensures front { take self.old.have self.new.buffer ≡ take self.old.have self.old.buffer }
+        ensures err { OnErr result (self.new ≡ self.old) }
+        ensures honest { IsHonest (C.seen ctl.old) →
+            PartAnswers (request_of self.old reservation asked) result (slice_range self.new.buffer self.old.have (self.old.have + asked))
+            (C.seen ctl.old) (C.seen ctl.new) }
+    {
+        let have = self.have;
+        let into = &mut self.buffer[have..have + asked];
+        ctl.part(self.shelf, reservation, self.id, have as u8, into)
+    }
+
+    /// Asks for the next part under the reservation.
+    fn ask_part<C: Controller>(&mut self, ctl: &mut C, reservation: u16) -> Result<Outcome, Ended>
+        requires is_open { IsOpen self.old }
+        requires reserved { self.old.reservation ≡ Some reservation }
+        ensures counted { (C.seen ctl.new).calls ≡ (C.seen ctl.old).calls + 1 }
+        ensures request { SameRequest self.old self.new }
+        ensures leaves { CallLeaves self.old self.new result }
+        ensures honest { IsHonest (C.seen ctl.old) → IsReading self.old (C.seen ctl.old) → CallIsHonest self.old self.new (C.seen ctl.old) (C.seen ctl.new) result }
+    {
+        let have = self.have;
+        let asked = usize::from(self.part).min(self.wanted() - have);
+        match self.request(ctl, reservation, asked) {
+            Ok(part) => self.take_part(part),
+            Err(code) => match code.class() {
+                CodeClass::Cancelled => self.trouble(true),
+                CodeClass::Busy => self.trouble(false),
+                CodeClass::SmallerPart => {
+                    if asked == 1 {
+                        return Err(Ended::Stalled(self.id));
+                    }
+                    self.part = (asked / 2) as u8;
+                    Ok(Outcome::Again)
+                }
+                CodeClass::NotPresent => Ok(Outcome::Absent),
+                CodeClass::Refusal => Err(Ended::Refused(self.id, code)),
+            },
+        }
+    }
+
+    /// Makes one call.
+    fn make_call<C: Controller>(&mut self, ctl: &mut C) -> Result<Outcome, Ended>
+        requires { IsOpen self.old }
+        ensures counted { (C.seen ctl.new).calls ≡ (C.seen ctl.old).calls + 1 }
+        ensures request { SameRequest self.old self.new }
+        ensures leaves { CallLeaves self.old self.new result }
+        ensures honest { IsHonest (C.seen ctl.old) → IsReading self.old (C.seen ctl.old) → CallIsHonest self.old self.new (C.seen ctl.old) (C.seen ctl.new) result }
+    {
+        match self.reservation {
+            None => self.ask_reservation(ctl),
+            Some(reservation) => self.ask_part(ctl, reservation),
+        }
+    }
+
+    /// Reads the record with this id, whole, if it is there.
+    pub(crate) fn read<C: Controller>(&mut self, ctl: &mut C, id: u16) -> Result<Retrieved, Ended>
+        requires some { 0 < self.old.part }
+        requires fits { self.old.part < 255 }
+        ensures request { SameRequest (begun self.old id) self.new }
+        ensures calls { (C.seen ctl.new).calls + digits self.new.part ≤ (C.seen ctl.old).calls + step_call_bound self.old.tries (largest_len self.old.shelf) + digits self.old.part }
+        ensures leaves { ReadLeaves id self.new result }
+        ensures honest { IsHonest (C.seen ctl.old) → ReadIsHonest self.old id self.new (C.seen ctl.old) (C.seen ctl.new) result }
+    {
+        self.id = id;
+        self.troubles = 0;
+        self.have = 0;
+        'reading: loop {
+            match self.make_call(ctl) {
+                Ok(Outcome::Again) => {}
+                Ok(Outcome::Whole) => return Ok(Retrieved::Complete),
+                Ok(Outcome::Absent) => return Ok(Retrieved::Nothing),
+                Err(ended) => return Err(ended),
+            }
+        }
+    }
+}
