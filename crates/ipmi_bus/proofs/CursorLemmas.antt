@@ -4,21 +4,23 @@ use Rattle.std.specs.FinSet as set
 use Rattle.std.specs.FinSet.{contains-empty}
 use Rattle.std.specs.Ordering.{nat_cmp}
 use Rattle.std.proofs.lemmas.Bool.{ne_eqb}
-use Rattle.std.proofs.lemmas.List.{take_all}
+use Rattle.std.proofs.lemmas.List.{take_all, get_or-take, length-take}
+use Rattle.std.proofs.lemmas.Bool.Decides.{nat_tests}
 use Rattle.ipmi_bus.specs.Bounds.{digits}
 use Rattle.ipmi_bus.specs.declared.controller.Shelf.{Shelf}
+use Rattle.ipmi_bus.specs.declared.controller.Shelf.TheVariants.{Sdr, Sel}
 use Rattle.ipmi_bus.specs.declared.step.Place.{Place}
 use Rattle.ipmi_bus.specs.declared.step.Place.TheVariants.{First, Id, End}
 use Rattle.ipmi_bus.specs.declared.retrieval.Retrieval.{Retrieval}
 use Rattle.ipmi_bus.specs.declared.cursor.Handed.{Handed}
 use Rattle.ipmi_bus.specs.declared.cursor.Progress.{Progress}
-use Rattle.ipmi_bus.specs.Shelf.{Row, IsShelf, BeginsWithId, look, row_with_id, first_row}
+use Rattle.ipmi_bus.specs.Shelf.{Row, IsShelf, BeginsWithId, whole_len, largest_len, look, row_with_id, first_row}
 use Rattle.ipmi_bus.specs.Store.{rows_of}
 use Rattle.ipmi_bus.specs.Seen.{Seen, IsHonest}
-use Rattle.ipmi_bus.specs.Retrieval.{HasRead, SameRequest}
+use Rattle.ipmi_bus.specs.Retrieval.{HasRead, SameRequest, wanted_len}
 use Rattle.ipmi_bus.specs.Since.{begun}
 use Rattle.ipmi_bus.specs.Handed.{handed_row, handed_id, IsAsked, IsUnseen}
-use Rattle.ipmi_bus.specs.Step.{asked_at}
+use Rattle.ipmi_bus.specs.Step.{asked_at, HasIdAsked}
 use Rattle.ipmi_bus.proofs.ShelfLemmas.{found_row, shelf_of}
 use Rattle.ipmi_bus.proofs.PartLemmas.{byte_read}
 
@@ -32,7 +34,7 @@ same_row a b id next bytes =
 -- the id that is handed out is the row's
 begins : (rows : List Row) (row : Row) → BeginsWithId rows → first_row rows ≡ Some row → get_or row.bytes 0 0 + 256 * get_or row.bytes 1 0 ≡ row.id
 begins [] row ok found = cc found
-begins (r ∷ rows) row ok found = let e : r ≡ row = cc found in subst (λ (x : Row). get_or x.bytes 0 0 + 256 * get_or x.bytes 1 0 ≡ x.id) e ok.0
+begins (r ∷ rows) row ok found = let e : r ≡ row = cc found in subst (λ (x : Row). get_or x.bytes 0 0 + 256 * get_or x.bytes 1 0 ≡ x.id) e ok
 
 pub id_is : (shelf : Shelf) (rows : List Row) (place : Place) (asked have : ℕ) (buffer : List ℕ) (row : Row) → IsShelf shelf rows → IsAsked place asked → look rows asked ≡ Some row → 5 ≤ have
     → take have buffer ≡ take have row.bytes → handed_id place asked buffer ≡ row.id
@@ -89,3 +91,34 @@ pub calls_moved : (calls before tries p q r : ℕ) (len : ℕ → ℕ) (asked at
 calls_moved calls before tries p q r len asked at same part bound =
     subst (λ (n : ℕ). calls + digits n ≤ before + (tries + 1) * (len at + 2) + digits r) (sym part)
     (subst (λ (n : ℕ). calls + digits p ≤ before + (tries + 1) * (len n + 2) + digits r) same bound)
+
+-- the row that is handed out has the id that was asked for
+pub has_id_asked : (place : Place) (asked len next : ℕ) (buffer : List ℕ) → 5 ≤ len → IsAsked place asked → HasIdAsked place (record { id = handed_id place asked buffer; next = next; bytes = take len buffer })
+has_id_asked First asked len next buffer some asks =
+    let low = get_or-take len buffer 0 0 (omega arith) in let high = get_or-take len buffer 1 0 (omega arith) in omega (arith, low, high)
+has_id_asked (Id n) asked len next buffer some asks = asks.0
+has_id_asked End asked len next buffer some asks = absurd asks
+
+-- and is as long as its bytes say
+pub taken_whole : (shelf : Shelf) (have : ℕ) (buffer : List ℕ) → 5 ≤ have → have ≤ length buffer → have ≡ wanted_len shelf have buffer → length (take have buffer) ≡ whole_len shelf (take have buffer)
+taken_whole Sdr have buffer some fits whole =
+    let len = length-take have buffer in let byte = get_or-take have buffer 4 0 (omega arith) in grind (arith, nat_tests)
+taken_whole Sel have buffer some fits whole = omega (arith, length-take have buffer)
+
+pub largest_fits : (shelf : Shelf) → largest_len shelf ≤ 256
+largest_fits Sdr = omega arith
+largest_fits Sel = omega arith
+
+-- the same of the row that stands in the cursor
+pub handed_whole : (shelf : Shelf) (old r : Retrieval) (new : Progress) (handed : Handed) (place : Place) (asked : ℕ) → IsAsked place asked → r.shelf ≡ shelf → 5 ≤ r.have → r.have ≡ wanted_len r.shelf r.have r.buffer
+    → handed.id ≡ handed_id place asked r.buffer → handed.len ≡ r.have → new.retrieval ≡ r → r.have ≤ length new.retrieval.buffer
+    → HasIdAsked place (handed_row new handed) × (length (handed_row new handed).bytes ≡ whole_len shelf (handed_row new handed).bytes)
+handed_whole shelf old r new handed place asked asks same some whole id len is room =
+    let bytes : take handed.len new.retrieval.buffer ≡ take r.have r.buffer = ap (λ (n : ℕ). take n new.retrieval.buffer) len ∙ ap (λ (x : Retrieval). take r.have x.buffer) is in
+    let shown : handed_row new handed ≡ record { id = handed_id place asked r.buffer; next = handed.next; bytes = take r.have r.buffer } =
+    same_row (handed_row new handed) (record { id = handed_id place asked r.buffer; next = handed.next; bytes = take r.have r.buffer }) id refl bytes in
+    let fits : r.have ≤ length r.buffer = subst (λ (x : Retrieval). r.have ≤ length x.buffer) is room in
+    let long = taken_whole r.shelf r.have r.buffer some fits whole in (
+      subst (HasIdAsked place) (sym shown) (has_id_asked place asked r.have handed.next r.buffer some asks),
+      ap (λ (l : List ℕ). length l) bytes ∙ long ∙ ap (λ (s : Shelf). whole_len s (take r.have r.buffer)) same ∙ sym (ap (whole_len shelf) bytes),
+    )

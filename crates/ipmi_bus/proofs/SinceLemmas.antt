@@ -13,7 +13,8 @@ use Rattle.ipmi_bus.specs.Shelf.{look, len_of, largest_len}
 use Rattle.ipmi_bus.specs.Store.{Store, rows_of}
 use Rattle.ipmi_bus.specs.Seen.{Seen, IsHonest, KeepsStore, StaysHonest}
 use Rattle.ipmi_bus.specs.Retrieval.{row_len, IsOpen, SameRequest, IsReading, IsCalm, CallAnswers, CallIsPlain, CallIsHonest, CallLeaves, calls_left, unreserved}
-use Rattle.ipmi_bus.specs.Since.{begun, HonestSince, Since, WithinTries, ReadAnswers, ReadIsPlain, ReadIsHonest}
+use Rattle.ipmi_bus.specs.Since.{begun, HonestSince, Since, ReadAnswers, ReadIsPlain, ReadIsHonest}
+use Rattle.ipmi_bus.specs.Tries.{WithinTries}
 
 pub store_trans : (a b c : Seen) → KeepsStore a b → KeepsStore b c → KeepsStore a c
 store_trans a b c p q = record {
@@ -148,6 +149,7 @@ module _ (old : Retrieval) (id : ℕ) (now new : Retrieval) (s s' s'' : Seen) (s
 
   within_of : HonestSince (begun old id) now s s' → IsCalm s' s'' → WithinTries old.tries s s''
   within_of so_far calm = record {
+    grows = omega (arith, so_far.troubles, calm.troubles);
     troubles = omega (arith, so_far.troubles, calm.troubles, since.is_open.troubles, since.request.tries);
     refusals = calm.refusals ∙ so_far.refusals;
     last_code = calm.last_code ∙ so_far.last_code;
@@ -175,6 +177,7 @@ module _ (old : Retrieval) (id : ℕ) (now new : Retrieval) (s s' s'' : Seen) (s
     last_code = answers.last_code ∙ so_far.last_code;
   }
   answers_of (Err (Refused n code)) not_again so_far answers = record {
+    grows = omega (arith, so_far.troubles, answers.1.troubles);
     troubles = omega (arith, so_far.troubles, answers.1.troubles, since.is_open.troubles, since.request.tries);
     refusals = omega (arith, so_far.refusals, answers.1.refusals);
     last_code = answers.1.last_code;

@@ -11,8 +11,9 @@ use Rattle.ipmi_bus.specs.declared.controller.Shelf.{Shelf}
 use Rattle.ipmi_bus.specs.declared.step.Place.{Place}
 use Rattle.ipmi_bus.specs.declared.step.Place.TheVariants.{First, Id, End}
 use Rattle.ipmi_bus.specs.Shelf.{Row, IsShelf, look, row_with_id, first_row, DistinctIds, LacksId}
-use Rattle.ipmi_bus.specs.Walk.{row_at, Links, AllOf, IsWalk, place_after, place_at_end, has_id, WalkEnd, Done, CycleAt, MissingAt, EndsBy, EndsAfter, last_next, HasWalk}
+use Rattle.ipmi_bus.specs.Walk.{row_at, Links, AllOf, IsWalk, place_after, place_after_rows, has_id, WalkEnd, Done, CycleAt, MissingAt, EndsBy, EndsAfter, last_next, HasWalk}
 use Rattle.ipmi_bus.specs.Step.{asked_at, cycle_at}
+use Rattle.ipmi_bus.proofs.ShelfLemmas.{DistinctIds-snoc}
 use Rattle.ipmi_bus.proofs.WalkLemmas.{row_next, next_unseen, asks_look, no_cycle, EndFacts, end_facts, place_at_last, id_of}
 
 -- the ids of a walk, as a set
@@ -25,23 +26,23 @@ contains-ids_of [] n = contains-empty nat_cmp n
 contains-ids_of (row ∷ rows) n = contains-insert nat_cmp_total (ids_of rows) row.id n ∙ ap (λ (b : Bool). b || set.contains (ids_of rows) n) (unsigned_tied n row.id) ∙ ap (λ (b : Bool). nat_eq n row.id || b) (contains-ids_of rows n)
 
 -- a walk that has an end has no row after it
-no_more : (shelf : Shelf) (rows : List Row) (start : Place) (done : List Row) (end : WalkEnd) (row : Row) → IsShelf shelf rows → EndsBy rows start done end → row_at (place_at_end start done) rows ≡ Some row → has_id done row.id ≡ false → ⊥
+no_more : (shelf : Shelf) (rows : List Row) (start : Place) (done : List Row) (end : WalkEnd) (row : Row) → IsShelf shelf rows → EndsBy rows start done end → row_at (place_after_rows start done) rows ≡ Some row → has_id done row.id ≡ false → ⊥
 no_more shelf rows start done end row ok ends found fresh =
-    by_end end (end_facts rows start done (place_at_end start done) (ids_of done) end ends refl (contains-ids_of done))
+    by_end end (end_facts rows start done (place_after_rows start done) (ids_of done) end ends refl (contains-ids_of done))
   where
-    none : cycle_at (place_at_end start done) (ids_of done) ≡ None
-    none = no_cycle shelf rows (place_at_end start done) (ids_of done) done row ok (contains-ids_of done) fresh found
+    none : cycle_at (place_after_rows start done) (ids_of done) ≡ None
+    none = no_cycle shelf rows (place_after_rows start done) (ids_of done) done row ok (contains-ids_of done) fresh found
 
-    at_end : place_at_end start done ≡ End → ⊥
+    at_end : place_after_rows start done ≡ End → ⊥
     at_end is = let h = sym (ap (λ (p : Place). row_at p rows) is) ∙ found in cc h
 
-    at_first : place_at_end start done ≡ First → first_row rows ≡ None → ⊥
+    at_first : place_after_rows start done ≡ First → first_row rows ≡ None → ⊥
     at_first is empty = let h = sym (ap (λ (p : Place). row_at p rows) is) ∙ found in cc (h, empty)
 
-    by_end : (e : WalkEnd) → EndFacts rows start (place_at_end start done) (ids_of done) e → ⊥
+    by_end : (e : WalkEnd) → EndFacts rows start (place_after_rows start done) (ids_of done) e → ⊥
     by_end Done facts = elim facts [ inl is ↦ at_end is | inr h ↦ at_first h.0 h.2 ]
     by_end (CycleAt n) facts = let h = sym facts ∙ none in cc h
-    by_end (MissingAt n) facts = let h = sym (ap (λ (p : Place). look rows (asked_at p)) facts.0) ∙ asks_look (place_at_end start done) rows row found in cc (h, facts.2)
+    by_end (MissingAt n) facts = let h = sym (ap (λ (p : Place). look rows (asked_at p)) facts.0) ∙ asks_look (place_after_rows start done) rows row found in cc (h, facts.2)
 
 -- two walks with an end that begin alike are one
 same_rest : (shelf : Shelf) (rows : List Row) (start : Place) (done a b : List Row) (e f : WalkEnd) → IsShelf shelf rows → IsWalk rows start (done ++ a) → EndsBy rows start (done ++ a) e → IsWalk rows start (done ++ b) → EndsBy rows start (done ++ b) f → a ≡ b
@@ -168,20 +169,6 @@ AllOf-snoc : (rows done : List Row) (row : Row) → AllOf rows done → look row
 AllOf-snoc rows [] row all here = (here, tt)
 AllOf-snoc rows (d ∷ done) row all here = (all.0, AllOf-snoc rows done row all.1 here)
 
-or_false : (a b : Bool) → (a || b) ≡ false → (a ≡ false) × (b ≡ false)
-or_false true b e = cc e
-or_false false b e = (refl, e)
-
-LacksId-snoc : (n : ℕ) (done : List Row) (row : Row) → LacksId n done → row.id ≢ n → LacksId n (done ++ row ∷ [])
-LacksId-snoc n [] row lacks ne = (ne, tt)
-LacksId-snoc n (d ∷ done) row lacks ne = (lacks.0, LacksId-snoc n done row lacks.1 ne)
-
-DistinctIds-snoc : (done : List Row) (row : Row) → DistinctIds done → has_id done row.id ≡ false → DistinctIds (done ++ row ∷ [])
-DistinctIds-snoc [] row distinct fresh = (tt, tt)
-DistinctIds-snoc (d ∷ done) row distinct fresh =
-    let parts = or_false (nat_eq row.id d.id) (has_id done row.id) fresh in
-    (LacksId-snoc d.id done row distinct.0 (eqb-false row.id d.id parts.0), DistinctIds-snoc done row distinct.1 parts.1)
-
 -- the place after a row leads to the next one by its id
 linked : (shelf : Shelf) (next : ℕ) (rows : List Row) (row : Row) → IsShelf shelf rows → row_at (place_after next) rows ≡ Some row → (next ≡ row.id) × (row.id ≢ 0)
 linked shelf next rows row ok found = by (nat_eq next 65535) found
@@ -190,14 +177,14 @@ linked shelf next rows row ok found = by (nat_eq next 65535) found
     by true h = cc h
     by false h = let is = id_of shelf rows next row ok h in (sym is.1, λ zero. eqb-false next 0 is.0 (sym is.1 ∙ zero))
 
-Links-snoc : (shelf : Shelf) (rows : List Row) (d : Row) (done : List Row) (row : Row) → IsShelf shelf rows → Links (d ∷ done) → row_at (place_at_end (place_after d.next) done) rows ≡ Some row → Links (d ∷ (done ++ row ∷ []))
+Links-snoc : (shelf : Shelf) (rows : List Row) (d : Row) (done : List Row) (row : Row) → IsShelf shelf rows → Links (d ∷ done) → row_at (place_after_rows (place_after d.next) done) rows ≡ Some row → Links (d ∷ (done ++ row ∷ []))
 Links-snoc shelf rows d [] row ok links found = let l = linked shelf d.next rows row ok found in (l.0, l.1, tt)
 Links-snoc shelf rows d (x ∷ done) row ok links found = (links.0, links.1, Links-snoc shelf rows x done row ok links.2 found)
 
-longer : (shelf : Shelf) (rows : List Row) (start : Place) (done : List Row) (row : Row) → IsShelf shelf rows → IsWalk rows start done → row_at (place_at_end start done) rows ≡ Some row → has_id done row.id ≡ false → IsWalk rows start (done ++ row ∷ [])
+longer : (shelf : Shelf) (rows : List Row) (start : Place) (done : List Row) (row : Row) → IsShelf shelf rows → IsWalk rows start done → row_at (place_after_rows start done) rows ≡ Some row → has_id done row.id ≡ false → IsWalk rows start (done ++ row ∷ [])
 longer shelf rows start [] row ok w found fresh = record { of_shelf = ((found_at shelf start rows row ok found).0, tt); distinct = (tt, tt); first = found; links = tt }
 longer shelf rows start (d ∷ done) row ok w found fresh = record {
-  of_shelf = AllOf-snoc rows (d ∷ done) row w.of_shelf (found_at shelf (place_at_end (place_after d.next) done) rows row ok found).0;
+  of_shelf = AllOf-snoc rows (d ∷ done) row w.of_shelf (found_at shelf (place_after_rows (place_after d.next) done) rows row ok found).0;
   distinct = DistinctIds-snoc (d ∷ done) row w.distinct fresh;
   first = w.first;
   links = Links-snoc shelf rows d done row ok w.links found;
@@ -220,7 +207,7 @@ end_after rows walk next none = elim (cases_eq next 65535) [ inl e ↦ (Done, e)
         (MissingAt next, (refl, ne, eqb-false next 0 p, q, empty))
 
 -- where the place has no row, or one that stands in the walk already
-ends_here : (shelf : Shelf) (rows : List Row) (start : Place) (walk : List Row) → IsShelf shelf rows → ((row : Row) → row_at (place_at_end start walk) rows ≡ Some row → has_id walk row.id ≡ true) → HasEnd rows start walk
+ends_here : (shelf : Shelf) (rows : List Row) (start : Place) (walk : List Row) → IsShelf shelf rows → ((row : Row) → row_at (place_after_rows start walk) rows ≡ Some row → has_id walk row.id ≡ true) → HasEnd rows start walk
 unfolding HasEnd
 ends_here shelf rows First [] ok none = by (first_row rows) refl
   where
@@ -239,7 +226,7 @@ ends_here shelf rows start (d ∷ walk) ok none =
     let place = place_at_last d.next walk in
     end_after rows (d ∷ walk) next (λ fresh. by fresh (row_at (place_after next) rows) refl place)
   where
-    by : has_id (d ∷ walk) (last_next d.next walk) ≡ false → (o : Option Row) → row_at (place_after (last_next d.next walk)) rows ≡ o → place_at_end (place_after d.next) walk ≡ place_after (last_next d.next walk)
+    by : has_id (d ∷ walk) (last_next d.next walk) ≡ false → (o : Option Row) → row_at (place_after (last_next d.next walk)) rows ≡ o → place_after_rows (place_after d.next) walk ≡ place_after (last_next d.next walk)
         → row_at (place_after (last_next d.next walk)) rows ≡ None
     by fresh None is place = is
     by fresh (Some row) is place =
@@ -248,27 +235,27 @@ ends_here shelf rows start (d ∷ walk) ok none =
         let h = sym (ap (has_id (d ∷ walk)) id.0 ∙ stands) ∙ fresh in cc h
 
 decide : (shelf : Shelf) (rows : List Row) (start : Place) (done : List Row) → IsShelf shelf rows → IsWalk rows start done
-    → ((row : Row) → row_at (place_at_end start done) rows ≡ Some row → has_id done row.id ≡ false → HasWalk rows start) → HasWalk rows start
+    → ((row : Row) → row_at (place_after_rows start done) rows ≡ Some row → has_id done row.id ≡ false → HasWalk rows start) → HasWalk rows start
 unfolding HasEnd
-decide shelf rows start done ok w go = by (row_at (place_at_end start done) rows) refl
+decide shelf rows start done ok w go = by (row_at (place_after_rows start done) rows) refl
   where
-    ending : ((row : Row) → row_at (place_at_end start done) rows ≡ Some row → has_id done row.id ≡ true) → HasWalk rows start
+    ending : ((row : Row) → row_at (place_after_rows start done) rows ≡ Some row → has_id done row.id ≡ true) → HasWalk rows start
     ending none = let e = ends_here shelf rows start done ok none in (done, e.0, w, e.1)
 
-    stands : (row : Row) → row_at (place_at_end start done) rows ≡ Some row → (b : Bool) → has_id done row.id ≡ b → HasWalk rows start
+    stands : (row : Row) → row_at (place_after_rows start done) rows ≡ Some row → (b : Bool) → has_id done row.id ≡ b → HasWalk rows start
     stands row is true has = ending (λ r found. let same : r ≡ row = let h = sym found ∙ is in cc h in ap (λ (x : Row). has_id done x.id) same ∙ has)
     stands row is false fresh = go row is fresh
 
-    by : (o : Option Row) → row_at (place_at_end start done) rows ≡ o → HasWalk rows start
+    by : (o : Option Row) → row_at (place_after_rows start done) rows ≡ o → HasWalk rows start
     by None is = ending (λ r found. let h = sym is ∙ found in cc h)
     by (Some row) is = stands row is (has_id done row.id) refl
 
 -- the walk that goes on from these rows
 walk_from : (shelf : Shelf) (rows : List Row) (start : Place) → IsShelf shelf rows → (fuel : ℕ) (done : List Row) → IsWalk rows start done → left_over rows done ≤ fuel → HasWalk rows start
 walk_from shelf rows start ok zero done w left = decide shelf rows start done ok w (λ row found fresh.
-    let lt = left_over_lt rows done row (found_at shelf (place_at_end start done) rows row ok found).1 fresh in absurd (omega (arith, lt, left)))
+    let lt = left_over_lt rows done row (found_at shelf (place_after_rows start done) rows row ok found).1 fresh in absurd (omega (arith, lt, left)))
 walk_from shelf rows start ok (suc n) done w left = decide shelf rows start done ok w (λ row found fresh.
-    let lt = left_over_lt rows done row (found_at shelf (place_at_end start done) rows row ok found).1 fresh in
+    let lt = left_over_lt rows done row (found_at shelf (place_after_rows start done) rows row ok found).1 fresh in
     walk_from shelf rows start ok n (done ++ row ∷ []) (longer shelf rows start done row ok w found fresh) (omega (arith, lt, left)))
 
 pub has_walk : (shelf : Shelf) (rows : List Row) (start : Place) → IsShelf shelf rows → HasWalk rows start

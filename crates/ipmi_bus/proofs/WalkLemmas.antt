@@ -7,7 +7,7 @@ use Rattle.ipmi_bus.specs.declared.controller.Shelf.{Shelf}
 use Rattle.ipmi_bus.specs.declared.step.Place.{Place}
 use Rattle.ipmi_bus.specs.declared.step.Place.TheVariants.{First, Id, End}
 use Rattle.ipmi_bus.specs.Shelf.{Row, IsShelf, look, row_with_id, first_row, DistinctIds, LacksId}
-use Rattle.ipmi_bus.specs.Walk.{row_at, IsWalk, place_after, place_at_end, has_id, WalkEnd, Done, CycleAt, MissingAt, EndsBy, EndsAfter, EndsEmpty, last_next}
+use Rattle.ipmi_bus.specs.Walk.{row_at, IsWalk, place_after, place_after_rows, has_id, WalkEnd, Done, CycleAt, MissingAt, EndsBy, EndsAfter, EndsEmpty, last_next}
 use Rattle.ipmi_bus.specs.declared.step.Ended.{Ended}
 use Rattle.ipmi_bus.specs.declared.step.Ended.TheVariants.{Cycle, Missing, Refused, GaveUp, Stalled, Malformed}
 use Rattle.ipmi_bus.specs.CursorState.{CursorState}
@@ -44,7 +44,7 @@ walk_tail shelf rows start row (after ∷ walk) ok w =
     }
 
 -- the row after the first rows of a walk is the one at the place where they end
-pub row_next : (shelf : Shelf) (rows : List Row) (start : Place) (done : List Row) (row : Row) (walk : List Row) → IsShelf shelf rows → IsWalk rows start (done ++ row ∷ walk) → row_at (place_at_end start done) rows ≡ Some row
+pub row_next : (shelf : Shelf) (rows : List Row) (start : Place) (done : List Row) (row : Row) (walk : List Row) → IsShelf shelf rows → IsWalk rows start (done ++ row ∷ walk) → row_at (place_after_rows start done) rows ≡ Some row
 row_next shelf rows start [] row walk ok w = w.first
 row_next shelf rows start (d ∷ done) row walk ok w = row_next shelf rows (place_after d.next) done row walk ok (walk_tail shelf rows start d (done ++ row ∷ walk) ok w)
 
@@ -86,9 +86,9 @@ no_cycle shelf rows (Id n) ids done row ok same fresh found =
     ap (λ (b : Bool). cond (b || set.contains ids n) (Some n) None) is.0 ∙ ap (λ (b : Bool). cond b (Some n) None) out
 no_cycle shelf rows End ids done row ok same fresh found = refl
 
-place_at_end-append : (start : Place) (done : List Row) (row : Row) → place_at_end start (done ++ row ∷ []) ≡ place_after row.next
-place_at_end-append start [] row = refl
-place_at_end-append start (d ∷ done) row = place_at_end-append (place_after d.next) done row
+place_after_rows-append : (start : Place) (done : List Row) (row : Row) → place_after_rows start (done ++ row ∷ []) ≡ place_after row.next
+place_after_rows-append start [] row = refl
+place_after_rows-append start (d ∷ done) row = place_after_rows-append (place_after d.next) done row
 
 has_id-append : (done : List Row) (row : Row) (n : ℕ) → has_id (done ++ row ∷ []) n ≡ (nat_eq n row.id || has_id done n)
 has_id-append [] row n = refl
@@ -106,7 +106,7 @@ EndFacts rows start place ids Done = (place ≡ End) ⊎ ((place ≡ First) × (
 EndFacts rows start place ids (CycleAt n) = cycle_at place ids ≡ Some n
 EndFacts rows start place ids (MissingAt n) = (place ≡ Id n) × (cycle_at place ids ≡ None) × (look rows n ≡ None)
 
-pub place_at_last : (next : ℕ) (walk : List Row) → place_at_end (place_after next) walk ≡ place_after (last_next next walk)
+pub place_at_last : (next : ℕ) (walk : List Row) → place_after_rows (place_after next) walk ≡ place_after (last_next next walk)
 place_at_last next [] = refl
 place_at_last next (row ∷ walk) = place_at_last row.next walk
 
@@ -128,7 +128,7 @@ after_facts rows start place ids walk next (MissingAt n) ends p same =
       ap (look rows) ends.0 ∙ ends.4,
     )
 
-pub end_facts : (rows : List Row) (start : Place) (walk : List Row) (place : Place) (ids : set.FinSet nat_cmp) (end : WalkEnd) → EndsBy rows start walk end → place ≡ place_at_end start walk → ((n : ℕ) → set.contains ids n ≡ has_id walk n)
+pub end_facts : (rows : List Row) (start : Place) (walk : List Row) (place : Place) (ids : set.FinSet nat_cmp) (end : WalkEnd) → EndsBy rows start walk end → place ≡ place_after_rows start walk → ((n : ℕ) → set.contains ids n ≡ has_id walk n)
     → EndFacts rows start place ids end
 end_facts rows start (row ∷ walk) place ids end ends p same = after_facts rows start place ids (row ∷ walk) (last_next row.next walk) end ends (p ∙ place_at_last row.next walk) same
 end_facts rows First [] place ids Done ends p same = inr (p, refl, ends)
@@ -219,7 +219,7 @@ module _ (shelf : Shelf) (rows : List Row) (start : Place) (walk : List Row) (k 
           ap first_row split ∙ ap Some same,
           record {
             within = len;
-            place = inl (leaves.1.place ∙ ap (λ (x : Row). place_after x.next) (sym same) ∙ sym (place_at_end-append start (take k walk) row) ∙ ap (place_at_end start) (sym more));
+            place = inl (leaves.1.place ∙ ap (λ (x : Row). place_after x.next) (sym same) ∙ sym (place_after_rows-append start (take k walk) row) ∙ ap (place_after_rows start) (sym more));
             ids = λ n.
                 ap (λ (s : set.FinSet nat_cmp). set.contains s n) leaves.1.ids
                 ∙ contains-insert nat_cmp_total c.ids r.id n
@@ -252,7 +252,7 @@ module _ (shelf : Shelf) (rows : List Row) (start : Place) (walk : List Row) (k 
     -- the place at the walk's end, by how it ends
     facts : EndFacts rows start c.place c.ids end
     facts = elim stands.place [
-      | inl p ↦ end_facts rows start walk c.place c.ids end ends (p ∙ ap (place_at_end start) all) (λ n. stands.ids n ∙ ap (λ (l : List Row). has_id l n) all)
+      | inl p ↦ end_facts rows start walk c.place c.ids end ends (p ∙ ap (place_after_rows start) all) (λ n. stands.ids n ∙ ap (λ (l : List Row). has_id l n) all)
       | inr e ↦ empty_facts rows start walk c.place c.ids end w ends e.0 e.1 e.2
     ]
 
@@ -262,7 +262,7 @@ module _ (shelf : Shelf) (rows : List Row) (start : Place) (walk : List Row) (k 
     may_fail (MissingAt n) facts none open_ = tt
 
     ending : (e : WalkEnd) → EndFacts rows start c.place c.ids e → (result : Result (Option Row) Ended) → StepLeaves c new result → Finds rows c.place result → WalkStep rows start walk e k c new result
-    ending Done facts (Ok (Some r)) leaves finds = absurd (elim facts [ inl p ↦ leaves.1.started p | inr h ↦ let found = sym (ap (λ (p : Place). look rows (asked_at p)) h.0) ∙ finds in no_row found h.2 ])
+    ending Done facts (Ok (Some r)) leaves finds = absurd (elim facts [ inl p ↦ leaves.1.not_at_end p | inr h ↦ let found = sym (ap (λ (p : Place). look rows (asked_at p)) h.0) ∙ finds in no_row found h.2 ])
       where
         no_row : first_row rows ≡ Some r → first_row rows ≡ None → ⊥
         no_row a b = cc (a, b)
@@ -291,8 +291,8 @@ module _ (shelf : Shelf) (rows : List Row) (start : Place) (walk : List Row) (k 
       where
         same_id : (m n : ℕ) → Id m ≡ Id n → MissingAt m ≡ MissingAt n
         same_id m n h = let e : m ≡ n = cc h in ap MissingAt e
-    ending e facts (Err (GaveUp n)) leaves finds = (still leaves.1.stays, λ _. may_fail e facts leaves.0 leaves.1.started)
-    ending e facts (Err (Refused n code)) leaves finds = (still leaves.1.stays, λ _. may_fail e facts leaves.0 leaves.1.started)
+    ending e facts (Err (GaveUp n)) leaves finds = (still leaves.1.stays, λ _. may_fail e facts leaves.0 leaves.1.not_at_end)
+    ending e facts (Err (Refused n code)) leaves finds = (still leaves.1.stays, λ _. may_fail e facts leaves.0 leaves.1.not_at_end)
     ending e facts (Err (Stalled n)) leaves finds = absurd finds
     ending e facts (Err (Malformed n)) leaves finds = absurd finds
 

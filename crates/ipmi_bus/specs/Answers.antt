@@ -9,7 +9,7 @@ use Rattle.ipmi_bus.specs.declared.controller.Part.{Part}
 use Rattle.ipmi_bus.specs.Shelf.{Row, look}
 use Rattle.ipmi_bus.specs.Store.{rows_of}
 use Rattle.ipmi_bus.specs.Code.{class_of}
-use Rattle.ipmi_bus.specs.Seen.{Seen, IsQuiet, IsTroubled, IsFinished, IsRefused, IsChange, KeepsReservation, current}
+use Rattle.ipmi_bus.specs.Seen.{Seen, IsQuiet, IsTroubled, IsFinished, IsRefused, IsChange, GivesNoReservation, current}
 
 abbrev pub other : Shelf → Shelf
 other Sdr = Sel
@@ -26,12 +26,12 @@ ReserveFails Refusal code old new = IsRefused code old new
 
 abbrev pub ReserveGives : Shelf → Result ℕ Code → Seen → Seen → Type 0
 ReserveGives shelf (Ok r) old new = IsQuiet old new × (current shelf new ≡ Some r)
-ReserveGives shelf (Err code) old new = ReserveFails (class_of code.0) code.0 old new × KeepsReservation shelf old new
+ReserveGives shelf (Err code) old new = ReserveFails (class_of code.0) code.0 old new × GivesNoReservation shelf old new
 
 pub record ReserveAnswers (shelf : Shelf) (result : Result ℕ Code) (old new : Seen) : Type 0 where
   pub change : IsChange old new
   pub gives : ReserveGives shelf result old new
-  pub beside : KeepsReservation (other shelf) old new
+  pub beside : GivesNoReservation (other shelf) old new
   pub plain : IsTrue old.plain → IsOk result
 
 -- ---- a part of a record
@@ -84,6 +84,6 @@ pub record PartIsPlain (ask : Asked) (result : Result Part Code) (old : Seen) : 
 pub record PartAnswers (ask : Asked) (result : Result Part Code) (into : List ℕ) (old new : Seen) : Type 0 where
   pub change : IsChange old new
   pub gives : PartGives ask result into old new
-  pub keeps : KeepsReservation ask.shelf old new
-  pub beside : KeepsReservation (other ask.shelf) old new
+  pub keeps : GivesNoReservation ask.shelf old new
+  pub beside : GivesNoReservation (other ask.shelf) old new
   pub plain : IsTrue old.plain → PartIsPlain ask result old

@@ -1,11 +1,11 @@
 -- How many calls a retrieval may take.
 use Rattle.std.specs.Prelude.{ℕ, ◌+◌, ◌*◌, nat_le, if◌then◌else◌}
 
--- of a record of this length: each try asks for a reservation and for each byte, and once more
+-- of a record of this length: each try makes at most one call for a reservation, one for each byte, and one that fails
 abbrev pub step_call_bound : ℕ → ℕ → ℕ
 step_call_bound tries len = (tries + 1) * (len + 2)
 
--- the number reaches this power of two
+-- 1 where the number reaches this power of two, else 0
 abbrev pub reaches : ℕ → ℕ → ℕ
 reaches power n = if nat_le power n then 1 else 0
 

@@ -14,4 +14,5 @@ pub mod Since
 pub mod Standing
 pub mod Step
 pub mod Store
+pub mod Tries
 pub mod Walk

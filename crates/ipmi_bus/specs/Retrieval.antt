@@ -168,6 +168,6 @@ CallLeaves old new (Ok Absent) = new.part ≡ old.part
 CallLeaves old new (Err (GaveUp id)) = (new.part ≡ old.part) × (id ≡ old.id)
 CallLeaves old new (Err (Refused id code)) = (new.part ≡ old.part) × (id ≡ old.id)
 CallLeaves old new (Err (Stalled id)) = (new.part ≡ old.part) × (id ≡ old.id)
-CallLeaves old new (Err (Malformed id)) = (new.part ≡ old.part) × (id ≡ old.id)
+CallLeaves old new (Err (Malformed id)) = (new.part ≡ old.part) × (id ≡ old.id) × (old.shelf ≡ Sdr)
 CallLeaves old new (Err (Cycle id)) = ⊥
 CallLeaves old new (Err (Missing id)) = ⊥

@@ -4,7 +4,8 @@ use Rattle.ipmi_bus.specs.declared.controller.Shelf.{Shelf}
 use Rattle.ipmi_bus.specs.declared.controller.Shelf.TheVariants.{Sdr, Sel}
 use Rattle.ipmi_bus.specs.Store.{Store, IsStore}
 
--- The numbers have no greatest value. Fresh troubles are those since something was finished.
+-- The numbers have no greatest value. Fresh troubles are those since something was finished; the last code is that of the
+-- last refusal; a store is added where another one takes the place of the store.
 pub record Seen : Type 0 where
   pub store : Store
   pub honest : Bool
@@ -28,7 +29,7 @@ pub record IsHonest (seen : Seen) : Type 0 where
   pub said : IsTrue seen.honest
   pub store : IsStore seen.store
 
--- an honest one that cancels, refuses and changes nothing
+-- an honest one that says that it is plain: what a plain one owes stands with each answer, and it adds no store
 pub record IsPlain (seen : Seen) : Type 0 where
   pub said : IsTrue seen.plain
   pub honest : IsHonest seen
@@ -73,13 +74,14 @@ pub record StaysHonest (old new : Seen) : Type 0 where
   pub store : KeepsStore old new
   pub plain_store : IsTrue old.plain → new.stores_added ≡ old.stores_added
 
--- one call adds at most one store
+-- what any call of an honest controller may change: it adds at most one store
 pub record IsChange (old new : Seen) : Type 0 where
   pub stays : StaysHonest old new
   pub one : new.stores_added ≤ old.stores_added + 1
 
--- No reservation of the shelf becomes current, and none stays so where a store is added. A plain controller cancels none.
-pub record KeepsReservation (shelf : Shelf) (old new : Seen) : Type 0 where
+-- No reservation of the shelf becomes current, and none stays so where a store is added. An honest controller may cancel one
+-- at any call, a plain one cancels none.
+pub record GivesNoReservation (shelf : Shelf) (old new : Seen) : Type 0 where
   pub none_given : (r : ℕ) → current shelf new ≡ Some r → current shelf old ≡ Some r
   pub none_over_change : old.stores_added < new.stores_added → current shelf new ≡ None
   pub plain : IsTrue old.plain → current shelf new ≡ current shelf old

@@ -68,12 +68,18 @@ DistinctIds (row ∷ rows) = LacksId row.id rows × DistinctIds rows
 abbrev pub id_in : List ℕ → ℕ
 id_in bytes = slice_index bytes 0 + 256 * slice_index bytes 1
 
--- the first row's bytes begin with its id, and no later row has the id 0000h
+-- the first row's bytes begin with its id
 abbrev pub BeginsWithId : List Row → Type 0
 BeginsWithId [] = Unit {0}
-BeginsWithId (row ∷ rows) = (id_in row.bytes ≡ row.id) × LacksId 0 rows
+BeginsWithId (row ∷ rows) = id_in row.bytes ≡ row.id
+
+-- no row after the first has the id 0000h
+abbrev pub LaterHaveIds : List Row → Type 0
+LaterHaveIds [] = Unit {0}
+LaterHaveIds (row ∷ rows) = LacksId 0 rows
 
 pub record IsShelf (shelf : Shelf) (rows : List Row) : Type 0 where
   pub all : AllRows shelf rows
   pub distinct : DistinctIds rows
   pub first : BeginsWithId rows
+  pub later : LaterHaveIds rows

@@ -5,9 +5,11 @@ use Rattle.ipmi_bus.specs.declared.step.Ended.TheVariants.{Cycle, Missing, Refus
 use Rattle.ipmi_bus.specs.declared.retrieval.Retrieval.{Retrieval}
 use Rattle.ipmi_bus.specs.declared.retrieval.Retrieved.{Retrieved}
 use Rattle.ipmi_bus.specs.declared.retrieval.Retrieved.TheVariants.{Complete, Nothing}
+use Rattle.ipmi_bus.specs.declared.controller.Shelf.TheVariants.{Sdr}
 use Rattle.ipmi_bus.specs.Shelf.{Row, look, largest_len}
 use Rattle.ipmi_bus.specs.Store.{rows_of}
 use Rattle.ipmi_bus.specs.Seen.{Seen, IsHonest, StaysHonest}
+use Rattle.ipmi_bus.specs.Tries.{WithinTries, GivesUp, IsRefusedWith}
 use Rattle.ipmi_bus.specs.Bounds.{digits, step_call_bound}
 use Rattle.ipmi_bus.specs.Retrieval.{IsOpen, SameRequest, HasRead, IsReading, HoldsCurrent, calls_left, row_len, wanted_len}
 
@@ -36,12 +38,6 @@ pub record Since (start now : Retrieval) (s s' : Seen) : Type 0 where
   pub calls : s'.calls + calls_left (largest_len start.shelf) now ≤ s.calls + calls_left (largest_len start.shelf) start
   pub honest : IsHonest s → HonestSince start now s s'
 
--- no more troubles than the tries, and no refusal
-pub record WithinTries (tries : ℕ) (old new : Seen) : Type 0 where
-  pub troubles : new.troubles ≤ old.troubles + tries
-  pub refusals : new.refusals ≡ old.refusals
-  pub last_code : new.last_code ≡ old.last_code
-
 -- a whole row, of the store that the controller has now
 pub record ReadsRow (old new : Retrieval) (s s' : Seen) (row : Row) : Type 0 where
   pub within : WithinTries old.tries s s'
@@ -51,17 +47,6 @@ pub record ReadsRow (old new : Retrieval) (s s' : Seen) (row : Row) : Type 0 whe
 pub record ReadsNone (old : Retrieval) (id : ℕ) (s s' : Seen) : Type 0 where
   pub within : WithinTries old.tries s s'
   pub absent : look (rows_of old.shelf s'.store) id ≡ None
-
-pub record GivesUp (tries : ℕ) (s s' : Seen) : Type 0 where
-  pub troubles : s'.troubles ≡ s.troubles + tries + 1
-  pub fresh_troubles : s'.fresh_troubles ≡ s.fresh_troubles + tries + 1
-  pub refusals : s'.refusals ≡ s.refusals
-  pub last_code : s'.last_code ≡ s.last_code
-
-pub record IsRefusedWith (tries code : ℕ) (s s' : Seen) : Type 0 where
-  pub troubles : s'.troubles ≤ s.troubles + tries
-  pub refusals : s'.refusals ≡ s.refusals + 1
-  pub last_code : s'.last_code ≡ code
 
 abbrev pub ReadAnswers : Retrieval → ℕ → Retrieval → Seen → Seen → Result Retrieved Ended → Type 0
 ReadAnswers old id new s s' (Ok Complete) = (row : Row) × ReadsRow old new s s' row
@@ -100,6 +85,6 @@ ReadLeaves id new (Ok Nothing) = Unit {0}
 ReadLeaves id new (Err (GaveUp n)) = n ≡ id
 ReadLeaves id new (Err (Refused n code)) = n ≡ id
 ReadLeaves id new (Err (Stalled n)) = n ≡ id
-ReadLeaves id new (Err (Malformed n)) = n ≡ id
+ReadLeaves id new (Err (Malformed n)) = (n ≡ id) × (new.shelf ≡ Sdr)
 ReadLeaves id new (Err (Cycle n)) = ⊥
 ReadLeaves id new (Err (Missing n)) = ⊥

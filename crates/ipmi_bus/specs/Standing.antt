@@ -6,7 +6,7 @@ use Rattle.ipmi_bus.specs.declared.step.Place.TheVariants.{First, End}
 use Rattle.ipmi_bus.specs.declared.step.Ended.{Ended}
 use Rattle.ipmi_bus.specs.declared.step.Ended.TheVariants.{Cycle, Missing, Refused, GaveUp, Stalled, Malformed}
 use Rattle.ipmi_bus.specs.Shelf.{Row, first_row}
-use Rattle.ipmi_bus.specs.Walk.{IsWalk, place_at_end, has_id, WalkEnd, Done, CycleAt, MissingAt, EndsBy}
+use Rattle.ipmi_bus.specs.Walk.{IsWalk, place_after_rows, has_id, WalkEnd, Done, CycleAt, MissingAt, EndsBy}
 use Rattle.ipmi_bus.specs.Store.{rows_of}
 use Rattle.ipmi_bus.specs.Seen.{Seen}
 use Rattle.ipmi_bus.specs.CursorState.{CursorState}
@@ -14,7 +14,7 @@ use Rattle.ipmi_bus.specs.CursorState.{CursorState}
 -- the cursor has handed out the first k rows of the walk, and no others
 pub record StandsAt (rows : List Row) (start : Place) (walk : List Row) (k : ℕ) (c : CursorState) : Type 0 where
   pub within : k ≤ length walk
-  pub place : (c.place ≡ place_at_end start (take k walk)) ⊎ ((c.place ≡ End) × (start ≡ First) × (first_row rows ≡ None))
+  pub place : (c.place ≡ place_after_rows start (take k walk)) ⊎ ((c.place ≡ End) × (start ≡ First) × (first_row rows ≡ None))
   pub ids : (n : ℕ) → set.contains c.ids n ≡ has_id (take k walk) n
 
 -- a step at a walk's end may give up or be refused: there is a call to make
@@ -23,7 +23,8 @@ MayFail Done place = place ≡ First
 MayFail (CycleAt n) place = ⊥
 MayFail (MissingAt n) place = Unit {0}
 
--- what a step of a cursor that stands at k does: it hands out row k + 1, or answers by the walk's end
+-- What a step of a cursor that stands at k does: before the walk's end it hands out row k + 1, at the end it answers by that
+-- end, or it gives up or is refused and stays.
 abbrev pub WalkStep : List Row → Place → List Row → WalkEnd → ℕ → CursorState → CursorState → Result (Option Row) Ended → Type 0
 WalkStep rows start walk end k old new (Ok (Some row)) = (first_row (drop k walk) ≡ Some row) × StandsAt rows start walk (k + 1) new
 WalkStep rows start walk end k old new (Ok None) = (k ≡ length walk) × (end ≡ Done) × StandsAt rows start walk k new

@@ -3,19 +3,21 @@ use Rattle.std.specs.Prelude.{◌≡◌, ◌≢◌, ℕ, ◌+◌, ◌<◌, ◌�
 use Rattle.std.specs.FinSet as set
 use Rattle.std.specs.Ordering.{nat_cmp}
 use Rattle.ipmi_bus.specs.declared.controller.Shelf.{Shelf}
+use Rattle.ipmi_bus.specs.declared.controller.Shelf.TheVariants.{Sdr}
 use Rattle.ipmi_bus.specs.declared.step.Place.{Place}
 use Rattle.ipmi_bus.specs.declared.step.Place.TheVariants.{First, Id, End}
 use Rattle.ipmi_bus.specs.declared.step.Ended.{Ended}
 use Rattle.ipmi_bus.specs.declared.step.Ended.TheVariants.{Cycle, Missing, Refused, GaveUp, Stalled, Malformed}
-use Rattle.ipmi_bus.specs.Shelf.{Row, look, len_of, largest_len, AreBytes}
+use Rattle.ipmi_bus.specs.Shelf.{Row, look, len_of, largest_len, whole_len, id_in}
 use Rattle.ipmi_bus.specs.Store.{rows_of}
 use Rattle.ipmi_bus.specs.Walk.{place_after}
-use Rattle.ipmi_bus.specs.Seen.{Seen, StaysHonest, current}
-use Rattle.ipmi_bus.specs.Since.{WithinTries, GivesUp, IsRefusedWith}
+use Rattle.ipmi_bus.specs.Seen.{Seen, IsHonest, StaysHonest, current}
+use Rattle.ipmi_bus.specs.Tries.{WithinTries, GivesUp, IsRefusedWith}
 use Rattle.ipmi_bus.specs.Bounds.{step_call_bound, digits}
 use Rattle.ipmi_bus.specs.CursorState.{CursorState}
+use Rattle.ipmi_bus.specs.Standing.{FollowsWalks}
 
--- the id that is asked for: 0000h for the first record
+-- the id that is asked for: 0000h for the first record (at the end nothing is asked for, and 0 stands in)
 abbrev pub asked_at : Place → ℕ
 asked_at First = 0
 asked_at (Id n) = n
@@ -33,6 +35,13 @@ pub record SameCursor (old new : CursorState) : Type 0 where
   pub shelf : new.shelf ≡ old.shelf
   pub tries : new.tries ≡ old.tries
   pub part : new.part ≤ old.part
+  pub some : 0 < new.part
+
+-- the id is the one asked for, or at the start the one with which the bytes begin
+abbrev pub HasIdAsked : Place → Row → Type 0
+HasIdAsked First row = row.id ≡ id_in row.bytes
+HasIdAsked (Id n) row = row.id ≡ n
+HasIdAsked End row = ⊥
 
 -- the cursor stands after a record that it handed out, and that it had not handed out before
 pub record HandsOut (old new : CursorState) (row : Row) : Type 0 where
@@ -40,8 +49,10 @@ pub record HandsOut (old new : CursorState) (row : Row) : Type 0 where
   pub ids : new.ids ≡ set.insert old.ids row.id
   pub unseen : set.contains old.ids row.id ≡ false
   pub at_most : set.len new.ids ≤ 65536
+  pub id : HasIdAsked old.place row
+  pub whole : length row.bytes ≡ whole_len old.shelf row.bytes
   pub fits : length row.bytes ≤ largest_len old.shelf
-  pub started : old.place ≢ End
+  pub not_at_end : old.place ≢ End
 
 -- the cursor stands where it stood, without a reservation
 pub record StaysThere (old new : CursorState) : Type 0 where
@@ -56,10 +67,10 @@ pub record IsAtEnd (old new : CursorState) : Type 0 where
   pub from : (n : ℕ) → old.place ≢ Id n
 
 -- the record that was asked for did not come, and the cursor stays
-pub record EndsAt (n : ℕ) (old new : CursorState) : Type 0 where
+pub record FailsAt (n : ℕ) (old new : CursorState) : Type 0 where
   pub stays : StaysThere old new
   pub asked : n ≡ asked_at old.place
-  pub started : old.place ≢ End
+  pub not_at_end : old.place ≢ End
 
 -- Cycle comes exactly where the chain closes
 abbrev pub StepLeaves : CursorState → CursorState → Result (Option Row) Ended → Type 0
@@ -67,10 +78,10 @@ StepLeaves old new (Ok (Some row)) = (cycle_at old.place old.ids ≡ None) × Ha
 StepLeaves old new (Ok None) = (cycle_at old.place old.ids ≡ None) × IsAtEnd old new
 StepLeaves old new (Err (Cycle n)) = (cycle_at old.place old.ids ≡ Some n) × StaysThere old new
 StepLeaves old new (Err (Missing n)) = (cycle_at old.place old.ids ≡ None) × StaysThere old new × (old.place ≡ Id n)
-StepLeaves old new (Err (GaveUp n)) = (cycle_at old.place old.ids ≡ None) × EndsAt n old new
-StepLeaves old new (Err (Refused n code)) = (cycle_at old.place old.ids ≡ None) × EndsAt n old new
-StepLeaves old new (Err (Stalled n)) = (cycle_at old.place old.ids ≡ None) × EndsAt n old new
-StepLeaves old new (Err (Malformed n)) = (cycle_at old.place old.ids ≡ None) × EndsAt n old new
+StepLeaves old new (Err (GaveUp n)) = (cycle_at old.place old.ids ≡ None) × FailsAt n old new
+StepLeaves old new (Err (Refused n code)) = (cycle_at old.place old.ids ≡ None) × FailsAt n old new
+StepLeaves old new (Err (Stalled n)) = (cycle_at old.place old.ids ≡ None) × FailsAt n old new
+StepLeaves old new (Err (Malformed n)) = (cycle_at old.place old.ids ≡ None) × FailsAt n old new × (old.shelf ≡ Sdr)
 
 -- the step makes no call: the cursor is at the end, or the chain closes
 abbrev pub MakesNoCall : CursorState → Type 0
@@ -88,7 +99,8 @@ NoneAt First shelf seen = look (rows_of shelf seen.store) 0 ≡ None
 NoneAt (Id n) shelf seen = ⊥
 NoneAt End shelf seen = Unit {0}
 
--- what is handed out is a whole row of the store as it is when the step ends
+-- What is handed out is a whole row of the store as it is when the step ends, Missing and the end at First come only where that
+-- store has no such row, and the troubles and refusals say what else the answer is.
 abbrev pub StepAnswers : CursorState → Seen → Seen → Result (Option Row) Ended → Type 0
 StepAnswers old s s' (Ok (Some row)) = WithinTries old.tries s s' × (look (rows_of old.shelf s'.store) (asked_at old.place) ≡ Some row)
 StepAnswers old s s' (Ok None) = WithinTries old.tries s s' × NoneAt old.place old.shelf s'
@@ -113,12 +125,24 @@ IsFineStep (Err (Missing id)) = Unit {0}
 IsFineStep (Err (Stalled id)) = Unit {0}
 IsFineStep (Err (Malformed id)) = Unit {0}
 
+-- over a plain controller
 pub record StepIsPlain (new : CursorState) (s' : Seen) (result : Result (Option Row) Ended) : Type 0 where
   pub holds : CursorHoldsCurrent new s'
   pub fine : IsFineStep result
 
+-- over an honest controller
 pub record StepIsHonest (old new : CursorState) (s s' : Seen) (result : Result (Option Row) Ended) : Type 0 where
   pub stays : StaysHonest s s'
   pub answers : StepAnswers old s s' result
   pub plain : IsTrue s.plain → CursorHoldsCurrent old s → StepIsPlain new s' result
   pub calls : s'.stores_added ≡ s.stores_added → StepCalls (len_of (look (rows_of old.shelf s.store) (asked_at old.place))) old new s s'
+
+-- ---- all of it
+
+-- a step, by the cursor and the controller before and after it
+pub record IsStep (old new : CursorState) (s s' : Seen) (result : Result (Option Row) Ended) : Type 0 where
+  pub same : SameCursor old new
+  pub leaves : StepLeaves old new result
+  pub calls : StepCalls (largest_len old.shelf) old new s s'
+  pub honest : IsHonest s → StepIsHonest old new s s' result
+  pub walks : IsHonest s → FollowsWalks old new s s' result

@@ -43,6 +43,15 @@ pub record IsInfo (bytes : List ℕ) : Type 0 where
   pub len : length bytes ≡ 14
   pub all : AreBytes bytes
 
+-- its numbers are bytes
+pub record IsSensorReading (sensor : SensorReading) : Type 0 where
+  pub lun : sensor.lun < 256
+  pub number : sensor.number < 256
+  pub raw : sensor.reading.raw < 256
+  pub flags : sensor.reading.flags < 256
+  pub status : sensor.reading.status < 256
+  pub more : sensor.reading.more < 256
+
 -- not the same sensor
 abbrev pub OtherSensor : SensorReading → SensorReading → Type 0
 OtherSensor a b = (a.lun ≡ b.lun) → (a.number ≢ b.number)
@@ -53,6 +62,7 @@ pub record IsStore (store : Store) : Type 0 where
   pub sel : IsShelf Sel store.sel
   pub inventories : All IsInventory store.inventories
   pub distinct_inventories : AllPairs (λ a b. a.id ≢ b.id) store.inventories
+  pub readings : All IsSensorReading store.readings
   pub distinct_readings : AllPairs OtherSensor store.readings
   pub sdr_info : IfSome store.sdr_info IsInfo
   pub sel_info : IfSome store.sel_info IsInfo

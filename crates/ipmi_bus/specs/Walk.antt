@@ -31,12 +31,12 @@ pub record IsWalk (rows : List Row) (start : Place) (walk : List Row) : Type 0 w
 
 -- the place after a record with this next id
 abbrev pub place_after : ℕ → Place
-place_after next = if next == 65535 then End else Id next
+place_after next = if next == 0xFFFF then End else Id next
 
 -- the place after these rows, or the start where there are none
-abbrev pub place_at_end : Place → List Row → Place
-place_at_end start [] = start
-place_at_end start (row ∷ rows) = place_at_end (place_after row.next) rows
+abbrev pub place_after_rows : Place → List Row → Place
+place_after_rows start [] = start
+place_after_rows start (row ∷ rows) = place_after_rows (place_after row.next) rows
 
 -- one of the rows has this id
 abbrev pub has_id : List Row → ℕ → Bool
@@ -53,9 +53,9 @@ pub data WalkEnd : Type 0 where
 
 -- the end of a walk whose last row has this next id
 abbrev pub EndsAfter : List Row → List Row → ℕ → WalkEnd → Type 0
-EndsAfter rows walk next Done = next ≡ 65535
-EndsAfter rows walk next (CycleAt n) = (n ≡ next) × (next ≢ 65535) × IsTrue ((next == 0) || has_id walk next)
-EndsAfter rows walk next (MissingAt n) = (n ≡ next) × (next ≢ 65535) × (next ≢ 0) × (has_id walk next ≡ false) × (look rows next ≡ None)
+EndsAfter rows walk next Done = next ≡ 0xFFFF
+EndsAfter rows walk next (CycleAt n) = (n ≡ next) × (next ≢ 0xFFFF) × IsTrue ((next == 0) || has_id walk next)
+EndsAfter rows walk next (MissingAt n) = (n ≡ next) × (next ≢ 0xFFFF) × (next ≢ 0) × (has_id walk next ≡ false) × (look rows next ≡ None)
 
 -- the end of the empty walk
 abbrev pub EndsEmpty : List Row → Place → WalkEnd → Type 0

@@ -3,7 +3,7 @@
 /// What a completion code means for a retrieval. The division into these five is this project's own.
 #[derive(Clone, Copy, Debug, PartialEq, Eq)]
 pub enum CodeClass {
-    /// C5h: the reservation was cancelled. A trouble: what is read in parts begins again.
+    /// C5h: the reservation was cancelled. A trouble: a record that is read in parts begins again.
     Cancelled,
     /// C0h (node busy), C3h (timeout), 81h (device busy). A trouble: the same call may succeed later.
     Busy,

@@ -4,7 +4,7 @@ ghost use Rattle.std.specs.FinSet as set;
 ghost use Rattle.std.specs.Option.{ForSome};
 ghost use Rattle.std.specs.Borrow.{sem};
 ghost use Rattle.ipmi_bus.specs.Seen.{IsHonest, StaysHonest};
-ghost use Rattle.ipmi_bus.specs.Shelf.{Row, largest_len};
+ghost use Rattle.ipmi_bus.specs.Shelf.{Row, whole_len, largest_len};
 ghost use Rattle.ipmi_bus.specs.Walk.{place_after};
 ghost use Rattle.ipmi_bus.specs.Step.{SameCursor, StepLeaves, StepCalls, StepIsHonest, StepAnswers, MakesNoCall};
 ghost use Rattle.ipmi_bus.specs.Standing.{FollowsWalks, StandsAt};
@@ -71,6 +71,7 @@ impl Progress {
         ensures next { result.next ≡ self.old.retrieval.next }
         ensures len { result.len ≡ self.old.retrieval.have }
         ensures retrieval { self.new.retrieval ≡ self.old.retrieval }
+        ensures room { length self.new.retrieval.buffer ≡ 256 }
     {
         let id = match self.place {
             Place::First => LittleEndian::read_u16(&self.retrieval.buffer),
@@ -170,7 +171,9 @@ impl Model for Cursor {
 }
 
 impl Cursor {
-    ghost use Rattle.ipmi_bus.specs.Lent.{CursorRests, IsStep, as_rows};
+    ghost use Rattle.ipmi_bus.specs.Lent.{CursorRests, as_rows};
+    ghost use Rattle.ipmi_bus.specs.Step.{IsStep};
+    ghost use Rattle.ipmi_bus.specs.declared.step.Place.TheVariants.{End};
     ghost use Rattle.ipmi_bus.specs.CursorState.{start_of};
 
     /// A cursor at the start of the shelf, or at the record with the id `from`. It asks for at most `part`
@@ -221,7 +224,9 @@ impl Cursor {
     /// where it stood and holds no reservation, so that a later step tries again.
     pub fn step<C: Controller>(&mut self, ctl: &mut C) -> Result<Option<Record<'_>>, Ended>
         ensures* after { sem 𝓛 (CursorRests self.entry (λ new. IsStep self.old new (C.seen ctl.old) (C.seen ctl.new) (as_rows result))) }
+        ensures at_end { self.old.place ≡ End → as_rows result ≡ Ok None }
         ensures no_call { MakesNoCall self.old → C.seen ctl.new ≡ C.seen ctl.old }
+        ensures whole { IfOk result (λ o. IfSome o (λ record_. length record_.bytes.now ≡ whole_len self.old.shelf record_.bytes.now)) }
         ensures fits { IfOk result (λ o. IfSome o (λ record_. length record_.bytes.now ≤ largest_len self.old.shelf)) }
         ensures answers { IsHonest (C.seen ctl.old) → StaysHonest (C.seen ctl.old) (C.seen ctl.new) × StepAnswers self.old (C.seen ctl.old) (C.seen ctl.new) (as_rows result) }
     {

@@ -1,6 +1,7 @@
 //! Where a step of a cursor begins, and what it gives.
 
 use crate::code::Code;
+use thiserror::Error;
 
 /// Where a cursor stands.
 #[derive(Clone, Copy, Debug, PartialEq, Eq)]
@@ -24,19 +25,25 @@ pub struct Record<'a> {
     pub bytes: &'a [u8],
 }
 
-/// Why a step gave no record. Each names the id that was asked for: 0000h for the first record.
-#[derive(Clone, Copy, Debug, PartialEq, Eq)]
+/// Why a step gave no record. Each names the id that stood to be asked for: 0000h for the first record.
+#[derive(Clone, Copy, Debug, PartialEq, Eq, Error)]
 pub enum Ended {
     /// The next id is 0000h, or that of a record that was handed out before.
+    #[error("cycle at {0:04X}h")]
     Cycle(u16),
     /// No record has this id.
+    #[error("record {0:04X}h not present")]
     Missing(u16),
     /// The controller refused with this code.
+    #[error("record {0:04X}h refused with code {code:02X}h", code = .1.0)]
     Refused(u16, Code),
     /// More troubles came than the tries allow.
+    #[error("gave up at {0:04X}h")]
     GaveUp(u16),
     /// The controller gave no byte, or asked for less than one.
+    #[error("stalled at {0:04X}h")]
     Stalled(u16),
     /// The header of a sensor data record says that the record is longer than 256 bytes.
+    #[error("malformed record {0:04X}h")]
     Malformed(u16),
 }

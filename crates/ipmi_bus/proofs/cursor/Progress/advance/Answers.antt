@@ -5,23 +5,28 @@ use Rattle.ipmi_bus.specs.declared.retrieval.Retrieval.{Retrieval}
 use Rattle.ipmi_bus.specs.Seen.{current}
 use Rattle.ipmi_bus.specs.Shelf.{look, len_of, largest_len}
 use Rattle.ipmi_bus.specs.Store.{rows_of}
-use Rattle.ipmi_bus.proofs.CursorLemmas.{hands_row, unseen, not_end, asked_is, calls_moved}
+use Rattle.ipmi_bus.proofs.CursorLemmas.{hands_row, handed_whole, largest_fits, unseen, not_end, asked_is, calls_moved}
 use Rattle.ipmi_bus.proofs.cursor.Progress.advance.Goals as goal
 
 pub returns-in-Ok-Complete-clause-leaves : goal.returns-in-Ok-Complete-clause-leaves
 returns-in-Ok-Complete-clause-leaves g c =
     let asks = c.in-Asks.ensures in
-    let old = c.args.self.now in (
+    let old = c.args.self.now in
+    let leaves = rw c.in-Ok-Complete.field-0-is at c.in-Ok-Complete.ensures.leaves in
+    let shown = handed_whole old.retrieval.shelf old.retrieval c.read.new.self c.hand_out.new.self c.hand_out.result old.place c.in-Asks.id asks.1 c.read.ensures.request.shelf leaves.0 leaves.2
+    c.hand_out.ensures.id c.hand_out.ensures.len c.hand_out.ensures.retrieval (let fits = leaves.1 in omega (arith, c.hand_out.ensures.room, largest_fits c.read.new.self.shelf)) in (
       asks.0,
       record {
         place = c.hand_out.ensures.place;
         ids = c.hand_out.ensures.ids;
         unseen = ap (set.contains old.ids) c.hand_out.ensures.id ∙ unseen old.place old.ids c.in-Asks.id c.read.new.self.buffer c.requires.first asks.1 asks.2;
-        started = not_end c.args.self.now.place c.in-Asks.id asks.1;
+        not_at_end = not_end c.args.self.now.place c.in-Asks.id asks.1;
         at_most = c.hand_out.ensures.at_most;
+        id = shown.0;
+        whole = shown.1;
         fits =
             let len = c.hand_out.ensures.len in
-            let have = (rw c.in-Ok-Complete.field-0-is at c.in-Ok-Complete.ensures.leaves).1 in
+            let have = leaves.1 in
             let largest = ap largest_len c.read.ensures.request.shelf in
             omega (arith, largest, length-take c.hand_out.result.len c.hand_out.new.self.retrieval.buffer);
       },

@@ -1,0 +1,24 @@
+-- How many troubles and refusals a record, a reading, an info or an inventory met, by how its retrieval ended.
+use Rattle.std.specs.Prelude.{◌≡◌, ℕ, ◌+◌, ◌≤◌}
+use Rattle.ipmi_bus.specs.Seen.{Seen}
+
+-- no more troubles than the tries, and no refusal
+pub record WithinTries (tries : ℕ) (old new : Seen) : Type 0 where
+  pub grows : old.troubles ≤ new.troubles
+  pub troubles : new.troubles ≤ old.troubles + tries
+  pub refusals : new.refusals ≡ old.refusals
+  pub last_code : new.last_code ≡ old.last_code
+
+-- one trouble more than the tries, nothing finished between them, and no refusal
+pub record GivesUp (tries : ℕ) (old new : Seen) : Type 0 where
+  pub troubles : new.troubles ≡ old.troubles + tries + 1
+  pub fresh_troubles : new.fresh_troubles ≡ old.fresh_troubles + tries + 1
+  pub refusals : new.refusals ≡ old.refusals
+  pub last_code : new.last_code ≡ old.last_code
+
+-- no more troubles than the tries, and one refusal, with this code
+pub record IsRefusedWith (tries code : ℕ) (old new : Seen) : Type 0 where
+  pub grows : old.troubles ≤ new.troubles
+  pub troubles : new.troubles ≤ old.troubles + tries
+  pub refusals : new.refusals ≡ old.refusals + 1
+  pub last_code : new.last_code ≡ code

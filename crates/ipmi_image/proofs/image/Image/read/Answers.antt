@@ -1,0 +1,7 @@
+use Rattle.std.proofs.Common.{refl, ap, ◌∙◌, inr}
+use Rattle.ipmi_image.specs.Grammar.{rows_of_text}
+use Rattle.ipmi_image.proofs.LineLemmas.{text_unended}
+use Rattle.ipmi_image.proofs.image.Image.read.Goals as goal
+
+pub returns-in_default : goal.returns-in_default
+returns-in_default c = inr (refl, ap rows_of_text c.in_default.ensures.cut ∙ text_unended c.args.bytes.now)

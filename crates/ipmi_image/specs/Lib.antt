@@ -1,0 +1,4 @@
+pub mod Grammar
+pub mod Saved
+pub mod Stored
+pub mod Text
