@@ -1,0 +1,44 @@
+//! What a sink has taken, as contracts alone see it: it takes no bytes and no time.
+ghost use Rattle.std.specs.Prelude.{◌≡◌, ℕ, List};
+ghost use Rattle.std.specs.Borrow.{ftrue};
+
+use std::marker::Model;
+
+/// The bytes taken so far, and how many calls took none or failed.
+#[derive(Drop)]
+pub struct History {
+    pub ghost taken: { List ℕ },
+    pub ghost faults: { ℕ },
+}
+
+impl Model for History {
+    ghost also_owns = { λ _. ftrue };
+}
+
+/// What one call of a sink did.
+#[derive(Clone, Copy, Debug)]
+pub struct Taking<'a> {
+    /// The bytes that it took.
+    pub bytes: &'a [u8],
+    /// Whether it took none, or failed.
+    pub is_fault: bool,
+}
+
+impl History {
+    ghost use Rattle.std.specs.Prelude.{◌+◌, ◌++◌, [], if◌then◌else◌};
+
+    /// Nothing was taken yet.
+    pub fn new() -> History
+        ensures { (result.taken ≡ []) × (result.faults ≡ 0) }
+    {
+        History {}
+    }
+
+    /// What was taken before, and then this.
+    pub fn after(_before: &History, _taking: &Taking<'_>) -> History
+        ensures { (result.taken ≡ _before.now.taken ++ _taking.now.bytes.now)
+            × (result.faults ≡ _before.now.faults + (if _taking.now.is_fault then 1 else 0)) }
+    {
+        History {}
+    }
+}

@@ -1,0 +1,7 @@
+//! Lists what a saved image of a management controller holds, as `ipmitool` lists it.
+#![tactic(auto)]
+
+mod history;
+mod sink;
+
+fn main(_rt: HostRuntime) {}
