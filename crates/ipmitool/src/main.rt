@@ -3,5 +3,6 @@
 
 mod history;
 mod sink;
+mod words;
 
 fn main(_rt: HostRuntime) {}
