@@ -1,1 +1,2 @@
 -- Lemmas that the proofs of several functions share.
+pub mod HexLemmas

@@ -2,6 +2,7 @@
 #![tactic(auto)]
 
 mod history;
+mod line;
 mod sink;
 mod words;
 
