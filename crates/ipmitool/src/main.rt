@@ -1,6 +1,7 @@
 //! Lists what a saved image of a management controller holds, as `ipmitool` lists it.
 #![tactic(auto)]
 
+mod command;
 mod history;
 mod line;
 mod sink;
