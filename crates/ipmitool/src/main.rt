@@ -5,6 +5,8 @@ mod command;
 mod history;
 mod line;
 mod sink;
+#[cfg(test)]
+mod tests;
 mod words;
 
 fn main(_rt: HostRuntime) {}

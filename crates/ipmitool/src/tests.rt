@@ -1,0 +1,6 @@
+//! Worked examples.
+mod command;
+mod line;
+mod sink;
+mod words;
+pub mod writers;
