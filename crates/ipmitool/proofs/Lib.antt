@@ -1,2 +1,2 @@
--- Lemmas that the proofs of several functions share.
 pub mod HexLemmas
+pub mod ListingLemmas

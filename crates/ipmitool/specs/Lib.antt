@@ -1,3 +1,5 @@
 pub mod Command
 pub mod Line
+pub mod Listing
+pub mod Run
 pub mod Sink

@@ -3,10 +3,59 @@
 
 mod command;
 mod history;
+mod input;
 mod line;
+mod listing;
+mod message;
+mod run;
 mod sink;
 #[cfg(test)]
 mod tests;
 mod words;
 
-fn main(_rt: HostRuntime) {}
+use command::command_of;
+use input::{InputFault, read_image, words_of};
+use message::{Message, say};
+use run::answer;
+use sink::Written;
+use std::io::{self, BufWriter, Input, Write};
+use std::process::ExitCode;
+
+fn main(rt: HostRuntime) -> ExitCode {
+    ExitCode::from(program(&rt))
+}
+
+/// Reads the command line and the image, answers it on buffered standard output, and gives the exit status.
+fn program(rt: &HostRuntime) -> u8 {
+    let mut err = rt.stderr();
+    let line = match words_of(rt) {
+        Ok(words) => command_of(rt.alloc(), &words),
+        Err(fault) => Err(fault),
+    };
+    let image = match &line {
+        Ok(_) => read_image(rt.alloc(), rt.reader()),
+        Err(_) => Ok(Vec::new(rt.alloc())),
+    };
+    let image = match image {
+        Ok(image) => image,
+        Err(InputFault::Memory) => {
+            say(&mut err, Message::OutOfMemory);
+            return 5;
+        }
+        Err(InputFault::Unreadable) => {
+            say(&mut err, Message::CannotRead);
+            return 3;
+        }
+    };
+    let Ok(buffer) = BufWriter::new(rt.alloc(), io::writer(rt)) else {
+        say(&mut err, Message::OutOfMemory);
+        return 5;
+    };
+    let mut out = Written::new(buffer);
+    let status = answer(rt.alloc(), &line, &image, &mut out, &mut err);
+    if status != 4 && out.into_inner().flush().is_err() {
+        say(&mut err, Message::WriteFault);
+        return 4;
+    }
+    status
+}

@@ -1,0 +1,54 @@
+//! What the program reads: its words, and its image.
+ghost use Rattle.std.specs.Prelude.{◌<◌, ◌≤◌, IfOk, length, vec_len};
+
+use crate::command::UsageFault;
+use crate::words::Words;
+use std::alloc::Global;
+use std::env::{self, Env};
+use std::io::{ErrorKind, Read};
+
+/// The most bytes of an image that are read: 64 MiB.
+pub(crate) const MOST_BYTES: u64 = 64 * 1024 * 1024;
+
+/// Why an image was not read.
+#[derive(Clone, Copy, Debug, PartialEq, Eq)]
+pub(crate) enum InputFault {
+    /// No memory was left.
+    Memory,
+    /// A read failed, or there are more bytes than are read.
+    Unreadable,
+}
+
+/// The words of the command line, the program's name first; `ipmitool` stands for it where there is no word at all.
+/// A word that is no text is a fault of the line.
+pub(crate) fn words_of<R: Env + AllocGlobal>(rt: &R) -> Result<Words, UsageFault>
+    ensures { IfOk result (λ words. 0 < length words) }
+{
+    let mut words = Words::new(rt.alloc());
+    let args = match env::args(rt) {
+        Ok(args) => args,
+        Err(error) if error.kind() == ErrorKind::OutOfMemory => return Err(UsageFault::Memory),
+        Err(_) => return Err(UsageFault::Line),
+    };
+    for arg in args {
+        words.push(arg.as_str())?;
+    }
+    if words.as_slice().is_empty() {
+        words.push("ipmitool")?;
+    }
+    Ok(words)
+}
+
+/// All bytes up to the first empty read, at most 64 MiB.
+pub(crate) fn read_image<R: Read + Drop>(alloc: Global, reader: R) -> Result<Vec<u8>, InputFault>
+    ensures { IfOk result (λ bytes. vec_len bytes ≤ 67108864) }
+{
+    let mut bytes = Vec::new(alloc);
+    let mut limited = reader.take(MOST_BYTES + 1);
+    match limited.read_to_end(&mut bytes) {
+        Ok(_) if bytes.len() as u64 <= MOST_BYTES => Ok(bytes),
+        Ok(_) => Err(InputFault::Unreadable),
+        Err(error) if error.kind() == ErrorKind::OutOfMemory => Err(InputFault::Memory),
+        Err(_) => Err(InputFault::Unreadable),
+    }
+}
