@@ -1,24 +1,28 @@
-# Targets for readers: `make demo` and `make test`. The toolchain's command `rt` is all that they need.
+# `make demo` and `make test` are for every reader. The toolchain's command `rt` is all that they need.
 PREFIX ?= /usr/local
 PROGRAM := crates/ipmitool/out/ipmitool
-SOURCES := $(shell find crates -path '*/out' -prune -o \( -name '*.rt' -o -name '*.antt' \) -print) crates.txt
+SOURCES := crates.txt $(shell find crates -path '*/out' -prune -o \( -name '*.rt' -o -name '*.antt' \) -print)
 
-.PHONY: demo test build install
+.PHONY: demo test memory build install
 
 # The program on a small image: three sensor data records, a line each.
 demo: $(PROGRAM)
-	$(PROGRAM) < examples/three-rows.image
+	@$(PROGRAM) < examples/three-rows.image
 
 # The whole gate, and the tests that stand beside it.
 test:
-	scripts/test
+	@scripts/test
+
+# Each request for memory refused in turn; about ten minutes.
+memory:
+	@scripts/refuse_memory
 
 build: $(PROGRAM)
 
-# Proves the program and what it stands on, and builds it only if all of it is proved.
+# The program is built only where it and all that it stands on is proved.
 $(PROGRAM): $(SOURCES)
-	cd crates/ipmitool && rt run < /dev/null > /dev/null || test -x out/ipmitool
-	touch $@
+	cd crates/ipmitool && rt run < stdin > /dev/null
+	@touch $@
 
 install: $(PROGRAM)
 	install -D -m 755 $(PROGRAM) $(PREFIX)/bin/ipmitool

@@ -80,6 +80,7 @@ impl ImageController {
     pub fn new(image: Image) -> ImageController
         ensures plain { IsPlain (seen_of result) }
         ensures store { (seen_of result).store ≡ sdr_store image }
+        ensures none_current { ((seen_of result).sdr_reservation ≡ None) × ((seen_of result).sel_reservation ≡ None) }
     {
         ImageController {
             image,

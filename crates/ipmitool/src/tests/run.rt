@@ -1,0 +1,131 @@
+use super::controllers::Counting;
+use super::writers::Limited;
+use crate::command::{Command, Task, UsageFault};
+use crate::run::{answer, run};
+use crate::sink::Written;
+use ipmi_image::{Image, ImageController};
+use std::alloc::Global;
+use std::test::Fail;
+
+const THREE_ROWS: &[u8] =
+    b"ipmi-image 1\nsdr 0001 0002 010051c001aa\nsdr 0002 0003 020051c002bbcc\nsdr 0003 ffff 030051c000\nend\n";
+
+const THREE_LINES: &[u8] =
+    b"sdr 0001 0002 010051c001aa\nsdr 0002 0003 020051c002bbcc\nsdr 0003 ffff 030051c000\n";
+
+fn hex() -> Command {
+    Command::new(Task::Hex, None, 32, 5, None)
+}
+
+/// What a run over an image left: output, messages and status.
+#[derive(Drop)]
+struct Left {
+    out: Vec<u8>,
+    err: Vec<u8>,
+    status: u8,
+}
+
+fn answered(alloc: Global, line: Result<Command, UsageFault>, image: &[u8]) -> Left {
+    let mut out = Written::new(Vec::new(alloc));
+    let mut err = Vec::new(alloc);
+    let status = answer(alloc, &line, image, &mut out, &mut err);
+    Left {
+        out: out.into_inner(),
+        err,
+        status,
+    }
+}
+
+// Three calls read a record of six bytes: a reservation, the header and the byte after it. The reservation serves all
+// records, and the third record ends with its header.
+#[test]
+fn drops_reservation_each_record(rt: HostRuntime) -> Result<(), Fail> {
+    let image = Image::read(rt.alloc(), THREE_ROWS)?;
+    let mut ctl = Counting::new(ImageController::new(image));
+    let mut out = Written::new(Vec::new(rt.alloc()));
+    let mut err = Vec::new(rt.alloc());
+    assert_eq!(rt; run(rt.alloc(), &mut ctl, &hex(), &mut out, &mut err), 0);
+    assert_eq!(rt; out.into_inner().as_slice(), THREE_LINES);
+    assert_eq!(rt; err.as_slice(), b"".as_slice());
+    assert_eq!(rt; ctl.calls, 6);
+    Ok(())
+}
+
+#[test]
+fn images_are_listed_to_their_end(rt: HostRuntime) {
+    let cases = [
+        (THREE_ROWS, THREE_LINES, b"".as_slice(), 0),
+        (b"ipmi-image 1\nend\n", b"", b"", 0),
+        (
+            b"ipmi-image 1\nsdr 0001 0009 010051c000\nend\n",
+            b"sdr 0001 0009 010051c000\n",
+            b"record 0009h not present\n",
+            1,
+        ),
+        (
+            b"ipmi-image 1\nsdr 0007 0009 070051c000\nsdr 0009 0007 090051c000\nend\n",
+            b"sdr 0007 0009 070051c000\nsdr 0009 0007 090051c000\n",
+            b"cycle at 0007h\n",
+            1,
+        ),
+        (
+            b"ipmi-image 1\nsdr 0001 0000 010051c000\nend\n",
+            b"sdr 0001 0000 010051c000\n",
+            b"cycle at 0000h\n",
+            1,
+        ),
+        (b"ipmi-image 1\n", b"", b"image: not read\n", 3),
+    ];
+    for (image, out, err, status) in cases {
+        let left = answered(rt.alloc(), Ok(hex()), image);
+        assert_eq!(rt; left.out.as_slice(), out);
+        assert_eq!(rt; left.err.as_slice(), err);
+        assert_eq!(rt; left.status, status);
+    }
+}
+
+#[test]
+fn usage_faults_look_at_no_image(rt: HostRuntime) {
+    let usage =
+        b"usage: ipmitool [--image FILE] [--from HEX4] [--part N] [--tries N] fru|sdr|sel WORDS\n";
+    let unbuilt = Command::new(Task::Rewrite, None, 32, 5, None);
+    let cases = [
+        (Err(UsageFault::Command), usage.as_slice(), 2),
+        (Ok(unbuilt), usage, 2),
+        (Err(UsageFault::Memory), b"out of memory\n", 5),
+    ];
+    for (line, err, status) in cases {
+        let left = answered(rt.alloc(), line, b"no image");
+        assert_eq!(rt; left.out.len(), 0);
+        assert_eq!(rt; left.err.as_slice(), err);
+        assert_eq!(rt; left.status, status);
+    }
+}
+
+#[test]
+fn a_writer_that_fails_keeps_what_it_took(rt: HostRuntime) {
+    let mut out = Written::new(Limited {
+        got: Vec::new(rt.alloc()),
+        room: 10,
+    });
+    let mut err = Vec::new(rt.alloc());
+    assert_eq!(rt;
+        answer(rt.alloc(), &Ok(hex()), THREE_ROWS, &mut out, &mut err),
+        4
+    );
+    assert_eq!(rt; out.into_inner().got.as_slice(), b"sdr 0001 0".as_slice());
+    assert_eq!(rt; err.as_slice(), b"write fault\n".as_slice());
+}
+
+#[test]
+fn a_cursor_starts_from_the_command(rt: HostRuntime) -> Result<(), Fail> {
+    let image = Image::read(rt.alloc(), THREE_ROWS)?;
+    let mut ctl = Counting::new(ImageController::new(image));
+    let mut out = Written::new(Vec::new(rt.alloc()));
+    let mut err = Vec::new(rt.alloc());
+    let command = Command::new(Task::Hex, Some(2), 1, 5, None);
+    assert_eq!(rt; run(rt.alloc(), &mut ctl, &command, &mut out, &mut err), 0);
+    assert_eq!(rt; out.into_inner().as_slice(), &THREE_LINES[27..]);
+    assert_eq!(rt; ctl.calls, 13);
+    Ok(())
+}
