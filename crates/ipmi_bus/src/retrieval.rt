@@ -1,4 +1,4 @@
-//! Reads one record in parts (IPMI v2.0, section 33.12.1: the header first, then the rest).
+//! Reads one record in parts (IPMI v2.0, section 33.12): of a sensor data record the header first, then the rest.
 ghost use Rattle.std.specs.Prelude.{◌≡◌, ◌+◌, ◌*◌, ◌<◌, ◌≤◌, None, Some, Ok, OnOk, OnErr, IfOk, IsOk, length, take, slice_range};
 ghost use Rattle.ipmi_bus.specs.Seen.{IsHonest};
 ghost use Rattle.ipmi_bus.specs.Answers.{PartAnswers};

@@ -40,7 +40,7 @@ pub enum Ended {
     /// More troubles came than the tries allow.
     #[error("gave up at {0:04X}h")]
     GaveUp(u16),
-    /// The controller gave no byte, or asked for less than one.
+    /// The controller gave no byte, or answered a request for one byte by a code that asks for a smaller part.
     #[error("stalled at {0:04X}h")]
     Stalled(u16),
     /// The header of a sensor data record says that the record is longer than 256 bytes.

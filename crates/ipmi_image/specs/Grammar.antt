@@ -1,6 +1,6 @@
 -- Images of version 1 with sensor data records alone: the lines of a text, and the rows that they give.
 use Rattle.std.specs.Prelude.{ℕ, ◌+◌, ◌==◌, nat_le, not, ◌&&◌, Bool, true, false, if◌then◌else◌, Option, Some, None, Result, Ok, Err, List, [], ◌∷◌, ◌++◌, length, codes}
-use Rattle.std.specs.Option.{option_and_then, option_map}
+use Rattle.std.specs.Option.{option_and_then}
 use Rattle.std.specs.Str.{bytes_eq}
 use Rattle.hex.specs.Hex.{decode_of}
 use Rattle.hex.specs.declared.error.FromHexError.{FromHexError}
@@ -66,7 +66,3 @@ rows_of_text (first ∷ rest) = if bytes_eq first (codes "ipmi-image 1") then ro
 -- a store that holds sensor data records alone
 abbrev pub sdr_store : List Row → Store
 sdr_store rows = record { sdr = rows; sel = []; inventories = []; readings = []; sdr_info = None; sel_info = None }
-
--- the store that the image gives, if it is one
-abbrev pub store_of_image : List ℕ → Option Store
-store_of_image bytes = option_map sdr_store (rows_of_text (pieces 10 bytes))

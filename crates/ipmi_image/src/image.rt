@@ -1,10 +1,11 @@
 //! A saved image, read from its text.
-ghost use Rattle.std.specs.Prelude.{◌≡◌, ◌⊎◌, ◌≤◌, vec_len, MatchResult, IfOk, IfErr, IfSome, None, Some, []};
+ghost use Rattle.std.specs.Prelude.{◌≡◌, ◌⊎◌, ◌≤◌, vec_len, IfOk, IfErr, IfSome, None, Some, []};
 ghost use Rattle.std.specs.Option.{option_map};
 ghost use Rattle.ipmi_bus.specs.Walk.{has_id};
 ghost use Rattle.ipmi_image.specs.Stored.{row_of, rows_in, FitsTypes};
-ghost use Rattle.ipmi_image.specs.Grammar.{row_of_line, row_of_texts, may_follow, may_stand_after, rows_of_lines, rows_of_text};
+ghost use Rattle.ipmi_image.specs.Grammar.{row_of_line, row_of_texts, may_follow, may_stand_after, rows_of_lines, rows_of_text, sdr_store};
 ghost use Rattle.ipmi_bus.specs.Shelf.{IsShelf};
+ghost use Rattle.ipmi_bus.specs.Store.{IsStore};
 ghost use Rattle.ipmi_bus.specs.declared.controller.Shelf.TheVariants.{Sdr};
 ghost use Rattle.ipmi_image.specs.Text.{pieces};
 
@@ -198,8 +199,9 @@ impl Image {
     /// Reads an image of version 1 that has sensor data records alone: the line `ipmi-image 1`, lines
     /// `sdr ID NEXT HEX`, and the line `end`, each ended by a line feed.
     pub fn read(alloc: Global, bytes: &[u8]) -> Result<Image, ImageFault>
-        ensures { MatchResult result (λ image. rows_of_text (pieces 10 bytes.now) ≡ Some image)
-            (λ e. (e ≡ ImageFault.Memory) ⊎ ((e ≡ ImageFault.NotRead) × (rows_of_text (pieces 10 bytes.now) ≡ None))) }
+        ensures store { IfOk result (λ image. IsStore (sdr_store image)) }
+        ensures ok { IfOk result (λ image. rows_of_text (pieces 10 bytes.now) ≡ Some image) }
+        ensures err { IfErr result (λ e. (e ≡ ImageFault.Memory) ⊎ ((e ≡ ImageFault.NotRead) × (rows_of_text (pieces 10 bytes.now) ≡ None))) }
     {
         let Some((first, rest)) = cut(bytes, b'\n') else {
             return Err(ImageFault::NotRead);

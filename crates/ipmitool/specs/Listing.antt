@@ -48,7 +48,7 @@ Leaves walk end old new (stop.Ended (Malformed n)) = ⊥
 Leaves walk end old new stop.Memory = HasFirstLines walk old new
 Leaves walk end old new stop.WriteFault = HasCutLine walk old new
 
--- the controller neither was given up nor refused
+-- the listing neither gave up nor was refused
 abbrev pub IsFine : Stop → Type 0
 IsFine stop.Done = Unit {0}
 IsFine (stop.Ended (Cycle n)) = Unit {0}

@@ -1,4 +1,4 @@
-//! The line of a record as `sdr hex` prints it, which is its line in an image.
+//! The line of a record as `sdr hex` prints it: its line in an image, in lower case.
 ghost use Rattle.std.specs.Prelude.{◌≡◌, IfOk, string_bytes};
 ghost use Rattle.ipmi_bus.specs.Lent.{row_of_record};
 ghost use Rattle.ipmitool.specs.Line.{line_of};
