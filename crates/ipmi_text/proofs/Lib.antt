@@ -1,0 +1,5 @@
+pub mod Division
+pub mod FieldLemmas
+pub mod ReadingLemmas
+pub mod TimeLemmas
+pub mod UnitLemmas

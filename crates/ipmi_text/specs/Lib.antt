@@ -1,0 +1,9 @@
+pub mod Chassis
+pub mod Decimal
+pub mod Events
+pub mod FieldText
+pub mod Hex
+pub mod ReadingValue
+pub mod SensorTypes
+pub mod Times
+pub mod Units

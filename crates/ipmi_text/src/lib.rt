@@ -1,6 +1,21 @@
 //! Values and texts that the other crates share: what a sensor answers, and how fields are printed.
 #![tactic(auto)]
 
+mod chassis;
+mod decimal;
+mod events;
+mod field_text;
+mod names;
 mod reading;
+mod sensor_types;
+mod times;
+mod units;
 
+pub use chassis::chassis_text;
+pub use decimal::{Factors, Fixed, convert, fixed_text};
+pub use events::event_text;
+pub use field_text::{fru_text, sdr_text};
 pub use reading::Reading;
+pub use sensor_types::sensor_type_text;
+pub use times::{minutes_text, utc_text};
+pub use units::unit_text;

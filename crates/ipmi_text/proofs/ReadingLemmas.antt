@@ -1,0 +1,34 @@
+-- Bounds on the numbers of the linear formula.
+use Rattle.std.proofs.Common.{◌≡◌, ◌≢◌, ◌==◌, true, false, Some, refl, ◌∙◌, ℕ, ◌*◌, ◌≤◌, ◌<◌, ◌^◌, ℤ, pos, negsuc, neg_ℤ, ◌*ℤ◌, ◌+ℤ◌, ◌≤ℤ◌, ◌<ℤ◌, unsigned_abs, FitsSigned, w32, arith}
+use Rattle.std.specs.Int.{w128}
+use Rattle.std.proofs.Math.Nat.{mul-le-mul, pow-le-pow_right}
+use Rattle.std.proofs.lemmas.Int.{fits_signed_from_abs, fits_signed_mul, ints, unsigned_abs-mul}
+use Rattle.std.proofs.lemmas.Bool.Decides.{nat_tests}
+use Rattle.ipmi_text.specs.ReadingValue.{IsTwosComplement, Linear, raw_number, reading_value, ten_to}
+
+pub ten_le : (e : ℕ) → e ≤ 30 → 10 ^ e ≤ 10 ^ 30
+ten_le e h = pow-le-pow_right (omega arith) h
+
+pub abs_exponent : (z : ℤ) → pos 0 ≤ℤ z → z ≤ℤ pos 30 → unsigned_abs z ≤ 30
+abs_exponent z low high = omega (arith, ints)
+
+pub abs_twos_complement : (half : ℕ) (z : ℤ) → IsTwosComplement half z → unsigned_abs z ≤ half
+abs_twos_complement half z h = let a = h.0 in let b = h.1 in omega (arith, ints)
+
+product_le : (a b m n : ℕ) → a ≤ m → b ≤ n → a * b ≤ m * n
+product_le a b m n h k = mul-le-mul h k
+
+pub abs_product : (a b : ℤ) (m n : ℕ) → unsigned_abs a ≤ m → unsigned_abs b ≤ n → unsigned_abs (a *ℤ b) ≤ m * n
+abs_product a b m n h k = rw unsigned_abs-mul (product_le (unsigned_abs a) (unsigned_abs b) m n h k)
+
+pub sum_fits : (a b : ℤ) → unsigned_abs a ≤ 2 ^ 17 * 10 ^ 30 → unsigned_abs b ≤ 2 ^ 17 * 10 ^ 30 → FitsSigned w128 (a +ℤ b)
+sum_fits a b h k = omega (arith, ints)
+
+-- the value of a linear sensor
+pub value_is : (f : Linear) (raw : ℕ) (x slope offset : ℤ) → f.format ≢ 3 → f.linear ≡ 0 → x ≡ raw_number f.format raw
+    → slope ≡ f.m *ℤ x *ℤ ten_to (f.k2 +ℤ pos 16) → offset ≡ f.b *ℤ ten_to (f.k1 +ℤ (f.k2 +ℤ pos 16))
+    → Some (slope +ℤ offset) ≡ reading_value f raw
+value_is f raw x slope offset analog linear x_is slope_is offset_is =
+    let analog_test : (f.format == 3) ≡ false = grind (arith, nat_tests) in
+    let linear_test : (f.linear == 0) ≡ true = grind (arith, nat_tests) in
+    rw (analog_test, linear_test, slope_is, offset_is, x_is) refl

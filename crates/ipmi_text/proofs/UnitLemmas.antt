@@ -1,0 +1,48 @@
+-- The parts of a unit's text, and the spaces between them.
+use Rattle.std.proofs.Common.{◌≡◌, ◌∙◌, ℕ, ◌≤◌, ◌<◌, ◌+◌, ◌/◌, ◌%◌, suc, List, [], ◌∷◌, ◌++◌, length, ◌==◌, not, ◌&&◌, ◌||◌, Bool, true, false, if◌then◌else◌, codes, refl, ap, append-nil, arith, inl, inr}
+use Rattle.std.specs.Prelude.{filter}
+use Rattle.std.specs.List.{join_with_byte}
+use Rattle.std.proofs.lemmas.Bool.{cases_lt}
+use Rattle.std.proofs.lemmas.Bool.Decides.{nat_tests}
+use Rattle.ipmi_text.specs.Units.{is_not_empty, modifier_part, unit_name}
+
+suc_is_not_zero : (n : ℕ) → (suc n == 0) ≡ false
+suc_is_not_zero n = grind (arith, nat_tests)
+
+pub not_empty_is : (xs : List ℕ) → not (length xs == 0) ≡ is_not_empty xs
+not_empty_is [] = refl
+not_empty_is (x ∷ xs) = ap not (suc_is_not_zero (length xs))
+
+pub not_not : (b : Bool) → not (not b) ≡ b
+not_not true = refl
+not_not false = refl
+
+is_not_empty-append : (xs : List ℕ) (y : ℕ) (ys : List ℕ) → is_not_empty (xs ++ y ∷ ys) ≡ true
+is_not_empty-append [] y ys = refl
+is_not_empty-append (x ∷ xs) y ys = refl
+
+-- a base unit with a modifier is not empty
+pub is_not_empty-modified : (units1 base modifier : ℕ) → 1 ≤ units1 / 2 % 4 → units1 / 2 % 4 < 3 → is_not_empty (unit_name base ++ modifier_part units1 modifier) ≡ true
+is_not_empty-modified units1 base modifier low high = elim (cases_lt (units1 / 2 % 4) 2) [
+  | inl h ↦ let one : units1 / 2 % 4 ≡ 1 = omega arith in rw one (is_not_empty-append (unit_name base) 47 (unit_name modifier))
+  | inr h ↦ let two : units1 / 2 % 4 ≡ 2 = omega arith in rw two (is_not_empty-append (unit_name base) 42 (unit_name modifier))
+]
+
+-- the parts with a space between each two that are there
+joined_parts : (p u r : List ℕ)
+    → p ++ ((if is_not_empty p && is_not_empty u then codes " " else []) ++ (u ++ ((if (is_not_empty p || is_not_empty u) && is_not_empty r then codes " " else []) ++ r)))
+    ≡ join_with_byte 32 (filter is_not_empty (p ∷ u ∷ r ∷ []))
+joined_parts [] [] [] = refl
+joined_parts [] [] (z ∷ zs) = refl
+joined_parts [] (y ∷ ys) [] = rw append-nil refl
+joined_parts [] (y ∷ ys) (z ∷ zs) = refl
+joined_parts (x ∷ xs) [] [] = rw append-nil refl
+joined_parts (x ∷ xs) [] (z ∷ zs) = refl
+joined_parts (x ∷ xs) (y ∷ ys) [] = rw append-nil refl
+joined_parts (x ∷ xs) (y ∷ ys) (z ∷ zs) = refl
+
+pub spaced : (p u r f s : List ℕ)
+    → f ≡ (if is_not_empty p && is_not_empty u then codes " " else [])
+    → s ≡ (if (is_not_empty p || is_not_empty u) && is_not_empty r then codes " " else [])
+    → p ++ (f ++ (u ++ (s ++ r))) ≡ join_with_byte 32 (filter is_not_empty (p ∷ u ∷ r ∷ []))
+spaced p u r f s first second = rw (first, second) (joined_parts p u r)

@@ -1,0 +1,38 @@
+-- The names of chassis types (Platform Management FRU Information Storage Definition v1.0, section 10).
+use Rattle.std.specs.Prelude.{ℕ, ◌-◌, ◌==◌, List, [], ◌∷◌, ◌++◌, codes, Option, None, slice_get, unwrap_or, if◌then◌else◌}
+use Rattle.ipmi_text.specs.Hex.{hex_byte}
+
+-- the names, from type 01h on
+abbrev pub chassis_types : List (List ℕ)
+chassis_types =
+    codes "Other" ∷
+    codes "Unknown" ∷
+    codes "Desktop" ∷
+    codes "Low Profile Desktop" ∷
+    codes "Pizza Box" ∷
+    codes "Mini Tower" ∷
+    codes "Tower" ∷
+    codes "Portable" ∷
+    codes "Laptop" ∷
+    codes "Notebook" ∷
+    codes "Hand Held" ∷
+    codes "Docking Station" ∷
+    codes "All in One" ∷
+    codes "Sub Notebook" ∷
+    codes "Space-saving" ∷
+    codes "Lunch Box" ∷
+    codes "Main Server Chassis" ∷
+    codes "Expansion Chassis" ∷
+    codes "SubChassis" ∷
+    codes "Bus Expansion Chassis" ∷
+    codes "Peripheral Chassis" ∷
+    codes "RAID Chassis" ∷
+    codes "Rack Mount Chassis" ∷ []
+
+-- the name of a type, if it has one
+abbrev pub chassis_name : ℕ → Option (List ℕ)
+chassis_name code = if code == 0 then None else slice_get chassis_types (code - 1)
+
+-- the name, or else `type 0xNN`
+abbrev pub chassis_text_of : ℕ → List ℕ
+chassis_text_of code = unwrap_or (chassis_name code) (codes "type 0x" ++ hex_byte code)

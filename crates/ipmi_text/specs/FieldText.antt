@@ -1,0 +1,81 @@
+-- The texts of type/length fields (Platform Management FRU Information Storage Definition v1.0,
+-- section 13; IPMI v2.0, section 43.15).
+use Rattle.std.specs.Prelude.{ℕ, ◌+◌, ◌*◌, ◌/◌, ◌%◌, ◌^◌, ◌==◌, ◌&&◌, ◌||◌, min, nat_le, Bool, if◌then◌else◌, List, [], ◌∷◌, length, map, take, slice_index, encode_utf8_all, codes}
+use Rattle.std.specs.List.{before_first, range_with_len}
+use Rattle.hex.specs.Hex.{encode_lower}
+
+-- two lower-case hex digits for each byte
+abbrev pub binary_text : List ℕ → List ℕ
+binary_text bytes = encode_lower bytes
+
+-- the nibbles of the bytes, high before low
+abbrev pub nibbles : List ℕ → List ℕ
+nibbles [] = []
+nibbles (b ∷ bs) = b / 16 ∷ b % 16 ∷ nibbles bs
+
+-- the characters of BCD plus, by their nibble
+abbrev pub bcd_plus_character : ℕ → ℕ
+bcd_plus_character nibble = slice_index (codes "0123456789 -.:,_") nibble
+
+abbrev pub bcd_plus_text : List ℕ → List ℕ
+bcd_plus_text bytes = map bcd_plus_character (nibbles bytes)
+
+-- the bytes as one number, the low byte first
+abbrev pub number_of : List ℕ → ℕ
+number_of [] = 0
+number_of (b ∷ bs) = b + 256 * number_of bs
+
+-- character i is digit i of that number to the base 64, from the lowest on, plus 20h
+abbrev pub six_bit_character : List ℕ → ℕ → ℕ
+six_bit_character bytes i = number_of bytes / 64 ^ i % 64 + 0x20
+
+-- as many characters as six bits fit whole into the bytes
+unfoldable pub six_bit_text : List ℕ → List ℕ
+six_bit_text bytes = map (six_bit_character bytes) (range_with_len 0 (8 * length bytes / 6))
+
+-- the character that a byte of 8-bit ASCII and Latin-1 prints as: itself where it prints, else `.`
+abbrev pub latin1_character : ℕ → ℕ
+latin1_character b = if (nat_le 0x20 b && nat_le b 0x7e) || nat_le 0xa0 b then b else 46
+
+-- the characters before the first 00h, in UTF-8
+abbrev pub latin1_text : List ℕ → List ℕ
+latin1_text bytes = encode_utf8_all (map latin1_character (before_first (λ b. b == 0) bytes))
+
+-- English, by the two codes that the standard has for it
+abbrev pub is_english : ℕ → Bool
+is_english language = (language == 0) || (language == 25)
+
+-- the text of a FRU field by bits 7:6 of its type/length byte
+abbrev pub fru_text_of : ℕ → ℕ → List ℕ → List ℕ
+fru_text_of code language bytes =
+    if code == 1 then bcd_plus_text bytes
+    else if code == 2 then six_bit_text bytes
+    else if (code == 3) && is_english language then latin1_text bytes
+    else binary_text bytes
+
+-- the kind of a sensor record's ID string, bits 7:6 of its type/length byte, and the count, bits 4:0
+abbrev pub id_kind : ℕ → ℕ
+id_kind tl = tl / 64
+
+abbrev pub id_count : ℕ → ℕ
+id_count tl = tl % 32
+
+-- how many bytes the count asks for: as many for Unicode and for 8-bit ASCII, four bits for each
+-- character of BCD plus, six for each of 6-bit ASCII, in whole bytes
+abbrev pub bytes_wanted : ℕ → ℕ
+bytes_wanted tl =
+    if id_kind tl == 1 then (id_count tl + 1) / 2
+    else if id_kind tl == 2 then (6 * id_count tl + 7) / 8
+    else id_count tl
+
+-- the bytes that are used: those wanted, of which 16 at most, as far as they are there
+abbrev pub bytes_used : ℕ → List ℕ → List ℕ
+bytes_used tl rest = take (min (bytes_wanted tl) 16) rest
+
+-- the text of a sensor record's ID string by its type/length byte and the bytes after it
+abbrev pub sdr_text_of : ℕ → List ℕ → List ℕ
+sdr_text_of tl rest =
+    if id_kind tl == 0 then binary_text (bytes_used tl rest)
+    else if id_kind tl == 1 then take (id_count tl) (bcd_plus_text (bytes_used tl rest))
+    else if id_kind tl == 2 then take (id_count tl) (six_bit_text (bytes_used tl rest))
+    else latin1_text (bytes_used tl rest)

@@ -1,0 +1,43 @@
+-- The value of a raw reading by the linear formula (IPMI v2.0, section 36.3), in units of 10^-16.
+use Rattle.std.specs.Prelude.{ℕ, ◌+◌, ◌≤◌, ◌^◌, ◌==◌, ◌||◌, nat_lt, not, if◌then◌else◌, ℤ, pos, negsuc, ◌+ℤ◌, ◌-ℤ◌, ◌*ℤ◌, ◌≤ℤ◌, ◌<ℤ◌, neg_ℤ, unsigned_abs, Option, Some, None}
+
+-- the factors of a sensor's formula
+pub record Linear : Type 0 where
+  pub format : ℕ
+  pub linear : ℕ
+  pub m : ℤ
+  pub b : ℤ
+  pub k1 : ℤ
+  pub k2 : ℤ
+
+-- a number of 2's complement, of which there are `half` below 0 and as many from 0 on
+abbrev pub IsTwosComplement : ℕ → ℤ → Type 0
+IsTwosComplement half z = (neg_ℤ (pos half) ≤ℤ z) × (z <ℤ pos half)
+
+-- the ranges that the bits of a full sensor record leave: a format of 2 bits, a linearization of 7,
+-- M and B of 10 in 2's complement, and both exponents of 4 in 2's complement
+pub record HasRanges (factors : Linear) : Type 0 where
+  pub format : factors.format ≤ 3
+  pub linear : factors.linear ≤ 127
+  pub m : IsTwosComplement 512 factors.m
+  pub b : IsTwosComplement 512 factors.b
+  pub k1 : IsTwosComplement 8 factors.k1
+  pub k2 : IsTwosComplement 8 factors.k2
+
+-- the number that a raw byte stands for: unsigned (format 0), in 1's complement (1) or in 2's (2)
+abbrev pub raw_number : ℕ → ℕ → ℤ
+raw_number format raw =
+    if (format == 0) || nat_lt raw 128 then pos raw
+    else if format == 1 then pos raw -ℤ pos 255
+    else pos raw -ℤ pos 256
+
+-- ten to a power that is not below 0
+abbrev pub ten_to : ℤ → ℤ
+ten_to exponent = pos (10 ^ unsigned_abs exponent)
+
+-- (M x + B 10^K1) 10^K2, in units of 10^-16: none where the sensor has no analog reading (format 3)
+-- or is not linear
+abbrev pub reading_value : Linear → ℕ → Option ℤ
+reading_value f raw =
+    if (f.format == 3) || not (f.linear == 0) then None
+    else Some ((f.m *ℤ raw_number f.format raw) *ℤ ten_to (f.k2 +ℤ pos 16) +ℤ f.b *ℤ ten_to (f.k1 +ℤ (f.k2 +ℤ pos 16)))

@@ -1,0 +1,59 @@
+-- The names of sensor types (IPMI v2.0, table 42-3).
+use Rattle.std.specs.Prelude.{ℕ, ◌-◌, ◌==◌, List, [], ◌∷◌, ◌++◌, codes, Option, None, slice_get, unwrap_or, if◌then◌else◌}
+use Rattle.ipmi_text.specs.Hex.{hex_byte}
+
+-- the names, from type 01h on
+abbrev pub sensor_types : List (List ℕ)
+sensor_types =
+    codes "Temperature" ∷
+    codes "Voltage" ∷
+    codes "Current" ∷
+    codes "Fan" ∷
+    codes "Physical Security" ∷
+    codes "Platform Security" ∷
+    codes "Processor" ∷
+    codes "Power Supply" ∷
+    codes "Power Unit" ∷
+    codes "Cooling Device" ∷
+    codes "Other Units-based Sensor" ∷
+    codes "Memory" ∷
+    codes "Drive Slot" ∷
+    codes "POST Memory Resize" ∷
+    codes "System Firmware Progress" ∷
+    codes "Event Logging Disabled" ∷
+    codes "Watchdog 1" ∷
+    codes "System Event" ∷
+    codes "Critical Interrupt" ∷
+    codes "Button" ∷
+    codes "Module" ∷
+    codes "Microcontroller" ∷
+    codes "Add-in Card" ∷
+    codes "Chassis" ∷
+    codes "Chip Set" ∷
+    codes "Other FRU" ∷
+    codes "Cable" ∷
+    codes "Terminator" ∷
+    codes "System Boot Initiated" ∷
+    codes "Boot Error" ∷
+    codes "OS Boot" ∷
+    codes "OS Stop" ∷
+    codes "Slot" ∷
+    codes "System ACPI Power State" ∷
+    codes "Watchdog 2" ∷
+    codes "Platform Alert" ∷
+    codes "Entity Presence" ∷
+    codes "Monitor ASIC" ∷
+    codes "LAN" ∷
+    codes "Management Subsystem Health" ∷
+    codes "Battery" ∷
+    codes "Session Audit" ∷
+    codes "Version Change" ∷
+    codes "FRU State" ∷ []
+
+-- the name of a type, if it has one
+abbrev pub sensor_type_name : ℕ → Option (List ℕ)
+sensor_type_name code = if code == 0 then None else slice_get sensor_types (code - 1)
+
+-- the name, or else `sensor type 0xNN`
+abbrev pub sensor_type_text_of : ℕ → List ℕ
+sensor_type_text_of code = unwrap_or (sensor_type_name code) (codes "sensor type 0x" ++ hex_byte code)

@@ -1,0 +1,40 @@
+-- The texts of points in time, all in UTC.
+use Rattle.std.specs.Prelude.{◌≡◌, ℕ, ◌+◌, ◌<◌, ◌≤◌, ◌/◌, ◌%◌, List, [], ◌∷◌, ◌++◌, ℤ, pos, ◌+ℤ◌, codes}
+use Rattle.std.specs.Fmt.{decimal}
+use Rattle.jiff.specs.Words.{date_text, epoch_day}
+use Rattle.jiff.specs.declared.civil.Date.{Date}
+
+-- a number below 100 in two digits
+abbrev pub two_digits : ℕ → List ℕ
+two_digits n = (48 + n / 10) ∷ (48 + n % 10) ∷ []
+
+-- HH:MM of a minute of the day
+abbrev pub minute_text : ℕ → List ℕ
+minute_text minute = two_digits (minute / 60) ++ (codes ":" ++ two_digits (minute % 60))
+
+-- HH:MM:SS of a second of the day
+abbrev pub second_text : ℕ → List ℕ
+second_text second = minute_text (second / 60) ++ (codes ":" ++ two_digits (second % 60))
+
+-- the text is jiff's date of a day number, counted from 1970-01-01, then a space and a time of day
+pub record IsMoment (day : ℕ) (time text : List ℕ) : Type 0 where
+  pub date : Date
+  pub day_is : epoch_day date ≡ pos day
+  pub text_is : text ≡ date_text date ++ (codes " " ++ time)
+
+-- a time stamp in seconds from 1970-01-01 00:00:00, of which FFFFFFFFh and those up to 20000000h are
+-- none (IPMI v2.0, section 37)
+pub record IsUtcTextOf (seconds : ℕ) (text : List ℕ) : Type 0 where
+  pub unspecified : seconds ≡ 0xffff_ffff → text ≡ codes "unspecified"
+  pub since_start : seconds ≤ 0x2000_0000 → text ≡ codes "+" ++ (decimal seconds ++ codes " s")
+  pub moment : 0x2000_0000 < seconds → seconds < 0xffff_ffff → IsMoment (seconds / 86_400) (second_text (seconds % 86_400)) text
+
+-- the day number of 1996-01-01
+abbrev pub first_fru_day : ℕ
+first_fru_day = 9496
+
+-- a time stamp in minutes from 1996-01-01 00:00, of which 0 is none (Platform Management FRU
+-- Information Storage Definition v1.0, section 11)
+pub record IsMinutesTextOf (minutes : ℕ) (text : List ℕ) : Type 0 where
+  pub unspecified : minutes ≡ 0 → text ≡ codes "unspecified"
+  pub moment : 0 < minutes → IsMoment (first_fru_day + minutes / 1440) (minute_text (minutes % 1440)) text

@@ -1,0 +1,59 @@
+//! The names of chassis types.
+ghost use Rattle.std.specs.Prelude.{◌≡◌, IfOk, option_map, string_bytes};
+ghost use Rattle.ipmi_text.specs.Chassis.{chassis_name, chassis_text_of};
+
+use crate::names::{HexByte, entry};
+use std::alloc::{AllocError, Global};
+
+/// The names, from type 01h on (Platform Management FRU Information Storage Definition v1.0,
+/// section 10).
+const CHASSIS_TYPES: [&str; 23] = [
+    "Other",
+    "Unknown",
+    "Desktop",
+    "Low Profile Desktop",
+    "Pizza Box",
+    "Mini Tower",
+    "Tower",
+    "Portable",
+    "Laptop",
+    "Notebook",
+    "Hand Held",
+    "Docking Station",
+    "All in One",
+    "Sub Notebook",
+    "Space-saving",
+    "Lunch Box",
+    "Main Server Chassis",
+    "Expansion Chassis",
+    "SubChassis",
+    "Bus Expansion Chassis",
+    "Peripheral Chassis",
+    "RAID Chassis",
+    "Rack Mount Chassis",
+];
+
+/// The name of a chassis type, where it has one.
+fn chassis_name(code: u8) -> Option<&'static str>
+    ensures { option_map (λ s. s.now) result ≡ chassis_name code }
+{
+    if code == 0 {
+        None
+    } else {
+        entry(CHASSIS_TYPES.as_slice(), code as usize - 1)
+    }
+}
+
+/// The name of a chassis type (Platform Management FRU Information Storage Definition v1.0,
+/// section 10), or `type 0xNN` where it has none.
+pub fn chassis_text(alloc: Global, code: u8) -> Result<String, AllocError>
+    ensures { IfOk result (λ text. string_bytes text ≡ chassis_text_of code) }
+{
+    match chassis_name(code) {
+        Some(name) => String::from_str(alloc, name),
+        None => {
+            let code = HexByte(code);
+            format!(in alloc; "type 0x{code}")
+        }
+    }
+}

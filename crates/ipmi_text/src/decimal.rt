@@ -1,0 +1,153 @@
+//! The values of readings, by the factors of a sensor's record, and their exact decimal texts.
+ghost use Rattle.std.specs.Prelude.{◌≡◌, ◌≤◌, ◌<◌, ◌^◌, ◌↔◌, ◌≤ℤ◌, ◌*ℤ◌, ◌*◌, pos, IfOk, IfSome, IsSome, IsTrue, OnOk, option_map, string_bytes, unsigned_abs};
+ghost use Rattle.ipmi_text.specs.Decimal.{AppendsFraction, IsDecimalOf, sign_of};
+ghost use Rattle.ipmi_text.specs.ReadingValue.{HasRanges, IsTwosComplement, Linear, raw_number, reading_value, ten_to};
+
+use std::alloc::{AllocError, Global};
+use std::marker::Model;
+
+/// A number in units of 10^-16.
+#[derive(Clone, Copy, Debug, PartialEq, Eq)]
+pub struct Fixed(pub i128);
+
+/// 1 in units of 10^-16.
+const ONE: u64 = 10_000_000_000_000_000;
+
+/// The factors by which a full sensor record turns a raw reading into a value (IPMI v2.0, section
+/// 36.3 and table 43-1). Contracts see them as a record of their numbers.
+#[derive(Clone, Copy, Debug, PartialEq, Eq)]
+pub struct Factors {
+    format: u8,
+    linear: u8,
+    m: i16,
+    b: i16,
+    k1: i8,
+    k2: i8,
+}
+
+impl Model for Factors {
+    ghost Value = { Linear };
+
+    ghost view = { λ f. record { format = f.format; linear = f.linear; m = f.m; b = f.b; k1 = f.k1; k2 = f.k2 } };
+
+    ghost invariant = { λ f. HasRanges (record { format = f.format; linear = f.linear; m = f.m; b = f.b; k1 = f.k1; k2 = f.k2 }) };
+
+    ghost inverse = { λ f. record { format = f.format; linear = f.linear; m = f.m; b = f.b; k1 = f.k1; k2 = f.k2 } };
+}
+
+impl Factors {
+    /// The factors of a sensor: the analog data format, the linearization, M, B, the exponent K1 of
+    /// B and the exponent K2 of the result. None where one of them is outside the range that its
+    /// bits in the record leave.
+    pub fn new(format: u8, linear: u8, m: i16, b: i16, k1: i8, k2: i8) -> Option<Factors>
+        ensures some { IsSome result ↔ HasRanges (record { format = format; linear = linear; m = m; b = b; k1 = k1; k2 = k2 }) }
+        ensures value { IfSome result (λ f. f ≡ record { format = format; linear = linear; m = m; b = b; k1 = k1; k2 = k2 }) }
+    {
+        if format <= 3
+            && linear <= 127
+            && is_twos_complement(m, 512)
+            && is_twos_complement(b, 512)
+            && is_twos_complement(k1 as i16, 8)
+            && is_twos_complement(k2 as i16, 8)
+        {
+            Some(Factors {
+                format,
+                linear,
+                m,
+                b,
+                k1,
+                k2,
+            })
+        } else {
+            None
+        }
+    }
+}
+
+/// Whether a number is one of 2's complement, of which there are `half` below 0.
+fn is_twos_complement(number: i16, half: u16) -> bool
+    ensures { IsTrue result ↔ IsTwosComplement half number }
+{
+    let half = half as i32;
+    let number = number as i32;
+    -half <= number && number < half
+}
+
+/// The number that a raw byte stands for in an analog data format.
+fn raw_number(format: u8, raw: u8) -> i32
+    ensures value { result ≡ raw_number format raw }
+    ensures size { unsigned_abs result ≤ 2 ^ 8 }
+{
+    if format == 0 || raw < 128 {
+        raw as i32
+    } else if format == 1 {
+        raw as i32 - 255
+    } else {
+        raw as i32 - 256
+    }
+}
+
+/// A number times a power of ten.
+fn scaled(number: i32, exponent: i32) -> i128
+    requires number { unsigned_abs number ≤ 2 ^ 17 }
+    requires low { pos 0 ≤ℤ exponent }
+    requires high { exponent ≤ℤ pos 30 }
+    ensures value { result ≡ number *ℤ ten_to exponent }
+    ensures size { unsigned_abs result ≤ 2 ^ 17 * 10 ^ 30 }
+{
+    number as i128 * 10i128.pow(exponent as u32)
+}
+
+/// The value of a raw reading, M x 10^(K2+16) + B 10^(K1+K2+16) units of 10^-16, with x the raw byte
+/// by its format (IPMI v2.0, section 36.3). None where the sensor has no analog reading (format 3) or
+/// is not linear.
+pub fn convert(f: &Factors, raw: u8) -> Option<Fixed>
+    ensures { option_map (λ value. value.0) result ≡ reading_value f.now raw }
+{
+    if f.format == 3 || f.linear != 0 {
+        return None;
+    }
+    let result_exponent = f.k2 as i32 + 16;
+    let slope = scaled(f.m as i32 * raw_number(f.format, raw), result_exponent);
+    let offset = scaled(f.b as i32, f.k1 as i32 + result_exponent);
+    Some(Fixed(slope + offset))
+}
+
+/// A minus sign below zero, and else nothing.
+fn sign(value: i128) -> &'static str
+    ensures { result.now ≡ sign_of value }
+{
+    if value < 0 { "-" } else { "" }
+}
+
+/// Appends a point and the digits of a fraction, with no zero at their end. Nothing for 0.
+fn push_fraction(text: &mut String, fraction: u64) -> Result<(), AllocError>
+    requires { fraction < 10 ^ 16 }
+    ensures { OnOk result (AppendsFraction fraction (string_bytes text.old) (string_bytes text.new)) }
+{
+    if fraction == 0 {
+        return Ok(());
+    }
+    text.push('.')?;
+    let mut place = ONE;
+    let mut rest = fraction;
+    while rest != 0 {
+        place /= 10;
+        text.push((b'0' + (rest / place) as u8) as char)?;
+        rest %= place;
+    }
+    Ok(())
+}
+
+/// The shortest exact decimal of a value. Contracts say what its sign and digits are, and the module
+/// `laws` that there is no other.
+pub fn fixed_text(alloc: Global, value: Fixed) -> Result<String, AllocError>
+    ensures { IfOk result (λ text. IsDecimalOf value.0 (string_bytes text)) }
+{
+    let size = value.0.unsigned_abs();
+    let sign = sign(value.0);
+    let whole = size / ONE as u128;
+    let mut text = format!(in alloc; "{sign}{whole}")?;
+    push_fraction(&mut text, (size % ONE as u128) as u64)?;
+    Ok(text)
+}

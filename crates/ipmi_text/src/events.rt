@@ -1,0 +1,70 @@
+//! The words of events.
+ghost use Rattle.std.specs.Prelude.{◌≡◌, ◌<◌, IfOk, option_map, string_bytes};
+ghost use Rattle.ipmi_text.specs.Events.{event_name, event_text_of};
+
+use crate::names::{HexByte, entry};
+use std::alloc::{AllocError, Global};
+use std::fmt;
+
+/// The offsets of a threshold event, from 0 on (IPMI v2.0, table 42-2).
+const THRESHOLD_EVENTS: [&str; 12] = [
+    "Lower Non-critical going low",
+    "Lower Non-critical going high",
+    "Lower Critical going low",
+    "Lower Critical going high",
+    "Lower Non-recoverable going low",
+    "Lower Non-recoverable going high",
+    "Upper Non-critical going low",
+    "Upper Non-critical going high",
+    "Upper Critical going low",
+    "Upper Critical going high",
+    "Upper Non-recoverable going low",
+    "Upper Non-recoverable going high",
+];
+
+/// A number below 16, printed as one lower-case hex digit.
+#[derive(Clone, Copy, Debug)]
+struct HexDigit {
+    value: u8,
+    ghost below: { value < 16 },
+}
+
+impl fmt::Display for HexDigit {
+    ghost use Rattle.std.specs.Prelude.{Some, [], ◌∷◌, false};
+    ghost use Rattle.std.specs.Fmt.{digit_glyph};
+
+    ghost output = { λ digit. Some (digit_glyph false digit.value ∷ []) };
+
+    #[tactic(auto, using(std::proofs::lemmas::Fmt::hex_one_digit))]
+    fn fmt<W: fmt::Write>(&self, f: &mut fmt::Formatter<W>) -> fmt::Result {
+        let value = self.value;
+        write!(f, "{value:x}")
+    }
+}
+
+/// The words of an event, which only threshold events (type 01h) have.
+fn event_name(event: u8, offset: u8) -> Option<&'static str>
+    ensures { option_map (λ s. s.now) result ≡ event_name event offset }
+{
+    if event == 0x01 {
+        entry(THRESHOLD_EVENTS.as_slice(), offset as usize)
+    } else {
+        None
+    }
+}
+
+/// The words of an event, by its event/reading type code and its first data byte, whose bits 3:0
+/// are the offset (IPMI v2.0, sections 42.1 and 42.2), or `event 0xTT offset 0xO` where it has none.
+pub fn event_text(alloc: Global, event: u8, data1: u8) -> Result<String, AllocError>
+    ensures { IfOk result (λ text. string_bytes text ≡ event_text_of event data1) }
+{
+    let offset = data1 % 16;
+    match event_name(event, offset) {
+        Some(name) => String::from_str(alloc, name),
+        None => {
+            let event = HexByte(event);
+            let offset = HexDigit { value: offset };
+            format!(in alloc; "event 0x{event} offset 0x{offset}")
+        }
+    }
+}

@@ -1,0 +1,155 @@
+//! The texts of type/length fields.
+ghost use Rattle.std.specs.Prelude.{◌≡◌, ◌<◌, ◌≤◌, ◌++◌, IfOk, IsAscii, IsTrue, OnOk, length, slice_index, string_bytes, take};
+ghost use Rattle.ipmi_text.specs.FieldText.{bcd_plus_character, bcd_plus_text, bytes_used, fru_text_of, is_english, latin1_character, latin1_text, sdr_text_of, six_bit_text};
+
+use std::alloc::{AllocError, Global};
+
+/// The characters of BCD plus, by their nibble.
+const BCD_PLUS: &[u8; 16] = b"0123456789 -.:,_";
+
+/// The most bytes that the ID string of a sensor record has.
+const ID_BYTES: usize = 16;
+
+/// The character of a nibble in BCD plus.
+fn bcd_plus_character(nibble: u8) -> u8
+    requires { nibble < 16 }
+    ensures value { result ≡ bcd_plus_character nibble }
+    ensures ascii { result < 128 }
+{
+    BCD_PLUS[nibble as usize]
+}
+
+/// BCD plus: each byte is two characters, the high nibble first.
+fn bcd_plus_text(alloc: Global, bytes: &[u8]) -> Result<String, AllocError>
+    ensures { IfOk result (λ text. string_bytes text ≡ bcd_plus_text bytes.now) }
+{
+    let mut text = String::new(alloc);
+    for byte in bytes {
+        text.push(bcd_plus_character(byte / 16) as char)?;
+        text.push(bcd_plus_character(byte % 16) as char)?;
+    }
+    Ok(text)
+}
+
+/// The byte at a place, or 0 past the end.
+fn byte_at(bytes: &[u8], at: usize) -> u32
+    ensures value { result ≡ slice_index bytes.now at }
+    ensures range { result < 256 }
+{
+    match bytes.get(at) {
+        Some(byte) => *byte as u32,
+        None => 0,
+    }
+}
+
+/// Appends the characters of at most three bytes, low first, in groups of six bits.
+fn push_six_bit(text: &mut String, bytes: &[u8]) -> Result<(), AllocError>
+    requires { length bytes.now ≤ 3 }
+    ensures { OnOk result (string_bytes text.new ≡ string_bytes text.old ++ six_bit_text bytes.now) }
+{
+    let number = byte_at(bytes, 0) + (byte_at(bytes, 1) << 8) + (byte_at(bytes, 2) << 16);
+    for i in 0..8 * bytes.len() / 6 {
+        text.push(((number >> (6 * i)) % 64 + 0x20) as u8 as char)?;
+    }
+    Ok(())
+}
+
+/// 6-bit ASCII: four characters stand in three bytes.
+fn six_bit_text(alloc: Global, bytes: &[u8]) -> Result<String, AllocError>
+    ensures { IfOk result (λ text. string_bytes text ≡ six_bit_text bytes.now) }
+{
+    let mut text = String::new(alloc);
+    let mut rest = bytes;
+    while !rest.is_empty() {
+        let whole = rest.len().min(3);
+        push_six_bit(&mut text, &rest[..whole])?;
+        rest = &rest[whole..];
+    }
+    Ok(text)
+}
+
+/// The character that a byte of 8-bit ASCII and Latin-1 prints as.
+fn latin1_character(byte: u8) -> u8
+    ensures { result ≡ latin1_character byte }
+{
+    match byte {
+        0x20..=0x7e | 0xa0..=0xff => byte,
+        _ => b'.',
+    }
+}
+
+/// 8-bit ASCII and Latin-1, as far as the first 00h.
+fn latin1_text(alloc: Global, bytes: &[u8]) -> Result<String, AllocError>
+    ensures { IfOk result (λ text. string_bytes text ≡ latin1_text bytes.now) }
+{
+    let mut text = String::new(alloc);
+    for byte in bytes {
+        if *byte == 0 {
+            return Ok(text);
+        }
+        text.push(latin1_character(*byte) as char)?;
+    }
+    Ok(text)
+}
+
+/// Whether a language code stands for English, for which the standard has two.
+fn is_english(language: u8) -> bool
+    ensures { result ≡ is_english language }
+{
+    language == 0 || language == 25
+}
+
+/// The text of a field of a FRU area (Platform Management FRU Information Storage Definition v1.0,
+/// section 13), by bits 7:6 of its type/length byte: hex (0), BCD plus (1), 6-bit ASCII (2), and 8-bit
+/// ASCII and Latin-1 where the area's language is English, else hex (3).
+pub fn fru_text(alloc: Global, code: u8, language: u8, bytes: &[u8]) -> Result<String, AllocError>
+    requires { code < 4 }
+    ensures { IfOk result (λ text. string_bytes text ≡ fru_text_of code language bytes.now) }
+{
+    match code {
+        1 => bcd_plus_text(alloc, bytes),
+        2 => six_bit_text(alloc, bytes),
+        3 if is_english(language) => latin1_text(alloc, bytes),
+        _ => hex::encode(alloc, bytes),
+    }
+}
+
+/// The bytes of an ID string: those that its type/length byte asks for, of which 16 at most, as far
+/// as they are there.
+fn bytes_used(tl: u8, rest: &[u8]) -> &[u8]
+    ensures { result.now ≡ bytes_used tl rest.now }
+{
+    let count = (tl % 32) as usize;
+    let wanted = match tl / 64 {
+        1 => (count + 1) / 2,
+        2 => (6 * count + 7) / 8,
+        _ => count,
+    };
+    &rest[..wanted.min(ID_BYTES).min(rest.len())]
+}
+
+/// The first characters of an ASCII text.
+fn first_characters(text: String, count: usize) -> String
+    requires { IsAscii (string_bytes text) }
+    ensures { string_bytes result ≡ take count (string_bytes text) }
+{
+    let mut text = text;
+    text.truncate(count);
+    text
+}
+
+/// The text of a sensor record's ID string (IPMI v2.0, section 43.15), by its type/length byte and
+/// all bytes after it: hex for Unicode (type 0), BCD plus (1), 6-bit ASCII (2), and 8-bit ASCII and
+/// Latin-1 (3).
+pub fn sdr_text(alloc: Global, tl: u8, rest: &[u8]) -> Result<String, AllocError>
+    ensures { IfOk result (λ text. string_bytes text ≡ sdr_text_of tl rest.now) }
+{
+    let bytes = bytes_used(tl, rest);
+    let count = (tl % 32) as usize;
+    match tl / 64 {
+        0 => hex::encode(alloc, bytes),
+        1 => Ok(first_characters(bcd_plus_text(alloc, bytes)?, count)),
+        2 => Ok(first_characters(six_bit_text(alloc, bytes)?, count)),
+        _ => latin1_text(alloc, bytes),
+    }
+}

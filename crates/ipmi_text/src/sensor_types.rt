@@ -1,0 +1,78 @@
+//! The names of sensor types.
+ghost use Rattle.std.specs.Prelude.{◌≡◌, IfOk, option_map, string_bytes};
+ghost use Rattle.ipmi_text.specs.SensorTypes.{sensor_type_name, sensor_type_text_of};
+
+use crate::names::{HexByte, entry};
+use std::alloc::{AllocError, Global};
+
+/// The names, from type 01h on (IPMI v2.0, table 42-3).
+const SENSOR_TYPES: [&str; 44] = [
+    "Temperature",
+    "Voltage",
+    "Current",
+    "Fan",
+    "Physical Security",
+    "Platform Security",
+    "Processor",
+    "Power Supply",
+    "Power Unit",
+    "Cooling Device",
+    "Other Units-based Sensor",
+    "Memory",
+    "Drive Slot",
+    "POST Memory Resize",
+    "System Firmware Progress",
+    "Event Logging Disabled",
+    "Watchdog 1",
+    "System Event",
+    "Critical Interrupt",
+    "Button",
+    "Module",
+    "Microcontroller",
+    "Add-in Card",
+    "Chassis",
+    "Chip Set",
+    "Other FRU",
+    "Cable",
+    "Terminator",
+    "System Boot Initiated",
+    "Boot Error",
+    "OS Boot",
+    "OS Stop",
+    "Slot",
+    "System ACPI Power State",
+    "Watchdog 2",
+    "Platform Alert",
+    "Entity Presence",
+    "Monitor ASIC",
+    "LAN",
+    "Management Subsystem Health",
+    "Battery",
+    "Session Audit",
+    "Version Change",
+    "FRU State",
+];
+
+/// The name of a sensor type, where it has one.
+fn sensor_type_name(code: u8) -> Option<&'static str>
+    ensures { option_map (λ s. s.now) result ≡ sensor_type_name code }
+{
+    if code == 0 {
+        None
+    } else {
+        entry(SENSOR_TYPES.as_slice(), code as usize - 1)
+    }
+}
+
+/// The name of a sensor type (IPMI v2.0, table 42-3), or `sensor type 0xNN` where it has none.
+pub fn sensor_type_text(alloc: Global, code: u8) -> Result<String, AllocError>
+    ensures { IfOk result (λ text. string_bytes text ≡ sensor_type_text_of code) }
+{
+    match sensor_type_name(code) {
+        Some(name) => String::from_str(alloc, name),
+        None => {
+            let code = HexByte(code);
+            format!(in alloc; "sensor type 0x{code}")
+        }
+    }
+}

@@ -1,0 +1,104 @@
+//! The texts of points in time.
+ghost use Rattle.std.specs.Prelude.{◌≡◌, ◌+◌, ◌/◌, ◌%◌, ◌<◌, ◌≤◌, ◌^◌, IfOk, string_bytes, pos};
+ghost use Rattle.jiff.specs.Words.{epoch_day};
+ghost use Rattle.ipmi_text.specs.Times.{IsMinutesTextOf, IsMoment, IsUtcTextOf, first_fru_day, minute_text, second_text};
+
+use jiff::ToSpan;
+use jiff::civil::{Date, date};
+use std::alloc::{AllocError, Global};
+use std::fmt;
+
+/// The day number of 1996-01-01, counted from 1970-01-01.
+const FIRST_FRU_DAY: u32 = 9496;
+
+const SECONDS_OF_DAY: u32 = 86_400;
+
+const MINUTES_OF_DAY: u32 = 1440;
+
+/// The last time stamp that counts from the start of the controller's clock.
+const LAST_SINCE_START: u32 = 0x2000_0000;
+
+/// A number below 100, printed in two digits.
+#[derive(Clone, Copy, Debug)]
+struct TwoDigits {
+    value: u32,
+    ghost below: { value < 100 },
+}
+
+impl fmt::Display for TwoDigits {
+    ghost use Rattle.std.specs.Prelude.{Some};
+    ghost use Rattle.ipmi_text.specs.Times.{two_digits};
+
+    ghost output = { λ number. Some (two_digits number.value) };
+
+    #[tactic(auto, using(crate::proofs::TimeLemmas::two_digits_padded))]
+    fn fmt<W: fmt::Write>(&self, f: &mut fmt::Formatter<W>) -> fmt::Result {
+        let value = self.value;
+        write!(f, "{value:02}")
+    }
+}
+
+/// The date so many days after 1970-01-01.
+fn date_of_day(day: u32) -> Date
+    requires { day < 100000 }
+    ensures { epoch_day result ≡ pos day }
+{
+    date(1970, 1, 1).checked_add((day as i64).days()).unwrap()
+}
+
+/// `YYYY-MM-DD HH:MM:SS` of so many seconds after 1970-01-01 00:00:00.
+fn text_to_second(alloc: Global, seconds: u32) -> Result<String, AllocError>
+    ensures { IfOk result (λ text. IsMoment (seconds / 86_400) (second_text (seconds % 86_400)) (string_bytes text)) }
+{
+    let date = date_of_day(seconds / SECONDS_OF_DAY);
+    let second = seconds % SECONDS_OF_DAY;
+    let hour = TwoDigits {
+        value: second / 60 / 60,
+    };
+    let minute = TwoDigits {
+        value: second / 60 % 60,
+    };
+    let second = TwoDigits { value: second % 60 };
+    format!(in alloc; "{date} {hour}:{minute}:{second}")
+}
+
+/// `YYYY-MM-DD HH:MM` of so many minutes after 1996-01-01 00:00.
+fn text_to_minute(alloc: Global, minutes: u32) -> Result<String, AllocError>
+    requires { minutes < 2 ^ 24 }
+    ensures { IfOk result (λ text. IsMoment (first_fru_day + minutes / 1440) (minute_text (minutes % 1440)) (string_bytes text)) }
+{
+    let date = date_of_day(FIRST_FRU_DAY + minutes / MINUTES_OF_DAY);
+    let minute = minutes % MINUTES_OF_DAY;
+    let hour = TwoDigits { value: minute / 60 };
+    let minute = TwoDigits { value: minute % 60 };
+    format!(in alloc; "{date} {hour}:{minute}")
+}
+
+/// The text of a time stamp of the event log, in seconds (IPMI v2.0, section 37): `unspecified` for
+/// FFFFFFFFh, `+N s` up to 20000000h, which count from the start of the controller's clock, and else
+/// `YYYY-MM-DD HH:MM:SS` in UTC.
+pub fn utc_text(alloc: Global, seconds: u32) -> Result<String, AllocError>
+    ensures { IfOk result (λ text. IsUtcTextOf seconds (string_bytes text)) }
+{
+    if seconds == u32::MAX {
+        String::from_str(alloc, "unspecified")
+    } else if seconds <= LAST_SINCE_START {
+        format!(in alloc; "+{seconds} s")
+    } else {
+        text_to_second(alloc, seconds)
+    }
+}
+
+/// The text of a board's manufacturing date, in minutes from 1996-01-01 00:00 (Platform Management FRU
+/// Information Storage Definition v1.0, section 11): `unspecified` for 0, and else `YYYY-MM-DD HH:MM`
+/// in UTC.
+pub fn minutes_text(alloc: Global, minutes: u32) -> Result<String, AllocError>
+    requires { minutes ≤ 0xff_ffff }
+    ensures { IfOk result (λ text. IsMinutesTextOf minutes (string_bytes text)) }
+{
+    if minutes == 0 {
+        String::from_str(alloc, "unspecified")
+    } else {
+        text_to_minute(alloc, minutes)
+    }
+}

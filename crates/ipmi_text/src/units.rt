@@ -1,0 +1,153 @@
+//! The units of a sensor's readings.
+ghost use Rattle.std.specs.Prelude.{◌≡◌, [], ◌++◌, ◌&&◌, IfOk, codes, if◌then◌else◌, not, string_bytes};
+ghost use Rattle.ipmi_text.specs.Units.{is_not_empty, modifier_part, percent_part, rate_part, unit_name, unit_text_of};
+
+use crate::names::{HexByte, entry};
+use std::alloc::{AllocError, Global};
+use std::fmt;
+
+/// The names, from unit 00h on, which is unspecified (IPMI v2.0, table 43-15).
+const UNITS: [&str; 25] = [
+    "",
+    "degrees C",
+    "degrees F",
+    "degrees K",
+    "Volts",
+    "Amps",
+    "Watts",
+    "Joules",
+    "Coulombs",
+    "VA",
+    "Nits",
+    "lumen",
+    "lux",
+    "Candela",
+    "kPa",
+    "PSI",
+    "Newton",
+    "CFM",
+    "RPM",
+    "Hz",
+    "microsecond",
+    "millisecond",
+    "second",
+    "minute",
+    "hour",
+];
+
+/// The rates, by bits 5:3 of sensor units 1.
+const RATES: [&str; 8] = [
+    "", "per us", "per ms", "per s", "per min", "per hour", "per day", "",
+];
+
+/// A base or modifier unit, printed as its name, or as `unit 0xNN` where it has none.
+#[derive(Clone, Copy, Debug)]
+struct UnitName(u8);
+
+impl UnitName {
+    fn is_empty(self) -> bool
+        ensures { result ≡ not (is_not_empty (unit_name self.0)) }
+    {
+        match entry(UNITS.as_slice(), self.0 as usize) {
+            Some(name) => name.is_empty(),
+            None => false,
+        }
+    }
+}
+
+impl fmt::Display for UnitName {
+    ghost use Rattle.std.specs.Prelude.{Some};
+    ghost use Rattle.ipmi_text.specs.Units.{unit_name};
+
+    ghost output = { λ unit. Some (unit_name unit.0) };
+
+    fn fmt<W: fmt::Write>(&self, f: &mut fmt::Formatter<W>) -> fmt::Result {
+        match entry(UNITS.as_slice(), self.0 as usize) {
+            Some(name) => write!(f, "{name}"),
+            None => {
+                let code = HexByte(self.0);
+                write!(f, "unit 0x{code}")
+            }
+        }
+    }
+}
+
+/// A base unit and its modifier, which bits 2:1 of sensor units 1 join to it.
+#[derive(Clone, Copy, Debug)]
+struct BaseUnit {
+    units1: u8,
+    base: UnitName,
+    modifier: UnitName,
+}
+
+impl BaseUnit {
+    fn is_empty(self) -> bool
+        ensures { result ≡ not (is_not_empty (unit_name self.base.0 ++ modifier_part self.units1 self.modifier.0)) }
+    {
+        match self.units1 / 2 % 4 {
+            1 | 2 => false,
+            _ => self.base.is_empty(),
+        }
+    }
+}
+
+impl fmt::Display for BaseUnit {
+    ghost use Rattle.std.specs.Prelude.{Some, ◌++◌};
+    ghost use Rattle.ipmi_text.specs.Units.{modifier_part, unit_name};
+
+    ghost output = { λ unit. Some (unit_name unit.base.0 ++ modifier_part unit.units1 unit.modifier.0) };
+
+    fn fmt<W: fmt::Write>(&self, f: &mut fmt::Formatter<W>) -> fmt::Result {
+        let base = self.base;
+        let modifier = self.modifier;
+        match self.units1 / 2 % 4 {
+            1 => write!(f, "{base}/{modifier}"),
+            2 => write!(f, "{base}*{modifier}"),
+            _ => write!(f, "{base}"),
+        }
+    }
+}
+
+/// `%` where bit 0 of sensor units 1 is set.
+fn percent_part(units1: u8) -> &'static str
+    ensures { result.now ≡ percent_part units1 }
+{
+    if units1 % 2 == 1 { "%" } else { "" }
+}
+
+/// The rate, by bits 5:3 of sensor units 1.
+fn rate_part(units1: u8) -> &'static str
+    ensures { result.now ≡ rate_part units1 }
+{
+    match entry(RATES.as_slice(), (units1 / 8 % 8) as usize) {
+        Some(rate) => rate,
+        None => "",
+    }
+}
+
+/// The space between two parts, where both are there.
+fn gap(before: bool, after: bool) -> &'static str
+    ensures { result.now ≡ (if before && after then codes " " else []) }
+{
+    if before && after { " " } else { "" }
+}
+
+/// The units of a sensor by its bytes sensor units 1, base unit and modifier unit (IPMI v2.0, tables
+/// 43-1 and 43-15): percent, base unit with modifier, and rate, of which those that are not empty are
+/// joined by one space.
+pub fn unit_text(alloc: Global, units1: u8, base: u8, modifier: u8) -> Result<String, AllocError>
+    ensures { IfOk result (λ text. string_bytes text ≡ unit_text_of units1 base modifier) }
+{
+    let percent = percent_part(units1);
+    let unit = BaseUnit {
+        units1,
+        base: UnitName(base),
+        modifier: UnitName(modifier),
+    };
+    let rate = rate_part(units1);
+    let has_percent = !percent.is_empty();
+    let has_unit = !unit.is_empty();
+    let first = gap(has_percent, has_unit);
+    let second = gap(has_percent || has_unit, !rate.is_empty());
+    format!(in alloc; "{percent}{first}{unit}{second}{rate}")
+}
