@@ -1,3 +1,4 @@
+pub mod DecimalLemmas
 pub mod Division
 pub mod FieldLemmas
 pub mod ReadingLemmas

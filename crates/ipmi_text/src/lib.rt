@@ -5,6 +5,7 @@ mod chassis;
 mod decimal;
 mod events;
 mod field_text;
+pub mod laws;
 mod names;
 mod reading;
 mod sensor_types;
