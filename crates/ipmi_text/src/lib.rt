@@ -9,6 +9,8 @@ pub mod laws;
 mod names;
 mod reading;
 mod sensor_types;
+#[cfg(test)]
+mod tests;
 mod times;
 mod units;
 
