@@ -1,5 +1,5 @@
 -- A value has one decimal, and a decimal one value.
-use Rattle.std.proofs.Common.{◌≡◌, ◌≢◌, ◌∙◌, ℕ, zero, suc, ◌+◌, ◌-◌, ◌*◌, ◌/◌, ◌^◌, ◌<◌, ◌≤◌, ℤ, pos, negsuc, unsigned_abs, List, [], ◌∷◌, ◌++◌, length, get_or, slice_index, take, replicate, ap, sym, subst, refl, arith, inl, inr, codes, length-append}
+use Rattle.std.proofs.Common.{◌≡◌, ◌≢◌, ◌∙◌, ℕ, zero, suc, ◌+◌, ◌-◌, ◌*◌, ◌/◌, ◌^◌, ◌<◌, ◌≤◌, ℤ, pos, negsuc, List, [], ◌∷◌, ◌++◌, length, get_or, take, replicate, ap, sym, subst, refl, arith, inl, inr, length-append}
 use Rattle.std.proofs.Math.Nat.{pow-suc, pow-le-pow_right}
 use Rattle.std.proofs.Math.Seq.{take-append_seam}
 use Rattle.std.proofs.lemmas.Bool.{cases_lt}
@@ -52,7 +52,7 @@ same_digits (x ∷ xs) [] l h k e = absurd (omega arith)
 same_digits (x ∷ xs) (y ∷ ys) l h k e =
     let long : length xs ≡ length ys = omega arith in
     let split : digit_value x * 10 ^ length xs + digits_value 10 xs ≡ digit_value y * 10 ^ length xs + digits_value 10 ys
-      = sym (value-cons x xs) ∙ e ∙ value-cons y ys ∙ ap (λ n. digit_value y * 10 ^ n + digits_value 10 ys) (sym long) in
+    = sym (value-cons x xs) ∙ e ∙ value-cons y ys ∙ ap (λ n. digit_value y * 10 ^ n + digits_value 10 ys) (sym long) in
     let small_y : digits_value 10 ys < 10 ^ length xs = rw long (digits_value-lt 10 ys k.1) in
     let parts = same_quotient (digit_value x) (digit_value y) (10 ^ length xs) (digits_value 10 xs) (digits_value 10 ys) split (digits_value-lt 10 xs h.1) small_y in
     let first : x ≡ y = is_digit x h.0 ∙ ap (λ d. 48 + d) parts.0 ∙ sym (is_digit y k.0) in

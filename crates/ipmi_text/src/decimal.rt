@@ -131,7 +131,7 @@ fn push_fraction(text: &mut String, fraction: u64) -> Result<(), AllocError>
     text.push('.')?;
     let mut place = ONE;
     let mut rest = fraction;
-    while rest != 0 {
+    'digits: while rest != 0 {
         place /= 10;
         text.push((b'0' + (rest / place) as u8) as char)?;
         rest %= place;

@@ -1,4 +1,4 @@
-use Rattle.std.proofs.Common.{rules, ◌≡◌, ◌<◌, ◌%◌, ◌/◌, ◌^◌, ◌++◌, arith, string_bytes, ap, ◌∙◌, sym}
+use Rattle.std.proofs.Common.{rules, ◌≡◌, ◌<◌, ◌%◌, ◌/◌, ◌^◌, ◌++◌, arith, string_bytes}
 use Rattle.std.specs.Fmt.{decimal}
 use Rattle.std.specs.Prelude.{unsigned_abs}
 use Rattle.ipmi_text.specs.Decimal.{AppendsFraction, sign_of}

@@ -1,4 +1,4 @@
-use Rattle.std.proofs.Common.{◌≡◌, ◌≤◌, ◌^◌, ◌*ℤ◌, pos, ◌∙◌, ap, arith, refl, FitsSigned, unsigned_abs, w32}
+use Rattle.std.proofs.Common.{◌≡◌, ◌≤◌, ◌^◌, ◌*ℤ◌, pos, ap, arith, FitsSigned, unsigned_abs, w32}
 use Rattle.std.specs.Int.{w128}
 use Rattle.std.proofs.lemmas.Int.{fits_signed_from_abs, fits_signed_mul, ints, to_z-of_z}
 use Rattle.ipmi_text.specs.ReadingValue.{ten_to}

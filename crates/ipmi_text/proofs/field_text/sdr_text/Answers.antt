@@ -1,4 +1,3 @@
-use Rattle.std.proofs.Common.{sym}
 use Rattle.ipmi_text.proofs.FieldLemmas.{IsAscii-bcd_plus, IsAscii-six_bit}
 use Rattle.ipmi_text.proofs.field_text.sdr_text.Goals as goal
 

@@ -1,4 +1,4 @@
-use Rattle.std.proofs.Common.{◌≡◌, ◌∙◌, ◌+◌, ◌≤◌, ◌<◌, ◌++◌, [], ap, sym, append_assoc, append-nil, arith, length, drop, take, get_or, string_bytes, ℕ, List}
+use Rattle.std.proofs.Common.{◌≡◌, ◌∙◌, ◌+◌, ◌≤◌, ◌++◌, [], ap, sym, append_assoc, append-nil, arith, length, drop, take, string_bytes, ℕ, List}
 use Rattle.std.proofs.lemmas.List.{get_or-drop}
 use Rattle.ipmi_text.specs.FieldText.{six_bit_text}
 use Rattle.ipmi_text.proofs.FieldLemmas.{no_byte_left, six_bit_none, six_bit_step, up_to_end}
