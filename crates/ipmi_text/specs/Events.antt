@@ -1,4 +1,4 @@
--- The words of events (IPMI v2.0, sections 42.1 and 42.2).
+-- The words of events (IPMI v2.0, section 42.1 and table 42-2).
 use Rattle.std.specs.Prelude.{ℕ, ◌%◌, ◌==◌, List, [], ◌∷◌, ◌++◌, codes, Option, None, slice_get, unwrap_or, if◌then◌else◌, false}
 use Rattle.std.specs.Fmt.{digit_glyph}
 use Rattle.ipmi_text.specs.Hex.{hex_byte}

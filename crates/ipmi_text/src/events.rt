@@ -54,7 +54,7 @@ fn event_name(event: u8, offset: u8) -> Option<&'static str>
 }
 
 /// The words of an event, by its event/reading type code and its first data byte, whose bits 3:0
-/// are the offset (IPMI v2.0, sections 42.1 and 42.2), or `event 0xTT offset 0xO` where it has none.
+/// are the offset (IPMI v2.0, section 42.1 and table 42-2), or `event 0xTT offset 0xO` where it has none.
 pub fn event_text(alloc: Global, event: u8, data1: u8) -> Result<String, AllocError>
     ensures { IfOk result (λ text. string_bytes text ≡ event_text_of event data1) }
 {
