@@ -4,7 +4,7 @@ use Rattle.std.specs.Int.{w128}
 use Rattle.std.proofs.Math.Nat.{mul-le-mul, pow-le-pow_right}
 use Rattle.std.proofs.lemmas.Int.{ints, unsigned_abs-mul}
 use Rattle.std.proofs.lemmas.Bool.Decides.{nat_tests}
-use Rattle.ipmi_text.specs.ReadingValue.{IsTwosComplement, Linear, raw_number, reading_value, ten_to}
+use Rattle.ipmi_text.specs.ReadingValue.{IsTwosComplement, SensorFactors, raw_number, reading_value, ten_to}
 
 pub ten_le : (e : ℕ) → e ≤ 30 → 10 ^ e ≤ 10 ^ 30
 ten_le e h = pow-le-pow_right (omega arith) h
@@ -25,7 +25,7 @@ pub sum_fits : (a b : ℤ) → unsigned_abs a ≤ 2 ^ 17 * 10 ^ 30 → unsigned_
 sum_fits a b h k = omega (arith, ints)
 
 -- the value of a linear sensor
-pub value_is : (f : Linear) (raw : ℕ) (x slope offset : ℤ) → f.format ≢ 3 → f.linear ≡ 0 → x ≡ raw_number f.format raw
+pub value_is : (f : SensorFactors) (raw : ℕ) (x slope offset : ℤ) → f.format ≢ 3 → f.linear ≡ 0 → x ≡ raw_number f.format raw
     → slope ≡ f.m *ℤ x *ℤ ten_to (f.k2 +ℤ pos 16) → offset ≡ f.b *ℤ ten_to (f.k1 +ℤ (f.k2 +ℤ pos 16))
     → Some (slope +ℤ offset) ≡ reading_value f raw
 value_is f raw x slope offset analog linear x_is slope_is offset_is =

@@ -4,7 +4,7 @@ use Rattle.std.specs.Prelude.{filter}
 use Rattle.std.specs.List.{join_with_byte}
 use Rattle.std.proofs.lemmas.Bool.{cases_lt}
 use Rattle.std.proofs.lemmas.Bool.Decides.{nat_tests}
-use Rattle.ipmi_text.specs.Units.{is_not_empty, modifier_part, unit_name}
+use Rattle.ipmi_text.specs.Units.{is_not_empty, modifier_part, unit_name_or_code}
 
 suc_is_not_zero : (n : ℕ) → (suc n == 0) ≡ false
 suc_is_not_zero n = grind (arith, nat_tests)
@@ -22,10 +22,10 @@ is_not_empty-append [] y ys = refl
 is_not_empty-append (x ∷ xs) y ys = refl
 
 -- a base unit with a modifier is not empty
-pub is_not_empty-modified : (units1 base modifier : ℕ) → 1 ≤ units1 / 2 % 4 → units1 / 2 % 4 < 3 → is_not_empty (unit_name base ++ modifier_part units1 modifier) ≡ true
+pub is_not_empty-modified : (units1 base modifier : ℕ) → 1 ≤ units1 / 2 % 4 → units1 / 2 % 4 < 3 → is_not_empty (unit_name_or_code base ++ modifier_part units1 modifier) ≡ true
 is_not_empty-modified units1 base modifier low high = elim (cases_lt (units1 / 2 % 4) 2) [
-  | inl h ↦ let one : units1 / 2 % 4 ≡ 1 = omega arith in rw one (is_not_empty-append (unit_name base) 47 (unit_name modifier))
-  | inr h ↦ let two : units1 / 2 % 4 ≡ 2 = omega arith in rw two (is_not_empty-append (unit_name base) 42 (unit_name modifier))
+  | inl h ↦ let one : units1 / 2 % 4 ≡ 1 = omega arith in rw one (is_not_empty-append (unit_name_or_code base) 47 (unit_name_or_code modifier))
+  | inr h ↦ let two : units1 / 2 % 4 ≡ 2 = omega arith in rw two (is_not_empty-append (unit_name_or_code base) 42 (unit_name_or_code modifier))
 ]
 
 -- the parts with a space between each two that are there

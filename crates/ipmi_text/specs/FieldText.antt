@@ -1,5 +1,7 @@
 -- The texts of type/length fields (Platform Management FRU Information Storage Definition v1.0,
--- section 13; IPMI v2.0, section 43.15).
+-- section 13; IPMI v2.0, section 43.15). The project's own, where those leave it open: the high nibble
+-- first, a name for each nibble above Ch, whole characters only, hex for languages other than English,
+-- `.` for what does not print, and at most 16 bytes of an ID string.
 use Rattle.std.specs.Prelude.{ℕ, ◌+◌, ◌*◌, ◌/◌, ◌%◌, ◌^◌, ◌==◌, ◌&&◌, ◌||◌, min, nat_le, Bool, if◌then◌else◌, List, [], ◌∷◌, length, map, take, slice_index, encode_utf8_all, codes}
 use Rattle.std.specs.List.{before_first, range_with_len}
 use Rattle.hex.specs.Hex.{encode_lower}
@@ -33,7 +35,8 @@ six_bit_character bytes i = number_of bytes / 64 ^ i % 64 + 0x20
 unfoldable pub six_bit_text : List ℕ → List ℕ
 six_bit_text bytes = map (six_bit_character bytes) (range_with_len 0 (8 * length bytes / 6))
 
--- the character that a byte of 8-bit ASCII and Latin-1 prints as: itself where it prints, else `.`
+-- the character that a byte of 8-bit ASCII and Latin-1 prints as: 20h to 7Eh and A0h to FFh as
+-- themselves, else `.`
 abbrev pub latin1_character : ℕ → ℕ
 latin1_character b = if (nat_le 0x20 b && nat_le b 0x7e) || nat_le 0xa0 b then b else 46
 
@@ -53,7 +56,7 @@ fru_text_of code language bytes =
     else if (code == 3) && is_english language then latin1_text bytes
     else binary_text bytes
 
--- the kind of a sensor record's ID string, bits 7:6 of its type/length byte, and the count, bits 4:0
+-- the kind of a sensor data record's ID string, bits 7:6 of its type/length byte, and the count, bits 4:0
 abbrev pub id_kind : ℕ → ℕ
 id_kind tl = tl / 64
 
@@ -61,7 +64,7 @@ abbrev pub id_count : ℕ → ℕ
 id_count tl = tl % 32
 
 -- how many bytes the count asks for: as many for Unicode and for 8-bit ASCII, four bits for each
--- character of BCD plus, six for each of 6-bit ASCII, in whole bytes
+-- character of BCD plus, six for each of 6-bit ASCII, rounded up to whole bytes
 abbrev pub bytes_wanted : ℕ → ℕ
 bytes_wanted tl =
     if id_kind tl == 1 then (id_count tl + 1) / 2
@@ -72,7 +75,7 @@ bytes_wanted tl =
 abbrev pub bytes_used : ℕ → List ℕ → List ℕ
 bytes_used tl rest = take (min (bytes_wanted tl) 16) rest
 
--- the text of a sensor record's ID string by its type/length byte and the bytes after it
+-- the text of a sensor data record's ID string by its type/length byte and the bytes after it
 abbrev pub sdr_text_of : ℕ → List ℕ → List ℕ
 sdr_text_of tl rest =
     if id_kind tl == 0 then binary_text (bytes_used tl rest)

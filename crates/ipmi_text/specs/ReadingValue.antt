@@ -2,7 +2,7 @@
 use Rattle.std.specs.Prelude.{ℕ, ◌≤◌, ◌^◌, ◌==◌, ◌||◌, nat_lt, not, if◌then◌else◌, ℤ, pos, ◌+ℤ◌, ◌-ℤ◌, ◌*ℤ◌, ◌≤ℤ◌, ◌<ℤ◌, neg_ℤ, unsigned_abs, Option, Some, None}
 
 -- the factors of a sensor's formula
-pub record Linear : Type 0 where
+pub record SensorFactors : Type 0 where
   pub format : ℕ
   pub linear : ℕ
   pub m : ℤ
@@ -16,7 +16,7 @@ IsTwosComplement half z = (neg_ℤ (pos half) ≤ℤ z) × (z <ℤ pos half)
 
 -- the ranges that the bits of a full sensor record leave: a format of 2 bits, a linearization of 7,
 -- M and B of 10 in 2's complement, and both exponents of 4 in 2's complement
-pub record HasRanges (factors : Linear) : Type 0 where
+pub record HasRanges (factors : SensorFactors) : Type 0 where
   pub format : factors.format ≤ 3
   pub linear : factors.linear ≤ 127
   pub m : IsTwosComplement 512 factors.m
@@ -24,7 +24,8 @@ pub record HasRanges (factors : Linear) : Type 0 where
   pub k1 : IsTwosComplement 8 factors.k1
   pub k2 : IsTwosComplement 8 factors.k2
 
--- the number that a raw byte stands for: unsigned (format 0), in 1's complement (1) or in 2's (2)
+-- the number that a raw byte stands for: unsigned (format 0), in 1's complement (1) or in 2's (2); of
+-- format 3 it is never asked
 abbrev pub raw_number : ℕ → ℕ → ℤ
 raw_number format raw =
     if (format == 0) || nat_lt raw 128 then pos raw
@@ -36,8 +37,8 @@ abbrev pub ten_to : ℤ → ℤ
 ten_to exponent = pos (10 ^ unsigned_abs exponent)
 
 -- (M x + B 10^K1) 10^K2, in units of 10^-16: none where the sensor has no analog reading (format 3)
--- or is not linear
-abbrev pub reading_value : Linear → ℕ → Option ℤ
+-- or is not linear. It is asked of factors with HasRanges alone, whose exponents never go below 0 here.
+abbrev pub reading_value : SensorFactors → ℕ → Option ℤ
 reading_value f raw =
     if (f.format == 3) || not (f.linear == 0) then None
     else Some ((f.m *ℤ raw_number f.format raw) *ℤ ten_to (f.k2 +ℤ pos 16) +ℤ f.b *ℤ ten_to (f.k1 +ℤ (f.k2 +ℤ pos 16)))

@@ -2,7 +2,7 @@
 use Rattle.std.specs.Prelude.{ℕ, ◌-◌, ◌==◌, List, [], ◌∷◌, ◌++◌, codes, Option, None, slice_get, unwrap_or, if◌then◌else◌}
 use Rattle.ipmi_text.specs.Hex.{hex_byte}
 
--- the names, from type 01h on
+-- the names, from type 01h on, some of them shortened
 abbrev pub sensor_types : List (List ℕ)
 sensor_types =
     codes "Temperature" ∷

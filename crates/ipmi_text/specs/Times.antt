@@ -22,14 +22,14 @@ pub record IsMoment (day : ℕ) (time text : List ℕ) : Type 0 where
   pub day_is : epoch_day date ≡ pos day
   pub text_is : text ≡ date_text date ++ (codes " " ++ time)
 
--- a time stamp in seconds from 1970-01-01 00:00:00, of which FFFFFFFFh and those up to 20000000h are
--- none (IPMI v2.0, section 37)
+-- a time stamp in seconds (IPMI v2.0, section 37): FFFFFFFFh is unspecified, those up to 20000000h count
+-- from the start of the controller's clock, and all others from 1970-01-01 00:00:00
 pub record IsUtcTextOf (seconds : ℕ) (text : List ℕ) : Type 0 where
   pub unspecified : seconds ≡ 0xffff_ffff → text ≡ codes "unspecified"
   pub since_start : seconds ≤ 0x2000_0000 → text ≡ codes "+" ++ (decimal seconds ++ codes " s")
   pub moment : 0x2000_0000 < seconds → seconds < 0xffff_ffff → IsMoment (seconds / 86_400) (second_text (seconds % 86_400)) text
 
--- the day number of 1996-01-01
+-- the day number of 1996-01-01: 26 years of 365 days, of which 6 were leap years
 abbrev pub first_fru_day : ℕ
 first_fru_day = 9496
 

@@ -4,7 +4,7 @@ use Rattle.std.specs.Prelude.{ℕ, ◌/◌, ◌%◌, ◌==◌, Bool, true, false
 use Rattle.std.specs.List.{join_with_byte}
 use Rattle.ipmi_text.specs.Hex.{hex_byte}
 
--- the names, from unit 00h on, which is unspecified
+-- the names, from unit 00h on, which is unspecified, to 18h; later ones print as their code
 abbrev pub units : List (List ℕ)
 units =
     [] ∷
@@ -34,8 +34,8 @@ units =
     codes "hour" ∷ []
 
 -- the name of a unit, or else `unit 0xNN`
-abbrev pub unit_name : ℕ → List ℕ
-unit_name code = unwrap_or (slice_get units code) (codes "unit 0x" ++ hex_byte code)
+abbrev pub unit_name_or_code : ℕ → List ℕ
+unit_name_or_code code = unwrap_or (slice_get units code) (codes "unit 0x" ++ hex_byte code)
 
 -- `%` where bit 0 of units 1 is set
 abbrev pub percent_part : ℕ → List ℕ
@@ -44,8 +44,8 @@ percent_part units1 = if units1 % 2 == 1 then codes "%" else []
 -- the modifier, where bits 2:1 of units 1 are 01 after `/`, and where they are 10 after `*`
 abbrev pub modifier_part : ℕ → ℕ → List ℕ
 modifier_part units1 modifier =
-    if units1 / 2 % 4 == 1 then codes "/" ++ unit_name modifier
-    else if units1 / 2 % 4 == 2 then codes "*" ++ unit_name modifier
+    if units1 / 2 % 4 == 1 then codes "/" ++ unit_name_or_code modifier
+    else if units1 / 2 % 4 == 2 then codes "*" ++ unit_name_or_code modifier
     else []
 
 -- the rates, by bits 5:3 of units 1
@@ -71,4 +71,4 @@ is_not_empty (_ ∷ _) = true
 abbrev pub unit_text_of : ℕ → ℕ → ℕ → List ℕ
 unit_text_of units1 base modifier =
     join_with_byte 32 (filter is_not_empty
-    (percent_part units1 ∷ (unit_name base ++ modifier_part units1 modifier) ∷ rate_part units1 ∷ []))
+    (percent_part units1 ∷ (unit_name_or_code base ++ modifier_part units1 modifier) ∷ rate_part units1 ∷ []))

@@ -1,7 +1,7 @@
 //! The values of readings, by the factors of a sensor's record, and their exact decimal texts.
 ghost use Rattle.std.specs.Prelude.{◌≡◌, ◌≤◌, ◌<◌, ◌^◌, ◌↔◌, ◌≤ℤ◌, ◌*ℤ◌, ◌*◌, pos, IfOk, IfSome, IsSome, IsTrue, OnOk, option_map, string_bytes, unsigned_abs};
 ghost use Rattle.ipmi_text.specs.Decimal.{AppendsFraction, IsDecimalOf, sign_of};
-ghost use Rattle.ipmi_text.specs.ReadingValue.{HasRanges, IsTwosComplement, Linear, raw_number, reading_value, ten_to};
+ghost use Rattle.ipmi_text.specs.ReadingValue.{HasRanges, IsTwosComplement, SensorFactors, raw_number, reading_value, ten_to};
 
 use std::alloc::{AllocError, Global};
 use std::marker::Model;
@@ -26,7 +26,7 @@ pub struct Factors {
 }
 
 impl Model for Factors {
-    ghost Value = { Linear };
+    ghost Value = { SensorFactors };
 
     ghost view = { λ f. record { format = f.format; linear = f.linear; m = f.m; b = f.b; k1 = f.k1; k2 = f.k2 } };
 

@@ -7,7 +7,7 @@ use std::alloc::{AllocError, Global};
 /// The characters of BCD plus, by their nibble.
 const BCD_PLUS: &[u8; 16] = b"0123456789 -.:,_";
 
-/// The most bytes that the ID string of a sensor record has.
+/// The most bytes that the ID string of a sensor data record has.
 const ID_BYTES: usize = 16;
 
 /// The character of a nibble in BCD plus.
@@ -138,9 +138,10 @@ fn first_characters(text: String, count: usize) -> String
     text
 }
 
-/// The text of a sensor record's ID string (IPMI v2.0, section 43.15), by its type/length byte and
+/// The text of a sensor data record's ID string (IPMI v2.0, section 43.15), by its type/length byte and
 /// all bytes after it: hex for Unicode (type 0), BCD plus (1), 6-bit ASCII (2), and 8-bit ASCII and
-/// Latin-1 (3).
+/// Latin-1 (3). Bits 4:0 of the type/length byte count the characters (for type 0, the bytes), of which
+/// as many are printed as stand in the next 16 bytes at most.
 pub fn sdr_text(alloc: Global, tl: u8, rest: &[u8]) -> Result<String, AllocError>
     ensures { IfOk result (λ text. string_bytes text ≡ sdr_text_of tl rest.now) }
 {

@@ -13,12 +13,12 @@ pub fn one_value_of_a_decimal()
     ensures { (value other : ℤ) (text : List ℕ) → IsDecimalOf value text → IsDecimalOf other text → value ≡ other }
 {}
 
-/// A time stamp in seconds has one text.
+/// A time stamp in seconds has at most one text, so what `utc_text` gives is the only one.
 pub fn one_utc_text()
     ensures { (seconds : ℕ) (text other : List ℕ) → seconds ≤ 0xffff_ffff → IsUtcTextOf seconds text → IsUtcTextOf seconds other → text ≡ other }
 {}
 
-/// A time stamp in minutes has one text.
+/// A time stamp in minutes has at most one text, so what `minutes_text` gives is the only one.
 pub fn one_minutes_text()
     ensures { (minutes : ℕ) (text other : List ℕ) → IsMinutesTextOf minutes text → IsMinutesTextOf minutes other → text ≡ other }
 {}

@@ -5,7 +5,7 @@ ghost use Rattle.ipmi_text.specs.SensorTypes.{sensor_type_name, sensor_type_text
 use crate::names::{HexByte, entry};
 use std::alloc::{AllocError, Global};
 
-/// The names, from type 01h on (IPMI v2.0, table 42-3).
+/// The names, from type 01h on, some of them shortened (IPMI v2.0, table 42-3).
 const SENSOR_TYPES: [&str; 44] = [
     "Temperature",
     "Voltage",

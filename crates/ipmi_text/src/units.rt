@@ -1,12 +1,12 @@
 //! The units of a sensor's readings.
 ghost use Rattle.std.specs.Prelude.{◌≡◌, [], ◌++◌, ◌&&◌, IfOk, codes, if◌then◌else◌, not, string_bytes};
-ghost use Rattle.ipmi_text.specs.Units.{is_not_empty, modifier_part, percent_part, rate_part, unit_name, unit_text_of};
+ghost use Rattle.ipmi_text.specs.Units.{is_not_empty, modifier_part, percent_part, rate_part, unit_name_or_code, unit_text_of};
 
 use crate::names::{HexByte, entry};
 use std::alloc::{AllocError, Global};
 use std::fmt;
 
-/// The names, from unit 00h on, which is unspecified (IPMI v2.0, table 43-15).
+/// The names, from unit 00h on, which is unspecified, to 18h; later ones print as their code (IPMI v2.0, table 43-15).
 const UNITS: [&str; 25] = [
     "",
     "degrees C",
@@ -46,7 +46,7 @@ struct UnitName(u8);
 
 impl UnitName {
     fn is_empty(self) -> bool
-        ensures { result ≡ not (is_not_empty (unit_name self.0)) }
+        ensures { result ≡ not (is_not_empty (unit_name_or_code self.0)) }
     {
         match entry(UNITS.as_slice(), self.0 as usize) {
             Some(name) => name.is_empty(),
@@ -57,9 +57,9 @@ impl UnitName {
 
 impl fmt::Display for UnitName {
     ghost use Rattle.std.specs.Prelude.{Some};
-    ghost use Rattle.ipmi_text.specs.Units.{unit_name};
+    ghost use Rattle.ipmi_text.specs.Units.{unit_name_or_code};
 
-    ghost output = { λ unit. Some (unit_name unit.0) };
+    ghost output = { λ unit. Some (unit_name_or_code unit.0) };
 
     fn fmt<W: fmt::Write>(&self, f: &mut fmt::Formatter<W>) -> fmt::Result {
         match entry(UNITS.as_slice(), self.0 as usize) {
@@ -82,7 +82,7 @@ struct BaseUnit {
 
 impl BaseUnit {
     fn is_empty(self) -> bool
-        ensures { result ≡ not (is_not_empty (unit_name self.base.0 ++ modifier_part self.units1 self.modifier.0)) }
+        ensures { result ≡ not (is_not_empty (unit_name_or_code self.base.0 ++ modifier_part self.units1 self.modifier.0)) }
     {
         match self.units1 / 2 % 4 {
             1 | 2 => false,
@@ -93,9 +93,9 @@ impl BaseUnit {
 
 impl fmt::Display for BaseUnit {
     ghost use Rattle.std.specs.Prelude.{Some, ◌++◌};
-    ghost use Rattle.ipmi_text.specs.Units.{modifier_part, unit_name};
+    ghost use Rattle.ipmi_text.specs.Units.{modifier_part, unit_name_or_code};
 
-    ghost output = { λ unit. Some (unit_name unit.base.0 ++ modifier_part unit.units1 unit.modifier.0) };
+    ghost output = { λ unit. Some (unit_name_or_code unit.base.0 ++ modifier_part unit.units1 unit.modifier.0) };
 
     fn fmt<W: fmt::Write>(&self, f: &mut fmt::Formatter<W>) -> fmt::Result {
         let base = self.base;

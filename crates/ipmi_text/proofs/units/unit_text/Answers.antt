@@ -1,14 +1,14 @@
 use Rattle.std.proofs.Common.{◌≡◌, ◌++◌, ◌||◌, ◌∙◌, not, true, false, ap, refl, sym}
 use Rattle.std.proofs.lemmas.Result.{IfOk-weaker}
 use Rattle.ipmi_text.proofs.UnitLemmas.{not_empty_is, not_not, spaced}
-use Rattle.ipmi_text.specs.Units.{is_not_empty, modifier_part, unit_name}
+use Rattle.ipmi_text.specs.Units.{is_not_empty, modifier_part, unit_name_or_code}
 use Rattle.ipmi_text.proofs.units.unit_text.Goals as goal
 use Rattle.ipmi_text.proofs.units.unit_text.Goals.{then-has_percent, else-has_percent}
 
 pub returns : goal.returns
 returns c =
     let p = c.percent_part-percent.result.now in
-    let u = unit_name c.args.base ++ modifier_part c.args.units1 c.args.modifier in
+    let u = unit_name_or_code c.args.base ++ modifier_part c.args.units1 c.args.modifier in
     let r = c.rate_part-rate.result.now in
     let percent_is : not c.is_empty-has_percent.result ≡ is_not_empty p = rw c.is_empty-has_percent.ensures (not_empty_is p) in
     let unit_is : not c.is_empty-has_unit.result ≡ is_not_empty u = ap not c.is_empty-has_unit.ensures ∙ not_not (is_not_empty u) in
