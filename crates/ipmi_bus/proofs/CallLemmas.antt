@@ -8,11 +8,11 @@ use Rattle.ipmi_bus.specs.declared.retrieval.Outcome.{Outcome}
 use Rattle.ipmi_bus.specs.declared.retrieval.Retrieval.{Retrieval}
 use Rattle.ipmi_bus.specs.Shelf.{Row, look}
 use Rattle.ipmi_bus.specs.Store.{Store, rows_of}
-use Rattle.ipmi_bus.specs.Seen.{Seen, KeepsStore, GivesNoReservation, IsTroubled, current, StaysHonest}
+use Rattle.ipmi_bus.specs.Seen.{Seen, KeepsStore, MayLoseReservation, IsTroubled, current, StaysHonest}
 use Rattle.ipmi_bus.specs.Retrieval.{IsOpen, HasRead, IsReading, HoldsCurrent, GoesOn, HasGivenUp, CallAnswers, CallIsHonest, after_trouble, CountsTrouble}
 
 -- where a reservation is current, it was so before, and the store is the same
-pub store_kept : (shelf : Shelf) (s s' : Seen) (n : ℕ) → GivesNoReservation shelf s s' → KeepsStore s s' → current shelf s' ≡ Some n → s'.store ≡ s.store
+pub store_kept : (shelf : Shelf) (s s' : Seen) (n : ℕ) → MayLoseReservation shelf s s' → KeepsStore s s' → current shelf s' ≡ Some n → s'.store ≡ s.store
 store_kept shelf s s' n keeps store now = elim (cases_lt s.stores_added s'.stores_added) [
   | inl more ↦ let gone = keeps.none_over_change more in cc (gone, now)
   | inr le ↦ store.stays (omega (arith, store.grows))
@@ -27,7 +27,7 @@ read_moved r s s' row same read = record {
 }
 
 -- a call that brought nothing leaves what was read
-pub reading_kept : (r : Retrieval) (s s' : Seen) → GivesNoReservation r.shelf s s' → KeepsStore s s' → (0 < r.have → IsSome r.reservation) → IsReading r s → IsReading r s'
+pub reading_kept : (r : Retrieval) (s s' : Seen) → MayLoseReservation r.shelf s s' → KeepsStore s s' → (0 < r.have → IsSome r.reservation) → IsReading r s → IsReading r s'
 reading_kept r s s' keeps store reserved reading = record {
   piece = λ some now. at r.reservation refl (reserved some) some now;
 }
@@ -49,7 +49,7 @@ reading_counted r s n reading = record {
 reading_dropped : (r : Retrieval) (s : Seen) → r.have ≡ 0 → IsReading r s
 reading_dropped r s none = record { piece = λ some now. absurd (omega arith) }
 
-after_reading : (is_cancelled : Bool) (r : Retrieval) (s s' : Seen) → GivesNoReservation r.shelf s s' → KeepsStore s s' → (0 < r.have → IsSome r.reservation) → IsReading r s → IsReading (after_trouble is_cancelled r) s'
+after_reading : (is_cancelled : Bool) (r : Retrieval) (s s' : Seen) → MayLoseReservation r.shelf s s' → KeepsStore s s' → (0 < r.have → IsSome r.reservation) → IsReading r s → IsReading (after_trouble is_cancelled r) s'
 after_reading true r s s' keeps store reserved reading = reading_dropped _ s' refl
 after_reading false r s s' keeps store reserved reading = reading_counted r s' _ (reading_kept r s s' keeps store reserved reading)
 
@@ -61,7 +61,7 @@ after_have : (is_cancelled : Bool) (r : Retrieval) → (after_trouble is_cancell
 after_have true r = omega arith
 after_have false r = omega arith
 
-trouble_answers : (is_cancelled : Bool) (old new : Retrieval) (s s' : Seen) (result : Result Outcome Ended) → IsOpen old → IsReading old s → StaysHonest s s' → GivesNoReservation old.shelf s s' → IsTroubled s s'
+trouble_answers : (is_cancelled : Bool) (old new : Retrieval) (s s' : Seen) (result : Result Outcome Ended) → IsOpen old → IsReading old s → StaysHonest s s' → MayLoseReservation old.shelf s s' → IsTroubled s s'
     → CountsTrouble is_cancelled old new result → CallAnswers old new s s' result
 trouble_answers is_cancelled old new s s' (Ok turn) open_ reading stays keeps troubled counts =
     let goes : GoesOn old (after_trouble is_cancelled old) s s' = record {
@@ -85,7 +85,7 @@ trouble_answers is_cancelled old new s s' (Err ended) open_ reading stays keeps 
     subst (λ (e : Ended). CallAnswers old new s s' (Err e)) (sym counts.0) given
 
 -- a trouble that an honest controller answered
-pub honest_trouble : (is_cancelled : Bool) (old new : Retrieval) (s s' : Seen) (result : Result Outcome Ended) → IsOpen old → IsReading old s → StaysHonest s s' → GivesNoReservation old.shelf s s' → IsTroubled s s'
+pub honest_trouble : (is_cancelled : Bool) (old new : Retrieval) (s s' : Seen) (result : Result Outcome Ended) → IsOpen old → IsReading old s → StaysHonest s s' → MayLoseReservation old.shelf s s' → IsTroubled s s'
     → CountsTrouble is_cancelled old new result → (IsTrue s.plain → HoldsCurrent old s → ⊥) → CallIsHonest old new s s' result
 honest_trouble is_cancelled old new s s' result open_ reading stays keeps troubled counts not_plain = record {
   stays = stays;

@@ -1,8 +1,10 @@
 pub mod CallLemmas
 pub mod CursorLemmas
 pub mod IdTableLemmas
+pub mod InventoryLemmas
 pub mod PartLemmas
 pub mod ShelfLemmas
 pub mod SinceLemmas
+pub mod StepsLaws
 pub mod WalkLaws
 pub mod WalkLemmas

@@ -16,7 +16,7 @@ use Rattle.ipmi_bus.specs.declared.retrieval.Outcome.TheVariants.{Again, Whole, 
 use Rattle.ipmi_bus.specs.declared.retrieval.Retrieval.{Retrieval}
 use Rattle.ipmi_bus.specs.Shelf.{Row, IsRow, look, whole_len, len_of, largest_len}
 use Rattle.ipmi_bus.specs.Store.{rows_of}
-use Rattle.ipmi_bus.specs.Seen.{Seen, IsHonest, KeepsStore, GivesNoReservation, IsQuiet, current}
+use Rattle.ipmi_bus.specs.Seen.{Seen, IsHonest, KeepsStore, MayLoseReservation, IsQuiet, current}
 use Rattle.ipmi_bus.specs.Answers.{CountsPiece, GivesPiece, PartIsPlain, PartAnswers}
 use Rattle.ipmi_bus.specs.Retrieval.{IsOpen, HasRead, IsReading, HoldsCurrent, IsCalm, GoesOn, HasWhole, CallAnswers, CallIsPlain, CallIsHonest, TakesPart, wanted_len, after_part, request_of}
 use Rattle.ipmi_bus.proofs.ShelfLemmas.{look_row, shelf_of}
@@ -43,7 +43,7 @@ wanted_whole Sdr have buffer row ok same is = elim (cases_lt have 5) [
 wanted_whole Sel have buffer row ok same is = omega (arith, ok.whole)
 
 -- what was read before, in the store that the answer came from
-before_piece : (old : Retrieval) (s s' : Seen) (n : ℕ) (row : Row) → IsReading old s → GivesNoReservation old.shelf s s' → KeepsStore s s' → old.reservation ≡ Some n
+before_piece : (old : Retrieval) (s s' : Seen) (n : ℕ) (row : Row) → IsReading old s → MayLoseReservation old.shelf s s' → KeepsStore s s' → old.reservation ≡ Some n
     → (0 < old.have → current old.shelf s' ≡ Some n) → look (rows_of old.shelf s'.store) old.id ≡ Some row → take old.have old.buffer ≡ take old.have row.bytes
 before_piece old s s' n row reading keeps store held reserved found = elim (cases_lt 0 old.have) [
   | inl some ↦
@@ -57,21 +57,21 @@ before_piece old s s' n row reading keeps store held reserved found = elim (case
 ]
 
 -- and with the piece
-with_piece : (have got asked : ℕ) (before after bytes : List ℕ) → got ≤ asked → take have after ≡ take have before → take have before ≡ take have bytes
+pub with_piece : (have got asked : ℕ) (before after bytes : List ℕ) → got ≤ asked → take have after ≡ take have before → take have before ≡ take have bytes
     → take got (slice_range after have (have + asked)) ≡ take got (drop have bytes) → take (have + got) after ≡ take (have + got) bytes
 with_piece have got asked before after bytes fits front same piece =
     let range : slice_range after have (have + asked) ≡ take asked (drop have after) = ap (λ (k : ℕ). take k (drop have after)) {y = asked} (omega arith) in
     let inner : take got (drop have after) ≡ take got (drop have bytes) = sym (take-take got asked (drop have after) fits) ∙ sym (ap (take got) range) ∙ piece in
     take-add have got after ∙ ap (λ xs. xs ++ take got (drop have after)) (front ∙ same) ∙ ap (λ ys. take have bytes ++ ys) inner ∙ sym (take-add have got bytes)
 
-read_piece : (old : Retrieval) (buffer : List ℕ) (s s' : Seen) (n asked : ℕ) (part : Part) (row : Row) → IsReading old s → GivesNoReservation old.shelf s s' → KeepsStore s s' → old.reservation ≡ Some n
+read_piece : (old : Retrieval) (buffer : List ℕ) (s s' : Seen) (n asked : ℕ) (part : Part) (row : Row) → IsReading old s → MayLoseReservation old.shelf s s' → KeepsStore s s' → old.reservation ≡ Some n
     → take old.have buffer ≡ take old.have old.buffer → GivesPiece (request_of old n asked) part (slice_range buffer old.have (old.have + asked)) s s' row
     → HasRead (after_part part (record old { buffer = buffer })) s' row
 read_piece old buffer s s' n asked part row reading keeps store held front gives = record {
   found = gives.found;
   within = gives.piece.within;
   bytes = with_piece old.have part.got asked old.buffer buffer row.bytes gives.piece.fits front (before_piece old s s' n row reading keeps store held gives.reserved gives.found) gives.piece.bytes;
-  next = gives.piece.next;
+  next = gives.next;
 }
 
 calm_piece : (flag : Bool) (s s' : Seen) → CountsPiece flag s s' → IsCalm s s'

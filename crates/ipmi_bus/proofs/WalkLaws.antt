@@ -10,7 +10,7 @@ use Rattle.std.proofs.lemmas.List.{append-nil}
 use Rattle.ipmi_bus.specs.declared.controller.Shelf.{Shelf}
 use Rattle.ipmi_bus.specs.declared.step.Place.{Place}
 use Rattle.ipmi_bus.specs.declared.step.Place.TheVariants.{First, Id, End}
-use Rattle.ipmi_bus.specs.Shelf.{Row, IsShelf, look, row_with_id, first_row, DistinctIds, LacksId}
+use Rattle.ipmi_bus.specs.Shelf.{Row, IsShelf, look, row_with_id, first_row}
 use Rattle.ipmi_bus.specs.Walk.{row_at, Links, AllOf, IsWalk, place_after, place_after_rows, has_id, WalkEnd, Done, CycleAt, MissingAt, EndsBy, EndsAfter, last_next, HasWalk}
 use Rattle.ipmi_bus.specs.Step.{asked_at, cycle_at}
 use Rattle.ipmi_bus.proofs.ShelfLemmas.{DistinctIds-snoc}

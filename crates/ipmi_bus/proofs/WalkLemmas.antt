@@ -26,7 +26,7 @@ place_of : (next : ℕ) → next ≢ 65535 → place_after next ≡ Id next
 place_of next ne = ap (λ (b : Bool). cond b End (Id next)) (ne_eqb next 65535 ne)
 
 -- the row at an id that is not 0000h
-row_at_id : (rows : List Row) (n : ℕ) → n ≢ 0 → row_at (Id n) rows ≡ look rows n
+pub row_at_id : (rows : List Row) (n : ℕ) → n ≢ 0 → row_at (Id n) rows ≡ look rows n
 row_at_id rows n ne = ap (λ (b : Bool). cond b None (look rows n)) (ne_eqb n 0 ne)
 
 -- what follows a walk's first row is a walk from the place after it

@@ -1,37 +1,47 @@
 -- What an honest controller may answer to each call, and what a plain one has to.
-use Rattle.std.specs.Prelude.{◌≡◌, ℕ, ◌+◌, ◌<◌, ◌≤◌, ◌==◌, Bool, true, false, IsTrue, None, Some, Result, Ok, Err, IsOk, List, length, take, drop}
+use Rattle.std.specs.Prelude.{◌≡◌, ℕ, ◌+◌, ◌<◌, ◌≤◌, ◌==◌, Bool, true, false, IsTrue, Option, None, Some, Result, Ok, Err, IsOk, List, length, take, drop}
 use Rattle.ipmi_bus.specs.declared.controller.Shelf.{Shelf}
 use Rattle.ipmi_bus.specs.declared.controller.Shelf.TheVariants.{Sdr, Sel}
 use Rattle.ipmi_bus.specs.declared.code.CodeClass.{CodeClass}
 use Rattle.ipmi_bus.specs.declared.code.CodeClass.TheVariants.{Cancelled, Busy, SmallerPart, NotPresent, Refusal}
 use Rattle.ipmi_bus.specs.declared.code.Code.{Code}
 use Rattle.ipmi_bus.specs.declared.controller.Part.{Part}
+use Rattle.ipmi_bus.specs.declared.controller.FruSize.{FruSize}
 use Rattle.ipmi_bus.specs.Shelf.{Row, look}
-use Rattle.ipmi_bus.specs.Store.{rows_of}
+use Rattle.ipmi_bus.specs.Store.{Store, rows_of, inventory_of}
 use Rattle.ipmi_bus.specs.Code.{class_of}
-use Rattle.ipmi_bus.specs.Seen.{Seen, IsQuiet, IsTroubled, IsFinished, IsRefused, IsChange, GivesNoReservation, current}
+use Rattle.ipmi_bus.specs.Seen.{Seen, IsQuiet, IsTroubled, IsFinished, IsRefused, IsChange, MayLoseReservation, current}
 
 abbrev pub other : Shelf → Shelf
 other Sdr = Sel
 other Sel = Sdr
 
--- ---- a reservation
+-- data up to the last byte finishes what is read in parts
+abbrev pub CountsPiece : Bool → Seen → Seen → Type 0
+CountsPiece true old new = IsFinished old new
+CountsPiece false old new = IsQuiet old new
 
-abbrev pub ReserveFails : CodeClass → ℕ → Seen → Seen → Type 0
-ReserveFails Cancelled code old new = IsTroubled old new
-ReserveFails Busy code old new = IsTroubled old new
-ReserveFails SmallerPart code old new = ⊥
-ReserveFails NotPresent code old new = ⊥
-ReserveFails Refusal code old new = IsRefused code old new
+-- what a failing call counts, where a smaller part may be asked for under one condition, and CBh comes under another
+abbrev pub FailsWith : Type 0 → Type 0 → CodeClass → ℕ → Seen → Seen → Type 0
+FailsWith may_be_smaller is_absent Cancelled code old new = IsTroubled old new
+FailsWith may_be_smaller is_absent Busy code old new = IsTroubled old new
+FailsWith may_be_smaller is_absent SmallerPart code old new = may_be_smaller × IsQuiet old new
+FailsWith may_be_smaller is_absent NotPresent code old new = is_absent × IsFinished old new
+FailsWith may_be_smaller is_absent Refusal code old new = IsRefused code old new
+
+abbrev pub not_present : Code
+not_present = record { 0 = 0xCB }
+
+-- ---- a reservation
 
 abbrev pub ReserveGives : Shelf → Result ℕ Code → Seen → Seen → Type 0
 ReserveGives shelf (Ok r) old new = IsQuiet old new × (current shelf new ≡ Some r)
-ReserveGives shelf (Err code) old new = ReserveFails (class_of code.0) code.0 old new × GivesNoReservation shelf old new
+ReserveGives shelf (Err code) old new = FailsWith ⊥ ⊥ (class_of code.0) code.0 old new × MayLoseReservation shelf old new
 
 pub record ReserveAnswers (shelf : Shelf) (result : Result ℕ Code) (old new : Seen) : Type 0 where
   pub change : IsChange old new
   pub gives : ReserveGives shelf result old new
-  pub beside : GivesNoReservation (other shelf) old new
+  pub beside : MayLoseReservation (other shelf) old new
   pub plain : IsTrue old.plain → IsOk result
 
 -- ---- a part of a record
@@ -44,46 +54,96 @@ pub record Asked : Type 0 where
   pub offset : ℕ
   pub len : ℕ
 
--- bytes of the row, at least one and no more than asked, from the offset on; its next id stands beside them
-pub record IsPiece (row : Row) (offset asked : ℕ) (part : Part) (into : List ℕ) : Type 0 where
-  pub some : 0 < part.got
-  pub fits : part.got ≤ asked
-  pub within : offset + part.got ≤ length row.bytes
-  pub bytes : take part.got into ≡ take part.got (drop offset row.bytes)
-  pub next : part.next ≡ row.next
-
--- data up to the last byte finishes the row
-abbrev pub CountsPiece : Bool → Seen → Seen → Type 0
-CountsPiece true old new = IsFinished old new
-CountsPiece false old new = IsQuiet old new
+-- bytes of these, at least one and no more than asked, from the offset on
+pub record IsPiece (whole : List ℕ) (offset asked got : ℕ) (into : List ℕ) : Type 0 where
+  pub some : 0 < got
+  pub fits : got ≤ asked
+  pub within : offset + got ≤ length whole
+  pub bytes : take got into ≡ take got (drop offset whole)
 
 -- Data is of a row of the store as it is after the call. Past the first byte it comes only under the current reservation.
 pub record GivesPiece (ask : Asked) (part : Part) (into : List ℕ) (old new : Seen) (row : Row) : Type 0 where
   pub found : look (rows_of ask.shelf new.store) ask.id ≡ Some row
-  pub piece : IsPiece row ask.offset ask.len part into
+  pub piece : IsPiece row.bytes ask.offset ask.len part.got into
+  pub next : part.next ≡ row.next
   pub reserved : 0 < ask.offset → current ask.shelf new ≡ Some ask.reservation
   pub counts : CountsPiece (ask.offset + part.got == length row.bytes) old new
 
-abbrev pub PartFails : Asked → CodeClass → ℕ → Seen → Seen → Type 0
-PartFails ask Cancelled code old new = IsTroubled old new
-PartFails ask Busy code old new = IsTroubled old new
-PartFails ask SmallerPart code old new = (1 < ask.len) × IsQuiet old new
-PartFails ask NotPresent code old new = (look (rows_of ask.shelf new.store) ask.id ≡ None) × IsFinished old new
-PartFails ask Refusal code old new = IsRefused code old new
-
 abbrev pub PartGives : Asked → Result Part Code → List ℕ → Seen → Seen → Type 0
 PartGives ask (Ok part) into old new = (row : Row) × GivesPiece ask part into old new row
-PartGives ask (Err code) into old new = PartFails ask (class_of code.0) code.0 old new
+PartGives ask (Err code) into old new = FailsWith (1 < ask.len) (look (rows_of ask.shelf new.store) ask.id ≡ None) (class_of code.0) code.0 old new
 
 -- a plain controller gives what is there, and says CBh of what is not
 pub record PartIsPlain (ask : Asked) (result : Result Part Code) (old : Seen) : Type 0 where
   pub found : (row : Row) → look (rows_of ask.shelf old.store) ask.id ≡ Some row → ask.offset < length row.bytes
       → ((0 < ask.offset) → current ask.shelf old ≡ Some ask.reservation) → IsOk result
-  pub absent : look (rows_of ask.shelf old.store) ask.id ≡ None → result ≡ Err (record { 0 = 0xCB })
+  pub absent : look (rows_of ask.shelf old.store) ask.id ≡ None → result ≡ Err not_present
 
 pub record PartAnswers (ask : Asked) (result : Result Part Code) (into : List ℕ) (old new : Seen) : Type 0 where
   pub change : IsChange old new
   pub gives : PartGives ask result into old new
-  pub keeps : GivesNoReservation ask.shelf old new
-  pub beside : GivesNoReservation (other ask.shelf) old new
+  pub keeps : MayLoseReservation ask.shelf old new
+  pub beside : MayLoseReservation (other ask.shelf) old new
   pub plain : IsTrue old.plain → PartIsPlain ask result old
+
+-- ---- a value: an info, a reading
+
+abbrev pub ValueGives : {V : Type 0} → (Store → Option V) → Result V Code → Seen → Seen → Type 0
+ValueGives value (Ok v) old new = (value new.store ≡ Some v) × IsFinished old new
+ValueGives value (Err code) old new = FailsWith ⊥ (value new.store ≡ None) (class_of code.0) code.0 old new
+
+-- a plain controller gives the value that is there, and says CBh of one that is not
+abbrev pub ValueIsPlain : {V : Type 0} → Option V → Result V Code → Type 0
+ValueIsPlain (Some v) result = result ≡ Ok v
+ValueIsPlain None result = result ≡ Err not_present
+
+-- the answer to a request for a value of the store
+pub record ValueAnswers {V : Type 0} (value : Store → Option V) (result : Result V Code) (old new : Seen) : Type 0 where
+  pub change : IsChange old new
+  pub gives : ValueGives value result old new
+  pub sdr : MayLoseReservation Sdr old new
+  pub sel : MayLoseReservation Sel old new
+  pub plain : IsTrue old.plain → ValueIsPlain (value old.store) result
+
+-- ---- an inventory
+
+-- its size, in bytes, and that it is accessed by bytes: an inventory of a store always is; a size of 0 finishes it
+pub record GivesSize (size : FruSize) (old new : Seen) (bytes : List ℕ) : Type 0 where
+  pub size_is : size.size ≡ length bytes
+  pub no_words : size.words ≡ false
+  pub counts : CountsPiece (length bytes == 0) old new
+
+abbrev pub SizeGives : ℕ → Result FruSize Code → Seen → Seen → Type 0
+SizeGives id (Ok size) old new = (bytes : List ℕ) × (inventory_of id new.store ≡ Some bytes) × GivesSize size old new bytes
+SizeGives id (Err code) old new = FailsWith ⊥ (inventory_of id new.store ≡ None) (class_of code.0) code.0 old new
+
+abbrev pub SizeIsPlain : Option (List ℕ) → Result FruSize Code → Type 0
+SizeIsPlain (Some bytes) result = IsOk result
+SizeIsPlain None result = result ≡ Err not_present
+
+pub record SizeAnswers (id : ℕ) (result : Result FruSize Code) (old new : Seen) : Type 0 where
+  pub change : IsChange old new
+  pub gives : SizeGives id result old new
+  pub sdr : MayLoseReservation Sdr old new
+  pub sel : MayLoseReservation Sel old new
+  pub plain : IsTrue old.plain → SizeIsPlain (inventory_of id old.store) result
+
+-- data of it, from an offset on
+pub record GivesBytes (offset asked got : ℕ) (into : List ℕ) (old new : Seen) (bytes : List ℕ) : Type 0 where
+  pub piece : IsPiece bytes offset asked got into
+  pub counts : CountsPiece (offset + got == length bytes) old new
+
+abbrev pub BytesGives : ℕ → ℕ → ℕ → Result ℕ Code → List ℕ → Seen → Seen → Type 0
+BytesGives id offset asked (Ok got) into old new = (bytes : List ℕ) × (inventory_of id new.store ≡ Some bytes) × GivesBytes offset asked got into old new bytes
+BytesGives id offset asked (Err code) into old new = FailsWith (1 < asked) (inventory_of id new.store ≡ None) (class_of code.0) code.0 old new
+
+abbrev pub BytesIsPlain : Option (List ℕ) → ℕ → Result ℕ Code → Type 0
+BytesIsPlain (Some bytes) offset result = offset < length bytes → IsOk result
+BytesIsPlain None offset result = result ≡ Err not_present
+
+pub record BytesAnswers (id offset asked : ℕ) (result : Result ℕ Code) (into : List ℕ) (old new : Seen) : Type 0 where
+  pub change : IsChange old new
+  pub gives : BytesGives id offset asked result into old new
+  pub sdr : MayLoseReservation Sdr old new
+  pub sel : MayLoseReservation Sel old new
+  pub plain : IsTrue old.plain → BytesIsPlain (inventory_of id old.store) offset result

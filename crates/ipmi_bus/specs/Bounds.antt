@@ -5,6 +5,11 @@ use Rattle.std.specs.Prelude.{ℕ, ◌+◌, ◌*◌, nat_le, if◌then◌else◌
 abbrev pub step_call_bound : ℕ → ℕ → ℕ
 step_call_bound tries len = (tries + 1) * (len + 2)
 
+-- of an inventory of this length: a call for its size, one for each byte, one for each trouble, and one for each fall of the
+-- part size, of which there are at most seven
+abbrev pub fru_call_bound : ℕ → ℕ → ℕ
+fru_call_bound tries len = len + tries + 8
+
 -- 1 where the number reaches this power of two, else 0
 abbrev pub reaches : ℕ → ℕ → ℕ
 reaches power n = if nat_le power n then 1 else 0

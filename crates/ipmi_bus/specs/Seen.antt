@@ -81,7 +81,7 @@ pub record IsChange (old new : Seen) : Type 0 where
 
 -- No reservation of the shelf becomes current, and none stays so where a store is added. An honest controller may cancel one
 -- at any call, a plain one cancels none.
-pub record GivesNoReservation (shelf : Shelf) (old new : Seen) : Type 0 where
+pub record MayLoseReservation (shelf : Shelf) (old new : Seen) : Type 0 where
   pub none_given : (r : ℕ) → current shelf new ≡ Some r → current shelf old ≡ Some r
   pub none_over_change : old.stores_added < new.stores_added → current shelf new ≡ None
   pub plain : IsTrue old.plain → current shelf new ≡ current shelf old

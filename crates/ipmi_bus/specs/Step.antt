@@ -17,7 +17,7 @@ use Rattle.ipmi_bus.specs.Bounds.{step_call_bound, digits}
 use Rattle.ipmi_bus.specs.CursorState.{CursorState}
 use Rattle.ipmi_bus.specs.Standing.{FollowsWalks}
 
--- the id that is asked for: 0000h for the first record (at the end nothing is asked for, and 0 stands in)
+-- the id that is asked for: 0000h for the first record (at the end no call is made, and 0 stands in)
 abbrev pub asked_at : Place → ℕ
 asked_at First = 0
 asked_at (Id n) = n
@@ -31,11 +31,12 @@ cycle_at End ids = None
 
 -- ---- over any controller
 
-pub record SameCursor (old new : CursorState) : Type 0 where
+-- the shelf and the tries stay, and the part size never rises
+pub record KeepsSettings (old new : CursorState) : Type 0 where
   pub shelf : new.shelf ≡ old.shelf
   pub tries : new.tries ≡ old.tries
   pub part : new.part ≤ old.part
-  pub some : 0 < new.part
+  pub part_not_zero : 0 < new.part
 
 -- the id is the one asked for, or at the start the one with which the bytes begin
 abbrev pub HasIdAsked : Place → Row → Type 0
@@ -61,7 +62,7 @@ pub record StaysThere (old new : CursorState) : Type 0 where
   pub reservation : new.reservation ≡ None
 
 -- there is no more: the cursor stood at the start or at the end, and stands at the end
-pub record IsAtEnd (old new : CursorState) : Type 0 where
+pub record GoesToEnd (old new : CursorState) : Type 0 where
   pub place : new.place ≡ End
   pub ids : new.ids ≡ old.ids
   pub from : (n : ℕ) → old.place ≢ Id n
@@ -75,7 +76,7 @@ pub record FailsAt (n : ℕ) (old new : CursorState) : Type 0 where
 -- Cycle comes exactly where the chain closes
 abbrev pub StepLeaves : CursorState → CursorState → Result (Option Row) Ended → Type 0
 StepLeaves old new (Ok (Some row)) = (cycle_at old.place old.ids ≡ None) × HandsOut old new row
-StepLeaves old new (Ok None) = (cycle_at old.place old.ids ≡ None) × IsAtEnd old new
+StepLeaves old new (Ok None) = (cycle_at old.place old.ids ≡ None) × GoesToEnd old new
 StepLeaves old new (Err (Cycle n)) = (cycle_at old.place old.ids ≡ Some n) × StaysThere old new
 StepLeaves old new (Err (Missing n)) = (cycle_at old.place old.ids ≡ None) × StaysThere old new × (old.place ≡ Id n)
 StepLeaves old new (Err (GaveUp n)) = (cycle_at old.place old.ids ≡ None) × FailsAt n old new
@@ -83,9 +84,9 @@ StepLeaves old new (Err (Refused n code)) = (cycle_at old.place old.ids ≡ None
 StepLeaves old new (Err (Stalled n)) = (cycle_at old.place old.ids ≡ None) × FailsAt n old new
 StepLeaves old new (Err (Malformed n)) = (cycle_at old.place old.ids ≡ None) × FailsAt n old new × (old.shelf ≡ Sdr)
 
--- the step makes no call: the cursor is at the end, or the chain closes
-abbrev pub MakesNoCall : CursorState → Type 0
-MakesNoCall c = (c.place ≡ End) ⊎ IsSome (cycle_at c.place c.ids)
+-- a step from here asks nothing of the controller: the cursor is at the end, or the chain closes
+abbrev pub AsksNothing : CursorState → Type 0
+AsksNothing c = (c.place ≡ End) ⊎ IsSome (cycle_at c.place c.ids)
 
 -- no more calls than the bound for a record of this length, but for those that made the part size fall
 abbrev pub StepCalls : ℕ → CursorState → CursorState → Seen → Seen → Type 0
@@ -116,19 +117,19 @@ pub record CursorHoldsCurrent (c : CursorState) (seen : Seen) : Type 0 where
   pub held : (n : ℕ) → c.reservation ≡ Some n → current c.shelf seen ≡ Some n
 
 -- neither given up nor refused
-abbrev pub IsFineStep : Result (Option Row) Ended → Type 0
-IsFineStep (Ok o) = Unit {0}
-IsFineStep (Err (GaveUp id)) = ⊥
-IsFineStep (Err (Refused id code)) = ⊥
-IsFineStep (Err (Cycle id)) = Unit {0}
-IsFineStep (Err (Missing id)) = Unit {0}
-IsFineStep (Err (Stalled id)) = Unit {0}
-IsFineStep (Err (Malformed id)) = Unit {0}
+abbrev pub NotGivenUpOrRefused : Result (Option Row) Ended → Type 0
+NotGivenUpOrRefused (Ok o) = Unit {0}
+NotGivenUpOrRefused (Err (GaveUp id)) = ⊥
+NotGivenUpOrRefused (Err (Refused id code)) = ⊥
+NotGivenUpOrRefused (Err (Cycle id)) = Unit {0}
+NotGivenUpOrRefused (Err (Missing id)) = Unit {0}
+NotGivenUpOrRefused (Err (Stalled id)) = Unit {0}
+NotGivenUpOrRefused (Err (Malformed id)) = Unit {0}
 
 -- over a plain controller
 pub record StepIsPlain (new : CursorState) (s' : Seen) (result : Result (Option Row) Ended) : Type 0 where
   pub holds : CursorHoldsCurrent new s'
-  pub fine : IsFineStep result
+  pub fine : NotGivenUpOrRefused result
 
 -- over an honest controller
 pub record StepIsHonest (old new : CursorState) (s s' : Seen) (result : Result (Option Row) Ended) : Type 0 where
@@ -141,8 +142,9 @@ pub record StepIsHonest (old new : CursorState) (s s' : Seen) (result : Result (
 
 -- a step, by the cursor and the controller before and after it
 pub record IsStep (old new : CursorState) (s s' : Seen) (result : Result (Option Row) Ended) : Type 0 where
-  pub same : SameCursor old new
+  pub same : KeepsSettings old new
   pub leaves : StepLeaves old new result
   pub calls : StepCalls (largest_len old.shelf) old new s s'
+  pub no_call : AsksNothing old → s' ≡ s
   pub honest : IsHonest s → StepIsHonest old new s s' result
   pub walks : IsHonest s → FollowsWalks old new s s' result

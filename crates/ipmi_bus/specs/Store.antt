@@ -1,5 +1,5 @@
 -- What a management controller holds: both shelves, FRU inventories, sensor readings and repository info.
-use Rattle.std.specs.Prelude.{◌≡◌, ◌≢◌, ℕ, ◌<◌, ◌≤◌, Option, IfSome, List, length, All, AllPairs}
+use Rattle.std.specs.Prelude.{◌≡◌, ◌≢◌, ℕ, ◌<◌, ◌≤◌, ◌==◌, ◌&&◌, if◌then◌else◌, Option, None, Some, IfSome, List, [], ◌∷◌, length, All, AllPairs}
 use Rattle.ipmi_text.specs.declared.reading.Reading.{Reading}
 use Rattle.ipmi_bus.specs.declared.controller.Shelf.{Shelf}
 use Rattle.ipmi_bus.specs.declared.controller.Shelf.TheVariants.{Sdr, Sel}
@@ -31,6 +31,22 @@ rows_of Sel store = store.sel
 abbrev pub info_of : Shelf → Store → Option (List ℕ)
 info_of Sdr store = store.sdr_info
 info_of Sel store = store.sel_info
+
+-- the reading of the sensor with this number at this LUN
+abbrev pub reading_in : List SensorReading → ℕ → ℕ → Option Reading
+reading_in [] lun number = None
+reading_in (sensor ∷ sensors) lun number = if (sensor.lun == lun) && (sensor.number == number) then Some sensor.reading else reading_in sensors lun number
+
+abbrev pub reading_of : ℕ → ℕ → Store → Option Reading
+reading_of lun number store = reading_in store.readings lun number
+
+-- the bytes of the inventory of the FRU device with this id
+abbrev pub inventory_in : List Inventory → ℕ → Option (List ℕ)
+inventory_in [] id = None
+inventory_in (inventory ∷ inventories) id = if inventory.id == id then Some inventory.bytes else inventory_in inventories id
+
+abbrev pub inventory_of : ℕ → Store → Option (List ℕ)
+inventory_of id store = inventory_in store.inventories id
 
 -- FRU device FFh is no device, and an inventory's size is a 16-bit number
 pub record IsInventory (inventory : Inventory) : Type 0 where

@@ -1,5 +1,5 @@
 -- Walks along the next ids of a shelf, as lists of rows, and how a walk ends.
-use Rattle.std.specs.Prelude.{◌≡◌, ◌≢◌, ℕ, ◌==◌, if◌then◌else◌, Option, Some, None, IfSome, List, [], ◌∷◌, Bool, false, ◌||◌, IsTrue}
+use Rattle.std.specs.Prelude.{◌≡◌, ◌≢◌, ℕ, ◌==◌, if◌then◌else◌, Option, Some, None, IfSome, List, [], ◌∷◌, ◌++◌, Bool, false, ◌||◌, IsTrue}
 use Rattle.ipmi_bus.specs.declared.controller.Shelf.{Shelf}
 use Rattle.ipmi_bus.specs.declared.step.Place.{Place}
 use Rattle.ipmi_bus.specs.declared.step.Place.TheVariants.{First, Id, End}
@@ -79,7 +79,7 @@ abbrev pub EndsBy : List Row → Place → List Row → WalkEnd → Type 0
 EndsBy rows start [] end = EndsEmpty rows start end
 EndsBy rows start (row ∷ walk) end = EndsAfter rows (row ∷ walk) (last_next row.next walk) end
 
--- ---- the law
+-- ---- laws
 
 -- a walk from the place that has an end
 abbrev pub HasWalk : List Row → Place → Type 0
@@ -93,3 +93,8 @@ WalkExists = (shelf : Shelf) (rows : List Row) (start : Place) → IsShelf shelf
 abbrev pub WalkIsUnique : Type 0
 WalkIsUnique = (shelf : Shelf) (rows : List Row) (start : Place) (a b : List Row) (e f : WalkEnd) → IsShelf shelf rows
     → IsWalk rows start a → EndsBy rows start a e → IsWalk rows start b → EndsBy rows start b f → (a ≡ b) × (e ≡ f)
+
+-- the rest of a walk that ends by Done is the walk from its first row's id, where that is not 0000h, and ends by Done
+abbrev pub RestIsWalk : Type 0
+RestIsWalk = (shelf : Shelf) (rows : List Row) (start : Place) (before : List Row) (row : Row) (after : List Row) → IsShelf shelf rows → IsWalk rows start (before ++ row ∷ after) → EndsBy rows start (before ++ row ∷ after) Done
+    → row.id ≢ 0 → IsWalk rows (Id row.id) (row ∷ after) × EndsBy rows (Id row.id) (row ∷ after) Done

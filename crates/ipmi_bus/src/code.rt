@@ -1,11 +1,11 @@
-//! Completion codes (IPMI v2.0, section 5.2, and 81h of section 34.2), and what each means for a retrieval.
+//! Completion codes (IPMI v2.0, section 5.2, and 81h of sections 31.5 and 34.2), and what each means for a retrieval.
 
 /// What a completion code means for a retrieval. The division into these five is this project's own.
 #[derive(Clone, Copy, Debug, PartialEq, Eq)]
 pub enum CodeClass {
     /// C5h: the reservation was cancelled. A trouble: a record that is read in parts begins again.
     Cancelled,
-    /// C0h (node busy), C3h (timeout), 81h (FRU device busy). A trouble: the same call may succeed later.
+    /// C0h (node busy), C3h (timeout), 81h (FRU device busy, or the event log being erased). A trouble: the same call may succeed later.
     Busy,
     /// C7h, C8h, CAh: this many bytes can't be had at once.
     SmallerPart,

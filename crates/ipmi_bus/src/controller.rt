@@ -1,9 +1,11 @@
 //! A management controller as a retrieval asks it, with all that is promised of its answers.
 ghost use Rattle.std.specs.Prelude.{◌≡◌, ◌+◌, ◌<◌, ◌≤◌, IfOk, OnErr, length, drop};
 ghost use Rattle.ipmi_bus.specs.Seen.{Seen, IsHonest};
-ghost use Rattle.ipmi_bus.specs.Answers.{ReserveAnswers, PartAnswers};
+ghost use Rattle.ipmi_bus.specs.Store.{info_of, reading_of};
+ghost use Rattle.ipmi_bus.specs.Answers.{ReserveAnswers, PartAnswers, ValueAnswers, SizeAnswers, BytesAnswers};
 
 use crate::code::Code;
+use ipmi_text::Reading;
 
 /// The two repositories of records (IPMI v2.0, sections 31 and 33).
 #[derive(Clone, Copy, Debug, PartialEq, Eq)]
@@ -21,6 +23,15 @@ pub struct Part {
     pub next: u16,
     /// How many bytes of data came.
     pub got: u8,
+}
+
+/// The answer of Get FRU Inventory Area Info.
+#[derive(Clone, Copy, Debug, PartialEq, Eq)]
+pub struct FruSize {
+    /// The size of the inventory, in bytes.
+    pub size: u16,
+    /// The device is accessed by words, not by bytes.
+    pub words: bool,
 }
 
 /// A management controller.
@@ -56,4 +67,32 @@ pub trait Controller {
         ensures honest { IsHonest (seen self.old) →
             PartAnswers (record { shelf = shelf; reservation = reservation; id = id; offset = offset; len = length into.old })
             result into.new (seen self.old) (seen self.new) };
+
+    /// Get SDR Repository Info or Get SEL Info (IPMI v2.0, sections 33.9 and 31.2): the 14 bytes after the
+    /// completion code.
+    fn info(&mut self, shelf: Shelf) -> Result<[u8; 14], Code>
+        ensures counted { (seen self.new).calls ≡ (seen self.old).calls + 1 }
+        ensures honest { IsHonest (seen self.old) → ValueAnswers (info_of shelf) result (seen self.old) (seen self.new) };
+
+    /// Get Sensor Reading (IPMI v2.0, section 35.14) of the sensor with this number at this LUN.
+    fn reading(&mut self, lun: u8, number: u8) -> Result<Reading, Code>
+        ensures counted { (seen self.new).calls ≡ (seen self.old).calls + 1 }
+        ensures honest { IsHonest (seen self.old) → ValueAnswers (reading_of lun number) result (seen self.old) (seen self.new) };
+
+    /// Get FRU Inventory Area Info (IPMI v2.0, section 34.1) of the FRU device with this id.
+    fn fru_size(&mut self, id: u8) -> Result<FruSize, Code>
+        ensures counted { (seen self.new).calls ≡ (seen self.old).calls + 1 }
+        ensures honest { IsHonest (seen self.old) → SizeAnswers id result (seen self.old) (seen self.new) };
+
+    /// Read FRU Data (IPMI v2.0, section 34.2): bytes of the inventory of the FRU device with this id, from the
+    /// offset on, as many as `into` has, 1 to 254. At Ok so many first bytes of `into` are the data.
+    fn fru_part(&mut self, id: u8, offset: u16, into: &mut [u8]) -> Result<u8, Code>
+        requires some { 0 < length into.old }
+        requires fits { length into.old < 255 }
+        ensures counted { (seen self.new).calls ≡ (seen self.old).calls + 1 }
+        ensures fits { IfOk result (λ got. got ≤ length into.old) }
+        ensures rest { IfOk result (λ got. drop got into.new ≡ drop got into.old) }
+        ensures err { OnErr result (into.new ≡ into.old) }
+        ensures honest { IsHonest (seen self.old) →
+            BytesAnswers id offset (length into.old) result into.new (seen self.old) (seen self.new) };
 }

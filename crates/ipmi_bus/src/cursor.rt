@@ -6,7 +6,7 @@ ghost use Rattle.std.specs.Borrow.{sem};
 ghost use Rattle.ipmi_bus.specs.Seen.{IsHonest, StaysHonest};
 ghost use Rattle.ipmi_bus.specs.Shelf.{Row, whole_len, largest_len};
 ghost use Rattle.ipmi_bus.specs.Walk.{place_after};
-ghost use Rattle.ipmi_bus.specs.Step.{SameCursor, StepLeaves, StepCalls, StepIsHonest, StepAnswers, MakesNoCall};
+ghost use Rattle.ipmi_bus.specs.Step.{KeepsSettings, StepLeaves, StepCalls, StepIsHonest, StepAnswers, AsksNothing};
 ghost use Rattle.ipmi_bus.specs.Standing.{FollowsWalks, StandsAt};
 ghost use Rattle.ipmi_bus.specs.Handed.{state_of, IsCursor, handed_result, handed_id, IsNext};
 
@@ -95,11 +95,11 @@ impl Progress {
     fn advance<C: Controller>(&mut self, ctl: &mut C) -> Result<Option<Handed>, Ended>
         requires { IsCursor self.old }
         ensures cursor { IsCursor self.new }
-        ensures same { SameCursor (state_of self.old) (state_of self.new) }
+        ensures same { KeepsSettings (state_of self.old) (state_of self.new) }
         ensures fits { IfOk result (λ o. IfSome o (λ handed. handed.len ≤ 256)) }
         ensures leaves { StepLeaves (state_of self.old) (state_of self.new) (handed_result self.new result) }
         ensures calls { StepCalls (largest_len self.old.retrieval.shelf) (state_of self.old) (state_of self.new) (C.seen ctl.old) (C.seen ctl.new) }
-        ensures no_call { MakesNoCall (state_of self.old) → C.seen ctl.new ≡ C.seen ctl.old }
+        ensures no_call { AsksNothing (state_of self.old) → C.seen ctl.new ≡ C.seen ctl.old }
         ensures honest { IsHonest (C.seen ctl.old) → StepIsHonest (state_of self.old) (state_of self.new) (C.seen ctl.old) (C.seen ctl.new) (handed_result self.new result) }
     {
         let asked = match self.next() {
@@ -133,11 +133,11 @@ impl Progress {
     fn advance_along<C: Controller>(&mut self, ctl: &mut C) -> Result<Option<Handed>, Ended>
         requires { IsCursor self.old }
         ensures cursor { IsCursor self.new }
-        ensures same { SameCursor (state_of self.old) (state_of self.new) }
+        ensures same { KeepsSettings (state_of self.old) (state_of self.new) }
         ensures fits { IfOk result (λ o. IfSome o (λ handed. handed.len ≤ 256)) }
         ensures leaves { StepLeaves (state_of self.old) (state_of self.new) (handed_result self.new result) }
         ensures calls { StepCalls (largest_len self.old.retrieval.shelf) (state_of self.old) (state_of self.new) (C.seen ctl.old) (C.seen ctl.new) }
-        ensures no_call { MakesNoCall (state_of self.old) → C.seen ctl.new ≡ C.seen ctl.old }
+        ensures no_call { AsksNothing (state_of self.old) → C.seen ctl.new ≡ C.seen ctl.old }
         ensures honest { IsHonest (C.seen ctl.old) → StepIsHonest (state_of self.old) (state_of self.new) (C.seen ctl.old) (C.seen ctl.new) (handed_result self.new result) }
         ensures walks { IsHonest (C.seen ctl.old) → FollowsWalks (state_of self.old) (state_of self.new) (C.seen ctl.old) (C.seen ctl.new) (handed_result self.new result) }
     {
@@ -224,8 +224,9 @@ impl Cursor {
     /// where it stood and holds no reservation, so that a later step tries again.
     pub fn step<C: Controller>(&mut self, ctl: &mut C) -> Result<Option<Record<'_>>, Ended>
         ensures* after { sem 𝓛 (CursorRests self.entry (λ new. IsStep self.old new (C.seen ctl.old) (C.seen ctl.new) (as_rows result))) }
+        // what follows is known at once, while the record is lent
         ensures at_end { self.old.place ≡ End → as_rows result ≡ Ok None }
-        ensures no_call { MakesNoCall self.old → C.seen ctl.new ≡ C.seen ctl.old }
+        ensures no_call { AsksNothing self.old → C.seen ctl.new ≡ C.seen ctl.old }
         ensures whole { IfOk result (λ o. IfSome o (λ record_. length record_.bytes.now ≡ whole_len self.old.shelf record_.bytes.now)) }
         ensures fits { IfOk result (λ o. IfSome o (λ record_. length record_.bytes.now ≤ largest_len self.old.shelf)) }
         ensures answers { IsHonest (C.seen ctl.old) → StaysHonest (C.seen ctl.old) (C.seen ctl.new) × StepAnswers self.old (C.seen ctl.old) (C.seen ctl.new) (as_rows result) }

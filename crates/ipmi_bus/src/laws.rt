@@ -1,8 +1,21 @@
-//! Laws of walks, each the contract of a function that does nothing.
-ghost use Rattle.ipmi_bus.specs.Walk.{WalkExists, WalkIsUnique};
+//! Laws of walks and of steps along them, each the contract of a function that does nothing.
+ghost use Rattle.ipmi_bus.specs.Walk.{WalkExists, WalkIsUnique, RestIsWalk};
+ghost use Rattle.ipmi_bus.specs.Steps.{StepsFollowWalk};
 
 /// From each place of a shelf exactly one walk has an end.
 pub fn one_walk_has_an_end()
     ensures exists { WalkExists }
     ensures unique { WalkIsUnique }
+{}
+
+/// Where a walk ends by Done, the walk from the id of any of its rows, other than 0000h, is its rest from that row, and ends
+/// by Done.
+pub fn the_rest_is_a_walk()
+    ensures { RestIsWalk }
+{}
+
+/// However often a cursor gives up or is refused, and whatever else is asked of the controller between its steps, they hand
+/// out the first rows of the walk from its start, in order, none left out and none twice.
+pub fn steps_follow_the_walk()
+    ensures { StepsFollowWalk }
 {}

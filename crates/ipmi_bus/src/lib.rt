@@ -5,13 +5,17 @@ mod code;
 mod controller;
 mod cursor;
 mod id_table;
+mod inventory;
 pub mod laws;
+mod readers;
 mod retrieval;
 mod step;
 mod tally;
 
 pub use code::{Code, CodeClass};
-pub use controller::{Controller, Part, Shelf};
+pub use controller::{Controller, FruSize, Part, Shelf};
 pub use cursor::Cursor;
+pub use inventory::{FruEnded, read_fru};
+pub use readers::{read_info, read_reading};
 pub use step::{Ended, Place, Record};
 pub use tally::{Event, Tally};

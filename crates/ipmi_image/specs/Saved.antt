@@ -30,6 +30,6 @@ AnswersPiece rows is_current id offset old new Absent = (look rows id ≡ None) 
 AnswersPiece rows is_current id offset old new NotReserved = (row : Row) × (look rows id ≡ Some row) × (0 < offset) × (is_current ≡ false) × (new ≡ old)
 AnswersPiece rows is_current id offset old new PastEnd = (row : Row) × (look rows id ≡ Some row) × (length row.bytes ≤ offset) × (new ≡ old)
 AnswersPiece rows is_current id offset old new (Data part is_last) =
-    (row : Row) × (look rows id ≡ Some row) × IsPiece row offset (length old) part new
+    (row : Row) × (look rows id ≡ Some row) × IsPiece row.bytes offset (length old) part.got new × (part.next ≡ row.next)
     × (drop part.got new ≡ drop part.got old)
     × (0 < offset → IsTrue is_current) × (is_last ≡ (offset + part.got == length row.bytes))

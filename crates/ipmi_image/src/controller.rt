@@ -7,7 +7,17 @@ ghost use Rattle.ipmi_image.specs.Grammar.{sdr_store};
 ghost use Rattle.ipmi_image.specs.Saved.{seen_of, AnswersPiece};
 
 use crate::image::{Image, StoredRow};
-use ipmi_bus::{Code, Controller, Event, Part, Shelf, Tally};
+use ipmi_bus::{Code, Controller, Event, FruSize, Part, Shelf, Tally};
+use ipmi_text::Reading;
+
+/// What was asked for is not there.
+const NOT_PRESENT: Code = Code(0xCB);
+
+/// The reservation was cancelled.
+const CANCELLED: Code = Code(0xC5);
+
+/// The parameter is out of range: the record has no byte at the offset.
+const OUT_OF_RANGE: u8 = 0xC9;
 
 /// What there is to answer to a request for a part.
 enum Piece {
@@ -129,15 +139,15 @@ impl Controller for ImageController {
         match piece {
             Piece::Absent => {
                 self.tally.count(Event::Finished);
-                Err(Code(0xCB))
+                Err(NOT_PRESENT)
             }
             Piece::NotReserved => {
                 self.tally.count(Event::Troubled);
-                Err(Code(0xC5))
+                Err(CANCELLED)
             }
             Piece::PastEnd => {
-                self.tally.count(Event::Refused(0xC9));
-                Err(Code(0xC9))
+                self.tally.count(Event::Refused(OUT_OF_RANGE));
+                Err(Code(OUT_OF_RANGE))
             }
             Piece::Data(part, is_last) => {
                 if is_last {
@@ -146,5 +156,29 @@ impl Controller for ImageController {
                 Ok(part)
             }
         }
+    }
+
+    fn info(&mut self, _shelf: Shelf) -> Result<[u8; 14], Code> {
+        self.tally.count(Event::Called);
+        self.tally.count(Event::Finished);
+        Err(NOT_PRESENT)
+    }
+
+    fn reading(&mut self, _lun: u8, _number: u8) -> Result<Reading, Code> {
+        self.tally.count(Event::Called);
+        self.tally.count(Event::Finished);
+        Err(NOT_PRESENT)
+    }
+
+    fn fru_size(&mut self, _id: u8) -> Result<FruSize, Code> {
+        self.tally.count(Event::Called);
+        self.tally.count(Event::Finished);
+        Err(NOT_PRESENT)
+    }
+
+    fn fru_part(&mut self, _id: u8, _offset: u16, _into: &mut [u8]) -> Result<u8, Code> {
+        self.tally.count(Event::Called);
+        self.tally.count(Event::Finished);
+        Err(NOT_PRESENT)
     }
 }

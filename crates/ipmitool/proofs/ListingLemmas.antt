@@ -18,7 +18,7 @@ use Rattle.ipmi_bus.specs.Walk.{IsWalk, WalkEnd, EndsBy}
 use Rattle.ipmi_bus.specs.Seen.{Seen, IsHonest, StaysHonest}
 use Rattle.ipmi_bus.specs.CursorState.{CursorState}
 use Rattle.ipmi_bus.specs.Standing.{StandsAt, WalkStep}
-use Rattle.ipmi_bus.specs.Step.{IsStep, IsFineStep, CursorHoldsCurrent, HandsOut}
+use Rattle.ipmi_bus.specs.Step.{IsStep, NotGivenUpOrRefused, CursorHoldsCurrent, HandsOut}
 use Rattle.ipmi_bus.proofs.SinceLemmas.{stays_trans}
 use Rattle.ipmitool.specs.declared.listing.Stop.{Stop}
 use Rattle.ipmitool.specs.declared.listing.Stop.TheVariants as stop
@@ -75,7 +75,7 @@ leaves_ended rows start walk end now next t t' (Refused n code) listed step = re
 leaves_ended rows start walk end now next t t' (Stalled n) listed step = step
 leaves_ended rows start walk end now next t t' (Malformed n) listed step = step
 
-fine_ended : (ended : Ended) → IsFineStep (Err ended) → IsFine (stop.Ended ended)
+fine_ended : (ended : Ended) → NotGivenUpOrRefused (Err ended) → IsFine (stop.Ended ended)
 fine_ended (Cycle n) fine = tt
 fine_ended (Missing n) fine = tt
 fine_ended (GaveUp n) fine = fine

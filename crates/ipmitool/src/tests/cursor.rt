@@ -62,6 +62,12 @@ fn answers_end_a_listing_by_name(rt: HostRuntime) {
         ),
         (
             5,
+            &[Reply::Fails(0xC7)],
+            b"record 0000h refused with code C7h\n",
+            1,
+        ),
+        (
+            5,
             &[Reply::Reserves(1), Reply::Fails(0xD4)],
             b"record 0000h refused with code D4h\n",
             2,

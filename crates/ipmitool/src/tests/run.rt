@@ -36,8 +36,8 @@ fn answered(alloc: Global, line: Result<Command, UsageFault>, image: &[u8]) -> L
     }
 }
 
-// Three calls read a record of six bytes: a reservation, the header and the byte after it. The reservation serves all
-// records, and the third record ends with its header.
+// Named for the wrong body that it catches. Three calls read a record of six bytes: a reservation, the header and the byte
+// after it. The reservation serves all records, and the third record ends with its header.
 #[test]
 fn drops_reservation_each_record(rt: HostRuntime) -> Result<(), Fail> {
     let image = Image::read(rt.alloc(), THREE_ROWS)?;

@@ -1,10 +1,12 @@
-use Rattle.std.proofs.Common.{◌≡◌, true, false, sym, ap, subst, ◌∙◌}
+use Rattle.std.proofs.Common.{◌≡◌, ◌<◌, None, true, false, sym, ap, subst, ◌∙◌}
 use Rattle.ipmi_bus.specs.declared.code.CodeClass.{CodeClass}
 use Rattle.ipmi_bus.specs.declared.code.CodeClass.TheVariants.{Cancelled, Busy, NotPresent, Refusal}
 use Rattle.ipmi_bus.specs.declared.retrieval.Retrieval.{Retrieval}
 use Rattle.ipmi_bus.specs.Code.{class_of}
-use Rattle.ipmi_bus.specs.Answers.{PartFails}
-use Rattle.ipmi_bus.specs.Retrieval.{CountsTrouble, request_of}
+use Rattle.ipmi_bus.specs.Answers.{FailsWith}
+use Rattle.ipmi_bus.specs.Shelf.{look}
+use Rattle.ipmi_bus.specs.Store.{rows_of}
+use Rattle.ipmi_bus.specs.Retrieval.{CountsTrouble}
 use Rattle.ipmi_bus.proofs.CallLemmas.{honest_trouble}
 use Rattle.ipmi_bus.proofs.PartLemmas.{honest_part, plain_code}
 use Rattle.ipmi_bus.proofs.retrieval.Retrieval.ask_part.Goals as goal
@@ -19,7 +21,7 @@ returns-in-Cancelled-clause-honest g c = λ honest reading.
     let old = c.args.self.now in
     let parts = c.in-Err.ensures.honest honest in
     let class : class_of c.in-Err.code.0 ≡ Cancelled = sym c.class.ensures ∙ c.in-Cancelled.is in
-    let troubled = subst (λ (x : CodeClass). PartFails (request_of old c.args.reservation c.min-asked.result) x c.in-Err.code.0 (g.C.Controller.seen c.args.ctl.now) (g.C.Controller.seen c.request.new.ctl)) class parts.gives in
+    let troubled = subst (λ (x : CodeClass). FailsWith (1 < c.min-asked.result) (look (rows_of old.shelf (g.C.Controller.seen c.request.new.ctl).store) old.id ≡ None) x c.in-Err.code.0 (g.C.Controller.seen c.args.ctl.now) (g.C.Controller.seen c.request.new.ctl)) class parts.gives in
     let counts = subst (λ (r : Retrieval). CountsTrouble true r c.trouble.new.self c.trouble.result) c.in-Err.ensures.err c.trouble.ensures.counts in
     honest_trouble true old c.trouble.new.self _ _ c.trouble.result c.requires.is_open reading parts.change.stays parts.keeps troubled counts
     (λ plain holds. let code = plain_code old _ c.args.reservation c.min-asked.result c.in-Err.code honest c.requires.is_open reading holds c.requires.reserved (parts.plain plain) in
@@ -30,7 +32,7 @@ returns-in-Busy-clause-honest g c = λ honest reading.
     let old = c.args.self.now in
     let parts = c.in-Err.ensures.honest honest in
     let class : class_of c.in-Err.code.0 ≡ Busy = sym c.class.ensures ∙ c.in-Busy.is in
-    let troubled = subst (λ (x : CodeClass). PartFails (request_of old c.args.reservation c.min-asked.result) x c.in-Err.code.0 (g.C.Controller.seen c.args.ctl.now) (g.C.Controller.seen c.request.new.ctl)) class parts.gives in
+    let troubled = subst (λ (x : CodeClass). FailsWith (1 < c.min-asked.result) (look (rows_of old.shelf (g.C.Controller.seen c.request.new.ctl).store) old.id ≡ None) x c.in-Err.code.0 (g.C.Controller.seen c.args.ctl.now) (g.C.Controller.seen c.request.new.ctl)) class parts.gives in
     let counts = subst (λ (r : Retrieval). CountsTrouble false r c.trouble-in-Busy.new.self c.trouble-in-Busy.result) c.in-Err.ensures.err c.trouble-in-Busy.ensures.counts in
     honest_trouble false old c.trouble-in-Busy.new.self _ _ c.trouble-in-Busy.result c.requires.is_open reading parts.change.stays parts.keeps troubled counts
     (λ plain holds. let code = plain_code old _ c.args.reservation c.min-asked.result c.in-Err.code honest c.requires.is_open reading holds c.requires.reserved (parts.plain plain) in
@@ -41,7 +43,7 @@ returns-in-Refusal-clause-honest g c = λ honest reading.
     let old = c.args.self.now in
     let parts = c.in-Err.ensures.honest honest in
     let class : class_of c.in-Err.code.0 ≡ Refusal = sym c.class.ensures ∙ c.in-Refusal.is in
-    let refused = subst (λ (x : CodeClass). PartFails (request_of old c.args.reservation c.min-asked.result) x c.in-Err.code.0 (g.C.Controller.seen c.args.ctl.now) (g.C.Controller.seen c.request.new.ctl)) class parts.gives in
+    let refused = subst (λ (x : CodeClass). FailsWith (1 < c.min-asked.result) (look (rows_of old.shelf (g.C.Controller.seen c.request.new.ctl).store) old.id ≡ None) x c.in-Err.code.0 (g.C.Controller.seen c.args.ctl.now) (g.C.Controller.seen c.request.new.ctl)) class parts.gives in
     record {
       stays = parts.change.stays;
       answers = (ap (λ (r : Retrieval). r.id) c.in-Err.ensures.err, refused);

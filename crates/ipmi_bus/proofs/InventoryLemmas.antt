@@ -1,0 +1,127 @@
+-- A part of an inventory, as an honest controller gave it.
+use Rattle.std.proofs.Common.{◌≡◌, ℕ, ◌+◌, ◌<◌, ◌≤◌, Bool, true, false, nat_eq, Option, Some, Ok, List, [], length, take, drop, slice_range, refl, sym, ap, subst, ◌∙◌, arith}
+use Rattle.std.specs.Prelude.{unwrap_or}
+use Rattle.std.proofs.lemmas.Bool.Decides.{nat_tests}
+use Rattle.std.proofs.Math.Seq.{take-length}
+use Rattle.std.proofs.lemmas.Bool.{ne_eqb}
+use Rattle.ipmi_bus.specs.declared.inventory.FruEnded.{FruEnded}
+use Rattle.ipmi_bus.specs.declared.inventory.Size.{Size}
+use Rattle.ipmi_bus.specs.declared.inventory.FruRetrieval.{FruRetrieval}
+use Rattle.ipmi_bus.specs.Store.{inventory_of}
+use Rattle.ipmi_bus.specs.Seen.{Seen, IsQuiet, StaysHonest}
+use Rattle.ipmi_bus.specs.Answers.{CountsPiece, BytesAnswers}
+use Rattle.ipmi_bus.specs.FruRetrieval.{SameInventory, HasRead, FruSince, FruEnds, HasSize, calls_left}
+use Rattle.ipmi_bus.specs.Readers.{InventoryIs, inventory_len}
+use Rattle.ipmi_bus.specs.Bounds.{digits, fru_call_bound}
+use Rattle.ipmi_bus.proofs.SinceLemmas.{stays_trans}
+use Rattle.ipmi_bus.proofs.PartLemmas.{with_piece}
+
+-- with the bytes that came in
+abbrev taken : FruRetrieval → FruRetrieval → ℕ → FruRetrieval
+taken old r got = record old { bytes = r.bytes; have = old.have + got }
+
+module _ (old r : FruRetrieval) (s s' s'' : Seen) (asked got : ℕ) (len : length r.bytes.items ≡ length old.bytes.items) (front : take old.have r.bytes.items ≡ take old.have old.bytes.items) (since : FruSince old s s') (more : old.have < length old.bytes.items)
+    (gave : BytesAnswers old.id old.have asked (Ok got) (slice_range r.bytes.items old.have (old.have + asked)) s' s'') where
+  first : s''.stores_added ≡ s.stores_added → s'.stores_added ≡ s.stores_added
+  first same = omega (arith, since.stays.store.grows, gave.change.stays.store.grows)
+
+  second : s''.stores_added ≡ s.stores_added → s''.stores_added ≡ s'.stores_added
+  second same = omega (arith, since.stays.store.grows, gave.change.stays.store.grows)
+
+  -- the inventory is the one of which bytes were read before
+  whole_is : (same : s''.stores_added ≡ s.stores_added) → gave.gives.0 ≡ (since.read (first same)).whole
+  whole_is same =
+      let store : s''.store ≡ s.store = gave.change.stays.store.stays (second same) ∙ since.stays.store.stays (first same) in
+      let here = sym (ap (inventory_of old.id) store) ∙ gave.gives.1 in
+      let before = (since.read (first same)).found in
+      cc (here, before)
+
+  counted : (flag : Bool) → CountsPiece flag s' s'' → (s''.troubles ≡ s'.troubles) × (s''.refusals ≡ s'.refusals) × (s''.last_code ≡ s'.last_code)
+  counted true counts = (counts.troubles, counts.refusals, counts.last_code)
+  counted false counts = (counts.troubles, counts.refusals, counts.last_code)
+
+  read_more : s''.stores_added ≡ s.stores_added → HasRead (taken old r got) s s''
+  read_more same =
+      let before = since.read (first same) in
+      let piece = gave.gives.2.piece in
+      let counts = counted _ gave.gives.2.counts in
+      record {
+        whole = before.whole;
+        found = before.found;
+        size = before.size ∙ sym len;
+        bytes = ap (take (old.have + got)) refl
+            ∙ with_piece old.have got asked old.bytes.items r.bytes.items before.whole piece.fits front before.bytes
+            (piece.bytes ∙ ap (λ (l : List ℕ). take got (drop old.have l)) (whole_is same));
+        troubles = counts.0 ∙ before.troubles;
+        refusals = counts.1 ∙ before.refusals;
+        last_code = counts.2 ∙ before.last_code;
+      }
+
+  fresh_more : s''.stores_added ≡ s.stores_added → old.have + got < length r.bytes.items → s''.fresh_troubles ≡ s.fresh_troubles + old.troubles
+  fresh_more same left =
+      let before = since.read (first same) in
+      let size = before.size in
+      let whole = ap (length {A = ℕ}) (whole_is same) in
+      let flag : nat_eq (old.have + got) (length gave.gives.0) ≡ false = ne_eqb _ _ (λ (e : old.have + got ≡ length gave.gives.0). absurd (omega (arith, len))) in
+      let quiet : IsQuiet s' s'' = subst (λ (b : Bool). CountsPiece b s' s'') flag gave.gives.2.counts in
+      quiet.fresh_troubles ∙ since.fresh (first same) more
+
+  pub part_taken : FruSince (taken old r got) s s''
+  part_taken = record {
+    stays = stays_trans s s' s'' since.stays gave.change.stays;
+    read = read_more;
+    fresh = fresh_more;
+    plain = λ p.
+        let before = since.plain p in
+        let now = since.stays.plain p in
+        (before.0, record { sdr = gave.sdr.plain now ∙ before.1.sdr; sel = gave.sel.plain now ∙ before.1.sel });
+  }
+
+pub same_trans : (a b c : FruRetrieval) → SameInventory a b → SameInventory b c → SameInventory a c
+same_trans a b c p q = record { id = q.id ∙ p.id; tries = q.tries ∙ p.tries; size = q.size ∙ p.size; some = q.some; fits = q.fits; have = q.have; troubles = q.troubles }
+
+pub ends_moved : (id id' tries tries' : ℕ) (s s' : Seen) (ended : FruEnded) → id ≡ id' → tries ≡ tries' → FruEnds id tries s s' ended → FruEnds id' tries' s s' ended
+ends_moved id id' tries tries' s s' ended same same' ends = subst (λ (n : ℕ). FruEnds id' n s s' ended) same' (subst (λ (n : ℕ). FruEnds n tries s s' ended) same ends)
+
+-- ---- the whole reading
+
+-- the size was told, and no byte is there
+pub since_size : (id : ℕ) (size : Size) (s s' : Seen) (r : FruRetrieval) → HasSize id size s s' → r.id ≡ id → r.troubles ≡ size.troubles → r.have ≡ 0 → length r.bytes.items ≡ size.bytes → FruSince r s s'
+since_size id size s s' r has id_is troubles none len = record {
+  stays = has.stays;
+  read = λ same. record {
+    whole = has.found.0;
+    found = ap (inventory_of r.id) (sym (has.stays.store.stays same)) ∙ ap (λ (n : ℕ). inventory_of n s'.store) id_is ∙ has.found.1;
+    size = has.found.2 ∙ sym len;
+    bytes = ap (λ n. take n r.bytes.items) none ∙ sym (ap (λ n. take n has.found.0) none);
+    troubles = has.troubles_are ∙ ap (λ n. s.troubles + n) (sym troubles);
+    refusals = has.refusals;
+    last_code = has.last_code;
+  };
+  fresh = λ same more. has.fresh_troubles (omega (arith, none, len)) ∙ ap (λ n. s.fresh_troubles + n) (sym troubles);
+  plain = λ p. (troubles ∙ (has.plain p).0, (has.plain p).1);
+}
+
+-- the inventory is as long as was told
+len_is : (id : ℕ) (size : Size) (s s' : Seen) → HasSize id size s s' → s'.stores_added ≡ s.stores_added → size.bytes ≡ inventory_len id s.store
+len_is id size s s' has same =
+    sym has.found.2 ∙ ap (λ (o : Option (List ℕ)). length (unwrap_or o [])) (sym (ap (inventory_of id) (sym (has.stays.store.stays same)) ∙ has.found.1))
+
+digits_most : (n : ℕ) → digits n ≤ 8
+digits_most n = grind (arith, nat_tests)
+
+pub bound_is : (id tries : ℕ) (size : Size) (s s' s'' : Seen) (r : FruRetrieval) → HasSize id size s s' → StaysHonest s' s'' → r.troubles ≡ size.troubles → r.tries ≡ tries → r.have ≡ 0 → length r.bytes.items ≡ size.bytes → size.troubles ≤ tries
+    → s'.calls ≡ s.calls + size.troubles + 1 → s''.calls + 1 ≤ s'.calls + calls_left r → s''.stores_added ≡ s.stores_added → s''.calls ≤ s.calls + fru_call_bound tries (inventory_len id s.store)
+bound_is id tries size s s' s'' r has stays troubles tries_are none len few begun made same =
+    let first : s'.stores_added ≡ s.stores_added = omega (arith, has.stays.store.grows, stays.store.grows) in
+    omega (arith, len_is id size s s' has first, digits_most r.part, none)
+
+-- all bytes are there
+pub inventory_read : (id tries : ℕ) (s s' : Seen) (r : FruRetrieval) → FruSince r s s' → r.id ≡ id → r.tries ≡ tries → r.troubles ≤ r.tries → r.have ≡ length r.bytes.items → s'.stores_added ≡ s.stores_added → InventoryIs id tries s s' (Ok r.bytes.items)
+inventory_read id tries s s' r since id_is tries_are few all same =
+    let read = since.read same in
+    let bytes : r.bytes.items ≡ read.whole =
+    sym (take-length r.bytes.items) ∙ ap (λ n. take n r.bytes.items) (sym all) ∙ read.bytes ∙ ap (λ n. take n read.whole) (all ∙ sym read.size) ∙ take-length read.whole in (
+      record { grows = omega (arith, read.troubles); troubles = omega (arith, read.troubles, few, tries_are); refusals = read.refusals; last_code = read.last_code },
+      ap (λ (n : ℕ). inventory_of n s.store) (sym id_is) ∙ read.found ∙ ap Some (sym bytes),
+    )

@@ -1,0 +1,32 @@
+-- What is done after a failing call for a value, and what holds while it is made again.
+use Rattle.std.specs.Prelude.{◌≡◌, ℕ, ◌+◌, ◌<◌, ◌≤◌, IsTrue, Result, Ok, Err}
+use Rattle.ipmi_bus.specs.declared.code.Code.{Code}
+use Rattle.ipmi_bus.specs.declared.code.CodeClass.{CodeClass}
+use Rattle.ipmi_bus.specs.declared.code.CodeClass.TheVariants.{Cancelled, Busy, SmallerPart, NotPresent, Refusal}
+use Rattle.ipmi_bus.specs.declared.step.Ended.{Ended}
+use Rattle.ipmi_bus.specs.declared.step.Ended.TheVariants.{Refused, GaveUp}
+use Rattle.ipmi_bus.specs.declared.readers.Failure.{Failure}
+use Rattle.ipmi_bus.specs.declared.readers.Failure.TheVariants.{Again, Absent}
+use Rattle.ipmi_bus.specs.Seen.{Seen, StaysHonest}
+use Rattle.ipmi_bus.specs.Readers.{KeepsReservations}
+
+-- one trouble more, or it was one too many
+abbrev pub TroubleIs : ℕ → ℕ → ℕ → Result Failure Ended → Type 0
+TroubleIs id troubles tries (Ok failure) = (failure ≡ Again) × (troubles < tries)
+TroubleIs id troubles tries (Err ended) = (ended ≡ GaveUp id) × (tries ≤ troubles)
+
+abbrev pub FailureIs : CodeClass → Code → ℕ → ℕ → ℕ → Result Failure Ended → Type 0
+FailureIs Cancelled code id troubles tries result = TroubleIs id troubles tries result
+FailureIs Busy code id troubles tries result = TroubleIs id troubles tries result
+FailureIs SmallerPart code id troubles tries result = result ≡ Err (Refused id code)
+FailureIs NotPresent code id troubles tries result = result ≡ Ok Absent
+FailureIs Refusal code id troubles tries result = result ≡ Err (Refused id code)
+
+-- so many troubles came since the first call, and nothing else
+pub record HasAsked (troubles : ℕ) (s s' : Seen) : Type 0 where
+  pub stays : StaysHonest s s'
+  pub troubles_are : s'.troubles ≡ s.troubles + troubles
+  pub fresh_troubles : s'.fresh_troubles ≡ s.fresh_troubles + troubles
+  pub refusals : s'.refusals ≡ s.refusals
+  pub last_code : s'.last_code ≡ s.last_code
+  pub plain : IsTrue s.plain → (troubles ≡ 0) × KeepsReservations s s'

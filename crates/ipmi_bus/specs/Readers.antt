@@ -1,0 +1,86 @@
+-- What the readers of infos, sensor readings and inventories leave.
+use Rattle.std.specs.Prelude.{◌≡◌, ℕ, ◌+◌, ◌≤◌, ◌==◌, Bool, true, false, IsTrue, Option, None, Some, IsSome, unwrap_or, Result, Ok, Err, List, [], length, Vec}
+use Rattle.std.specs.declared.alloc.Global.{Global}
+use Rattle.ipmi_bus.specs.declared.controller.Shelf.TheVariants.{Sdr, Sel}
+use Rattle.ipmi_bus.specs.declared.step.Ended.{Ended}
+use Rattle.ipmi_bus.specs.declared.step.Ended.TheVariants.{Cycle, Missing, Refused, GaveUp, Stalled, Malformed}
+use Rattle.ipmi_bus.specs.declared.inventory.FruEnded.{FruEnded}
+use Rattle.ipmi_bus.specs.declared.inventory.FruEnded.TheVariants as fru
+use Rattle.ipmi_bus.specs.Store.{Store, inventory_of}
+use Rattle.ipmi_bus.specs.Seen.{Seen, StaysHonest, current}
+use Rattle.ipmi_bus.specs.Bounds.{fru_call_bound}
+use Rattle.ipmi_bus.specs.Tries.{WithinTries, GivesUp, IsRefusedWith}
+
+-- ---- a value: an info, a reading
+
+-- over any controller a value is given up or refused under this id, and nothing else ends it
+abbrev pub EndsUnder : {V : Type 0} → ℕ → Result V Ended → Type 0
+EndsUnder id (Ok o) = Unit {0}
+EndsUnder id (Err (GaveUp n)) = n ≡ id
+EndsUnder id (Err (Refused n code)) = n ≡ id
+EndsUnder id (Err (Cycle n)) = ⊥
+EndsUnder id (Err (Missing n)) = ⊥
+EndsUnder id (Err (Stalled n)) = ⊥
+EndsUnder id (Err (Malformed n)) = ⊥
+
+-- over an honest controller it is the value that the store has when the call returns, or none where that store has none
+abbrev pub ValueIs : {V : Type 0} → (Store → Option V) → ℕ → Seen → Seen → Result (Option V) Ended → Type 0
+ValueIs value tries s s' (Ok o) = WithinTries tries s s' × (o ≡ value s'.store)
+ValueIs value tries s s' (Err (GaveUp n)) = GivesUp tries s s'
+ValueIs value tries s s' (Err (Refused n code)) = IsRefusedWith tries code.0 s s'
+ValueIs value tries s s' (Err (Cycle n)) = ⊥
+ValueIs value tries s s' (Err (Missing n)) = ⊥
+ValueIs value tries s s' (Err (Stalled n)) = ⊥
+ValueIs value tries s s' (Err (Malformed n)) = ⊥
+
+-- the current reservations stay
+pub record KeepsReservations (s s' : Seen) : Type 0 where
+  pub sdr : current Sdr s' ≡ current Sdr s
+  pub sel : current Sel s' ≡ current Sel s
+
+-- the reading of a value, over an honest controller: over a plain one it is the store's, and the reservations stay
+pub record ReadsValue {V : Type 0} (value : Store → Option V) (tries : ℕ) (s s' : Seen) (result : Result (Option V) Ended) : Type 0 where
+  pub stays : StaysHonest s s'
+  pub is : ValueIs value tries s s' result
+  pub plain : IsTrue s.plain → (result ≡ Ok (value s.store)) × KeepsReservations s s'
+
+-- ---- an inventory
+
+-- CBh is no refusal that is counted, and comes only where the store has no such inventory
+abbrev pub IsRefusedInventory : Bool → ℕ → ℕ → ℕ → Seen → Seen → Type 0
+IsRefusedInventory true id tries code s s' = WithinTries tries s s' × (inventory_of id s.store ≡ None)
+IsRefusedInventory false id tries code s s' = IsRefusedWith tries code s s'
+
+-- what the reading gives while no store is added: the inventory's bytes, or why there are none; memory can fail only where there is such an inventory
+abbrev pub InventoryIs : ℕ → ℕ → Seen → Seen → Result (List ℕ) FruEnded → Type 0
+InventoryIs id tries s s' (Ok bytes) = WithinTries tries s s' × (inventory_of id s.store ≡ Some bytes)
+InventoryIs id tries s s' (Err fru.Memory) = WithinTries tries s s' × IsSome (inventory_of id s.store)
+InventoryIs id tries s s' (Err (fru.Refused code)) = IsRefusedInventory (code.0 == 0xCB) id tries code.0 s s'
+InventoryIs id tries s s' (Err fru.GaveUp) = GivesUp tries s s'
+InventoryIs id tries s s' (Err fru.Stalled) = ⊥
+InventoryIs id tries s s' (Err fru.Words) = ⊥
+
+-- over a plain controller nothing but an inventory that is not there is refused, and nothing is given up
+abbrev pub PlainMayAnswer : Result (List ℕ) FruEnded → Type 0
+PlainMayAnswer (Ok bytes) = Unit {0}
+PlainMayAnswer (Err fru.Memory) = Unit {0}
+PlainMayAnswer (Err (fru.Refused code)) = code.0 ≡ 0xCB
+PlainMayAnswer (Err fru.GaveUp) = ⊥
+PlainMayAnswer (Err fru.Stalled) = ⊥
+PlainMayAnswer (Err fru.Words) = ⊥
+
+-- how many bytes the inventory has, 0 where there is none
+abbrev pub inventory_len : ℕ → Store → ℕ
+inventory_len id store = length (unwrap_or (inventory_of id store) [])
+
+-- the reading of an inventory, over an honest controller
+pub record ReadsInventory (id tries : ℕ) (s s' : Seen) (result : Result (List ℕ) FruEnded) : Type 0 where
+  pub stays : StaysHonest s s'
+  pub is : s'.stores_added ≡ s.stores_added → InventoryIs id tries s s' result
+  pub calls : s'.stores_added ≡ s.stores_added → s'.calls ≤ s.calls + fru_call_bound tries (inventory_len id s.store)
+  pub plain : IsTrue s.plain → PlainMayAnswer result × KeepsReservations s s'
+
+-- an inventory's bytes, as a list
+abbrev pub as_inventory : Result (Vec ℕ Global) FruEnded → Result (List ℕ) FruEnded
+as_inventory (Ok bytes) = Ok bytes.items
+as_inventory (Err ended) = Err ended

@@ -1,0 +1,52 @@
+-- Steps of a cursor, one after another.
+use Rattle.std.specs.Prelude.{◌≡◌, ℕ, Option, None, Some, Result, Ok, Err, List, [], ◌∷◌, take}
+use Rattle.ipmi_bus.specs.declared.step.Place.{Place}
+use Rattle.ipmi_bus.specs.declared.step.Ended.{Ended}
+use Rattle.ipmi_bus.specs.Shelf.{Row}
+use Rattle.ipmi_bus.specs.Store.{rows_of}
+use Rattle.ipmi_bus.specs.Walk.{IsWalk, WalkEnd, EndsBy}
+use Rattle.ipmi_bus.specs.Seen.{Seen, IsHonest, StaysHonest}
+use Rattle.ipmi_bus.specs.CursorState.{CursorState}
+use Rattle.ipmi_bus.specs.Standing.{StandsAt}
+use Rattle.ipmi_bus.specs.Step.{IsStep}
+
+-- what a step answered, the controller when it began, and the cursor and the controller after it
+pub record Stepped : Type 0 where
+  pub before : Seen
+  pub result : Result (Option Row) Ended
+  pub cursor : CursorState
+  pub seen : Seen
+
+-- each step begins with the cursor that the one before it left, and between them other things may be asked of the controller
+abbrev pub AreSteps : CursorState → Seen → List Stepped → Type 0
+AreSteps c s [] = Unit {0}
+AreSteps c s (step ∷ steps) = StaysHonest s step.before × IsStep c step.cursor step.before step.seen step.result × AreSteps step.cursor step.seen steps
+
+abbrev pub cursor_after : CursorState → List Stepped → CursorState
+cursor_after c [] = c
+cursor_after c (step ∷ steps) = cursor_after step.cursor steps
+
+abbrev pub seen_after : Seen → List Stepped → Seen
+seen_after s [] = s
+seen_after s (step ∷ steps) = seen_after step.seen steps
+
+-- the row that an answer hands out stands before these
+abbrev pub with_handed : Result (Option Row) Ended → List Row → List Row
+with_handed (Ok (Some row)) rows = row ∷ rows
+with_handed (Ok None) rows = rows
+with_handed (Err ended) rows = rows
+
+abbrev pub handed_out : List Stepped → List Row
+handed_out [] = []
+handed_out (step ∷ steps) = with_handed step.result (handed_out steps)
+
+-- the first rows of the walk were handed out, and the cursor stands after them
+pub record HandsOutPrefix (rows : List Row) (start : Place) (walk : List Row) (c : CursorState) (handed : List Row) : Type 0 where
+  pub count : ℕ
+  pub handed_are : handed ≡ take count walk
+  pub stands : StandsAt rows start walk count c
+
+-- over an honest controller, while no store is added, steps hand out the first rows of the walk, none left out and none twice, whatever gave up or was refused, and whatever else was asked of the controller, between them
+abbrev pub StepsFollowWalk : Type 0
+StepsFollowWalk = (c : CursorState) (s : Seen) (steps : List Stepped) (start : Place) (walk : List Row) (end : WalkEnd) → IsHonest s → IsWalk (rows_of c.shelf s.store) start walk → EndsBy (rows_of c.shelf s.store) start walk end
+    → StandsAt (rows_of c.shelf s.store) start walk 0 c → AreSteps c s steps → (seen_after s steps).stores_added ≡ s.stores_added → HandsOutPrefix (rows_of c.shelf s.store) start walk (cursor_after c steps) (handed_out steps)

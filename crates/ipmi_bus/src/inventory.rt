@@ -1,0 +1,212 @@
+//! Reads a FRU inventory in parts.
+ghost use Rattle.std.specs.Prelude.{◌≡◌, ◌+◌, ◌<◌, ◌≤◌, Ok, Err, IfOk, OnErr, OnOk, IfErr, length, take, slice_range, vec_len};
+ghost use Rattle.ipmi_bus.specs.Seen.{Seen, IsHonest, StaysHonest};
+ghost use Rattle.ipmi_bus.specs.Answers.{BytesAnswers};
+ghost use Rattle.ipmi_bus.specs.Readers.{ReadsInventory, as_inventory};
+ghost use Rattle.ipmi_bus.specs.FruRetrieval.{SizeNext};
+ghost use Rattle.ipmi_bus.specs.Bounds.{fru_call_bound};
+
+use crate::code::{Code, CodeClass};
+use crate::controller::Controller;
+use std::alloc::{AllocError, Global};
+use thiserror::Error;
+
+/// Why the reading of a FRU inventory gave none.
+#[derive(Clone, Copy, Debug, PartialEq, Eq, Error)]
+pub enum FruEnded {
+    /// No memory was left for the inventory.
+    #[error("out of memory")]
+    Memory,
+    /// The controller refused with this code; CBh, from an honest one: there is no such inventory.
+    #[error("refused with code {code:02X}h", code = .0.0)]
+    Refused(Code),
+    /// More troubles came than the tries allow.
+    #[error("gave up")]
+    GaveUp,
+    /// The controller gave no byte, or answered a request for one byte by a code that asks for a smaller part.
+    #[error("stalled")]
+    Stalled,
+    /// The device is accessed by words.
+    #[error("uses words")]
+    Words,
+}
+
+impl From<AllocError> for FruEnded {
+    ghost use Rattle.ipmi_bus.specs.declared.inventory.FruEnded.TheVariants as ended;
+
+    ghost from_gives = { λ _ e. e ≡ ended.Memory };
+
+    fn from(_error: AllocError) -> FruEnded {
+        FruEnded::Memory
+    }
+}
+
+/// An inventory that is being read.
+#[derive(Drop)]
+struct FruRetrieval {
+    id: u8,
+    /// The most bytes to ask for at once, 1 to 254.
+    part: u8,
+    /// How many troubles the inventory may meet.
+    tries: u8,
+    /// The troubles that it has met.
+    troubles: u16,
+    /// How many bytes of it are there.
+    have: usize,
+    /// As many bytes as it has, the first ones read.
+    bytes: Vec<u8>,
+}
+
+impl FruRetrieval {
+    ghost use Rattle.ipmi_bus.specs.FruRetrieval.{IsBegun, IsOpen, SameInventory, CountsTrouble, FruSince, FruNext, calls_left};
+
+    /// Counts a trouble.
+    fn trouble(&mut self) -> Result<(), FruEnded>
+        requires { self.old.troubles ≤ self.old.tries }
+        ensures { CountsTrouble self.old self.new result }
+    {
+        if self.troubles >= u16::from(self.tries) {
+            return Err(FruEnded::GaveUp);
+        }
+        self.troubles += 1;
+        Ok(())
+    }
+
+    /// Asks for some of the bytes that are missing, into their place.
+    fn request<C: Controller>(&mut self, ctl: &mut C, asked: usize) -> Result<u8, Code>
+        requires some { 0 < asked }
+        requires fits { asked < 255 }
+        requires within { self.old.have + asked ≤ vec_len self.old.bytes }
+        requires short { vec_len self.old.bytes ≤ 65535 }
+        ensures counted { (C.seen ctl.new).calls ≡ (C.seen ctl.old).calls + 1 }
+        ensures got { IfOk result (λ got. got ≤ asked) }
+        ensures bytes { self.new ≡ record self.old { bytes = self.new.bytes } }
+        ensures len { length self.new.bytes.items ≡ length self.old.bytes.items }
+        ensures front { take self.old.have self.new.bytes.items ≡ take self.old.have self.old.bytes.items }
+        ensures err { OnErr result (self.new.bytes.items ≡ self.old.bytes.items) }
+        ensures honest { IsHonest (C.seen ctl.old) →
+            BytesAnswers self.old.id self.old.have asked result (slice_range self.new.bytes.items self.old.have (self.old.have + asked))
+            (C.seen ctl.old) (C.seen ctl.new) }
+    {
+        let have = self.have;
+        let into = &mut self.bytes[have..have + asked];
+        ctl.fru_part(self.id, have as u16, into)
+    }
+
+    /// Makes one call for the bytes that are missing.
+    fn ask_part<C: Controller>(&mut self, ctl: &mut C) -> Result<(), FruEnded>
+        requires { IsOpen self.old }
+        ensures counted { (C.seen ctl.new).calls ≡ (C.seen ctl.old).calls + 1 }
+        ensures same { SameInventory self.old self.new }
+        ensures leaves { OnOk result (calls_left self.new < calls_left self.old) }
+        ensures stays { IsHonest (C.seen ctl.old) → StaysHonest (C.seen ctl.old) (C.seen ctl.new) }
+        ensures honest { (s : Seen) → FruSince self.old s (C.seen ctl.old) → FruNext self.old self.new s (C.seen ctl.new) result }
+    {
+        let asked = usize::from(self.part).min(self.bytes.len() - self.have);
+        match self.request(ctl, asked) {
+            Ok(0) => Err(FruEnded::Stalled),
+            Ok(got) => {
+                self.have += usize::from(got);
+                Ok(())
+            }
+            Err(code) => match code.class() {
+                CodeClass::Cancelled | CodeClass::Busy => self.trouble(),
+                CodeClass::SmallerPart => {
+                    if asked == 1 {
+                        return Err(FruEnded::Stalled);
+                    }
+                    self.part = (asked / 2) as u8;
+                    Ok(())
+                }
+                CodeClass::NotPresent | CodeClass::Refusal => Err(FruEnded::Refused(code)),
+            },
+        }
+    }
+
+    /// Makes calls until all bytes are there.
+    fn read_all<C: Controller>(&mut self, ctl: &mut C) -> Result<(), FruEnded>
+        requires { IsBegun self.old }
+        ensures same { SameInventory self.old self.new }
+        ensures whole { OnOk result (self.new.have ≡ length self.new.bytes.items) }
+        ensures calls { (C.seen ctl.new).calls + 1 ≤ (C.seen ctl.old).calls + calls_left self.old }
+        ensures stays { IsHonest (C.seen ctl.old) → StaysHonest (C.seen ctl.old) (C.seen ctl.new) }
+        ensures honest { (s : Seen) → FruSince self.old s (C.seen ctl.old) → FruNext self.old self.new s (C.seen ctl.new) result }
+    {
+        'parts: while self.have < self.bytes.len() {
+            match self.ask_part(ctl) {
+                Ok(()) => {}
+                Err(ended) => return Err(ended),
+            }
+        }
+        Ok(())
+    }
+}
+
+/// The size of an inventory, and the troubles that came before it was told.
+#[derive(Clone, Copy)]
+struct Size {
+    bytes: u16,
+    troubles: u16,
+}
+
+/// Asks for the size of the inventory.
+fn read_size<C: Controller>(ctl: &mut C, id: u8, tries: u8) -> Result<Size, FruEnded>
+    ensures ok { IfOk result (λ size. (size.troubles ≤ tries) × ((C.seen ctl.new).calls ≡ (C.seen ctl.old).calls + size.troubles + 1)) }
+    ensures err { OnErr result ((C.seen ctl.new).calls ≤ (C.seen ctl.old).calls + tries + 1) }
+    ensures honest { IsHonest (C.seen ctl.old) → SizeNext id tries (C.seen ctl.old) (C.seen ctl.new) result }
+{
+    let mut troubles = 0;
+    'asking: loop {
+        match ctl.fru_size(id) {
+            Ok(size) => {
+                if size.words {
+                    return Err(FruEnded::Words);
+                }
+                return Ok(Size {
+                    bytes: size.size,
+                    troubles,
+                });
+            }
+            Err(code) => match code.class() {
+                CodeClass::Cancelled | CodeClass::Busy => {
+                    if troubles >= u16::from(tries) {
+                        return Err(FruEnded::GaveUp);
+                    }
+                    troubles += 1;
+                }
+                CodeClass::SmallerPart | CodeClass::NotPresent | CodeClass::Refusal => {
+                    return Err(FruEnded::Refused(code));
+                }
+            },
+        }
+    }
+}
+
+/// The bytes of the inventory of the FRU device with this id (IPMI v2.0, section 34). It is asked for in parts of at
+/// most `part` bytes, and may meet `tries` troubles; `FruEnded` says why there is none.
+pub fn read_fru<C: Controller>(
+    alloc: Global,
+    ctl: &mut C,
+    id: u8,
+    part: u8,
+    tries: u8,
+) -> Result<Vec<u8>, FruEnded>
+    requires some { 0 < part }
+    requires fits { part < 255 }
+    ensures fits { IfOk result (λ bytes. vec_len bytes ≤ 65535) }
+    ensures calls { (C.seen ctl.new).calls ≤ (C.seen ctl.old).calls + fru_call_bound tries 65535 }
+    ensures honest { IsHonest (C.seen ctl.old) → ReadsInventory id tries (C.seen ctl.old) (C.seen ctl.new) (as_inventory result) }
+{
+    let size = read_size(ctl, id, tries)?;
+    let mut retrieval = FruRetrieval {
+        id,
+        part,
+        tries,
+        troubles: size.troubles,
+        have: 0,
+        bytes: vec![in alloc; 0u8; usize::from(size.bytes)]?,
+    };
+    retrieval.read_all(ctl)?;
+    let FruRetrieval { bytes, .. } = retrieval;
+    Ok(bytes)
+}

@@ -1,0 +1,88 @@
+//! Reads single values: sensor readings and repository infos.
+ghost use Rattle.std.specs.Prelude.{◌≡◌, ◌+◌, ◌≤◌};
+ghost use Rattle.ipmi_bus.specs.Seen.{IsHonest};
+ghost use Rattle.ipmi_bus.specs.Store.{info_of, reading_of};
+ghost use Rattle.ipmi_bus.specs.Code.{class_of};
+ghost use Rattle.ipmi_bus.specs.Readers.{EndsUnder, ReadsValue};
+ghost use Rattle.ipmi_bus.specs.Failures.{FailureIs};
+
+use crate::code::{Code, CodeClass};
+use crate::controller::{Controller, Shelf};
+use crate::step::Ended;
+use ipmi_text::Reading;
+
+/// What a failing call leaves to do.
+#[derive(Clone, Copy)]
+pub(crate) enum Failure {
+    /// To make the call again.
+    Again,
+    /// Nothing: what was asked for is not there.
+    Absent,
+}
+
+/// What to do after a failing call that is not for a part, where so many troubles came before it.
+pub(crate) fn after_failure(code: Code, id: u16, troubles: u16, tries: u8) -> Result<Failure, Ended>
+    ensures { FailureIs (class_of code.0) code id troubles tries result }
+{
+    match code.class() {
+        CodeClass::Cancelled | CodeClass::Busy => {
+            if troubles < u16::from(tries) {
+                Ok(Failure::Again)
+            } else {
+                Err(Ended::GaveUp(id))
+            }
+        }
+        CodeClass::NotPresent => Ok(Failure::Absent),
+        CodeClass::SmallerPart | CodeClass::Refusal => Err(Ended::Refused(id, code)),
+    }
+}
+
+/// The reading of the sensor with this number at this LUN, None where there is none. The call is made again after a
+/// trouble, up to `tries` times. An `Ended` carries `id`.
+pub fn read_reading<C: Controller>(
+    ctl: &mut C,
+    id: u16,
+    lun: u8,
+    number: u8,
+    tries: u8,
+) -> Result<Option<Reading>, Ended>
+    ensures calls { (C.seen ctl.new).calls ≤ (C.seen ctl.old).calls + (tries + 1) }
+    ensures ends { EndsUnder id result }
+    ensures honest { IsHonest (C.seen ctl.old) → ReadsValue (reading_of lun number) tries (C.seen ctl.old) (C.seen ctl.new) result }
+{
+    let mut troubles = 0;
+    'asking: loop {
+        match ctl.reading(lun, number) {
+            Ok(reading) => return Ok(Some(reading)),
+            Err(code) => match after_failure(code, id, troubles, tries) {
+                Ok(Failure::Again) => troubles += 1,
+                Ok(Failure::Absent) => return Ok(None),
+                Err(ended) => return Err(ended),
+            },
+        }
+    }
+}
+
+/// The 14 bytes of the shelf's info, None where there is none. The call is made again after a trouble, up to `tries`
+/// times. An `Ended` carries 0000h.
+pub fn read_info<C: Controller>(
+    ctl: &mut C,
+    shelf: Shelf,
+    tries: u8,
+) -> Result<Option<[u8; 14]>, Ended>
+    ensures calls { (C.seen ctl.new).calls ≤ (C.seen ctl.old).calls + (tries + 1) }
+    ensures ends { EndsUnder 0 result }
+    ensures honest { IsHonest (C.seen ctl.old) → ReadsValue (info_of shelf) tries (C.seen ctl.old) (C.seen ctl.new) result }
+{
+    let mut troubles = 0;
+    'asking: loop {
+        match ctl.info(shelf) {
+            Ok(info) => return Ok(Some(info)),
+            Err(code) => match after_failure(code, 0, troubles, tries) {
+                Ok(Failure::Again) => troubles += 1,
+                Ok(Failure::Absent) => return Ok(None),
+                Err(ended) => return Err(ended),
+            },
+        }
+    }
+}
