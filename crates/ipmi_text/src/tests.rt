@@ -142,7 +142,7 @@ const SECONDS: [(u32, &str); 26] = [
 ];
 
 /// Minutes from 1996-01-01, and the text.
-const MINUTES: [(u32, &str); 20] = [
+const MINUTES: [(u32, &str); 17] = [
     (0, "unspecified"),
     (1, "1996-01-01 00:01"),
     (59, "1996-01-01 00:59"),
