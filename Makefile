@@ -13,7 +13,7 @@ demo: $(PROGRAM)
 test:
 	@scripts/test
 
-# Each request for memory refused in turn; about ten minutes.
+# Each request for memory refused in turn; about twenty minutes.
 memory:
 	@scripts/refuse_memory
 

@@ -467,11 +467,9 @@ fn readings_by_repeated_multiplication(rt: HostRuntime) {
     assert_eq!(rt; count, 184_320);
 }
 
-/// With ample memory each call that may answer want of memory answers with its text.
-#[test]
-fn always_out_of_memory(rt: HostRuntime) {
-    let alloc = rt.alloc();
-    let texts: [(Result<String, AllocError>, &str); 10] = [
+/// Each call that may answer want of memory, once, with the text that it has to give.
+fn calls_that_take_memory(alloc: Global) -> [(Result<String, AllocError>, &'static str); 10] {
+    [
         (fru_text(alloc, 2, 0, b"\x29\xdc\xa6"), "IPMI"),
         (fru_text(alloc, 3, 0, b"CPU"), "CPU"),
         (sdr_text(alloc, 0x43, b"\x12\x3b"), "123"),
@@ -482,9 +480,25 @@ fn always_out_of_memory(rt: HostRuntime) {
         (chassis_text(alloc, 0x17), "Rack Mount Chassis"),
         (utc_text(alloc, 0x22bb_5951), "1988-06-19 06:04:01"),
         (minutes_text(alloc, 1), "1996-01-01 00:01"),
-    ];
-    for (text, want) in texts {
+    ]
+}
+
+/// With ample memory each of them answers with its text.
+#[test]
+fn always_out_of_memory(rt: HostRuntime) {
+    for (text, want) in calls_that_take_memory(rt.alloc()) {
         assert_eq!(rt; text.expect(&rt, "memory").as_str(), want);
+    }
+}
+
+/// Where memory is refused, each of them answers with its text or with want of memory.
+#[test]
+fn memory_may_be_refused(rt: HostRuntime) {
+    for (text, want) in calls_that_take_memory(rt.alloc()) {
+        match text {
+            Ok(text) => assert_eq!(rt; text.as_str(), want),
+            Err(AllocError) => {}
+        }
     }
 }
 

@@ -138,3 +138,29 @@ fn an_inventory_ends_by_name(rt: HostRuntime) {
         assert_eq!(rt; ctl.calls, calls);
     }
 }
+
+const BYTE_INVENTORY: [Reply; 2] = [
+    Reply::Has(FruSize {
+        size: 1,
+        words: false,
+    }),
+    Reply::Gives(&[7], 0),
+];
+
+#[test]
+fn an_inventory_has_memory(rt: HostRuntime) -> Result<(), Fail> {
+    let mut ctl = Replay::new(&BYTE_INVENTORY);
+    let bytes = read_fru(rt.alloc(), &mut ctl, 0, 32, 5)?;
+    assert_eq!(rt; bytes.as_slice(), [7].as_slice());
+    Ok(())
+}
+
+// Where memory is refused, only the size was asked for.
+#[test]
+fn memory_may_be_refused(rt: HostRuntime) {
+    let mut ctl = Replay::new(&BYTE_INVENTORY);
+    match read_fru(rt.alloc(), &mut ctl, 0, 32, 5) {
+        Ok(bytes) => assert_eq!(rt; bytes.as_slice(), [7].as_slice()),
+        Err(e) => assert_eq!(rt; (e, ctl.calls), (FruEnded::Memory, 1)),
+    }
+}
