@@ -7,7 +7,7 @@ use std::marker::Model;
 
 /// A set of ids, a bit for each.
 #[derive(Drop)]
-pub struct IdTable {
+pub(crate) struct IdTable {
     bytes: Vec<u8>,
 }
 
@@ -29,7 +29,7 @@ impl Model for IdTable {
 
 impl IdTable {
     /// A table that has no id. It takes all the memory that it ever needs.
-    pub fn new(alloc: Global) -> Result<Self, AllocError>
+    pub(crate) fn new(alloc: Global) -> Result<Self, AllocError>
         ensures { IfOk result (λ table. table ≡ set.empty) }
     {
         Ok(IdTable {
@@ -38,14 +38,14 @@ impl IdTable {
     }
 
     /// Whether the id is among them.
-    pub fn contains(&self, id: u16) -> bool
+    pub(crate) fn contains(&self, id: u16) -> bool
         ensures { result ≡ set.contains self.now id }
     {
         (self.bytes[usize::from(id / 8)] >> (id % 8)) & 1 == 1
     }
 
     /// Puts the id among them.
-    pub fn insert(&mut self, id: u16)
+    pub(crate) fn insert(&mut self, id: u16)
         ensures added { self.new ≡ set.insert self.old id }
         ensures at_most { set.len self.new ≤ 65536 }
     {

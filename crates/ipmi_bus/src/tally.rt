@@ -37,7 +37,7 @@ impl Tally {
     pub fn new() -> Tally
         ensures { result.counts ≡ zero_counts }
     {
-        Tally {}
+        Self {}
     }
 
     fn after(_before: &Tally, _event: &Event) -> Tally

@@ -4,7 +4,7 @@ ghost use Rattle.std.specs.Prelude.{◌≡◌, map, option_map, slice_get};
 use std::fmt;
 
 /// The name at a place of a table.
-pub fn entry(table: &[&'static str], at: usize) -> Option<&'static str>
+pub(crate) fn entry(table: &[&'static str], at: usize) -> Option<&'static str>
     ensures { option_map (λ s. s.now) result ≡ slice_get (map (λ s. s.now) table.now) at }
 {
     table.get(at).copied()
@@ -12,7 +12,7 @@ pub fn entry(table: &[&'static str], at: usize) -> Option<&'static str>
 
 /// A byte, printed as two lower-case hex digits.
 #[derive(Clone, Copy, Debug)]
-pub struct HexByte(pub u8);
+pub(crate) struct HexByte(pub(crate) u8);
 
 impl fmt::Display for HexByte {
     ghost use Rattle.std.specs.Prelude.{Some};

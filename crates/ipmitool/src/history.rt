@@ -6,7 +6,7 @@ use std::marker::Model;
 
 /// The bytes taken so far, and how many calls took none or failed.
 #[derive(Drop)]
-pub struct History {
+pub(crate) struct History {
     pub ghost taken: { List ℕ },
     pub ghost faults: { ℕ },
 }
@@ -17,25 +17,25 @@ impl Model for History {
 
 /// What one call of a sink did.
 #[derive(Clone, Copy, Debug)]
-pub struct Taking<'a> {
+pub(crate) struct Taking<'a> {
     /// The bytes that it took.
-    pub bytes: &'a [u8],
+    pub(crate) bytes: &'a [u8],
     /// Whether it took none, or failed.
-    pub is_fault: bool,
+    pub(crate) is_fault: bool,
 }
 
 impl History {
     ghost use Rattle.std.specs.Prelude.{◌+◌, ◌++◌, [], if◌then◌else◌};
 
     /// Nothing was taken yet.
-    pub fn new() -> History
+    pub(crate) fn new() -> History
         ensures { (result.taken ≡ []) × (result.faults ≡ 0) }
     {
         History {}
     }
 
     /// What was taken before, and then this.
-    pub fn after(_before: &History, _taking: &Taking<'_>) -> History
+    pub(crate) fn after(_before: &History, _taking: &Taking<'_>) -> History
         ensures { (result.taken ≡ _before.now.taken ++ _taking.now.bytes.now)
             × (result.faults ≡ _before.now.faults + (if _taking.now.is_fault then 1 else 0)) }
     {

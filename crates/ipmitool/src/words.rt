@@ -20,7 +20,7 @@ impl Model for Word {
 
 impl Word {
     /// A copy of the text.
-    pub fn new(alloc: Global, text: &str) -> Result<Word, AllocError>
+    pub(crate) fn new(alloc: Global, text: &str) -> Result<Word, AllocError>
         ensures { IfOk result (λ w. w ≡ text.now) }
     {
         let text = String::from_str(alloc, text)?;
@@ -72,7 +72,7 @@ impl Words {
     }
 
     /// All the words.
-    pub fn as_slice(&self) -> &[Word]
+    pub(crate) fn as_slice(&self) -> &[Word]
         ensures { result.now ≡ self.now }
     {
         self.items.as_slice()
