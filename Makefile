@@ -3,7 +3,7 @@ PREFIX ?= /usr/local
 PROGRAM := crates/ipmitool/out/ipmitool
 SOURCES := crates.txt $(shell find crates -path '*/out' -prune -o \( -name '*.rt' -o -name '*.antt' \) -print)
 
-.PHONY: demo test memory build install
+.PHONY: demo test memory bench build install
 
 # The program on a small image: three sensor data records, a line each.
 demo: $(PROGRAM)
@@ -13,9 +13,13 @@ demo: $(PROGRAM)
 test:
 	@scripts/test
 
-# Each request for memory refused in turn; about twenty minutes.
+# Each request for memory refused in turn; about half an hour.
 memory:
 	@scripts/refuse_memory
+
+# Time and memory on long images, against a reference that a C compiler builds; a few seconds, and no time fails it.
+bench: $(PROGRAM)
+	@scripts/bench $(PROGRAM)
 
 build: $(PROGRAM)
 
