@@ -1,3 +1,14 @@
+pub mod AgainLemmas
+pub mod GivenLemmas
 pub mod LineLemmas
-pub mod RowLemmas
+pub mod ParseLemmas
+pub mod ReadLemmas
+pub mod RespondLemmas
+pub mod RewriteLemmas
+pub mod SavedLemmas
+pub mod ScriptLemmas
+pub mod ShelfLemmas
+pub mod StoreLemmas
+pub mod TableLemmas
+pub mod TakenLemmas
 pub mod TextLemmas

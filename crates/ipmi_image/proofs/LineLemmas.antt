@@ -1,98 +1,66 @@
--- The rows of an image, line after line.
-use Rattle.std.proofs.Common.{◌≡◌, ◌≢◌, ℕ, suc, ◌+◌, ◌<◌, ◌≤◌, Bool, true, false, cond, nat_eq, ◌==◌, ◌&&◌, not, Option, None, Some, List, [], ◌∷◌, ◌++◌, length, refl, sym, ap, subst, ◌∙◌, arith, codes}
-use Rattle.std.specs.Prelude.{nat_le, All}
+-- Lines by the number of their fields and by their first words.
+use Rattle.std.proofs.Common.{◌≡◌, ℕ, ◌<◌, Bool, true, false, cond, Result, Err, List, [], ◌∷◌, length, refl, sym, ap, ◌∙◌, arith, codes}
 use Rattle.std.specs.Str.{bytes_eq}
-use Rattle.std.specs.Option.{option_and_then}
-use Rattle.std.proofs.lemmas.Bool.{eqb-true, eqb-false}
-use Rattle.std.proofs.lemmas.Bool.Decides.{nat_tests}
-use Rattle.ipmi_bus.specs.declared.controller.Shelf.TheVariants.{Sdr}
-use Rattle.ipmi_bus.specs.Shelf.{Row, IsRow, IsShelf}
-use Rattle.ipmi_bus.specs.Walk.{has_id}
-use Rattle.ipmi_bus.proofs.ShelfLemmas.{IsShelf-first, IsShelf-snoc}
-use Rattle.ipmi_image.specs.Stored.{FitsTypes}
-use Rattle.ipmi_image.specs.Text.{pieces, onto}
-use Rattle.ipmi_image.specs.Grammar.{row_of_line, may_follow, may_stand_after, ends_here, rows_of_lines, rows_of_text}
+use Rattle.std.specs.Cmp.Lexicographic.{bytes_decides}
+use Rattle.ipmi_bus.specs.declared.controller.Shelf.TheVariants.{Sdr, Sel}
+use Rattle.ipmi_image.specs.declared.line.LineFault.{LineFault}
+use Rattle.ipmi_image.specs.declared.line.LineFault.TheVariants as fault
+use Rattle.ipmi_image.specs.Text.{pieces}
+use Rattle.ipmi_image.specs.Line.{Line, with_two, with_three, row_line, inventory_line, reading_line, info_line, end_line, line_of_fields, line_of}
 use Rattle.ipmi_image.proofs.TextLemmas.{length-pieces}
 
--- a text that does not end by a line feed has no `end`
-pub rows_of_unended : (rows : List Row) (line : List ℕ) → rows_of_lines rows (line ∷ []) ≡ None
-unfolding rows_of_lines
-rows_of_unended rows line = by (bytes_eq line (codes "end")) (row_of_line line)
+pub two_of_more : (line : List ℕ → List ℕ → Result Line LineFault) (a b rest : List ℕ) → with_two line (a ∷ b ∷ pieces 32 rest) ≡ Err fault.Line
+two_of_more line a b rest = by (pieces 32 rest) (length-pieces 32 rest)
   where
-    later : (row : Row) (b : Bool) → cond b (rows_of_lines (rows ++ row ∷ []) []) None ≡ None
-    later row true = refl
-    later row false = refl
+    by : (l : List (List ℕ)) → 0 < length l → with_two line (a ∷ b ∷ l) ≡ Err fault.Line
+    by [] some = absurd (omega (arith, some))
+    by (more ∷ l) some = refl
 
-    by : (b : Bool) (o : Option Row) → cond b (cond (ends_here []) (Some rows) None) (option_and_then (λ row. cond (may_follow rows row) (rows_of_lines (rows ++ row ∷ []) []) None) o) ≡ None
-    by true o = refl
-    by false None = refl
-    by false (Some row) = later row (may_follow rows row)
+pub three_by_two : (line : List ℕ → List ℕ → List ℕ → Result Line LineFault) (a : List ℕ) (l : List (List ℕ)) → with_three line (a ∷ l) ≡ with_two (line a) l
+three_by_two line a [] = refl
+three_by_two line a (b ∷ []) = refl
+three_by_two line a (b ∷ c ∷ []) = refl
+three_by_two line a (b ∷ c ∷ d ∷ rest) = refl
 
--- nor does a text that is one line without a line feed
-pub text_unended : (line : List ℕ) → rows_of_text (line ∷ []) ≡ None
-unfolding rows_of_lines
-text_unended line = by (bytes_eq line (codes "ipmi-image 1"))
+-- what a comparison with a literal says
+pub is_word : (word literal other : List ℕ) (b : Bool) → b ≡ bytes_eq word other → other ≡ literal → b ≡ true → word ≡ literal
+is_word word literal other b e l is = (bytes_decides word other).0 (sym e ∙ is) ∙ l
+
+pub is_other : (word literal other : List ℕ) (b : Bool) → b ≡ bytes_eq word other → other ≡ literal → b ≡ false → bytes_eq word literal ≡ false
+is_other word literal other b e l is = ap (bytes_eq word) (sym l) ∙ sym e ∙ is
+
+-- the first word is one of these
+pub line_is : (dashes : Bool) (text word : List ℕ) (fields : List (List ℕ)) (known : List ℕ) → pieces 32 text ≡ word ∷ fields → word ≡ known → line_of dashes text ≡ line_of_fields dashes (known ∷ fields)
+unfolding line_of
+line_is dashes text word fields known cut is = ap (line_of_fields dashes) (cut ∙ ap (λ (w : List ℕ). w ∷ fields) is)
+
+-- a line of one word is `end` or no line
+pub one_word : (dashes : Bool) (text : List ℕ) → pieces 32 text ≡ text ∷ [] → bytes_eq text (codes "end") ≡ false → line_of dashes text ≡ Err fault.Line
+unfolding line_of
+one_word dashes text cut is = ap (line_of_fields dashes) cut ∙ by (bytes_eq text (codes "sdr")) (bytes_eq text (codes "sel")) (bytes_eq text (codes "fru")) (bytes_eq text (codes "reading")) (bytes_eq text (codes "info")) (bytes_eq text (codes "end")) is
   where
-    by : (b : Bool) → cond b (rows_of_lines [] []) None ≡ None
-    by true = refl
-    by false = refl
+    by : (a b c d e f : Bool) → f ≡ false → cond a (with_three (row_line dashes Sdr) []) (cond b (with_three (row_line dashes Sel) []) (cond c (with_two inventory_line []) (cond d (with_three reading_line []) (cond e (with_two info_line []) (cond f (end_line []) (Err fault.Line)))))) ≡ Err fault.Line
+    by true b c d e f is = refl
+    by false true c d e f is = refl
+    by false false true d e f is = refl
+    by false false false true e f is = refl
+    by false false false false true f is = refl
+    by false false false false false f is = ap (λ (t : Bool). cond t (end_line []) (Err fault.Line)) is
 
-pub rows_of_end : (rows : List Row) (line : List ℕ) (rest : List (List ℕ)) → bytes_eq line (codes "end") ≡ true → rows_of_lines rows (line ∷ rest) ≡ cond (ends_here rest) (Some rows) None
-unfolding rows_of_lines
-rows_of_end rows line rest is =
-    ap (λ (b : Bool). cond b (cond (ends_here rest) (Some rows) None) (option_and_then (λ row. cond (may_follow rows row) (rows_of_lines (rows ++ row ∷ []) rest) None) (row_of_line line))) is
-
--- a line that is not `end` gives a row or nothing
-pub rows_of_row : (rows : List Row) (line : List ℕ) (rest : List (List ℕ)) (o : Option Row) → bytes_eq line (codes "end") ≡ false → row_of_line line ≡ o
-    → rows_of_lines rows (line ∷ rest) ≡ option_and_then (λ row. cond (may_follow rows row) (rows_of_lines (rows ++ row ∷ []) rest) None) o
-unfolding rows_of_lines
-rows_of_row rows line rest o is gives =
-    ap (λ (b : Bool). cond b (cond (ends_here rest) (Some rows) None) (option_and_then (λ row. cond (may_follow rows row) (rows_of_lines (rows ++ row ∷ []) rest) None) (row_of_line line))) is
-    ∙ ap (option_and_then (λ row. cond (may_follow rows row) (rows_of_lines (rows ++ row ∷ []) rest) None)) gives
-
--- nothing stands behind the last line feed exactly where no byte does
-pub ends_here-pieces : (bytes : List ℕ) → ends_here (pieces 10 bytes) ≡ (length bytes == 0)
-unfolding pieces
-ends_here-pieces [] = refl
-ends_here-pieces (b ∷ bytes) = by (nat_eq b 10) (pieces 10 bytes) (length-pieces 10 bytes) ∙ more (length bytes)
+-- a line with fields whose first word is none of these is no line
+pub other_word : (dashes : Bool) (text word rest : List ℕ) → pieces 32 text ≡ word ∷ pieces 32 rest → bytes_eq word (codes "sdr") ≡ false → bytes_eq word (codes "sel") ≡ false → bytes_eq word (codes "fru") ≡ false → bytes_eq word (codes "reading") ≡ false → bytes_eq word (codes "info") ≡ false → line_of dashes text ≡ Err fault.Line
+unfolding line_of
+other_word dashes text word rest cut a b c d e =
+    let l = pieces 32 rest in
+    ap (line_of_fields dashes) cut
+    ∙ ap (λ (t : Bool). cond t (with_three (row_line dashes Sdr) l) (cond (bytes_eq word (codes "sel")) (with_three (row_line dashes Sel) l) (cond (bytes_eq word (codes "fru")) (with_two inventory_line l) (cond (bytes_eq word (codes "reading")) (with_three reading_line l) (cond (bytes_eq word (codes "info")) (with_two info_line l) (cond (bytes_eq word (codes "end")) (end_line l) (Err fault.Line))))))) a
+    ∙ ap (λ (t : Bool). cond t (with_three (row_line dashes Sel) l) (cond (bytes_eq word (codes "fru")) (with_two inventory_line l) (cond (bytes_eq word (codes "reading")) (with_three reading_line l) (cond (bytes_eq word (codes "info")) (with_two info_line l) (cond (bytes_eq word (codes "end")) (end_line l) (Err fault.Line)))))) b
+    ∙ ap (λ (t : Bool). cond t (with_two inventory_line l) (cond (bytes_eq word (codes "reading")) (with_three reading_line l) (cond (bytes_eq word (codes "info")) (with_two info_line l) (cond (bytes_eq word (codes "end")) (end_line l) (Err fault.Line))))) c
+    ∙ ap (λ (t : Bool). cond t (with_three reading_line l) (cond (bytes_eq word (codes "info")) (with_two info_line l) (cond (bytes_eq word (codes "end")) (end_line l) (Err fault.Line)))) d
+    ∙ ap (λ (t : Bool). cond t (with_two info_line l) (cond (bytes_eq word (codes "end")) (end_line l) (Err fault.Line))) e
+    ∙ by (bytes_eq word (codes "end")) l (length-pieces 32 rest)
   where
-    more : (n : ℕ) → false ≡ nat_eq (suc n) 0
-    more n = grind (arith, nat_tests)
-
-    by : (t : Bool) (l : List (List ℕ)) → 0 < length l → ends_here (cond t ([] ∷ l) (onto b l)) ≡ false
+    by : (t : Bool) (l : List (List ℕ)) → 0 < length l → cond t (end_line l) (Err fault.Line) ≡ Err fault.Line
+    by false l some = refl
     by true [] some = absurd (omega (arith, some))
-    by true (piece ∷ rest) some = refl
-    by false [] some = absurd (omega (arith, some))
-    by false (piece ∷ rest) some = refl
-
--- ---- the rows are a shelf
-
-and_left : (a b : Bool) → (a && b) ≡ true → a ≡ true
-and_left true b e = refl
-and_left false b e = cc e
-
-and_right : (a b : Bool) → (a && b) ≡ true → b ≡ true
-and_right true b e = e
-and_right false b e = cc e
-
-not_true : (b : Bool) → not b ≡ true → b ≡ false
-not_true true e = cc e
-not_true false e = refl
-
-pub shelf_follows : (rows : List Row) (row : Row) → IsShelf Sdr rows → FitsTypes row → may_follow rows row ≡ true → IsShelf Sdr (rows ++ row ∷ [])
-shelf_follows rows row shelf fits may =
-    let first = not_true _ (and_left _ _ may) in
-    let more = and_right _ _ may in
-    let rest = and_right _ _ more in
-    let ok : IsRow Sdr row = record {
-      id = let ne = eqb-false row.id 65535 first in let lt = fits.id in omega arith;
-      next = fits.next;
-      whole = eqb-true _ _ (and_left _ _ more);
-      fits = let le = and_left (nat_le (length row.bytes) 256) _ rest in grind (arith, nat_tests);
-      bytes = fits.bytes;
-    } in
-    by rows shelf ok (and_right _ _ rest)
-  where
-    by : (rows : List Row) → IsShelf Sdr rows → IsRow Sdr row → may_stand_after rows row ≡ true → IsShelf Sdr (rows ++ row ∷ [])
-    by [] shelf ok may = IsShelf-first Sdr row ok (eqb-true _ _ may)
-    by (first ∷ rows) shelf ok may = IsShelf-snoc Sdr first rows row shelf ok (eqb-false row.id 0 (not_true _ (and_left _ _ may))) (not_true _ (and_right _ _ may))
+    by true (field ∷ l) some = refl

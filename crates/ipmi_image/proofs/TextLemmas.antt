@@ -1,37 +1,38 @@
 -- Where a separator stands, a text is cut.
-use Rattle.std.proofs.Common.{◌≡◌, ◌≢◌, ℕ, zero, suc, ◌+◌, ◌<◌, ◌≤◌, Bool, true, false, cond, nat_eq, List, [], ◌∷◌, length, take, drop, get_or, refl, ap, ◌∙◌, add-one, arith}
+use Rattle.std.proofs.Common.{◌≡◌, ◌≢◌, ℕ, ◌+◌, ◌<◌, false, nat_eq, List, [], ◌∷◌, ◌++◌, length, take, drop, get_or, refl, sym, ap, ◌∙◌, arith}
+use Rattle.std.specs.List.{All}
 use Rattle.std.proofs.lemmas.Bool.{ne_eqb, eq-eqb}
-use Rattle.ipmi_image.specs.Text.{pieces, onto}
+use Rattle.std.proofs.lemmas.List.{take-append-drop, drop_more, length-take-le, get_or-take, get_or_default}
+use Rattle.std.proofs.lemmas.List.Splits.{slice_split_none, slice_split_at, length-slice_split}
+use Rattle.ipmi_image.specs.Text.{pieces}
+
+-- no byte is the separator
+abbrev pub Lacks : ℕ → List ℕ → Type 0
+Lacks separator bytes = All (λ b. nat_eq b separator ≡ false) bytes
 
 -- a text without the separator is one piece
-pub pieces_none : (separator : ℕ) (bytes : List ℕ) → ((k : ℕ) → k < length bytes → get_or bytes k 0 ≢ separator) → pieces separator bytes ≡ bytes ∷ []
+pub pieces_one : (separator : ℕ) (bytes : List ℕ) → Lacks separator bytes → pieces separator bytes ≡ bytes ∷ []
 unfolding pieces
-pieces_none separator [] none = refl
-pieces_none separator (b ∷ bytes) none =
-    ap (λ (t : Bool). cond t ([] ∷ pieces separator bytes) (onto b (pieces separator bytes))) (ne_eqb b separator (none 0 (omega arith)))
-    ∙ ap (onto b) (pieces_none separator bytes (λ k lt. none (suc k) (omega arith)))
-
-at_suc : (separator : ℕ) (bytes : List ℕ) (k : ℕ) → k < length bytes → get_or bytes k 0 ≡ separator → ((j : ℕ) → j < k → get_or bytes j 0 ≢ separator)
-    → pieces separator bytes ≡ take k bytes ∷ pieces separator (drop (suc k) bytes)
-unfolding pieces
-at_suc separator [] k lt here none = absurd (omega arith)
-at_suc separator (b ∷ bytes) zero lt here none = ap (λ (t : Bool). cond t ([] ∷ pieces separator bytes) (onto b (pieces separator bytes))) (eq-eqb b separator here)
-at_suc separator (b ∷ bytes) (suc k) lt here none =
-    ap (λ (t : Bool). cond t ([] ∷ pieces separator bytes) (onto b (pieces separator bytes))) (ne_eqb b separator (none 0 (omega arith)))
-    ∙ ap (onto b) (at_suc separator bytes k (omega arith) here (λ j lt. none (suc j) (omega arith)))
+pieces_one separator bytes lacks = slice_split_none (λ b. nat_eq b separator) bytes lacks
 
 -- the first separator stands behind the first piece
+pub pieces_more : (separator : ℕ) (piece rest : List ℕ) → Lacks separator piece → pieces separator (piece ++ separator ∷ rest) ≡ piece ∷ pieces separator rest
+unfolding pieces
+pieces_more separator piece rest lacks = slice_split_at (λ b. nat_eq b separator) piece separator rest lacks (eq-eqb separator separator refl)
+
+pub pieces_none : (separator : ℕ) (bytes : List ℕ) → ((k : ℕ) → k < length bytes → get_or bytes k 0 ≢ separator) → pieces separator bytes ≡ bytes ∷ []
+pieces_none separator bytes none = pieces_one separator bytes (λ k d lt. ne_eqb _ separator (λ e. none k lt (get_or_default bytes k 0 d lt ∙ e)))
+
 pub pieces_at : (separator : ℕ) (bytes : List ℕ) (k : ℕ) → k < length bytes → get_or bytes k 0 ≡ separator → ((j : ℕ) → j < k → get_or bytes j 0 ≢ separator)
     → pieces separator bytes ≡ take k bytes ∷ pieces separator (drop (k + 1) bytes)
-pieces_at separator bytes k lt here none = rw (add-one k) (at_suc separator bytes k lt here none)
+pieces_at separator bytes k lt here none =
+    let whole : take k bytes ++ separator ∷ drop (k + 1) bytes ≡ bytes = ap (λ (b : ℕ). take k bytes ++ b ∷ drop (k + 1) bytes) (sym here) ∙ ap (λ (l : List ℕ). take k bytes ++ l) (sym (drop_more bytes k 0 lt)) ∙ take-append-drop k bytes in
+    ap (pieces separator) (sym whole) ∙ pieces_more separator (take k bytes) (drop (k + 1) bytes) (λ j d below.
+    let len = length-take-le k bytes (omega (arith, lt)) in
+    let lower : j < k = omega (arith, len, below) in
+    ne_eqb _ separator (λ e. none j lower (get_or_default bytes j 0 d (omega (arith, lower, lt)) ∙ sym (get_or-take k bytes j d lower) ∙ e)))
 
 -- there is a piece
 pub length-pieces : (separator : ℕ) (bytes : List ℕ) → 0 < length (pieces separator bytes)
 unfolding pieces
-length-pieces separator [] = omega arith
-length-pieces separator (b ∷ bytes) = by (nat_eq b separator) (pieces separator bytes)
-  where
-    by : (t : Bool) (l : List (List ℕ)) → 0 < length (cond t ([] ∷ l) (onto b l))
-    by true l = omega arith
-    by false [] = omega arith
-    by false (piece ∷ rest) = omega arith
+length-pieces separator bytes = let len = length-slice_split (λ b. nat_eq b separator) bytes in omega (arith, len)

@@ -1,4 +1,8 @@
-pub mod Grammar
-pub mod Saved
+pub mod Controllers
+pub mod Image
+pub mod Line
+pub mod Responder
+pub mod Rewritten
 pub mod Stored
+pub mod Table
 pub mod Text

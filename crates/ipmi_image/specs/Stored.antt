@@ -1,17 +1,67 @@
--- An image's rows as contracts see them.
-use Rattle.std.specs.Prelude.{ℕ, ◌<◌, List, [], ◌∷◌}
-use Rattle.ipmi_bus.specs.Shelf.{Row, AreBytes}
-use Rattle.ipmi_image.specs.declared.image.StoredRow.{StoredRow}
+-- What an image keeps, as contracts see it.
+use Rattle.std.specs.Prelude.{◌≡◌, ◌≢◌, ◌⊎◌, ◌++◌, ◌∷◌, [], Some, None, Result, Ok, Err, MatchResult, List, map, filter_map, All, AllPairs}
+use Rattle.ipmi_bus.specs.declared.controller.Shelf.TheVariants.{Sdr, Sel}
+use Rattle.ipmi_bus.specs.Store.{Store, Inventory, SensorReading, IsInventory, IsSensorReading, OtherSensor}
+use Rattle.ipmi_image.specs.declared.image.Contents.{Contents}
+use Rattle.ipmi_image.specs.declared.line.Line.{Line as line}
+use Rattle.ipmi_image.specs.declared.line.Line.TheVariants as of
+use Rattle.ipmi_image.specs.declared.line.LineFault.{LineFault}
+use Rattle.ipmi_image.specs.declared.line.LineFault.TheVariants as fault
+use Rattle.ipmi_image.specs.declared.stored.StoredRow.{StoredRow}
+use Rattle.ipmi_image.specs.declared.stored.StoredSensor.{StoredSensor}
+use Rattle.ipmi_image.specs.Table.{inventory_of}
+use Rattle.ipmi_image.specs.Line.{SavedRow, Line, a_row, an_inventory, a_reading, an_info, the_end}
+use Rattle.ipmi_image.specs.Image.{chained, rows_on, inventories_of, sensor_on, info_on, first_of, store_of_lines, fault_in}
 
-abbrev pub row_of : StoredRow → Row
+abbrev pub row_of : StoredRow → SavedRow
 row_of row = record { id = row.id; next = row.next; bytes = row.bytes.items }
 
-abbrev pub rows_in : List StoredRow → List Row
-rows_in [] = []
-rows_in (row ∷ rows) = row_of row ∷ rows_in rows
+abbrev pub sensor_of : StoredSensor → SensorReading
+sensor_of sensor = record { lun = sensor.lun; number = sensor.number; reading = sensor.reading }
 
--- its ids are 16-bit numbers, and its bytes are bytes
-pub record FitsTypes (row : Row) : Type 0 where
-  pub id : row.id < 65536
-  pub next : row.next < 65536
-  pub bytes : AreBytes row.bytes
+-- what a line that was read says
+abbrev pub said : line → Line
+said (of.Row shelf id next bytes) = a_row shelf (record { id = id; next = next; bytes = bytes.items })
+said (of.Inventory id bytes) = an_inventory id bytes.items
+said (of.Reading lun number bytes) = a_reading lun number bytes.items
+said (of.Info shelf bytes) = an_info shelf bytes.items
+said of.End = the_end
+
+-- the line or its fault was found, or no memory was left for it
+abbrev pub IsRead : Result Line LineFault → Result line LineFault → Type 0
+IsRead wanted result = MatchResult result (λ l. wanted ≡ Ok (said l)) (λ e. (e ≡ fault.Memory) ⊎ (wanted ≡ Err e))
+
+-- what the contents of an image are
+abbrev pub store_of : Contents → Store
+store_of contents = record {
+  sdr = chained (map row_of contents.sdr);
+  sel = chained (map row_of contents.sel);
+  inventories = map inventory_of contents.inventories;
+  readings = map sensor_of contents.sensors;
+  sdr_info = contents.sdr_info;
+  sel_info = contents.sel_info;
+}
+
+-- inventories, and readings, that may be those of a store
+pub record AreInventories (inventories : List Inventory) : Type 0 where
+  pub all : All IsInventory inventories
+  pub distinct : AllPairs (λ a b. a.id ≢ b.id) inventories
+
+pub record AreReadings (readings : List SensorReading) : Type 0 where
+  pub all : All IsSensorReading readings
+  pub distinct : AllPairs OtherSensor readings
+
+-- the contents are what these lines say
+pub record HoldsLines (contents : Contents) (lines : List Line) : Type 0 where
+  pub sdr : map row_of contents.sdr ≡ rows_on Sdr lines
+  pub sel : map row_of contents.sel ≡ rows_on Sel lines
+  pub inventories : map inventory_of contents.inventories ≡ inventories_of lines
+  pub readings : map sensor_of contents.sensors ≡ filter_map sensor_on lines
+  pub sdr_info : contents.sdr_info ≡ first_of (filter_map (info_on Sdr) lines)
+  pub sel_info : contents.sel_info ≡ first_of (filter_map (info_on Sel) lines)
+
+-- a line was put behind these, or may not stand there, or no memory was left
+abbrev pub IsPut : Contents → List Line → Line → Result (Unit {0}) LineFault → Type 0
+IsPut new before line result = MatchResult result
+    (λ done. (fault_in (store_of_lines before) line ≡ None) × HoldsLines new (before ++ line ∷ []))
+    (λ e. (e ≡ fault.Memory) ⊎ (fault_in (store_of_lines before) line ≡ Some e))

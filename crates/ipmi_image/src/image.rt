@@ -1,174 +1,377 @@
-//! A saved image, read from its text.
-ghost use Rattle.std.specs.Prelude.{◌≡◌, ◌⊎◌, ◌≤◌, vec_len, IfOk, IfErr, IfSome, None, Some, []};
+//! A saved image of a management controller, read from its text.
+ghost use Rattle.std.specs.Prelude.{◌≡◌, ◌⊎◌, ◌++◌, ◌∷◌, [], ◌≤◌, List, All, not, IsTrue, IfOk, IfErr, IfSome, OnOk, Ok, Err, Some, None, unwrap_or, is_some, length, vec_len, map};
 ghost use Rattle.std.specs.Option.{option_map};
-ghost use Rattle.ipmi_bus.specs.Walk.{has_id};
-ghost use Rattle.ipmi_image.specs.Stored.{row_of, rows_in, FitsTypes};
-ghost use Rattle.ipmi_image.specs.Grammar.{row_of_line, row_of_texts, may_follow, may_stand_after, rows_of_lines, rows_of_text, sdr_store};
 ghost use Rattle.ipmi_bus.specs.Shelf.{IsShelf};
-ghost use Rattle.ipmi_bus.specs.Store.{IsStore};
-ghost use Rattle.ipmi_bus.specs.declared.controller.Shelf.TheVariants.{Sdr};
+ghost use Rattle.ipmi_bus.specs.Walk.{has_id};
+ghost use Rattle.ipmi_bus.specs.Store.{IsStore, IsInfo, rows_of, inventory_of, inventory_in, reading_of, reading_in, info_of};
 ghost use Rattle.ipmi_image.specs.Text.{pieces};
+ghost use Rattle.ipmi_image.specs.Line as lines;
+ghost use Rattle.ipmi_image.specs.Image.{chained, is_no_record, is_no_id, begins_with_another, row_fault, inventory_fault, reading_fault, info_fault, reading_of_bytes, with_bytes, at_line, dashes_in, store_behind, store_of_image};
+ghost use Rattle.ipmi_image.specs.Table as table;
+ghost use Rattle.ipmi_image.specs.Rewritten.{IsSaved};
+ghost use Rattle.ipmi_image.specs.Stored.{row_of, sensor_of, said, store_of, AreInventories, AreReadings, HoldsLines, IsPut};
 
-use crate::text::{cut, read_id};
+use crate::line::{Line, LineFault, read_line};
+use crate::stored::{StoredInventory, StoredRow, StoredSensor, Table, sensor_key};
+use crate::text::cut;
 use byteorder::{ByteOrder, LittleEndian};
-use hex::FromHexError;
-use std::alloc::{AllocError, AllocFailed, Global};
+use ipmi_bus::Shelf;
+use ipmi_text::Reading;
+use std::alloc::Global;
 use std::marker::Model;
 use thiserror::Error;
 
-/// Why an image was not read.
+/// Why an image was not read. Lines are numbered from 1; the first faulty line decides.
 #[derive(Clone, Copy, Debug, PartialEq, Eq, Error)]
 pub enum ImageFault {
     /// No memory was left.
     #[error("out of memory")]
     Memory,
-    /// The text is no image, or one that is not read yet.
-    #[error("not read")]
-    NotRead,
+    /// The bytes do not begin with `ipmi-image 1` or `ipmi-image 2` and a line feed.
+    #[error("header")]
+    Header,
+    /// The line has an unknown first word, a wrong number of fields, a field before HEX that is too short or too long, an
+    /// empty HEX, or behind `info` neither `sdr` nor `sel`.
+    #[error("line {0}: not a line")]
+    Line(usize),
+    /// A hex field has a character that is no hex digit, or an odd number of them.
+    #[error("line {0}: hex")]
+    Hex(usize),
+    /// A record's id FFFFh, or 0000h behind the first record of its shelf; the FRU device FFh; or a LUN above 3.
+    #[error("line {0}: id")]
+    Id(usize),
+    /// The id is on its shelf already, or the reading or the info is given already.
+    #[error("line {0}: twice")]
+    Twice(usize),
+    /// The record, the reading or the info does not have its number of bytes.
+    #[error("line {0}: length")]
+    Length(usize),
+    /// The bytes of the first record of its shelf do not begin with its id.
+    #[error("line {0}: first id")]
+    FirstId(usize),
+    /// The whole lines run out before `end`.
+    #[error("no end")]
+    NoEnd,
+    /// Something stands behind the line `end`.
+    #[error("line {0}: after end")]
+    AfterEnd(usize),
+    /// The inventory has more than 65,535 bytes.
+    #[error("line {0}: too many bytes")]
+    TooMany(usize),
 }
 
-impl From<AllocError> for ImageFault {
-    ghost use Rattle.std.specs.Prelude.{◌≡◌};
-    ghost use Rattle.ipmi_image.specs.declared.image.ImageFault.TheVariants as fault;
-
-    ghost from_gives = { λ _ e. e ≡ fault.Memory };
-
-    fn from(_error: AllocError) -> ImageFault {
-        ImageFault::Memory
-    }
-}
-
-impl<T: Drop> From<AllocFailed<T>> for ImageFault {
-    ghost use Rattle.std.specs.Prelude.{◌≡◌};
-    ghost use Rattle.ipmi_image.specs.declared.image.ImageFault.TheVariants as fault;
-
-    ghost from_gives = { λ _ e. e ≡ fault.Memory };
-
-    fn from(_error: AllocFailed<T>) -> ImageFault {
-        ImageFault::Memory
-    }
-}
-
-/// A record of the image.
-#[derive(Debug, Drop)]
-pub(crate) struct StoredRow {
-    pub(crate) id: u16,
-    pub(crate) next: u16,
-    pub(crate) bytes: Vec<u8>,
-}
-
-impl StoredRow {
-    fn new(id: u16, next: u16, bytes: Vec<u8>) -> StoredRow
-        ensures row { row_of result ≡ record { id = id; next = next; bytes = bytes.items } }
-        ensures fits { FitsTypes (row_of result) }
+impl LineFault {
+    /// The fault of the line with this number.
+    fn at(self, line: usize) -> ImageFault
+        ensures { result ≡ at_line line self }
     {
-        StoredRow { id, next, bytes }
-    }
-}
-
-/// The record of a line `sdr ID NEXT HEX`.
-fn read_row(alloc: Global, line: &[u8]) -> Result<Option<StoredRow>, AllocError>
-    ensures value { IfOk result (λ o. option_map row_of o ≡ row_of_line line.now) }
-    ensures fits { IfOk result (λ o. IfSome o (λ row. FitsTypes (row_of row))) }
-{
-    let Some((word, rest)) = cut(line, b' ') else {
-        return Ok(None);
-    };
-    let Some((id, rest)) = cut(rest, b' ') else {
-        return Ok(None);
-    };
-    let Some((next, hex)) = cut(rest, b' ') else {
-        return Ok(None);
-    };
-    if word != b"sdr".as_slice() {
-        return Ok(None);
-    }
-    if let Some(_) = cut(hex, b' ') {
-        return Ok(None);
-    }
-    row_of_texts(alloc, id, next, hex)
-}
-
-/// The record whose fields are these texts.
-fn row_of_texts(
-    alloc: Global,
-    id: &[u8],
-    next: &[u8],
-    hex: &[u8],
-) -> Result<Option<StoredRow>, AllocError>
-    ensures value { IfOk result (λ o. option_map row_of o ≡ row_of_texts id.now next.now hex.now) }
-    ensures fits { IfOk result (λ o. IfSome o (λ row. FitsTypes (row_of row))) }
-{
-    let (Some(id), Some(next)) = (read_id(id), read_id(next)) else {
-        return Ok(None);
-    };
-    match hex::decode(alloc, hex) {
-        Ok(bytes) => Ok(Some(StoredRow::new(id, next, bytes))),
-        Err(FromHexError::OutOfMemory) => Err(AllocError),
-        Err(_) => Ok(None),
-    }
-}
-
-/// Whether the record may follow these on a shelf of sensor data records.
-fn may_follow(rows: &[StoredRow], row: &StoredRow) -> bool
-    ensures { result ≡ may_follow (rows_in rows.now) (row_of row.now) }
-{
-    let bytes = row.bytes.as_slice();
-    let len = bytes.len();
-    if row.id == 0xFFFF || len < 5 || len > 256 || len != 5 + usize::from(bytes[4]) {
-        return false;
-    }
-    may_stand_after(rows, row)
-}
-
-/// Whether the record may stand behind these, by its id.
-#[tactic(auto, using(crate::proofs::RowLemmas::later_row))]
-fn may_stand_after(rows: &[StoredRow], row: &StoredRow) -> bool
-    requires { 5 ≤ vec_len row.now.bytes }
-    ensures { result ≡ may_stand_after (rows_in rows.now) (row_of row.now) }
-{
-    if rows.is_empty() {
-        return LittleEndian::read_u16(&row.bytes) == row.id;
-    }
-    row.id != 0 && !has_id(rows, row.id)
-}
-
-/// Whether one of the records has this id.
-fn has_id(rows: &[StoredRow], id: u16) -> bool
-    ensures { result ≡ has_id (rows_in rows.now) id }
-{
-    for row in rows {
-        if id == row.id {
-            return true;
+        match self {
+            LineFault::Memory => ImageFault::Memory,
+            LineFault::Line => ImageFault::Line(line),
+            LineFault::Hex => ImageFault::Hex(line),
+            LineFault::Id => ImageFault::Id(line),
+            LineFault::Twice => ImageFault::Twice(line),
+            LineFault::Length => ImageFault::Length(line),
+            LineFault::FirstId => ImageFault::FirstId(line),
+            LineFault::TooMany => ImageFault::TooMany(line),
         }
     }
-    false
 }
 
-/// The records of the lines up to `end`, the last one.
-fn read_lines(alloc: Global, bytes: &[u8]) -> Result<Vec<StoredRow>, ImageFault>
-    ensures ok { IfOk result (λ sdr. IsShelf Sdr (rows_in sdr.items) × (rows_of_lines [] (pieces 10 bytes.now) ≡ Some (rows_in sdr.items))) }
-    ensures err { IfErr result (λ e. (e ≡ ImageFault.Memory) ⊎ ((e ≡ ImageFault.NotRead) × (rows_of_lines [] (pieces 10 bytes.now) ≡ None))) }
+/// What the lines so far say.
+#[derive(Drop)]
+pub(crate) struct Contents {
+    pub(crate) sdr: Table<StoredRow>,
+    pub(crate) sel: Table<StoredRow>,
+    pub(crate) inventories: Table<StoredInventory>,
+    pub(crate) sensors: Table<StoredSensor>,
+    pub(crate) sdr_info: Option<[u8; 14]>,
+    pub(crate) sel_info: Option<[u8; 14]>,
+}
+
+/// Whether the bytes are as many as a whole record of the shelf.
+fn is_whole(shelf: Shelf, bytes: &[u8]) -> bool
+    ensures whole { result ≡ not (is_no_record shelf bytes.now) }
+    ensures some { IsTrue result → 5 ≤ length bytes.now }
 {
-    let mut sdr = Vec::new(alloc);
+    let len = bytes.len();
+    match shelf {
+        Shelf::Sdr => len >= 5 && len == 5 + usize::from(bytes[4]) && len <= 256,
+        Shelf::Sel => len == 16,
+    }
+}
+
+/// Whether no record behind these has this id.
+#[tactic(auto, using(crate::proofs::TableLemmas::is_empty_chained))]
+fn is_no_id(rows: &Table<StoredRow>, id: u16) -> bool
+    ensures { result ≡ is_no_id (chained (map row_of rows.now)) id }
+{
+    (id == 0 && !rows.as_slice().is_empty()) || id == 0xFFFF
+}
+
+/// Whether one of these has this id.
+#[tactic(auto, using(crate::proofs::TableLemmas::has_id_place))]
+fn has_id(rows: &Table<StoredRow>, id: u16) -> bool
+    ensures { result ≡ has_id (chained (map row_of rows.now)) id }
+{
+    rows.place(id).is_some()
+}
+
+/// Whether the record is the first, and its bytes begin with another id.
+#[tactic(auto, using(crate::proofs::TableLemmas::is_empty_chained))]
+fn begins_with_another(rows: &Table<StoredRow>, row: &StoredRow) -> bool
+    requires { 2 ≤ vec_len row.now.bytes }
+    ensures { result ≡ begins_with_another (chained (map row_of rows.now)) (row_of row.now) }
+{
+    rows.as_slice().is_empty() && LittleEndian::read_u16(&row.bytes) != row.id
+}
+
+/// Why the record may not stand behind these.
+fn row_fault(shelf: Shelf, rows: &Table<StoredRow>, row: &StoredRow) -> Option<LineFault>
+    ensures { result ≡ row_fault shelf (chained (map row_of rows.now)) (row_of row.now) }
+{
+    if is_no_id(rows, row.id) {
+        return Some(LineFault::Id);
+    }
+    if has_id(rows, row.id) {
+        return Some(LineFault::Twice);
+    }
+    if !is_whole(shelf, &row.bytes) {
+        return Some(LineFault::Length);
+    }
+    if begins_with_another(rows, row) {
+        return Some(LineFault::FirstId);
+    }
+    None
+}
+
+/// Puts the record behind these.
+fn put_row(
+    shelf: Shelf,
+    rows: &mut Table<StoredRow>,
+    id: u16,
+    next: Option<u16>,
+    bytes: Vec<u8>,
+) -> Result<(), LineFault>
+    requires { IsShelf shelf (chained (map row_of rows.old)) }
+    ensures keeps { OnOk result (IsShelf shelf (chained (map row_of rows.new))) }
+    ensures ok { OnOk result ((row_fault shelf (chained (map row_of rows.old)) (record { id = id; next = next; bytes = bytes.items }) ≡ None) × (map row_of rows.new ≡ map row_of rows.old ++ record { id = id; next = next; bytes = bytes.items } ∷ [])) }
+    ensures err { IfErr result (λ e. (e ≡ LineFault.Memory) ⊎ (row_fault shelf (chained (map row_of rows.old)) (record { id = id; next = next; bytes = bytes.items }) ≡ Some e)) }
+{
+    let row = StoredRow { id, next, bytes };
+    if let Some(fault) = row_fault(shelf, rows, &row) {
+        return Err(fault);
+    }
+    rows.push(row)?;
+    Ok(())
+}
+
+/// How many bytes the inventory has so far.
+fn inventory_len(inventories: &Table<StoredInventory>, id: u8) -> usize
+    ensures { result ≡ length (unwrap_or (inventory_in (map table.inventory_of inventories.now) id) []) }
+{
+    match inventories.get(u16::from(id)) {
+        Some(inventory) => inventory.bytes.len(),
+        None => 0,
+    }
+}
+
+/// Why the bytes may not be those of the inventory, or more of it.
+fn inventory_fault(inventories: &Table<StoredInventory>, id: u8, bytes: &[u8]) -> Option<LineFault>
+    requires { AreInventories (map table.inventory_of inventories.now) }
+    ensures { result ≡ inventory_fault id (inventory_in (map table.inventory_of inventories.now) id) bytes.now }
+{
+    if id == 0xFF {
+        return Some(LineFault::Id);
+    }
+    if inventory_len(inventories, id) + bytes.len() > 0xFFFF {
+        return Some(LineFault::TooMany);
+    }
+    None
+}
+
+/// Puts the bytes behind those of their inventory.
+fn put_inventory(
+    inventories: &mut Table<StoredInventory>,
+    id: u8,
+    bytes: Vec<u8>,
+) -> Result<(), LineFault>
+    requires { AreInventories (map table.inventory_of inventories.old) }
+    ensures keeps { OnOk result (AreInventories (map table.inventory_of inventories.new)) }
+    ensures ok { OnOk result ((inventory_fault id (inventory_in (map table.inventory_of inventories.old) id) bytes.items ≡ None) × (map table.inventory_of inventories.new ≡ with_bytes id bytes.items (map table.inventory_of inventories.old))) }
+    ensures err { IfErr result (λ e. (e ≡ LineFault.Memory) ⊎ (inventory_fault id (inventory_in (map table.inventory_of inventories.old) id) bytes.items ≡ Some e)) }
+{
+    if let Some(fault) = inventory_fault(inventories, id, &bytes) {
+        return Err(fault);
+    }
+    match inventories.place(u16::from(id)) {
+        Some(place) => inventories.append(place, &bytes)?,
+        None => inventories.push(StoredInventory { id, bytes })?,
+    }
+    Ok(())
+}
+
+/// Whether the sensor has a reading already.
+fn has_reading(sensors: &Table<StoredSensor>, lun: u8, number: u8) -> bool
+    requires { AreReadings (map sensor_of sensors.now) }
+    ensures { result ≡ is_some (reading_in (map sensor_of sensors.now) lun number) }
+{
+    sensors.place(sensor_key(lun, number)).is_some()
+}
+
+/// Why the bytes may not be the reading of the sensor.
+fn reading_fault(
+    sensors: &Table<StoredSensor>,
+    lun: u8,
+    number: u8,
+    bytes: &[u8],
+) -> Option<LineFault>
+    requires { AreReadings (map sensor_of sensors.now) }
+    ensures { result ≡ reading_fault lun (reading_in (map sensor_of sensors.now) lun number) bytes.now }
+{
+    if lun > 3 {
+        return Some(LineFault::Id);
+    }
+    if has_reading(sensors, lun, number) {
+        return Some(LineFault::Twice);
+    }
+    if bytes.len() != 4 {
+        return Some(LineFault::Length);
+    }
+    None
+}
+
+/// Puts the reading of a sensor behind the others.
+fn put_reading(
+    sensors: &mut Table<StoredSensor>,
+    lun: u8,
+    number: u8,
+    bytes: &[u8],
+) -> Result<(), LineFault>
+    requires { AreReadings (map sensor_of sensors.old) }
+    ensures keeps { OnOk result (AreReadings (map sensor_of sensors.new)) }
+    ensures ok { OnOk result ((reading_fault lun (reading_in (map sensor_of sensors.old) lun number) bytes.now ≡ None) × (map sensor_of sensors.new ≡ map sensor_of sensors.old ++ record { lun = lun; number = number; reading = reading_of_bytes bytes.now } ∷ [])) }
+    ensures err { IfErr result (λ e. (e ≡ LineFault.Memory) ⊎ (reading_fault lun (reading_in (map sensor_of sensors.old) lun number) bytes.now ≡ Some e)) }
+{
+    if let Some(fault) = reading_fault(sensors, lun, number, bytes) {
+        return Err(fault);
+    }
+    sensors.push(StoredSensor {
+        lun,
+        number,
+        reading: Reading {
+            raw: bytes[0],
+            flags: bytes[1],
+            status: bytes[2],
+            more: bytes[3],
+        },
+    })?;
+    Ok(())
+}
+
+/// Takes the info of a shelf.
+fn put_info(info: &mut Option<[u8; 14]>, bytes: &[u8]) -> Result<(), LineFault>
+    ensures keeps { OnOk result (IfSome info.new IsInfo) }
+    ensures ok { OnOk result ((info_fault info.old bytes.now ≡ None) × (info.new ≡ Some bytes.now)) }
+    ensures err { IfErr result (λ e. info_fault info.old bytes.now ≡ Some e) }
+{
+    if info.is_some() {
+        return Err(LineFault::Twice);
+    }
+    if bytes.len() != 14 {
+        return Err(LineFault::Length);
+    }
+    let mut whole = [0; 14];
+    whole.copy_from_slice(bytes);
+    *info = Some(whole);
+    Ok(())
+}
+
+impl Contents {
+    /// Nothing yet.
+    fn new(alloc: Global) -> Contents
+        ensures empty { HoldsLines result [] }
+        ensures store { IsStore (store_of result) }
+    {
+        Contents {
+            sdr: Table::new(alloc),
+            sel: Table::new(alloc),
+            inventories: Table::new(alloc),
+            sensors: Table::new(alloc),
+            sdr_info: None,
+            sel_info: None,
+        }
+    }
+
+    /// Puts what a line says behind what the lines before say.
+    fn put(&mut self, line: Line) -> Result<(), LineFault>
+        requires { IsStore (store_of self.old) }
+        ensures keeps { OnOk result (IsStore (store_of self.new)) }
+        ensures lines { (before : List lines.Line) → HoldsLines self.old before → IsPut self.new before (said line) result }
+    {
+        match line {
+            Line::Row {
+                shelf: Shelf::Sdr,
+                id,
+                next,
+                bytes,
+            } => put_row(Shelf::Sdr, &mut self.sdr, id, next, bytes),
+            Line::Row {
+                shelf: Shelf::Sel,
+                id,
+                next,
+                bytes,
+            } => put_row(Shelf::Sel, &mut self.sel, id, next, bytes),
+            Line::Inventory(id, bytes) => put_inventory(&mut self.inventories, id, bytes),
+            Line::Reading { lun, number, bytes } => {
+                put_reading(&mut self.sensors, lun, number, &bytes)
+            }
+            Line::Info(Shelf::Sdr, bytes) => put_info(&mut self.sdr_info, &bytes),
+            Line::Info(Shelf::Sel, bytes) => put_info(&mut self.sel_info, &bytes),
+            Line::End => Ok(()),
+        }
+    }
+}
+
+/// Whether the image's rows may have a dash for their next id, as its first line says.
+fn read_version(line: &[u8]) -> Option<bool>
+    ensures { result ≡ dashes_in line.now }
+{
+    if line == b"ipmi-image 1".as_slice() {
+        return Some(false);
+    }
+    if line == b"ipmi-image 2".as_slice() {
+        return Some(true);
+    }
+    None
+}
+
+/// What the lines behind the first one say, up to `end`, the last one.
+fn read_lines(alloc: Global, dashes: bool, bytes: &[u8]) -> Result<Contents, ImageFault>
+    ensures ok { IfOk result (λ contents. IsStore (store_of contents) × (store_behind dashes [] (pieces 10 bytes.now) ≡ Ok (store_of contents))) }
+    ensures err { IfErr result (λ e. (e ≡ ImageFault.Memory) ⊎ (store_behind dashes [] (pieces 10 bytes.now) ≡ Err e)) }
+{
+    let mut contents = Contents::new(alloc);
+    let mut number = 2;
     let mut rest = bytes;
     'lines: loop {
-        let Some((line, after)) = cut(rest, b'\n') else {
-            return Err(ImageFault::NotRead);
+        let Some((text, after)) = cut(rest, b'\n') else {
+            return Err(ImageFault::NoEnd);
         };
-        if line == b"end".as_slice() {
+        let line = match read_line(alloc, dashes, text) {
+            Ok(line) => line,
+            Err(fault) => return Err(fault.at(number)),
+        };
+        if line.is_end() {
             if after.is_empty() {
-                return Ok(sdr);
+                return Ok(contents);
             }
-            return Err(ImageFault::NotRead);
+            return Err(ImageFault::AfterEnd(number + 1));
         }
-        let Some(row) = read_row(alloc, line)? else {
-            return Err(ImageFault::NotRead);
-        };
-        if !may_follow(&sdr, &row) {
-            return Err(ImageFault::NotRead);
+        if let Err(fault) = contents.put(line) {
+            return Err(fault.at(number));
         }
-        sdr.push(row)?;
+        number += 1;
         rest = after;
     }
 }
@@ -176,48 +379,88 @@ fn read_lines(alloc: Global, bytes: &[u8]) -> Result<Vec<StoredRow>, ImageFault>
 /// What a management controller holds, as saved in an image.
 #[derive(Drop)]
 pub struct Image {
-    sdr: Vec<StoredRow>,
+    contents: Contents,
 }
 
 impl Model for Image {
-    ghost use Rattle.std.specs.Prelude.{List};
-    ghost use Rattle.std.specs.Coded.{codes, coded_ℕ};
-    ghost use Rattle.ipmi_bus.specs.Shelf.{Row, IsShelf};
-    ghost use Rattle.ipmi_bus.specs.declared.controller.Shelf.TheVariants.{Sdr};
-    ghost use Rattle.ipmi_image.specs.Stored.{rows_in};
+    ghost use Rattle.std.specs.Option.{option_map};
+    ghost use Rattle.ipmi_bus.specs.Shelf.{IsShelf};
+    ghost use Rattle.ipmi_bus.specs.Store.{Store, IsStore};
+    ghost use Rattle.std.specs.Prelude.{◌≡◌, ℕ, List, Ok};
+    ghost use Rattle.ipmi_image.specs.Image.{store_of_image};
+    ghost use Rattle.ipmi_image.specs.Stored.{store_of};
 
-    ghost Value = { List Row };
+    ghost Value = { Store };
 
-    ghost coded = { Prim.hlevel (codes, coded_ℕ) };
+    ghost view = { λ image. store_of image.contents };
 
-    ghost view = { λ image. rows_in image.sdr.items };
-
-    ghost invariant = { λ image. IsShelf Sdr (rows_in image.sdr.items) };
+    ghost invariant = { λ image. IsStore (store_of image.contents) × ((bytes : List ℕ) × (store_of_image bytes ≡ Ok (store_of image.contents))) };
 }
 
 impl Image {
-    /// Reads an image of version 1 that has sensor data records alone: the line `ipmi-image 1`, lines
-    /// `sdr ID NEXT HEX`, and the line `end`, each ended by a line feed.
+    /// Reads an image of version 1 or 2.
     pub fn read(alloc: Global, bytes: &[u8]) -> Result<Image, ImageFault>
-        ensures store { IfOk result (λ image. IsStore (sdr_store image)) }
-        ensures ok { IfOk result (λ image. rows_of_text (pieces 10 bytes.now) ≡ Some image) }
-        ensures err { IfErr result (λ e. (e ≡ ImageFault.Memory) ⊎ ((e ≡ ImageFault.NotRead) × (rows_of_text (pieces 10 bytes.now) ≡ None))) }
+        ensures store { IfOk result (λ image. IsStore image) }
+        ensures ok { IfOk result (λ image. store_of_image bytes.now ≡ Ok image) }
+        ensures err { IfErr result (λ e. (e ≡ ImageFault.Memory) ⊎ (store_of_image bytes.now ≡ Err e)) }
     {
         let Some((first, rest)) = cut(bytes, b'\n') else {
-            return Err(ImageFault::NotRead);
+            return Err(ImageFault::Header);
         };
-        if first != b"ipmi-image 1".as_slice() {
-            return Err(ImageFault::NotRead);
-        }
+        let Some(dashes) = read_version(first) else {
+            return Err(ImageFault::Header);
+        };
         Ok(Image {
-            sdr: read_lines(alloc, rest)?,
+            contents: read_lines(alloc, dashes, rest)?,
         })
     }
 
-    /// The records of the shelf of sensor data records, in their order.
-    pub(crate) fn sdr(&self) -> &[StoredRow]
-        ensures { rows_in result.now ≡ self.now }
+    /// What the image holds.
+    pub(crate) fn contents(&self) -> &Contents
+        ensures is { store_of result.now ≡ self.now }
+        ensures luns { All (λ sensor. sensor.lun ≤ 3) result.now.sensors }
+        ensures store { IsStore self.now }
+        ensures saved { IsSaved self.now }
     {
-        &self.sdr
+        &self.contents
+    }
+
+    /// The records of the shelf, in their order.
+    pub(crate) fn rows(&self, shelf: Shelf) -> &Table<StoredRow>
+        ensures { chained (map row_of result.now) ≡ rows_of shelf self.now }
+    {
+        match shelf {
+            Shelf::Sdr => &self.contents.sdr,
+            Shelf::Sel => &self.contents.sel,
+        }
+    }
+
+    /// The bytes of the inventory with this id.
+    #[tactic(auto, using(crate::proofs::TableLemmas::inventory_find))]
+    pub(crate) fn inventory(&self, id: u8) -> Option<&[u8]>
+        ensures bytes { option_map (λ bytes. bytes.now) result ≡ inventory_of id self.now }
+        ensures fits { IfSome result (λ bytes. length bytes.now ≤ 65535) }
+    {
+        let inventory = self.contents.inventories.get(u16::from(id))?;
+        Some(inventory.bytes.as_slice())
+    }
+
+    /// The reading of the sensor with this number at this LUN.
+    #[tactic(auto, using(crate::proofs::TableLemmas::sensor_find))]
+    pub(crate) fn reading(&self, lun: u8, number: u8) -> Option<Reading>
+        ensures { result ≡ reading_of lun number self.now }
+    {
+        let sensor = self.contents.sensors.get(sensor_key(lun, number))?;
+        Some(sensor.reading)
+    }
+
+    /// The info of the shelf.
+    pub(crate) fn info(&self, shelf: Shelf) -> Option<[u8; 14]>
+        ensures { result ≡ info_of shelf self.now }
+    {
+        match shelf {
+            Shelf::Sdr => self.contents.sdr_info,
+            Shelf::Sel => self.contents.sel_info,
+        }
     }
 }

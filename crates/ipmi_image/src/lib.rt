@@ -1,9 +1,19 @@
-//! Saved images of a management controller, and a controller that answers from one.
+//! Saved images of a management controller, and controllers that answer from one.
 #![tactic(auto)]
 
 mod controller;
 mod image;
+pub mod laws;
+mod line;
+mod responder;
+mod rewrite;
+mod scripted;
+mod stored;
+#[cfg(test)]
+mod tests;
 mod text;
 
 pub use controller::ImageController;
 pub use image::{Image, ImageFault};
+pub use rewrite::image_text;
+pub use scripted::{Mood, Scripted};

@@ -1,10 +1,13 @@
-//! Fields of a line, and lines of a text, over the borrowed bytes.
-ghost use Rattle.std.specs.Prelude.{◌≡◌, [], ◌∷◌, ◌<◌, MatchOption, IfSome, length};
-ghost use Rattle.ipmi_image.specs.Text.{pieces, id_of};
+//! Lines of a text and fields of a line, over the borrowed bytes, and numbers in hex.
+ghost use Rattle.std.specs.Prelude.{◌≡◌, ◌⊎◌, [], ◌∷◌, ◌<◌, MatchOption, MatchResult, IfSome, Some, None, length};
+ghost use Rattle.ipmi_image.specs.Text.{pieces};
+ghost use Rattle.ipmi_image.specs.Line.{bytes_in, number_in, digit_in};
 
+use crate::line::LineFault;
 use byteorder::{BigEndian, ByteOrder};
-use hex::FromHex;
+use hex::{FromHex, FromHexError};
 use memchr::memchr;
+use std::alloc::Global;
 
 /// The bytes before the first separator, and those after it.
 pub(crate) fn cut(bytes: &[u8], separator: u8) -> Option<(&[u8], &[u8])>
@@ -15,10 +18,39 @@ pub(crate) fn cut(bytes: &[u8], separator: u8) -> Option<(&[u8], &[u8])>
     Some((&bytes[..at], &bytes[at + 1..]))
 }
 
-/// The id that four hex digits are, the highest first.
-pub(crate) fn read_id(digits: &[u8]) -> Option<u16>
-    ensures { result ≡ id_of digits.now }
+/// The number that four hex digits are, the highest first.
+pub(crate) fn read_u16(digits: &[u8]) -> Option<u16>
+    requires { length digits.now ≡ 4 }
+    ensures { result ≡ number_in 2 digits.now }
 {
     let bytes = <[u8; 2] as FromHex>::from_hex(digits).ok()?;
     Some(BigEndian::read_u16(&bytes))
+}
+
+/// The number that two hex digits are, the high one first.
+pub(crate) fn read_u8(digits: &[u8]) -> Option<u8>
+    requires { length digits.now ≡ 2 }
+    ensures { result ≡ number_in 1 digits.now }
+{
+    let [byte] = <[u8; 1] as FromHex>::from_hex(digits).ok()?;
+    Some(byte)
+}
+
+/// The number that one hex digit is.
+pub(crate) fn read_digit(digit: &[u8]) -> Option<u8>
+    requires { length digit.now ≡ 1 }
+    ensures { result ≡ digit_in digit.now }
+{
+    read_u8(&[b'0', digit[0]])
+}
+
+/// The bytes that pairs of hex digits are.
+pub(crate) fn read_bytes(alloc: Global, digits: &[u8]) -> Result<Vec<u8>, LineFault>
+    ensures { MatchResult result (λ bytes. bytes_in digits.now ≡ Some bytes.items) (λ e. (e ≡ LineFault.Memory) ⊎ ((e ≡ LineFault.Hex) × (bytes_in digits.now ≡ None))) }
+{
+    match hex::decode(alloc, digits) {
+        Ok(bytes) => Ok(bytes),
+        Err(FromHexError::OutOfMemory) => Err(LineFault::Memory),
+        Err(_) => Err(LineFault::Hex),
+    }
 }

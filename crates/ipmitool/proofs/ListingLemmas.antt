@@ -1,7 +1,5 @@
 -- A listing, one step of its cursor after another.
 use Rattle.std.proofs.Common.{◌≡◌, ℕ, ◌+◌, ◌-◌, ◌<◌, Bool, cond, Option, None, Some, Result, Ok, Err, List, [], ◌∷◌, ◌++◌, length, take, drop, refl, sym, ap, subst, ◌∙◌, append_assoc, append-nil, arith}
-use Rattle.std.specs.Prelude.{IsTrue}
-use Rattle.std.specs.List.{flat_map}
 use Rattle.std.specs.FinSet as set
 use Rattle.std.specs.FinSet.{len-insert}
 use Rattle.std.specs.Ordering.{nat_cmp}
@@ -15,16 +13,16 @@ use Rattle.ipmi_bus.specs.declared.step.Ended.TheVariants.{Cycle, Missing, Refus
 use Rattle.ipmi_bus.specs.Shelf.{Row, first_row}
 use Rattle.ipmi_bus.specs.Store.{rows_of}
 use Rattle.ipmi_bus.specs.Walk.{IsWalk, WalkEnd, EndsBy}
-use Rattle.ipmi_bus.specs.Seen.{Seen, IsHonest, StaysHonest}
+use Rattle.ipmi_bus.specs.Seen.{Seen, StaysHonest}
 use Rattle.ipmi_bus.specs.CursorState.{CursorState}
 use Rattle.ipmi_bus.specs.Standing.{StandsAt, WalkStep}
-use Rattle.ipmi_bus.specs.Step.{IsStep, NotGivenUpOrRefused, CursorHoldsCurrent, HandsOut}
+use Rattle.ipmi_bus.specs.Step.{IsStep, NotGivenUpOrRefused, HandsOut}
 use Rattle.ipmi_bus.proofs.SinceLemmas.{stays_trans}
 use Rattle.ipmitool.specs.declared.listing.Stop.{Stop}
 use Rattle.ipmitool.specs.declared.listing.Stop.TheVariants as stop
 use Rattle.ipmitool.specs.Run.{IsShelfListing}
 use Rattle.ipmitool.specs.Line.{line_of}
-use Rattle.ipmitool.specs.Listing.{lines_of, HasFirstLines, Leaves, IsFine, HasListed, ListsHonest, IsListing}
+use Rattle.ipmitool.specs.Listing.{lines_of, Leaves, IsFine, HasListed, ListsHonest, IsListing}
 
 lines_of-append : (rows more : List Row) → lines_of (rows ++ more) ≡ lines_of rows ++ lines_of more
 lines_of-append [] more = refl

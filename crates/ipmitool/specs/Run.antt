@@ -1,12 +1,13 @@
 -- What a run of a command leaves, and its exit status.
-use Rattle.std.specs.Prelude.{◌≡◌, ◌⊎◌, ℕ, ◌+◌, Bool, true, false, IsTrue, Option, Some, None, Result, Ok, Err, List}
+use Rattle.std.specs.Prelude.{◌≡◌, ◌⊎◌, ℕ, Bool, true, false, IsTrue, Result, Ok, Err, List}
 use Rattle.ipmi_bus.specs.declared.controller.Shelf.TheVariants.{Sdr}
 use Rattle.ipmi_bus.specs.declared.step.Place.{Place}
 use Rattle.ipmi_bus.specs.Shelf.{Row}
-use Rattle.ipmi_bus.specs.Store.{rows_of}
+use Rattle.ipmi_bus.specs.Store.{Store, rows_of}
 use Rattle.ipmi_bus.specs.Walk.{IsWalk, WalkEnd, EndsBy}
 use Rattle.ipmi_bus.specs.Seen.{Seen, StaysHonest}
 use Rattle.ipmi_bus.specs.CursorState.{start_of}
+use Rattle.ipmi_image.specs.declared.image.ImageFault.{ImageFault}
 use Rattle.ipmitool.specs.declared.command.Task.{Task}
 use Rattle.ipmitool.specs.declared.command.Task.TheVariants as task
 use Rattle.ipmitool.specs.declared.command.UsageFault.{UsageFault}
@@ -56,19 +57,19 @@ pub record ListsRows (rows : List Row) (start : Place) (old new : List ℕ) (sta
   pub leaves : (walk : List Row) (end : WalkEnd) → IsWalk rows start walk → EndsBy rows start walk end → Leaves walk end old new stop
   pub fine : IsFine stop
 
--- with the rows of an image, if it is one
-abbrev pub AnswersImage : Option (List Row) → Place → List ℕ → List ℕ → ℕ → Type 0
-AnswersImage (Some rows) start old new status = ListsRows rows start old new status
-AnswersImage None start old new status = (new ≡ old) × ((status ≡ 3) ⊎ (status ≡ 5))
+-- with the store of an image, or the fault for which it is none
+abbrev pub AnswersImage : Result Store ImageFault → Place → List ℕ → List ℕ → ℕ → Type 0
+AnswersImage (Ok store) start old new status = ListsRows store.sdr start old new status
+AnswersImage (Err fault) start old new status = (new ≡ old) × ((status ≡ 3) ⊎ (status ≡ 5))
 
-abbrev pub AnswersTask : Bool → Option (List Row) → Place → List ℕ → List ℕ → ℕ → Type 0
-AnswersTask true rows start old new status = AnswersImage rows start old new status
-AnswersTask false rows start old new status = (new ≡ old) × (status ≡ 2)
+abbrev pub AnswersTask : Bool → Result Store ImageFault → Place → List ℕ → List ℕ → ℕ → Type 0
+AnswersTask true image start old new status = AnswersImage image start old new status
+AnswersTask false image start old new status = (new ≡ old) × (status ≡ 2)
 
--- the answer to a command line over an image, by the rows that the image gives
-abbrev pub AnswersLine : Result CommandState UsageFault → Option (List Row) → List ℕ → List ℕ → ℕ → Type 0
-AnswersLine (Ok command) rows old new status = AnswersTask (is_built command.task) rows (start_of command.from) old new status
-AnswersLine (Err fault.Memory) rows old new status = (new ≡ old) × (status ≡ 5)
-AnswersLine (Err fault.Line) rows old new status = (new ≡ old) × (status ≡ 2)
-AnswersLine (Err fault.Command) rows old new status = (new ≡ old) × (status ≡ 2)
-AnswersLine (Err fault.Option) rows old new status = (new ≡ old) × (status ≡ 2)
+-- the answer to a command line over an image, by what the image gives
+abbrev pub AnswersLine : Result CommandState UsageFault → Result Store ImageFault → List ℕ → List ℕ → ℕ → Type 0
+AnswersLine (Ok command) image old new status = AnswersTask (is_built command.task) image (start_of command.from) old new status
+AnswersLine (Err fault.Memory) image old new status = (new ≡ old) × (status ≡ 5)
+AnswersLine (Err fault.Line) image old new status = (new ≡ old) × (status ≡ 2)
+AnswersLine (Err fault.Command) image old new status = (new ≡ old) × (status ≡ 2)
+AnswersLine (Err fault.Option) image old new status = (new ≡ old) × (status ≡ 2)

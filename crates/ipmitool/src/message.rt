@@ -1,5 +1,6 @@
 //! What the program says on standard error, and the exit status that goes with it.
 use ipmi_bus::Ended;
+use ipmi_image::ImageFault;
 use std::fmt;
 use std::io::Write;
 
@@ -11,7 +12,7 @@ pub(crate) enum Message {
     /// The input could not be read, or is too long.
     CannotRead,
     /// The input is no image.
-    NotRead,
+    Image(ImageFault),
     /// A listing ended by this name.
     Ended(Ended),
     /// The output took no more.
@@ -27,11 +28,27 @@ impl fmt::Display for Message {
                 "usage: ipmitool [--image FILE] [--from HEX4] [--part N] [--tries N] fru|sdr|sel WORDS",
             ),
             Message::CannotRead => f.write_str("cannot read standard input"),
-            Message::NotRead => f.write_str("image: not read"),
+            Message::Image(fault) => write_fault(fault, f),
             Message::Ended(ended) => write_ended(ended, f),
             Message::WriteFault => f.write_str("write fault"),
             Message::OutOfMemory => f.write_str("out of memory"),
         }
+    }
+}
+
+fn write_fault<W: fmt::Write>(fault: ImageFault, f: &mut fmt::Formatter<W>) -> fmt::Result {
+    match fault {
+        ImageFault::Memory => f.write_str("out of memory"),
+        ImageFault::Header => f.write_str("image: header"),
+        ImageFault::Line(line) => write!(f, "image line {line}: not a line"),
+        ImageFault::Hex(line) => write!(f, "image line {line}: hex"),
+        ImageFault::Id(line) => write!(f, "image line {line}: id"),
+        ImageFault::Twice(line) => write!(f, "image line {line}: twice"),
+        ImageFault::Length(line) => write!(f, "image line {line}: length"),
+        ImageFault::FirstId(line) => write!(f, "image line {line}: first id"),
+        ImageFault::NoEnd => f.write_str("image: no end"),
+        ImageFault::AfterEnd(line) => write!(f, "image line {line}: after end"),
+        ImageFault::TooMany(line) => write!(f, "image line {line}: too many bytes"),
     }
 }
 

@@ -4,8 +4,7 @@ ghost use Rattle.ipmi_bus.specs.Seen.{IsHonest};
 ghost use Rattle.ipmi_bus.specs.CursorState.{start_of};
 ghost use Rattle.ipmitool.specs.Listing.{faults_of};
 ghost use Rattle.ipmitool.specs.Run.{status_of, is_built, IsShelfListing, IsRun, AnswersTask, AnswersLine};
-ghost use Rattle.ipmi_image.specs.Text.{pieces};
-ghost use Rattle.ipmi_image.specs.Grammar.{rows_of_text};
+ghost use Rattle.ipmi_image.specs.Image.{store_of_image};
 
 use crate::command::{Command, Task, UsageFault};
 use crate::listing::{Stop, list_records};
@@ -96,7 +95,7 @@ pub fn answer<O: Sink, E: Write>(
     err: &mut E,
 ) -> u8
     ensures faults { O.faults out.new ≡ O.faults out.old + (if result == 4 then 1 else 0) }
-    ensures answers { AnswersLine line.now (rows_of_text (pieces 10 image.now)) (O.taken out.old) (O.taken out.new) result }
+    ensures answers { AnswersLine line.now (store_of_image image.now) (O.taken out.old) (O.taken out.new) result }
 {
     match line {
         Ok(cmd) => answer_command(alloc, cmd, image, out, err),
@@ -120,7 +119,7 @@ fn answer_command<O: Sink, E: Write>(
     err: &mut E,
 ) -> u8
     ensures faults { O.faults out.new ≡ O.faults out.old + (if result == 4 then 1 else 0) }
-    ensures answers { AnswersTask (is_built cmd.now.task) (rows_of_text (pieces 10 image.now)) (start_of cmd.now.from) (O.taken out.old) (O.taken out.new) result }
+    ensures answers { AnswersTask (is_built cmd.now.task) (store_of_image image.now) (start_of cmd.now.from) (O.taken out.old) (O.taken out.new) result }
 {
     if !is_built(cmd.task()) {
         say(err, Message::Usage);
@@ -132,8 +131,8 @@ fn answer_command<O: Sink, E: Write>(
             say(err, Message::OutOfMemory);
             5
         }
-        Err(ImageFault::NotRead) => {
-            say(err, Message::NotRead);
+        Err(fault) => {
+            say(err, Message::Image(fault));
             3
         }
     }

@@ -2,10 +2,13 @@
 mod command;
 mod controllers;
 mod cursor;
+mod images;
 mod interrupted;
 mod line;
+mod listed;
 mod readers;
 mod run;
+mod scripted;
 mod sink;
 mod words;
 pub mod writers;

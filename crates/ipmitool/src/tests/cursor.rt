@@ -154,11 +154,14 @@ fn a_short_part_is_kept(rt: HostRuntime) -> Result<(), Fail> {
 // A record of 256 bytes in parts of one: a reservation and a call for each byte.
 #[test]
 fn the_longest_record_is_read(rt: HostRuntime) -> Result<(), Fail> {
-    let mut text = String::from_str(rt.alloc(), "ipmi-image 1\nsdr 0001 ffff 010051c0fb")?;
+    let mut line = String::from_str(rt.alloc(), "sdr 0001 ffff 010051c0fb")?;
     for _ in 0..251 {
-        text.push_str("00")?;
+        line.push_str("a5")?;
     }
-    text.push_str("\nend\n")?;
+    line.push_str("\n")?;
+    let mut text = String::from_str(rt.alloc(), "ipmi-image 1\n")?;
+    text.push_str(&line)?;
+    text.push_str("end\n")?;
     let image = Image::read(rt.alloc(), text.as_bytes())?;
     let mut ctl = Counting::new(ImageController::new(image));
     let command = Command::new(Task::Hex, None, 1, 5, None);
@@ -166,6 +169,7 @@ fn the_longest_record_is_read(rt: HostRuntime) -> Result<(), Fail> {
     let mut err = Vec::new(rt.alloc());
     assert_eq!(rt; run(rt.alloc(), &mut ctl, &command, &mut out, &mut err), 0);
     assert_eq!(rt; ctl.calls, 257);
-    assert_eq!(rt; out.into_inner().len(), 527);
+    assert_eq!(rt; out.into_inner().as_slice(), line.as_bytes());
+    assert_eq!(rt; err.len(), 0);
     Ok(())
 }

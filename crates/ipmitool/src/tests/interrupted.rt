@@ -1,40 +1,15 @@
 use super::controllers::{Counting, Endless};
-use crate::command::{Command, Task};
-use crate::run::run;
-use crate::sink::Written;
+use super::listed::{Left, THREE_LINES, THREE_ROWS, listed};
 use ipmi_bus::{Cursor, Place, Shelf};
 use ipmi_image::{Image, ImageController};
 use std::alloc::Global;
 use std::test::Fail;
 
-const THREE_ROWS: &[u8] =
-    b"ipmi-image 1\nsdr 0001 0002 010051c001aa\nsdr 0002 0003 020051c002bbcc\nsdr 0003 ffff 030051c000\nend\n";
-
-const THREE_LINES: &[u8] =
-    b"sdr 0001 0002 010051c001aa\nsdr 0002 0003 020051c002bbcc\nsdr 0003 ffff 030051c000\n";
-
-/// What a listing left whose call with this number was answered with the code.
-#[derive(Drop)]
-struct Left {
-    out: Vec<u8>,
-    err: Vec<u8>,
-    status: u8,
-    calls: u32,
-}
-
-fn listed(alloc: Global, tries: u8, interrupted: u32, code: u8) -> Result<Left, Fail> {
+// What a listing left whose call with this number was answered with the code.
+fn met(alloc: Global, tries: u8, interrupted: u32, code: u8) -> Result<Left, Fail> {
     let image = Image::read(alloc, THREE_ROWS)?;
-    let mut ctl = Counting::interrupting(ImageController::new(image), interrupted, code);
-    let command = Command::new(Task::Hex, None, 32, tries, None);
-    let mut out = Written::new(Vec::new(alloc));
-    let mut err = Vec::new(alloc);
-    let status = run(alloc, &mut ctl, &command, &mut out, &mut err);
-    Ok(Left {
-        out: out.into_inner(),
-        err,
-        status,
-        calls: ctl.calls,
-    })
+    let ctl = Counting::interrupting(ImageController::new(image), interrupted, code);
+    Ok(listed(alloc, ctl, tries))
 }
 
 // Two calls read the first record past its reservation, two the second and one the third.
@@ -42,7 +17,7 @@ fn listed(alloc: Global, tries: u8, interrupted: u32, code: u8) -> Result<Left, 
 fn one_trouble_is_one_call_more(rt: HostRuntime) -> Result<(), Fail> {
     for code in [0xC0, 0xC3, 0x81] {
         for call in 1..=6 {
-            let left = listed(rt.alloc(), 1, call, code)?;
+            let left = met(rt.alloc(), 1, call, code)?;
             assert_eq!(rt; left.out.as_slice(), THREE_LINES);
             assert_eq!(rt; (left.status, left.calls), (0, 7));
         }
@@ -54,7 +29,7 @@ fn one_trouble_is_one_call_more(rt: HostRuntime) -> Result<(), Fail> {
 #[test]
 fn a_cancelled_record_begins_again(rt: HostRuntime) -> Result<(), Fail> {
     for (call, calls) in [(1, 7), (2, 8), (3, 9), (4, 8), (5, 9), (6, 8)] {
-        let left = listed(rt.alloc(), 1, call, 0xC5)?;
+        let left = met(rt.alloc(), 1, call, 0xC5)?;
         assert_eq!(rt; left.out.as_slice(), THREE_LINES);
         assert_eq!(rt; (left.status, left.calls), (0, calls));
     }
@@ -103,7 +78,7 @@ fn without_tries_one_trouble_is_the_end(rt: HostRuntime) -> Result<(), Fail> {
     ];
     for (call, len, gave_up, refused) in cases {
         for (code, said) in [(0xC5, gave_up), (0xD4, refused)] {
-            let left = listed(rt.alloc(), 0, call, code)?;
+            let left = met(rt.alloc(), 0, call, code)?;
             let mut lines = THREE_LINES.to_vec(rt.alloc())?;
             lines.truncate(len);
             assert_eq!(rt; left.out.as_slice(), lines.as_slice());

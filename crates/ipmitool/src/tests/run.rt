@@ -1,4 +1,5 @@
 use super::controllers::Counting;
+use super::listed::{THREE_LINES, THREE_ROWS};
 use super::writers::Limited;
 use crate::command::{Command, Task, UsageFault};
 use crate::run::{answer, run};
@@ -7,25 +8,20 @@ use ipmi_image::{Image, ImageController};
 use std::alloc::Global;
 use std::test::Fail;
 
-const THREE_ROWS: &[u8] =
-    b"ipmi-image 1\nsdr 0001 0002 010051c001aa\nsdr 0002 0003 020051c002bbcc\nsdr 0003 ffff 030051c000\nend\n";
-
-const THREE_LINES: &[u8] =
-    b"sdr 0001 0002 010051c001aa\nsdr 0002 0003 020051c002bbcc\nsdr 0003 ffff 030051c000\n";
-
-fn hex() -> Command {
+/// Lists in parts of 32 bytes, with five tries.
+pub fn hex() -> Command {
     Command::new(Task::Hex, None, 32, 5, None)
 }
 
 /// What a run over an image left: output, messages and status.
 #[derive(Drop)]
-struct Left {
-    out: Vec<u8>,
-    err: Vec<u8>,
-    status: u8,
+pub struct Left {
+    pub out: Vec<u8>,
+    pub err: Vec<u8>,
+    pub status: u8,
 }
 
-fn answered(alloc: Global, line: Result<Command, UsageFault>, image: &[u8]) -> Left {
+pub fn answered(alloc: Global, line: Result<Command, UsageFault>, image: &[u8]) -> Left {
     let mut out = Written::new(Vec::new(alloc));
     let mut err = Vec::new(alloc);
     let status = answer(alloc, &line, image, &mut out, &mut err);
@@ -56,6 +52,7 @@ fn images_are_listed_to_their_end(rt: HostRuntime) {
     let cases = [
         (THREE_ROWS, THREE_LINES, b"".as_slice(), 0),
         (b"ipmi-image 1\nend\n", b"", b"", 0),
+        (b"ipmi-image 2\nend\n", b"", b"", 0),
         (
             b"ipmi-image 1\nsdr 0001 0009 010051c000\nend\n",
             b"sdr 0001 0009 010051c000\n",
@@ -74,7 +71,6 @@ fn images_are_listed_to_their_end(rt: HostRuntime) {
             b"cycle at 0000h\n",
             1,
         ),
-        (b"ipmi-image 1\n", b"", b"image: not read\n", 3),
     ];
     for (image, out, err, status) in cases {
         let left = answered(rt.alloc(), Ok(hex()), image);

@@ -1,57 +1,87 @@
-use Rattle.std.proofs.Common.{◌≡◌, ◌∷◌, ◌++◌, Bool, true, false, cond, List, ℕ, [], None, Some, Option, Ok, refl, sym, ap, ◌∙◌, inr, rules}
-use Rattle.std.specs.Option.{option_map, option_and_then}
-use Rattle.ipmi_bus.specs.Shelf.{Row}
+use Rattle.std.proofs.Common.{◌≡◌, ◌+◌, ◌++◌, ◌∷◌, Bool, false, cond, not, ℕ, [], None, Some, Ok, Err, length, refl, sym, ap, ◌∙◌, inl, inr, arith}
+use Rattle.std.proofs.lemmas.List.{length-append}
+use Rattle.ipmi_bus.specs.Store.{Store}
+use Rattle.ipmi_image.specs.declared.image.ImageFault.{ImageFault}
+use Rattle.ipmi_image.specs.declared.image.ImageFault.TheVariants as fault
 use Rattle.ipmi_image.specs.Text.{pieces}
-use Rattle.ipmi_image.specs.Stored.{row_of, rows_in}
-use Rattle.ipmi_image.specs.Grammar.{row_of_line, may_follow, rows_of_lines}
-use Rattle.ipmi_image.proofs.RowLemmas.{rows_in-snoc}
-use Rattle.ipmi_image.proofs.LineLemmas.{rows_of_unended, rows_of_end, rows_of_row, ends_here-pieces, shelf_follows}
+use Rattle.ipmi_image.specs.Line.{the_end}
+use Rattle.ipmi_image.specs.Image.{store_of_lines, at_line, is_end, ends_here, store_behind}
+use Rattle.ipmi_image.specs.Stored.{said}
+use Rattle.ipmi_image.proofs.ReadLemmas.{ends_here-pieces, unended, after_line, one_line, line_err, line_found, end_is, store_is}
 use Rattle.ipmi_image.proofs.image.read_lines.Goals as goal
 
 pub returns-in_default-clause-err : goal.returns-in_default-clause-err
 returns-in_default-clause-err c =
-    inr (refl, sym c.lines.invariant.1 ∙ ap (rows_of_lines (rows_in c.lines.sdr.items)) c.in_default.ensures.cut ∙ rows_of_unended _ _)
+    let lines = c.lines.invariant.1 in
+    inr (sym lines.3 ∙ ap (store_behind c.args.dashes lines.0) c.in_default.ensures.cut ∙ unended c.args.dashes lines.0 _)
+
+pub returns-in-Err-clause-err : goal.returns-in-Err-clause-err
+returns-in-Err-clause-err c =
+    let lines = c.lines.invariant.1 in
+    let rest = pieces 10 c.in-Some.after.now in
+    elim c.in-Err.ensures [
+      | inl memory ↦ inl (c.at.ensures ∙ ap (at_line c.lines.number) memory)
+      | inr is ↦ inr (
+          sym lines.3 ∙ ap (store_behind c.args.dashes lines.0) c.in-Some.ensures.cut ∙ one_line c.args.dashes lines.0 c.in-Some.text.now c.in-Some.after.now
+          ∙ ap (after_line c.args.dashes lines.0 rest) (line_err c.args.dashes lines.0 c.in-Some.text.now c.in-Err.fault is)
+          ∙ ap (λ (n : ℕ). Err (at_line n c.in-Err.fault)) lines.2 ∙ ap (λ (e : ImageFault). Err e) (sym c.at.ensures))
+    ]
 
 pub returns-then-is_empty-clause-ok : goal.returns-then-is_empty-clause-ok
 returns-then-is_empty-clause-ok c =
-    let rows = rows_in c.lines.sdr.items in (
+    let lines = c.lines.invariant.1 in
+    let rest = pieces 10 c.in-Some.after.now in
+    let last : said c.in-Ok.line ≡ the_end = end_is _ (sym c.is_end.ensures ∙ c.if-is_end.true) in (
       c.lines.invariant.0,
-      sym c.lines.invariant.1 ∙ ap (rows_of_lines rows) c.in-Some.ensures.cut ∙ rows_of_end rows c.in-Some.line.now _ (search rules)
-          ∙ ap (λ (b : Bool). cond b (Some rows) None) (ends_here-pieces c.in-Some.after.now ∙ sym c.is_empty.ensures ∙ c.if-is_empty.true),
+      sym lines.3 ∙ ap (store_behind c.args.dashes lines.0) c.in-Some.ensures.cut ∙ one_line c.args.dashes lines.0 c.in-Some.text.now c.in-Some.after.now
+          ∙ ap (after_line c.args.dashes lines.0 rest) (line_found c.args.dashes lines.0 c.in-Some.text.now the_end None (c.in-Ok.ensures ∙ ap Ok last) refl)
+          ∙ ap (λ (b : Bool). cond b (Ok (store_of_lines lines.0)) (Err (fault.AfterEnd (length lines.0 + 3)))) (ends_here-pieces c.in-Some.after.now ∙ sym c.is_empty.ensures ∙ c.if-is_empty.true)
+          ∙ ap (λ (s : Store). Ok s) (sym (store_is c.lines.contents lines.0 lines.1)),
     )
 
-pub returns-then-eq-clause-err : goal.returns-then-eq-clause-err
-returns-then-eq-clause-err c =
-    let rows = rows_in c.lines.sdr.items in
-    inr (
-      refl,
-      sym c.lines.invariant.1 ∙ ap (rows_of_lines rows) c.in-Some.ensures.cut ∙ rows_of_end rows c.in-Some.line.now _ (search rules)
-          ∙ ap (λ (b : Bool). cond b (Some rows) None) (ends_here-pieces c.in-Some.after.now ∙ sym c.is_empty.ensures ∙ c.if-is_empty.false),
-    )
+pub returns-then-is_end-clause-err : goal.returns-then-is_end-clause-err
+returns-then-is_end-clause-err c =
+    let lines = c.lines.invariant.1 in
+    let rest = pieces 10 c.in-Some.after.now in
+    let last : said c.in-Ok.line ≡ the_end = end_is _ (sym c.is_end.ensures ∙ c.if-is_end.true) in
+    let number : length lines.0 + 3 ≡ c.lines.number + 1 = let is = lines.2 in omega (arith, is) in
+    inr (sym lines.3 ∙ ap (store_behind c.args.dashes lines.0) c.in-Some.ensures.cut ∙ one_line c.args.dashes lines.0 c.in-Some.text.now c.in-Some.after.now
+    ∙ ap (after_line c.args.dashes lines.0 rest) (line_found c.args.dashes lines.0 c.in-Some.text.now the_end None (c.in-Ok.ensures ∙ ap Ok last) refl)
+    ∙ ap (λ (b : Bool). cond b (Ok (store_of_lines lines.0)) (Err (fault.AfterEnd (length lines.0 + 3)))) (ends_here-pieces c.in-Some.after.now ∙ sym c.is_empty.ensures ∙ c.if-is_empty.false)
+    ∙ ap (λ (n : ℕ). Err (fault.AfterEnd n)) number)
 
-pub returns-in_default-2-clause-err : goal.returns-in_default-2-clause-err
-returns-in_default-2-clause-err c =
-    let rows = rows_in c.lines.sdr.items in
-    inr (refl, sym c.lines.invariant.1 ∙ ap (rows_of_lines rows) c.in-Some.ensures.cut ∙ rows_of_row rows c.in-Some.line.now _ None (search rules) (sym c.in_ok-row.ensures.value ∙ ap (option_map row_of) c.in_default-2.is))
-
-pub returns-then-not-may_follow-clause-err : goal.returns-then-not-may_follow-clause-err
-returns-then-not-may_follow-clause-err c =
-    let rows = rows_in c.lines.sdr.items in
-    let row = row_of c.in-Some-2.row in
-    inr (
-      refl,
-      sym c.lines.invariant.1 ∙ ap (rows_of_lines rows) c.in-Some.ensures.cut ∙ rows_of_row rows c.in-Some.line.now _ (Some row) (search rules) (sym c.in_ok-row.ensures.value ∙ ap (option_map row_of) c.in-Some-2.is)
-          ∙ ap (λ (b : Bool). cond b (rows_of_lines (rows ++ row ∷ []) (pieces 10 c.in-Some.after.now)) None) {y = false} (search rules),
-    )
+pub returns-in-Err-put-clause-err : goal.returns-in-Err-put-clause-err
+returns-in-Err-put-clause-err c =
+    let lines = c.lines.invariant.1 in
+    let rest = pieces 10 c.in-Some.after.now in
+    elim (c.in-Err-put.ensures.lines lines.0 lines.1) [
+      | inl memory ↦ inl (c.at-in-Err-put.ensures ∙ ap (at_line c.lines.number) memory)
+      | inr is ↦ inr (
+          sym lines.3 ∙ ap (store_behind c.args.dashes lines.0) c.in-Some.ensures.cut ∙ one_line c.args.dashes lines.0 c.in-Some.text.now c.in-Some.after.now
+          ∙ ap (after_line c.args.dashes lines.0 rest) (line_found c.args.dashes lines.0 c.in-Some.text.now (said c.in-Ok.line) (Some c.in-Err-put.fault) c.in-Ok.ensures is)
+          ∙ ap (λ (n : ℕ). Err (at_line n c.in-Err-put.fault)) lines.2 ∙ ap (λ (e : ImageFault). Err e) (sym c.at-in-Err-put.ensures))
+    ]
 
 pub lines-preserved : goal.lines-preserved
 lines-preserved c =
-    let rows = rows_in c.lines.sdr.items in
-    let row = row_of c.in-Some-2.row in
-    let items : rows_in c.push.new.self.items ≡ rows ++ row ∷ [] = ap rows_in {y = c.lines.sdr.items ++ c.in-Some-2.row ∷ []} (search rules) ∙ rows_in-snoc c.lines.sdr.items c.in-Some-2.row in
-    let may : may_follow rows row ≡ true = search rules in (
-      rw items (shelf_follows rows row c.lines.invariant.0 (rw c.in-Some-2.is at c.in_ok-row.ensures.fits) may),
-      ap (λ (l : List Row). rows_of_lines l (pieces 10 c.in-Some.after.now)) items
-          ∙ sym (rows_of_row rows c.in-Some.line.now _ (Some row) (search rules) (sym c.in_ok-row.ensures.value ∙ ap (option_map row_of) c.in-Some-2.is) ∙ ap (λ (b : Bool). cond b (rows_of_lines (rows ++ row ∷ []) (pieces 10 c.in-Some.after.now)) None) may)
-          ∙ sym (ap (rows_of_lines rows) c.in-Some.ensures.cut) ∙ c.lines.invariant.1,
+    let lines = c.lines.invariant.1 in
+    let rest = pieces 10 c.in-Some.after.now in
+    let line = said c.in-Ok.line in
+    let put = c.in_default-put.ensures.lines lines.0 lines.1 in
+    let more : is_end line ≡ false = sym c.is_end.ensures ∙ c.if-is_end.false in
+    let long = length-append lines.0 (line ∷ []) in
+    let shorter = c.in-Some.ensures.shorter in
+    let number = lines.2 in
+    let bound = c.lines.invariant.2 in (
+      c.in_default-put.ensures.keeps,
+      (
+        lines.0 ++ line ∷ [],
+        put.1,
+        omega (arith, long, number),
+        sym (ap (store_behind c.args.dashes lines.0) c.in-Some.ensures.cut ∙ one_line c.args.dashes lines.0 c.in-Some.text.now c.in-Some.after.now
+            ∙ ap (after_line c.args.dashes lines.0 rest) (line_found c.args.dashes lines.0 c.in-Some.text.now line None c.in-Ok.ensures put.0)
+            ∙ ap (λ (b : Bool). cond (not b) (store_behind c.args.dashes (lines.0 ++ line ∷ []) rest) (cond (ends_here rest) (Ok (store_of_lines lines.0)) (Err (fault.AfterEnd (length lines.0 + 3))))) more)
+            ∙ lines.3,
+      ),
+      omega (arith, shorter, bound),
     )

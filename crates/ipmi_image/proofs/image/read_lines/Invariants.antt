@@ -1,15 +1,18 @@
-use Rattle.std.proofs.Common.{◌≡◌, [], length}
-use Rattle.ipmi_bus.specs.declared.controller.Shelf.TheVariants.{Sdr}
-use Rattle.ipmi_bus.specs.Shelf.{IsShelf}
+use Rattle.std.proofs.Common.{◌≡◌, ◌+◌, ◌≤◌, [], List, length}
+use Rattle.ipmi_bus.specs.Store.{IsStore}
 use Rattle.ipmi_image.specs.Text.{pieces}
-use Rattle.ipmi_image.specs.Stored.{rows_in}
-use Rattle.ipmi_image.specs.Grammar.{rows_of_lines}
+use Rattle.ipmi_image.specs.Line.{Line}
+use Rattle.ipmi_image.specs.Image.{store_behind}
+use Rattle.ipmi_image.specs.Stored.{store_of, HoldsLines}
 use Rattle.ipmi_image.proofs.image.read_lines.Given as goal
 
--- the rows so far are a shelf, and the lines that are left give the same as all did
+-- the contents are what the lines before say, and the lines that are left give the same behind them as all did
 abbrev pub invariant-lines : goal.invariant-lines
 invariant-lines l =
-    IsShelf Sdr (rows_in l.sdr.items) × (rows_of_lines (rows_in l.sdr.items) (pieces 10 l.rest) ≡ rows_of_lines [] (pieces 10 l.bytes))
+    IsStore (store_of l.contents)
+    × ((before : List Line) × HoldsLines l.contents before × (length before + 2 ≡ l.number)
+    × (store_behind l.dashes before (pieces 10 l.rest) ≡ store_behind l.dashes [] (pieces 10 l.bytes)))
+    × (l.number + length l.rest ≤ length l.bytes + 2)
 
 abbrev pub decreases-lines : goal.decreases-lines
 decreases-lines l = length l.rest

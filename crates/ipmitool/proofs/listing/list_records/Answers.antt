@@ -1,4 +1,4 @@
-use Rattle.std.proofs.Common.{◌≡◌, ◌++◌, List, ℕ, Ok, ◌∙◌, ap, refl, string_bytes}
+use Rattle.std.proofs.Common.{Ok, ◌∙◌, ap}
 use Rattle.ipmi_bus.specs.Lent.{row_of_record}
 use Rattle.ipmitool.proofs.ListingLemmas.{listing_ended, listing_cut, listing_more, fewer_ids}
 use Rattle.ipmitool.proofs.listing.list_records.Goals as goal

@@ -1,0 +1,79 @@
+-- The lines of an image, one after the other.
+use Rattle.std.proofs.Common.{◌≡◌, ℕ, suc, ◌+◌, ◌<◌, Bool, true, false, cond, not, nat_eq, ◌==◌, Option, None, Some, Result, Ok, Err, List, [], ◌∷◌, ◌++◌, length, refl, sym, ap, ◌∙◌, arith}
+use Rattle.std.specs.List.{onto_first}
+use Rattle.std.proofs.lemmas.Bool.Decides.{nat_tests}
+use Rattle.ipmi_bus.specs.Store.{Store, Inventory, SensorReading}
+use Rattle.ipmi_bus.specs.declared.controller.Shelf.TheVariants.{Sdr, Sel}
+use Rattle.ipmi_image.specs.declared.line.LineFault.{LineFault}
+use Rattle.ipmi_image.specs.declared.image.ImageFault.{ImageFault}
+use Rattle.ipmi_image.specs.declared.image.ImageFault.TheVariants as image_fault
+use Rattle.ipmi_image.specs.declared.image.Contents.{Contents}
+use Rattle.ipmi_image.specs.Text.{pieces}
+use Rattle.ipmi_image.specs.Line.{SavedRow, Line, a_row, an_inventory, a_reading, an_info, the_end, line_of}
+use Rattle.ipmi_image.specs.Image.{chained, rows_on, store_of_lines, fault_in, unless_fault, line_behind, at_line, is_end, ends_here, store_behind, dashes_in, store_of_pieces, store_of_image}
+use Rattle.ipmi_image.specs.Stored.{store_of, HoldsLines}
+use Rattle.ipmi_image.proofs.TextLemmas.{length-pieces}
+
+-- nothing stands behind the last line feed exactly where no byte does
+pub ends_here-pieces : (bytes : List ℕ) → ends_here (pieces 10 bytes) ≡ (length bytes == 0)
+unfolding pieces
+ends_here-pieces [] = refl
+ends_here-pieces (b ∷ bytes) = by (nat_eq b 10) (pieces 10 bytes) (length-pieces 10 bytes) ∙ more (length bytes)
+  where
+    more : (n : ℕ) → false ≡ nat_eq (suc n) 0
+    more n = grind (arith, nat_tests)
+
+    by : (t : Bool) (l : List (List ℕ)) → 0 < length l → ends_here (cond t ([] ∷ l) (onto_first b l)) ≡ false
+    by true [] some = absurd (omega (arith, some))
+    by true (piece ∷ rest) some = refl
+    by false [] some = absurd (omega (arith, some))
+    by false (piece ∷ rest) some = refl
+
+-- a text that does not end by a line feed has no `end`
+pub unended : (dashes : Bool) (before : List Line) (text : List ℕ) → store_behind dashes before (text ∷ []) ≡ Err image_fault.NoEnd
+unfolding store_behind
+unended dashes before text = refl
+
+-- what a line makes of those behind it
+abbrev pub after_line : Bool → List Line → List (List ℕ) → Result Line LineFault → Result Store ImageFault
+after_line dashes before rest (Ok line) = cond (not (is_end line)) (store_behind dashes (before ++ line ∷ []) rest) (cond (ends_here rest) (Ok (store_of_lines before)) (Err (image_fault.AfterEnd (length before + 3))))
+after_line dashes before rest (Err fault) = Err (at_line (length before + 2) fault)
+
+pub one_line : (dashes : Bool) (before : List Line) (text after : List ℕ) → store_behind dashes before (text ∷ pieces 10 after) ≡ after_line dashes before (pieces 10 after) (line_behind dashes before text)
+unfolding store_behind
+one_line dashes before text after = by (pieces 10 after) (length-pieces 10 after) (line_behind dashes before text) refl
+  where
+    by : (l : List (List ℕ)) → 0 < length l → (r : Result Line LineFault) → line_behind dashes before text ≡ r → store_behind dashes before (text ∷ l) ≡ after_line dashes before l r
+    by [] some r e = absurd (omega (arith, some))
+    by (following ∷ rest) some r e = ap (after_line dashes before (following ∷ rest)) e
+
+module _ (dashes : Bool) (before : List Line) (text : List ℕ) where
+  pub line_err : (fault : LineFault) → line_of dashes text ≡ Err fault → line_behind dashes before text ≡ Err fault
+  line_err fault e = ap (λ (r : Result Line LineFault). elim r [ Ok line ↦ unless_fault (fault_in (store_of_lines before) line) line | Err fault ↦ Err fault ]) e
+
+  pub line_found : (line : Line) (f : Option LineFault) → line_of dashes text ≡ Ok line → fault_in (store_of_lines before) line ≡ f → line_behind dashes before text ≡ unless_fault f line
+  line_found line f e is = ap (λ (r : Result Line LineFault). elim r [ Ok line ↦ unless_fault (fault_in (store_of_lines before) line) line | Err fault ↦ Err fault ]) e ∙ ap (λ (o : Option LineFault). unless_fault o line) is
+
+pub end_is : (line : Line) → is_end line ≡ true → line ≡ the_end
+end_is (a_row shelf row) e = cc e
+end_is (an_inventory id bytes) e = cc e
+end_is (a_reading lun number bytes) e = cc e
+end_is (an_info shelf bytes) e = cc e
+end_is the_end e = refl
+
+pub store_is : (contents : Contents) (lines : List Line) → HoldsLines contents lines → store_of contents ≡ store_of_lines lines
+store_is contents lines holds =
+    ap (λ (l : List SavedRow). record (store_of contents) { sdr = chained l }) holds.sdr
+    ∙ ap (λ (l : List SavedRow). record (store_of contents) { sdr = chained (rows_on Sdr lines); sel = chained l }) holds.sel
+    ∙ ap (λ (l : List Inventory). record (store_of contents) { sdr = chained (rows_on Sdr lines); sel = chained (rows_on Sel lines); inventories = l }) holds.inventories
+    ∙ ap (λ (l : List SensorReading). record (store_of_lines lines) { readings = l; sdr_info = contents.sdr_info; sel_info = contents.sel_info }) holds.readings
+    ∙ ap (λ (o : Option (List ℕ)). record (store_of_lines lines) { sdr_info = o; sel_info = contents.sel_info }) holds.sdr_info
+    ∙ ap (λ (o : Option (List ℕ)). record (store_of_lines lines) { sel_info = o }) holds.sel_info
+
+-- the lines behind the first one give the store
+pub image_is : (bytes first rest : List ℕ) (dashes : Bool) → pieces 10 bytes ≡ first ∷ pieces 10 rest → Some dashes ≡ dashes_in first → store_of_image bytes ≡ store_behind dashes [] (pieces 10 rest)
+image_is bytes first rest dashes cut is = ap store_of_pieces cut ∙ by (pieces 10 rest) (length-pieces 10 rest)
+  where
+    by : (l : List (List ℕ)) → 0 < length l → store_of_pieces (first ∷ l) ≡ store_behind dashes [] l
+    by [] some = absurd (omega (arith, some))
+    by (following ∷ more) some = ap (λ (o : Option Bool). elim o [ Some dashes ↦ store_behind dashes [] (following ∷ more) | None ↦ Err image_fault.Header ]) (sym is)

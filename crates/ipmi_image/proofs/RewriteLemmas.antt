@@ -1,0 +1,75 @@
+-- Texts put together piece by piece.
+use Rattle.std.proofs.Common.{◌≡◌, ℕ, zero, suc, ◌+◌, ◌/◌, ◌≤◌, ◌<◌, Result, Ok, Err, List, [], ◌∷◌, ◌++◌, length, take, drop, get_or, map, refl, sym, ap, ◌∙◌, append_assoc, arith, codes}
+use Rattle.std.specs.Result.{OnOk}
+use Rattle.std.specs.List.{flat_map}
+use Rattle.std.proofs.lemmas.List.{length-drop, drop_more}
+use Rattle.hex.specs.Hex.{encode_with}
+use Rattle.ipmi_bus.specs.Store.{Store}
+use Rattle.ipmi_image.specs.declared.stored.StoredInventory.{StoredInventory}
+use Rattle.ipmi_image.specs.Table.{inventory_of}
+use Rattle.ipmi_image.specs.Rewritten.{hex_of, first_parts, parts_of, part_fields, inventory_lines, line_text, lines_text, lines_of, image_text_of}
+
+pub on_ok : {A E : Type 0} (r : Result A E) {P Q : Type 0} → OnOk r P → (P → Q) → OnOk r Q
+on_ok (Ok x) p f = f p
+on_ok (Err e) p f = p
+
+pub row_joined : (o a b c d : List ℕ) → (o ++ (a ++ 32 ∷ (b ++ 32 ∷ []))) ++ (c ++ 32 ∷ (d ++ 10 ∷ [])) ≡ o ++ ((a ++ 32 ∷ (b ++ 32 ∷ (c ++ 32 ∷ d))) ++ 10 ∷ [])
+row_joined o a b c d = simp append_assoc refl
+
+pub digit_of : (lun : ℕ) → lun ≤ 3 → drop 1 (hex_of 1 lun) ≡ (48 + lun) ∷ []
+unfolding encode_with
+digit_of zero h = refl
+digit_of (suc zero) h = refl
+digit_of (suc (suc zero)) h = refl
+digit_of (suc (suc (suc zero))) h = refl
+digit_of (suc (suc (suc (suc n)))) h = absurd (omega (arith, h))
+
+pub lines_text-append : (a b : List (List (List ℕ))) → lines_text (a ++ b) ≡ lines_text a ++ lines_text b
+lines_text-append [] b = refl
+lines_text-append (x ∷ a) b = ap (λ (l : List ℕ). line_text x ++ l) (lines_text-append a b) ∙ sym (append_assoc (line_text x) (lines_text a) (lines_text b))
+
+-- the first part, and the parts of what is left
+pub parts-more : (bytes : List ℕ) → 0 < length bytes → parts_of bytes ≡ take 64 bytes ∷ parts_of (drop 64 bytes)
+parts-more bytes some = ap (λ (n : ℕ). first_parts n bytes) count
+  where
+    count : (length bytes + 63) / 64 ≡ suc ((length (drop 64 bytes) + 63) / 64)
+    count = let len = length-drop 64 bytes in rw len (omega (arith, some))
+
+pub part_put : (id : ℕ) (self new target rest part after : List ℕ) → 0 < length rest → part ≡ take 64 rest → after ≡ drop 64 rest → new ≡ self ++ line_text (part_fields id part)
+    → self ++ lines_text (map (part_fields id) (parts_of rest)) ≡ target → new ++ lines_text (map (part_fields id) (parts_of after)) ≡ target
+part_put id self new target rest part after some is_part is_after next was =
+    ap (λ (l : List ℕ). l ++ lines_text (map (part_fields id) (parts_of after))) (next ∙ ap (λ (l : List ℕ). self ++ line_text (part_fields id l)) is_part)
+    ∙ append_assoc self (line_text (part_fields id (take 64 rest))) (lines_text (map (part_fields id) (parts_of after)))
+    ∙ ap (λ (l : List ℕ). self ++ (line_text (part_fields id (take 64 rest)) ++ lines_text (map (part_fields id) (parts_of l)))) is_after
+    ∙ ap (λ (l : List (List ℕ)). self ++ lines_text (map (part_fields id) l)) (sym (parts-more rest some))
+    ∙ was
+
+pub inventory_put : (self new target : List ℕ) (items : List StoredInventory) (place : ℕ) (item : StoredInventory) → place < length items → item ≡ get_or items place item → new ≡ self ++ lines_text (inventory_lines (inventory_of item))
+    → self ++ lines_text (flat_map inventory_lines (map inventory_of (drop place items))) ≡ target → new ++ lines_text (flat_map inventory_lines (map inventory_of (drop (place + 1) items))) ≡ target
+inventory_put self new target items place item lt is next was =
+    let rest = flat_map inventory_lines (map inventory_of (drop (place + 1) items)) in
+    ap (λ (l : List ℕ). l ++ lines_text rest) next
+    ∙ append_assoc self (lines_text (inventory_lines (inventory_of item))) (lines_text rest)
+    ∙ ap (λ (l : List ℕ). self ++ l) (sym (lines_text-append (inventory_lines (inventory_of item)) rest))
+    ∙ ap (λ (l : List StoredInventory). self ++ lines_text (flat_map inventory_lines (map inventory_of l))) (sym (drop_more items place item lt ∙ ap (λ (x : StoredInventory). x ∷ drop (place + 1) items) (sym is)))
+    ∙ was
+
+abbrev Lines : Type 0
+Lines = List (List (List ℕ))
+
+pub others_joined : (t t1 t2 t3 t4 t5 : List ℕ) (a b c d : Lines) → t1 ≡ t ++ lines_text a → t2 ≡ t1 ++ lines_text b → t3 ≡ t2 ++ lines_text c → t4 ≡ t3 ++ lines_text d → t5 ≡ t4 ++ codes "end\n"
+    → t5 ≡ t ++ lines_text (a ++ (b ++ (c ++ (d ++ (codes "end" ∷ []) ∷ []))))
+others_joined t t1 t2 t3 t4 t5 a b c d e1 e2 e3 e4 e5 =
+    let end = codes "end\n" in
+    e5 ∙ ap (λ (l : List ℕ). l ++ end) (e4 ∙ ap (λ (l : List ℕ). l ++ lines_text d) (e3 ∙ ap (λ (l : List ℕ). l ++ lines_text c) (e2 ∙ ap (λ (l : List ℕ). l ++ lines_text b) e1)))
+    ∙ simp (lines_text-append, append_assoc) refl
+
+pub image_joined : (t t1 t2 t3 t4 : List ℕ) (a b c : Lines) → t1 ≡ t ++ codes "ipmi-image 2\n" → t2 ≡ t1 ++ lines_text a → t3 ≡ t2 ++ lines_text b → t4 ≡ t3 ++ lines_text c
+    → t4 ≡ t ++ lines_text ((codes "ipmi-image" ∷ codes "2" ∷ []) ∷ (a ++ (b ++ c)))
+image_joined t t1 t2 t3 t4 a b c e1 e2 e3 e4 =
+    e4 ∙ ap (λ (l : List ℕ). l ++ lines_text c) (e3 ∙ ap (λ (l : List ℕ). l ++ lines_text b) (e2 ∙ ap (λ (l : List ℕ). l ++ lines_text a) e1))
+    ∙ simp (lines_text-append, append_assoc) refl
+
+pub text_is : (store : Store) → lines_text (lines_of store) ≡ image_text_of store
+unfolding image_text_of
+text_is store = refl

@@ -1,0 +1,209 @@
+-- Items found by their keys.
+use Rattle.std.proofs.Common.{◌≡◌, ℕ, zero, suc, ◌+◌, ◌*◌, ◌<◌, Bool, true, false, cond, nat_eq, ◌&&◌, ◌||◌, Option, None, Some, List, [], ◌∷◌, ◌++◌, length, drop, get_or, set, map, refl, sym, ap, ◌∙◌, add-one, option_map, arith}
+use Rattle.std.specs.Option.{option_or, option_and_then, is_some}
+use Rattle.std.specs.List.{slice_get, find, All}
+use Rattle.std.specs.Ordering.{is_eq, nat_cmp}
+use Rattle.std.proofs.lemmas.Option.{none-some, same_Some, slice_get-get_or}
+use Rattle.std.proofs.lemmas.Bool.{eqb-true, eqb-false, eq-eqb, ne_eqb}
+use Rattle.std.proofs.lemmas.Bool.Decides.{nat_tests}
+use Rattle.ipmi_bus.specs.Shelf.{Row, row_with_id}
+use Rattle.ipmi_bus.specs.Store.{Inventory, IsSensorReading, inventory_in, reading_in}
+use Rattle.ipmi_bus.specs.Walk.{has_id}
+use Rattle.ipmi_image.specs.declared.stored.StoredRow.{StoredRow}
+use Rattle.ipmi_image.specs.declared.stored.StoredInventory.{StoredInventory}
+use Rattle.ipmi_image.specs.declared.stored.StoredSensor.{StoredSensor}
+use Rattle.ipmi_image.specs.Table.{place_of, sensor_key, inventory_of, longer_at}
+use Rattle.ipmi_image.specs.Image.{chained, row_before, is_empty, with_bytes}
+use Rattle.ipmi_image.specs.Stored.{row_of, sensor_of}
+
+eqb_comm : (a b : ℕ) → nat_eq a b ≡ nat_eq b a
+eqb_comm a b = grind (arith, nat_tests)
+
+abbrev here : Bool → ℕ → Option ℕ
+here b n = cond b (Some n) None
+
+-- a last item is found where none before it has the key
+pub place_of-snoc : {T : Type 0} (key : T → ℕ) (q : ℕ) (items : List T) (item : T) → place_of key q (items ++ item ∷ []) ≡ option_or (place_of key q items) (here (nat_eq (key item) q) (length items))
+place_of-snoc key q [] item = by (nat_eq (key item) q)
+  where
+    by : (b : Bool) → cond b (Some 0) None ≡ option_or None (here b 0)
+    by true = refl
+    by false = refl
+place_of-snoc key q (x ∷ xs) item = ap (λ (o : Option ℕ). cond (nat_eq (key x) q) (Some 0) (option_map (λ p. p + 1) o)) (place_of-snoc key q xs item) ∙ by (nat_eq (key x) q) (place_of key q xs) (nat_eq (key item) q)
+  where
+    by : (b : Bool) (o : Option ℕ) (c : Bool) → cond b (Some 0) (option_map (λ p. p + 1) (option_or o (here c (length xs)))) ≡ option_or (cond b (Some 0) (option_map (λ p. p + 1) o)) (here c (suc (length xs)))
+    by true o c = refl
+    by false (Some p) c = refl
+    by false None true = ap Some (add-one (length xs))
+    by false None false = refl
+
+-- at the place that is found stands the first item with the key
+pub found_at : {T : Type 0} (key : T → ℕ) (q : ℕ) (items : List T) → option_and_then (slice_get items) (place_of key q items) ≡ find (λ x. nat_eq (key x) q) items
+found_at key q [] = refl
+found_at {T} key q (x ∷ xs) = by (nat_eq (key x) q) (place_of key q xs) (found_at key q xs)
+  where
+    by : (b : Bool) (o : Option ℕ) → option_and_then (slice_get xs) o ≡ find (λ y. nat_eq (key y) q) xs → option_and_then (slice_get (x ∷ xs)) (cond b (Some 0) (option_map (λ p. p + 1) o)) ≡ cond b (Some x) (find (λ y. nat_eq (key y) q) xs)
+    by true o e = refl
+    by false None e = e
+    by false (Some p) e = ap (λ (k : ℕ). slice_get (x ∷ xs) k) (add-one p) ∙ e
+
+pub is_some-place_of : {T : Type 0} (key : T → ℕ) (q : ℕ) (items : List T) → is_some (place_of key q items) ≡ is_some (find (λ x. nat_eq (key x) q) items)
+is_some-place_of key q [] = refl
+is_some-place_of {T} key q (x ∷ xs) = by (nat_eq (key x) q) (place_of key q xs) (is_some-place_of key q xs)
+  where
+    by : (b : Bool) (o : Option ℕ) → is_some o ≡ is_some (find (λ y. nat_eq (key y) q) xs) → is_some (cond b (Some 0) (option_map (λ p. p + 1) o)) ≡ is_some (cond b (Some x) (find (λ y. nat_eq (key y) q) xs))
+    by true o e = refl
+    by false None e = e
+    by false (Some p) e = e
+
+-- ---- rows
+
+pub has_id_place : (rows : List StoredRow) (id : ℕ) → has_id (chained (map row_of rows)) id ≡ is_some (place_of (λ (row : StoredRow). row.id) id rows)
+has_id_place [] id = refl
+has_id_place (row ∷ rows) id = ap (λ (b : Bool). b || has_id (chained (map row_of rows)) id) (eqb_comm id row.id) ∙ by (nat_eq row.id id) (place_of (λ (r : StoredRow). r.id) id rows) (has_id_place rows id)
+  where
+    by : (b : Bool) (o : Option ℕ) → has_id (chained (map row_of rows)) id ≡ is_some o → (b || has_id (chained (map row_of rows)) id) ≡ is_some (cond b (Some 0) (option_map (λ p. p + 1) o))
+    by true o e = refl
+    by false None e = e
+    by false (Some p) e = e
+
+pub is_empty_chained : (rows : List StoredRow) → is_empty (chained (map row_of rows)) ≡ nat_eq (length rows) 0
+is_empty_chained [] = refl
+is_empty_chained (row ∷ rows) = sym (ne_eqb (suc (length rows)) 0 (λ e. absurd (omega (arith, e))))
+
+-- the row at a place, with the next id that it has there
+abbrev pub row_at : List StoredRow → ℕ → StoredRow → Row
+row_at rows place row = row_before (map row_of (drop (place + 1) rows)) (row_of row)
+
+abbrev FoundAt : List StoredRow → ℕ → StoredRow → Type 0
+FoundAt rows id row = (p : ℕ) → place_of (λ (s : StoredRow). s.id) id rows ≡ Some p → slice_get rows p ≡ Some row → row_with_id id (chained (map row_of rows)) ≡ Some (row_at rows p row)
+
+pub row_found : (rows : List StoredRow) (id place : ℕ) (row : StoredRow) → place_of (λ (r : StoredRow). r.id) id rows ≡ Some place → slice_get rows place ≡ Some row → row_with_id id (chained (map row_of rows)) ≡ Some (row_at rows place row)
+row_found [] id place row at is = absurd (none-some place at)
+row_found (r ∷ rows) id place row at is = by (λ p found h. row_found rows id p row found h) (nat_eq r.id id) (place_of (λ (s : StoredRow). s.id) id rows) refl at
+  where
+    first : (k : ℕ) → 0 ≡ k → slice_get (r ∷ rows) k ≡ Some row → Some (row_before (map row_of rows) (row_of r)) ≡ Some (row_at (r ∷ rows) k row)
+    first k e s =
+        let h : slice_get (r ∷ rows) 0 ≡ Some row = ap (slice_get (r ∷ rows)) e ∙ s in
+        ap (λ (x : StoredRow). Some (row_before (map row_of rows) (row_of x))) (same_Some r row h) ∙ ap (λ (n : ℕ). Some (row_at (r ∷ rows) n row)) e
+
+    later : FoundAt rows id row → (p k : ℕ) → p + 1 ≡ k → slice_get (r ∷ rows) k ≡ Some row → place_of (λ (s : StoredRow). s.id) id rows ≡ Some p → row_with_id id (chained (map row_of rows)) ≡ Some (row_at (r ∷ rows) k row)
+    later ih p k e s found =
+        let k_is : suc p ≡ k = sym (add-one p) ∙ e in
+        let h : slice_get rows p ≡ Some row = ap (slice_get (r ∷ rows)) k_is ∙ s in
+        ih p found h ∙ ap (λ (n : ℕ). Some (row_before (map row_of (drop n rows)) (row_of row))) e ∙ ap (λ (n : ℕ). Some (row_before (map row_of (drop n (r ∷ rows))) (row_of row))) (sym (add-one k))
+
+    by : FoundAt rows id row → (b : Bool) (o : Option ℕ) → place_of (λ (s : StoredRow). s.id) id rows ≡ o → cond b (Some 0) (option_map (λ p. p + 1) o) ≡ Some place → cond b (Some (row_before (map row_of rows) (row_of r))) (row_with_id id (chained (map row_of rows))) ≡ Some (row_at (r ∷ rows) place row)
+    by ih true o e f = first place (same_Some 0 place f) is
+    by ih false None e f = absurd (none-some place f)
+    by ih false (Some p) e f = later ih p place (same_Some (p + 1) place f) is e
+
+pub row_missing : (rows : List StoredRow) (id : ℕ) → place_of (λ (row : StoredRow). row.id) id rows ≡ None → row_with_id id (chained (map row_of rows)) ≡ None
+row_missing [] id at = refl
+row_missing (r ∷ rows) id at = by (λ e. row_missing rows id e) (nat_eq r.id id) (place_of (λ (s : StoredRow). s.id) id rows) refl at
+  where
+    by : (place_of (λ (s : StoredRow). s.id) id rows ≡ None → row_with_id id (chained (map row_of rows)) ≡ None) → (b : Bool) (o : Option ℕ) → place_of (λ (s : StoredRow). s.id) id rows ≡ o → cond b (Some 0) (option_map (λ p. p + 1) o) ≡ None → cond b (Some (row_before (map row_of rows) (row_of r))) (row_with_id id (chained (map row_of rows))) ≡ None
+    by ih true o e f = absurd (none-some 0 (sym f))
+    by ih false None e f = ih e
+    by ih false (Some p) e f = absurd (none-some (p + 1) (sym f))
+
+-- ---- inventories
+
+pub inventory_find : (items : List StoredInventory) (id : ℕ) → inventory_in (map inventory_of items) id ≡ option_map (λ (i : StoredInventory). i.bytes.items) (find (λ (i : StoredInventory). nat_eq i.id id) items)
+inventory_find [] id = refl
+inventory_find (x ∷ xs) id = by (inventory_find xs id) (nat_eq x.id id)
+  where
+    by : inventory_in (map inventory_of xs) id ≡ option_map (λ (i : StoredInventory). i.bytes.items) (find (λ (i : StoredInventory). nat_eq i.id id) xs) → (b : Bool) → cond b (Some x.bytes.items) (inventory_in (map inventory_of xs) id) ≡ option_map (λ (i : StoredInventory). i.bytes.items) (cond b (Some x) (find (λ (i : StoredInventory). nat_eq i.id id) xs))
+    by ih true = refl
+    by ih false = ih
+
+pub with_bytes-found : (items : List StoredInventory) (id place : ℕ) (bytes : List ℕ) → place_of (λ (i : StoredInventory). i.id) id items ≡ Some place → with_bytes id bytes (map inventory_of items) ≡ longer_at place bytes (map inventory_of items)
+with_bytes-found [] id place bytes at = absurd (none-some place at)
+with_bytes-found (x ∷ xs) id place bytes at = by (λ p e. with_bytes-found xs id p bytes e) (nat_eq x.id id) (place_of (λ (i : StoredInventory). i.id) id xs) refl at
+  where
+    by : ((p : ℕ) → place_of (λ (i : StoredInventory). i.id) id xs ≡ Some p → with_bytes id bytes (map inventory_of xs) ≡ longer_at p bytes (map inventory_of xs)) → (b : Bool) (o : Option ℕ) → place_of (λ (i : StoredInventory). i.id) id xs ≡ o → cond b (Some 0) (option_map (λ p. p + 1) o) ≡ Some place → cond b (record { id = x.id; bytes = x.bytes.items ++ bytes } ∷ map inventory_of xs) (inventory_of x ∷ with_bytes id bytes (map inventory_of xs)) ≡ longer_at place bytes (inventory_of x ∷ map inventory_of xs)
+    by ih true o e f = ap (λ (k : ℕ). longer_at k bytes (inventory_of x ∷ map inventory_of xs)) (same_Some 0 place f)
+    by ih false None e f = absurd (none-some place f)
+    by ih false (Some p) e f = ap (λ (l : List Inventory). inventory_of x ∷ l) (ih p e) ∙ ap (λ (k : ℕ). longer_at k bytes (inventory_of x ∷ map inventory_of xs)) (sym (add-one p) ∙ same_Some (p + 1) place f)
+
+pub with_bytes-new : (items : List StoredInventory) (id : ℕ) (bytes : List ℕ) → place_of (λ (i : StoredInventory). i.id) id items ≡ None → with_bytes id bytes (map inventory_of items) ≡ map inventory_of items ++ record { id = id; bytes = bytes } ∷ []
+with_bytes-new [] id bytes at = refl
+with_bytes-new (x ∷ xs) id bytes at = by (λ e. with_bytes-new xs id bytes e) (nat_eq x.id id) (place_of (λ (i : StoredInventory). i.id) id xs) refl at
+  where
+    by : (place_of (λ (i : StoredInventory). i.id) id xs ≡ None → with_bytes id bytes (map inventory_of xs) ≡ map inventory_of xs ++ record { id = id; bytes = bytes } ∷ []) → (b : Bool) (o : Option ℕ) → place_of (λ (i : StoredInventory). i.id) id xs ≡ o → cond b (Some 0) (option_map (λ p. p + 1) o) ≡ None → cond b (record { id = x.id; bytes = x.bytes.items ++ bytes } ∷ map inventory_of xs) (inventory_of x ∷ with_bytes id bytes (map inventory_of xs)) ≡ inventory_of x ∷ (map inventory_of xs ++ record { id = id; bytes = bytes } ∷ [])
+    by ih true o e f = absurd (none-some 0 (sym f))
+    by ih false None e f = ap (λ (l : List Inventory). inventory_of x ∷ l) (ih e)
+    by ih false (Some p) e f = absurd (none-some (p + 1) (sym f))
+
+-- a place that is found is one of the list
+pub place_below : {T : Type 0} (key : T → ℕ) (q : ℕ) (items : List T) (place : ℕ) → place_of key q items ≡ Some place → place < length items
+place_below key q [] place at = absurd (none-some place at)
+place_below key q (x ∷ xs) place at = by (λ p e. place_below key q xs p e) (nat_eq (key x) q) (place_of key q xs) refl at
+  where
+    by : ((p : ℕ) → place_of key q xs ≡ Some p → p < length xs) → (b : Bool) (o : Option ℕ) → place_of key q xs ≡ o → cond b (Some 0) (option_map (λ p. p + 1) o) ≡ Some place → place < suc (length xs)
+    by ih true o e f = let is = same_Some 0 place f in omega (arith, is)
+    by ih false None e f = absurd (none-some place f)
+    by ih false (Some p) e f = let is = same_Some (p + 1) place f in let lt = ih p e in omega (arith, is, lt)
+
+-- ---- sensors
+
+same_sensor : (lun number lun' number' : ℕ) → number < 256 → number' < 256 → (nat_eq lun lun' && nat_eq number number') ≡ nat_eq (sensor_key lun number) (sensor_key lun' number')
+same_sensor lun number lun' number' lt lt' = by (nat_eq lun lun') refl (nat_eq number number') refl
+  where
+    by : (a : Bool) → nat_eq lun lun' ≡ a → (b : Bool) → nat_eq number number' ≡ b → (a && b) ≡ nat_eq (sensor_key lun number) (sensor_key lun' number')
+    by true e true f = let p = eqb-true lun lun' e in let q = eqb-true number number' f in sym (eq-eqb _ _ (omega (arith, p, q)))
+    by true e false f = let q = eqb-false number number' f in sym (ne_eqb _ _ (λ s. let is : lun * 256 + number ≡ lun' * 256 + number' = s in q (omega (arith, is, lt, lt'))))
+    by false e b f = let p = eqb-false lun lun' e in sym (ne_eqb _ _ (λ s. let is : lun * 256 + number ≡ lun' * 256 + number' = s in p (omega (arith, is, lt, lt'))))
+
+pub sensor_find : (items : List StoredSensor) (lun number : ℕ) → All IsSensorReading (map sensor_of items) → number < 256 → reading_in (map sensor_of items) lun number ≡ option_map (λ (s : StoredSensor). s.reading) (find (λ (s : StoredSensor). nat_eq (sensor_key s.lun s.number) (sensor_key lun number)) items)
+sensor_find [] lun number all lt = refl
+sensor_find (x ∷ xs) lun number all lt =
+    ap (λ (b : Bool). cond b (Some x.reading) (reading_in (map sensor_of xs) lun number)) (same_sensor x.lun x.number lun number (all 0 (sensor_of x) (omega arith)).number lt)
+    ∙ by (sensor_find xs lun number (λ k d below. all (suc k) d (omega (arith, below))) lt) (nat_eq (sensor_key x.lun x.number) (sensor_key lun number))
+  where
+    by : reading_in (map sensor_of xs) lun number ≡ option_map (λ (s : StoredSensor). s.reading) (find (λ (s : StoredSensor). nat_eq (sensor_key s.lun s.number) (sensor_key lun number)) xs) → (b : Bool) → cond b (Some x.reading) (reading_in (map sensor_of xs) lun number) ≡ option_map (λ (s : StoredSensor). s.reading) (cond b (Some x) (find (λ (s : StoredSensor). nat_eq (sensor_key s.lun s.number) (sensor_key lun number)) xs))
+    by ih true = refl
+    by ih false = ih
+
+-- ---- an index beside the items
+
+-- the place of a new key is put beside the others
+pub index-push : {T : Type 0} (key : T → ℕ) (items : List T) (item : T) (old new : ℕ → Option ℕ) → ((q : ℕ) → old q ≡ place_of key q items) → place_of key (key item) items ≡ None → ((q : ℕ) → new q ≡ cond (nat_eq (key item) q) (Some (length items)) (old q)) → (q : ℕ) → new q ≡ place_of key q (items ++ item ∷ [])
+index-push key items item old new was absent puts q = puts q ∙ by (nat_eq (key item) q) refl ∙ sym (place_of-snoc key q items item)
+  where
+    nothing : (o : Option ℕ) → o ≡ option_or o None
+    nothing None = refl
+    nothing (Some p) = refl
+
+    by : (b : Bool) → nat_eq (key item) q ≡ b → cond b (Some (length items)) (old q) ≡ option_or (place_of key q items) (here b (length items))
+    by true e = ap (λ (o : Option ℕ). option_or o (Some (length items))) (sym absent ∙ ap (λ (k : ℕ). place_of key k items) (eqb-true _ _ e))
+    by false e = was q ∙ nothing (place_of key q items)
+
+-- an item in another's place, with its key, is found where that was
+pub place_of-set : {T : Type 0} (key : T → ℕ) (q : ℕ) (items : List T) (place : ℕ) (item d : T) → key item ≡ key (get_or items place d) → place_of key q (set items place item) ≡ place_of key q items
+place_of-set key q [] place item d is = refl
+place_of-set key q (x ∷ xs) zero item d is = ap (λ (k : ℕ). cond (nat_eq k q) (Some 0) (option_map (λ p. p + 1) (place_of key q xs))) is
+place_of-set key q (x ∷ xs) (suc place) item d is = ap (λ (o : Option ℕ). cond (nat_eq (key x) q) (Some 0) (option_map (λ p. p + 1) o)) (place_of-set key q xs place item d is)
+
+pub map-longer : (items : List StoredInventory) (place : ℕ) (item d : StoredInventory) (bytes : List ℕ) → inventory_of item ≡ record { id = (get_or items place d).id; bytes = (get_or items place d).bytes.items ++ bytes } → map inventory_of (set items place item) ≡ longer_at place bytes (map inventory_of items)
+map-longer [] place item d bytes is = refl
+map-longer (x ∷ xs) zero item d bytes is = ap (λ (i : Inventory). i ∷ map inventory_of xs) is
+map-longer (x ∷ xs) (suc place) item d bytes is = ap (λ (l : List Inventory). inventory_of x ∷ l) (map-longer xs place item d bytes is)
+
+pub eq_of_cmp : (a b : ℕ) → is_eq (nat_cmp a b) ≡ nat_eq a b
+eq_of_cmp a b = grind (arith, nat_tests)
+
+-- the item at the place that is found
+pub found_item : {T : Type 0} (key : T → ℕ) (q : ℕ) (items : List T) (place : ℕ) (d : T) → place_of key q items ≡ Some place → Some (get_or items place d) ≡ find (λ x. nat_eq (key x) q) items
+found_item key q items place d at = sym (slice_get-get_or items place d (place_below key q items place at)) ∙ ap (option_and_then (slice_get items)) (sym at) ∙ found_at key q items
+
+pub none_found : (o : Option ℕ) → is_some o ≡ false → o ≡ None
+none_found None e = refl
+none_found (Some p) e = cc e
+
+is_some-map : {A B : Type 0} (f : A → B) (o : Option A) → is_some (option_map f o) ≡ is_some o
+is_some-map f None = refl
+is_some-map f (Some x) = refl
+
+pub reading_place : (items : List StoredSensor) (lun number : ℕ) → All IsSensorReading (map sensor_of items) → number < 256 → is_some (reading_in (map sensor_of items) lun number) ≡ is_some (place_of (λ (s : StoredSensor). sensor_key s.lun s.number) (sensor_key lun number) items)
+reading_place items lun number all lt = ap is_some (sensor_find items lun number all lt) ∙ is_some-map (λ (s : StoredSensor). s.reading) (find (λ (s : StoredSensor). nat_eq (sensor_key s.lun s.number) (sensor_key lun number)) items) ∙ sym (is_some-place_of (λ (s : StoredSensor). sensor_key s.lun s.number) (sensor_key lun number) items)

@@ -1,0 +1,177 @@
+-- The lines of a rewritten image are taken one after the other, and give its store.
+use Rattle.std.proofs.Common.{◌≡◌, ◌≢◌, ℕ, ◌+◌, ◌<◌, Bool, true, false, cond, not, nat_eq, nat_lt, ◌&&◌, ◌||◌, Option, None, Some, Result, Ok, Err, List, [], ◌∷◌, ◌++◌, length, map, refl, sym, ap, subst, ◌∙◌, append_assoc, append-nil, arith}
+use Rattle.std.specs.Option.{unwrap_or}
+use Rattle.std.specs.List.{cons_option}
+use Rattle.std.proofs.lemmas.Bool.{eqb-true, eq-eqb, ne_eqb}
+use Rattle.std.proofs.lemmas.Bool.Decides.{nat_tests}
+use Rattle.std.proofs.lemmas.List.Elements.{filter_map-append}
+use Rattle.ipmi_bus.specs.declared.controller.Shelf.{Shelf}
+use Rattle.ipmi_bus.specs.declared.controller.Shelf.TheVariants.{Sdr, Sel}
+use Rattle.ipmi_bus.specs.Shelf.{Row, IsRow, AllRows, LacksId, DistinctIds, IsShelf, id_in, largest_len}
+use Rattle.ipmi_bus.specs.Walk.{has_id}
+use Rattle.ipmi_image.specs.declared.line.LineFault.{LineFault}
+use Rattle.ipmi_image.specs.declared.line.LineFault.TheVariants as fault
+use Rattle.ipmi_image.specs.declared.image.ImageFault.TheVariants as image_fault
+use Rattle.std.proofs.lemmas.List.{length-append}
+use Rattle.ipmi_image.specs.Line.{SavedRow, Line, a_row, line_of}
+use Rattle.ipmi_image.specs.Image.{row_on, rows_on, first_id, chained, store_of_lines, is_empty, is_no_record, is_no_id, row_fault, fault_in, unless_fault, is_end, ends_here, store_behind}
+use Rattle.ipmi_image.specs.Rewritten.{first_row_id}
+use Rattle.ipmi_image.proofs.ReadLemmas.{after_line}
+use Rattle.ipmi_image.proofs.ParseLemmas.{saved_row}
+
+-- ---- lines that are taken
+
+-- each text is that of its line, and no line is the last
+abbrev pub Says : List (List ℕ) → List Line → Type 0
+Says [] [] = Unit {0}
+Says (text ∷ texts) (line ∷ lines) = (line_of true text ≡ Ok line) × (is_end line ≡ false) × Says texts lines
+Says texts lines = ⊥
+
+-- none has a fault behind those before it
+abbrev pub Taken : List Line → List Line → Type 0
+Taken before [] = Unit {0}
+Taken before (line ∷ lines) = (fault_in (store_of_lines before) line ≡ None) × Taken (before ++ line ∷ []) lines
+
+one_taken : (before : List Line) (text : List ℕ) (rest : List (List ℕ)) (line : Line) → 0 < length rest → line_of true text ≡ Ok line → is_end line ≡ false → fault_in (store_of_lines before) line ≡ None
+    → store_behind true before (text ∷ rest) ≡ store_behind true (before ++ line ∷ []) rest
+unfolding store_behind
+one_taken before text [] line some says last fine = absurd (omega (arith, some))
+one_taken before text (following ∷ rest) line some says last fine =
+    ap (λ (r : Result Line LineFault). after_line true before (following ∷ rest) (elim r [ Ok line ↦ unless_fault (fault_in (store_of_lines before) line) line | Err fault ↦ Err fault ])) says
+    ∙ ap (λ (o : Option LineFault). after_line true before (following ∷ rest) (unless_fault o line)) fine
+    ∙ ap (λ (b : Bool). cond (not b) (store_behind true (before ++ line ∷ []) (following ∷ rest)) (cond (ends_here (following ∷ rest)) (Ok (store_of_lines before)) (Err (image_fault.AfterEnd (length before + 3))))) last
+
+pub all_taken : (before : List Line) (texts rest : List (List ℕ)) (lines : List Line) → 0 < length rest → Says texts lines → Taken before lines → store_behind true before (texts ++ rest) ≡ store_behind true (before ++ lines) rest
+all_taken before [] rest [] some says taken = ap (λ (l : List Line). store_behind true l rest) (sym (append-nil before))
+all_taken before [] rest (line ∷ lines) some says taken = absurd says
+all_taken before (text ∷ texts) rest [] some says taken = absurd says
+all_taken before (text ∷ texts) rest (line ∷ lines) some says taken =
+    one_taken before text (texts ++ rest) line (let len = length-append texts rest in omega (arith, some, len)) says.0 says.1 taken.0
+    ∙ all_taken (before ++ line ∷ []) texts rest lines some says.2 taken.1
+    ∙ ap (λ (l : List Line). store_behind true l rest) (append_assoc before (line ∷ []) lines)
+
+-- ---- rows
+
+abbrev pub saved_rows : List Row → List SavedRow
+saved_rows [] = []
+saved_rows (row ∷ rows) = saved_row (first_row_id rows) row ∷ saved_rows rows
+
+saved-first : (rows : List Row) → first_id (saved_rows rows) ≡ first_row_id rows
+saved-first [] = refl
+saved-first (row ∷ rows) = refl
+
+-- with their next ids they are the rows again
+pub chained-saved : (rows : List Row) → chained (saved_rows rows) ≡ rows
+chained-saved [] = refl
+chained-saved (row ∷ rows) = ap (λ (r : Row). r ∷ chained (saved_rows rows)) (by (nat_eq row.next (first_row_id rows)) refl) ∙ ap (λ (l : List Row). row ∷ l) (chained-saved rows)
+  where
+    by : (t : Bool) → nat_eq row.next (first_row_id rows) ≡ t → ◌≡◌ {A = Row} (record { id = row.id; next = unwrap_or (cond t None (Some row.next)) (first_id (saved_rows rows)); bytes = row.bytes }) row
+    by true e = ap (λ (n : ℕ). let r : Row = record { id = row.id; next = n; bytes = row.bytes } in r) (saved-first rows ∙ sym (eqb-true row.next (first_row_id rows) e))
+    by false e = refl
+
+-- the same ids in the same order
+abbrev SameIds : List SavedRow → List Row → Type 0
+SameIds [] [] = Unit {0}
+SameIds (s ∷ saved) (row ∷ rows) = (s.id ≡ row.id) × SameIds saved rows
+SameIds saved rows = ⊥
+
+same-more : (saved : List SavedRow) (rows : List Row) (s : SavedRow) (row : Row) → SameIds saved rows → s.id ≡ row.id → SameIds (saved ++ s ∷ []) (rows ++ row ∷ [])
+same-more [] [] s row same e = (e, tt)
+same-more [] (r ∷ rows) s row same e = absurd same
+same-more (t ∷ saved) [] s row same e = absurd same
+same-more (t ∷ saved) (r ∷ rows) s row same e = (same.0, same-more saved rows s row same.1 e)
+
+same-has : (saved : List SavedRow) (rows : List Row) (n : ℕ) → SameIds saved rows → has_id (chained saved) n ≡ has_id rows n
+same-has [] [] n same = refl
+same-has [] (r ∷ rows) n same = absurd same
+same-has (t ∷ saved) [] n same = absurd same
+same-has (t ∷ saved) (r ∷ rows) n same = ap (λ (i : ℕ). nat_eq n i || has_id (chained saved) n) same.0 ∙ ap (λ (b : Bool). nat_eq n r.id || b) (same-has saved rows n same.1)
+
+same-empty : (saved : List SavedRow) (rows : List Row) → SameIds saved rows → is_empty (chained saved) ≡ is_empty rows
+same-empty [] [] same = refl
+same-empty [] (r ∷ rows) same = absurd same
+same-empty (t ∷ saved) [] same = absurd same
+same-empty (t ∷ saved) (r ∷ rows) same = refl
+
+-- what a shelf says of a row in its middle
+middle_row : (shelf : Shelf) (before rows : List Row) (row : Row) → AllRows shelf (before ++ row ∷ rows) → IsRow shelf row
+middle_row shelf [] rows row all = all.0
+middle_row shelf (r ∷ before) rows row all = middle_row shelf before rows row all.1
+
+lacks_middle : (n : ℕ) (before rows : List Row) (row : Row) → LacksId n (before ++ row ∷ rows) → row.id ≢ n
+lacks_middle n [] rows row lacks = lacks.0
+lacks_middle n (r ∷ before) rows row lacks = lacks_middle n before rows row lacks.1
+
+middle_fresh : (before rows : List Row) (row : Row) → DistinctIds (before ++ row ∷ rows) → has_id before row.id ≡ false
+middle_fresh [] rows row distinct = refl
+middle_fresh (r ∷ before) rows row distinct =
+    ap (λ (b : Bool). b || has_id before row.id) (ne_eqb row.id r.id (λ e. lacks_middle r.id before rows row distinct.0 e)) ∙ middle_fresh before rows row distinct.1
+
+middle_id : (shelf : Shelf) (before rows : List Row) (row : Row) → IsShelf shelf (before ++ row ∷ rows) → is_no_id before row.id ≡ false
+middle_id shelf before rows row is = by before is
+  where
+    below : (rows' : List Row) → IsRow shelf row → nat_eq row.id 65535 ≡ false
+    below rows' ok = ne_eqb row.id 65535 (λ e. let lt = ok.id in omega (arith, lt, e))
+
+    by : (before : List Row) → IsShelf shelf (before ++ row ∷ rows) → is_no_id before row.id ≡ false
+    by [] is = ap (λ (b : Bool). (nat_eq row.id 0 && false) || b) (below [] is.all.0) ∙ first (nat_eq row.id 0)
+      where
+        first : (b : Bool) → ((b && false) || false) ≡ false
+        first true = refl
+        first false = refl
+    by (r ∷ before) is =
+        ap (λ (b : Bool). (b && true) || nat_eq row.id 65535) (ne_eqb row.id 0 (λ e. lacks_middle 0 before rows row is.later e)) ∙ below [] (middle_row shelf (r ∷ before) rows row is.all)
+
+middle_first : (shelf : Shelf) (before rows : List Row) (row : Row) → IsShelf shelf (before ++ row ∷ rows) → (is_empty before && not (nat_eq (id_in row.bytes) row.id)) ≡ false
+middle_first shelf [] rows row is = ap not (eq-eqb _ _ is.first)
+middle_first shelf (r ∷ before) rows row is = refl
+
+whole_record : (shelf : Shelf) (row : Row) → IsRow shelf row → is_no_record shelf row.bytes ≡ false
+whole_record shelf row ok =
+    ap (λ (b : Bool). not b || nat_lt (largest_len shelf) (length row.bytes)) (eq-eqb _ _ ok.whole)
+    ∙ (let fits = ok.fits in grind (arith, nat_tests))
+
+-- a row in the middle has no fault behind those before it
+row_fits : (shelf : Shelf) (before rows : List Row) (row : Row) (saved : List SavedRow) (s : SavedRow) → s.id ≡ row.id → s.bytes ≡ row.bytes → SameIds saved before → IsShelf shelf (before ++ row ∷ rows) → row_fault shelf (chained saved) s ≡ None
+row_fits shelf before rows row saved s same_id same_bytes same is =
+    let one : is_no_id (chained saved) s.id ≡ false = ap (is_no_id (chained saved)) same_id ∙ ap (λ (b : Bool). (nat_eq row.id 0 && not b) || nat_eq row.id 65535) (same-empty saved before same) ∙ middle_id shelf before rows row is in
+    let two : has_id (chained saved) s.id ≡ false = ap (has_id (chained saved)) same_id ∙ same-has saved before row.id same ∙ middle_fresh before rows row is.distinct in
+    let three : is_no_record shelf s.bytes ≡ false = ap (is_no_record shelf) same_bytes ∙ whole_record shelf row (middle_row shelf before rows row is.all) in
+    let four : (is_empty (chained saved) && not (nat_eq (id_in s.bytes) s.id)) ≡ false =
+    ap (λ (b : Bool). b && not (nat_eq (id_in s.bytes) s.id)) (same-empty saved before same) ∙ ap (λ (n : ℕ). is_empty before && not (nat_eq (id_in s.bytes) n)) same_id
+    ∙ ap (λ (l : List ℕ). is_empty before && not (nat_eq (id_in l) row.id)) same_bytes ∙ middle_first shelf before rows row is in
+    ap (λ (b : Bool). cond b (Some fault.Id) (cond (has_id (chained saved) s.id) (Some fault.Twice) (cond (is_no_record shelf s.bytes) (Some fault.Length) (cond (is_empty (chained saved) && not (nat_eq (id_in s.bytes) s.id)) (Some fault.FirstId) None)))) one
+    ∙ ap (λ (b : Bool). cond b (Some fault.Twice) (cond (is_no_record shelf s.bytes) (Some fault.Length) (cond (is_empty (chained saved) && not (nat_eq (id_in s.bytes) s.id)) (Some fault.FirstId) None))) two
+    ∙ ap (λ (b : Bool). cond b (Some fault.Length) (cond (is_empty (chained saved) && not (nat_eq (id_in s.bytes) s.id)) (Some fault.FirstId) None)) three
+    ∙ ap (λ (b : Bool). cond b (Some fault.FirstId) None) four
+
+abbrev pub row_lines : Shelf → List Row → List Line
+row_lines shelf rows = map (a_row shelf) (saved_rows rows)
+
+on_shelf : (shelf : Shelf) (s : SavedRow) → row_on shelf (a_row shelf s) ≡ Some s
+on_shelf Sdr s = refl
+on_shelf Sel s = refl
+
+fault_of_row : (shelf : Shelf) (lines : List Line) (s : SavedRow) → fault_in (store_of_lines lines) (a_row shelf s) ≡ row_fault shelf (chained (rows_on shelf lines)) s
+fault_of_row Sdr lines s = refl
+fault_of_row Sel lines s = refl
+
+-- the rows of a shelf are taken, behind lines that have those before them
+rows_taken : (shelf : Shelf) (before rows : List Row) (lines : List Line) → SameIds (rows_on shelf lines) before → IsShelf shelf (before ++ rows) → Taken lines (row_lines shelf rows)
+rows_taken shelf before [] lines same is = tt
+rows_taken shelf before (row ∷ rows) lines same is =
+    let s = saved_row (first_row_id rows) row in
+    let next : rows_on shelf (lines ++ a_row shelf s ∷ []) ≡ rows_on shelf lines ++ s ∷ [] = filter_map-append (row_on shelf) lines (a_row shelf s ∷ []) ∙ ap (λ (o : Option SavedRow). rows_on shelf lines ++ cons_option o []) (on_shelf shelf s) in (
+      fault_of_row shelf lines s ∙ row_fits shelf before rows row (rows_on shelf lines) s refl refl same is,
+      rows_taken shelf (before ++ row ∷ []) rows (lines ++ a_row shelf s ∷ [])
+          (subst (λ (l : List SavedRow). SameIds l (before ++ row ∷ [])) (sym next) (same-more (rows_on shelf lines) before s row same refl))
+          (subst (IsShelf shelf) (sym (append_assoc before (row ∷ []) rows)) is),
+    )
+
+pub shelf_taken : (shelf : Shelf) (rows : List Row) (lines : List Line) → rows_on shelf lines ≡ [] → IsShelf shelf rows → Taken lines (row_lines shelf rows)
+shelf_taken shelf rows lines none is = rows_taken shelf [] rows lines (subst (λ (l : List SavedRow). SameIds l []) (sym none) tt) is
+
+-- what they are of the lines' rows
+pub rows_of_lines : (shelf : Shelf) (rows : List Row) → rows_on shelf (row_lines shelf rows) ≡ saved_rows rows
+rows_of_lines shelf [] = refl
+rows_of_lines shelf (row ∷ rows) = ap (λ (o : Option SavedRow). cons_option o (rows_on shelf (row_lines shelf rows))) (on_shelf shelf (saved_row (first_row_id rows) row)) ∙ ap (λ (l : List SavedRow). saved_row (first_row_id rows) row ∷ l) (rows_of_lines shelf rows)

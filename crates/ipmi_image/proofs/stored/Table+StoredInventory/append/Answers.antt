@@ -1,0 +1,22 @@
+use Rattle.std.proofs.Common.{◌≡◌, ap, sym, ◌∙◌, ◌++◌, List, ℕ, get_or, map}
+use Rattle.ipmi_image.specs.Table.{inventory_of, longer_at}
+use Rattle.ipmi_bus.specs.Store.{Inventory}
+use Rattle.ipmi_image.specs.declared.stored.StoredInventory.{StoredInventory}
+use Rattle.ipmi_image.proofs.TableLemmas.{place_of-set, map-longer}
+use Rattle.ipmi_image.proofs.stored.Table+StoredInventory.append.Goals as goal
+
+pub invariant_of-self : goal.invariant_of-self
+invariant_of-self c = λ q. c.self.invariant q ∙ sym (place_of-set (λ (i : StoredInventory). i.id) q c.self.inside.items.items c.args.place (record { id = c.index_mut.result.now.id; bytes = c.extend_from_slice.new.self }) c.index_mut.result.now (ap (λ (i : StoredInventory). i.id) c.index_mut.ensures.value))
+
+pub invariant_of-self-2 : goal.invariant_of-self-2
+invariant_of-self-2 c = λ q. c.self.invariant q ∙ sym (place_of-set (λ (i : StoredInventory). i.id) q c.self.inside.items.items c.args.place (record { id = c.index_mut.result.now.id; bytes = c.extend_from_slice.new.self }) c.index_mut.result.now (ap (λ (i : StoredInventory). i.id) c.index_mut.ensures.value))
+
+pub returns : goal.returns
+returns c =
+    let old = c.index_mut.result.now in
+    let item : StoredInventory = record { id = old.id; bytes = c.extend_from_slice.new.self } in
+    let items = c.self.inside.items.items in
+    let is : inventory_of item ≡ record { id = (get_or items c.args.place old).id; bytes = (get_or items c.args.place old).bytes.items ++ c.args.bytes.now } =
+    ap (λ (l : List ℕ). let i : Inventory = record { id = old.id; bytes = l } in i) c.in_ok-extend_from_slice.ensures.items
+    ∙ ap (λ (s : StoredInventory). let i : Inventory = record { id = s.id; bytes = s.bytes.items ++ c.args.bytes.now } in i) c.index_mut.ensures.value in
+    record { ok = map-longer items c.args.place item old c.args.bytes.now is ∙ ap (λ (l : List StoredInventory). longer_at c.args.place c.args.bytes.now (map inventory_of l)) c.self.view_is }

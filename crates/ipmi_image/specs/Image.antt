@@ -1,0 +1,201 @@
+-- The text of an image: its lines, the first fault among them, and the store that they make.
+use Rattle.std.specs.Prelude.{ℕ, ◌+◌, ◌==◌, nat_lt, not, ◌&&◌, ◌||◌, Bool, true, false, if◌then◌else◌, is_some, Option, Some, None, unwrap_or, Result, Ok, Err, List, [], ◌∷◌, ◌++◌, length, slice_index, filter_map, fold, codes}
+use Rattle.std.specs.Str.{bytes_eq}
+use Rattle.ipmi_text.specs.declared.reading.Reading.{Reading}
+use Rattle.ipmi_bus.specs.declared.controller.Shelf.{Shelf}
+use Rattle.ipmi_bus.specs.declared.controller.Shelf.TheVariants.{Sdr, Sel}
+use Rattle.ipmi_bus.specs.Shelf.{Row, whole_len, largest_len, id_in}
+use Rattle.ipmi_bus.specs.Store.{Store, Inventory, SensorReading, rows_of, info_of, inventory_of, reading_of}
+use Rattle.ipmi_bus.specs.Walk.{has_id}
+use Rattle.ipmi_image.specs.declared.line.LineFault.{LineFault}
+use Rattle.ipmi_image.specs.declared.line.LineFault.TheVariants as fault
+use Rattle.ipmi_image.specs.declared.image.ImageFault.{ImageFault}
+use Rattle.ipmi_image.specs.declared.image.ImageFault.TheVariants as image_fault
+use Rattle.ipmi_image.specs.Text.{pieces}
+use Rattle.ipmi_image.specs.Line.{SavedRow, Line, a_row, an_inventory, a_reading, an_info, the_end, line_of}
+
+-- ---- the store of some lines
+
+-- the rows of a shelf, as their lines have them
+abbrev pub row_on : Shelf → Line → Option SavedRow
+row_on Sdr (a_row Sdr row) = Some row
+row_on Sel (a_row Sel row) = Some row
+row_on shelf line = None
+
+abbrev pub rows_on : Shelf → List Line → List SavedRow
+rows_on shelf lines = filter_map (row_on shelf) lines
+
+-- the first row's id, FFFFh where there is no row
+abbrev pub first_id : List SavedRow → ℕ
+first_id [] = 65535
+first_id (row ∷ rows) = row.id
+
+abbrev pub row_before : List SavedRow → SavedRow → Row
+row_before following row = record { id = row.id; next = unwrap_or row.next (first_id following); bytes = row.bytes }
+
+-- each row with its next id: where its line has none it is the following row's, FFFFh for the last row
+abbrev pub chained : List SavedRow → List Row
+chained [] = []
+chained (row ∷ rows) = row_before rows row ∷ chained rows
+
+-- the inventories, with bytes put behind those of the one with this id, or as a new one behind all
+abbrev pub with_bytes : ℕ → List ℕ → List Inventory → List Inventory
+with_bytes id bytes [] = record { id = id; bytes = bytes } ∷ []
+with_bytes id bytes (inventory ∷ inventories) =
+    if inventory.id == id then record { id = inventory.id; bytes = inventory.bytes ++ bytes } ∷ inventories
+    else inventory ∷ with_bytes id bytes inventories
+
+abbrev pub with_inventory_line : List Inventory → Line → List Inventory
+with_inventory_line inventories (an_inventory id bytes) = with_bytes id bytes inventories
+with_inventory_line inventories line = inventories
+
+abbrev pub inventories_of : List Line → List Inventory
+inventories_of lines = fold with_inventory_line [] lines
+
+-- the four bytes of a reading
+abbrev pub reading_of_bytes : List ℕ → Reading
+reading_of_bytes bytes = record { raw = slice_index bytes 0; flags = slice_index bytes 1; status = slice_index bytes 2; more = slice_index bytes 3 }
+
+abbrev pub sensor_on : Line → Option SensorReading
+sensor_on (a_reading lun number bytes) = Some (record { lun = lun; number = number; reading = reading_of_bytes bytes })
+sensor_on line = None
+
+abbrev pub info_on : Shelf → Line → Option (List ℕ)
+info_on Sdr (an_info Sdr bytes) = Some bytes
+info_on Sel (an_info Sel bytes) = Some bytes
+info_on shelf line = None
+
+abbrev pub first_of : List (List ℕ) → Option (List ℕ)
+first_of [] = None
+first_of (bytes ∷ rest) = Some bytes
+
+-- what these lines say, in their order
+abbrev pub store_of_lines : List Line → Store
+store_of_lines lines = record {
+  sdr = chained (rows_on Sdr lines);
+  sel = chained (rows_on Sel lines);
+  inventories = inventories_of lines;
+  readings = filter_map sensor_on lines;
+  sdr_info = first_of (filter_map (info_on Sdr) lines);
+  sel_info = first_of (filter_map (info_on Sel) lines);
+}
+
+-- ---- a line after others
+
+-- the fault of the first condition that holds
+abbrev pub first_fault : List (Bool × LineFault) → Option LineFault
+first_fault [] = None
+first_fault (condition ∷ rest) = if condition.0 then Some condition.1 else first_fault rest
+
+abbrev pub is_empty : List Row → Bool
+is_empty [] = true
+is_empty (row ∷ rows) = false
+
+-- no whole record of the shelf, or a longer one than it may have
+abbrev pub is_no_record : Shelf → List ℕ → Bool
+is_no_record shelf bytes = not (length bytes == whole_len shelf bytes) || nat_lt (largest_len shelf) (length bytes)
+
+-- no id of a row behind these: 0000h is the first row's alone, and FFFFh none's
+abbrev pub is_no_id : List Row → ℕ → Bool
+is_no_id rows id = ((id == 0) && not (is_empty rows)) || (id == 65535)
+
+-- the first row's bytes begin with another id than its own
+abbrev pub begins_with_another : List Row → SavedRow → Bool
+begins_with_another rows row = is_empty rows && not (id_in row.bytes == row.id)
+
+-- a row behind these: its id, an id that one of them has, its length, and the first bytes of the first one, in this order
+abbrev pub row_fault : Shelf → List Row → SavedRow → Option LineFault
+row_fault shelf rows row = first_fault (
+    (is_no_id rows row.id, fault.Id)
+    ∷ (has_id rows row.id, fault.Twice)
+    ∷ (is_no_record shelf row.bytes, fault.Length)
+    ∷ (begins_with_another rows row, fault.FirstId)
+    ∷ [])
+
+-- bytes of an inventory, which may have some already: FFh is no FRU device, and it has at most 65,535 bytes
+abbrev pub inventory_fault : ℕ → Option (List ℕ) → List ℕ → Option LineFault
+inventory_fault id already bytes = first_fault (
+    (id == 255, fault.Id)
+    ∷ (nat_lt 65535 (length (unwrap_or already []) + length bytes), fault.TooMany)
+    ∷ [])
+
+-- the reading of a sensor, which may be given already: its LUN, that it is given, its length, in this order
+abbrev pub reading_fault : ℕ → Option Reading → List ℕ → Option LineFault
+reading_fault lun already bytes = first_fault (
+    (nat_lt 3 lun, fault.Id)
+    ∷ (is_some already, fault.Twice)
+    ∷ (not (length bytes == 4), fault.Length)
+    ∷ [])
+
+-- an info, which may be given already: that it is given, its length
+abbrev pub info_fault : Option (List ℕ) → List ℕ → Option LineFault
+info_fault already bytes = first_fault (
+    (is_some already, fault.Twice)
+    ∷ (not (length bytes == 14), fault.Length)
+    ∷ [])
+
+-- why the line may not stand behind others that make this store
+abbrev pub fault_in : Store → Line → Option LineFault
+fault_in store (a_row shelf row) = row_fault shelf (rows_of shelf store) row
+fault_in store (an_inventory id bytes) = inventory_fault id (inventory_of id store) bytes
+fault_in store (a_reading lun number bytes) = reading_fault lun (reading_of lun number store) bytes
+fault_in store (an_info shelf bytes) = info_fault (info_of shelf store) bytes
+fault_in store the_end = None
+
+abbrev pub unless_fault : Option LineFault → Line → Result Line LineFault
+unless_fault None line = Ok line
+unless_fault (Some fault) line = Err fault
+
+-- what the line says behind these lines
+abbrev pub line_behind : Bool → List Line → List ℕ → Result Line LineFault
+line_behind dashes before text = elim (line_of dashes text) [ Ok line ↦ unless_fault (fault_in (store_of_lines before) line) line | Err fault ↦ Err fault ]
+
+-- ---- all lines
+
+-- a line's fault, with the line's number from 1 on; want of memory has none
+abbrev pub at_line : ℕ → LineFault → ImageFault
+at_line n fault.Memory = image_fault.Memory
+at_line n fault.Line = image_fault.Line n
+at_line n fault.Hex = image_fault.Hex n
+at_line n fault.Id = image_fault.Id n
+at_line n fault.Twice = image_fault.Twice n
+at_line n fault.Length = image_fault.Length n
+at_line n fault.FirstId = image_fault.FirstId n
+at_line n fault.TooMany = image_fault.TooMany n
+
+abbrev pub is_end : Line → Bool
+is_end the_end = true
+is_end line = false
+
+-- no byte stands behind the line feed before these pieces
+abbrev pub ends_here : List (List ℕ) → Bool
+ends_here ([] ∷ []) = true
+ends_here more = false
+
+-- the store of the lines before and of these up to `end`, the last one; of the pieces of a text the last is no whole line
+unfoldable pub store_behind : Bool → List Line → List (List ℕ) → Result Store ImageFault
+store_behind dashes before (text ∷ (following ∷ rest)) =
+    elim (line_behind dashes before text) [
+      | Ok line ↦
+          if not (is_end line) then store_behind dashes (before ++ line ∷ []) (following ∷ rest)
+          else if ends_here (following ∷ rest) then Ok (store_of_lines before)
+          else Err (image_fault.AfterEnd (length before + 3))
+      | Err fault ↦ Err (at_line (length before + 2) fault)
+    ]
+store_behind dashes before rest = Err image_fault.NoEnd
+
+-- the first line says the version, and whether it takes dashes
+abbrev pub dashes_in : List ℕ → Option Bool
+dashes_in first =
+    if bytes_eq first (codes "ipmi-image 1") then Some false
+    else if bytes_eq first (codes "ipmi-image 2") then Some true
+    else None
+
+abbrev pub store_of_pieces : List (List ℕ) → Result Store ImageFault
+store_of_pieces (first ∷ (following ∷ rest)) =
+    elim (dashes_in first) [ Some dashes ↦ store_behind dashes [] (following ∷ rest) | None ↦ Err image_fault.Header ]
+store_of_pieces rest = Err image_fault.Header
+
+-- the store that the bytes of an image give, or its first fault
+abbrev pub store_of_image : List ℕ → Result Store ImageFault
+store_of_image bytes = store_of_pieces (pieces 10 bytes)

@@ -1,0 +1,117 @@
+-- What a line of an image says by itself, or the fault that keeps it from saying anything.
+use Rattle.std.specs.Prelude.{ℕ, ◌==◌, ◌&&◌, ◌||◌, Bool, true, false, if◌then◌else◌, Option, Some, None, Result, Ok, Err, ok_or, option_map, option_and_then, List, [], ◌∷◌, length, codes}
+use Rattle.std.specs.Result.{result_ok}
+use Rattle.std.specs.Str.{bytes_eq}
+use Rattle.byteorder.specs.Endian.{big_number}
+use Rattle.hex.specs.Hex.{decode_of}
+use Rattle.ipmi_bus.specs.declared.controller.Shelf.{Shelf}
+use Rattle.ipmi_bus.specs.declared.controller.Shelf.TheVariants.{Sdr, Sel}
+use Rattle.ipmi_image.specs.declared.line.LineFault.{LineFault}
+use Rattle.ipmi_image.specs.declared.line.LineFault.TheVariants as fault
+use Rattle.ipmi_image.specs.Text.{pieces}
+
+-- a row as its line has it: no next id stands for the id of the following row, or for FFFFh where none follows
+pub record SavedRow : Type 0 where
+  pub id : ℕ
+  pub next : Option ℕ
+  pub bytes : List ℕ
+
+-- what a line says
+pub data Line : Type 0 where
+  a_row : Shelf → SavedRow → Line
+  an_inventory : (id : ℕ) → (bytes : List ℕ) → Line
+  a_reading : (lun number : ℕ) → (bytes : List ℕ) → Line
+  an_info : Shelf → (bytes : List ℕ) → Line
+  the_end : Line
+
+-- ---- fields
+
+abbrev pub is_some_text : List ℕ → Bool
+is_some_text [] = false
+is_some_text (character ∷ field) = true
+
+-- the bytes that pairs of hex digits of either case are
+abbrev pub bytes_in : List ℕ → Option (List ℕ)
+bytes_in hex = result_ok (decode_of hex)
+
+-- the number that two hex digits for each of n bytes are, the highest first
+abbrev pub number_in : ℕ → List ℕ → Option ℕ
+number_in n hex = option_map (big_number n) (bytes_in hex)
+
+-- the number that one hex digit is, as the low one of two
+abbrev pub digit_in : List ℕ → Option ℕ
+digit_in digit = number_in 1 (48 ∷ digit)
+
+abbrev pub is_dash : List ℕ → Bool
+is_dash field = bytes_eq field (codes "-")
+
+-- the next id: a dash stands for that of the following row, or for FFFFh where none follows
+abbrev pub next_in : List ℕ → Option (Option ℕ)
+next_in field = if is_dash field then Some None else option_map (λ id. Some id) (number_in 2 field)
+
+abbrev pub shelf_in : List ℕ → Option Shelf
+shelf_in word =
+    if bytes_eq word (codes "sdr") then Some Sdr
+    else if bytes_eq word (codes "sel") then Some Sel
+    else None
+
+-- ---- lines, by their first word: first the fields' lengths, of which that of HEX is not 0, and then the hex digits; how many bytes HEX
+-- has to be is asked behind the other lines
+
+-- the line of two fields, or of three
+abbrev pub with_two : (List ℕ → List ℕ → Result Line LineFault) → List (List ℕ) → Result Line LineFault
+with_two line (first ∷ second ∷ []) = line first second
+with_two line fields = Err fault.Line
+
+abbrev pub with_three : (List ℕ → List ℕ → List ℕ → Result Line LineFault) → List (List ℕ) → Result Line LineFault
+with_three line (first ∷ second ∷ third ∷ []) = line first second third
+with_three line fields = Err fault.Line
+
+-- `sdr ID NEXT HEX` and `sel ID NEXT HEX`; NEXT may be a dash where dashes are taken
+abbrev pub row_line : Bool → Shelf → List ℕ → List ℕ → List ℕ → Result Line LineFault
+row_line dashes shelf id next hex =
+    if (length id == 4) && (((length next == 4) || (dashes && is_dash next)) && is_some_text hex)
+    then ok_or (option_and_then (λ i. option_and_then (λ n. option_map (λ b. a_row shelf (record { id = i; next = n; bytes = b })) (bytes_in hex)) (next_in next)) (number_in 2 id)) fault.Hex
+    else Err fault.Line
+
+-- `fru ID HEX`
+abbrev pub inventory_line : List ℕ → List ℕ → Result Line LineFault
+inventory_line id hex =
+    if (length id == 2) && is_some_text hex
+    then ok_or (option_and_then (λ i. option_map (λ b. an_inventory i b) (bytes_in hex)) (number_in 1 id)) fault.Hex
+    else Err fault.Line
+
+-- `reading LUN NUM HEX8`
+abbrev pub reading_line : List ℕ → List ℕ → List ℕ → Result Line LineFault
+reading_line lun number hex =
+    if (length lun == 1) && ((length number == 2) && is_some_text hex)
+    then ok_or (option_and_then (λ l. option_and_then (λ n. option_map (λ b. a_reading l n b) (bytes_in hex)) (number_in 1 number)) (digit_in lun)) fault.Hex
+    else Err fault.Line
+
+-- `info sdr HEX28` and `info sel HEX28`
+abbrev pub info_line_of : Option Shelf → List ℕ → Result Line LineFault
+info_line_of (Some shelf) hex = if is_some_text hex then ok_or (option_map (λ b. an_info shelf b) (bytes_in hex)) fault.Hex else Err fault.Line
+info_line_of None hex = Err fault.Line
+
+abbrev pub info_line : List ℕ → List ℕ → Result Line LineFault
+info_line word hex = info_line_of (shelf_in word) hex
+
+-- `end`
+abbrev pub end_line : List (List ℕ) → Result Line LineFault
+end_line [] = Ok the_end
+end_line (field ∷ fields) = Err fault.Line
+
+abbrev pub line_of_fields : Bool → List (List ℕ) → Result Line LineFault
+line_of_fields dashes [] = Err fault.Line
+line_of_fields dashes (word ∷ fields) =
+    if bytes_eq word (codes "sdr") then with_three (row_line dashes Sdr) fields
+    else if bytes_eq word (codes "sel") then with_three (row_line dashes Sel) fields
+    else if bytes_eq word (codes "fru") then with_two inventory_line fields
+    else if bytes_eq word (codes "reading") then with_three reading_line fields
+    else if bytes_eq word (codes "info") then with_two info_line fields
+    else if bytes_eq word (codes "end") then end_line fields
+    else Err fault.Line
+
+-- the fields stand between single spaces
+unfoldable pub line_of : Bool → List ℕ → Result Line LineFault
+line_of dashes text = line_of_fields dashes (pieces 32 text)

@@ -1,0 +1,89 @@
+-- The one text of version 2 that a store has.
+use Rattle.std.specs.Prelude.{◌≡◌, ℕ, zero, suc, ◌+◌, ◌/◌, ◌==◌, ◌<◌, ◌≤◌, if◌then◌else◌, Option, Some, None, Ok, List, [], ◌∷◌, ◌++◌, length, take, drop, map, flat_map, All, codes}
+use Rattle.std.specs.List.{concat, join_with_byte}
+use Rattle.byteorder.specs.Endian.{big_bytes}
+use Rattle.hex.specs.Hex.{encode_lower}
+use Rattle.ipmi_bus.specs.Shelf.{Row}
+use Rattle.ipmi_bus.specs.Store.{Store, Inventory, SensorReading, IsStore}
+use Rattle.ipmi_image.specs.Image.{store_of_image}
+
+-- a number in the hex digits of n bytes, the highest first
+abbrev pub hex_of : ℕ → ℕ → List ℕ
+hex_of n x = encode_lower (big_bytes n x)
+
+-- ---- the fields of each line
+
+-- the id of the first of these rows, FFFFh where there is none
+abbrev pub first_row_id : List Row → ℕ
+first_row_id [] = 65535
+first_row_id (row ∷ rows) = row.id
+
+-- a dash where the next id is that of the following row
+abbrev pub next_field : ℕ → ℕ → List ℕ
+next_field following next = if next == following then codes "-" else hex_of 2 next
+
+abbrev pub row_fields : List ℕ → ℕ → Row → List (List ℕ)
+row_fields word following row = word ∷ hex_of 2 row.id ∷ next_field following row.next ∷ encode_lower row.bytes ∷ []
+
+abbrev pub rows_lines : List ℕ → List Row → List (List (List ℕ))
+rows_lines word [] = []
+rows_lines word (row ∷ rows) = row_fields word (first_row_id rows) row ∷ rows_lines word rows
+
+-- the first n parts, of 64 bytes or as many as are left
+abbrev pub first_parts : ℕ → List ℕ → List (List ℕ)
+first_parts zero bytes = []
+first_parts (suc n) bytes = take 64 bytes ∷ first_parts n (drop 64 bytes)
+
+-- all parts
+abbrev pub parts_of : List ℕ → List (List ℕ)
+parts_of bytes = first_parts ((length bytes + 63) / 64) bytes
+
+abbrev pub part_fields : ℕ → List ℕ → List (List ℕ)
+part_fields id part = codes "fru" ∷ hex_of 1 id ∷ encode_lower part ∷ []
+
+abbrev pub inventory_lines : Inventory → List (List (List ℕ))
+inventory_lines inventory = map (part_fields inventory.id) (parts_of inventory.bytes)
+
+-- a LUN has one digit, the low one of two
+abbrev pub reading_fields : SensorReading → List (List ℕ)
+reading_fields sensor = codes "reading" ∷ drop 1 (hex_of 1 sensor.lun) ∷ hex_of 1 sensor.number
+    ∷ encode_lower (sensor.reading.raw ∷ sensor.reading.flags ∷ sensor.reading.status ∷ sensor.reading.more ∷ []) ∷ []
+
+abbrev pub info_lines : List ℕ → Option (List ℕ) → List (List (List ℕ))
+info_lines word None = []
+info_lines word (Some bytes) = (codes "info" ∷ word ∷ encode_lower bytes ∷ []) ∷ []
+
+-- ---- the text
+
+-- fields between single spaces, and a line feed
+abbrev pub line_text : List (List ℕ) → List ℕ
+line_text fields = join_with_byte 32 fields ++ 10 ∷ []
+
+abbrev pub lines_text : List (List (List ℕ)) → List ℕ
+lines_text lines = concat (map line_text lines)
+
+-- inventories, readings, infos, and the last line
+abbrev pub other_lines : Store → List (List (List ℕ))
+other_lines store =
+    flat_map inventory_lines store.inventories ++ (map reading_fields store.readings
+    ++ (info_lines (codes "sdr") store.sdr_info ++ (info_lines (codes "sel") store.sel_info
+    ++ (codes "end" ∷ []) ∷ [])))
+
+-- the first line, the rows of each shelf in their order, and the others
+abbrev pub lines_of : Store → List (List (List ℕ))
+lines_of store =
+    (codes "ipmi-image" ∷ codes "2" ∷ []) ∷ (rows_lines (codes "sdr") store.sdr ++ (rows_lines (codes "sel") store.sel ++ other_lines store))
+
+unfoldable pub image_text_of : Store → List ℕ
+image_text_of store = lines_text (lines_of store)
+
+-- ---- which stores an image gives
+
+-- no inventory is empty, and a LUN is two bits
+pub record IsSaved (store : Store) : Type 0 where
+  pub some : All (λ inventory. 0 < length inventory.bytes) store.inventories
+  pub luns : All (λ sensor. sensor.lun ≤ 3) store.readings
+
+-- the text of such a store is read as that store
+abbrev pub RewritingKeepsStores : Type 0
+RewritingKeepsStores = (store : Store) → IsStore store → IsSaved store → store_of_image (image_text_of store) ≡ Ok store

@@ -1,0 +1,22 @@
+-- Items in their order, found by keys.
+use Rattle.std.specs.Prelude.{ℕ, zero, suc, ◌+◌, ◌*◌, ◌==◌, ◌++◌, if◌then◌else◌, Option, Some, None, option_map, List, [], ◌∷◌}
+use Rattle.ipmi_bus.specs.Store.{Inventory}
+use Rattle.ipmi_image.specs.declared.stored.StoredInventory.{StoredInventory}
+
+-- the place of the first item with this key
+abbrev pub place_of : {T : Type 0} → (T → ℕ) → ℕ → List T → Option ℕ
+place_of key k [] = None
+place_of key k (item ∷ items) = if key item == k then Some 0 else option_map (λ place. place + 1) (place_of key k items)
+
+-- a sensor's LUN in the high byte, its number in the low one
+abbrev pub sensor_key : ℕ → ℕ → ℕ
+sensor_key lun number = lun * 256 + number
+
+abbrev pub inventory_of : StoredInventory → Inventory
+inventory_of inventory = record { id = inventory.id; bytes = inventory.bytes.items }
+
+-- the inventory at a place has these bytes behind its own
+abbrev pub longer_at : ℕ → List ℕ → List Inventory → List Inventory
+longer_at place bytes [] = []
+longer_at zero bytes (inventory ∷ inventories) = record { id = inventory.id; bytes = inventory.bytes ++ bytes } ∷ inventories
+longer_at (suc place) bytes (inventory ∷ inventories) = inventory ∷ longer_at place bytes inventories

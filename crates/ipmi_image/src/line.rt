@@ -1,0 +1,207 @@
+//! What one line of an image says.
+ghost use Rattle.std.specs.Prelude.{◌≡◌, ◌==◌, ◌&&◌, ◌||◌, ◌⊎◌, [], ◌∷◌, MatchOption, MatchResult, IsTrue, Some, None, Ok, Err, length};
+ghost use Rattle.ipmi_image.specs.Text.{pieces};
+ghost use Rattle.ipmi_image.specs.Line.{is_dash, next_in, shelf_in, with_two, with_three, row_line, inventory_line, reading_line, info_line, line_of};
+ghost use Rattle.ipmi_image.specs.Image.{is_end};
+ghost use Rattle.ipmi_image.specs.Stored.{said, IsRead};
+
+use crate::text::{cut, read_bytes, read_digit, read_u8, read_u16};
+use ipmi_bus::Shelf;
+use std::alloc::{AllocError, Global};
+
+/// Why a line is refused, or no memory was left for it.
+#[derive(Clone, Copy, Debug, PartialEq, Eq)]
+pub(crate) enum LineFault {
+    Memory,
+    Line,
+    Hex,
+    Id,
+    Twice,
+    Length,
+    FirstId,
+    TooMany,
+}
+
+impl From<AllocError> for LineFault {
+    ghost use Rattle.ipmi_image.specs.declared.line.LineFault.TheVariants as fault;
+
+    ghost from_gives = { λ _ e. e ≡ fault.Memory };
+
+    fn from(_error: AllocError) -> LineFault {
+        LineFault::Memory
+    }
+}
+
+/// What a line says by itself.
+#[derive(Debug, Drop)]
+pub(crate) enum Line {
+    /// A record of a shelf. Without a next id it has the following one's.
+    Row {
+        shelf: Shelf,
+        id: u16,
+        next: Option<u16>,
+        bytes: Vec<u8>,
+    },
+    /// More bytes of the inventory of the FRU device with this id.
+    Inventory(u8, Vec<u8>),
+    /// What the sensor with this number answers at this LUN.
+    Reading {
+        lun: u8,
+        number: u8,
+        bytes: Vec<u8>,
+    },
+    /// What the shelf's repository info is.
+    Info(Shelf, Vec<u8>),
+    /// The last line.
+    End,
+}
+
+impl Line {
+    /// Whether it is the last line.
+    pub(crate) fn is_end(&self) -> bool
+        ensures { result ≡ is_end (said self.now) }
+    {
+        matches!(self, Line::End)
+    }
+}
+
+/// The two fields, where there are two.
+fn two(fields: &[u8]) -> Option<(&[u8], &[u8])>
+    ensures { MatchOption result ((line : _) → with_two line (pieces 32 fields.now) ≡ Err LineFault.Line) (λ t. pieces 32 fields.now ≡ t.0.now ∷ t.1.now ∷ []) }
+{
+    let (first, second) = cut(fields, b' ')?;
+    match cut(second, b' ') {
+        None => Some((first, second)),
+        Some(_) => None,
+    }
+}
+
+/// The three fields, where there are three.
+fn three(fields: &[u8]) -> Option<(&[u8], &[u8], &[u8])>
+    ensures { MatchOption result ((line : _) → with_three line (pieces 32 fields.now) ≡ Err LineFault.Line) (λ t. pieces 32 fields.now ≡ t.0.now ∷ t.1.now ∷ t.2.now ∷ []) }
+{
+    let (first, rest) = cut(fields, b' ')?;
+    let (second, third) = two(rest)?;
+    Some((first, second, third))
+}
+
+/// The next id; a dash stands for that of the following row.
+fn read_next(field: &[u8]) -> Option<Option<u16>>
+    requires { IsTrue ((length field.now == 4) || is_dash field.now) }
+    ensures { result ≡ next_in field.now }
+{
+    if field == b"-".as_slice() {
+        return Some(None);
+    }
+    Some(Some(read_u16(field)?))
+}
+
+/// The shelf that a word names.
+fn read_shelf(word: &[u8]) -> Option<Shelf>
+    ensures { result ≡ shelf_in word.now }
+{
+    if word == b"sdr".as_slice() {
+        return Some(Shelf::Sdr);
+    }
+    if word == b"sel".as_slice() {
+        return Some(Shelf::Sel);
+    }
+    None
+}
+
+/// Reads `ID NEXT HEX` behind the name of a shelf.
+fn read_row(alloc: Global, dashes: bool, shelf: Shelf, fields: &[u8]) -> Result<Line, LineFault>
+    ensures { IsRead (with_three (row_line dashes shelf) (pieces 32 fields.now)) result }
+{
+    let Some((id, next, hex)) = three(fields) else {
+        return Err(LineFault::Line);
+    };
+    let is_next = next.len() == 4 || (dashes && next == b"-".as_slice());
+    if id.len() != 4 || !is_next || hex.is_empty() {
+        return Err(LineFault::Line);
+    }
+    let (Some(id), Some(next)) = (read_u16(id), read_next(next)) else {
+        return Err(LineFault::Hex);
+    };
+    let bytes = read_bytes(alloc, hex)?;
+    Ok(Line::Row {
+        shelf,
+        id,
+        next,
+        bytes,
+    })
+}
+
+/// Reads `ID HEX` behind `fru`.
+fn read_inventory(alloc: Global, fields: &[u8]) -> Result<Line, LineFault>
+    ensures { IsRead (with_two inventory_line (pieces 32 fields.now)) result }
+{
+    let Some((id, hex)) = two(fields) else {
+        return Err(LineFault::Line);
+    };
+    if id.len() != 2 || hex.is_empty() {
+        return Err(LineFault::Line);
+    }
+    let Some(id) = read_u8(id) else {
+        return Err(LineFault::Hex);
+    };
+    Ok(Line::Inventory(id, read_bytes(alloc, hex)?))
+}
+
+/// Reads `LUN NUM HEX8` behind `reading`.
+fn read_reading(alloc: Global, fields: &[u8]) -> Result<Line, LineFault>
+    ensures { IsRead (with_three reading_line (pieces 32 fields.now)) result }
+{
+    let Some((lun, number, hex)) = three(fields) else {
+        return Err(LineFault::Line);
+    };
+    if lun.len() != 1 || number.len() != 2 || hex.is_empty() {
+        return Err(LineFault::Line);
+    }
+    let (Some(lun), Some(number)) = (read_digit(lun), read_u8(number)) else {
+        return Err(LineFault::Hex);
+    };
+    let bytes = read_bytes(alloc, hex)?;
+    Ok(Line::Reading { lun, number, bytes })
+}
+
+/// Reads `sdr HEX28` or `sel HEX28` behind `info`.
+fn read_info(alloc: Global, fields: &[u8]) -> Result<Line, LineFault>
+    ensures { IsRead (with_two info_line (pieces 32 fields.now)) result }
+{
+    let Some((word, hex)) = two(fields) else {
+        return Err(LineFault::Line);
+    };
+    let Some(shelf) = read_shelf(word) else {
+        return Err(LineFault::Line);
+    };
+    if hex.is_empty() {
+        return Err(LineFault::Line);
+    }
+    Ok(Line::Info(shelf, read_bytes(alloc, hex)?))
+}
+
+/// Reads a line without its line feed; in version 2 a row's NEXT may be a dash.
+pub(crate) fn read_line(alloc: Global, dashes: bool, line: &[u8]) -> Result<Line, LineFault>
+    ensures { IsRead (line_of dashes line.now) result }
+{
+    let Some((word, fields)) = cut(line, b' ') else {
+        if line == b"end".as_slice() {
+            return Ok(Line::End);
+        }
+        return Err(LineFault::Line);
+    };
+    if word == b"sdr".as_slice() {
+        read_row(alloc, dashes, Shelf::Sdr, fields)
+    } else if word == b"sel".as_slice() {
+        read_row(alloc, dashes, Shelf::Sel, fields)
+    } else if word == b"fru".as_slice() {
+        read_inventory(alloc, fields)
+    } else if word == b"reading".as_slice() {
+        read_reading(alloc, fields)
+    } else if word == b"info".as_slice() {
+        read_info(alloc, fields)
+    } else {
+        Err(LineFault::Line)
+    }
+}

@@ -1,0 +1,303 @@
+//! What an image answers to a controller's calls.
+ghost use Rattle.std.specs.Prelude.{◌≡◌, ◌+◌, ◌<◌, ◌≤◌, ◌≢◌, Bool, MatchBool, IfOk, OnErr, Ok, Some, None, length, map, drop};
+ghost use Rattle.std.specs.Option.{option_map, unwrap_or};
+ghost use Rattle.ipmi_bus.specs.Shelf.{look};
+ghost use Rattle.ipmi_bus.specs.Code.{class_of};
+ghost use Rattle.ipmi_bus.specs.Store.{IsStore, info_of, reading_of, inventory_of};
+ghost use Rattle.ipmi_bus.specs.Seen.{IsHonest};
+ghost use Rattle.ipmi_bus.specs.Answers.{FailsWith, ReserveAnswers, PartAnswers, ValueAnswers, SizeAnswers, BytesAnswers};
+ghost use Rattle.ipmi_image.specs.Image.{chained, first_id};
+ghost use Rattle.ipmi_image.specs.Stored.{row_of};
+ghost use Rattle.ipmi_image.specs.Responder.{seen_as, of_shelf, row_found, place_asked, IsCopied};
+
+use crate::image::Image;
+use crate::stored::{StoredRow, Table, sensor_key};
+use ipmi_bus::{Code, CodeClass, Event, FruSize, Part, Shelf, Tally};
+use ipmi_text::Reading;
+
+/// What was asked for is not there.
+const NOT_PRESENT: Code = Code(0xCB);
+
+/// The reservation was cancelled.
+const CANCELLED: Code = Code(0xC5);
+
+/// The parameter is out of range: there is no byte at the offset.
+const OUT_OF_RANGE: u8 = 0xC9;
+
+/// The most bytes that a part may have.
+pub(crate) const WHOLE: u8 = 254;
+
+/// A record with the next id that it has on its shelf.
+#[derive(Clone, Copy)]
+struct FoundRow<'a> {
+    id: u16,
+    next: u16,
+    bytes: &'a [u8],
+}
+
+/// The id of the record at the place, FFFFh where there is none.
+pub(crate) fn id_at(rows: &[StoredRow], place: usize) -> u16
+    ensures { result ≡ first_id (map row_of (drop place rows.now)) }
+{
+    match rows.get(place) {
+        Some(row) => row.id,
+        None => 0xFFFF,
+    }
+}
+
+/// The place of the record that the id asks for: 0000h asks for the first.
+fn place_of(rows: &Table<StoredRow>, id: u16) -> Option<usize>
+    ensures { result ≡ place_asked id rows.now }
+{
+    if id != 0 {
+        return rows.place(id);
+    }
+    if rows.as_slice().is_empty() {
+        return None;
+    }
+    Some(0)
+}
+
+/// The record, where this is the following one's id.
+fn found(row: &StoredRow, following: u16) -> FoundRow<'_>
+    ensures { row_found result ≡ record { id = row.now.id; next = unwrap_or row.now.next following; bytes = row.now.bytes.items } }
+{
+    FoundRow {
+        id: row.id,
+        next: row.next.unwrap_or(following),
+        bytes: row.bytes.as_slice(),
+    }
+}
+
+/// The record that the id asks for.
+fn look_up(rows: &Table<StoredRow>, id: u16) -> Option<FoundRow<'_>>
+    ensures { option_map row_found result ≡ look (chained (map row_of rows.now)) id }
+{
+    let place = place_of(rows, id)?;
+    let rows = rows.as_slice();
+    Some(found(&rows[place], id_at(rows, place + 1)))
+}
+
+/// Copies bytes from the offset on, as many as there is room for, and at most so many.
+fn copy_piece(bytes: &[u8], offset: usize, most: u8, into: &mut [u8]) -> Option<u8>
+    requires some { 0 < length into.old }
+    requires fits { length into.old < 255 }
+    requires one { 0 < most }
+    ensures { IsCopied bytes.now offset into.old into.new result }
+{
+    if offset >= bytes.len() {
+        return None;
+    }
+    let got = into.len().min(usize::from(most)).min(bytes.len() - offset);
+    into[..got].copy_from_slice(&bytes[offset..offset + got]);
+    Some(got as u8)
+}
+
+/// An image that answers calls, and counts them.
+#[derive(Drop)]
+pub(crate) struct Responder {
+    image: Image,
+    /// The last reservation's number.
+    given: u16,
+    sdr_reservation: Option<u16>,
+    sel_reservation: Option<u16>,
+    tally: Tally,
+}
+
+impl Responder {
+    /// An image that has given no reservation yet.
+    pub(crate) fn new(image: Image) -> Responder
+        ensures store { (plain : Bool) → (seen_as plain result).store ≡ image }
+        ensures none_current { (plain : Bool) → ((seen_as plain result).sdr_reservation ≡ None) × ((seen_as plain result).sel_reservation ≡ None) }
+    {
+        Responder {
+            image,
+            given: 0,
+            sdr_reservation: None,
+            sel_reservation: None,
+            tally: Tally::new(),
+        }
+    }
+
+    /// Forgets both reservations.
+    pub(crate) fn forget(&mut self)
+        ensures { self.new ≡ record self.old { sdr_reservation = None; sel_reservation = None } }
+    {
+        self.sdr_reservation = None;
+        self.sel_reservation = None;
+    }
+
+    /// Another image takes the place of this one, and no reservation stays.
+    pub(crate) fn change(&mut self, image: Image)
+        ensures store { IsStore self.new.image }
+        ensures changed { self.new.tally.counts ≡ record self.old.tally.counts { stores_added = self.old.tally.counts.stores_added + 1 } }
+        ensures forgotten { (self.new.sdr_reservation ≡ None) × (self.new.sel_reservation ≡ None) }
+    {
+        self.image = image;
+        self.forget();
+        self.tally.count(Event::Stored);
+    }
+
+    /// Counts a call that fails with this code, by its class.
+    pub(crate) fn fail(&mut self, code: Code) -> Code
+        ensures code { result ≡ code }
+        ensures same { self.new ≡ record self.old { tally = self.new.tally } }
+        ensures counted { self.new.tally.counts.calls ≡ self.old.tally.counts.calls + 1 }
+        ensures no_store { self.new.tally.counts.stores_added ≡ self.old.tally.counts.stores_added }
+        ensures counts { (plain : Bool) → FailsWith (Unit {0}) (Unit {0}) (class_of code.0) code.0 (seen_as plain self.old) (seen_as plain self.new) }
+    {
+        self.tally.count(Event::Called);
+        match code.class() {
+            CodeClass::Cancelled | CodeClass::Busy => self.tally.count(Event::Troubled),
+            CodeClass::SmallerPart => {}
+            CodeClass::NotPresent => self.tally.count(Event::Finished),
+            CodeClass::Refusal => self.tally.count(Event::Refused(code.0)),
+        }
+        code
+    }
+
+    /// Gives the next number, after FFFFh again 1.
+    pub(crate) fn reserve(&mut self, shelf: Shelf) -> u16
+        ensures counted { self.new.tally.counts.calls ≡ self.old.tally.counts.calls + 1 }
+        ensures answers { (plain : Bool) → IsHonest (seen_as plain self.old) → ReserveAnswers shelf (Ok result) (seen_as plain self.old) (seen_as plain self.new) }
+    {
+        self.tally.count(Event::Called);
+        let number = if self.given == 0xFFFF {
+            1
+        } else {
+            self.given + 1
+        };
+        self.given = number;
+        match shelf {
+            Shelf::Sdr => self.sdr_reservation = Some(number),
+            Shelf::Sel => self.sel_reservation = Some(number),
+        }
+        number
+    }
+
+    /// Whether bytes from the offset on may be asked for under the reservation: past the first byte it has to be
+    /// the last one given for the shelf.
+    fn is_reserved(&self, shelf: Shelf, reservation: u16, offset: u8) -> bool
+        ensures { MatchBool result (0 < offset → of_shelf shelf self.now.sdr_reservation self.now.sel_reservation ≡ Some reservation) ((0 < offset) × (of_shelf shelf self.now.sdr_reservation self.now.sel_reservation ≢ Some reservation)) }
+    {
+        let last = match shelf {
+            Shelf::Sdr => self.sdr_reservation,
+            Shelf::Sel => self.sel_reservation,
+        };
+        offset == 0 || last == Some(reservation)
+    }
+
+    /// Bytes of a record, at most so many.
+    pub(crate) fn part(
+        &mut self,
+        shelf: Shelf,
+        reservation: u16,
+        id: u16,
+        offset: u8,
+        most: u8,
+        into: &mut [u8],
+    ) -> Result<Part, Code>
+        requires some { 0 < length into.old }
+        requires fits { length into.old < 255 }
+        requires one { 0 < most }
+        ensures counted { self.new.tally.counts.calls ≡ self.old.tally.counts.calls + 1 }
+        ensures fits { IfOk result (λ part. part.got ≤ length into.old) }
+        ensures rest { IfOk result (λ part. drop part.got into.new ≡ drop part.got into.old) }
+        ensures err { OnErr result (into.new ≡ into.old) }
+        ensures answers { (plain : Bool) → IsHonest (seen_as plain self.old) →
+            PartAnswers (record { shelf = shelf; reservation = reservation; id = id; offset = offset; len = length into.old })
+            result into.new (seen_as plain self.old) (seen_as plain self.new) }
+    {
+        self.tally.count(Event::Called);
+        let is_reserved = self.is_reserved(shelf, reservation, offset);
+        let Some(row) = look_up(self.image.rows(shelf), id) else {
+            self.tally.count(Event::Finished);
+            return Err(NOT_PRESENT);
+        };
+        if !is_reserved {
+            self.tally.count(Event::Troubled);
+            return Err(CANCELLED);
+        }
+        let Some(got) = copy_piece(row.bytes, usize::from(offset), most, into) else {
+            self.tally.count(Event::Refused(OUT_OF_RANGE));
+            return Err(Code(OUT_OF_RANGE));
+        };
+        if usize::from(offset) + usize::from(got) == row.bytes.len() {
+            self.tally.count(Event::Finished);
+        }
+        Ok(Part {
+            next: row.next,
+            got,
+        })
+    }
+
+    /// The info of a shelf.
+    pub(crate) fn info(&mut self, shelf: Shelf) -> Result<[u8; 14], Code>
+        ensures counted { self.new.tally.counts.calls ≡ self.old.tally.counts.calls + 1 }
+        ensures answers { (plain : Bool) → IsHonest (seen_as plain self.old) → ValueAnswers (info_of shelf) result (seen_as plain self.old) (seen_as plain self.new) }
+    {
+        self.tally.count(Event::Called);
+        self.tally.count(Event::Finished);
+        self.image.info(shelf).ok_or(NOT_PRESENT)
+    }
+
+    /// The reading of a sensor.
+    pub(crate) fn reading(&mut self, lun: u8, number: u8) -> Result<Reading, Code>
+        ensures counted { self.new.tally.counts.calls ≡ self.old.tally.counts.calls + 1 }
+        ensures answers { (plain : Bool) → IsHonest (seen_as plain self.old) → ValueAnswers (reading_of lun number) result (seen_as plain self.old) (seen_as plain self.new) }
+    {
+        self.tally.count(Event::Called);
+        self.tally.count(Event::Finished);
+        self.image.reading(lun, number).ok_or(NOT_PRESENT)
+    }
+
+    /// The size of an inventory.
+    pub(crate) fn fru_size(&mut self, id: u8) -> Result<FruSize, Code>
+        ensures counted { self.new.tally.counts.calls ≡ self.old.tally.counts.calls + 1 }
+        ensures answers { (plain : Bool) → IsHonest (seen_as plain self.old) → SizeAnswers id result (seen_as plain self.old) (seen_as plain self.new) }
+    {
+        self.tally.count(Event::Called);
+        let Some(bytes) = self.image.inventory(id) else {
+            self.tally.count(Event::Finished);
+            return Err(NOT_PRESENT);
+        };
+        let size = bytes.len() as u16;
+        if size == 0 {
+            self.tally.count(Event::Finished);
+        }
+        Ok(FruSize { size, words: false })
+    }
+
+    /// Bytes of an inventory, at most so many.
+    pub(crate) fn fru_part(
+        &mut self,
+        id: u8,
+        offset: u16,
+        most: u8,
+        into: &mut [u8],
+    ) -> Result<u8, Code>
+        requires some { 0 < length into.old }
+        requires fits { length into.old < 255 }
+        requires one { 0 < most }
+        ensures counted { self.new.tally.counts.calls ≡ self.old.tally.counts.calls + 1 }
+        ensures fits { IfOk result (λ got. got ≤ length into.old) }
+        ensures rest { IfOk result (λ got. drop got into.new ≡ drop got into.old) }
+        ensures err { OnErr result (into.new ≡ into.old) }
+        ensures answers { (plain : Bool) → IsHonest (seen_as plain self.old) →
+            BytesAnswers id offset (length into.old) result into.new (seen_as plain self.old) (seen_as plain self.new) }
+    {
+        self.tally.count(Event::Called);
+        let Some(bytes) = self.image.inventory(id) else {
+            self.tally.count(Event::Finished);
+            return Err(NOT_PRESENT);
+        };
+        let Some(got) = copy_piece(bytes, usize::from(offset), most, into) else {
+            self.tally.count(Event::Refused(OUT_OF_RANGE));
+            return Err(Code(OUT_OF_RANGE));
+        };
+        if usize::from(offset) + usize::from(got) == bytes.len() {
+            self.tally.count(Event::Finished);
+        }
+        Ok(got)
+    }
+}

@@ -1,0 +1,229 @@
+//! The one text of version 2 that an image has.
+ghost use Rattle.std.specs.Prelude.{◌≡◌, ◌++◌, ◌∷◌, [], ◌≤◌, OnOk, IfOk, Ok, All, map, flat_map, drop, codes};
+ghost use Rattle.std.specs.Option.{unwrap_or};
+ghost use Rattle.hex.specs.Hex.{encode_lower};
+ghost use Rattle.ipmi_image.specs.Image.{chained, store_of_image};
+ghost use Rattle.ipmi_image.specs.Stored.{row_of, sensor_of, store_of};
+ghost use Rattle.ipmi_image.specs.Table as table;
+ghost use Rattle.ipmi_image.specs.Rewritten.{hex_of, next_field, row_fields, rows_lines, part_fields, inventory_lines, reading_fields, info_lines, other_lines, line_text, lines_text, image_text_of};
+
+use crate::image::{Contents, Image};
+use crate::responder::id_at;
+use crate::stored::{StoredInventory, StoredRow, StoredSensor};
+use ipmi_bus::Shelf;
+use std::alloc::{AllocError, Global};
+
+/// The most bytes of an inventory on one line.
+const PART: usize = 64;
+
+/// A text that grows.
+#[derive(Drop)]
+struct Text {
+    bytes: Vec<u8>,
+    alloc: Global,
+}
+
+impl Text {
+    /// Puts these bytes behind.
+    fn push(&mut self, bytes: &[u8]) -> Result<(), AllocError>
+        ensures { OnOk result (self.new.bytes.items ≡ self.old.bytes.items ++ bytes.now) }
+    {
+        self.bytes.extend_from_slice(bytes)?;
+        Ok(())
+    }
+
+    /// Puts the bytes in hex behind.
+    fn push_hex(&mut self, bytes: &[u8]) -> Result<(), AllocError>
+        ensures { OnOk result (self.new.bytes.items ≡ self.old.bytes.items ++ encode_lower bytes.now) }
+    {
+        let hex = hex::encode(self.alloc, bytes)?;
+        self.push(hex.as_bytes())
+    }
+
+    /// Puts a row's next id behind, a dash where it is the following row's.
+    fn push_next(&mut self, following: u16, next: u16) -> Result<(), AllocError>
+        ensures { OnOk result (self.new.bytes.items ≡ self.old.bytes.items ++ next_field following next) }
+    {
+        if next == following {
+            self.push(b"-")
+        } else {
+            self.push_hex(&next.to_be_bytes())
+        }
+    }
+
+    /// Puts the first word and the id of a row behind.
+    fn push_id(&mut self, word: &[u8], id: u16) -> Result<(), AllocError>
+        ensures { OnOk result (self.new.bytes.items ≡ self.old.bytes.items ++ (word.now ++ 32 ∷ (hex_of 2 id ++ 32 ∷ []))) }
+    {
+        self.push(word)?;
+        self.push(b" ")?;
+        self.push_hex(&id.to_be_bytes())?;
+        self.push(b" ")
+    }
+
+    /// Puts the next id and the bytes of a row behind, and a line feed.
+    fn push_rest(&mut self, following: u16, next: u16, bytes: &[u8]) -> Result<(), AllocError>
+        ensures { OnOk result (self.new.bytes.items ≡ self.old.bytes.items ++ (next_field following next ++ 32 ∷ (encode_lower bytes.now ++ 10 ∷ []))) }
+    {
+        self.push_next(following, next)?;
+        self.push(b" ")?;
+        self.push_hex(bytes)?;
+        self.push(b"\n")
+    }
+
+    /// Puts the line of a row behind.
+    #[tactic(auto, using(crate::proofs::RewriteLemmas::row_joined))]
+    fn push_row(&mut self, word: &[u8], following: u16, row: &StoredRow) -> Result<(), AllocError>
+        ensures { OnOk result (self.new.bytes.items ≡ self.old.bytes.items ++ line_text (row_fields word.now following (record { id = row.now.id; next = unwrap_or row.now.next following; bytes = row.now.bytes.items }))) }
+    {
+        self.push_id(word, row.id)?;
+        self.push_rest(following, row.next.unwrap_or(following), &row.bytes)
+    }
+
+    /// Puts the lines of a shelf behind.
+    fn push_rows(&mut self, word: &[u8], rows: &[StoredRow]) -> Result<(), AllocError>
+        ensures { OnOk result (self.new.bytes.items ≡ self.old.bytes.items ++ lines_text (rows_lines word.now (chained (map row_of rows.now)))) }
+    {
+        let mut place = 0;
+        'rows: while place < rows.len() {
+            self.push_row(word, id_at(rows, place + 1), &rows[place])?;
+            place += 1;
+        }
+        Ok(())
+    }
+
+    /// Puts the line of a part of an inventory behind.
+    fn push_part(&mut self, id: u8, part: &[u8]) -> Result<(), AllocError>
+        ensures { OnOk result (self.new.bytes.items ≡ self.old.bytes.items ++ line_text (part_fields id part.now)) }
+    {
+        self.push(b"fru ")?;
+        self.push_hex(&[id])?;
+        self.push(b" ")?;
+        self.push_hex(part)?;
+        self.push(b"\n")
+    }
+
+    /// Puts the lines of an inventory behind.
+    fn push_inventory(&mut self, id: u8, bytes: &[u8]) -> Result<(), AllocError>
+        ensures { OnOk result (self.new.bytes.items ≡ self.old.bytes.items ++ lines_text (inventory_lines (record { id = id; bytes = bytes.now }))) }
+    {
+        let mut rest = bytes;
+        'parts: while !rest.is_empty() {
+            let (part, after) = rest.split_at(PART.min(rest.len()));
+            self.push_part(id, part)?;
+            rest = after;
+        }
+        Ok(())
+    }
+
+    /// Puts the lines of all inventories behind.
+    fn push_inventories(&mut self, inventories: &[StoredInventory]) -> Result<(), AllocError>
+        ensures { OnOk result (self.new.bytes.items ≡ self.old.bytes.items ++ lines_text (flat_map inventory_lines (map table.inventory_of inventories.now))) }
+    {
+        let mut place = 0;
+        'inventories: while place < inventories.len() {
+            let inventory = &inventories[place];
+            self.push_inventory(inventory.id, &inventory.bytes)?;
+            place += 1;
+        }
+        Ok(())
+    }
+
+    /// Puts the one digit of a LUN behind.
+    fn push_lun(&mut self, lun: u8) -> Result<(), AllocError>
+        requires { lun ≤ 3 }
+        ensures { OnOk result (self.new.bytes.items ≡ self.old.bytes.items ++ drop 1 (hex_of 1 lun)) }
+    {
+        self.push(&[b'0' + lun])
+    }
+
+    /// Puts the LUN and the number of a sensor behind, and the word before them.
+    fn push_sensor(&mut self, lun: u8, number: u8) -> Result<(), AllocError>
+        requires { lun ≤ 3 }
+        ensures { OnOk result (self.new.bytes.items ≡ self.old.bytes.items ++ (codes "reading " ++ (drop 1 (hex_of 1 lun) ++ 32 ∷ (hex_of 1 number ++ 32 ∷ [])))) }
+    {
+        self.push(b"reading ")?;
+        self.push_lun(lun)?;
+        self.push(b" ")?;
+        self.push_hex(&[number])?;
+        self.push(b" ")
+    }
+
+    /// Puts the line of a reading behind.
+    fn push_reading(&mut self, sensor: &StoredSensor) -> Result<(), AllocError>
+        requires { sensor.now.lun ≤ 3 }
+        ensures { OnOk result (self.new.bytes.items ≡ self.old.bytes.items ++ line_text (reading_fields (sensor_of sensor.now))) }
+    {
+        let reading = &sensor.reading;
+        let bytes = [reading.raw, reading.flags, reading.status, reading.more];
+        self.push_sensor(sensor.lun, sensor.number)?;
+        self.push_hex(&bytes)?;
+        self.push(b"\n")
+    }
+
+    /// Puts the line of an info behind, where there is one.
+    fn push_info(&mut self, word: &[u8], info: Option<[u8; 14]>) -> Result<(), AllocError>
+        ensures { OnOk result (self.new.bytes.items ≡ self.old.bytes.items ++ lines_text (info_lines word.now info)) }
+    {
+        let Some(bytes) = info else {
+            return Ok(());
+        };
+        self.push(b"info ")?;
+        self.push(word)?;
+        self.push(b" ")?;
+        self.push_hex(&bytes)?;
+        self.push(b"\n")
+    }
+
+    /// Puts the lines of all readings behind.
+    fn push_readings(&mut self, sensors: &[StoredSensor]) -> Result<(), AllocError>
+        requires { All (λ sensor. sensor.lun ≤ 3) sensors.now }
+        ensures { OnOk result (self.new.bytes.items ≡ self.old.bytes.items ++ lines_text (map reading_fields (map sensor_of sensors.now))) }
+    {
+        let mut place = 0;
+        'sensors: while place < sensors.len() {
+            self.push_reading(&sensors[place])?;
+            place += 1;
+        }
+        Ok(())
+    }
+
+    /// Puts the lines of everything but the rows behind, and the last line.
+    fn push_others(&mut self, contents: &Contents) -> Result<(), AllocError>
+        requires { All (λ sensor. sensor.lun ≤ 3) contents.now.sensors }
+        ensures { OnOk result (self.new.bytes.items ≡ self.old.bytes.items ++ lines_text (other_lines (store_of contents.now))) }
+    {
+        self.push_inventories(contents.inventories.as_slice())?;
+        self.push_readings(contents.sensors.as_slice())?;
+        self.push_info(b"sdr", contents.sdr_info)?;
+        self.push_info(b"sel", contents.sel_info)?;
+        self.push(b"end\n")
+    }
+
+    /// Puts all lines behind.
+    fn push_image(&mut self, contents: &Contents) -> Result<(), AllocError>
+        requires { All (λ sensor. sensor.lun ≤ 3) contents.now.sensors }
+        ensures { OnOk result (self.new.bytes.items ≡ self.old.bytes.items ++ image_text_of (store_of contents.now)) }
+    {
+        self.push(b"ipmi-image 2\n")?;
+        self.push_rows(b"sdr", contents.sdr.as_slice())?;
+        self.push_rows(b"sel", contents.sel.as_slice())?;
+        self.push_others(contents)
+    }
+}
+
+/// The image as a text of version 2: rows of each shelf in their order, `sdr` first, then inventories in lines of at
+/// most 64 bytes, readings and infos; hex in lower case, and a dash for each next id that is the following row's, or
+/// FFFFh at the last row.
+pub fn image_text(alloc: Global, image: &Image) -> Result<Vec<u8>, AllocError>
+    ensures text { IfOk result (λ text. text.items ≡ image_text_of image.now) }
+    ensures again { IfOk result (λ text. store_of_image text.items ≡ Ok image.now) }
+{
+    let mut text = Text {
+        bytes: Vec::new(alloc),
+        alloc,
+    };
+    text.push_image(image.contents())?;
+    let Text { bytes, alloc: _ } = text;
+    Ok(bytes)
+}

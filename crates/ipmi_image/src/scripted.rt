@@ -1,0 +1,142 @@
+//! A management controller that follows a script.
+ghost use Rattle.std.specs.Prelude.{◌≡◌, None};
+ghost use Rattle.ipmi_bus.specs.Seen.{IsHonest};
+ghost use Rattle.ipmi_image.specs.Controllers.{script_seen, TurnCounts, Turns};
+
+use crate::image::Image;
+use crate::responder::{Responder, WHOLE};
+use ipmi_bus::{Code, CodeClass, Controller, FruSize, Part, Shelf};
+use ipmi_text::Reading;
+use std::vec::IntoIter;
+
+/// What a scripted controller makes of one call.
+#[derive(Drop)]
+pub enum Mood {
+    /// It answers plainly, with at most this many bytes; 0 counts as 1.
+    Grant(u8),
+    /// It forgets both reservations and answers C5h.
+    Cancel,
+    /// It answers C0h.
+    Busy,
+    /// It answers CAh where more than one byte was asked for, else plainly.
+    TooLong,
+    /// It answers this code, but plainly where the code is 00h or no refusal.
+    Refuse(Code),
+    /// Its store becomes this image's, it forgets both reservations, and then it answers plainly.
+    Change(Image),
+}
+
+/// What a mood makes of a call: the answer is still to come, with so many bytes at most, or the call has failed.
+enum Turn {
+    Answers(u8),
+    Failed(Code),
+}
+
+/// A controller over an image, of which each call, of any kind, uses up one mood. Once they are used up it answers
+/// as an `ImageController` does.
+#[derive(Drop)]
+pub struct Scripted {
+    responder: Responder,
+    moods: IntoIter<Mood>,
+}
+
+impl Scripted {
+    /// A controller that holds what the image does, with moods for its first calls. No reservation is current.
+    pub fn new(image: Image, moods: Vec<Mood>) -> Scripted
+        ensures honest { IsHonest (script_seen result) }
+        ensures store { (script_seen result).store ≡ image }
+        ensures none_current { ((script_seen result).sdr_reservation ≡ None) × ((script_seen result).sel_reservation ≡ None) }
+    {
+        Scripted {
+            responder: Responder::new(image),
+            moods: moods.into_iter(),
+        }
+    }
+
+    /// Uses up a mood on a call for so many bytes; a call for none of its own counts as one for one byte.
+    fn turn(&mut self, asked: usize) -> Turn
+        ensures counts { TurnCounts result (script_seen self.old) (script_seen self.new) }
+        ensures turns { IsHonest (script_seen self.old) → Turns asked result (script_seen self.old) (script_seen self.new) }
+    {
+        match self.moods.next() {
+            None => Turn::Answers(WHOLE),
+            Some(Mood::Grant(most)) => Turn::Answers(most.max(1)),
+            Some(Mood::Cancel) => {
+                self.responder.forget();
+                Turn::Failed(self.responder.fail(Code(0xC5)))
+            }
+            Some(Mood::Busy) => Turn::Failed(self.responder.fail(Code(0xC0))),
+            Some(Mood::TooLong) => {
+                if asked > 1 {
+                    return Turn::Failed(self.responder.fail(Code(0xCA)));
+                }
+                Turn::Answers(WHOLE)
+            }
+            Some(Mood::Refuse(code)) => {
+                if code.0 != 0 && code.class() == CodeClass::Refusal {
+                    return Turn::Failed(self.responder.fail(code));
+                }
+                Turn::Answers(WHOLE)
+            }
+            Some(Mood::Change(image)) => {
+                self.responder.change(image);
+                Turn::Answers(WHOLE)
+            }
+        }
+    }
+}
+
+impl Controller for Scripted {
+    ghost seen = { script_seen };
+
+    fn reserve(&mut self, shelf: Shelf) -> Result<u16, Code> {
+        match self.turn(1) {
+            Turn::Answers(_) => Ok(self.responder.reserve(shelf)),
+            Turn::Failed(code) => Err(code),
+        }
+    }
+
+    fn part(
+        &mut self,
+        shelf: Shelf,
+        reservation: u16,
+        id: u16,
+        offset: u8,
+        into: &mut [u8],
+    ) -> Result<Part, Code> {
+        match self.turn(into.len()) {
+            Turn::Answers(most) => self
+                .responder
+                .part(shelf, reservation, id, offset, most, into),
+            Turn::Failed(code) => Err(code),
+        }
+    }
+
+    fn info(&mut self, shelf: Shelf) -> Result<[u8; 14], Code> {
+        match self.turn(1) {
+            Turn::Answers(_) => self.responder.info(shelf),
+            Turn::Failed(code) => Err(code),
+        }
+    }
+
+    fn reading(&mut self, lun: u8, number: u8) -> Result<Reading, Code> {
+        match self.turn(1) {
+            Turn::Answers(_) => self.responder.reading(lun, number),
+            Turn::Failed(code) => Err(code),
+        }
+    }
+
+    fn fru_size(&mut self, id: u8) -> Result<FruSize, Code> {
+        match self.turn(1) {
+            Turn::Answers(_) => self.responder.fru_size(id),
+            Turn::Failed(code) => Err(code),
+        }
+    }
+
+    fn fru_part(&mut self, id: u8, offset: u16, into: &mut [u8]) -> Result<u8, Code> {
+        match self.turn(into.len()) {
+            Turn::Answers(most) => self.responder.fru_part(id, offset, most, into),
+            Turn::Failed(code) => Err(code),
+        }
+    }
+}

@@ -1,0 +1,156 @@
+//! What an image keeps, in the order of its lines, and an index to find it by.
+ghost use Rattle.std.specs.Prelude.{◌≡◌, ℕ, ◌==◌, ◌<◌, ◌++◌, ◌∷◌, [], List, None, OnOk, map, option_map, find, length};
+ghost use Rattle.ipmi_image.specs.Table.{place_of, sensor_key, inventory_of, longer_at};
+
+use ipmi_text::Reading;
+use std::alloc::{AllocError, Global};
+use std::collections::BTreeMap;
+use std::marker::Model;
+
+/// What is found by a number of its own.
+pub(crate) trait Keyed {
+    /// The number.
+    ghost key: { Self → ℕ };
+
+    /// The number that it is found by.
+    fn key(&self) -> u16
+        ensures { result ≡ key self.now };
+}
+
+/// A record of a shelf. Without a next id it has the following one's.
+#[derive(Debug, Drop)]
+pub(crate) struct StoredRow {
+    pub(crate) id: u16,
+    pub(crate) next: Option<u16>,
+    pub(crate) bytes: Vec<u8>,
+}
+
+impl Keyed for StoredRow {
+    ghost key = { λ row. row.id };
+
+    fn key(&self) -> u16 {
+        self.id
+    }
+}
+
+/// The inventory of a FRU device.
+#[derive(Debug, Drop)]
+pub(crate) struct StoredInventory {
+    pub(crate) id: u8,
+    pub(crate) bytes: Vec<u8>,
+}
+
+impl Keyed for StoredInventory {
+    ghost key = { λ inventory. inventory.id };
+
+    fn key(&self) -> u16 {
+        u16::from(self.id)
+    }
+}
+
+/// What a sensor answers.
+#[derive(Debug, Drop)]
+pub(crate) struct StoredSensor {
+    pub(crate) lun: u8,
+    pub(crate) number: u8,
+    pub(crate) reading: Reading,
+}
+
+impl Keyed for StoredSensor {
+    ghost key = { λ sensor. sensor_key sensor.lun sensor.number };
+
+    fn key(&self) -> u16 {
+        sensor_key(self.lun, self.number)
+    }
+}
+
+/// What a sensor is found by: its LUN in the high byte, its number in the low one.
+pub(crate) fn sensor_key(lun: u8, number: u8) -> u16
+    ensures { result ≡ sensor_key lun number }
+{
+    u16::from_be_bytes([lun, number])
+}
+
+/// Items in their order, found by their keys in logarithmic time.
+#[derive(Drop)]
+pub(crate) struct Table<T: Keyed + Drop> {
+    items: Vec<T>,
+    /// The place of each key's item.
+    places: BTreeMap<u16, usize>,
+}
+
+impl<T: Keyed + Drop> Model for Table<T> {
+    ghost use Rattle.std.specs.Prelude.{◌≡◌, ℕ, List};
+    ghost use Rattle.std.specs.Ordering.{nat_cmp};
+    ghost use Rattle.std.specs.BTreeMap.{get};
+    ghost use Rattle.ipmi_image.specs.Table.{place_of};
+
+    ghost Value = { List T };
+
+    ghost view = { λ t. t.items.items };
+
+    ghost invariant = { λ t. (q : ℕ) → get nat_cmp t.places q ≡ place_of T.key q t.items.items };
+}
+
+impl<T: Keyed + Drop> Table<T> {
+    /// No items yet.
+    pub(crate) fn new(alloc: Global) -> Table<T>
+        ensures { result ≡ [] }
+    {
+        Table {
+            items: Vec::new(alloc),
+            places: BTreeMap::new(alloc),
+        }
+    }
+
+    /// The items, in their order.
+    pub(crate) fn as_slice(&self) -> &[T]
+        ensures { result.now ≡ self.now }
+    {
+        self.items.as_slice()
+    }
+
+    /// The place of the item with this key.
+    pub(crate) fn place(&self, key: u16) -> Option<usize>
+        ensures { result ≡ place_of T.key key self.now }
+    {
+        self.places.get(&key).copied()
+    }
+
+    /// The item with this key.
+    #[tactic(auto, using(crate::proofs::TableLemmas::found_at))]
+    pub(crate) fn get(&self, key: u16) -> Option<&T>
+        ensures { option_map (λ item. item.now) result ≡ find (λ item. T.key item == key) self.now }
+    {
+        let place = self.place(key)?;
+        Some(&self.items[place])
+    }
+
+    /// Puts an item with a new key at the end.
+    pub(crate) fn push(&mut self, item: T) -> Result<(), AllocError>
+        requires { place_of T.key (T.key item) self.old ≡ None }
+        ensures ok { OnOk result (self.new ≡ self.old ++ item ∷ []) }
+    {
+        let key = item.key();
+        let place = self.items.len();
+        self.items.push(item)?;
+        match self.places.insert(key, place) {
+            Ok(_) => Ok(()),
+            Err(_) => {
+                self.items.pop();
+                Err(AllocError)
+            }
+        }
+    }
+}
+
+impl Table<StoredInventory> {
+    /// Puts the bytes behind those of the inventory at this place.
+    pub(crate) fn append(&mut self, place: usize, bytes: &[u8]) -> Result<(), AllocError>
+        requires { place < length self.old }
+        ensures ok { OnOk result (map inventory_of self.new ≡ longer_at place bytes.now (map inventory_of self.old)) }
+    {
+        self.items[place].bytes.extend_from_slice(bytes)?;
+        Ok(())
+    }
+}

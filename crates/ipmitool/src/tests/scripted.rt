@@ -1,0 +1,109 @@
+use super::controllers::Counting;
+use super::listed::{Left, THREE_LINES, THREE_ROWS, listed};
+use ipmi_bus::Code;
+use ipmi_image::{Image, Mood, Scripted};
+use std::alloc::{AllocError, Global};
+use std::test::Fail;
+
+/// `THREE_ROWS` with another second row, as long as the first one.
+const CHANGED_ROWS: &[u8] =
+    b"ipmi-image 1\nsdr 0001 0002 010051c001aa\nsdr 0002 0003 020051c102ddee\nsdr 0003 ffff 030051c000\nend\n";
+
+const CHANGED_LINES: &[u8] =
+    b"sdr 0001 0002 010051c001aa\nsdr 0002 0003 020051c102ddee\nsdr 0003 ffff 030051c000\n";
+
+// The mood that a letter stands for. A dot grants all, `1` one byte; `N` changes the second row, and `E` leaves no row.
+fn mood(alloc: Global, letter: u8) -> Result<Mood, Fail> {
+    Ok(match letter {
+        b'1' => Mood::Grant(1),
+        b'C' => Mood::Cancel,
+        b'L' => Mood::TooLong,
+        b'R' => Mood::Refuse(Code(0xD4)),
+        b'N' => Mood::Change(Image::read(alloc, CHANGED_ROWS)?),
+        b'E' => Mood::Change(Image::read(alloc, b"ipmi-image 1\nend\n")?),
+        _ => Mood::Grant(254),
+    })
+}
+
+// What a listing of the three rows leaves whose calls meet these moods.
+fn met(alloc: Global, tries: u8, letters: &[u8]) -> Result<Left, Fail> {
+    let mut moods = Vec::new(alloc);
+    for letter in letters {
+        moods.push(mood(alloc, *letter)?).map_err(AllocError::from)?;
+    }
+    let image = Image::read(alloc, THREE_ROWS)?;
+    let ctl = Counting::new(Scripted::new(image, moods));
+    Ok(listed(alloc, ctl, tries))
+}
+
+// After the reservation each byte takes a call where one byte is granted: six, seven and five calls. Where the first
+// five bytes are too long for a part, the part size falls from 32 to 2 for good.
+#[test]
+fn moods_that_a_listing_outlives(rt: HostRuntime) -> Result<(), Fail> {
+    let cases = [
+        (5, b"1111111111111111111".as_slice(), 19),
+        (5, b".L", 13),
+        (2, b"....C..C...C.C..", 16),
+    ];
+    for (tries, letters, calls) in cases {
+        let left = met(rt.alloc(), tries, letters)?;
+        assert_eq!(rt; left.out.as_slice(), THREE_LINES);
+        assert_eq!(rt; left.err.len(), 0);
+        assert_eq!(rt; (left.status, left.calls), (0, calls));
+    }
+    Ok(())
+}
+
+// The second record is cancelled three times over, with two tries, or refused.
+#[test]
+fn moods_that_end_a_listing(rt: HostRuntime) -> Result<(), Fail> {
+    let cases = [
+        (
+            b"....C..C..C".as_slice(),
+            b"gave up at 0002h\n".as_slice(),
+            11,
+        ),
+        (b"...R", b"record 0002h refused with code D4h\n", 4),
+    ];
+    for (letters, said, calls) in cases {
+        let left = met(rt.alloc(), 2, letters)?;
+        assert_eq!(rt; left.out.as_slice(), &THREE_LINES[..27]);
+        assert_eq!(rt; left.err.as_slice(), said);
+        assert_eq!(rt; (left.status, left.calls), (1, calls));
+    }
+    Ok(())
+}
+
+// The fourth call asks for the second record's header and the fifth for the bytes behind it. No record is made of bytes
+// from before a change and from after it.
+#[test]
+fn an_image_that_changes(rt: HostRuntime) -> Result<(), Fail> {
+    let cases = [
+        (5, b"....N".as_slice(), CHANGED_LINES, b"".as_slice(), 0, 9),
+        (5, b"...N", CHANGED_LINES, b"", 0, 9),
+        (
+            5,
+            b"...E",
+            &CHANGED_LINES[..27],
+            b"record 0002h not present\n",
+            1,
+            4,
+        ),
+        (5, b"E", b"", b"", 0, 2),
+        (
+            0,
+            b"....N",
+            &CHANGED_LINES[..27],
+            b"gave up at 0002h\n",
+            1,
+            5,
+        ),
+    ];
+    for (tries, letters, out, said, status, calls) in cases {
+        let left = met(rt.alloc(), tries, letters)?;
+        assert_eq!(rt; left.out.as_slice(), out);
+        assert_eq!(rt; left.err.as_slice(), said);
+        assert_eq!(rt; (left.status, left.calls), (status, calls));
+    }
+    Ok(())
+}
