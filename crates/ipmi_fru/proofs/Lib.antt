@@ -1,0 +1,5 @@
+pub mod AreaLemmas
+pub mod FieldLemmas
+pub mod RecordLemmas
+pub mod UniqueLemmas
+pub mod PrintLemmas

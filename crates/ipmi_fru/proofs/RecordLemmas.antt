@@ -1,0 +1,100 @@
+-- The records of the multirecord area, one after the other.
+use Rattle.std.proofs.Common.{◌≡◌, ℕ, zero, suc, ◌+◌, ◌<◌, ◌≤◌, Bool, true, false, cond, not, nat_lt, Option, None, Some, Result, Ok, Err, List, [], ◌∷◌, length, drop, take, slice_index, refl, sym, ap, subst, ◌∙◌, arith}
+use Rattle.std.proofs.lemmas.List.{length-drop}
+use Rattle.std.proofs.lemmas.Bool.Decides.{nat_tests}
+use Rattle.ipmi_fru.specs.declared.multirecord.MultiFault.{MultiFault}
+use Rattle.ipmi_fru.specs.declared.multirecord.MultiFault.TheVariants as fault
+use Rattle.ipmi_fru.specs.Header.{is_zero_sum, offset_of, records_place}
+use Rattle.ipmi_fru.specs.Multirecord.{MultiRecord, RecordsEnd, ContinuesBy, IsRecordList, AreRecordsAt, HasItems, items_of, data_in, record_in, record_fault, behind_record, items_by, items_from, items_in}
+
+-- more steps than there are bytes change nothing
+pub items_enough : (n m : ℕ) (bytes : List ℕ) → length bytes < n → length bytes < m → items_from n bytes ≡ items_from m bytes
+items_enough zero m bytes a b = absurd (omega (arith, a))
+items_enough (suc n) zero bytes a b = absurd (omega (arith, b))
+items_enough (suc n) (suc m) [] a b = refl
+items_enough (suc n) (suc m) (byte ∷ bytes) a b =
+    let left = length-drop (5 + slice_index (byte ∷ bytes) 2) (byte ∷ bytes) in
+    ap (items_by (record_fault (byte ∷ bytes)) (record_in (byte ∷ bytes))) (items_enough n m (behind_record (byte ∷ bytes)) (omega (arith, left, a)) (omega (arith, left, b)))
+
+module _ (bytes : List ℕ) where
+  pub items_fault : (f : MultiFault) → record_fault bytes ≡ Some f → items_in bytes ≡ Err f ∷ []
+  items_fault f is = ap (λ (o : Option MultiFault). items_by o (record_in bytes) (items_from (length bytes) (behind_record bytes))) is
+
+  pub items_last : record_fault bytes ≡ None → (r : MultiRecord) → r ≡ record_in bytes → r.last ≡ true → items_in bytes ≡ Ok r ∷ []
+  items_last fine r is last =
+      ap (λ (o : Option MultiFault). items_by o (record_in bytes) (items_from (length bytes) (behind_record bytes))) fine
+      ∙ ap (λ (r : MultiRecord). items_by None r (items_from (length bytes) (behind_record bytes))) (sym is)
+      ∙ ap (λ (b : Bool). Ok r ∷ cond b [] (items_from (length bytes) (behind_record bytes))) last
+
+  pub items_more : record_fault bytes ≡ None → (r : MultiRecord) (rest : List ℕ) → r ≡ record_in bytes → rest ≡ behind_record bytes → r.last ≡ false → length rest < length bytes → items_in bytes ≡ Ok r ∷ items_in rest
+  items_more fine r rest is rest_is last shorter =
+      let more = items_from (length bytes) (behind_record bytes) in
+      ap (λ (o : Option MultiFault). items_by o (record_in bytes) more) fine
+      ∙ ap (λ (r : MultiRecord). items_by None r more) (sym is)
+      ∙ ap (λ (b : Bool). Ok r ∷ cond b [] more) last
+      ∙ ap (λ (l : List ℕ). Ok r ∷ items_from (length bytes) l) (sym rest_is)
+      ∙ ap (λ (l : List (Result MultiRecord MultiFault)). Ok r ∷ l) (items_enough (length bytes) (suc (length rest)) rest shorter (omega arith))
+
+-- ---- the items that are found are those of the one list of records
+
+-- a list of records with these items
+pub record IsListed (bytes : List ℕ) (items : List (Result MultiRecord MultiFault)) : Type 0 where
+  pub records : List MultiRecord
+  pub end : RecordsEnd
+  pub is_list : IsRecordList bytes records end
+  pub items_are : items ≡ items_of records end
+
+pub enough_bytes : (bytes : List ℕ) → record_fault bytes ≡ None → 5 ≤ length bytes
+enough_bytes bytes fine = by (nat_lt (length bytes) 5) refl fine
+  where
+    by : (t : Bool) → nat_lt (length bytes) 5 ≡ t
+        → cond t (Some fault.Outside) (cond (not (is_zero_sum (take 5 bytes))) (Some fault.HeaderSum) (cond (nat_lt (length bytes) (5 + slice_index bytes 2)) (Some fault.Outside) (cond (not (is_zero_sum (slice_index bytes 3 ∷ data_in bytes))) (Some fault.DataSum) None))) ≡ None
+        → 5 ≤ length bytes
+    by true is e = cc e
+    by false is e = grind (arith, nat_tests)
+
+listed : (n : ℕ) (bytes : List ℕ) → length bytes < n → IsListed bytes (items_from n bytes)
+listed zero bytes lt = absurd (omega (arith, lt))
+listed (suc n) bytes lt = by (λ shorter. listed n (behind_record bytes) shorter) (record_fault bytes) refl
+  where
+    r : MultiRecord
+    r = record_in bytes
+
+    last_or_more : (length (behind_record bytes) < n → IsListed (behind_record bytes) (items_from n (behind_record bytes))) → record_fault bytes ≡ None → (last : Bool) → r.last ≡ last → IsListed bytes (Ok r ∷ cond last [] (items_from n (behind_record bytes)))
+    last_or_more ih fine true is = record {
+      records = r ∷ [];
+      end = None;
+      is_list = (fine, (refl, subst (λ (b : Bool). ContinuesBy b [] None (IsRecordList (behind_record bytes) [] None)) (sym is) (refl, refl)));
+      items_are = refl;
+    }
+    last_or_more ih fine false is =
+        let left = length-drop (5 + slice_index bytes 2) bytes in
+        let some = enough_bytes bytes fine in
+        let more = ih (omega (arith, left, some, lt)) in
+        record {
+          records = r ∷ more.records;
+          end = more.end;
+          is_list = (fine, (refl, subst (λ (b : Bool). ContinuesBy b more.records more.end (IsRecordList (behind_record bytes) more.records more.end)) (sym is) more.is_list));
+          items_are = ap (λ (l : List (Result MultiRecord MultiFault)). Ok r ∷ l) more.items_are;
+        }
+
+    by : (length (behind_record bytes) < n → IsListed (behind_record bytes) (items_from n (behind_record bytes))) → (o : Option MultiFault) → record_fault bytes ≡ o → IsListed bytes (items_by o r (items_from n (behind_record bytes)))
+    by ih (Some f) is = record { records = []; end = Some f; is_list = is; items_are = refl }
+    by ih None is = last_or_more ih is r.last refl
+
+pub all_listed : (bytes : List ℕ) → IsListed bytes (items_in bytes)
+all_listed bytes = listed (suc (length bytes)) bytes (omega arith)
+
+pub some_items : (bytes part : List ℕ) (items : List (Result MultiRecord MultiFault)) (offset : ℕ) → offset_of records_place bytes ≡ Some offset → part ≡ drop offset bytes → items ≡ items_in part → HasItems bytes items
+some_items bytes part items offset is part_is items_are =
+    let found = all_listed (drop offset bytes) in
+    record {
+      records = found.records;
+      end = found.end;
+      are_records = subst (λ (o : Option ℕ). AreRecordsAt o bytes found.records found.end) (sym is) found.is_list;
+      items_are = items_are ∙ ap items_in part_is ∙ found.items_are;
+    }
+
+pub no_items : (bytes : List ℕ) (items : List (Result MultiRecord MultiFault)) → offset_of records_place bytes ≡ None → items ≡ [] → HasItems bytes items
+no_items bytes items is items_are =
+    record { records = []; end = None; are_records = subst (λ (o : Option ℕ). AreRecordsAt o bytes [] None) (sym is) (refl, refl); items_are = items_are }

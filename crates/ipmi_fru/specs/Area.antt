@@ -1,0 +1,139 @@
+-- The chassis, board and product areas (Platform Management FRU Information Storage Definition v1.0, sections 10 to 12), and
+-- the type/length bytes of their fields (section 13).
+use Rattle.std.specs.Prelude.{◌≡◌, ◌≢◌, ℕ, zero, suc, ◌<◌, ◌+◌, ◌-◌, ◌*◌, ◌/◌, ◌%◌, ◌==◌, nat_lt, not, if◌then◌else◌, ◌⊎◌, IsTrue, is_some, Option, Some, None, option_map, unwrap_or, Result, Ok, Err, List, [], ◌∷◌, ◌++◌, length, take, drop, slice_index}
+use Rattle.ipmi_fru.specs.declared.area.AreaKind.{AreaKind}
+use Rattle.ipmi_fru.specs.declared.area.AreaKind.TheVariants.{Chassis, Board, Product}
+use Rattle.ipmi_fru.specs.declared.area.AreaFault.{AreaFault}
+use Rattle.ipmi_fru.specs.declared.area.AreaFault.TheVariants as fault
+use Rattle.ipmi_fru.specs.declared.area.Field.{Field}
+use Rattle.ipmi_fru.specs.declared.area.Beginning.{Beginning}
+use Rattle.ipmi_fru.specs.declared.area.Beginning.TheVariants as beginning
+use Rattle.ipmi_fru.specs.Header.{is_zero_sum, version_in, offset_of}
+
+-- ---- fields
+
+-- bits 7:6 of its type/length byte, and its data
+pub record AreaField : Type 0 where
+  pub code : ℕ
+  pub bytes : List ℕ
+
+-- bytes that begin with a field: a type/length byte other than C1h, and as many bytes as its bits 5:0 say; then the rest
+pub record BeginsWithField (bytes : List ℕ) (field : AreaField) (rest : List ℕ) : Type 0 where
+  pub type_length : ℕ
+  pub is_no_end : type_length ≢ 0xc1
+  pub code_is : field.code ≡ type_length / 64
+  pub length_is : length field.bytes ≡ type_length % 64
+  pub bytes_are : bytes ≡ type_length ∷ (field.bytes ++ rest)
+
+-- no bytes are left, or C1h comes; that the bytes may just run out is the project's own
+abbrev pub EndsFields : List ℕ → Type 0
+EndsFields [] = Unit {0}
+EndsFields (byte ∷ bytes) = byte ≡ 0xc1
+
+-- the bytes spell these fields, one after the other
+abbrev pub Spells : List ℕ → List AreaField → Type 0
+Spells bytes [] = EndsFields bytes
+Spells bytes (field ∷ fields) = (rest : List ℕ) × (BeginsWithField bytes field rest × Spells rest fields)
+
+-- the field that a type/length byte and the bytes behind it are
+abbrev pub field_in : ℕ → List ℕ → AreaField
+field_in type_length bytes = record { code = type_length / 64; bytes = take (type_length % 64) bytes }
+
+-- the fields that bytes spell, at most n, or none where they spell no list
+abbrev pub fields_from : ℕ → List ℕ → Option (List AreaField)
+fields_from n [] = Some []
+fields_from zero (byte ∷ bytes) = None
+fields_from (suc n) (byte ∷ bytes) =
+    if byte == 0xc1 then Some []
+    else if nat_lt (length bytes) (byte % 64) then None
+    else option_map (λ fields. field_in byte bytes ∷ fields) (fields_from n (drop (byte % 64) bytes))
+
+-- with as many steps as there are bytes
+abbrev pub fields_in : List ℕ → Option (List AreaField)
+fields_in bytes = fields_from (length bytes) bytes
+
+-- ---- areas
+
+-- the place of the area's offset in the header
+abbrev pub place_of : AreaKind → ℕ
+place_of Chassis = 2
+place_of Board = 3
+place_of Product = 4
+
+-- how many bytes stand between the length byte and the first field. Chassis: its type; board: the language and three bytes of
+-- the date; product: the language
+abbrev pub head_len : AreaKind → ℕ
+head_len Chassis = 1
+head_len Board = 4
+head_len Product = 1
+
+-- the area from an offset on: its second byte says its length in units of eight bytes
+abbrev pub area_at : ℕ → List ℕ → List ℕ
+area_at offset bytes = take (8 * slice_index bytes (offset + 1)) (drop offset bytes)
+
+-- the bytes between the length byte and the first field
+abbrev pub head_of : AreaKind → List ℕ → List ℕ
+head_of kind area = take (head_len kind) (drop 2 area)
+
+-- the bytes between the head and the checksum, which is the last byte
+abbrev pub field_bytes : AreaKind → List ℕ → List ℕ
+field_bytes kind area = drop (2 + head_len kind) (take (length area - 1) area)
+
+-- why the bytes from an offset on are no area, whatever its fields are
+abbrev pub area_fault : ℕ → List ℕ → Option AreaFault
+area_fault offset bytes =
+    if nat_lt (length bytes) (offset + 2) then Some fault.Outside
+    else if not (version_in (slice_index bytes offset) == 1) then Some fault.Version
+    else if slice_index bytes (offset + 1) == 0 then Some fault.Length
+    else if nat_lt (length bytes) (offset + 8 * slice_index bytes (offset + 1)) then Some fault.Outside
+    else if not (is_zero_sum (area_at offset bytes)) then Some fault.Sum
+    else None
+
+-- an area as it is seen: its kind, its bytes and its fields
+pub record Area : Type 0 where
+  pub kind : AreaKind
+  pub bytes : List ℕ
+  pub fields : List AreaField
+
+-- the area of this kind that begins at the offset
+pub record IsArea (kind : AreaKind) (offset : ℕ) (bytes : List ℕ) (area : Area) : Type 0 where
+  pub fine : area_fault offset bytes ≡ None
+  pub kind_is : area.kind ≡ kind
+  pub bytes_are : area.bytes ≡ area_at offset bytes
+  pub fields_are : Spells (field_bytes kind area.bytes) area.fields
+
+-- no list of fields is spelt by the bytes between the head and the checksum
+pub record HasFieldPastEnd (kind : AreaKind) (offset : ℕ) (bytes : List ℕ) : Type 0 where
+  pub fine : area_fault offset bytes ≡ None
+  pub no_list : (fields : List AreaField) → Spells (field_bytes kind (area_at offset bytes)) fields → ⊥
+
+-- why there is no area at the offset
+abbrev pub IsAreaFault : AreaKind → ℕ → List ℕ → AreaFault → Type 0
+IsAreaFault kind offset bytes f = (area_fault offset bytes ≡ Some f) ⊎ (HasFieldPastEnd kind offset bytes × (f ≡ fault.FieldPastEnd))
+
+-- ---- how the fields are found
+
+-- a field as it is seen
+abbrev pub field_of : Field → AreaField
+field_of f = record { code = f.code; bytes = f.bytes.now }
+
+-- the bytes that spell these fields, or none, begin so
+abbrev pub Begins : List ℕ → Beginning → Type 0
+Begins bytes beginning.End = fields_in bytes ≡ Some []
+Begins bytes beginning.PastEnd = fields_in bytes ≡ None
+Begins bytes (beginning.Field f rest) = (fields_in bytes ≡ option_map (λ fields. field_of f ∷ fields) (fields_in rest.now)) × ((f.code < 4) × (length rest.now < length bytes))
+
+-- an area with the fields that are found in it
+abbrev pub area_in : AreaKind → List ℕ → Area
+area_in kind bytes = record { kind = kind; bytes = bytes; fields = unwrap_or (fields_in (field_bytes kind bytes)) [] }
+
+-- it has at least a head and a checksum, and fields are found in it
+pub record HasFields (kind : AreaKind) (bytes : List ℕ) : Type 0 where
+  pub room : 2 + head_len kind < length bytes
+  pub found : IsTrue (is_some (fields_in (field_bytes kind bytes)))
+
+-- what an inventory has of a kind: no area, an area, or a fault
+abbrev pub IsFound : AreaKind → List ℕ → Option (Result Area AreaFault) → Type 0
+IsFound kind bytes None = offset_of (place_of kind) bytes ≡ None
+IsFound kind bytes (Some (Ok area)) = (offset : ℕ) × ((offset_of (place_of kind) bytes ≡ Some offset) × IsArea kind offset bytes area)
+IsFound kind bytes (Some (Err f)) = (offset : ℕ) × ((offset_of (place_of kind) bytes ≡ Some offset) × IsAreaFault kind offset bytes f)

@@ -1,0 +1,29 @@
+-- The zero checksum, and the common header (Platform Management FRU Information Storage Definition v1.0, section 8).
+use Rattle.std.specs.Prelude.{ℕ, ◌*◌, ◌%◌, ◌==◌, nat_lt, not, Bool, if◌then◌else◌, Option, Some, None, List, length, take, slice_index, sum}
+use Rattle.ipmi_fru.specs.declared.header.FruFault.{FruFault}
+use Rattle.ipmi_fru.specs.declared.header.FruFault.TheVariants as fault
+
+-- the sum of the bytes is a multiple of 256
+abbrev pub is_zero_sum : List ℕ → Bool
+is_zero_sum bytes = sum bytes % 256 == 0
+
+-- the format version of a header or an area, bits 3:0 of its first byte
+abbrev pub version_in : ℕ → ℕ
+version_in byte = byte % 16
+
+-- why bytes are no inventory: too few for a header, another version, a header that does not sum to zero, in this order
+abbrev pub header_fault : List ℕ → Option FruFault
+header_fault bytes =
+    if nat_lt (length bytes) 8 then Some fault.Short
+    else if not (version_in (slice_index bytes 0) == 1) then Some fault.HeaderVersion
+    else if not (is_zero_sum (take 8 bytes)) then Some fault.HeaderSum
+    else None
+
+-- The header's bytes: version, the offsets of internal use, chassis, board, product and records, pad, checksum.
+-- the place of the offset of the records
+abbrev pub records_place : ℕ
+records_place = 5
+
+-- where the area begins whose offset has this place in the header: offsets are in units of eight bytes, and 0 is no area
+abbrev pub offset_of : ℕ → List ℕ → Option ℕ
+offset_of place bytes = if slice_index bytes place == 0 then None else Some (8 * slice_index bytes place)

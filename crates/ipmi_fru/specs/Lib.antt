@@ -1,0 +1,4 @@
+pub mod Area
+pub mod Header
+pub mod Multirecord
+pub mod Print

@@ -1,0 +1,113 @@
+-- The multirecord area (Platform Management FRU Information Storage Definition v1.0, section 16).
+use Rattle.std.specs.Prelude.{◌≡◌, ℕ, zero, suc, ◌+◌, ◌%◌, nat_le, nat_lt, not, Bool, true, false, if◌then◌else◌, Option, Some, None, Result, Ok, Err, List, [], ◌∷◌, length, take, drop, slice_index}
+use Rattle.ipmi_fru.specs.declared.multirecord.MultiFault.{MultiFault}
+use Rattle.ipmi_fru.specs.declared.multirecord.MultiFault.TheVariants as fault
+use Rattle.ipmi_fru.specs.declared.multirecord.MultiView.{MultiView}
+use Rattle.ipmi_fru.specs.declared.multirecord.Records.{Records}
+use Rattle.std.specs.Borrow.{Bor}
+use Rattle.ipmi_fru.specs.Header.{is_zero_sum, offset_of, records_place}
+
+-- a record: its type, the version of its format, whether it is the last one, its data
+pub record MultiRecord : Type 0 where
+  pub kind : ℕ
+  pub version : ℕ
+  pub last : Bool
+  pub bytes : List ℕ
+
+-- a record's data stand behind the five bytes of its header, of which the third is their number
+abbrev pub data_in : List ℕ → List ℕ
+data_in bytes = take (slice_index bytes 2) (drop 5 bytes)
+
+-- what stands behind the record
+abbrev pub behind_record : List ℕ → List ℕ
+behind_record bytes = drop (5 + slice_index bytes 2) bytes
+
+-- the record that bytes begin with
+abbrev pub record_in : List ℕ → MultiRecord
+record_in bytes = record {
+  kind = slice_index bytes 0;
+  version = slice_index bytes 1 % 16;
+  last = nat_le 128 (slice_index bytes 1);
+  bytes = data_in bytes;
+}
+
+-- why bytes do not begin with a record; the fourth byte is the checksum of the data
+abbrev pub record_fault : List ℕ → Option MultiFault
+record_fault bytes =
+    if nat_lt (length bytes) 5 then Some fault.Outside
+    else if not (is_zero_sum (take 5 bytes)) then Some fault.HeaderSum
+    else if nat_lt (length bytes) (5 + slice_index bytes 2) then Some fault.Outside
+    else if not (is_zero_sum (slice_index bytes 3 ∷ data_in bytes)) then Some fault.DataSum
+    else None
+
+-- how a list of records ends: with the last record, or with the first fault
+abbrev pub RecordsEnd : Type 0
+RecordsEnd = Option MultiFault
+
+-- the last record ends the list without a fault, whatever bytes follow; behind any other the list goes on
+abbrev pub ContinuesBy : Bool → List MultiRecord → RecordsEnd → Type 0 → Type 0
+ContinuesBy true records end more = (records ≡ []) × (end ≡ None)
+ContinuesBy false records end more = more
+
+-- the bytes are these records, one after the other, and the list ends so
+abbrev pub IsRecordList : List ℕ → List MultiRecord → RecordsEnd → Type 0
+IsRecordList bytes [] None = ⊥
+IsRecordList bytes [] (Some f) = record_fault bytes ≡ Some f
+IsRecordList bytes (r ∷ records) end =
+    (record_fault bytes ≡ None) × ((r ≡ record_in bytes) × ContinuesBy r.last records end (IsRecordList (behind_record bytes) records end))
+
+-- the records from an offset on, where there is one; without one no records and no fault
+abbrev pub AreRecordsAt : Option ℕ → List ℕ → List MultiRecord → RecordsEnd → Type 0
+AreRecordsAt None bytes records end = (records ≡ []) × (end ≡ None)
+AreRecordsAt (Some offset) bytes records end = IsRecordList (drop offset bytes) records end
+
+-- the records, and behind them the fault, if there is one
+abbrev pub items_of : List MultiRecord → RecordsEnd → List (Result MultiRecord MultiFault)
+items_of [] None = []
+items_of [] (Some f) = Err f ∷ []
+items_of (r ∷ records) end = Ok r ∷ items_of records end
+
+-- two lists of records with their ends are the same
+pub record SameList (a b : List MultiRecord) (e f : RecordsEnd) : Type 0 where
+  pub records : a ≡ b
+  pub ends : e ≡ f
+
+-- ---- how the records are found
+
+-- what bytes begin with: a fault, or a record and what comes behind it where it is not the last
+abbrev pub items_by : Option MultiFault → MultiRecord → List (Result MultiRecord MultiFault) → List (Result MultiRecord MultiFault)
+items_by (Some f) r more = Err f ∷ []
+items_by None r more = Ok r ∷ (if r.last then [] else more)
+
+-- with at most n of them
+abbrev pub items_from : ℕ → List ℕ → List (Result MultiRecord MultiFault)
+items_from zero bytes = []
+items_from (suc n) bytes = items_by (record_fault bytes) (record_in bytes) (items_from n (behind_record bytes))
+
+-- no more of them than bytes and one
+abbrev pub items_in : List ℕ → List (Result MultiRecord MultiFault)
+items_in bytes = items_from (suc (length bytes)) bytes
+
+-- a record as it is seen
+abbrev pub record_of : MultiView → MultiRecord
+record_of view = record { kind = view.kind; version = view.version; last = view.last; bytes = view.bytes.now }
+
+-- an item as it is seen
+abbrev pub item_of : Result MultiView MultiFault → Result MultiRecord MultiFault
+item_of (Ok view) = Ok (record_of view)
+item_of (Err f) = Err f
+
+abbrev pub items_after : Option (Bor (List ℕ)) → List (Result MultiRecord MultiFault)
+items_after None = []
+items_after (Some bytes) = items_in bytes.now
+
+-- what is left of the records
+abbrev pub items_left : Records → List (Result MultiRecord MultiFault)
+items_left records = items_after records.left
+
+-- items of the records that an inventory has
+pub record HasItems (bytes : List ℕ) (items : List (Result MultiRecord MultiFault)) : Type 0 where
+  pub records : List MultiRecord
+  pub end : RecordsEnd
+  pub are_records : AreRecordsAt (offset_of records_place bytes) bytes records end
+  pub items_are : items ≡ items_of records end

@@ -1,0 +1,233 @@
+-- The text of an inventory: the lines of the chassis, the board and the product, and then those of the records. Lines, labels
+-- and the names of faults are the project's own, and so is that volts are in two's complement and that the standard's marks for
+-- what is not specified are printed as numbers; record types are the standard's (Platform Management FRU Information Storage
+-- Definition v1.0, sections 16 and 18).
+use Rattle.std.specs.Prelude.{◌≡◌, ℕ, ◌%◌, ◌^◌, ◌==◌, ◌&&◌, nat_le, if◌then◌else◌, pos, ◌*ℤ◌, Option, Some, None, Result, Ok, Err, List, [], ◌∷◌, ◌++◌, length, drop, take, slice_index, codes}
+use Rattle.std.specs.Fmt.{decimal}
+use Rattle.byteorder.specs.Endian.{little_from, twos_complement}
+use Rattle.ipmi_text.specs.FieldText.{binary_text, latin1_text, fru_text_of}
+use Rattle.ipmi_text.specs.Chassis.{chassis_text_of}
+use Rattle.ipmi_text.specs.Decimal.{IsDecimalOf}
+use Rattle.ipmi_text.specs.Times.{IsMinutesTextOf}
+use Rattle.ipmi_fru.specs.declared.header.FruFault.{FruFault}
+use Rattle.ipmi_fru.specs.declared.header.FruFault.TheVariants as fault_of_header
+use Rattle.ipmi_fru.specs.declared.area.AreaKind.{AreaKind}
+use Rattle.ipmi_fru.specs.declared.area.AreaKind.TheVariants.{Chassis, Board, Product}
+use Rattle.ipmi_fru.specs.declared.area.AreaFault.{AreaFault}
+use Rattle.ipmi_fru.specs.declared.area.AreaFault.TheVariants as fault_of_area
+use Rattle.ipmi_fru.specs.declared.multirecord.MultiFault.{MultiFault}
+use Rattle.ipmi_fru.specs.declared.multirecord.MultiFault.TheVariants as fault_of_record
+use Rattle.ipmi_fru.specs.declared.print.RecordForm.{RecordForm}
+use Rattle.ipmi_fru.specs.declared.print.RecordForm.TheVariants.{Output, Load, Access, Other}
+use Rattle.ipmi_fru.specs.Header.{header_fault, offset_of, records_place}
+use Rattle.ipmi_fru.specs.Area.{AreaField, Area, IsFound}
+use Rattle.ipmi_fru.specs.Multirecord.{MultiRecord, RecordsEnd, AreRecordsAt, items_of}
+
+-- a line of a label and a text
+abbrev pub labelled : List ℕ → List ℕ → List ℕ
+labelled label text = label ++ (codes ": " ++ (text ++ codes "\n"))
+
+-- ---- areas
+
+abbrev pub area_name : AreaKind → List ℕ
+area_name Chassis = codes "Chassis"
+area_name Board = codes "Board"
+area_name Product = codes "Product"
+
+-- the labels of an area's fields, in their order
+abbrev pub labels_of : AreaKind → List (List ℕ)
+labels_of Chassis = codes "Chassis Part Number" ∷ codes "Chassis Serial" ∷ []
+labels_of Board =
+    codes "Board Mfg"
+    ∷ codes "Board Product"
+    ∷ codes "Board Serial"
+    ∷ codes "Board Part Number"
+    ∷ codes "Board FRU ID"
+    ∷ []
+labels_of Product =
+    codes "Product Manufacturer"
+    ∷ codes "Product Name"
+    ∷ codes "Product Part Number"
+    ∷ codes "Product Version"
+    ∷ codes "Product Serial"
+    ∷ codes "Product Asset Tag"
+    ∷ codes "Product FRU ID"
+    ∷ []
+
+-- the label of all further fields
+abbrev pub extra_label : AreaKind → List ℕ
+extra_label kind = area_name kind ++ codes " Extra"
+
+-- the language of an area's texts: that of a chassis is English
+abbrev pub language_of : AreaKind → List ℕ → ℕ
+language_of Chassis area = 0
+language_of Board area = slice_index area 2
+language_of Product area = slice_index area 2
+
+-- no line where a field has no text
+abbrev pub field_line : List ℕ → List ℕ → List ℕ
+field_line label [] = []
+field_line label (character ∷ text) = labelled label (character ∷ text)
+
+-- the lines of fields, each under the label of its place, those past the labels under `extra`; a field without text uses up its
+-- label too
+abbrev pub field_lines : ℕ → List (List ℕ) → List ℕ → List AreaField → List ℕ
+field_lines language labels extra [] = []
+field_lines language [] extra (field ∷ fields) = field_line extra (fru_text_of field.code language field.bytes) ++ field_lines language [] extra fields
+field_lines language (label ∷ labels) extra (field ∷ fields) = field_line label (fru_text_of field.code language field.bytes) ++ field_lines language labels extra fields
+
+-- what stands before the lines of the fields: the type of a chassis, the date of a board
+abbrev pub IsLead : AreaKind → List ℕ → List ℕ → Type 0
+IsLead Chassis area text = text ≡ labelled (codes "Chassis Type") (chassis_text_of (slice_index area 2))
+IsLead Board area text = (date : List ℕ) × (IsMinutesTextOf (little_from 3 3 area) date × (text ≡ labelled (codes "Board Mfg Date") date))
+IsLead Product area text = text ≡ []
+
+abbrev pub area_fault_name : AreaFault → List ℕ
+area_fault_name fault_of_area.Outside = codes "outside"
+area_fault_name fault_of_area.Version = codes "version"
+area_fault_name fault_of_area.Length = codes "length"
+area_fault_name fault_of_area.Sum = codes "checksum"
+area_fault_name fault_of_area.FieldPastEnd = codes "field past end"
+
+-- the lines of an area
+pub record IsAreaText (area : Area) (text : List ℕ) : Type 0 where
+  pub lead : List ℕ
+  pub is_lead : IsLead area.kind area.bytes lead
+  pub text_is : text ≡ lead ++ field_lines (language_of area.kind area.bytes) (labels_of area.kind) (extra_label area.kind) area.fields
+
+-- what is printed of what an inventory has of a kind: nothing where it has none, the lines of the area, or its fault
+abbrev pub IsTextFound : AreaKind → Option (Result Area AreaFault) → List ℕ → Type 0
+IsTextFound kind None text = text ≡ []
+IsTextFound kind (Some (Ok area)) text = IsAreaText area text
+IsTextFound kind (Some (Err f)) text = text ≡ labelled (area_name kind ++ codes " fault") (area_fault_name f)
+
+pub record IsTextOfArea (kind : AreaKind) (bytes text : List ℕ) : Type 0 where
+  pub found : Option (Result Area AreaFault)
+  pub is_found : IsFound kind bytes found
+  pub is_text : IsTextFound kind found text
+
+-- ---- records
+
+-- the number of two bytes from a place on
+abbrev pub number_at : ℕ → List ℕ → ℕ
+number_at place bytes = little_from place 2 bytes
+
+-- the volts of two bytes from a place on: a signed number of 10 mV
+abbrev pub IsVoltsAt : ℕ → List ℕ → List ℕ → Type 0
+IsVoltsAt place bytes text = IsDecimalOf (twos_complement 2 (number_at place bytes) *ℤ pos (10 ^ 14)) text
+
+-- the voltages of data bytes 1 to 6: the nominal one, and two limits or deviations
+pub record AreVolts (bytes nominal low high : List ℕ) : Type 0 where
+  pub nominal_is : IsVoltsAt 1 bytes nominal
+  pub low_is : IsVoltsAt 3 bytes low
+  pub high_is : IsVoltsAt 5 bytes high
+
+-- what follows the voltages: the ripple in mV, and the least and the greatest current in mA
+abbrev pub current_line : ℕ → ℕ → ℕ → List ℕ
+current_line ripple least greatest =
+    codes "ripple " ++ (decimal ripple
+    ++ (codes " mV, current " ++ (decimal least
+    ++ (codes " to " ++ (decimal greatest ++ codes " mA\n")))))
+
+abbrev pub current_text : List ℕ → List ℕ
+current_text bytes = current_line (number_at 7 bytes) (number_at 9 bytes) (number_at 11 bytes)
+
+-- bit 7 of an output's number
+abbrev pub standby_text : ℕ → List ℕ
+standby_text byte = if nat_le 128 byte then codes " standby" else []
+
+pub record IsOutputText (bytes text : List ℕ) : Type 0 where
+  pub nominal : List ℕ
+  pub low : List ℕ
+  pub high : List ℕ
+  pub volts : AreVolts bytes nominal low high
+  pub text_is : text ≡ codes "DC Output " ++ (decimal (slice_index bytes 0 % 16) ++ (standby_text (slice_index bytes 0)
+      ++ (codes ": nominal " ++ (nominal
+      ++ (codes " V, negative deviation " ++ (low ++ (codes " V, positive deviation " ++ (high ++ (codes " V, " ++ current_text bytes)))))))))
+
+pub record IsLoadText (bytes text : List ℕ) : Type 0 where
+  pub nominal : List ℕ
+  pub low : List ℕ
+  pub high : List ℕ
+  pub volts : AreVolts bytes nominal low high
+  pub text_is : text ≡ codes "DC Load " ++ (decimal (slice_index bytes 0 % 16) ++ (codes ": nominal " ++ (nominal
+      ++ (codes " V, " ++ (low ++ (codes " to " ++ (high ++ (codes " V, " ++ current_text bytes))))))))
+
+-- the data of a management access record behind its subtype: subtypes 01h to 06h are text
+abbrev pub access_text : List ℕ → List ℕ
+access_text bytes =
+    if nat_le 1 (slice_index bytes 0) && nat_le (slice_index bytes 0) 6 then latin1_text (drop 1 bytes) else binary_text (drop 1 bytes)
+
+abbrev pub access_line : List ℕ → List ℕ
+access_line bytes = codes "Management Access 0x" ++ (binary_text (take 1 bytes) ++ (codes ": " ++ (access_text bytes ++ codes "\n")))
+
+-- a record of another type, or with too few data
+abbrev pub other_line : MultiRecord → List ℕ
+other_line r = codes "Record 0x" ++ (binary_text (r.kind ∷ []) ++ (codes ": " ++ (binary_text r.bytes ++ codes "\n")))
+
+-- what a record is printed as, by its type and the number of its data bytes
+abbrev pub form_of : MultiRecord → RecordForm
+form_of r =
+    if (r.kind == 1) && nat_le 13 (length r.bytes) then Output
+    else if (r.kind == 2) && nat_le 13 (length r.bytes) then Load
+    else if (r.kind == 3) && nat_le 1 (length r.bytes) then Access
+    else Other
+
+abbrev pub IsTextInForm : RecordForm → MultiRecord → List ℕ → Type 0
+IsTextInForm Output r text = IsOutputText r.bytes text
+IsTextInForm Load r text = IsLoadText r.bytes text
+IsTextInForm Access r text = text ≡ access_line r.bytes
+IsTextInForm Other r text = text ≡ other_line r
+
+-- the line of a record
+abbrev pub IsRecordText : MultiRecord → List ℕ → Type 0
+IsRecordText r text = IsTextInForm (form_of r) r text
+
+abbrev pub multi_fault_name : MultiFault → List ℕ
+multi_fault_name fault_of_record.Outside = codes "outside"
+multi_fault_name fault_of_record.HeaderSum = codes "header checksum"
+multi_fault_name fault_of_record.DataSum = codes "data checksum"
+
+-- the line of a record, or of the fault behind the last one
+abbrev pub IsItemText : Result MultiRecord MultiFault → List ℕ → Type 0
+IsItemText (Ok r) text = IsRecordText r text
+IsItemText (Err f) text = text ≡ labelled (codes "Record fault") (multi_fault_name f)
+
+-- a line for each
+abbrev pub AreItemTexts : List (Result MultiRecord MultiFault) → List ℕ → Type 0
+AreItemTexts [] text = text ≡ []
+AreItemTexts (item ∷ items) text = (line more : List ℕ) × (IsItemText item line × (AreItemTexts items more × (text ≡ line ++ more)))
+
+-- what is printed of the records: nothing where there are none
+pub record IsTextOfRecords (bytes text : List ℕ) : Type 0 where
+  pub records : List MultiRecord
+  pub end : RecordsEnd
+  pub are_records : AreRecordsAt (offset_of records_place bytes) bytes records end
+  pub are_texts : AreItemTexts (items_of records end) text
+
+-- ---- the inventory
+
+abbrev pub fru_fault_name : FruFault → List ℕ
+fru_fault_name fault_of_header.Short = codes "header short"
+fru_fault_name fault_of_header.HeaderVersion = codes "header version"
+fru_fault_name fault_of_header.HeaderSum = codes "header checksum"
+
+-- chassis, board, product and records, each printed whatever the others are
+pub record IsTextOfAreas (bytes text : List ℕ) : Type 0 where
+  pub chassis : List ℕ
+  pub board : List ℕ
+  pub product : List ℕ
+  pub records : List ℕ
+  pub is_chassis : IsTextOfArea Chassis bytes chassis
+  pub is_board : IsTextOfArea Board bytes board
+  pub is_product : IsTextOfArea Product bytes product
+  pub is_records : IsTextOfRecords bytes records
+  pub text_is : text ≡ chassis ++ (board ++ (product ++ records))
+
+-- the text of an inventory: one line where its header has a fault
+abbrev pub IsTextByFault : Option FruFault → List ℕ → List ℕ → Type 0
+IsTextByFault None bytes text = IsTextOfAreas bytes text
+IsTextByFault (Some f) bytes text = text ≡ labelled (codes "FRU fault") (fru_fault_name f)
+
+abbrev pub IsFruText : List ℕ → List ℕ → Type 0
+IsFruText bytes text = IsTextByFault (header_fault bytes) bytes text

@@ -1,0 +1,278 @@
+//! The chassis, board and product areas of an inventory, and their fields.
+ghost use Rattle.std.specs.Prelude.{◌≡◌, ◌+◌, ◌<◌, ◌≤◌, [], IfSome, IfOk, IfErr, Some, None, IsTrue, is_some, unwrap_or, slice_get, length, slice_index};
+ghost use Rattle.std.specs.Option.{option_map};
+ghost use Rattle.byteorder.specs.Endian.{little_from};
+ghost use Rattle.ipmi_fru.specs.Print.{language_of};
+ghost use Rattle.ipmi_fru.specs.declared.area.AreaKind.TheVariants.{Board, Chassis};
+ghost use Rattle.ipmi_fru.specs.Area.{Area, fields_in, field_of, Begins, place_of, head_len, area_at, head_of, field_bytes, area_fault, IsArea, IsAreaFault};
+
+use crate::header::{bytes_of, has_version_1, is_zero_sum};
+use byteorder::{ByteOrder, LittleEndian};
+use std::marker::Model;
+use thiserror::Error;
+
+/// The byte that stands behind the last field.
+const NO_MORE_FIELDS: u8 = 0xC1;
+
+/// An area that has fields.
+#[derive(Clone, Copy, Debug, PartialEq, Eq)]
+pub(crate) enum AreaKind {
+    /// Of the chassis: its type, then its fields.
+    Chassis,
+    /// Of a board: the language, the date of its making, then its fields.
+    Board,
+    /// Of a product: the language, then its fields.
+    Product,
+}
+
+impl AreaKind {
+    /// Where the header has the area's offset.
+    pub(crate) fn place(self) -> usize
+        ensures place { result ≡ place_of self }
+        ensures below { result ≤ 4 }
+    {
+        match self {
+            AreaKind::Chassis => 2,
+            AreaKind::Board => 3,
+            AreaKind::Product => 4,
+        }
+    }
+
+    /// How many bytes stand between the length byte and the first field.
+    fn head_len(self) -> usize
+        ensures len { result ≡ head_len self }
+        ensures below { result ≤ 4 }
+    {
+        match self {
+            AreaKind::Chassis => 1,
+            AreaKind::Board => 4,
+            AreaKind::Product => 1,
+        }
+    }
+}
+
+/// Why an area can't be read. The first one that applies is the answer: Outside for the first two bytes, Version, Length,
+/// Outside for the others, Sum, FieldPastEnd.
+#[derive(Clone, Copy, Debug, PartialEq, Eq, Error)]
+pub enum AreaFault {
+    /// The inventory ends before the area does.
+    #[error("the inventory ends before the area does")]
+    Outside,
+    /// The area's format version is not 1.
+    #[error("an area of an unknown version")]
+    Version,
+    /// The area's length is 0.
+    #[error("an area of no bytes")]
+    Length,
+    /// The area's bytes do not sum to a multiple of 256.
+    #[error("the checksum of the area is wrong")]
+    Sum,
+    /// A field runs into the checksum.
+    #[error("a field runs into the checksum")]
+    FieldPastEnd,
+}
+
+/// A field of an area, as its type/length byte and its data are (section 13).
+#[derive(Clone, Copy, Debug)]
+pub struct Field<'a> {
+    /// Bits 7:6 of the type/length byte: 0 binary, 1 BCD plus, 2 6-bit ASCII, 3 by the language.
+    pub code: u8,
+    /// The data.
+    pub bytes: &'a [u8],
+}
+
+/// What bytes begin with where fields stand.
+#[derive(Clone, Copy)]
+pub(crate) enum Beginning<'a> {
+    /// No more fields.
+    End,
+    /// A field that is longer than they are.
+    PastEnd,
+    /// A field, and what is behind it.
+    Field(Field<'a>, &'a [u8]),
+}
+
+/// What the bytes begin with.
+pub(crate) fn split_field(bytes: &[u8]) -> Beginning<'_>
+    ensures { Begins bytes.now result }
+{
+    let Some((first, behind)) = bytes.split_first() else {
+        return Beginning::End;
+    };
+    let type_length = *first;
+    if type_length == NO_MORE_FIELDS {
+        return Beginning::End;
+    }
+    let Some((bytes, rest)) = behind.split_at_checked(usize::from(type_length % 64)) else {
+        return Beginning::PastEnd;
+    };
+    let code = type_length / 64;
+    Beginning::Field(Field { code, bytes }, rest)
+}
+
+/// Whether the bytes spell a list of fields.
+fn spells_fields(bytes: &[u8]) -> bool
+    ensures { result ≡ is_some (fields_in bytes.now) }
+{
+    let mut rest = bytes;
+    'fields: loop {
+        match split_field(rest) {
+            Beginning::End => return true,
+            Beginning::PastEnd => return false,
+            Beginning::Field(_, behind) => rest = behind,
+        }
+    }
+}
+
+/// The field of this place, from 0 on, of those that the bytes spell.
+fn nth_field(bytes: &[u8], place: usize) -> Option<Field<'_>>
+    requires { IsTrue (is_some (fields_in bytes.now)) }
+    ensures field { option_map field_of result ≡ slice_get (unwrap_or (fields_in bytes.now) []) place }
+    ensures code { IfSome result (λ field. field.code < 4) }
+{
+    let mut rest = bytes;
+    let mut left = place;
+    'fields: loop {
+        let Beginning::Field(field, behind) = split_field(rest) else {
+            return None;
+        };
+        if left == 0 {
+            return Some(field);
+        }
+        left -= 1;
+        rest = behind;
+    }
+}
+
+/// The whole area that begins at the offset, whatever its fields are.
+fn whole_area(bytes: &[u8], offset: usize) -> Result<&[u8], AreaFault>
+    requires { offset ≤ 2040 }
+    ensures ok { IfOk result (λ area. (area_fault offset bytes.now ≡ None) × (area.now ≡ area_at offset bytes.now)) }
+    ensures room { IfOk result (λ area. 8 ≤ length area.now) }
+    ensures err { IfErr result (λ fault. area_fault offset bytes.now ≡ Some fault) }
+{
+    if bytes.len() < offset + 2 {
+        return Err(AreaFault::Outside);
+    }
+    if !has_version_1(bytes[offset]) {
+        return Err(AreaFault::Version);
+    }
+    let units = bytes[offset + 1];
+    if units == 0 {
+        return Err(AreaFault::Length);
+    }
+    let end = offset + bytes_of(units);
+    if bytes.len() < end {
+        return Err(AreaFault::Outside);
+    }
+    let area = &bytes[offset..end];
+    if !is_zero_sum(area) {
+        return Err(AreaFault::Sum);
+    }
+    Ok(area)
+}
+
+/// The bytes between the head of an area and its checksum.
+fn field_part(kind: AreaKind, area: &[u8]) -> &[u8]
+    requires { 2 + head_len kind < length area.now }
+    ensures { result.now ≡ field_bytes kind area.now }
+{
+    &area[..area.len() - 1][2 + kind.head_len()..]
+}
+
+/// An area without a fault: that of the chassis, the board or the product (Platform Management FRU Information Storage
+/// Definition v1.0, sections 10 to 12).
+#[derive(Drop)]
+pub struct AreaView<'a> {
+    kind: AreaKind,
+    bytes: &'a [u8],
+}
+
+impl<'a> Model for AreaView<'a> {
+    ghost use Rattle.ipmi_fru.specs.Area.{Area, HasFields, area_in};
+
+    ghost Value = { Area };
+
+    ghost view = { λ a. area_in a.kind a.bytes.now };
+
+    ghost invariant = { λ a. HasFields a.kind a.bytes.now };
+}
+
+impl<'a> AreaView<'a> {
+    /// The area of the kind that begins at the offset.
+    pub(crate) fn read(
+        kind: AreaKind,
+        bytes: &'a [u8],
+        offset: usize,
+    ) -> Result<AreaView<'a>, AreaFault>
+        requires { offset ≤ 2040 }
+        ensures ok { IfOk result (λ area. IsArea kind offset bytes.now area) }
+        ensures err { IfErr result (λ fault. IsAreaFault kind offset bytes.now fault) }
+    {
+        let area = whole_area(bytes, offset)?;
+        if !spells_fields(field_part(kind, area)) {
+            return Err(AreaFault::FieldPastEnd);
+        }
+        Ok(AreaView { kind, bytes: area })
+    }
+
+    /// The kind of the area.
+    pub(crate) fn kind(&self) -> AreaKind
+        ensures { result ≡ self.now.kind }
+    {
+        self.kind
+    }
+
+    /// The type of a chassis.
+    pub(crate) fn chassis_type(&self) -> u8
+        requires { self.now.kind ≡ Chassis }
+        ensures { result ≡ slice_index self.now.bytes 2 }
+    {
+        self.bytes[2]
+    }
+
+    /// When a board was made, in minutes since 1996.
+    pub(crate) fn minutes(&self) -> u32
+        requires { self.now.kind ≡ Board }
+        ensures number { result ≡ little_from 3 3 self.now.bytes }
+        ensures below { result ≤ 0xff_ffff }
+    {
+        let head = self.head();
+        LittleEndian::read_u24(&head[1..])
+    }
+
+    /// The language of the area's texts; that of a chassis is English.
+    pub(crate) fn language(&self) -> u8
+        ensures { result ≡ language_of self.now.kind self.now.bytes }
+    {
+        match self.kind {
+            AreaKind::Chassis => 0,
+            AreaKind::Board | AreaKind::Product => self.bytes[2],
+        }
+    }
+
+    /// The bytes between the head and the checksum, which spell the fields.
+    pub(crate) fn field_part(&self) -> &'a [u8]
+        ensures found { IsTrue (is_some (fields_in result.now)) }
+        ensures fields { unwrap_or (fields_in result.now) [] ≡ self.now.fields }
+    {
+        field_part(self.kind, self.bytes)
+    }
+
+    /// The bytes between the length byte and the first field. Chassis: its type; board: the language and the date in minutes,
+    /// low byte first; product: the language.
+    pub fn head(&self) -> &'a [u8]
+        ensures bytes { result.now ≡ head_of self.now.kind self.now.bytes }
+        ensures len { length result.now ≡ head_len self.now.kind }
+    {
+        &self.bytes[2..2 + self.kind.head_len()]
+    }
+
+    /// The field of this place, from 0 on; none past the last one.
+    pub fn field(&self, place: usize) -> Option<Field<'a>>
+        ensures field { option_map field_of result ≡ slice_get self.now.fields place }
+        ensures code { IfSome result (λ field. field.code < 4) }
+    {
+        nth_field(self.field_part(), place)
+    }
+}

@@ -1,0 +1,161 @@
+//! The common header of an inventory, which says where its areas begin.
+ghost use Rattle.std.specs.Prelude.{◌≡◌, ◌%◌, ◌≤◌, ◌*◌, ◌==◌, IfOk, IfErr, IfSome, Some, None, drop, sum};
+ghost use Rattle.ipmi_fru.specs.Header.{is_zero_sum, version_in, header_fault, offset_of};
+ghost use Rattle.ipmi_fru.specs.declared.area.AreaKind.TheVariants.{Chassis, Board, Product};
+ghost use Rattle.ipmi_fru.specs.Area.{IsFound};
+ghost use Rattle.ipmi_fru.specs.Multirecord.{HasItems, items_left};
+
+use crate::area::{AreaFault, AreaKind, AreaView};
+use crate::multirecord::Records;
+use std::marker::Model;
+use thiserror::Error;
+
+/// The bytes of a header.
+const HEADER: usize = 8;
+
+/// The place of the offset of the multirecord area.
+const RECORDS: usize = 5;
+
+/// Why bytes are no inventory. The first one that applies, in this order, is the answer.
+#[derive(Clone, Copy, Debug, PartialEq, Eq, Error)]
+pub enum FruFault {
+    /// There are fewer bytes than the eight of a header.
+    #[error("fewer bytes than a header has")]
+    Short,
+    /// The header's format version is not 1.
+    #[error("a header of an unknown version")]
+    HeaderVersion,
+    /// The header's bytes do not sum to a multiple of 256.
+    #[error("the checksum of the header is wrong")]
+    HeaderSum,
+}
+
+/// The bytes that so many units are, in which a header counts offsets and an area its length.
+pub(crate) fn bytes_of(units: u8) -> usize
+    ensures { result ≡ 8 * units }
+{
+    8 * usize::from(units)
+}
+
+/// Whether the first byte of a header or an area has the format version 1, the only one.
+pub(crate) fn has_version_1(byte: u8) -> bool
+    ensures { result ≡ (version_in byte == 1) }
+{
+    byte % 16 == 1
+}
+
+/// The sum of the bytes modulo 256.
+pub(crate) fn sum_of(bytes: &[u8]) -> u8
+    ensures { result ≡ sum bytes.now % 256 }
+{
+    let mut total: u8 = 0;
+    let mut place = 0;
+    'bytes: while place < bytes.len() {
+        total = total.wrapping_add(bytes[place]);
+        place += 1;
+    }
+    total
+}
+
+/// Whether the bytes sum to a multiple of 256.
+pub(crate) fn is_zero_sum(bytes: &[u8]) -> bool
+    ensures { result ≡ is_zero_sum bytes.now }
+{
+    sum_of(bytes) == 0
+}
+
+/// The inventory of a FRU device, whose header has no fault (Platform Management FRU Information Storage Definition v1.0,
+/// section 8).
+#[derive(Drop)]
+pub struct FruView<'a> {
+    bytes: &'a [u8],
+}
+
+impl<'a> Model for FruView<'a> {
+    ghost use Rattle.std.specs.Prelude.{◌≡◌, List, ℕ, None};
+    ghost use Rattle.ipmi_fru.specs.Header.{header_fault};
+
+    ghost Value = { List ℕ };
+
+    ghost view = { λ v. v.bytes.now };
+
+    ghost invariant = { λ v. header_fault v.bytes.now ≡ None };
+}
+
+impl<'a> FruView<'a> {
+    /// The inventory that bytes are, or the first fault of its header. Its pad byte counts in the sum alone.
+    pub fn read(bytes: &'a [u8]) -> Result<FruView<'a>, FruFault>
+        ensures ok { IfOk result (λ view. (header_fault bytes.now ≡ None) × (view ≡ bytes.now)) }
+        ensures err { IfErr result (λ fault. header_fault bytes.now ≡ Some fault) }
+    {
+        if bytes.len() < HEADER {
+            return Err(FruFault::Short);
+        }
+        if !has_version_1(bytes[0]) {
+            return Err(FruFault::HeaderVersion);
+        }
+        if !is_zero_sum(&bytes[..HEADER]) {
+            return Err(FruFault::HeaderSum);
+        }
+        Ok(FruView { bytes })
+    }
+
+    /// Where the area of this place in the header begins.
+    fn offset(&self, place: usize) -> Option<usize>
+        requires { place ≤ 5 }
+        ensures offset { result ≡ offset_of place self.now }
+        ensures below { IfSome result (λ offset. offset ≤ 2040) }
+    {
+        match self.bytes[place] {
+            0 => None,
+            units => Some(bytes_of(units)),
+        }
+    }
+
+    /// The area of the kind, if there is one.
+    fn area(&self, kind: AreaKind) -> Option<Result<AreaView<'a>, AreaFault>>
+        ensures { IsFound kind self.now result }
+    {
+        let offset = self.offset(kind.place())?;
+        Some(AreaView::read(kind, self.bytes, offset))
+    }
+
+    /// The chassis info area, or its first fault; none where the header has no offset of it.
+    pub fn chassis(&self) -> Option<Result<AreaView<'a>, AreaFault>>
+        ensures { IsFound Chassis self.now result }
+    {
+        self.area(AreaKind::Chassis)
+    }
+
+    /// The board info area, or its first fault; none where the header has no offset of it.
+    pub fn board(&self) -> Option<Result<AreaView<'a>, AreaFault>>
+        ensures { IsFound Board self.now result }
+    {
+        self.area(AreaKind::Board)
+    }
+
+    /// The product info area, or its first fault; none where the header has no offset of it.
+    pub fn product(&self) -> Option<Result<AreaView<'a>, AreaFault>>
+        ensures { IsFound Product self.now result }
+    {
+        self.area(AreaKind::Product)
+    }
+
+    /// The bytes from an offset on; none where they end before.
+    fn bytes_from(&self, offset: usize) -> &'a [u8]
+        ensures { result.now ≡ drop offset self.now }
+    {
+        self.bytes.get(offset..).unwrap_or(&[])
+    }
+
+    /// The records of the multirecord area, up to the one that is marked as the last, or to the first fault; none where the
+    /// header has no offset of it.
+    pub fn records(&self) -> Records<'a>
+        ensures { HasItems self.now (items_left result) }
+    {
+        match self.offset(RECORDS) {
+            Some(offset) => Records::new(Some(self.bytes_from(offset))),
+            None => Records::new(None),
+        }
+    }
+}

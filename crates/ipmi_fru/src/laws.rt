@@ -1,0 +1,14 @@
+//! Laws of fields and records, each the contract of a function that does nothing.
+ghost use Rattle.std.specs.Prelude.{◌≡◌, ℕ, List};
+ghost use Rattle.ipmi_fru.specs.Area.{AreaField, Spells};
+ghost use Rattle.ipmi_fru.specs.Multirecord.{MultiRecord, RecordsEnd, IsRecordList, SameList};
+
+/// Bytes spell at most one list of fields.
+pub fn one_list_of_fields()
+    ensures { (bytes : List ℕ) (a b : List AreaField) → Spells bytes a → Spells bytes b → a ≡ b }
+{}
+
+/// Bytes are at most one list of records, with one end.
+pub fn one_list_of_records()
+    ensures { (bytes : List ℕ) (a b : List MultiRecord) (e f : RecordsEnd) → IsRecordList bytes a e → IsRecordList bytes b f → SameList a b e f }
+{}

@@ -1,0 +1,16 @@
+//! The inventory of a FRU device: its header, areas, fields and multirecords, and the text of all of it
+//! (Platform Management FRU Information Storage Definition v1.0).
+#![tactic(auto)]
+
+mod area;
+mod header;
+pub mod laws;
+mod multirecord;
+mod print;
+#[cfg(test)]
+mod tests;
+
+pub use area::{AreaFault, AreaView, Field};
+pub use header::{FruFault, FruView};
+pub use multirecord::{MultiFault, MultiView, Records};
+pub use print::print_fru;

@@ -1,0 +1,107 @@
+//! The multirecord area of an inventory: records one after the other, up to one that is marked as the last.
+ghost use Rattle.std.specs.Prelude.{◌≡◌, ◌<◌, IfOk, IfErr, Some, None, length};
+ghost use Rattle.ipmi_fru.specs.Multirecord.{record_in, record_fault, behind_record, record_of, items_after, items_left};
+
+use crate::header::{is_zero_sum, sum_of};
+use thiserror::Error;
+
+/// The bytes of a record's header.
+const HEADER: usize = 5;
+
+/// Why a record can't be read. The first one that applies is the answer: Outside for the header, HeaderSum, Outside for the
+/// data, DataSum.
+#[derive(Clone, Copy, Debug, PartialEq, Eq, Error)]
+pub enum MultiFault {
+    /// The inventory ends before the record does.
+    #[error("the inventory ends before the record does")]
+    Outside,
+    /// The bytes of the record's header do not sum to a multiple of 256.
+    #[error("the checksum of the header is wrong")]
+    HeaderSum,
+    /// The record's data and their checksum do not sum to a multiple of 256.
+    #[error("the checksum of the data is wrong")]
+    DataSum,
+}
+
+/// A record of the multirecord area (Platform Management FRU Information Storage Definition v1.0, section 16).
+#[derive(Clone, Copy, Debug)]
+pub struct MultiView<'a> {
+    /// The type of the record.
+    pub kind: u8,
+    /// The version of its format, bits 3:0 of the second byte, which is not checked.
+    pub version: u8,
+    /// Whether it is marked as the last one.
+    pub last: bool,
+    /// The data.
+    pub bytes: &'a [u8],
+}
+
+/// The record that bytes begin with, and what stands behind it.
+fn read_record(bytes: &[u8]) -> Result<(MultiView<'_>, &[u8]), MultiFault>
+    ensures fine { IfOk result (λ r. record_fault bytes.now ≡ None) }
+    ensures record { IfOk result (λ r. record_of r.0 ≡ record_in bytes.now) }
+    ensures rest { IfOk result (λ r. r.1.now ≡ behind_record bytes.now) }
+    ensures shorter { IfOk result (λ r. length r.1.now < length bytes.now) }
+    ensures err { IfErr result (λ fault. record_fault bytes.now ≡ Some fault) }
+{
+    if bytes.len() < HEADER {
+        return Err(MultiFault::Outside);
+    }
+    if !is_zero_sum(&bytes[..HEADER]) {
+        return Err(MultiFault::HeaderSum);
+    }
+    let end = HEADER + usize::from(bytes[2]);
+    if bytes.len() < end {
+        return Err(MultiFault::Outside);
+    }
+    let data = &bytes[HEADER..end];
+    if bytes[3].wrapping_add(sum_of(data)) != 0 {
+        return Err(MultiFault::DataSum);
+    }
+    let view = MultiView {
+        kind: bytes[0],
+        version: bytes[1] % 16,
+        last: bytes[1] >= 128,
+        bytes: data,
+    };
+    Ok((view, &bytes[end..]))
+}
+
+/// The records of the multirecord area, in their order; behind a fault there is none.
+#[derive(Drop)]
+pub struct Records<'a> {
+    left: Option<&'a [u8]>,
+}
+
+impl<'a> Records<'a> {
+    /// The records from these bytes on; without any there is no record.
+    pub(crate) fn new(left: Option<&'a [u8]>) -> Records<'a>
+        ensures { items_left result ≡ items_after left.entry }
+    {
+        Records { left }
+    }
+}
+
+impl<'a> Iterator for Records<'a> {
+    ghost use Rattle.std.specs.Iterator.{YieldsFirstBy, item_count};
+    ghost use Rattle.ipmi_fru.specs.Multirecord.{item_of, items_left};
+
+    type Item = Result<MultiView<'a>, MultiFault>;
+
+    ghost next_gives = { YieldsFirstBy item_of items_left };
+
+    ghost remaining = { item_count items_left };
+
+    fn next(&mut self) -> Option<Result<MultiView<'a>, MultiFault>> {
+        let bytes = self.left.take()?;
+        let (view, rest) = match read_record(bytes) {
+            Ok(found) => found,
+            Err(fault) => return Some(Err(fault)),
+        };
+        if view.last {
+            return Some(Ok(view));
+        }
+        self.left = Some(rest);
+        Some(Ok(view))
+    }
+}
