@@ -8,6 +8,7 @@ use Rattle.byteorder.specs.Endian.{little_from, twos_complement}
 use Rattle.ipmi_text.specs.FieldText.{binary_text, latin1_text, fru_text_of}
 use Rattle.ipmi_text.specs.Chassis.{chassis_text_of}
 use Rattle.ipmi_text.specs.Decimal.{IsDecimalOf}
+use Rattle.ipmi_text.specs.Lines.{labelled}
 use Rattle.ipmi_text.specs.Times.{IsMinutesTextOf}
 use Rattle.ipmi_fru.specs.declared.header.FruFault.{FruFault}
 use Rattle.ipmi_fru.specs.declared.header.FruFault.TheVariants as fault_of_header
@@ -22,10 +23,6 @@ use Rattle.ipmi_fru.specs.declared.print.RecordForm.TheVariants.{Output, Load, A
 use Rattle.ipmi_fru.specs.Header.{header_fault, offset_of, records_place}
 use Rattle.ipmi_fru.specs.Area.{AreaField, Area, IsFound}
 use Rattle.ipmi_fru.specs.Multirecord.{MultiRecord, RecordsEnd, AreRecordsAt, items_of}
-
--- a line of a label and a text
-abbrev pub labelled : List ℕ → List ℕ → List ℕ
-labelled label text = label ++ (codes ": " ++ (text ++ codes "\n"))
 
 -- ---- areas
 

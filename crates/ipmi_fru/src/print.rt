@@ -4,7 +4,8 @@ ghost use Rattle.byteorder.specs.Endian.{twos_complement};
 ghost use Rattle.ipmi_text.specs.FieldText.{fru_text_of};
 ghost use Rattle.ipmi_fru.specs.Area.{fields_in};
 ghost use Rattle.ipmi_fru.specs.Multirecord.{item_of, items_left, record_of};
-ghost use Rattle.ipmi_fru.specs.Print.{labelled, area_name, labels_of, extra_label, fru_fault_name, area_fault_name, multi_fault_name, field_line, field_lines, IsLead, IsAreaText, IsTextFound, number_at, IsVoltsAt, current_text, standby_text, IsOutputText, IsLoadText, access_text, access_line, other_line, form_of, IsRecordText, IsItemText, AreItemTexts, IsFruText};
+ghost use Rattle.ipmi_fru.specs.Print.{area_name, labels_of, extra_label, fru_fault_name, area_fault_name, multi_fault_name, field_line, field_lines, IsLead, IsAreaText, IsTextFound, number_at, IsVoltsAt, current_text, standby_text, IsOutputText, IsLoadText, access_text, access_line, other_line, form_of, IsRecordText, IsItemText, AreItemTexts, IsFruText};
+ghost use Rattle.ipmi_text.specs.Lines.{labelled};
 
 use crate::area::{AreaFault, AreaKind, AreaView, Beginning, Field, split_field};
 use crate::header::{FruFault, FruView};

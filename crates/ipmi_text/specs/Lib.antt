@@ -3,6 +3,7 @@ pub mod Decimal
 pub mod Events
 pub mod FieldText
 pub mod Hex
+pub mod Lines
 pub mod ReadingValue
 pub mod SensorTypes
 pub mod Times

@@ -1,0 +1,4 @@
+pub mod ColumnLemmas
+pub mod FactorLemmas
+pub mod TextLemmas
+pub mod UniqueLemmas

@@ -1,0 +1,209 @@
+-- Lines and blocks out of the parts that the code puts together.
+use Rattle.std.proofs.Common.{◌≡◌, ◌∙◌, ℕ, List, [], ◌∷◌, ◌++◌, Bool, true, Option, codes, ap, sym, subst, refl, append_assoc, append-nil}
+use Rattle.std.specs.Fmt.{decimal}
+use Rattle.std.specs.List.{concat}
+use Rattle.ipmi_text.specs.Hex.{hex_byte}
+use Rattle.ipmi_text.specs.FieldText.{binary_text}
+use Rattle.ipmi_text.specs.Times.{IsUtcTextOf}
+use Rattle.ipmi_text.specs.SensorTypes.{sensor_type_text_of}
+use Rattle.ipmi_text.specs.declared.reading.Reading.{Reading}
+use Rattle.ipmi_records.specs.declared.sdr.SdrView.{SdrView}
+use Rattle.ipmi_records.specs.declared.sensor.Sensor.{Sensor}
+use Rattle.ipmi_records.specs.declared.sensor.Threshold.{Threshold}
+use Rattle.ipmi_records.specs.declared.sensor.Threshold.TheVariants.{UpperNonRecoverable, UpperCritical, UpperNonCritical, LowerNonRecoverable, LowerCritical, LowerNonCritical}
+use Rattle.ipmi_records.specs.Bytes.{byte_h, hex_word, padded_to, word_h}
+use Rattle.ipmi_text.specs.Lines.{labelled}
+use Rattle.ipmi_records.specs.Columns.{IsRawText, IsReadingColumn, status_of}
+use Rattle.ipmi_records.specs.Info.{AreTimeLines, IsInfoBlock, count_lines, free_space, info_version, last_addition, last_erase, record_count, support_lines}
+use Rattle.ipmi_records.specs.Sdr.{locator_of, sensor_of}
+use Rattle.ipmi_records.specs.SdrText.{AreReadingLines, AreThresholdTexts, AreValueLines, IsExtendedLine, IsSdrBlock, IsSdrLine, IsThresholdText, all_thresholds, entity_column, entity_text, head_lines, line_text, locator_lines, number_text, printed_name, sensor_lines, subject_lines, threshold_name}
+use Rattle.ipmi_records.specs.Sel.{entry_type, event_data, generator, is_deasserted, manufacturer, oem_data, revision, sensor_number, sensor_type, time_stamp}
+use Rattle.ipmi_records.specs.SelText.{AreEventLines, AreOemLines, AreOriginLines, event_body_lines, IsEventLine, IsOemLine, direction_text, manufacturer_text, sensor_text, words_of_event}
+use Rattle.ipmi_records.specs.Sensor.{is_readable, threshold_in}
+
+-- a line before other lines
+line_before : (label text rest : List ℕ) → label ++ (codes ": " ++ (text ++ (codes "\n" ++ rest))) ≡ labelled label text ++ rest
+line_before label text rest = simp append_assoc refl
+
+-- labels and texts, one behind the other
+abbrev flat : List (List ℕ × List ℕ) → List ℕ
+flat [] = []
+flat (pair ∷ pairs) = pair.0 ++ (codes ": " ++ (pair.1 ++ (codes "\n" ++ flat pairs)))
+
+abbrev lines_of : List (List ℕ × List ℕ) → List (List ℕ)
+lines_of [] = []
+lines_of (pair ∷ pairs) = labelled pair.0 pair.1 ∷ lines_of pairs
+
+-- are lines
+lines_joined : (pairs : List (List ℕ × List ℕ)) → flat pairs ≡ concat (lines_of pairs)
+lines_joined [] = refl
+lines_joined (pair ∷ pairs) = line_before pair.0 pair.1 (flat pairs) ∙ ap (λ (l : List ℕ). labelled pair.0 pair.1 ++ l) (lines_joined pairs)
+
+pub reading_lines_made : (view : SdrView) (reading : Option Reading) (column status text : List ℕ) → IsReadingColumn view reading column → status ≡ status_of view reading
+    → text ≡ codes "Reading: " ++ (column ++ (codes "\nStatus: " ++ (status ++ codes "\n"))) → AreReadingLines view reading text
+reading_lines_made view reading column status text is_column status_is text_is =
+    record {
+      column = column;
+      is_column = is_column;
+      text_is = text_is ∙ line_before (codes "Reading") column (labelled (codes "Status") status) ∙ ap (λ (s : List ℕ). labelled (codes "Reading") column ++ labelled (codes "Status") s) status_is;
+    }
+
+pub key_lines_joined : (owner lun number : List ℕ)
+    → codes "Owner: " ++ (owner ++ (codes " LUN " ++ (lun ++ (codes "\nSensor: " ++ (number ++ codes "\n")))))
+    ≡ labelled (codes "Owner") (owner ++ (codes " LUN " ++ lun)) ++ labelled (codes "Sensor") number
+key_lines_joined owner lun number = simp append_assoc refl
+
+pub subject_lines_made : (sensor : Sensor) (kind text : List ℕ) → kind ≡ sensor_type_text_of sensor.sensor_type
+    → text ≡ codes "Entity: " ++ (entity_text sensor.entity ++ (codes "\nKind: " ++ (kind ++ (codes "\nEvent type: " ++ (byte_h sensor.event_type ++ codes "\n")))))
+    → text ≡ subject_lines sensor
+subject_lines_made sensor kind text kind_is text_is = text_is
+    ∙ lines_joined ((codes "Entity", entity_text sensor.entity) ∷ (codes "Kind", kind) ∷ (codes "Event type", byte_h sensor.event_type) ∷ [])
+    ∙ ap (λ (l : List ℕ). labelled (codes "Entity") (entity_text sensor.entity) ++ (labelled (codes "Kind") l ++ labelled (codes "Event type") (byte_h sensor.event_type))) kind_is
+
+pub threshold_made : (bytes : List ℕ) (threshold : Threshold) (readable : Bool) (raw : ℕ) (name value text : List ℕ) → readable ≡ is_readable threshold bytes → readable ≡ true
+    → raw ≡ threshold_in threshold bytes → IsRawText bytes raw value → name ≡ threshold_name threshold
+    → text ≡ name ++ (codes ": " ++ (value ++ codes "\n")) → IsThresholdText (is_readable threshold bytes) bytes threshold text
+threshold_made bytes threshold readable raw name value text readable_is so raw_is is_value name_is text_is =
+    subst (λ (b : Bool). IsThresholdText b bytes threshold text) (sym so ∙ readable_is) (record {
+      value = value;
+      is_value = subst (λ (n : ℕ). IsRawText bytes n value) raw_is is_value;
+      text_is = text_is ∙ ap (λ (l : List ℕ). labelled l value) name_is;
+    })
+
+one_threshold_more : (bytes : List ℕ) (threshold : Threshold) (thresholds : List Threshold) (line more : List ℕ) → IsThresholdText (is_readable threshold bytes) bytes threshold line
+    → AreThresholdTexts bytes thresholds more → AreThresholdTexts bytes (threshold ∷ thresholds) (line ++ more)
+one_threshold_more bytes threshold thresholds line more is_line are_more = (line, more, (is_line, (are_more, refl)))
+
+pub all_thresholds_made : (bytes a b c d e f text : List ℕ)
+    → IsThresholdText (is_readable UpperNonRecoverable bytes) bytes UpperNonRecoverable a
+    → IsThresholdText (is_readable UpperCritical bytes) bytes UpperCritical b
+    → IsThresholdText (is_readable UpperNonCritical bytes) bytes UpperNonCritical c
+    → IsThresholdText (is_readable LowerNonRecoverable bytes) bytes LowerNonRecoverable d
+    → IsThresholdText (is_readable LowerCritical bytes) bytes LowerCritical e
+    → IsThresholdText (is_readable LowerNonCritical bytes) bytes LowerNonCritical f
+    → text ≡ a ++ (b ++ (c ++ (d ++ (e ++ f)))) → AreThresholdTexts bytes all_thresholds text
+all_thresholds_made bytes a b c d e f text is_a is_b is_c is_d is_e is_f text_is =
+    let last = one_threshold_more bytes LowerNonCritical [] f [] is_f refl in
+    let fifth = one_threshold_more bytes LowerCritical (LowerNonCritical ∷ []) e (f ++ []) is_e last in
+    let fourth = one_threshold_more bytes LowerNonRecoverable (LowerCritical ∷ LowerNonCritical ∷ []) d (e ++ (f ++ [])) is_d fifth in
+    let third = one_threshold_more bytes UpperNonCritical (LowerNonRecoverable ∷ LowerCritical ∷ LowerNonCritical ∷ []) c (d ++ (e ++ (f ++ []))) is_c fourth in
+    let second = one_threshold_more bytes UpperCritical (UpperNonCritical ∷ LowerNonRecoverable ∷ LowerCritical ∷ LowerNonCritical ∷ []) b (c ++ (d ++ (e ++ (f ++ [])))) is_b third in
+    let first = one_threshold_more bytes UpperNonRecoverable (UpperCritical ∷ UpperNonCritical ∷ LowerNonRecoverable ∷ LowerCritical ∷ LowerNonCritical ∷ []) a (b ++ (c ++ (d ++ (e ++ (f ++ []))))) is_a second in
+    subst (AreThresholdTexts bytes all_thresholds) (ap (λ (l : List ℕ). a ++ (b ++ (c ++ (d ++ (e ++ l))))) (append-nil f) ∙ sym text_is) first
+
+pub block_made : (id : ℕ) (view : SdrView) (reading : Option Reading) (head sensor locator values text : List ℕ) → head ≡ head_lines id view → sensor ≡ sensor_lines (sensor_of view)
+    → locator ≡ locator_lines (locator_of view) → AreValueLines view reading values → text ≡ head ++ (sensor ++ (locator ++ (values ++ codes "\n"))) → IsSdrBlock id view reading text
+block_made id view reading head sensor locator values text head_is sensor_is locator_is are_values text_is =
+    record {
+      values = values;
+      are_values = are_values;
+      text_is = text_is ∙ ap (λ (l : List ℕ). l ++ (sensor ++ (locator ++ (values ++ codes "\n")))) head_is
+          ∙ ap (λ (l : List ℕ). head_lines id view ++ (l ++ (locator ++ (values ++ codes "\n")))) sensor_is
+          ∙ ap (λ (l : List ℕ). head_lines id view ++ (sensor_lines (sensor_of view) ++ (l ++ (values ++ codes "\n")))) locator_is;
+    }
+
+pub line_made : (view : SdrView) (reading : Option Reading) (name column shown status text : List ℕ) → name ≡ printed_name view → IsReadingColumn view reading column → shown ≡ column → status ≡ status_of view reading
+    → text ≡ padded_to 16 name ++ (codes " | " ++ (padded_to 17 shown ++ (codes " | " ++ (status ++ codes "\n")))) → IsSdrLine view reading text
+line_made view reading name column shown status text name_is is_column shown_is status_is text_is =
+    record { column = column; is_column = is_column; text_is = text_is ∙ ap (λ (l : List ℕ). line_text l shown status) name_is ∙ ap (λ (l : List ℕ). line_text (printed_name view) l status) shown_is ∙ ap (line_text (printed_name view) column) status_is }
+
+pub extended_line_made : (view : SdrView) (reading : Option Reading) (name number status entity column text : List ℕ) → name ≡ printed_name view → number ≡ number_text (sensor_of view)
+    → status ≡ status_of view reading → entity ≡ entity_column (sensor_of view) (locator_of view) → IsReadingColumn view reading column
+    → text ≡ padded_to 16 name ++ (codes " | " ++ (number ++ (codes " | " ++ (padded_to 3 status ++ (codes " | " ++ (padded_to 5 entity ++ (codes " | " ++ (column ++ codes "\n"))))))))
+    → IsExtendedLine view reading text
+extended_line_made view reading name number status entity column text name_is number_is status_is entity_is is_column text_is =
+    record { column = column; is_column = is_column; text_is = text_is ∙ rw (name_is, number_is, status_is, entity_is) refl }
+
+-- ---- the event log
+
+pub sensor_text_made : (bytes kind text : List ℕ) (type number : ℕ) → kind ≡ sensor_type_text_of type → type ≡ sensor_type bytes → number ≡ sensor_number bytes
+    → text ≡ kind ++ (codes " #0x" ++ hex_byte number) → text ≡ sensor_text bytes
+sensor_text_made bytes kind text type number kind_is type_is number_is text_is =
+    text_is ∙ ap (λ (l : List ℕ). l ++ (codes " #0x" ++ hex_byte number)) (kind_is ∙ ap sensor_type_text_of type_is)
+    ∙ ap (λ (n : ℕ). sensor_type_text_of (sensor_type bytes) ++ (codes " #0x" ++ hex_byte n)) number_is
+
+pub event_line_made : (id stamp : ℕ) (bytes time sensor words direction text : List ℕ) → stamp ≡ time_stamp bytes → IsUtcTextOf stamp time → sensor ≡ sensor_text bytes
+    → words ≡ words_of_event bytes → direction ≡ direction_text (is_deasserted bytes)
+    → text ≡ hex_word id ++ (codes " | " ++ (time ++ (codes " | " ++ (sensor ++ (codes " | " ++ (words ++ (codes " | " ++ (direction ++ codes "\n")))))))) → IsEventLine id bytes text
+event_line_made id stamp bytes time sensor words direction text stamp_is is_time sensor_is words_is direction_is text_is =
+    record {
+      time = time;
+      is_time = subst (λ (s : ℕ). IsUtcTextOf s time) stamp_is is_time;
+      text_is = text_is
+          ∙ ap (λ (l : List ℕ). hex_word id ++ (codes " | " ++ (time ++ (codes " | " ++ (l ++ (codes " | " ++ (words ++ (codes " | " ++ (direction ++ codes "\n"))))))))) sensor_is
+          ∙ ap (λ (l : List ℕ). hex_word id ++ (codes " | " ++ (time ++ (codes " | " ++ (sensor_text bytes ++ (codes " | " ++ (l ++ (codes " | " ++ (direction ++ codes "\n"))))))))) words_is
+          ∙ ap (λ (l : List ℕ). hex_word id ++ (codes " | " ++ (time ++ (codes " | " ++ (sensor_text bytes ++ (codes " | " ++ (words_of_event bytes ++ (codes " | " ++ (l ++ codes "\n"))))))))) direction_is;
+    }
+
+pub oem_line_made : (id stamp type : ℕ) (bytes time number content text : List ℕ) → stamp ≡ time_stamp bytes → IsUtcTextOf stamp time → type ≡ entry_type bytes
+    → number ≡ manufacturer_text (manufacturer bytes) → content ≡ binary_text (oem_data bytes)
+    → text ≡ hex_word id ++ (codes " | " ++ (time ++ (codes " | OEM record 0x" ++ (hex_byte type ++ (codes " | " ++ (number ++ (codes " | " ++ (content ++ codes "\n")))))))) → IsOemLine id bytes text
+oem_line_made id stamp type bytes time number content text stamp_is is_time type_is number_is content_is text_is =
+    record { time = time; is_time = subst (λ (s : ℕ). IsUtcTextOf s time) stamp_is is_time; text_is = text_is ∙ rw (type_is, number_is, content_is) (simp append_assoc refl) }
+
+pub origin_lines_made : (stamp maker rev : ℕ) (bytes time text : List ℕ) → stamp ≡ time_stamp bytes → IsUtcTextOf stamp time → maker ≡ generator bytes → rev ≡ revision bytes
+    → text ≡ codes "Time: " ++ (time ++ (codes "\nGenerator: " ++ (word_h maker ++ (codes "\nRevision: " ++ (byte_h rev ++ codes "\n"))))) → AreOriginLines bytes text
+origin_lines_made stamp maker rev bytes time text stamp_is is_time maker_is rev_is text_is =
+    record {
+      time = time;
+      is_time = subst (λ (s : ℕ). IsUtcTextOf s time) stamp_is is_time;
+      text_is = text_is ∙ lines_joined ((codes "Time", time) ∷ (codes "Generator", word_h maker) ∷ (codes "Revision", byte_h rev) ∷ [])
+          ∙ ap (λ (n : ℕ). labelled (codes "Time") time ++ (labelled (codes "Generator") (word_h n) ++ labelled (codes "Revision") (byte_h rev))) maker_is
+          ∙ ap (λ (n : ℕ). labelled (codes "Time") time ++ (labelled (codes "Generator") (word_h (generator bytes)) ++ labelled (codes "Revision") (byte_h n))) rev_is;
+    }
+
+pub event_body_made : (bytes sensor words direction content text : List ℕ) → sensor ≡ sensor_text bytes → words ≡ words_of_event bytes → direction ≡ direction_text (is_deasserted bytes)
+    → content ≡ binary_text (event_data bytes)
+    → text ≡ codes "Sensor: " ++ (sensor ++ (codes "\nEvent: " ++ (words ++ (codes "\nDirection: " ++ (direction ++ (codes "\nData: " ++ (content ++ codes "\n"))))))) → text ≡ event_body_lines bytes
+event_body_made bytes sensor words direction content text sensor_is words_is direction_is content_is text_is = text_is
+    ∙ lines_joined ((codes "Sensor", sensor) ∷ (codes "Event", words) ∷ (codes "Direction", direction) ∷ (codes "Data", content) ∷ [])
+    ∙ ap (λ (l : List ℕ). parts l words direction content) sensor_is
+    ∙ ap (λ (l : List ℕ). parts (sensor_text bytes) l direction content) words_is
+    ∙ ap (λ (l : List ℕ). parts (sensor_text bytes) (words_of_event bytes) l content) direction_is
+    ∙ ap (parts (sensor_text bytes) (words_of_event bytes) (direction_text (is_deasserted bytes))) content_is
+  where
+    parts : List ℕ → List ℕ → List ℕ → List ℕ → List ℕ
+    parts s w d b = concat (labelled (codes "Sensor") s ∷ labelled (codes "Event") w ∷ labelled (codes "Direction") d ∷ labelled (codes "Data") b ∷ [])
+
+pub event_lines_made : (bytes origin body text : List ℕ) → AreOriginLines bytes origin → body ≡ event_body_lines bytes → text ≡ origin ++ body → AreEventLines bytes text
+event_lines_made bytes origin body text are_origin body_is text_is =
+    record { origin = origin; are_origin = are_origin; text_is = text_is ∙ ap (λ (l : List ℕ). origin ++ l) body_is }
+
+pub oem_lines_made : (stamp : ℕ) (bytes time number content text : List ℕ) → stamp ≡ time_stamp bytes → IsUtcTextOf stamp time → number ≡ manufacturer_text (manufacturer bytes) → content ≡ binary_text (oem_data bytes)
+    → text ≡ codes "Time: " ++ (time ++ (codes "\nManufacturer: " ++ (number ++ (codes "\nData: " ++ (content ++ codes "\n"))))) → AreOemLines bytes text
+oem_lines_made stamp bytes time number content text stamp_is is_time number_is content_is text_is =
+    record {
+      time = time;
+      is_time = subst (λ (s : ℕ). IsUtcTextOf s time) stamp_is is_time;
+      text_is = text_is ∙ lines_joined ((codes "Time", time) ∷ (codes "Manufacturer", number) ∷ (codes "Data", content) ∷ [])
+          ∙ ap (λ (l : List ℕ). concat (labelled (codes "Time") time ∷ labelled (codes "Manufacturer") l ∷ labelled (codes "Data") content ∷ [])) number_is
+          ∙ ap (λ (l : List ℕ). concat (labelled (codes "Time") time ∷ labelled (codes "Manufacturer") (manufacturer_text (manufacturer bytes)) ∷ labelled (codes "Data") l ∷ [])) content_is;
+    }
+
+-- ---- infos
+
+pub count_lines_made : (version records free : ℕ) (bytes text : List ℕ) → version ≡ info_version bytes → records ≡ record_count bytes → free ≡ free_space bytes
+    → text ≡ codes "Version: 0x" ++ (hex_byte version ++ (codes "\nRecords: " ++ (decimal records ++ (codes "\nFree Space: " ++ (decimal free ++ codes "\n"))))) → text ≡ count_lines bytes
+count_lines_made version records free bytes text version_is records_is free_is text_is = text_is
+    ∙ lines_joined ((codes "Version", codes "0x" ++ hex_byte version) ∷ (codes "Records", decimal records) ∷ (codes "Free Space", decimal free) ∷ [])
+    ∙ ap (λ (n : ℕ). parts n records free) version_is
+    ∙ ap (λ (n : ℕ). parts (info_version bytes) n free) records_is
+    ∙ ap (parts (info_version bytes) (record_count bytes)) free_is
+  where
+    parts : ℕ → ℕ → ℕ → List ℕ
+    parts v r f = concat (labelled (codes "Version") (codes "0x" ++ hex_byte v) ∷ labelled (codes "Records") (decimal r) ∷ labelled (codes "Free Space") (decimal f) ∷ [])
+
+pub time_lines_made : (added erased : ℕ) (bytes addition erase text : List ℕ) → added ≡ last_addition bytes → IsUtcTextOf added addition → erased ≡ last_erase bytes → IsUtcTextOf erased erase
+    → text ≡ codes "Last Addition: " ++ (addition ++ (codes "\nLast Erase: " ++ (erase ++ codes "\n"))) → AreTimeLines bytes text
+time_lines_made added erased bytes addition erase text added_is is_addition erased_is is_erase text_is =
+    record {
+      addition = addition;
+      erase = erase;
+      is_addition = subst (λ (s : ℕ). IsUtcTextOf s addition) added_is is_addition;
+      is_erase = subst (λ (s : ℕ). IsUtcTextOf s erase) erased_is is_erase;
+      text_is = text_is ∙ lines_joined ((codes "Last Addition", addition) ∷ (codes "Last Erase", erase) ∷ []);
+    }
+
+pub info_made : (bytes counts times last text : List ℕ) → counts ≡ count_lines bytes → AreTimeLines bytes times → last ≡ support_lines bytes → text ≡ counts ++ (times ++ last) → IsInfoBlock bytes text
+info_made bytes counts times last text counts_are are_times last_is text_is =
+    record { times = times; are_times = are_times; text_is = text_is ∙ ap (λ (l : List ℕ). l ++ (times ++ last)) counts_are ∙ ap (λ (l : List ℕ). count_lines bytes ++ (times ++ l)) last_is }

@@ -1,0 +1,9 @@
+use Rattle.std.proofs.Common.{◌∙◌}
+use Rattle.std.specs.Fmt.{decimal}
+use Rattle.std.proofs.lemmas.Result.{IfOk-weaker}
+use Rattle.ipmi_records.specs.Bytes.{byte_h}
+use Rattle.ipmi_records.proofs.TextLemmas.{key_lines_joined}
+use Rattle.ipmi_records.proofs.block.key_lines.Goals as goal
+
+pub returns : goal.returns
+returns c = IfOk-weaker c.format.result _ _ (λ t h. h ∙ key_lines_joined (byte_h c.args.sensor.now.owner) (decimal c.args.sensor.now.lun) (byte_h c.args.sensor.now.number)) c.format.ensures.ok

@@ -1,0 +1,5 @@
+use Rattle.ipmi_records.proofs.UniqueLemmas.{one_sdr_line}
+use Rattle.ipmi_records.proofs.laws.one_sdr_line.Goals as goal
+
+pub returns : goal.returns
+returns c = one_sdr_line

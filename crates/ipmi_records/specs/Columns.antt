@@ -1,0 +1,127 @@
+-- The reading column and the status of a line (the project's own). Readings are as Get Sensor Reading answers (IPMI v2.0, section
+-- 35.14).
+use Rattle.std.specs.Prelude.{◌≡◌, ℕ, ◌+◌, ◌*◌, ◌%◌, ◌==◌, ◌&&◌, ◌||◌, not, Bool, true, false, if◌then◌else◌, ℤ, Option, Some, None, List, [], ◌∷◌, ◌++◌, codes}
+use Rattle.std.specs.Fmt.{decimal}
+use Rattle.ipmi_text.specs.Decimal.{IsDecimalOf}
+use Rattle.ipmi_text.specs.Hex.{hex_byte}
+use Rattle.ipmi_text.specs.ReadingValue.{reading_value}
+use Rattle.ipmi_text.specs.Units.{unit_text_of}
+use Rattle.ipmi_text.specs.declared.reading.Reading.{Reading}
+use Rattle.ipmi_records.specs.declared.column.Shown.{Shown}
+use Rattle.ipmi_records.specs.declared.column.Shown.TheVariants as shown
+use Rattle.ipmi_records.specs.declared.sdr.SdrView.{SdrView}
+use Rattle.ipmi_records.specs.declared.sdr.SdrView.TheVariants.{Full, Compact, EventOnly, Generic, Fru, Controller, Other}
+use Rattle.ipmi_records.specs.declared.sensor.Sensor.{Sensor}
+use Rattle.ipmi_records.specs.Bytes.{byte_h, has_bit, hex_word}
+use Rattle.ipmi_records.specs.Sdr.{fru_in, own_address, record_type}
+use Rattle.ipmi_records.specs.Sensor.{analog_format, compact_sensor, factors_in, full_sensor, locator_in, units_in}
+
+-- ---- what a sensor shows
+
+-- scanning is enabled (bit 6 of the flags), and the reading is not unavailable (bit 5)
+abbrev pub is_there : Reading → Bool
+is_there reading = has_bit 6 reading.flags && not (has_bit 5 reading.flags)
+
+abbrev pub shown_reading : Option Reading → Shown
+shown_reading None = shown.NoReading
+shown_reading (Some reading) = if is_there reading then shown.Value reading else shown.NoReading
+
+-- the first that holds: the sensor is another controller's, it has no reading, it has one
+abbrev pub shown_of : Sensor → Option Reading → Shown
+shown_of sensor reading = if sensor.owner == own_address then shown_reading reading else shown.OtherOwner
+
+-- ---- values
+
+-- nothing for an empty text, else a space and the text
+abbrev pub after_space : List ℕ → List ℕ
+after_space [] = []
+after_space (c ∷ text) = 32 ∷ c ∷ text
+
+abbrev pub unit_text_in : List ℕ → List ℕ
+unit_text_in bytes = unit_text_of (units_in bytes).units1 (units_in bytes).base (units_in bytes).modifier
+
+-- the decimal of a value and its unit
+pub record IsQuantity (value : ℤ) (unit text : List ℕ) : Type 0 where
+  pub number : List ℕ
+  pub is_decimal : IsDecimalOf value number
+  pub text_is : text ≡ number ++ after_space unit
+
+abbrev pub IsValueText : Option ℤ → List ℕ → ℕ → List ℕ → Type 0
+IsValueText None unit raw text = text ≡ codes "raw 0x" ++ hex_byte raw
+IsValueText (Some value) unit raw text = IsQuantity value unit text
+
+-- what a raw byte of a full record's sensor means: its value by the record's factors, with its unit, or the byte itself where
+-- the sensor has no analog reading or is not linear
+abbrev pub IsRawText : List ℕ → ℕ → List ℕ → Type 0
+IsRawText bytes raw text = IsValueText (reading_value (factors_in bytes) raw) (unit_text_in bytes) raw text
+
+-- the 15 states of a discrete sensor, those from 8 on above the others
+abbrev pub states_text : Reading → List ℕ
+states_text reading = codes "states 0x" ++ hex_word (256 * (reading.more % 128) + reading.status)
+
+-- ---- the reading column
+
+abbrev pub IsAnalogColumn : Bool → List ℕ → Reading → List ℕ → Type 0
+IsAnalogColumn false bytes reading text = text ≡ states_text reading
+IsAnalogColumn true bytes reading text = IsRawText bytes reading.raw text
+
+-- of a full record: the states where the analog format is 3, else the value
+abbrev pub has_analog : List ℕ → Bool
+has_analog bytes = not (analog_format bytes == 3)
+
+abbrev pub IsFullColumn : List ℕ → Shown → List ℕ → Type 0
+IsFullColumn bytes shown.OtherOwner text = text ≡ codes "other owner"
+IsFullColumn bytes shown.NoReading text = text ≡ codes "no reading"
+IsFullColumn bytes (shown.Value reading) text = IsAnalogColumn (has_analog bytes) bytes reading text
+
+-- of a compact record: always the states
+abbrev pub compact_column : Shown → List ℕ
+compact_column shown.OtherOwner = codes "other owner"
+compact_column shown.NoReading = codes "no reading"
+compact_column (shown.Value reading) = states_text reading
+
+-- of a FRU locator: the device, or that its inventory is not read
+abbrev pub fru_column : Option ℕ → List ℕ
+fru_column None = codes "elsewhere"
+fru_column (Some fru) = codes "FRU " ++ decimal fru
+
+abbrev pub type_text : ℕ → List ℕ
+type_text type = codes "record type 0x" ++ hex_byte type
+
+abbrev pub IsReadingColumn : SdrView → Option Reading → List ℕ → Type 0
+IsReadingColumn (Full bytes) reading text = IsFullColumn bytes (shown_of (full_sensor bytes) reading) text
+IsReadingColumn (Compact bytes) reading text = text ≡ compact_column (shown_of (compact_sensor bytes) reading)
+IsReadingColumn (EventOnly bytes) reading text = text ≡ codes "event only"
+IsReadingColumn (Generic bytes) reading text = text ≡ codes "generic device"
+IsReadingColumn (Fru bytes) reading text = text ≡ fru_column (fru_in bytes)
+IsReadingColumn (Controller bytes) reading text = text ≡ codes "controller " ++ byte_h (locator_in bytes).address
+IsReadingColumn (Other bytes) reading text = text ≡ type_text (record_type bytes)
+
+-- ---- the status
+
+-- of a threshold sensor by the worst threshold that is passed, upper or lower: bits 5 and 2 are the non-recoverable ones, 4 and 1
+-- the critical, 3 and 0 the non-critical
+abbrev pub threshold_status : ℕ → List ℕ
+threshold_status status =
+    if has_bit 5 status || has_bit 2 status then codes "nr"
+    else if has_bit 4 status || has_bit 1 status then codes "cr"
+    else if has_bit 3 status || has_bit 0 status then codes "nc"
+    else codes "ok"
+
+-- only sensors of event/reading type 01h have thresholds
+abbrev pub has_thresholds : Sensor → Bool
+has_thresholds sensor = sensor.event_type == 0x01
+
+abbrev pub sensor_status : Sensor → Shown → List ℕ
+sensor_status sensor shown.OtherOwner = codes "na"
+sensor_status sensor shown.NoReading = codes "ns"
+sensor_status sensor (shown.Value reading) = if has_thresholds sensor then threshold_status reading.status else codes "ok"
+
+abbrev pub status_of : SdrView → Option Reading → List ℕ
+status_of (Full bytes) reading = sensor_status (full_sensor bytes) (shown_of (full_sensor bytes) reading)
+status_of (Compact bytes) reading = sensor_status (compact_sensor bytes) (shown_of (compact_sensor bytes) reading)
+status_of (EventOnly bytes) reading = codes "na"
+status_of (Generic bytes) reading = codes "na"
+status_of (Fru bytes) reading = codes "na"
+status_of (Controller bytes) reading = codes "na"
+status_of (Other bytes) reading = codes "na"

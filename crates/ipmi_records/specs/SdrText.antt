@@ -1,0 +1,184 @@
+-- The texts of sensor data records (the project's own): the line, the extended line, the block, and the line of a record that has
+-- no view.
+use Rattle.std.specs.Prelude.{◌≡◌, ℕ, Option, Some, None, unwrap_or, Bool, true, false, if◌then◌else◌, List, [], ◌∷◌, ◌++◌, codes}
+use Rattle.std.specs.Fmt.{decimal}
+use Rattle.std.specs.List.{concat}
+use Rattle.ipmi_text.specs.SensorTypes.{sensor_type_text_of}
+use Rattle.ipmi_text.specs.declared.reading.Reading.{Reading}
+use Rattle.ipmi_records.specs.declared.sdr.SdrFault.{SdrFault}
+use Rattle.ipmi_records.specs.declared.sdr.SdrFault.TheVariants.{Short, Length, BodyShort}
+use Rattle.ipmi_records.specs.declared.sdr.SdrView.{SdrView}
+use Rattle.ipmi_records.specs.declared.sdr.SdrView.TheVariants.{Full, Compact, EventOnly, Generic, Fru, Controller, Other}
+use Rattle.ipmi_records.specs.declared.sensor.Entity.{Entity}
+use Rattle.ipmi_records.specs.declared.sensor.Sensor.{Sensor}
+use Rattle.ipmi_records.specs.declared.sensor.Threshold.{Threshold}
+use Rattle.ipmi_records.specs.declared.sensor.Threshold.TheVariants.{UpperNonRecoverable, UpperCritical, UpperNonCritical, LowerNonRecoverable, LowerCritical, LowerNonCritical}
+use Rattle.ipmi_records.specs.declared.locator.Locator.{Locator}
+use Rattle.ipmi_records.specs.Bytes.{columns_line, padded_to, byte_h, word_h}
+use Rattle.ipmi_text.specs.Lines.{labelled}
+use Rattle.ipmi_records.specs.Sdr.{locator_of, name_of, record_type, sensor_of}
+use Rattle.ipmi_records.specs.Sensor.{full_sensor, is_readable, threshold_in}
+use Rattle.ipmi_records.specs.Columns.{IsRawText, IsReadingColumn, has_thresholds, status_of, type_text}
+
+-- ---- lines
+
+-- what stands for a name; a record of another type has none
+abbrev pub printed_name : SdrView → List ℕ
+printed_name view = unwrap_or (name_of view) []
+
+-- name, reading and status
+abbrev pub line_text : List ℕ → List ℕ → List ℕ → List ℕ
+line_text name reading status = columns_line (padded_to 16 name ∷ padded_to 17 reading ∷ status ∷ [])
+
+pub record IsSdrLine (view : SdrView) (reading : Option Reading) (text : List ℕ) : Type 0 where
+  pub column : List ℕ
+  pub is_column : IsReadingColumn view reading column
+  pub text_is : text ≡ line_text (printed_name view) column (status_of view reading)
+
+-- ---- extended lines
+
+-- the number of a sensor, dashes for other records
+abbrev pub number_text : Option Sensor → List ℕ
+number_text None = codes "--h"
+number_text (Some sensor) = byte_h sensor.number
+
+abbrev pub entity_text : Entity → List ℕ
+entity_text entity = decimal entity.id ++ (codes "." ++ decimal entity.instance)
+
+-- the entity of a sensor or a device, a dash for other records
+abbrev pub entity_column : Option Sensor → Option Locator → List ℕ
+entity_column (Some sensor) locator = entity_text sensor.entity
+entity_column None (Some locator) = entity_text locator.entity
+entity_column None None = codes "-"
+
+-- name, sensor number, status, entity and reading
+abbrev pub extended_text : SdrView → List ℕ → List ℕ → List ℕ
+extended_text view status reading =
+    columns_line (
+    padded_to 16 (printed_name view)
+    ∷ number_text (sensor_of view)
+    ∷ padded_to 3 status
+    ∷ padded_to 5 (entity_column (sensor_of view) (locator_of view))
+    ∷ reading
+    ∷ [])
+
+pub record IsExtendedLine (view : SdrView) (reading : Option Reading) (text : List ℕ) : Type 0 where
+  pub column : List ℕ
+  pub is_column : IsReadingColumn view reading column
+  pub text_is : text ≡ extended_text view (status_of view reading) column
+
+-- ---- the line of a fault
+
+abbrev pub fault_text : SdrFault → List ℕ
+fault_text Short = codes "short"
+fault_text Length = codes "wrong length"
+fault_text BodyShort = codes "body too short"
+
+abbrev pub fault_line : ℕ → SdrFault → List ℕ
+fault_line id fault = labelled (codes "record " ++ word_h id) (fault_text fault)
+
+-- ---- blocks
+
+abbrev pub kind_text : SdrView → List ℕ
+kind_text (Full bytes) = codes "full"
+kind_text (Compact bytes) = codes "compact"
+kind_text (EventOnly bytes) = codes "event-only"
+kind_text (Generic bytes) = codes "generic locator"
+kind_text (Fru bytes) = codes "FRU locator"
+kind_text (Controller bytes) = codes "controller locator"
+kind_text (Other bytes) = type_text (record_type bytes)
+
+abbrev pub name_line : Option (List ℕ) → List ℕ
+name_line None = []
+name_line (Some name) = labelled (codes "Name") name
+
+abbrev pub head_lines : ℕ → SdrView → List ℕ
+head_lines id view =
+    labelled (codes "Record") (word_h id) ++ (labelled (codes "Type") (kind_text view) ++ name_line (name_of view))
+
+-- where the sensor is asked for
+abbrev pub key_lines : Sensor → List ℕ
+key_lines sensor =
+    labelled (codes "Owner") (byte_h sensor.owner ++ (codes " LUN " ++ decimal sensor.lun)) ++ labelled (codes "Sensor") (byte_h sensor.number)
+
+-- what it senses
+abbrev pub subject_lines : Sensor → List ℕ
+subject_lines sensor = concat (
+    labelled (codes "Entity") (entity_text sensor.entity)
+    ∷ labelled (codes "Kind") (sensor_type_text_of sensor.sensor_type)
+    ∷ labelled (codes "Event type") (byte_h sensor.event_type)
+    ∷ [])
+
+-- what the record tells of its sensor
+abbrev pub sensor_lines : Option Sensor → List ℕ
+sensor_lines None = []
+sensor_lines (Some sensor) = key_lines sensor ++ subject_lines sensor
+
+-- what the record tells of its device
+abbrev pub locator_lines : Option Locator → List ℕ
+locator_lines None = []
+locator_lines (Some locator) =
+    labelled (codes "Address") (byte_h locator.address) ++ labelled (codes "Entity") (entity_text locator.entity)
+
+-- the two columns of a line, a line for each
+pub record AreReadingLines (view : SdrView) (reading : Option Reading) (text : List ℕ) : Type 0 where
+  pub column : List ℕ
+  pub is_column : IsReadingColumn view reading column
+  pub text_is : text ≡ labelled (codes "Reading") column ++ labelled (codes "Status") (status_of view reading)
+
+abbrev pub threshold_name : Threshold → List ℕ
+threshold_name UpperNonRecoverable = codes "Upper non-recoverable"
+threshold_name UpperCritical = codes "Upper critical"
+threshold_name UpperNonCritical = codes "Upper non-critical"
+threshold_name LowerNonRecoverable = codes "Lower non-recoverable"
+threshold_name LowerCritical = codes "Lower critical"
+threshold_name LowerNonCritical = codes "Lower non-critical"
+
+-- the value of a threshold
+pub record IsThresholdLine (bytes : List ℕ) (threshold : Threshold) (text : List ℕ) : Type 0 where
+  pub value : List ℕ
+  pub is_value : IsRawText bytes (threshold_in threshold bytes) value
+  pub text_is : text ≡ labelled (threshold_name threshold) value
+
+-- no line where the threshold can't be read
+abbrev pub IsThresholdText : Bool → List ℕ → Threshold → List ℕ → Type 0
+IsThresholdText false bytes threshold text = text ≡ []
+IsThresholdText true bytes threshold text = IsThresholdLine bytes threshold text
+
+abbrev pub AreThresholdTexts : List ℕ → List Threshold → List ℕ → Type 0
+AreThresholdTexts bytes [] text = text ≡ []
+AreThresholdTexts bytes (threshold ∷ thresholds) text =
+    (line more : List ℕ) × (IsThresholdText (is_readable threshold bytes) bytes threshold line × (AreThresholdTexts bytes thresholds more × (text ≡ line ++ more)))
+
+-- the thresholds in the order of their bits, from bit 5 down
+abbrev pub all_thresholds : List Threshold
+all_thresholds =
+    UpperNonRecoverable ∷ UpperCritical ∷ UpperNonCritical ∷ LowerNonRecoverable ∷ LowerCritical ∷ LowerNonCritical ∷ []
+
+-- a sensor without thresholds has no line of one
+abbrev pub thresholds_of : Sensor → List Threshold
+thresholds_of sensor = if has_thresholds sensor then all_thresholds else []
+
+-- a full record: its reading and its readable thresholds
+pub record AreFullLines (bytes : List ℕ) (reading : Option Reading) (text : List ℕ) : Type 0 where
+  pub columns : List ℕ
+  pub thresholds : List ℕ
+  pub are_columns : AreReadingLines (Full bytes) reading columns
+  pub are_thresholds : AreThresholdTexts bytes (thresholds_of (full_sensor bytes)) thresholds
+  pub text_is : text ≡ columns ++ thresholds
+
+-- what is known of the sensor's values: of a full and of a compact record alone
+abbrev pub AreValueLines : SdrView → Option Reading → List ℕ → Type 0
+AreValueLines (Full bytes) reading text = AreFullLines bytes reading text
+AreValueLines (Compact bytes) reading text = AreReadingLines (Compact bytes) reading text
+AreValueLines (EventOnly bytes) reading text = text ≡ []
+AreValueLines (Generic bytes) reading text = text ≡ []
+AreValueLines (Fru bytes) reading text = text ≡ []
+AreValueLines (Controller bytes) reading text = text ≡ []
+AreValueLines (Other bytes) reading text = text ≡ []
+
+-- the block of a record, with an empty line at its end
+pub record IsSdrBlock (id : ℕ) (view : SdrView) (reading : Option Reading) (text : List ℕ) : Type 0 where
+  pub values : List ℕ
+  pub are_values : AreValueLines view reading values
+  pub text_is : text ≡ concat (head_lines id view ∷ sensor_lines (sensor_of view) ∷ locator_lines (locator_of view) ∷ values ∷ codes "\n" ∷ [])

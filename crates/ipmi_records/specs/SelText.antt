@@ -1,0 +1,107 @@
+-- The texts of the event log's entries (the project's own): the line and the block.
+use Rattle.std.specs.Prelude.{◌≡◌, ℕ, ◌/◌, ◌%◌, Bool, if◌then◌else◌, List, [], ◌∷◌, ◌++◌, slice_index, codes}
+use Rattle.std.specs.List.{concat}
+use Rattle.ipmi_text.specs.Events.{event_text_of}
+use Rattle.ipmi_text.specs.FieldText.{binary_text}
+use Rattle.ipmi_text.specs.Hex.{hex_byte}
+use Rattle.ipmi_text.specs.SensorTypes.{sensor_type_text_of}
+use Rattle.ipmi_text.specs.Times.{IsUtcTextOf}
+use Rattle.ipmi_records.specs.declared.sel.SelView.{SelView}
+use Rattle.ipmi_records.specs.declared.sel.SelView.TheVariants.{Event, OemTimed, OemPlain, Other}
+use Rattle.ipmi_records.specs.Bytes.{columns_line, hex_word, byte_h, word_h}
+use Rattle.ipmi_text.specs.Lines.{labelled}
+use Rattle.ipmi_records.specs.Columns.{type_text}
+use Rattle.ipmi_records.specs.Sel.{entry_bytes, entry_type, event_data, event_type, generator, is_deasserted, manufacturer, oem_data, plain_data, revision, sensor_number, sensor_type, time_stamp}
+
+-- ---- fields
+
+-- the sensor of an event: what it senses, and its number
+abbrev pub sensor_text : List ℕ → List ℕ
+sensor_text bytes = sensor_type_text_of (sensor_type bytes) ++ (codes " #0x" ++ hex_byte (sensor_number bytes))
+
+-- the words of an event, by its type and the first byte of its data
+abbrev pub words_of_event : List ℕ → List ℕ
+words_of_event bytes = event_text_of (event_type bytes) (slice_index (event_data bytes) 0)
+
+abbrev pub direction_text : Bool → List ℕ
+direction_text deasserted = if deasserted then codes "Deasserted" else codes "Asserted"
+
+-- a manufacturer's number, three bytes, as six hex digits, the highest first
+abbrev pub manufacturer_text : ℕ → List ℕ
+manufacturer_text n = hex_byte (n / 65536 % 256) ++ hex_word (n % 65536)
+
+abbrev pub oem_text : ℕ → List ℕ
+oem_text type = codes "OEM record 0x" ++ hex_byte type
+
+-- ---- lines
+
+pub record IsEventLine (id : ℕ) (bytes text : List ℕ) : Type 0 where
+  pub time : List ℕ
+  pub is_time : IsUtcTextOf (time_stamp bytes) time
+  pub text_is : text ≡ columns_line (hex_word id ∷ time ∷ sensor_text bytes ∷ words_of_event bytes ∷ direction_text (is_deasserted bytes) ∷ [])
+
+pub record IsOemLine (id : ℕ) (bytes text : List ℕ) : Type 0 where
+  pub time : List ℕ
+  pub is_time : IsUtcTextOf (time_stamp bytes) time
+  pub text_is : text ≡ columns_line (hex_word id ∷ time ∷ oem_text (entry_type bytes) ∷ manufacturer_text (manufacturer bytes) ∷ binary_text (oem_data bytes) ∷ [])
+
+abbrev pub plain_line : ℕ → List ℕ → List ℕ → List ℕ
+plain_line id type bytes = columns_line (hex_word id ∷ type ∷ binary_text (plain_data bytes) ∷ [])
+
+abbrev pub IsSelLine : ℕ → SelView → List ℕ → Type 0
+IsSelLine id (Event bytes) text = IsEventLine id bytes text
+IsSelLine id (OemTimed bytes) text = IsOemLine id bytes text
+IsSelLine id (OemPlain bytes) text = text ≡ plain_line id (oem_text (entry_type bytes)) bytes
+IsSelLine id (Other bytes) text = text ≡ plain_line id (type_text (entry_type bytes)) bytes
+
+-- ---- blocks
+
+-- when an event came, and from what
+pub record AreOriginLines (bytes text : List ℕ) : Type 0 where
+  pub time : List ℕ
+  pub is_time : IsUtcTextOf (time_stamp bytes) time
+  pub text_is : text ≡ concat (
+      labelled (codes "Time") time
+      ∷ labelled (codes "Generator") (word_h (generator bytes))
+      ∷ labelled (codes "Revision") (byte_h (revision bytes))
+      ∷ [])
+
+-- what it says
+abbrev pub event_body_lines : List ℕ → List ℕ
+event_body_lines bytes = concat (
+    labelled (codes "Sensor") (sensor_text bytes)
+    ∷ labelled (codes "Event") (words_of_event bytes)
+    ∷ labelled (codes "Direction") (direction_text (is_deasserted bytes))
+    ∷ labelled (codes "Data") (binary_text (event_data bytes))
+    ∷ [])
+
+pub record AreEventLines (bytes text : List ℕ) : Type 0 where
+  pub origin : List ℕ
+  pub are_origin : AreOriginLines bytes origin
+  pub text_is : text ≡ origin ++ event_body_lines bytes
+
+pub record AreOemLines (bytes text : List ℕ) : Type 0 where
+  pub time : List ℕ
+  pub is_time : IsUtcTextOf (time_stamp bytes) time
+  pub text_is : text ≡ concat (
+      labelled (codes "Time") time
+      ∷ labelled (codes "Manufacturer") (manufacturer_text (manufacturer bytes))
+      ∷ labelled (codes "Data") (binary_text (oem_data bytes))
+      ∷ [])
+
+abbrev pub AreFieldLines : SelView → List ℕ → Type 0
+AreFieldLines (Event bytes) text = AreEventLines bytes text
+AreFieldLines (OemTimed bytes) text = AreOemLines bytes text
+AreFieldLines (OemPlain bytes) text = text ≡ labelled (codes "Data") (binary_text (plain_data bytes))
+AreFieldLines (Other bytes) text = text ≡ labelled (codes "Data") (binary_text (plain_data bytes))
+
+-- the block of an entry, with an empty line at its end
+pub record IsSelBlock (id : ℕ) (view : SelView) (text : List ℕ) : Type 0 where
+  pub fields : List ℕ
+  pub are_fields : AreFieldLines view fields
+  pub text_is : text ≡ concat (
+      labelled (codes "Record") (word_h id)
+      ∷ labelled (codes "Type") (byte_h (entry_type (entry_bytes view)))
+      ∷ fields
+      ∷ codes "\n"
+      ∷ [])

@@ -1,0 +1,197 @@
+//! The block of a sensor data record.
+ghost use Rattle.std.specs.Prelude.{◌≡◌, IfOk, string_bytes};
+ghost use Rattle.ipmi_records.specs.Sdr.{name_of};
+ghost use Rattle.ipmi_records.specs.Sensor.{is_readable};
+ghost use Rattle.ipmi_records.specs.SdrText.{AreReadingLines, AreThresholdTexts, AreValueLines, IsSdrBlock, IsThresholdText, all_thresholds, head_lines, key_lines, kind_text, locator_lines, name_line, sensor_lines, subject_lines, threshold_name, thresholds_of};
+
+use crate::column::{has_thresholds, raw_text, reading_column, status_of, type_text};
+use crate::digits::{ByteH, WordH};
+use crate::locator::Locator;
+use crate::sdr::SdrView;
+use crate::sensor::{FullSensor, Sensor, Threshold};
+use ipmi_text::{Reading, sensor_type_text};
+use std::alloc::{AllocError, Global};
+
+/// What a record is.
+fn kind_text(alloc: Global, view: &SdrView) -> Result<String, AllocError>
+    ensures { IfOk result (λ text. string_bytes text ≡ kind_text view.now) }
+{
+    match view {
+        SdrView::Full(_) => String::from_str(alloc, "full"),
+        SdrView::Compact(_) => String::from_str(alloc, "compact"),
+        SdrView::EventOnly(_) => String::from_str(alloc, "event-only"),
+        SdrView::Generic(_) => String::from_str(alloc, "generic locator"),
+        SdrView::Fru(_) => String::from_str(alloc, "FRU locator"),
+        SdrView::Controller(_) => String::from_str(alloc, "controller locator"),
+        SdrView::Other(other) => type_text(alloc, other.bytes()[3]),
+    }
+}
+
+/// The line of the name, where there is one.
+fn name_line(alloc: Global, view: &SdrView) -> Result<String, AllocError>
+    ensures { IfOk result (λ text. string_bytes text ≡ name_line (name_of view.now)) }
+{
+    match view.name(alloc)? {
+        Some(name) => format!(in alloc; "Name: {name}\n"),
+        None => Ok(String::new(alloc)),
+    }
+}
+
+/// The lines that every record has.
+fn head_lines(alloc: Global, id: u16, view: &SdrView) -> Result<String, AllocError>
+    ensures { IfOk result (λ text. string_bytes text ≡ head_lines id view.now) }
+{
+    let id = WordH(id);
+    let kind = kind_text(alloc, view)?;
+    let name = name_line(alloc, view)?;
+    format!(in alloc; "Record: {id}\nType: {kind}\n{name}")
+}
+
+/// Where a sensor is asked for.
+fn key_lines(alloc: Global, sensor: &Sensor) -> Result<String, AllocError>
+    ensures { IfOk result (λ text. string_bytes text ≡ key_lines sensor.now) }
+{
+    let owner = ByteH(sensor.owner);
+    let lun = sensor.lun;
+    let number = ByteH(sensor.number);
+    format!(in alloc; "Owner: {owner} LUN {lun}\nSensor: {number}\n")
+}
+
+/// What a sensor senses.
+fn subject_lines(alloc: Global, sensor: &Sensor) -> Result<String, AllocError>
+    ensures { IfOk result (λ text. string_bytes text ≡ subject_lines sensor.now) }
+{
+    let entity = sensor.entity;
+    let kind = sensor_type_text(alloc, sensor.sensor_type)?;
+    let event_type = ByteH(sensor.event_type);
+    format!(in alloc; "Entity: {entity}\nKind: {kind}\nEvent type: {event_type}\n")
+}
+
+/// What the record tells of its sensor.
+fn sensor_lines(alloc: Global, sensor: Option<Sensor>) -> Result<String, AllocError>
+    ensures { IfOk result (λ text. string_bytes text ≡ sensor_lines sensor) }
+{
+    let Some(sensor) = sensor else {
+        return Ok(String::new(alloc));
+    };
+    let key = key_lines(alloc, &sensor)?;
+    let subject = subject_lines(alloc, &sensor)?;
+    format!(in alloc; "{key}{subject}")
+}
+
+/// What the record tells of its device.
+fn locator_lines(alloc: Global, locator: Option<Locator>) -> Result<String, AllocError>
+    ensures { IfOk result (λ text. string_bytes text ≡ locator_lines locator) }
+{
+    let Some(locator) = locator else {
+        return Ok(String::new(alloc));
+    };
+    let address = ByteH(locator.address);
+    let entity = locator.entity;
+    format!(in alloc; "Address: {address}\nEntity: {entity}\n")
+}
+
+/// The two columns of a line, a line for each.
+fn reading_lines(
+    alloc: Global,
+    view: &SdrView,
+    reading: Option<Reading>,
+) -> Result<String, AllocError>
+    ensures { IfOk result (λ text. AreReadingLines view.now reading (string_bytes text)) }
+{
+    let column = reading_column(alloc, view, reading)?;
+    let status = status_of(view, reading);
+    format!(in alloc; "Reading: {column}\nStatus: {status}\n")
+}
+
+/// The name of a threshold.
+fn threshold_name(threshold: Threshold) -> &'static str
+    ensures { result.now ≡ threshold_name threshold }
+{
+    match threshold {
+        Threshold::UpperNonRecoverable => "Upper non-recoverable",
+        Threshold::UpperCritical => "Upper critical",
+        Threshold::UpperNonCritical => "Upper non-critical",
+        Threshold::LowerNonRecoverable => "Lower non-recoverable",
+        Threshold::LowerCritical => "Lower critical",
+        Threshold::LowerNonCritical => "Lower non-critical",
+    }
+}
+
+/// The line of a threshold, nothing where it can't be read.
+fn threshold_text(
+    alloc: Global,
+    full: &FullSensor,
+    threshold: Threshold,
+) -> Result<String, AllocError>
+    ensures { IfOk result (λ text. IsThresholdText (is_readable threshold full.now) full.now threshold (string_bytes text)) }
+{
+    if !full.is_readable(threshold) {
+        return Ok(String::new(alloc));
+    }
+    let name = threshold_name(threshold);
+    let value = raw_text(alloc, full, full.threshold(threshold))?;
+    format!(in alloc; "{name}: {value}\n")
+}
+
+/// The lines of all thresholds.
+fn all_thresholds(alloc: Global, full: &FullSensor) -> Result<String, AllocError>
+    ensures { IfOk result (λ text. AreThresholdTexts full.now all_thresholds (string_bytes text)) }
+{
+    let a = threshold_text(alloc, full, Threshold::UpperNonRecoverable)?;
+    let b = threshold_text(alloc, full, Threshold::UpperCritical)?;
+    let c = threshold_text(alloc, full, Threshold::UpperNonCritical)?;
+    let d = threshold_text(alloc, full, Threshold::LowerNonRecoverable)?;
+    let e = threshold_text(alloc, full, Threshold::LowerCritical)?;
+    let f = threshold_text(alloc, full, Threshold::LowerNonCritical)?;
+    format!(in alloc; "{a}{b}{c}{d}{e}{f}")
+}
+
+/// The lines of the thresholds that a full record's sensor has.
+fn threshold_lines(alloc: Global, full: &FullSensor, sensor: &Sensor) -> Result<String, AllocError>
+    ensures { IfOk result (λ text. AreThresholdTexts full.now (thresholds_of sensor.now) (string_bytes text)) }
+{
+    if has_thresholds(sensor) {
+        return all_thresholds(alloc, full);
+    }
+    Ok(String::new(alloc))
+}
+
+/// What is known of a sensor's values, where the record tells how to read them.
+fn value_lines(
+    alloc: Global,
+    view: &SdrView,
+    reading: Option<Reading>,
+) -> Result<String, AllocError>
+    ensures { IfOk result (λ text. AreValueLines view.now reading (string_bytes text)) }
+{
+    match view {
+        SdrView::Full(full) => {
+            let columns = reading_lines(alloc, view, reading)?;
+            let thresholds = threshold_lines(alloc, full, &full.sensor())?;
+            format!(in alloc; "{columns}{thresholds}")
+        }
+        SdrView::Compact(_) => reading_lines(alloc, view, reading),
+        SdrView::EventOnly(_) => Ok(String::new(alloc)),
+        SdrView::Generic(_) => Ok(String::new(alloc)),
+        SdrView::Fru(_) => Ok(String::new(alloc)),
+        SdrView::Controller(_) => Ok(String::new(alloc)),
+        SdrView::Other(_) => Ok(String::new(alloc)),
+    }
+}
+
+/// The block of a record under its id: a line for each thing that it tells, and an empty line. The reading is as for `sdr_line`.
+pub fn sdr_block(
+    alloc: Global,
+    id: u16,
+    view: &SdrView,
+    reading: Option<Reading>,
+) -> Result<String, AllocError>
+    ensures { IfOk result (λ text. IsSdrBlock id view.now reading (string_bytes text)) }
+{
+    let head = head_lines(alloc, id, view)?;
+    let sensor = sensor_lines(alloc, view.sensor())?;
+    let locator = locator_lines(alloc, view.locator())?;
+    let values = value_lines(alloc, view, reading)?;
+    format!(in alloc; "{head}{sensor}{locator}{values}\n")
+}

@@ -1,0 +1,120 @@
+//! Hex digits of a fixed number, columns of a fixed width, and single bits.
+ghost use Rattle.std.specs.Prelude.{◌≡◌, ◌<◌};
+ghost use Rattle.ipmi_records.specs.Bytes.{has_bit};
+
+use std::fmt;
+
+/// A byte, printed as two lower-case hex digits.
+#[derive(Clone, Copy, Debug)]
+pub(crate) struct HexByte(pub(crate) u8);
+
+impl fmt::Display for HexByte {
+    ghost use Rattle.std.specs.Prelude.{Some};
+    ghost use Rattle.ipmi_text.specs.Hex.{hex_byte};
+
+    ghost output = { λ byte. Some (hex_byte byte.0) };
+
+    #[tactic(auto, using(std::proofs::lemmas::Fmt::hex_byte))]
+    fn fmt<W: fmt::Write>(&self, f: &mut fmt::Formatter<W>) -> fmt::Result {
+        let byte = self.0;
+        write!(f, "{byte:02x}")
+    }
+}
+
+/// A byte, printed as two upper-case hex digits.
+#[derive(Clone, Copy, Debug)]
+struct UpperByte(u8);
+
+impl fmt::Display for UpperByte {
+    ghost use Rattle.std.specs.Prelude.{Some};
+    ghost use Rattle.ipmi_records.specs.Bytes.{upper_byte};
+
+    ghost output = { λ byte. Some (upper_byte byte.0) };
+
+    #[tactic(auto, using(std::proofs::lemmas::Fmt::hex_byte))]
+    fn fmt<W: fmt::Write>(&self, f: &mut fmt::Formatter<W>) -> fmt::Result {
+        let byte = self.0;
+        write!(f, "{byte:02X}")
+    }
+}
+
+/// A number of two bytes, printed as four lower-case hex digits.
+#[derive(Clone, Copy, Debug)]
+pub(crate) struct HexWord(pub(crate) u16);
+
+impl fmt::Display for HexWord {
+    ghost use Rattle.std.specs.Prelude.{Some};
+    ghost use Rattle.ipmi_records.specs.Bytes.{hex_word};
+
+    ghost output = { λ word. Some (hex_word word.0) };
+
+    fn fmt<W: fmt::Write>(&self, f: &mut fmt::Formatter<W>) -> fmt::Result {
+        let high = HexByte((self.0 / 256) as u8);
+        let low = HexByte((self.0 % 256) as u8);
+        write!(f, "{high}{low}")
+    }
+}
+
+/// A byte, printed as the standard writes it: two upper-case hex digits and an `h`.
+#[derive(Clone, Copy, Debug)]
+pub(crate) struct ByteH(pub(crate) u8);
+
+impl fmt::Display for ByteH {
+    ghost use Rattle.std.specs.Prelude.{Some};
+    ghost use Rattle.ipmi_records.specs.Bytes.{byte_h};
+
+    ghost output = { λ byte. Some (byte_h byte.0) };
+
+    fn fmt<W: fmt::Write>(&self, f: &mut fmt::Formatter<W>) -> fmt::Result {
+        let byte = UpperByte(self.0);
+        write!(f, "{byte}h")
+    }
+}
+
+/// A number of two bytes, printed as the standard writes it: four upper-case hex digits and an `h`.
+#[derive(Clone, Copy, Debug)]
+pub(crate) struct WordH(pub(crate) u16);
+
+impl fmt::Display for WordH {
+    ghost use Rattle.std.specs.Prelude.{Some};
+    ghost use Rattle.ipmi_records.specs.Bytes.{word_h};
+
+    ghost output = { λ word. Some (word_h word.0) };
+
+    fn fmt<W: fmt::Write>(&self, f: &mut fmt::Formatter<W>) -> fmt::Result {
+        let high = UpperByte((self.0 / 256) as u8);
+        let low = ByteH((self.0 % 256) as u8);
+        write!(f, "{high}{low}")
+    }
+}
+
+/// A text, and behind it spaces up to a width in characters. A longer text stands whole.
+#[derive(Clone, Copy, Debug)]
+pub(crate) struct Column<'a> {
+    pub(crate) text: &'a str,
+    pub(crate) width: usize,
+}
+
+impl<'a> fmt::Display for Column<'a> {
+    ghost use Rattle.std.specs.Prelude.{Some};
+    ghost use Rattle.ipmi_records.specs.Bytes.{padded_to};
+
+    ghost output = { λ column. Some (padded_to column.width column.text.now) };
+
+    fn fmt<W: fmt::Write>(&self, f: &mut fmt::Formatter<W>) -> fmt::Result {
+        let text = self.text;
+        let width = self.width;
+        // no text is longer than a precision can say, so none is cut
+        let len = text.len();
+        prove!(len <= usize::MAX);
+        write!(f, "{text:width$}")
+    }
+}
+
+/// A bit of a byte.
+pub(crate) fn has_bit(byte: u8, bit: u32) -> bool
+    requires { bit < 8 }
+    ensures { result ≡ has_bit bit byte }
+{
+    (byte >> bit) % 2 == 1
+}

@@ -1,0 +1,26 @@
+//! The ID string of a record.
+ghost use Rattle.std.specs.Prelude.{◌≡◌, ◌<◌, ◌≤◌, length};
+ghost use Rattle.ipmi_records.specs.Sdr.{id_field_at, id_field_of};
+
+/// The ID string of a record, as its type/length byte and the bytes behind it are (IPMI v2.0, section 43.15).
+#[derive(Clone, Copy, Debug)]
+pub struct IdString<'a> {
+    /// The type/length byte.
+    pub type_length: u8,
+    /// All bytes behind it.
+    pub rest: &'a [u8],
+}
+
+impl<'a> IdString<'a> {
+    /// The ID string whose type/length byte has this place, counted from 1.
+    pub(crate) fn at(bytes: &'a [u8], place: usize) -> IdString<'a>
+        requires low { 0 < place }
+        requires high { place ≤ length bytes.now }
+        ensures { id_field_of result ≡ id_field_at place bytes.now }
+    {
+        IdString {
+            type_length: bytes[place - 1],
+            rest: &bytes[place..],
+        }
+    }
+}

@@ -1,0 +1,81 @@
+//! The block of what a repository or a log tells of itself.
+ghost use Rattle.std.specs.Prelude.{◌≡◌, IfOk, string_bytes};
+ghost use Rattle.ipmi_records.specs.Info.{AreTimeLines, IsInfoBlock, count_lines, free_space, has_overflow, last_addition, last_erase, overflow_text, record_count, support_lines};
+
+use crate::digits::{HexByte, has_bit};
+use byteorder::{ByteOrder, LittleEndian};
+use ipmi_text::utc_text;
+use std::alloc::{AllocError, Global};
+
+/// How many records there are.
+fn record_count(bytes: &[u8; 14]) -> u16
+    ensures { result ≡ record_count bytes.now }
+{
+    LittleEndian::read_u16(&bytes[1..])
+}
+
+/// How many bytes are free.
+fn free_space(bytes: &[u8; 14]) -> u16
+    ensures { result ≡ free_space bytes.now }
+{
+    LittleEndian::read_u16(&bytes[3..])
+}
+
+/// When a record was added last.
+fn last_addition(bytes: &[u8; 14]) -> u32
+    ensures { result ≡ last_addition bytes.now }
+{
+    LittleEndian::read_u32(&bytes[5..])
+}
+
+/// When a record was erased last.
+fn last_erase(bytes: &[u8; 14]) -> u32
+    ensures { result ≡ last_erase bytes.now }
+{
+    LittleEndian::read_u32(&bytes[9..])
+}
+
+/// Whether a record was lost for want of room.
+fn overflow_text(bytes: &[u8; 14]) -> &'static str
+    ensures { result.now ≡ overflow_text (has_overflow bytes.now) }
+{
+    if has_bit(bytes[13], 7) { "yes" } else { "no" }
+}
+
+/// The version, the number of records and the free space.
+fn count_lines(alloc: Global, bytes: &[u8; 14]) -> Result<String, AllocError>
+    ensures { IfOk result (λ text. string_bytes text ≡ count_lines bytes.now) }
+{
+    let version = HexByte(bytes[0]);
+    let records = record_count(bytes);
+    let free = free_space(bytes);
+    format!(in alloc; "Version: 0x{version}\nRecords: {records}\nFree Space: {free}\n")
+}
+
+/// The two times.
+fn time_lines(alloc: Global, bytes: &[u8; 14]) -> Result<String, AllocError>
+    ensures { IfOk result (λ text. AreTimeLines bytes.now (string_bytes text)) }
+{
+    let addition = utc_text(alloc, last_addition(bytes))?;
+    let erase = utc_text(alloc, last_erase(bytes))?;
+    format!(in alloc; "Last Addition: {addition}\nLast Erase: {erase}\n")
+}
+
+/// Overflow, and the whole byte that it stands in.
+fn support_lines(alloc: Global, bytes: &[u8; 14]) -> Result<String, AllocError>
+    ensures { IfOk result (λ text. string_bytes text ≡ support_lines bytes.now) }
+{
+    let overflow = overflow_text(bytes);
+    let support = HexByte(bytes[13]);
+    format!(in alloc; "Overflow: {overflow}\nSupport: 0x{support}\n")
+}
+
+/// The block of the answer of Get SDR Repository Info or of Get SEL Info (IPMI v2.0, sections 33.9 and 31.2): seven lines.
+pub fn info_block(alloc: Global, bytes: &[u8; 14]) -> Result<String, AllocError>
+    ensures { IfOk result (λ text. IsInfoBlock bytes.now (string_bytes text)) }
+{
+    let counts = count_lines(alloc, bytes)?;
+    let times = time_lines(alloc, bytes)?;
+    let support = support_lines(alloc, bytes)?;
+    format!(in alloc; "{counts}{times}{support}")
+}

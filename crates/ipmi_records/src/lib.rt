@@ -1,0 +1,29 @@
+//! Sensor data records and entries of the event log: views of their bytes, and their texts (IPMI v2.0, sections 32 and 43).
+#![tactic(auto)]
+
+mod block;
+mod column;
+mod digits;
+mod id_string;
+mod info;
+pub mod laws;
+mod line;
+mod locator;
+mod log;
+mod sdr;
+mod sel;
+mod sensor;
+#[cfg(test)]
+mod tests;
+
+pub use block::sdr_block;
+pub use id_string::IdString;
+pub use info::info_block;
+pub use line::{sdr_eline, sdr_fault_line, sdr_line};
+pub use locator::{ControllerLocator, FruLocator, GenericLocator, Locator};
+pub use log::{sel_block, sel_line};
+pub use sdr::{OtherRecord, SdrFault, SdrView};
+pub use sel::{EventEntry, OemPlainEntry, OemTimedEntry, OtherEntry, SelView};
+pub use sensor::{
+    CompactSensor, Entity, EventOnlySensor, FullSensor, Sensor, SensorUnits, Threshold,
+};

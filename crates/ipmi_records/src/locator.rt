@@ -1,0 +1,209 @@
+//! The records of devices, and where their fields stand (IPMI v2.0, sections 43.7 to 43.9).
+ghost use Rattle.std.specs.Prelude.{◌≡◌, ◌≤◌, length};
+ghost use Rattle.ipmi_records.specs.Sdr.{fru_in, id_field_at, id_field_of, locator_id_place};
+ghost use Rattle.ipmi_records.specs.Sensor.{access_lun, fru_id, is_logical, locator_in};
+
+use crate::digits::has_bit;
+use crate::id_string::IdString;
+use crate::sdr::OWN_ADDRESS;
+use crate::sensor::Entity;
+use std::marker::Model;
+
+/// The byte of a locator's ID string type/length, counted from 1.
+const ID_PLACE: usize = 16;
+
+/// What all three kinds of locators tell of their device.
+#[derive(Clone, Copy, Debug, PartialEq, Eq)]
+pub struct Locator {
+    /// The address of the device, or of the controller that it is behind.
+    pub address: u8,
+    /// What the device belongs to.
+    pub entity: Entity,
+}
+
+/// What a locator's bytes tell of its device.
+fn locator_in(bytes: &[u8]) -> Locator
+    requires { 16 ≤ length bytes.now }
+    ensures { result ≡ locator_in bytes.now }
+{
+    Locator {
+        address: bytes[5],
+        entity: Entity::new(bytes[12], bytes[13]),
+    }
+}
+
+/// A generic device locator (section 43.7).
+#[derive(Drop)]
+pub struct GenericLocator<'a> {
+    bytes: &'a [u8],
+}
+
+impl<'a> Model for GenericLocator<'a> {
+    ghost use Rattle.std.specs.Prelude.{◌≤◌, List, ℕ, length};
+
+    ghost Value = { List ℕ };
+
+    ghost view = { λ v. v.bytes.now };
+
+    ghost invariant = { λ v. 16 ≤ length v.bytes.now };
+}
+
+impl<'a> GenericLocator<'a> {
+    /// The view of a record that is long enough.
+    pub(crate) fn new(bytes: &'a [u8]) -> GenericLocator<'a>
+        requires { 16 ≤ length bytes.now }
+        ensures { result ≡ bytes.now }
+    {
+        GenericLocator { bytes }
+    }
+
+    /// The bytes of the record.
+    pub(crate) fn bytes(&self) -> &'a [u8]
+        ensures value { result.now ≡ self.now }
+        ensures room { 16 ≤ length result.now }
+    {
+        self.bytes
+    }
+
+    /// The device.
+    pub fn locator(&self) -> Locator
+        ensures { result ≡ locator_in self.now }
+    {
+        locator_in(self.bytes)
+    }
+
+    /// The ID string.
+    pub fn id_string(&self) -> IdString<'a>
+        ensures { id_field_of result ≡ id_field_at locator_id_place self.now }
+    {
+        IdString::at(self.bytes, ID_PLACE)
+    }
+}
+
+/// A FRU device locator (section 43.8).
+#[derive(Drop)]
+pub struct FruLocator<'a> {
+    bytes: &'a [u8],
+}
+
+impl<'a> Model for FruLocator<'a> {
+    ghost use Rattle.std.specs.Prelude.{◌≤◌, List, ℕ, length};
+
+    ghost Value = { List ℕ };
+
+    ghost view = { λ v. v.bytes.now };
+
+    ghost invariant = { λ v. 16 ≤ length v.bytes.now };
+}
+
+impl<'a> FruLocator<'a> {
+    /// The view of a record that is long enough.
+    pub(crate) fn new(bytes: &'a [u8]) -> FruLocator<'a>
+        requires { 16 ≤ length bytes.now }
+        ensures { result ≡ bytes.now }
+    {
+        FruLocator { bytes }
+    }
+
+    /// The bytes of the record.
+    pub(crate) fn bytes(&self) -> &'a [u8]
+        ensures value { result.now ≡ self.now }
+        ensures room { 16 ≤ length result.now }
+    {
+        self.bytes
+    }
+
+    /// The device.
+    pub fn locator(&self) -> Locator
+        ensures { result ≡ locator_in self.now }
+    {
+        locator_in(self.bytes)
+    }
+
+    /// The FRU device id; of a device that is not logical, its address on the bus.
+    pub fn fru_id(&self) -> u8
+        ensures { result ≡ fru_id self.now }
+    {
+        self.bytes[6]
+    }
+
+    /// Whether the device is logical, behind a management controller.
+    pub fn is_logical(&self) -> bool
+        ensures { result ≡ is_logical self.now }
+    {
+        has_bit(self.bytes[7], 7)
+    }
+
+    /// The LUN at which the device is reached.
+    pub fn lun(&self) -> u8
+        ensures { result ≡ access_lun self.now }
+    {
+        self.bytes[7] / 8 % 4
+    }
+
+    /// The FRU device id, where the device is reached through the controller itself: logical, at its address, at LUN 0.
+    pub(crate) fn fru_of(&self) -> Option<u8>
+        ensures { result ≡ fru_in self.now }
+    {
+        if self.is_logical() && self.locator().address == OWN_ADDRESS && self.lun() == 0 {
+            Some(self.fru_id())
+        } else {
+            None
+        }
+    }
+
+    /// The ID string.
+    pub fn id_string(&self) -> IdString<'a>
+        ensures { id_field_of result ≡ id_field_at locator_id_place self.now }
+    {
+        IdString::at(self.bytes, ID_PLACE)
+    }
+}
+
+/// A management controller device locator (section 43.9).
+#[derive(Drop)]
+pub struct ControllerLocator<'a> {
+    bytes: &'a [u8],
+}
+
+impl<'a> Model for ControllerLocator<'a> {
+    ghost use Rattle.std.specs.Prelude.{◌≤◌, List, ℕ, length};
+
+    ghost Value = { List ℕ };
+
+    ghost view = { λ v. v.bytes.now };
+
+    ghost invariant = { λ v. 16 ≤ length v.bytes.now };
+}
+
+impl<'a> ControllerLocator<'a> {
+    /// The view of a record that is long enough.
+    pub(crate) fn new(bytes: &'a [u8]) -> ControllerLocator<'a>
+        requires { 16 ≤ length bytes.now }
+        ensures { result ≡ bytes.now }
+    {
+        ControllerLocator { bytes }
+    }
+
+    /// The bytes of the record.
+    pub(crate) fn bytes(&self) -> &'a [u8]
+        ensures value { result.now ≡ self.now }
+        ensures room { 16 ≤ length result.now }
+    {
+        self.bytes
+    }
+
+    /// The controller.
+    pub fn locator(&self) -> Locator
+        ensures { result ≡ locator_in self.now }
+    {
+        locator_in(self.bytes)
+    }
+
+    /// The ID string.
+    pub fn id_string(&self) -> IdString<'a>
+        ensures { id_field_of result ≡ id_field_at locator_id_place self.now }
+    {
+        IdString::at(self.bytes, ID_PLACE)
+    }
+}

@@ -1,0 +1,274 @@
+//! Sensor data records as views that borrow their bytes (IPMI v2.0, section 43).
+ghost use Rattle.std.specs.Prelude.{◌≡◌, ◌≤◌, IfOk, length, option_map, string_bytes};
+ghost use Rattle.ipmi_records.specs.Sdr.{body_len, fru_of, id_field_of, id_string_of, key_of, least_len, locator_of, name_of, reading_of, record_bytes, record_id, record_type, record_version, sdr_view_by_type, sdr_view_of, sensor_of};
+
+use crate::id_string::IdString;
+use crate::locator::{ControllerLocator, FruLocator, GenericLocator, Locator};
+use crate::sensor::{CompactSensor, EventOnlySensor, FullSensor, Sensor};
+use byteorder::{ByteOrder, LittleEndian};
+use ipmi_text::sdr_text;
+use std::alloc::{AllocError, Global};
+use std::marker::Model;
+use thiserror::Error;
+
+/// The address of the controller that holds the records.
+pub(crate) const OWN_ADDRESS: u8 = 0x20;
+
+/// The bytes of a record's header.
+const HEADER: usize = 5;
+
+/// Why bytes are no sensor data record. The first one that applies, in this order, is the answer.
+#[derive(Clone, Copy, Debug, PartialEq, Eq, Error)]
+pub enum SdrFault {
+    /// There are fewer bytes than the five of a header.
+    #[error("fewer bytes than a header has")]
+    Short,
+    /// There are more or fewer bytes than the header says.
+    #[error("more or fewer bytes than the header says")]
+    Length,
+    /// There are fewer bytes than a record of its type has.
+    #[error("fewer bytes than a record of its type has")]
+    BodyShort,
+}
+
+/// A record of a type that has no view of its own.
+#[derive(Drop)]
+pub struct OtherRecord<'a> {
+    bytes: &'a [u8],
+}
+
+impl<'a> Model for OtherRecord<'a> {
+    ghost use Rattle.std.specs.Prelude.{◌≤◌, List, ℕ, length};
+
+    ghost Value = { List ℕ };
+
+    ghost view = { λ v. v.bytes.now };
+
+    ghost invariant = { λ v. 5 ≤ length v.bytes.now };
+}
+
+impl<'a> OtherRecord<'a> {
+    /// The view of a record that is long enough.
+    fn new(bytes: &'a [u8]) -> OtherRecord<'a>
+        requires { 5 ≤ length bytes.now }
+        ensures { result ≡ bytes.now }
+    {
+        OtherRecord { bytes }
+    }
+
+    /// The bytes of the record.
+    pub(crate) fn bytes(&self) -> &'a [u8]
+        ensures value { result.now ≡ self.now }
+        ensures room { 5 ≤ length result.now }
+    {
+        self.bytes
+    }
+}
+
+/// A sensor data record, by its type.
+#[derive(Drop)]
+pub enum SdrView<'a> {
+    /// Type 01h.
+    Full(FullSensor<'a>),
+    /// Type 02h.
+    Compact(CompactSensor<'a>),
+    /// Type 03h.
+    EventOnly(EventOnlySensor<'a>),
+    /// Type 10h.
+    Generic(GenericLocator<'a>),
+    /// Type 11h.
+    Fru(FruLocator<'a>),
+    /// Type 12h.
+    Controller(ControllerLocator<'a>),
+    /// Any other type.
+    Other(OtherRecord<'a>),
+}
+
+/// The fewest bytes that a record of a type has.
+fn least_len(kind: u8) -> usize
+    ensures { result ≡ least_len kind }
+{
+    match kind {
+        0x01 => 48,
+        0x02 => 32,
+        0x03 => 17,
+        0x10 | 0x11 | 0x12 => 16,
+        _ => HEADER,
+    }
+}
+
+impl<'a> SdrView<'a> {
+    /// The view of a record that is long enough for its type.
+    fn of_type(kind: u8, bytes: &'a [u8]) -> SdrView<'a>
+        requires { least_len kind ≤ length bytes.now }
+        ensures { result ≡ sdr_view_by_type kind bytes.now }
+    {
+        match kind {
+            0x01 => SdrView::Full(FullSensor::new(bytes)),
+            0x02 => SdrView::Compact(CompactSensor::new(bytes)),
+            0x03 => SdrView::EventOnly(EventOnlySensor::new(bytes)),
+            0x10 => SdrView::Generic(GenericLocator::new(bytes)),
+            0x11 => SdrView::Fru(FruLocator::new(bytes)),
+            0x12 => SdrView::Controller(ControllerLocator::new(bytes)),
+            _ => SdrView::Other(OtherRecord::new(bytes)),
+        }
+    }
+
+    /// The record that bytes are, or the first fault that they have. The version byte is not checked.
+    pub fn read(bytes: &'a [u8]) -> Result<SdrView<'a>, SdrFault>
+        ensures { result ≡ sdr_view_of bytes.now }
+    {
+        if bytes.len() < HEADER {
+            return Err(SdrFault::Short);
+        }
+        if bytes.len() != HEADER + usize::from(bytes[4]) {
+            return Err(SdrFault::Length);
+        }
+        let kind = bytes[3];
+        if bytes.len() < least_len(kind) {
+            return Err(SdrFault::BodyShort);
+        }
+        Ok(SdrView::of_type(kind, bytes))
+    }
+
+    /// The bytes of the record.
+    pub fn bytes(&self) -> &'a [u8]
+        ensures value { result.now ≡ record_bytes self.now }
+        ensures room { 5 ≤ length result.now }
+    {
+        match self {
+            SdrView::Full(view) => view.bytes(),
+            SdrView::Compact(view) => view.bytes(),
+            SdrView::EventOnly(view) => view.bytes(),
+            SdrView::Generic(view) => view.bytes(),
+            SdrView::Fru(view) => view.bytes(),
+            SdrView::Controller(view) => view.bytes(),
+            SdrView::Other(view) => view.bytes(),
+        }
+    }
+
+    /// The record id in the header.
+    pub fn id(&self) -> u16
+        ensures { result ≡ record_id (record_bytes self.now) }
+    {
+        LittleEndian::read_u16(self.bytes())
+    }
+
+    /// The version of the record's format, 51h in IPMI v2.0.
+    pub fn version(&self) -> u8
+        ensures { result ≡ record_version (record_bytes self.now) }
+    {
+        self.bytes()[2]
+    }
+
+    /// The type of the record.
+    pub fn record_type(&self) -> u8
+        ensures { result ≡ record_type (record_bytes self.now) }
+    {
+        self.bytes()[3]
+    }
+
+    /// How many bytes follow the header.
+    pub fn body_len(&self) -> u8
+        ensures { result ≡ body_len (record_bytes self.now) }
+    {
+        self.bytes()[4]
+    }
+
+    /// What the record tells of its sensor, where it is of one.
+    pub fn sensor(&self) -> Option<Sensor>
+        ensures { result ≡ sensor_of self.now }
+    {
+        match self {
+            SdrView::Full(view) => Some(view.sensor()),
+            SdrView::Compact(view) => Some(view.sensor()),
+            SdrView::EventOnly(view) => Some(view.sensor()),
+            SdrView::Generic(_) => None,
+            SdrView::Fru(_) => None,
+            SdrView::Controller(_) => None,
+            SdrView::Other(_) => None,
+        }
+    }
+
+    /// What the record tells of its device, where it is of one.
+    pub fn locator(&self) -> Option<Locator>
+        ensures { result ≡ locator_of self.now }
+    {
+        match self {
+            SdrView::Full(_) => None,
+            SdrView::Compact(_) => None,
+            SdrView::EventOnly(_) => None,
+            SdrView::Generic(view) => Some(view.locator()),
+            SdrView::Fru(view) => Some(view.locator()),
+            SdrView::Controller(view) => Some(view.locator()),
+            SdrView::Other(_) => None,
+        }
+    }
+
+    /// The ID string; a record of another type has none.
+    pub fn id_string(&self) -> Option<IdString<'a>>
+        ensures { option_map id_field_of result ≡ id_string_of self.now }
+    {
+        match self {
+            SdrView::Full(view) => Some(view.id_string()),
+            SdrView::Compact(view) => Some(view.id_string()),
+            SdrView::EventOnly(view) => Some(view.id_string()),
+            SdrView::Generic(view) => Some(view.id_string()),
+            SdrView::Fru(view) => Some(view.id_string()),
+            SdrView::Controller(view) => Some(view.id_string()),
+            SdrView::Other(_) => None,
+        }
+    }
+
+    /// The name of the record, by its ID string; a record of another type has none.
+    pub fn name(&self, alloc: Global) -> Result<Option<String>, AllocError>
+        ensures { IfOk result (λ name. option_map (λ text. string_bytes text) name ≡ name_of self.now) }
+    {
+        match self.id_string() {
+            Some(id) => Ok(Some(sdr_text(alloc, id.type_length, id.rest)?)),
+            None => Ok(None),
+        }
+    }
+
+    /// The LUN and the number of the sensor whose reading the controller itself gives: that of a full or a compact record whose
+    /// owner it is.
+    pub fn reading_of(&self) -> Option<(u8, u8)>
+        ensures { result ≡ reading_of self.now }
+    {
+        match self {
+            SdrView::Full(view) => key_of(&view.sensor()),
+            SdrView::Compact(view) => key_of(&view.sensor()),
+            SdrView::EventOnly(_) => None,
+            SdrView::Generic(_) => None,
+            SdrView::Fru(_) => None,
+            SdrView::Controller(_) => None,
+            SdrView::Other(_) => None,
+        }
+    }
+
+    /// The FRU device whose inventory the controller itself gives: that of a FRU locator that is logical, at its address, at LUN 0.
+    pub fn fru_of(&self) -> Option<u8>
+        ensures { result ≡ fru_of self.now }
+    {
+        match self {
+            SdrView::Fru(view) => view.fru_of(),
+            SdrView::Full(_) => None,
+            SdrView::Compact(_) => None,
+            SdrView::EventOnly(_) => None,
+            SdrView::Generic(_) => None,
+            SdrView::Controller(_) => None,
+            SdrView::Other(_) => None,
+        }
+    }
+}
+
+/// The LUN and the number of a sensor that the controller itself owns.
+fn key_of(sensor: &Sensor) -> Option<(u8, u8)>
+    ensures { result ≡ key_of sensor.now }
+{
+    if sensor.owner == OWN_ADDRESS {
+        Some((sensor.lun, sensor.number))
+    } else {
+        None
+    }
+}

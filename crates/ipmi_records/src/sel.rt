@@ -1,0 +1,274 @@
+//! Entries of the event log as views that borrow their bytes (IPMI v2.0, section 32).
+ghost use Rattle.std.specs.Prelude.{◌≡◌, ◌≤◌, length};
+ghost use Rattle.ipmi_records.specs.Sel.{entry_bytes, entry_id, entry_type, event_data, event_type, generator, is_deasserted, manufacturer, oem_data, plain_data, revision, sel_view_of, sensor_number, sensor_type, time_stamp};
+
+use crate::digits::has_bit;
+use byteorder::{ByteOrder, LittleEndian};
+use std::marker::Model;
+
+/// When an entry came, in seconds.
+fn time_stamp(bytes: &[u8]) -> u32
+    requires { 7 ≤ length bytes.now }
+    ensures { result ≡ time_stamp bytes.now }
+{
+    LittleEndian::read_u32(&bytes[3..])
+}
+
+/// The bytes behind an entry's type.
+fn plain_data(bytes: &[u8]) -> &[u8]
+    requires { length bytes.now ≡ 16 }
+    ensures { result.now ≡ plain_data bytes.now }
+{
+    &bytes[3..16]
+}
+
+/// An event (section 32.1).
+#[derive(Drop)]
+pub struct EventEntry<'a> {
+    bytes: &'a [u8],
+}
+
+impl<'a> Model for EventEntry<'a> {
+    ghost use Rattle.std.specs.Prelude.{◌≡◌, List, ℕ, length};
+
+    ghost Value = { List ℕ };
+
+    ghost view = { λ v. v.bytes.now };
+
+    ghost invariant = { λ v. length v.bytes.now ≡ 16 };
+}
+
+impl<'a> EventEntry<'a> {
+    /// The bytes of the entry.
+    pub(crate) fn bytes(&self) -> &'a [u8]
+        ensures value { result.now ≡ self.now }
+        ensures len { length result.now ≡ 16 }
+    {
+        self.bytes
+    }
+
+    /// When it came, in seconds.
+    pub fn time_stamp(&self) -> u32
+        ensures { result ≡ time_stamp self.now }
+    {
+        time_stamp(self.bytes)
+    }
+
+    /// What made it: an address or a software id, with channel and LUN.
+    pub fn generator(&self) -> u16
+        ensures { result ≡ generator self.now }
+    {
+        LittleEndian::read_u16(&self.bytes[7..])
+    }
+
+    /// The revision of the event message's format.
+    pub fn revision(&self) -> u8
+        ensures { result ≡ revision self.now }
+    {
+        self.bytes[9]
+    }
+
+    /// The sensor type (table 42-3).
+    pub fn sensor_type(&self) -> u8
+        ensures { result ≡ sensor_type self.now }
+    {
+        self.bytes[10]
+    }
+
+    /// The number of the sensor.
+    pub fn sensor_number(&self) -> u8
+        ensures { result ≡ sensor_number self.now }
+    {
+        self.bytes[11]
+    }
+
+    /// Whether the event goes, and does not come.
+    pub fn is_deasserted(&self) -> bool
+        ensures { result ≡ is_deasserted self.now }
+    {
+        has_bit(self.bytes[12], 7)
+    }
+
+    /// The event/reading type (section 42.1), 01h for a threshold event.
+    pub fn event_type(&self) -> u8
+        ensures { result ≡ event_type self.now }
+    {
+        self.bytes[12] % 128
+    }
+
+    /// The data of the event.
+    pub fn data_bytes(&self) -> &'a [u8]
+        ensures value { result.now ≡ event_data self.now }
+        ensures len { length result.now ≡ 3 }
+    {
+        &self.bytes[13..16]
+    }
+}
+
+/// An OEM record with a time stamp (section 32.2).
+#[derive(Drop)]
+pub struct OemTimedEntry<'a> {
+    bytes: &'a [u8],
+}
+
+impl<'a> Model for OemTimedEntry<'a> {
+    ghost use Rattle.std.specs.Prelude.{◌≡◌, List, ℕ, length};
+
+    ghost Value = { List ℕ };
+
+    ghost view = { λ v. v.bytes.now };
+
+    ghost invariant = { λ v. length v.bytes.now ≡ 16 };
+}
+
+impl<'a> OemTimedEntry<'a> {
+    /// The bytes of the entry.
+    pub(crate) fn bytes(&self) -> &'a [u8]
+        ensures value { result.now ≡ self.now }
+        ensures len { length result.now ≡ 16 }
+    {
+        self.bytes
+    }
+
+    /// When it came, in seconds.
+    pub fn time_stamp(&self) -> u32
+        ensures { result ≡ time_stamp self.now }
+    {
+        time_stamp(self.bytes)
+    }
+
+    /// The manufacturer's number, 3 bytes.
+    pub fn manufacturer(&self) -> u32
+        ensures { result ≡ manufacturer self.now }
+    {
+        LittleEndian::read_u24(&self.bytes[7..])
+    }
+
+    /// The six bytes that the manufacturer gives a meaning.
+    pub fn data_bytes(&self) -> &'a [u8]
+        ensures { result.now ≡ oem_data self.now }
+    {
+        &self.bytes[10..16]
+    }
+}
+
+/// An OEM record without a time stamp (section 32.3).
+#[derive(Drop)]
+pub struct OemPlainEntry<'a> {
+    bytes: &'a [u8],
+}
+
+impl<'a> Model for OemPlainEntry<'a> {
+    ghost use Rattle.std.specs.Prelude.{◌≡◌, List, ℕ, length};
+
+    ghost Value = { List ℕ };
+
+    ghost view = { λ v. v.bytes.now };
+
+    ghost invariant = { λ v. length v.bytes.now ≡ 16 };
+}
+
+impl<'a> OemPlainEntry<'a> {
+    /// The bytes of the entry.
+    pub(crate) fn bytes(&self) -> &'a [u8]
+        ensures value { result.now ≡ self.now }
+        ensures len { length result.now ≡ 16 }
+    {
+        self.bytes
+    }
+
+    /// The thirteen bytes that the manufacturer gives a meaning.
+    pub fn data_bytes(&self) -> &'a [u8]
+        ensures { result.now ≡ plain_data self.now }
+    {
+        plain_data(self.bytes)
+    }
+}
+
+/// An entry of another type.
+#[derive(Drop)]
+pub struct OtherEntry<'a> {
+    bytes: &'a [u8],
+}
+
+impl<'a> Model for OtherEntry<'a> {
+    ghost use Rattle.std.specs.Prelude.{◌≡◌, List, ℕ, length};
+
+    ghost Value = { List ℕ };
+
+    ghost view = { λ v. v.bytes.now };
+
+    ghost invariant = { λ v. length v.bytes.now ≡ 16 };
+}
+
+impl<'a> OtherEntry<'a> {
+    /// The bytes of the entry.
+    pub(crate) fn bytes(&self) -> &'a [u8]
+        ensures value { result.now ≡ self.now }
+        ensures len { length result.now ≡ 16 }
+    {
+        self.bytes
+    }
+
+    /// All bytes behind the type.
+    pub fn data_bytes(&self) -> &'a [u8]
+        ensures { result.now ≡ plain_data self.now }
+    {
+        plain_data(self.bytes)
+    }
+}
+
+/// An entry of the event log, by its type.
+#[derive(Drop)]
+pub enum SelView<'a> {
+    /// Type 02h.
+    Event(EventEntry<'a>),
+    /// Types C0h to DFh.
+    OemTimed(OemTimedEntry<'a>),
+    /// Types E0h to FFh.
+    OemPlain(OemPlainEntry<'a>),
+    /// Any other type.
+    Other(OtherEntry<'a>),
+}
+
+impl<'a> SelView<'a> {
+    /// The entry that bytes are.
+    pub fn read(bytes: &'a [u8; 16]) -> SelView<'a>
+        ensures { result ≡ sel_view_of bytes.now }
+    {
+        let bytes = bytes.as_slice();
+        match bytes[2] {
+            0x02 => SelView::Event(EventEntry { bytes }),
+            0xc0..=0xdf => SelView::OemTimed(OemTimedEntry { bytes }),
+            0xe0..=0xff => SelView::OemPlain(OemPlainEntry { bytes }),
+            _ => SelView::Other(OtherEntry { bytes }),
+        }
+    }
+
+    /// The bytes of the entry.
+    pub fn bytes(&self) -> &'a [u8]
+        ensures value { result.now ≡ entry_bytes self.now }
+        ensures len { length result.now ≡ 16 }
+    {
+        match self {
+            SelView::Event(view) => view.bytes(),
+            SelView::OemTimed(view) => view.bytes(),
+            SelView::OemPlain(view) => view.bytes(),
+            SelView::Other(view) => view.bytes(),
+        }
+    }
+
+    /// The record id in the entry.
+    pub fn id(&self) -> u16
+        ensures { result ≡ entry_id (entry_bytes self.now) }
+    {
+        LittleEndian::read_u16(self.bytes())
+    }
+
+    /// The type of the entry.
+    pub fn entry_type(&self) -> u8
+        ensures { result ≡ entry_type (entry_bytes self.now) }
+    {
+        self.bytes()[2]
+    }
+}

@@ -1,0 +1,406 @@
+//! The records of sensors, and where their fields stand (IPMI v2.0, sections 43.1 to 43.3).
+ghost use Rattle.std.specs.Prelude.{◌≡◌, ◌*◌, ◌<◌, ◌≤◌, length};
+ghost use Rattle.ipmi_text.specs.ReadingValue.{IsTwosComplement};
+ghost use Rattle.ipmi_records.specs.Bytes.{signed};
+ghost use Rattle.ipmi_records.specs.Sdr.{compact_id_place, event_only_id_place, full_id_place, id_field_at, id_field_of};
+ghost use Rattle.ipmi_records.specs.Sensor.{analog_format, compact_sensor, entity_in, event_only_sensor, exponent_k1, exponent_k2, factor_b, factor_m, factors_in, full_sensor, is_readable, linearization, sensor_by, threshold_bit, threshold_in, threshold_place, units_in};
+
+use crate::digits::has_bit;
+use crate::id_string::IdString;
+use ipmi_text::Factors;
+use std::fmt;
+use std::marker::Model;
+
+/// An entity that a sensor or a device belongs to (section 43.14), printed as `id.instance`.
+#[derive(Clone, Copy, Debug, PartialEq, Eq)]
+pub struct Entity {
+    /// The entity id.
+    pub id: u8,
+    /// The entity's instance, 7 bits.
+    pub instance: u8,
+}
+
+impl Entity {
+    /// The entity of an id and the byte of its instance, whose bit 7 says something else.
+    pub(crate) fn new(id: u8, instance: u8) -> Entity
+        ensures { result ≡ entity_in id instance }
+    {
+        Entity {
+            id,
+            instance: instance % 128,
+        }
+    }
+}
+
+impl fmt::Display for Entity {
+    ghost use Rattle.std.specs.Prelude.{Some};
+    ghost use Rattle.ipmi_records.specs.SdrText.{entity_text};
+
+    ghost output = { λ entity. Some (entity_text entity) };
+
+    fn fmt<W: fmt::Write>(&self, f: &mut fmt::Formatter<W>) -> fmt::Result {
+        let id = self.id;
+        let instance = self.instance;
+        write!(f, "{id}.{instance}")
+    }
+}
+
+/// What all three kinds of sensors' records tell of their sensor.
+#[derive(Clone, Copy, Debug, PartialEq, Eq)]
+pub struct Sensor {
+    /// The owner: the address of a controller, 20h for the one that holds the record, or a software id where bit 0 is set.
+    pub owner: u8,
+    /// The LUN at the owner, 2 bits.
+    pub lun: u8,
+    /// The number of the sensor there.
+    pub number: u8,
+    /// What is monitored.
+    pub entity: Entity,
+    /// The sensor type (table 42-3).
+    pub sensor_type: u8,
+    /// The event/reading type (section 42.1), 01h for a sensor with thresholds.
+    pub event_type: u8,
+}
+
+/// The units of a sensor's readings.
+#[derive(Clone, Copy, Debug, PartialEq, Eq)]
+pub struct SensorUnits {
+    /// Sensor units 1: the analog format, the rate, how the modifier is used, percentage.
+    pub units1: u8,
+    /// The base unit (table 43-15).
+    pub base: u8,
+    /// The modifier unit.
+    pub modifier: u8,
+}
+
+/// A threshold of a sensor.
+#[derive(Clone, Copy, Debug, PartialEq, Eq)]
+pub enum Threshold {
+    /// At it and above the reading is out of the range in which the hardware can work.
+    UpperNonRecoverable,
+    /// At it and above the reading is critical.
+    UpperCritical,
+    /// At it and above the reading is a warning.
+    UpperNonCritical,
+    /// At it and below the reading is out of the range in which the hardware can work.
+    LowerNonRecoverable,
+    /// At it and below the reading is critical.
+    LowerCritical,
+    /// At it and below the reading is a warning.
+    LowerNonCritical,
+}
+
+impl Threshold {
+    /// The byte of its value in a full record, counted from 1.
+    fn place(self) -> usize
+        ensures place { result ≡ threshold_place self }
+        ensures low { 37 ≤ result }
+        ensures high { result ≤ 42 }
+    {
+        match self {
+            Threshold::UpperNonRecoverable => 37,
+            Threshold::UpperCritical => 38,
+            Threshold::UpperNonCritical => 39,
+            Threshold::LowerNonRecoverable => 40,
+            Threshold::LowerCritical => 41,
+            Threshold::LowerNonCritical => 42,
+        }
+    }
+
+    /// Its bit among the readable thresholds.
+    fn bit(self) -> u32
+        ensures bit { result ≡ threshold_bit self }
+        ensures below { result < 8 }
+    {
+        match self {
+            Threshold::UpperNonRecoverable => 5,
+            Threshold::UpperCritical => 4,
+            Threshold::UpperNonCritical => 3,
+            Threshold::LowerNonRecoverable => 2,
+            Threshold::LowerCritical => 1,
+            Threshold::LowerNonCritical => 0,
+        }
+    }
+}
+
+/// What a record tells of its sensor, whose sensor type and event/reading type stand elsewhere in each kind.
+fn sensor_in(bytes: &[u8], sensor_type: u8, event_type: u8) -> Sensor
+    requires { 10 ≤ length bytes.now }
+    ensures { result ≡ sensor_by sensor_type event_type bytes.now }
+{
+    Sensor {
+        owner: bytes[5],
+        lun: bytes[6] % 4,
+        number: bytes[7],
+        entity: Entity::new(bytes[8], bytes[9]),
+        sensor_type,
+        event_type,
+    }
+}
+
+/// The units of a full or a compact record.
+fn units_in(bytes: &[u8]) -> SensorUnits
+    requires { 23 ≤ length bytes.now }
+    ensures { result ≡ units_in bytes.now }
+{
+    SensorUnits {
+        units1: bytes[20],
+        base: bytes[21],
+        modifier: bytes[22],
+    }
+}
+
+/// The number that bits stand for in 2's complement, of which there are `half` below 0.
+fn signed(half: u16, bits: u16) -> i16
+    requires half { half ≤ 512 }
+    requires bits { bits < 2 * half }
+    ensures value { result ≡ signed half bits }
+    ensures range { IsTwosComplement half result }
+{
+    if bits < half {
+        bits as i16
+    } else {
+        bits as i16 - 2 * half as i16
+    }
+}
+
+/// A full sensor record (section 43.1).
+#[derive(Drop)]
+pub struct FullSensor<'a> {
+    bytes: &'a [u8],
+}
+
+impl<'a> Model for FullSensor<'a> {
+    ghost use Rattle.std.specs.Prelude.{◌≤◌, List, ℕ, length};
+
+    ghost Value = { List ℕ };
+
+    ghost view = { λ v. v.bytes.now };
+
+    ghost invariant = { λ v. 48 ≤ length v.bytes.now };
+}
+
+impl<'a> FullSensor<'a> {
+    /// The view of a record that is long enough.
+    pub(crate) fn new(bytes: &'a [u8]) -> FullSensor<'a>
+        requires { 48 ≤ length bytes.now }
+        ensures { result ≡ bytes.now }
+    {
+        FullSensor { bytes }
+    }
+
+    /// The bytes of the record.
+    pub(crate) fn bytes(&self) -> &'a [u8]
+        ensures value { result.now ≡ self.now }
+        ensures room { 48 ≤ length result.now }
+    {
+        self.bytes
+    }
+
+    /// The sensor.
+    pub fn sensor(&self) -> Sensor
+        ensures { result ≡ full_sensor self.now }
+    {
+        sensor_in(self.bytes, self.bytes[12], self.bytes[13])
+    }
+
+    /// The units of its readings.
+    pub fn units(&self) -> SensorUnits
+        ensures { result ≡ units_in self.now }
+    {
+        units_in(self.bytes)
+    }
+
+    /// How a raw reading is a number: 0 unsigned, 1 in 1's complement, 2 in 2's complement, 3 not at all.
+    pub fn analog_format(&self) -> u8
+        ensures value { result ≡ analog_format self.now }
+        ensures range { result ≤ 3 }
+    {
+        self.bytes[20] / 64
+    }
+
+    /// The linearization, 0 for a linear sensor.
+    pub fn linearization(&self) -> u8
+        ensures value { result ≡ linearization self.now }
+        ensures range { result ≤ 127 }
+    {
+        self.bytes[23] % 128
+    }
+
+    /// The factor M.
+    pub fn m(&self) -> i16
+        ensures value { result ≡ factor_m self.now }
+        ensures range { IsTwosComplement 512 result }
+    {
+        signed(
+            512,
+            u16::from(self.bytes[24]) + 256 * u16::from(self.bytes[25] / 64),
+        )
+    }
+
+    /// The offset B.
+    pub fn b(&self) -> i16
+        ensures value { result ≡ factor_b self.now }
+        ensures range { IsTwosComplement 512 result }
+    {
+        signed(
+            512,
+            u16::from(self.bytes[26]) + 256 * u16::from(self.bytes[27] / 64),
+        )
+    }
+
+    /// The exponent of B.
+    pub fn k1(&self) -> i8
+        ensures value { result ≡ exponent_k1 self.now }
+        ensures range { IsTwosComplement 8 result }
+    {
+        signed(8, u16::from(self.bytes[29] % 16)) as i8
+    }
+
+    /// The exponent of the result.
+    pub fn k2(&self) -> i8
+        ensures value { result ≡ exponent_k2 self.now }
+        ensures range { IsTwosComplement 8 result }
+    {
+        signed(8, u16::from(self.bytes[29] / 16)) as i8
+    }
+
+    /// The factors by which a raw reading becomes a value.
+    pub fn factors(&self) -> Factors
+        ensures { result ≡ factors_in self.now }
+    {
+        Factors::new(
+            self.analog_format(),
+            self.linearization(),
+            self.m(),
+            self.b(),
+            self.k1(),
+            self.k2(),
+        )
+        .unwrap()
+    }
+
+    /// Whether a threshold can be read.
+    pub fn is_readable(&self, threshold: Threshold) -> bool
+        ensures { result ≡ is_readable threshold self.now }
+    {
+        has_bit(self.bytes[18], threshold.bit())
+    }
+
+    /// The value of a threshold, as a raw reading.
+    pub fn threshold(&self, threshold: Threshold) -> u8
+        ensures { result ≡ threshold_in threshold self.now }
+    {
+        self.bytes[threshold.place() - 1]
+    }
+
+    /// The ID string.
+    pub fn id_string(&self) -> IdString<'a>
+        ensures { id_field_of result ≡ id_field_at full_id_place self.now }
+    {
+        IdString::at(self.bytes, 48)
+    }
+}
+
+/// A compact sensor record (section 43.2).
+#[derive(Drop)]
+pub struct CompactSensor<'a> {
+    bytes: &'a [u8],
+}
+
+impl<'a> Model for CompactSensor<'a> {
+    ghost use Rattle.std.specs.Prelude.{◌≤◌, List, ℕ, length};
+
+    ghost Value = { List ℕ };
+
+    ghost view = { λ v. v.bytes.now };
+
+    ghost invariant = { λ v. 32 ≤ length v.bytes.now };
+}
+
+impl<'a> CompactSensor<'a> {
+    /// The view of a record that is long enough.
+    pub(crate) fn new(bytes: &'a [u8]) -> CompactSensor<'a>
+        requires { 32 ≤ length bytes.now }
+        ensures { result ≡ bytes.now }
+    {
+        CompactSensor { bytes }
+    }
+
+    /// The bytes of the record.
+    pub(crate) fn bytes(&self) -> &'a [u8]
+        ensures value { result.now ≡ self.now }
+        ensures room { 32 ≤ length result.now }
+    {
+        self.bytes
+    }
+
+    /// The sensor; of several that share the record, the first.
+    pub fn sensor(&self) -> Sensor
+        ensures { result ≡ compact_sensor self.now }
+    {
+        sensor_in(self.bytes, self.bytes[12], self.bytes[13])
+    }
+
+    /// The units of its readings.
+    pub fn units(&self) -> SensorUnits
+        ensures { result ≡ units_in self.now }
+    {
+        units_in(self.bytes)
+    }
+
+    /// The ID string.
+    pub fn id_string(&self) -> IdString<'a>
+        ensures { id_field_of result ≡ id_field_at compact_id_place self.now }
+    {
+        IdString::at(self.bytes, 32)
+    }
+}
+
+/// An event-only record (section 43.3), whose sensor has no reading.
+#[derive(Drop)]
+pub struct EventOnlySensor<'a> {
+    bytes: &'a [u8],
+}
+
+impl<'a> Model for EventOnlySensor<'a> {
+    ghost use Rattle.std.specs.Prelude.{◌≤◌, List, ℕ, length};
+
+    ghost Value = { List ℕ };
+
+    ghost view = { λ v. v.bytes.now };
+
+    ghost invariant = { λ v. 17 ≤ length v.bytes.now };
+}
+
+impl<'a> EventOnlySensor<'a> {
+    /// The view of a record that is long enough.
+    pub(crate) fn new(bytes: &'a [u8]) -> EventOnlySensor<'a>
+        requires { 17 ≤ length bytes.now }
+        ensures { result ≡ bytes.now }
+    {
+        EventOnlySensor { bytes }
+    }
+
+    /// The bytes of the record.
+    pub(crate) fn bytes(&self) -> &'a [u8]
+        ensures value { result.now ≡ self.now }
+        ensures room { 17 ≤ length result.now }
+    {
+        self.bytes
+    }
+
+    /// The sensor; of several that share the record, the first.
+    pub fn sensor(&self) -> Sensor
+        ensures { result ≡ event_only_sensor self.now }
+    {
+        sensor_in(self.bytes, self.bytes[10], self.bytes[11])
+    }
+
+    /// The ID string.
+    pub fn id_string(&self) -> IdString<'a>
+        ensures { id_field_of result ≡ id_field_at event_only_id_place self.now }
+    {
+        IdString::at(self.bytes, 17)
+    }
+}
