@@ -1,2 +1,5 @@
+pub mod ArgumentLemmas
+pub mod CommandLemmas
 pub mod HexLemmas
 pub mod ListingLemmas
+pub mod NumberLemmas

@@ -1,12 +1,15 @@
 -- What a command line means.
-use Rattle.std.specs.Prelude.{◌≤◌, ℕ, Bool, true, false, ◌&&◌, List, [], ◌∷◌, Option, None, Result, Ok, Err, ⊤, codes, IfSome, OnSome, IsTrue, if◌then◌else◌}
-use Rattle.std.specs.Str.{bytes_eq}
+use Rattle.std.specs.Prelude.{◌≤◌, ℕ, Bool, true, false, ◌&&◌, not, List, Option, Some, None, option_map, is_some, Result, Ok, Err, ⊤, codes, IfSome, OnSome, IsTrue, if◌then◌else◌}
+use Rattle.clap.specs.Words.{Row, first_of}
 use Rattle.ipmitool.specs.declared.command.Count.{Count}
 use Rattle.ipmitool.specs.declared.command.Count.TheVariants as count
 use Rattle.ipmitool.specs.declared.command.Task.{Task}
 use Rattle.ipmitool.specs.declared.command.Task.TheVariants as task
 use Rattle.ipmitool.specs.declared.command.UsageFault.{UsageFault}
 use Rattle.ipmitool.specs.declared.command.UsageFault.TheVariants as fault
+use Rattle.ipmitool.specs.Arguments.{free_words, is_taken, rows_of_words}
+use Rattle.ipmitool.specs.Number.{decimal_of, four_hex_of, within}
+use Rattle.ipmitool.specs.Table.{task_of}
 
 -- a command, as clauses see it
 pub record CommandState : Type 0 where
@@ -54,20 +57,48 @@ pub record IsCommand (task : Task) (from : Option ℕ) (part : ℕ) : Type 0 whe
   pub from_high : IfSome from (λ id. id ≤ 65534)
   pub taken : OnSome from (IsTrue (takes_from task))
 
--- ---- the words
+-- ---- the options
 
--- the program's name alone, or that and `sdr hex`
-abbrev pub is_hex : List (List ℕ) → Bool
-is_hex [] = false
-is_hex (name ∷ []) = true
-is_hex (name ∷ shelf ∷ []) = false
-is_hex (name ∷ shelf ∷ verb ∷ []) = bytes_eq shelf (codes "sdr") && bytes_eq verb (codes "hex")
-is_hex (name ∷ shelf ∷ verb ∷ more ∷ words) = false
+-- where there is no `--from`, no id; where it is none from 0001 to FFFE, nothing
+abbrev pub start_of_text : Option (List ℕ) → Option (Option ℕ)
+start_of_text None = Some None
+start_of_text (Some text) = option_map (λ id. Some id) (within 1 65534 (four_hex_of text))
 
--- `sdr hex` with no option
-abbrev pub hex_command : CommandState
-hex_command = record { task = task.Hex; from = None; part = 32; tries = 5; image = None }
+-- the number of an option, in decimal, or what stands for it where there is no such option; nothing out of its range
+abbrev pub number_or : ℕ → ℕ → ℕ → Option (List ℕ) → Option ℕ
+number_or default low high None = Some default
+number_or default low high (Some text) = within low high (decimal_of text)
+
+abbrev pub part_of : Option (List ℕ) → Option ℕ
+part_of = number_or 32 1 254
+
+abbrev pub tries_of : Option (List ℕ) → Option ℕ
+tries_of = number_or 5 0 255
+
+-- an id to start from is given to a task that takes none
+abbrev pub is_stray : Task → Option ℕ → Bool
+is_stray task from = is_some from && not (takes_from task)
+
+-- a task with its options, `--from` before `--part` before `--tries`
+abbrev pub with_options : Option (List ℕ) → Task → Option (Option ℕ) → Option ℕ → Option ℕ → Result CommandState UsageFault
+with_options image task None part tries = Err fault.Option
+with_options image task (Some from) None tries = Err fault.Option
+with_options image task (Some from) (Some part) None = Err fault.Option
+with_options image task (Some from) (Some part) (Some tries) =
+    if is_stray task from then Err fault.Option
+    else Ok (record { task = task; from = from; part = part; tries = tries; image = image })
+
+-- ---- the command
+
+abbrev pub command_of_task : List Row → Option Task → Result CommandState UsageFault
+command_of_task rows None = Err fault.Command
+command_of_task rows (Some task) = with_options (first_of (codes "image") rows) task
+    (start_of_text (first_of (codes "from") rows)) (part_of (first_of (codes "part") rows)) (tries_of (first_of (codes "tries") rows))
+
+-- the command of what `clap` made of the words, or why they are none
+abbrev pub command_of_matches : List Row → Result CommandState UsageFault
+command_of_matches rows = command_of_task rows (task_of (free_words rows))
 
 -- what the words mean, the first of which is the program's name
-abbrev pub meaning_of : List (List ℕ) → Result CommandState UsageFault
-meaning_of words = if is_hex words then Ok hex_command else Err fault.Command
+unfoldable pub meaning_of : List (List ℕ) → Result CommandState UsageFault
+meaning_of words = if is_taken words then command_of_matches (rows_of_words words) else Err fault.Line

@@ -1,9 +1,14 @@
 //! What a command line asks for.
-ghost use Rattle.std.specs.Prelude.{◌≡◌, ◌≤◌, ◌<◌, IfSome, IsSome, IsTrue, length, option_map};
-ghost use Rattle.ipmitool.specs.Command.{IsCommand, IsTask, is_hex, meaning_of, takes_from};
+ghost use Rattle.std.specs.Prelude.{◌≡◌, ◌≤◌, ◌<◌, ◌⊎◌, Err, IfOk, IfSome, IsSome, IsTrue, MatchResult, None, Ok, Some, length, option_map};
+ghost use Rattle.clap.specs.Words.{found_of, rows_of};
+ghost use Rattle.ipmitool.specs.Command.{IsCommand, IsTask, command_of_matches, command_of_task, is_stray, meaning_of, number_or, start_of_text, takes_from};
 ghost use Rattle.ipmitool.specs.declared.command.UsageFault.TheVariants as fault;
 
+use crate::arguments::{arguments, value};
+use crate::number::{decimal, four_hex};
+use crate::table::task_of;
 use crate::words::{Word, Words};
+use clap::ArgMatches;
 use ipmi_bus::Shelf;
 use std::alloc::{AllocError, Global};
 use std::marker::Model;
@@ -170,25 +175,102 @@ impl Command {
     }
 }
 
-/// Whether the words are the program's name alone, or that and `sdr hex`.
-fn is_hex(words: &[Word]) -> bool
-    ensures { result ≡ is_hex words.now }
+/// Whether an id to start from goes with the task.
+fn takes_from(task: &Task) -> bool
+    ensures { result ≡ takes_from task.now }
 {
-    match words {
-        [_] => true,
-        [_, shelf, verb] => shelf.as_str() == "sdr" && verb.as_str() == "hex",
-        _ => false,
+    match task {
+        Task::Hex | Task::List(_) | Task::Elist(_) | Task::Get(_) | Task::SelList(_) => true,
+        Task::Fru(_) | Task::Info(_) | Task::SelGet(_) | Task::Rewrite => false,
     }
 }
 
-/// The command that the words mean. The first of them is the program's name.
-pub fn command_of(_alloc: Global, words: &Words) -> Result<Command, UsageFault>
-    requires { 0 < length words.now }
-    ensures { result ≡ meaning_of words.now }
+/// Whether an id to start from is given to a task that takes none.
+fn is_stray(task: &Task, from: Option<u16>) -> bool
+    ensures { result ≡ is_stray task.now from }
 {
-    if is_hex(words.as_slice()) {
-        Ok(Command::new(Task::Hex, None, 32, 5, None))
-    } else {
-        Err(UsageFault::Command)
+    from.is_some() && !takes_from(task)
+}
+
+/// The id to start from, if there is one: four hex digits, neither `0000` nor `FFFF`. Nothing where it is none.
+fn start_of_text(text: Option<&str>) -> Option<Option<u16>>
+    ensures value { result ≡ start_of_text (option_map (λ t. t.now) text.entry) }
+    ensures range { IfSome result (λ from. IfSome from (λ id. (1 ≤ id) × (id ≤ 65534))) }
+{
+    let Some(text) = text else {
+        return Some(None);
+    };
+    let id = four_hex(text, 1, 65534)?;
+    Some(Some(id))
+}
+
+/// The number of an option, in decimal from `low` to `high`, or `default` where there is no such option.
+fn number_or(text: Option<&str>, default: u8, low: u8, high: u8) -> Option<u8>
+    requires { (low ≤ default) × (default ≤ high) }
+    ensures value { result ≡ number_or default low high (option_map (λ t. t.now) text.entry) }
+    ensures range { IfSome result (λ n. (low ≤ n) × (n ≤ high)) }
+{
+    let Some(text) = text else {
+        return Some(default);
+    };
+    let n = decimal(text, low as u16, high as u16)?;
+    Some(n as u8)
+}
+
+/// A copy of the text, if there is one.
+fn owned(alloc: Global, text: Option<&str>) -> Result<Option<Word>, AllocError>
+    ensures { IfOk result (λ word. word ≡ option_map (λ t. t.now) text.entry) }
+{
+    match text {
+        None => Ok(None),
+        Some(text) => Ok(Some(Word::new(alloc, text)?)),
+    }
+}
+
+/// The command of a task and the options that were given.
+fn command_of_task(
+    alloc: Global,
+    task: Task,
+    matches: &ArgMatches<'_>,
+) -> Result<Command, UsageFault>
+    requires { IsTask task }
+    ensures { let meant = command_of_task (rows_of (found_of matches.now)) (Some task) in
+        MatchResult result (λ c. meant ≡ Ok c) (λ e. (e ≡ UsageFault.Memory) ⊎ (meant ≡ Err e)) }
+{
+    let Some(from) = start_of_text(value(matches, "from")) else {
+        return Err(UsageFault::Option);
+    };
+    let Some(part) = number_or(value(matches, "part"), 32, 1, 254) else {
+        return Err(UsageFault::Option);
+    };
+    let Some(tries) = number_or(value(matches, "tries"), 5, 0, 255) else {
+        return Err(UsageFault::Option);
+    };
+    if is_stray(&task, from) {
+        return Err(UsageFault::Option);
+    }
+    let image = owned(alloc, value(matches, "image"))?;
+    Ok(Command::new(task, from, part, tries, image))
+}
+
+/// The command of the options and words that were given.
+fn command_of_matches(alloc: Global, matches: &ArgMatches<'_>) -> Result<Command, UsageFault>
+    ensures { let meant = command_of_matches (rows_of (found_of matches.now)) in
+        MatchResult result (λ c. meant ≡ Ok c) (λ e. (e ≡ UsageFault.Memory) ⊎ (meant ≡ Err e)) }
+{
+    match task_of(alloc, matches.get_strs("words").unwrap_or(&[]))? {
+        Some(task) => command_of_task(alloc, task, matches),
+        None => Err(UsageFault::Command),
+    }
+}
+
+/// The command that the words mean, memory aside. The first of them is the program's name.
+pub fn command_of(alloc: Global, words: &Words) -> Result<Command, UsageFault>
+    requires { 0 < length words.now }
+    ensures { MatchResult result (λ c. meaning_of words.now ≡ Ok c) (λ e. (e ≡ UsageFault.Memory) ⊎ (meaning_of words.now ≡ Err e)) }
+{
+    match arguments(alloc, words) {
+        Ok(matches) => command_of_matches(alloc, &matches),
+        Err(fault) => Err(fault),
     }
 }

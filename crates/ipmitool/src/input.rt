@@ -2,10 +2,11 @@
 ghost use Rattle.std.specs.Prelude.{◌<◌, ◌≤◌, IfOk, length, vec_len};
 
 use crate::command::UsageFault;
-use crate::words::Words;
+use crate::words::{Word, Words};
 use std::alloc::Global;
 use std::env::{self, Env};
-use std::io::{ErrorKind, Read};
+use std::fs::{File, Files};
+use std::io::{ErrorKind, Input, Read};
 
 /// The most bytes of an image that are read: 64 MiB.
 pub(crate) const MOST_BYTES: u64 = 64 * 1024 * 1024;
@@ -15,7 +16,7 @@ pub(crate) const MOST_BYTES: u64 = 64 * 1024 * 1024;
 pub(crate) enum InputFault {
     /// No memory was left.
     Memory,
-    /// A read failed, or there are more bytes than are read.
+    /// There is no such file, a read failed, or there are more bytes than are read.
     Unreadable,
 }
 
@@ -48,6 +49,23 @@ pub(crate) fn read_image<R: Read + Drop>(alloc: Global, reader: R) -> Result<Vec
     match limited.read_to_end(&mut bytes) {
         Ok(_) if bytes.len() as u64 <= MOST_BYTES => Ok(bytes),
         Ok(_) => Err(InputFault::Unreadable),
+        Err(error) if error.kind() == ErrorKind::OutOfMemory => Err(InputFault::Memory),
+        Err(_) => Err(InputFault::Unreadable),
+    }
+}
+
+/// All bytes of the file, or of standard input where none is named, at most 64 MiB.
+pub(crate) fn read_input<R: Files + Input + AllocGlobal>(
+    rt: &R,
+    file: Option<&Word>,
+) -> Result<Vec<u8>, InputFault>
+    ensures { IfOk result (λ bytes. vec_len bytes ≤ 67108864) }
+{
+    let Some(file) = file else {
+        return read_image(rt.alloc(), rt.reader());
+    };
+    match File::open(rt, file.as_str()) {
+        Ok(opened) => read_image(rt.alloc(), opened),
         Err(error) if error.kind() == ErrorKind::OutOfMemory => Err(InputFault::Memory),
         Err(_) => Err(InputFault::Unreadable),
     }

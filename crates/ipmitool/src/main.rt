@@ -1,20 +1,23 @@
 //! Lists what a saved image of a management controller holds, as `ipmitool` lists it.
 #![tactic(auto)]
 
+mod arguments;
 mod command;
 mod history;
 mod input;
 mod line;
 mod listing;
 mod message;
+mod number;
 mod run;
 mod sink;
+mod table;
 #[cfg(test)]
 mod tests;
 mod words;
 
-use command::command_of;
-use input::{InputFault, read_image, words_of};
+use command::{Command, UsageFault, command_of};
+use input::{InputFault, read_input, words_of};
 use message::{Message, say};
 use run::answer;
 use sink::Written;
@@ -25,6 +28,17 @@ fn main(rt: HostRuntime) -> ExitCode {
     ExitCode::from(program(&rt))
 }
 
+/// What the image is read from.
+fn input_name(line: &Result<Command, UsageFault>) -> &str {
+    match line {
+        Ok(command) => match command.image() {
+            Some(file) => file.as_str(),
+            None => "standard input",
+        },
+        Err(_) => "standard input",
+    }
+}
+
 /// Reads the command line and the image, answers it on buffered standard output, and gives the exit status.
 fn program(rt: &HostRuntime) -> u8 {
     let mut err = rt.stderr();
@@ -33,7 +47,7 @@ fn program(rt: &HostRuntime) -> u8 {
         Err(fault) => Err(fault),
     };
     let image = match &line {
-        Ok(_) => read_image(rt.alloc(), rt.reader()),
+        Ok(command) => read_input(rt, command.image()),
         Err(_) => Ok(Vec::new(rt.alloc())),
     };
     let image = match image {
@@ -43,7 +57,7 @@ fn program(rt: &HostRuntime) -> u8 {
             return 5;
         }
         Err(InputFault::Unreadable) => {
-            say(&mut err, Message::CannotRead);
+            say(&mut err, Message::CannotRead(input_name(&line)));
             return 3;
         }
     };

@@ -6,11 +6,11 @@ use std::io::Write;
 
 /// A message. None of them takes memory.
 #[derive(Clone, Copy, Debug, PartialEq, Eq)]
-pub(crate) enum Message {
+pub(crate) enum Message<'a> {
     /// How the program is called.
     Usage,
-    /// The input could not be read, or is too long.
-    CannotRead,
+    /// What is named could not be read, or is too long.
+    CannotRead(&'a str),
     /// The input is no image.
     Image(ImageFault),
     /// A listing ended by this name.
@@ -21,13 +21,13 @@ pub(crate) enum Message {
     OutOfMemory,
 }
 
-impl fmt::Display for Message {
+impl fmt::Display for Message<'_> {
     fn fmt<W: fmt::Write>(&self, f: &mut fmt::Formatter<W>) -> fmt::Result {
         match *self {
             Message::Usage => f.write_str(
                 "usage: ipmitool [--image FILE] [--from HEX4] [--part N] [--tries N] fru|sdr|sel WORDS",
             ),
-            Message::CannotRead => f.write_str("cannot read standard input"),
+            Message::CannotRead(name) => write!(f, "cannot read {name}"),
             Message::Image(fault) => write_fault(fault, f),
             Message::Ended(ended) => write_ended(ended, f),
             Message::WriteFault => f.write_str("write fault"),
@@ -67,6 +67,6 @@ fn write_ended<W: fmt::Write>(ended: Ended, f: &mut fmt::Formatter<W>) -> fmt::R
 }
 
 /// Writes the message and a line feed. Where standard error does not take it, nothing else changes.
-pub(crate) fn say<E: Write>(err: &mut E, message: Message) {
+pub(crate) fn say<E: Write>(err: &mut E, message: Message<'_>) {
     let _ = writeln!(err, "{message}");
 }

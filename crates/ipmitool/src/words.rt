@@ -2,6 +2,7 @@
 ghost use Rattle.std.specs.Prelude.{◌≡◌, ◌∷◌, ◌++◌, [], OnOk, OnErr, IfOk};
 
 use std::alloc::{AllocError, Global};
+use std::convert::AsStr;
 use std::marker::Model;
 
 /// One owned text, seen as its bytes.
@@ -32,6 +33,14 @@ impl Word {
         ensures { result.now ≡ self.now }
     {
         self.text.as_str()
+    }
+}
+
+impl AsStr for Word {
+    ghost text = { λ w. w };
+
+    fn as_str(&self) -> &str {
+        self.as_str()
     }
 }
 

@@ -1,0 +1,34 @@
+-- Numbers on a command line.
+use Rattle.std.specs.Prelude.{ℕ, Bool, ◌&&◌, not, ◌==◌, nat_le, nat_lt, List, length, slice_index, take, drop, Option, Some, None, codes, if◌then◌else◌}
+use Rattle.std.specs.Char.{is_ascii_digit, is_ascii_hexdigit}
+use Rattle.std.specs.List.{list_all}
+use Rattle.std.specs.Str.{bytes_eq}
+use Rattle.std.specs.Str.Parse.{digits_value}
+
+-- a zero before other digits
+abbrev pub has_leading_zero : List ℕ → Bool
+has_leading_zero text = nat_lt 1 (length text) && slice_index text 0 == 48
+
+-- decimal digits without a leading zero; `0` itself is one
+abbrev pub decimal_of : List ℕ → Option ℕ
+decimal_of text = if not (length text == 0) && (not (has_leading_zero text) && list_all is_ascii_digit text) then Some (digits_value 10 text) else None
+
+-- one to four hex digits of either case
+abbrev pub hex_of : List ℕ → Option ℕ
+hex_of text = if nat_lt 0 (length text) && (nat_le (length text) 4 && list_all is_ascii_hexdigit text) then Some (digits_value 16 text) else None
+
+-- four of them
+abbrev pub four_hex_of : List ℕ → Option ℕ
+four_hex_of text = if length text == 4 then hex_of text else None
+
+abbrev pub begins_0x : List ℕ → Bool
+begins_0x text = bytes_eq (take 2 text) (codes "0x")
+
+-- decimal, or `0x` and hex digits
+abbrev pub number_of : List ℕ → Option ℕ
+number_of text = if begins_0x text then hex_of (drop 2 text) else decimal_of text
+
+-- the number, where there is one from low to high
+abbrev pub within : ℕ → ℕ → Option ℕ → Option ℕ
+within low high None = None
+within low high (Some n) = if nat_le low n && nat_le n high then Some n else None

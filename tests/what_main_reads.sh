@@ -1,0 +1,64 @@
+#!/usr/bin/env bash
+# What the program reads: the file of `--image` or standard input, up to 64 MiB and no byte more; nothing after a usage
+# fault; and the words of its command line where there are none, or where one is no text.
+set -uo pipefail
+cd "$(dirname "$0")/.."
+make -s build || exit 1
+program=$PWD/crates/ipmitool/out/ipmitool
+work=$(mktemp -d)
+trap 'rm -rf "$work"' EXIT
+usage='usage: ipmitool [--image FILE] [--from HEX4] [--part N] [--tries N] fru|sdr|sel WORDS'
+line='sdr 0001 ffff 010051c000'
+failed=0
+
+# The program with the words behind the first three, over the given standard input: its status, output and message.
+expect() {
+  local status=$1 out=$2 err=$3
+  shift 3
+  "$@" > "$work/out" 2> "$work/err"
+  local got=$?
+  if [ "$got" -ne "$status" ] || [ "$(cat "$work/out")" != "$out" ] || [ "$(cat "$work/err")" != "$err" ]; then
+    failed=1
+    echo "${*/$program/ipmitool}: status $got, $(head -c 200 "$work/out") $(head -c 200 "$work/err")"
+  fi
+}
+
+# An image of 64 MiB: 13 + 25 + 12 + 10 * 6710881 + 4 bytes, most of them in lines of one byte of an inventory.
+{
+  echo 'ipmi-image 1'
+  echo "$line"
+  echo 'fru fe 0000'
+  for id in {0..102}; do
+    hex=$(printf '%02x' "$id")
+    yes "fru $hex 00" 2> /dev/null | head -n $((id < 102 ? 65535 : 26311))
+  done
+  echo 'end'
+} > "$work/long"
+if [ "$(wc -c < "$work/long")" -ne $((64 * 1024 * 1024)) ]; then
+  echo "the long image has $(wc -c < "$work/long") bytes"
+  exit 1
+fi
+expect 0 "$line" '' "$program" --image "$work/long" sdr hex < /dev/null
+expect 0 "$line" '' "$program" < "$work/long"
+echo >> "$work/long"
+expect 3 '' "cannot read $work/long" "$program" --image "$work/long" < /dev/null
+expect 3 '' 'cannot read standard input' "$program" sdr hex < "$work/long"
+
+small=examples/three-rows.image
+lines=$(grep '^sdr' "$small")
+expect 0 "$lines" '' "$program" --image "$small" < /dev/null
+expect 0 "$(tail -n 2 <<< "$lines")" '' "$program" sdr --from 0002 --image="$small" hex < /dev/null
+expect 3 '' "cannot read $work/none" "$program" --image "$work/none" < "$small"
+expect 3 '' "cannot read $work" "$program" --image "$work" < "$small"
+expect 3 '' 'cannot read ' "$program" --image '' < "$small"
+expect 3 '' 'cannot read standard input' "$program" < "$work"
+
+# After a usage fault the rest of standard input is all of it, and no file is opened.
+expect 2 '' "$usage" "$program" sdr frob --image "$work/none" < "$small"
+expect 2 "$(cat "$small")" "$usage" bash -c '"$0" sdr frob; status=$?; cat; exit $status' "$program" < "$small"
+
+# A first word that is empty is the program's name too, and a word that is no text is no word.
+expect 0 "$lines" '' bash -c 'exec -a "" "$0"' "$program" < "$small"
+expect 2 '' "$usage" "$program" $'\xff' < "$small"
+expect 2 '' "$usage" "$program" --image $'a\xff' < "$small"
+exit "$failed"
