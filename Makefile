@@ -3,7 +3,7 @@ PREFIX ?= /usr/local
 PROGRAM := crates/ipmitool/out/ipmitool
 SOURCES := crates.txt $(shell find crates -path '*/out' -prune -o \( -name '*.rt' -o -name '*.antt' \) -print)
 
-.PHONY: demo test memory bench build install
+.PHONY: demo test memory turns bench build install
 
 # The program on a small image: three sensor data records, a line each.
 demo: $(PROGRAM)
@@ -13,9 +13,13 @@ demo: $(PROGRAM)
 test:
 	@scripts/test
 
-# Each request for memory refused in turn; about half an hour.
+# Each request for memory refused in turn: seconds, and before them the proofs and builds that it needs.
 memory:
 	@scripts/refuse_memory
+
+# Each turn of a must-fail edit that joins several, refused alone; about half an hour.
+turns:
+	@scripts/refuse_turns
 
 # Time and memory on long images, against a reference that a C compiler builds; a few seconds, and no time fails it.
 bench: $(PROGRAM)
