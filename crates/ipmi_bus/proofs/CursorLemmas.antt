@@ -1,7 +1,7 @@
 -- The record that a cursor hands out is the row that it asked for.
-use Rattle.std.proofs.Common.{◌≡◌, ℕ, ◌+◌, ◌*◌, ◌≤◌, false, cond, nat_eq, Some, List, [], ◌∷◌, length, take, get_or, refl, sym, ap, subst, ◌∙◌, arith}
+use Rattle.std.proofs.Common.{◌≡◌, ℕ, ◌+◌, ◌*◌, ◌<◌, ◌≤◌, false, cond, nat_eq, Some, List, [], ◌∷◌, length, take, get_or, refl, sym, ap, subst, ◌∙◌, arith}
 use Rattle.std.specs.FinSet as set
-use Rattle.std.specs.FinSet.{contains-empty}
+use Rattle.std.specs.FinSet.{contains-empty, len-empty}
 use Rattle.std.specs.Ordering.{nat_cmp}
 use Rattle.std.proofs.lemmas.Bool.{ne_eqb}
 use Rattle.std.proofs.lemmas.List.{take_all, get_or-take, length-take}
@@ -19,7 +19,7 @@ use Rattle.ipmi_bus.specs.Store.{rows_of}
 use Rattle.ipmi_bus.specs.Seen.{Seen, IsHonest}
 use Rattle.ipmi_bus.specs.Retrieval.{HasRead, SameRequest, wanted_len}
 use Rattle.ipmi_bus.specs.Since.{begun}
-use Rattle.ipmi_bus.specs.Handed.{handed_row, handed_id, IsAsked, IsUnseen}
+use Rattle.ipmi_bus.specs.Handed.{handed_row, handed_id, IsAsked, IsUnseen, LeavesRoom}
 use Rattle.ipmi_bus.specs.Step.{asked_at, HasIdAsked}
 use Rattle.ipmi_bus.proofs.ShelfLemmas.{found_row, shelf_of}
 use Rattle.ipmi_bus.proofs.PartLemmas.{byte_read}
@@ -122,3 +122,9 @@ handed_whole shelf old r new handed place asked asks same some whole id len is r
       subst (HasIdAsked place) (sym shown) (has_id_asked place asked r.have handed.next r.buffer some asks),
       ap (λ (l : List ℕ). length l) bytes ∙ long ∙ ap (λ (s : Shelf). whole_len s (take r.have r.buffer)) same ∙ sym (ap (whole_len shelf) bytes),
     )
+
+-- a cursor that asks for a record has room for its id
+pub room_to_ask : (place : Place) (ids : set.FinSet nat_cmp) (asked : ℕ) → (place ≡ First → ids ≡ set.empty) → IsAsked place asked → LeavesRoom place ids → set.len ids < 65536
+room_to_ask First ids asked first asks room = let none = ap (λ (s : set.FinSet nat_cmp). set.len s) (first refl) in omega (arith, none, len-empty nat_cmp)
+room_to_ask (Id n) ids asked first asks room = room
+room_to_ask End ids asked first asks room = absurd asks

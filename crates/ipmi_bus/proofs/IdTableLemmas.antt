@@ -95,3 +95,10 @@ zero_at zeros n i e = elim (cases_lt i n) [
   | inl lt ↦ ap (λ xs. get_or xs i 0) e ∙ get_or-replicate n i 0 0 lt
   | inr le ↦ get_or_past zeros i 0 (omega (arith, ap length e, length-replicate {A = ℕ}))
 ]
+
+-- a table that lacks an id has fewer ids than bits
+pub room_left : (bytes : List ℕ) (n : ℕ) → length bytes ≡ 8192 → n < 65536 → set.contains (ids_in bytes) n ≡ false → set.len (ids_in bytes) < 65536
+room_left bytes n len fits unseen =
+    let more : set.len (set.insert (ids_in bytes) n) ≡ set.len (ids_in bytes) + 1 = len-insert nat_cmp_total (ids_in bytes) n ∙ ap (λ (b : Bool). cond b (set.len (ids_in bytes)) (set.len (ids_in bytes) + 1)) unseen in
+    let same = ap (λ (s : set.FinSet nat_cmp). set.len s) (ids_in-put bytes n len fits) in
+    let most = len-ids_in (put bytes (n / 8) (marked bytes n)) in omega (arith, more, same, most)

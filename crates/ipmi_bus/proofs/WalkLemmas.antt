@@ -1,17 +1,17 @@
 -- Walks, row after row.
-use Rattle.std.proofs.Common.{◌≡◌, ◌≢◌, ℕ, ◌+◌, ◌≤◌, ◌==◌, Bool, true, false, cond, nat_eq, ◌||◌, Option, None, Some, Result, Ok, Err, List, [], ◌∷◌, ◌++◌, length, take, drop, refl, sym, ap, subst, ◌∙◌, inl, inr, rules, arith}
+use Rattle.std.proofs.Common.{◌≡◌, ◌≢◌, ℕ, ◌+◌, ◌≤◌, ◌==◌, Bool, true, false, cond, nat_eq, ◌||◌, Option, None, Some, IsSome, Result, Ok, Err, List, [], ◌∷◌, ◌++◌, length, take, drop, refl, sym, ap, subst, ◌∙◌, inl, inr, rules, arith}
 use Rattle.std.specs.Prelude.{◌⊎◌}
 use Rattle.std.specs.FinSet as set
 use Rattle.std.proofs.lemmas.Bool.{ne_eqb, eq-eqb}
 use Rattle.ipmi_bus.specs.declared.controller.Shelf.{Shelf}
 use Rattle.ipmi_bus.specs.declared.step.Place.{Place}
 use Rattle.ipmi_bus.specs.declared.step.Place.TheVariants.{First, Id, End}
-use Rattle.ipmi_bus.specs.Shelf.{Row, IsShelf, look, row_with_id, first_row, DistinctIds, LacksId}
+use Rattle.ipmi_bus.specs.Shelf.{Row, IsShelf, look, len_of, row_with_id, first_row, DistinctIds, LacksId}
 use Rattle.ipmi_bus.specs.Walk.{row_at, IsWalk, place_after, place_after_rows, has_id, WalkEnd, Done, CycleAt, MissingAt, EndsBy, EndsAfter, EndsEmpty, last_next}
 use Rattle.ipmi_bus.specs.declared.step.Ended.{Ended}
 use Rattle.ipmi_bus.specs.declared.step.Ended.TheVariants.{Cycle, Missing, Refused, GaveUp, Stalled, Malformed}
 use Rattle.ipmi_bus.specs.CursorState.{CursorState}
-use Rattle.ipmi_bus.specs.Step.{asked_at, cycle_at, StaysThere, StepLeaves, StepAnswers, StepIsHonest, NoneAt}
+use Rattle.ipmi_bus.specs.Step.{asked_at, cycle_at, AsksNothing, StaysThere, StepLeaves, StepAnswers, StepIsHonest, NoneAt}
 use Rattle.ipmi_bus.specs.Standing.{StandsAt, WalkStep, MayFail, FollowsWalks}
 use Rattle.std.specs.FinSet.{contains-insert, contains-empty}
 use Rattle.std.specs.Cmp.{nat_cmp_total, unsigned_tied}
@@ -303,6 +303,19 @@ module _ (shelf : Shelf) (rows : List Row) (start : Place) (walk : List Row) (k 
       by_rest : (l : List Row) → drop k walk ≡ l → WalkStep rows start walk end k c new result
       by_rest [] is = ending is end ends end (facts is end ends) result leaves finds
       by_rest (row ∷ rest) is = inside row rest is end result leaves finds
+
+  -- a step on it asks for the next row, or at its end for none, or asks nothing
+  pub asks_next : (end : WalkEnd) → EndsBy rows start walk end → AsksNothing c ⊎ (len_of (look rows (asked_at c.place)) ≡ len_of (first_row (drop k walk)))
+  asks_next end ends = by_rest (drop k walk) refl
+    where
+      asks_at_end : (e : WalkEnd) → EndFacts rows start c.place c.ids e → AsksNothing c ⊎ (len_of (look rows (asked_at c.place)) ≡ 0)
+      asks_at_end Done known = elim known [ inl p ↦ inl (inl p) | inr h ↦ inr (ap len_of (ap (λ (q : Place). look rows (asked_at q)) h.0 ∙ h.2)) ]
+      asks_at_end (CycleAt n) known = inl (inr (subst (λ (o : Option ℕ). IsSome o) (sym known) refl))
+      asks_at_end (MissingAt n) known = inr (ap len_of (ap (λ (q : Place). look rows (asked_at q)) known.0 ∙ known.2))
+
+      by_rest : (l : List Row) → drop k walk ≡ l → AsksNothing c ⊎ (len_of (look rows (asked_at c.place)) ≡ len_of (first_row (drop k walk)))
+      by_rest [] is = elim (asks_at_end end (facts is end ends)) [ inl asks ↦ inl asks | inr nothing ↦ inr (nothing ∙ sym (ap (λ (l : List Row). len_of (first_row l)) is)) ]
+      by_rest (row ∷ rest) is = inr (ap len_of (found row rest is end) ∙ sym (ap (λ (l : List Row). len_of (first_row l)) is))
 
 -- ---- the law over an honest controller, which keeps its store
 

@@ -47,7 +47,13 @@ IsUnseen First ids asked = Unit {0}
 IsUnseen (Id n) ids asked = set.contains ids asked ≡ false
 IsUnseen End ids asked = Unit {0}
 
+-- a set of ids that lacks one has room for it
+abbrev pub LeavesRoom : Place → set.FinSet nat_cmp → Type 0
+LeavesRoom First ids = Unit {0}
+LeavesRoom (Id n) ids = set.len ids < 65536
+LeavesRoom End ids = Unit {0}
+
 abbrev pub IsNext : Place → set.FinSet nat_cmp → Next → Type 0
 IsNext place ids next.End = place ≡ End
 IsNext place ids (next.Cycle n) = cycle_at place ids ≡ Some n
-IsNext place ids (next.Asks asked) = (cycle_at place ids ≡ None) × IsAsked place asked × IsUnseen place ids asked
+IsNext place ids (next.Asks asked) = (cycle_at place ids ≡ None) × IsAsked place asked × IsUnseen place ids asked × LeavesRoom place ids

@@ -54,6 +54,7 @@ pub record HandsOut (old new : CursorState) (row : Row) : Type 0 where
   pub whole : length row.bytes ≡ whole_len old.shelf row.bytes
   pub fits : length row.bytes ≤ largest_len old.shelf
   pub not_at_end : old.place ≢ End
+  pub next : row.next < 65536
 
 -- the cursor stands where it stood, without a reservation
 pub record StaysThere (old new : CursorState) : Type 0 where
@@ -87,6 +88,10 @@ StepLeaves old new (Err (Malformed n)) = (cycle_at old.place old.ids ≡ None) �
 -- a step from here asks nothing of the controller: the cursor is at the end, or the chain closes
 abbrev pub AsksNothing : CursorState → Type 0
 AsksNothing c = (c.place ≡ End) ⊎ IsSome (cycle_at c.place c.ids)
+
+-- a cursor that asks for a record has handed out fewer than all ids
+abbrev pub HasRoom : CursorState → Type 0
+HasRoom c = AsksNothing c ⊎ (set.len c.ids < 65536)
 
 -- no more calls than the bound for a record of this length, but for those that made the part size fall
 abbrev pub StepCalls : ℕ → CursorState → CursorState → Seen → Seen → Type 0
@@ -146,5 +151,6 @@ pub record IsStep (old new : CursorState) (s s' : Seen) (result : Result (Option
   pub leaves : StepLeaves old new result
   pub calls : StepCalls (largest_len old.shelf) old new s s'
   pub no_call : AsksNothing old → s' ≡ s
+  pub room : HasRoom old
   pub honest : IsHonest s → StepIsHonest old new s s' result
   pub walks : IsHonest s → FollowsWalks old new s s' result

@@ -6,7 +6,7 @@ ghost use Rattle.std.specs.Borrow.{sem};
 ghost use Rattle.ipmi_bus.specs.Seen.{IsHonest, StaysHonest};
 ghost use Rattle.ipmi_bus.specs.Shelf.{Row, whole_len, largest_len};
 ghost use Rattle.ipmi_bus.specs.Walk.{place_after};
-ghost use Rattle.ipmi_bus.specs.Step.{KeepsSettings, StepLeaves, StepCalls, StepIsHonest, StepAnswers, AsksNothing};
+ghost use Rattle.ipmi_bus.specs.Step.{KeepsSettings, StepLeaves, StepCalls, StepIsHonest, StepAnswers, AsksNothing, HasRoom};
 ghost use Rattle.ipmi_bus.specs.Standing.{FollowsWalks, StandsAt};
 ghost use Rattle.ipmi_bus.specs.Handed.{state_of, IsCursor, handed_result, handed_id, IsNext};
 
@@ -69,6 +69,7 @@ impl Progress {
         ensures at_most { set.len self.new.ids ≤ 65536 }
         ensures id { result.id ≡ handed_id self.old.place asked self.old.retrieval.buffer }
         ensures next { result.next ≡ self.old.retrieval.next }
+        ensures next_fits { result.next < 65536 }
         ensures len { result.len ≡ self.old.retrieval.have }
         ensures retrieval { self.new.retrieval ≡ self.old.retrieval }
         ensures room { length self.new.retrieval.buffer ≡ 256 }
@@ -100,6 +101,7 @@ impl Progress {
         ensures leaves { StepLeaves (state_of self.old) (state_of self.new) (handed_result self.new result) }
         ensures calls { StepCalls (largest_len self.old.retrieval.shelf) (state_of self.old) (state_of self.new) (C.seen ctl.old) (C.seen ctl.new) }
         ensures no_call { AsksNothing (state_of self.old) → C.seen ctl.new ≡ C.seen ctl.old }
+        ensures room { HasRoom (state_of self.old) }
         ensures honest { IsHonest (C.seen ctl.old) → StepIsHonest (state_of self.old) (state_of self.new) (C.seen ctl.old) (C.seen ctl.new) (handed_result self.new result) }
     {
         let asked = match self.next() {
@@ -138,6 +140,7 @@ impl Progress {
         ensures leaves { StepLeaves (state_of self.old) (state_of self.new) (handed_result self.new result) }
         ensures calls { StepCalls (largest_len self.old.retrieval.shelf) (state_of self.old) (state_of self.new) (C.seen ctl.old) (C.seen ctl.new) }
         ensures no_call { AsksNothing (state_of self.old) → C.seen ctl.new ≡ C.seen ctl.old }
+        ensures room { HasRoom (state_of self.old) }
         ensures honest { IsHonest (C.seen ctl.old) → StepIsHonest (state_of self.old) (state_of self.new) (C.seen ctl.old) (C.seen ctl.new) (handed_result self.new result) }
         ensures walks { IsHonest (C.seen ctl.old) → FollowsWalks (state_of self.old) (state_of self.new) (C.seen ctl.old) (C.seen ctl.new) (handed_result self.new result) }
     {

@@ -1,5 +1,5 @@
 //! The ids that a cursor has handed out, in a table of bits.
-ghost use Rattle.std.specs.Prelude.{◌≡◌, ◌≤◌, IfOk};
+ghost use Rattle.std.specs.Prelude.{◌≡◌, ◌≤◌, ◌<◌, false, IfOk};
 ghost use Rattle.std.specs.FinSet as set;
 
 use std::alloc::{AllocError, Global};
@@ -39,7 +39,8 @@ impl IdTable {
 
     /// Whether the id is among them.
     pub(crate) fn contains(&self, id: u16) -> bool
-        ensures { result ≡ set.contains self.now id }
+        ensures is { result ≡ set.contains self.now id }
+        ensures room { result ≡ false → set.len self.now < 65536 }
     {
         (self.bytes[usize::from(id / 8)] >> (id % 8)) & 1 == 1
     }

@@ -1,5 +1,10 @@
 pub mod ArgumentLemmas
 pub mod CommandLemmas
 pub mod HexLemmas
+pub mod CallLemmas
 pub mod ListingLemmas
+pub mod MessageLemmas
 pub mod NumberLemmas
+pub mod PageLemmas
+pub mod PagesLaw
+pub mod PlanLemmas

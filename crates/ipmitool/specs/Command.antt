@@ -31,6 +31,20 @@ takes_from (task.SelList entries) = true
 takes_from (task.SelGet id) = false
 takes_from task.Rewrite = false
 
+-- the tasks that list all records of a shelf, which can be done in pages
+abbrev pub is_listing : Task → Bool
+is_listing (task.Fru id) = false
+is_listing task.Hex = true
+is_listing (task.List kind) = true
+is_listing (task.Elist kind) = true
+is_listing (task.Get name) = false
+is_listing (task.Info shelf) = false
+is_listing (task.SelList count.All) = true
+is_listing (task.SelList (count.First n)) = false
+is_listing (task.SelList (count.Last n)) = false
+is_listing (task.SelGet id) = false
+is_listing task.Rewrite = false
+
 -- ---- the ranges
 
 abbrev pub IsCount : Count → Type 0

@@ -2,7 +2,11 @@ pub mod Arguments
 pub mod Command
 pub mod Line
 pub mod Listing
+pub mod Message
 pub mod Number
+pub mod Pages
+pub mod Pieces
+pub mod Plan
 pub mod Run
 pub mod Sink
 pub mod Table

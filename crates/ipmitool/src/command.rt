@@ -1,7 +1,7 @@
 //! What a command line asks for.
 ghost use Rattle.std.specs.Prelude.{◌≡◌, ◌≤◌, ◌<◌, ◌⊎◌, Err, IfOk, IfSome, IsSome, IsTrue, MatchResult, None, Ok, Some, length, option_map};
 ghost use Rattle.clap.specs.Words.{found_of, rows_of};
-ghost use Rattle.ipmitool.specs.Command.{IsCommand, IsTask, command_of_matches, command_of_task, is_stray, meaning_of, number_or, start_of_text, takes_from};
+ghost use Rattle.ipmitool.specs.Command.{IsCommand, IsTask, command_of_matches, command_of_task, is_stray, meaning_of, number_or, start_of_text, is_listing, takes_from};
 ghost use Rattle.ipmitool.specs.declared.command.UsageFault.TheVariants as fault;
 
 use crate::arguments::{arguments, value};
@@ -165,6 +165,21 @@ impl Command {
         ensures { result ≡ self.now.tries }
     {
         self.tries
+    }
+
+    /// Whether it lists all records of a shelf, so that it can be done in pages.
+    pub fn is_listing(&self) -> bool
+        ensures { result ≡ is_listing self.now.task }
+    {
+        match self.task {
+            Task::Hex | Task::List(_) | Task::Elist(_) | Task::SelList(Count::All) => true,
+            Task::SelList(Count::First(_) | Count::Last(_))
+            | Task::Fru(_)
+            | Task::Get(_)
+            | Task::Info(_)
+            | Task::SelGet(_)
+            | Task::Rewrite => false,
+        }
     }
 
     /// The file that the image is in, `--image`; without it, it is standard input.

@@ -9,6 +9,7 @@ mod line;
 mod listing;
 mod message;
 mod number;
+mod pages;
 mod run;
 mod sink;
 mod table;

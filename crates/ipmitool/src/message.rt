@@ -1,7 +1,13 @@
-//! What the program says on standard error, and the exit status that goes with it.
+//! What the program says on standard error. Each message is one line, written part by part and not made as a whole text
+//! first: so none of them takes memory, and the want of memory can be told as well.
+ghost use Rattle.std.specs.Prelude.{◌≡◌, ◌<◌, true};
+ghost use Rattle.std.specs.Fmt.{digit_glyph};
+ghost use Rattle.ipmi_records.specs.Bytes.{byte_h, upper_byte, word_h};
+ghost use Rattle.ipmitool.specs.Message.{AppendsPart, WritesAll, ended_text, image_fault_text, joined_parts, line_fault_text, line_text, message_text};
+
 use ipmi_bus::Ended;
 use ipmi_image::ImageFault;
-use std::fmt;
+use itoa::Buffer;
 use std::io::Write;
 
 /// A message. None of them takes memory.
@@ -21,52 +27,152 @@ pub(crate) enum Message<'a> {
     OutOfMemory,
 }
 
-impl fmt::Display for Message<'_> {
-    fn fmt<W: fmt::Write>(&self, f: &mut fmt::Formatter<W>) -> fmt::Result {
-        match *self {
-            Message::Usage => f.write_str(
-                "usage: ipmitool [--image FILE] [--from HEX4] [--part N] [--tries N] fru|sdr|sel WORDS",
-            ),
-            Message::CannotRead(name) => write!(f, "cannot read {name}"),
-            Message::Image(fault) => write_fault(fault, f),
-            Message::Ended(ended) => write_ended(ended, f),
-            Message::WriteFault => f.write_str("write fault"),
-            Message::OutOfMemory => f.write_str("out of memory"),
-        }
+/// A writer took less than all of a line.
+#[derive(Clone, Copy, Debug, PartialEq, Eq)]
+pub(crate) struct Unwritten;
+
+/// Says the message, as a line. Where standard error does not take it all, nothing else changes: there is nowhere left
+/// to tell it.
+pub(crate) fn say<E: Write>(err: &mut E, message: Message<'_>)
+    ensures { AppendsPart (E.contents err.old) (E.contents err.new) (line_text (message_text message.entry)) }
+{
+    let _ = write_message(err, message);
+}
+
+/// Writes the message and a line feed.
+pub(crate) fn write_message<E: Write>(err: &mut E, message: Message<'_>) -> Result<(), Unwritten>
+    ensures { WritesAll (E.contents err.old) (E.contents err.new) result (line_text (message_text message.entry)) }
+{
+    match message {
+        Message::Usage => write_line(
+            err,
+            &[
+                b"usage: ipmitool [--image FILE] [--from HEX4] [--part N] [--tries N] fru|sdr|sel WORDS",
+            ],
+        ),
+        Message::CannotRead(name) => write_line(err, &[b"cannot read ", name.as_bytes()]),
+        Message::Image(fault) => write_image_fault(err, fault),
+        Message::Ended(ended) => write_ended(err, ended),
+        Message::WriteFault => write_line(err, &[b"write fault"]),
+        Message::OutOfMemory => write_line(err, &[b"out of memory"]),
     }
 }
 
-fn write_fault<W: fmt::Write>(fault: ImageFault, f: &mut fmt::Formatter<W>) -> fmt::Result {
-    match fault {
-        ImageFault::Memory => f.write_str("out of memory"),
-        ImageFault::Header => f.write_str("image: header"),
-        ImageFault::Line(line) => write!(f, "image line {line}: not a line"),
-        ImageFault::Hex(line) => write!(f, "image line {line}: hex"),
-        ImageFault::Id(line) => write!(f, "image line {line}: id"),
-        ImageFault::Twice(line) => write!(f, "image line {line}: twice"),
-        ImageFault::Length(line) => write!(f, "image line {line}: length"),
-        ImageFault::FirstId(line) => write!(f, "image line {line}: first id"),
-        ImageFault::NoEnd => f.write_str("image: no end"),
-        ImageFault::AfterEnd(line) => write!(f, "image line {line}: after end"),
-        ImageFault::TooMany(line) => write!(f, "image line {line}: too many bytes"),
-    }
-}
-
-fn write_ended<W: fmt::Write>(ended: Ended, f: &mut fmt::Formatter<W>) -> fmt::Result {
+/// Writes why a listing ended.
+fn write_ended<E: Write>(err: &mut E, ended: Ended) -> Result<(), Unwritten>
+    ensures { WritesAll (E.contents err.old) (E.contents err.new) result (line_text (ended_text ended)) }
+{
     match ended {
-        Ended::Cycle(id) => write!(f, "cycle at {id:04X}h"),
-        Ended::Missing(id) => write!(f, "record {id:04X}h not present"),
-        Ended::Refused(id, code) => {
-            let code = code.0;
-            write!(f, "record {id:04X}h refused with code {code:02X}h")
-        }
-        Ended::GaveUp(id) => write!(f, "gave up at {id:04X}h"),
-        Ended::Stalled(id) => write!(f, "stalled at {id:04X}h"),
-        Ended::Malformed(id) => write!(f, "malformed record {id:04X}h"),
+        Ended::Cycle(id) => write_line(err, &[b"cycle at ", &word_h(id)]),
+        Ended::Missing(id) => write_line(err, &[b"record ", &word_h(id), b" not present"]),
+        Ended::Refused(id, code) => write_line(
+            err,
+            &[
+                b"record ",
+                &word_h(id),
+                b" refused with code ",
+                &byte_h(code.0),
+            ],
+        ),
+        Ended::GaveUp(id) => write_line(err, &[b"gave up at ", &word_h(id)]),
+        Ended::Stalled(id) => write_line(err, &[b"stalled at ", &word_h(id)]),
+        Ended::Malformed(id) => write_line(err, &[b"malformed record ", &word_h(id)]),
     }
 }
 
-/// Writes the message and a line feed. Where standard error does not take it, nothing else changes.
-pub(crate) fn say<E: Write>(err: &mut E, message: Message<'_>) {
-    let _ = writeln!(err, "{message}");
+/// Writes why the input is no image.
+fn write_image_fault<E: Write>(err: &mut E, fault: ImageFault) -> Result<(), Unwritten>
+    ensures { WritesAll (E.contents err.old) (E.contents err.new) result (line_text (image_fault_text fault)) }
+{
+    match fault {
+        ImageFault::Memory => write_line(err, &[b"out of memory"]),
+        ImageFault::Header => write_line(err, &[b"image: header"]),
+        ImageFault::Line(line) => write_line_fault(err, line, b"not a line"),
+        ImageFault::Hex(line) => write_line_fault(err, line, b"hex"),
+        ImageFault::Id(line) => write_line_fault(err, line, b"id"),
+        ImageFault::Twice(line) => write_line_fault(err, line, b"twice"),
+        ImageFault::Length(line) => write_line_fault(err, line, b"length"),
+        ImageFault::FirstId(line) => write_line_fault(err, line, b"first id"),
+        ImageFault::NoEnd => write_line(err, &[b"image: no end"]),
+        ImageFault::AfterEnd(line) => write_line_fault(err, line, b"after end"),
+        ImageFault::TooMany(line) => write_line_fault(err, line, b"too many bytes"),
+    }
+}
+
+/// Writes what is wrong with this line of an image.
+fn write_line_fault<E: Write>(err: &mut E, line: usize, what: &[u8]) -> Result<(), Unwritten>
+    ensures { WritesAll (E.contents err.old) (E.contents err.new) result (line_text (line_fault_text line what.now)) }
+{
+    let mut buffer = Buffer::new();
+    let number = buffer.format(line).as_bytes();
+    write_line(err, &[b"image line ", number, b": ", what])
+}
+
+/// Writes the parts and a line feed.
+fn write_line<E: Write>(err: &mut E, parts: &[&[u8]]) -> Result<(), Unwritten>
+    ensures { WritesAll (E.contents err.old) (E.contents err.new) result (line_text (joined_parts parts.now)) }
+{
+    write_parts(err, parts)?;
+    write_bytes(err, b"\n")
+}
+
+/// Writes the parts, one after another.
+fn write_parts<E: Write>(err: &mut E, parts: &[&[u8]]) -> Result<(), Unwritten>
+    ensures { WritesAll (E.contents err.old) (E.contents err.new) result (joined_parts parts.now) }
+{
+    for part in parts {
+        write_bytes(err, part)?;
+    }
+    Ok(())
+}
+
+/// Writes all the bytes, by as many calls as it takes, until one fails or takes none.
+fn write_bytes<E: Write>(err: &mut E, bytes: &[u8]) -> Result<(), Unwritten>
+    ensures { WritesAll (E.contents err.old) (E.contents err.new) result bytes.now }
+{
+    let mut done = 0;
+    while done < bytes.len() {
+        match err.write(&bytes[done..]) {
+            Ok(0) => return Err(Unwritten),
+            Ok(taken) => done += taken,
+            Err(_) => return Err(Unwritten),
+        }
+    }
+    Ok(())
+}
+
+/// A number of two bytes as four upper-case hex digits and an `h`.
+fn word_h(word: u16) -> [u8; 5]
+    ensures { result ≡ word_h word }
+{
+    let [high, next] = upper_byte((word / 256) as u8);
+    let [low, last, mark] = byte_h((word % 256) as u8);
+    [high, next, low, last, mark]
+}
+
+/// A byte as two upper-case hex digits and an `h`.
+fn byte_h(byte: u8) -> [u8; 3]
+    ensures { result ≡ byte_h byte }
+{
+    let [high, low] = upper_byte(byte);
+    [high, low, b'h']
+}
+
+/// A byte as two upper-case hex digits.
+fn upper_byte(byte: u8) -> [u8; 2]
+    ensures { result ≡ upper_byte byte }
+{
+    [upper_digit(byte / 16), upper_digit(byte % 16)]
+}
+
+/// An upper-case hex digit.
+fn upper_digit(digit: u8) -> u8
+    requires { digit < 16 }
+    ensures { result ≡ digit_glyph true digit }
+{
+    if digit < 10 {
+        b'0' + digit
+    } else {
+        b'A' + (digit - 10)
+    }
 }

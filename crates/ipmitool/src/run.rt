@@ -1,17 +1,23 @@
-//! Runs a command over a controller, or over a saved image.
-ghost use Rattle.std.specs.Prelude.{◌≡◌, ◌+◌, ◌==◌, if◌then◌else◌, true, false};
+//! Runs a command over a controller, or answers it over a saved image.
+ghost use Rattle.std.specs.Prelude.{◌≡◌, ◌+◌, ◌*◌, ◌≤◌, ◌==◌, if◌then◌else◌, true, false};
 ghost use Rattle.ipmi_bus.specs.Seen.{IsHonest};
-ghost use Rattle.ipmi_bus.specs.CursorState.{start_of};
-ghost use Rattle.ipmitool.specs.Listing.{faults_of};
-ghost use Rattle.ipmitool.specs.Run.{status_of, is_built, IsShelfListing, IsRun, AnswersTask, AnswersLine};
 ghost use Rattle.ipmi_image.specs.Image.{store_of_image};
+ghost use Rattle.ipmi_image.specs.Rewritten.{image_text_of};
+ghost use Rattle.ipmitool.specs.Command.{is_listing};
+ghost use Rattle.ipmitool.specs.Listing.{faults_of, most_calls};
+ghost use Rattle.ipmitool.specs.Message.{AppendsPart};
+ghost use Rattle.ipmitool.specs.Pages.{pages_made};
+ghost use Rattle.ipmitool.specs.Plan.{start_by};
+ghost use Rattle.ipmitool.specs.Run.{stop_status, stop_text, fault_status, is_built, is_rewrite, EndsSo, IsRun, IsPagedRun, Says, WritesImage, AnswersRewrite, AnswersTask, AnswersLine};
+ghost use Rattle.ipmitool.specs.declared.message.Message.TheVariants as message;
 
 use crate::command::{Command, Task, UsageFault};
-use crate::listing::{Stop, list_records};
+use crate::listing::Stop;
 use crate::message::{Message, say};
-use crate::sink::Sink;
-use ipmi_bus::{Controller, Cursor, Shelf};
-use ipmi_image::{Image, ImageController, ImageFault};
+use crate::pages::list_pages;
+use crate::sink::{Sink, write_all};
+use ipmi_bus::Controller;
+use ipmi_image::{Image, ImageController, ImageFault, image_text};
 use std::alloc::Global;
 use std::io::Write;
 
@@ -32,9 +38,27 @@ fn is_built(task: &Task) -> bool
     }
 }
 
+/// Whether the task writes the image again.
+fn is_rewrite(task: &Task) -> bool
+    ensures { result ≡ is_rewrite task.now }
+{
+    match task {
+        Task::Rewrite => true,
+        Task::Hex
+        | Task::Fru(_)
+        | Task::List(_)
+        | Task::Elist(_)
+        | Task::Get(_)
+        | Task::Info(_)
+        | Task::SelList(_)
+        | Task::SelGet(_) => false,
+    }
+}
+
 /// Says why a listing stopped, and gives its exit status.
 fn report<E: Write>(stop: Stop, err: &mut E) -> u8
-    ensures { result ≡ status_of stop }
+    ensures status { result ≡ stop_status stop }
+    ensures message { AppendsPart (E.contents err.old) (E.contents err.new) (stop_text stop) }
 {
     match stop {
         Stop::Done => 0,
@@ -53,15 +77,39 @@ fn report<E: Write>(stop: Stop, err: &mut E) -> u8
     }
 }
 
-/// Lists the sensor data records from where the command says.
-fn list_sdr<C: Controller, O: Sink>(alloc: Global, ctl: &mut C, cmd: &Command, out: &mut O) -> Stop
-    ensures faults { O.faults out.new ≡ O.faults out.old + faults_of result }
-    ensures honest { IsHonest (C.seen ctl.old) → IsShelfListing (start_of cmd.now.from) (C.seen ctl.old) (C.seen ctl.new) (O.taken out.old) (O.taken out.new) result }
+/// Says how the program is called, and gives the exit status of that.
+fn report_usage<E: Write>(err: &mut E) -> u8
+    ensures { Says (E.contents err.old) (E.contents err.new) result message.Usage 2 }
 {
-    match Cursor::start(alloc, Shelf::Sdr, cmd.from(), cmd.part(), cmd.tries()) {
-        Ok(mut cursor) => list_records(alloc, &mut cursor, ctl, out),
-        Err(_) => Stop::Memory,
+    say(err, Message::Usage);
+    2
+}
+
+/// The exit status of an image that is not read.
+fn image_status(fault: ImageFault) -> u8
+    ensures { result ≡ fault_status fault }
+{
+    match fault {
+        ImageFault::Memory => 5,
+        ImageFault::Header
+        | ImageFault::Line(_)
+        | ImageFault::Hex(_)
+        | ImageFault::Id(_)
+        | ImageFault::Twice(_)
+        | ImageFault::Length(_)
+        | ImageFault::FirstId(_)
+        | ImageFault::NoEnd
+        | ImageFault::AfterEnd(_)
+        | ImageFault::TooMany(_) => 3,
     }
+}
+
+/// Says why the image is not read, and gives the exit status of that.
+fn report_image<E: Write>(fault: ImageFault, err: &mut E) -> u8
+    ensures { Says (E.contents err.old) (E.contents err.new) result (message.Image fault) (fault_status fault) }
+{
+    say(err, Message::Image(fault));
+    image_status(fault)
 }
 
 /// Does what the command asks for over the controller, and gives the exit status: 0 where all was printed, 1 where
@@ -74,14 +122,39 @@ pub fn run<C: Controller, O: Sink, E: Write>(
     err: &mut E,
 ) -> u8
     ensures faults { O.faults out.new ≡ O.faults out.old + (if result == 4 then 1 else 0) }
-    ensures hex { is_built cmd.now.task ≡ true → IsHonest (C.seen ctl.old) → IsRun (start_of cmd.now.from) (C.seen ctl.old) (C.seen ctl.new) (O.taken out.old) (O.taken out.new) result }
-    ensures unbuilt { is_built cmd.now.task ≡ false → (result ≡ 2) × (C.seen ctl.new ≡ C.seen ctl.old) × (O.taken out.new ≡ O.taken out.old) }
+    ensures calls { (C.seen ctl.new).calls ≤ (C.seen ctl.old).calls + most_calls cmd.now.tries 256 }
+    ensures ends { is_built cmd.now.task ≡ true → EndsSo (E.contents err.old) (E.contents err.new) result }
+    ensures built { is_built cmd.now.task ≡ true → IsHonest (C.seen ctl.old) → IsRun cmd.now.task (start_by cmd.now.task cmd.now.from) cmd.now.tries (C.seen ctl.old) (C.seen ctl.new) (O.taken out.old) (O.taken out.new) (E.contents err.old) (E.contents err.new) result }
+    ensures unbuilt { is_built cmd.now.task ≡ false → (C.seen ctl.new ≡ C.seen ctl.old) × (O.taken out.new ≡ O.taken out.old) × Says (E.contents err.old) (E.contents err.new) result message.Usage 2 }
 {
     if !is_built(cmd.task()) {
-        say(err, Message::Usage);
-        return 2;
+        return report_usage(err);
     }
-    let stop = list_sdr(alloc, ctl, cmd, out);
+    let stop = list_pages(alloc, ctl, cmd, &[], out);
+    report(stop, err)
+}
+
+/// The same for a listing, in pages: each hands out at most as many records as its number says, by a cursor of its own,
+/// from where the page before it stopped, and behind the last one comes a page without a limit.
+pub fn run_pages<C: Controller, O: Sink, E: Write>(
+    alloc: Global,
+    ctl: &mut C,
+    cmd: &Command,
+    out: &mut O,
+    err: &mut E,
+    pages: &[u32],
+) -> u8
+    requires { is_listing cmd.now.task ≡ true }
+    ensures faults { O.faults out.new ≡ O.faults out.old + (if result == 4 then 1 else 0) }
+    ensures calls { (C.seen ctl.new).calls ≤ (C.seen ctl.old).calls + pages_made pages.now * most_calls cmd.now.tries 256 }
+    ensures ends { is_built cmd.now.task ≡ true → EndsSo (E.contents err.old) (E.contents err.new) result }
+    ensures built { is_built cmd.now.task ≡ true → IsHonest (C.seen ctl.old) → IsPagedRun cmd.now.task pages.now (start_by cmd.now.task cmd.now.from) cmd.now.tries (C.seen ctl.old) (C.seen ctl.new) (O.taken out.old) (O.taken out.new) (E.contents err.old) (E.contents err.new) result }
+    ensures unbuilt { is_built cmd.now.task ≡ false → (C.seen ctl.new ≡ C.seen ctl.old) × (O.taken out.new ≡ O.taken out.old) × Says (E.contents err.old) (E.contents err.new) result message.Usage 2 }
+{
+    if !is_built(cmd.task()) {
+        return report_usage(err);
+    }
+    let stop = list_pages(alloc, ctl, cmd, pages, out);
     report(stop, err)
 }
 
@@ -95,7 +168,7 @@ pub fn answer<O: Sink, E: Write>(
     err: &mut E,
 ) -> u8
     ensures faults { O.faults out.new ≡ O.faults out.old + (if result == 4 then 1 else 0) }
-    ensures answers { AnswersLine line.now (store_of_image image.now) (O.taken out.old) (O.taken out.new) result }
+    ensures answers { AnswersLine line.now (store_of_image image.now) (O.taken out.old) (O.taken out.new) (E.contents err.old) (E.contents err.new) result }
 {
     match line {
         Ok(cmd) => answer_command(alloc, cmd, image, out, err),
@@ -103,14 +176,11 @@ pub fn answer<O: Sink, E: Write>(
             say(err, Message::OutOfMemory);
             5
         }
-        Err(UsageFault::Line | UsageFault::Command | UsageFault::Option) => {
-            say(err, Message::Usage);
-            2
-        }
+        Err(UsageFault::Line | UsageFault::Command | UsageFault::Option) => report_usage(err),
     }
 }
 
-/// Runs the command over a saved image.
+/// Answers the command over a saved image.
 fn answer_command<O: Sink, E: Write>(
     alloc: Global,
     cmd: &Command,
@@ -119,21 +189,44 @@ fn answer_command<O: Sink, E: Write>(
     err: &mut E,
 ) -> u8
     ensures faults { O.faults out.new ≡ O.faults out.old + (if result == 4 then 1 else 0) }
-    ensures answers { AnswersTask (is_built cmd.now.task) (store_of_image image.now) (start_of cmd.now.from) (O.taken out.old) (O.taken out.new) result }
+    ensures answers { AnswersTask (is_rewrite cmd.now.task) (is_built cmd.now.task) cmd.now.task (store_of_image image.now) (start_by cmd.now.task cmd.now.from) (O.taken out.old) (O.taken out.new) (E.contents err.old) (E.contents err.new) result }
 {
+    if is_rewrite(cmd.task()) {
+        return rewrite(alloc, image, out, err);
+    }
     if !is_built(cmd.task()) {
-        say(err, Message::Usage);
-        return 2;
+        return report_usage(err);
     }
     match Image::read(alloc, image) {
         Ok(image) => run(alloc, &mut ImageController::new(image), cmd, out, err),
-        Err(ImageFault::Memory) => {
-            say(err, Message::OutOfMemory);
-            5
+        Err(fault) => report_image(fault, err),
+    }
+}
+
+/// Writes the image again.
+fn rewrite<O: Sink, E: Write>(alloc: Global, image: &[u8], out: &mut O, err: &mut E) -> u8
+    ensures faults { O.faults out.new ≡ O.faults out.old + (if result == 4 then 1 else 0) }
+    ensures answers { AnswersRewrite (store_of_image image.now) (O.taken out.old) (O.taken out.new) (E.contents err.old) (E.contents err.new) result }
+{
+    match Image::read(alloc, image) {
+        Ok(image) => {
+            let stop = write_image(alloc, &image, out);
+            report(stop, err)
         }
-        Err(fault) => {
-            say(err, Message::Image(fault));
-            3
-        }
+        Err(fault) => report_image(fault, err),
+    }
+}
+
+/// Writes the text of the image.
+fn write_image<O: Sink>(alloc: Global, image: &Image, out: &mut O) -> Stop
+    ensures faults { O.faults out.new ≡ O.faults out.old + faults_of result }
+    ensures text { WritesImage (image_text_of image.now) (O.taken out.old) (O.taken out.new) result }
+{
+    let Ok(text) = image_text(alloc, image) else {
+        return Stop::Memory;
+    };
+    match write_all(out, &text) {
+        Ok(()) => Stop::Done,
+        Err(_) => Stop::WriteFault,
     }
 }

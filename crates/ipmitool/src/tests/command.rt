@@ -490,6 +490,36 @@ fn a_command_gives_what_it_was_made_of(rt: HostRuntime) -> Result<(), Fail> {
 }
 
 #[test]
+fn some_commands_are_listings(rt: HostRuntime) -> Result<(), Fail> {
+    for line in [
+        "",
+        "sdr",
+        "sdr list fru",
+        "sdr elist",
+        "sdr hex",
+        "sel list",
+        "sel list 0",
+    ] {
+        assert!(rt; read_line(rt.alloc(), line)?.is_listing(), "{line}");
+    }
+    let others = [
+        "fru",
+        "fru print 0",
+        "sdr get Fan",
+        "sdr info",
+        "sel",
+        "sel list 1",
+        "sel list last 2",
+        "sel get 1",
+        "image rewrite",
+    ];
+    for line in others {
+        assert!(rt; !read_line(rt.alloc(), line)?.is_listing(), "{line}");
+    }
+    Ok(())
+}
+
+#[test]
 fn want_of_memory_is_a_usage_fault(rt: HostRuntime) -> Result<(), Fail> {
     assert_eq!(rt; UsageFault::from(AllocError), UsageFault::Memory);
     let fault = UsageFault::Memory;

@@ -1,7 +1,7 @@
 use super::controllers::Counting;
 use super::listed::{THREE_LINES, THREE_ROWS};
-use super::writers::Limited;
-use crate::command::{Command, Task, UsageFault};
+use super::writers::{Full, Limited, Narrow};
+use crate::command::{Command, Kind, Task, UsageFault};
 use crate::run::{answer, run};
 use crate::sink::Written;
 use ipmi_image::{Image, ImageController};
@@ -84,7 +84,7 @@ fn images_are_listed_to_their_end(rt: HostRuntime) {
 fn usage_faults_look_at_no_image(rt: HostRuntime) {
     let usage =
         b"usage: ipmitool [--image FILE] [--from HEX4] [--part N] [--tries N] fru|sdr|sel WORDS\n";
-    let unbuilt = Command::new(Task::Rewrite, None, 32, 5, None);
+    let unbuilt = Command::new(Task::List(Kind::All), None, 32, 5, None);
     let cases = [
         (Err(UsageFault::Command), usage.as_slice(), 2),
         (Ok(unbuilt), usage, 2),
@@ -98,19 +98,74 @@ fn usage_faults_look_at_no_image(rt: HostRuntime) {
     }
 }
 
+// The writer takes so many bytes and then fails, or takes no more.
 #[test]
-fn a_writer_that_fails_keeps_what_it_took(rt: HostRuntime) {
-    let mut out = Written::new(Limited {
+fn a_write_fault_keeps_what_was_taken(rt: HostRuntime) -> Result<(), Fail> {
+    assert_eq!(rt; THREE_LINES.len(), 81);
+    for room in 0..82 {
+        let mut failing = Written::new(Limited {
+            got: Vec::new(rt.alloc()),
+            room,
+        });
+        let mut full = Written::new(Full {
+            got: Vec::new(rt.alloc()),
+            room,
+        });
+        let mut err = Vec::new(rt.alloc());
+        let mut other = Vec::new(rt.alloc());
+        let status = answer(rt.alloc(), &Ok(hex()), THREE_ROWS, &mut failing, &mut err);
+        let same = answer(rt.alloc(), &Ok(hex()), THREE_ROWS, &mut full, &mut other);
+        let said = if room < 81 {
+            b"write fault\n".as_slice()
+        } else {
+            b""
+        };
+        assert_eq!(rt; (status, same), if room < 81 { (4, 4) } else { (0, 0) });
+        assert_eq!(rt;
+            failing.into_inner().got.as_slice(),
+            &THREE_LINES[..room.min(81)]
+        );
+        assert_eq!(rt;
+            full.into_inner().got.as_slice(),
+            &THREE_LINES[..room.min(81)]
+        );
+        assert_eq!(rt; err.as_slice(), said);
+        assert_eq!(rt; other.as_slice(), said);
+    }
+    Ok(())
+}
+
+#[test]
+fn a_writer_that_takes_one_byte_a_call(rt: HostRuntime) {
+    let mut out = Written::new(Narrow {
         got: Vec::new(rt.alloc()),
-        room: 10,
     });
     let mut err = Vec::new(rt.alloc());
     assert_eq!(rt;
         answer(rt.alloc(), &Ok(hex()), THREE_ROWS, &mut out, &mut err),
-        4
+        0
     );
-    assert_eq!(rt; out.into_inner().got.as_slice(), b"sdr 0001 0".as_slice());
-    assert_eq!(rt; err.as_slice(), b"write fault\n".as_slice());
+    assert_eq!(rt; out.into_inner().got.as_slice(), THREE_LINES);
+    assert_eq!(rt; err.len(), 0);
+}
+
+#[test]
+fn a_fault_of_the_messages_changes_nothing(rt: HostRuntime) {
+    let image = b"ipmi-image 1\nsdr 0001 0009 010051c000\nend\n";
+    let mut out = Written::new(Vec::new(rt.alloc()));
+    let mut err = Limited {
+        got: Vec::new(rt.alloc()),
+        room: 0,
+    };
+    assert_eq!(rt;
+        answer(rt.alloc(), &Ok(hex()), image, &mut out, &mut err),
+        1
+    );
+    assert_eq!(rt;
+        out.into_inner().as_slice(),
+        b"sdr 0001 0009 010051c000\n".as_slice()
+    );
+    assert_eq!(rt; err.got.len(), 0);
 }
 
 #[test]

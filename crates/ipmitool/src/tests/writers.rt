@@ -24,6 +24,44 @@ impl Write for Limited {
     }
 }
 
+/// Takes so many bytes in all, and then none.
+#[derive(Drop)]
+pub struct Full {
+    pub got: Vec<u8>,
+    pub room: usize,
+}
+
+impl Write for Full {
+    fn write(&mut self, buf: &[u8]) -> Result<usize> {
+        let count = buf.len().min(self.room);
+        self.got.extend_from_slice(&buf[..count])?;
+        self.room -= count;
+        Ok(count)
+    }
+
+    fn flush(&mut self) -> Result<()> {
+        Ok(())
+    }
+}
+
+/// Takes at most one byte a call.
+#[derive(Drop)]
+pub struct Narrow {
+    pub got: Vec<u8>,
+}
+
+impl Write for Narrow {
+    fn write(&mut self, buf: &[u8]) -> Result<usize> {
+        let count = buf.len().min(1);
+        self.got.extend_from_slice(&buf[..count])?;
+        Ok(count)
+    }
+
+    fn flush(&mut self) -> Result<()> {
+        Ok(())
+    }
+}
+
 /// Takes at most three bytes a call.
 #[derive(Drop)]
 pub struct Slow {

@@ -1,11 +1,11 @@
-use Rattle.std.proofs.Common.{◌≡◌, sym, ap, ◌∙◌, arith, ℕ}
+use Rattle.std.proofs.Common.{◌≡◌, sym, ap, ◌∙◌, arith, ℕ, inr}
 use Rattle.std.specs.FinSet as set
 use Rattle.std.proofs.lemmas.List.{length-take}
 use Rattle.ipmi_bus.specs.declared.retrieval.Retrieval.{Retrieval}
 use Rattle.ipmi_bus.specs.Seen.{current}
 use Rattle.ipmi_bus.specs.Shelf.{look, len_of, largest_len}
 use Rattle.ipmi_bus.specs.Store.{rows_of}
-use Rattle.ipmi_bus.proofs.CursorLemmas.{hands_row, handed_whole, largest_fits, unseen, not_end, asked_is, calls_moved}
+use Rattle.ipmi_bus.proofs.CursorLemmas.{room_to_ask, hands_row, handed_whole, largest_fits, unseen, not_end, asked_is, calls_moved}
 use Rattle.ipmi_bus.proofs.cursor.Progress.advance.Goals as goal
 
 pub returns-in-Ok-Complete-clause-leaves : goal.returns-in-Ok-Complete-clause-leaves
@@ -22,6 +22,7 @@ returns-in-Ok-Complete-clause-leaves g c =
         unseen = ap (set.contains old.ids) c.hand_out.ensures.id ∙ unseen old.place old.ids c.in-Asks.id c.read.new.self.buffer c.requires.first asks.1 asks.2;
         not_at_end = not_end c.args.self.now.place c.in-Asks.id asks.1;
         at_most = c.hand_out.ensures.at_most;
+        next = c.hand_out.ensures.next_fits;
         id = shown.0;
         whole = shown.1;
         fits =
@@ -57,3 +58,12 @@ returns-in-Ok-Complete-clause-honest g c = λ h.
           let after = read.plain p (record { held = holds.held }) in
           record { holds = record { held = λ n e. ap (λ (x : Retrieval). current x.shelf (g.C.Controller.seen c.read.new.ctl)) c.hand_out.ensures.retrieval ∙ after.holds.held n (sym (ap (λ (x : Retrieval). x.reservation) c.hand_out.ensures.retrieval) ∙ e) }; fine = tt };
     }
+
+pub returns-then-eq-clause-room : goal.returns-then-eq-clause-room
+returns-then-eq-clause-room g c = inr (room_to_ask c.args.self.now.place c.args.self.now.ids c.in-Asks.id c.requires.first c.in-Asks.ensures.1 c.in-Asks.ensures.3)
+
+pub returns-in-Ok-Complete-clause-room : goal.returns-in-Ok-Complete-clause-room
+returns-in-Ok-Complete-clause-room g c = inr (room_to_ask c.args.self.now.place c.args.self.now.ids c.in-Asks.id c.requires.first c.in-Asks.ensures.1 c.in-Asks.ensures.3)
+
+pub returns-in-Err-clause-room : goal.returns-in-Err-clause-room
+returns-in-Err-clause-room g c = inr (room_to_ask c.args.self.now.place c.args.self.now.ids c.in-Asks.id c.requires.first c.in-Asks.ensures.1 c.in-Asks.ensures.3)

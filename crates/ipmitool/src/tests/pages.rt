@@ -1,0 +1,133 @@
+//! Listings in pages.
+use super::controllers::{Counting, Endless};
+use super::listed::{Left, THREE_LINES, THREE_ROWS, listed};
+use crate::command::{Command, Kind, Task};
+use crate::run::run_pages;
+use crate::sink::Written;
+use ipmi_image::{Image, ImageController, Mood, Scripted};
+use std::alloc::Global;
+use std::test::Fail;
+
+/// Two records, each with the other one's id as its next id.
+const CYCLE: &[u8] = b"ipmi-image 1\nsdr 0007 0009 070051c000\nsdr 0009 0007 090051c000\nend\n";
+
+// What a listing of the image in pages of these sizes left.
+fn listed_in_pages(alloc: Global, image: &[u8], pages: &[u32]) -> Result<Left, Fail> {
+    let image = Image::read(alloc, image)?;
+    let mut ctl = Counting::new(ImageController::new(image));
+    let command = Command::new(Task::Hex, None, 32, 5, None);
+    let mut out = Written::new(Vec::new(alloc));
+    let mut err = Vec::new(alloc);
+    let status = run_pages(alloc, &mut ctl, &command, &mut out, &mut err, pages);
+    Ok(Left {
+        out: out.into_inner(),
+        err,
+        status,
+        calls: ctl.calls,
+    })
+}
+
+// A page asks for a reservation of its own. Three calls read the first record or the second with it, two the third.
+#[test]
+fn pages_are_one_listing(rt: HostRuntime) -> Result<(), Fail> {
+    let cases = [
+        ([1, 0, 1].as_slice(), 8),
+        (&[0, 0], 6),
+        (&[], 6),
+        (&[2], 7),
+        (&[3, 5, 7], 6),
+        (&[1, 1, 1, 1], 8),
+    ];
+    for (pages, calls) in cases {
+        let left = listed_in_pages(rt.alloc(), THREE_ROWS, pages)?;
+        assert_eq!(rt; left.out.as_slice(), THREE_LINES);
+        assert_eq!(rt; left.err.len(), 0);
+        assert_eq!(rt; (left.status, left.calls), (0, calls));
+    }
+    Ok(())
+}
+
+#[test]
+fn pages_of_an_empty_image(rt: HostRuntime) -> Result<(), Fail> {
+    let left = listed_in_pages(rt.alloc(), b"ipmi-image 1\nend\n", &[1, 1])?;
+    assert_eq!(rt; left.out.len(), 0);
+    assert_eq!(rt; left.err.len(), 0);
+    assert_eq!(rt; (left.status, left.calls), (0, 2));
+    Ok(())
+}
+
+// A cycle is seen within a page alone. The id 0000h is one wherever it comes.
+#[test]
+fn each_page_sees_its_own_cycle(rt: HostRuntime) -> Result<(), Fail> {
+    let left = listed_in_pages(rt.alloc(), CYCLE, &[2])?;
+    assert_eq!(rt;
+        left.out.as_slice(),
+        b"sdr 0007 0009 070051c000\nsdr 0009 0007 090051c000\nsdr 0007 0009 070051c000\nsdr 0009 0007 090051c000\n".as_slice()
+    );
+    assert_eq!(rt; left.err.as_slice(), b"cycle at 0007h\n".as_slice());
+    assert_eq!(rt; (left.status, left.calls), (1, 6));
+    let image = b"ipmi-image 1\nsdr 0001 0000 010051c000\nend\n";
+    let left = listed_in_pages(rt.alloc(), image, &[1])?;
+    assert_eq!(rt;
+        left.out.as_slice(),
+        b"sdr 0001 0000 010051c000\n".as_slice()
+    );
+    assert_eq!(rt; left.err.as_slice(), b"cycle at 0000h\n".as_slice());
+    assert_eq!(rt; (left.status, left.calls), (1, 2));
+    Ok(())
+}
+
+// The fourth call begins the second page, and the third page is not begun.
+#[test]
+fn a_page_that_ends_by_name_ends_all(rt: HostRuntime) -> Result<(), Fail> {
+    let image = Image::read(rt.alloc(), THREE_ROWS)?;
+    let mut moods = Vec::new(rt.alloc());
+    for _ in 0..3 {
+        moods.push(Mood::Grant(254))?;
+    }
+    moods.push(Mood::Busy)?;
+    let mut ctl = Counting::new(Scripted::new(image, moods));
+    let command = Command::new(Task::Hex, None, 32, 0, None);
+    let mut out = Written::new(Vec::new(rt.alloc()));
+    let mut err = Vec::new(rt.alloc());
+    assert_eq!(rt;
+        run_pages(rt.alloc(), &mut ctl, &command, &mut out, &mut err, &[1, 1]),
+        1
+    );
+    assert_eq!(rt; out.into_inner().as_slice(), &THREE_LINES[..27]);
+    assert_eq!(rt; err.as_slice(), b"gave up at 0002h\n".as_slice());
+    assert_eq!(rt; ctl.calls, 4);
+    Ok(())
+}
+
+// No call is made for a command that can't be run yet.
+#[test]
+fn pages_of_another_command(rt: HostRuntime) -> Result<(), Fail> {
+    let image = Image::read(rt.alloc(), THREE_ROWS)?;
+    let mut ctl = Counting::new(ImageController::new(image));
+    let command = Command::new(Task::List(Kind::All), None, 32, 5, None);
+    let mut out = Written::new(Vec::new(rt.alloc()));
+    let mut err = Vec::new(rt.alloc());
+    assert_eq!(rt;
+        run_pages(rt.alloc(), &mut ctl, &command, &mut out, &mut err, &[1]),
+        2
+    );
+    assert_eq!(rt; out.into_inner().len(), 0);
+    assert_eq!(rt;
+        err.as_slice(),
+        b"usage: ipmitool [--image FILE] [--from HEX4] [--part N] [--tries N] fru|sdr|sel WORDS\n".as_slice()
+    );
+    assert_eq!(rt; ctl.calls, 0);
+    Ok(())
+}
+
+// A line for each id from 0000 to fffe, of 25 bytes: `sdr IIII NNNN `, ten digits and a line feed.
+#[test]
+fn a_listing_without_a_last_record_ends(rt: HostRuntime) {
+    let left = listed(rt.alloc(), Counting::new(Endless::new()), 5);
+    assert_eq!(rt; left.out.len(), 65_535 * 25);
+    assert!(rt; left.out.starts_with(b"sdr 0000 0001 000051c000\n"));
+    assert!(rt; left.out.ends_with(b"sdr fffe ffff feff51c000\n"));
+    assert_eq!(rt; left.err.len(), 0);
+    assert_eq!(rt; (left.status, left.calls), (0, 65_536));
+}
