@@ -13,7 +13,7 @@ demo: $(PROGRAM)
 test:
 	@scripts/test
 
-# Each request for memory refused in turn: seconds, and before them the proofs and builds that it needs.
+# Each request for memory refused in turn: seconds after the gate; else the proofs and builds that it needs come first.
 memory:
 	@scripts/refuse_memory
 
