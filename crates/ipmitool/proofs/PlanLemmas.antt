@@ -1,5 +1,5 @@
 -- A listing in hex, as a run by its plan.
-use Rattle.std.proofs.Common.{◌≡◌, ◌≢◌, inl, ℕ, zero, suc, ◌<◌, ◌≤◌, ◌==◌, nat_lt, Bool, true, false, cond, Option, None, Some, List, [], ◌∷◌, ◌++◌, length, take, drop, refl, sym, ap, ap₂, subst, ◌∙◌, append-nil, arith}
+use Rattle.std.proofs.Common.{◌≡◌, ◌≢◌, ◌⊎◌, inl, inr, ℕ, zero, suc, ◌<◌, ◌≤◌, ◌==◌, nat_lt, Bool, true, false, cond, Option, None, Some, Result, Ok, Err, List, [], ◌∷◌, ◌++◌, length, take, drop, refl, sym, ap, ap₂, subst, ◌∙◌, append-nil, arith}
 use Rattle.std.proofs.Math.Seq.{take-length}
 use Rattle.std.proofs.lemmas.Bool.{ltb-false}
 use Rattle.ipmi_bus.specs.declared.controller.Shelf.TheVariants.{Sdr}
@@ -13,20 +13,23 @@ use Rattle.ipmi_bus.specs.Seen.{Seen, IsHonest}
 use Rattle.ipmi_bus.specs.Standing.{MayFail}
 use Rattle.ipmi_bus.specs.Step.{asked_at}
 use Rattle.ipmi_bus.specs.CursorState.{start_of}
+use Rattle.ipmi_image.specs.declared.image.ImageFault.{ImageFault}
+use Rattle.ipmi_image.specs.declared.image.ImageFault.TheVariants as image_fault
 use Rattle.ipmi_image.specs.Rewritten.{image_text_of}
 use Rattle.ipmitool.specs.declared.command.Task.{Task}
 use Rattle.ipmitool.specs.declared.command.Task.TheVariants as task
 use Rattle.ipmitool.specs.declared.listing.Stop.{Stop}
 use Rattle.ipmitool.specs.declared.listing.Stop.TheVariants as stop
+use Rattle.ipmitool.specs.declared.message.Message.TheVariants.{Image, OutOfMemory}
 use Rattle.ipmitool.specs.Line.{line_of}
 use Rattle.ipmitool.specs.Listing.{lines_of, Leaves, StopsAtId, HasCutLine, Counts}
 use Rattle.ipmitool.specs.Listing as listing
 use Rattle.ipmitool.specs.Plan.{Plan, Piece, Spot, AtRecord, WalkEnds, Outcome, ArePieces, IsListingPlan, IsRewritePlan, IsAmong, StopsAt, IsAllowed, CountsSo, IsFine, text_of, spots_at, end_spots, first_piece}
 use Rattle.ipmitool.specs.Plan as plan
-use Rattle.ipmitool.specs.Message.{AppendsPart}
+use Rattle.ipmitool.specs.Received.{Received, ReceivesText}
 use Rattle.ipmitool.specs.Pages.{IsPage, ArePages}
 use Rattle.ipmitool.proofs.PagesLaw.{pages_are_one}
-use Rattle.ipmitool.specs.Run.{IsOutcome, IsRun, IsPagedRun, status_of, stop_status, stop_text, outcome_text, is_built, WritesImage, IsRewriting}
+use Rattle.ipmitool.specs.Run.{IsOutcome, IsRun, IsPagedRun, status_of, stop_status, stop_text, outcome_text, is_built, fault_status, WritesImage, IsRewriting, Says, AnswersRewrite, AnswersImage, AnswersTask}
 
 -- ---- pieces and lines
 
@@ -190,7 +193,7 @@ outcome_of tries s s' (stop.Ended (Malformed n)) counts = absurd counts
 outcome_of tries s s' stop.Memory counts = record { outcome = plan.OutOfMemory; is = refl; status = refl; text = refl; counts = counts.refusals; fine = λ f. tt }
 outcome_of tries s s' stop.WriteFault counts = record { outcome = plan.WriteFault; is = refl; status = refl; text = refl; counts = counts.refusals; fine = λ f. tt }
 
-hex_run : (start next : Place) (tries : ℕ) (s s' : Seen) (old new : List ℕ) (said said' : Option (List ℕ)) (st : Stop) → IsPage None start next tries s s' old new st → AppendsPart said said' (stop_text st)
+hex_run : (start next : Place) (tries : ℕ) (s s' : Seen) (old new : List ℕ) (said said' : Received) (st : Stop) → IsPage None start next tries s s' old new st → ReceivesText said said' (stop_text st)
     → IsRun task.Hex start tries s s' old new said said' (stop_status st)
 hex_run start next tries s s' old new said said' st page message =
     let o = outcome_of tries s s' st page.counts in
@@ -199,7 +202,7 @@ hex_run start next tries s s' old new said said' st page message =
       outcome = o.outcome;
       outcome_is = o.is;
       status_is = o.status;
-      message = subst (λ (l : List ℕ). AppendsPart said said' l) o.text message;
+      message = subst (λ (l : List ℕ). ReceivesText said said' l) o.text message;
       stays = page.stays;
       counts = o.counts;
       allowed = λ same walk end p w ends is. hex_allowed s.store start walk end p is old new st o.outcome ends (page.along same walk end w ends).leaves o.is;
@@ -208,8 +211,8 @@ hex_run start next tries s s' old new said said' st page message =
     }
 
 -- the tasks that are built are listings in hex
-pub run_by_listing : (t : Task) (from : Option ℕ) (next : Place) (tries : ℕ) (s s' : Seen) (old new : List ℕ) (said said' : Option (List ℕ)) (st : Stop) → is_built t ≡ true → IsPage None (start_of from) next tries s s' old new st
-    → AppendsPart said said' (stop_text st) → IsRun t (plan.start_by t from) tries s s' old new said said' (stop_status st)
+pub run_by_listing : (t : Task) (from : Option ℕ) (next : Place) (tries : ℕ) (s s' : Seen) (old new : List ℕ) (said said' : Received) (st : Stop) → is_built t ≡ true → IsPage None (start_of from) next tries s s' old new st
+    → ReceivesText said said' (stop_text st) → IsRun t (plan.start_by t from) tries s s' old new said said' (stop_status st)
 run_by_listing (task.Fru id) from next tries s s' old new said said' st built page message = cc built
 run_by_listing task.Hex from next tries s s' old new said said' st built page message = hex_run (start_of from) next tries s s' old new said said' st page message
 run_by_listing (task.List kind) from next tries s s' old new said said' st built page message = cc built
@@ -222,7 +225,7 @@ run_by_listing task.Rewrite from next tries s s' old new said said' st built pag
 
 -- ---- pages
 
-hex_pages : (sizes : List ℕ) (start : Place) (tries : ℕ) (s s' : Seen) (old new : List ℕ) (said said' : Option (List ℕ)) (st : Stop) → IsHonest s → ArePages sizes start tries s s' old new st → AppendsPart said said' (stop_text st)
+hex_pages : (sizes : List ℕ) (start : Place) (tries : ℕ) (s s' : Seen) (old new : List ℕ) (said said' : Received) (st : Stop) → IsHonest s → ArePages sizes start tries s s' old new st → ReceivesText said said' (stop_text st)
     → IsPagedRun task.Hex sizes start tries s s' old new said said' (stop_status st)
 hex_pages sizes start tries s s' old new said said' st honest pages message =
     let one = pages_are_one sizes start tries s s' old new st honest pages in
@@ -232,7 +235,7 @@ hex_pages sizes start tries s s' old new said said' st honest pages message =
       outcome = o.outcome;
       outcome_is = o.is;
       status_is = o.status;
-      message = subst (λ (l : List ℕ). AppendsPart said said' l) o.text message;
+      message = subst (λ (l : List ℕ). ReceivesText said said' l) o.text message;
       stays = one.stays;
       counts = o.counts;
       pages = pages;
@@ -241,8 +244,8 @@ hex_pages sizes start tries s s' old new said said' st honest pages message =
       plain = λ said. o.fine (one.plain said);
     }
 
-pub run_in_pages : (t : Task) (sizes : List ℕ) (from : Option ℕ) (tries : ℕ) (s s' : Seen) (old new : List ℕ) (said said' : Option (List ℕ)) (st : Stop) → is_built t ≡ true → IsHonest s → ArePages sizes (start_of from) tries s s' old new st
-    → AppendsPart said said' (stop_text st) → IsPagedRun t sizes (plan.start_by t from) tries s s' old new said said' (stop_status st)
+pub run_in_pages : (t : Task) (sizes : List ℕ) (from : Option ℕ) (tries : ℕ) (s s' : Seen) (old new : List ℕ) (said said' : Received) (st : Stop) → is_built t ≡ true → IsHonest s → ArePages sizes (start_of from) tries s s' old new st
+    → ReceivesText said said' (stop_text st) → IsPagedRun t sizes (plan.start_by t from) tries s s' old new said said' (stop_status st)
 run_in_pages (task.Fru id) sizes from tries s s' old new said said' st built honest pages message = cc built
 run_in_pages task.Hex sizes from tries s s' old new said said' st built honest pages message = hex_pages sizes (start_of from) tries s s' old new said said' st honest pages message
 run_in_pages (task.List kind) sizes from tries s s' old new said said' st built honest pages message = cc built
@@ -258,7 +261,7 @@ run_in_pages task.Rewrite sizes from tries s s' old new said said' st built hone
 rewrite_text : (store : Store) (p : Plan) → IsRewritePlan store p → text_of p.pieces ≡ image_text_of store
 rewrite_text store p is = ap text_of is.pieces_are ∙ append-nil (image_text_of store)
 
-pub rewriting : (store : Store) (old new : List ℕ) (said said' : Option (List ℕ)) (st : Stop) → WritesImage (image_text_of store) old new st → AppendsPart said said' (stop_text st) → IsRewriting store old new said said' (stop_status st)
+pub rewriting : (store : Store) (old new : List ℕ) (said said' : Received) (st : Stop) → WritesImage (image_text_of store) old new st → ReceivesText said said' (stop_text st) → IsRewriting store old new said said' (stop_status st)
 rewriting store old new said said' stop.Done writes message = record {
   outcome = plan.Finished (WalkEnds Done);
   status_is = refl;
@@ -290,3 +293,44 @@ rewriting store old new said said' stop.WriteFault writes message = record {
   unwritten = λ e. cc e;
   fine = tt;
 }
+
+-- ---- an image that is not read
+
+-- where memory ran out, nothing was written
+unread_rewriting : (read : Result Store ImageFault) (old : List ℕ) (said said' : Received) (status : ℕ) → Says said said' status OutOfMemory 5 → AnswersRewrite read old old said said' status
+unread_rewriting (Ok store) old said said' status says = record {
+  outcome = plan.OutOfMemory;
+  status_is = says.0;
+  message = says.1;
+  allowed = λ p is. record { count = 0; text = sym (append-nil old) };
+  unwritten = λ e. refl;
+  fine = tt;
+}
+unread_rewriting (Err fault) old said said' status says = (refl, inr says)
+
+unread_run : (t : Task) (read : Result Store ImageFault) (start : Place) (old : List ℕ) (said said' : Received) (status : ℕ) → Says said said' status OutOfMemory 5 → AnswersImage t read start old old said said' status
+unread_run t (Ok store) start old said said' status says = record {
+  outcome = plan.OutOfMemory;
+  status_is = says.0;
+  message = says.1;
+  allowed = λ walk end p w ends is. record { count = 0; text = sym (append-nil old) };
+  fine = tt;
+}
+unread_run t (Err fault) start old said said' status says = (refl, inr says)
+
+-- the fault of the image, or want of memory
+pub not_rewritten : (fault : ImageFault) (read : Result Store ImageFault) (old : List ℕ) (said said' : Received) (status : ℕ) → (fault ≡ image_fault.Memory) ⊎ (read ≡ Err fault)
+    → Says said said' status (Image fault) (fault_status fault) → AnswersRewrite read old old said said' status
+not_rewritten fault read old said said' status (inl memory) says =
+    unread_rewriting read old said said' status (subst (λ (f : ImageFault). Says said said' status (Image f) (fault_status f)) memory says)
+not_rewritten fault read old said said' status (inr is) says =
+    subst (λ (r : Result Store ImageFault). AnswersRewrite r old old said said' status) (sym is) (refl, inl says)
+
+pub not_run : (rewrite built : Bool) (t : Task) (fault : ImageFault) (read : Result Store ImageFault) (start : Place) (old : List ℕ) (said said' : Received) (status : ℕ) → rewrite ≡ false → built ≡ true
+    → (fault ≡ image_fault.Memory) ⊎ (read ≡ Err fault) → Says said said' status (Image fault) (fault_status fault) → AnswersTask rewrite built t read start old old said said' status
+not_run true built t fault read start old said said' status ran can is says = cc ran
+not_run false false t fault read start old said said' status ran can is says = cc can
+not_run false true t fault read start old said said' status ran can (inl memory) says =
+    unread_run t read start old said said' status (subst (λ (f : ImageFault). Says said said' status (Image f) (fault_status f)) memory says)
+not_run false true t fault read start old said said' status ran can (inr is) says =
+    subst (λ (r : Result Store ImageFault). AnswersImage t r start old old said said' status) (sym is) (refl, inl says)

@@ -7,6 +7,7 @@ pub mod Number
 pub mod Pages
 pub mod Pieces
 pub mod Plan
+pub mod Received
 pub mod Run
 pub mod Sink
 pub mod Table

@@ -1,8 +1,7 @@
--- The text of each message, and what a writer holds once some of a line was written.
-use Rattle.std.specs.Prelude.{ℕ, List, ◌++◌, Option, Result, MatchResult, take, flat_map, codes}
+-- The text of each message.
+use Rattle.std.specs.Prelude.{ℕ, List, ◌++◌, flat_map, codes}
 use Rattle.std.specs.Borrow.{Bor}
 use Rattle.std.specs.Fmt.{decimal}
-use Rattle.std.specs.Io.KnownBytes.{Appends}
 use Rattle.ipmi_bus.specs.declared.step.Ended.{Ended}
 use Rattle.ipmi_bus.specs.declared.step.Ended.TheVariants as ended
 use Rattle.ipmi_image.specs.declared.image.ImageFault.{ImageFault}
@@ -61,11 +60,3 @@ line_text text = text ++ codes "\n"
 -- parts, one after another
 abbrev pub joined_parts : List (Bor (List ℕ)) → List ℕ
 joined_parts parts = flat_map (λ part. part.now) parts
-
--- the bytes that are known grew by a first part of these, perhaps by none, perhaps by all
-abbrev pub AppendsPart : Option (List ℕ) → Option (List ℕ) → List ℕ → Type 0
-AppendsPart old new bytes = (k : ℕ) × Appends old new (take k bytes)
-
--- `Ok` says that all of the bytes were appended, and `Err` that a first part of them was
-abbrev pub WritesAll : {T E : Type 0} → Option (List ℕ) → Option (List ℕ) → Result T E → List ℕ → Type 0
-WritesAll old new result bytes = MatchResult result (λ _. Appends old new bytes) (λ _. AppendsPart old new bytes)

@@ -22,7 +22,8 @@ use Rattle.ipmitool.specs.declared.message.Message.{Message}
 use Rattle.ipmitool.specs.declared.message.Message.TheVariants.{Usage, Image, WriteFault, OutOfMemory}
 use Rattle.ipmitool.specs.Command.{CommandState}
 use Rattle.ipmitool.specs.Listing.{calls_for, walk_call_bound}
-use Rattle.ipmitool.specs.Message.{ended_text, refused_text, message_text, line_text, AppendsPart}
+use Rattle.ipmitool.specs.Message.{ended_text, refused_text, message_text, line_text}
+use Rattle.ipmitool.specs.Received.{Received, ReceivesText}
 use Rattle.ipmitool.specs.Pages.{ArePages, pages_made, IsOpen}
 use Rattle.ipmitool.specs.Sink.{TakesPart}
 use Rattle.ipmitool.specs.Plan.{Plan, IsPlan, IsRewritePlan, Outcome, IsAllowed, CountsSo, IsFine, shelf_of, start_by}
@@ -120,19 +121,19 @@ abbrev pub CallsWithin : Task → Store → Place → ℕ → ℕ → ℕ → Ty
 CallsWithin t store start tries before after = (walk : List Row) (end : WalkEnd) → IsWalk (rows_of (shelf_of t) store) start walk → EndsBy (rows_of (shelf_of t) store) start walk end → after ≤ before + walk_call_bound tries walk
 
 -- over any controller a run ends as a listing may stop, and says so
-pub record EndsSo (said said' : Option (List ℕ)) (status : ℕ) : Type 0 where
+pub record EndsSo (said said' : Received) (status : ℕ) : Type 0 where
   pub result : Stop
   pub status_is : status ≡ stop_status result
-  pub message : AppendsPart said said' (stop_text result)
+  pub message : ReceivesText said said' (stop_text result)
 
 -- a run of a task from its start with these tries, over an honest controller: what it leaves and how many calls it makes while no
 -- store is added, what is said and what is counted, and that nothing is given up or refused over a plain one
-pub record IsRun (t : Task) (start : Place) (tries : ℕ) (s s' : Seen) (old new : List ℕ) (said said' : Option (List ℕ)) (status : ℕ) : Type 0 where
+pub record IsRun (t : Task) (start : Place) (tries : ℕ) (s s' : Seen) (old new : List ℕ) (said said' : Received) (status : ℕ) : Type 0 where
   pub result : Stop
   pub outcome : Outcome
   pub outcome_is : IsOutcome result outcome
   pub status_is : status ≡ status_of outcome
-  pub message : AppendsPart said said' (outcome_text outcome)
+  pub message : ReceivesText said said' (outcome_text outcome)
   pub stays : StaysHonest s s'
   pub counts : CountsSo tries s s' outcome
   pub allowed : s'.stores_added ≡ s.stores_added → AllowsAll t s.store start old new outcome
@@ -153,12 +154,12 @@ PagesWithin t store sizes start tries before after = (walk : List Row) (end : Wa
 
 -- a run in pages of these sizes: each page by itself is the listing from its place, of as many rows as its size, and where the
 -- chain does not end by a cycle all of them leave what one run may leave
-pub record IsPagedRun (t : Task) (sizes : List ℕ) (start : Place) (tries : ℕ) (s s' : Seen) (old new : List ℕ) (said said' : Option (List ℕ)) (status : ℕ) : Type 0 where
+pub record IsPagedRun (t : Task) (sizes : List ℕ) (start : Place) (tries : ℕ) (s s' : Seen) (old new : List ℕ) (said said' : Received) (status : ℕ) : Type 0 where
   pub result : Stop
   pub outcome : Outcome
   pub outcome_is : IsOutcome result outcome
   pub status_is : status ≡ status_of outcome
-  pub message : AppendsPart said said' (outcome_text outcome)
+  pub message : ReceivesText said said' (outcome_text outcome)
   pub stays : StaysHonest s s'
   pub counts : CountsSo tries s s' outcome
   pub pages : ArePages sizes start tries s s' old new result
@@ -169,16 +170,16 @@ pub record IsPagedRun (t : Task) (sizes : List ℕ) (start : Place) (tries : ℕ
 -- ---- over an image
 
 -- over the program's own controller nothing is refused, nor given up
-pub record IsRunOverStore (t : Task) (start : Place) (store : Store) (old new : List ℕ) (said said' : Option (List ℕ)) (status : ℕ) : Type 0 where
+pub record IsRunOverStore (t : Task) (start : Place) (store : Store) (old new : List ℕ) (said said' : Received) (status : ℕ) : Type 0 where
   pub outcome : Outcome
   pub status_is : status ≡ status_of outcome
-  pub message : AppendsPart said said' (outcome_text outcome)
+  pub message : ReceivesText said said' (outcome_text outcome)
   pub allowed : AllowsAll t store start old new outcome
   pub fine : IsFine outcome
 
 -- with a status, and a message
-abbrev pub Says : Option (List ℕ) → Option (List ℕ) → ℕ → Message → ℕ → Type 0
-Says said said' status message n = (status ≡ n) × AppendsPart said said' (line_text (message_text message))
+abbrev pub Says : Received → Received → ℕ → Message → ℕ → Type 0
+Says said said' status message n = (status ≡ n) × ReceivesText said said' (line_text (message_text message))
 
 -- of an image that is none: the fault, or want of memory, which may come before it
 abbrev pub fault_status : ImageFault → ℕ
@@ -194,7 +195,7 @@ fault_status image_fault.NoEnd = 3
 fault_status (image_fault.AfterEnd line) = 3
 fault_status (image_fault.TooMany line) = 3
 
-abbrev pub FailsToRead : ImageFault → List ℕ → List ℕ → Option (List ℕ) → Option (List ℕ) → ℕ → Type 0
+abbrev pub FailsToRead : ImageFault → List ℕ → List ℕ → Received → Received → ℕ → Type 0
 FailsToRead fault old new said said' status = (new ≡ old) × (Says said said' status (Image fault) (fault_status fault) ⊎ Says said said' status OutOfMemory 5)
 
 -- the text of an image, by how writing it stopped
@@ -205,31 +206,31 @@ WritesImage text old new stop.Memory = new ≡ old
 WritesImage text old new stop.WriteFault = TakesPart old new text
 
 -- an image written again; nothing of it where memory runs out
-pub record IsRewriting (store : Store) (old new : List ℕ) (said said' : Option (List ℕ)) (status : ℕ) : Type 0 where
+pub record IsRewriting (store : Store) (old new : List ℕ) (said said' : Received) (status : ℕ) : Type 0 where
   pub outcome : Outcome
   pub status_is : status ≡ status_of outcome
-  pub message : AppendsPart said said' (outcome_text outcome)
+  pub message : ReceivesText said said' (outcome_text outcome)
   pub allowed : (p : Plan) → IsRewritePlan store p → IsAllowed p old new outcome
   pub unwritten : outcome ≡ plan.OutOfMemory → new ≡ old
   pub fine : IsFine outcome
 
 -- with the store of an image, or the fault for which it is none
-abbrev pub AnswersRewrite : Result Store ImageFault → List ℕ → List ℕ → Option (List ℕ) → Option (List ℕ) → ℕ → Type 0
+abbrev pub AnswersRewrite : Result Store ImageFault → List ℕ → List ℕ → Received → Received → ℕ → Type 0
 AnswersRewrite (Ok store) old new said said' status = IsRewriting store old new said said' status
 AnswersRewrite (Err fault) old new said said' status = FailsToRead fault old new said said' status
 
-abbrev pub AnswersImage : Task → Result Store ImageFault → Place → List ℕ → List ℕ → Option (List ℕ) → Option (List ℕ) → ℕ → Type 0
+abbrev pub AnswersImage : Task → Result Store ImageFault → Place → List ℕ → List ℕ → Received → Received → ℕ → Type 0
 AnswersImage t (Ok store) start old new said said' status = IsRunOverStore t start store old new said said' status
 AnswersImage t (Err fault) start old new said said' status = FailsToRead fault old new said said' status
 
 -- by whether the task writes the image again, and whether it can be run today
-abbrev pub AnswersTask : Bool → Bool → Task → Result Store ImageFault → Place → List ℕ → List ℕ → Option (List ℕ) → Option (List ℕ) → ℕ → Type 0
+abbrev pub AnswersTask : Bool → Bool → Task → Result Store ImageFault → Place → List ℕ → List ℕ → Received → Received → ℕ → Type 0
 AnswersTask true built t image start old new said said' status = AnswersRewrite image old new said said' status
 AnswersTask false true t image start old new said said' status = AnswersImage t image start old new said said' status
 AnswersTask false false t image start old new said said' status = (new ≡ old) × Says said said' status Usage 2
 
 -- the answer to a command line over an image, by what the image gives
-abbrev pub AnswersLine : Result CommandState UsageFault → Result Store ImageFault → List ℕ → List ℕ → Option (List ℕ) → Option (List ℕ) → ℕ → Type 0
+abbrev pub AnswersLine : Result CommandState UsageFault → Result Store ImageFault → List ℕ → List ℕ → Received → Received → ℕ → Type 0
 AnswersLine (Ok command) image old new said said' status = AnswersTask (is_rewrite command.task) (is_built command.task) command.task image (start_by command.task command.from) old new said said' status
 AnswersLine (Err fault.Memory) image old new said said' status = (new ≡ old) × Says said said' status OutOfMemory 5
 AnswersLine (Err fault.Line) image old new said said' status = (new ≡ old) × Says said said' status Usage 2

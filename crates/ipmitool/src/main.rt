@@ -8,6 +8,7 @@ mod input;
 mod line;
 mod listing;
 mod message;
+mod message_sink;
 mod number;
 mod pages;
 mod run;
@@ -42,7 +43,7 @@ fn input_name(line: &Result<Command, UsageFault>) -> &str {
 
 /// Reads the command line and the image, answers it on buffered standard output, and gives the exit status.
 fn program(rt: &HostRuntime) -> u8 {
-    let mut err = rt.stderr();
+    let mut err = Written::new(rt.stderr());
     let line = match words_of(rt) {
         Ok(words) => command_of(rt.alloc(), &words),
         Err(fault) => Err(fault),

@@ -3,12 +3,14 @@
 ghost use Rattle.std.specs.Prelude.{◌≡◌, ◌<◌, true};
 ghost use Rattle.std.specs.Fmt.{digit_glyph};
 ghost use Rattle.ipmi_records.specs.Bytes.{byte_h, upper_byte, word_h};
-ghost use Rattle.ipmitool.specs.Message.{AppendsPart, WritesAll, ended_text, image_fault_text, joined_parts, line_fault_text, line_text, message_text};
+ghost use Rattle.ipmitool.specs.Received.{ReceivesText, WritesAll};
+ghost use Rattle.ipmitool.specs.Message.{ended_text, image_fault_text, joined_parts, line_fault_text, line_text, message_text};
 
+use crate::message_sink::{MessageSink, offer_all};
+use crate::sink::SinkFault;
 use ipmi_bus::Ended;
 use ipmi_image::ImageFault;
 use itoa::Buffer;
-use std::io::Write;
 
 /// A message. None of them takes memory.
 #[derive(Clone, Copy, Debug, PartialEq, Eq)]
@@ -27,21 +29,20 @@ pub(crate) enum Message<'a> {
     OutOfMemory,
 }
 
-/// A writer took less than all of a line.
-#[derive(Clone, Copy, Debug, PartialEq, Eq)]
-pub(crate) struct Unwritten;
-
 /// Says the message, as a line. Where standard error does not take it all, nothing else changes: there is nowhere left
 /// to tell it.
-pub(crate) fn say<E: Write>(err: &mut E, message: Message<'_>)
-    ensures { AppendsPart (E.contents err.old) (E.contents err.new) (line_text (message_text message.entry)) }
+pub(crate) fn say<E: MessageSink>(err: &mut E, message: Message<'_>)
+    ensures { ReceivesText (E.received err.old) (E.received err.new) (line_text (message_text message.entry)) }
 {
     let _ = write_message(err, message);
 }
 
 /// Writes the message and a line feed.
-pub(crate) fn write_message<E: Write>(err: &mut E, message: Message<'_>) -> Result<(), Unwritten>
-    ensures { WritesAll (E.contents err.old) (E.contents err.new) result (line_text (message_text message.entry)) }
+pub(crate) fn write_message<E: MessageSink>(
+    err: &mut E,
+    message: Message<'_>,
+) -> Result<(), SinkFault>
+    ensures { WritesAll (E.received err.old) (E.received err.new) result (line_text (message_text message.entry)) }
 {
     match message {
         Message::Usage => write_line(
@@ -59,8 +60,8 @@ pub(crate) fn write_message<E: Write>(err: &mut E, message: Message<'_>) -> Resu
 }
 
 /// Writes why a listing ended.
-fn write_ended<E: Write>(err: &mut E, ended: Ended) -> Result<(), Unwritten>
-    ensures { WritesAll (E.contents err.old) (E.contents err.new) result (line_text (ended_text ended)) }
+fn write_ended<E: MessageSink>(err: &mut E, ended: Ended) -> Result<(), SinkFault>
+    ensures { WritesAll (E.received err.old) (E.received err.new) result (line_text (ended_text ended)) }
 {
     match ended {
         Ended::Cycle(id) => write_line(err, &[b"cycle at ", &word_h(id)]),
@@ -81,8 +82,8 @@ fn write_ended<E: Write>(err: &mut E, ended: Ended) -> Result<(), Unwritten>
 }
 
 /// Writes why the input is no image.
-fn write_image_fault<E: Write>(err: &mut E, fault: ImageFault) -> Result<(), Unwritten>
-    ensures { WritesAll (E.contents err.old) (E.contents err.new) result (line_text (image_fault_text fault)) }
+fn write_image_fault<E: MessageSink>(err: &mut E, fault: ImageFault) -> Result<(), SinkFault>
+    ensures { WritesAll (E.received err.old) (E.received err.new) result (line_text (image_fault_text fault)) }
 {
     match fault {
         ImageFault::Memory => write_line(err, &[b"out of memory"]),
@@ -100,8 +101,8 @@ fn write_image_fault<E: Write>(err: &mut E, fault: ImageFault) -> Result<(), Unw
 }
 
 /// Writes what is wrong with this line of an image.
-fn write_line_fault<E: Write>(err: &mut E, line: usize, what: &[u8]) -> Result<(), Unwritten>
-    ensures { WritesAll (E.contents err.old) (E.contents err.new) result (line_text (line_fault_text line what.now)) }
+fn write_line_fault<E: MessageSink>(err: &mut E, line: usize, what: &[u8]) -> Result<(), SinkFault>
+    ensures { WritesAll (E.received err.old) (E.received err.new) result (line_text (line_fault_text line what.now)) }
 {
     let mut buffer = Buffer::new();
     let number = buffer.format(line).as_bytes();
@@ -109,34 +110,19 @@ fn write_line_fault<E: Write>(err: &mut E, line: usize, what: &[u8]) -> Result<(
 }
 
 /// Writes the parts and a line feed.
-fn write_line<E: Write>(err: &mut E, parts: &[&[u8]]) -> Result<(), Unwritten>
-    ensures { WritesAll (E.contents err.old) (E.contents err.new) result (line_text (joined_parts parts.now)) }
+fn write_line<E: MessageSink>(err: &mut E, parts: &[&[u8]]) -> Result<(), SinkFault>
+    ensures { WritesAll (E.received err.old) (E.received err.new) result (line_text (joined_parts parts.now)) }
 {
     write_parts(err, parts)?;
-    write_bytes(err, b"\n")
+    offer_all(err, b"\n")
 }
 
 /// Writes the parts, one after another.
-fn write_parts<E: Write>(err: &mut E, parts: &[&[u8]]) -> Result<(), Unwritten>
-    ensures { WritesAll (E.contents err.old) (E.contents err.new) result (joined_parts parts.now) }
+fn write_parts<E: MessageSink>(err: &mut E, parts: &[&[u8]]) -> Result<(), SinkFault>
+    ensures { WritesAll (E.received err.old) (E.received err.new) result (joined_parts parts.now) }
 {
     for part in parts {
-        write_bytes(err, part)?;
-    }
-    Ok(())
-}
-
-/// Writes all the bytes, by as many calls as it takes, until one fails or takes none.
-fn write_bytes<E: Write>(err: &mut E, bytes: &[u8]) -> Result<(), Unwritten>
-    ensures { WritesAll (E.contents err.old) (E.contents err.new) result bytes.now }
-{
-    let mut done = 0;
-    while done < bytes.len() {
-        match err.write(&bytes[done..]) {
-            Ok(0) => return Err(Unwritten),
-            Ok(taken) => done += taken,
-            Err(_) => return Err(Unwritten),
-        }
+        offer_all(err, part)?;
     }
     Ok(())
 }

@@ -5,7 +5,7 @@ ghost use Rattle.ipmi_image.specs.Image.{store_of_image};
 ghost use Rattle.ipmi_image.specs.Rewritten.{image_text_of};
 ghost use Rattle.ipmitool.specs.Command.{is_listing};
 ghost use Rattle.ipmitool.specs.Listing.{faults_of, most_calls};
-ghost use Rattle.ipmitool.specs.Message.{AppendsPart};
+ghost use Rattle.ipmitool.specs.Received.{ReceivesText};
 ghost use Rattle.ipmitool.specs.Pages.{pages_made};
 ghost use Rattle.ipmitool.specs.Plan.{start_by};
 ghost use Rattle.ipmitool.specs.Run.{stop_status, stop_text, fault_status, is_built, is_rewrite, EndsSo, IsRun, IsPagedRun, Says, WritesImage, AnswersRewrite, AnswersTask, AnswersLine};
@@ -14,12 +14,12 @@ ghost use Rattle.ipmitool.specs.declared.message.Message.TheVariants as message;
 use crate::command::{Command, Task, UsageFault};
 use crate::listing::Stop;
 use crate::message::{Message, say};
+use crate::message_sink::MessageSink;
 use crate::pages::list_pages;
 use crate::sink::{Sink, write_all};
 use ipmi_bus::Controller;
 use ipmi_image::{Image, ImageController, ImageFault, image_text};
 use std::alloc::Global;
-use std::io::Write;
 
 /// Whether the task can be run today.
 fn is_built(task: &Task) -> bool
@@ -56,9 +56,9 @@ fn is_rewrite(task: &Task) -> bool
 }
 
 /// Says why a listing stopped, and gives its exit status.
-fn report<E: Write>(stop: Stop, err: &mut E) -> u8
+fn report<E: MessageSink>(stop: Stop, err: &mut E) -> u8
     ensures status { result ≡ stop_status stop }
-    ensures message { AppendsPart (E.contents err.old) (E.contents err.new) (stop_text stop) }
+    ensures message { ReceivesText (E.received err.old) (E.received err.new) (stop_text stop) }
 {
     match stop {
         Stop::Done => 0,
@@ -78,8 +78,8 @@ fn report<E: Write>(stop: Stop, err: &mut E) -> u8
 }
 
 /// Says how the program is called, and gives the exit status of that.
-fn report_usage<E: Write>(err: &mut E) -> u8
-    ensures { Says (E.contents err.old) (E.contents err.new) result message.Usage 2 }
+fn report_usage<E: MessageSink>(err: &mut E) -> u8
+    ensures { Says (E.received err.old) (E.received err.new) result message.Usage 2 }
 {
     say(err, Message::Usage);
     2
@@ -105,8 +105,8 @@ fn image_status(fault: ImageFault) -> u8
 }
 
 /// Says why the image is not read, and gives the exit status of that.
-fn report_image<E: Write>(fault: ImageFault, err: &mut E) -> u8
-    ensures { Says (E.contents err.old) (E.contents err.new) result (message.Image fault) (fault_status fault) }
+fn report_image<E: MessageSink>(fault: ImageFault, err: &mut E) -> u8
+    ensures { Says (E.received err.old) (E.received err.new) result (message.Image fault) (fault_status fault) }
 {
     say(err, Message::Image(fault));
     image_status(fault)
@@ -114,7 +114,7 @@ fn report_image<E: Write>(fault: ImageFault, err: &mut E) -> u8
 
 /// Does what the command asks for over the controller, and gives the exit status: 0 where all was printed, 1 where
 /// a listing ended by name, 2 for a command that can't be run yet, 4 for a write fault, 5 where memory ran out.
-pub fn run<C: Controller, O: Sink, E: Write>(
+pub fn run<C: Controller, O: Sink, E: MessageSink>(
     alloc: Global,
     ctl: &mut C,
     cmd: &Command,
@@ -123,9 +123,9 @@ pub fn run<C: Controller, O: Sink, E: Write>(
 ) -> u8
     ensures faults { O.faults out.new ≡ O.faults out.old + (if result == 4 then 1 else 0) }
     ensures calls { (C.seen ctl.new).calls ≤ (C.seen ctl.old).calls + most_calls cmd.now.tries 256 }
-    ensures ends { is_built cmd.now.task ≡ true → EndsSo (E.contents err.old) (E.contents err.new) result }
-    ensures built { is_built cmd.now.task ≡ true → IsHonest (C.seen ctl.old) → IsRun cmd.now.task (start_by cmd.now.task cmd.now.from) cmd.now.tries (C.seen ctl.old) (C.seen ctl.new) (O.taken out.old) (O.taken out.new) (E.contents err.old) (E.contents err.new) result }
-    ensures unbuilt { is_built cmd.now.task ≡ false → (C.seen ctl.new ≡ C.seen ctl.old) × (O.taken out.new ≡ O.taken out.old) × Says (E.contents err.old) (E.contents err.new) result message.Usage 2 }
+    ensures ends { is_built cmd.now.task ≡ true → EndsSo (E.received err.old) (E.received err.new) result }
+    ensures built { is_built cmd.now.task ≡ true → IsHonest (C.seen ctl.old) → IsRun cmd.now.task (start_by cmd.now.task cmd.now.from) cmd.now.tries (C.seen ctl.old) (C.seen ctl.new) (O.taken out.old) (O.taken out.new) (E.received err.old) (E.received err.new) result }
+    ensures unbuilt { is_built cmd.now.task ≡ false → (C.seen ctl.new ≡ C.seen ctl.old) × (O.taken out.new ≡ O.taken out.old) × Says (E.received err.old) (E.received err.new) result message.Usage 2 }
 {
     if !is_built(cmd.task()) {
         return report_usage(err);
@@ -136,7 +136,7 @@ pub fn run<C: Controller, O: Sink, E: Write>(
 
 /// The same for a listing, in pages: each hands out at most as many records as its number says, by a cursor of its own,
 /// from where the page before it stopped, and behind the last one comes a page without a limit.
-pub fn run_pages<C: Controller, O: Sink, E: Write>(
+pub fn run_pages<C: Controller, O: Sink, E: MessageSink>(
     alloc: Global,
     ctl: &mut C,
     cmd: &Command,
@@ -147,9 +147,9 @@ pub fn run_pages<C: Controller, O: Sink, E: Write>(
     requires { is_listing cmd.now.task ≡ true }
     ensures faults { O.faults out.new ≡ O.faults out.old + (if result == 4 then 1 else 0) }
     ensures calls { (C.seen ctl.new).calls ≤ (C.seen ctl.old).calls + pages_made pages.now * most_calls cmd.now.tries 256 }
-    ensures ends { is_built cmd.now.task ≡ true → EndsSo (E.contents err.old) (E.contents err.new) result }
-    ensures built { is_built cmd.now.task ≡ true → IsHonest (C.seen ctl.old) → IsPagedRun cmd.now.task pages.now (start_by cmd.now.task cmd.now.from) cmd.now.tries (C.seen ctl.old) (C.seen ctl.new) (O.taken out.old) (O.taken out.new) (E.contents err.old) (E.contents err.new) result }
-    ensures unbuilt { is_built cmd.now.task ≡ false → (C.seen ctl.new ≡ C.seen ctl.old) × (O.taken out.new ≡ O.taken out.old) × Says (E.contents err.old) (E.contents err.new) result message.Usage 2 }
+    ensures ends { is_built cmd.now.task ≡ true → EndsSo (E.received err.old) (E.received err.new) result }
+    ensures built { is_built cmd.now.task ≡ true → IsHonest (C.seen ctl.old) → IsPagedRun cmd.now.task pages.now (start_by cmd.now.task cmd.now.from) cmd.now.tries (C.seen ctl.old) (C.seen ctl.new) (O.taken out.old) (O.taken out.new) (E.received err.old) (E.received err.new) result }
+    ensures unbuilt { is_built cmd.now.task ≡ false → (C.seen ctl.new ≡ C.seen ctl.old) × (O.taken out.new ≡ O.taken out.old) × Says (E.received err.old) (E.received err.new) result message.Usage 2 }
 {
     if !is_built(cmd.task()) {
         return report_usage(err);
@@ -160,7 +160,7 @@ pub fn run_pages<C: Controller, O: Sink, E: Write>(
 
 /// Answers a command line over a saved image, and gives the exit status: as `run`, and 3 for an image that is not
 /// read. After a usage fault, and for a command that can't be run yet, the image is not looked at.
-pub fn answer<O: Sink, E: Write>(
+pub fn answer<O: Sink, E: MessageSink>(
     alloc: Global,
     line: &Result<Command, UsageFault>,
     image: &[u8],
@@ -168,7 +168,7 @@ pub fn answer<O: Sink, E: Write>(
     err: &mut E,
 ) -> u8
     ensures faults { O.faults out.new ≡ O.faults out.old + (if result == 4 then 1 else 0) }
-    ensures answers { AnswersLine line.now (store_of_image image.now) (O.taken out.old) (O.taken out.new) (E.contents err.old) (E.contents err.new) result }
+    ensures answers { AnswersLine line.now (store_of_image image.now) (O.taken out.old) (O.taken out.new) (E.received err.old) (E.received err.new) result }
 {
     match line {
         Ok(cmd) => answer_command(alloc, cmd, image, out, err),
@@ -181,7 +181,7 @@ pub fn answer<O: Sink, E: Write>(
 }
 
 /// Answers the command over a saved image.
-fn answer_command<O: Sink, E: Write>(
+fn answer_command<O: Sink, E: MessageSink>(
     alloc: Global,
     cmd: &Command,
     image: &[u8],
@@ -189,7 +189,7 @@ fn answer_command<O: Sink, E: Write>(
     err: &mut E,
 ) -> u8
     ensures faults { O.faults out.new ≡ O.faults out.old + (if result == 4 then 1 else 0) }
-    ensures answers { AnswersTask (is_rewrite cmd.now.task) (is_built cmd.now.task) cmd.now.task (store_of_image image.now) (start_by cmd.now.task cmd.now.from) (O.taken out.old) (O.taken out.new) (E.contents err.old) (E.contents err.new) result }
+    ensures answers { AnswersTask (is_rewrite cmd.now.task) (is_built cmd.now.task) cmd.now.task (store_of_image image.now) (start_by cmd.now.task cmd.now.from) (O.taken out.old) (O.taken out.new) (E.received err.old) (E.received err.new) result }
 {
     if is_rewrite(cmd.task()) {
         return rewrite(alloc, image, out, err);
@@ -204,9 +204,9 @@ fn answer_command<O: Sink, E: Write>(
 }
 
 /// Writes the image again.
-fn rewrite<O: Sink, E: Write>(alloc: Global, image: &[u8], out: &mut O, err: &mut E) -> u8
+fn rewrite<O: Sink, E: MessageSink>(alloc: Global, image: &[u8], out: &mut O, err: &mut E) -> u8
     ensures faults { O.faults out.new ≡ O.faults out.old + (if result == 4 then 1 else 0) }
-    ensures answers { AnswersRewrite (store_of_image image.now) (O.taken out.old) (O.taken out.new) (E.contents err.old) (E.contents err.new) result }
+    ensures answers { AnswersRewrite (store_of_image image.now) (O.taken out.old) (O.taken out.new) (E.received err.old) (E.received err.new) result }
 {
     match Image::read(alloc, image) {
         Ok(image) => {

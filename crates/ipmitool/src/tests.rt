@@ -3,6 +3,7 @@ mod command;
 mod controllers;
 mod cursor;
 mod images;
+mod input;
 mod interrupted;
 mod line;
 mod listed;

@@ -1,5 +1,7 @@
-use super::writers::{Idle, Limited, Slow};
-use crate::message::{Message, Unwritten, say, write_message};
+use super::writers::{Full, Idle, Limited, Slow};
+use crate::message::{Message, say, write_message};
+use crate::message_sink::MessageSink;
+use crate::sink::{SinkFault, Written};
 use ipmi_bus::{Code, Ended};
 use ipmi_image::ImageFault;
 
@@ -108,7 +110,7 @@ fn a_writer_that_fails_holds_a_first_part_of_the_line(rt: HostRuntime) {
                 got: Vec::new(rt.alloc()),
                 room,
             };
-            assert_eq!(rt; write_message(&mut err, message), Err(Unwritten));
+            assert_eq!(rt; write_message(&mut err, message), Err(SinkFault));
             assert_eq!(rt; err.got.as_slice(), &line[..room]);
         }
     }
@@ -125,5 +127,26 @@ fn a_slow_writer_gets_the_whole_line(rt: HostRuntime) {
 
 #[test]
 fn a_writer_that_takes_nothing_ends_the_line(rt: HostRuntime) {
-    assert_eq!(rt; write_message(&mut Idle, REFUSED), Err(Unwritten));
+    assert_eq!(rt; write_message(&mut Idle, REFUSED), Err(SinkFault));
+}
+
+#[test]
+fn a_writer_whose_faults_are_counted_takes_messages(rt: HostRuntime) {
+    let mut err = Written::new(Slow {
+        got: Vec::new(rt.alloc()),
+    });
+    assert_eq!(rt; write_message(&mut err, TWICE), Ok(()));
+    assert_eq!(rt; err.offer(b"record"), Ok(3));
+    assert_eq!(rt;
+        err.into_inner().got.as_slice(),
+        b"image line 107: twice\nrec".as_slice()
+    );
+
+    let mut full = Written::new(Full {
+        got: Vec::new(rt.alloc()),
+        room: 10,
+    });
+    assert_eq!(rt; write_message(&mut full, TWICE), Err(SinkFault));
+    assert_eq!(rt; full.offer(b"record"), Ok(0));
+    assert_eq!(rt; full.into_inner().got.as_slice(), b"image line".as_slice());
 }
