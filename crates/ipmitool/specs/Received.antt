@@ -1,5 +1,5 @@
 -- What a message sink took of a text, and how many of its calls were faults.
-use Rattle.std.specs.Prelude.{ℕ, ◌≡◌, ◌<◌, ◌+◌, List, Option, Result, MatchResult, length, take}
+use Rattle.std.specs.Prelude.{ℕ, ◌≡◌, ◌<◌, ◌+◌, List, Option, None, Result, MatchResult, length, take}
 use Rattle.std.specs.Io.KnownBytes.{Appends, WriteAppends}
 use Rattle.std.specs.Option.{option_map}
 use Rattle.ipmitool.specs.Sink.{faults_by}
@@ -8,6 +8,10 @@ use Rattle.ipmitool.specs.Sink.{faults_by}
 pub record Received : Type 0 where
   pub taken : Option (List ℕ)
   pub faults : Option ℕ
+
+-- of a plain writer: the bytes that it tells, and nothing of faults
+abbrev pub of_writer : Option (List ℕ) → Received
+of_writer contents = record { taken = contents; faults = None }
 
 -- what one call took; where the faults are known they rose by its own
 abbrev pub Receives : {E : Type 0} → Received → Received → Result ℕ E → List ℕ → Type 0

@@ -1,6 +1,6 @@
 //! Where messages go: any writer, or a `Written`, and writing a whole text to one.
-ghost use Rattle.std.specs.Prelude.{ℕ, ◌≤◌, ◌<◌, length, IfOk, None, Some};
-ghost use Rattle.ipmitool.specs.Received.{Received, Receives, WritesAll};
+ghost use Rattle.std.specs.Prelude.{ℕ, ◌≤◌, ◌<◌, length, IfOk, Some};
+ghost use Rattle.ipmitool.specs.Received.{Received, Receives, WritesAll, of_writer};
 
 use crate::sink::{Sink, SinkFault, Written};
 use std::io::Write;
@@ -19,7 +19,7 @@ pub trait MessageSink {
 }
 
 impl<W: Write> MessageSink for W {
-    ghost received = { λ w. record { taken = W.contents w; faults = None } };
+    ghost received = { λ w. of_writer (W.contents w) };
 
     fn offer(&mut self, bytes: &[u8]) -> Result<usize, SinkFault> {
         match self.write(bytes) {

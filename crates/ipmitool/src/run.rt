@@ -5,7 +5,7 @@ ghost use Rattle.ipmi_image.specs.Image.{store_of_image};
 ghost use Rattle.ipmi_image.specs.Rewritten.{image_text_of};
 ghost use Rattle.ipmitool.specs.Command.{is_listing};
 ghost use Rattle.ipmitool.specs.Listing.{faults_of, most_calls};
-ghost use Rattle.ipmitool.specs.Received.{ReceivesText};
+ghost use Rattle.ipmitool.specs.Received.{ReceivesText, of_writer};
 ghost use Rattle.ipmitool.specs.Pages.{pages_made};
 ghost use Rattle.ipmitool.specs.Plan.{start_by};
 ghost use Rattle.ipmitool.specs.Run.{stop_status, stop_text, fault_status, is_built, is_rewrite, EndsSo, IsRun, IsPagedRun, Says, WritesImage, AnswersRewrite, AnswersTask, AnswersLine};
@@ -20,6 +20,7 @@ use crate::sink::{Sink, write_all};
 use ipmi_bus::Controller;
 use ipmi_image::{Image, ImageController, ImageFault, image_text};
 use std::alloc::Global;
+use std::io::Write;
 
 /// Whether the task can be run today.
 fn is_built(task: &Task) -> bool
@@ -113,8 +114,27 @@ fn report_image<E: MessageSink>(fault: ImageFault, err: &mut E) -> u8
 }
 
 /// Does what the command asks for over the controller, and gives the exit status: 0 where all was printed, 1 where
-/// a listing ended by name, 2 for a command that can't be run yet, 4 for a write fault, 5 where memory ran out.
-pub fn run<C: Controller, O: Sink, E: MessageSink>(
+/// a listing ended by name, 2 for a command that can't be run yet, 4 for a write fault, 5 where memory ran out. Messages
+/// go to any writer.
+pub fn run<C: Controller, O: Sink, E: Write>(
+    alloc: Global,
+    ctl: &mut C,
+    cmd: &Command,
+    out: &mut O,
+    err: &mut E,
+) -> u8
+    ensures faults { O.faults out.new ≡ O.faults out.old + (if result == 4 then 1 else 0) }
+    ensures calls { (C.seen ctl.new).calls ≤ (C.seen ctl.old).calls + most_calls cmd.now.tries 256 }
+    ensures ends { is_built cmd.now.task ≡ true → EndsSo (of_writer (E.contents err.old)) (of_writer (E.contents err.new)) result }
+    ensures built { is_built cmd.now.task ≡ true → IsHonest (C.seen ctl.old) → IsRun cmd.now.task (start_by cmd.now.task cmd.now.from) cmd.now.tries (C.seen ctl.old) (C.seen ctl.new) (O.taken out.old) (O.taken out.new) (of_writer (E.contents err.old)) (of_writer (E.contents err.new)) result }
+    ensures unbuilt { is_built cmd.now.task ≡ false → (C.seen ctl.new ≡ C.seen ctl.old) × (O.taken out.new ≡ O.taken out.old) × Says (of_writer (E.contents err.old)) (of_writer (E.contents err.new)) result message.Usage 2 }
+{
+    run_to_message_sink(alloc, ctl, cmd, out, err)
+}
+
+/// As `run`, with messages to a [`MessageSink`]: of one whose faults are counted it is known that a message was taken
+/// whole where there was none.
+pub fn run_to_message_sink<C: Controller, O: Sink, E: MessageSink>(
     alloc: Global,
     ctl: &mut C,
     cmd: &Command,
@@ -134,7 +154,7 @@ pub fn run<C: Controller, O: Sink, E: MessageSink>(
     report(stop, err)
 }
 
-/// The same for a listing, in pages: each hands out at most as many records as its number says, by a cursor of its own,
+/// As `run`, for a listing in pages: each hands out at most as many records as its number says, by a cursor of its own,
 /// from where the page before it stopped, and behind the last one comes a page without a limit.
 pub fn run_pages<C: Controller, O: Sink, E: MessageSink>(
     alloc: Global,
@@ -198,7 +218,7 @@ fn answer_command<O: Sink, E: MessageSink>(
         return report_usage(err);
     }
     match Image::read(alloc, image) {
-        Ok(image) => run(alloc, &mut ImageController::new(image), cmd, out, err),
+        Ok(image) => run_to_message_sink(alloc, &mut ImageController::new(image), cmd, out, err),
         Err(fault) => report_image(fault, err),
     }
 }

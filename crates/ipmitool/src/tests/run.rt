@@ -1,8 +1,8 @@
 use super::controllers::Counting;
 use super::listed::{THREE_LINES, THREE_ROWS};
-use super::writers::{Full, Limited, Narrow};
+use super::writers::{Full, Limited, Narrow, Slow};
 use crate::command::{Command, Kind, Task, UsageFault};
-use crate::run::{answer, run};
+use crate::run::{answer, run, run_to_message_sink};
 use crate::sink::Written;
 use ipmi_image::{Image, ImageController};
 use std::alloc::Global;
@@ -166,6 +166,29 @@ fn a_fault_of_the_messages_changes_nothing(rt: HostRuntime) {
         b"sdr 0001 0009 010051c000\n".as_slice()
     );
     assert_eq!(rt; err.got.len(), 0);
+}
+
+#[test]
+fn messages_go_to_a_sink_that_counts_its_faults(rt: HostRuntime) -> Result<(), Fail> {
+    let image = b"ipmi-image 1\nsdr 0001 0009 010051c000\nend\n";
+    let mut ctl = ImageController::new(Image::read(rt.alloc(), image)?);
+    let mut out = Written::new(Vec::new(rt.alloc()));
+    let mut err = Written::new(Slow {
+        got: Vec::new(rt.alloc()),
+    });
+    assert_eq!(rt;
+        run_to_message_sink(rt.alloc(), &mut ctl, &hex(), &mut out, &mut err),
+        1
+    );
+    assert_eq!(rt;
+        out.into_inner().as_slice(),
+        b"sdr 0001 0009 010051c000\n".as_slice()
+    );
+    assert_eq!(rt;
+        err.into_inner().got.as_slice(),
+        b"record 0009h not present\n".as_slice()
+    );
+    Ok(())
 }
 
 #[test]

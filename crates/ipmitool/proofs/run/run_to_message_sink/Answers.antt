@@ -2,7 +2,7 @@ use Rattle.std.proofs.Common.{ℕ, sym, subst}
 use Rattle.ipmitool.specs.Plan.{start_by}
 use Rattle.ipmitool.specs.Run.{IsRun}
 use Rattle.ipmitool.proofs.PlanLemmas.{run_by_listing}
-use Rattle.ipmitool.proofs.run.run.Goals as goal
+use Rattle.ipmitool.proofs.run.run_to_message_sink.Goals as goal
 
 pub returns-clause-built : goal.returns-clause-built
 returns-clause-built g c = λ built honest.
