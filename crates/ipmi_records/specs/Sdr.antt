@@ -131,7 +131,7 @@ name_of view = option_map (λ id. sdr_text_of id.type_length id.rest) (id_string
 
 -- ---- what is asked for on account of a record
 
--- the address of the controller that is asked (section 4.2), compared as a whole byte
+-- the address of the controller that is asked, compared as a whole byte
 abbrev pub own_address : ℕ
 own_address = 0x20
 

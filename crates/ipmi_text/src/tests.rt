@@ -501,11 +501,3 @@ fn memory_may_be_refused(rt: HostRuntime) {
         }
     }
 }
-
-#[test]
-fn laws_are_there() {
-    laws::one_decimal_of_a_value();
-    laws::one_value_of_a_decimal();
-    laws::one_utc_text();
-    laws::one_minutes_text();
-}

@@ -57,6 +57,28 @@ hex_length store start [] pieces none = ap (λ (l : List Piece). length l) none
 hex_length store start (row ∷ rows) [] are = absurd are
 hex_length store start (row ∷ rows) (piece ∷ pieces) are = ap suc (hex_length store (place_after row.next) rows pieces are.1.1)
 
+-- ---- there is a plan
+
+abbrev hex_pieces : Place → List Row → List Piece
+hex_pieces start [] = []
+hex_pieces start (row ∷ rows) = record { text = line_of row; spots = AtRecord (asked_at start) ∷ [] } ∷ hex_pieces (place_after row.next) rows
+
+are_hex_pieces : (store : Store) (start : Place) (rows : List Row) → ArePieces task.Hex store start rows (hex_pieces start rows)
+are_hex_pieces store start [] = refl
+are_hex_pieces store start (row ∷ rows) = (refl, (refl, are_hex_pieces store (place_after row.next) rows))
+
+pub hex_has_a_plan : (store : Store) (start : Place) (walk : List Row) (end : WalkEnd) → (p : Plan) × IsListingPlan task.Hex store start walk end p
+hex_has_a_plan store start walk end = (
+  record { pieces = hex_pieces start walk; end = WalkEnds end; end_spots = end_spots start walk end },
+  record { pieces = are_hex_pieces store start walk; end_is = refl; spots_are = refl },
+)
+
+pub rewrite_has_a_plan : (store : Store) → (p : Plan) × IsRewritePlan store p
+rewrite_has_a_plan store = (
+  record { pieces = record { text = image_text_of store; spots = [] } ∷ []; end = WalkEnds Done; end_spots = [] },
+  record { pieces_are = refl; end_is = refl; no_end_spots = refl },
+)
+
 -- the piece of the next row
 hex_next : (store : Store) (start : Place) (rows : List Row) (pieces : List Piece) (k : ℕ) (row : Row) → ArePieces task.Hex store start rows pieces → first_row (drop k rows) ≡ Some row
     → (piece : Piece) × (first_piece (drop k pieces) ≡ Some piece) × (piece.text ≡ line_of row)

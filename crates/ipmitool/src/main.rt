@@ -5,6 +5,7 @@ mod arguments;
 mod command;
 mod history;
 mod input;
+mod laws;
 mod line;
 mod listing;
 mod message;

@@ -145,6 +145,17 @@ fn fields_of_entries(rt: HostRuntime) {
         (0x0706_0504, 0x08_1357)
     );
     assert_eq!(rt; entry.data_bytes(), [1, 2, 3, 4, 5, 6].as_slice());
+    let data = [3, 4, 5, 6, 7, 8, 9, 10, 11, 12, 13, 14, 15];
+    let bytes = [3, 0, 0xe0, 3, 4, 5, 6, 7, 8, 9, 10, 11, 12, 13, 14, 15];
+    let SelView::OemPlain(entry) = SelView::read(&bytes) else {
+        return assert!(rt; false);
+    };
+    assert_eq!(rt; entry.data_bytes(), data.as_slice());
+    let bytes = [3, 0, 0x03, 3, 4, 5, 6, 7, 8, 9, 10, 11, 12, 13, 14, 15];
+    let SelView::Other(entry) = SelView::read(&bytes) else {
+        return assert!(rt; false);
+    };
+    assert_eq!(rt; entry.data_bytes(), data.as_slice());
 }
 
 #[test]

@@ -1,5 +1,6 @@
 //! What is read of a record without printing it.
 use super::*;
+use ipmi_text::Factors;
 
 /// The fault that bytes have, if any.
 fn fault_of(bytes: &[u8]) -> Option<SdrFault> {
@@ -61,16 +62,15 @@ fn records_cut_with_their_length(rt: HostRuntime) -> Result<(), Fail> {
             return Ok(assert!(rt; false));
         };
         let want = if len < 48 {
-            Some(SdrFault::BodyShort)
+            Err(SdrFault::BodyShort)
         } else {
-            None
+            Ok("full")
         };
-        assert_eq!(rt; fault_of(cut), want, "{len}");
+        assert_eq!(rt; kind_of(cut), want, "{len}");
     }
     let bytes = changed(&[(5, 45)]);
     let cut = bytes.get(..50).expect(&rt, "fifty bytes");
     let view = SdrView::read(cut).expect(&rt, "a record");
-    assert!(rt; matches!(&view, SdrView::Full(_)));
     let name = view.name(rt.alloc())?.expect(&rt, "a name");
     assert_eq!(rt; name.as_str(), "CP");
     Ok(())
@@ -161,6 +161,10 @@ fn fields_of_a_full_record(rt: HostRuntime) {
         (full.m(), full.b(), full.k1(), full.k2()),
         (-511, 258, -1, 7)
     );
+    assert_eq!(rt;
+        Some(full.factors()),
+        Factors::new(2, 0x0c, -511, 258, -1, 7)
+    );
     for (threshold, readable, value) in [
         (Threshold::UpperNonRecoverable, true, 0x5f),
         (Threshold::UpperCritical, true, 0x5a),
@@ -172,29 +176,38 @@ fn fields_of_a_full_record(rt: HostRuntime) {
         assert_eq!(rt; full.is_readable(threshold), readable);
         assert_eq!(rt; full.threshold(threshold), value);
     }
-    let id = full.id_string();
-    assert_eq!(rt; id.type_length, 0xc8);
-    assert_eq!(rt; id.rest, b"CPU Temp".as_slice());
+    for id in [
+        full.id_string(),
+        view.id_string().expect(&rt, "an ID string"),
+    ] {
+        assert_eq!(rt; id.type_length, 0xc8);
+        assert_eq!(rt; id.rest, b"CPU Temp".as_slice());
+    }
 }
 
 #[test]
-fn fields_of_a_fru_locator(rt: HostRuntime) {
+fn fields_of_a_fru_locator(rt: HostRuntime) -> Result<(), Fail> {
     let view = SdrView::read(&PSU1).expect(&rt, "a record");
     assert_eq!(rt; view.sensor(), None);
     let SdrView::Fru(fru) = &view else {
-        return assert!(rt; false);
+        return Ok(assert!(rt; false));
+    };
+    let entity = Entity {
+        id: 10,
+        instance: 1,
     };
     let locator = Locator {
         address: 0x20,
-        entity: Entity {
-            id: 10,
-            instance: 1,
-        },
+        entity,
     };
     assert_eq!(rt; fru.locator(), locator);
     assert_eq!(rt; view.locator(), Some(locator));
     assert_eq!(rt; (fru.fru_id(), fru.is_logical(), fru.lun()), (1, true, 0));
     assert_eq!(rt; view.fru_of(), Some(1));
+    assert_eq!(rt; fru.id_string().type_length, 0xc4);
+    assert_eq!(rt; fru.id_string().rest, b"PSU1".as_slice());
+    assert_eq!(rt; format!(in rt.alloc(); "{entity}")?.as_str(), "10.1");
+    Ok(())
 }
 
 #[test]

@@ -19,71 +19,8 @@ fn one_trouble_is_one_call_more(rt: HostRuntime) -> Result<(), Fail> {
         for call in 1..=6 {
             let left = met(rt.alloc(), 1, call, code)?;
             assert_eq!(rt; left.out.as_slice(), THREE_LINES);
+            assert_eq!(rt; left.err.len(), 0);
             assert_eq!(rt; (left.status, left.calls), (0, 7));
-        }
-    }
-    Ok(())
-}
-
-// A record that is cancelled begins again with a reservation, and its calls so far are made twice.
-#[test]
-fn a_cancelled_record_begins_again(rt: HostRuntime) -> Result<(), Fail> {
-    for (call, calls) in [(1, 7), (2, 8), (3, 9), (4, 8), (5, 9), (6, 8)] {
-        let left = met(rt.alloc(), 1, call, 0xC5)?;
-        assert_eq!(rt; left.out.as_slice(), THREE_LINES);
-        assert_eq!(rt; (left.status, left.calls), (0, calls));
-    }
-    Ok(())
-}
-
-#[test]
-fn without_tries_one_trouble_is_the_end(rt: HostRuntime) -> Result<(), Fail> {
-    let cases = [
-        (
-            1,
-            0,
-            b"gave up at 0000h\n".as_slice(),
-            b"record 0000h refused with code D4h\n".as_slice(),
-        ),
-        (
-            2,
-            0,
-            b"gave up at 0000h\n",
-            b"record 0000h refused with code D4h\n",
-        ),
-        (
-            3,
-            0,
-            b"gave up at 0000h\n",
-            b"record 0000h refused with code D4h\n",
-        ),
-        (
-            4,
-            27,
-            b"gave up at 0002h\n",
-            b"record 0002h refused with code D4h\n",
-        ),
-        (
-            5,
-            27,
-            b"gave up at 0002h\n",
-            b"record 0002h refused with code D4h\n",
-        ),
-        (
-            6,
-            56,
-            b"gave up at 0003h\n",
-            b"record 0003h refused with code D4h\n",
-        ),
-    ];
-    for (call, len, gave_up, refused) in cases {
-        for (code, said) in [(0xC5, gave_up), (0xD4, refused)] {
-            let left = met(rt.alloc(), 0, call, code)?;
-            let mut lines = THREE_LINES.to_vec(rt.alloc())?;
-            lines.truncate(len);
-            assert_eq!(rt; left.out.as_slice(), lines.as_slice());
-            assert_eq!(rt; left.err.as_slice(), said);
-            assert_eq!(rt; (left.status, left.calls), (1, call));
         }
     }
     Ok(())

@@ -4,7 +4,7 @@ use super::listed::{Left, THREE_LINES, THREE_ROWS, listed};
 use crate::command::{Command, Kind, Task};
 use crate::run::run_pages;
 use crate::sink::Written;
-use ipmi_image::{Image, ImageController, Mood, Scripted};
+use ipmi_image::{Image, ImageController, ImageFault, Mood, Scripted};
 use std::alloc::Global;
 use std::test::Fail;
 
@@ -12,7 +12,7 @@ use std::test::Fail;
 const CYCLE: &[u8] = b"ipmi-image 1\nsdr 0007 0009 070051c000\nsdr 0009 0007 090051c000\nend\n";
 
 // What a listing of the image in pages of these sizes left.
-fn listed_in_pages(alloc: Global, image: &[u8], pages: &[u32]) -> Result<Left, Fail> {
+fn listed_in_pages(alloc: Global, image: &[u8], pages: &[u32]) -> Result<Left, ImageFault> {
     let image = Image::read(alloc, image)?;
     let mut ctl = Counting::new(ImageController::new(image));
     let command = Command::new(Task::Hex, None, 32, 5, None);
@@ -119,6 +119,36 @@ fn pages_of_another_command(rt: HostRuntime) -> Result<(), Fail> {
     );
     assert_eq!(rt; ctl.calls, 0);
     Ok(())
+}
+
+#[test]
+fn pages_have_memory(rt: HostRuntime) -> Result<(), Fail> {
+    let left = listed_in_pages(rt.alloc(), THREE_ROWS, &[1, 0, 1])?;
+    assert_eq!(rt; left.out.as_slice(), THREE_LINES);
+    assert_eq!(rt; left.err.len(), 0);
+    assert_eq!(rt; left.status, 0);
+    Ok(())
+}
+
+/// Where memory is refused, to the run or to what takes its output, first lines stand there, or first bytes of them.
+#[test]
+fn memory_may_be_refused(rt: HostRuntime) {
+    let Ok(left) = listed_in_pages(rt.alloc(), THREE_ROWS, &[1, 0, 1]) else {
+        return;
+    };
+    assert!(rt; THREE_LINES.starts_with(left.out.as_slice()));
+    match left.status {
+        0 => {
+            assert_eq!(rt; left.out.len(), THREE_LINES.len());
+            assert_eq!(rt; left.err.len(), 0);
+        }
+        4 => assert_eq!(rt; left.err.as_slice(), b"write fault\n".as_slice()),
+        status => {
+            assert_eq!(rt; status, 5);
+            assert!(rt; matches!(left.out.len(), 0 | 27 | 56 | 81));
+            assert_eq!(rt; left.err.as_slice(), b"out of memory\n".as_slice());
+        }
+    }
 }
 
 // A line for each id from 0000 to fffe, of 25 bytes: `sdr IIII NNNN `, ten digits and a line feed.

@@ -168,6 +168,28 @@ fn a_fault_of_the_messages_changes_nothing(rt: HostRuntime) {
     assert_eq!(rt; err.got.len(), 0);
 }
 
+// No call is made for a command that can't be run yet, nor for one that `answer` alone serves.
+#[test]
+fn commands_that_are_not_run(rt: HostRuntime) -> Result<(), Fail> {
+    for command in [
+        Command::new(Task::List(Kind::All), None, 32, 5, None),
+        Command::new(Task::Rewrite, None, 32, 5, None),
+    ] {
+        let image = Image::read(rt.alloc(), THREE_ROWS)?;
+        let mut ctl = Counting::new(ImageController::new(image));
+        let mut out = Written::new(Vec::new(rt.alloc()));
+        let mut err = Vec::new(rt.alloc());
+        assert_eq!(rt; run(rt.alloc(), &mut ctl, &command, &mut out, &mut err), 2);
+        assert_eq!(rt; out.into_inner().len(), 0);
+        assert_eq!(rt;
+            err.as_slice(),
+            b"usage: ipmitool [--image FILE] [--from HEX4] [--part N] [--tries N] fru|sdr|sel WORDS\n".as_slice()
+        );
+        assert_eq!(rt; ctl.calls, 0);
+    }
+    Ok(())
+}
+
 #[test]
 fn messages_go_to_a_sink_that_counts_its_faults(rt: HostRuntime) -> Result<(), Fail> {
     let image = b"ipmi-image 1\nsdr 0001 0009 010051c000\nend\n";

@@ -16,6 +16,7 @@ const CHANGED_LINES: &[u8] =
 fn mood(alloc: Global, letter: u8) -> Result<Mood, Fail> {
     Ok(match letter {
         b'1' => Mood::Grant(1),
+        b'B' => Mood::Busy,
         b'C' => Mood::Cancel,
         b'L' => Mood::TooLong,
         b'R' => Mood::Refuse(Code(0xD4)),
@@ -34,6 +35,93 @@ fn met(alloc: Global, tries: u8, letters: &[u8]) -> Result<Left, Fail> {
     let image = Image::read(alloc, THREE_ROWS)?;
     let ctl = Counting::new(Scripted::new(image, moods));
     Ok(listed(alloc, ctl, tries))
+}
+
+// The same of the call with this number, from 1 on, alone.
+fn met_at(alloc: Global, tries: u8, call: u32, letter: u8) -> Result<Left, Fail> {
+    let mut letters = Vec::new(alloc);
+    for _ in 1..call {
+        letters.push(b'.')?;
+    }
+    letters.push(letter)?;
+    met(alloc, tries, &letters)
+}
+
+// Two calls read the first record past its reservation, two the second and one the third.
+#[test]
+fn a_busy_answer_is_one_call_more(rt: HostRuntime) -> Result<(), Fail> {
+    for call in 1..=6 {
+        let left = met_at(rt.alloc(), 1, call, b'B')?;
+        assert_eq!(rt; left.out.as_slice(), THREE_LINES);
+        assert_eq!(rt; left.err.len(), 0);
+        assert_eq!(rt; (left.status, left.calls), (0, 7));
+    }
+    Ok(())
+}
+
+// A record that is cancelled begins again with a reservation, and its calls so far are made twice.
+#[test]
+fn a_cancelled_record_begins_again(rt: HostRuntime) -> Result<(), Fail> {
+    for (call, calls) in [(1, 7), (2, 8), (3, 9), (4, 8), (5, 9), (6, 8)] {
+        let left = met_at(rt.alloc(), 1, call, b'C')?;
+        assert_eq!(rt; left.out.as_slice(), THREE_LINES);
+        assert_eq!(rt; left.err.len(), 0);
+        assert_eq!(rt; (left.status, left.calls), (0, calls));
+    }
+    Ok(())
+}
+
+#[test]
+fn without_tries_one_trouble_is_the_end(rt: HostRuntime) -> Result<(), Fail> {
+    let cases = [
+        (
+            1,
+            0,
+            b"gave up at 0000h\n".as_slice(),
+            b"record 0000h refused with code D4h\n".as_slice(),
+        ),
+        (
+            2,
+            0,
+            b"gave up at 0000h\n",
+            b"record 0000h refused with code D4h\n",
+        ),
+        (
+            3,
+            0,
+            b"gave up at 0000h\n",
+            b"record 0000h refused with code D4h\n",
+        ),
+        (
+            4,
+            27,
+            b"gave up at 0002h\n",
+            b"record 0002h refused with code D4h\n",
+        ),
+        (
+            5,
+            27,
+            b"gave up at 0002h\n",
+            b"record 0002h refused with code D4h\n",
+        ),
+        (
+            6,
+            56,
+            b"gave up at 0003h\n",
+            b"record 0003h refused with code D4h\n",
+        ),
+    ];
+    for (call, len, gave_up, refused) in cases {
+        for (letter, said) in [(b'C', gave_up), (b'R', refused)] {
+            let left = met_at(rt.alloc(), 0, call, letter)?;
+            let mut lines = THREE_LINES.to_vec(rt.alloc())?;
+            lines.truncate(len);
+            assert_eq!(rt; left.out.as_slice(), lines.as_slice());
+            assert_eq!(rt; left.err.as_slice(), said);
+            assert_eq!(rt; (left.status, left.calls), (1, call));
+        }
+    }
+    Ok(())
 }
 
 // After the reservation each byte takes a call where one byte is granted: six, seven and five calls. Where the first
