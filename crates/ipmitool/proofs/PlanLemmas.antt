@@ -24,7 +24,7 @@ use Rattle.ipmitool.specs.declared.message.Message.TheVariants.{Image, OutOfMemo
 use Rattle.ipmitool.specs.Line.{line_of}
 use Rattle.ipmitool.specs.Listing.{lines_of, Leaves, StopsAtId, HasCutLine, Counts}
 use Rattle.ipmitool.specs.Listing as listing
-use Rattle.ipmitool.specs.Plan.{Plan, Piece, Spot, AtRecord, WalkEnds, Outcome, ArePieces, IsListingPlan, IsRewritePlan, IsAmong, StopsAt, IsAllowed, CountsSo, IsFine, text_of, spots_at, end_spots, first_piece}
+use Rattle.ipmitool.specs.Plan.{Plan, Piece, Spot, AtRecord, WalkEnds, Outcome, ArePieces, IsListingPlan, IsPlan, IsRewritePlan, IsAmong, StopsAt, IsAllowed, CountsSo, IsFine, text_of, spots_at, end_spots, first_piece}
 use Rattle.ipmitool.specs.Plan as plan
 use Rattle.ipmitool.specs.Received.{Received, ReceivesText}
 use Rattle.ipmitool.specs.Pages.{IsPage, ArePages}
@@ -67,11 +67,22 @@ are_hex_pieces : (store : Store) (start : Place) (rows : List Row) → ArePieces
 are_hex_pieces store start [] = refl
 are_hex_pieces store start (row ∷ rows) = (refl, (refl, are_hex_pieces store (place_after row.next) rows))
 
-pub hex_has_a_plan : (store : Store) (start : Place) (walk : List Row) (end : WalkEnd) → (p : Plan) × IsListingPlan task.Hex store start walk end p
+hex_has_a_plan : (store : Store) (start : Place) (walk : List Row) (end : WalkEnd) → (p : Plan) × IsListingPlan task.Hex store start walk end p
 hex_has_a_plan store start walk end = (
   record { pieces = hex_pieces start walk; end = WalkEnds end; end_spots = end_spots start walk end },
   record { pieces = are_hex_pieces store start walk; end_is = refl; spots_are = refl },
 )
+
+pub built_has_a_plan : (t : Task) → is_built t ≡ true → (store : Store) (start : Place) (walk : List Row) (end : WalkEnd) → (p : Plan) × IsPlan t store start walk end p
+built_has_a_plan task.Hex built = hex_has_a_plan
+built_has_a_plan (task.Fru id) built = cc
+built_has_a_plan (task.List kind) built = cc
+built_has_a_plan (task.Elist kind) built = cc
+built_has_a_plan (task.Get name) built = cc
+built_has_a_plan (task.Info shelf) built = cc
+built_has_a_plan (task.SelList entries) built = cc
+built_has_a_plan (task.SelGet id) built = cc
+built_has_a_plan task.Rewrite built = cc
 
 pub rewrite_has_a_plan : (store : Store) → (p : Plan) × IsRewritePlan store p
 rewrite_has_a_plan store = (

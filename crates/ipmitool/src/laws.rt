@@ -1,14 +1,16 @@
 //! What follows from the definitions of plans alone.
-ghost use Rattle.std.specs.Prelude.{List};
+ghost use Rattle.std.specs.Prelude.{◌≡◌, List, true};
 ghost use Rattle.ipmi_bus.specs.declared.step.Place.{Place};
 ghost use Rattle.ipmi_bus.specs.Shelf.{Row};
 ghost use Rattle.ipmi_bus.specs.Store.{Store};
 ghost use Rattle.ipmi_bus.specs.Walk.{WalkEnd};
-ghost use Rattle.ipmitool.specs.declared.command.Task.TheVariants as task;
+ghost use Rattle.ipmitool.specs.declared.command.Task.{Task};
 ghost use Rattle.ipmitool.specs.Plan.{Plan, IsPlan, IsRewritePlan};
+ghost use Rattle.ipmitool.specs.Run.{is_built};
 
-/// Each command that can be run today has a plan over each store, so what all of its plans allow is what one of them does.
+/// A task that can be run today has a plan over each store and along each walk, and an image written again has one over each
+/// store. So what every plan allows is no more than what one of them allows.
 pub fn built_commands_have_plans()
-    ensures hex { (store : Store) (start : Place) (walk : List Row) (end : WalkEnd) → (plan : Plan) × IsPlan task.Hex store start walk end plan }
+    ensures run { (task : Task) → is_built task ≡ true → (store : Store) (start : Place) (walk : List Row) (end : WalkEnd) → (plan : Plan) × IsPlan task store start walk end plan }
     ensures rewrite { (store : Store) → (plan : Plan) × IsRewritePlan store plan }
 {}

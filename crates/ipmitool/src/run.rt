@@ -154,7 +154,7 @@ pub fn run_to_message_sink<C: Controller, O: Sink, E: MessageSink>(
     report(stop, err)
 }
 
-/// As `run`, for a listing in pages: each hands out at most as many records as its number says, by a cursor of its own,
+/// As `run_to_message_sink`, for a listing in pages: each hands out at most as many records as its number says, by a cursor of its own,
 /// from where the page before it stopped, and behind the last one comes a page without a limit.
 pub fn run_pages<C: Controller, O: Sink, E: MessageSink>(
     alloc: Global,

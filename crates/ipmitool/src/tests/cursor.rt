@@ -159,7 +159,7 @@ fn a_short_part_is_kept(rt: HostRuntime) {
 fn the_longest_record_is_read(rt: HostRuntime) -> Result<(), Fail> {
     let mut line = String::from_str(rt.alloc(), "sdr 0001 ffff 010051c0fb")?;
     for _ in 0..251 {
-        line.push_str("00")?;
+        line.push_str("a5")?;
     }
     line.push_str("\n")?;
     let mut text = String::from_str(rt.alloc(), "ipmi-image 1\n")?;

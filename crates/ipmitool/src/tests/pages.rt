@@ -133,8 +133,9 @@ fn pages_have_memory(rt: HostRuntime) -> Result<(), Fail> {
 /// Where memory is refused, to the run or to what takes its output, first lines stand there, or first bytes of them.
 #[test]
 fn memory_may_be_refused(rt: HostRuntime) {
-    let Ok(left) = listed_in_pages(rt.alloc(), THREE_ROWS, &[1, 0, 1]) else {
-        return;
+    let left = match listed_in_pages(rt.alloc(), THREE_ROWS, &[1, 0, 1]) {
+        Ok(left) => left,
+        Err(fault) => return assert_eq!(rt; fault, ImageFault::Memory),
     };
     assert!(rt; THREE_LINES.starts_with(left.out.as_slice()));
     match left.status {
@@ -145,7 +146,7 @@ fn memory_may_be_refused(rt: HostRuntime) {
         4 => assert_eq!(rt; left.err.as_slice(), b"write fault\n".as_slice()),
         status => {
             assert_eq!(rt; status, 5);
-            assert!(rt; matches!(left.out.len(), 0 | 27 | 56 | 81));
+            assert!(rt; matches!(left.out.len(), 0 | 27 | 56));
             assert_eq!(rt; left.err.as_slice(), b"out of memory\n".as_slice());
         }
     }

@@ -37,7 +37,7 @@ fn met(alloc: Global, tries: u8, letters: &[u8]) -> Result<Left, Fail> {
     Ok(listed(alloc, ctl, tries))
 }
 
-// The same of the call with this number, from 1 on, alone.
+// What a listing leaves of which the call with this number alone, from 1 on, meets a mood.
 fn met_at(alloc: Global, tries: u8, call: u32, letter: u8) -> Result<Left, Fail> {
     let mut letters = Vec::new(alloc);
     for _ in 1..call {
@@ -72,7 +72,7 @@ fn a_cancelled_record_begins_again(rt: HostRuntime) -> Result<(), Fail> {
 }
 
 #[test]
-fn without_tries_one_trouble_is_the_end(rt: HostRuntime) -> Result<(), Fail> {
+fn without_tries_a_trouble_is_the_end_and_so_is_a_refusal(rt: HostRuntime) -> Result<(), Fail> {
     let cases = [
         (
             1,
