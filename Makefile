@@ -17,7 +17,7 @@ test:
 memory:
 	@scripts/refuse_memory
 
-# Each turn of a must-fail edit that joins several, refused alone; half an hour and more.
+# Each turn of a must-fail edit that joins several, refused alone; an hour and more.
 turns:
 	@scripts/refuse_turns
 
