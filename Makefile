@@ -5,9 +5,12 @@ SOURCES := crates.txt $(shell find crates -path '*/out' -prune -o \( -name '*.rt
 
 .PHONY: demo test memory turns bench build install
 
-# The program on a small image: three sensor data records, a line each.
+# The program on two images: sensors, events, and three sensor data records as they are.
 demo: $(PROGRAM)
-	@$(PROGRAM) < examples/three-rows.image
+	$(PROGRAM) --image examples/server.image sdr list all
+	$(PROGRAM) --image examples/server.image sdr elist
+	$(PROGRAM) --image examples/server.image sel list
+	$(PROGRAM) --image examples/three-rows.image sdr hex
 
 # The whole gate, and the tests that stand beside it.
 test:

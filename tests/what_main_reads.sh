@@ -1,6 +1,6 @@
 #!/usr/bin/env bash
 # What the program reads: the file of `--image` or standard input, up to 64 MiB and no byte more; nothing after a usage
-# fault; and the words of its command line where there are none, or where one is no text.
+# fault, or for a command that can't be run yet; and the words of its command line where there are none, or where one is no text.
 set -uo pipefail
 cd "$(dirname "$0")/.."
 make -s build || exit 1
@@ -56,6 +56,10 @@ expect 3 '' 'cannot read standard input' "$program" < "$work"
 # After a usage fault the rest of standard input is all of it, and no file is opened.
 expect 2 '' "$usage" "$program" sdr frob --image "$work/none" < "$small"
 expect 2 "$(cat "$small")" "$usage" bash -c '"$0" sdr frob; status=$?; cat; exit $status' "$program" < "$small"
+
+# The same for a command that can't be run yet.
+expect 2 '' "$usage" "$program" fru --image "$work/none" < "$small"
+expect 2 "$(cat "$small")" "$usage" bash -c '"$0" fru; status=$?; cat; exit $status' "$program" < "$small"
 
 # A first word that is empty is the program's name too, and a word that is no text is no word.
 expect 0 "$lines" '' bash -c 'exec -a "" "$0"' "$program" < "$small"

@@ -1,6 +1,6 @@
 -- A part of an inventory, as an honest controller gave it.
 use Rattle.std.proofs.Common.{◌≡◌, ℕ, ◌+◌, ◌<◌, ◌≤◌, Bool, true, false, nat_eq, Option, Some, Ok, List, [], length, take, drop, slice_range, refl, sym, ap, subst, ◌∙◌, arith}
-use Rattle.std.specs.Prelude.{unwrap_or}
+use Rattle.std.specs.Prelude.{unwrap_or, IsSome}
 use Rattle.std.proofs.lemmas.Bool.Decides.{nat_tests}
 use Rattle.std.proofs.Math.Seq.{take-length}
 use Rattle.std.proofs.lemmas.Bool.{ne_eqb}
@@ -11,7 +11,8 @@ use Rattle.ipmi_bus.specs.Store.{inventory_of}
 use Rattle.ipmi_bus.specs.Seen.{Seen, IsQuiet, StaysHonest}
 use Rattle.ipmi_bus.specs.Answers.{CountsPiece, BytesAnswers}
 use Rattle.ipmi_bus.specs.FruRetrieval.{SameInventory, HasRead, FruSince, FruEnds, HasSize, calls_left}
-use Rattle.ipmi_bus.specs.Readers.{InventoryIs, inventory_len}
+use Rattle.ipmi_bus.specs.Readers.{InventoryCounts, InventoryIs, inventory_len}
+use Rattle.ipmi_bus.specs.Tries.{WithinTries}
 use Rattle.ipmi_bus.specs.Bounds.{digits, fru_call_bound}
 use Rattle.ipmi_bus.proofs.SinceLemmas.{stays_trans}
 use Rattle.ipmi_bus.proofs.PartLemmas.{with_piece}
@@ -40,11 +41,13 @@ module _ (old r : FruRetrieval) (s s' s'' : Seen) (asked got : ℕ) (len : lengt
   counted true counts = (counts.troubles, counts.refusals, counts.last_code)
   counted false counts = (counts.troubles, counts.refusals, counts.last_code)
 
-  read_more : s''.stores_added ≡ s.stores_added → HasRead (taken old r got) s s''
+  counts_now : (s''.troubles ≡ s'.troubles) × (s''.refusals ≡ s'.refusals) × (s''.last_code ≡ s'.last_code)
+  counts_now = counted _ gave.gives.2.counts
+
+  read_more : s''.stores_added ≡ s.stores_added → HasRead (taken old r got) s
   read_more same =
       let before = since.read (first same) in
       let piece = gave.gives.2.piece in
-      let counts = counted _ gave.gives.2.counts in
       record {
         whole = before.whole;
         found = before.found;
@@ -52,10 +55,11 @@ module _ (old r : FruRetrieval) (s s' s'' : Seen) (asked got : ℕ) (len : lengt
         bytes = ap (take (old.have + got)) refl
             ∙ with_piece old.have got asked old.bytes.items r.bytes.items before.whole piece.fits front before.bytes
             (piece.bytes ∙ ap (λ (l : List ℕ). take got (drop old.have l)) (whole_is same));
-        troubles = counts.0 ∙ before.troubles;
-        refusals = counts.1 ∙ before.refusals;
-        last_code = counts.2 ∙ before.last_code;
       }
+
+  fresh_most : (flag : Bool) → CountsPiece flag s' s'' → s''.fresh_troubles ≤ s.fresh_troubles + old.troubles
+  fresh_most true counts = omega (arith, counts.fresh_troubles)
+  fresh_most false counts = omega (arith, counts.fresh_troubles, since.fresh_most more)
 
   fresh_more : s''.stores_added ≡ s.stores_added → old.have + got < length r.bytes.items → s''.fresh_troubles ≡ s.fresh_troubles + old.troubles
   fresh_more same left =
@@ -70,6 +74,11 @@ module _ (old r : FruRetrieval) (s s' s'' : Seen) (asked got : ℕ) (len : lengt
   part_taken = record {
     stays = stays_trans s s' s'' since.stays gave.change.stays;
     read = read_more;
+    troubles = counts_now.0 ∙ since.troubles;
+    refusals = counts_now.1 ∙ since.refusals;
+    last_code = counts_now.2 ∙ since.last_code;
+    fresh_most = λ left. fresh_most _ gave.gives.2.counts;
+    found = λ all. subst IsSome (sym gave.gives.1) refl;
     fresh = fresh_more;
     plain = λ p.
         let before = since.plain p in
@@ -94,10 +103,12 @@ since_size id size s s' r has id_is troubles none len = record {
     found = ap (inventory_of r.id) (sym (has.stays.store.stays same)) ∙ ap (λ (n : ℕ). inventory_of n s'.store) id_is ∙ has.found.1;
     size = has.found.2 ∙ sym len;
     bytes = ap (λ n. take n r.bytes.items) none ∙ sym (ap (λ n. take n has.found.0) none);
-    troubles = has.troubles_are ∙ ap (λ n. s.troubles + n) (sym troubles);
-    refusals = has.refusals;
-    last_code = has.last_code;
   };
+  troubles = has.troubles_are ∙ ap (λ n. s.troubles + n) (sym troubles);
+  refusals = has.refusals;
+  last_code = has.last_code;
+  fresh_most = λ more. omega (arith, has.fresh_troubles (omega (arith, none, len)), troubles);
+  found = λ all. subst (λ (n : ℕ). IsSome (inventory_of n s'.store)) (sym id_is) (subst IsSome (sym has.found.1) refl);
   fresh = λ same more. has.fresh_troubles (omega (arith, none, len)) ∙ ap (λ n. s.fresh_troubles + n) (sym troubles);
   plain = λ p. (troubles ∙ (has.plain p).0, (has.plain p).1);
 }
@@ -116,12 +127,20 @@ bound_is id tries size s s' s'' r has stays troubles tries_are none len few begu
     let first : s'.stores_added ≡ s.stores_added = omega (arith, has.stays.store.grows, stays.store.grows) in
     omega (arith, len_is id size s s' has first, digits_most r.part, none)
 
+-- no more troubles came than the tries
+within_tries : (tries : ℕ) (s s' : Seen) (r : FruRetrieval) → FruSince r s s' → r.tries ≡ tries → r.troubles ≤ r.tries → WithinTries tries s s'
+within_tries tries s s' r since tries_are few = record { grows = omega (arith, since.troubles); troubles = omega (arith, since.troubles, few, tries_are); refusals = since.refusals; last_code = since.last_code }
+
 -- all bytes are there
+pub inventory_counted : (id tries : ℕ) (s s' : Seen) (r : FruRetrieval) → FruSince r s s' → r.id ≡ id → r.tries ≡ tries → r.troubles ≤ r.tries → r.have ≡ length r.bytes.items → InventoryCounts id tries s s' (Ok r.bytes.items)
+inventory_counted id tries s s' r since id_is tries_are few all =
+    (within_tries tries s s' r since tries_are few, subst (λ (n : ℕ). IsSome (inventory_of n s'.store)) id_is (since.found all))
+
 pub inventory_read : (id tries : ℕ) (s s' : Seen) (r : FruRetrieval) → FruSince r s s' → r.id ≡ id → r.tries ≡ tries → r.troubles ≤ r.tries → r.have ≡ length r.bytes.items → s'.stores_added ≡ s.stores_added → InventoryIs id tries s s' (Ok r.bytes.items)
 inventory_read id tries s s' r since id_is tries_are few all same =
     let read = since.read same in
     let bytes : r.bytes.items ≡ read.whole =
     sym (take-length r.bytes.items) ∙ ap (λ n. take n r.bytes.items) (sym all) ∙ read.bytes ∙ ap (λ n. take n read.whole) (all ∙ sym read.size) ∙ take-length read.whole in (
-      record { grows = omega (arith, read.troubles); troubles = omega (arith, read.troubles, few, tries_are); refusals = read.refusals; last_code = read.last_code },
+      within_tries tries s s' r since tries_are few,
       ap (λ (n : ℕ). inventory_of n s.store) (sym id_is) ∙ read.found ∙ ap Some (sym bytes),
     )

@@ -1,12 +1,12 @@
 -- An inventory that is being read in parts: what is there so far, and what one call may leave of it.
-use Rattle.std.specs.Prelude.{◌≡◌, ℕ, ◌+◌, ◌-◌, ◌<◌, ◌≤◌, IsTrue, Some, Result, Ok, Err, List, length, take}
+use Rattle.std.specs.Prelude.{◌≡◌, ℕ, ◌+◌, ◌-◌, ◌<◌, ◌≤◌, IsTrue, Some, IsSome, Result, Ok, Err, List, length, take}
 use Rattle.ipmi_bus.specs.declared.inventory.FruRetrieval.{FruRetrieval}
 use Rattle.ipmi_bus.specs.declared.inventory.Size.{Size}
 use Rattle.ipmi_bus.specs.declared.inventory.FruEnded.{FruEnded}
 use Rattle.ipmi_bus.specs.declared.inventory.FruEnded.TheVariants.{GaveUp}
 use Rattle.ipmi_bus.specs.Store.{inventory_of}
 use Rattle.ipmi_bus.specs.Seen.{Seen, StaysHonest}
-use Rattle.ipmi_bus.specs.Readers.{KeepsReservations, InventoryIs, PlainMayAnswer}
+use Rattle.ipmi_bus.specs.Readers.{KeepsReservations, InventoryCounts, InventoryIs, PlainMayAnswer}
 use Rattle.ipmi_bus.specs.Bounds.{digits}
 
 -- an inventory of which some bytes are there
@@ -44,26 +44,30 @@ abbrev pub CountsTrouble : FruRetrieval → FruRetrieval → Result (Unit {0}) F
 CountsTrouble old new (Ok u) = (new ≡ record old { troubles = old.troubles + 1 }) × (old.troubles < old.tries)
 CountsTrouble old new (Err ended) = (ended ≡ GaveUp) × (new ≡ old) × (old.troubles ≡ old.tries)
 
--- the bytes so far are the inventory's, the troubles that came are those that were counted, and nothing was refused or finished
-pub record HasRead (r : FruRetrieval) (s s' : Seen) : Type 0 where
+-- the bytes so far are the inventory's
+pub record HasRead (r : FruRetrieval) (s : Seen) : Type 0 where
   pub whole : List ℕ
   pub found : inventory_of r.id s.store ≡ Some whole
   pub size : length whole ≡ length r.bytes.items
   pub bytes : take r.have r.bytes.items ≡ take r.have whole
+
+-- Since the reading began, over an honest controller: the troubles that came are those that were counted, and nothing was
+-- refused. Before all bytes are there something is finished only where a store was added.
+pub record FruSince (r : FruRetrieval) (s s' : Seen) : Type 0 where
+  pub stays : StaysHonest s s'
+  pub read : s'.stores_added ≡ s.stores_added → HasRead r s
   pub troubles : s'.troubles ≡ s.troubles + r.troubles
   pub refusals : s'.refusals ≡ s.refusals
   pub last_code : s'.last_code ≡ s.last_code
-
--- since the reading began, over an honest controller
-pub record FruSince (r : FruRetrieval) (s s' : Seen) : Type 0 where
-  pub stays : StaysHonest s s'
-  pub read : s'.stores_added ≡ s.stores_added → HasRead r s s'
+  pub fresh_most : r.have < length r.bytes.items → s'.fresh_troubles ≤ s.fresh_troubles + r.troubles
+  pub found : r.have ≡ length r.bytes.items → IsSome (inventory_of r.id s'.store)
   pub fresh : s'.stores_added ≡ s.stores_added → r.have < length r.bytes.items → s'.fresh_troubles ≡ s.fresh_troubles + r.troubles
   pub plain : IsTrue s.plain → (r.troubles ≡ 0) × KeepsReservations s s'
 
 -- the reading ends without an inventory, over an honest controller
 pub record FruEnds (id tries : ℕ) (s s' : Seen) (ended : FruEnded) : Type 0 where
   pub stays : StaysHonest s s'
+  pub counts : InventoryCounts id tries s s' (Err ended)
   pub is : s'.stores_added ≡ s.stores_added → InventoryIs id tries s s' (Err ended)
   pub plain : IsTrue s.plain → PlainMayAnswer (Err ended) × KeepsReservations s s'
 

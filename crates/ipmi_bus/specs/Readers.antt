@@ -9,7 +9,7 @@ use Rattle.ipmi_bus.specs.declared.inventory.FruEnded.TheVariants as fru
 use Rattle.ipmi_bus.specs.Store.{Store, inventory_of}
 use Rattle.ipmi_bus.specs.Seen.{Seen, StaysHonest, current}
 use Rattle.ipmi_bus.specs.Bounds.{fru_call_bound}
-use Rattle.ipmi_bus.specs.Tries.{WithinTries, GivesUp, IsRefusedWith}
+use Rattle.ipmi_bus.specs.Tries.{WithinTries, GivesUp, GivesUpOverChange, IsRefusedWith}
 
 -- ---- a value: an info, a reading
 
@@ -60,6 +60,21 @@ InventoryIs id tries s s' (Err fru.GaveUp) = GivesUp tries s s'
 InventoryIs id tries s s' (Err fru.Stalled) = ⊥
 InventoryIs id tries s s' (Err fru.Words) = ⊥
 
+-- CBh is no refusal that is counted, and comes only where the store has no such inventory when the call returns
+abbrev pub IsRefusedOverChange : Bool → ℕ → ℕ → ℕ → Seen → Seen → Type 0
+IsRefusedOverChange true id tries code s s' = WithinTries tries s s' × (inventory_of id s'.store ≡ None)
+IsRefusedOverChange false id tries code s s' = IsRefusedWith tries code s s'
+
+-- what the reading counts, whatever stores are added; bytes come, and memory can fail, only where the store has such an inventory
+-- when the call returns
+abbrev pub InventoryCounts : ℕ → ℕ → Seen → Seen → Result (List ℕ) FruEnded → Type 0
+InventoryCounts id tries s s' (Ok bytes) = WithinTries tries s s' × IsSome (inventory_of id s'.store)
+InventoryCounts id tries s s' (Err fru.Memory) = WithinTries tries s s' × IsSome (inventory_of id s'.store)
+InventoryCounts id tries s s' (Err (fru.Refused code)) = IsRefusedOverChange (code.0 == 0xCB) id tries code.0 s s'
+InventoryCounts id tries s s' (Err fru.GaveUp) = GivesUpOverChange tries s s'
+InventoryCounts id tries s s' (Err fru.Stalled) = ⊥
+InventoryCounts id tries s s' (Err fru.Words) = ⊥
+
 -- over a plain controller nothing but an inventory that is not there is refused, and nothing is given up
 abbrev pub PlainMayAnswer : Result (List ℕ) FruEnded → Type 0
 PlainMayAnswer (Ok bytes) = Unit {0}
@@ -76,6 +91,7 @@ inventory_len id store = length (unwrap_or (inventory_of id store) [])
 -- the reading of an inventory, over an honest controller
 pub record ReadsInventory (id tries : ℕ) (s s' : Seen) (result : Result (List ℕ) FruEnded) : Type 0 where
   pub stays : StaysHonest s s'
+  pub counts : InventoryCounts id tries s s' result
   pub is : s'.stores_added ≡ s.stores_added → InventoryIs id tries s s' result
   pub calls : s'.stores_added ≡ s.stores_added → s'.calls ≤ s.calls + fru_call_bound tries (inventory_len id s.store)
   pub plain : IsTrue s.plain → PlainMayAnswer result × KeepsReservations s s'

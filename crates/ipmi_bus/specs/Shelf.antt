@@ -1,5 +1,6 @@
 -- The two repositories of records, SDR and SEL, as lists of rows.
-use Rattle.std.specs.Prelude.{◌≡◌, ◌≢◌, ℕ, ◌+◌, ◌*◌, ◌<◌, ◌≤◌, ◌==◌, if◌then◌else◌, Option, Some, None, List, [], ◌∷◌, length, slice_index, All}
+use Rattle.std.specs.Prelude.{◌≡◌, ◌≢◌, ℕ, ◌+◌, ◌*◌, ◌<◌, ◌≤◌, ◌==◌, if◌then◌else◌, Option, Some, None, List, [], ◌∷◌, length, slice_index}
+use Rattle.ipmi_text.specs.Bytes.{AreBytes}
 use Rattle.ipmi_bus.specs.declared.controller.Shelf.{Shelf}
 use Rattle.ipmi_bus.specs.declared.controller.Shelf.TheVariants.{Sdr, Sel}
 
@@ -27,10 +28,6 @@ len_of None = 0
 len_of (Some row) = length row.bytes
 
 -- ---- a well-formed shelf
-
--- each is a byte
-abbrev pub AreBytes : List ℕ → Type 0
-AreBytes bytes = All (λ b. b < 256) bytes
 
 -- how many bytes a whole record has: a sensor data record says in its fifth byte how many follow
 abbrev pub whole_len : Shelf → List ℕ → ℕ

@@ -1,5 +1,5 @@
 -- How many troubles and refusals a record, a reading, an info or an inventory met, by how its retrieval ended.
-use Rattle.std.specs.Prelude.{◌≡◌, ℕ, ◌+◌, ◌≤◌}
+use Rattle.std.specs.Prelude.{◌≡◌, ℕ, ◌+◌, ◌<◌, ◌≤◌}
 use Rattle.ipmi_bus.specs.Seen.{Seen}
 
 -- no more troubles than the tries, and no refusal
@@ -13,6 +13,15 @@ pub record WithinTries (tries : ℕ) (old new : Seen) : Type 0 where
 pub record GivesUp (tries : ℕ) (old new : Seen) : Type 0 where
   pub troubles : new.troubles ≡ old.troubles + tries + 1
   pub fresh_troubles : new.fresh_troubles ≡ old.fresh_troubles + tries + 1
+  pub refusals : new.refusals ≡ old.refusals
+  pub last_code : new.last_code ≡ old.last_code
+
+-- One trouble more than the tries, and no refusal. Where stores are added something may be finished between the troubles, and then
+-- fewer are fresh, but the last one is.
+pub record GivesUpOverChange (tries : ℕ) (old new : Seen) : Type 0 where
+  pub troubles : new.troubles ≡ old.troubles + tries + 1
+  pub some_fresh : 0 < new.fresh_troubles
+  pub fresh_troubles : new.fresh_troubles ≤ old.fresh_troubles + tries + 1
   pub refusals : new.refusals ≡ old.refusals
   pub last_code : new.last_code ≡ old.last_code
 

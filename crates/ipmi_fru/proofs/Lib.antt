@@ -3,3 +3,4 @@ pub mod FieldLemmas
 pub mod RecordLemmas
 pub mod UniqueLemmas
 pub mod PrintLemmas
+pub mod TextLemmas

@@ -1,7 +1,8 @@
-//! Laws of fields and records, each the contract of a function that does nothing.
+//! Laws of fields, records and texts, each the contract of a function that does nothing.
 ghost use Rattle.std.specs.Prelude.{◌≡◌, ℕ, List};
 ghost use Rattle.ipmi_fru.specs.Area.{AreaField, Spells};
 ghost use Rattle.ipmi_fru.specs.Multirecord.{MultiRecord, RecordsEnd, IsRecordList, SameList};
+ghost use Rattle.ipmi_fru.specs.Print.{IsFruText};
 
 /// Bytes spell at most one list of fields.
 pub fn one_list_of_fields()
@@ -11,4 +12,9 @@ pub fn one_list_of_fields()
 /// Bytes are at most one list of records, with one end.
 pub fn one_list_of_records()
     ensures { (bytes : List ℕ) (a b : List MultiRecord) (e f : RecordsEnd) → IsRecordList bytes a e → IsRecordList bytes b f → SameList a b e f }
+{}
+
+/// An inventory has at most one text, so what `print_fru` gives is the only one.
+pub fn one_fru_text()
+    ensures { (bytes text other : List ℕ) → IsFruText bytes text → IsFruText bytes other → text ≡ other }
 {}

@@ -9,7 +9,8 @@ use Rattle.byteorder.specs.Endian.{big_bytes}
 use Rattle.hex.specs.Hex.{encode_lower}
 use Rattle.ipmi_bus.specs.declared.controller.Shelf.{Shelf}
 use Rattle.ipmi_bus.specs.declared.controller.Shelf.TheVariants.{Sdr, Sel}
-use Rattle.ipmi_bus.specs.Shelf.{Row, AreBytes, IsRow, AllRows}
+use Rattle.ipmi_text.specs.Bytes.{AreBytes}
+use Rattle.ipmi_bus.specs.Shelf.{Row, IsRow, AllRows}
 use Rattle.ipmi_bus.specs.Store.{Store, Inventory, SensorReading, IsInventory, IsInfo, IsSensorReading, IsStore}
 use Rattle.ipmi_image.specs.declared.line.LineFault.{LineFault}
 use Rattle.ipmi_image.specs.declared.line.LineFault.TheVariants as fault

@@ -10,7 +10,8 @@ use Rattle.byteorder.specs.Endian.{big_number, big_bytes}
 use Rattle.hex.specs.Hex.{IsBytes, encode_lower, encode_with, decode_pairs, is_hex_digit, lower_digits}
 use Rattle.hex.proofs.HexLemmas.{decode_of-ok, decode_of-encode_lower, length-encode_with}
 use Rattle.ipmi_bus.specs.declared.controller.Shelf.{Shelf}
-use Rattle.ipmi_bus.specs.Shelf.{Row, AreBytes}
+use Rattle.ipmi_text.specs.Bytes.{AreBytes}
+use Rattle.ipmi_bus.specs.Shelf.{Row}
 use Rattle.ipmi_bus.specs.Store.{SensorReading}
 use Rattle.ipmi_image.specs.declared.line.LineFault.{LineFault}
 use Rattle.ipmi_image.specs.declared.line.LineFault.TheVariants as fault

@@ -5,7 +5,8 @@ use Rattle.std.proofs.lemmas.Bool.Decides.{nat_tests}
 use Rattle.std.proofs.lemmas.Option.{none-some}
 use Rattle.std.specs.Option.{unwrap_or}
 use Rattle.ipmi_bus.specs.declared.controller.Shelf.{Shelf}
-use Rattle.ipmi_bus.specs.Shelf.{Row, AreBytes, whole_len, largest_len, id_in, IsRow, AllRows, LacksId, DistinctIds, BeginsWithId, LaterHaveIds, IsShelf}
+use Rattle.ipmi_text.specs.Bytes.{AreBytes}
+use Rattle.ipmi_bus.specs.Shelf.{Row, whole_len, largest_len, id_in, IsRow, AllRows, LacksId, DistinctIds, BeginsWithId, LaterHaveIds, IsShelf}
 use Rattle.ipmi_bus.proofs.ShelfLemmas.{IsShelf-first, IsShelf-snoc}
 use Rattle.ipmi_image.specs.Line.{SavedRow}
 use Rattle.ipmi_bus.specs.Walk.{has_id}

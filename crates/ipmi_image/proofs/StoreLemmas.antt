@@ -15,7 +15,7 @@ use Rattle.std.proofs.lemmas.List.Elements.{All-cons, All-append, filter_map-app
 use Rattle.std.proofs.lemmas.List.Sums.{fold-append}
 use Rattle.ipmi_bus.specs.declared.controller.Shelf.{Shelf}
 use Rattle.ipmi_bus.specs.declared.controller.Shelf.TheVariants.{Sdr, Sel}
-use Rattle.ipmi_bus.specs.Shelf.{AreBytes}
+use Rattle.ipmi_text.specs.Bytes.{AreBytes}
 use Rattle.ipmi_bus.specs.Store.{Inventory, SensorReading, IsInventory, IsSensorReading, OtherSensor, inventory_in, reading_in}
 use Rattle.ipmi_image.specs.declared.image.Contents.{Contents}
 use Rattle.ipmi_image.specs.declared.stored.StoredRow.{StoredRow}

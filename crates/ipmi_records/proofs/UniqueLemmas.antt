@@ -1,7 +1,10 @@
 -- A record, an entry and an info have at most one text.
-use Rattle.std.proofs.Common.{◌≡◌, ◌∙◌, ℕ, Bool, true, false, Option, None, Some, ℤ, List, [], ◌∷◌, ◌++◌, ap, sym, codes, arith}
+use Rattle.std.proofs.Common.{◌≡◌, ◌∙◌, ℕ, Bool, true, false, Option, None, Some, ℤ, List, [], ◌∷◌, ◌++◌, length, slice_index, ◌<◌, inl, inr, ap, sym, codes, arith}
+use Rattle.std.proofs.lemmas.Bool.{cases_lt}
+use Rattle.std.proofs.lemmas.List.{get_or_past}
 use Rattle.std.specs.List.{concat}
 use Rattle.byteorder.specs.Numbers.{little_from-lt}
+use Rattle.ipmi_text.specs.Bytes.{AreBytes}
 use Rattle.ipmi_text.specs.FieldText.{binary_text}
 use Rattle.ipmi_text.specs.ReadingValue.{reading_value}
 use Rattle.ipmi_text.specs.Times.{IsUtcTextOf}
@@ -15,7 +18,7 @@ use Rattle.ipmi_records.specs.declared.sdr.SdrView.TheVariants as record_view
 use Rattle.ipmi_records.specs.declared.sel.SelView.{SelView}
 use Rattle.ipmi_records.specs.declared.sel.SelView.TheVariants as entry_view
 use Rattle.ipmi_records.specs.declared.sensor.Threshold.{Threshold}
-use Rattle.ipmi_records.specs.Bytes.{AreBytes, byte_h, columns_line, hex_word, word_h}
+use Rattle.ipmi_records.specs.Bytes.{byte_h, columns_line, hex_word, word_h}
 use Rattle.ipmi_text.specs.Lines.{labelled}
 use Rattle.ipmi_records.specs.Columns.{IsAnalogColumn, IsFullColumn, IsRawText, IsReadingColumn, IsValueText, after_space, has_analog, shown_of, status_of, unit_text_in}
 use Rattle.ipmi_records.specs.Info.{AreTimeLines, IsInfoBlock, count_lines, last_addition, last_erase, support_lines}
@@ -99,9 +102,16 @@ one_sdr_block id view reading text other h k =
 
 -- ---- the event log
 
+-- what stands at a place is a byte; past the end it is 0
+below_256 : (bytes : List ℕ) → AreBytes bytes → (k : ℕ) → slice_index bytes k < 256
+below_256 bytes are k = elim (cases_lt k (length bytes)) [
+  | inl within ↦ are k 0 within
+  | inr past ↦ let none = get_or_past bytes k 0 past in omega (arith, none)
+]
+
 one_time : (bytes : List ℕ) (text other : List ℕ) → AreBytes bytes → IsUtcTextOf (time_stamp bytes) text → IsUtcTextOf (time_stamp bytes) other → text ≡ other
 one_time bytes text other are h k =
-    let bound = little_from-lt 3 4 bytes are in
+    let bound = little_from-lt 3 4 bytes (below_256 bytes are) in
     one_utc_text (time_stamp bytes) text other (omega (arith, bound)) h k
 
 pub one_sel_line : (id : ℕ) (view : SelView) (text other : List ℕ) → AreBytes (entry_bytes view) → IsSelLine id view text → IsSelLine id view other → text ≡ other
@@ -142,8 +152,8 @@ one_sel_block id view text other are h k =
 
 one_times : (bytes text other : List ℕ) → AreBytes bytes → AreTimeLines bytes text → AreTimeLines bytes other → text ≡ other
 one_times bytes text other are h k =
-    let addition_bound = little_from-lt 5 4 bytes are in
-    let erase_bound = little_from-lt 9 4 bytes are in
+    let addition_bound = little_from-lt 5 4 bytes (below_256 bytes are) in
+    let erase_bound = little_from-lt 9 4 bytes (below_256 bytes are) in
     h.text_is
     ∙ ap (λ (t : List ℕ). concat (labelled (codes "Last Addition") t ∷ labelled (codes "Last Erase") h.erase ∷ [])) (one_utc_text (last_addition bytes) h.addition k.addition (omega (arith, addition_bound)) h.is_addition k.is_addition)
     ∙ ap (λ (t : List ℕ). concat (labelled (codes "Last Addition") k.addition ∷ labelled (codes "Last Erase") t ∷ [])) (one_utc_text (last_erase bytes) h.erase k.erase (omega (arith, erase_bound)) h.is_erase k.is_erase)

@@ -1,13 +1,9 @@
 -- How records are read and printed alike: bytes counted from 1, as the standard's tables count them, bits counted from 0, hex
 -- digits of a fixed number, and lines.
-use Rattle.std.specs.Prelude.{ℕ, ◌<◌, ◌-◌, ◌*◌, ◌/◌, ◌%◌, ◌^◌, ◌==◌, nat_lt, Bool, true, if◌then◌else◌, ℤ, pos, ◌-ℤ◌, List, [], ◌∷◌, ◌++◌, slice_index, replicate, codes}
+use Rattle.std.specs.Prelude.{ℕ, ◌-◌, ◌*◌, ◌/◌, ◌%◌, ◌^◌, ◌==◌, nat_lt, Bool, true, if◌then◌else◌, ℤ, pos, ◌-ℤ◌, List, [], ◌∷◌, ◌++◌, slice_index, replicate, codes}
 use Rattle.std.specs.Fmt.{char_count, digit_glyph}
 use Rattle.byteorder.specs.Endian.{little_from}
 use Rattle.ipmi_text.specs.Hex.{hex_byte}
-
--- each item is a byte
-abbrev pub AreBytes : List ℕ → Type 0
-AreBytes bytes = (k : ℕ) → slice_index bytes k < 256
 
 -- byte n
 abbrev pub byte_at : ℕ → List ℕ → ℕ

@@ -1,9 +1,9 @@
 //! What follows from the definitions of lines and blocks alone, whatever wrote them.
 ghost use Rattle.std.specs.Prelude.{◌≡◌, ℕ, List, Option};
+ghost use Rattle.ipmi_text.specs.Bytes.{AreBytes};
 ghost use Rattle.ipmi_text.specs.declared.reading.Reading.{Reading};
 ghost use Rattle.ipmi_records.specs.declared.sdr.SdrView.{SdrView};
 ghost use Rattle.ipmi_records.specs.declared.sel.SelView.{SelView};
-ghost use Rattle.ipmi_records.specs.Bytes.{AreBytes};
 ghost use Rattle.ipmi_records.specs.Info.{IsInfoBlock};
 ghost use Rattle.ipmi_records.specs.SdrText.{IsExtendedLine, IsSdrBlock, IsSdrLine};
 ghost use Rattle.ipmi_records.specs.Sel.{entry_bytes};

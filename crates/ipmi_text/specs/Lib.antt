@@ -1,3 +1,4 @@
+pub mod Bytes
 pub mod Chassis
 pub mod Decimal
 pub mod Events

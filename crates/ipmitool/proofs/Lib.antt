@@ -1,10 +1,13 @@
 pub mod ArgumentLemmas
+pub mod AskLemmas
+pub mod CallLemmas
 pub mod CommandLemmas
 pub mod HexLemmas
-pub mod CallLemmas
+pub mod ItemLemmas
 pub mod ListingLemmas
 pub mod MessageLemmas
 pub mod NumberLemmas
 pub mod PageLemmas
 pub mod PagesLaw
 pub mod PlanLemmas
+pub mod UniqueLemmas

@@ -1,55 +1,59 @@
--- Pages of a listing, and that they are one listing.
-use Rattle.std.proofs.Common.{◌≡◌, ◌⊎◌, inl, inr, ℕ, zero, suc, ◌+◌, ◌*◌, ◌<◌, ◌≤◌, ◌==◌, nat_le, nat_lt, Bool, true, false, cond, Option, None, Some, Ok, Err, List, [], ◌∷◌, ◌++◌, length, take, refl, sym, ap, subst, ◌∙◌, append-nil, arith}
+-- Pages of a listing.
+use Rattle.std.proofs.Common.{◌≡◌, ◌⊎◌, inl, inr, ℕ, zero, suc, ◌+◌, ◌*◌, ◌<◌, ◌≤◌, ◌==◌, nat_le, nat_lt, Bool, true, false, cond, Option, None, Some, Ok, Err, List, [], ◌∷◌, length, take, refl, sym, ap, subst, ◌∙◌, arith}
 use Rattle.std.proofs.lemmas.Bool.{ltb-false}
+use Rattle.std.proofs.Math.Seq.{take-nil}
 use Rattle.std.proofs.lemmas.List.{take_all, length-take-le}
-use Rattle.ipmi_bus.specs.Bounds.{step_call_bound, digits}
-use Rattle.ipmi_bus.specs.declared.controller.Shelf.{Shelf}
-use Rattle.ipmi_bus.specs.declared.controller.Shelf.TheVariants.{Sdr}
 use Rattle.ipmi_bus.specs.declared.step.Place.{Place}
 use Rattle.ipmi_bus.specs.declared.step.Place.TheVariants.{First, Id, End}
 use Rattle.ipmi_bus.specs.declared.step.Ended.{Ended}
 use Rattle.ipmi_bus.specs.declared.step.Ended.TheVariants.{Cycle}
-use Rattle.ipmi_bus.specs.Shelf.{Row, largest_len}
-use Rattle.ipmi_bus.specs.Store.{rows_of}
+use Rattle.ipmi_bus.specs.Shelf.{Row}
+use Rattle.ipmi_bus.specs.Store.{Store, rows_of}
 use Rattle.ipmi_bus.specs.Walk.{row_at, IsWalk, WalkEnd, Done, CycleAt, MissingAt, EndsBy, place_after_rows}
-use Rattle.ipmi_bus.specs.Seen.{Seen, IsHonest, StaysHonest}
+use Rattle.ipmi_bus.specs.Seen.{Seen, IsHonest}
 use Rattle.ipmi_bus.specs.CursorState.{CursorState, start_of}
 use Rattle.ipmi_bus.specs.Standing.{StandsAt}
+use Rattle.ipmi_bus.proofs.SinceLemmas.{stays_refl}
+use Rattle.ipmitool.specs.declared.command.Task.{Task}
 use Rattle.ipmitool.specs.declared.listing.Stop.{Stop}
 use Rattle.ipmitool.specs.declared.listing.Stop.TheVariants as stop
-use Rattle.ipmitool.specs.Listing.{lines_of, first_rows, first_end, IsWithin, Counts, IsUnrefused, walk_call_bound, most_calls, IsListing, ListingCalls}
+use Rattle.ipmitool.specs.Listing.{first_rows, first_end, most_for_one, most_calls, IsListing, ListingCalls}
 use Rattle.ipmitool.specs.Pages.{start_at, wants_none, GoesOn, PageAlong, IsPage, IsStopped, ArePages, pages_made}
+use Rattle.ipmitool.specs.Plan.{WalkEnds, row_items, Printed, shelf_of}
+use Rattle.ipmitool.specs.Plan as plan
 use Rattle.ipmitool.proofs.CallLemmas.{digits_most}
+use Rattle.ipmitool.proofs.ItemLemmas.{none_printed}
 use Rattle.ipmitool.proofs.ListingLemmas.{limit_end}
 
--- ---- nothing happened
-
-pub still : (s : Seen) → IsHonest s → StaysHonest s s
-still s honest = record { honest = honest; plain = λ p. p; store = record { grows = omega arith; stays = λ same. refl }; plain_store = λ p. refl }
-
-unrefused : (s : Seen) → IsUnrefused s s
-unrefused s = record { refusals = refl; troubles = omega arith }
+-- ---- nothing was written
 
 no_first : (most : Option ℕ) → first_rows most [] ≡ []
 no_first None = refl
-no_first (Some zero) = refl
-no_first (Some (suc n)) = refl
+no_first (Some n) = take-nil n
 
-no_lines : (most : Option ℕ) (t : List ℕ) → t ≡ t ++ lines_of (first_rows most [])
-no_lines most t = sym (append-nil t) ∙ ap (λ (l : List Row). t ++ lines_of l) (sym (no_first most))
+-- of no row nothing is printed
+empty_printed : (t : Task) (store : Store) (most : Option ℕ) (start : Place) (text : List ℕ) → Printed t store (row_items t start (first_rows most [])) text text
+empty_printed t store most start text = subst (λ (l : List Row). Printed t store (row_items t start l) text text) (sym (no_first most)) (none_printed t store text)
 
 -- a page of no record
-pub page_of_none : (start : Place) (tries : ℕ) (s : Seen) (t : List ℕ) → IsHonest s → IsPage (Some 0) start start tries s s t t stop.Done
-page_of_none start tries s t honest = record {
-  stays = still s honest;
-  counts = unrefused s;
+pub page_of_none : (t : Task) (start : Place) (tries : ℕ) (s : Seen) (text : List ℕ) → IsHonest s → IsPage t (Some 0) start start tries s s text text stop.Done
+page_of_none t start tries s text honest = record {
+  outcome = plan.Finished (WalkEnds Done);
+  outcome_is = refl;
+  stays = stays_refl s honest;
+  counts = refl;
+  grows = omega arith;
   none = λ zero_. refl;
-  along = λ same walk end w ends. record { leaves = (sym (append-nil t), limit_end 0 walk end (omega arith)); calls = omega arith; goes_on = λ done. inl refl };
+  along = λ same walk end w ends. record {
+    leaves = (none_printed t s.store text, sym (ap WalkEnds (limit_end 0 walk end (omega arith))));
+    calls = omega arith;
+    goes_on = λ done. inl refl;
+  };
   plain = λ p. tt;
 }
 
 -- no walk goes from where no row is
-no_walk : (rows : List Row) (start : Place) (walk : List Row) → row_at start rows ≡ None → IsWalk rows start walk → walk ≡ []
+pub no_walk : (rows : List Row) (start : Place) (walk : List Row) → row_at start rows ≡ None → IsWalk rows start walk → walk ≡ []
 no_walk rows start [] none w = refl
 no_walk rows start (row ∷ walk) none w = let h = sym none ∙ w.first in cc h
 
@@ -72,18 +76,25 @@ end_of_none (Some (suc n)) end some = let e : nat_le (suc n) 0 ≡ false = searc
 pub some_wanted : (most : Option ℕ) → wants_none most ≡ false → most ≡ Some 0 → ⊥
 some_wanted most some none = let h = sym (ap wants_none none) ∙ some in cc h
 
+pub none_wanted : (most : Option ℕ) → wants_none most ≡ true → most ≡ Some 0
+none_wanted None none = cc none
+none_wanted (Some n) none = let zero_ : n ≡ 0 = search arith in ap Some zero_
+
 -- a page at the end
-pub page_at_end : (most : Option ℕ) (tries : ℕ) (s : Seen) (t : List ℕ) → IsHonest s → IsPage most End End tries s s t t stop.Done
-page_at_end most tries s t honest = record {
-  stays = still s honest;
-  counts = unrefused s;
+pub page_at_end : (t : Task) (most : Option ℕ) (tries : ℕ) (s : Seen) (text : List ℕ) → IsHonest s → IsPage t most End End tries s s text text stop.Done
+page_at_end t most tries s text honest = record {
+  outcome = plan.Finished (WalkEnds Done);
+  outcome_is = refl;
+  stays = stays_refl s honest;
+  counts = refl;
+  grows = omega arith;
   none = λ zero_. refl;
   along = λ same walk end w ends.
-      let empty = no_walk (rows_of Sdr s.store) End walk refl w in
-      let done = done_there (rows_of Sdr s.store) end (subst (λ (l : List Row). EndsBy (rows_of Sdr s.store) End l end) empty ends) in
-      subst (λ (l : List Row). PageAlong (rows_of Sdr s.store) most End l end End tries s s t t stop.Done) (sym empty)
-      (subst (λ (e : WalkEnd). PageAlong (rows_of Sdr s.store) most End [] e End tries s s t t stop.Done) (sym done)
-      (record { leaves = (no_lines most t, end_done most); calls = omega arith; goes_on = λ d. inl (ap (place_after_rows End) (sym (no_first most))) }));
+      let empty = no_walk (rows_of (shelf_of t) s.store) End walk refl w in
+      let done = done_there (rows_of (shelf_of t) s.store) end (subst (λ (l : List Row). EndsBy (rows_of (shelf_of t) s.store) End l end) empty ends) in
+      subst (λ (l : List Row). PageAlong t s.store most End l end End tries s s text text (plan.Finished (WalkEnds Done)) stop.Done) (sym empty)
+      (subst (λ (e : WalkEnd). PageAlong t s.store most End [] e End tries s s text text (plan.Finished (WalkEnds Done)) stop.Done) (sym done)
+      (record { leaves = (empty_printed t s.store most End text, sym (ap WalkEnds (end_done most))); calls = omega arith; goes_on = λ d. inl (ap (place_after_rows End) (sym (no_first most))) }));
   plain = λ p. tt;
 }
   where
@@ -96,47 +107,49 @@ page_at_end most tries s t honest = record {
         by_case false = refl
 
 -- a page at the id 0000h
-pub page_at_zero : (most : Option ℕ) (tries : ℕ) (s : Seen) (t : List ℕ) → (most ≡ Some 0 → ⊥) → IsHonest s → IsPage most (Id 0) (Id 0) tries s s t t (stop.Ended (Cycle 0))
-page_at_zero most tries s t some honest = record {
-  stays = still s honest;
-  counts = unrefused s;
+pub page_at_zero : (t : Task) (most : Option ℕ) (tries : ℕ) (s : Seen) (text : List ℕ) → (most ≡ Some 0 → ⊥) → IsHonest s → IsPage t most (Id 0) (Id 0) tries s s text text (stop.Ended (Cycle 0))
+page_at_zero t most tries s text some honest = record {
+  outcome = plan.Finished (WalkEnds (CycleAt 0));
+  outcome_is = refl;
+  stays = stays_refl s honest;
+  counts = refl;
+  grows = omega arith;
   none = λ zero_. refl;
   along = λ same walk end w ends.
-      let empty = no_walk (rows_of Sdr s.store) (Id 0) walk refl w in
-      let cycle = cycle_there (rows_of Sdr s.store) end (subst (λ (l : List Row). EndsBy (rows_of Sdr s.store) (Id 0) l end) empty ends) in
-      subst (λ (l : List Row). PageAlong (rows_of Sdr s.store) most (Id 0) l end (Id 0) tries s s t t (stop.Ended (Cycle 0))) (sym empty)
-      (subst (λ (e : WalkEnd). PageAlong (rows_of Sdr s.store) most (Id 0) [] e (Id 0) tries s s t t (stop.Ended (Cycle 0))) (sym cycle)
-      (record { leaves = (no_lines most t, end_of_none most (CycleAt 0) some); calls = omega arith; goes_on = λ d. cc d }));
+      let empty = no_walk (rows_of (shelf_of t) s.store) (Id 0) walk refl w in
+      let cycle = cycle_there (rows_of (shelf_of t) s.store) end (subst (λ (l : List Row). EndsBy (rows_of (shelf_of t) s.store) (Id 0) l end) empty ends) in
+      subst (λ (l : List Row). PageAlong t s.store most (Id 0) l end (Id 0) tries s s text text (plan.Finished (WalkEnds (CycleAt 0))) (stop.Ended (Cycle 0))) (sym empty)
+      (subst (λ (e : WalkEnd). PageAlong t s.store most (Id 0) [] e (Id 0) tries s s text text (plan.Finished (WalkEnds (CycleAt 0))) (stop.Ended (Cycle 0))) (sym cycle)
+      (record { leaves = (empty_printed t s.store most (Id 0) text, sym (ap WalkEnds (end_of_none most (CycleAt 0) some))); calls = omega arith; goes_on = λ d. cc d }));
   plain = λ p. tt;
 }
 
 -- a page where no cursor is needed
-pub page_without : (most : Option ℕ) (place : Place) (tries : ℕ) (s : Seen) (t : List ℕ) (st : Stop) → (most ≡ Some 0 → ⊥) → start_at place ≡ Err st → IsHonest s → IsPage most place place tries s s t t st
-page_without most First tries s t st some at honest = cc at
-page_without most (Id n) tries s t st some at honest = by_case (n == 0) refl
+pub page_without : (t : Task) (most : Option ℕ) (place : Place) (tries : ℕ) (s : Seen) (text : List ℕ) (st : Stop) → (most ≡ Some 0 → ⊥) → start_at place ≡ Err st → IsHonest s → IsPage t most place place tries s s text text st
+page_without t most First tries s text st some at honest = cc at
+page_without t most (Id n) tries s text st some at honest = by_case (n == 0) refl
   where
-    by_case : (b : Bool) → (n == 0) ≡ b → IsPage most (Id n) (Id n) tries s s t t st
+    by_case : (b : Bool) → (n == 0) ≡ b → IsPage t most (Id n) (Id n) tries s s text text st
     by_case true e =
         let h = sym (ap (λ (b : Bool). cond b (Err (stop.Ended (Cycle 0))) (Ok (Some n))) e) ∙ at in
         let is : stop.Ended (Cycle 0) ≡ st = cc h in
         let none : n ≡ 0 = search arith in
-        subst (λ (x : Stop). IsPage most (Id n) (Id n) tries s s t t x) is (subst (λ (m : ℕ). IsPage most (Id m) (Id m) tries s s t t (stop.Ended (Cycle 0))) (sym none) (page_at_zero most tries s t some honest))
+        subst (λ (x : Stop). IsPage t most (Id n) (Id n) tries s s text text x) is (subst (λ (m : ℕ). IsPage t most (Id m) (Id m) tries s s text text (stop.Ended (Cycle 0))) (sym none) (page_at_zero t most tries s text some honest))
     by_case false e = let h = sym (ap (λ (b : Bool). cond b (Err (stop.Ended (Cycle 0))) (Ok (Some n))) e) ∙ at in cc h
-page_without most End tries s t st some at honest = let is : stop.Done ≡ st = cc at in subst (λ (x : Stop). IsPage most End End tries s s t t x) is (page_at_end most tries s t honest)
+page_without t most End tries s text st some at honest = let is : stop.Done ≡ st = cc at in subst (λ (x : Stop). IsPage t most End End tries s s text text x) is (page_at_end t most tries s text honest)
 
 -- a page for whose cursor no memory was left
-pub page_without_memory : (most : Option ℕ) (place : Place) (tries : ℕ) (s : Seen) (t : List ℕ) → IsHonest s → IsPage most place place tries s s t t stop.Memory
-page_without_memory most place tries s t honest = record {
-  stays = still s honest;
-  counts = unrefused s;
+pub page_without_memory : (t : Task) (most : Option ℕ) (place : Place) (tries : ℕ) (s : Seen) (text : List ℕ) → IsHonest s → IsPage t most place place tries s s text text stop.Memory
+page_without_memory t most place tries s text honest = record {
+  outcome = plan.OutOfMemory;
+  outcome_is = refl;
+  stays = stays_refl s honest;
+  counts = refl;
+  grows = omega arith;
   none = λ zero_. refl;
-  along = λ same walk end w ends. record { leaves = record { count = 0; wanted = within most; text = sym (append-nil t) }; calls = omega arith; goes_on = λ d. cc d };
+  along = λ same walk end w ends. record { leaves = record { done = []; rest = row_items t place (first_rows most walk); items_are = refl; printed = none_printed t s.store text }; calls = omega arith; goes_on = λ d. cc d };
   plain = λ p. tt;
 }
-  where
-    within : (o : Option ℕ) → IsWithin o 0
-    within None = tt
-    within (Some n) = omega arith
 
 -- ---- a page by a cursor
 
@@ -167,49 +180,47 @@ first_taken (Some n) walk = by_case (nat_lt n (length walk)) refl
         let all = take_all n walk past in
         ap (λ (l : List Row). take (length l) walk) all ∙ take_all (length walk) walk (omega arith) ∙ sym all
 
-pub page_by_cursor : (most : Option ℕ) (place : Place) (tries : ℕ) (begun now : CursorState) (s s' : Seen) (t t' : List ℕ) (result : Stop) → (most ≡ Some 0 → ⊥) → begun.shelf ≡ Sdr → begun.tries ≡ tries → begun.reservation ≡ None → 0 < begun.part
-    → ((rows walk : List Row) → StandsAt rows place walk 0 begun) → IsListing most begun now s s' t t' result → IsPage most place now.place tries s s' t t' result
-page_by_cursor most place tries begun now s s' t t' result some shelf same_tries none part stands listing = record {
+pub page_by_cursor : (t : Task) (most : Option ℕ) (place : Place) (tries : ℕ) (begun now : CursorState) (s s' : Seen) (text text' : List ℕ) (result : Stop) → (most ≡ Some 0 → ⊥) → begun.reservation ≡ None → 0 < begun.part
+    → ((rows walk : List Row) → StandsAt rows place walk 0 begun) → IsListing t tries most begun now s s' text text' result → IsPage t most place now.place tries s s' text text' result
+page_by_cursor t most place tries begun now s s' text text' result some none part stands listing = record {
+  outcome = listing.outcome;
+  outcome_is = listing.outcome_is;
   stays = listing.stays;
-  counts = subst (λ (n : ℕ). Counts n s s' result) same_tries listing.counts;
+  counts = listing.counts;
+  grows = listing.grows;
   none = λ zero_. absurd (some zero_);
-  along = λ same walk end.
-      subst (λ (x : Shelf). IsWalk (rows_of x s.store) place walk → EndsBy (rows_of x s.store) place walk end → PageAlong (rows_of x s.store) most place walk end now.place tries s s' t t' result) shelf
-      (λ w ends.
-      let along = listing.along same place walk end w ends (stands (rows_of begun.shelf s.store) walk) in
+  along = λ same walk end w ends.
+      let along = listing.along same place walk end w ends (stands (rows_of (shelf_of t) s.store) walk) in
       let calls = along.calls part in
       let eight = digits_most begun.part in
       record {
         leaves = along.leaves;
-        calls = subst (λ (n : ℕ). s'.calls ≤ s.calls + walk_call_bound n (first_rows most walk)) same_tries (omega (arith, calls, eight));
-        goes_on = λ done. goes_on_there (rows_of begun.shelf s.store) place most walk now (along.goes_on done) (first_taken most walk);
-      });
+        calls = omega (arith, calls, eight);
+        goes_on = λ done. goes_on_there (rows_of (shelf_of t) s.store) place most walk now (along.goes_on done) (first_taken most walk);
+      };
   plain = λ p. listing.plain p (record { held = λ n held. let h = sym none ∙ held in cc h });
 }
 
 -- over any controller
-pub page_calls : (tries : ℕ) (begun now : CursorState) (s s' : Seen) → begun.shelf ≡ Sdr → begun.tries ≡ tries → 0 < begun.part → ListingCalls begun now s s' → s'.calls ≤ s.calls + most_calls tries 256
-page_calls tries begun now s s' shelf same_tries part listing =
-    subst (λ (n : ℕ). s'.calls ≤ s.calls + most_calls n 256) same_tries
-    (subst (λ (x : Shelf). s'.calls + 1 ≤ s.calls + 65536 * step_call_bound begun.tries (largest_len x) + digits begun.part → s'.calls ≤ s.calls + most_calls begun.tries 256) (sym shelf)
-    (λ calls. let eight = digits_most begun.part in omega (arith, calls, eight)) (listing.calls part))
+pub page_calls : (t : Task) (tries : ℕ) (begun now : CursorState) (s s' : Seen) → 0 < begun.part → ListingCalls (most_for_one t tries) begun now s s' → s'.calls ≤ s.calls + most_calls t tries
+page_calls t tries begun now s s' part listing = let eight = digits_most begun.part in let calls = listing.calls part in omega (arith, calls, eight)
 
 -- ---- pages, one after another
 
 -- what the pages that are left do is what all of them do
-abbrev pub LeadsTo : List ℕ → List ℕ → Place → Place → ℕ → Seen → Seen → List ℕ → List ℕ → Type 0
-LeadsTo all left start now tries s s' old t = (s'' : Seen) (new : List ℕ) (result : Stop) → ArePages left now tries s' s'' t new result → ArePages all start tries s s'' old new result
+abbrev pub LeadsTo : Task → List ℕ → List ℕ → Place → Place → ℕ → Seen → Seen → List ℕ → List ℕ → Type 0
+LeadsTo t all left start now tries s s' old text = (s'' : Seen) (new : List ℕ) (result : Stop) → ArePages t left now tries s' s'' text new result → ArePages t all start tries s s'' old new result
 
-pub page_leads : (all left : List ℕ) (size : ℕ) (start now next : Place) (tries : ℕ) (s s' s'' : Seen) (old t t' : List ℕ) → LeadsTo all (size ∷ left) start now tries s s' old t → IsPage (Some size) now next tries s' s'' t t' stop.Done
-    → LeadsTo all left start next tries s s'' old t'
-page_leads all left size start now next tries s s' s'' old t t' leads page = λ last new result rest. leads last new result (inr (record { next = next; seen = s''; text = t'; page = page; rest = rest }))
+pub page_leads : (t : Task) (all left : List ℕ) (size : ℕ) (start now next : Place) (tries : ℕ) (s s' s'' : Seen) (old text text' : List ℕ) → LeadsTo t all (size ∷ left) start now tries s s' old text → IsPage t (Some size) now next tries s' s'' text text' stop.Done
+    → LeadsTo t all left start next tries s s'' old text'
+page_leads t all left size start now next tries s s' s'' old text text' leads page = λ last new result rest. leads last new result (inr (record { next = next; seen = s''; text = text'; page = page; rest = rest }))
 
-pub last_leads : (all left : List ℕ) (size : ℕ) (start now next : Place) (tries : ℕ) (s s' s'' : Seen) (old t t' : List ℕ) (result : Stop) → LeadsTo all (size ∷ left) start now tries s s' old t → IsPage (Some size) now next tries s' s'' t t' result → IsStopped result
-    → ArePages all start tries s s'' old t' result
-last_leads all left size start now next tries s s' s'' old t t' result leads page stopped = leads s'' t' result (inl (record { next = next; page = page }, stopped))
+pub last_leads : (t : Task) (all left : List ℕ) (size : ℕ) (start now next : Place) (tries : ℕ) (s s' s'' : Seen) (old text text' : List ℕ) (result : Stop) → LeadsTo t all (size ∷ left) start now tries s s' old text → IsPage t (Some size) now next tries s' s'' text text' result → IsStopped result
+    → ArePages t all start tries s s'' old text' result
+last_leads t all left size start now next tries s s' s'' old text text' result leads page stopped = leads s'' text' result (inl (record { next = next; page = page }, stopped))
 
-pub all_lead : (all : List ℕ) (start now next : Place) (tries : ℕ) (s s' s'' : Seen) (old t t' : List ℕ) (result : Stop) → LeadsTo all [] start now tries s s' old t → IsPage None now next tries s' s'' t t' result → ArePages all start tries s s'' old t' result
-all_lead all start now next tries s s' s'' old t t' result leads page = leads s'' t' result (record { next = next; page = page })
+pub all_lead : (t : Task) (all : List ℕ) (start now next : Place) (tries : ℕ) (s s' s'' : Seen) (old text text' : List ℕ) (result : Stop) → LeadsTo t all [] start now tries s s' old text → IsPage t None now next tries s' s'' text text' result → ArePages t all start tries s s'' old text' result
+all_lead t all start now next tries s s' s'' old text text' result leads page = leads s'' text' result (record { next = next; page = page })
 
 pub stopped : (result : Stop) → ((x : Ended) × (result ≡ stop.Ended x)) ⊎ ((result ≡ stop.Memory) ⊎ (result ≡ stop.WriteFault)) → IsStopped result
 stopped result (inl ended) = subst IsStopped (sym ended.1) tt

@@ -1,4 +1,4 @@
--- The pieces that a command prints for each row, inventory and info. Their texts are those of the crates below.
+-- What a command prints for a row and for an inventory, put together from the texts of the crates below.
 use Rattle.std.specs.Prelude.{◌≡◌, ℕ, ◌==◌, ◌||◌, not, Bool, true, false, Option, Some, None, Result, Ok, Err, List, [], ◌++◌, codes}
 use Rattle.std.specs.Fmt.{decimal}
 use Rattle.std.specs.Str.{bytes_eq}
@@ -17,6 +17,8 @@ use Rattle.ipmitool.specs.declared.command.Kind.{Kind}
 use Rattle.ipmitool.specs.declared.command.Kind.TheVariants as kind
 use Rattle.ipmitool.specs.declared.command.Task.{Task}
 use Rattle.ipmitool.specs.declared.command.Task.TheVariants as task
+use Rattle.ipmitool.specs.declared.piece.Form.{Form}
+use Rattle.ipmitool.specs.declared.piece.Form.TheVariants as form
 use Rattle.ipmitool.specs.Line.{line_of}
 
 -- ---- what is chosen
@@ -55,15 +57,19 @@ reading_by store (Some key) = reading_of key.0 key.1 store
 abbrev pub reading_for : Store → SdrView → Option Reading
 reading_for store view = reading_by store (sdr.reading_of view)
 
--- the line of a record, or of its fault
-abbrev pub IsListed : Store → ℕ → Result SdrView SdrFault → List ℕ → Type 0
-IsListed store id (Ok view) text = IsSdrLine view (reading_for store view) text
-IsListed store id (Err fault) text = text ≡ fault_line id fault
+-- the line of a record with its reading, in one of its two forms
+abbrev pub IsLineOf : Form → SdrView → Option Reading → List ℕ → Type 0
+IsLineOf form.Short view reading text = IsSdrLine view reading text
+IsLineOf form.Extended view reading text = IsExtendedLine view reading text
 
--- the same, extended
-abbrev pub IsListedLong : Store → ℕ → Result SdrView SdrFault → List ℕ → Type 0
-IsListedLong store id (Ok view) text = IsExtendedLine view (reading_for store view) text
-IsListedLong store id (Err fault) text = text ≡ fault_line id fault
+-- that line, or in both forms the line of the record's fault
+abbrev pub IsListed : Form → Store → ℕ → Result SdrView SdrFault → List ℕ → Type 0
+IsListed form store id (Ok view) text = IsLineOf form view (reading_for store view) text
+IsListed form store id (Err fault) text = text ≡ fault_line id fault
+
+-- the line of a record of the kind, nothing of any other
+abbrev pub IsListedOfKind : Form → Kind → Store → Row → List ℕ → Type 0
+IsListedOfKind form kind store row text = IfChosen (row_is_of_kind kind row) (λ t. IsListed form store row.id (sdr.sdr_view_of row.bytes) t) text
 
 -- the block of a record with the name; a record with a fault has none
 abbrev pub IsBlockOfName : List ℕ → Store → ℕ → Result SdrView SdrFault → List ℕ → Type 0
@@ -107,8 +113,8 @@ IsLocatorPiece store (Err fault) text = text ≡ []
 abbrev pub IsRowPiece : Task → Store → Row → List ℕ → Type 0
 IsRowPiece (task.Fru id) store row text = IsLocatorPiece store (sdr.sdr_view_of row.bytes) text
 IsRowPiece task.Hex store row text = text ≡ line_of row
-IsRowPiece (task.List kind) store row text = IfChosen (row_is_of_kind kind row) (λ t. IsListed store row.id (sdr.sdr_view_of row.bytes) t) text
-IsRowPiece (task.Elist kind) store row text = IfChosen (row_is_of_kind kind row) (λ t. IsListedLong store row.id (sdr.sdr_view_of row.bytes) t) text
+IsRowPiece (task.List kind) store row text = IsListedOfKind form.Short kind store row text
+IsRowPiece (task.Elist kind) store row text = IsListedOfKind form.Extended kind store row text
 IsRowPiece (task.Get name) store row text = IsBlockOfName name store row.id (sdr.sdr_view_of row.bytes) text
 IsRowPiece (task.Info shelf) store row text = ⊥
 IsRowPiece (task.SelList entries) store row text = IsSelLine row.id (sel_view_of row.bytes) text

@@ -1,8 +1,8 @@
 -- What a run of a command leaves, and its exit status.
-use Rattle.std.specs.Prelude.{◌≡◌, ◌⊎◌, ℕ, ◌+◌, ◌*◌, ◌≤◌, Bool, true, false, IsTrue, Result, Ok, Err, List, [], ◌++◌, codes}
+use Rattle.std.specs.Prelude.{◌≡◌, ◌⊎◌, ℕ, ◌+◌, ◌*◌, ◌≤◌, ◌||◌, Bool, true, false, IsTrue, Result, Ok, Err, List, [], ◌++◌, codes}
 use Rattle.std.specs.Fmt.{decimal}
 use Rattle.ipmi_bus.specs.declared.step.Place.{Place}
-use Rattle.ipmi_bus.specs.declared.step.Ended.TheVariants.{Cycle, Missing, Refused, GaveUp, Stalled, Malformed}
+use Rattle.ipmi_bus.specs.declared.step.Ended.TheVariants.{Cycle, Missing, GaveUp}
 use Rattle.ipmi_bus.specs.Bounds.{step_call_bound}
 use Rattle.ipmi_bus.specs.Shelf.{Row}
 use Rattle.ipmi_bus.specs.Store.{Store, rows_of}
@@ -12,6 +12,7 @@ use Rattle.ipmi_bus.specs.Seen.{Seen, StaysHonest}
 use Rattle.ipmi_image.specs.declared.image.ImageFault.{ImageFault}
 use Rattle.ipmi_image.specs.declared.image.ImageFault.TheVariants as image_fault
 use Rattle.ipmi_records.specs.Bytes.{byte_h}
+use Rattle.ipmitool.specs.declared.command.Count.TheVariants as count
 use Rattle.ipmitool.specs.declared.command.Task.{Task}
 use Rattle.ipmitool.specs.declared.command.Task.TheVariants as task
 use Rattle.ipmitool.specs.declared.command.UsageFault.{UsageFault}
@@ -21,24 +22,26 @@ use Rattle.ipmitool.specs.declared.listing.Stop.TheVariants as stop
 use Rattle.ipmitool.specs.declared.message.Message.{Message}
 use Rattle.ipmitool.specs.declared.message.Message.TheVariants.{Usage, Image, WriteFault, OutOfMemory}
 use Rattle.ipmitool.specs.Command.{CommandState}
-use Rattle.ipmitool.specs.Listing.{calls_for, walk_call_bound}
+use Rattle.ipmitool.specs.Listing.{IsOutcome, calls_for, first_rows, most_of, walk_call_bound}
 use Rattle.ipmitool.specs.Message.{ended_text, refused_text, message_text, line_text}
 use Rattle.ipmitool.specs.Received.{Received, ReceivesText}
 use Rattle.ipmitool.specs.Pages.{ArePages, pages_made, IsOpen}
 use Rattle.ipmitool.specs.Sink.{TakesPart}
-use Rattle.ipmitool.specs.Plan.{Plan, IsPlan, IsRewritePlan, Outcome, IsAllowed, CountsSo, IsFine, shelf_of, start_by}
+use Rattle.ipmitool.specs.Plan.{plan_of, rewrite_plan, Outcome, IsAllowed, CountsSo, IsFine, shelf_of, start_by}
 use Rattle.ipmitool.specs.Plan as plan
 
 -- the tasks that can be run today
 abbrev pub is_built : Task → Bool
 is_built (task.Fru id) = false
 is_built task.Hex = true
-is_built (task.List kind) = false
-is_built (task.Elist kind) = false
+is_built (task.List kind) = true
+is_built (task.Elist kind) = true
 is_built (task.Get name) = false
 is_built (task.Info shelf) = false
-is_built (task.SelList entries) = false
-is_built (task.SelGet id) = false
+is_built (task.SelList count.All) = true
+is_built (task.SelList (count.First n)) = true
+is_built (task.SelList (count.Last n)) = false
+is_built (task.SelGet id) = true
 is_built task.Rewrite = false
 
 -- the task that writes an image again is answered, and not run
@@ -53,19 +56,11 @@ is_rewrite (task.SelList entries) = false
 is_rewrite (task.SelGet id) = false
 is_rewrite task.Rewrite = true
 
--- ---- over a controller
+-- the tasks whose answer depends on the image
+abbrev pub is_answered : Task → Bool
+is_answered t = is_rewrite t || is_built t
 
--- how a listing stopped, as an outcome of its run
-abbrev pub IsOutcome : Stop → Outcome → Type 0
-IsOutcome stop.Done outcome = outcome ≡ plan.Finished (plan.WalkEnds walk_end.Done)
-IsOutcome (stop.Ended (Cycle n)) outcome = outcome ≡ plan.Finished (plan.WalkEnds (walk_end.CycleAt n))
-IsOutcome (stop.Ended (Missing n)) outcome = outcome ≡ plan.Finished (plan.WalkEnds (walk_end.MissingAt n))
-IsOutcome (stop.Ended (GaveUp n)) outcome = outcome ≡ plan.GaveUp (plan.AtRecord n)
-IsOutcome (stop.Ended (Refused n code)) outcome = outcome ≡ plan.Refused (plan.AtRecord n) code.0
-IsOutcome (stop.Ended (Stalled n)) outcome = ⊥
-IsOutcome (stop.Ended (Malformed n)) outcome = ⊥
-IsOutcome stop.Memory outcome = outcome ≡ plan.OutOfMemory
-IsOutcome stop.WriteFault outcome = outcome ≡ plan.WriteFault
+-- ---- over a controller
 
 -- the exit status by how a listing stopped, and by the outcome of a run
 abbrev pub stop_status : Stop → ℕ
@@ -92,10 +87,11 @@ status_of (plan.Refused spot code) = 1
 status_of plan.OutOfMemory = 5
 status_of plan.WriteFault = 4
 
--- what is said of an outcome: a line, or nothing of a run that is done
+-- a message about the inventory of a device
 abbrev pub inventory_text : ℕ → List ℕ → List ℕ
 inventory_text id text = codes "fru " ++ (decimal id ++ text)
 
+-- what is said of an outcome: a line, or nothing of a run that is done
 abbrev pub outcome_text : Outcome → List ℕ
 outcome_text (plan.Finished (plan.WalkEnds walk_end.Done)) = []
 outcome_text (plan.Finished (plan.WalkEnds (walk_end.CycleAt n))) = line_text (ended_text (Cycle n))
@@ -111,14 +107,14 @@ outcome_text plan.WriteFault = line_text (message_text WriteFault)
 
 -- ---- a run
 
--- the output is allowed for the outcome by each plan of the task over a store
+-- the output is allowed for the outcome by the plan of the task over a store
 abbrev pub AllowsAll : Task → Store → Place → List ℕ → List ℕ → Outcome → Type 0
-AllowsAll t store start old new outcome = (walk : List Row) (end : WalkEnd) (p : Plan) → IsWalk (rows_of (shelf_of t) store) start walk → EndsBy (rows_of (shelf_of t) store) start walk end
-    → IsPlan t store start walk end p → IsAllowed p old new outcome
+AllowsAll t store start old new outcome = (walk : List Row) (end : WalkEnd) → IsWalk (rows_of (shelf_of t) store) start walk → EndsBy (rows_of (shelf_of t) store) start walk end
+    → IsAllowed t store (plan_of t store start walk end) old new outcome
 
--- the calls are within the bound for each walk from the start
+-- the calls are within the bound for those rows of each walk from the start that are asked for
 abbrev pub CallsWithin : Task → Store → Place → ℕ → ℕ → ℕ → Type 0
-CallsWithin t store start tries before after = (walk : List Row) (end : WalkEnd) → IsWalk (rows_of (shelf_of t) store) start walk → EndsBy (rows_of (shelf_of t) store) start walk end → after ≤ before + walk_call_bound tries walk
+CallsWithin t store start tries before after = (walk : List Row) (end : WalkEnd) → IsWalk (rows_of (shelf_of t) store) start walk → EndsBy (rows_of (shelf_of t) store) start walk end → after ≤ before + walk_call_bound t store tries (first_rows (most_of t) walk)
 
 -- over any controller a run ends as a listing may stop, and says so
 pub record EndsSo (said said' : Received) (status : ℕ) : Type 0 where
@@ -144,15 +140,15 @@ pub record IsRun (t : Task) (start : Place) (tries : ℕ) (s s' : Seen) (old new
 
 -- the same as of one run, over each walk that does not end by a cycle
 abbrev pub AllowsOpen : Task → Store → Place → List ℕ → List ℕ → Outcome → Type 0
-AllowsOpen t store start old new outcome = (walk : List Row) (end : WalkEnd) (p : Plan) → IsWalk (rows_of (shelf_of t) store) start walk → EndsBy (rows_of (shelf_of t) store) start walk end → IsOpen end
-    → IsPlan t store start walk end p → IsAllowed p old new outcome
+AllowsOpen t store start old new outcome = (walk : List Row) (end : WalkEnd) → IsWalk (rows_of (shelf_of t) store) start walk → EndsBy (rows_of (shelf_of t) store) start walk end → IsOpen end
+    → IsAllowed t store (plan_of t store start walk end) old new outcome
 
--- the calls are within the bounds for the rows of such a walk, and for each page that makes calls
+-- the calls are within the bounds for the rows of such a walk, and for each page that may make calls
 abbrev pub PagesWithin : Task → Store → List ℕ → Place → ℕ → ℕ → ℕ → Type 0
 PagesWithin t store sizes start tries before after = (walk : List Row) (end : WalkEnd) → IsWalk (rows_of (shelf_of t) store) start walk → EndsBy (rows_of (shelf_of t) store) start walk end → IsOpen end
-    → after ≤ before + calls_for tries walk + pages_made sizes * (step_call_bound tries 0 + 7)
+    → after ≤ before + calls_for t store tries walk + pages_made sizes * (step_call_bound tries 0 + 7)
 
--- a run in pages of these sizes: each page by itself is the listing from its place, of as many rows as its size, and where the
+-- a run in pages of these sizes: each page by itself is the listing from its place, of at most as many rows as its size, and where the
 -- chain does not end by a cycle all of them leave what one run may leave
 pub record IsPagedRun (t : Task) (sizes : List ℕ) (start : Place) (tries : ℕ) (s s' : Seen) (old new : List ℕ) (said said' : Received) (status : ℕ) : Type 0 where
   pub result : Stop
@@ -162,7 +158,7 @@ pub record IsPagedRun (t : Task) (sizes : List ℕ) (start : Place) (tries : ℕ
   pub message : ReceivesText said said' (outcome_text outcome)
   pub stays : StaysHonest s s'
   pub counts : CountsSo tries s s' outcome
-  pub pages : ArePages sizes start tries s s' old new result
+  pub pages : ArePages t sizes start tries s s' old new result
   pub allowed : s'.stores_added ≡ s.stores_added → AllowsOpen t s.store start old new outcome
   pub calls : s'.stores_added ≡ s.stores_added → PagesWithin t s.store sizes start tries s.calls s'.calls
   pub plain : IsTrue s.plain → IsFine outcome
@@ -177,11 +173,11 @@ pub record IsRunOverStore (t : Task) (start : Place) (store : Store) (old new : 
   pub allowed : AllowsAll t store start old new outcome
   pub fine : IsFine outcome
 
--- with a status, and a message
+-- this status is given, and this message is said
 abbrev pub Says : Received → Received → ℕ → Message → ℕ → Type 0
 Says said said' status message n = (status ≡ n) × ReceivesText said said' (line_text (message_text message))
 
--- of an image that is none: the fault, or want of memory, which may come before it
+-- of bytes that are no image: the fault, or want of memory, which may come before it
 abbrev pub fault_status : ImageFault → ℕ
 fault_status image_fault.Memory = 5
 fault_status image_fault.Header = 3
@@ -210,7 +206,7 @@ pub record IsRewriting (store : Store) (old new : List ℕ) (said said' : Receiv
   pub outcome : Outcome
   pub status_is : status ≡ status_of outcome
   pub message : ReceivesText said said' (outcome_text outcome)
-  pub allowed : (p : Plan) → IsRewritePlan store p → IsAllowed p old new outcome
+  pub allowed : IsAllowed task.Rewrite store rewrite_plan old new outcome
   pub unwritten : outcome ≡ plan.OutOfMemory → new ≡ old
   pub fine : IsFine outcome
 

@@ -1,16 +1,21 @@
-//! What follows from the definitions of plans alone.
-ghost use Rattle.std.specs.Prelude.{◌≡◌, List, true};
+//! What follows from the definitions of plans alone, each the contract of a function that does nothing.
+ghost use Rattle.std.specs.Prelude.{◌≡◌, ℕ, true, List};
 ghost use Rattle.ipmi_bus.specs.declared.step.Place.{Place};
-ghost use Rattle.ipmi_bus.specs.Shelf.{Row};
-ghost use Rattle.ipmi_bus.specs.Store.{Store};
-ghost use Rattle.ipmi_bus.specs.Walk.{WalkEnd};
+ghost use Rattle.ipmi_bus.specs.Store.{Store, IsStore};
 ghost use Rattle.ipmitool.specs.declared.command.Task.{Task};
-ghost use Rattle.ipmitool.specs.Plan.{Plan, IsPlan, IsRewritePlan};
-ghost use Rattle.ipmitool.specs.Run.{is_built};
+ghost use Rattle.ipmitool.specs.Plan.{Item, AreRowsOfBytes, RunEnd, Finished, AreTexts};
+ghost use Rattle.ipmitool.specs.Run.{is_built, AllowsAll};
 
-/// A task that can be run today has a plan over each store and along each walk, and an image written again has one over each
-/// store. So what every plan allows is no more than what one of them allows.
-pub fn built_commands_have_plans()
-    ensures run { (task : Task) → is_built task ≡ true → (store : Store) (start : Place) (walk : List Row) (end : WalkEnd) → (plan : Plan) × IsPlan task store start walk end plan }
-    ensures rewrite { (store : Store) → (plan : Plan) × IsRewritePlan store plan }
+/// The texts that a task which can be run today prints for rows are one text.
+pub fn rows_have_one_text()
+    ensures { (t : Task) (store : Store) (items : List Item) (a b : List ℕ) → is_built t ≡ true →
+        AreRowsOfBytes items → AreTexts t store items a → AreTexts t store items b → a ≡ b }
 {}
+
+/// So over a well-formed store a finished run of such a task leaves one output, and ends in one way.
+pub fn finished_runs_are_one()
+    ensures { (t : Task) (store : Store) (start : Place) (old a b : List ℕ) (e f : RunEnd) → is_built t ≡ true →
+        IsStore store → AllowsAll t store start old a (Finished e) → AllowsAll t store start old b (Finished f) → (a ≡ b) × (e ≡ f) }
+{
+    ipmi_bus::laws::one_walk_has_an_end();
+}

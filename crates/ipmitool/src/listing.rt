@@ -1,12 +1,16 @@
-//! Writes a line for each record that a cursor hands out.
-ghost use Rattle.std.specs.Prelude.{◌≡◌, ◌+◌};
+//! Writes what a command prints for each record that a cursor hands out.
+ghost use Rattle.std.specs.Prelude.{◌≡◌, ◌+◌, true};
 ghost use Rattle.ipmi_bus.specs.Seen.{IsHonest};
-ghost use Rattle.ipmitool.specs.Listing.{IsListing, ListingCalls, after_one, faults_of};
+ghost use Rattle.ipmitool.specs.Listing.{IsListing, ListingCalls, after_one, faults_of, most_for_one};
+ghost use Rattle.ipmitool.specs.Plan.{shelf_of};
+ghost use Rattle.ipmitool.specs.Run.{is_built};
+ghost use Rattle.ipmitool.specs.declared.listing.Stop.TheVariants as stop;
 
-use crate::line::record_line;
+use crate::command::Command;
+use crate::piece::record_piece;
 use crate::sink::{Sink, write_all};
 use ipmi_bus::{Controller, Cursor, Ended};
-use std::alloc::Global;
+use std::alloc::{AllocError, Global};
 
 /// How a listing stopped.
 #[derive(Clone, Copy, Debug, PartialEq, Eq)]
@@ -21,6 +25,22 @@ pub(crate) enum Stop {
     WriteFault,
 }
 
+impl From<AllocError> for Stop {
+    ghost from_gives = { λ _ e. e ≡ stop.Memory };
+
+    fn from(_error: AllocError) -> Stop {
+        Stop::Memory
+    }
+}
+
+impl From<Ended> for Stop {
+    ghost from_gives = { λ ended e. e ≡ stop.Ended ended };
+
+    fn from(ended: Ended) -> Stop {
+        Stop::Ended(ended)
+    }
+}
+
 /// How many records are still wanted after one more, where there is a limit; nothing where no more is wanted.
 fn after_one(left: Option<u32>) -> Option<Option<u32>>
     ensures { result ≡ after_one left }
@@ -32,18 +52,24 @@ fn after_one(left: Option<u32>) -> Option<Option<u32>>
     }
 }
 
-/// Writes the image line of each record from where the cursor stands, while the record is lent; of so many at most,
+/// Writes what the command prints for each record from where the cursor stands, while the record is lent; for so many at most,
 /// where there is a limit.
 pub(crate) fn list_records<C: Controller, O: Sink>(
     alloc: Global,
     cursor: &mut Cursor,
     ctl: &mut C,
+    cmd: &Command,
     most: Option<u32>,
     out: &mut O,
 ) -> Stop
+    requires built { is_built cmd.now.task ≡ true }
+    requires shelf { cursor.old.shelf ≡ shelf_of cmd.now.task }
+    requires tries { cursor.old.tries ≡ cmd.now.tries }
     ensures faults { O.faults out.new ≡ O.faults out.old + faults_of result }
-    ensures calls { ListingCalls cursor.old cursor.new (C.seen ctl.old) (C.seen ctl.new) }
-    ensures honest { IsHonest (C.seen ctl.old) → IsListing most cursor.old cursor.new (C.seen ctl.old) (C.seen ctl.new) (O.taken out.old) (O.taken out.new) result }
+    ensures calls { ListingCalls (most_for_one cmd.now.task cmd.now.tries) cursor.old cursor.new (C.seen ctl.old) (C.seen ctl.new) }
+    ensures honest { IsHonest (C.seen ctl.old) →
+        IsListing cmd.now.task cmd.now.tries most cursor.old cursor.new
+        (C.seen ctl.old) (C.seen ctl.new) (O.taken out.old) (O.taken out.new) result }
 {
     let mut left = most;
     'records: loop {
@@ -55,10 +81,11 @@ pub(crate) fn list_records<C: Controller, O: Sink>(
             Ok(None) => return Stop::Done,
             Err(ended) => return Stop::Ended(ended),
         };
-        let Ok(line) = record_line(alloc, &record) else {
-            return Stop::Memory;
+        let text = match record_piece(alloc, ctl, cmd, &record) {
+            Ok(text) => text,
+            Err(stop) => return stop,
         };
-        match write_all(out, line.as_bytes()) {
+        match write_all(out, text.as_bytes()) {
             Ok(()) => left = rest,
             Err(_) => return Stop::WriteFault,
         }

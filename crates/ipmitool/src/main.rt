@@ -12,6 +12,7 @@ mod message;
 mod message_sink;
 mod number;
 mod pages;
+mod piece;
 mod run;
 mod sink;
 mod table;
@@ -22,7 +23,7 @@ mod words;
 use command::{Command, UsageFault, command_of};
 use input::{InputFault, read_input, words_of};
 use message::{Message, say};
-use run::answer;
+use run::{answer, is_answered};
 use sink::Written;
 use std::io::{self, BufWriter, Input, Write};
 use std::process::ExitCode;
@@ -42,7 +43,8 @@ fn input_name(line: &Result<Command, UsageFault>) -> &str {
     }
 }
 
-/// Reads the command line and the image, answers it on buffered standard output, and gives the exit status.
+/// Reads the command line and, where the answer depends on it, the image; answers on buffered standard output, and gives
+/// the exit status.
 fn program(rt: &HostRuntime) -> u8 {
     let mut err = Written::new(rt.stderr());
     let line = match words_of(rt) {
@@ -50,8 +52,8 @@ fn program(rt: &HostRuntime) -> u8 {
         Err(fault) => Err(fault),
     };
     let image = match &line {
-        Ok(command) => read_input(rt, command.image()),
-        Err(_) => Ok(Vec::new(rt.alloc())),
+        Ok(command) if is_answered(command.task()) => read_input(rt, command.image()),
+        _ => Ok(Vec::new(rt.alloc())),
     };
     let image = match image {
         Ok(image) => image,

@@ -61,7 +61,7 @@ pub(crate) fn four_hex(text: &str, low: u16, high: u16) -> Option<u16>
     hex(text, low, high)
 }
 
-/// A number from `low` to `high`, in decimal or in hex behind `0x`.
+/// A number from `low` to `high`, in decimal or in hex after `0x`.
 pub(crate) fn number(text: &str, low: u16, high: u16) -> Option<u16>
     ensures value { result ≡ within low high (number_of text.now) }
     ensures range { IfSome result (λ n. (low ≤ n) × (n ≤ high)) }

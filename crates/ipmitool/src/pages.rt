@@ -1,12 +1,13 @@
 //! Lists records in pages, each with a cursor of its own.
-ghost use Rattle.std.specs.Prelude.{◌≡◌, ◌+◌, ◌*◌, ◌<◌, ◌≤◌, Some, IfOk};
+ghost use Rattle.std.specs.Prelude.{◌≡◌, ◌+◌, ◌*◌, ◌<◌, ◌≤◌, true, Some, IfOk};
 ghost use Rattle.std.specs.Option.{ForSome};
 ghost use Rattle.ipmi_bus.specs.Seen.{IsHonest};
-ghost use Rattle.ipmi_bus.specs.CursorState.{start_of};
-ghost use Rattle.ipmitool.specs.Listing.{faults_of, most_calls, IsPlace};
+ghost use Rattle.ipmitool.specs.Listing.{faults_of, most_calls, most_of, IsPlace};
+ghost use Rattle.ipmitool.specs.Plan.{shelf_of, start_by};
+ghost use Rattle.ipmitool.specs.Run.{is_built};
 ghost use Rattle.ipmitool.specs.Pages.{start_at, wants_none, pages_made, IsPage, ArePages};
 
-use crate::command::Command;
+use crate::command::{Command, Count, Task};
 use crate::listing::{Stop, list_records};
 use crate::sink::Sink;
 use ipmi_bus::{Controller, Cursor, Ended, Place, Shelf};
@@ -20,13 +21,34 @@ pub(crate) struct Page {
 }
 
 /// Where the command's listing begins.
-fn first_place(cmd: &Command) -> Place
-    ensures value { result ≡ start_of cmd.now.from }
+pub(crate) fn first_place(cmd: &Command) -> Place
+    ensures value { result ≡ start_by cmd.now.task cmd.now.from }
     ensures range { IsPlace result }
 {
+    if let Task::SelGet(id) = cmd.task() {
+        return Place::Id(*id);
+    }
     match cmd.from() {
         None => Place::First,
         Some(id) => Place::Id(id),
+    }
+}
+
+/// How many records the task lists, where there is a limit.
+pub(crate) fn most_of(task: &Task) -> Option<u32>
+    ensures { result ≡ most_of task.now }
+{
+    match task {
+        Task::SelList(Count::First(n)) => Some(u32::from(*n)),
+        Task::SelGet(_) => Some(1),
+        Task::SelList(Count::All | Count::Last(_))
+        | Task::Fru(_)
+        | Task::Hex
+        | Task::List(_)
+        | Task::Elist(_)
+        | Task::Get(_)
+        | Task::Info(_)
+        | Task::Rewrite => None,
     }
 }
 
@@ -54,8 +76,20 @@ fn wants_none(most: Option<u32>) -> bool
     }
 }
 
-/// Lists the sensor data records from the place, so many at most where there is a limit, with a cursor of its own.
-fn list_page<C: Controller, O: Sink>(
+/// The shelf whose records the task is about.
+fn shelf_of(task: &Task) -> Shelf
+    ensures { result ≡ shelf_of task.now }
+{
+    match task {
+        Task::SelList(_) | Task::SelGet(_) => Shelf::Sel,
+        Task::Info(shelf) => *shelf,
+        Task::Fru(_) | Task::Hex | Task::List(_) | Task::Elist(_) | Task::Get(_) | Task::Rewrite =>
+            Shelf::Sdr,
+    }
+}
+
+/// Lists the records of the command's shelf from the place, so many at most where there is a limit, with a cursor of its own.
+pub(crate) fn list_page<C: Controller, O: Sink>(
     alloc: Global,
     ctl: &mut C,
     cmd: &Command,
@@ -63,12 +97,15 @@ fn list_page<C: Controller, O: Sink>(
     most: Option<u32>,
     out: &mut O,
 ) -> Page
-    requires { IsPlace place }
+    requires built { is_built cmd.now.task ≡ true }
+    requires place { IsPlace place }
     ensures faults { O.faults out.new ≡ O.faults out.old + faults_of result.stop }
     ensures place { IsPlace result.resume_at }
-    ensures calls { (C.seen ctl.new).calls ≤ (C.seen ctl.old).calls + most_calls cmd.now.tries 256 }
+    ensures calls { (C.seen ctl.new).calls ≤ (C.seen ctl.old).calls + most_calls cmd.now.task cmd.now.tries }
     ensures none { most ≡ Some 0 → C.seen ctl.new ≡ C.seen ctl.old }
-    ensures honest { IsHonest (C.seen ctl.old) → IsPage most place result.resume_at cmd.now.tries (C.seen ctl.old) (C.seen ctl.new) (O.taken out.old) (O.taken out.new) result.stop }
+    ensures honest { IsHonest (C.seen ctl.old) →
+        IsPage cmd.now.task most place result.resume_at cmd.now.tries
+        (C.seen ctl.old) (C.seen ctl.new) (O.taken out.old) (O.taken out.new) result.stop }
 {
     if wants_none(most) {
         return Page {
@@ -85,20 +122,21 @@ fn list_page<C: Controller, O: Sink>(
             };
         }
     };
-    let Ok(mut cursor) = Cursor::start(alloc, Shelf::Sdr, from, cmd.part(), cmd.tries()) else {
+    let shelf = shelf_of(cmd.task());
+    let Ok(mut cursor) = Cursor::start(alloc, shelf, from, cmd.part(), cmd.tries()) else {
         return Page {
             stop: Stop::Memory,
             resume_at: place,
         };
     };
-    let stop = list_records(alloc, &mut cursor, ctl, most, out);
+    let stop = list_records(alloc, &mut cursor, ctl, cmd, most, out);
     Page {
         stop,
         resume_at: cursor.resume_at(),
     }
 }
 
-/// Lists the sensor data records from where the command says, in pages of these sizes and then one without a limit.
+/// Lists the records from where the command says, in pages of these sizes and then one without a limit.
 pub(crate) fn list_pages<C: Controller, O: Sink>(
     alloc: Global,
     ctl: &mut C,
@@ -106,9 +144,12 @@ pub(crate) fn list_pages<C: Controller, O: Sink>(
     sizes: &[u32],
     out: &mut O,
 ) -> Stop
+    requires { is_built cmd.now.task ≡ true }
     ensures faults { O.faults out.new ≡ O.faults out.old + faults_of result }
-    ensures calls { (C.seen ctl.new).calls ≤ (C.seen ctl.old).calls + pages_made sizes.now * most_calls cmd.now.tries 256 }
-    ensures honest { IsHonest (C.seen ctl.old) → ArePages sizes.now (start_of cmd.now.from) cmd.now.tries (C.seen ctl.old) (C.seen ctl.new) (O.taken out.old) (O.taken out.new) result }
+    ensures calls { (C.seen ctl.new).calls ≤ (C.seen ctl.old).calls + pages_made sizes.now * most_calls cmd.now.task cmd.now.tries }
+    ensures honest { IsHonest (C.seen ctl.old) →
+        ArePages cmd.now.task sizes.now (start_by cmd.now.task cmd.now.from) cmd.now.tries
+        (C.seen ctl.old) (C.seen ctl.new) (O.taken out.old) (O.taken out.new) result }
 {
     let mut place = first_place(cmd);
     'pages: for size in sizes {

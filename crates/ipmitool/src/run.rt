@@ -8,14 +8,14 @@ ghost use Rattle.ipmitool.specs.Listing.{faults_of, most_calls};
 ghost use Rattle.ipmitool.specs.Received.{ReceivesText, of_writer};
 ghost use Rattle.ipmitool.specs.Pages.{pages_made};
 ghost use Rattle.ipmitool.specs.Plan.{start_by};
-ghost use Rattle.ipmitool.specs.Run.{stop_status, stop_text, fault_status, is_built, is_rewrite, EndsSo, IsRun, IsPagedRun, Says, WritesImage, AnswersRewrite, AnswersTask, AnswersLine};
+ghost use Rattle.ipmitool.specs.Run.{stop_status, stop_text, fault_status, is_answered, is_built, is_rewrite, EndsSo, IsRun, IsPagedRun, Says, WritesImage, AnswersRewrite, AnswersTask, AnswersLine};
 ghost use Rattle.ipmitool.specs.declared.message.Message.TheVariants as message;
 
-use crate::command::{Command, Task, UsageFault};
+use crate::command::{Command, Count, Task, UsageFault};
 use crate::listing::Stop;
 use crate::message::{Message, say};
 use crate::message_sink::MessageSink;
-use crate::pages::list_pages;
+use crate::pages::{first_place, list_page, list_pages, most_of};
 use crate::sink::{Sink, write_all};
 use ipmi_bus::Controller;
 use ipmi_image::{Image, ImageController, ImageFault, image_text};
@@ -27,14 +27,15 @@ fn is_built(task: &Task) -> bool
     ensures { result ≡ is_built task.now }
 {
     match task {
-        Task::Hex => true,
-        Task::Fru(_)
+        Task::Hex
         | Task::List(_)
         | Task::Elist(_)
+        | Task::SelList(Count::All | Count::First(_))
+        | Task::SelGet(_) => true,
+        Task::SelList(Count::Last(_))
+        | Task::Fru(_)
         | Task::Get(_)
         | Task::Info(_)
-        | Task::SelList(_)
-        | Task::SelGet(_)
         | Task::Rewrite => false,
     }
 }
@@ -54,6 +55,13 @@ fn is_rewrite(task: &Task) -> bool
         | Task::SelList(_)
         | Task::SelGet(_) => false,
     }
+}
+
+/// Whether the task can be answered over an image today, so that the image is looked at.
+pub(crate) fn is_answered(task: &Task) -> bool
+    ensures { result ≡ is_answered task.now }
+{
+    is_rewrite(task) || is_built(task)
 }
 
 /// Says why a listing stopped, and gives its exit status.
@@ -124,10 +132,17 @@ pub fn run<C: Controller, O: Sink, E: Write>(
     err: &mut E,
 ) -> u8
     ensures faults { O.faults out.new ≡ O.faults out.old + (if result == 4 then 1 else 0) }
-    ensures calls { (C.seen ctl.new).calls ≤ (C.seen ctl.old).calls + most_calls cmd.now.tries 256 }
+    ensures calls { (C.seen ctl.new).calls ≤ (C.seen ctl.old).calls + most_calls cmd.now.task cmd.now.tries }
     ensures ends { is_built cmd.now.task ≡ true → EndsSo (of_writer (E.contents err.old)) (of_writer (E.contents err.new)) result }
-    ensures built { is_built cmd.now.task ≡ true → IsHonest (C.seen ctl.old) → IsRun cmd.now.task (start_by cmd.now.task cmd.now.from) cmd.now.tries (C.seen ctl.old) (C.seen ctl.new) (O.taken out.old) (O.taken out.new) (of_writer (E.contents err.old)) (of_writer (E.contents err.new)) result }
-    ensures unbuilt { is_built cmd.now.task ≡ false → (C.seen ctl.new ≡ C.seen ctl.old) × (O.taken out.new ≡ O.taken out.old) × Says (of_writer (E.contents err.old)) (of_writer (E.contents err.new)) result message.Usage 2 }
+    ensures built { is_built cmd.now.task ≡ true → IsHonest (C.seen ctl.old) →
+        IsRun cmd.now.task (start_by cmd.now.task cmd.now.from) cmd.now.tries
+        (C.seen ctl.old) (C.seen ctl.new)
+        (O.taken out.old) (O.taken out.new)
+        (of_writer (E.contents err.old)) (of_writer (E.contents err.new)) result }
+    ensures unbuilt { is_built cmd.now.task ≡ false →
+        (C.seen ctl.new ≡ C.seen ctl.old) × (O.taken out.new ≡ O.taken out.old)
+        × Says
+        (of_writer (E.contents err.old)) (of_writer (E.contents err.new)) result message.Usage 2 }
 {
     run_to_message_sink(alloc, ctl, cmd, out, err)
 }
@@ -142,20 +157,25 @@ pub fn run_to_message_sink<C: Controller, O: Sink, E: MessageSink>(
     err: &mut E,
 ) -> u8
     ensures faults { O.faults out.new ≡ O.faults out.old + (if result == 4 then 1 else 0) }
-    ensures calls { (C.seen ctl.new).calls ≤ (C.seen ctl.old).calls + most_calls cmd.now.tries 256 }
+    ensures calls { (C.seen ctl.new).calls ≤ (C.seen ctl.old).calls + most_calls cmd.now.task cmd.now.tries }
     ensures ends { is_built cmd.now.task ≡ true → EndsSo (E.received err.old) (E.received err.new) result }
-    ensures built { is_built cmd.now.task ≡ true → IsHonest (C.seen ctl.old) → IsRun cmd.now.task (start_by cmd.now.task cmd.now.from) cmd.now.tries (C.seen ctl.old) (C.seen ctl.new) (O.taken out.old) (O.taken out.new) (E.received err.old) (E.received err.new) result }
-    ensures unbuilt { is_built cmd.now.task ≡ false → (C.seen ctl.new ≡ C.seen ctl.old) × (O.taken out.new ≡ O.taken out.old) × Says (E.received err.old) (E.received err.new) result message.Usage 2 }
+    ensures built { is_built cmd.now.task ≡ true → IsHonest (C.seen ctl.old) →
+        IsRun cmd.now.task (start_by cmd.now.task cmd.now.from) cmd.now.tries
+        (C.seen ctl.old) (C.seen ctl.new)
+        (O.taken out.old) (O.taken out.new) (E.received err.old) (E.received err.new) result }
+    ensures unbuilt { is_built cmd.now.task ≡ false →
+        (C.seen ctl.new ≡ C.seen ctl.old) × (O.taken out.new ≡ O.taken out.old)
+        × Says (E.received err.old) (E.received err.new) result message.Usage 2 }
 {
     if !is_built(cmd.task()) {
         return report_usage(err);
     }
-    let stop = list_pages(alloc, ctl, cmd, &[], out);
+    let stop = list_page(alloc, ctl, cmd, first_place(cmd), most_of(cmd.task()), out).stop;
     report(stop, err)
 }
 
 /// As `run_to_message_sink`, for a listing in pages: each hands out at most as many records as its number says, by a cursor of its own,
-/// from where the page before it stopped, and behind the last one comes a page without a limit.
+/// from where the page before it stopped, and after the last one comes a page without a limit.
 pub fn run_pages<C: Controller, O: Sink, E: MessageSink>(
     alloc: Global,
     ctl: &mut C,
@@ -166,14 +186,13 @@ pub fn run_pages<C: Controller, O: Sink, E: MessageSink>(
 ) -> u8
     requires { is_listing cmd.now.task ≡ true }
     ensures faults { O.faults out.new ≡ O.faults out.old + (if result == 4 then 1 else 0) }
-    ensures calls { (C.seen ctl.new).calls ≤ (C.seen ctl.old).calls + pages_made pages.now * most_calls cmd.now.tries 256 }
-    ensures ends { is_built cmd.now.task ≡ true → EndsSo (E.received err.old) (E.received err.new) result }
-    ensures built { is_built cmd.now.task ≡ true → IsHonest (C.seen ctl.old) → IsPagedRun cmd.now.task pages.now (start_by cmd.now.task cmd.now.from) cmd.now.tries (C.seen ctl.old) (C.seen ctl.new) (O.taken out.old) (O.taken out.new) (E.received err.old) (E.received err.new) result }
-    ensures unbuilt { is_built cmd.now.task ≡ false → (C.seen ctl.new ≡ C.seen ctl.old) × (O.taken out.new ≡ O.taken out.old) × Says (E.received err.old) (E.received err.new) result message.Usage 2 }
+    ensures calls { (C.seen ctl.new).calls ≤ (C.seen ctl.old).calls + pages_made pages.now * most_calls cmd.now.task cmd.now.tries }
+    ensures ends { EndsSo (E.received err.old) (E.received err.new) result }
+    ensures honest { IsHonest (C.seen ctl.old) →
+        IsPagedRun cmd.now.task pages.now (start_by cmd.now.task cmd.now.from) cmd.now.tries
+        (C.seen ctl.old) (C.seen ctl.new)
+        (O.taken out.old) (O.taken out.new) (E.received err.old) (E.received err.new) result }
 {
-    if !is_built(cmd.task()) {
-        return report_usage(err);
-    }
     let stop = list_pages(alloc, ctl, cmd, pages, out);
     report(stop, err)
 }
@@ -188,7 +207,8 @@ pub fn answer<O: Sink, E: MessageSink>(
     err: &mut E,
 ) -> u8
     ensures faults { O.faults out.new ≡ O.faults out.old + (if result == 4 then 1 else 0) }
-    ensures answers { AnswersLine line.now (store_of_image image.now) (O.taken out.old) (O.taken out.new) (E.received err.old) (E.received err.new) result }
+    ensures answers { AnswersLine line.now (store_of_image image.now)
+        (O.taken out.old) (O.taken out.new) (E.received err.old) (E.received err.new) result }
 {
     match line {
         Ok(cmd) => answer_command(alloc, cmd, image, out, err),
@@ -209,7 +229,8 @@ fn answer_command<O: Sink, E: MessageSink>(
     err: &mut E,
 ) -> u8
     ensures faults { O.faults out.new ≡ O.faults out.old + (if result == 4 then 1 else 0) }
-    ensures answers { AnswersTask (is_rewrite cmd.now.task) (is_built cmd.now.task) cmd.now.task (store_of_image image.now) (start_by cmd.now.task cmd.now.from) (O.taken out.old) (O.taken out.new) (E.received err.old) (E.received err.new) result }
+    ensures answers { AnswersTask (is_rewrite cmd.now.task) (is_built cmd.now.task) cmd.now.task (store_of_image image.now) (start_by cmd.now.task cmd.now.from)
+        (O.taken out.old) (O.taken out.new) (E.received err.old) (E.received err.new) result }
 {
     if is_rewrite(cmd.task()) {
         return rewrite(alloc, image, out, err);

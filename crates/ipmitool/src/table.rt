@@ -200,7 +200,7 @@ fn task_of_four(a: &str, b: &str, c: &str, d: &str) -> Option<Task>
     None
 }
 
-/// What is to be done by the words, behind the program's name and without the options.
+/// What is to be done by the words after the program's name and without the options.
 pub(crate) fn task_of(alloc: Global, words: &[&str]) -> Result<Option<Task>, AllocError>
     ensures value { IfOk result (λ task. task ≡ task_of (map (λ word. word.now) words.now)) }
     ensures range { IfOk result (λ task. IfSome task IsTask) }

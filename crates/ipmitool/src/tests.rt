@@ -1,5 +1,6 @@
 //! Worked examples.
 mod command;
+mod commands;
 mod controllers;
 mod cursor;
 mod images;

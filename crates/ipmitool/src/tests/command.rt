@@ -20,8 +20,8 @@ fn read(alloc: Global, words: &[&str]) -> Result<Command, UsageFault> {
     command_of(alloc, &line)
 }
 
-// The command of a line with all these words, which are split at spaces.
-fn read_line(alloc: Global, line: &str) -> Result<Command, UsageFault> {
+/// The command of a line with all these words, which are split at spaces.
+pub fn read_line(alloc: Global, line: &str) -> Result<Command, UsageFault> {
     let mut words = Words::new(alloc);
     words.push("ipmitool")?;
     for word in line.split_whitespace() {
@@ -460,7 +460,8 @@ fn lines_over_an_image(rt: HostRuntime) {
         ("sel get 0", b"", usage, 2),
         ("--from 0001 image rewrite", b"", usage, 2),
         ("--help", b"", usage, 2),
-        ("sdr list", b"", usage, 2),
+        ("sdr list", b"", b"", 0),
+        ("sdr info", b"", usage, 2),
     ];
     for (line, out, err, status) in cases {
         let left = answered(rt.alloc(), read_line(rt.alloc(), line), THREE_ROWS);

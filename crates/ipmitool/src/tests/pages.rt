@@ -1,7 +1,11 @@
 //! Listings in pages.
+ghost use Rattle.std.specs.Prelude.{◌≡◌, true};
+ghost use Rattle.ipmitool.specs.Command.{IsTask, is_listing};
+
+use super::commands::{LOG, LOG_LINES, SENSOR_AND_LOCATOR, SENSOR_AND_LOCATOR_LINES};
 use super::controllers::{Counting, Endless};
 use super::listed::{Left, THREE_LINES, THREE_ROWS, listed};
-use crate::command::{Command, Kind, Task};
+use crate::command::{Command, Count, Kind, Task};
 use crate::run::run_pages;
 use crate::sink::Written;
 use ipmi_image::{Image, ImageController, ImageFault, Mood, Scripted};
@@ -11,11 +15,19 @@ use std::test::Fail;
 /// Two records, each with the other one's id as its next id.
 const CYCLE: &[u8] = b"ipmi-image 1\nsdr 0007 0009 070051c000\nsdr 0009 0007 090051c000\nend\n";
 
-// What a listing of the image in pages of these sizes left.
+// What the listing of the image in hex, in pages of these sizes, left.
 fn listed_in_pages(alloc: Global, image: &[u8], pages: &[u32]) -> Result<Left, ImageFault> {
+    left_in_pages(alloc, image, Task::Hex, pages)
+}
+
+// What a listing of the image in pages of these sizes left.
+fn left_in_pages(alloc: Global, image: &[u8], task: Task, pages: &[u32]) -> Result<Left, ImageFault>
+    requires range { IsTask task }
+    requires listing { is_listing task ≡ true }
+{
     let image = Image::read(alloc, image)?;
     let mut ctl = Counting::new(ImageController::new(image));
-    let command = Command::new(Task::Hex, None, 32, 5, None);
+    let command = Command::new(task, None, 32, 5, None);
     let mut out = Written::new(Vec::new(alloc));
     let mut err = Vec::new(alloc);
     let status = run_pages(alloc, &mut ctl, &command, &mut out, &mut err, pages);
@@ -45,6 +57,48 @@ fn pages_are_one_listing(rt: HostRuntime) -> Result<(), Fail> {
         assert_eq!(rt; (left.status, left.calls), (0, calls));
     }
     Ok(())
+}
+
+// Whether the listing of the task in pages is its whole text, for so many calls.
+fn is_whole_in_pages(
+    alloc: Global,
+    image: &[u8],
+    task: Task,
+    pages: &[u32],
+    out: &[u8],
+    calls: u32,
+) -> bool
+    requires range { IsTask task }
+    requires listing { is_listing task ≡ true }
+{
+    match left_in_pages(alloc, image, task, pages) {
+        Ok(left) => {
+            left.out.as_slice() == out
+                && left.err.len() == 0
+                && left.status == 0
+                && left.calls == calls
+        }
+        Err(_) => false,
+    }
+}
+
+// A reservation and two entries, and a reservation and one. A sensor and its reading, after a reservation, the header and
+// two parts, and then a locator.
+#[test]
+fn entries_and_sensors_in_pages(rt: HostRuntime) {
+    let log = Task::SelList(Count::All);
+    assert!(rt; is_whole_in_pages(rt.alloc(), LOG, log, &[2], LOG_LINES, 5));
+    let sensors = Task::List(Kind::All);
+    assert!(rt;
+        is_whole_in_pages(
+            rt.alloc(),
+            SENSOR_AND_LOCATOR,
+            sensors,
+            &[1],
+            SENSOR_AND_LOCATOR_LINES,
+            8
+        )
+    );
 }
 
 #[test]
@@ -97,27 +151,6 @@ fn a_page_that_ends_by_name_ends_all(rt: HostRuntime) -> Result<(), Fail> {
     assert_eq!(rt; out.into_inner().as_slice(), &THREE_LINES[..27]);
     assert_eq!(rt; err.as_slice(), b"gave up at 0002h\n".as_slice());
     assert_eq!(rt; ctl.calls, 4);
-    Ok(())
-}
-
-// No call is made for a command that can't be run yet.
-#[test]
-fn pages_of_another_command(rt: HostRuntime) -> Result<(), Fail> {
-    let image = Image::read(rt.alloc(), THREE_ROWS)?;
-    let mut ctl = Counting::new(ImageController::new(image));
-    let command = Command::new(Task::List(Kind::All), None, 32, 5, None);
-    let mut out = Written::new(Vec::new(rt.alloc()));
-    let mut err = Vec::new(rt.alloc());
-    assert_eq!(rt;
-        run_pages(rt.alloc(), &mut ctl, &command, &mut out, &mut err, &[1]),
-        2
-    );
-    assert_eq!(rt; out.into_inner().len(), 0);
-    assert_eq!(rt;
-        err.as_slice(),
-        b"usage: ipmitool [--image FILE] [--from HEX4] [--part N] [--tries N] fru|sdr|sel WORDS\n".as_slice()
-    );
-    assert_eq!(rt; ctl.calls, 0);
     Ok(())
 }
 

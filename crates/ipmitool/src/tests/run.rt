@@ -1,9 +1,10 @@
 use super::controllers::Counting;
 use super::listed::{THREE_LINES, THREE_ROWS};
 use super::writers::{Full, Limited, Narrow, Slow};
-use crate::command::{Command, Kind, Task, UsageFault};
+use crate::command::{Command, Task, UsageFault};
 use crate::run::{answer, run, run_to_message_sink};
 use crate::sink::Written;
+use ipmi_bus::Shelf;
 use ipmi_image::{Image, ImageController};
 use std::alloc::Global;
 use std::test::Fail;
@@ -84,7 +85,7 @@ fn images_are_listed_to_their_end(rt: HostRuntime) {
 fn usage_faults_look_at_no_image(rt: HostRuntime) {
     let usage =
         b"usage: ipmitool [--image FILE] [--from HEX4] [--part N] [--tries N] fru|sdr|sel WORDS\n";
-    let unbuilt = Command::new(Task::List(Kind::All), None, 32, 5, None);
+    let unbuilt = Command::new(Task::Info(Shelf::Sdr), None, 32, 5, None);
     let cases = [
         (Err(UsageFault::Command), usage.as_slice(), 2),
         (Ok(unbuilt), usage, 2),
@@ -172,7 +173,7 @@ fn a_fault_of_the_messages_changes_nothing(rt: HostRuntime) {
 #[test]
 fn commands_that_are_not_run(rt: HostRuntime) -> Result<(), Fail> {
     for command in [
-        Command::new(Task::List(Kind::All), None, 32, 5, None),
+        Command::new(Task::Info(Shelf::Sdr), None, 32, 5, None),
         Command::new(Task::Rewrite, None, 32, 5, None),
     ] {
         let image = Image::read(rt.alloc(), THREE_ROWS)?;

@@ -1,40 +1,13 @@
-use super::controllers::Counting;
-use super::listed::{Left, THREE_LINES, THREE_ROWS, listed};
-use ipmi_bus::Code;
-use ipmi_image::{Image, Mood, Scripted};
-use std::alloc::{AllocError, Global};
+use super::listed::{Left, THREE_LINES, THREE_ROWS, listed, scripted};
+use std::alloc::Global;
 use std::test::Fail;
-
-/// `THREE_ROWS` with another second row, as long as the first one.
-const CHANGED_ROWS: &[u8] =
-    b"ipmi-image 1\nsdr 0001 0002 010051c001aa\nsdr 0002 0003 020051c102ddee\nsdr 0003 ffff 030051c000\nend\n";
 
 const CHANGED_LINES: &[u8] =
     b"sdr 0001 0002 010051c001aa\nsdr 0002 0003 020051c102ddee\nsdr 0003 ffff 030051c000\n";
 
-// The mood that a letter stands for. A dot grants all, `1` one byte; `N` changes the second row, and `E` leaves no row.
-fn mood(alloc: Global, letter: u8) -> Result<Mood, Fail> {
-    Ok(match letter {
-        b'1' => Mood::Grant(1),
-        b'B' => Mood::Busy,
-        b'C' => Mood::Cancel,
-        b'L' => Mood::TooLong,
-        b'R' => Mood::Refuse(Code(0xD4)),
-        b'N' => Mood::Change(Image::read(alloc, CHANGED_ROWS)?),
-        b'E' => Mood::Change(Image::read(alloc, b"ipmi-image 1\nend\n")?),
-        _ => Mood::Grant(254),
-    })
-}
-
 // What a listing of the three rows leaves whose calls meet these moods.
 fn met(alloc: Global, tries: u8, letters: &[u8]) -> Result<Left, Fail> {
-    let mut moods = Vec::new(alloc);
-    for letter in letters {
-        moods.push(mood(alloc, *letter)?).map_err(AllocError::from)?;
-    }
-    let image = Image::read(alloc, THREE_ROWS)?;
-    let ctl = Counting::new(Scripted::new(image, moods));
-    Ok(listed(alloc, ctl, tries))
+    Ok(listed(alloc, scripted(alloc, THREE_ROWS, letters)?, tries))
 }
 
 // What a listing leaves of which the call with this number alone, from 1 on, meets a mood.

@@ -1,7 +1,7 @@
 use Rattle.std.proofs.Common.{refl, rules, ◌≡◌, length}
 use Rattle.std.proofs.lemmas.Result.{err_from_is_err_and}
 use Rattle.ipmi_bus.specs.declared.inventory.FruRetrieval.{FruRetrieval}
-use Rattle.ipmi_bus.proofs.InventoryLemmas.{since_size, bound_is, inventory_read}
+use Rattle.ipmi_bus.proofs.InventoryLemmas.{since_size, bound_is, inventory_counted, inventory_read}
 use Rattle.ipmi_bus.proofs.inventory.read_fru.Goals as goal
 
 pub returns-in_err-read_all-clause-honest : goal.returns-in_err-read_all-clause-honest
@@ -14,7 +14,7 @@ returns-in_err-read_all-clause-honest g c = λ h.
     let since = since_size c.args.id size _ _ r has refl refl refl len in
     let ends = c.in_err-read_all.ensures.honest _ since in
     let bound = bound_is c.args.id c.args.tries size _ _ _ r has (c.in_err-read_all.ensures.stays has.stays.honest) refl refl refl len c.in_ok-size.ensures.ok.0 c.in_ok-size.ensures.ok.1 c.in_err-read_all.ensures.calls in
-    rw (out.1, out.2) (record { stays = ends.stays; is = ends.is; calls = bound; plain = ends.plain })
+    rw (out.1, out.2) (record { stays = ends.stays; counts = ends.counts; is = ends.is; calls = bound; plain = ends.plain })
 
 pub returns-clause-honest : goal.returns-clause-honest
 returns-clause-honest g c = λ h.
@@ -27,6 +27,7 @@ returns-clause-honest g c = λ h.
     let same = c.in_ok-read_all.ensures.same in
     record {
       stays = all.stays;
+      counts = inventory_counted c.args.id c.args.tries _ _ c.read_all.new.self all same.id same.tries same.troubles c.in_ok-read_all.ensures.whole;
       is = λ kept. inventory_read c.args.id c.args.tries _ _ c.read_all.new.self all same.id same.tries same.troubles c.in_ok-read_all.ensures.whole kept;
       calls = bound_is c.args.id c.args.tries size _ _ _ r has (c.in_ok-read_all.ensures.stays has.stays.honest) refl refl refl len c.in_ok-size.ensures.ok.0 c.in_ok-size.ensures.ok.1 c.in_ok-read_all.ensures.calls;
       plain = λ p. (tt, (all.plain p).1);

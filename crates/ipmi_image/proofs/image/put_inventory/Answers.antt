@@ -1,6 +1,6 @@
 use Rattle.std.proofs.Common.{rules, ◌≡◌, ◌≤◌, ◌++◌, ◌∷◌, [], ap, sym, subst, ◌∙◌, arith, List, ℕ, None, Some, map, length}
 use Rattle.std.proofs.lemmas.List.{map-append}
-use Rattle.ipmi_bus.specs.Shelf.{AreBytes}
+use Rattle.ipmi_text.specs.Bytes.{AreBytes}
 use Rattle.ipmi_bus.specs.Store.{inventory_in}
 use Rattle.ipmi_image.specs.declared.stored.StoredInventory.{StoredInventory}
 use Rattle.ipmi_image.specs.Table.{place_of, inventory_of, longer_at}

@@ -1,7 +1,8 @@
 use Rattle.std.proofs.Common.{rules, ◌≡◌, ◌<◌, ap, sym, subst, ◌∙◌, List, [], ◌∷◌, ◌++◌, map, arith}
 use Rattle.std.specs.Option.{unwrap_or}
 use Rattle.std.proofs.lemmas.List.{map-append}
-use Rattle.ipmi_bus.specs.Shelf.{AreBytes, IsShelf}
+use Rattle.ipmi_text.specs.Bytes.{AreBytes}
+use Rattle.ipmi_bus.specs.Shelf.{IsShelf}
 use Rattle.ipmi_image.specs.Line.{SavedRow}
 use Rattle.ipmi_image.specs.Image.{chained}
 use Rattle.ipmi_image.specs.Stored.{row_of}

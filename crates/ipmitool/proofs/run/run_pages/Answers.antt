@@ -4,11 +4,11 @@ use Rattle.ipmitool.specs.Run.{IsPagedRun}
 use Rattle.ipmitool.proofs.PlanLemmas.{run_in_pages}
 use Rattle.ipmitool.proofs.run.run_pages.Goals as goal
 
-pub returns-clause-built : goal.returns-clause-built
-returns-clause-built g c = λ built honest.
+pub returns-clause-honest : goal.returns-clause-honest
+returns-clause-honest g c = λ honest.
     let cmd = c.args.cmd.now in
     subst
     (λ (status : ℕ). IsPagedRun cmd.task c.args.pages.now (start_by cmd.task cmd.from) cmd.tries (g.C.Controller.seen c.args.ctl.now) (g.C.Controller.seen c.list_pages-stop.new.ctl) (g.O.Sink.taken c.args.out.now)
     (g.O.Sink.taken c.list_pages-stop.new.out) (g.E.MessageSink.received c.args.err.now) (g.E.MessageSink.received c.report.new.err) status)
     (sym c.report.ensures.status)
-    (run_in_pages cmd.task c.args.pages.now cmd.from cmd.tries _ _ _ _ _ _ c.list_pages-stop.result built honest (c.list_pages-stop.ensures.honest honest) c.report.ensures.message)
+    (run_in_pages cmd.task c.args.pages.now (start_by cmd.task cmd.from) cmd.tries _ _ _ _ _ _ c.list_pages-stop.result c.requires honest (c.list_pages-stop.ensures.honest honest) c.report.ensures.message)
