@@ -1,8 +1,7 @@
 //! What the program reads: its words, and its image.
 ghost use Rattle.std.specs.Prelude.{◌<◌, ◌≤◌, IfOk, length, vec_len};
 
-use crate::command::UsageFault;
-use crate::words::{Word, Words};
+use ipmi_command_line::{UsageFault, Word, Words};
 use std::alloc::Global;
 use std::env::{self, Env};
 use std::fs::{File, Files};

@@ -1,30 +1,17 @@
 //! Lists what a saved image of a management controller holds, as `ipmitool` lists it.
 #![tactic(auto)]
 
-mod arguments;
-mod command;
-mod history;
 mod input;
-mod laws;
-mod line;
-mod listing;
-mod message;
-mod message_sink;
-mod number;
-mod pages;
-mod piece;
-mod run;
-mod sink;
-mod table;
 #[cfg(test)]
 mod tests;
-mod words;
 
-use command::{Command, UsageFault, command_of};
+pub use ipmi_command_line::{Command, Count, Kind, Task, UsageFault, Word, Words, command_of};
+pub use ipmi_commands::{answer, run, run_pages, run_to_message_sink};
+pub use ipmi_output::{MessageSink, Sink, SinkFault, Written};
+
 use input::{InputFault, read_input, words_of};
-use message::{Message, say};
-use run::{answer, is_answered};
-use sink::Written;
+use ipmi_commands::is_answered;
+use ipmi_output::{Message, say};
 use std::io::{self, BufWriter, Input, Write};
 use std::process::ExitCode;
 

@@ -1,0 +1,13 @@
+use Rattle.std.proofs.Common.{ap₂, ◌∙◌}
+use Rattle.std.proofs.lemmas.Result.{IfOk-weaker}
+use Rattle.clap.specs.Words.{with_rule}
+use Rattle.ipmi_command_line.proofs.arguments.command_line.Goals as goal
+
+pub returns : goal.returns
+returns c =
+    IfOk-weaker c.arg-5.result _ _ (λ r h. h.shape c.words_rule.ensures.local
+    ∙ ap₂ with_rule (c.in_ok-arg-4.ensures.shape c.option_rule-4.ensures.local
+    ∙ ap₂ with_rule (c.in_ok-arg-3.ensures.shape c.option_rule-3.ensures.local
+    ∙ ap₂ with_rule (c.in_ok-arg-2.ensures.shape c.option_rule-2.ensures.local
+    ∙ ap₂ with_rule (c.in_ok-arg.ensures.shape c.option_rule.ensures.local
+    ∙ ap₂ with_rule c.new.ensures.app c.option_rule.ensures.rule) c.option_rule-2.ensures.rule) c.option_rule-3.ensures.rule) c.option_rule-4.ensures.rule) c.words_rule.ensures.rule) c.arg-5.ensures

@@ -1,0 +1,118 @@
+-- What a command line means.
+use Rattle.std.specs.Prelude.{◌≤◌, ℕ, Bool, true, false, ◌&&◌, not, List, Option, Some, None, option_map, is_some, Result, Ok, Err, ⊤, codes, IfSome, OnSome, IsTrue, if◌then◌else◌}
+use Rattle.clap.specs.Words.{Row, first_of}
+use Rattle.ipmi_command_line.specs.declared.command.Count.{Count}
+use Rattle.ipmi_command_line.specs.declared.command.Count.TheVariants as count
+use Rattle.ipmi_command_line.specs.declared.command.Task.{Task}
+use Rattle.ipmi_command_line.specs.declared.command.Task.TheVariants as task
+use Rattle.ipmi_command_line.specs.declared.command.UsageFault.{UsageFault}
+use Rattle.ipmi_command_line.specs.declared.command.UsageFault.TheVariants as fault
+use Rattle.ipmi_command_line.specs.Arguments.{free_words, is_taken, rows_of_words}
+use Rattle.ipmi_command_line.specs.Number.{decimal_of, four_hex_of, within}
+use Rattle.ipmi_command_line.specs.Table.{task_of}
+
+-- a command, as clauses see it
+pub record CommandState : Type 0 where
+  pub task : Task
+  pub from : Option ℕ
+  pub part : ℕ
+  pub tries : ℕ
+  pub image : Option (List ℕ)
+
+-- whether an id to start from goes with the task
+abbrev pub takes_from : Task → Bool
+takes_from (task.Fru id) = false
+takes_from task.Hex = true
+takes_from (task.List kind) = true
+takes_from (task.Elist kind) = true
+takes_from (task.Get name) = true
+takes_from (task.Info shelf) = false
+takes_from (task.SelList entries) = true
+takes_from (task.SelGet id) = false
+takes_from task.Rewrite = false
+
+-- the tasks that list all records of a shelf, which can be done in pages
+abbrev pub is_listing : Task → Bool
+is_listing (task.Fru id) = false
+is_listing task.Hex = true
+is_listing (task.List kind) = true
+is_listing (task.Elist kind) = true
+is_listing (task.Get name) = false
+is_listing (task.Info shelf) = false
+is_listing (task.SelList count.All) = true
+is_listing (task.SelList (count.First n)) = false
+is_listing (task.SelList (count.Last n)) = false
+is_listing (task.SelGet id) = false
+is_listing task.Rewrite = false
+
+-- ---- the ranges
+
+abbrev pub IsCount : Count → Type 0
+IsCount count.All = ⊤
+IsCount (count.First n) = 1 ≤ n
+IsCount (count.Last n) = 1 ≤ n
+
+abbrev pub IsTask : Task → Type 0
+IsTask (task.Fru id) = IfSome id (λ n. n ≤ 254)
+IsTask task.Hex = ⊤
+IsTask (task.List kind) = ⊤
+IsTask (task.Elist kind) = ⊤
+IsTask (task.Get name) = ⊤
+IsTask (task.Info shelf) = ⊤
+IsTask (task.SelList entries) = IsCount entries
+IsTask (task.SelGet id) = (1 ≤ id) × (id ≤ 65534)
+IsTask task.Rewrite = ⊤
+
+pub record IsCommand (task : Task) (from : Option ℕ) (part : ℕ) : Type 0 where
+  pub in_range : IsTask task
+  pub part_low : 1 ≤ part
+  pub part_high : part ≤ 254
+  pub from_low : IfSome from (λ id. 1 ≤ id)
+  pub from_high : IfSome from (λ id. id ≤ 65534)
+  pub taken : OnSome from (IsTrue (takes_from task))
+
+-- ---- the options
+
+-- where there is no `--from`, no id; where it is none from 0001 to FFFE, nothing
+abbrev pub start_of_text : Option (List ℕ) → Option (Option ℕ)
+start_of_text None = Some None
+start_of_text (Some text) = option_map (λ id. Some id) (within 1 65534 (four_hex_of text))
+
+-- the number of an option, in decimal, or what stands for it where there is no such option; nothing out of its range
+abbrev pub number_or : ℕ → ℕ → ℕ → Option (List ℕ) → Option ℕ
+number_or default low high None = Some default
+number_or default low high (Some text) = within low high (decimal_of text)
+
+abbrev pub part_of : Option (List ℕ) → Option ℕ
+part_of = number_or 32 1 254
+
+abbrev pub tries_of : Option (List ℕ) → Option ℕ
+tries_of = number_or 5 0 255
+
+-- an id to start from is given to a task that takes none
+abbrev pub is_stray : Task → Option ℕ → Bool
+is_stray task from = is_some from && not (takes_from task)
+
+-- a task with its options, `--from` before `--part` before `--tries`
+abbrev pub with_options : Option (List ℕ) → Task → Option (Option ℕ) → Option ℕ → Option ℕ → Result CommandState UsageFault
+with_options image task None part tries = Err fault.Option
+with_options image task (Some from) None tries = Err fault.Option
+with_options image task (Some from) (Some part) None = Err fault.Option
+with_options image task (Some from) (Some part) (Some tries) =
+    if is_stray task from then Err fault.Option
+    else Ok (record { task = task; from = from; part = part; tries = tries; image = image })
+
+-- ---- the command
+
+abbrev pub command_of_task : List Row → Option Task → Result CommandState UsageFault
+command_of_task rows None = Err fault.Command
+command_of_task rows (Some task) = with_options (first_of (codes "image") rows) task
+    (start_of_text (first_of (codes "from") rows)) (part_of (first_of (codes "part") rows)) (tries_of (first_of (codes "tries") rows))
+
+-- the command of what `clap` made of the words, or why they are none
+abbrev pub command_of_matches : List Row → Result CommandState UsageFault
+command_of_matches rows = command_of_task rows (task_of (free_words rows))
+
+-- what the words mean, the first of which is the program's name
+unfoldable pub meaning_of : List (List ℕ) → Result CommandState UsageFault
+meaning_of words = if is_taken words then command_of_matches (rows_of_words words) else Err fault.Line

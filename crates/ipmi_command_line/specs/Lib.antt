@@ -1,0 +1,4 @@
+pub mod Arguments
+pub mod Command
+pub mod Number
+pub mod Table

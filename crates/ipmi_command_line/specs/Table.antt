@@ -1,0 +1,103 @@
+-- The table of commands: what is to be done by the words of a command line, by how many they are, a line for each row.
+use Rattle.std.specs.Prelude.{ℕ, Bool, ◌&&◌, List, [], ◌∷◌, zero, suc, Option, Some, None, option_map, codes, if◌then◌else◌}
+use Rattle.std.specs.Str.{bytes_eq}
+use Rattle.ipmi_bus.specs.declared.controller.Shelf.TheVariants as shelf
+use Rattle.ipmi_command_line.specs.declared.command.Count.{Count}
+use Rattle.ipmi_command_line.specs.declared.command.Count.TheVariants as count
+use Rattle.ipmi_command_line.specs.declared.command.Kind.{Kind}
+use Rattle.ipmi_command_line.specs.declared.command.Kind.TheVariants as kind
+use Rattle.ipmi_command_line.specs.declared.command.Task.{Task}
+use Rattle.ipmi_command_line.specs.declared.command.Task.TheVariants as task
+use Rattle.ipmi_command_line.specs.Number.{number_of, within}
+
+-- the first words of a line are these two
+abbrev pub are : List ℕ → List ℕ → List ℕ → List ℕ → Bool
+are a b first second = bytes_eq a first && bytes_eq b second
+
+-- ---- what the last word of a line names
+
+-- a kind of sensor data record
+abbrev pub kind_of : List ℕ → Option Kind
+kind_of word =
+    if bytes_eq word (codes "all") then Some kind.All
+    else (if bytes_eq word (codes "full") then Some kind.Full
+    else (if bytes_eq word (codes "compact") then Some kind.Compact
+    else (if bytes_eq word (codes "event") then Some kind.Event
+    else (if bytes_eq word (codes "generic") then Some kind.Generic
+    else (if bytes_eq word (codes "mclocator") then Some kind.Mc
+    else (if bytes_eq word (codes "fru") then Some kind.Fru
+    else None))))))
+
+-- the oldest entries of the event log, so many; 0 stands for all of them
+abbrev pub oldest : ℕ → Count
+oldest zero = count.All
+oldest (suc n) = count.First (suc n)
+
+-- the newest ones
+abbrev pub newest : ℕ → Count
+newest zero = count.All
+newest (suc n) = count.Last (suc n)
+
+abbrev pub inventory_of : List ℕ → Option Task
+inventory_of word = option_map (λ id. task.Fru (Some id)) (within 0 254 (number_of word))
+
+abbrev pub list_of : List ℕ → Option Task
+list_of word = option_map (λ kind. task.List kind) (kind_of word)
+
+abbrev pub elist_of : List ℕ → Option Task
+elist_of word = option_map (λ kind. task.Elist kind) (kind_of word)
+
+abbrev pub oldest_of : List ℕ → Option Task
+oldest_of word = option_map (λ n. task.SelList (oldest n)) (within 0 65535 (number_of word))
+
+abbrev pub newest_of : List ℕ → Option Task
+newest_of word = option_map (λ n. task.SelList (newest n)) (within 0 65535 (number_of word))
+
+abbrev pub entry_of : List ℕ → Option Task
+entry_of word = option_map (λ id. task.SelGet id) (within 1 65534 (number_of word))
+
+-- ---- the rows
+
+abbrev pub task_of_one : List ℕ → Option Task
+task_of_one a =
+    if bytes_eq a (codes "fru") then Some (task.Fru None)
+    else (if bytes_eq a (codes "sdr") then Some (task.List kind.Sensors)
+    else (if bytes_eq a (codes "sel") then Some (task.Info shelf.Sel)
+    else None))
+
+abbrev pub task_of_two : List ℕ → List ℕ → Option Task
+task_of_two a b =
+    if are a b (codes "fru") (codes "print") then Some (task.Fru None)
+    else (if are a b (codes "sdr") (codes "list") then Some (task.List kind.Sensors)
+    else (if are a b (codes "sdr") (codes "elist") then Some (task.Elist kind.Sensors)
+    else (if are a b (codes "sdr") (codes "hex") then Some task.Hex
+    else (if are a b (codes "sdr") (codes "info") then Some (task.Info shelf.Sdr)
+    else (if are a b (codes "sel") (codes "info") then Some (task.Info shelf.Sel)
+    else (if are a b (codes "sel") (codes "list") then Some (task.SelList count.All)
+    else (if are a b (codes "image") (codes "rewrite") then Some task.Rewrite
+    else None)))))))
+
+abbrev pub task_of_three : List ℕ → List ℕ → List ℕ → Option Task
+task_of_three a b c =
+    if are a b (codes "fru") (codes "print") then inventory_of c
+    else (if are a b (codes "sdr") (codes "list") then list_of c
+    else (if are a b (codes "sdr") (codes "elist") then elist_of c
+    else (if are a b (codes "sdr") (codes "get") then Some (task.Get c)
+    else (if are a b (codes "sel") (codes "list") then oldest_of c
+    else (if are a b (codes "sel") (codes "get") then entry_of c
+    else None)))))
+
+abbrev pub task_of_four : List ℕ → List ℕ → List ℕ → List ℕ → Option Task
+task_of_four a b c d =
+    if are a b (codes "sel") (codes "list") && bytes_eq c (codes "first") then oldest_of d
+    else (if are a b (codes "sel") (codes "list") && bytes_eq c (codes "last") then newest_of d
+    else None)
+
+-- no words are `sdr hex`, and more than four are nothing
+abbrev pub task_of : List (List ℕ) → Option Task
+task_of [] = Some task.Hex
+task_of (a ∷ []) = task_of_one a
+task_of (a ∷ b ∷ []) = task_of_two a b
+task_of (a ∷ b ∷ c ∷ []) = task_of_three a b c
+task_of (a ∷ b ∷ c ∷ d ∷ []) = task_of_four a b c d
+task_of (a ∷ b ∷ c ∷ d ∷ e ∷ words) = None

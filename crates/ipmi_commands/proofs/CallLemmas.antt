@@ -1,0 +1,217 @@
+-- How many calls a listing makes.
+use Rattle.std.proofs.Common.{◌≡◌, inl, inr, ℕ, zero, suc, ◌+◌, ◌*◌, ◌<◌, ◌≤◌, ◌==◌, nat_le, Bool, true, false, cond, Option, None, Some, Result, Ok, Err, List, [], ◌∷◌, length, take, drop, refl, sym, ap, subst, ◌∙◌, arith}
+use Rattle.std.specs.FinSet as set
+use Rattle.std.specs.FinSet.{len-insert}
+use Rattle.std.specs.Ordering.{nat_cmp}
+use Rattle.std.specs.Cmp.{nat_cmp_total}
+use Rattle.std.proofs.lemmas.Nat.{mul-le}
+use Rattle.std.proofs.lemmas.List.{take_all}
+use Rattle.std.proofs.Math.Seq.{take-nil, drop-nil}
+use Rattle.ipmi_bus.specs.Bounds.{step_call_bound, digits, reaches}
+use Rattle.ipmi_bus.specs.declared.controller.Shelf.{Shelf}
+use Rattle.ipmi_bus.specs.declared.step.Place.TheVariants.{Id, End}
+use Rattle.ipmi_bus.specs.declared.step.Ended.{Ended}
+use Rattle.ipmi_bus.specs.declared.step.Ended.TheVariants.{Cycle, Missing, Refused, GaveUp, Stalled, Malformed}
+use Rattle.ipmi_bus.specs.Shelf.{Row, first_row, len_of, largest_len}
+use Rattle.ipmi_bus.specs.Walk.{place_after}
+use Rattle.ipmi_bus.specs.Seen.{Seen}
+use Rattle.ipmi_bus.specs.CursorState.{CursorState}
+use Rattle.ipmi_bus.specs.Step.{IsStep, StepLeaves, StepCalls, HandsOut, AsksNothing}
+use Rattle.ipmi_bus.specs.Store.{Store}
+use Rattle.ipmi_command_line.specs.declared.command.Task.{Task}
+use Rattle.ipmi_commands.specs.Listing.{calls_for, calls_at_spots, first_rows, IsBelow, IsPlace, HasCalled, ListingCalls}
+use Rattle.ipmi_commands.specs.Plan.{spots_after}
+
+-- ---- digits
+
+reaches_most : (power n : ℕ) → reaches power n ≤ 1
+reaches_most power n = by_case (nat_le power n)
+  where
+    by_case : (b : Bool) → cond b 1 0 ≤ 1
+    by_case true = omega arith
+    by_case false = omega arith
+
+-- a part size has at least one digit, and at most eight
+pub digits_some : (n : ℕ) → 0 < n → 1 ≤ digits n
+digits_some n some =
+    let reached : nat_le 1 n ≡ true = search arith in
+    let one : reaches 1 n ≡ 1 = ap (λ (b : Bool). cond b 1 0) reached in omega (arith, one)
+
+pub digits_most : (n : ℕ) → digits n ≤ 8
+digits_most n =
+    omega (arith, reaches_most 1 n, reaches_most 2 n, reaches_most 4 n, reaches_most 8 n, reaches_most 16 n, reaches_most 32 n, reaches_most 64 n, reaches_most 128 n)
+
+-- ---- over any controller
+
+-- each record that is handed out is one id more
+pub one_id_more : (now next : CursorState) (row : Row) → HandsOut now next row → set.len next.ids ≡ set.len now.ids + 1
+one_id_more now next row hands =
+    ap (λ (s : set.FinSet nat_cmp). set.len s) hands.ids ∙ len-insert nat_cmp_total now.ids row.id ∙ ap (λ (b : Bool). cond b (set.len now.ids) (set.len now.ids + 1)) hands.unseen
+
+is_place : (next : ℕ) → next < 65536 → IsPlace (place_after next)
+is_place next fits = by_case (next == 65535) refl
+  where
+    by_case : (b : Bool) → (next == 65535) ≡ b → IsPlace (cond b End (Id next))
+    by_case true e = tt
+    by_case false e = search arith
+
+pub called_begun : (each : ℕ) (begun : CursorState) (s : Seen) → HasCalled each begun begun s s
+called_begun each begun s = record {
+  rows = 0;
+  within = omega arith;
+  most = omega arith;
+  calls = omega arith;
+  some = λ some. some;
+  place = λ place. place;
+}
+
+one_bound_more : (rows bound : ℕ) → (rows + 1) * bound ≡ rows * bound + bound
+one_bound_more rows bound = omega arith
+
+-- no more records are asked for than there are ids
+at_most_all : (rows bound : ℕ) → rows ≤ 65536 → rows * bound ≤ 65536 * bound
+at_most_all rows bound most = mul-le rows bound 65536 bound most (omega arith)
+
+-- a listing that stopped after a record
+pub called_stopped : (each : ℕ) (begun now : CursorState) (s s' : Seen) → HasCalled each begun now s s' → ListingCalls each begun now s s'
+called_stopped each begun now s s' called =
+    let all : called.rows * each ≤ 65536 * each = at_most_all called.rows each called.most in
+    let calls = called.calls in
+    record {
+      calls = λ some. let one = digits_some now.part (called.some some) in omega (arith, all, calls, one);
+      place = called.place;
+    }
+
+-- the place after a step that handed out nothing
+abbrev HandsNothing : Result (Option Row) Ended → Type 0
+HandsNothing (Ok (Some row)) = ⊥
+HandsNothing (Ok None) = Unit {0}
+HandsNothing (Err ended) = Unit {0}
+
+place_kept : (now next : CursorState) (result : Result (Option Row) Ended) → HandsNothing result → StepLeaves now next result → IsPlace now.place → IsPlace next.place
+place_kept now next (Ok (Some row)) none leaves place = absurd none
+place_kept now next (Ok None) none leaves place = subst IsPlace (sym leaves.1.place) tt
+place_kept now next (Err (Cycle n)) none leaves place = subst IsPlace (sym leaves.1.place) place
+place_kept now next (Err (Missing n)) none leaves place = subst IsPlace (sym leaves.1.place) place
+place_kept now next (Err (GaveUp n)) none leaves place = subst IsPlace (sym leaves.1.stays.place) place
+place_kept now next (Err (Refused n code)) none leaves place = subst IsPlace (sym leaves.1.stays.place) place
+place_kept now next (Err (Stalled n)) none leaves place = subst IsPlace (sym leaves.1.stays.place) place
+place_kept now next (Err (Malformed n)) none leaves place = subst IsPlace (sym leaves.1.stays.place) place
+
+-- a step of a listing over this shelf, with these tries, where each record takes so many calls at most
+module _ (tries behind each : ℕ) (shelf : Shelf) (begun now next : CursorState) (s s' s'' : Seen) (each_is : each ≡ step_call_bound tries (largest_len shelf) + behind) (same_shelf : now.shelf ≡ shelf) (same_tries : now.tries ≡ tries)
+    (called : HasCalled each begun now s s') where
+  -- at the bound of a step of the listing
+  at_bound : StepCalls (largest_len now.shelf) now next s' s'' → s''.calls + digits next.part ≤ s'.calls + step_call_bound tries (largest_len shelf) + digits now.part
+  at_bound calls =
+      subst (λ (x : Shelf). s''.calls + digits next.part ≤ s'.calls + step_call_bound tries (largest_len x) + digits now.part) same_shelf
+      (subst (λ (t : ℕ). s''.calls + digits next.part ≤ s'.calls + step_call_bound t (largest_len now.shelf) + digits now.part) same_tries calls)
+
+  -- behind a record, and what is asked for on account of it
+  pub called_more : (last : Seen) (row : Row) → IsStep now next s' s'' (Ok (Some row)) → last.calls ≤ s''.calls + behind → HasCalled each begun next s last
+  called_more last row step asked =
+      let hands = step.leaves.1 in
+      let more = one_id_more now next row hands in
+      let within = called.within in
+      let most = hands.at_most in
+      let calls = called.calls in
+      let stepped = at_bound step.calls in
+      let one = one_bound_more called.rows each in
+      record {
+        rows = called.rows + 1;
+        within = omega (arith, more, within);
+        most = omega (arith, more, within, most);
+        calls = subst (λ (n : ℕ). last.calls + digits next.part ≤ s.calls + n + digits begun.part) (sym one) (omega (arith, calls, stepped, asked, each_is));
+        some = λ some. step.same.part_not_zero;
+        place = λ place. subst IsPlace (sym hands.place) (is_place row.next hands.next);
+      }
+
+  -- a listing whose last step handed out nothing
+  called_ended : (result : Result (Option Row) Ended) → IsStep now next s' s'' result → HandsNothing result → ListingCalls each begun next s s''
+  called_ended result step none =
+      let calls = called.calls in
+      record {
+        calls = λ some. elim step.room [ inl asks ↦ quiet some asks | inr room ↦ asked room ];
+        place = λ place. place_kept now next result none step.leaves (called.place place);
+      }
+    where
+      quiet : 0 < begun.part → AsksNothing now → s''.calls + 1 ≤ s.calls + 65536 * each + digits begun.part
+      quiet some asks =
+          let all = at_most_all called.rows each called.most in
+          let one = digits_some now.part (called.some some) in
+          let calls = called.calls in
+          let same = ap (λ (x : Seen). x.calls) (step.no_call asks) in omega (arith, all, calls, one, same)
+
+      asked : set.len now.ids < 65536 → s''.calls + 1 ≤ s.calls + 65536 * each + digits begun.part
+      asked room =
+          let within = called.within in
+          let all = at_most_all (called.rows + 1) each (omega (arith, room, within)) in
+          let more = one_bound_more called.rows each in
+          let calls = called.calls in
+          let stepped = at_bound step.calls in
+          let one = digits_some next.part step.same.part_not_zero in omega (arith, all, more, calls, stepped, one, each_is)
+
+  pub called_done : IsStep now next s' s'' (Ok None) → ListingCalls each begun next s s''
+  called_done step = called_ended (Ok None) step tt
+
+  pub called_failed : (ended : Ended) → IsStep now next s' s'' (Err ended) → ListingCalls each begun next s s''
+  called_failed ended step = called_ended (Err ended) step tt
+
+-- ---- along a walk
+
+no_calls : (t : Task) (store : Store) (tries k : ℕ) → calls_for t store tries (take k []) ≡ 0
+no_calls t store tries k = ap (calls_for t store tries) (take-nil k)
+
+none_there : (k : ℕ) → len_of (first_row (drop k [])) ≡ 0
+none_there k = ap (λ (l : List Row). len_of (first_row l)) (drop-nil k)
+
+-- the calls for the first rows, and of a step for the next one, or of one that finds none
+calls_first : (t : Task) (store : Store) (tries n k : ℕ) (walk : List Row) → k < n → calls_for t store tries (take k walk) + step_call_bound tries (len_of (first_row (drop k walk))) ≤ calls_for t store tries (take n walk) + step_call_bound tries 0
+calls_first t store tries n k [] below =
+    let left = no_calls t store tries k in
+    let right = no_calls t store tries n in
+    let same = ap (step_call_bound tries) (none_there k) in omega (arith, left, right, same)
+calls_first t store tries zero k (row ∷ walk) below = absurd (omega (arith, below))
+calls_first t store tries (suc n) zero (row ∷ walk) below = omega arith
+calls_first t store tries (suc n) (suc k) (row ∷ walk) below = let rest = calls_first t store tries n k walk (omega (arith, below)) in omega (arith, rest)
+
+calls_all : (t : Task) (store : Store) (tries k : ℕ) (walk : List Row) → calls_for t store tries (take k walk) + step_call_bound tries (len_of (first_row (drop k walk))) ≤ calls_for t store tries walk + step_call_bound tries 0
+calls_all t store tries k walk =
+    let first = calls_first t store tries (k + 1 + length walk) k walk (omega arith) in
+    let all = ap (calls_for t store tries) (take_all (k + 1 + length walk) walk (omega arith)) in omega (arith, first, all)
+
+pub calls_upto : (t : Task) (store : Store) (tries : ℕ) (most : Option ℕ) (k : ℕ) (walk : List Row) → IsBelow most k
+    → calls_for t store tries (take k walk) + step_call_bound tries (len_of (first_row (drop k walk))) ≤ calls_for t store tries (first_rows most walk) + step_call_bound tries 0
+calls_upto t store tries None k walk below = calls_all t store tries k walk
+calls_upto t store tries (Some n) k walk below = calls_first t store tries n k walk below
+
+-- with one row more
+pub calls_more : (t : Task) (store : Store) (tries : ℕ) (walk : List Row) (k : ℕ) (row : Row) → first_row (drop k walk) ≡ Some row → calls_for t store tries (take (k + 1) walk) ≡ calls_for t store tries (take k walk) + (step_call_bound tries (length row.bytes) + calls_at_spots tries store (spots_after t row))
+calls_more t store tries [] zero row next = cc next
+calls_more t store tries [] (suc k) row next = cc next
+calls_more t store tries (first ∷ walk) zero row next = let same : first ≡ row = cc next in let bytes = ap (λ (r : Row). step_call_bound tries (length r.bytes) + calls_at_spots tries store (spots_after t r)) same in omega (arith, bytes)
+calls_more t store tries (first ∷ walk) (suc k) row next =
+    let same : calls_for t store tries (take (suc k + 1) (first ∷ walk)) ≡ calls_for t store tries (take (suc (k + 1)) (first ∷ walk)) = (let one_on : suc k + 1 ≡ suc (k + 1) = omega arith in ap (λ (n : ℕ). calls_for t store tries (take n (first ∷ walk))) one_on) in
+    let rest = calls_more t store tries walk k row next in omega (arith, same, rest)
+
+-- those of one row more, where it is wanted
+first_within : (t : Task) (store : Store) (tries n k : ℕ) (walk : List Row) → k < n → calls_for t store tries (take (k + 1) walk) ≤ calls_for t store tries (take n walk)
+first_within t store tries n k [] below = let left = no_calls t store tries (k + 1) in omega (arith, left)
+first_within t store tries zero k (row ∷ walk) below = absurd (omega (arith, below))
+first_within t store tries (suc n) zero (row ∷ walk) below = omega arith
+first_within t store tries (suc n) (suc k) (row ∷ walk) below =
+    let one_on : suc k + 1 ≡ suc (k + 1) = omega arith in
+    let same = ap (λ (m : ℕ). calls_for t store tries (take m (row ∷ walk))) one_on in
+    let rest = first_within t store tries n k walk (omega (arith, below)) in omega (arith, same, rest)
+
+all_within : (t : Task) (store : Store) (tries k : ℕ) (walk : List Row) → calls_for t store tries (take k walk) ≤ calls_for t store tries walk
+all_within t store tries zero walk = omega arith
+all_within t store tries (suc k) walk =
+    let first = first_within t store tries (k + 1 + length walk) k walk (omega arith) in
+    let all = ap (calls_for t store tries) (take_all (k + 1 + length walk) walk (omega arith)) in
+    let one_on : k + 1 ≡ suc k = omega arith in
+    let same = ap (λ (n : ℕ). calls_for t store tries (take n walk)) one_on in omega (arith, first, all, same)
+
+pub calls_within : (t : Task) (store : Store) (tries : ℕ) (most : Option ℕ) (k : ℕ) (walk : List Row) → IsBelow most k → calls_for t store tries (take (k + 1) walk) ≤ calls_for t store tries (first_rows most walk)
+calls_within t store tries None k walk below = all_within t store tries (k + 1) walk
+calls_within t store tries (Some n) k walk below = first_within t store tries n k walk below

@@ -1,0 +1,162 @@
+-- The items of a plan, one for each row, their texts, and the spots at which a run may stop.
+use Rattle.std.proofs.Common.{◌≡◌, ◌≢◌, inl, ℕ, zero, suc, ◌+◌, ◌<◌, ◌==◌, Bool, true, false, cond, Some, List, [], ◌∷◌, ◌++◌, length, take, drop, refl, sym, ap, subst, ◌∙◌, append_assoc, append-nil, arith}
+use Rattle.ipmi_bus.specs.declared.step.Place.{Place}
+use Rattle.ipmi_bus.specs.declared.step.Place.TheVariants.{First, Id, End}
+use Rattle.ipmi_bus.specs.Shelf.{Row, first_row}
+use Rattle.ipmi_bus.specs.Store.{Store}
+use Rattle.ipmi_bus.specs.Walk.{WalkEnd, Done, CycleAt, MissingAt, EndsBy, place_after, place_after_rows, last_next}
+use Rattle.ipmi_bus.specs.Standing.{MayFail}
+use Rattle.ipmi_bus.specs.Step.{asked_at}
+use Rattle.ipmi_command_line.specs.declared.command.Task.{Task}
+use Rattle.ipmi_commands.specs.Pieces.{IsRowPiece}
+use Rattle.ipmi_commands.specs.Plan.{Plan, Item, Spot, AtRecord, row_item, row_items, IsItemText, AreTexts, Printed, Outcome, IsAllowed, StopsAt, IsAmong, end_spots}
+use Rattle.ipmi_commands.specs.Plan as plan
+
+-- ---- items and rows
+
+-- those of some rows, and of the rows behind them
+pub items_joined : (t : Task) (start : Place) (done rest : List Row) → row_items t start (done ++ rest) ≡ row_items t start done ++ row_items t (place_after_rows start done) rest
+items_joined t start [] rest = refl
+items_joined t start (d ∷ done) rest = ap (λ (l : List Item). row_item t start d ∷ l) (items_joined t (place_after d.next) done rest)
+
+one_taken : (rows : List Row) (k : ℕ) (row : Row) → first_row (drop k rows) ≡ Some row → take (k + 1) rows ≡ take k rows ++ (row ∷ [])
+one_taken [] zero row next = cc next
+one_taken [] (suc k) row next = cc next
+one_taken (first ∷ rows) zero row next = let same : first ≡ row = cc next in ap (λ (r : Row). r ∷ []) same
+one_taken (first ∷ rows) (suc k) row next = let one_on : suc k + 1 ≡ suc (k + 1) = omega arith in ap (λ (n : ℕ). take n (first ∷ rows)) one_on ∙ ap (λ (l : List Row). first ∷ l) (one_taken rows k row next)
+
+-- ---- texts
+
+texts_joined : (t : Task) (store : Store) (items more : List Item) (a b : List ℕ) → AreTexts t store items a → AreTexts t store more b → AreTexts t store (items ++ more) (a ++ b)
+texts_joined t store [] more a b are rest = subst (λ (l : List ℕ). AreTexts t store more l) (sym (ap (λ (l : List ℕ). l ++ b) are)) rest
+texts_joined t store (item ∷ items) more a b are rest = record {
+  first = are.first;
+  rest = are.rest ++ b;
+  is_first = are.is_first;
+  is_rest = texts_joined t store items more are.rest b are.is_rest rest;
+  joined = ap (λ (l : List ℕ). l ++ b) are.joined ∙ append_assoc are.first are.rest b;
+}
+
+-- what is printed behind what was printed
+pub printed_joined : (t : Task) (store : Store) (items more : List Item) (old text new : List ℕ) → Printed t store items old text → Printed t store more text new → Printed t store (items ++ more) old new
+printed_joined t store items more old text new one two = record {
+  text = one.text ++ two.text;
+  are = texts_joined t store items more one.text two.text one.are two.are;
+  new_is = two.new_is ∙ ap (λ (l : List ℕ). l ++ two.text) one.new_is ∙ append_assoc old one.text two.text;
+}
+
+pub none_printed : (t : Task) (store : Store) (old : List ℕ) → Printed t store [] old old
+none_printed t store old = record { text = []; are = refl; new_is = sym (append-nil old) }
+
+pub one_printed : (t : Task) (store : Store) (item : Item) (text old new : List ℕ) → IsItemText t store item.subject text → new ≡ old ++ text → Printed t store (item ∷ []) old new
+one_printed t store item text old new is new_is = record { text = text; are = record { first = text; rest = []; is_first = is; is_rest = refl; joined = sym (append-nil text) }; new_is = new_is }
+
+-- one row more
+pub printed_more : (t : Task) (store : Store) (start : Place) (walk : List Row) (k : ℕ) (row : Row) (text old new more : List ℕ) → first_row (drop k walk) ≡ Some row → Printed t store (row_items t start (take k walk)) old new → IsRowPiece t store row text → more ≡ new ++ text
+    → Printed t store (row_items t start (take (k + 1) walk)) old more
+printed_more t store start walk k row text old new more next printed is more_is =
+    let item = row_item t (place_after_rows start (take k walk)) row in
+    let items = ap (row_items t start) (one_taken walk k row next) ∙ items_joined t start (take k walk) (row ∷ []) in
+    subst (λ (l : List Item). Printed t store l old more) (sym items) (printed_joined t store (row_items t start (take k walk)) (item ∷ []) old new more printed (one_printed t store item text new more is more_is))
+
+-- ---- plans
+
+-- behind some items
+abbrev pub after_items : List Item → Plan → Plan
+after_items first p = record { items = first ++ p.items; end = p.end; end_spots = p.end_spots }
+
+-- what is printed behind them is printed behind them all
+module _ (t : Task) (store : Store) (first : List Item) (p : Plan) (old text : List ℕ) (before : Printed t store first old text) (new : List ℕ) where
+  stops_joined : (spot : Spot) → StopsAt spot t store p text new → StopsAt spot t store (after_items first p) old new
+  stops_joined spot at = record {
+    done = first ++ at.done;
+    rest = at.rest;
+    items_are = ap (λ (l : List Item). first ++ l) at.items_are ∙ sym (append_assoc first at.done at.rest);
+    printed = printed_joined t store first at.done old text new before at.printed;
+    there = at.there;
+  }
+
+  pub leaves_joined : (outcome : Outcome) → IsAllowed t store p text new outcome → IsAllowed t store (after_items first p) old new outcome
+  leaves_joined (plan.Finished e) allowed = (printed_joined t store first p.items old text new before allowed.0, allowed.1)
+  leaves_joined (plan.GaveUp spot) allowed = stops_joined spot allowed
+  leaves_joined (plan.Refused spot code) allowed = stops_joined spot allowed
+  leaves_joined plan.OutOfMemory allowed = record {
+    done = first ++ allowed.done;
+    rest = allowed.rest;
+    items_are = ap (λ (l : List Item). first ++ l) allowed.items_are ∙ sym (append_assoc first allowed.done allowed.rest);
+    printed = printed_joined t store first allowed.done old text new before allowed.printed;
+  }
+  leaves_joined plan.WriteFault allowed = record {
+    done = first ++ allowed.done;
+    item = allowed.item;
+    rest = allowed.rest;
+    items_are = ap (λ (l : List Item). first ++ l) allowed.items_are ∙ sym (append_assoc first allowed.done (allowed.item ∷ allowed.rest));
+    whole = allowed.whole;
+    printed = printed_joined t store first allowed.done old text allowed.whole before allowed.printed;
+    text = allowed.text;
+    is_text = allowed.is_text;
+    bytes = allowed.bytes;
+    new_is = allowed.new_is;
+  }
+
+-- a row that is there
+pub row_there : (rows : List Row) (k : ℕ) → k < length rows → (row : Row) × (first_row (drop k rows) ≡ Some row)
+row_there [] k within = absurd (omega (arith, within))
+row_there (row ∷ rows) zero within = (row, refl)
+row_there (row ∷ rows) (suc k) within = row_there rows k (omega (arith, within))
+
+-- ---- spots
+
+-- behind a row a walk does not stand at the start
+not_first : (n : ℕ) (rows : List Row) → place_after_rows (place_after n) rows ≢ First
+not_first n [] at = by_case (n == 0xFFFF) at
+  where
+    by_case : (b : Bool) → cond b End (Id n) ≡ First → ⊥
+    by_case true e = cc e
+    by_case false e = cc e
+not_first n (row ∷ rows) at = not_first row.next rows at
+
+-- the id that is asked for behind rows whose last has a next one
+asked_next : (n : ℕ) (rows : List Row) → last_next n rows ≢ 0xFFFF → asked_at (place_after_rows (place_after n) rows) ≡ last_next n rows
+asked_next n [] more = ap asked_at (by_case (n == 0xFFFF) refl)
+  where
+    by_case : (b : Bool) → (n == 0xFFFF) ≡ b → cond (n == 0xFFFF) End (Id n) ≡ Id n
+    by_case true e = absurd (more (search arith))
+    by_case false e = ap (λ (b : Bool). cond b End (Id n)) e
+asked_next n (row ∷ rows) more = asked_next row.next rows more
+
+-- what is asked for at the end of a walk is a spot of its end
+pub end_spot : (rows : List Row) (start : Place) (walk : List Row) (end : WalkEnd) → EndsBy rows start walk end → MayFail end (place_after_rows start walk) → IsAmong (end_spots start walk end) (AtRecord (asked_at (place_after_rows start walk)))
+end_spot rows First [] Done ends may = inl refl
+end_spot rows (Id n) [] Done ends may = absurd ends
+end_spot rows End [] Done ends may = cc may
+end_spot rows start (row ∷ walk) Done ends may = absurd (not_first row.next walk may)
+end_spot rows start walk (CycleAt n) ends may = absurd may
+end_spot rows First [] (MissingAt n) ends may = absurd ends
+end_spot rows (Id id) [] (MissingAt n) ends may = inl (ap AtRecord (sym ends.0))
+end_spot rows End [] (MissingAt n) ends may = absurd ends
+end_spot rows start (row ∷ walk) (MissingAt n) ends may = inl (ap AtRecord (asked_next row.next walk ends.1 ∙ sym ends.0))
+
+-- the end of more rows is that of the last of them
+place_end : (place : Place) (rest : List Row) (end : WalkEnd) → place ≢ First → end_spots place rest end ≡ end_spots End rest end
+place_end First rest end behind = absurd (behind refl)
+place_end (Id n) rest Done behind = refl
+place_end (Id n) rest (CycleAt m) behind = refl
+place_end (Id n) rest (MissingAt m) behind = refl
+place_end End rest end behind = refl
+
+end_behind : (start : Place) (d : Row) (rows : List Row) (end : WalkEnd) → end_spots start (d ∷ rows) end ≡ end_spots End rows end
+end_behind First d rows Done = refl
+end_behind (Id n) d rows Done = refl
+end_behind End d rows Done = refl
+end_behind start d rows (CycleAt n) = refl
+end_behind start d rows (MissingAt n) = refl
+
+end_rest : (done rest : List Row) (end : WalkEnd) → end_spots End (done ++ rest) end ≡ end_spots End rest end
+end_rest done rest Done = refl
+end_rest done rest (CycleAt n) = refl
+end_rest done rest (MissingAt n) = refl
+
+pub end_joined : (start : Place) (done rest : List Row) (end : WalkEnd) → end_spots (place_after_rows start done) rest end ≡ end_spots start (done ++ rest) end
+end_joined start [] rest end = refl
+end_joined start (d ∷ done) rest end = place_end (place_after_rows (place_after d.next) done) rest end (not_first d.next done) ∙ sym (end_rest done rest end) ∙ sym (end_behind start d (done ++ rest) end)

@@ -1,0 +1,9 @@
+pub mod AskLemmas
+pub mod CallLemmas
+pub mod HexLemmas
+pub mod ItemLemmas
+pub mod ListingLemmas
+pub mod PageLemmas
+pub mod PagesLaw
+pub mod PlanLemmas
+pub mod UniqueLemmas

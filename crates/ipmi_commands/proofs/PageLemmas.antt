@@ -1,0 +1,249 @@
+-- Pages of a listing.
+use Rattle.std.proofs.Common.{◌≡◌, ◌⊎◌, inl, inr, ℕ, zero, suc, ◌+◌, ◌*◌, ◌<◌, ◌≤◌, ◌==◌, nat_le, nat_lt, Bool, true, false, cond, Option, None, Some, Ok, Err, List, [], ◌∷◌, length, take, refl, sym, ap, subst, ◌∙◌, arith}
+use Rattle.std.proofs.lemmas.Bool.{ltb-false}
+use Rattle.std.proofs.Math.Seq.{take-nil}
+use Rattle.std.proofs.lemmas.List.{take_all, length-take-le}
+use Rattle.ipmi_bus.specs.declared.step.Place.{Place}
+use Rattle.ipmi_bus.specs.declared.step.Place.TheVariants.{First, Id, End}
+use Rattle.ipmi_bus.specs.declared.step.Ended.{Ended}
+use Rattle.ipmi_bus.specs.declared.step.Ended.TheVariants.{Cycle}
+use Rattle.ipmi_bus.specs.Shelf.{Row}
+use Rattle.ipmi_bus.specs.Store.{Store, rows_of}
+use Rattle.ipmi_bus.specs.Walk.{row_at, IsWalk, WalkEnd, Done, CycleAt, MissingAt, EndsBy, place_after_rows}
+use Rattle.ipmi_bus.specs.Seen.{Seen, IsHonest}
+use Rattle.ipmi_bus.specs.CursorState.{CursorState, start_of}
+use Rattle.ipmi_bus.specs.Standing.{StandsAt}
+use Rattle.ipmi_bus.proofs.SinceLemmas.{stays_refl}
+use Rattle.ipmi_command_line.specs.declared.command.Task.{Task}
+use Rattle.ipmi_commands.specs.declared.stop.Stop.{Stop}
+use Rattle.ipmi_commands.specs.declared.stop.Stop.TheVariants as stop
+use Rattle.ipmi_commands.specs.Listing.{first_rows, first_end, most_for_one, most_calls, IsListing, ListingCalls}
+use Rattle.ipmi_commands.specs.Pages.{start_at, wants_none, GoesOn, PageAlong, IsPage, IsStopped, ArePages, pages_made}
+use Rattle.ipmi_commands.specs.Plan.{WalkEnds, row_items, Printed, shelf_of}
+use Rattle.ipmi_commands.specs.Plan as plan
+use Rattle.ipmi_commands.proofs.CallLemmas.{digits_most}
+use Rattle.ipmi_commands.proofs.ItemLemmas.{none_printed}
+use Rattle.ipmi_commands.proofs.ListingLemmas.{limit_end}
+
+-- ---- nothing was written
+
+no_first : (most : Option ℕ) → first_rows most [] ≡ []
+no_first None = refl
+no_first (Some n) = take-nil n
+
+-- of no row nothing is printed
+empty_printed : (t : Task) (store : Store) (most : Option ℕ) (start : Place) (text : List ℕ) → Printed t store (row_items t start (first_rows most [])) text text
+empty_printed t store most start text = subst (λ (l : List Row). Printed t store (row_items t start l) text text) (sym (no_first most)) (none_printed t store text)
+
+-- a page of no record
+pub page_of_none : (t : Task) (start : Place) (tries : ℕ) (s : Seen) (text : List ℕ) → IsHonest s → IsPage t (Some 0) start start tries s s text text stop.Done
+page_of_none t start tries s text honest = record {
+  outcome = plan.Finished (WalkEnds Done);
+  outcome_is = refl;
+  stays = stays_refl s honest;
+  counts = refl;
+  grows = omega arith;
+  none = λ zero_. refl;
+  along = λ same walk end w ends. record {
+    leaves = (none_printed t s.store text, sym (ap WalkEnds (limit_end 0 walk end (omega arith))));
+    calls = omega arith;
+    goes_on = λ done. inl refl;
+  };
+  plain = λ p. tt;
+}
+
+-- no walk goes from where no row is
+pub no_walk : (rows : List Row) (start : Place) (walk : List Row) → row_at start rows ≡ None → IsWalk rows start walk → walk ≡ []
+no_walk rows start [] none w = refl
+no_walk rows start (row ∷ walk) none w = let h = sym none ∙ w.first in cc h
+
+done_there : (rows : List Row) (end : WalkEnd) → EndsBy rows End [] end → end ≡ Done
+done_there rows Done ends = refl
+done_there rows (CycleAt n) ends = absurd ends
+done_there rows (MissingAt n) ends = absurd ends
+
+cycle_there : (rows : List Row) (end : WalkEnd) → EndsBy rows (Id 0) [] end → end ≡ CycleAt 0
+cycle_there rows Done ends = absurd ends
+cycle_there rows (CycleAt n) ends = ap CycleAt ends.0
+cycle_there rows (MissingAt n) ends = absurd (ends.1 refl)
+
+-- the end of no rows, where some are wanted
+end_of_none : (most : Option ℕ) (end : WalkEnd) → (most ≡ Some 0 → ⊥) → first_end most [] end ≡ end
+end_of_none None end some = refl
+end_of_none (Some zero) end some = absurd (some refl)
+end_of_none (Some (suc n)) end some = let e : nat_le (suc n) 0 ≡ false = search arith in ap (λ (b : Bool). cond b Done end) e
+
+pub some_wanted : (most : Option ℕ) → wants_none most ≡ false → most ≡ Some 0 → ⊥
+some_wanted most some none = let h = sym (ap wants_none none) ∙ some in cc h
+
+pub none_wanted : (most : Option ℕ) → wants_none most ≡ true → most ≡ Some 0
+none_wanted None none = cc none
+none_wanted (Some n) none = let zero_ : n ≡ 0 = search arith in ap Some zero_
+
+-- a page at the end
+pub page_at_end : (t : Task) (most : Option ℕ) (tries : ℕ) (s : Seen) (text : List ℕ) → IsHonest s → IsPage t most End End tries s s text text stop.Done
+page_at_end t most tries s text honest = record {
+  outcome = plan.Finished (WalkEnds Done);
+  outcome_is = refl;
+  stays = stays_refl s honest;
+  counts = refl;
+  grows = omega arith;
+  none = λ zero_. refl;
+  along = λ same walk end w ends.
+      let empty = no_walk (rows_of (shelf_of t) s.store) End walk refl w in
+      let done = done_there (rows_of (shelf_of t) s.store) end (subst (λ (l : List Row). EndsBy (rows_of (shelf_of t) s.store) End l end) empty ends) in
+      subst (λ (l : List Row). PageAlong t s.store most End l end End tries s s text text (plan.Finished (WalkEnds Done)) stop.Done) (sym empty)
+      (subst (λ (e : WalkEnd). PageAlong t s.store most End [] e End tries s s text text (plan.Finished (WalkEnds Done)) stop.Done) (sym done)
+      (record { leaves = (empty_printed t s.store most End text, sym (ap WalkEnds (end_done most))); calls = omega arith; goes_on = λ d. inl (ap (place_after_rows End) (sym (no_first most))) }));
+  plain = λ p. tt;
+}
+  where
+    end_done : (most : Option ℕ) → first_end most [] Done ≡ Done
+    end_done None = refl
+    end_done (Some n) = by_case (nat_le n 0)
+      where
+        by_case : (b : Bool) → cond b Done Done ≡ Done
+        by_case true = refl
+        by_case false = refl
+
+-- a page at the id 0000h
+pub page_at_zero : (t : Task) (most : Option ℕ) (tries : ℕ) (s : Seen) (text : List ℕ) → (most ≡ Some 0 → ⊥) → IsHonest s → IsPage t most (Id 0) (Id 0) tries s s text text (stop.Ended (Cycle 0))
+page_at_zero t most tries s text some honest = record {
+  outcome = plan.Finished (WalkEnds (CycleAt 0));
+  outcome_is = refl;
+  stays = stays_refl s honest;
+  counts = refl;
+  grows = omega arith;
+  none = λ zero_. refl;
+  along = λ same walk end w ends.
+      let empty = no_walk (rows_of (shelf_of t) s.store) (Id 0) walk refl w in
+      let cycle = cycle_there (rows_of (shelf_of t) s.store) end (subst (λ (l : List Row). EndsBy (rows_of (shelf_of t) s.store) (Id 0) l end) empty ends) in
+      subst (λ (l : List Row). PageAlong t s.store most (Id 0) l end (Id 0) tries s s text text (plan.Finished (WalkEnds (CycleAt 0))) (stop.Ended (Cycle 0))) (sym empty)
+      (subst (λ (e : WalkEnd). PageAlong t s.store most (Id 0) [] e (Id 0) tries s s text text (plan.Finished (WalkEnds (CycleAt 0))) (stop.Ended (Cycle 0))) (sym cycle)
+      (record { leaves = (empty_printed t s.store most (Id 0) text, sym (ap WalkEnds (end_of_none most (CycleAt 0) some))); calls = omega arith; goes_on = λ d. cc d }));
+  plain = λ p. tt;
+}
+
+-- a page where no cursor is needed
+pub page_without : (t : Task) (most : Option ℕ) (place : Place) (tries : ℕ) (s : Seen) (text : List ℕ) (st : Stop) → (most ≡ Some 0 → ⊥) → start_at place ≡ Err st → IsHonest s → IsPage t most place place tries s s text text st
+page_without t most First tries s text st some at honest = cc at
+page_without t most (Id n) tries s text st some at honest = by_case (n == 0) refl
+  where
+    by_case : (b : Bool) → (n == 0) ≡ b → IsPage t most (Id n) (Id n) tries s s text text st
+    by_case true e =
+        let h = sym (ap (λ (b : Bool). cond b (Err (stop.Ended (Cycle 0))) (Ok (Some n))) e) ∙ at in
+        let is : stop.Ended (Cycle 0) ≡ st = cc h in
+        let none : n ≡ 0 = search arith in
+        subst (λ (x : Stop). IsPage t most (Id n) (Id n) tries s s text text x) is (subst (λ (m : ℕ). IsPage t most (Id m) (Id m) tries s s text text (stop.Ended (Cycle 0))) (sym none) (page_at_zero t most tries s text some honest))
+    by_case false e = let h = sym (ap (λ (b : Bool). cond b (Err (stop.Ended (Cycle 0))) (Ok (Some n))) e) ∙ at in cc h
+page_without t most End tries s text st some at honest = let is : stop.Done ≡ st = cc at in subst (λ (x : Stop). IsPage t most End End tries s s text text x) is (page_at_end t most tries s text honest)
+
+-- a page for whose cursor no memory was left
+pub page_without_memory : (t : Task) (most : Option ℕ) (place : Place) (tries : ℕ) (s : Seen) (text : List ℕ) → IsHonest s → IsPage t most place place tries s s text text stop.Memory
+page_without_memory t most place tries s text honest = record {
+  outcome = plan.OutOfMemory;
+  outcome_is = refl;
+  stays = stays_refl s honest;
+  counts = refl;
+  grows = omega arith;
+  none = λ zero_. refl;
+  along = λ same walk end w ends. record { leaves = record { done = []; rest = row_items t place (first_rows most walk); items_are = refl; printed = none_printed t s.store text }; calls = omega arith; goes_on = λ d. cc d };
+  plain = λ p. tt;
+}
+
+-- ---- a page by a cursor
+
+pub start_of_place : (place : Place) (from : Option ℕ) → start_at place ≡ Ok from → start_of from ≡ place
+start_of_place First from at = let is : None ≡ from = cc at in ap start_of (sym is)
+start_of_place (Id n) from at = by_case (n == 0) refl
+  where
+    by_case : (b : Bool) → (n == 0) ≡ b → start_of from ≡ Id n
+    by_case true e = let h = sym (ap (λ (b : Bool). cond b (Err (stop.Ended (Cycle 0))) (Ok (Some n))) e) ∙ at in cc h
+    by_case false e =
+        let h = sym (ap (λ (b : Bool). cond b (Err (stop.Ended (Cycle 0))) (Ok (Some n))) e) ∙ at in
+        let is : Some n ≡ from = cc h in ap start_of (sym is)
+start_of_place End from at = cc at
+
+goes_on_there : (rows : List Row) (start : Place) (most : Option ℕ) (walk : List Row) (now : CursorState) → StandsAt rows start walk (length (first_rows most walk)) now → take (length (first_rows most walk)) walk ≡ first_rows most walk
+    → GoesOn rows start (first_rows most walk) now.place
+goes_on_there rows start most walk now stands first = elim stands.place [ inl at ↦ inl (at ∙ ap (place_after_rows start) first) | inr empty ↦ inr empty ]
+
+-- the first rows are as many as there are of them
+pub first_taken : (most : Option ℕ) (walk : List Row) → take (length (first_rows most walk)) walk ≡ first_rows most walk
+first_taken None walk = take_all (length walk) walk (omega arith)
+first_taken (Some n) walk = by_case (nat_lt n (length walk)) refl
+  where
+    by_case : (b : Bool) → nat_lt n (length walk) ≡ b → take (length (take n walk)) walk ≡ take n walk
+    by_case true e = let le : n ≤ length walk = search arith in ap (λ (k : ℕ). take k walk) (length-take-le n walk le)
+    by_case false e =
+        let past = ltb-false n (length walk) e in
+        let all = take_all n walk past in
+        ap (λ (l : List Row). take (length l) walk) all ∙ take_all (length walk) walk (omega arith) ∙ sym all
+
+pub page_by_cursor : (t : Task) (most : Option ℕ) (place : Place) (tries : ℕ) (begun now : CursorState) (s s' : Seen) (text text' : List ℕ) (result : Stop) → (most ≡ Some 0 → ⊥) → begun.reservation ≡ None → 0 < begun.part
+    → ((rows walk : List Row) → StandsAt rows place walk 0 begun) → IsListing t tries most begun now s s' text text' result → IsPage t most place now.place tries s s' text text' result
+page_by_cursor t most place tries begun now s s' text text' result some none part stands listing = record {
+  outcome = listing.outcome;
+  outcome_is = listing.outcome_is;
+  stays = listing.stays;
+  counts = listing.counts;
+  grows = listing.grows;
+  none = λ zero_. absurd (some zero_);
+  along = λ same walk end w ends.
+      let along = listing.along same place walk end w ends (stands (rows_of (shelf_of t) s.store) walk) in
+      let calls = along.calls part in
+      let eight = digits_most begun.part in
+      record {
+        leaves = along.leaves;
+        calls = omega (arith, calls, eight);
+        goes_on = λ done. goes_on_there (rows_of (shelf_of t) s.store) place most walk now (along.goes_on done) (first_taken most walk);
+      };
+  plain = λ p. listing.plain p (record { held = λ n held. let h = sym none ∙ held in cc h });
+}
+
+-- over any controller
+pub page_calls : (t : Task) (tries : ℕ) (begun now : CursorState) (s s' : Seen) → 0 < begun.part → ListingCalls (most_for_one t tries) begun now s s' → s'.calls ≤ s.calls + most_calls t tries
+page_calls t tries begun now s s' part listing = let eight = digits_most begun.part in let calls = listing.calls part in omega (arith, calls, eight)
+
+-- ---- pages, one after another
+
+-- what the pages that are left do is what all of them do
+abbrev pub LeadsTo : Task → List ℕ → List ℕ → Place → Place → ℕ → Seen → Seen → List ℕ → List ℕ → Type 0
+LeadsTo t all left start now tries s s' old text = (s'' : Seen) (new : List ℕ) (result : Stop) → ArePages t left now tries s' s'' text new result → ArePages t all start tries s s'' old new result
+
+pub page_leads : (t : Task) (all left : List ℕ) (size : ℕ) (start now next : Place) (tries : ℕ) (s s' s'' : Seen) (old text text' : List ℕ) → LeadsTo t all (size ∷ left) start now tries s s' old text → IsPage t (Some size) now next tries s' s'' text text' stop.Done
+    → LeadsTo t all left start next tries s s'' old text'
+page_leads t all left size start now next tries s s' s'' old text text' leads page = λ last new result rest. leads last new result (inr (record { next = next; seen = s''; text = text'; page = page; rest = rest }))
+
+pub last_leads : (t : Task) (all left : List ℕ) (size : ℕ) (start now next : Place) (tries : ℕ) (s s' s'' : Seen) (old text text' : List ℕ) (result : Stop) → LeadsTo t all (size ∷ left) start now tries s s' old text → IsPage t (Some size) now next tries s' s'' text text' result → IsStopped result
+    → ArePages t all start tries s s'' old text' result
+last_leads t all left size start now next tries s s' s'' old text text' result leads page stopped = leads s'' text' result (inl (record { next = next; page = page }, stopped))
+
+pub all_lead : (t : Task) (all : List ℕ) (start now next : Place) (tries : ℕ) (s s' s'' : Seen) (old text text' : List ℕ) (result : Stop) → LeadsTo t all [] start now tries s s' old text → IsPage t None now next tries s' s'' text text' result → ArePages t all start tries s s'' old text' result
+all_lead t all start now next tries s s' s'' old text text' result leads page = leads s'' text' result (record { next = next; page = page })
+
+pub stopped : (result : Stop) → ((x : Ended) × (result ≡ stop.Ended x)) ⊎ ((result ≡ stop.Memory) ⊎ (result ≡ stop.WriteFault)) → IsStopped result
+stopped result (inl ended) = subst IsStopped (sym ended.1) tt
+stopped result (inr (inl memory)) = subst IsStopped (sym memory) tt
+stopped result (inr (inr fault)) = subst IsStopped (sym fault) tt
+
+-- the calls of a page: none where it wants no record
+pub made_one : (size : ℕ) (sizes : List ℕ) (most : ℕ) → (size == 0) ≡ false → pages_made (size ∷ sizes) * most ≡ pages_made sizes * most + most
+made_one size sizes most some = let one : pages_made (size ∷ sizes) ≡ pages_made sizes + 1 = ap (λ (b : Bool). cond b (pages_made sizes) (pages_made sizes + 1)) some in ap (λ (n : ℕ). n * most) one ∙ (let same : (pages_made sizes + 1) * most ≡ pages_made sizes * most + most = omega arith in same)
+
+pub made_none : (size : ℕ) (sizes : List ℕ) (most : ℕ) → (size == 0) ≡ true → pages_made (size ∷ sizes) * most ≡ pages_made sizes * most
+made_none size sizes most none = let same : pages_made (size ∷ sizes) ≡ pages_made sizes = ap (λ (b : Bool). cond b (pages_made sizes) (pages_made sizes + 1)) none in ap (λ (n : ℕ). n * most) same
+
+pub calls_of_page : (size : ℕ) (sizes : List ℕ) (most bound : ℕ) (s s' : Seen) → s'.calls ≤ s.calls + most → (Some size ≡ Some 0 → s' ≡ s) → s.calls + pages_made (size ∷ sizes) * most ≤ bound → s'.calls + pages_made sizes * most ≤ bound
+calls_of_page size sizes most bound s s' page none before = by_case (size == 0) refl
+  where
+    by_case : (b : Bool) → (size == 0) ≡ b → s'.calls + pages_made sizes * most ≤ bound
+    by_case true e =
+        let zero_ : size ≡ 0 = search arith in
+        let same = ap (λ (x : Seen). x.calls) (none (ap Some zero_)) in
+        let made = made_none size sizes most e in omega (arith, same, made, before)
+    by_case false e = let made = made_one size sizes most e in omega (arith, page, made, before)
+
+-- the calls of all pages, where a page is the last
+pub calls_of_all : (calls made most bound : ℕ) → calls + made * most ≤ bound → calls ≤ bound
+calls_of_all calls made most bound all = omega (arith, all)

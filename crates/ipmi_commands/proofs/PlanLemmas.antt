@@ -1,0 +1,192 @@
+-- A listing as a run by its plan.
+use Rattle.std.proofs.Common.{◌≡◌, ◌⊎◌, inl, inr, ℕ, Bool, true, false, Option, None, Result, Ok, Err, List, [], refl, sym, ap, subst, ◌∙◌}
+use Rattle.ipmi_bus.specs.declared.step.Place.{Place}
+use Rattle.ipmi_bus.specs.declared.step.Ended.TheVariants.{Cycle, Missing, Refused, GaveUp, Stalled, Malformed}
+use Rattle.ipmi_bus.specs.Shelf.{Row}
+use Rattle.ipmi_bus.specs.Store.{Store}
+use Rattle.ipmi_bus.specs.Walk.{WalkEnd, Done}
+use Rattle.ipmi_bus.specs.Seen.{Seen, IsHonest}
+use Rattle.ipmi_image.specs.declared.image.ImageFault.{ImageFault}
+use Rattle.ipmi_image.specs.declared.image.ImageFault.TheVariants as image_fault
+use Rattle.ipmi_image.specs.Rewritten.{image_text_of}
+use Rattle.ipmi_command_line.specs.declared.command.Count.TheVariants as count
+use Rattle.ipmi_command_line.specs.declared.command.Task.{Task}
+use Rattle.ipmi_command_line.specs.declared.command.Task.TheVariants as task
+use Rattle.ipmi_commands.specs.declared.stop.Stop.{Stop}
+use Rattle.ipmi_commands.specs.declared.stop.Stop.TheVariants as stop
+use Rattle.ipmi_output.specs.declared.message.Message.TheVariants.{Image, OutOfMemory}
+use Rattle.ipmi_command_line.specs.Command.{is_listing}
+use Rattle.ipmi_commands.specs.Listing.{first_plan, IsOutcome, most_of}
+use Rattle.ipmi_commands.specs.Plan.{Plan, WalkEnds, OfImage, Printed, plan_of, rewrite_plan, Outcome, IsAllowed}
+use Rattle.ipmi_commands.specs.Plan as plan
+use Rattle.ipmi_output.specs.Received.{Received, ReceivesText}
+use Rattle.ipmi_commands.specs.Pages.{IsPage, ArePages}
+use Rattle.ipmi_commands.proofs.ItemLemmas.{none_printed, one_printed}
+use Rattle.ipmi_commands.proofs.PagesLaw.{pages_are_one}
+use Rattle.ipmi_commands.specs.Run.{IsRun, IsPagedRun, status_of, stop_status, stop_text, outcome_text, is_built, fault_status, WritesImage, IsRewriting, Says, AnswersRewrite, AnswersImage, AnswersTask}
+
+-- ---- a task that is built lists the first rows of its shelf
+
+pub plan_is_first : (t : Task) (store : Store) (start : Place) (walk : List Row) (end : WalkEnd) → is_built t ≡ true → plan_of t store start walk end ≡ first_plan (most_of t) t start walk end
+plan_is_first task.Hex store start walk end built = refl
+plan_is_first (task.List kind) store start walk end built = refl
+plan_is_first (task.Elist kind) store start walk end built = refl
+plan_is_first (task.SelList count.All) store start walk end built = refl
+plan_is_first (task.SelList (count.First n)) store start walk end built = refl
+plan_is_first (task.SelGet id) store start walk end built = refl
+plan_is_first (task.SelList (count.Last n)) store start walk end built = cc built
+plan_is_first (task.Fru id) store start walk end built = cc built
+plan_is_first (task.Get name) store start walk end built = cc built
+plan_is_first (task.Info shelf) store start walk end built = cc built
+plan_is_first task.Rewrite store start walk end built = cc built
+
+-- a listing can be run, and has no limit
+pub listed_whole : (t : Task) → is_listing t ≡ true → (is_built t ≡ true) × (most_of t ≡ None)
+listed_whole task.Hex listing = (refl, refl)
+listed_whole (task.List kind) listing = (refl, refl)
+listed_whole (task.Elist kind) listing = (refl, refl)
+listed_whole (task.SelList count.All) listing = (refl, refl)
+listed_whole (task.SelList (count.First n)) listing = cc listing
+listed_whole (task.SelList (count.Last n)) listing = cc listing
+listed_whole (task.SelGet id) listing = cc listing
+listed_whole (task.Fru id) listing = cc listing
+listed_whole (task.Get name) listing = cc listing
+listed_whole (task.Info shelf) listing = cc listing
+listed_whole task.Rewrite listing = cc listing
+
+-- ---- outcomes
+
+-- the status and the message by how a listing stopped are those of its outcome
+stop_said : (st : Stop) (outcome : Outcome) → IsOutcome st outcome → ◌≡◌ {A = ℕ × List ℕ} (stop_status st, stop_text st) (status_of outcome, outcome_text outcome)
+stop_said stop.Done outcome is = ap (λ (o : Outcome). (status_of o, outcome_text o)) (sym is)
+stop_said (stop.Ended (Cycle n)) outcome is = ap (λ (o : Outcome). (status_of o, outcome_text o)) (sym is)
+stop_said (stop.Ended (Missing n)) outcome is = ap (λ (o : Outcome). (status_of o, outcome_text o)) (sym is)
+stop_said (stop.Ended (GaveUp n)) outcome is = ap (λ (o : Outcome). (status_of o, outcome_text o)) (sym is)
+stop_said (stop.Ended (Refused n code)) outcome is = ap (λ (o : Outcome). (status_of o, outcome_text o)) (sym is)
+stop_said (stop.Ended (Stalled n)) outcome is = absurd is
+stop_said (stop.Ended (Malformed n)) outcome is = absurd is
+stop_said stop.Memory outcome is = ap (λ (o : Outcome). (status_of o, outcome_text o)) (sym is)
+stop_said stop.WriteFault outcome is = ap (λ (o : Outcome). (status_of o, outcome_text o)) (sym is)
+
+status_same : (st : Stop) (outcome : Outcome) → IsOutcome st outcome → stop_status st ≡ status_of outcome
+status_same st outcome is = ap (λ (said : ℕ × List ℕ). said.0) (stop_said st outcome is)
+
+text_same : (st : Stop) (outcome : Outcome) → IsOutcome st outcome → stop_text st ≡ outcome_text outcome
+text_same st outcome is = ap (λ (said : ℕ × List ℕ). said.1) (stop_said st outcome is)
+
+-- ---- runs
+
+pub run_by_listing : (t : Task) (start next : Place) (tries : ℕ) (s s' : Seen) (old new : List ℕ) (said said' : Received) (st : Stop) → is_built t ≡ true → IsPage t (most_of t) start next tries s s' old new st → ReceivesText said said' (stop_text st)
+    → IsRun t start tries s s' old new said said' (stop_status st)
+run_by_listing t start next tries s s' old new said said' st built page message = record {
+  result = st;
+  outcome = page.outcome;
+  outcome_is = page.outcome_is;
+  status_is = status_same st page.outcome page.outcome_is;
+  message = subst (λ (l : List ℕ). ReceivesText said said' l) (text_same st page.outcome page.outcome_is) message;
+  stays = page.stays;
+  counts = page.counts;
+  allowed = λ same walk end w ends. subst (λ (p : Plan). IsAllowed t s.store p old new page.outcome) (sym (plan_is_first t s.store start walk end built)) (page.along same walk end w ends).leaves;
+  calls = λ same walk end w ends. (page.along same walk end w ends).calls;
+  plain = page.plain;
+}
+
+pub run_in_pages : (t : Task) (sizes : List ℕ) (start : Place) (tries : ℕ) (s s' : Seen) (old new : List ℕ) (said said' : Received) (st : Stop) → is_listing t ≡ true → IsHonest s → ArePages t sizes start tries s s' old new st → ReceivesText said said' (stop_text st)
+    → IsPagedRun t sizes start tries s s' old new said said' (stop_status st)
+run_in_pages t sizes start tries s s' old new said said' st listing honest pages message =
+    let one = pages_are_one t sizes start tries s s' old new st honest pages in
+    record {
+      result = st;
+      outcome = one.outcome;
+      outcome_is = one.outcome_is;
+      status_is = status_same st one.outcome one.outcome_is;
+      message = subst (λ (l : List ℕ). ReceivesText said said' l) (text_same st one.outcome one.outcome_is) message;
+      stays = one.stays;
+      counts = one.counts;
+      pages = pages;
+      allowed = λ same walk end w ends open_.
+          subst (λ (p : Plan). IsAllowed t s.store p old new one.outcome) (sym (plan_is_first t s.store start walk end (listed_whole t listing).0 ∙ ap (λ (most : Option ℕ). first_plan most t start walk end) (listed_whole t listing).1)) (one.leaves same walk end w ends open_);
+      calls = one.calls;
+      plain = one.plain;
+    }
+
+-- ---- an image written again
+
+pub rewriting : (store : Store) (old new : List ℕ) (said said' : Received) (st : Stop) → WritesImage (image_text_of store) old new st → ReceivesText said said' (stop_text st) → IsRewriting store old new said said' (stop_status st)
+rewriting store old new said said' stop.Done writes message = record {
+  outcome = plan.Finished (WalkEnds Done);
+  status_is = refl;
+  message = message;
+  allowed = (one_printed task.Rewrite store (record { subject = OfImage; spots = [] }) (image_text_of store) old new refl writes, refl);
+  unwritten = λ e. cc e;
+  fine = tt;
+}
+rewriting store old new said said' (stop.Ended ended) writes message = absurd writes
+rewriting store old new said said' stop.Memory writes message = record {
+  outcome = plan.OutOfMemory;
+  status_is = refl;
+  message = message;
+  allowed = record { done = []; rest = rewrite_plan.items; items_are = refl; printed = subst (λ (l : List ℕ). Printed task.Rewrite store [] old l) (sym writes) (none_printed task.Rewrite store old) };
+  unwritten = λ e. writes;
+  fine = tt;
+}
+rewriting store old new said said' stop.WriteFault writes message = record {
+  outcome = plan.WriteFault;
+  status_is = refl;
+  message = message;
+  allowed = record {
+    done = [];
+    item = record { subject = OfImage; spots = [] };
+    rest = [];
+    items_are = refl;
+    whole = old;
+    printed = none_printed task.Rewrite store old;
+    text = image_text_of store;
+    is_text = refl;
+    bytes = writes.0;
+    new_is = writes.1;
+  };
+  unwritten = λ e. cc e;
+  fine = tt;
+}
+
+-- ---- an image that is not read
+
+-- where memory ran out, nothing was written
+unread_rewriting : (read : Result Store ImageFault) (old : List ℕ) (said said' : Received) (status : ℕ) → Says said said' status OutOfMemory 5 → AnswersRewrite read old old said said' status
+unread_rewriting (Ok store) old said said' status says = record {
+  outcome = plan.OutOfMemory;
+  status_is = says.0;
+  message = says.1;
+  allowed = record { done = []; rest = rewrite_plan.items; items_are = refl; printed = none_printed task.Rewrite store old };
+  unwritten = λ e. refl;
+  fine = tt;
+}
+unread_rewriting (Err fault) old said said' status says = (refl, inr says)
+
+unread_run : (t : Task) (read : Result Store ImageFault) (start : Place) (old : List ℕ) (said said' : Received) (status : ℕ) → Says said said' status OutOfMemory 5 → AnswersImage t read start old old said said' status
+unread_run t (Ok store) start old said said' status says = record {
+  outcome = plan.OutOfMemory;
+  status_is = says.0;
+  message = says.1;
+  allowed = λ walk end w ends. record { done = []; rest = (plan_of t store start walk end).items; items_are = refl; printed = none_printed t store old };
+  fine = tt;
+}
+unread_run t (Err fault) start old said said' status says = (refl, inr says)
+
+-- the fault of the image, or want of memory
+pub not_rewritten : (fault : ImageFault) (read : Result Store ImageFault) (old : List ℕ) (said said' : Received) (status : ℕ) → (fault ≡ image_fault.Memory) ⊎ (read ≡ Err fault)
+    → Says said said' status (Image fault) (fault_status fault) → AnswersRewrite read old old said said' status
+not_rewritten fault read old said said' status (inl memory) says =
+    unread_rewriting read old said said' status (subst (λ (f : ImageFault). Says said said' status (Image f) (fault_status f)) memory says)
+not_rewritten fault read old said said' status (inr is) says =
+    subst (λ (r : Result Store ImageFault). AnswersRewrite r old old said said' status) (sym is) (refl, inl says)
+
+pub not_run : (rewrite built : Bool) (t : Task) (fault : ImageFault) (read : Result Store ImageFault) (start : Place) (old : List ℕ) (said said' : Received) (status : ℕ) → rewrite ≡ false → built ≡ true
+    → (fault ≡ image_fault.Memory) ⊎ (read ≡ Err fault) → Says said said' status (Image fault) (fault_status fault) → AnswersTask rewrite built t read start old old said said' status
+not_run true built t fault read start old said said' status ran can is says = cc ran
+not_run false false t fault read start old said said' status ran can is says = cc can
+not_run false true t fault read start old said said' status ran can (inl memory) says =
+    unread_run t read start old said said' status (subst (λ (f : ImageFault). Says said said' status (Image f) (fault_status f)) memory says)
+not_run false true t fault read start old said said' status ran can (inr is) says =
+    subst (λ (r : Result Store ImageFault). AnswersImage t r start old old said said' status) (sym is) (refl, inl says)

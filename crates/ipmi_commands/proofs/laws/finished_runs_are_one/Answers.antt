@@ -1,0 +1,5 @@
+use Rattle.ipmi_commands.proofs.UniqueLemmas.{one_output}
+use Rattle.ipmi_commands.proofs.laws.finished_runs_are_one.Goals as goal
+
+pub returns : goal.returns
+returns c = one_output c.one_walk_has_an_end.ensures.exists

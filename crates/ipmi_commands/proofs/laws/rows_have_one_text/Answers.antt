@@ -1,0 +1,5 @@
+use Rattle.ipmi_commands.proofs.UniqueLemmas.{one_text}
+use Rattle.ipmi_commands.proofs.laws.rows_have_one_text.Goals as goal
+
+pub returns : goal.returns
+returns c = one_text

@@ -1,0 +1,7 @@
+pub mod Asking
+pub mod Line
+pub mod Listing
+pub mod Pages
+pub mod Pieces
+pub mod Plan
+pub mod Run

@@ -1,0 +1,231 @@
+-- What a listing of the records along a walk leaves in its output, by the plan of its items.
+use Rattle.std.specs.Prelude.{◌≡◌, ℕ, ◌+◌, ◌-◌, ◌*◌, ◌<◌, ◌≤◌, ◌==◌, nat_le, if◌then◌else◌, IsTrue, Option, None, Some, Result, Ok, Err, String, string_bytes, List, [], ◌∷◌, length, take}
+use Rattle.std.specs.FinSet as set
+use Rattle.std.specs.declared.alloc.Global.{Global}
+use Rattle.ipmi_bus.specs.Bounds.{step_call_bound, fru_call_bound, digits}
+use Rattle.ipmi_bus.specs.declared.step.Place.{Place}
+use Rattle.ipmi_bus.specs.declared.step.Place.TheVariants.{First, Id, End}
+use Rattle.ipmi_bus.specs.declared.step.Ended.TheVariants.{Cycle, Missing, Refused, GaveUp, Stalled, Malformed}
+use Rattle.ipmi_bus.specs.Readers.{inventory_len, KeepsReservations}
+use Rattle.ipmi_bus.specs.Shelf.{Row, largest_len}
+use Rattle.ipmi_bus.specs.Store.{Store, rows_of}
+use Rattle.ipmi_bus.specs.Walk.{IsWalk, WalkEnd, Done, CycleAt, MissingAt, EndsBy}
+use Rattle.ipmi_bus.specs.Seen.{Seen, StaysHonest}
+use Rattle.ipmi_bus.specs.CursorState.{CursorState}
+use Rattle.ipmi_bus.specs.Standing.{StandsAt}
+use Rattle.ipmi_bus.specs.Step.{CursorHoldsCurrent}
+use Rattle.ipmi_command_line.specs.declared.command.Count.TheVariants as count
+use Rattle.ipmi_command_line.specs.declared.command.Task.{Task}
+use Rattle.ipmi_command_line.specs.declared.command.Task.TheVariants as task
+use Rattle.ipmi_commands.specs.declared.stop.Stop.{Stop}
+use Rattle.ipmi_commands.specs.declared.stop.Stop.TheVariants as stop
+use Rattle.ipmi_commands.specs.Pieces.{IsRowPiece}
+use Rattle.ipmi_commands.specs.Plan.{Plan, Spot, AtRecord, AtInventory, WalkEnds, row_items, Printed, Outcome, IsAllowed, CountsSo, IsFine, IsAmong, end_spots, shelf_of, spots_after}
+use Rattle.ipmi_commands.specs.Plan as plan
+
+-- ---- how far a listing goes
+
+-- the first rows of a walk, or all where there is no limit
+abbrev pub first_rows : Option ℕ → List Row → List Row
+first_rows None walk = walk
+first_rows (Some n) walk = take n walk
+
+-- how a listing of them ends: after the last that is wanted no record is asked for
+abbrev pub first_end : Option ℕ → List Row → WalkEnd → WalkEnd
+first_end None walk end = end
+first_end (Some n) walk end = if nat_le n (length walk) then Done else end
+
+-- after how many records a listing of the task stops; the last ones have no such limit
+abbrev pub most_of : Task → Option ℕ
+most_of (task.Fru id) = None
+most_of task.Hex = None
+most_of (task.List kind) = None
+most_of (task.Elist kind) = None
+most_of (task.Get name) = None
+most_of (task.Info shelf) = None
+most_of (task.SelList count.All) = None
+most_of (task.SelList (count.First n)) = Some n
+most_of (task.SelList (count.Last n)) = None
+most_of (task.SelGet id) = Some 1
+most_of task.Rewrite = None
+
+-- fewer than are wanted
+abbrev pub IsBelow : Option ℕ → ℕ → Type 0
+IsBelow None count = Unit {0}
+IsBelow (Some n) count = count < n
+
+-- ---- what it is to print, and how it stopped
+
+-- the plan of a listing of the first rows of a walk
+abbrev pub first_plan : Option ℕ → Task → Place → List Row → WalkEnd → Plan
+first_plan most t start walk end = record { items = row_items t start (first_rows most walk); end = WalkEnds (first_end most walk end); end_spots = end_spots start walk (first_end most walk end) }
+
+-- how it stopped, as the outcome of a run
+abbrev pub IsOutcome : Stop → Outcome → Type 0
+IsOutcome stop.Done outcome = outcome ≡ plan.Finished (WalkEnds Done)
+IsOutcome (stop.Ended (Cycle n)) outcome = outcome ≡ plan.Finished (WalkEnds (CycleAt n))
+IsOutcome (stop.Ended (Missing n)) outcome = outcome ≡ plan.Finished (WalkEnds (MissingAt n))
+IsOutcome (stop.Ended (GaveUp n)) outcome = outcome ≡ plan.GaveUp (AtRecord n)
+IsOutcome (stop.Ended (Refused n code)) outcome = outcome ≡ plan.Refused (AtRecord n) code.0
+IsOutcome (stop.Ended (Stalled n)) outcome = ⊥
+IsOutcome (stop.Ended (Malformed n)) outcome = ⊥
+IsOutcome stop.Memory outcome = outcome ≡ plan.OutOfMemory
+IsOutcome stop.WriteFault outcome = outcome ≡ plan.WriteFault
+
+-- a write fault is one fault of the output, and nothing else is
+abbrev pub faults_of : Stop → ℕ
+faults_of stop.Done = 0
+faults_of (stop.Ended e) = 0
+faults_of stop.Memory = 0
+faults_of stop.WriteFault = 1
+
+-- ---- calls
+
+-- those for what is asked for besides records: for a reading, at its record, or for an inventory
+abbrev pub calls_at : ℕ → Store → Spot → ℕ
+calls_at tries store (AtRecord n) = tries + 1
+calls_at tries store (AtInventory id) = fru_call_bound tries (inventory_len id store)
+
+abbrev pub calls_at_spots : ℕ → Store → List Spot → ℕ
+calls_at_spots tries store [] = 0
+calls_at_spots tries store (spot ∷ spots) = calls_at tries store spot + calls_at_spots tries store spots
+
+-- as many as the bound of a step for each row, and of what is asked for because of it
+abbrev pub calls_for : Task → Store → ℕ → List Row → ℕ
+calls_for t store tries [] = 0
+calls_for t store tries (row ∷ rows) = step_call_bound tries (length row.bytes) + calls_at_spots tries store (spots_after t row) + calls_for t store tries rows
+
+-- of a cursor along these rows: beside those, the calls of a step that finds no row, and one for each fall of the part size, of
+-- which there are at most seven
+abbrev pub walk_call_bound : Task → Store → ℕ → List Row → ℕ
+walk_call_bound t store tries rows = calls_for t store tries rows + step_call_bound tries 0 + 7
+
+-- over any controller, for what is asked for because of one record
+abbrev pub most_after : Task → ℕ → ℕ
+most_after (task.Fru id) tries = fru_call_bound tries 65535
+most_after task.Hex tries = 0
+most_after (task.List kind) tries = tries + 1
+most_after (task.Elist kind) tries = tries + 1
+most_after (task.Get name) tries = tries + 1
+most_after (task.Info shelf) tries = 0
+most_after (task.SelList entries) tries = 0
+most_after (task.SelGet id) tries = 0
+most_after task.Rewrite tries = 0
+
+-- over any controller, for one record and for what is asked for because of it
+abbrev pub most_for_one : Task → ℕ → ℕ
+most_for_one t tries = step_call_bound tries (largest_len (shelf_of t)) + most_after t tries
+
+-- of a cursor over any controller: it asks for at most 65,536 records
+abbrev pub most_calls : Task → ℕ → ℕ
+most_calls t tries = 65536 * most_for_one t tries + 7
+
+-- ---- the text of a record
+
+-- what holds over an honest controller after something was asked for at these spots
+pub record AsksAt (spots : List Spot) (tries : ℕ) (s s' : Seen) : Type 0 where
+  pub stays : StaysHonest s s'
+  pub grows : s.troubles ≤ s'.troubles
+  pub calls : s'.stores_added ≡ s.stores_added → s'.calls ≤ s.calls + calls_at_spots tries s.store spots
+  pub plain : IsTrue s.plain → KeepsReservations s s'
+
+-- a text is found
+pub record FindsText (IsText : Store → List ℕ → Type 0) (spots : List Spot) (tries : ℕ) (s s' : Seen) (text : List ℕ) : Type 0 where
+  pub asks : AsksAt spots tries s s'
+  pub refusals : s'.refusals ≡ s.refusals
+  pub is : s'.stores_added ≡ s.stores_added → IsText s.store text
+
+-- none is found: what is asked for is given up or refused at one of the spots, or memory is wanted
+abbrev pub MayStopAt : List Spot → Outcome → Type 0
+MayStopAt spots (plan.Finished end) = ⊥
+MayStopAt spots (plan.GaveUp spot) = IsAmong spots spot
+MayStopAt spots (plan.Refused spot code) = IsAmong spots spot
+MayStopAt spots plan.OutOfMemory = Unit {0}
+MayStopAt spots plan.WriteFault = ⊥
+
+pub record FindsNone (spots : List Spot) (tries : ℕ) (s s' : Seen) (result : Stop) : Type 0 where
+  pub asks : AsksAt spots tries s s'
+  pub outcome : Outcome
+  pub outcome_is : IsOutcome result outcome
+  pub counts : CountsSo tries s s' outcome
+  pub there : MayStopAt spots outcome
+  pub plain : IsTrue s.plain → IsFine outcome
+
+-- a text that is made with what is asked for at these spots
+abbrev pub Finds : (Store → List ℕ → Type 0) → List Spot → ℕ → Seen → Seen → Result (String Global) Stop → Type 0
+Finds IsText spots tries s s' (Ok text) = FindsText IsText spots tries s s' (string_bytes text)
+Finds IsText spots tries s s' (Err stop) = FindsNone spots tries s s' stop
+
+-- what the task prints for a row
+abbrev pub FindsPiece : Task → ℕ → Row → Seen → Seen → Result (String Global) Stop → Type 0
+FindsPiece t tries row s s' result = Finds (λ store text. IsRowPiece t store row text) (spots_after t row) tries s s' result
+
+-- ---- a listing by a cursor
+
+-- how many are left of those wanted, after so many
+abbrev pub IsLeft : Option ℕ → ℕ → Option ℕ → Type 0
+IsLeft None count left = left ≡ None
+IsLeft (Some n) count left = (m : ℕ) × (left ≡ Some m) × (count + m ≡ n)
+
+-- how many are left after one more; nothing where none is wanted
+abbrev pub after_one : Option ℕ → Option (Option ℕ)
+after_one None = Some None
+after_one (Some n) = if n == 0 then None else Some (Some (n - 1))
+
+-- a cursor can start there, if anything is asked for there
+abbrev pub IsPlace : Place → Type 0
+IsPlace First = Unit {0}
+IsPlace (Id n) = n < 65535
+IsPlace End = Unit {0}
+
+-- since the listing began, over any controller: so many records were handed out, for no more calls than the most for each
+pub record HasCalled (each : ℕ) (begun now : CursorState) (s s' : Seen) : Type 0 where
+  pub rows : ℕ
+  pub within : rows ≤ set.len now.ids
+  pub most : rows ≤ 65536
+  pub calls : s'.calls + digits now.part ≤ s.calls + rows * each + digits begun.part
+  pub some : 0 < begun.part → 0 < now.part
+  pub place : IsPlace begun.place → IsPlace now.place
+
+-- a whole listing, over any controller
+pub record ListingCalls (each : ℕ) (begun now : CursorState) (s s' : Seen) : Type 0 where
+  pub calls : 0 < begun.part → s'.calls + 1 ≤ s.calls + 65536 * each + digits begun.part
+  pub place : IsPlace begun.place → IsPlace now.place
+
+-- no refusal so far, and no trouble taken back
+pub record IsUnrefused (s s' : Seen) : Type 0 where
+  pub refusals : s'.refusals ≡ s.refusals
+  pub troubles : s.troubles ≤ s'.troubles
+
+-- along a walk: the cursor stands at some row of it, and texts of the rows before it were written
+pub record HasListed (t : Task) (tries : ℕ) (store : Store) (start : Place) (walk : List Row) (most left : Option ℕ) (begun now : CursorState) (s s' : Seen) (old new : List ℕ) : Type 0 where
+  pub count : ℕ
+  pub stands : StandsAt (rows_of (shelf_of t) store) start walk count now
+  pub printed : Printed t store (row_items t start (take count walk)) old new
+  pub wanted : IsLeft most count left
+  pub calls : s'.calls + digits now.part ≤ s.calls + calls_for t store tries (take count walk) + digits begun.part
+
+-- since the listing began, over an honest controller
+pub record ListsHonest (t : Task) (tries : ℕ) (most left : Option ℕ) (begun now : CursorState) (s s' : Seen) (old new : List ℕ) : Type 0 where
+  pub stays : StaysHonest s s'
+  pub unrefused : IsUnrefused s s'
+  pub listed : s'.stores_added ≡ s.stores_added → (start : Place) (walk : List Row) (end : WalkEnd) → IsWalk (rows_of (shelf_of t) s.store) start walk → EndsBy (rows_of (shelf_of t) s.store) start walk end
+      → StandsAt (rows_of (shelf_of t) s.store) start walk 0 begun → HasListed t tries s.store start walk most left begun now s s' old new
+  pub plain : IsTrue s.plain → CursorHoldsCurrent begun s → CursorHoldsCurrent now s'
+
+-- a whole listing along a walk: what it leaves, the bound of its calls, and that its cursor stands after the rows that are wanted
+pub record ListsAlong (t : Task) (tries : ℕ) (store : Store) (start : Place) (walk : List Row) (end : WalkEnd) (most : Option ℕ) (begun now : CursorState) (s s' : Seen) (old new : List ℕ) (outcome : Outcome) (result : Stop) : Type 0 where
+  pub leaves : IsAllowed t store (first_plan most t start walk end) old new outcome
+  pub calls : 0 < begun.part → s'.calls + 1 ≤ s.calls + calls_for t store tries (first_rows most walk) + step_call_bound tries 0 + digits begun.part
+  pub goes_on : result ≡ stop.Done → StandsAt (rows_of (shelf_of t) store) start walk (length (first_rows most walk)) now
+
+-- a whole listing, over an honest controller
+pub record IsListing (t : Task) (tries : ℕ) (most : Option ℕ) (begun now : CursorState) (s s' : Seen) (old new : List ℕ) (result : Stop) : Type 0 where
+  pub outcome : Outcome
+  pub outcome_is : IsOutcome result outcome
+  pub stays : StaysHonest s s'
+  pub counts : CountsSo tries s s' outcome
+  pub grows : s.troubles ≤ s'.troubles
+  pub along : s'.stores_added ≡ s.stores_added → (start : Place) (walk : List Row) (end : WalkEnd) → IsWalk (rows_of (shelf_of t) s.store) start walk → EndsBy (rows_of (shelf_of t) s.store) start walk end
+      → StandsAt (rows_of (shelf_of t) s.store) start walk 0 begun → ListsAlong t tries s.store start walk end most begun now s s' old new outcome result
+  pub plain : IsTrue s.plain → CursorHoldsCurrent begun s → IsFine outcome

@@ -1,0 +1,90 @@
+-- A listing in pages: each page has a cursor of its own, from where the page before it stopped.
+use Rattle.std.specs.Prelude.{◌≡◌, ℕ, ◌+◌, ◌≤◌, ◌==◌, if◌then◌else◌, ◌⊎◌, Bool, false, IsTrue, Option, None, Some, Result, Ok, Err, List, [], ◌∷◌}
+use Rattle.ipmi_bus.specs.declared.step.Place.{Place}
+use Rattle.ipmi_bus.specs.declared.step.Place.TheVariants.{First, Id, End}
+use Rattle.ipmi_bus.specs.declared.step.Ended.TheVariants.{Cycle}
+use Rattle.ipmi_bus.specs.Shelf.{Row, first_row}
+use Rattle.ipmi_bus.specs.Store.{Store, rows_of}
+use Rattle.ipmi_bus.specs.Walk.{IsWalk, WalkEnd, Done, CycleAt, MissingAt, EndsBy, place_after_rows}
+use Rattle.ipmi_bus.specs.Seen.{Seen, StaysHonest}
+use Rattle.ipmi_commands.specs.declared.stop.Stop.{Stop}
+use Rattle.ipmi_commands.specs.declared.stop.Stop.TheVariants as stop
+use Rattle.ipmi_command_line.specs.declared.command.Task.{Task}
+use Rattle.ipmi_commands.specs.Listing.{first_rows, first_plan, IsOutcome, walk_call_bound}
+use Rattle.ipmi_commands.specs.Plan.{Outcome, IsAllowed, CountsSo, IsFine, shelf_of}
+
+-- the id that a cursor starts from; after the last record, and at the id 0000h, no cursor is needed
+abbrev pub start_at : Place → Result (Option ℕ) Stop
+start_at First = Ok None
+start_at (Id n) = if n == 0 then Err (stop.Ended (Cycle 0)) else Ok (Some n)
+start_at End = Err stop.Done
+
+-- a page of no record
+abbrev pub wants_none : Option ℕ → Bool
+wants_none None = false
+wants_none (Some n) = n == 0
+
+-- where a listing goes on after these rows; on an empty shelf the end will do in place of the start
+abbrev pub GoesOn : List Row → Place → List Row → Place → Type 0
+GoesOn rows start used next = (next ≡ place_after_rows start used) ⊎ ((next ≡ End) × (start ≡ First) × (first_row rows ≡ None))
+
+-- ---- a page
+
+-- along the walk from its place: what it leaves, its calls, and where the next page begins
+pub record PageAlong (t : Task) (store : Store) (most : Option ℕ) (start : Place) (walk : List Row) (end : WalkEnd) (next : Place) (tries : ℕ) (s s' : Seen) (old new : List ℕ) (outcome : Outcome) (result : Stop) : Type 0 where
+  pub leaves : IsAllowed t store (first_plan most t start walk end) old new outcome
+  pub calls : s'.calls ≤ s.calls + walk_call_bound t store tries (first_rows most walk)
+  pub goes_on : result ≡ stop.Done → GoesOn (rows_of (shelf_of t) store) start (first_rows most walk) next
+
+-- of so many records at most, over an honest controller
+pub record IsPage (t : Task) (most : Option ℕ) (start next : Place) (tries : ℕ) (s s' : Seen) (old new : List ℕ) (result : Stop) : Type 0 where
+  pub outcome : Outcome
+  pub outcome_is : IsOutcome result outcome
+  pub stays : StaysHonest s s'
+  pub counts : CountsSo tries s s' outcome
+  pub grows : s.troubles ≤ s'.troubles
+  pub none : most ≡ Some 0 → s' ≡ s
+  pub along : s'.stores_added ≡ s.stores_added → (walk : List Row) (end : WalkEnd) → IsWalk (rows_of (shelf_of t) s.store) start walk → EndsBy (rows_of (shelf_of t) s.store) start walk end
+      → PageAlong t s.store most start walk end next tries s s' old new outcome result
+  pub plain : IsTrue s.plain → IsFine outcome
+
+-- ---- pages
+
+abbrev pub IsStopped : Stop → Type 0
+IsStopped stop.Done = ⊥
+IsStopped (stop.Ended ended) = Unit {0}
+IsStopped stop.Memory = Unit {0}
+IsStopped stop.WriteFault = Unit {0}
+
+-- a page with which the listing ends
+pub record LastPage (t : Task) (most : Option ℕ) (start : Place) (tries : ℕ) (s s' : Seen) (old new : List ℕ) (result : Stop) : Type 0 where
+  pub next : Place
+  pub page : IsPage t most start next tries s s' old new result
+
+-- a page after which the listing goes on
+pub record PageThen (t : Task) (size : ℕ) (start : Place) (tries : ℕ) (s : Seen) (old : List ℕ) (Rest : Place → Seen → List ℕ → Type 0) : Type 0 where
+  pub next : Place
+  pub seen : Seen
+  pub text : List ℕ
+  pub page : IsPage t (Some size) start next tries s seen old text stop.Done
+  pub rest : Rest next seen text
+
+-- pages of these sizes, and then one without a limit; a page that ends by name, or for want of memory or by a write fault, ends all
+abbrev pub ArePages : Task → List ℕ → Place → ℕ → Seen → Seen → List ℕ → List ℕ → Stop → Type 0
+ArePages t [] start tries s s' old new result = LastPage t None start tries s s' old new result
+ArePages t (size ∷ sizes) start tries s s' old new result =
+    (LastPage t (Some size) start tries s s' old new result × IsStopped result)
+    ⊎ PageThen t size start tries s old (λ next seen text. ArePages t sizes next tries seen s' text new result)
+
+-- how many pages may make calls: each that wants a record, and the last one
+abbrev pub pages_made : List ℕ → ℕ
+pages_made [] = 1
+pages_made (size ∷ sizes) = if size == 0 then pages_made sizes else pages_made sizes + 1
+
+-- ---- the theorem of pages
+
+-- the walk does not end by a cycle
+abbrev pub IsOpen : WalkEnd → Type 0
+IsOpen Done = Unit {0}
+IsOpen (CycleAt n) = ⊥
+IsOpen (MissingAt n) = Unit {0}

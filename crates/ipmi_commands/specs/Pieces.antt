@@ -1,0 +1,122 @@
+-- What a command prints for a row and for an inventory, put together from the texts of the crates below.
+use Rattle.std.specs.Prelude.{◌≡◌, ℕ, ◌==◌, ◌||◌, not, Bool, true, false, Option, Some, None, Result, Ok, Err, List, [], ◌++◌, codes}
+use Rattle.std.specs.Fmt.{decimal}
+use Rattle.std.specs.Str.{bytes_eq}
+use Rattle.ipmi_text.specs.declared.reading.Reading.{Reading}
+use Rattle.ipmi_bus.specs.Shelf.{Row}
+use Rattle.ipmi_bus.specs.Store.{Store, inventory_of, reading_of}
+use Rattle.ipmi_fru.specs.Print.{IsFruText}
+use Rattle.ipmi_records.specs.declared.sdr.SdrFault.{SdrFault}
+use Rattle.ipmi_records.specs.declared.sdr.SdrView.{SdrView}
+use Rattle.ipmi_records.specs.declared.sdr.SdrView.TheVariants as view_of
+use Rattle.ipmi_records.specs.Sdr as sdr
+use Rattle.ipmi_records.specs.Sel.{sel_view_of}
+use Rattle.ipmi_records.specs.SdrText.{IsSdrLine, IsExtendedLine, IsSdrBlock, fault_line, printed_name}
+use Rattle.ipmi_records.specs.SelText.{IsSelLine, IsSelBlock}
+use Rattle.ipmi_command_line.specs.declared.command.Kind.{Kind}
+use Rattle.ipmi_command_line.specs.declared.command.Kind.TheVariants as kind
+use Rattle.ipmi_command_line.specs.declared.command.Task.{Task}
+use Rattle.ipmi_command_line.specs.declared.command.Task.TheVariants as task
+use Rattle.ipmi_commands.specs.declared.piece.Form.{Form}
+use Rattle.ipmi_commands.specs.declared.piece.Form.TheVariants as form
+use Rattle.ipmi_commands.specs.Line.{line_of}
+
+-- ---- what is chosen
+
+-- the text of what is chosen, and nothing of what is not
+abbrev pub IfChosen : Bool → (List ℕ → Type 0) → List ℕ → Type 0
+IfChosen true IsText text = IsText text
+IfChosen false IsText text = text ≡ []
+
+-- a record is of a kind by its type byte, also where it has a fault
+abbrev pub is_of_kind : Kind → ℕ → Bool
+is_of_kind kind.Sensors type = (type == 0x01) || (type == 0x02)
+is_of_kind kind.All type = true
+is_of_kind kind.Full type = type == 0x01
+is_of_kind kind.Compact type = type == 0x02
+is_of_kind kind.Event type = type == 0x03
+is_of_kind kind.Generic type = type == 0x10
+is_of_kind kind.Mc type = type == 0x12
+is_of_kind kind.Fru type = type == 0x11
+
+abbrev pub row_is_of_kind : Kind → Row → Bool
+row_is_of_kind kind row = is_of_kind kind (sdr.record_type row.bytes)
+
+-- a view has the name, as it is printed; a record of another type has none
+abbrev pub is_name : List ℕ → Option (List ℕ) → Bool
+is_name wanted None = false
+is_name wanted (Some name) = bytes_eq wanted name
+
+-- ---- records
+
+abbrev pub reading_by : Store → Option (ℕ × ℕ) → Option Reading
+reading_by store None = None
+reading_by store (Some key) = reading_of key.0 key.1 store
+
+-- the reading that the store has on account of a record
+abbrev pub reading_for : Store → SdrView → Option Reading
+reading_for store view = reading_by store (sdr.reading_of view)
+
+-- the line of a record with its reading, in one of its two forms
+abbrev pub IsLineOf : Form → SdrView → Option Reading → List ℕ → Type 0
+IsLineOf form.Short view reading text = IsSdrLine view reading text
+IsLineOf form.Extended view reading text = IsExtendedLine view reading text
+
+-- that line, or in both forms the line of the record's fault
+abbrev pub IsListed : Form → Store → ℕ → Result SdrView SdrFault → List ℕ → Type 0
+IsListed form store id (Ok view) text = IsLineOf form view (reading_for store view) text
+IsListed form store id (Err fault) text = text ≡ fault_line id fault
+
+-- the line of a record of the kind, nothing of any other
+abbrev pub IsListedOfKind : Form → Kind → Store → Row → List ℕ → Type 0
+IsListedOfKind form kind store row text = IfChosen (row_is_of_kind kind row) (λ t. IsListed form store row.id (sdr.sdr_view_of row.bytes) t) text
+
+-- the block of a record with the name; a record with a fault has none
+abbrev pub IsBlockOfName : List ℕ → Store → ℕ → Result SdrView SdrFault → List ℕ → Type 0
+IsBlockOfName name store id (Ok view) text = IfChosen (is_name name (sdr.name_of view)) (λ t. IsSdrBlock id view (reading_for store view) t) text
+IsBlockOfName name store id (Err fault) text = text ≡ []
+
+-- ---- inventories
+
+abbrev pub IsInventoryText : Option (List ℕ) → List ℕ → Type 0
+IsInventoryText None text = text ≡ codes "not present\n"
+IsInventoryText (Some bytes) text = IsFruText bytes text
+
+-- a line that names the device, its inventory, and an empty line
+pub record IsInventoryPiece (store : Store) (id : ℕ) (name : List ℕ) (text : List ℕ) : Type 0 where
+  pub inventory : List ℕ
+  pub is_inventory : IsInventoryText (inventory_of id store) inventory
+  pub text_is : text ≡ codes "FRU " ++ (decimal id ++ (name ++ (codes "\n" ++ (inventory ++ codes "\n"))))
+
+-- the name of a locator, in parentheses
+abbrev pub name_of_locator : SdrView → List ℕ
+name_of_locator view = codes " (" ++ (printed_name view ++ codes ")")
+
+-- the device of a locator: device 0 was printed first, and one that is reached elsewhere is not read
+abbrev pub IsDevicePiece : Store → SdrView → Option ℕ → List ℕ → Type 0
+IsDevicePiece store view None text = text ≡ codes "FRU" ++ (name_of_locator view ++ codes ": elsewhere, not read\n\n")
+IsDevicePiece store view (Some id) text = IfChosen (not (id == 0)) (λ t. IsInventoryPiece store id (name_of_locator view) t) text
+
+-- of a FRU device locator alone
+abbrev pub IsLocatorPiece : Store → Result SdrView SdrFault → List ℕ → Type 0
+IsLocatorPiece store (Ok (view_of.Fru bytes)) text = IsDevicePiece store (view_of.Fru bytes) (sdr.fru_of (view_of.Fru bytes)) text
+IsLocatorPiece store (Ok (view_of.Full bytes)) text = text ≡ []
+IsLocatorPiece store (Ok (view_of.Compact bytes)) text = text ≡ []
+IsLocatorPiece store (Ok (view_of.EventOnly bytes)) text = text ≡ []
+IsLocatorPiece store (Ok (view_of.Generic bytes)) text = text ≡ []
+IsLocatorPiece store (Ok (view_of.Controller bytes)) text = text ≡ []
+IsLocatorPiece store (Ok (view_of.Other bytes)) text = text ≡ []
+IsLocatorPiece store (Err fault) text = text ≡ []
+
+-- ---- the piece of a row, by the task
+
+abbrev pub IsRowPiece : Task → Store → Row → List ℕ → Type 0
+IsRowPiece (task.Fru id) store row text = IsLocatorPiece store (sdr.sdr_view_of row.bytes) text
+IsRowPiece task.Hex store row text = text ≡ line_of row
+IsRowPiece (task.List kind) store row text = IsListedOfKind form.Short kind store row text
+IsRowPiece (task.Elist kind) store row text = IsListedOfKind form.Extended kind store row text
+IsRowPiece (task.Get name) store row text = IsBlockOfName name store row.id (sdr.sdr_view_of row.bytes) text
+IsRowPiece (task.Info shelf) store row text = ⊥
+IsRowPiece (task.SelList entries) store row text = IsSelLine row.id (sel_view_of row.bytes) text
+IsRowPiece (task.SelGet id) store row text = IsSelBlock row.id (sel_view_of row.bytes) text
+IsRowPiece task.Rewrite store row text = ⊥

@@ -1,0 +1,372 @@
+-- What a command is to print over a store: its items in order, its end, and the spots at which a run may give up or be refused.
+-- Everywhere `old` and `new` are what the output holds before and after.
+use Rattle.std.specs.Prelude.{◌≡◌, ℕ, ◌-◌, ◌==◌, nat_le, ◌||◌, ◌+◌, ◌<◌, Bool, false, if◌then◌else◌, Option, Some, None, is_some, Result, Ok, Err, List, [], ◌∷◌, ◌++◌, length, take, drop, ◌⊎◌}
+use Rattle.ipmi_bus.specs.declared.controller.Shelf.{Shelf}
+use Rattle.ipmi_bus.specs.declared.controller.Shelf.TheVariants.{Sdr, Sel}
+use Rattle.ipmi_bus.specs.declared.step.Place.{Place}
+use Rattle.ipmi_bus.specs.declared.step.Place.TheVariants.{First, Id, End}
+use Rattle.ipmi_bus.specs.Shelf.{Row}
+use Rattle.ipmi_text.specs.Bytes.{AreBytes}
+use Rattle.ipmi_bus.specs.Step.{asked_at}
+use Rattle.ipmi_bus.specs.Store.{Store, info_of}
+use Rattle.ipmi_bus.specs.Walk.{WalkEnd, Done, CycleAt, MissingAt, place_after, place_after_rows}
+use Rattle.ipmi_bus.specs.Seen.{Seen}
+use Rattle.ipmi_bus.specs.CursorState.{start_of}
+use Rattle.ipmi_image.specs.Rewritten.{image_text_of}
+use Rattle.ipmi_records.specs.Info.{IsInfoBlock}
+use Rattle.ipmi_records.specs.Sdr as sdr
+use Rattle.ipmi_records.specs.declared.sdr.SdrFault.{SdrFault}
+use Rattle.ipmi_records.specs.declared.sdr.SdrView.{SdrView}
+use Rattle.ipmi_command_line.specs.declared.command.Count.{Count}
+use Rattle.ipmi_command_line.specs.declared.command.Count.TheVariants as count
+use Rattle.ipmi_command_line.specs.declared.command.Kind.{Kind}
+use Rattle.ipmi_command_line.specs.declared.command.Task.{Task}
+use Rattle.ipmi_command_line.specs.declared.command.Task.TheVariants as task
+use Rattle.ipmi_commands.specs.Pieces.{IsRowPiece, IsInventoryPiece, row_is_of_kind, is_name}
+
+-- ---- used rows
+
+-- which entries of a walk are used: all, the first ones, or the last ones of a walk that is done
+abbrev pub used_rows : Count → List Row → WalkEnd → List Row
+used_rows count.All walk end = walk
+used_rows (count.First n) walk end = take n walk
+used_rows (count.Last n) walk Done = drop (length walk - n) walk
+used_rows (count.Last n) walk (CycleAt id) = []
+used_rows (count.Last n) walk (MissingAt id) = []
+
+-- how a listing of them ends: after the first ones no further record is asked for
+abbrev pub used_end : Count → List Row → WalkEnd → WalkEnd
+used_end count.All walk end = end
+used_end (count.First n) walk end = if nat_le n (length walk) then Done else end
+used_end (count.Last n) walk end = end
+
+-- which rows a task asks for, on which shelf, and from where
+abbrev pub count_of : Task → Count
+count_of (task.Fru id) = count.All
+count_of task.Hex = count.All
+count_of (task.List kind) = count.All
+count_of (task.Elist kind) = count.All
+count_of (task.Get name) = count.All
+count_of (task.Info shelf) = count.All
+count_of (task.SelList entries) = entries
+count_of (task.SelGet id) = count.First 1
+count_of task.Rewrite = count.All
+
+abbrev pub shelf_of : Task → Shelf
+shelf_of (task.Fru id) = Sdr
+shelf_of task.Hex = Sdr
+shelf_of (task.List kind) = Sdr
+shelf_of (task.Elist kind) = Sdr
+shelf_of (task.Get name) = Sdr
+shelf_of (task.Info shelf) = shelf
+shelf_of (task.SelList entries) = Sel
+shelf_of (task.SelGet id) = Sel
+shelf_of task.Rewrite = Sdr
+
+abbrev pub start_by : Task → Option ℕ → Place
+start_by (task.SelGet id) from = Id id
+start_by (task.Fru id) from = start_of from
+start_by task.Hex from = start_of from
+start_by (task.List kind) from = start_of from
+start_by (task.Elist kind) from = start_of from
+start_by (task.Get name) from = start_of from
+start_by (task.Info shelf) from = start_of from
+start_by (task.SelList entries) from = start_of from
+start_by task.Rewrite from = start_of from
+
+-- ---- spots at which a run may give up or be refused
+
+-- at a record: the id that is asked for, 0000h where it is the first of a shelf, or the record's own id for its reading, or 0000h
+-- for an info; or at the inventory of a device
+pub data Spot : Type 0 where
+  AtRecord : ℕ → Spot
+  AtInventory : ℕ → Spot
+
+-- the reading of a record is asked for under the record's id
+abbrev pub reading_spots : ℕ → Result SdrView SdrFault → List Spot
+reading_spots id (Ok view) = if is_some (sdr.reading_of view) then AtRecord id ∷ [] else []
+reading_spots id (Err fault) = []
+
+-- that of a record of the kind
+abbrev pub listed_spots : Kind → Row → List Spot
+listed_spots kind row = if row_is_of_kind kind row then reading_spots row.id (sdr.sdr_view_of row.bytes) else []
+
+-- that of a record with the name
+abbrev pub named_spots : List ℕ → ℕ → Result SdrView SdrFault → List Spot
+named_spots name id (Ok view) = if is_name name (sdr.name_of view) then reading_spots id (Ok view) else []
+named_spots name id (Err fault) = []
+
+-- the inventory of a locator, but for that of device 0, which was read first
+abbrev pub device_spots : Option ℕ → List Spot
+device_spots None = []
+device_spots (Some id) = if id == 0 then [] else AtInventory id ∷ []
+
+abbrev pub locator_spots : Result SdrView SdrFault → List Spot
+locator_spots (Ok view) = device_spots (sdr.fru_of view)
+locator_spots (Err fault) = []
+
+-- what is asked for on account of a row that was found, by the task
+abbrev pub spots_after : Task → Row → List Spot
+spots_after (task.Fru id) row = locator_spots (sdr.sdr_view_of row.bytes)
+spots_after task.Hex row = []
+spots_after (task.List kind) row = listed_spots kind row
+spots_after (task.Elist kind) row = listed_spots kind row
+spots_after (task.Get name) row = named_spots name row.id (sdr.sdr_view_of row.bytes)
+spots_after (task.Info shelf) row = []
+spots_after (task.SelList entries) row = []
+spots_after (task.SelGet id) row = []
+spots_after task.Rewrite row = []
+
+-- the ids that are asked for along the rows
+abbrev pub spots_along : Place → List Row → List Spot
+spots_along start [] = []
+spots_along start (row ∷ rows) = AtRecord (asked_at start) ∷ spots_along (place_after row.next) rows
+
+-- at the end of a walk: the id that no row has; 0000h at the start of an empty shelf
+abbrev pub end_spots : Place → List Row → WalkEnd → List Spot
+end_spots start walk (MissingAt n) = AtRecord n ∷ []
+end_spots start walk (CycleAt n) = []
+end_spots First [] Done = AtRecord 0 ∷ []
+end_spots First (row ∷ rows) Done = []
+end_spots (Id n) walk Done = []
+end_spots End walk Done = []
+
+-- ---- plans
+
+-- how a run ends that is not cut off
+pub data RunEnd : Type 0 where
+  WalkEnds : WalkEnd → RunEnd
+  NoName : List ℕ → RunEnd
+  NoInfo : RunEnd
+
+-- what is printed as one piece: a row of a walk, the inventory of a device that no row names, the bytes of an info, an image
+pub data Subject : Type 0 where
+  OfRow : Row → Subject
+  OfInventory : ℕ → Subject
+  OfInfo : List ℕ → Subject
+  OfImage : Subject
+
+-- with the spots at which a run may stop before it is printed
+pub record Item : Type 0 where
+  pub subject : Subject
+  pub spots : List Spot
+
+-- what a command is to print. It says of what the texts are and not what they are, so that it is a function
+pub record Plan : Type 0 where
+  pub items : List Item
+  pub end : RunEnd
+  pub end_spots : List Spot
+
+-- a row that is asked for at this place
+abbrev pub row_item : Task → Place → Row → Item
+row_item task place row = record { subject = OfRow row; spots = AtRecord (asked_at place) ∷ spots_after task row }
+
+-- an item for each row, from the place where the first is asked for
+abbrev pub row_items : Task → Place → List Row → List Item
+row_items task start [] = []
+row_items task start (row ∷ rows) = row_item task start row ∷ row_items task (place_after row.next) rows
+
+abbrev pub view_has_name : List ℕ → Result SdrView SdrFault → Bool
+view_has_name name (Ok view) = is_name name (sdr.name_of view)
+view_has_name name (Err fault) = false
+
+-- one of the rows has the name
+abbrev pub some_has_name : List ℕ → List Row → Bool
+some_has_name name [] = false
+some_has_name name (row ∷ rows) = view_has_name name (sdr.sdr_view_of row.bytes) || some_has_name name rows
+
+-- a finished walk on which no record has the name ends by that
+abbrev pub run_end : Task → List Row → WalkEnd → RunEnd
+run_end (task.Get name) rows Done = if some_has_name name rows then WalkEnds Done else NoName name
+run_end (task.Get name) rows (CycleAt n) = WalkEnds (CycleAt n)
+run_end (task.Get name) rows (MissingAt n) = WalkEnds (MissingAt n)
+run_end (task.Fru id) rows end = WalkEnds end
+run_end task.Hex rows end = WalkEnds end
+run_end (task.List kind) rows end = WalkEnds end
+run_end (task.Elist kind) rows end = WalkEnds end
+run_end (task.Info shelf) rows end = WalkEnds end
+run_end (task.SelList entries) rows end = WalkEnds end
+run_end (task.SelGet id) rows end = WalkEnds end
+run_end task.Rewrite rows end = WalkEnds end
+
+-- of a listing that goes along a walk once
+abbrev pub listing_plan : Task → Place → List Row → WalkEnd → Plan
+listing_plan t start walk end = record {
+  items = row_items t start (used_rows (count_of t) walk end);
+  end = run_end t (used_rows (count_of t) walk end) (used_end (count_of t) walk end);
+  end_spots = end_spots start walk (used_end (count_of t) walk end);
+}
+
+-- all the ids asked for along a whole walk and at its end
+abbrev pub spots_of_walk : Place → List Row → WalkEnd → List Spot
+spots_of_walk start walk end = spots_along start walk ++ end_spots start walk end
+
+-- the last entries are listed after a walk that counts them, and those before them are passed once more: at the first item the
+-- run may stop at any spot of that walk
+abbrev pub with_first_spots : List Spot → List Item → List Item
+with_first_spots spots [] = []
+with_first_spots spots (item ∷ items) = record { subject = item.subject; spots = spots } ∷ items
+
+abbrev pub end_spots_of_last : List Spot → List Item → List Spot → List Spot
+end_spots_of_last spots [] at_end = spots
+end_spots_of_last spots (item ∷ items) at_end = at_end
+
+-- of a listing of the last n entries
+abbrev pub last_items : ℕ → Task → Place → List Row → WalkEnd → List Item
+last_items n t start walk end = row_items t (place_after_rows start (take (length walk - n) walk)) (used_rows (count.Last n) walk end)
+
+abbrev pub last_plan : ℕ → Task → Place → List Row → WalkEnd → Plan
+last_plan n t start walk end = record {
+  items = with_first_spots (spots_of_walk start walk end) (last_items n t start walk end);
+  end = WalkEnds end;
+  end_spots = end_spots_of_last (spots_of_walk start walk end) (last_items n t start walk end) (end_spots start walk end);
+}
+
+abbrev pub inventory_item : ℕ → Item
+inventory_item id = record { subject = OfInventory id; spots = AtInventory id ∷ [] }
+
+-- of all inventories: that of device 0, and then the locators
+abbrev pub inventories_plan : List Row → WalkEnd → Plan
+inventories_plan walk end = record { items = inventory_item 0 ∷ row_items (task.Fru None) First walk; end = WalkEnds end; end_spots = end_spots First walk end }
+
+-- of one inventory
+abbrev pub inventory_plan : ℕ → Plan
+inventory_plan id = record { items = inventory_item id ∷ []; end = WalkEnds Done; end_spots = [] }
+
+-- of the info of a shelf: its block, or none
+abbrev pub info_plan : Option (List ℕ) → Plan
+info_plan None = record { items = []; end = NoInfo; end_spots = AtRecord 0 ∷ [] }
+info_plan (Some info) = record { items = record { subject = OfInfo info; spots = AtRecord 0 ∷ [] } ∷ []; end = WalkEnds Done; end_spots = [] }
+
+-- of an image written again, which is no run over a controller
+abbrev pub rewrite_plan : Plan
+rewrite_plan = record { items = record { subject = OfImage; spots = [] } ∷ []; end = WalkEnds Done; end_spots = [] }
+
+abbrev pub counted_plan : Count → Task → Place → List Row → WalkEnd → Plan
+counted_plan count.All t start walk end = listing_plan t start walk end
+counted_plan (count.First n) t start walk end = listing_plan t start walk end
+counted_plan (count.Last n) t start walk end = last_plan n t start walk end
+
+-- what a task is to print over a store, with the walk from its start and how that ends
+abbrev pub plan_of : Task → Store → Place → List Row → WalkEnd → Plan
+plan_of (task.Fru None) store start walk end = inventories_plan walk end
+plan_of (task.Fru (Some id)) store start walk end = inventory_plan id
+plan_of task.Hex store start walk end = listing_plan task.Hex start walk end
+plan_of (task.List kind) store start walk end = listing_plan (task.List kind) start walk end
+plan_of (task.Elist kind) store start walk end = listing_plan (task.Elist kind) start walk end
+plan_of (task.Get name) store start walk end = listing_plan (task.Get name) start walk end
+plan_of (task.Info shelf) store start walk end = info_plan (info_of shelf store)
+plan_of (task.SelList entries) store start walk end = counted_plan entries (task.SelList entries) start walk end
+plan_of (task.SelGet id) store start walk end = listing_plan (task.SelGet id) start walk end
+plan_of task.Rewrite store start walk end = rewrite_plan
+
+-- ---- texts
+
+-- a text of one piece
+abbrev pub IsItemText : Task → Store → Subject → List ℕ → Type 0
+IsItemText t store (OfRow row) text = IsRowPiece t store row text
+IsItemText t store (OfInventory id) text = IsInventoryPiece store id [] text
+IsItemText t store (OfInfo info) text = IsInfoBlock info text
+IsItemText t store OfImage text = text ≡ image_text_of store
+
+-- a text of an item, and then one of the items after it
+pub record TextsJoined (IsFirst IsRest : List ℕ → Type 0) (text : List ℕ) : Type 0 where
+  pub first : List ℕ
+  pub rest : List ℕ
+  pub is_first : IsFirst first
+  pub is_rest : IsRest rest
+  pub joined : text ≡ first ++ rest
+
+-- texts of the items, one after another
+abbrev pub AreTexts : Task → Store → List Item → List ℕ → Type 0
+AreTexts t store [] text = text ≡ []
+AreTexts t store (item ∷ items) text = TextsJoined (λ first. IsItemText t store item.subject first) (λ rest. AreTexts t store items rest) text
+
+-- a row of bytes, as those of a store are
+abbrev pub IsRowOfBytes : Subject → Type 0
+IsRowOfBytes (OfRow row) = AreBytes row.bytes
+IsRowOfBytes (OfInventory id) = ⊥
+IsRowOfBytes (OfInfo info) = ⊥
+IsRowOfBytes OfImage = ⊥
+
+abbrev pub AreRowsOfBytes : List Item → Type 0
+AreRowsOfBytes [] = Unit {0}
+AreRowsOfBytes (item ∷ items) = IsRowOfBytes item.subject × AreRowsOfBytes items
+
+-- ---- allowed results
+
+-- how a run stopped
+pub data Outcome : Type 0 where
+  Finished : RunEnd → Outcome
+  GaveUp : Spot → Outcome
+  Refused : Spot → ℕ → Outcome
+  OutOfMemory : Outcome
+  WriteFault : Outcome
+
+-- the spots after the first items: those of the next one, or of the end
+abbrev pub spots_at : List Item → List Spot → List Spot
+spots_at [] at_end = at_end
+spots_at (item ∷ items) at_end = item.spots
+
+abbrev pub IsAmong : List Spot → Spot → Type 0
+IsAmong [] spot = ⊥
+IsAmong (first ∷ spots) spot = (spot ≡ first) ⊎ IsAmong spots spot
+
+-- texts of the items were printed
+pub record Printed (t : Task) (store : Store) (items : List Item) (old new : List ℕ) : Type 0 where
+  pub text : List ℕ
+  pub are : AreTexts t store items text
+  pub new_is : new ≡ old ++ text
+
+-- texts of the first items were printed, and the run stopped at a spot of what comes next
+pub record StopsAt (spot : Spot) (t : Task) (store : Store) (plan : Plan) (old new : List ℕ) : Type 0 where
+  pub done : List Item
+  pub rest : List Item
+  pub items_are : plan.items ≡ done ++ rest
+  pub printed : Printed t store done old new
+  pub there : IsAmong (spots_at rest plan.end_spots) spot
+
+-- texts of the first items were printed, and no more
+pub record HasFirstItems (t : Task) (store : Store) (plan : Plan) (old new : List ℕ) : Type 0 where
+  pub done : List Item
+  pub rest : List Item
+  pub items_are : plan.items ≡ done ++ rest
+  pub printed : Printed t store done old new
+
+-- texts of the first items were printed, and of a text of the next one the first bytes, perhaps none or all
+pub record HasCutItem (t : Task) (store : Store) (plan : Plan) (old new : List ℕ) : Type 0 where
+  pub done : List Item
+  pub item : Item
+  pub rest : List Item
+  pub items_are : plan.items ≡ done ++ (item ∷ rest)
+  pub whole : List ℕ
+  pub printed : Printed t store done old whole
+  pub text : List ℕ
+  pub is_text : IsItemText t store item.subject text
+  pub bytes : ℕ
+  pub new_is : new ≡ whole ++ take bytes text
+
+-- what may stand in the output, by how the run stopped
+abbrev pub IsAllowed : Task → Store → Plan → List ℕ → List ℕ → Outcome → Type 0
+IsAllowed t store plan old new (Finished end) = Printed t store plan.items old new × (end ≡ plan.end)
+IsAllowed t store plan old new (GaveUp spot) = StopsAt spot t store plan old new
+IsAllowed t store plan old new (Refused spot code) = StopsAt spot t store plan old new
+IsAllowed t store plan old new OutOfMemory = HasFirstItems t store plan old new
+IsAllowed t store plan old new WriteFault = HasCutItem t store plan old new
+
+-- what the controller counted in the run: where it gave up more troubles than the tries, and more than the tries also since it
+-- last answered something whole; one refusal, with this code, exactly where it was refused
+abbrev pub CountsSo : ℕ → Seen → Seen → Outcome → Type 0
+CountsSo tries s s' (Finished end) = s'.refusals ≡ s.refusals
+CountsSo tries s s' (GaveUp spot) = (s'.refusals ≡ s.refusals) × (s.troubles + tries < s'.troubles) × (tries < s'.fresh_troubles)
+CountsSo tries s s' (Refused spot code) = (s'.refusals ≡ s.refusals + 1) × (s'.last_code ≡ code)
+CountsSo tries s s' OutOfMemory = s'.refusals ≡ s.refusals
+CountsSo tries s s' WriteFault = s'.refusals ≡ s.refusals
+
+-- the run neither gave up nor was refused
+abbrev pub IsFine : Outcome → Type 0
+IsFine (Finished end) = Unit {0}
+IsFine (GaveUp spot) = ⊥
+IsFine (Refused spot code) = ⊥
+IsFine OutOfMemory = Unit {0}
+IsFine WriteFault = Unit {0}

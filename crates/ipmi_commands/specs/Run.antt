@@ -1,0 +1,234 @@
+-- What a run of a command leaves, and its exit status.
+use Rattle.std.specs.Prelude.{◌≡◌, ◌⊎◌, ℕ, ◌+◌, ◌*◌, ◌≤◌, ◌||◌, Bool, true, false, IsTrue, Result, Ok, Err, List, [], ◌++◌, codes}
+use Rattle.std.specs.Fmt.{decimal}
+use Rattle.ipmi_bus.specs.declared.step.Place.{Place}
+use Rattle.ipmi_bus.specs.declared.step.Ended.TheVariants.{Cycle, Missing, GaveUp}
+use Rattle.ipmi_bus.specs.Bounds.{step_call_bound}
+use Rattle.ipmi_bus.specs.Shelf.{Row}
+use Rattle.ipmi_bus.specs.Store.{Store, rows_of}
+use Rattle.ipmi_bus.specs.Walk.{IsWalk, WalkEnd, EndsBy}
+use Rattle.ipmi_bus.specs.Walk as walk_end
+use Rattle.ipmi_bus.specs.Seen.{Seen, StaysHonest}
+use Rattle.ipmi_image.specs.declared.image.ImageFault.{ImageFault}
+use Rattle.ipmi_image.specs.declared.image.ImageFault.TheVariants as image_fault
+use Rattle.ipmi_records.specs.Bytes.{byte_h}
+use Rattle.ipmi_command_line.specs.declared.command.Count.TheVariants as count
+use Rattle.ipmi_command_line.specs.declared.command.Task.{Task}
+use Rattle.ipmi_command_line.specs.declared.command.Task.TheVariants as task
+use Rattle.ipmi_command_line.specs.declared.command.UsageFault.{UsageFault}
+use Rattle.ipmi_command_line.specs.declared.command.UsageFault.TheVariants as fault
+use Rattle.ipmi_commands.specs.declared.stop.Stop.{Stop}
+use Rattle.ipmi_commands.specs.declared.stop.Stop.TheVariants as stop
+use Rattle.ipmi_output.specs.declared.message.Message.{Message}
+use Rattle.ipmi_output.specs.declared.message.Message.TheVariants.{Usage, Image, WriteFault, OutOfMemory}
+use Rattle.ipmi_command_line.specs.Command.{CommandState}
+use Rattle.ipmi_commands.specs.Listing.{IsOutcome, calls_for, first_rows, most_of, walk_call_bound}
+use Rattle.ipmi_output.specs.Message.{ended_text, refused_text, message_text, line_text}
+use Rattle.ipmi_output.specs.Received.{Received, ReceivesText}
+use Rattle.ipmi_commands.specs.Pages.{ArePages, pages_made, IsOpen}
+use Rattle.ipmi_output.specs.Sink.{TakesPart}
+use Rattle.ipmi_commands.specs.Plan.{plan_of, rewrite_plan, Outcome, IsAllowed, CountsSo, IsFine, shelf_of, start_by}
+use Rattle.ipmi_commands.specs.Plan as plan
+
+-- the tasks that can be run today
+abbrev pub is_built : Task → Bool
+is_built (task.Fru id) = false
+is_built task.Hex = true
+is_built (task.List kind) = true
+is_built (task.Elist kind) = true
+is_built (task.Get name) = false
+is_built (task.Info shelf) = false
+is_built (task.SelList count.All) = true
+is_built (task.SelList (count.First n)) = true
+is_built (task.SelList (count.Last n)) = false
+is_built (task.SelGet id) = true
+is_built task.Rewrite = false
+
+-- the task that writes an image again is answered, and not run
+abbrev pub is_rewrite : Task → Bool
+is_rewrite (task.Fru id) = false
+is_rewrite task.Hex = false
+is_rewrite (task.List kind) = false
+is_rewrite (task.Elist kind) = false
+is_rewrite (task.Get name) = false
+is_rewrite (task.Info shelf) = false
+is_rewrite (task.SelList entries) = false
+is_rewrite (task.SelGet id) = false
+is_rewrite task.Rewrite = true
+
+-- the tasks whose answer depends on the image
+abbrev pub is_answered : Task → Bool
+is_answered t = is_rewrite t || is_built t
+
+-- ---- over a controller
+
+-- the exit status by how a listing stopped, and by the outcome of a run
+abbrev pub stop_status : Stop → ℕ
+stop_status stop.Done = 0
+stop_status (stop.Ended e) = 1
+stop_status stop.Memory = 5
+stop_status stop.WriteFault = 4
+
+-- what is said of how a listing stopped: a line, or nothing where it is done
+abbrev pub stop_text : Stop → List ℕ
+stop_text stop.Done = []
+stop_text (stop.Ended e) = line_text (ended_text e)
+stop_text stop.Memory = line_text (message_text OutOfMemory)
+stop_text stop.WriteFault = line_text (message_text WriteFault)
+
+abbrev pub status_of : Outcome → ℕ
+status_of (plan.Finished (plan.WalkEnds walk_end.Done)) = 0
+status_of (plan.Finished (plan.WalkEnds (walk_end.CycleAt n))) = 1
+status_of (plan.Finished (plan.WalkEnds (walk_end.MissingAt n))) = 1
+status_of (plan.Finished (plan.NoName name)) = 1
+status_of (plan.Finished plan.NoInfo) = 1
+status_of (plan.GaveUp spot) = 1
+status_of (plan.Refused spot code) = 1
+status_of plan.OutOfMemory = 5
+status_of plan.WriteFault = 4
+
+-- a message about the inventory of a device
+abbrev pub inventory_text : ℕ → List ℕ → List ℕ
+inventory_text id text = codes "fru " ++ (decimal id ++ text)
+
+-- what is said of an outcome: a line, or nothing of a run that is done
+abbrev pub outcome_text : Outcome → List ℕ
+outcome_text (plan.Finished (plan.WalkEnds walk_end.Done)) = []
+outcome_text (plan.Finished (plan.WalkEnds (walk_end.CycleAt n))) = line_text (ended_text (Cycle n))
+outcome_text (plan.Finished (plan.WalkEnds (walk_end.MissingAt n))) = line_text (ended_text (Missing n))
+outcome_text (plan.Finished (plan.NoName name)) = line_text (codes "no record named " ++ name)
+outcome_text (plan.Finished plan.NoInfo) = line_text (codes "info not present")
+outcome_text (plan.GaveUp (plan.AtRecord n)) = line_text (ended_text (GaveUp n))
+outcome_text (plan.GaveUp (plan.AtInventory id)) = line_text (inventory_text id (codes " gave up"))
+outcome_text (plan.Refused (plan.AtRecord n) code) = line_text (refused_text n code)
+outcome_text (plan.Refused (plan.AtInventory id) code) = line_text (inventory_text id (codes " refused with code " ++ byte_h code))
+outcome_text plan.OutOfMemory = line_text (message_text OutOfMemory)
+outcome_text plan.WriteFault = line_text (message_text WriteFault)
+
+-- ---- a run
+
+-- the output is allowed for the outcome by the plan of the task over a store
+abbrev pub AllowsAll : Task → Store → Place → List ℕ → List ℕ → Outcome → Type 0
+AllowsAll t store start old new outcome = (walk : List Row) (end : WalkEnd) → IsWalk (rows_of (shelf_of t) store) start walk → EndsBy (rows_of (shelf_of t) store) start walk end
+    → IsAllowed t store (plan_of t store start walk end) old new outcome
+
+-- the calls are within the bound for those rows of each walk from the start that are asked for
+abbrev pub CallsWithin : Task → Store → Place → ℕ → ℕ → ℕ → Type 0
+CallsWithin t store start tries before after = (walk : List Row) (end : WalkEnd) → IsWalk (rows_of (shelf_of t) store) start walk → EndsBy (rows_of (shelf_of t) store) start walk end → after ≤ before + walk_call_bound t store tries (first_rows (most_of t) walk)
+
+-- over any controller a run ends as a listing may stop, and says so
+pub record EndsSo (said said' : Received) (status : ℕ) : Type 0 where
+  pub result : Stop
+  pub status_is : status ≡ stop_status result
+  pub message : ReceivesText said said' (stop_text result)
+
+-- a run of a task from its start with these tries, over an honest controller: what it leaves and how many calls it makes while no
+-- store is added, what is said and what is counted, and that nothing is given up or refused over a plain one
+pub record IsRun (t : Task) (start : Place) (tries : ℕ) (s s' : Seen) (old new : List ℕ) (said said' : Received) (status : ℕ) : Type 0 where
+  pub result : Stop
+  pub outcome : Outcome
+  pub outcome_is : IsOutcome result outcome
+  pub status_is : status ≡ status_of outcome
+  pub message : ReceivesText said said' (outcome_text outcome)
+  pub stays : StaysHonest s s'
+  pub counts : CountsSo tries s s' outcome
+  pub allowed : s'.stores_added ≡ s.stores_added → AllowsAll t s.store start old new outcome
+  pub calls : s'.stores_added ≡ s.stores_added → CallsWithin t s.store start tries s.calls s'.calls
+  pub plain : IsTrue s.plain → IsFine outcome
+
+-- ---- a run in pages
+
+-- the same as of one run, over each walk that does not end by a cycle
+abbrev pub AllowsOpen : Task → Store → Place → List ℕ → List ℕ → Outcome → Type 0
+AllowsOpen t store start old new outcome = (walk : List Row) (end : WalkEnd) → IsWalk (rows_of (shelf_of t) store) start walk → EndsBy (rows_of (shelf_of t) store) start walk end → IsOpen end
+    → IsAllowed t store (plan_of t store start walk end) old new outcome
+
+-- the calls are within the bounds for the rows of such a walk, and for each page that may make calls
+abbrev pub PagesWithin : Task → Store → List ℕ → Place → ℕ → ℕ → ℕ → Type 0
+PagesWithin t store sizes start tries before after = (walk : List Row) (end : WalkEnd) → IsWalk (rows_of (shelf_of t) store) start walk → EndsBy (rows_of (shelf_of t) store) start walk end → IsOpen end
+    → after ≤ before + calls_for t store tries walk + pages_made sizes * (step_call_bound tries 0 + 7)
+
+-- a run in pages of these sizes: each page by itself is the listing from its place, of at most as many rows as its size, and where the
+-- chain does not end by a cycle all of them leave what one run may leave
+pub record IsPagedRun (t : Task) (sizes : List ℕ) (start : Place) (tries : ℕ) (s s' : Seen) (old new : List ℕ) (said said' : Received) (status : ℕ) : Type 0 where
+  pub result : Stop
+  pub outcome : Outcome
+  pub outcome_is : IsOutcome result outcome
+  pub status_is : status ≡ status_of outcome
+  pub message : ReceivesText said said' (outcome_text outcome)
+  pub stays : StaysHonest s s'
+  pub counts : CountsSo tries s s' outcome
+  pub pages : ArePages t sizes start tries s s' old new result
+  pub allowed : s'.stores_added ≡ s.stores_added → AllowsOpen t s.store start old new outcome
+  pub calls : s'.stores_added ≡ s.stores_added → PagesWithin t s.store sizes start tries s.calls s'.calls
+  pub plain : IsTrue s.plain → IsFine outcome
+
+-- ---- over an image
+
+-- over the program's own controller nothing is refused, nor given up
+pub record IsRunOverStore (t : Task) (start : Place) (store : Store) (old new : List ℕ) (said said' : Received) (status : ℕ) : Type 0 where
+  pub outcome : Outcome
+  pub status_is : status ≡ status_of outcome
+  pub message : ReceivesText said said' (outcome_text outcome)
+  pub allowed : AllowsAll t store start old new outcome
+  pub fine : IsFine outcome
+
+-- this status is given, and this message is said
+abbrev pub Says : Received → Received → ℕ → Message → ℕ → Type 0
+Says said said' status message n = (status ≡ n) × ReceivesText said said' (line_text (message_text message))
+
+-- of bytes that are no image: the fault, or want of memory, which may come before it
+abbrev pub fault_status : ImageFault → ℕ
+fault_status image_fault.Memory = 5
+fault_status image_fault.Header = 3
+fault_status (image_fault.Line line) = 3
+fault_status (image_fault.Hex line) = 3
+fault_status (image_fault.Id line) = 3
+fault_status (image_fault.Twice line) = 3
+fault_status (image_fault.Length line) = 3
+fault_status (image_fault.FirstId line) = 3
+fault_status image_fault.NoEnd = 3
+fault_status (image_fault.AfterEnd line) = 3
+fault_status (image_fault.TooMany line) = 3
+
+abbrev pub FailsToRead : ImageFault → List ℕ → List ℕ → Received → Received → ℕ → Type 0
+FailsToRead fault old new said said' status = (new ≡ old) × (Says said said' status (Image fault) (fault_status fault) ⊎ Says said said' status OutOfMemory 5)
+
+-- the text of an image, by how writing it stopped
+abbrev pub WritesImage : List ℕ → List ℕ → List ℕ → Stop → Type 0
+WritesImage text old new stop.Done = new ≡ old ++ text
+WritesImage text old new (stop.Ended ended) = ⊥
+WritesImage text old new stop.Memory = new ≡ old
+WritesImage text old new stop.WriteFault = TakesPart old new text
+
+-- an image written again; nothing of it where memory runs out
+pub record IsRewriting (store : Store) (old new : List ℕ) (said said' : Received) (status : ℕ) : Type 0 where
+  pub outcome : Outcome
+  pub status_is : status ≡ status_of outcome
+  pub message : ReceivesText said said' (outcome_text outcome)
+  pub allowed : IsAllowed task.Rewrite store rewrite_plan old new outcome
+  pub unwritten : outcome ≡ plan.OutOfMemory → new ≡ old
+  pub fine : IsFine outcome
+
+-- with the store of an image, or the fault for which it is none
+abbrev pub AnswersRewrite : Result Store ImageFault → List ℕ → List ℕ → Received → Received → ℕ → Type 0
+AnswersRewrite (Ok store) old new said said' status = IsRewriting store old new said said' status
+AnswersRewrite (Err fault) old new said said' status = FailsToRead fault old new said said' status
+
+abbrev pub AnswersImage : Task → Result Store ImageFault → Place → List ℕ → List ℕ → Received → Received → ℕ → Type 0
+AnswersImage t (Ok store) start old new said said' status = IsRunOverStore t start store old new said said' status
+AnswersImage t (Err fault) start old new said said' status = FailsToRead fault old new said said' status
+
+-- by whether the task writes the image again, and whether it can be run today
+abbrev pub AnswersTask : Bool → Bool → Task → Result Store ImageFault → Place → List ℕ → List ℕ → Received → Received → ℕ → Type 0
+AnswersTask true built t image start old new said said' status = AnswersRewrite image old new said said' status
+AnswersTask false true t image start old new said said' status = AnswersImage t image start old new said said' status
+AnswersTask false false t image start old new said said' status = (new ≡ old) × Says said said' status Usage 2
+
+-- the answer to a command line over an image, by what the image gives
+abbrev pub AnswersLine : Result CommandState UsageFault → Result Store ImageFault → List ℕ → List ℕ → Received → Received → ℕ → Type 0
+AnswersLine (Ok command) image old new said said' status = AnswersTask (is_rewrite command.task) (is_built command.task) command.task image (start_by command.task command.from) old new said said' status
+AnswersLine (Err fault.Memory) image old new said said' status = (new ≡ old) × Says said said' status OutOfMemory 5
+AnswersLine (Err fault.Line) image old new said said' status = (new ≡ old) × Says said said' status Usage 2
+AnswersLine (Err fault.Command) image old new said said' status = (new ≡ old) × Says said said' status Usage 2
+AnswersLine (Err fault.Option) image old new said said' status = (new ≡ old) × Says said said' status Usage 2

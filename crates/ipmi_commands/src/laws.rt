@@ -1,0 +1,21 @@
+//! What follows from the definitions of plans alone, each the contract of a function that does nothing.
+ghost use Rattle.std.specs.Prelude.{◌≡◌, ℕ, true, List};
+ghost use Rattle.ipmi_bus.specs.declared.step.Place.{Place};
+ghost use Rattle.ipmi_bus.specs.Store.{Store, IsStore};
+ghost use Rattle.ipmi_command_line.specs.declared.command.Task.{Task};
+ghost use Rattle.ipmi_commands.specs.Plan.{Item, AreRowsOfBytes, RunEnd, Finished, AreTexts};
+ghost use Rattle.ipmi_commands.specs.Run.{is_built, AllowsAll};
+
+/// The texts that a task which can be run today prints for rows are one text.
+pub fn rows_have_one_text()
+    ensures { (t : Task) (store : Store) (items : List Item) (a b : List ℕ) → is_built t ≡ true →
+        AreRowsOfBytes items → AreTexts t store items a → AreTexts t store items b → a ≡ b }
+{}
+
+/// So over a well-formed store a finished run of such a task leaves one output, and ends in one way.
+pub fn finished_runs_are_one()
+    ensures { (t : Task) (store : Store) (start : Place) (old a b : List ℕ) (e f : RunEnd) → is_built t ≡ true →
+        IsStore store → AllowsAll t store start old a (Finished e) → AllowsAll t store start old b (Finished f) → (a ≡ b) × (e ≡ f) }
+{
+    ipmi_bus::laws::one_walk_has_an_end();
+}

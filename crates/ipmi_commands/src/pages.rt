@@ -1,0 +1,164 @@
+//! Lists records in pages, each with a cursor of its own.
+ghost use Rattle.std.specs.Prelude.{◌≡◌, ◌+◌, ◌*◌, ◌<◌, ◌≤◌, true, Some, IfOk};
+ghost use Rattle.std.specs.Option.{ForSome};
+ghost use Rattle.ipmi_bus.specs.Seen.{IsHonest};
+ghost use Rattle.ipmi_commands.specs.Listing.{faults_of, most_calls, most_of, IsPlace};
+ghost use Rattle.ipmi_commands.specs.Plan.{shelf_of, start_by};
+ghost use Rattle.ipmi_commands.specs.Run.{is_built};
+ghost use Rattle.ipmi_commands.specs.Pages.{start_at, wants_none, pages_made, IsPage, ArePages};
+
+use crate::listing::list_records;
+use crate::stop::Stop;
+use ipmi_bus::{Controller, Cursor, Ended, Place, Shelf};
+use ipmi_command_line::{Command, Count, Task};
+use ipmi_output::Sink;
+use std::alloc::Global;
+
+/// How a page stopped, and where the next one begins.
+#[derive(Clone, Copy)]
+pub(crate) struct Page {
+    pub(crate) stop: Stop,
+    pub(crate) resume_at: Place,
+}
+
+/// Where the command's listing begins.
+pub(crate) fn first_place(cmd: &Command) -> Place
+    ensures value { result ≡ start_by cmd.now.task cmd.now.from }
+    ensures range { IsPlace result }
+{
+    if let Task::SelGet(id) = cmd.task() {
+        return Place::Id(*id);
+    }
+    match cmd.from() {
+        None => Place::First,
+        Some(id) => Place::Id(id),
+    }
+}
+
+/// How many records the task lists, where there is a limit.
+pub(crate) fn most_of(task: &Task) -> Option<u32>
+    ensures { result ≡ most_of task.now }
+{
+    match task {
+        Task::SelList(Count::First(n)) => Some(u32::from(*n)),
+        Task::SelGet(_) => Some(1),
+        Task::SelList(Count::All | Count::Last(_))
+        | Task::Fru(_)
+        | Task::Hex
+        | Task::List(_)
+        | Task::Elist(_)
+        | Task::Get(_)
+        | Task::Info(_)
+        | Task::Rewrite => None,
+    }
+}
+
+/// The id that a cursor starts from at the place, or how a listing from there ends without one.
+fn start_at(place: Place) -> Result<Option<u16>, Stop>
+    requires { IsPlace place }
+    ensures value { result ≡ start_at place }
+    ensures range { IfOk result (λ from. ForSome from (λ id. (0 < id) × (id < 65535))) }
+{
+    match place {
+        Place::First => Ok(None),
+        Place::Id(0) => Err(Stop::Ended(Ended::Cycle(0))),
+        Place::Id(id) => Ok(Some(id)),
+        Place::End => Err(Stop::Done),
+    }
+}
+
+/// Whether a page has no record.
+fn wants_none(most: Option<u32>) -> bool
+    ensures { result ≡ wants_none most }
+{
+    match most {
+        None => false,
+        Some(n) => n == 0,
+    }
+}
+
+/// The shelf whose records the task is about.
+fn shelf_of(task: &Task) -> Shelf
+    ensures { result ≡ shelf_of task.now }
+{
+    match task {
+        Task::SelList(_) | Task::SelGet(_) => Shelf::Sel,
+        Task::Info(shelf) => *shelf,
+        Task::Fru(_) | Task::Hex | Task::List(_) | Task::Elist(_) | Task::Get(_) | Task::Rewrite =>
+            Shelf::Sdr,
+    }
+}
+
+/// Lists the records of the command's shelf from the place, so many at most where there is a limit, with a cursor of its own.
+pub(crate) fn list_page<C: Controller, O: Sink>(
+    alloc: Global,
+    ctl: &mut C,
+    cmd: &Command,
+    place: Place,
+    most: Option<u32>,
+    out: &mut O,
+) -> Page
+    requires built { is_built cmd.now.task ≡ true }
+    requires place { IsPlace place }
+    ensures faults { O.faults out.new ≡ O.faults out.old + faults_of result.stop }
+    ensures place { IsPlace result.resume_at }
+    ensures calls { (C.seen ctl.new).calls ≤ (C.seen ctl.old).calls + most_calls cmd.now.task cmd.now.tries }
+    ensures none { most ≡ Some 0 → C.seen ctl.new ≡ C.seen ctl.old }
+    ensures honest { IsHonest (C.seen ctl.old) →
+        IsPage cmd.now.task most place result.resume_at cmd.now.tries
+        (C.seen ctl.old) (C.seen ctl.new) (O.taken out.old) (O.taken out.new) result.stop }
+{
+    if wants_none(most) {
+        return Page {
+            stop: Stop::Done,
+            resume_at: place,
+        };
+    }
+    let from = match start_at(place) {
+        Ok(from) => from,
+        Err(stop) => {
+            return Page {
+                stop,
+                resume_at: place,
+            };
+        }
+    };
+    let shelf = shelf_of(cmd.task());
+    let Ok(mut cursor) = Cursor::start(alloc, shelf, from, cmd.part(), cmd.tries()) else {
+        return Page {
+            stop: Stop::Memory,
+            resume_at: place,
+        };
+    };
+    let stop = list_records(alloc, &mut cursor, ctl, cmd, most, out);
+    Page {
+        stop,
+        resume_at: cursor.resume_at(),
+    }
+}
+
+/// Lists the records from where the command says, in pages of these sizes and then one without a limit.
+pub(crate) fn list_pages<C: Controller, O: Sink>(
+    alloc: Global,
+    ctl: &mut C,
+    cmd: &Command,
+    sizes: &[u32],
+    out: &mut O,
+) -> Stop
+    requires { is_built cmd.now.task ≡ true }
+    ensures faults { O.faults out.new ≡ O.faults out.old + faults_of result }
+    ensures calls { (C.seen ctl.new).calls ≤ (C.seen ctl.old).calls + pages_made sizes.now * most_calls cmd.now.task cmd.now.tries }
+    ensures honest { IsHonest (C.seen ctl.old) →
+        ArePages cmd.now.task sizes.now (start_by cmd.now.task cmd.now.from) cmd.now.tries
+        (C.seen ctl.old) (C.seen ctl.new) (O.taken out.old) (O.taken out.new) result }
+{
+    let mut place = first_place(cmd);
+    'pages: for size in sizes {
+        let page = list_page(alloc, ctl, cmd, place, Some(*size), out);
+        match page.stop {
+            Stop::Done => place = page.resume_at,
+            Stop::Ended(_) | Stop::Memory | Stop::WriteFault => return page.stop,
+        }
+    }
+    list_page(alloc, ctl, cmd, place, None, out).stop
+}

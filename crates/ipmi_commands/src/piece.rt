@@ -1,0 +1,154 @@
+//! What a command prints for a record. Where the text needs a reading, it is asked for here, while the record is lent.
+ghost use Rattle.std.specs.Prelude.{◌≡◌, ◌+◌, ◌≤◌, true, IfOk, IfErr, length, string_bytes};
+ghost use Rattle.ipmi_bus.specs.Lent.{row_of_record};
+ghost use Rattle.ipmi_bus.specs.Seen.{IsHonest};
+ghost use Rattle.ipmi_bus.specs.Shelf.{whole_len};
+ghost use Rattle.ipmi_records.specs.Sel.{sel_view_of};
+ghost use Rattle.ipmi_records.specs.SelText.{IsSelBlock, IsSelLine};
+ghost use Rattle.ipmi_commands.specs.Asking.{ReadsFor};
+ghost use Rattle.ipmi_commands.specs.Listing.{faults_of, most_after, Finds, FindsPiece};
+ghost use Rattle.ipmi_commands.specs.Pieces.{is_of_kind, IsLineOf, IsListedOfKind};
+ghost use Rattle.ipmi_commands.specs.Plan.{listed_spots, shelf_of};
+ghost use Rattle.ipmi_commands.specs.Run.{is_built};
+
+use crate::line::record_line;
+use crate::stop::Stop;
+use ipmi_bus::{Controller, Ended, Record, read_reading};
+use ipmi_command_line::{Command, Kind, Task};
+use ipmi_records::{SdrView, SelView, sdr_eline, sdr_fault_line, sdr_line, sel_block, sel_line};
+use ipmi_text::Reading;
+use std::alloc::{AllocError, Global};
+
+/// The two forms in which a sensor data record is listed.
+#[derive(Clone, Copy, Debug, PartialEq, Eq)]
+pub(crate) enum Form {
+    /// The line of `sdr list`.
+    Short,
+    /// The longer one of `sdr elist`.
+    Extended,
+}
+
+/// The bytes of an entry of the event log.
+fn entry_bytes(bytes: &[u8]) -> [u8; 16]
+    requires { length bytes.now ≡ 16 }
+    ensures { result ≡ bytes.now }
+{
+    let mut entry = [0; 16];
+    entry.copy_from_slice(bytes);
+    entry
+}
+
+/// The line of an entry of the event log.
+fn entry_line(alloc: Global, lent: &Record<'_>) -> Result<String, AllocError>
+    requires { length lent.now.bytes.now ≡ 16 }
+    ensures { IfOk result (λ text. IsSelLine lent.now.id (sel_view_of lent.now.bytes.now) (string_bytes text)) }
+{
+    let entry = entry_bytes(lent.bytes);
+    sel_line(alloc, lent.id, &SelView::read(&entry))
+}
+
+/// The block of an entry of the event log.
+fn entry_block(alloc: Global, lent: &Record<'_>) -> Result<String, AllocError>
+    requires { length lent.now.bytes.now ≡ 16 }
+    ensures { IfOk result (λ text. IsSelBlock lent.now.id (sel_view_of lent.now.bytes.now) (string_bytes text)) }
+{
+    let entry = entry_bytes(lent.bytes);
+    sel_block(alloc, lent.id, &SelView::read(&entry))
+}
+
+/// Whether a record is of the kind, by its type byte.
+fn is_of_kind(kind: Kind, record_type: u8) -> bool
+    ensures { result ≡ is_of_kind kind record_type }
+{
+    match kind {
+        Kind::Sensors => record_type == 0x01 || record_type == 0x02,
+        Kind::All => true,
+        Kind::Full => record_type == 0x01,
+        Kind::Compact => record_type == 0x02,
+        Kind::Event => record_type == 0x03,
+        Kind::Generic => record_type == 0x10,
+        Kind::Mc => record_type == 0x12,
+        Kind::Fru => record_type == 0x11,
+    }
+}
+
+/// The reading of a record, where it has one, under the record's id.
+fn reading_for<C: Controller>(
+    ctl: &mut C,
+    id: u16,
+    view: &SdrView<'_>,
+    tries: u8,
+) -> Result<Option<Reading>, Ended>
+    ensures calls { (C.seen ctl.new).calls ≤ (C.seen ctl.old).calls + (tries + 1) }
+    ensures honest { IsHonest (C.seen ctl.old) → ReadsFor id view.now tries (C.seen ctl.old) (C.seen ctl.new) result }
+{
+    match view.reading_of() {
+        None => Ok(None),
+        Some((lun, number)) => read_reading(ctl, id, lun, number, tries),
+    }
+}
+
+/// The line of a record with its reading, in this form.
+fn line_of(
+    alloc: Global,
+    form: Form,
+    view: &SdrView<'_>,
+    reading: Option<Reading>,
+) -> Result<String, AllocError>
+    ensures { IfOk result (λ text. IsLineOf form view.now reading (string_bytes text)) }
+{
+    match form {
+        Form::Short => sdr_line(alloc, view, reading),
+        Form::Extended => sdr_eline(alloc, view, reading),
+    }
+}
+
+/// The line of a record of the kind, or of its fault; nothing for one of another kind.
+fn listed_line<C: Controller>(
+    alloc: Global,
+    ctl: &mut C,
+    form: Form,
+    kind: Kind,
+    tries: u8,
+    lent: &Record<'_>,
+) -> Result<String, Stop>
+    requires { 5 ≤ length lent.now.bytes.now }
+    ensures calls { (C.seen ctl.new).calls ≤ (C.seen ctl.old).calls + (tries + 1) }
+    ensures unwritten { IfErr result (λ stop. faults_of stop ≡ 0) }
+    ensures honest { let row = row_of_record lent.now in IsHonest (C.seen ctl.old) →
+        Finds (λ store text. IsListedOfKind form kind store row text) (listed_spots kind row) tries (C.seen ctl.old) (C.seen ctl.new) result }
+{
+    if !is_of_kind(kind, lent.bytes[3]) {
+        return Ok(String::new(alloc));
+    }
+    let view = match SdrView::read(lent.bytes) {
+        Ok(view) => view,
+        Err(fault) => return Ok(sdr_fault_line(alloc, lent.id, fault)?),
+    };
+    let reading = reading_for(ctl, lent.id, &view, tries)?;
+    Ok(line_of(alloc, form, &view, reading)?)
+}
+
+/// What the command prints for the record, nothing for one that it leaves out.
+pub(crate) fn record_piece<C: Controller>(
+    alloc: Global,
+    ctl: &mut C,
+    cmd: &Command,
+    lent: &Record<'_>,
+) -> Result<String, Stop>
+    requires built { is_built cmd.now.task ≡ true }
+    requires whole { length lent.now.bytes.now ≡ whole_len (shelf_of cmd.now.task) lent.now.bytes.now }
+    ensures calls { (C.seen ctl.new).calls ≤ (C.seen ctl.old).calls + most_after cmd.now.task cmd.now.tries }
+    ensures unwritten { IfErr result (λ stop. faults_of stop ≡ 0) }
+    ensures honest { IsHonest (C.seen ctl.old) →
+        FindsPiece cmd.now.task cmd.now.tries (row_of_record lent.now) (C.seen ctl.old) (C.seen ctl.new) result }
+{
+    match cmd.task() {
+        Task::Hex => Ok(record_line(alloc, lent)?),
+        Task::List(kind) => listed_line(alloc, ctl, Form::Short, *kind, cmd.tries(), lent),
+        Task::Elist(kind) => listed_line(alloc, ctl, Form::Extended, *kind, cmd.tries(), lent),
+        Task::SelList(_) => Ok(entry_line(alloc, lent)?),
+        Task::SelGet(_) => Ok(entry_block(alloc, lent)?),
+        Task::Fru(_) | Task::Get(_) | Task::Info(_) | Task::Rewrite => unreachable!(),
+    }
+}

@@ -1,0 +1,271 @@
+//! Runs a command over a controller, or answers it over a saved image.
+ghost use Rattle.std.specs.Prelude.{◌≡◌, ◌+◌, ◌*◌, ◌≤◌, ◌==◌, if◌then◌else◌, true, false};
+ghost use Rattle.ipmi_bus.specs.Seen.{IsHonest};
+ghost use Rattle.ipmi_image.specs.Image.{store_of_image};
+ghost use Rattle.ipmi_image.specs.Rewritten.{image_text_of};
+ghost use Rattle.ipmi_command_line.specs.Command.{is_listing};
+ghost use Rattle.ipmi_commands.specs.Listing.{faults_of, most_calls};
+ghost use Rattle.ipmi_output.specs.Received.{ReceivesText, of_writer};
+ghost use Rattle.ipmi_commands.specs.Pages.{pages_made};
+ghost use Rattle.ipmi_commands.specs.Plan.{start_by};
+ghost use Rattle.ipmi_commands.specs.Run.{stop_status, stop_text, fault_status, is_answered, is_built, is_rewrite, EndsSo, IsRun, IsPagedRun, Says, WritesImage, AnswersRewrite, AnswersTask, AnswersLine};
+ghost use Rattle.ipmi_output.specs.declared.message.Message.TheVariants as message;
+
+use crate::pages::{first_place, list_page, list_pages, most_of};
+use crate::stop::Stop;
+use ipmi_bus::Controller;
+use ipmi_command_line::{Command, Count, Task, UsageFault};
+use ipmi_image::{Image, ImageController, ImageFault, image_text};
+use ipmi_output::{Message, MessageSink, Sink, say, write_all};
+use std::alloc::Global;
+use std::io::Write;
+
+/// Whether the task can be run today.
+fn is_built(task: &Task) -> bool
+    ensures { result ≡ is_built task.now }
+{
+    match task {
+        Task::Hex
+        | Task::List(_)
+        | Task::Elist(_)
+        | Task::SelList(Count::All | Count::First(_))
+        | Task::SelGet(_) => true,
+        Task::SelList(Count::Last(_))
+        | Task::Fru(_)
+        | Task::Get(_)
+        | Task::Info(_)
+        | Task::Rewrite => false,
+    }
+}
+
+/// Whether the task writes the image again.
+fn is_rewrite(task: &Task) -> bool
+    ensures { result ≡ is_rewrite task.now }
+{
+    match task {
+        Task::Rewrite => true,
+        Task::Hex
+        | Task::Fru(_)
+        | Task::List(_)
+        | Task::Elist(_)
+        | Task::Get(_)
+        | Task::Info(_)
+        | Task::SelList(_)
+        | Task::SelGet(_) => false,
+    }
+}
+
+/// Whether the task can be answered over an image today, so that the image is looked at.
+pub fn is_answered(task: &Task) -> bool
+    ensures { result ≡ is_answered task.now }
+{
+    is_rewrite(task) || is_built(task)
+}
+
+/// Says why a listing stopped, and gives its exit status.
+fn report<E: MessageSink>(stop: Stop, err: &mut E) -> u8
+    ensures status { result ≡ stop_status stop }
+    ensures message { ReceivesText (E.received err.old) (E.received err.new) (stop_text stop) }
+{
+    match stop {
+        Stop::Done => 0,
+        Stop::Ended(ended) => {
+            say(err, Message::Ended(ended));
+            1
+        }
+        Stop::Memory => {
+            say(err, Message::OutOfMemory);
+            5
+        }
+        Stop::WriteFault => {
+            say(err, Message::WriteFault);
+            4
+        }
+    }
+}
+
+/// Says how the program is called, and gives the exit status of that.
+fn report_usage<E: MessageSink>(err: &mut E) -> u8
+    ensures { Says (E.received err.old) (E.received err.new) result message.Usage 2 }
+{
+    say(err, Message::Usage);
+    2
+}
+
+/// The exit status of an image that is not read.
+fn image_status(fault: ImageFault) -> u8
+    ensures { result ≡ fault_status fault }
+{
+    match fault {
+        ImageFault::Memory => 5,
+        ImageFault::Header
+        | ImageFault::Line(_)
+        | ImageFault::Hex(_)
+        | ImageFault::Id(_)
+        | ImageFault::Twice(_)
+        | ImageFault::Length(_)
+        | ImageFault::FirstId(_)
+        | ImageFault::NoEnd
+        | ImageFault::AfterEnd(_)
+        | ImageFault::TooMany(_) => 3,
+    }
+}
+
+/// Says why the image is not read, and gives the exit status of that.
+fn report_image<E: MessageSink>(fault: ImageFault, err: &mut E) -> u8
+    ensures { Says (E.received err.old) (E.received err.new) result (message.Image fault) (fault_status fault) }
+{
+    say(err, Message::Image(fault));
+    image_status(fault)
+}
+
+/// Does what the command asks for over the controller, and gives the exit status: 0 where all was printed, 1 where
+/// a listing ended by name, 2 for a command that can't be run yet, 4 for a write fault, 5 where memory ran out. Messages
+/// go to any writer.
+pub fn run<C: Controller, O: Sink, E: Write>(
+    alloc: Global,
+    ctl: &mut C,
+    cmd: &Command,
+    out: &mut O,
+    err: &mut E,
+) -> u8
+    ensures faults { O.faults out.new ≡ O.faults out.old + (if result == 4 then 1 else 0) }
+    ensures calls { (C.seen ctl.new).calls ≤ (C.seen ctl.old).calls + most_calls cmd.now.task cmd.now.tries }
+    ensures ends { is_built cmd.now.task ≡ true → EndsSo (of_writer (E.contents err.old)) (of_writer (E.contents err.new)) result }
+    ensures built { is_built cmd.now.task ≡ true → IsHonest (C.seen ctl.old) →
+        IsRun cmd.now.task (start_by cmd.now.task cmd.now.from) cmd.now.tries
+        (C.seen ctl.old) (C.seen ctl.new)
+        (O.taken out.old) (O.taken out.new)
+        (of_writer (E.contents err.old)) (of_writer (E.contents err.new)) result }
+    ensures unbuilt { is_built cmd.now.task ≡ false →
+        (C.seen ctl.new ≡ C.seen ctl.old) × (O.taken out.new ≡ O.taken out.old)
+        × Says
+        (of_writer (E.contents err.old)) (of_writer (E.contents err.new)) result message.Usage 2 }
+{
+    run_to_message_sink(alloc, ctl, cmd, out, err)
+}
+
+/// As `run`, with messages to a [`MessageSink`]: of one whose faults are counted it is known that a message was taken
+/// whole where there was none.
+pub fn run_to_message_sink<C: Controller, O: Sink, E: MessageSink>(
+    alloc: Global,
+    ctl: &mut C,
+    cmd: &Command,
+    out: &mut O,
+    err: &mut E,
+) -> u8
+    ensures faults { O.faults out.new ≡ O.faults out.old + (if result == 4 then 1 else 0) }
+    ensures calls { (C.seen ctl.new).calls ≤ (C.seen ctl.old).calls + most_calls cmd.now.task cmd.now.tries }
+    ensures ends { is_built cmd.now.task ≡ true → EndsSo (E.received err.old) (E.received err.new) result }
+    ensures built { is_built cmd.now.task ≡ true → IsHonest (C.seen ctl.old) →
+        IsRun cmd.now.task (start_by cmd.now.task cmd.now.from) cmd.now.tries
+        (C.seen ctl.old) (C.seen ctl.new)
+        (O.taken out.old) (O.taken out.new) (E.received err.old) (E.received err.new) result }
+    ensures unbuilt { is_built cmd.now.task ≡ false →
+        (C.seen ctl.new ≡ C.seen ctl.old) × (O.taken out.new ≡ O.taken out.old)
+        × Says (E.received err.old) (E.received err.new) result message.Usage 2 }
+{
+    if !is_built(cmd.task()) {
+        return report_usage(err);
+    }
+    let stop = list_page(alloc, ctl, cmd, first_place(cmd), most_of(cmd.task()), out).stop;
+    report(stop, err)
+}
+
+/// As `run_to_message_sink`, for a listing in pages: each hands out at most as many records as its number says, by a cursor of its own,
+/// from where the page before it stopped, and after the last one comes a page without a limit.
+pub fn run_pages<C: Controller, O: Sink, E: MessageSink>(
+    alloc: Global,
+    ctl: &mut C,
+    cmd: &Command,
+    out: &mut O,
+    err: &mut E,
+    pages: &[u32],
+) -> u8
+    requires { is_listing cmd.now.task ≡ true }
+    ensures faults { O.faults out.new ≡ O.faults out.old + (if result == 4 then 1 else 0) }
+    ensures calls { (C.seen ctl.new).calls ≤ (C.seen ctl.old).calls + pages_made pages.now * most_calls cmd.now.task cmd.now.tries }
+    ensures ends { EndsSo (E.received err.old) (E.received err.new) result }
+    ensures honest { IsHonest (C.seen ctl.old) →
+        IsPagedRun cmd.now.task pages.now (start_by cmd.now.task cmd.now.from) cmd.now.tries
+        (C.seen ctl.old) (C.seen ctl.new)
+        (O.taken out.old) (O.taken out.new) (E.received err.old) (E.received err.new) result }
+{
+    let stop = list_pages(alloc, ctl, cmd, pages, out);
+    report(stop, err)
+}
+
+/// Answers a command line over a saved image, and gives the exit status: as `run`, and 3 for an image that is not
+/// read. After a usage fault, and for a command that can't be run yet, the image is not looked at.
+pub fn answer<O: Sink, E: MessageSink>(
+    alloc: Global,
+    line: &Result<Command, UsageFault>,
+    image: &[u8],
+    out: &mut O,
+    err: &mut E,
+) -> u8
+    ensures faults { O.faults out.new ≡ O.faults out.old + (if result == 4 then 1 else 0) }
+    ensures answers { AnswersLine line.now (store_of_image image.now)
+        (O.taken out.old) (O.taken out.new) (E.received err.old) (E.received err.new) result }
+{
+    match line {
+        Ok(cmd) => answer_command(alloc, cmd, image, out, err),
+        Err(UsageFault::Memory) => {
+            say(err, Message::OutOfMemory);
+            5
+        }
+        Err(UsageFault::Line | UsageFault::Command | UsageFault::Option) => report_usage(err),
+    }
+}
+
+/// Answers the command over a saved image.
+fn answer_command<O: Sink, E: MessageSink>(
+    alloc: Global,
+    cmd: &Command,
+    image: &[u8],
+    out: &mut O,
+    err: &mut E,
+) -> u8
+    ensures faults { O.faults out.new ≡ O.faults out.old + (if result == 4 then 1 else 0) }
+    ensures answers { AnswersTask (is_rewrite cmd.now.task) (is_built cmd.now.task) cmd.now.task (store_of_image image.now) (start_by cmd.now.task cmd.now.from)
+        (O.taken out.old) (O.taken out.new) (E.received err.old) (E.received err.new) result }
+{
+    if is_rewrite(cmd.task()) {
+        return rewrite(alloc, image, out, err);
+    }
+    if !is_built(cmd.task()) {
+        return report_usage(err);
+    }
+    match Image::read(alloc, image) {
+        Ok(image) => run_to_message_sink(alloc, &mut ImageController::new(image), cmd, out, err),
+        Err(fault) => report_image(fault, err),
+    }
+}
+
+/// Writes the image again.
+fn rewrite<O: Sink, E: MessageSink>(alloc: Global, image: &[u8], out: &mut O, err: &mut E) -> u8
+    ensures faults { O.faults out.new ≡ O.faults out.old + (if result == 4 then 1 else 0) }
+    ensures answers { AnswersRewrite (store_of_image image.now) (O.taken out.old) (O.taken out.new) (E.received err.old) (E.received err.new) result }
+{
+    match Image::read(alloc, image) {
+        Ok(image) => {
+            let stop = write_image(alloc, &image, out);
+            report(stop, err)
+        }
+        Err(fault) => report_image(fault, err),
+    }
+}
+
+/// Writes the text of the image.
+fn write_image<O: Sink>(alloc: Global, image: &Image, out: &mut O) -> Stop
+    ensures faults { O.faults out.new ≡ O.faults out.old + faults_of result }
+    ensures text { WritesImage (image_text_of image.now) (O.taken out.old) (O.taken out.new) result }
+{
+    let Ok(text) = image_text(alloc, image) else {
+        return Stop::Memory;
+    };
+    match write_all(out, &text) {
+        Ok(()) => Stop::Done,
+        Err(_) => Stop::WriteFault,
+    }
+}

@@ -1,0 +1,104 @@
+-- What a message sink took once parts were written to it one after another.
+use Rattle.std.proofs.Common.{◌≡◌, ◌∙◌, ℕ, ◌<◌, ◌==◌, Bool, false, if◌then◌else◌, zero, suc, List, [], ◌++◌, ◌+◌, Option, None, Some, Ok, Err, Result, IsErr, Bor, get_or, length, length-append, take, drop, refl, sym, ap, subst, append_assoc, arith}
+use Rattle.std.proofs.Math.Seq.{drop-cons, take-append-add}
+use Rattle.std.proofs.lemmas.List.{append-nil, take-append-drop, take-append-le}
+use Rattle.std.proofs.lemmas.Bool.{false≢true}
+use Rattle.std.proofs.lemmas.List.Concat.{flat_map-append}
+use Rattle.std.specs.Io.KnownBytes.{Appends, Keeps}
+use Rattle.std.specs.Option.{option_map}
+use Rattle.ipmi_output.specs.Received.{Received, ReceivesAll, ReceivesPart, WritesAll, ReceivesText, Whole, CutShort}
+use Rattle.ipmi_output.specs.Message.{joined_parts}
+
+-- nothing was written yet
+pub Appends-none : (old : Option (List ℕ)) → Appends old old []
+Appends-none None = tt
+Appends-none (Some xs) = sym (append-nil xs)
+
+-- to append some and then more is to append both
+pub Appends-both : (old mid new : Option (List ℕ)) (xs ys : List ℕ) → Appends old mid xs → Appends mid new ys → Appends old new (xs ++ ys)
+Appends-both None mid new xs ys first second = tt
+Appends-both (Some o) None new xs ys first second = absurd first
+Appends-both (Some o) (Some m) None xs ys first second = absurd second
+Appends-both (Some o) (Some m) (Some n) xs ys first second = second ∙ ap (λ (t : List ℕ). t ++ ys) first ∙ append_assoc o xs ys
+
+-- a call that failed changed nothing
+pub Appends-kept : (old mid new : Option (List ℕ)) (xs : List ℕ) → Appends old mid xs → Keeps mid new → Appends old new xs
+Appends-kept None mid new xs so_far kept = tt
+Appends-kept (Some o) None new xs so_far kept = absurd so_far
+Appends-kept (Some o) (Some m) None xs so_far kept = absurd kept
+Appends-kept (Some o) (Some m) (Some n) xs so_far kept = kept ∙ so_far
+
+-- the same bytes
+pub Appends-same : (old new : Option (List ℕ)) (xs ys : List ℕ) → xs ≡ ys → Appends old new xs → Appends old new ys
+Appends-same old new xs ys same all = subst (λ (t : List ℕ). Appends old new t) same all
+
+-- nothing was written yet
+pub ReceivesAll-none : (old : Received) → ReceivesAll old old []
+ReceivesAll-none old = (Appends-none old.taken, refl)
+
+positive : (n : ℕ) → (suc n == 0) ≡ false
+positive n = search arith
+
+-- a call that took some bytes was no fault
+pub faults-kept : (faults : Option ℕ) (n : ℕ) → (n ≡ 0 → ⊥) → option_map (λ k. k + (if n == 0 then 1 else 0)) faults ≡ faults
+faults-kept None n some = refl
+faults-kept (Some k) zero some = absurd (some refl)
+faults-kept (Some k) (suc n) some = let same : k + 0 ≡ k = omega arith in ap (λ (b : Bool). Some (k + (if b then 1 else 0))) (positive n) ∙ ap Some same
+
+-- and one that took none was a fault
+pub faults-raised : (faults : Option ℕ) (n : ℕ) → n ≡ 0 → option_map (λ k. k + (if n == 0 then 1 else 0)) faults ≡ option_map (λ k. k + 1) faults
+faults-raised faults n none = ap (λ (m : ℕ). option_map (λ k. k + (if m == 0 then 1 else 0)) faults) none
+
+-- some bytes were taken, and then more
+pub ReceivesAll-both : (old mid new : Received) (xs ys : List ℕ) → ReceivesAll old mid xs → ReceivesAll mid new ys → ReceivesAll old new (xs ++ ys)
+ReceivesAll-both old mid new xs ys first second =
+    (Appends-both old.taken mid.taken new.taken xs ys first.0 second.0, second.1 ∙ first.1)
+
+-- a part of the first bytes is a part of them with more behind them
+pub ReceivesPart-before : (old new : Received) (xs ys : List ℕ) → ReceivesPart old new xs → ReceivesPart old new (xs ++ ys)
+ReceivesPart-before old new xs ys part =
+    let within = part.1 in
+    let whole : length (xs ++ ys) ≡ length xs + length ys = length-append xs ys in
+    let same : take part.0 xs ≡ take part.0 (xs ++ ys) = sym (take-append-le part.0 xs ys (omega (arith, within))) in
+    (part.0, omega (arith, within, whole), Appends-same old.taken new.taken _ _ same part.2, part.3)
+
+-- all of the first bytes, and then a part of those behind them
+pub ReceivesPart-behind : (old mid new : Received) (xs ys : List ℕ) → ReceivesAll old mid xs → ReceivesPart mid new ys → ReceivesPart old new (xs ++ ys)
+ReceivesPart-behind old mid new xs ys first part =
+    let within = part.1 in
+    let whole : length (xs ++ ys) ≡ length xs + length ys = length-append xs ys in (
+      length xs + part.0,
+      omega (arith, within, whole),
+      Appends-same old.taken new.taken _ _ (sym (take-append-add xs ys part.0)) (Appends-both old.taken mid.taken new.taken xs (take part.0 ys) first.0 part.2),
+      part.3 ∙ ap (λ (f : Option ℕ). option_map (λ n. n + 1) f) first.1,
+    )
+
+-- the parts before part i, that part, and those behind it
+joined_parts-split : (parts : List (Bor (List ℕ))) (i : ℕ) (d : Bor (List ℕ)) → i < length parts
+    → joined_parts (take i parts) ++ ((get_or parts i d).now ++ joined_parts (drop (suc i) parts)) ≡ joined_parts parts
+joined_parts-split parts i d within =
+    ap (λ (ps : List (Bor (List ℕ))). joined_parts (take i parts) ++ joined_parts ps) (sym (drop-cons parts i d within))
+    ∙ sym (flat_map-append (λ (part : Bor (List ℕ)). part.now) (take i parts) (drop i parts))
+    ∙ ap (λ (ps : List (Bor (List ℕ))). joined_parts ps) (take-append-drop i parts)
+
+-- the parts before part i, and then a part of that one
+pub ReceivesPart-in_part : (old mid new : Received) (parts : List (Bor (List ℕ))) (i : ℕ) (d : Bor (List ℕ)) → i < length parts
+    → ReceivesAll old mid (joined_parts (take i parts)) → ReceivesPart mid new (get_or parts i d).now → ReceivesPart old new (joined_parts parts)
+ReceivesPart-in_part old mid new parts i d within first part =
+    subst (λ (t : List ℕ). ReceivesPart old new t) (joined_parts-split parts i d within)
+    (ReceivesPart-behind old mid new _ _ first (ReceivesPart-before mid new _ (joined_parts (drop (suc i) parts)) part))
+
+-- a failure with a part of the bytes written
+pub WritesAll-failed : {T E : Type 0} (old new : Received) (r : Result T E) (bytes : List ℕ) → IsErr r → ReceivesPart old new bytes → WritesAll old new r bytes
+WritesAll-failed old new (Ok v) bytes failed part = absurd (false≢true failed)
+WritesAll-failed old new (Err e) bytes failed part = part
+
+-- some bytes, and then what a call writes of those behind them
+pub WritesAll-behind : {T E : Type 0} (old mid new : Received) (r : Result T E) (xs ys : List ℕ) → ReceivesAll old mid xs → WritesAll mid new r ys → WritesAll old new r (xs ++ ys)
+WritesAll-behind old mid new (Ok v) xs ys first all = ReceivesAll-both old mid new xs ys first all
+WritesAll-behind old mid new (Err e) xs ys first part = ReceivesPart-behind old mid new xs ys first part
+
+-- in either case the text was written
+pub ReceivesText-any : {T E : Type 0} (old new : Received) (r : Result T E) (bytes : List ℕ) → WritesAll old new r bytes → ReceivesText old new bytes
+ReceivesText-any old new (Ok v) bytes all = Whole all
+ReceivesText-any old new (Err e) bytes part = CutShort part

@@ -1,0 +1,62 @@
+-- The text of each message.
+use Rattle.std.specs.Prelude.{ℕ, List, ◌++◌, flat_map, codes}
+use Rattle.std.specs.Borrow.{Bor}
+use Rattle.std.specs.Fmt.{decimal}
+use Rattle.ipmi_bus.specs.declared.step.Ended.{Ended}
+use Rattle.ipmi_bus.specs.declared.step.Ended.TheVariants as ended
+use Rattle.ipmi_image.specs.declared.image.ImageFault.{ImageFault}
+use Rattle.ipmi_image.specs.declared.image.ImageFault.TheVariants as fault
+use Rattle.ipmi_records.specs.Bytes.{byte_h, word_h}
+use Rattle.ipmi_output.specs.declared.message.Message.{Message}
+use Rattle.ipmi_output.specs.declared.message.Message.TheVariants as message
+
+-- how the program is called
+abbrev pub usage_text : List ℕ
+usage_text = codes "usage: ipmitool [--image FILE] [--from HEX4] [--part N] [--tries N] fru|sdr|sel WORDS"
+
+-- that a record was refused, with this code
+abbrev pub refused_text : ℕ → ℕ → List ℕ
+refused_text id code = codes "record " ++ (word_h id ++ (codes " refused with code " ++ byte_h code))
+
+-- why a listing ended, with the record's id
+abbrev pub ended_text : Ended → List ℕ
+ended_text (ended.Cycle id) = codes "cycle at " ++ word_h id
+ended_text (ended.Missing id) = codes "record " ++ (word_h id ++ codes " not present")
+ended_text (ended.Refused id code) = refused_text id code.0
+ended_text (ended.GaveUp id) = codes "gave up at " ++ word_h id
+ended_text (ended.Stalled id) = codes "stalled at " ++ word_h id
+ended_text (ended.Malformed id) = codes "malformed record " ++ word_h id
+
+-- what is wrong with a line of an image
+abbrev pub line_fault_text : ℕ → List ℕ → List ℕ
+line_fault_text line what = codes "image line " ++ (decimal line ++ (codes ": " ++ what))
+
+-- why the input is no image
+abbrev pub image_fault_text : ImageFault → List ℕ
+image_fault_text fault.Memory = codes "out of memory"
+image_fault_text fault.Header = codes "image: header"
+image_fault_text (fault.Line line) = line_fault_text line (codes "not a line")
+image_fault_text (fault.Hex line) = line_fault_text line (codes "hex")
+image_fault_text (fault.Id line) = line_fault_text line (codes "id")
+image_fault_text (fault.Twice line) = line_fault_text line (codes "twice")
+image_fault_text (fault.Length line) = line_fault_text line (codes "length")
+image_fault_text (fault.FirstId line) = line_fault_text line (codes "first id")
+image_fault_text fault.NoEnd = codes "image: no end"
+image_fault_text (fault.AfterEnd line) = line_fault_text line (codes "after end")
+image_fault_text (fault.TooMany line) = line_fault_text line (codes "too many bytes")
+
+abbrev pub message_text : Message → List ℕ
+message_text message.Usage = usage_text
+message_text (message.CannotRead name) = codes "cannot read " ++ name.now
+message_text (message.Image fault) = image_fault_text fault
+message_text (message.Ended ended) = ended_text ended
+message_text message.WriteFault = codes "write fault"
+message_text message.OutOfMemory = codes "out of memory"
+
+-- a text as a line
+abbrev pub line_text : List ℕ → List ℕ
+line_text text = text ++ codes "\n"
+
+-- parts, one after another
+abbrev pub joined_parts : List (Bor (List ℕ)) → List ℕ
+joined_parts parts = flat_map (λ part. part.now) parts

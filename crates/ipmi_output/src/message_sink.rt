@@ -1,0 +1,53 @@
+//! Where messages go: any writer, or a `Written`, and writing a whole text to one.
+ghost use Rattle.std.specs.Prelude.{ℕ, ◌≤◌, ◌<◌, length, IfOk, Some};
+ghost use Rattle.ipmi_output.specs.Received.{Received, Receives, WritesAll, of_writer};
+
+use crate::sink::{Sink, SinkFault, Written};
+use std::io::Write;
+
+/// What takes messages, some of the bytes offered at each call. Every writer does; of a [`Written`] it is known as well
+/// how many calls were faults.
+pub trait MessageSink {
+    /// What was taken so far, and how many calls took none or failed, where these are known.
+    ghost received: { Self → Received };
+
+    /// Takes the first of the bytes, as many as it answers; where it fails, it takes none.
+    fn offer(&mut self, bytes: &[u8]) -> Result<usize, SinkFault>
+        requires { 0 < length bytes.now }
+        ensures bound { IfOk result (λ n. n ≤ length bytes.now) }
+        ensures received { Receives (received self.old) (received self.new) result bytes.now };
+}
+
+impl<W: Write> MessageSink for W {
+    ghost received = { λ w. of_writer (W.contents w) };
+
+    fn offer(&mut self, bytes: &[u8]) -> Result<usize, SinkFault> {
+        match self.write(bytes) {
+            Ok(n) => Ok(n),
+            Err(_) => Err(SinkFault),
+        }
+    }
+}
+
+impl<W: Write> MessageSink for Written<W> {
+    ghost received = { λ s. record { taken = Some (⟦<Written<W> as Sink>⟧.taken s); faults = Some (⟦<Written<W> as Sink>⟧.faults s) } };
+
+    fn offer(&mut self, bytes: &[u8]) -> Result<usize, SinkFault> {
+        Sink::write(self, bytes)
+    }
+}
+
+/// Writes all the bytes, by as many calls as it takes, until one fails or takes none.
+pub(crate) fn offer_all<E: MessageSink>(err: &mut E, bytes: &[u8]) -> Result<(), SinkFault>
+    ensures { WritesAll (E.received err.old) (E.received err.new) result bytes.now }
+{
+    let mut done = 0;
+    while done < bytes.len() {
+        let taken = err.offer(&bytes[done..])?;
+        if taken == 0 {
+            return Err(SinkFault);
+        }
+        done += taken;
+    }
+    Ok(())
+}

@@ -1,0 +1,109 @@
+//! Where output goes: a sink, any writer as one, and writing a whole text to one.
+ghost use Rattle.std.specs.Prelude.{◌≡◌, ℕ, ◌≤◌, ◌<◌, ◌+◌, List, [], ◌++◌, length, IfOk, OnOk, OnErr, IsSome, Some, unwrap_or};
+ghost use Rattle.ipmi_output.specs.Sink.{taken_by, faults_by, TakesPart};
+
+use crate::history::{History, Taking};
+use std::io::Write;
+use std::snapshot::Snapshot;
+use thiserror::Error;
+
+/// A sink gave up: a call of it failed, or took no byte.
+#[derive(Clone, Copy, Debug, PartialEq, Eq, Error)]
+#[error("write fault")]
+pub struct SinkFault;
+
+/// What takes bytes, some of those offered at each call.
+pub trait Sink {
+    /// The bytes taken so far.
+    ghost taken: { Self → List ℕ };
+
+    /// How many calls took none or failed.
+    ghost faults: { Self → ℕ };
+
+    /// Takes the first of the bytes, as many as it answers; where it fails, it takes none.
+    fn write(&mut self, bytes: &[u8]) -> Result<usize, SinkFault>
+        requires { 0 < length bytes.now }
+        ensures bound { IfOk result (λ n. n ≤ length bytes.now) }
+        ensures bytes { taken self.new ≡ taken self.old ++ taken_by result bytes.now }
+        ensures count { faults self.new ≡ faults self.old + faults_by result };
+}
+
+/// A writer as a sink: each call is one call of the writer.
+#[derive(Drop)]
+pub struct Written<W: Write> {
+    writer: W,
+    // the writer as it was handed in
+    begun: Snapshot<W>,
+    history: History,
+    ghost told: { ((w : W) → IsSome (W.contents w)) → W.contents writer ≡ Some (unwrap_or (W.contents begun.value) [] ++ history.taken) },
+}
+
+impl<W: Write> Sink for Written<W> {
+    ghost taken = { λ s. unwrap_or (W.contents s.begun.value) [] ++ s.history.taken };
+
+    ghost faults = { λ s. s.history.faults };
+
+    fn write(&mut self, bytes: &[u8]) -> Result<usize, SinkFault> {
+        match self.writer.write(bytes) {
+            Ok(n) => {
+                let taking = Taking {
+                    bytes: &bytes[..n],
+                    is_fault: n == 0,
+                };
+                self.history = History::after(&self.history, &taking);
+                Ok(n)
+            }
+            Err(_) => {
+                let taking = Taking {
+                    bytes: &[],
+                    is_fault: true,
+                };
+                self.history = History::after(&self.history, &taking);
+                Err(SinkFault)
+            }
+        }
+    }
+}
+
+impl<W: Write> Written<W> {
+    /// The writer, with what it has already got; no fault came yet.
+    pub fn new(writer: W) -> Written<W>
+        ensures taken { ⟦<Written<W> as Sink>⟧.taken result ≡ unwrap_or (W.contents writer) [] }
+        ensures faults { ⟦<Written<W> as Sink>⟧.faults result ≡ 0 }
+    {
+        let begun = Snapshot::of(&writer);
+        Written {
+            writer,
+            begun,
+            history: History::new(),
+        }
+    }
+
+    /// The writer again. Where it tells its bytes, as a `Vec<u8>` does, it has got those taken.
+    pub fn into_inner(self) -> W
+        ensures { ((w : W) → IsSome (W.contents w)) → W.contents result ≡ Some (⟦<Written<W> as Sink>⟧.taken self) }
+    {
+        let Written {
+            writer,
+            begun: _,
+            history: _,
+        } = self;
+        writer
+    }
+}
+
+/// Writes all the bytes, by as many calls as it takes, until one fails or takes none.
+pub fn write_all<O: Sink>(out: &mut O, bytes: &[u8]) -> Result<(), SinkFault>
+    ensures ok { OnOk result ((O.taken out.new ≡ O.taken out.old ++ bytes.now) × (O.faults out.new ≡ O.faults out.old)) }
+    ensures err { OnErr result (TakesPart (O.taken out.old) (O.taken out.new) bytes.now × (O.faults out.new ≡ O.faults out.old + 1)) }
+{
+    let mut done = 0;
+    while done < bytes.len() {
+        let taken = out.write(&bytes[done..])?;
+        if taken == 0 {
+            return Err(SinkFault);
+        }
+        done += taken;
+    }
+    Ok(())
+}

@@ -1,5 +1,0 @@
-use Rattle.ipmitool.proofs.UniqueLemmas.{one_output}
-use Rattle.ipmitool.proofs.laws.finished_runs_are_one.Goals as goal
-
-pub returns : goal.returns
-returns c = one_output c.one_walk_has_an_end.ensures.exists

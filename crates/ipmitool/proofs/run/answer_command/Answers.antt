@@ -1,6 +1,0 @@
-use Rattle.ipmitool.proofs.PlanLemmas.{not_run}
-use Rattle.ipmitool.proofs.run.answer_command.Goals as goal
-
-pub returns-in-Err-clause-answers : goal.returns-in-Err-clause-answers
-returns-in-Err-clause-answers g c =
-    not_run _ _ _ c.in-Err.fault _ _ _ _ _ _ (search) (search) c.in-Err.ensures.err c.report_image.ensures

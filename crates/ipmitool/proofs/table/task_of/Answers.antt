@@ -1,5 +1,0 @@
-use Rattle.ipmitool.proofs.CommandLemmas.{too_many}
-use Rattle.ipmitool.proofs.table.task_of.Goals as goal
-
-pub returns-in_default-clause-value : goal.returns-in_default-clause-value
-returns-in_default-clause-value c = too_many c.args.words.now c.in_default.len_at_least
