@@ -19,4 +19,5 @@ pub mod Step
 pub mod Steps
 pub mod Store
 pub mod Tries
+pub mod Unclaimed
 pub mod Walk
