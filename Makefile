@@ -1,7 +1,8 @@
 # `make demo` and `make test` are for every reader. The toolchain's command `rt` is all that they need.
 PREFIX ?= /usr/local
 PROGRAM := crates/ipmitool/out/ipmitool
-SOURCES := crates.txt $(shell find crates -path '*/out' -prune -o \( -name '*.rt' -o -name '*.antt' \) -print)
+# What the program is built of: no test, must-fail edit or document is among it.
+SOURCES := crates.txt $(shell find crates \( -name out -o -name tests -o -name tests.rt -o -name '*_tests' -o -name own_controller \) -prune -o \( -name '*.rt' -o -name '*.antt' \) -print)
 
 .PHONY: demo test memory turns bench build install
 
@@ -12,11 +13,11 @@ demo: $(PROGRAM)
 	$(PROGRAM) --image examples/server.image sel list
 	$(PROGRAM) --image examples/three-rows.image sdr hex
 
-# The whole gate, and the tests that stand beside it.
+# The whole gate, and the tests beside it.
 test:
 	@scripts/test
 
-# Each request for memory refused in turn: seconds after the gate; else the proofs and builds that it needs come first.
+# Each request for memory refused in turn: seconds after the gate; otherwise the proofs and builds that it needs come first.
 memory:
 	@scripts/refuse_memory
 
