@@ -3,7 +3,7 @@ use ipmi_image::Image;
 use std::alloc::Global;
 use std::process::Abort;
 
-/// Puts the text behind, with a line feed for each semicolon.
+/// Puts the text at the end of the image, with a line feed for each semicolon.
 fn push_lines(rt: &impl Abort, image: &mut Vec<u8>, text: &str) {
     for byte in text.bytes() {
         let byte = if byte == b';' { b'\n' } else { byte };
@@ -54,7 +54,7 @@ fn the_first_line_is_the_version(rt: HostRuntime) {
     have_verdicts(&rt, rt.alloc(), "", FIRST_LINES);
 }
 
-/// Records after the first line.
+/// Records after the first line, up to the end of the image.
 const ROWS: &str = "sdr 0001 ffff;end;|line 2: not a line
 sdr 0001 ffff 010051c00;end;|line 2: hex
 sdr 0001 0000 010051c000;sdr 0000 ffff 000051c000;end;|line 3: id
@@ -74,11 +74,11 @@ sel 0001 ffff 01000201000020200004013001595f5a;sel 0001 ffff 0100020100002020000
 sdr 0001 ffff ;end;|line 2: not a line";
 
 #[test]
-fn a_record_may_have_a_fault(rt: HostRuntime) {
+fn a_fault_of_a_record_names_its_line(rt: HostRuntime) {
     have_verdicts(&rt, rt.alloc(), "ipmi-image 1;", ROWS);
 }
 
-/// Inventories, readings and infos after the first line.
+/// Inventories, readings and infos after the first line, up to the end of the image.
 const OTHERS: &str = "reading 4 01 2dc00000;end;|line 2: id
 reading 0 01 2dc000;end;|line 2: length
 reading 0 01 2dc0000000;end;|line 2: length
@@ -91,11 +91,11 @@ info sdr 510300000401000020ffffffff0200;end;|line 2: length
 info fru 00;end;|line 2: not a line";
 
 #[test]
-fn inventories_readings_and_infos_may_have_a_fault(rt: HostRuntime) {
+fn a_fault_of_another_line_names_its_line(rt: HostRuntime) {
     have_verdicts(&rt, rt.alloc(), "ipmi-image 1;", OTHERS);
 }
 
-/// Lines after the first one, as they end.
+/// Images that end well or not, after the first line.
 const ENDS: &str = "frob|no end
 end;x|line 3: after end
 end ;|line 2: not a line
@@ -111,7 +111,7 @@ fn the_line_end_is_the_last_one(rt: HostRuntime) {
 }
 
 /// Lines after the first one, with a character too many, too few or another.
-const LETTERS: &str = "sdr  0001 ffff 010051c000;end;|line 2: not a line
+const SPELLINGS: &str = "sdr  0001 ffff 010051c000;end;|line 2: not a line
 sdr 0001 ffff 010051c000 ;end;|line 2: not a line
  sdr 0001 ffff 010051c000;end;|line 2: not a line
 sdr 0001\tffff 010051c000;end;|line 2: not a line
@@ -136,7 +136,7 @@ End;|line 2: not a line";
 // Fields are between single spaces, words are as they are written, and a carriage return is a character like others.
 #[test]
 fn a_line_is_taken_to_the_letter(rt: HostRuntime) {
-    have_verdicts(&rt, rt.alloc(), "ipmi-image 1;", LETTERS);
+    have_verdicts(&rt, rt.alloc(), "ipmi-image 1;", SPELLINGS);
 }
 
 /// Lines after the first one, with a letter of two bytes or more.
@@ -157,7 +157,7 @@ fn each_byte_is_a_character(rt: HostRuntime) {
     have_verdicts(&rt, rt.alloc(), "ipmi-image 1;", TWO_BYTES);
 }
 
-/// Lines after the first one with several faults.
+/// Lines after the first one, with several faults.
 const SEVERAL: &str = "sdr 000g fff 010;end;|line 2: not a line
 info fru 0;end;|line 2: not a line
 sdr ffff ffff 01g0;end;|line 2: hex
@@ -174,7 +174,7 @@ fn the_first_fault_decides(rt: HostRuntime) {
     have_verdicts(&rt, rt.alloc(), "ipmi-image 1;", SEVERAL);
 }
 
-/// Lines after the first one with no fault.
+/// Lines after the first one, with no fault.
 const CLEAN: &str = "sdr 0000 0000 000051c000;end;|read
 sdr 0001 0000 010051c000;sdr 0002 0001 ffff51c000;end;|read
 sdr 0001 ffff 010051c000;sel 0001 ffff 01000201000020200004013001595f5a;end;|read
@@ -189,14 +189,14 @@ fn a_line_of_another_kind_or_shelf_is_no_fault(rt: HostRuntime) {
     have_verdicts(&rt, rt.alloc(), "ipmi-image 1;", CLEAN);
 }
 
-/// Lines after the first one with letters of both cases.
-const CASES: &str = "sdr 00AB ffff AB0051C000;sdr 00ab ffff ab0051c000;end;|line 3: twice
+/// Lines after the first one, with digits of both cases.
+const EITHER_CASE: &str = "sdr 00AB ffff AB0051C000;sdr 00ab ffff ab0051c000;end;|line 3: twice
 reading 0 0A 2dc00000;reading 0 0a 2dc00000;end;|line 3: twice
 fru FF 00;end;|line 2: id";
 
 #[test]
 fn an_id_is_the_same_in_either_case(rt: HostRuntime) {
-    have_verdicts(&rt, rt.alloc(), "ipmi-image 1;", CASES);
+    have_verdicts(&rt, rt.alloc(), "ipmi-image 1;", EITHER_CASE);
 }
 
 /// Whole images of version 2.

@@ -36,7 +36,7 @@ info sel 510100000201000000ffffffff00
 end
 ";
 
-/// Answers each call of `ANSWERS` otherwise than `SAVED`, but for the first.
+/// Has other answers than `SAVED` to the calls of `ANSWERS`, but for the first.
 pub const OTHER: &str = "ipmi-image 1
 sdr 0001 ffff 010051c000
 fru 00 0a0b
