@@ -1,4 +1,6 @@
 //! Calls as lines of text, and what a controller answers them. No memory is taken here.
+ghost use Rattle.std.specs.Prelude.{◌<◌, ◌≤◌};
+
 use ipmi_bus::{Code, Controller, Shelf};
 use std::process::Abort;
 use std::str::SplitWhitespace;
@@ -92,7 +94,10 @@ pub fn next_byte(rt: &impl Abort, words: &mut SplitWhitespace) -> u8 {
 }
 
 /// How many bytes are asked for.
-fn next_len(rt: &impl Abort, words: &mut SplitWhitespace) -> usize {
+fn next_len(rt: &impl Abort, words: &mut SplitWhitespace) -> usize
+    ensures some { 0 < result }
+    ensures fits { result ≤ 17 }
+{
     let len = usize::from(next_byte(rt, words));
     assert!(rt; 0 < len && len <= MOST);
     len
