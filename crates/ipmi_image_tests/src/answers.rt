@@ -1,23 +1,18 @@
 //! What a controller over an image answers, call by call.
 use crate::calls::{are_answered, is_answered};
-use crate::images::{ANSWERS, SAVED, over};
+use crate::images::{ANSWERS, SAVED, image_is_answered, over};
 use ipmi_bus::{Code, Controller, Part, Shelf};
 use ipmi_image::ImageController;
 use std::alloc::Global;
 use std::process::Abort;
-
-/// Asks a controller over `SAVED` the calls of these lines, each with its answer after a bar.
-fn saved_is_answered(rt: &impl Abort, alloc: Global, lines: &str) {
-    are_answered(rt, &mut over(rt, alloc, SAVED), lines);
-}
 
 const OF_THE_EVENT_LOG: &str = "info sel|510100000201000000ffffffff00
 part sel 0 1 0 11|ffff 10 01000201000020200004013001595f5aee";
 
 #[test]
 fn each_call_is_answered_from_the_image(rt: HostRuntime) {
-    saved_is_answered(&rt, rt.alloc(), ANSWERS);
-    saved_is_answered(&rt, rt.alloc(), OF_THE_EVENT_LOG);
+    image_is_answered(&rt, rt.alloc(), SAVED, ANSWERS);
+    image_is_answered(&rt, rt.alloc(), SAVED, OF_THE_EVENT_LOG);
 }
 
 const EMPTY_ANSWERS: &str = "reserve sdr|0001
@@ -30,8 +25,7 @@ part sdr 1 0 0 1|code cb";
 
 #[test]
 fn an_empty_image_has_only_reservations(rt: HostRuntime) {
-    let mut ctl = over(&rt, rt.alloc(), "ipmi-image 1\nend\n");
-    are_answered(&rt, &mut ctl, EMPTY_ANSWERS);
+    image_is_answered(&rt, rt.alloc(), "ipmi-image 1\nend\n", EMPTY_ANSWERS);
 }
 
 const PARTS: &str = "reserve sdr|0001
@@ -48,7 +42,7 @@ part sdr 1 2 6 2|ffff 01 ccee";
 // Id 0000h asks for the first record.
 #[test]
 fn a_part_is_as_long_as_asked_or_as_the_record_has(rt: HostRuntime) {
-    saved_is_answered(&rt, rt.alloc(), PARTS);
+    image_is_answered(&rt, rt.alloc(), SAVED, PARTS);
 }
 
 const FRU_PARTS: &str = "fru_part 0 0 3|03 010051
@@ -57,7 +51,7 @@ fru_part 0 4 3|02 01aaee";
 
 #[test]
 fn an_inventory_is_given_as_long_as_asked_or_as_it_is(rt: HostRuntime) {
-    saved_is_answered(&rt, rt.alloc(), FRU_PARTS);
+    image_is_answered(&rt, rt.alloc(), SAVED, FRU_PARTS);
 }
 
 const RESERVATIONS: &str = "part sdr 0 1 0 1|0002 01 01
@@ -84,7 +78,7 @@ part sel 3 1 0 1|ffff 01 01";
 // Without the last reservation of its shelf only the first byte of a record is given.
 #[test]
 fn the_last_reservation_of_a_shelf_serves(rt: HostRuntime) {
-    saved_is_answered(&rt, rt.alloc(), RESERVATIONS);
+    image_is_answered(&rt, rt.alloc(), SAVED, RESERVATIONS);
 }
 
 const PAST_THE_END: &str = "reserve sdr|0001
@@ -105,7 +99,7 @@ fru_part 0 ffff 1|code c9";
 // Where both are wrong, the reservation comes first.
 #[test]
 fn there_is_no_byte_past_the_end(rt: HostRuntime) {
-    saved_is_answered(&rt, rt.alloc(), PAST_THE_END);
+    image_is_answered(&rt, rt.alloc(), SAVED, PAST_THE_END);
 }
 
 /// The controller has no such record, whatever the reservation and the offset.
@@ -178,14 +172,18 @@ fn fru_part_has(rt: &impl Abort, ctl: &mut ImageController, offset: u16, wanted:
     assert!(rt; got == Ok(wanted), "{offset}: {got:?}");
 }
 
-// Neither a record of 256 bytes nor an inventory of 300 comes in one part of 254.
 #[test]
-fn the_longest_part_has_254_bytes(rt: HostRuntime) {
+fn the_longest_part_of_a_record_has_254_bytes(rt: HostRuntime) {
     let mut ctl = over(&rt, rt.alloc(), &long_image(&rt, rt.alloc()));
     is_answered(&rt, &mut ctl, "reserve sdr|0001");
     for (offset, got) in [(0, 254), (1, 254), (2, 254), (3, 253), (255, 1)] {
         part_has(&rt, &mut ctl, offset, got);
     }
+}
+
+#[test]
+fn the_longest_part_of_an_inventory_has_254_bytes(rt: HostRuntime) {
+    let mut ctl = over(&rt, rt.alloc(), &long_image(&rt, rt.alloc()));
     for (offset, got) in [(0, 254), (46, 254), (47, 253), (256, 44), (299, 1)] {
         fru_part_has(&rt, &mut ctl, offset, got);
     }

@@ -104,12 +104,11 @@ fn next_len(rt: &impl Abort, words: &mut SplitWhitespace) -> usize
 }
 
 fn next_shelf(rt: &impl Abort, words: &mut SplitWhitespace) -> Shelf {
-    let word = words.next().expect(rt, "a shelf");
-    if word == "sdr" {
-        return Shelf::Sdr;
+    match words.next() {
+        Some("sdr") => Shelf::Sdr,
+        Some("sel") => Shelf::Sel,
+        _ => panic!(rt; "no shelf"),
     }
-    assert!(rt; word == "sel", "{word} is no shelf");
-    Shelf::Sel
 }
 
 fn reserve<C: Controller>(rt: &impl Abort, ctl: &mut C, words: &mut SplitWhitespace) -> Answer {

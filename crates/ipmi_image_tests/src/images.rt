@@ -1,4 +1,5 @@
 //! Images that several files of tests read, and what a controller over one answers first.
+use crate::calls::are_answered;
 use ipmi_image::{Image, ImageController};
 use std::alloc::Global;
 use std::process::Abort;
@@ -61,4 +62,9 @@ pub fn image(rt: &impl Abort, alloc: Global, text: &str) -> Image {
 /// A controller over the image that the text is.
 pub fn over(rt: &impl Abort, alloc: Global, text: &str) -> ImageController {
     ImageController::new(image(rt, alloc, text))
+}
+
+/// Asks a controller over the image the calls of these lines, each with its answer after a bar.
+pub fn image_is_answered(rt: &impl Abort, alloc: Global, text: &str, lines: &str) {
+    are_answered(rt, &mut over(rt, alloc, text), lines);
 }

@@ -6,7 +6,7 @@ use std::alloc::Global;
 use std::process::Abort;
 
 /// Whether the image has its text, or memory was wanting.
-fn has_text(rt: &impl Abort, alloc: Global, image: &Image) -> bool {
+fn is_written(rt: &impl Abort, alloc: Global, image: &Image) -> bool {
     match image_text(alloc, image) {
         Ok(text) => {
             assert!(rt; text.as_slice() == REWRITTEN.as_bytes());
@@ -20,7 +20,7 @@ fn has_text(rt: &impl Abort, alloc: Global, image: &Image) -> bool {
 fn is_read_and_written(rt: &impl Abort, alloc: Global) -> bool {
     match Image::read(alloc, SAVED.as_bytes()) {
         Ok(image) => {
-            let is_written = has_text(rt, alloc, &image);
+            let is_written = is_written(rt, alloc, &image);
             are_answered(rt, &mut ImageController::new(image), ANSWERS);
             is_written
         }

@@ -1,23 +1,36 @@
 //! What a scripted controller makes of each call, mood by mood.
-use crate::calls::{are_answered, ask, is_answered, next_byte};
+use crate::calls::{are_answered, ask, next_byte};
 use crate::images::{ANSWERS, OTHER, SAVED, image};
 use ipmi_bus::Code;
 use ipmi_image::{Mood, Scripted};
 use std::alloc::Global;
 use std::process::Abort;
+use std::str::SplitWhitespace;
+
+fn grant(rt: &impl Abort, words: &mut SplitWhitespace) -> Mood {
+    Mood::Grant(next_byte(rt, words))
+}
+
+fn refuse(rt: &impl Abort, words: &mut SplitWhitespace) -> Mood {
+    Mood::Refuse(Code(next_byte(rt, words)))
+}
+
+fn change(rt: &impl Abort, alloc: Global, text: &str) -> Mood {
+    Mood::Change(image(rt, alloc, text))
+}
 
 /// The mood that these words are: `grant` with the most bytes, `refuse` with a code, `cancel`, `busy` or `too_long`,
 /// and `saved` or `other` where the image changes to that one.
 fn mood(rt: &impl Abort, alloc: Global, text: &str) -> Mood {
     let mut words = text.split_whitespace();
     match words.next() {
-        Some("grant") => Mood::Grant(next_byte(rt, &mut words)),
-        Some("refuse") => Mood::Refuse(Code(next_byte(rt, &mut words))),
+        Some("grant") => grant(rt, &mut words),
+        Some("refuse") => refuse(rt, &mut words),
         Some("cancel") => Mood::Cancel,
         Some("busy") => Mood::Busy,
         Some("too_long") => Mood::TooLong,
-        Some("saved") => Mood::Change(image(rt, alloc, SAVED)),
-        Some("other") => Mood::Change(image(rt, alloc, OTHER)),
+        Some("saved") => change(rt, alloc, SAVED),
+        Some("other") => change(rt, alloc, OTHER),
         _ => panic!(rt; "{text} is no mood"),
     }
 }
@@ -160,10 +173,7 @@ fn a_changed_image_answers_the_same_call(rt: HostRuntime) {
 
 /// Whether the code is none of those after which a caller may ask again or go on.
 fn is_refusal(code: u8) -> bool {
-    !matches!(
-        code,
-        0x00 | 0xC0 | 0xC3 | 0xC5 | 0x81 | 0xC7 | 0xC8 | 0xCA | 0xCB
-    )
+    ![0x00, 0xC0, 0xC3, 0xC5, 0x81, 0xC7, 0xC8, 0xCA, 0xCB].contains(&code)
 }
 
 /// The code is the answer to the call, or the call is answered plainly, as the line has it.
@@ -202,10 +212,8 @@ part sel 2 1 2 1|ffff 01 02";
 /// Reserves both shelves, makes the call of a line in this mood, and then those of the other lines.
 fn is_met_after_reserving(rt: &impl Abort, alloc: Global, mood: &str, line: &str, lines: &str) {
     let moods = format!(in alloc; "grant fe, grant fe, {mood}").expect(rt, "memory");
-    let mut ctl = scripted(rt, alloc, &moods);
-    are_answered(rt, &mut ctl, "reserve sdr|0001\nreserve sel|0002");
-    is_answered(rt, &mut ctl, line);
-    are_answered(rt, &mut ctl, lines);
+    let calls = format!(in alloc; "reserve sdr|0001\nreserve sel|0002\n{line}\n{lines}");
+    moods_are_met(rt, alloc, &moods, &calls.expect(rt, "memory"));
 }
 
 // Past the first byte of a record its reservation has to be the last one given.

@@ -1,6 +1,5 @@
 //! Lines that together say one thing: inventories on several lines, ids in either case, and dashes.
-use crate::calls::are_answered;
-use crate::images::over;
+use crate::images::image_is_answered;
 
 /// Inventory 00 has two lines, with lines of another kind and of inventory 01 between them.
 const APART: &str = "ipmi-image 1
@@ -18,7 +17,7 @@ fru_part 1 0 4|01 ffeeeeee";
 
 #[test]
 fn lines_of_an_inventory_are_joined(rt: HostRuntime) {
-    are_answered(&rt, &mut over(&rt, rt.alloc(), APART), APART_ANSWERS);
+    image_is_answered(&rt, rt.alloc(), APART, APART_ANSWERS);
 }
 
 const EITHER_CASE: &str = "ipmi-image 1
@@ -36,8 +35,7 @@ reading 3 ef|2dc00000";
 
 #[test]
 fn hex_digits_are_of_either_case(rt: HostRuntime) {
-    let mut ctl = over(&rt, rt.alloc(), EITHER_CASE);
-    are_answered(&rt, &mut ctl, EITHER_CASE_ANSWERS);
+    image_is_answered(&rt, rt.alloc(), EITHER_CASE, EITHER_CASE_ANSWERS);
 }
 
 const DASHES: &str = "ipmi-image 2
@@ -60,5 +58,5 @@ part sel 0 9 0 1|ffff 01 09";
 // In version 2 a dash is the id of the following row of the same shelf, and FFFFh in the last one.
 #[test]
 fn a_dash_is_the_following_row_of_the_shelf(rt: HostRuntime) {
-    are_answered(&rt, &mut over(&rt, rt.alloc(), DASHES), DASHES_ANSWERS);
+    image_is_answered(&rt, rt.alloc(), DASHES, DASHES_ANSWERS);
 }
