@@ -11,8 +11,9 @@ part sel 0 1 0 11|ffff 10 01000201000020200004013001595f5aee";
 
 #[test]
 fn each_call_is_answered_from_the_image(rt: HostRuntime) {
-    image_is_answered(&rt, rt.alloc(), SAVED, ANSWERS);
-    image_is_answered(&rt, rt.alloc(), SAVED, OF_THE_EVENT_LOG);
+    let mut ctl = over(&rt, rt.alloc(), SAVED);
+    are_answered(&rt, &mut ctl, ANSWERS);
+    are_answered(&rt, &mut ctl, OF_THE_EVENT_LOG);
 }
 
 const EMPTY_ANSWERS: &str = "reserve sdr|0001
