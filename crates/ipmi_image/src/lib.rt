@@ -9,8 +9,6 @@ mod responder;
 mod rewrite;
 mod scripted;
 mod stored;
-#[cfg(test)]
-mod tests;
 mod text;
 
 pub use controller::ImageController;

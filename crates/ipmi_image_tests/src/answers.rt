@@ -1,0 +1,212 @@
+//! What a controller over an image answers, call by call.
+use crate::calls::{are_answered, is_answered};
+use crate::images::{ANSWERS, SAVED, image_is_answered, over};
+use ipmi_bus::{Code, Controller, Part, Shelf};
+use ipmi_image::ImageController;
+use std::alloc::Global;
+use std::process::Abort;
+
+const OF_THE_EVENT_LOG: &str = "info sel|510100000201000000ffffffff00
+part sel 0 1 0 11|ffff 10 01000201000020200004013001595f5aee";
+
+#[test]
+fn each_call_is_answered_from_the_image(rt: HostRuntime) {
+    let mut ctl = over(&rt, rt.alloc(), SAVED);
+    are_answered(&rt, &mut ctl, ANSWERS);
+    are_answered(&rt, &mut ctl, OF_THE_EVENT_LOG);
+}
+
+const EMPTY_ANSWERS: &str = "reserve sdr|0001
+part sdr 0 1 0 8|code cb
+info sdr|code cb
+reading 0 1|code cb
+fru_size 0|code cb
+fru_part 0 0 8|code cb
+part sdr 1 0 0 1|code cb";
+
+#[test]
+fn an_empty_image_has_only_reservations(rt: HostRuntime) {
+    image_is_answered(&rt, rt.alloc(), "ipmi-image 1\nend\n", EMPTY_ANSWERS);
+}
+
+const PARTS: &str = "reserve sdr|0001
+part sdr 1 1 0 8|0002 06 010051c001aaeeee
+part sdr 1 1 0 5|0002 05 010051c001
+part sdr 1 1 0 1|0002 01 01
+part sdr 1 1 2 3|0002 03 51c001
+part sdr 1 1 4 8|0002 02 01aaeeeeeeeeeeee
+part sdr 1 0 0 3|0002 03 010051
+part sdr 1 0 5 8|0002 01 aaeeeeeeeeeeeeee
+part sdr 1 2 0 7|ffff 07 020051c002bbcc
+part sdr 1 2 6 2|ffff 01 ccee";
+
+// Id 0000h asks for the first record.
+#[test]
+fn a_part_is_as_long_as_asked_or_as_the_record_has(rt: HostRuntime) {
+    image_is_answered(&rt, rt.alloc(), SAVED, PARTS);
+}
+
+const FRU_PARTS: &str = "fru_part 0 0 3|03 010051
+fru_part 0 2 3|03 51c001
+fru_part 0 4 3|02 01aaee";
+
+#[test]
+fn an_inventory_is_given_as_long_as_asked_or_as_it_is(rt: HostRuntime) {
+    image_is_answered(&rt, rt.alloc(), SAVED, FRU_PARTS);
+}
+
+const RESERVATIONS: &str = "part sdr 0 1 0 1|0002 01 01
+part sdr 0 1 2 1|code c5
+reserve sdr|0001
+reserve sel|0002
+part sdr 1 1 2 1|0002 01 51
+reserve sdr|0003
+part sdr 3 1 2 1|0002 01 51
+part sdr 3 1 0 1|0002 01 01
+part sdr 1 1 2 1|code c5
+part sdr 1 1 0 1|0002 01 01
+part sdr 2 1 2 1|code c5
+part sdr 2 1 0 1|0002 01 01
+part sdr 4 1 2 1|code c5
+part sdr 4 1 0 1|0002 01 01
+part sel 2 1 2 1|ffff 01 02
+part sel 2 1 0 1|ffff 01 01
+part sel 1 1 2 1|code c5
+part sel 1 1 0 1|ffff 01 01
+part sel 3 1 2 1|code c5
+part sel 3 1 0 1|ffff 01 01";
+
+// Without the last reservation of its shelf only the first byte of a record is given.
+#[test]
+fn the_last_reservation_of_a_shelf_serves(rt: HostRuntime) {
+    image_is_answered(&rt, rt.alloc(), SAVED, RESERVATIONS);
+}
+
+const PAST_THE_END: &str = "reserve sdr|0001
+part sdr 1 1 5 1|0002 01 aa
+part sdr 1 1 6 1|code c9
+part sdr 2 1 6 1|code c5
+part sdr 1 1 7 1|code c9
+part sdr 2 1 7 1|code c5
+part sdr 1 1 ff 1|code c9
+part sdr 2 1 ff 1|code c5
+fru_part 0 5 1|01 aa
+fru_part 0 6 1|code c9
+fru_part 0 7 1|code c9
+fru_part 0 ff 1|code c9
+fru_part 0 100 1|code c9
+fru_part 0 ffff 1|code c9";
+
+// Where both are wrong, the reservation comes first.
+#[test]
+fn there_is_no_byte_past_the_end(rt: HostRuntime) {
+    image_is_answered(&rt, rt.alloc(), SAVED, PAST_THE_END);
+}
+
+/// The controller has no such record, whatever the reservation and the offset.
+fn has_no_record(rt: &impl Abort, ctl: &mut ImageController, shelf: Shelf, id: u16) {
+    for reservation in 0..3 {
+        for offset in [0, 1, 255] {
+            let part = ctl.part(shelf, reservation, id, offset, &mut [0xEE]);
+            assert!(rt; part == Err(Code(0xCB)), "{shelf:?} {id}: {part:?}");
+        }
+    }
+}
+
+const ABSENT: &str = "reading 0 0|code cb
+reading 0 2|code cb
+reading 1 1|code cb
+reading 4 1|code cb
+reading ff ff|code cb
+fru_size 1|code cb
+fru_size fe|code cb
+fru_size ff|code cb
+fru_part 1 0 1|code cb
+fru_part 1 1 1|code cb
+fru_part 1 ffff 1|code cb
+fru_part fe 0 1|code cb
+fru_part fe 1 1|code cb
+fru_part fe ffff 1|code cb
+fru_part ff 0 1|code cb
+fru_part ff 1 1|code cb
+fru_part ff ffff 1|code cb";
+
+#[test]
+fn what_the_image_has_not_is_not_present(rt: HostRuntime) {
+    let mut ctl = over(&rt, rt.alloc(), SAVED);
+    is_answered(&rt, &mut ctl, "reserve sdr|0001");
+    has_no_record(&rt, &mut ctl, Shelf::Sdr, 0x0003);
+    has_no_record(&rt, &mut ctl, Shelf::Sdr, 0x0100);
+    has_no_record(&rt, &mut ctl, Shelf::Sdr, 0xFFFF);
+    has_no_record(&rt, &mut ctl, Shelf::Sel, 0x0002);
+    are_answered(&rt, &mut ctl, ABSENT);
+}
+
+/// An image of a record of 256 bytes and an inventory of 300.
+fn long_image(rt: &impl Abort, alloc: Global) -> String {
+    let mut image = String::from_str(alloc, "ipmi-image 1\nsdr 0001 ffff 010051c0fb").expect(
+        rt, "memory",
+    );
+    for _ in 0..251 {
+        image.push_str("00").expect(rt, "memory");
+    }
+    image.push_str("\nfru 00 ").expect(rt, "memory");
+    for _ in 0..300 {
+        image.push_str("00").expect(rt, "memory");
+    }
+    image.push_str("\nend\n").expect(rt, "memory");
+    image
+}
+
+/// A part for 254 bytes from the offset on has so many.
+fn part_has(rt: &impl Abort, ctl: &mut ImageController, offset: u8, got: u8) {
+    let part = ctl.part(Shelf::Sdr, 1, 1, offset, &mut [0xEE; 254]);
+    assert!(rt;
+        part == Ok(Part { next: 0xFFFF, got }),
+        "{offset}: {part:?}"
+    );
+}
+
+/// A part of the inventory for 254 bytes from the offset on has so many.
+fn fru_part_has(rt: &impl Abort, ctl: &mut ImageController, offset: u16, wanted: u8) {
+    let got = ctl.fru_part(0, offset, &mut [0xEE; 254]);
+    assert!(rt; got == Ok(wanted), "{offset}: {got:?}");
+}
+
+#[test]
+fn the_longest_part_of_a_record_has_254_bytes(rt: HostRuntime) {
+    let mut ctl = over(&rt, rt.alloc(), &long_image(&rt, rt.alloc()));
+    is_answered(&rt, &mut ctl, "reserve sdr|0001");
+    for (offset, got) in [(0, 254), (1, 254), (2, 254), (3, 253), (255, 1)] {
+        part_has(&rt, &mut ctl, offset, got);
+    }
+}
+
+#[test]
+fn the_longest_part_of_an_inventory_has_254_bytes(rt: HostRuntime) {
+    let mut ctl = over(&rt, rt.alloc(), &long_image(&rt, rt.alloc()));
+    for (offset, got) in [(0, 254), (46, 254), (47, 253), (256, 44), (299, 1)] {
+        fru_part_has(&rt, &mut ctl, offset, got);
+    }
+}
+
+/// A reservation with this number is given, of the event log where three divide the number.
+fn is_numbered(rt: &impl Abort, ctl: &mut ImageController, number: u16) {
+    let shelf = if number % 3 == 0 {
+        Shelf::Sel
+    } else {
+        Shelf::Sdr
+    };
+    let given = ctl.reserve(shelf);
+    assert!(rt; given == Ok(number), "{number}: {given:?}");
+}
+
+// The number after FFFFh is 1.
+#[test]
+fn reservations_are_numbered_over_both_shelves(rt: HostRuntime) {
+    let mut ctl = over(&rt, rt.alloc(), SAVED);
+    for number in 1..=65_535 {
+        is_numbered(&rt, &mut ctl, number);
+    }
+    are_answered(&rt, &mut ctl, "reserve sel|0001\nreserve sdr|0002");
+}

@@ -1,0 +1,211 @@
+//! Calls as lines of text, and what a controller answers them. No memory is taken here.
+ghost use Rattle.std.specs.Prelude.{◌<◌, ◌≤◌};
+
+use ipmi_bus::{Code, Controller, Shelf};
+use std::process::Abort;
+use std::str::SplitWhitespace;
+
+/// The most bytes that a call here asks for.
+const MOST: usize = 17;
+
+/// The most characters that an answer here has.
+const LONGEST: usize = 48;
+
+/// What a call was answered, as a text: its numbers and its bytes in hex, or `code` and the completion code.
+#[derive(Drop)]
+pub struct Answer {
+    text: [u8; LONGEST],
+    len: usize,
+}
+
+impl Answer {
+    fn new() -> Answer {
+        Answer {
+            text: [0; LONGEST],
+            len: 0,
+        }
+    }
+
+    fn push(&mut self, byte: u8) {
+        if self.len < LONGEST {
+            self.text[self.len] = byte;
+            self.len += 1;
+        }
+    }
+
+    fn push_hex(&mut self, bytes: &[u8]) {
+        for byte in bytes {
+            let mut digits = [0; 2];
+            let _ = hex::encode_to_slice([*byte], &mut digits);
+            self.push(digits[0]);
+            self.push(digits[1]);
+        }
+    }
+
+    /// The bytes in hex.
+    fn of_bytes(bytes: &[u8]) -> Answer {
+        let mut answer = Answer::new();
+        answer.push_hex(bytes);
+        answer
+    }
+
+    /// A number in hex, and the bytes in hex.
+    fn of_two(number: &[u8], bytes: &[u8]) -> Answer {
+        let mut answer = Answer::of_bytes(number);
+        answer.push(b' ');
+        answer.push_hex(bytes);
+        answer
+    }
+
+    /// Two numbers in hex, and the bytes in hex.
+    fn of_three(first: &[u8], second: &[u8], bytes: &[u8]) -> Answer {
+        let mut answer = Answer::of_two(first, second);
+        answer.push(b' ');
+        answer.push_hex(bytes);
+        answer
+    }
+
+    /// The word `code`, and the code in hex.
+    fn of_code(code: Code) -> Answer {
+        let mut answer = Answer::new();
+        for byte in b"code " {
+            answer.push(*byte);
+        }
+        answer.push_hex(&[code.0]);
+        answer
+    }
+
+    /// The text.
+    pub fn text(&self, rt: &impl Abort) -> &str {
+        let text = self.text.get(..self.len).expect(rt, "a text");
+        std::str::from_utf8(text).expect(rt, "text")
+    }
+}
+
+fn next_number(rt: &impl Abort, words: &mut SplitWhitespace) -> u16 {
+    let word = words.next().expect(rt, "a number");
+    u16::from_str_radix(word, 16).expect(rt, "a number in hex")
+}
+
+/// The next word of a line, a byte in hex.
+pub fn next_byte(rt: &impl Abort, words: &mut SplitWhitespace) -> u8 {
+    let word = words.next().expect(rt, "a byte");
+    u8::from_str_radix(word, 16).expect(rt, "a byte in hex")
+}
+
+/// How many bytes are asked for.
+fn next_len(rt: &impl Abort, words: &mut SplitWhitespace) -> usize
+    ensures some { 0 < result }
+    ensures fits { result ≤ 17 }
+{
+    let len = usize::from(next_byte(rt, words));
+    assert!(rt; 0 < len && len <= MOST);
+    len
+}
+
+fn next_shelf(rt: &impl Abort, words: &mut SplitWhitespace) -> Shelf {
+    match words.next() {
+        Some("sdr") => Shelf::Sdr,
+        Some("sel") => Shelf::Sel,
+        _ => panic!(rt; "no shelf"),
+    }
+}
+
+fn reserve<C: Controller>(rt: &impl Abort, ctl: &mut C, words: &mut SplitWhitespace) -> Answer {
+    match ctl.reserve(next_shelf(rt, words)) {
+        Ok(number) => Answer::of_bytes(&number.to_be_bytes()),
+        Err(code) => Answer::of_code(code),
+    }
+}
+
+fn part<C: Controller>(rt: &impl Abort, ctl: &mut C, words: &mut SplitWhitespace) -> Answer {
+    let shelf = next_shelf(rt, words);
+    let reservation = next_number(rt, words);
+    let id = next_number(rt, words);
+    let offset = next_byte(rt, words);
+    let len = next_len(rt, words);
+    let mut into = [0xEE; MOST];
+    match ctl.part(shelf, reservation, id, offset, &mut into[..len]) {
+        Ok(part) => Answer::of_three(&part.next.to_be_bytes(), &[part.got], &into[..len]),
+        Err(code) => Answer::of_code(code),
+    }
+}
+
+fn info<C: Controller>(rt: &impl Abort, ctl: &mut C, words: &mut SplitWhitespace) -> Answer {
+    match ctl.info(next_shelf(rt, words)) {
+        Ok(bytes) => Answer::of_bytes(&bytes),
+        Err(code) => Answer::of_code(code),
+    }
+}
+
+fn reading<C: Controller>(rt: &impl Abort, ctl: &mut C, words: &mut SplitWhitespace) -> Answer {
+    let lun = next_byte(rt, words);
+    let number = next_byte(rt, words);
+    match ctl.reading(lun, number) {
+        Ok(reading) => Answer::of_bytes(&[
+            reading.raw,
+            reading.flags,
+            reading.status,
+            reading.more,
+        ]),
+        Err(code) => Answer::of_code(code),
+    }
+}
+
+fn fru_size<C: Controller>(rt: &impl Abort, ctl: &mut C, words: &mut SplitWhitespace) -> Answer {
+    match ctl.fru_size(next_byte(rt, words)) {
+        Ok(size) => Answer::of_two(&size.size.to_be_bytes(), &[u8::from(size.words)]),
+        Err(code) => Answer::of_code(code),
+    }
+}
+
+fn fru_part<C: Controller>(rt: &impl Abort, ctl: &mut C, words: &mut SplitWhitespace) -> Answer {
+    let id = next_byte(rt, words);
+    let offset = next_number(rt, words);
+    let len = next_len(rt, words);
+    let mut into = [0xEE; MOST];
+    match ctl.fru_part(id, offset, &mut into[..len]) {
+        Ok(got) => Answer::of_two(&[got], &into[..len]),
+        Err(code) => Answer::of_code(code),
+    }
+}
+
+/// Makes the call of a line, whose numbers are in hex:
+///
+/// | line | answer |
+/// |---|---|
+/// | `reserve SHELF` | the reservation |
+/// | `part SHELF RESERVATION ID OFFSET LEN` | the next id, how many bytes came, and LEN bytes |
+/// | `info SHELF` | 14 bytes |
+/// | `reading LUN NUMBER` | four bytes |
+/// | `fru_size ID` | the size, and 01 for a device of words |
+/// | `fru_part ID OFFSET LEN` | how many bytes came, and LEN bytes |
+///
+/// Where a byte did not come, it is EEh.
+pub fn ask<C: Controller>(rt: &impl Abort, ctl: &mut C, call: &str) -> Answer {
+    let mut words = call.split_whitespace();
+    match words.next() {
+        Some("reserve") => reserve(rt, ctl, &mut words),
+        Some("part") => part(rt, ctl, &mut words),
+        Some("info") => info(rt, ctl, &mut words),
+        Some("reading") => reading(rt, ctl, &mut words),
+        Some("fru_size") => fru_size(rt, ctl, &mut words),
+        Some("fru_part") => fru_part(rt, ctl, &mut words),
+        _ => panic!(rt; "{call} is no call"),
+    }
+}
+
+/// Makes the call of a line, and compares its answer with the one after the bar.
+pub fn is_answered<C: Controller>(rt: &impl Abort, ctl: &mut C, line: &str) {
+    let (call, wanted) = line.split_once('|').expect(rt, "a call and its answer");
+    let answer = ask(rt, ctl, call);
+    let text = answer.text(rt);
+    assert!(rt; text == wanted, "{line}: got {text}");
+}
+
+/// The same for each of the lines.
+pub fn are_answered<C: Controller>(rt: &impl Abort, ctl: &mut C, lines: &str) {
+    for line in lines.lines() {
+        is_answered(rt, ctl, line);
+    }
+}

@@ -1,0 +1,70 @@
+//! Images that several files of tests read, and what a controller over one answers first.
+use crate::calls::are_answered;
+use ipmi_image::{Image, ImageController};
+use std::alloc::Global;
+use std::process::Abort;
+
+/// Three sensor data records.
+pub const THREE_ROWS: &str = "ipmi-image 1
+sdr 0001 0002 010051c001aa
+sdr 0002 0003 020051c002bbcc
+sdr 0003 ffff 030051c000
+end
+";
+
+/// Lines of every kind. Those of its inventory are apart, and the inventory has the first record's bytes.
+pub const SAVED: &str = "ipmi-image 1
+sdr 0001 0002 010051c001aa
+fru 00 010051
+sdr 0002 ffff 020051c002bbcc
+sel 0001 ffff 01000201000020200004013001595f5a
+reading 0 01 2dc00000
+fru 00 c001aa
+info sdr 510300000401000020ffffffff02
+info sel 510100000201000000ffffffff00
+end
+";
+
+/// `SAVED` in the one spelling of version 2.
+pub const REWRITTEN: &str = "ipmi-image 2
+sdr 0001 - 010051c001aa
+sdr 0002 - 020051c002bbcc
+sel 0001 - 01000201000020200004013001595f5a
+fru 00 010051c001aa
+reading 0 01 2dc00000
+info sdr 510300000401000020ffffffff02
+info sel 510100000201000000ffffffff00
+end
+";
+
+/// Has other answers than `SAVED` to the calls of `ANSWERS`, but for the first.
+pub const OTHER: &str = "ipmi-image 1
+sdr 0001 ffff 010051c000
+fru 00 0a0b
+reading 0 01 2ec00001
+info sdr 510100000501000020ffffffff02
+end
+";
+
+/// The first answers of a controller over `SAVED`, to a call of each kind.
+pub const ANSWERS: &str = "reserve sdr|0001
+part sdr 0 1 0 8|0002 06 010051c001aaeeee
+info sdr|510300000401000020ffffffff02
+reading 0 1|2dc00000
+fru_size 0|0006 00
+fru_part 0 0 8|06 010051c001aaeeee";
+
+/// The image that the text is.
+pub fn image(rt: &impl Abort, alloc: Global, text: &str) -> Image {
+    Image::read(alloc, text.as_bytes()).expect(rt, "an image")
+}
+
+/// A controller over the image that the text is.
+pub fn over(rt: &impl Abort, alloc: Global, text: &str) -> ImageController {
+    ImageController::new(image(rt, alloc, text))
+}
+
+/// Asks a controller over the image the calls of these lines, each with its answer after a bar.
+pub fn image_is_answered(rt: &impl Abort, alloc: Global, text: &str, lines: &str) {
+    are_answered(rt, &mut over(rt, alloc, text), lines);
+}

@@ -1,0 +1,21 @@
+//! Tests of ipmi_image: images and their faults, both controllers, and images written again.
+#![tactic(auto)]
+
+#[cfg(test)]
+mod answers;
+#[cfg(test)]
+mod calls;
+#[cfg(test)]
+mod faults;
+#[cfg(test)]
+mod images;
+#[cfg(test)]
+mod lengths;
+#[cfg(test)]
+mod memory;
+#[cfg(test)]
+mod moods;
+#[cfg(test)]
+mod rewritten;
+#[cfg(test)]
+mod tables;

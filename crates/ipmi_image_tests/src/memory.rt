@@ -1,0 +1,44 @@
+//! What takes memory, read and written: that it is there, and that each want of it is answered.
+use crate::calls::are_answered;
+use crate::images::{ANSWERS, REWRITTEN, SAVED};
+use ipmi_image::{Image, ImageController, ImageFault, image_text};
+use std::alloc::Global;
+use std::process::Abort;
+
+/// Whether the image has its text, or memory was wanting.
+fn is_written(rt: &impl Abort, alloc: Global, image: &Image) -> bool {
+    match image_text(alloc, image) {
+        Ok(text) => {
+            assert!(rt; text.as_slice() == REWRITTEN.as_bytes());
+            true
+        }
+        Err(_) => false,
+    }
+}
+
+/// Whether `SAVED` is read and has its text, or memory was wanting. Where it is read, it is read whole.
+fn is_read_and_written(rt: &impl Abort, alloc: Global) -> bool {
+    match Image::read(alloc, SAVED.as_bytes()) {
+        Ok(image) => {
+            let is_written = is_written(rt, alloc, &image);
+            are_answered(rt, &mut ImageController::new(image), ANSWERS);
+            is_written
+        }
+        Err(fault) => {
+            assert!(rt; fault == ImageFault::Memory, "{fault}");
+            false
+        }
+    }
+}
+
+// `SAVED` has a line of each kind.
+#[test]
+fn an_image_has_memory(rt: HostRuntime) {
+    assert!(rt; is_read_and_written(&rt, rt.alloc()));
+}
+
+// Where memory is refused, the image is read whole all the same and has its text, or want of memory is the answer.
+#[test]
+fn memory_may_be_refused(rt: HostRuntime) {
+    is_read_and_written(&rt, rt.alloc());
+}

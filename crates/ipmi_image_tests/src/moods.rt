@@ -1,0 +1,256 @@
+//! What a scripted controller makes of each call, mood by mood.
+use crate::calls::{are_answered, ask, next_byte};
+use crate::images::{ANSWERS, OTHER, SAVED, image};
+use ipmi_bus::Code;
+use ipmi_image::{Mood, Scripted};
+use std::alloc::Global;
+use std::process::Abort;
+use std::str::SplitWhitespace;
+
+fn grant(rt: &impl Abort, words: &mut SplitWhitespace) -> Mood {
+    Mood::Grant(next_byte(rt, words))
+}
+
+fn refuse(rt: &impl Abort, words: &mut SplitWhitespace) -> Mood {
+    Mood::Refuse(Code(next_byte(rt, words)))
+}
+
+fn change(rt: &impl Abort, alloc: Global, text: &str) -> Mood {
+    Mood::Change(image(rt, alloc, text))
+}
+
+/// The mood that these words are: `grant` with the most bytes, `refuse` with a code, `cancel`, `busy` or `too_long`,
+/// and `saved` or `other` where the image changes to that one.
+fn mood(rt: &impl Abort, alloc: Global, text: &str) -> Mood {
+    let mut words = text.split_whitespace();
+    match words.next() {
+        Some("grant") => grant(rt, &mut words),
+        Some("refuse") => refuse(rt, &mut words),
+        Some("cancel") => Mood::Cancel,
+        Some("busy") => Mood::Busy,
+        Some("too_long") => Mood::TooLong,
+        Some("saved") => change(rt, alloc, SAVED),
+        Some("other") => change(rt, alloc, OTHER),
+        _ => panic!(rt; "{text} is no mood"),
+    }
+}
+
+/// A controller over `SAVED` whose first calls meet these moods.
+fn scripted(rt: &impl Abort, alloc: Global, moods: &str) -> Scripted {
+    let mut list = Vec::new(alloc);
+    for text in moods.split(", ") {
+        list.push(mood(rt, alloc, text)).ok().expect(rt, "memory");
+    }
+    Scripted::new(image(rt, alloc, SAVED), list)
+}
+
+/// Compares the first answer of a controller that meets the call in this mood.
+fn is_met(rt: &impl Abort, alloc: Global, mood: &str, call: &str, wanted: &str) {
+    let mut ctl = scripted(rt, alloc, mood);
+    let answer = ask(rt, &mut ctl, call);
+    let text = answer.text(rt);
+    assert!(rt;
+        text == wanted,
+        "{mood}, {call}: got {text}, wanted {wanted}"
+    );
+}
+
+/// The same for a line of a mood, a call and the answer.
+fn line_is_met(rt: &impl Abort, alloc: Global, line: &str) {
+    let (mood, rest) = line.split_once('|').expect(rt, "a mood and a call");
+    let (call, wanted) = rest.split_once('|').expect(rt, "a call and its answer");
+    is_met(rt, alloc, mood, call, wanted);
+}
+
+/// The same for each of these lines.
+fn are_met(rt: &impl Abort, alloc: Global, lines: &str) {
+    for line in lines.lines() {
+        line_is_met(rt, alloc, line);
+    }
+}
+
+/// Asks the calls of these lines, the first of which meet these moods.
+fn moods_are_met(rt: &impl Abort, alloc: Global, moods: &str, lines: &str) {
+    are_answered(rt, &mut scripted(rt, alloc, moods), lines);
+}
+
+/// A mood, the call that meets it, and its answer.
+const FAILED: &str = "cancel|reserve sdr|code c5
+cancel|part sdr 0 1 0 8|code c5
+cancel|info sdr|code c5
+cancel|reading 0 1|code c5
+cancel|fru_size 0|code c5
+cancel|fru_part 0 0 8|code c5
+busy|reserve sdr|code c0
+busy|part sdr 0 1 0 8|code c0
+busy|info sdr|code c0
+busy|reading 0 1|code c0
+busy|fru_size 0|code c0
+busy|fru_part 0 0 8|code c0";
+
+#[test]
+fn a_cancelled_or_busy_call_is_answered_by_its_code(rt: HostRuntime) {
+    are_met(&rt, rt.alloc(), FAILED);
+}
+
+/// Where no byte is granted, one comes all the same.
+const GRANTED: &str = "grant 0|reserve sdr|0001
+grant 0|part sdr 0 1 0 8|0002 01 01eeeeeeeeeeeeee
+grant 0|info sdr|510300000401000020ffffffff02
+grant 0|reading 0 1|2dc00000
+grant 0|fru_size 0|0006 00
+grant 0|fru_part 0 0 8|01 01eeeeeeeeeeeeee
+grant 1|reserve sdr|0001
+grant 1|part sdr 0 1 0 8|0002 01 01eeeeeeeeeeeeee
+grant 1|info sdr|510300000401000020ffffffff02
+grant 1|reading 0 1|2dc00000
+grant 1|fru_size 0|0006 00
+grant 1|fru_part 0 0 8|01 01eeeeeeeeeeeeee
+grant 2|reserve sdr|0001
+grant 2|part sdr 0 1 0 8|0002 02 0100eeeeeeeeeeee
+grant 2|info sdr|510300000401000020ffffffff02
+grant 2|reading 0 1|2dc00000
+grant 2|fru_size 0|0006 00
+grant 2|fru_part 0 0 8|02 0100eeeeeeeeeeee
+grant 5|reserve sdr|0001
+grant 5|part sdr 0 1 0 8|0002 05 010051c001eeeeee
+grant 5|info sdr|510300000401000020ffffffff02
+grant 5|reading 0 1|2dc00000
+grant 5|fru_size 0|0006 00
+grant 5|fru_part 0 0 8|05 010051c001eeeeee
+grant 6|reserve sdr|0001
+grant 6|part sdr 0 1 0 8|0002 06 010051c001aaeeee
+grant 6|info sdr|510300000401000020ffffffff02
+grant 6|reading 0 1|2dc00000
+grant 6|fru_size 0|0006 00
+grant 6|fru_part 0 0 8|06 010051c001aaeeee
+grant fe|reserve sdr|0001
+grant fe|part sdr 0 1 0 8|0002 06 010051c001aaeeee
+grant fe|info sdr|510300000401000020ffffffff02
+grant fe|reading 0 1|2dc00000
+grant fe|fru_size 0|0006 00
+grant fe|fru_part 0 0 8|06 010051c001aaeeee";
+
+#[test]
+fn a_grant_limits_only_bytes(rt: HostRuntime) {
+    are_met(&rt, rt.alloc(), GRANTED);
+}
+
+const TOO_LONG: &str = "too_long|reserve sdr|0001
+too_long|part sdr 0 1 0 8|code ca
+too_long|info sdr|510300000401000020ffffffff02
+too_long|reading 0 1|2dc00000
+too_long|fru_size 0|0006 00
+too_long|fru_part 0 0 8|code ca";
+
+/// Three calls of a controller that meets each of them in this mood.
+const TOO_LONG_PARTS: &str = "part sdr 0 2 0 1|ffff 01 02
+fru_part 0 4 1|01 01
+fru_part 0 4 2|code ca";
+
+#[test]
+fn more_than_a_byte_may_be_too_long(rt: HostRuntime) {
+    are_met(&rt, rt.alloc(), TOO_LONG);
+    moods_are_met(
+        &rt,
+        rt.alloc(),
+        "too_long, too_long, too_long",
+        TOO_LONG_PARTS,
+    );
+}
+
+const CHANGED: &str = "other|reserve sdr|0001
+other|part sdr 0 1 0 8|ffff 05 010051c000eeeeee
+other|info sdr|510100000501000020ffffffff02
+other|reading 0 1|2ec00001
+other|fru_size 0|0002 00
+other|fru_part 0 0 8|02 0a0beeeeeeeeeeee";
+
+#[test]
+fn a_changed_image_answers_the_same_call(rt: HostRuntime) {
+    are_met(&rt, rt.alloc(), CHANGED);
+}
+
+/// Whether the code is none of those after which a caller may ask again or go on.
+fn is_refusal(code: u8) -> bool {
+    ![0x00, 0xC0, 0xC3, 0xC5, 0x81, 0xC7, 0xC8, 0xCA, 0xCB].contains(&code)
+}
+
+/// The code is the answer to the call, or the call is answered plainly, as the line has it.
+fn refusal_is_met(rt: &impl Abort, alloc: Global, code: u8, line: &str) {
+    let (call, plain) = line.split_once('|').expect(rt, "a call and its answer");
+    let mood = format!(in alloc; "refuse {code:x}").expect(rt, "memory");
+    let refused = format!(in alloc; "code {code:02x}").expect(rt, "memory");
+    let wanted = if is_refusal(code) { &refused } else { plain };
+    is_met(rt, alloc, &mood, call, wanted);
+}
+
+/// The same for a call of each kind.
+fn refusals_are_met(rt: &impl Abort, alloc: Global, code: u8) {
+    for line in ANSWERS.lines() {
+        refusal_is_met(rt, alloc, code, line);
+    }
+}
+
+#[test]
+fn a_call_is_refused_only_by_a_refusal(rt: HostRuntime) {
+    for code in 0..=255 {
+        refusals_are_met(&rt, rt.alloc(), code);
+    }
+}
+
+/// Calls after reservation 1 was given for sensor data records and 2 for the event log, and both were forgotten.
+const FORGOTTEN: &str = "part sdr 1 1 2 1|code c5
+part sel 2 1 2 1|code c5
+part sdr 1 1 0 1|0002 01 01
+part sel 2 1 0 1|ffff 01 01";
+
+/// Calls after both were kept.
+const KEPT: &str = "part sdr 1 1 2 1|0002 01 51
+part sel 2 1 2 1|ffff 01 02";
+
+/// Reserves both shelves, makes the call of a line in this mood, and then those of the other lines.
+fn is_met_after_reserving(rt: &impl Abort, alloc: Global, mood: &str, line: &str, lines: &str) {
+    let moods = format!(in alloc; "grant fe, grant fe, {mood}").expect(rt, "memory");
+    let calls = format!(in alloc; "reserve sdr|0001\nreserve sel|0002\n{line}\n{lines}");
+    moods_are_met(rt, alloc, &moods, &calls.expect(rt, "memory"));
+}
+
+// Past the first byte of a record its reservation has to be the last one given.
+#[test]
+fn cancelled_and_changed_reservations_are_forgotten(rt: HostRuntime) {
+    let alloc = rt.alloc();
+    is_met_after_reserving(&rt, alloc, "cancel", "reading 0 1|code c5", FORGOTTEN);
+    is_met_after_reserving(&rt, alloc, "saved", "reading 0 1|2dc00000", FORGOTTEN);
+    is_met_after_reserving(&rt, alloc, "saved", "part sdr 1 1 2 1|code c5", FORGOTTEN);
+}
+
+#[test]
+fn other_moods_keep_the_reservations(rt: HostRuntime) {
+    let alloc = rt.alloc();
+    is_met_after_reserving(&rt, alloc, "grant 1", "reading 0 1|2dc00000", KEPT);
+    is_met_after_reserving(&rt, alloc, "busy", "reading 0 1|code c0", KEPT);
+    is_met_after_reserving(&rt, alloc, "too_long", "reading 0 1|2dc00000", KEPT);
+    is_met_after_reserving(&rt, alloc, "refuse d4", "reading 0 1|code d4", KEPT);
+}
+
+const SIX_REFUSALS: &str = "refuse d0, refuse d1, refuse d2, refuse d3, refuse d4, refuse d5";
+
+const ONE_EACH: &str = "reserve sdr|code d0
+part sdr 0 1 0 8|code d1
+info sdr|code d2
+reading 0 1|code d3
+fru_size 0|code d4
+fru_part 0 0 8|code d5
+reserve sdr|0001
+part sdr 0 1 0 8|0002 06 010051c001aaeeee
+info sdr|510300000401000020ffffffff02
+reading 0 1|2dc00000
+fru_size 0|0006 00
+fru_part 0 0 8|06 010051c001aaeeee";
+
+// When the moods are used up, each call is answered plainly.
+#[test]
+fn each_call_uses_up_one_mood(rt: HostRuntime) {
+    moods_are_met(&rt, rt.alloc(), SIX_REFUSALS, ONE_EACH);
+}
