@@ -210,3 +210,51 @@ fn reservations_are_numbered_over_both_shelves(rt: HostRuntime) {
     }
     are_answered(&rt, &mut ctl, "reserve sel|0001\nreserve sdr|0002");
 }
+
+const OF_OTHER_LINES: &str = "part sel 0 0 0 3|ffff 03 010002
+part sdr 0 1 1 1|code c5
+part sel 0 1 1 1|code c5
+reserve sel|0001
+part sel 1 0 2 2|ffff 02 0201
+part sel 1 1 f 2|ffff 01 5aee
+part sel 1 1 10 1|code c9
+part sel 2 1 10 1|code c5
+part sdr 1 1 2 1|code c5";
+
+// Id 0000h asks for the first record of the event log too.
+#[test]
+fn the_event_log_is_asked_as_the_other_shelf(rt: HostRuntime) {
+    image_is_answered(&rt, rt.alloc(), SAVED, OF_OTHER_LINES);
+}
+
+/// The ids and numbers at the ends of their ranges.
+const ENDS: &str = "ipmi-image 2
+sdr 0000 - 000051c000
+sdr fffe 0000 010051c001aa
+reading 3 ff 2dc00000
+reading 0 00 2ec00001
+fru fe 0a
+fru 00 0b
+info sel 510100000201000000ffffffff00
+end
+";
+
+const ENDS_ANSWERS: &str = "part sdr 0 0 0 5|fffe 05 000051c000
+part sdr 0 fffe 0 8|0000 06 010051c001aaeeee
+part sdr 0 1 0 1|code cb
+part sel 0 0 0 1|code cb
+info sdr|code cb
+info sel|510100000201000000ffffffff00
+reading 3 ff|2dc00000
+reading 0 0|2ec00001
+reading 3 0|code cb
+reading 4 ff|code cb
+fru_size fe|0001 00
+fru_size 0|0001 00
+fru_part fe 0 2|01 0aee
+fru_part 0 0 2|01 0bee";
+
+#[test]
+fn what_is_at_the_end_of_a_range_is_found(rt: HostRuntime) {
+    image_is_answered(&rt, rt.alloc(), ENDS, ENDS_ANSWERS);
+}

@@ -30,7 +30,7 @@ fn has_verdict(rt: &impl Abort, alloc: Global, before: &str, case: &str) {
 }
 
 /// The same for each of the cases.
-fn have_verdicts(rt: &impl Abort, alloc: Global, before: &str, cases: &str) {
+pub fn have_verdicts(rt: &impl Abort, alloc: Global, before: &str, cases: &str) {
     for case in cases.lines() {
         has_verdict(rt, alloc, before, case);
     }

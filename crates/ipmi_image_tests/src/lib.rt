@@ -14,7 +14,11 @@ mod lengths;
 #[cfg(test)]
 mod memory;
 #[cfg(test)]
+mod mood_order;
+#[cfg(test)]
 mod moods;
+#[cfg(test)]
+mod places;
 #[cfg(test)]
 mod rewritten;
 #[cfg(test)]

@@ -63,14 +63,14 @@ fn line_is_met(rt: &impl Abort, alloc: Global, line: &str) {
 }
 
 /// The same for each of these lines.
-fn are_met(rt: &impl Abort, alloc: Global, lines: &str) {
+pub fn are_met(rt: &impl Abort, alloc: Global, lines: &str) {
     for line in lines.lines() {
         line_is_met(rt, alloc, line);
     }
 }
 
 /// Asks the calls of these lines, the first of which meet these moods.
-fn moods_are_met(rt: &impl Abort, alloc: Global, moods: &str, lines: &str) {
+pub fn moods_are_met(rt: &impl Abort, alloc: Global, moods: &str, lines: &str) {
     are_answered(rt, &mut scripted(rt, alloc, moods), lines);
 }
 

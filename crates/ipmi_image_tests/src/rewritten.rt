@@ -120,3 +120,26 @@ fn a_line_has_64_bytes_of_an_inventory(rt: HostRuntime) {
     let long_line = with_64_bytes(&rt, rt.alloc(), "3c\nend\n");
     is_rewritten(&rt, rt.alloc(), &long_line, &two_lines);
 }
+
+const INFOS: &str = "ipmi-image 1
+info sel 510100000201000000ffffffff00
+info sdr 510300000401000020ffffffff02
+sel 0000 ffff 00000201000020200004013001595f5a
+sdr 0001 0001 010051c000
+sdr 0002 0000 020051c000
+end
+";
+
+const INFOS_REWRITTEN: &str = "ipmi-image 2
+sdr 0001 0001 010051c000
+sdr 0002 0000 020051c000
+sel 0000 - 00000201000020200004013001595f5a
+info sdr 510300000401000020ffffffff02
+info sel 510100000201000000ffffffff00
+end
+";
+
+#[test]
+fn the_shelves_are_in_one_order(rt: HostRuntime) {
+    is_rewritten(&rt, rt.alloc(), INFOS, INFOS_REWRITTEN);
+}
