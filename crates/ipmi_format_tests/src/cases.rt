@@ -29,3 +29,26 @@ pub(crate) fn is_text_or_refused(rt: &impl Abort, got: Result<String, AllocError
         assert!(rt; got.as_str() == wanted, "wanted {wanted}: got {got}");
     }
 }
+
+/// Asserts that a call gave the wanted text and this end after it.
+pub(crate) fn is_text_with_end(
+    rt: &impl Abort,
+    got: Result<String, AllocError>,
+    wanted: &str,
+    end: &str,
+    case: &str,
+) {
+    let got = got.expect(rt, "memory");
+    let start = got.as_str().strip_suffix(end).expect(rt, "the end");
+    assert!(rt; start == wanted, "{case}: got {got}");
+}
+
+/// The bytes that several lines of hex digits stand for.
+pub(crate) fn bytes_of_lines(rt: &impl Abort, alloc: Global, lines: &str) -> Vec<u8> {
+    let mut bytes = Vec::new(alloc);
+    for line in lines.lines() {
+        let part = bytes_of(rt, alloc, line);
+        bytes.extend_from_slice(&part).expect(rt, "memory");
+    }
+    bytes
+}

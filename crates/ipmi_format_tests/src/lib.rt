@@ -5,4 +5,6 @@
 #[cfg(test)]
 mod cases;
 #[cfg(test)]
+mod fru;
+#[cfg(test)]
 mod text;
