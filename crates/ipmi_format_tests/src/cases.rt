@@ -52,3 +52,13 @@ pub(crate) fn bytes_of_lines(rt: &impl Abort, alloc: Global, lines: &str) -> Vec
     }
     bytes
 }
+
+/// The line at this place of a case of several lines.
+pub(crate) fn line_of<'a>(rt: &impl Abort, case: &'a str, place: usize) -> &'a str {
+    case.lines().nth(place).expect(rt, "a line")
+}
+
+/// The id that four hex digits stand for.
+pub(crate) fn id_of(rt: &impl Abort, digits: &str) -> u16 {
+    u16::from_str_radix(digits, 16).expect(rt, "an id in hex")
+}

@@ -7,4 +7,6 @@ mod cases;
 #[cfg(test)]
 mod fru;
 #[cfg(test)]
+mod records;
+#[cfg(test)]
 mod text;
