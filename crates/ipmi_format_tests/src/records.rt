@@ -7,7 +7,7 @@ mod entry_fields;
 mod examples;
 mod faults;
 mod fields;
+mod full_fields;
 mod full_lines;
 mod lines;
 mod memory;
-mod sensors;

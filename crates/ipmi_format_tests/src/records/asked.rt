@@ -1,5 +1,5 @@
 //! What is asked for a record: a reading for the sensors of the controller itself, an inventory for its FRU devices.
-use super::examples::changed;
+use super::examples::{PSU1, changed};
 use crate::cases::{is_text, parts};
 use ipmi_records::SdrView;
 use std::alloc::Global;
@@ -46,4 +46,10 @@ fn what_is_asked_is_of_the_controller_itself(rt: HostRuntime) {
     for line in ASKED.lines() {
         is_asked(&rt, rt.alloc(), line);
     }
+}
+
+#[test]
+fn the_inventory_of_a_fru_device_is_asked_for_by_its_id(rt: HostRuntime) {
+    let view = SdrView::read(&PSU1).expect(&rt, "a record");
+    assert!(rt; view.fru_of() == Some(1));
 }

@@ -3,14 +3,14 @@ use super::examples::EVENT;
 use crate::cases::{is_text, parts};
 use hex::FromHex;
 use ipmi_records::{EventEntry, OemTimedEntry, SelView};
-use std::alloc::{AllocError, Global};
+use std::alloc::Global;
 use std::process::Abort;
 
 /// An entry, its id and type, and its data.
-const ENTRIES: &str = "01000201000020200004013001595f5a|1 2 595f5a
-0300c004050607571308010203040506|3 192 010203040506
-0300e0030405060708090a0b0c0d0e0f|3 224 030405060708090a0b0c0d0e0f
-030003030405060708090a0b0c0d0e0f|3 3 030405060708090a0b0c0d0e0f";
+const ENTRIES: &str = "01000201000020200004013001595f5a|1 2 [89, 95, 90]
+0300c004050607571308010203040506|3 192 [1, 2, 3, 4, 5, 6]
+0300e0030405060708090a0b0c0d0e0f|3 224 [3, 4, 5, 6, 7, 8, 9, 10, 11, 12, 13, 14, 15]
+030003030405060708090a0b0c0d0e0f|3 3 [3, 4, 5, 6, 7, 8, 9, 10, 11, 12, 13, 14, 15]";
 
 /// The data of an entry.
 fn data_of<'a>(view: &SelView<'a>) -> &'a [u8] {
@@ -22,20 +22,16 @@ fn data_of<'a>(view: &SelView<'a>) -> &'a [u8] {
     }
 }
 
-/// The id, the type and the data of an entry.
-fn entry_text(alloc: Global, view: &SelView<'_>) -> Result<String, AllocError> {
-    let data = hex::encode(alloc, data_of(view))?;
-    let id = view.id();
-    let entry_type = view.entry_type();
-    format!(in alloc; "{id} {entry_type} {data}")
-}
-
 /// Asserts what each entry has, whatever its type.
 fn has_fields(rt: &impl Abort, alloc: Global, line: &str) {
     let (digits, wanted) = parts(rt, line);
     let bytes = <[u8; 16]>::from_hex(digits).expect(rt, "16 bytes");
     let view = SelView::read(&bytes);
-    is_text(rt, entry_text(alloc, &view), wanted, line);
+    let id = view.id();
+    let entry_type = view.entry_type();
+    let data = data_of(&view);
+    let text = format!(in alloc; "{id} {entry_type} {data:?}");
+    is_text(rt, text, wanted, line);
     is_text(rt, hex::encode(alloc, view.bytes()), digits, line);
 }
 

@@ -12,6 +12,12 @@ pub(super) const CPU_TEMP: [u8; 56] = [
     0x43, 0x50, 0x55, 0x20, 0x54, 0x65, 0x6d, 0x70,
 ];
 
+/// A FRU device locator.
+pub(super) const PSU1: [u8; 20] = [
+    0x02, 0x00, 0x51, 0x11, 0x0f, 0x20, 0x01, 0x80, 0x00, 0x00, 0x00, 0x00, 0x0a, 0x01, 0x00, 0xc4,
+    0x50, 0x53, 0x55, 0x31,
+];
+
 /// An event.
 pub(super) const EVENT: [u8; 16] = [
     0x01, 0x00, 0x02, 0x01, 0x00, 0x00, 0x20, 0x20, 0x00, 0x04, 0x01, 0x30, 0x01, 0x59, 0x5f, 0x5a,
@@ -69,12 +75,11 @@ Support: 0x02
 
 /// What a sensor answered, by the four bytes of its answer.
 pub(super) fn reading_of(bytes: [u8; 4]) -> Reading {
-    let [raw, flags, status, more] = bytes;
     Reading {
-        raw,
-        flags,
-        status,
-        more,
+        raw: bytes[0],
+        flags: bytes[1],
+        status: bytes[2],
+        more: bytes[3],
     }
 }
 
@@ -87,26 +92,31 @@ pub(super) fn answer_of(rt: &impl Abort, digits: &str) -> Option<Reading> {
     Some(reading_of(bytes))
 }
 
-/// A record with another value of a byte, which is counted from 1.
-pub(super) fn with_byte(rt: &impl Abort, bytes: [u8; 56], place: usize, value: u8) -> [u8; 56] {
-    let mut bytes = bytes;
-    let byte = bytes.get_mut(place.wrapping_sub(1));
+/// Puts a value into a byte of a record, which is counted from 1.
+fn set_byte(rt: &impl Abort, record: &mut [u8; 56], place: usize, value: u8) {
+    let byte = record.get_mut(place.wrapping_sub(1));
     *byte.expect(rt, "a byte of the record") = value;
-    bytes
 }
 
-/// A record with a change such as `14=6f`: byte 14 has the value 6Fh.
-fn with_change(rt: &impl Abort, bytes: [u8; 56], change: &str) -> [u8; 56] {
+/// Makes a change such as `14=6f` to a record: byte 14 gets the value 6Fh.
+fn change(rt: &impl Abort, record: &mut [u8; 56], change: &str) {
     let (place, value) = change.split_once('=').expect(rt, "a change");
     let place = place.parse::<usize>().expect(rt, "a place");
-    with_byte(rt, bytes, place, byte_of(rt, value))
+    set_byte(rt, record, place, byte_of(rt, value));
 }
 
 /// The full record with changes, which commas separate.
 pub(super) fn changed(rt: &impl Abort, changes: &str) -> [u8; 56] {
-    let mut bytes = CPU_TEMP;
-    for change in changes.split_terminator(',') {
-        bytes = with_change(rt, bytes, change);
+    let mut record = CPU_TEMP;
+    for part in changes.split_terminator(',') {
+        change(rt, &mut record, part);
     }
-    bytes
+    record
+}
+
+/// A record with another value of a byte, which is counted from 1.
+pub(super) fn with_byte(rt: &impl Abort, record: [u8; 56], place: usize, value: u8) -> [u8; 56] {
+    let mut record = record;
+    set_byte(rt, &mut record, place, value);
+    record
 }

@@ -1,6 +1,7 @@
 //! What is read of sensor data records of every kind without printing them.
+use super::examples::{CPU_TEMP, PSU1, with_byte};
 use crate::cases::{bytes_of, is_text, line_of};
-use ipmi_records::{Entity, IdString, Locator, SdrView, Sensor, SensorUnits};
+use ipmi_records::{Entity, FruLocator, IdString, Locator, SdrView, Sensor, SensorUnits};
 use std::alloc::{AllocError, Global};
 use std::process::Abort;
 
@@ -191,6 +192,21 @@ fn has_id_string(rt: &impl Abort, alloc: Global, case: &str) {
     );
 }
 
+/// The view of a FRU device locator.
+fn fru_locator_of<'a>(rt: &impl Abort, bytes: &'a [u8]) -> FruLocator<'a> {
+    match SdrView::read(bytes) {
+        Ok(SdrView::Fru(fru)) => fru,
+        _ => panic!(rt; "no FRU device locator"),
+    }
+}
+
+/// Asserts the name of a record.
+fn has_name(rt: &impl Abort, alloc: Global, bytes: &[u8], wanted: &str) {
+    let view = SdrView::read(bytes).expect(rt, "a record");
+    let name = view.name(alloc).expect(rt, "memory");
+    is_text(rt, format!(in alloc; "{name:?}"), wanted, wanted);
+}
+
 #[test]
 fn each_record_has_its_header(rt: HostRuntime) {
     for case in RECORDS.split("\n\n") {
@@ -224,6 +240,26 @@ fn each_record_has_its_id_string(rt: HostRuntime) {
     for case in RECORDS.split("\n\n") {
         has_id_string(&rt, rt.alloc(), case);
     }
+}
+
+#[test]
+fn a_fru_locator_has_its_device(rt: HostRuntime) {
+    let fru = fru_locator_of(&rt, &PSU1);
+    let device = (fru.fru_id(), fru.is_logical(), fru.lun());
+    assert!(rt; device == (1, true, 0), "got {device:?}");
+}
+
+#[test]
+fn a_name_ends_with_its_record(rt: HostRuntime) {
+    let record = with_byte(&rt, CPU_TEMP, 5, 45);
+    let cut = record.get(..50).expect(&rt, "50 bytes");
+    has_name(&rt, rt.alloc(), cut, "Some(\"CP\")");
+}
+
+#[test]
+fn a_record_of_another_type_has_no_name(rt: HostRuntime) {
+    let record = with_byte(&rt, CPU_TEMP, 4, 0xc0);
+    has_name(&rt, rt.alloc(), &record, "None");
 }
 
 #[test]

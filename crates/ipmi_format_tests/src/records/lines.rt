@@ -2,6 +2,7 @@
 use super::examples::answer_of;
 use crate::cases::{bytes_of, is_text_with_end, line_of, parts};
 use ipmi_records::{SdrFault, SdrView, sdr_eline, sdr_fault_line, sdr_line};
+use ipmi_text::Reading;
 use std::alloc::Global;
 use std::process::Abort;
 
@@ -135,22 +136,40 @@ ABCDEFGHIJKLMNOPQRSTU | --h | na  | 10.1  | FRU 1
 A.B              | FRU 1             | na
 A.B              | --h | na  | 10.1  | FRU 1";
 
+/// A record and what the sensor answered, and both lines.
+#[derive(Drop)]
+struct Case<'a> {
+    record: Vec<u8>,
+    answer: Option<Reading>,
+    line: &'a str,
+    extended_line: &'a str,
+}
+
+/// The case of three lines.
+fn case_of<'a>(rt: &impl Abort, alloc: Global, lines: &'a str) -> Case<'a> {
+    let (digits, answer) = parts(rt, line_of(rt, lines, 0));
+    Case {
+        record: bytes_of(rt, alloc, digits),
+        answer: answer_of(rt, answer),
+        line: line_of(rt, lines, 1),
+        extended_line: line_of(rt, lines, 2),
+    }
+}
+
 /// Asserts the line of a record.
-fn is_line(rt: &impl Abort, alloc: Global, case: &str) {
-    let (digits, answer) = parts(rt, line_of(rt, case, 0));
-    let bytes = bytes_of(rt, alloc, digits);
-    let view = SdrView::read(&bytes).expect(rt, "a record");
-    let line = sdr_line(alloc, &view, answer_of(rt, answer));
-    is_text_with_end(rt, line, line_of(rt, case, 1), "\n", case);
+fn is_line(rt: &impl Abort, alloc: Global, lines: &str) {
+    let case = case_of(rt, alloc, lines);
+    let view = SdrView::read(&case.record).expect(rt, "a record");
+    let line = sdr_line(alloc, &view, case.answer);
+    is_text_with_end(rt, line, case.line, "\n", lines);
 }
 
 /// Asserts the extended line of a record.
-fn is_extended_line(rt: &impl Abort, alloc: Global, case: &str) {
-    let (digits, answer) = parts(rt, line_of(rt, case, 0));
-    let bytes = bytes_of(rt, alloc, digits);
-    let view = SdrView::read(&bytes).expect(rt, "a record");
-    let line = sdr_eline(alloc, &view, answer_of(rt, answer));
-    is_text_with_end(rt, line, line_of(rt, case, 2), "\n", case);
+fn is_extended_line(rt: &impl Abort, alloc: Global, lines: &str) {
+    let case = case_of(rt, alloc, lines);
+    let view = SdrView::read(&case.record).expect(rt, "a record");
+    let line = sdr_eline(alloc, &view, case.answer);
+    is_text_with_end(rt, line, case.extended_line, "\n", lines);
 }
 
 /// Asserts the line of a fault.
@@ -160,15 +179,15 @@ fn is_fault_line(rt: &impl Abort, alloc: Global, id: u16, fault: SdrFault, wante
 
 #[test]
 fn each_record_has_its_line(rt: HostRuntime) {
-    for case in LINES.split("\n\n") {
-        is_line(&rt, rt.alloc(), case);
+    for lines in LINES.split("\n\n") {
+        is_line(&rt, rt.alloc(), lines);
     }
 }
 
 #[test]
 fn each_record_has_its_extended_line(rt: HostRuntime) {
-    for case in LINES.split("\n\n") {
-        is_extended_line(&rt, rt.alloc(), case);
+    for lines in LINES.split("\n\n") {
+        is_extended_line(&rt, rt.alloc(), lines);
     }
 }
 
