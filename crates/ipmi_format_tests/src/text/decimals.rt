@@ -89,8 +89,11 @@ fn factors_of(rt: &impl Abort, words: &mut SplitWhitespace<'_>) -> Option<Factor
 /// Asserts whether there are such factors.
 fn is_in_range(rt: &impl Abort, line: &str) {
     let (words, wanted) = parts(rt, line);
-    let factors = factors_of(rt, &mut words.split_whitespace());
-    assert!(rt; factors.is_some() == (wanted == "in range"), "{line}");
+    let got = match factors_of(rt, &mut words.split_whitespace()) {
+        Some(_) => "in range",
+        None => "out of range",
+    };
+    assert!(rt; got == wanted, "{line}");
 }
 
 /// The decimal of a raw reading.
