@@ -19,18 +19,18 @@ pub(crate) fn bytes_of(rt: &impl Abort, alloc: Global, digits: &str) -> Vec<u8> 
 
 /// Asserts that a call gave the wanted text.
 pub(crate) fn is_text(rt: &impl Abort, got: Result<String, AllocError>, wanted: &str, case: &str) {
-    let got = got.expect(rt, "memory");
+    let got = got.expect(rt, case);
     assert!(rt; got.as_str() == wanted, "{case}: got {got}");
 }
 
-/// Asserts that a call gave the wanted text, or wanted memory.
+/// Asserts that a call gave the wanted text, or that memory was refused.
 pub(crate) fn is_text_or_refused(rt: &impl Abort, got: Result<String, AllocError>, wanted: &str) {
     if let Ok(got) = got {
         assert!(rt; got.as_str() == wanted, "wanted {wanted}: got {got}");
     }
 }
 
-/// Asserts that a call gave the wanted text and this end after it.
+/// Asserts that a call gave the wanted text, with this end after it.
 pub(crate) fn is_text_with_end(
     rt: &impl Abort,
     got: Result<String, AllocError>,
@@ -38,9 +38,9 @@ pub(crate) fn is_text_with_end(
     end: &str,
     case: &str,
 ) {
-    let got = got.expect(rt, "memory");
-    let start = got.as_str().strip_suffix(end).expect(rt, "the end");
-    assert!(rt; start == wanted, "{case}: got {got}");
+    let got = got.expect(rt, case);
+    let start = got.as_str().strip_suffix(end);
+    assert!(rt; start == Some(wanted), "{case}: got {got}");
 }
 
 /// The bytes that several lines of hex digits stand for.

@@ -1,4 +1,5 @@
-//! Texts of fields, names, units, times and decimals, each table written once more by hand.
+//! Texts of fields, names, units, times and decimals: cases that were worked by hand or by another program, and each
+//! table written once more.
 mod decimals;
 mod fields;
 mod memory;

@@ -14,19 +14,19 @@ const BOARD_LINES: &str =
 const OUTPUT_LINES: &str =
     "DC Output 1: nominal 12 V, negative deviation 0.6 V, positive deviation 0.6 V, ripple 120 mV, current 0 to 62500 mA\n";
 
-/// Asserts the text of bytes, which a case with a number has.
+/// Asserts the text of an inventory, in the case with this number.
 fn is_printed(rt: &impl Abort, alloc: Global, bytes: &[u8], wanted: &str, case: usize) {
     let got = print_fru(alloc, bytes).expect(rt, "memory");
     assert!(rt; got.as_str() == wanted, "{case}: got {got}");
 }
 
-/// Asserts the text of so many bytes of an inventory.
+/// Asserts the text of the first bytes of an inventory, of which there are `len`.
 fn is_printed_when_cut(rt: &impl Abort, alloc: Global, bytes: &[u8], len: usize, wanted: &str) {
     let cut = bytes.get(..len).expect(rt, "that many bytes");
     is_printed(rt, alloc, cut, wanted, len);
 }
 
-/// The text of so many bytes of the board.
+/// The text of the first bytes of the board.
 fn cut_board(len: usize) -> &'static str {
     match len {
         0..=7 => "FRU fault: header short\n",
@@ -35,7 +35,7 @@ fn cut_board(len: usize) -> &'static str {
     }
 }
 
-/// The text of so many bytes of the output.
+/// The text of the first bytes of the output.
 fn cut_output(len: usize) -> &'static str {
     match len {
         0..=7 => "FRU fault: header short\n",
@@ -44,7 +44,7 @@ fn cut_output(len: usize) -> &'static str {
     }
 }
 
-/// The text of the board with a wrong bit in the byte at this place.
+/// The text of the board where the byte at this place has a wrong bit.
 fn altered_board(place: usize) -> &'static str {
     match place {
         0 => "FRU fault: header version\n",
@@ -54,7 +54,7 @@ fn altered_board(place: usize) -> &'static str {
     }
 }
 
-/// Asserts the text of the board with its lowest bit of one byte altered.
+/// Asserts the text of the board with the lowest bit of one byte altered.
 fn is_printed_when_altered(rt: &impl Abort, alloc: Global, place: usize) {
     let mut board = <[u8; 32]>::from_hex(BOARD).expect(rt, "32 bytes");
     let byte = board.get_mut(place).expect(rt, "a byte");
@@ -63,7 +63,7 @@ fn is_printed_when_altered(rt: &impl Abort, alloc: Global, place: usize) {
 }
 
 #[test]
-fn a_board_that_is_cut_short_is_a_fault(rt: HostRuntime) {
+fn a_board_that_is_cut_short_has_a_fault(rt: HostRuntime) {
     let board = bytes_of(&rt, rt.alloc(), BOARD);
     assert!(rt; board.len() == 32);
     for len in 0..=32 {
@@ -72,7 +72,7 @@ fn a_board_that_is_cut_short_is_a_fault(rt: HostRuntime) {
 }
 
 #[test]
-fn a_record_that_is_cut_short_is_a_fault(rt: HostRuntime) {
+fn a_record_that_is_cut_short_has_a_fault(rt: HostRuntime) {
     let output = bytes_of(&rt, rt.alloc(), OUTPUT);
     assert!(rt; output.len() == 26);
     for len in 0..=26 {
@@ -81,7 +81,7 @@ fn a_record_that_is_cut_short_is_a_fault(rt: HostRuntime) {
 }
 
 #[test]
-fn a_board_with_a_wrong_bit_is_a_fault(rt: HostRuntime) {
+fn a_board_with_a_wrong_bit_has_a_fault(rt: HostRuntime) {
     for place in 0..32 {
         is_printed_when_altered(&rt, rt.alloc(), place);
     }

@@ -5,7 +5,7 @@ use std::alloc::Global;
 use std::process::Abort;
 
 /// Inventories with their texts: the bytes area by area or record by record, a line of dashes, and the text. An empty
-/// line is between two inventories.
+/// line comes between two inventories.
 const INVENTORIES: &str = "01000001000000fe0103000100008329dca642123bc441e90042c1000000004d
 --
 Board Mfg Date: 1996-01-01 00:01

@@ -5,7 +5,7 @@ use ipmi_records::SdrView;
 use std::alloc::Global;
 use std::process::Abort;
 
-/// Changes of the full record, the LUN and the number of the sensor that is asked for a reading, and the FRU device whose
+/// Changes of the full record; the LUN and the number of the sensor whose reading is asked for; and the FRU device whose
 /// inventory is asked for.
 const ASKED: &str = "7=00|Some((0, 1))|None
 7=03|Some((3, 1))|None
@@ -34,7 +34,7 @@ const ASKED: &str = "7=00|Some((0, 1))|None
 fn is_asked(rt: &impl Abort, alloc: Global, line: &str) {
     let (changes, wanted) = parts(rt, line);
     let bytes = changed(rt, changes);
-    let view = SdrView::read(&bytes).expect(rt, "a record");
+    let view = SdrView::read(&bytes).expect(rt, line);
     let reading = view.reading_of();
     let inventory = view.fru_of();
     let asked = format!(in alloc; "{reading:?}|{inventory:?}");
@@ -42,7 +42,7 @@ fn is_asked(rt: &impl Abort, alloc: Global, line: &str) {
 }
 
 #[test]
-fn what_is_asked_is_of_the_controller_itself(rt: HostRuntime) {
+fn only_the_controller_itself_is_asked(rt: HostRuntime) {
     for line in ASKED.lines() {
         is_asked(&rt, rt.alloc(), line);
     }

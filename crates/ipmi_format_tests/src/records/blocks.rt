@@ -5,7 +5,7 @@ use ipmi_records::{SdrView, sdr_block};
 use std::alloc::Global;
 use std::process::Abort;
 
-/// An id, what the sensor answered and the record, and then the block. An empty line is between two cases.
+/// An id, what the sensor answered and the record, and then the block. An empty line comes between two cases.
 const BLOCKS: &str =
     "0001|none|010051013320000103017f680101000000003838000100000100000000000000000000005f5a550000000202000000c84350552054656d70
 Record: 0001h
@@ -257,7 +257,7 @@ fn is_block(rt: &impl Abort, alloc: Global, case: &str) {
     let (id, rest) = parts(rt, head);
     let (answer, digits) = parts(rt, rest);
     let bytes = bytes_of(rt, alloc, digits);
-    let view = SdrView::read(&bytes).expect(rt, "a record");
+    let view = SdrView::read(&bytes).expect(rt, case);
     let block = sdr_block(alloc, id_of(rt, id), &view, answer_of(rt, answer));
     is_text_with_end(rt, block, wanted, "\n\n", case);
 }

@@ -1,5 +1,5 @@
 //! Lines and blocks of the event log's entries, and the block of an info.
-use super::examples::{EVENT, EVENT_BLOCK};
+use super::examples::{EVENT, EVENT_BLOCK, INFO, INFO_LINES};
 use crate::cases::{id_of, is_text, is_text_with_end, parts};
 use hex::FromHex;
 use ipmi_records::{SelView, info_block, sel_block, sel_line};
@@ -20,7 +20,7 @@ abcd|0400ff0102030405060708090a0b0cff|abcd | OEM record 0xff | 01020304050607080
 0009|090002010000202000041201efa30000|0009 | 1987-01-05 18:48:33 | System Event #0x01 | event 0x6f offset 0x3 | Deasserted
 000a|0a0002ffffffff2000042dff010c0000|000a | unspecified | sensor type 0x2d #0xff | event 0x01 offset 0xc | Asserted";
 
-/// An id and an entry, and then the block. An empty line is between two cases.
+/// An id and an entry, and then the block. An empty line comes between two cases.
 const BLOCKS: &str = "0003|0300c0ffffffff571300010203040506
 Record: 0003h
 Type: C0h
@@ -49,24 +49,20 @@ Event: event 0x6f offset 0x3
 Direction: Deasserted
 Data: a3b4c5";
 
-/// An info, and then its block. An empty line is between two cases.
-const INFOS: &str = "510300000401000020ffffffff02
-Version: 0x51
-Records: 3
-Free Space: 1024
-Last Addition: 1987-01-05 18:48:33
-Last Erase: unspecified
-Overflow: no
-Support: 0x02
+/// The answer of Get SEL Info of a full log.
+const FULL_INFO: [u8; 14] = [
+    0x01, 0x34, 0x12, 0xff, 0xff, 0x00, 0x00, 0x00, 0x00, 0x01, 0x00, 0x00, 0x20, 0x80,
+];
 
-013412ffff000000000100002080
-Version: 0x01
+/// The block of the info of a full log.
+const FULL_INFO_LINES: &str = "Version: 0x01
 Records: 4660
 Free Space: 65535
 Last Addition: +0 s
 Last Erase: 1987-01-05 18:48:33
 Overflow: yes
-Support: 0x80";
+Support: 0x80
+";
 
 /// Asserts the line of an entry.
 fn is_line(rt: &impl Abort, alloc: Global, case: &str) {
@@ -84,13 +80,6 @@ fn is_block(rt: &impl Abort, alloc: Global, case: &str) {
     let bytes = <[u8; 16]>::from_hex(digits).expect(rt, "16 bytes");
     let block = sel_block(alloc, id_of(rt, id), &SelView::read(&bytes));
     is_text_with_end(rt, block, wanted, "\n\n", case);
-}
-
-/// Asserts the block of an info.
-fn is_info(rt: &impl Abort, alloc: Global, case: &str) {
-    let (digits, wanted) = case.split_once('\n').expect(rt, "a block");
-    let bytes = <[u8; 14]>::from_hex(digits).expect(rt, "14 bytes");
-    is_text_with_end(rt, info_block(alloc, &bytes), wanted, "\n", case);
 }
 
 #[test]
@@ -115,7 +104,12 @@ fn an_event_has_its_block(rt: HostRuntime) {
 
 #[test]
 fn each_info_has_its_block(rt: HostRuntime) {
-    for case in INFOS.split("\n\n") {
-        is_info(&rt, rt.alloc(), case);
-    }
+    let alloc = rt.alloc();
+    is_text(&rt, info_block(alloc, &INFO), INFO_LINES, "the info");
+    is_text(
+        &rt,
+        info_block(alloc, &FULL_INFO),
+        FULL_INFO_LINES,
+        "the full info",
+    );
 }

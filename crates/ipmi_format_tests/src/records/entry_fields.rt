@@ -1,4 +1,4 @@
-//! What is read of entries of the event log without printing them.
+//! What is read from entries of the event log without printing them.
 use super::examples::EVENT;
 use crate::cases::{is_text, parts};
 use hex::FromHex;

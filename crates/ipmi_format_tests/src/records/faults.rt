@@ -59,20 +59,20 @@ fn has_fault(rt: &impl Abort, alloc: Global, line: &str) {
     assert!(rt; kind == wanted, "{line}: got {kind}");
 }
 
-/// Asserts what so many bytes of a record are.
+/// Asserts what the first bytes of a record are.
 fn is_kind_when_cut(rt: &impl Abort, record: &[u8; 56], len: usize, wanted: &str) {
     let cut = record.get(..len).expect(rt, "that many bytes");
     let kind = kind_of(cut);
     assert!(rt; kind == wanted, "{len} bytes, {wanted}: got {kind}");
 }
 
-/// Asserts what so many bytes of a record are whose header says that it has so many.
+/// Asserts what the first bytes of a record are, where its header says that there are so many.
 fn is_kind_of_len(rt: &impl Abort, record: [u8; 56], len: u8, wanted: &str) {
     let record = with_byte(rt, record, 5, len.wrapping_sub(5));
     is_kind_when_cut(rt, &record, len as usize, wanted);
 }
 
-/// What so many bytes of the full record are.
+/// What the first bytes of the full record are.
 fn cut_record(len: usize) -> &'static str {
     match len {
         0..=4 => "short",
@@ -81,7 +81,7 @@ fn cut_record(len: usize) -> &'static str {
     }
 }
 
-/// Asserts the kind of a record of the least length, and that with a byte less there is none.
+/// Asserts the kind of a record of the least length, and that one byte less is too few.
 fn has_least_length(rt: &impl Abort, line: &str) {
     let (kind, rest) = parts(rt, line);
     let (least, wanted) = parts(rt, rest);
@@ -101,14 +101,14 @@ fn the_first_fault_is_found(rt: HostRuntime) {
 }
 
 #[test]
-fn a_record_that_is_cut_short_is_a_fault(rt: HostRuntime) {
+fn a_record_that_is_cut_short_has_a_fault(rt: HostRuntime) {
     for len in 0..57 {
         is_kind_when_cut(&rt, &CPU_TEMP, len, cut_record(len));
     }
 }
 
 #[test]
-fn a_record_has_all_bytes_of_its_type(rt: HostRuntime) {
+fn a_full_record_has_48_bytes_or_more(rt: HostRuntime) {
     for len in 5..57 {
         let wanted = if len < 48 { "body short" } else { "full" };
         is_kind_of_len(&rt, CPU_TEMP, len, wanted);

@@ -1,4 +1,4 @@
-//! What is read of sensor data records of every kind without printing them.
+//! What is read from sensor data records of every kind without printing them.
 use super::examples::{CPU_TEMP, PSU1, with_byte};
 use crate::cases::{bytes_of, is_text, line_of};
 use ipmi_records::{Entity, FruLocator, IdString, Locator, SdrView, Sensor, SensorUnits};
@@ -6,7 +6,7 @@ use std::alloc::{AllocError, Global};
 use std::process::Abort;
 
 /// A record; its id, version, type and the length of its body; its sensor; its units; its locator; and the type/length
-/// byte and the bytes of its ID string. An empty line is between two cases.
+/// byte and the bytes of its ID string. An empty line comes between two cases.
 const RECORDS: &str =
     "010051013320fe0103837f6801010000000038388101188c01800240007f0000000000005f5a551122330202000000c84350552054656d70
 1 81 1 51
@@ -127,7 +127,7 @@ fn id_string_text(alloc: Global, id: Option<IdString<'_>>) -> Result<String, All
 /// Asserts the bytes and the header of a record.
 fn has_header(rt: &impl Abort, alloc: Global, case: &str) {
     let bytes = record_of(rt, alloc, case);
-    let view = SdrView::read(&bytes).expect(rt, "a record");
+    let view = SdrView::read(&bytes).expect(rt, case);
     is_text(rt, header_text(alloc, &view), line_of(rt, case, 1), case);
     is_text(
         rt,
@@ -140,7 +140,7 @@ fn has_header(rt: &impl Abort, alloc: Global, case: &str) {
 /// Asserts the sensor of a record.
 fn has_sensor(rt: &impl Abort, alloc: Global, case: &str) {
     let bytes = record_of(rt, alloc, case);
-    let view = SdrView::read(&bytes).expect(rt, "a record");
+    let view = SdrView::read(&bytes).expect(rt, case);
     let wanted = line_of(rt, case, 2);
     is_text(rt, format!(in alloc; "{:?}", view.sensor()), wanted, case);
     is_text(
@@ -154,7 +154,7 @@ fn has_sensor(rt: &impl Abort, alloc: Global, case: &str) {
 /// Asserts the units of a record.
 fn has_units(rt: &impl Abort, alloc: Global, case: &str) {
     let bytes = record_of(rt, alloc, case);
-    let view = SdrView::read(&bytes).expect(rt, "a record");
+    let view = SdrView::read(&bytes).expect(rt, case);
     let units = own_units(&view);
     is_text(
         rt,
@@ -167,7 +167,7 @@ fn has_units(rt: &impl Abort, alloc: Global, case: &str) {
 /// Asserts the locator of a record.
 fn has_locator(rt: &impl Abort, alloc: Global, case: &str) {
     let bytes = record_of(rt, alloc, case);
-    let view = SdrView::read(&bytes).expect(rt, "a record");
+    let view = SdrView::read(&bytes).expect(rt, case);
     let wanted = line_of(rt, case, 4);
     is_text(rt, format!(in alloc; "{:?}", view.locator()), wanted, case);
     is_text(
@@ -181,7 +181,7 @@ fn has_locator(rt: &impl Abort, alloc: Global, case: &str) {
 /// Asserts the ID string of a record.
 fn has_id_string(rt: &impl Abort, alloc: Global, case: &str) {
     let bytes = record_of(rt, alloc, case);
-    let view = SdrView::read(&bytes).expect(rt, "a record");
+    let view = SdrView::read(&bytes).expect(rt, case);
     let wanted = line_of(rt, case, 5);
     is_text(rt, id_string_text(alloc, view.id_string()), wanted, case);
     is_text(
@@ -202,7 +202,7 @@ fn fru_locator_of<'a>(rt: &impl Abort, bytes: &'a [u8]) -> FruLocator<'a> {
 
 /// Asserts the name of a record.
 fn has_name(rt: &impl Abort, alloc: Global, bytes: &[u8], wanted: &str) {
-    let view = SdrView::read(bytes).expect(rt, "a record");
+    let view = SdrView::read(bytes).expect(rt, wanted);
     let name = view.name(alloc).expect(rt, "memory");
     is_text(rt, format!(in alloc; "{name:?}"), wanted, wanted);
 }

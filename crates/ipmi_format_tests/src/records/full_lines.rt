@@ -94,7 +94,7 @@ fn is_line(rt: &impl Abort, alloc: Global, case: &str) {
     let (changes, rest) = parts(rt, case);
     let (answer, wanted) = parts(rt, rest);
     let bytes = changed(rt, changes);
-    let view = SdrView::read(&bytes).expect(rt, "a record");
+    let view = SdrView::read(&bytes).expect(rt, case);
     let line = sdr_line(alloc, &view, answer_of(rt, answer));
     is_text_with_end(rt, line, wanted, "\n", case);
 }

@@ -6,7 +6,7 @@ use ipmi_text::Reading;
 use std::alloc::Global;
 use std::process::Abort;
 
-/// A record and what the sensor answered, the line, and the extended line. An empty line is between two cases.
+/// A record and what the sensor answered, the line, and the extended line. An empty line comes between two cases.
 const LINES: &str =
     "010051013320000103017f680101000000003838000100000100000000000000000000005f5a550000000202000000c84350552054656d70|2dc00000
 CPU Temp         | 45 degrees C      | ok
@@ -159,7 +159,7 @@ fn case_of<'a>(rt: &impl Abort, alloc: Global, lines: &'a str) -> Case<'a> {
 /// Asserts the line of a record.
 fn is_line(rt: &impl Abort, alloc: Global, lines: &str) {
     let case = case_of(rt, alloc, lines);
-    let view = SdrView::read(&case.record).expect(rt, "a record");
+    let view = SdrView::read(&case.record).expect(rt, lines);
     let line = sdr_line(alloc, &view, case.answer);
     is_text_with_end(rt, line, case.line, "\n", lines);
 }
@@ -167,7 +167,7 @@ fn is_line(rt: &impl Abort, alloc: Global, lines: &str) {
 /// Asserts the extended line of a record.
 fn is_extended_line(rt: &impl Abort, alloc: Global, lines: &str) {
     let case = case_of(rt, alloc, lines);
-    let view = SdrView::read(&case.record).expect(rt, "a record");
+    let view = SdrView::read(&case.record).expect(rt, lines);
     let line = sdr_eline(alloc, &view, case.answer);
     is_text_with_end(rt, line, case.extended_line, "\n", lines);
 }

@@ -128,7 +128,7 @@ fn each_reading_has_its_decimal(rt: HostRuntime) {
 }
 
 #[test]
-fn factors_are_in_their_ranges(rt: HostRuntime) {
+fn factors_out_of_their_ranges_are_refused(rt: HostRuntime) {
     for line in FACTORS.lines() {
         is_in_range(&rt, line);
     }

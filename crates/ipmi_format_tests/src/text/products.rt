@@ -42,7 +42,8 @@ fn times_ten(number: i128, count: i8) -> i128 {
     number
 }
 
-/// The reading in units of 10^-16: B is moved by K1 and 8 first, M x by 8, and then both by K2 and 8.
+/// The reading in units of 10^-16: B is multiplied by ten K1 + 8 times, and M times the number 8 times; then their sum
+/// is multiplied by ten K2 + 8 times.
 fn product(case: Case, raw: u8) -> i128 {
     let number = number_of_bits(case.format, raw);
     let slope = times_ten((case.m as i128).wrapping_mul(number), 8);
@@ -76,8 +77,8 @@ fn are_products(rt: &impl Abort, case: Case) -> u32 {
     count
 }
 
-/// The same for all exponents.
-fn have_all_exponents(rt: &impl Abort, format: u8, m: i16, b: i16) -> u32 {
+/// Asserts the readings for all exponents, and says how many there were.
+fn are_products_for_all_exponents(rt: &impl Abort, format: u8, m: i16, b: i16) -> u32 {
     let mut count = 0u32;
     for k1 in EXPONENTS {
         for k2 in EXPONENTS {
@@ -95,12 +96,12 @@ fn have_all_exponents(rt: &impl Abort, format: u8, m: i16, b: i16) -> u32 {
 }
 
 #[test]
-fn readings_are_found_by_repeated_multiplication(rt: HostRuntime) {
+fn repeated_multiplication_gives_the_same_readings(rt: HostRuntime) {
     let mut count = 0u32;
     for format in FORMATS {
         for m in SLOPES {
             for b in OFFSETS {
-                count = count.wrapping_add(have_all_exponents(&rt, format, m, b));
+                count = count.wrapping_add(are_products_for_all_exponents(&rt, format, m, b));
             }
         }
     }
