@@ -49,13 +49,13 @@ Event: event 0x6f offset 0x3
 Direction: Deasserted
 Data: a3b4c5";
 
-/// The answer of Get SEL Info of a full log.
-const FULL_INFO: [u8; 14] = [
+/// The answer of Get SEL Info where entries were lost.
+const OVERFLOW_INFO: [u8; 14] = [
     0x01, 0x34, 0x12, 0xff, 0xff, 0x00, 0x00, 0x00, 0x00, 0x01, 0x00, 0x00, 0x20, 0x80,
 ];
 
-/// The block of the info of a full log.
-const FULL_INFO_LINES: &str = "Version: 0x01
+/// The block of the info where entries were lost.
+const OVERFLOW_INFO_LINES: &str = "Version: 0x01
 Records: 4660
 Free Space: 65535
 Last Addition: +0 s
@@ -108,8 +108,8 @@ fn each_info_has_its_block(rt: HostRuntime) {
     is_text(&rt, info_block(alloc, &INFO), INFO_LINES, "the info");
     is_text(
         &rt,
-        info_block(alloc, &FULL_INFO),
-        FULL_INFO_LINES,
-        "the full info",
+        info_block(alloc, &OVERFLOW_INFO),
+        OVERFLOW_INFO_LINES,
+        "the info of an overflow",
     );
 }
