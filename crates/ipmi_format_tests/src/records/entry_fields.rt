@@ -32,6 +32,13 @@ fn has_fields(rt: &impl Abort, alloc: Global, line: &str) {
     let data = data_of(&view);
     let text = format!(in alloc; "{id} {entry_type} {data:?}");
     is_text(rt, text, wanted, line);
+}
+
+/// Asserts the bytes of an entry.
+fn has_bytes(rt: &impl Abort, alloc: Global, line: &str) {
+    let (digits, _) = parts(rt, line);
+    let bytes = <[u8; 16]>::from_hex(digits).expect(rt, "16 bytes");
+    let view = SelView::read(&bytes);
     is_text(rt, hex::encode(alloc, view.bytes()), digits, line);
 }
 
@@ -67,6 +74,13 @@ fn numbers_of(event: &EventEntry<'_>) -> [u32; 6] {
 fn each_entry_has_its_id_type_and_data(rt: HostRuntime) {
     for line in ENTRIES.lines() {
         has_fields(&rt, rt.alloc(), line);
+    }
+}
+
+#[test]
+fn each_entry_has_its_bytes(rt: HostRuntime) {
+    for line in ENTRIES.lines() {
+        has_bytes(&rt, rt.alloc(), line);
     }
 }
 

@@ -50,6 +50,13 @@ fn is_name(rt: &impl Abort, name: Option<String>) {
     assert!(rt; name.as_str() == "CPU Temp", "got {name}");
 }
 
+/// Asserts that a name is that of the full record, or that memory was refused.
+fn is_name_or_refused(rt: &impl Abort, name: Result<Option<String>, AllocError>) {
+    if let Ok(name) = name {
+        is_name(rt, name);
+    }
+}
+
 /// With ample memory each of them answers with its text.
 #[test]
 fn always_out_of_memory(rt: HostRuntime) {
@@ -73,7 +80,5 @@ fn memory_may_be_refused(rt: HostRuntime) {
     for (text, wanted) in calls_over_the_log(rt.alloc()) {
         is_text_or_refused(&rt, text, wanted);
     }
-    if let Ok(name) = view.name(rt.alloc()) {
-        is_name(&rt, name);
-    }
+    is_name_or_refused(&rt, view.name(rt.alloc()));
 }
