@@ -7,8 +7,6 @@ mod header;
 pub mod laws;
 mod multirecord;
 mod print;
-#[cfg(test)]
-mod tests;
 
 pub use area::{AreaFault, AreaView, Field};
 pub use header::{FruFault, FruView};

@@ -13,8 +13,6 @@ mod log;
 mod sdr;
 mod sel;
 mod sensor;
-#[cfg(test)]
-mod tests;
 
 pub use block::sdr_block;
 pub use id_string::IdString;

@@ -9,8 +9,6 @@ pub mod laws;
 mod names;
 mod reading;
 mod sensor_types;
-#[cfg(test)]
-mod tests;
 mod times;
 mod units;
 

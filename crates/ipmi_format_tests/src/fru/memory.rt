@@ -1,28 +1,6 @@
-//! Worked inventories.
-mod damaged;
-mod inventories;
-mod views;
-
-use super::*;
-use hex::FromHexError;
-use std::alloc::Global;
-use std::test::Fail;
-
-/// A board of three fields.
-const BOARD: &str = "01000001000000fe0103000100008329dca642123bc441e90042c1000000004d";
-
-/// A DC output.
-const OUTPUT: &str = "01000000000100fe01820d432d01b0043c003c007800000024f4";
-
-/// The bytes of hex digits that stand in parts.
-fn decoded(alloc: Global, parts: &[&str]) -> Result<Vec<u8>, FromHexError> {
-    let mut bytes = Vec::new(alloc);
-    for part in parts {
-        let part = hex::decode(alloc, part)?;
-        bytes.extend_from_slice(&part)?;
-    }
-    Ok(bytes)
-}
+//! The text of an inventory, with ample memory and with requests for memory refused.
+use crate::cases::{is_text, is_text_or_refused};
+use ipmi_fru::print_fru;
 
 /// Something of each thing that is printed.
 const MIXED: [u8; 91] = [
@@ -48,16 +26,14 @@ Record 0xc0: 5a
 Record fault: outside
 ";
 
+/// With ample memory the text is whole.
 #[test]
-fn an_inventory_has_memory(rt: HostRuntime) -> Result<(), Fail> {
-    assert_eq!(rt; print_fru(rt.alloc(), &MIXED)?.as_str(), MIXED_LINES);
-    Ok(())
+fn an_inventory_has_memory(rt: HostRuntime) {
+    is_text(&rt, print_fru(rt.alloc(), &MIXED), MIXED_LINES, "mixed");
 }
 
-// Where memory is refused, the text is whole all the same, or want of memory is the answer.
+/// Where memory is refused, the text is whole all the same, or want of memory is the answer.
 #[test]
 fn memory_may_be_refused(rt: HostRuntime) {
-    if let Ok(text) = print_fru(rt.alloc(), &MIXED) {
-        assert_eq!(rt; text.as_str(), MIXED_LINES);
-    }
+    is_text_or_refused(&rt, print_fru(rt.alloc(), &MIXED), MIXED_LINES);
 }

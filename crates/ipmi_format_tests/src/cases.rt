@@ -1,0 +1,64 @@
+//! What the tests share: the parts of a case's line, bytes in hex, and a text compared with the wanted one.
+use std::alloc::{AllocError, Global};
+use std::process::Abort;
+
+/// The parts of a line before and after its first bar.
+pub(crate) fn parts<'a>(rt: &impl Abort, line: &'a str) -> (&'a str, &'a str) {
+    line.split_once('|').expect(rt, "a bar")
+}
+
+/// The byte that two hex digits stand for.
+pub(crate) fn byte_of(rt: &impl Abort, digits: &str) -> u8 {
+    u8::from_str_radix(digits, 16).expect(rt, "a byte in hex")
+}
+
+/// The bytes that hex digits stand for.
+pub(crate) fn bytes_of(rt: &impl Abort, alloc: Global, digits: &str) -> Vec<u8> {
+    hex::decode(alloc, digits).expect(rt, "bytes in hex")
+}
+
+/// Asserts that a call gave the wanted text.
+pub(crate) fn is_text(rt: &impl Abort, got: Result<String, AllocError>, wanted: &str, case: &str) {
+    let got = got.expect(rt, case);
+    assert!(rt; got.as_str() == wanted, "{case}: got {got}");
+}
+
+/// Asserts that a call gave the wanted text, or that memory was refused.
+pub(crate) fn is_text_or_refused(rt: &impl Abort, got: Result<String, AllocError>, wanted: &str) {
+    if let Ok(got) = got {
+        assert!(rt; got.as_str() == wanted, "wanted {wanted}: got {got}");
+    }
+}
+
+/// Asserts that a call gave the wanted text, with this end after it.
+pub(crate) fn is_text_with_end(
+    rt: &impl Abort,
+    got: Result<String, AllocError>,
+    wanted: &str,
+    end: &str,
+    case: &str,
+) {
+    let got = got.expect(rt, case);
+    let start = got.as_str().strip_suffix(end);
+    assert!(rt; start == Some(wanted), "{case}: got {got}");
+}
+
+/// The bytes that several lines of hex digits stand for.
+pub(crate) fn bytes_of_lines(rt: &impl Abort, alloc: Global, lines: &str) -> Vec<u8> {
+    let mut bytes = Vec::new(alloc);
+    for line in lines.lines() {
+        let part = bytes_of(rt, alloc, line);
+        bytes.extend_from_slice(&part).expect(rt, "memory");
+    }
+    bytes
+}
+
+/// The line at this place of a case of several lines.
+pub(crate) fn line_of<'a>(rt: &impl Abort, case: &'a str, place: usize) -> &'a str {
+    case.lines().nth(place).expect(rt, "a line")
+}
+
+/// The id that four hex digits stand for.
+pub(crate) fn id_of(rt: &impl Abort, digits: &str) -> u16 {
+    u16::from_str_radix(digits, 16).expect(rt, "an id in hex")
+}

@@ -1,0 +1,107 @@
+//! What is read from an inventory without printing it: the heads of its areas, the fields of an area, and its records.
+use super::examples::BOARD;
+use crate::cases::{bytes_of, is_text, parts};
+use ipmi_fru::{AreaFault, AreaView, FruView};
+use std::alloc::Global;
+use std::process::Abort;
+
+/// The place of a field of the board, and the field.
+const FIELDS: &str = "0|Some(Field { code: 2, bytes: [41, 220, 166] })
+1|Some(Field { code: 1, bytes: [18, 59] })
+2|Some(Field { code: 3, bytes: [65, 233, 0, 66] })
+3|None
+18446744073709551615|None";
+
+/// An inventory of a chassis and a product.
+const CHASSIS_AND_PRODUCT: &str = "01000100020000fc010117c100000026010119c100000024";
+
+/// Records, of which the second says that it is the last.
+const THREE_RECORDS: &str = "01000000000100fec00201023bfec18f0000b0c2820000bc";
+
+/// Records, of which the first has a wrong checksum.
+const WRONG_RECORD: &str = "01000000000100fec002000040c18f0000b0";
+
+/// What is read from the three records.
+const TWO_RECORDS: &str =
+    "[Some(Ok(MultiView { kind: 192, version: 2, last: false, bytes: [254] })), Some(Ok(MultiView { kind: 193, version: 15, last: true, bytes: [] })), None, None]";
+
+/// An area that may be there, and may have a fault.
+type Area<'a> = Option<Result<AreaView<'a>, AreaFault>>;
+
+/// The head of an area.
+fn head_of<'a>(area: Area<'a>) -> Option<Result<&'a [u8], AreaFault>> {
+    match area {
+        Some(Ok(area)) => Some(Ok(area.head())),
+        Some(Err(fault)) => Some(Err(fault)),
+        None => None,
+    }
+}
+
+/// Asserts the heads of an inventory's chassis, board and product.
+fn has_heads(rt: &impl Abort, alloc: Global, digits: &str, wanted: &str) {
+    let bytes = bytes_of(rt, alloc, digits);
+    let inventory = FruView::read(&bytes).expect(rt, digits);
+    let chassis = head_of(inventory.chassis());
+    let board = head_of(inventory.board());
+    let product = head_of(inventory.product());
+    let text = format!(in alloc; "{chassis:?} {board:?} {product:?}");
+    is_text(rt, text, wanted, digits);
+}
+
+/// Asserts a field of a board.
+fn has_field(rt: &impl Abort, alloc: Global, board: &AreaView<'_>, line: &str) {
+    let (place, wanted) = parts(rt, line);
+    let place = place.parse::<usize>().expect(rt, "a place");
+    let field = board.field(place);
+    is_text(rt, format!(in alloc; "{field:?}"), wanted, line);
+}
+
+/// Asserts what an inventory's iterator of records gives at each of four calls.
+fn has_records(rt: &impl Abort, alloc: Global, digits: &str, wanted: &str) {
+    let bytes = bytes_of(rt, alloc, digits);
+    let inventory = FruView::read(&bytes).expect(rt, digits);
+    let mut records = inventory.records();
+    let first = [
+        records.next(),
+        records.next(),
+        records.next(),
+        records.next(),
+    ];
+    is_text(rt, format!(in alloc; "{first:?}"), wanted, digits);
+}
+
+#[test]
+fn each_area_has_its_head(rt: HostRuntime) {
+    let alloc = rt.alloc();
+    has_heads(&rt, alloc, BOARD, "None Some(Ok([0, 1, 0, 0])) None");
+    has_heads(
+        &rt,
+        alloc,
+        CHASSIS_AND_PRODUCT,
+        "Some(Ok([23])) None Some(Ok([25]))",
+    );
+}
+
+#[test]
+fn a_board_has_its_fields(rt: HostRuntime) {
+    let bytes = bytes_of(&rt, rt.alloc(), BOARD);
+    let inventory = FruView::read(&bytes).expect(&rt, "an inventory");
+    let area = inventory.board().expect(&rt, "an area");
+    let board = area.expect(&rt, "a board");
+    for line in FIELDS.lines() {
+        has_field(&rt, rt.alloc(), &board, line);
+    }
+}
+
+#[test]
+fn records_end_after_the_last_or_a_fault(rt: HostRuntime) {
+    let alloc = rt.alloc();
+    has_records(&rt, alloc, BOARD, "[None, None, None, None]");
+    has_records(&rt, alloc, THREE_RECORDS, TWO_RECORDS);
+    has_records(
+        &rt,
+        alloc,
+        WRONG_RECORD,
+        "[Some(Err(HeaderSum)), None, None, None]",
+    );
+}

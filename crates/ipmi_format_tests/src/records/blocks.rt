@@ -1,0 +1,278 @@
+//! Blocks of sensor data records.
+use super::examples::{CPU_TEMP, CPU_TEMP_BLOCK, answer_of, reading_of};
+use crate::cases::{bytes_of, id_of, is_text, is_text_with_end, parts};
+use ipmi_records::{SdrView, sdr_block};
+use std::alloc::Global;
+use std::process::Abort;
+
+/// An id, what the sensor answered and the record, and then the block. An empty line comes between two cases.
+const BLOCKS: &str =
+    "0001|none|010051013320000103017f680101000000003838000100000100000000000000000000005f5a550000000202000000c84350552054656d70
+Record: 0001h
+Type: full
+Name: CPU Temp
+Owner: 20h LUN 0
+Sensor: 01h
+Entity: 3.1
+Kind: Temperature
+Event type: 01h
+Reading: no reading
+Status: ns
+Upper non-recoverable: 95 degrees C
+Upper critical: 90 degrees C
+Upper non-critical: 85 degrees C
+
+0002|none|020051110f200180000000000a0100c450535531
+Record: 0002h
+Type: FRU locator
+Name: PSU1
+Address: 20h
+Entity: 10.1
+
+abcd|none|020051110f200100000000000a0100c450535531
+Record: ABCDh
+Type: FRU locator
+Name: PSU1
+Address: 20h
+Entity: 10.1
+
+0003|00400182|030051021b20000507010000056f000000000000000000000000000000000000
+Record: 0003h
+Type: compact
+Name:\x20
+Owner: 20h LUN 0
+Sensor: 05h
+Entity: 7.1
+Kind: Physical Security
+Event type: 6Fh
+Reading: states 0x0201
+Status: ok
+
+0003|none|030051021b20ff05070100000501000000003f00000000000000000000000000
+Record: 0003h
+Type: compact
+Name:\x20
+Owner: 20h LUN 3
+Sensor: 05h
+Entity: 7.1
+Kind: Physical Security
+Event type: 01h
+Reading: no reading
+Status: ns
+
+0005|none|05005103102000302281126f00000000c445565431
+Record: 0005h
+Type: event-only
+Name: EVT1
+Owner: 20h LUN 0
+Sensor: 30h
+Entity: 34.1
+Kind: System Event
+Event type: 6Fh
+
+0006|none|020051100f200180000000000a0100c450535531
+Record: 0006h
+Type: generic locator
+Name: PSU1
+Address: 20h
+Entity: 10.1
+
+0007|none|020051120f2c0180000000000a0100c450535531
+Record: 0007h
+Type: controller locator
+Name: PSU1
+Address: 2Ch
+Entity: 10.1
+
+0001|none|010051c001aa
+Record: 0001h
+Type: record type 0xc0
+
+1234|2dc00000|01005101332282fa03857f68c501000000003838000100000100000000000000000000005f5a550000000202000000c84350552054656d70
+Record: 1234h
+Type: full
+Name: CPU Temp
+Owner: 22h LUN 2
+Sensor: FAh
+Entity: 3.5
+Kind: sensor type 0xc5
+Event type: 01h
+Reading: other owner
+Status: na
+Upper non-recoverable: 95 degrees C
+Upper critical: 90 degrees C
+Upper non-critical: 85 degrees C
+
+0001|2dc00000|010051013320000103017f680101000000002038000100000100000000000000000000005f5a5502050a0202000000c84350552054656d70
+Record: 0001h
+Type: full
+Name: CPU Temp
+Owner: 20h LUN 0
+Sensor: 01h
+Entity: 3.1
+Kind: Temperature
+Event type: 01h
+Reading: 45 degrees C
+Status: ok
+Upper non-recoverable: 95 degrees C
+
+0001|2dc00000|010051013320000103017f680101000000001038000100000100000000000000000000005f5a5502050a0202000000c84350552054656d70
+Record: 0001h
+Type: full
+Name: CPU Temp
+Owner: 20h LUN 0
+Sensor: 01h
+Entity: 3.1
+Kind: Temperature
+Event type: 01h
+Reading: 45 degrees C
+Status: ok
+Upper critical: 90 degrees C
+
+0001|2dc00000|010051013320000103017f680101000000000838000100000100000000000000000000005f5a5502050a0202000000c84350552054656d70
+Record: 0001h
+Type: full
+Name: CPU Temp
+Owner: 20h LUN 0
+Sensor: 01h
+Entity: 3.1
+Kind: Temperature
+Event type: 01h
+Reading: 45 degrees C
+Status: ok
+Upper non-critical: 85 degrees C
+
+0001|2dc00000|010051013320000103017f680101000000000438000100000100000000000000000000005f5a5502050a0202000000c84350552054656d70
+Record: 0001h
+Type: full
+Name: CPU Temp
+Owner: 20h LUN 0
+Sensor: 01h
+Entity: 3.1
+Kind: Temperature
+Event type: 01h
+Reading: 45 degrees C
+Status: ok
+Lower non-recoverable: 2 degrees C
+
+0001|2dc00000|010051013320000103017f680101000000000238000100000100000000000000000000005f5a5502050a0202000000c84350552054656d70
+Record: 0001h
+Type: full
+Name: CPU Temp
+Owner: 20h LUN 0
+Sensor: 01h
+Entity: 3.1
+Kind: Temperature
+Event type: 01h
+Reading: 45 degrees C
+Status: ok
+Lower critical: 5 degrees C
+
+0001|2dc00000|010051013320000103017f680101000000000138000100000100000000000000000000005f5a5502050a0202000000c84350552054656d70
+Record: 0001h
+Type: full
+Name: CPU Temp
+Owner: 20h LUN 0
+Sensor: 01h
+Entity: 3.1
+Kind: Temperature
+Event type: 01h
+Reading: 45 degrees C
+Status: ok
+Lower non-critical: 10 degrees C
+
+0001|2dc00000|010051013320000103017f680101000000003f38000100000100000000000000000000005f5a5502050a0202000000c84350552054656d70
+Record: 0001h
+Type: full
+Name: CPU Temp
+Owner: 20h LUN 0
+Sensor: 01h
+Entity: 3.1
+Kind: Temperature
+Event type: 01h
+Reading: 45 degrees C
+Status: ok
+Upper non-recoverable: 95 degrees C
+Upper critical: 90 degrees C
+Upper non-critical: 85 degrees C
+Lower non-recoverable: 2 degrees C
+Lower critical: 5 degrees C
+Lower non-critical: 10 degrees C
+
+0001|2dc00000|010051013320000103017f68010100000000c038000100000100000000000000000000005f5a5502050a0202000000c84350552054656d70
+Record: 0001h
+Type: full
+Name: CPU Temp
+Owner: 20h LUN 0
+Sensor: 01h
+Entity: 3.1
+Kind: Temperature
+Event type: 01h
+Reading: 45 degrees C
+Status: ok
+
+0001|2dc03f00|010051013320000103017f680102000000003f38000100000100000000000000000000005f5a5502050a0202000000c84350552054656d70
+Record: 0001h
+Type: full
+Name: CPU Temp
+Owner: 20h LUN 0
+Sensor: 01h
+Entity: 3.1
+Kind: Temperature
+Event type: 02h
+Reading: 45 degrees C
+Status: ok
+
+0001|2dc00000|010051013320000103017f680101000000001138000100010100000000000000000000005f5a5502050a0202000000c84350552054656d70
+Record: 0001h
+Type: full
+Name: CPU Temp
+Owner: 20h LUN 0
+Sensor: 01h
+Entity: 3.1
+Kind: Temperature
+Event type: 01h
+Reading: raw 0x2d
+Status: ok
+Upper critical: raw 0x5a
+Lower non-critical: raw 0x0a
+
+0001|2dc00201|010051013320000103017f680101000000002238c00100000100000000000000000000005f5a5502050a0202000000c84350552054656d70
+Record: 0001h
+Type: full
+Name: CPU Temp
+Owner: 20h LUN 0
+Sensor: 01h
+Entity: 3.1
+Kind: Temperature
+Event type: 01h
+Reading: states 0x0102
+Status: cr
+Upper non-recoverable: raw 0x5f
+Lower critical: raw 0x05";
+
+/// Asserts the block of a record.
+fn is_block(rt: &impl Abort, alloc: Global, case: &str) {
+    let (head, wanted) = case.split_once('\n').expect(rt, "a block");
+    let (id, rest) = parts(rt, head);
+    let (answer, digits) = parts(rt, rest);
+    let bytes = bytes_of(rt, alloc, digits);
+    let view = SdrView::read(&bytes).expect(rt, case);
+    let block = sdr_block(alloc, id_of(rt, id), &view, answer_of(rt, answer));
+    is_text_with_end(rt, block, wanted, "\n\n", case);
+}
+
+#[test]
+fn each_record_has_its_block(rt: HostRuntime) {
+    for case in BLOCKS.split("\n\n") {
+        is_block(&rt, rt.alloc(), case);
+    }
+}
+
+#[test]
+fn a_record_with_a_reading_has_its_block(rt: HostRuntime) {
+    let view = SdrView::read(&CPU_TEMP).expect(&rt, "a record");
+    let answer = Some(reading_of([0x2d, 0xc0, 0, 0]));
+    let block = sdr_block(rt.alloc(), 1, &view, answer);
+    is_text(&rt, block, CPU_TEMP_BLOCK, "CPU Temp");
+}

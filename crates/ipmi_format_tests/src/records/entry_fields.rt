@@ -1,0 +1,107 @@
+//! What is read from entries of the event log without printing them.
+use super::examples::EVENT;
+use crate::cases::{is_text, parts};
+use hex::FromHex;
+use ipmi_records::{EventEntry, OemTimedEntry, SelView};
+use std::alloc::Global;
+use std::process::Abort;
+
+/// An entry, its id and type, and its data.
+const ENTRIES: &str = "01000201000020200004013001595f5a|1 2 [89, 95, 90]
+0300c004050607571308010203040506|3 192 [1, 2, 3, 4, 5, 6]
+0300e0030405060708090a0b0c0d0e0f|3 224 [3, 4, 5, 6, 7, 8, 9, 10, 11, 12, 13, 14, 15]
+030003030405060708090a0b0c0d0e0f|3 3 [3, 4, 5, 6, 7, 8, 9, 10, 11, 12, 13, 14, 15]";
+
+/// The data of an entry.
+fn data_of<'a>(view: &SelView<'a>) -> &'a [u8] {
+    match view {
+        SelView::Event(event) => event.data_bytes(),
+        SelView::OemTimed(entry) => entry.data_bytes(),
+        SelView::OemPlain(entry) => entry.data_bytes(),
+        SelView::Other(entry) => entry.data_bytes(),
+    }
+}
+
+/// Asserts what each entry has, whatever its type.
+fn has_fields(rt: &impl Abort, alloc: Global, line: &str) {
+    let (digits, wanted) = parts(rt, line);
+    let bytes = <[u8; 16]>::from_hex(digits).expect(rt, "16 bytes");
+    let view = SelView::read(&bytes);
+    let id = view.id();
+    let entry_type = view.entry_type();
+    let data = data_of(&view);
+    let text = format!(in alloc; "{id} {entry_type} {data:?}");
+    is_text(rt, text, wanted, line);
+}
+
+/// Asserts the bytes of an entry.
+fn has_bytes(rt: &impl Abort, alloc: Global, line: &str) {
+    let (digits, _) = parts(rt, line);
+    let bytes = <[u8; 16]>::from_hex(digits).expect(rt, "16 bytes");
+    let view = SelView::read(&bytes);
+    is_text(rt, hex::encode(alloc, view.bytes()), digits, line);
+}
+
+/// The view of an event.
+fn event_of<'a>(rt: &impl Abort, bytes: &'a [u8; 16]) -> EventEntry<'a> {
+    match SelView::read(bytes) {
+        SelView::Event(event) => event,
+        _ => panic!(rt; "no event"),
+    }
+}
+
+/// The view of an OEM entry with a time.
+fn oem_entry_of<'a>(rt: &impl Abort, bytes: &'a [u8; 16]) -> OemTimedEntry<'a> {
+    match SelView::read(bytes) {
+        SelView::OemTimed(entry) => entry,
+        _ => panic!(rt; "no OEM entry with a time"),
+    }
+}
+
+/// The time stamp, the generator, the revision, the type and number of the sensor, and the event type.
+fn numbers_of(event: &EventEntry<'_>) -> [u32; 6] {
+    [
+        event.time_stamp(),
+        event.generator() as u32,
+        event.revision() as u32,
+        event.sensor_type() as u32,
+        event.sensor_number() as u32,
+        event.event_type() as u32,
+    ]
+}
+
+#[test]
+fn each_entry_has_its_id_type_and_data(rt: HostRuntime) {
+    for line in ENTRIES.lines() {
+        has_fields(&rt, rt.alloc(), line);
+    }
+}
+
+#[test]
+fn each_entry_has_its_bytes(rt: HostRuntime) {
+    for line in ENTRIES.lines() {
+        has_bytes(&rt, rt.alloc(), line);
+    }
+}
+
+#[test]
+fn an_event_has_its_numbers(rt: HostRuntime) {
+    let numbers = numbers_of(&event_of(&rt, &EVENT));
+    assert!(rt;
+        numbers == [0x2000_0001, 0x20, 4, 1, 0x30, 1],
+        "got {numbers:?}"
+    );
+}
+
+#[test]
+fn an_event_with_bit_7_clear_is_asserted(rt: HostRuntime) {
+    assert!(rt; !event_of(&rt, &EVENT).is_deasserted());
+}
+
+#[test]
+fn an_oem_entry_has_its_time_and_manufacturer(rt: HostRuntime) {
+    let bytes = [3, 0, 0xc0, 4, 5, 6, 7, 0x57, 0x13, 8, 1, 2, 3, 4, 5, 6];
+    let entry = oem_entry_of(&rt, &bytes);
+    let got = (entry.time_stamp(), entry.manufacturer());
+    assert!(rt; got == (0x0706_0504, 0x08_1357), "got {got:?}");
+}

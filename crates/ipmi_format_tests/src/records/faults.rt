@@ -1,0 +1,123 @@
+//! Bytes that are no record, and the kinds of records: by their type, their length, and what their header says of it.
+use super::examples::{CPU_TEMP, with_byte};
+use crate::cases::{byte_of, bytes_of, parts};
+use ipmi_records::{SdrFault, SdrView};
+use std::alloc::Global;
+use std::process::Abort;
+
+/// Bytes, and the first fault that they have, or the kind of the record.
+const FAULTS: &str = "010051c0|short
+010051c001|length
+010051c00000|length
+0100510101|length
+0100510100|body short
+010099c000|other
+|short";
+
+/// The type of a record, the least length of one, and its kind.
+const LEAST_LENGTHS: &str = "01|48|full
+02|32|compact
+03|17|event-only
+10|16|generic
+11|16|FRU
+12|16|controller
+00|5|other
+04|5|other
+0f|5|other
+13|5|other
+c0|5|other
+ff|5|other";
+
+/// The kind of a record.
+fn kind_of_record(view: &SdrView<'_>) -> &'static str {
+    match view {
+        SdrView::Full(_) => "full",
+        SdrView::Compact(_) => "compact",
+        SdrView::EventOnly(_) => "event-only",
+        SdrView::Generic(_) => "generic",
+        SdrView::Fru(_) => "FRU",
+        SdrView::Controller(_) => "controller",
+        SdrView::Other(_) => "other",
+    }
+}
+
+/// The kind of the record that bytes are, or the fault that they have instead.
+fn kind_of(bytes: &[u8]) -> &'static str {
+    match SdrView::read(bytes) {
+        Ok(view) => kind_of_record(&view),
+        Err(SdrFault::Short) => "short",
+        Err(SdrFault::Length) => "length",
+        Err(SdrFault::BodyShort) => "body short",
+    }
+}
+
+/// Asserts the fault of bytes, or the kind of their record.
+fn has_fault(rt: &impl Abort, alloc: Global, line: &str) {
+    let (digits, wanted) = parts(rt, line);
+    let bytes = bytes_of(rt, alloc, digits);
+    let kind = kind_of(&bytes);
+    assert!(rt; kind == wanted, "{line}: got {kind}");
+}
+
+/// Asserts what the first bytes of a record are.
+fn is_kind_when_cut(rt: &impl Abort, record: &[u8; 56], len: usize, wanted: &str) {
+    let cut = record.get(..len).expect(rt, "that many bytes");
+    let kind = kind_of(cut);
+    assert!(rt; kind == wanted, "{len} bytes, {wanted}: got {kind}");
+}
+
+/// Asserts what the first bytes of a record are, where its header says that there are so many.
+fn is_kind_of_len(rt: &impl Abort, record: [u8; 56], len: u8, wanted: &str) {
+    let record = with_byte(rt, record, 5, len.wrapping_sub(5));
+    is_kind_when_cut(rt, &record, len as usize, wanted);
+}
+
+/// What the first bytes of the full record are.
+fn cut_record(len: usize) -> &'static str {
+    match len {
+        0..=4 => "short",
+        5..=55 => "length",
+        _ => "full",
+    }
+}
+
+/// Asserts the kind of a record of the least length, and that one byte less is too few.
+fn has_least_length(rt: &impl Abort, line: &str) {
+    let (kind, rest) = parts(rt, line);
+    let (least, wanted) = parts(rt, rest);
+    let least = least.parse::<u8>().expect(rt, "a length");
+    let record = with_byte(rt, CPU_TEMP, 4, byte_of(rt, kind));
+    is_kind_of_len(rt, record, least, wanted);
+    if least > 5 {
+        is_kind_of_len(rt, record, least - 1, "body short");
+    }
+}
+
+#[test]
+fn the_first_fault_is_found(rt: HostRuntime) {
+    for line in FAULTS.lines() {
+        has_fault(&rt, rt.alloc(), line);
+    }
+}
+
+#[test]
+fn a_record_that_is_cut_short_has_a_fault(rt: HostRuntime) {
+    for len in 0..57 {
+        is_kind_when_cut(&rt, &CPU_TEMP, len, cut_record(len));
+    }
+}
+
+#[test]
+fn a_full_record_has_48_bytes_or_more(rt: HostRuntime) {
+    for len in 5..57 {
+        let wanted = if len < 48 { "body short" } else { "full" };
+        is_kind_of_len(&rt, CPU_TEMP, len, wanted);
+    }
+}
+
+#[test]
+fn each_type_has_its_least_length(rt: HostRuntime) {
+    for line in LEAST_LENGTHS.lines() {
+        has_least_length(&rt, line);
+    }
+}

@@ -1,0 +1,9 @@
+//! Texts of fields, names, units, times and decimals: cases that were worked by hand or by another program, and each
+//! table written once more.
+mod decimals;
+mod fields;
+mod memory;
+mod names;
+mod products;
+mod times;
+mod units;

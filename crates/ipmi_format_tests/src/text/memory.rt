@@ -1,0 +1,39 @@
+//! Each call that makes a text, once: with ample memory, and with requests for memory refused.
+use crate::cases::{is_text, is_text_or_refused};
+use ipmi_text::{
+    Fixed, chassis_text, event_text, fixed_text, fru_text, minutes_text, sdr_text,
+    sensor_type_text, unit_text, utc_text,
+};
+use std::alloc::{AllocError, Global};
+
+/// Each call that takes memory, with the text that it has to give.
+fn calls_that_take_memory(alloc: Global) -> [(Result<String, AllocError>, &'static str); 10] {
+    [
+        (fru_text(alloc, 2, 0, b"\x29\xdc\xa6"), "IPMI"),
+        (fru_text(alloc, 3, 0, b"CPU"), "CPU"),
+        (sdr_text(alloc, 0x43, b"\x12\x3b"), "123"),
+        (fixed_text(alloc, Fixed(-15_000_000_000_000_000)), "-1.5"),
+        (unit_text(alloc, 0x18, 0x12, 0), "RPM per s"),
+        (sensor_type_text(alloc, 0x04), "Fan"),
+        (event_text(alloc, 0x01, 0x09), "Upper Critical going high"),
+        (chassis_text(alloc, 0x17), "Rack Mount Chassis"),
+        (utc_text(alloc, 0x22bb_5951), "1988-06-19 06:04:01"),
+        (minutes_text(alloc, 1), "1996-01-01 00:01"),
+    ]
+}
+
+/// With ample memory each of them answers with its text.
+#[test]
+fn always_out_of_memory(rt: HostRuntime) {
+    for (text, wanted) in calls_that_take_memory(rt.alloc()) {
+        is_text(&rt, text, wanted, wanted);
+    }
+}
+
+/// Where memory is refused, each of them answers with its text or with want of memory.
+#[test]
+fn memory_may_be_refused(rt: HostRuntime) {
+    for (text, wanted) in calls_that_take_memory(rt.alloc()) {
+        is_text_or_refused(&rt, text, wanted);
+    }
+}
