@@ -1,4 +1,4 @@
-use crate::words::{Word, Words};
+use ipmi_command_line::{Word, Words};
 use std::test::Fail;
 
 #[test]

@@ -1,6 +1,6 @@
-use super::controllers::Counting;
-use super::listed::{THREE_LINES, THREE_ROWS, listed};
-use super::run::{Left, answered, hex};
+use crate::controllers::Counting;
+use crate::commands::listed::{THREE_LINES, THREE_ROWS, listed};
+use crate::commands::run::{Left, answered, hex};
 use ipmi_image::{Image, ImageController};
 use std::fmt::Write;
 use std::process::Abort;

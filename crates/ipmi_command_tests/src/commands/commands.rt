@@ -1,6 +1,6 @@
 //! Commands over images, what they print and how many calls they make.
-use super::command::read_line;
-use super::listed::{Left, left_by, scripted};
+use crate::command_line::command::read_line;
+use crate::commands::listed::{Left, left_by, scripted};
 use std::alloc::Global;
 use std::process::Abort;
 use std::test::Fail;

@@ -1,9 +1,9 @@
-use super::controllers::Counting;
-use super::listed::{THREE_LINES, THREE_ROWS};
-use super::writers::{Full, Limited, Narrow, Slow};
-use crate::command::{Command, Task, UsageFault};
-use crate::run::{answer, run, run_to_message_sink};
-use crate::sink::Written;
+use crate::controllers::Counting;
+use crate::commands::listed::{THREE_LINES, THREE_ROWS};
+use crate::writers::{Full, Limited, Narrow, Slow};
+use ipmi_command_line::{Command, Task, UsageFault};
+use ipmi_commands::{answer, run, run_to_message_sink};
+use ipmi_output::Written;
 use ipmi_bus::Shelf;
 use ipmi_image::{Image, ImageController};
 use std::alloc::Global;

@@ -1,10 +1,10 @@
 //! Images written again.
-use super::listed::THREE_ROWS;
-use super::run::answered;
-use super::writers::Limited;
-use crate::command::{Command, Task};
-use crate::run::answer;
-use crate::sink::Written;
+use crate::commands::listed::THREE_ROWS;
+use crate::commands::run::answered;
+use crate::writers::Limited;
+use ipmi_command_line::{Command, Task};
+use ipmi_commands::answer;
+use ipmi_output::Written;
 
 fn rewrite() -> Command {
     Command::new(Task::Rewrite, None, 32, 5, None)

@@ -1,4 +1,4 @@
-use super::listed::{Left, THREE_LINES, THREE_ROWS, listed, scripted};
+use crate::commands::listed::{Left, THREE_LINES, THREE_ROWS, listed, scripted};
 use std::alloc::Global;
 use std::test::Fail;
 

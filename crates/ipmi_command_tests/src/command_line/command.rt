@@ -1,7 +1,7 @@
-use super::listed::{THREE_LINES, THREE_ROWS};
-use super::run::answered;
-use crate::command::{Command, Count, Kind, Task, UsageFault, command_of};
-use crate::words::{Word, Words};
+use crate::commands::listed::{THREE_LINES, THREE_ROWS};
+use crate::commands::run::answered;
+use ipmi_command_line::{Command, Count, Kind, Task, UsageFault, command_of};
+use ipmi_command_line::{Word, Words};
 use ipmi_bus::Shelf;
 use std::alloc::{AllocError, Global};
 use std::process::Abort;

@@ -2,12 +2,12 @@
 ghost use Rattle.std.specs.Prelude.{◌≡◌, true};
 ghost use Rattle.ipmitool.specs.Command.{IsTask, is_listing};
 
-use super::commands::{LOG, LOG_LINES, SENSOR_AND_LOCATOR, SENSOR_AND_LOCATOR_LINES};
-use super::controllers::{Counting, Endless};
-use super::listed::{Left, THREE_LINES, THREE_ROWS, listed};
-use crate::command::{Command, Count, Kind, Task};
-use crate::run::run_pages;
-use crate::sink::Written;
+use crate::commands::commands::{LOG, LOG_LINES, SENSOR_AND_LOCATOR, SENSOR_AND_LOCATOR_LINES};
+use crate::controllers::{Counting, Endless};
+use crate::commands::listed::{Left, THREE_LINES, THREE_ROWS, listed};
+use ipmi_command_line::{Command, Count, Kind, Task};
+use ipmi_commands::run_pages;
+use ipmi_output::Written;
 use ipmi_image::{Image, ImageController, ImageFault, Mood, Scripted};
 use std::alloc::Global;
 use std::test::Fail;

@@ -1,8 +1,8 @@
 //! An image of three records, and what a command over a controller leaves.
-use super::controllers::Counting;
-use crate::command::{Command, Task};
-use crate::run::run;
-use crate::sink::Written;
+use crate::controllers::Counting;
+use ipmi_command_line::{Command, Task};
+use ipmi_commands::run;
+use ipmi_output::Written;
 use ipmi_bus::{Code, Controller};
 use ipmi_image::{Image, Mood, Scripted};
 use std::alloc::{AllocError, Global};

@@ -1,0 +1,3 @@
+//! 
+pub(crate) mod command;
+pub(crate) mod words;

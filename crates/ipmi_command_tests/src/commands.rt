@@ -1,0 +1,9 @@
+//! 
+pub(crate) mod commands;
+pub(crate) mod images;
+pub(crate) mod line;
+pub(crate) mod listed;
+pub(crate) mod pages;
+pub(crate) mod rewrite;
+pub(crate) mod run;
+pub(crate) mod scripted;
