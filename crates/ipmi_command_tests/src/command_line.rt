@@ -1,3 +1,3 @@
-//! 
+//! Command lines.
 pub(crate) mod command;
 pub(crate) mod words;

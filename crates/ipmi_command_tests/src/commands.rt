@@ -1,7 +1,6 @@
-//! 
+//! Commands.
 pub(crate) mod commands;
 pub(crate) mod images;
-pub(crate) mod line;
 pub(crate) mod listed;
 pub(crate) mod pages;
 pub(crate) mod rewrite;

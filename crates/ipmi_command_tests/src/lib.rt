@@ -2,14 +2,10 @@
 #![tactic(auto)]
 
 #[cfg(test)]
-mod bus;
-#[cfg(test)]
 mod command_line;
 #[cfg(test)]
 mod commands;
 #[cfg(test)]
 mod controllers;
-#[cfg(test)]
-mod output;
 #[cfg(test)]
 mod writers;

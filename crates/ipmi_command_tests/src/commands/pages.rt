@@ -1,6 +1,6 @@
 //! Listings in pages.
 ghost use Rattle.std.specs.Prelude.{◌≡◌, true};
-ghost use Rattle.ipmitool.specs.Command.{IsTask, is_listing};
+ghost use Rattle.ipmi_command_line.specs.Command.{IsTask, is_listing};
 
 use crate::commands::commands::{LOG, LOG_LINES, SENSOR_AND_LOCATOR, SENSOR_AND_LOCATOR_LINES};
 use crate::controllers::{Counting, Endless};
