@@ -1,3 +1,6 @@
-//! Command lines.
-pub(crate) mod command;
-pub(crate) mod words;
+//! Command lines: the tasks that words name, options, and faults.
+mod faults;
+pub(crate) mod lines;
+mod options;
+mod tasks;
+mod words;

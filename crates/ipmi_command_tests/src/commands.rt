@@ -1,8 +1,11 @@
-//! Commands.
-pub(crate) mod commands;
-pub(crate) mod images;
-pub(crate) mod listed;
-pub(crate) mod pages;
-pub(crate) mod rewrite;
-pub(crate) mod run;
-pub(crate) mod scripted;
+//! Commands over controllers and saved images: what they print, how they end, and how many calls they make.
+mod images;
+mod left;
+mod long_listings;
+mod moods;
+mod outcomes;
+mod pages;
+mod printed;
+mod saved;
+mod scripts;
+mod short_outputs;
