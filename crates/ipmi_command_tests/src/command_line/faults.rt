@@ -211,8 +211,7 @@ sel get 0 --tries 256
 const SEVERAL_OPTIONS: &str = "--from 0000 --part 0 --tries 256 sdr hex
 --from 0000 sel info";
 
-// What the options and words cannot be told apart in comes before words that name no command, and these before an
-// option that does not fit.
+// That a line cannot be read comes before words that name no command, and these before an option that does not fit.
 #[test]
 fn the_first_fault_counts(rt: HostRuntime) {
     all_fail(&rt, rt.alloc(), UNREADABLE_WITH_OTHERS, UsageFault::Line);

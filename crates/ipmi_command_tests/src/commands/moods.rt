@@ -1,7 +1,7 @@
 //! Listings of three records whose calls meet moods: troubles, refusals, short parts and changes.
 use super::left::{Left, left_by, text_of};
+use super::over_images::scripted;
 use super::saved::{CHANGED_LINES, THREE_LINES, THREE_ROWS};
-use super::scripts::scripted;
 use crate::command_line::lines::command;
 use std::alloc::Global;
 use std::process::Abort;
@@ -22,11 +22,17 @@ fn numbers_text(rt: &impl Abort, alloc: Global, left: &Left) -> String {
     format!(in alloc; "{status} {calls} {len}|{err}").expect(rt, "memory")
 }
 
-/// Asserts that these numbers and messages were left, and no other bytes than the first ones of these lines.
+/// The text with a line feed after its message, which is after a bar, where there is one.
+fn with_line_feed(rt: &impl Abort, alloc: Global, text: &str) -> String {
+    let end = if text.ends_with('|') { "" } else { "\n" };
+    format!(in alloc; "{text}{end}").expect(rt, "memory")
+}
+
+/// Asserts that these numbers and this message were left, and no other bytes than the first ones of these lines.
 fn is_left_of(rt: &impl Abort, alloc: Global, left: &Left, lines: &str, wanted: &str, case: &str) {
+    let wanted = with_line_feed(rt, alloc, wanted);
     let got = numbers_text(rt, alloc, left);
-    let said = got.as_str().strip_suffix('\n').unwrap_or(got.as_str());
-    assert!(rt; said == wanted, "{case}: got {got}");
+    assert!(rt; got.as_str() == wanted.as_str(), "{case}: got {got}");
     assert!(rt; lines.as_bytes().starts_with(&left.out), "{case}: output");
 }
 

@@ -1,19 +1,13 @@
 //! The outcomes of runs and of answers: the status, the messages and the output, and how many calls are made.
-use super::left::{is_answered, is_left, left_by, words_are_answered};
+use super::answers::{is_answered, words_are_answered};
+use super::left::{is_left, left_by};
+use super::over_images::over;
 use super::saved::THREE_ROWS;
-use super::scripts::image_of;
 use crate::command_line::lines::command;
-use crate::controllers::Counting;
 use ipmi_bus::Shelf;
 use ipmi_command_line::{Command, Task, UsageFault};
-use ipmi_image::ImageController;
 use std::alloc::Global;
 use std::process::Abort;
-
-/// A controller over the image.
-pub(super) fn over(rt: &impl Abort, alloc: Global, image: &str) -> Counting<ImageController> {
-    Counting::new(ImageController::new(image_of(rt, alloc, image)))
-}
 
 /// Asserts what the words in the first line of a case leave over three records: the rest of the case.
 fn leaves(rt: &impl Abort, alloc: Global, case: &str) {

@@ -3,9 +3,8 @@ ghost use Rattle.std.specs.Prelude.{◌≡◌, true};
 ghost use Rattle.ipmi_command_line.specs.Command.{is_listing};
 
 use super::left::{Left, is_left};
-use super::outcomes::over;
+use super::over_images::{over, scripted};
 use super::saved::{THREE_LINES, THREE_ROWS, image_named};
-use super::scripts::scripted;
 use crate::command_line::lines::command;
 use crate::controllers::Counting;
 use ipmi_bus::Controller;

@@ -1,7 +1,7 @@
 //! What commands print over a saved image, and how many calls they make.
 use super::left::{is_left, left_by};
+use super::over_images::scripted;
 use super::saved::image_named;
-use super::scripts::scripted;
 use crate::command_line::lines::command;
 use std::alloc::Global;
 use std::process::Abort;

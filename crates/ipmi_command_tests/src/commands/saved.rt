@@ -2,7 +2,7 @@
 use std::process::Abort;
 
 /// Three records, of 27, 29 and 25 bytes as lines.
-pub(crate) const THREE_ROWS: &str = "ipmi-image 1
+pub(super) const THREE_ROWS: &str = "ipmi-image 1
 sdr 0001 0002 010051c001aa
 sdr 0002 0003 020051c002bbcc
 sdr 0003 ffff 030051c000
@@ -10,13 +10,13 @@ end
 ";
 
 /// The lines of the three records.
-pub(crate) const THREE_LINES: &str = "sdr 0001 0002 010051c001aa
+pub(super) const THREE_LINES: &str = "sdr 0001 0002 010051c001aa
 sdr 0002 0003 020051c002bbcc
 sdr 0003 ffff 030051c000
 ";
 
 /// The three records with another second one, as long as the first one.
-pub(crate) const CHANGED_ROWS: &str = "ipmi-image 1
+pub(super) const CHANGED_ROWS: &str = "ipmi-image 1
 sdr 0001 0002 010051c001aa
 sdr 0002 0003 020051c102ddee
 sdr 0003 ffff 030051c000
@@ -24,33 +24,25 @@ end
 ";
 
 /// The lines of the changed records.
-pub(crate) const CHANGED_LINES: &str = "sdr 0001 0002 010051c001aa
+pub(super) const CHANGED_LINES: &str = "sdr 0001 0002 010051c001aa
 sdr 0002 0003 020051c102ddee
 sdr 0003 ffff 030051c000
 ";
 
 /// An image of nothing.
-pub(crate) const EMPTY: &str = "ipmi-image 1
+pub(super) const EMPTY: &str = "ipmi-image 1
 end
 ";
 
 /// An image of one record, whose next id no record has.
-pub(crate) const TO_NOWHERE: &str = "ipmi-image 1
+pub(super) const TO_NOWHERE: &str = "ipmi-image 1
 sdr 0001 0009 010051c000
 end
 ";
 
-/// Images, each after its name, with a line of dashes after each:
-///
-/// - a full sensor record with its reading, and without it
-/// - a full sensor record and a FRU device locator, and the locator first
-/// - a full sensor record that is too short, and a locator
-/// - three entries of the event log
-/// - the same, and the last one has a next id, which no entry has
-/// - two entries, each with the other one's id as its next id
-/// - two records, each with the other one's id as its next id
-/// - a record whose next id is 0000h
-/// - records whose ids have leading zeros, and one that is written in upper case
+/// Images, each after a line with its name, with a line of dashes after each. The sensors are full sensor records, and
+/// the locators are those of FRU devices; the fault is a full sensor record that is too short. In a cycle the next id of
+/// each row is the other one's, and nowhere is the next id that no row has.
 const IMAGES: &str = "sensor
 ipmi-image 1
 sdr 0001 ffff 010051013320000103017f680101000000003838000100000100000000000000000000005f5a550000000202000000c84350552054656d70
@@ -139,7 +131,7 @@ fn image_among(rt: &impl Abort, name: &str) -> &'static str {
 }
 
 /// The image with this name: one of `IMAGES`, `three` or `empty`.
-pub(crate) fn image_named(rt: &impl Abort, name: &str) -> &'static str {
+pub(super) fn image_named(rt: &impl Abort, name: &str) -> &'static str {
     match name {
         "three" => THREE_ROWS,
         "empty" => EMPTY,

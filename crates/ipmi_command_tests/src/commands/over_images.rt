@@ -1,14 +1,19 @@
-//! Controllers over an image whose calls meet moods, each written as a letter.
+//! Controllers over saved images: plain ones, and those whose calls meet moods, each of which is written as a letter.
 use super::saved::{CHANGED_ROWS, EMPTY};
 use crate::controllers::Counting;
 use ipmi_bus::Code;
-use ipmi_image::{Image, Mood, Scripted};
+use ipmi_image::{Image, ImageController, Mood, Scripted};
 use std::alloc::Global;
 use std::process::Abort;
 
 /// The image of a text.
 pub(super) fn image_of(rt: &impl Abort, alloc: Global, text: &str) -> Image {
     Image::read(alloc, text.as_bytes()).expect(rt, "an image")
+}
+
+/// A controller over the image.
+pub(super) fn over(rt: &impl Abort, alloc: Global, image: &str) -> Counting<ImageController> {
+    Counting::new(ImageController::new(image_of(rt, alloc, image)))
 }
 
 /// The mood that a letter means. A dot grants all, `1` one byte; `N` changes the second record, and `E` leaves none.
