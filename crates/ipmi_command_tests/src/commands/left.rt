@@ -54,3 +54,18 @@ pub(super) fn is_left(rt: &impl Abort, alloc: Global, left: &Left, wanted: &str,
     let got = left_text(rt, alloc, left);
     assert!(rt; got.as_str() == wanted, "{case}: got {got}");
 }
+
+/// What was left as a text: the status, the number of calls and the number of bytes, then a bar and the messages.
+fn numbers_text(rt: &impl Abort, alloc: Global, left: &Left) -> String {
+    let status = left.status;
+    let calls = left.calls;
+    let len = left.out.len();
+    let err = text_of(rt, &left.err);
+    format!(in alloc; "{status} {calls} {len}|{err}").expect(rt, "memory")
+}
+
+/// Asserts that these numbers and these messages were left, in the form of `numbers_text`.
+pub(super) fn has_numbers(rt: &impl Abort, alloc: Global, left: &Left, wanted: &str, case: &str) {
+    let got = numbers_text(rt, alloc, left);
+    assert!(rt; got.as_str() == wanted, "{case}: got {got}");
+}

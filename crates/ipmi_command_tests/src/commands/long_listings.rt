@@ -1,5 +1,5 @@
 //! Listings of as many records as there are ids.
-use super::left::{Left, left_by};
+use super::left::{has_numbers, left_by};
 use super::over_images::over;
 use crate::command_line::lines::command;
 use crate::controllers::{Counting, Endless};
@@ -34,31 +34,23 @@ fn rising_lines(rt: &impl Abort, alloc: Global) -> String {
     lines
 }
 
-/// Asserts that a listing ended well, with so many bytes of output and so many calls.
-fn has_ended(rt: &impl Abort, left: &Left, len: usize, calls: u32) {
-    assert!(rt; left.status == 0);
-    assert!(rt; left.err.is_empty());
-    assert!(rt; left.calls == calls);
-    assert!(rt; left.out.len() == len);
-}
-
-// Each line has 25 bytes.
+// 65,534 lines of 25 bytes each.
 #[test]
 fn there_may_be_as_many_rows_as_there_are_ids(rt: HostRuntime) {
     let image = falling_image(&rt, rt.alloc());
     let ctl = over(&rt, rt.alloc(), image.as_str());
     let left = left_by(rt.alloc(), ctl, &command(&rt, rt.alloc(), "sdr hex"));
-    has_ended(&rt, &left, 65_534 * 25, 65_535);
+    has_numbers(&rt, rt.alloc(), &left, "0 65535 1638350|", "rows");
     let lines = rising_lines(&rt, rt.alloc());
     assert!(rt; left.out.as_slice() == lines.as_bytes());
 }
 
-// A line for each id from 0000 to fffe, of 25 bytes: `sdr IIII NNNN `, ten digits and a line feed.
+// 65,535 lines, one for each id from 0000 to fffe, of 25 bytes each: `sdr IIII NNNN `, ten digits and a line feed.
 #[test]
 fn a_listing_without_a_last_record_ends(rt: HostRuntime) {
     let hex = command(&rt, rt.alloc(), "sdr hex");
     let left = left_by(rt.alloc(), Counting::new(Endless::new()), &hex);
-    has_ended(&rt, &left, 65_535 * 25, 65_536);
+    has_numbers(&rt, rt.alloc(), &left, "0 65536 1638375|", "endless");
     assert!(rt; left.out.starts_with(b"sdr 0000 0001 000051c000\n"));
     assert!(rt; left.out.ends_with(b"sdr fffe ffff feff51c000\n"));
 }

@@ -1,5 +1,5 @@
 //! Listings of three records whose calls meet moods: troubles, refusals, short parts and changes.
-use super::left::{Left, left_by, text_of};
+use super::left::{Left, has_numbers, left_by};
 use super::over_images::scripted;
 use super::saved::{CHANGED_LINES, THREE_LINES, THREE_ROWS};
 use crate::command_line::lines::command;
@@ -13,15 +13,6 @@ fn met(rt: &impl Abort, alloc: Global, tries: &str, moods: &str) -> Left {
     left_by(alloc, ctl, &command(rt, alloc, words.as_str()))
 }
 
-/// What was left as a text: the status, the number of calls and the number of bytes, then a bar and the messages.
-fn numbers_text(rt: &impl Abort, alloc: Global, left: &Left) -> String {
-    let status = left.status;
-    let calls = left.calls;
-    let len = left.out.len();
-    let err = text_of(rt, &left.err);
-    format!(in alloc; "{status} {calls} {len}|{err}").expect(rt, "memory")
-}
-
 /// The text with a line feed after its message, which is after a bar, where there is one.
 fn with_line_feed(rt: &impl Abort, alloc: Global, text: &str) -> String {
     let end = if text.ends_with('|') { "" } else { "\n" };
@@ -31,8 +22,7 @@ fn with_line_feed(rt: &impl Abort, alloc: Global, text: &str) -> String {
 /// Asserts that these numbers and this message were left, and no other bytes than the first ones of these lines.
 fn is_left_of(rt: &impl Abort, alloc: Global, left: &Left, lines: &str, wanted: &str, case: &str) {
     let wanted = with_line_feed(rt, alloc, wanted);
-    let got = numbers_text(rt, alloc, left);
-    assert!(rt; got.as_str() == wanted.as_str(), "{case}: got {got}");
+    has_numbers(rt, alloc, left, wanted.as_str(), case);
     assert!(rt; lines.as_bytes().starts_with(&left.out), "{case}: output");
 }
 

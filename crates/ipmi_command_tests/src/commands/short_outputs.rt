@@ -115,22 +115,22 @@ fn a_fault_of_the_messages_changes_nothing(rt: HostRuntime) {
     is_answer(&rt, rt.alloc(), &left, wanted, "no message");
 }
 
-#[test]
-fn messages_go_to_a_sink_that_counts_its_faults(rt: HostRuntime) {
-    let hex = command(&rt, rt.alloc(), "sdr hex");
-    let mut ctl = ImageController::new(image_of(&rt, rt.alloc(), TO_NOWHERE));
-    let mut out = Written::new(Vec::new(rt.alloc()));
-    let got = Vec::new(rt.alloc());
+/// What a listing over `TO_NOWHERE` leaves whose messages go to a slow writer that is a sink.
+fn left_with_slow_messages(rt: &impl Abort, alloc: Global) -> Answered {
+    let hex = command(rt, alloc, "sdr hex");
+    let mut ctl = ImageController::new(image_of(rt, alloc, TO_NOWHERE));
+    let mut out = Written::new(Vec::new(alloc));
+    let got = Vec::new(alloc);
     let mut err = Written::new(Slow { got });
-    let status = run_to_message_sink(rt.alloc(), &mut ctl, &hex, &mut out, &mut err);
+    let status = run_to_message_sink(alloc, &mut ctl, &hex, &mut out, &mut err);
     let out = out.into_inner();
     let err = err.into_inner().got;
+    Answered { out, err, status }
+}
+
+#[test]
+fn messages_go_to_a_sink_that_counts_its_faults(rt: HostRuntime) {
+    let left = left_with_slow_messages(&rt, rt.alloc());
     let wanted = "1\nrecord 0009h not present\n--\nsdr 0001 0009 010051c000\n";
-    is_answer(
-        &rt,
-        rt.alloc(),
-        &Answered { out, err, status },
-        wanted,
-        "slow",
-    );
+    is_answer(&rt, rt.alloc(), &left, wanted, "slow messages");
 }
