@@ -21,8 +21,8 @@ pub(super) fn left_by_answer(
     line: &Result<Command, UsageFault>,
     image: &[u8],
 ) -> Answered {
-    let mut out = Written::new(Vec::new(alloc));
     let mut err = Vec::new(alloc);
+    let mut out = Written::new(Vec::new(alloc));
     let status = answer(alloc, line, image, &mut out, &mut err);
     Answered {
         out: out.into_inner(),

@@ -1,5 +1,5 @@
 //! Listings of as many records as there are ids.
-use super::left::{has_numbers, left_by};
+use super::left::{Left, has_numbers, left_by};
 use super::over_images::over;
 use crate::command_line::lines::command;
 use crate::controllers::{Counting, Endless};
@@ -34,22 +34,34 @@ fn rising_lines(rt: &impl Abort, alloc: Global) -> String {
     lines
 }
 
+/// What a listing of the image in hex leaves.
+fn left_over(rt: &impl Abort, alloc: Global, image: &str) -> Left {
+    left_by(
+        alloc,
+        over(rt, alloc, image),
+        &command(rt, alloc, "sdr hex"),
+    )
+}
+
 // 65,534 lines of 25 bytes each.
 #[test]
 fn there_may_be_as_many_rows_as_there_are_ids(rt: HostRuntime) {
-    let image = falling_image(&rt, rt.alloc());
-    let ctl = over(&rt, rt.alloc(), image.as_str());
-    let left = left_by(rt.alloc(), ctl, &command(&rt, rt.alloc(), "sdr hex"));
+    let left = left_over(&rt, rt.alloc(), falling_image(&rt, rt.alloc()).as_str());
     has_numbers(&rt, rt.alloc(), &left, "0 65535 1638350|", "rows");
-    let lines = rising_lines(&rt, rt.alloc());
-    assert!(rt; left.out.as_slice() == lines.as_bytes());
+    let is_rising = left.out.as_slice() == rising_lines(&rt, rt.alloc()).as_bytes();
+    assert!(rt; is_rising);
+}
+
+/// What a listing of records without a last one leaves.
+fn left_endless(rt: &impl Abort, alloc: Global) -> Left {
+    let ctl = Counting::new(Endless::new());
+    left_by(alloc, ctl, &command(rt, alloc, "sdr hex"))
 }
 
 // 65,535 lines, one for each id from 0000 to fffe, of 25 bytes each: `sdr IIII NNNN `, ten digits and a line feed.
 #[test]
 fn a_listing_without_a_last_record_ends(rt: HostRuntime) {
-    let hex = command(&rt, rt.alloc(), "sdr hex");
-    let left = left_by(rt.alloc(), Counting::new(Endless::new()), &hex);
+    let left = left_endless(&rt, rt.alloc());
     has_numbers(&rt, rt.alloc(), &left, "0 65536 1638375|", "endless");
     assert!(rt; left.out.starts_with(b"sdr 0000 0001 000051c000\n"));
     assert!(rt; left.out.ends_with(b"sdr fffe ffff feff51c000\n"));

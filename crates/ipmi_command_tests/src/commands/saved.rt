@@ -114,8 +114,8 @@ end
 --
 ";
 
-/// The image with this name, and nothing where it has another.
-fn image_of<'a>(rt: &impl Abort, image: &'a str, name: &str) -> Option<&'a str> {
+/// The text of an image that has this name, and nothing where it has another.
+fn text_if_named<'a>(rt: &impl Abort, image: &'a str, name: &str) -> Option<&'a str> {
     let (first, text) = image.split_once('\n').expect(rt, "a name");
     if first == name { Some(text) } else { None }
 }
@@ -123,7 +123,7 @@ fn image_of<'a>(rt: &impl Abort, image: &'a str, name: &str) -> Option<&'a str> 
 /// The image among `IMAGES` that has this name.
 fn image_among(rt: &impl Abort, name: &str) -> &'static str {
     for image in IMAGES.split_terminator("--\n") {
-        if let Some(text) = image_of(rt, image, name) {
+        if let Some(text) = text_if_named(rt, image, name) {
             return text;
         }
     }
