@@ -86,7 +86,7 @@ const EDGES: &str = "--from 0001|Some(1) 32 5 -
 --tries 255|None 32 255 -";
 
 #[test]
-fn options_at_the_edges_of_their_ranges(rt: HostRuntime) {
+fn options_reach_the_edges_of_their_ranges(rt: HostRuntime) {
     are_hex(&rt, rt.alloc(), EDGES);
 }
 

@@ -36,7 +36,7 @@ fru print 0xFE|Fru(Some(254))
 fru print 0x00fE|Fru(Some(254))";
 
 #[test]
-fn inventories(rt: HostRuntime) {
+fn fru_is_one_inventory_or_every_one(rt: HostRuntime) {
     are_plain(&rt, rt.alloc(), INVENTORIES);
 }
 
@@ -60,7 +60,7 @@ sdr elist fru|Elist(Fru)
 sdr info|Info(Sdr)";
 
 #[test]
-fn sensor_data_records(rt: HostRuntime) {
+fn sdr_lists_records_of_a_kind(rt: HostRuntime) {
     are_plain(&rt, rt.alloc(), SENSOR_DATA_RECORDS);
 }
 
@@ -100,7 +100,7 @@ sel get 0xfffe|SelGet(65534)
 sel get 0xFFFE|SelGet(65534)";
 
 #[test]
-fn the_event_log(rt: HostRuntime) {
+fn sel_is_info_or_one_entry(rt: HostRuntime) {
     are_plain(&rt, rt.alloc(), EVENT_LOG);
 }
 
@@ -124,12 +124,12 @@ sel list last 0xFFFF|SelList(Last(65535))";
 
 // A count of 0 is no count.
 #[test]
-fn counts_of_entries(rt: HostRuntime) {
+fn sel_lists_the_oldest_or_the_newest_entries(rt: HostRuntime) {
     are_plain(&rt, rt.alloc(), COUNTS);
 }
 
 #[test]
-fn image_rewrite(rt: HostRuntime) {
+fn image_rewrite_is_a_task(rt: HostRuntime) {
     is_plain(&rt, rt.alloc(), "image rewrite|Rewrite");
 }
 
