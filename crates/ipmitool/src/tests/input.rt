@@ -1,4 +1,4 @@
-use crate::command::UsageFault;
+use ipmi_command_line::UsageFault;
 use crate::input::words_of;
 use std::env::{Env, FillError};
 use std::test::Fail;

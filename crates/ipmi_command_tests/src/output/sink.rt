@@ -1,5 +1,5 @@
-use super::writers::{Idle, Limited, Slow};
-use crate::sink::{Sink, SinkFault, Written, write_all};
+use crate::writers::{Idle, Limited, Slow};
+use ipmi_output::{Sink, SinkFault, Written, write_all};
 use std::test::Fail;
 
 const LINE: &[u8] = b"sdr 0001 0002 010051c001aa\n";

@@ -1,5 +1,5 @@
-use super::controllers::{Counting, Endless};
-use super::listed::{Left, THREE_LINES, THREE_ROWS, listed};
+use crate::controllers::{Counting, Endless};
+use crate::commands::listed::{Left, THREE_LINES, THREE_ROWS, listed};
 use ipmi_bus::{Cursor, Place, Shelf};
 use ipmi_image::{Image, ImageController};
 use std::alloc::Global;

@@ -1,4 +1,4 @@
-use super::controllers::{Replay, Reply};
+use crate::controllers::{Replay, Reply};
 use ipmi_bus::{Code, Ended, FruEnded, FruSize, Shelf, read_fru, read_info, read_reading};
 use ipmi_text::Reading;
 use std::test::Fail;

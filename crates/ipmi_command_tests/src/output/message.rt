@@ -1,7 +1,7 @@
-use super::writers::{Full, Idle, Limited, Slow};
-use crate::message::{Message, say, write_message};
-use crate::message_sink::MessageSink;
-use crate::sink::{SinkFault, Written};
+use crate::writers::{Full, Idle, Limited, Slow};
+use ipmi_output::{Message, say, write_message};
+use ipmi_output::MessageSink;
+use ipmi_output::{SinkFault, Written};
 use ipmi_bus::{Code, Ended};
 use ipmi_image::ImageFault;
 

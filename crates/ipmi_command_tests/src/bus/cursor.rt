@@ -1,7 +1,7 @@
-use super::controllers::{Counting, Replay, Reply};
-use crate::command::{Command, Task};
-use crate::run::run;
-use crate::sink::Written;
+use crate::controllers::{Counting, Replay, Reply};
+use ipmi_command_line::{Command, Task};
+use ipmi_commands::run;
+use ipmi_output::Written;
 use ipmi_bus::{Code, CodeClass, Cursor, Ended, Event, Place, Shelf, Tally};
 use ipmi_image::{Image, ImageController};
 use std::test::Fail;

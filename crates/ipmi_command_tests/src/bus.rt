@@ -1,0 +1,4 @@
+//! 
+pub(crate) mod cursor;
+pub(crate) mod interrupted;
+pub(crate) mod readers;

@@ -1,0 +1,6 @@
+//! Command lines: the tasks that words name, options, and faults.
+mod faults;
+pub(crate) mod lines;
+mod options;
+mod tasks;
+mod words;

@@ -1,0 +1,49 @@
+//! Command lines as they are written in tests.
+use ipmi_command_line::{Command, UsageFault, Words, command_of};
+use std::alloc::Global;
+use std::process::Abort;
+use std::str::SplitWhitespace;
+
+/// A line of the program's name.
+fn name_only(rt: &impl Abort, alloc: Global) -> Words {
+    let mut words = Words::new(alloc);
+    words.push("ipmitool").expect(rt, "memory");
+    words
+}
+
+/// The command of these words, which begin with the program's name.
+pub(crate) fn command_of_words(
+    rt: &impl Abort,
+    alloc: Global,
+    words: &Words,
+) -> Result<Command, UsageFault> {
+    assert!(rt; 0 < words.as_slice().len());
+    command_of(alloc, words)
+}
+
+/// The command of a line with all these words, which are split at spaces.
+pub(crate) fn read_line(rt: &impl Abort, alloc: Global, line: &str) -> Result<Command, UsageFault> {
+    let mut words = name_only(rt, alloc);
+    for word in line.split_whitespace() {
+        words.push(word).expect(rt, "memory");
+    }
+    command_of_words(rt, alloc, &words)
+}
+
+/// The command of a line with all these words, which are split at commas.
+pub(crate) fn read_words(
+    rt: &impl Abort,
+    alloc: Global,
+    line: &str,
+) -> Result<Command, UsageFault> {
+    let mut words = name_only(rt, alloc);
+    for word in line.split(',') {
+        words.push(word).expect(rt, "memory");
+    }
+    command_of_words(rt, alloc, &words)
+}
+
+/// The command that these words are, which are split at spaces.
+pub(crate) fn command(rt: &impl Abort, alloc: Global, line: &str) -> Command {
+    read_line(rt, alloc, line).expect(rt, "a command")
+}

@@ -1,0 +1,165 @@
+//! The task that the words of a command line name.
+use super::lines::{command, read_words};
+use super::options::is_task;
+use std::alloc::Global;
+use std::process::Abort;
+
+/// Asserts that the words of a line, before its bar, are this task with no option.
+fn is_plain(rt: &impl Abort, alloc: Global, case: &str) {
+    let (words, task) = case.split_once('|').expect(rt, "a bar");
+    is_task(rt, alloc, &command(rt, alloc, words), task, case);
+}
+
+/// The same for each of these lines.
+fn are_plain(rt: &impl Abort, alloc: Global, cases: &str) {
+    for case in cases.lines() {
+        is_plain(rt, alloc, case);
+    }
+}
+
+const BARE: &str = "|Hex
+sdr hex|Hex";
+
+#[test]
+fn no_words_are_sdr_hex(rt: HostRuntime) {
+    are_plain(&rt, rt.alloc(), BARE);
+}
+
+const INVENTORIES: &str = "fru|Fru(None)
+fru print|Fru(None)
+fru print 0|Fru(Some(0))
+fru print 0x0|Fru(Some(0))
+fru print 0x0000|Fru(Some(0))
+fru print 254|Fru(Some(254))
+fru print 0xfe|Fru(Some(254))
+fru print 0xFE|Fru(Some(254))
+fru print 0x00fE|Fru(Some(254))";
+
+#[test]
+fn fru_is_one_inventory_or_every_one(rt: HostRuntime) {
+    are_plain(&rt, rt.alloc(), INVENTORIES);
+}
+
+const SENSOR_DATA_RECORDS: &str = "sdr|List(Sensors)
+sdr list|List(Sensors)
+sdr elist|Elist(Sensors)
+sdr list all|List(All)
+sdr elist all|Elist(All)
+sdr list full|List(Full)
+sdr elist full|Elist(Full)
+sdr list compact|List(Compact)
+sdr elist compact|Elist(Compact)
+sdr list event|List(Event)
+sdr elist event|Elist(Event)
+sdr list generic|List(Generic)
+sdr elist generic|Elist(Generic)
+sdr list mclocator|List(Mc)
+sdr elist mclocator|Elist(Mc)
+sdr list fru|List(Fru)
+sdr elist fru|Elist(Fru)
+sdr info|Info(Sdr)";
+
+#[test]
+fn sdr_lists_records_of_a_kind(rt: HostRuntime) {
+    are_plain(&rt, rt.alloc(), SENSOR_DATA_RECORDS);
+}
+
+const NAMES: &str = "sdr,get,CPU Temp|Get(CPU Temp)
+sdr,get,|Get()
+sdr,get,list|Get(list)
+sdr,get,Größe|Get(Größe)
+sdr,get,0|Get(0)
+sdr,get,-|Get(-)
+sdr,get,a=b|Get(a=b)
+sdr,get,--,--part|Get(--part)";
+
+/// Asserts that the words of a line, which are split at commas, are this task with no option.
+fn is_plain_with_name(rt: &impl Abort, alloc: Global, case: &str) {
+    let (words, task) = case.split_once('|').expect(rt, "a bar");
+    let command = read_words(rt, alloc, words).expect(rt, "a command");
+    is_task(rt, alloc, &command, task, case);
+}
+
+#[test]
+fn a_name_is_any_word(rt: HostRuntime) {
+    for case in NAMES.lines() {
+        is_plain_with_name(&rt, rt.alloc(), case);
+    }
+}
+
+const EVENT_LOG: &str = "sel|Info(Sel)
+sel info|Info(Sel)
+sel get 1|SelGet(1)
+sel get 0x1|SelGet(1)
+sel get 0x0001|SelGet(1)
+sel get 9|SelGet(9)
+sel get 0x9|SelGet(9)
+sel get 0x09|SelGet(9)
+sel get 65534|SelGet(65534)
+sel get 0xfffe|SelGet(65534)
+sel get 0xFFFE|SelGet(65534)";
+
+#[test]
+fn sel_is_info_or_one_entry(rt: HostRuntime) {
+    are_plain(&rt, rt.alloc(), EVENT_LOG);
+}
+
+const COUNTS: &str = "sel list|SelList(All)
+sel list 0|SelList(All)
+sel list 0x0|SelList(All)
+sel list first 0|SelList(All)
+sel list last 0|SelList(All)
+sel list last 0x0000|SelList(All)
+sel list 1|SelList(First(1))
+sel list first 1|SelList(First(1))
+sel list first 0x001|SelList(First(1))
+sel list 65535|SelList(First(65535))
+sel list 0xffff|SelList(First(65535))
+sel list first 65535|SelList(First(65535))
+sel list last 10|SelList(Last(10))
+sel list last 0xa|SelList(Last(10))
+sel list last 0x0A|SelList(Last(10))
+sel list last 65535|SelList(Last(65535))
+sel list last 0xFFFF|SelList(Last(65535))";
+
+// A count of 0 is no count.
+#[test]
+fn sel_lists_the_oldest_or_the_newest_entries(rt: HostRuntime) {
+    are_plain(&rt, rt.alloc(), COUNTS);
+}
+
+#[test]
+fn image_rewrite_is_a_task(rt: HostRuntime) {
+    is_plain(&rt, rt.alloc(), "image rewrite|Rewrite");
+}
+
+const LISTINGS: &str = "|true
+sdr|true
+sdr list fru|true
+sdr elist|true
+sdr hex|true
+sel list|true
+sel list 0|true
+fru|false
+fru print 0|false
+sdr get Fan|false
+sdr info|false
+sel|false
+sel list 1|false
+sel list last 2|false
+sel get 1|false
+image rewrite|false";
+
+/// Asserts whether the words of a line are a listing.
+fn is_listing(rt: &impl Abort, alloc: Global, case: &str) {
+    let (words, wanted) = case.split_once('|').expect(rt, "a bar");
+    let is_listing = command(rt, alloc, words).is_listing();
+    assert!(rt; is_listing == (wanted == "true"), "{case}");
+}
+
+#[test]
+fn some_commands_are_listings(rt: HostRuntime) {
+    for case in LISTINGS.lines() {
+        is_listing(&rt, rt.alloc(), case);
+    }
+}

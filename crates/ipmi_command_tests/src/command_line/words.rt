@@ -1,0 +1,34 @@
+//! Words are copies, and keep their order.
+use ipmi_command_line::{Word, Words};
+use std::process::Abort;
+
+/// Puts a word at the end.
+fn push(rt: &impl Abort, words: &mut Words, word: &str) {
+    words.push(word).expect(rt, "memory");
+}
+
+/// Asserts that the word at this place is this one.
+fn has(rt: &impl Abort, words: &Words, place: usize, wanted: &str) {
+    let word = words.as_slice().get(place).expect(rt, "a word");
+    let got = word.as_str();
+    assert!(rt; got == wanted, "word {place}: got {got}");
+}
+
+#[test]
+fn words_are_in_order(rt: HostRuntime) {
+    let mut words = Words::new(rt.alloc());
+    assert!(rt; words.as_slice().is_empty());
+    for word in ["ipmitool", "", "hex"] {
+        push(&rt, &mut words, word);
+    }
+    assert!(rt; words.as_slice().len() == 3);
+    has(&rt, &words, 0, "ipmitool");
+    has(&rt, &words, 1, "");
+    has(&rt, &words, 2, "hex");
+}
+
+#[test]
+fn a_word_is_a_copy(rt: HostRuntime) {
+    let word = Word::new(rt.alloc(), "Fan 1").expect(&rt, "memory");
+    assert!(rt; word.as_str() == "Fan 1");
+}

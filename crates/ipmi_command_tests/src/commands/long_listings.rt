@@ -1,0 +1,68 @@
+//! Listings of as many records as there are ids.
+use super::left::{Left, has_numbers, left_by};
+use super::over_images::over;
+use crate::command_line::lines::command;
+use crate::controllers::{Counting, Endless};
+use std::alloc::Global;
+use std::fmt::Write;
+use std::process::Abort;
+
+/// Puts the row of a record of five bytes at the end, whose next id is the one above its own.
+fn push_row(rt: &impl Abort, rows: &mut String, id: u16) {
+    let next = id.saturating_add(1);
+    let [low, high] = id.to_le_bytes();
+    write!(rows, "sdr {id:04x} {next:04x} {low:02x}{high:02x}51c000\n").expect(rt, "memory");
+}
+
+/// An image of a row for each id but 0000h and FFFFh: after the first one they are in falling order.
+fn falling_image(rt: &impl Abort, alloc: Global) -> String {
+    let mut image = String::from_str(alloc, "ipmi-image 1\n").expect(rt, "memory");
+    push_row(rt, &mut image, 1);
+    for below in 1..0xFFFEu16 {
+        push_row(rt, &mut image, 0xFFFF - below);
+    }
+    image.push_str("end\n").expect(rt, "memory");
+    image
+}
+
+/// The rows of each id but 0000h and FFFFh, in rising order.
+fn rising_lines(rt: &impl Abort, alloc: Global) -> String {
+    let mut lines = String::new(alloc);
+    for id in 1..0xFFFFu16 {
+        push_row(rt, &mut lines, id);
+    }
+    lines
+}
+
+/// What a listing of the image in hex leaves.
+fn left_over(rt: &impl Abort, alloc: Global, image: &str) -> Left {
+    left_by(
+        alloc,
+        over(rt, alloc, image),
+        &command(rt, alloc, "sdr hex"),
+    )
+}
+
+// 65,534 lines of 25 bytes each.
+#[test]
+fn there_may_be_as_many_rows_as_there_are_ids(rt: HostRuntime) {
+    let left = left_over(&rt, rt.alloc(), falling_image(&rt, rt.alloc()).as_str());
+    has_numbers(&rt, rt.alloc(), &left, "0 65535 1638350|", "rows");
+    let is_rising = left.out.as_slice() == rising_lines(&rt, rt.alloc()).as_bytes();
+    assert!(rt; is_rising);
+}
+
+/// What a listing of records without a last one leaves.
+fn left_endless(rt: &impl Abort, alloc: Global) -> Left {
+    let ctl = Counting::new(Endless::new());
+    left_by(alloc, ctl, &command(rt, alloc, "sdr hex"))
+}
+
+// 65,535 lines, one for each id from 0000 to fffe, of 25 bytes each: `sdr IIII NNNN `, ten digits and a line feed.
+#[test]
+fn a_listing_without_a_last_record_ends(rt: HostRuntime) {
+    let left = left_endless(&rt, rt.alloc());
+    has_numbers(&rt, rt.alloc(), &left, "0 65536 1638375|", "endless");
+    assert!(rt; left.out.starts_with(b"sdr 0000 0001 000051c000\n"));
+    assert!(rt; left.out.ends_with(b"sdr fffe ffff feff51c000\n"));
+}

@@ -1,0 +1,54 @@
+//! Controllers over saved images: plain ones, and those whose calls meet moods, each of which is written as a letter.
+use super::saved::{CHANGED_ROWS, EMPTY};
+use crate::controllers::Counting;
+use ipmi_bus::Code;
+use ipmi_image::{Image, ImageController, Mood, Scripted};
+use std::alloc::Global;
+use std::process::Abort;
+
+/// The image of a text.
+pub(super) fn image_of(rt: &impl Abort, alloc: Global, text: &str) -> Image {
+    Image::read(alloc, text.as_bytes()).expect(rt, "an image")
+}
+
+/// A controller over the image.
+pub(super) fn over(rt: &impl Abort, alloc: Global, image: &str) -> Counting<ImageController> {
+    Counting::new(ImageController::new(image_of(rt, alloc, image)))
+}
+
+/// The mood that a letter means. A dot grants all, `1` one byte; `N` changes the second record, and `E` leaves none.
+fn mood(rt: &impl Abort, alloc: Global, letter: u8) -> Mood {
+    match letter {
+        b'.' => Mood::Grant(254),
+        b'1' => Mood::Grant(1),
+        b'B' => Mood::Busy,
+        b'C' => Mood::Cancel,
+        b'L' => Mood::TooLong,
+        b'R' => Mood::Refuse(Code(0xD4)),
+        b'N' => Mood::Change(image_of(rt, alloc, CHANGED_ROWS)),
+        b'E' => Mood::Change(image_of(rt, alloc, EMPTY)),
+        _ => panic!(rt; "{letter} is no mood"),
+    }
+}
+
+/// Puts the mood of a letter at the end.
+fn push(rt: &impl Abort, alloc: Global, moods: &mut Vec<Mood>, letter: u8) {
+    moods
+        .push(mood(rt, alloc, letter))
+        .ok()
+        .expect(rt, "memory");
+}
+
+/// A controller over the image whose calls meet the moods of these letters, and then none.
+pub(super) fn scripted(
+    rt: &impl Abort,
+    alloc: Global,
+    image: &str,
+    letters: &str,
+) -> Counting<Scripted> {
+    let mut moods = Vec::new(alloc);
+    for letter in letters.as_bytes() {
+        push(rt, alloc, &mut moods, *letter);
+    }
+    Counting::new(Scripted::new(image_of(rt, alloc, image), moods))
+}

@@ -1,0 +1,245 @@
+//! Listings in pages.
+ghost use Rattle.std.specs.Prelude.{◌≡◌, true};
+ghost use Rattle.ipmi_command_line.specs.Command.{is_listing};
+
+use super::left::{Left, is_left};
+use super::over_images::{over, scripted};
+use super::saved::{THREE_LINES, THREE_ROWS, image_named};
+use crate::command_line::lines::command;
+use crate::controllers::Counting;
+use ipmi_bus::Controller;
+use ipmi_command_line::{Command, Task};
+use ipmi_commands::run_pages;
+use ipmi_image::{Image, ImageController, ImageFault};
+use ipmi_output::Written;
+use std::alloc::Global;
+use std::process::Abort;
+
+/// What a listing over the controller in pages of these sizes leaves.
+fn left_in_pages<C: Controller + Drop>(
+    alloc: Global,
+    ctl: Counting<C>,
+    command: &Command,
+    pages: &[u32],
+) -> Left
+    requires { is_listing command.now.task ≡ true }
+{
+    let mut ctl = ctl;
+    let mut out = Written::new(Vec::new(alloc));
+    let mut err = Vec::new(alloc);
+    let status = run_pages(alloc, &mut ctl, command, &mut out, &mut err, pages);
+    Left {
+        out: out.into_inner(),
+        err,
+        status,
+        calls: ctl.calls,
+    }
+}
+
+/// Puts a size of pages at the end.
+fn push_size(rt: &impl Abort, pages: &mut Vec<u32>, size: &str) {
+    let size = size.parse::<u32>().expect(rt, "a size");
+    pages.push(size).expect(rt, "memory");
+}
+
+/// The sizes of pages in a text, which is split at spaces.
+fn sizes(rt: &impl Abort, alloc: Global, text: &str) -> Vec<u32> {
+    let mut pages = Vec::new(alloc);
+    for size in text.split_whitespace() {
+        push_size(rt, &mut pages, size);
+    }
+    pages
+}
+
+/// Asserts what the words leave over the controller in pages of the sizes in a text.
+fn leaves_in_pages<C: Controller + Drop>(
+    rt: &impl Abort,
+    alloc: Global,
+    ctl: Counting<C>,
+    words: &str,
+    pages: &str,
+    wanted: &str,
+) {
+    let command = command(rt, alloc, words);
+    if !command.is_listing() {
+        panic!(rt; "{words}: no listing");
+    }
+    let left = left_in_pages(alloc, ctl, &command, &sizes(rt, alloc, pages));
+    is_left(rt, alloc, &left, wanted, words);
+}
+
+/// Asserts what a listing leaves over an image in pages. The first line of the case is the words, the name of the image
+/// and the sizes; the other lines are what is left.
+fn lists_in_pages(rt: &impl Abort, alloc: Global, case: &str) {
+    let (first, wanted) = case.split_once('\n').expect(rt, "a first line");
+    let (words, rest) = first.split_once('|').expect(rt, "words");
+    let (name, pages) = rest.split_once('|').expect(rt, "an image and sizes");
+    let ctl = over(rt, alloc, image_named(rt, name));
+    leaves_in_pages(rt, alloc, ctl, words, pages, wanted);
+}
+
+/// The same for each of these cases.
+fn all_list_in_pages(rt: &impl Abort, alloc: Global, cases: &str) {
+    for case in cases.split("====\n") {
+        lists_in_pages(rt, alloc, case);
+    }
+}
+
+const THREE_IN_PAGES: &str = "sdr hex|three|1 0 1
+0 8
+--
+sdr 0001 0002 010051c001aa
+sdr 0002 0003 020051c002bbcc
+sdr 0003 ffff 030051c000
+====
+sdr hex|three|0 0
+0 6
+--
+sdr 0001 0002 010051c001aa
+sdr 0002 0003 020051c002bbcc
+sdr 0003 ffff 030051c000
+====
+sdr hex|three|
+0 6
+--
+sdr 0001 0002 010051c001aa
+sdr 0002 0003 020051c002bbcc
+sdr 0003 ffff 030051c000
+====
+sdr hex|three|2
+0 7
+--
+sdr 0001 0002 010051c001aa
+sdr 0002 0003 020051c002bbcc
+sdr 0003 ffff 030051c000
+====
+sdr hex|three|3 5 7
+0 6
+--
+sdr 0001 0002 010051c001aa
+sdr 0002 0003 020051c002bbcc
+sdr 0003 ffff 030051c000
+====
+sdr hex|three|1 1 1 1
+0 8
+--
+sdr 0001 0002 010051c001aa
+sdr 0002 0003 020051c002bbcc
+sdr 0003 ffff 030051c000
+";
+
+// A page asks for a reservation of its own. Three calls read the first record or the second with it, two the third.
+#[test]
+fn pages_are_one_listing(rt: HostRuntime) {
+    all_list_in_pages(&rt, rt.alloc(), THREE_IN_PAGES);
+}
+
+const ENTRIES_AND_SENSORS: &str = "sel list|log|2
+0 5
+--
+0001 | 1987-01-05 18:48:33 | Temperature #0x30 | Upper Critical going high | Asserted
+0002 | +536870912 s | Temperature #0x30 | Upper Non-critical going high | Deasserted
+0003 | unspecified | OEM record 0xc0 | 001357 | 010203040506
+====
+sdr list all|sensor and locator|1
+0 8
+--
+CPU Temp         | 45 degrees C      | ok
+PSU1             | FRU 1             | na
+";
+
+// A reservation and two entries, and a reservation and one. A sensor and its reading, after a reservation, the header and
+// two parts, and then a locator.
+#[test]
+fn entries_and_sensors_are_listed_in_pages(rt: HostRuntime) {
+    all_list_in_pages(&rt, rt.alloc(), ENTRIES_AND_SENSORS);
+}
+
+const EMPTY_IN_PAGES: &str = "sdr hex|empty|1 1
+0 2
+--
+";
+
+#[test]
+fn an_empty_image_has_pages(rt: HostRuntime) {
+    all_list_in_pages(&rt, rt.alloc(), EMPTY_IN_PAGES);
+}
+
+const CYCLES: &str = "sdr hex|cycle|2
+1 6
+cycle at 0007h
+--
+sdr 0007 0009 070051c000
+sdr 0009 0007 090051c000
+sdr 0007 0009 070051c000
+sdr 0009 0007 090051c000
+====
+sdr hex|cycle at zero|1
+1 2
+cycle at 0000h
+--
+sdr 0001 0000 010051c000
+";
+
+// A cycle is seen only within a page. The id 0000h is one wherever it comes.
+#[test]
+fn each_page_sees_its_own_cycle(rt: HostRuntime) {
+    all_list_in_pages(&rt, rt.alloc(), CYCLES);
+}
+
+const GIVEN_UP: &str = "1 4
+gave up at 0002h
+--
+sdr 0001 0002 010051c001aa
+";
+
+// The fourth call begins the second page, and the third page is not begun.
+#[test]
+fn a_page_that_ends_by_name_ends_all(rt: HostRuntime) {
+    let ctl = scripted(&rt, rt.alloc(), THREE_ROWS, "...B");
+    leaves_in_pages(&rt, rt.alloc(), ctl, "--tries 0 sdr hex", "1 1", GIVEN_UP);
+}
+
+/// What a listing of three records in hex leaves in three pages. It takes no memory but for the listing.
+fn three_in_pages(alloc: Global) -> Result<Left, ImageFault> {
+    let image = Image::read(alloc, THREE_ROWS.as_bytes())?;
+    let ctl = Counting::new(ImageController::new(image));
+    let hex = Command::new(Task::Hex, None, 32, 5, None);
+    Ok(left_in_pages(alloc, ctl, &hex, &[1, 0, 1]))
+}
+
+/// Asserts that all is left.
+fn is_whole(rt: &impl Abort, left: &Left) {
+    assert!(rt; left.status == 0);
+    assert!(rt; left.out.as_slice() == THREE_LINES.as_bytes());
+    assert!(rt; left.err.is_empty());
+}
+
+#[test]
+fn pages_have_memory(rt: HostRuntime) {
+    let left = three_in_pages(rt.alloc()).expect(&rt, "memory");
+    is_whole(&rt, &left);
+}
+
+/// Asserts that all is left, or first bytes after a write fault, or first lines where memory was refused.
+fn is_whole_or_refused(rt: &impl Abort, left: &Left) {
+    match left.status {
+        0 => is_whole(rt, left),
+        4 => assert!(rt; left.err.as_slice() == b"write fault\n".as_slice()),
+        5 => {
+            assert!(rt; matches!(left.out.len(), 0 | 27 | 56));
+            assert!(rt; left.err.as_slice() == b"out of memory\n".as_slice());
+        }
+        status => panic!(rt; "status {status}"),
+    }
+    assert!(rt; THREE_LINES.as_bytes().starts_with(&left.out));
+}
+
+// Where memory is refused, to the run or to what takes its output, it has first lines, or first bytes of them.
+#[test]
+fn memory_may_be_refused(rt: HostRuntime) {
+    match three_in_pages(rt.alloc()) {
+        Ok(left) => is_whole_or_refused(&rt, &left),
+        Err(fault) => assert!(rt; fault == ImageFault::Memory),
+    }
+}

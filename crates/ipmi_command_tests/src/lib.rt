@@ -1,0 +1,11 @@
+//! Tests of what the commands stand on and of the commands: the bus, the command line, output and messages, and listings.
+#![tactic(auto)]
+
+#[cfg(test)]
+mod command_line;
+#[cfg(test)]
+mod commands;
+#[cfg(test)]
+mod controllers;
+#[cfg(test)]
+mod writers;
