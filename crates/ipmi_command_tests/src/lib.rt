@@ -4,10 +4,6 @@
 #[cfg(test)]
 mod bus;
 #[cfg(test)]
-mod command_line;
-#[cfg(test)]
-mod commands;
-#[cfg(test)]
 mod controllers;
 #[cfg(test)]
 mod output;
