@@ -5,6 +5,7 @@ ghost use Rattle.ipmi_command_tests.specs.Controllers.{seen_calling};
 
 use ipmi_bus::{Code, Controller, Event, FruSize, Part, Shelf, Tally};
 use ipmi_text::Reading;
+use std::process::Abort;
 
 /// The code of an answer to a call that a controller of the tests has no answer for.
 const NO_ANSWER: Code = Code(0xFF);
@@ -162,6 +163,13 @@ impl<'a> Replay<'a> {
         self.room = room;
         self.next_reply()
     }
+}
+
+/// Compares the number of calls, and the offset and the length of the last part that was asked for.
+pub fn asked_last(rt: &impl Abort, ctl: &Replay, calls: u32, offset: u16, room: usize) {
+    assert!(rt; ctl.calls == calls, "{} calls", ctl.calls);
+    assert!(rt; ctl.offset == offset, "from {} on", ctl.offset);
+    assert!(rt; ctl.room == room, "{} bytes", ctl.room);
 }
 
 /// Copies the bytes that there is room for, and says how many.

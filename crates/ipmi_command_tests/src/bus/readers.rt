@@ -1,5 +1,5 @@
 //! Readings, infos and inventories over replayed answers, and how many calls they take.
-use crate::controllers::{Replay, Reply};
+use crate::controllers::{Replay, Reply, asked_last};
 use ipmi_bus::{Code, Ended, FruEnded, FruSize, Shelf, read_fru, read_info, read_reading};
 use ipmi_text::Reading;
 use std::alloc::Global;
@@ -233,13 +233,6 @@ fn an_inventory_is_read_in_parts(rt: HostRuntime) {
     let bytes = read_fru(rt.alloc(), &mut ctl, 0, 2, 2).expect(&rt, "an inventory");
     assert!(rt; bytes.as_slice() == [1, 2, 3].as_slice(), "{bytes:?}");
     asked_last(&rt, &ctl, 5, 2, 1);
-}
-
-/// Compares the number of calls, and the offset and the length of the last part that was asked for.
-fn asked_last(rt: &impl Abort, ctl: &Replay, calls: u32, offset: u16, room: usize) {
-    assert!(rt; ctl.calls == calls, "{} calls", ctl.calls);
-    assert!(rt; ctl.offset == offset, "from {} on", ctl.offset);
-    assert!(rt; ctl.room == room, "{} bytes", ctl.room);
 }
 
 #[test]
