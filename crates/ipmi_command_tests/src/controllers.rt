@@ -92,7 +92,7 @@ impl<C: Controller + Drop> Controller for Counting<C> {
 }
 
 /// What a call is answered.
-#[derive(Clone, Copy)]
+#[derive(Clone, Copy, Debug)]
 pub enum Reply {
     /// This code.
     Fails(u8),

@@ -1,7 +1,6 @@
 //! Codes and their classes, the ends of a listing by name, a later step, parts and ids.
-use crate::bus::listings::{Left, listed, listed_by_bytes, over};
+use crate::bus::listings::{listed, listed_by_bytes, over};
 use crate::controllers::{Counting, Endless, Replay, Reply, asked_last};
-use crate::writers::is_written;
 use ipmi_bus::{Code, CodeClass, Cursor, Ended, Event, Place, Record, Shelf, Tally};
 use std::alloc::Global;
 use std::process::Abort;
@@ -34,7 +33,7 @@ fn a_tally_takes_no_room(rt: HostRuntime) {
 
 /// What a controller answers one call after another, with how many tries a record is read, and what is said of the
 /// listing after how many calls.
-#[derive(Clone, Copy)]
+#[derive(Clone, Copy, Debug)]
 struct Case {
     replies: &'static [Reply],
     tries: u8,
@@ -118,21 +117,9 @@ const ENDINGS: [Case; 9] = [
 /// Lists over a controller with these replies, and compares what is said and how many calls were made.
 fn ends_by_name(rt: &impl Abort, alloc: Global, case: &Case) {
     let mut ctl = Replay::new(case.replies);
-    let left = listed(alloc, &mut ctl, case.tries);
-    is_written(rt, &left.err, case.said);
-    is_written(rt, &left.out, "");
-    assert!(rt;
-        left.status == 1,
-        "status {} with {}",
-        left.status,
-        case.said
-    );
-    assert!(rt;
-        ctl.calls == case.calls,
-        "{} calls before {}",
-        ctl.calls,
-        case.said
-    );
+    let left = listed(rt, alloc, &mut ctl, case.tries);
+    assert!(rt; left.is_ended(case.said), "{case:?}: {left:?}");
+    assert!(rt; ctl.calls == case.calls, "{case:?}: {} calls", ctl.calls);
 }
 
 #[test]
@@ -140,13 +127,6 @@ fn answers_end_a_listing_by_name(rt: HostRuntime) {
     for case in &ENDINGS {
         ends_by_name(&rt, rt.alloc(), case);
     }
-}
-
-/// Compares a listing that is done.
-fn is_listed(rt: &impl Abort, left: &Left, lines: &str) {
-    is_written(rt, &left.out, lines);
-    is_written(rt, &left.err, "");
-    assert!(rt; left.status == 0, "status {}", left.status);
 }
 
 #[test]
@@ -157,8 +137,8 @@ fn a_short_part_is_kept(rt: HostRuntime) {
         Reply::Gives(&[0x51, 0xC0, 0x00], 0xFFFF),
     ];
     let mut ctl = Replay::new(&replies);
-    let left = listed(rt.alloc(), &mut ctl, 5);
-    is_listed(&rt, &left, "sdr 0001 ffff 010051c000\n");
+    let left = listed(&rt, rt.alloc(), &mut ctl, 5);
+    assert!(rt; left.is_done("sdr 0001 ffff 010051c000\n"), "{left:?}");
     asked_last(&rt, &ctl, 3, 2, 3);
 }
 
@@ -178,8 +158,8 @@ fn the_longest_record_is_read(rt: HostRuntime) {
     let line = longest_line(&rt, rt.alloc());
     let image = format!(in rt.alloc(); "ipmi-image 1\n{line}end\n").expect(&rt, "memory");
     let mut ctl = Counting::new(over(&rt, rt.alloc(), &image));
-    let left = listed_by_bytes(rt.alloc(), &mut ctl);
-    is_listed(&rt, &left, &line);
+    let left = listed_by_bytes(&rt, rt.alloc(), &mut ctl);
+    assert!(rt; left.is_done(&line), "{left:?}");
     assert!(rt; ctl.calls == 257, "{} calls", ctl.calls);
 }
 

@@ -1,7 +1,6 @@
 //! A listing with one of its calls answered by a busy code.
 use crate::bus::listings::{listed, over};
 use crate::controllers::Counting;
-use crate::writers::is_written;
 use std::alloc::Global;
 use std::process::Abort;
 
@@ -20,19 +19,16 @@ sdr 0003 ffff 030051c000
 /// Lists the three records with one try, where the call with this number is answered with the code.
 fn is_one_call_more(rt: &impl Abort, alloc: Global, call: u32, code: u8) {
     let mut ctl = Counting::interrupting(over(rt, alloc, THREE_ROWS), call, code);
-    let left = listed(alloc, &mut ctl, 1);
+    let left = listed(rt, alloc, &mut ctl, 1);
     assert!(rt;
-        left.status == 0,
-        "status {} after code {code} at call {call}",
-        left.status
+        left.is_done(THREE_LINES),
+        "code {code:02X}h at call {call}: {left:?}"
     );
     assert!(rt;
         ctl.calls == 7,
-        "{} calls, with code {code} at call {call}",
+        "code {code:02X}h at call {call}: {} calls",
         ctl.calls
     );
-    is_written(rt, &left.out, THREE_LINES);
-    is_written(rt, &left.err, "");
 }
 
 // Two calls read the first record after its reservation, two the second and one the third.

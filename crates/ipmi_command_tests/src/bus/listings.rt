@@ -7,37 +7,64 @@ use ipmi_output::Written;
 use std::alloc::Global;
 use std::process::Abort;
 
-/// A controller over the image that the text is.
-pub fn over(rt: &impl Abort, alloc: Global, text: &str) -> ImageController {
-    ImageController::new(Image::read(alloc, text.as_bytes()).expect(rt, "an image"))
+/// The image that the text is.
+fn image(rt: &impl Abort, alloc: Global, text: &str) -> Image {
+    Image::read(alloc, text.as_bytes()).expect(rt, "an image")
 }
 
-/// What a listing left: its lines, its message and its status.
-#[derive(Drop)]
+/// A controller over the image that the text is.
+pub fn over(rt: &impl Abort, alloc: Global, text: &str) -> ImageController {
+    ImageController::new(image(rt, alloc, text))
+}
+
+/// What a listing left: its lines, what was said of it, and its status.
+#[derive(Debug, Drop)]
 pub struct Left {
-    pub out: Vec<u8>,
-    pub err: Vec<u8>,
-    pub status: u8,
+    out: String,
+    err: String,
+    status: u8,
+}
+
+impl Left {
+    /// The listing is done, with these lines.
+    pub fn is_done(&self, lines: &str) -> bool {
+        self.status == 0 && self.err.is_empty() && self.out.as_str() == lines
+    }
+
+    /// The listing ended before its first line, and this was said.
+    pub fn is_ended(&self, said: &str) -> bool {
+        self.status == 1 && self.out.is_empty() && self.err.as_str() == said
+    }
+}
+
+/// What was written, as a text.
+fn text(rt: &impl Abort, bytes: Vec<u8>) -> String {
+    String::from_utf8(bytes).expect(rt, "text")
 }
 
 /// What the command leaves.
-fn left_by<C: Controller>(alloc: Global, ctl: &mut C, command: &Command) -> Left {
+fn left_by<C: Controller>(rt: &impl Abort, alloc: Global, ctl: &mut C, command: &Command) -> Left {
     let mut out = Written::new(Vec::new(alloc));
     let mut err = Vec::new(alloc);
     let status = run(alloc, ctl, command, &mut out, &mut err);
     Left {
-        out: out.into_inner(),
-        err,
+        out: text(rt, out.into_inner()),
+        err: text(rt, err),
         status,
     }
 }
 
 /// Lists the sensor data records in hex, in parts of 32 bytes.
-pub fn listed<C: Controller>(alloc: Global, ctl: &mut C, tries: u8) -> Left {
-    left_by(alloc, ctl, &Command::new(Task::Hex, None, 32, tries, None))
+pub fn listed<C: Controller>(rt: &impl Abort, alloc: Global, ctl: &mut C, tries: u8) -> Left {
+    left_by(
+        rt,
+        alloc,
+        ctl,
+        &Command::new(Task::Hex, None, 32, tries, None),
+    )
 }
 
 /// The same in parts of one byte, with five tries.
-pub fn listed_by_bytes<C: Controller>(alloc: Global, ctl: &mut C) -> Left {
-    left_by(alloc, ctl, &Command::new(Task::Hex, None, 1, 5, None))
+pub fn listed_by_bytes<C: Controller>(rt: &impl Abort, alloc: Global, ctl: &mut C) -> Left {
+    left_by(rt, alloc, ctl, &Command::new(Task::Hex, None, 1, 5, None))
 }

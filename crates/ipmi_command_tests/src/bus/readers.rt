@@ -6,7 +6,7 @@ use std::alloc::Global;
 use std::process::Abort;
 
 /// Replies, the number of tries, and what is read with how many calls.
-#[derive(Clone, Copy)]
+#[derive(Clone, Copy, Debug)]
 struct Case<T> {
     replies: &'static [Reply],
     tries: u8,
@@ -68,16 +68,8 @@ const READINGS: [Case<Result<Option<Reading>, Ended>>; 6] = [
 fn reading_is_read(rt: &impl Abort, case: &Case<Result<Option<Reading>, Ended>>) {
     let mut ctl = Replay::new(case.replies);
     let reading = read_reading(&mut ctl, 7, 0, 1, case.tries);
-    assert!(rt;
-        reading == case.wanted,
-        "{reading:?}, not {:?}",
-        case.wanted
-    );
-    assert!(rt;
-        ctl.calls == case.calls,
-        "{} calls for {reading:?}",
-        ctl.calls
-    );
+    assert!(rt; reading == case.wanted, "{case:?}: {reading:?}");
+    assert!(rt; ctl.calls == case.calls, "{case:?}: {} calls", ctl.calls);
 }
 
 #[test]
@@ -128,8 +120,8 @@ const INFOS: [Case<Result<Option<[u8; 14]>, Ended>>; 5] = [
 fn info_is_read(rt: &impl Abort, case: &Case<Result<Option<[u8; 14]>, Ended>>) {
     let mut ctl = Replay::new(case.replies);
     let info = read_info(&mut ctl, Shelf::Sel, case.tries);
-    assert!(rt; info == case.wanted, "{info:?}, not {:?}", case.wanted);
-    assert!(rt; ctl.calls == case.calls, "{} calls for {info:?}", ctl.calls);
+    assert!(rt; info == case.wanted, "{case:?}: {info:?}");
+    assert!(rt; ctl.calls == case.calls, "{case:?}: {} calls", ctl.calls);
 }
 
 #[test]
@@ -196,16 +188,8 @@ const ENDED_INVENTORIES: [Case<FruEnded>; 7] = [
 fn inventory_ends(rt: &impl Abort, alloc: Global, case: &Case<FruEnded>) {
     let mut ctl = Replay::new(case.replies);
     let ended = read_fru(alloc, &mut ctl, 0, 32, case.tries).err();
-    assert!(rt;
-        ended == Some(case.wanted),
-        "{ended:?}, not {:?}",
-        case.wanted
-    );
-    assert!(rt;
-        ctl.calls == case.calls,
-        "{} calls for {ended:?}",
-        ctl.calls
-    );
+    assert!(rt; ended == Some(case.wanted), "{case:?}: {ended:?}");
+    assert!(rt; ctl.calls == case.calls, "{case:?}: {} calls", ctl.calls);
 }
 
 #[test]
