@@ -6,10 +6,8 @@ use std::process::Abort;
 
 /// Compares the bytes that were written with a text.
 pub fn is_written(rt: &impl Abort, bytes: &[u8], text: &str) {
-    match str::from_utf8(bytes) {
-        Ok(written) => assert!(rt; written == text, "{written:?} is written, not {text:?}"),
-        Err(_) => panic!(rt; "{bytes:?} is written, not {text:?}"),
-    }
+    let written = str::from_utf8(bytes).expect(rt, "text");
+    assert!(rt; written == text, "{written:?} is written, not {text:?}");
 }
 
 /// Puts the first of the bytes after those that are there, this many at most.

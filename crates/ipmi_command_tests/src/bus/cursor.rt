@@ -1,5 +1,5 @@
 //! Codes and their classes, the ends of a listing by name, a later step, parts and ids.
-use crate::bus::listings::{listed, listed_by_bytes, over};
+use crate::bus::listings::{Left, listed, listed_by_bytes, over};
 use crate::controllers::{Counting, Endless, Replay, Reply, asked_last};
 use ipmi_bus::{Code, CodeClass, Cursor, Ended, Event, Place, Record, Shelf, Tally};
 use std::alloc::Global;
@@ -114,12 +114,11 @@ const ENDINGS: [Case; 9] = [
     },
 ];
 
-/// Lists over a controller with these replies, and compares what is said and how many calls were made.
+/// Lists over a controller with these replies, and compares what is said after how many calls.
 fn ends_by_name(rt: &impl Abort, alloc: Global, case: &Case) {
-    let mut ctl = Replay::new(case.replies);
+    let mut ctl = Counting::new(Replay::new(case.replies));
     let left = listed(rt, alloc, &mut ctl, case.tries);
-    assert!(rt; left.is_ended(case.said), "{case:?}: {left:?}");
-    assert!(rt; ctl.calls == case.calls, "{case:?}: {} calls", ctl.calls);
+    assert!(rt; left.is_ended(case.said, case.calls), "{case:?}: {left:?}");
 }
 
 #[test]
@@ -136,10 +135,10 @@ fn a_short_part_is_kept(rt: HostRuntime) {
         Reply::Gives(&[0x01, 0x00], 0xFFFF),
         Reply::Gives(&[0x51, 0xC0, 0x00], 0xFFFF),
     ];
-    let mut ctl = Replay::new(&replies);
+    let mut ctl = Counting::new(Replay::new(&replies));
     let left = listed(&rt, rt.alloc(), &mut ctl, 5);
-    assert!(rt; left.is_done("sdr 0001 ffff 010051c000\n"), "{left:?}");
-    asked_last(&rt, &ctl, 3, 2, 3);
+    assert!(rt; left.is_done("sdr 0001 ffff 010051c000\n", 3), "{left:?}");
+    asked_last(&rt, &ctl.inner, 2, 3);
 }
 
 /// The image line of a record of 256 bytes.
@@ -152,15 +151,19 @@ fn longest_line(rt: &impl Abort, alloc: Global) -> String {
     line
 }
 
-// A record of 256 bytes in parts of one: a reservation and a call for each byte.
+/// Lists the record of this line in parts of one byte.
+fn line_listed(rt: &impl Abort, alloc: Global, line: &str) -> Left {
+    let image = format!(in alloc; "ipmi-image 1\n{line}end\n").expect(rt, "memory");
+    let mut ctl = Counting::new(over(rt, alloc, &image));
+    listed_by_bytes(rt, alloc, &mut ctl)
+}
+
+// A reservation, and a call for each of the 256 bytes.
 #[test]
 fn the_longest_record_is_read(rt: HostRuntime) {
     let line = longest_line(&rt, rt.alloc());
-    let image = format!(in rt.alloc(); "ipmi-image 1\n{line}end\n").expect(&rt, "memory");
-    let mut ctl = Counting::new(over(&rt, rt.alloc(), &image));
-    let left = listed_by_bytes(&rt, rt.alloc(), &mut ctl);
-    assert!(rt; left.is_done(&line), "{left:?}");
-    assert!(rt; ctl.calls == 257, "{} calls", ctl.calls);
+    let left = line_listed(&rt, rt.alloc(), &line);
+    assert!(rt; left.is_done(&line, 257), "{left:?}");
 }
 
 /// A cursor over sensor data records, which asks for 32 bytes at once.

@@ -1,4 +1,5 @@
 //! What a listing over a controller leaves.
+use crate::controllers::Counting;
 use ipmi_bus::Controller;
 use ipmi_command_line::{Command, Task};
 use ipmi_commands::run;
@@ -17,23 +18,28 @@ pub fn over(rt: &impl Abort, alloc: Global, text: &str) -> ImageController {
     ImageController::new(image(rt, alloc, text))
 }
 
-/// What a listing left: its lines, what was said of it, and its status.
+/// What a listing left: its lines, what was said of it, its status and the number of calls.
 #[derive(Debug, Drop)]
 pub struct Left {
     out: String,
     err: String,
     status: u8,
+    calls: u32,
 }
 
 impl Left {
-    /// The listing is done, with these lines.
-    pub fn is_done(&self, lines: &str) -> bool {
-        self.status == 0 && self.err.is_empty() && self.out.as_str() == lines
+    /// The listing is done after so many calls, with these lines.
+    pub fn is_done(&self, lines: &str, calls: u32) -> bool {
+        self.has_ended(0, calls) && self.err.is_empty() && self.out.as_str() == lines
     }
 
-    /// The listing ended before its first line, and this was said.
-    pub fn is_ended(&self, said: &str) -> bool {
-        self.status == 1 && self.out.is_empty() && self.err.as_str() == said
+    /// The listing ended after so many calls and before its first line, and this was said.
+    pub fn is_ended(&self, said: &str, calls: u32) -> bool {
+        self.has_ended(1, calls) && self.out.is_empty() && self.err.as_str() == said
+    }
+
+    fn has_ended(&self, status: u8, calls: u32) -> bool {
+        self.status == status && self.calls == calls
     }
 }
 
@@ -43,7 +49,12 @@ fn text(rt: &impl Abort, bytes: Vec<u8>) -> String {
 }
 
 /// What the command leaves.
-fn left_by<C: Controller>(rt: &impl Abort, alloc: Global, ctl: &mut C, command: &Command) -> Left {
+fn left_by<C: Controller + Drop>(
+    rt: &impl Abort,
+    alloc: Global,
+    ctl: &mut Counting<C>,
+    command: &Command,
+) -> Left {
     let mut out = Written::new(Vec::new(alloc));
     let mut err = Vec::new(alloc);
     let status = run(alloc, ctl, command, &mut out, &mut err);
@@ -51,11 +62,17 @@ fn left_by<C: Controller>(rt: &impl Abort, alloc: Global, ctl: &mut C, command: 
         out: text(rt, out.into_inner()),
         err: text(rt, err),
         status,
+        calls: ctl.calls,
     }
 }
 
 /// Lists the sensor data records in hex, in parts of 32 bytes.
-pub fn listed<C: Controller>(rt: &impl Abort, alloc: Global, ctl: &mut C, tries: u8) -> Left {
+pub fn listed<C: Controller + Drop>(
+    rt: &impl Abort,
+    alloc: Global,
+    ctl: &mut Counting<C>,
+    tries: u8,
+) -> Left {
     left_by(
         rt,
         alloc,
@@ -65,6 +82,10 @@ pub fn listed<C: Controller>(rt: &impl Abort, alloc: Global, ctl: &mut C, tries:
 }
 
 /// The same in parts of one byte, with five tries.
-pub fn listed_by_bytes<C: Controller>(rt: &impl Abort, alloc: Global, ctl: &mut C) -> Left {
+pub fn listed_by_bytes<C: Controller + Drop>(
+    rt: &impl Abort,
+    alloc: Global,
+    ctl: &mut Counting<C>,
+) -> Left {
     left_by(rt, alloc, ctl, &Command::new(Task::Hex, None, 1, 5, None))
 }

@@ -3,6 +3,7 @@ use crate::controllers::{Replay, Reply, asked_last};
 use ipmi_bus::{Code, Ended, FruEnded, FruSize, Shelf, read_fru, read_info, read_reading};
 use ipmi_text::Reading;
 use std::alloc::Global;
+use std::fmt::Debug;
 use std::process::Abort;
 
 /// Replies, the number of tries, and what is read with how many calls.
@@ -12,6 +13,12 @@ struct Case<T> {
     tries: u8,
     wanted: T,
     calls: u32,
+}
+
+/// Compares what was read, and the number of calls.
+fn compare<T: Debug + PartialEq>(rt: &impl Abort, case: &Case<T>, got: &T, calls: u32) {
+    assert!(rt; *got == case.wanted, "{case:?}: {got:?}");
+    assert!(rt; calls == case.calls, "{case:?}: {calls} calls");
 }
 
 const READING: Reading = Reading {
@@ -68,8 +75,7 @@ const READINGS: [Case<Result<Option<Reading>, Ended>>; 6] = [
 fn reading_is_read(rt: &impl Abort, case: &Case<Result<Option<Reading>, Ended>>) {
     let mut ctl = Replay::new(case.replies);
     let reading = read_reading(&mut ctl, 7, 0, 1, case.tries);
-    assert!(rt; reading == case.wanted, "{case:?}: {reading:?}");
-    assert!(rt; ctl.calls == case.calls, "{case:?}: {} calls", ctl.calls);
+    compare(rt, case, &reading, ctl.calls);
 }
 
 #[test]
@@ -120,8 +126,7 @@ const INFOS: [Case<Result<Option<[u8; 14]>, Ended>>; 5] = [
 fn info_is_read(rt: &impl Abort, case: &Case<Result<Option<[u8; 14]>, Ended>>) {
     let mut ctl = Replay::new(case.replies);
     let info = read_info(&mut ctl, Shelf::Sel, case.tries);
-    assert!(rt; info == case.wanted, "{case:?}: {info:?}");
-    assert!(rt; ctl.calls == case.calls, "{case:?}: {} calls", ctl.calls);
+    compare(rt, case, &info, ctl.calls);
 }
 
 #[test]
@@ -187,9 +192,8 @@ const ENDED_INVENTORIES: [Case<FruEnded>; 7] = [
 /// Asks for an inventory in parts of 32 bytes, which doesn't come.
 fn inventory_ends(rt: &impl Abort, alloc: Global, case: &Case<FruEnded>) {
     let mut ctl = Replay::new(case.replies);
-    let ended = read_fru(alloc, &mut ctl, 0, 32, case.tries).err();
-    assert!(rt; ended == Some(case.wanted), "{case:?}: {ended:?}");
-    assert!(rt; ctl.calls == case.calls, "{case:?}: {} calls", ctl.calls);
+    let ended = read_fru(alloc, &mut ctl, 0, 32, case.tries).expect_err(rt, "no inventory");
+    compare(rt, case, &ended, ctl.calls);
 }
 
 #[test]
@@ -216,7 +220,8 @@ fn an_inventory_is_read_in_parts(rt: HostRuntime) {
     let mut ctl = Replay::new(&TWO_TROUBLES);
     let bytes = read_fru(rt.alloc(), &mut ctl, 0, 2, 2).expect(&rt, "an inventory");
     assert!(rt; bytes.as_slice() == [1, 2, 3].as_slice(), "{bytes:?}");
-    asked_last(&rt, &ctl, 5, 2, 1);
+    assert!(rt; ctl.calls == 5, "{} calls", ctl.calls);
+    asked_last(&rt, &ctl, 2, 1);
 }
 
 #[test]

@@ -206,12 +206,12 @@ fn a_slow_writer_gets_the_whole_line(rt: HostRuntime) {
 }
 
 #[test]
-fn a_writer_that_takes_nothing_ends_the_line(rt: HostRuntime) {
+fn a_writer_that_takes_nothing_is_at_fault(rt: HostRuntime) {
     assert!(rt; write_message(&mut Idle, REFUSED.message) == Err(SinkFault));
 }
 
 #[test]
-fn a_counted_writer_takes_a_message_whole(rt: HostRuntime) {
+fn a_sink_takes_messages_too(rt: HostRuntime) {
     let mut err = Written::new(Slow {
         got: Vec::new(rt.alloc()),
     });
@@ -221,7 +221,7 @@ fn a_counted_writer_takes_a_message_whole(rt: HostRuntime) {
 }
 
 #[test]
-fn a_counted_writer_that_is_full_ends_the_line(rt: HostRuntime) {
+fn a_full_sink_keeps_the_first_bytes(rt: HostRuntime) {
     let mut err = Written::new(Full {
         got: Vec::new(rt.alloc()),
         room: 10,
