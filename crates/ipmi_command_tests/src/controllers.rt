@@ -1,8 +1,14 @@
-//! Controllers for tests: one counts the calls of another, one replays a written list of answers. Neither claims to be honest.
-ghost use Rattle.std.specs.Prelude.{false, None, []};
+//! Controllers for tests: one counts the calls of another and may answer one of them with a code, one replays a written
+//! list of answers, and one has a record for every id. None of them claims to be honest.
+ghost use Rattle.std.specs.Prelude.{◌≡◌, ◌+◌, ◌≤◌, length, drop};
+ghost use Rattle.ipmi_command_tests.specs.Controllers.{seen_calling};
 
 use ipmi_bus::{Code, Controller, Event, FruSize, Part, Shelf, Tally};
 use ipmi_text::Reading;
+use std::process::Abort;
+
+/// The code of an answer to a call that a controller of the tests has no answer for.
+const NO_ANSWER: Code = Code(0xFF);
 
 /// Passes each call on and counts it, but for one, which it answers with a code.
 #[derive(Drop)]
@@ -29,29 +35,26 @@ impl<C: Controller + Drop> Counting<C> {
             tally: Tally::new(),
         }
     }
-}
 
-impl<C: Controller + Drop> Controller for Counting<C> {
-    ghost seen = { λ c. record {
-      store = record { sdr = []; sel = []; inventories = []; readings = []; sdr_info = None; sel_info = None };
-      honest = false;
-      plain = false;
-      sdr_reservation = None;
-      sel_reservation = None;
-      calls = c.tally.counts.calls;
-      troubles = 0;
-      fresh_troubles = 0;
-      refusals = 0;
-      last_code = 0;
-      stores_added = 0;
-    } };
-
-    fn reserve(&mut self, shelf: Shelf) -> Result<u16, Code> {
+    /// Counts a call, which fails where it is the interrupted one.
+    fn count_call(&mut self) -> Result<(), Code>
+        ensures { self.new.tally.counts.calls ≡ self.old.tally.counts.calls + 1 }
+    {
         self.tally.count(Event::Called);
         self.calls = self.calls.saturating_add(1);
         if self.calls == self.interrupted {
-            return Err(Code(self.code));
+            Err(Code(self.code))
+        } else {
+            Ok(())
         }
+    }
+}
+
+impl<C: Controller + Drop> Controller for Counting<C> {
+    ghost seen = { λ c. seen_calling c.tally.counts };
+
+    fn reserve(&mut self, shelf: Shelf) -> Result<u16, Code> {
+        self.count_call()?;
         self.inner.reserve(shelf)
     }
 
@@ -63,53 +66,33 @@ impl<C: Controller + Drop> Controller for Counting<C> {
         offset: u8,
         into: &mut [u8],
     ) -> Result<Part, Code> {
-        self.tally.count(Event::Called);
-        self.calls = self.calls.saturating_add(1);
-        if self.calls == self.interrupted {
-            return Err(Code(self.code));
-        }
+        self.count_call()?;
         self.inner.part(shelf, reservation, id, offset, into)
     }
 
     fn info(&mut self, shelf: Shelf) -> Result<[u8; 14], Code> {
-        self.tally.count(Event::Called);
-        self.calls = self.calls.saturating_add(1);
-        if self.calls == self.interrupted {
-            return Err(Code(self.code));
-        }
+        self.count_call()?;
         self.inner.info(shelf)
     }
 
     fn reading(&mut self, lun: u8, number: u8) -> Result<Reading, Code> {
-        self.tally.count(Event::Called);
-        self.calls = self.calls.saturating_add(1);
-        if self.calls == self.interrupted {
-            return Err(Code(self.code));
-        }
+        self.count_call()?;
         self.inner.reading(lun, number)
     }
 
     fn fru_size(&mut self, id: u8) -> Result<FruSize, Code> {
-        self.tally.count(Event::Called);
-        self.calls = self.calls.saturating_add(1);
-        if self.calls == self.interrupted {
-            return Err(Code(self.code));
-        }
+        self.count_call()?;
         self.inner.fru_size(id)
     }
 
     fn fru_part(&mut self, id: u8, offset: u16, into: &mut [u8]) -> Result<u8, Code> {
-        self.tally.count(Event::Called);
-        self.calls = self.calls.saturating_add(1);
-        if self.calls == self.interrupted {
-            return Err(Code(self.code));
-        }
+        self.count_call()?;
         self.inner.fru_part(id, offset, into)
     }
 }
 
 /// What a call is answered.
-#[derive(Clone, Copy)]
+#[derive(Clone, Copy, Debug)]
 pub enum Reply {
     /// This code.
     Fails(u8),
@@ -123,6 +106,16 @@ pub enum Reply {
     Reads(Reading),
     /// An inventory of this size.
     Has(FruSize),
+}
+
+impl Reply {
+    /// The code that a call of another kind is answered.
+    fn code(self) -> Code {
+        match self {
+            Reply::Fails(code) => Code(code),
+            _ => NO_ANSWER,
+        }
+    }
 }
 
 /// Answers each call by the next reply, the last one again and again, and keeps what the last part was asked for.
@@ -145,42 +138,56 @@ impl<'a> Replay<'a> {
             tally: Tally::new(),
         }
     }
-}
 
-// The next reply, which is used up unless it is the last.
-fn next_reply(replies: &mut &[Reply]) -> Reply {
-    match *replies {
-        [] => Reply::Fails(0xFF),
-        [only] => *only,
-        [first, rest @ ..] => {
-            *replies = rest;
-            *first
+    /// Counts a call, and gives its reply, which is used up unless it is the last.
+    fn next_reply(&mut self) -> Reply
+        ensures { self.new.tally.counts.calls ≡ self.old.tally.counts.calls + 1 }
+    {
+        self.tally.count(Event::Called);
+        self.calls = self.calls.saturating_add(1);
+        match self.replies {
+            [] => Reply::Fails(NO_ANSWER.0),
+            [only] => *only,
+            [first, rest @ ..] => {
+                self.replies = rest;
+                *first
+            }
         }
+    }
+
+    /// The same for a part from this offset on, of so many bytes.
+    fn next_part(&mut self, offset: u16, room: usize) -> Reply
+        ensures { self.new.tally.counts.calls ≡ self.old.tally.counts.calls + 1 }
+    {
+        self.offset = offset;
+        self.room = room;
+        self.next_reply()
     }
 }
 
+/// Compares the offset and the length of the last part that was asked for.
+pub fn asked_last(rt: &impl Abort, ctl: &Replay, offset: u16, room: usize) {
+    assert!(rt; ctl.offset == offset, "from {} on", ctl.offset);
+    assert!(rt; ctl.room == room, "{} bytes", ctl.room);
+}
+
+/// Copies the bytes that there is room for, and says how many.
+fn give(bytes: &[u8], into: &mut [u8]) -> usize
+    ensures fits { result ≤ length into.old }
+    ensures rest { drop result into.new ≡ drop result into.old }
+{
+    let got = bytes.len().min(into.len());
+    into[..got].copy_from_slice(&bytes[..got]);
+    got
+}
+
 impl Controller for Replay<'_> {
-    ghost seen = { λ c. record {
-      store = record { sdr = []; sel = []; inventories = []; readings = []; sdr_info = None; sel_info = None };
-      honest = false;
-      plain = false;
-      sdr_reservation = None;
-      sel_reservation = None;
-      calls = c.tally.counts.calls;
-      troubles = 0;
-      fresh_troubles = 0;
-      refusals = 0;
-      last_code = 0;
-      stores_added = 0;
-    } };
+    ghost seen = { λ c. seen_calling c.tally.counts };
 
     fn reserve(&mut self, _shelf: Shelf) -> Result<u16, Code> {
-        self.tally.count(Event::Called);
-        self.calls = self.calls.saturating_add(1);
-        match next_reply(&mut self.replies) {
+        match self.next_reply() {
             Reply::Reserves(reservation) => Ok(reservation),
-            Reply::Fails(code) => Err(Code(code)),
-            _ => Err(Code(0xFF)),
+            other => Err(other.code()),
         }
     }
 
@@ -192,67 +199,40 @@ impl Controller for Replay<'_> {
         offset: u8,
         into: &mut [u8],
     ) -> Result<Part, Code> {
-        self.tally.count(Event::Called);
-        self.offset = u16::from(offset);
-        self.room = into.len();
-        self.calls = self.calls.saturating_add(1);
-        match next_reply(&mut self.replies) {
-            Reply::Gives(bytes, next) => {
-                let got = bytes.len().min(into.len());
-                into[..got].copy_from_slice(&bytes[..got]);
-                Ok(Part {
-                    next,
-                    got: got as u8,
-                })
-            }
-            Reply::Fails(code) => Err(Code(code)),
-            _ => Err(Code(0xFF)),
+        match self.next_part(u16::from(offset), into.len()) {
+            Reply::Gives(bytes, next) => Ok(Part {
+                next,
+                got: give(bytes, into) as u8,
+            }),
+            other => Err(other.code()),
         }
     }
 
     fn info(&mut self, _shelf: Shelf) -> Result<[u8; 14], Code> {
-        self.tally.count(Event::Called);
-        self.calls = self.calls.saturating_add(1);
-        match next_reply(&mut self.replies) {
+        match self.next_reply() {
             Reply::Tells(info) => Ok(info),
-            Reply::Fails(code) => Err(Code(code)),
-            _ => Err(Code(0xFF)),
+            other => Err(other.code()),
         }
     }
 
     fn reading(&mut self, _lun: u8, _number: u8) -> Result<Reading, Code> {
-        self.tally.count(Event::Called);
-        self.calls = self.calls.saturating_add(1);
-        match next_reply(&mut self.replies) {
+        match self.next_reply() {
             Reply::Reads(reading) => Ok(reading),
-            Reply::Fails(code) => Err(Code(code)),
-            _ => Err(Code(0xFF)),
+            other => Err(other.code()),
         }
     }
 
     fn fru_size(&mut self, _id: u8) -> Result<FruSize, Code> {
-        self.tally.count(Event::Called);
-        self.calls = self.calls.saturating_add(1);
-        match next_reply(&mut self.replies) {
+        match self.next_reply() {
             Reply::Has(size) => Ok(size),
-            Reply::Fails(code) => Err(Code(code)),
-            _ => Err(Code(0xFF)),
+            other => Err(other.code()),
         }
     }
 
     fn fru_part(&mut self, _id: u8, offset: u16, into: &mut [u8]) -> Result<u8, Code> {
-        self.tally.count(Event::Called);
-        self.offset = offset;
-        self.room = into.len();
-        self.calls = self.calls.saturating_add(1);
-        match next_reply(&mut self.replies) {
-            Reply::Gives(bytes, _) => {
-                let got = bytes.len().min(into.len());
-                into[..got].copy_from_slice(&bytes[..got]);
-                Ok(got as u8)
-            }
-            Reply::Fails(code) => Err(Code(code)),
-            _ => Err(Code(0xFF)),
+        match self.next_part(offset, into.len()) {
+            Reply::Gives(bytes, _) => Ok(give(bytes, into) as u8),
+            other => Err(other.code()),
         }
     }
 }
@@ -272,26 +252,21 @@ impl Endless {
             tally: Tally::new(),
         }
     }
+
+    /// Counts a call for a reservation or a part.
+    fn count_call(&mut self)
+        ensures { self.new.tally.counts.calls ≡ self.old.tally.counts.calls + 1 }
+    {
+        self.tally.count(Event::Called);
+        self.calls = self.calls.saturating_add(1);
+    }
 }
 
 impl Controller for Endless {
-    ghost seen = { λ c. record {
-      store = record { sdr = []; sel = []; inventories = []; readings = []; sdr_info = None; sel_info = None };
-      honest = false;
-      plain = false;
-      sdr_reservation = None;
-      sel_reservation = None;
-      calls = c.tally.counts.calls;
-      troubles = 0;
-      fresh_troubles = 0;
-      refusals = 0;
-      last_code = 0;
-      stores_added = 0;
-    } };
+    ghost seen = { λ c. seen_calling c.tally.counts };
 
     fn reserve(&mut self, _shelf: Shelf) -> Result<u16, Code> {
-        self.tally.count(Event::Called);
-        self.calls = self.calls.saturating_add(1);
+        self.count_call();
         Ok(1)
     }
 
@@ -303,35 +278,32 @@ impl Controller for Endless {
         _offset: u8,
         into: &mut [u8],
     ) -> Result<Part, Code> {
-        self.tally.count(Event::Called);
-        self.calls = self.calls.saturating_add(1);
+        self.count_call();
         let id_bytes = id.to_le_bytes();
         let record = [id_bytes[0], id_bytes[1], 0x51, 0xC0, 0x00];
-        let got = record.len().min(into.len());
-        into[..got].copy_from_slice(&record[..got]);
         Ok(Part {
             next: id.saturating_add(1),
-            got: got as u8,
+            got: give(&record, into) as u8,
         })
     }
 
     fn info(&mut self, _shelf: Shelf) -> Result<[u8; 14], Code> {
         self.tally.count(Event::Called);
-        Err(Code(0xFF))
+        Err(NO_ANSWER)
     }
 
     fn reading(&mut self, _lun: u8, _number: u8) -> Result<Reading, Code> {
         self.tally.count(Event::Called);
-        Err(Code(0xFF))
+        Err(NO_ANSWER)
     }
 
     fn fru_size(&mut self, _id: u8) -> Result<FruSize, Code> {
         self.tally.count(Event::Called);
-        Err(Code(0xFF))
+        Err(NO_ANSWER)
     }
 
     fn fru_part(&mut self, _id: u8, _offset: u16, _into: &mut [u8]) -> Result<u8, Code> {
         self.tally.count(Event::Called);
-        Err(Code(0xFF))
+        Err(NO_ANSWER)
     }
 }

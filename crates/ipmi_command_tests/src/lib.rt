@@ -2,10 +2,14 @@
 #![tactic(auto)]
 
 #[cfg(test)]
+mod bus;
+#[cfg(test)]
 mod command_line;
 #[cfg(test)]
 mod commands;
 #[cfg(test)]
 mod controllers;
+#[cfg(test)]
+mod output;
 #[cfg(test)]
 mod writers;

@@ -1,5 +1,24 @@
-//! Writers that fall short.
+//! Writers that fall short or are slow, and a comparison of what was written.
+ghost use Rattle.std.specs.Prelude.{◌≤◌, IfOk, length};
+
 use std::io::{Error, ErrorKind, Result, Write};
+use std::process::Abort;
+
+/// Compares the bytes that were written with a text.
+pub fn is_written(rt: &impl Abort, bytes: &[u8], text: &str) {
+    let written = str::from_utf8(bytes).expect(rt, "text");
+    assert!(rt; written == text, "{written:?} is written, not {text:?}");
+}
+
+/// Puts the first of the bytes after those that are there, this many at most.
+fn take_first(got: &mut Vec<u8>, bytes: &[u8], most: usize) -> Result<usize>
+    ensures offered { IfOk result (λ count. count ≤ length bytes.now) }
+    ensures most { IfOk result (λ count. count ≤ most) }
+{
+    let count = bytes.len().min(most);
+    got.extend_from_slice(&bytes[..count])?;
+    Ok(count)
+}
 
 /// Takes so many bytes in all, and then fails.
 #[derive(Drop)]
@@ -13,8 +32,7 @@ impl Write for Limited {
         if self.room == 0 {
             return Err(Error::from(ErrorKind::Other));
         }
-        let count = buf.len().min(self.room);
-        self.got.extend_from_slice(&buf[..count])?;
+        let count = take_first(&mut self.got, buf, self.room)?;
         self.room -= count;
         Ok(count)
     }
@@ -33,8 +51,7 @@ pub struct Full {
 
 impl Write for Full {
     fn write(&mut self, buf: &[u8]) -> Result<usize> {
-        let count = buf.len().min(self.room);
-        self.got.extend_from_slice(&buf[..count])?;
+        let count = take_first(&mut self.got, buf, self.room)?;
         self.room -= count;
         Ok(count)
     }
@@ -52,9 +69,7 @@ pub struct Narrow {
 
 impl Write for Narrow {
     fn write(&mut self, buf: &[u8]) -> Result<usize> {
-        let count = buf.len().min(1);
-        self.got.extend_from_slice(&buf[..count])?;
-        Ok(count)
+        take_first(&mut self.got, buf, 1)
     }
 
     fn flush(&mut self) -> Result<()> {
@@ -70,9 +85,7 @@ pub struct Slow {
 
 impl Write for Slow {
     fn write(&mut self, buf: &[u8]) -> Result<usize> {
-        let count = buf.len().min(3);
-        self.got.extend_from_slice(&buf[..count])?;
-        Ok(count)
+        take_first(&mut self.got, buf, 3)
     }
 
     fn flush(&mut self) -> Result<()> {

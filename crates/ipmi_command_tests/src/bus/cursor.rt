@@ -1,39 +1,26 @@
-use crate::controllers::{Counting, Replay, Reply};
-use ipmi_command_line::{Command, Task};
-use ipmi_commands::run;
-use ipmi_output::Written;
-use ipmi_bus::{Code, CodeClass, Cursor, Ended, Event, Place, Shelf, Tally};
-use ipmi_image::{Image, ImageController};
-use std::test::Fail;
+//! Codes and their classes, the ends of a listing by name, a later step, parts and ids.
+use crate::bus::listings::{Left, listed, listed_by_bytes, over};
+use crate::controllers::{Counting, Endless, Replay, Reply, asked_last};
+use ipmi_bus::{Code, CodeClass, Cursor, Ended, Event, Place, Record, Shelf, Tally};
+use std::alloc::Global;
+use std::process::Abort;
 
-const RECORD: Reply = Reply::Gives(&[0x01, 0x00, 0x51, 0xC0, 0x00], 0xFFFF);
-
-const CANCELLED: [Reply; 12] = [
-    Reply::Reserves(1),
-    Reply::Fails(0xC5),
-    Reply::Reserves(2),
-    Reply::Fails(0xC5),
-    Reply::Reserves(3),
-    Reply::Fails(0xC5),
-    Reply::Reserves(4),
-    Reply::Fails(0xC5),
-    Reply::Reserves(5),
-    Reply::Fails(0xC5),
-    Reply::Reserves(6),
-    Reply::Fails(0xC5),
-];
+/// Compares the class of the code with that of the table of codes.
+fn has_its_class(rt: &impl Abort, code: u8) {
+    let wanted = match code {
+        0xC5 => CodeClass::Cancelled,
+        0x81 | 0xC0 | 0xC3 => CodeClass::Busy,
+        0xC7 | 0xC8 | 0xCA => CodeClass::SmallerPart,
+        0xCB => CodeClass::NotPresent,
+        _ => CodeClass::Refusal,
+    };
+    assert!(rt; Code(code).class() == wanted, "{code}");
+}
 
 #[test]
 fn every_code_has_its_class(rt: HostRuntime) {
     for code in 0..=255u8 {
-        let class = match code {
-            0xC5 => CodeClass::Cancelled,
-            0x81 | 0xC0 | 0xC3 => CodeClass::Busy,
-            0xC7 | 0xC8 | 0xCA => CodeClass::SmallerPart,
-            0xCB => CodeClass::NotPresent,
-            _ => CodeClass::Refusal,
-        };
-        assert_eq!(rt; Code(code).class(), class, "{code}");
+        has_its_class(&rt, code);
     }
 }
 
@@ -41,97 +28,104 @@ fn every_code_has_its_class(rt: HostRuntime) {
 fn a_tally_takes_no_room(rt: HostRuntime) {
     let mut tally = Tally::new();
     tally.count(Event::Called);
-    assert_eq!(rt; size_of::<Tally>(), 0);
+    assert!(rt; size_of::<Tally>() == 0);
 }
 
-// What is said of a listing that a controller's answers end, and after how many calls.
+/// What a controller answers one call after another, with how many tries a record is read, and what is said of the
+/// listing after how many calls.
+#[derive(Clone, Copy, Debug)]
+struct Case {
+    replies: &'static [Reply],
+    tries: u8,
+    said: &'static str,
+    calls: u32,
+}
+
+const ENDINGS: [Case; 9] = [
+    Case {
+        replies: &[Reply::Fails(0xC5)],
+        tries: 0,
+        said: "gave up at 0000h\n",
+        calls: 1,
+    },
+    Case {
+        replies: &[Reply::Fails(0xCB)],
+        tries: 5,
+        said: "record 0000h refused with code CBh\n",
+        calls: 1,
+    },
+    Case {
+        replies: &[Reply::Fails(0xC7)],
+        tries: 5,
+        said: "record 0000h refused with code C7h\n",
+        calls: 1,
+    },
+    Case {
+        replies: &[Reply::Reserves(1), Reply::Fails(0xD4)],
+        tries: 5,
+        said: "record 0000h refused with code D4h\n",
+        calls: 2,
+    },
+    Case {
+        replies: &[Reply::Reserves(1), Reply::Fails(0xCA)],
+        tries: 5,
+        said: "stalled at 0000h\n",
+        calls: 4,
+    },
+    Case {
+        replies: &[Reply::Reserves(1), Reply::Gives(&[], 0xFFFF)],
+        tries: 5,
+        said: "stalled at 0000h\n",
+        calls: 2,
+    },
+    Case {
+        replies: &[
+            Reply::Reserves(1),
+            Reply::Gives(&[0x01, 0x00, 0x51, 0xC0, 0xFC], 0xFFFF),
+        ],
+        tries: 5,
+        said: "malformed record 0000h\n",
+        calls: 2,
+    },
+    Case {
+        replies: &[
+            Reply::Reserves(1),
+            Reply::Fails(0xC5),
+            Reply::Reserves(2),
+            Reply::Fails(0xC5),
+            Reply::Reserves(3),
+            Reply::Fails(0xC5),
+            Reply::Reserves(4),
+            Reply::Fails(0xC5),
+            Reply::Reserves(5),
+            Reply::Fails(0xC5),
+            Reply::Reserves(6),
+            Reply::Fails(0xC5),
+        ],
+        tries: 5,
+        said: "gave up at 0000h\n",
+        calls: 12,
+    },
+    Case {
+        replies: &[Reply::Reserves(1), Reply::Fails(0xC0)],
+        tries: 5,
+        said: "gave up at 0000h\n",
+        calls: 7,
+    },
+];
+
+/// Lists over a controller with these replies, and compares what is said after how many calls.
+fn ends_by_name(rt: &impl Abort, alloc: Global, case: &Case) {
+    let mut ctl = Counting::new(Replay::new(case.replies));
+    let left = listed(rt, alloc, &mut ctl, case.tries);
+    assert!(rt; left.is_ended(case.said, case.calls), "{case:?}: {left:?}");
+}
+
 #[test]
 fn answers_end_a_listing_by_name(rt: HostRuntime) {
-    let cases = [
-        (
-            0,
-            [Reply::Fails(0xC5)].as_slice(),
-            b"gave up at 0000h\n".as_slice(),
-            1,
-        ),
-        (
-            5,
-            &[Reply::Fails(0xCB)],
-            b"record 0000h refused with code CBh\n",
-            1,
-        ),
-        (
-            5,
-            &[Reply::Fails(0xC7)],
-            b"record 0000h refused with code C7h\n",
-            1,
-        ),
-        (
-            5,
-            &[Reply::Reserves(1), Reply::Fails(0xD4)],
-            b"record 0000h refused with code D4h\n",
-            2,
-        ),
-        (
-            5,
-            &[Reply::Reserves(1), Reply::Fails(0xCA)],
-            b"stalled at 0000h\n",
-            4,
-        ),
-        (
-            5,
-            &[Reply::Reserves(1), Reply::Gives(&[], 0xFFFF)],
-            b"stalled at 0000h\n",
-            2,
-        ),
-        (
-            5,
-            &[
-                Reply::Reserves(1),
-                Reply::Gives(&[0x01, 0x00, 0x51, 0xC0, 0xFC], 0xFFFF),
-            ],
-            b"malformed record 0000h\n",
-            2,
-        ),
-        (5, &CANCELLED, b"gave up at 0000h\n", 12),
-        (
-            5,
-            &[Reply::Reserves(1), Reply::Fails(0xC0)],
-            b"gave up at 0000h\n",
-            7,
-        ),
-    ];
-    for (tries, replies, said, calls) in cases {
-        let mut ctl = Replay::new(replies);
-        let command = Command::new(Task::Hex, None, 32, tries, None);
-        let mut out = Written::new(Vec::new(rt.alloc()));
-        let mut err = Vec::new(rt.alloc());
-        assert_eq!(rt; run(rt.alloc(), &mut ctl, &command, &mut out, &mut err), 1);
-        assert_eq!(rt; err.as_slice(), said);
-        assert_eq!(rt; ctl.calls, calls);
-        assert_eq!(rt; out.into_inner().len(), 0);
+    for case in &ENDINGS {
+        ends_by_name(&rt, rt.alloc(), case);
     }
-}
-
-#[test]
-fn a_later_step_tries_again(rt: HostRuntime) -> Result<(), Fail> {
-    let replies = [Reply::Fails(0xC5), Reply::Reserves(1), RECORD];
-    let mut ctl = Replay::new(&replies);
-    let mut cursor = Cursor::start(rt.alloc(), Shelf::Sdr, None, 32, 0)?;
-    assert!(rt; matches!(cursor.step(&mut ctl), Err(Ended::GaveUp(0))));
-    assert_eq!(rt; cursor.resume_at(), Place::First);
-    match cursor.step(&mut ctl) {
-        Ok(Some(record)) => {
-            assert_eq!(rt; record.id, 1);
-            assert_eq!(rt; record.next, 0xFFFF);
-            assert_eq!(rt; record.bytes, [0x01, 0x00, 0x51, 0xC0, 0x00].as_slice());
-        }
-        _ => panic!(rt; "no record"),
-    }
-    assert_eq!(rt; cursor.resume_at(), Place::End);
-    assert!(rt; matches!(cursor.step(&mut ctl), Ok(None)));
-    assert_eq!(rt; ctl.calls, 3);
-    Ok(())
 }
 
 #[test]
@@ -141,38 +135,103 @@ fn a_short_part_is_kept(rt: HostRuntime) {
         Reply::Gives(&[0x01, 0x00], 0xFFFF),
         Reply::Gives(&[0x51, 0xC0, 0x00], 0xFFFF),
     ];
-    let mut ctl = Replay::new(&replies);
-    let command = Command::new(Task::Hex, None, 32, 5, None);
-    let mut out = Written::new(Vec::new(rt.alloc()));
-    let mut err = Vec::new(rt.alloc());
-    assert_eq!(rt; run(rt.alloc(), &mut ctl, &command, &mut out, &mut err), 0);
-    assert_eq!(rt;
-        out.into_inner().as_slice(),
-        b"sdr 0001 ffff 010051c000\n".as_slice()
-    );
-    assert_eq!(rt; err.len(), 0);
-    assert_eq!(rt; (ctl.calls, ctl.offset, ctl.room), (3, 2, 3));
+    let mut ctl = Counting::new(Replay::new(&replies));
+    let left = listed(&rt, rt.alloc(), &mut ctl, 5);
+    assert!(rt; left.is_done("sdr 0001 ffff 010051c000\n", 3), "{left:?}");
+    asked_last(&rt, &ctl.inner, 2, 3);
 }
 
-// A record of 256 bytes in parts of one: a reservation and a call for each byte.
-#[test]
-fn the_longest_record_is_read(rt: HostRuntime) -> Result<(), Fail> {
-    let mut line = String::from_str(rt.alloc(), "sdr 0001 ffff 010051c0fb")?;
+/// The image line of a record of 256 bytes.
+fn longest_line(rt: &impl Abort, alloc: Global) -> String {
+    let mut line = String::from_str(alloc, "sdr 0001 ffff 010051c0fb").expect(rt, "memory");
     for _ in 0..251 {
-        line.push_str("a5")?;
+        line.push_str("a5").expect(rt, "memory");
     }
-    line.push_str("\n")?;
-    let mut text = String::from_str(rt.alloc(), "ipmi-image 1\n")?;
-    text.push_str(&line)?;
-    text.push_str("end\n")?;
-    let image = Image::read(rt.alloc(), text.as_bytes())?;
-    let mut ctl = Counting::new(ImageController::new(image));
-    let command = Command::new(Task::Hex, None, 1, 5, None);
-    let mut out = Written::new(Vec::new(rt.alloc()));
-    let mut err = Vec::new(rt.alloc());
-    assert_eq!(rt; run(rt.alloc(), &mut ctl, &command, &mut out, &mut err), 0);
-    assert_eq!(rt; ctl.calls, 257);
-    assert_eq!(rt; out.into_inner().as_slice(), line.as_bytes());
-    assert_eq!(rt; err.len(), 0);
-    Ok(())
+    line.push_str("\n").expect(rt, "memory");
+    line
+}
+
+/// Lists the record of this line in parts of one byte.
+fn line_listed(rt: &impl Abort, alloc: Global, line: &str) -> Left {
+    let image = format!(in alloc; "ipmi-image 1\n{line}end\n").expect(rt, "memory");
+    let mut ctl = Counting::new(over(rt, alloc, &image));
+    listed_by_bytes(rt, alloc, &mut ctl)
+}
+
+// A reservation, and a call for each of the 256 bytes.
+#[test]
+fn the_longest_record_is_read(rt: HostRuntime) {
+    let line = longest_line(&rt, rt.alloc());
+    let left = line_listed(&rt, rt.alloc(), &line);
+    assert!(rt; left.is_done(&line, 257), "{left:?}");
+}
+
+/// A cursor over sensor data records, which asks for 32 bytes at once.
+fn cursor(rt: &impl Abort, alloc: Global, tries: u8) -> Cursor {
+    Cursor::start(alloc, Shelf::Sdr, None, 32, tries).expect(rt, "memory")
+}
+
+/// Compares a record of five bytes that comes last.
+fn is_last_record(rt: &impl Abort, record: &Record) {
+    assert!(rt; record.id == 1, "{}", record.id);
+    assert!(rt; record.next == 0xFFFF, "{}", record.next);
+    assert!(rt;
+        record.bytes == [0x01, 0x00, 0x51, 0xC0, 0x00].as_slice(),
+        "{record:?}"
+    );
+}
+
+/// Makes a step that hands out a record.
+fn hands_out_record(rt: &impl Abort, cursor: &mut Cursor, ctl: &mut Replay) {
+    match cursor.step(ctl) {
+        Ok(Some(record)) => is_last_record(rt, &record),
+        _ => panic!(rt; "no record"),
+    }
+}
+
+#[test]
+fn a_later_step_tries_again(rt: HostRuntime) {
+    let replies = [
+        Reply::Fails(0xC5),
+        Reply::Reserves(1),
+        Reply::Gives(&[0x01, 0x00, 0x51, 0xC0, 0x00], 0xFFFF),
+    ];
+    let mut ctl = Replay::new(&replies);
+    let mut cursor = cursor(&rt, rt.alloc(), 0);
+    assert!(rt; matches!(cursor.step(&mut ctl), Err(Ended::GaveUp(0))));
+    assert!(rt; cursor.resume_at() == Place::First);
+    hands_out_record(&rt, &mut cursor, &mut ctl);
+    assert!(rt; cursor.resume_at() == Place::End);
+    assert!(rt; matches!(cursor.step(&mut ctl), Ok(None)));
+    assert!(rt; ctl.calls == 3, "{} calls", ctl.calls);
+}
+
+/// The id of the next record.
+fn next_id(cursor: &mut Cursor, ctl: &mut Endless) -> Option<u16> {
+    match cursor.step(ctl) {
+        Ok(Some(record)) => Some(record.id),
+        _ => None,
+    }
+}
+
+/// How many records are handed out whose ids count up from 0000h.
+fn records_in_order(cursor: &mut Cursor, ctl: &mut Endless) -> u32 {
+    let mut count = 0u32;
+    for _ in 0..70_000u32 {
+        match next_id(cursor, ctl) {
+            Some(id) if u32::from(id) == count => count = count.saturating_add(1),
+            _ => break,
+        }
+    }
+    count
+}
+
+#[test]
+fn every_id_is_handed_out_once(rt: HostRuntime) {
+    let mut ctl = Endless::new();
+    let mut cursor = cursor(&rt, rt.alloc(), 5);
+    let records = records_in_order(&mut cursor, &mut ctl);
+    assert!(rt; records == 65_535, "{records} records");
+    assert!(rt; cursor.resume_at() == Place::End);
+    assert!(rt; ctl.calls == 65_536, "{} calls", ctl.calls);
 }

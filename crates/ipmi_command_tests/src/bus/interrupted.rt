@@ -1,47 +1,41 @@
-use crate::controllers::{Counting, Endless};
-use crate::commands::listed::{Left, THREE_LINES, THREE_ROWS, listed};
-use ipmi_bus::{Cursor, Place, Shelf};
-use ipmi_image::{Image, ImageController};
+//! A listing with one of its calls answered by a busy code.
+use crate::bus::listings::{Left, listed, over};
+use crate::controllers::Counting;
 use std::alloc::Global;
-use std::test::Fail;
+use std::process::Abort;
 
-// What a listing left with one try whose call with this number was answered with the code.
-fn met(alloc: Global, interrupted: u32, code: u8) -> Result<Left, Fail> {
-    let image = Image::read(alloc, THREE_ROWS)?;
-    let ctl = Counting::interrupting(ImageController::new(image), interrupted, code);
-    Ok(listed(alloc, ctl, 1))
+const THREE_ROWS: &str = "ipmi-image 1
+sdr 0001 0002 010051c001aa
+sdr 0002 0003 020051c002bbcc
+sdr 0003 ffff 030051c000
+end
+";
+
+const THREE_LINES: &str = "sdr 0001 0002 010051c001aa
+sdr 0002 0003 020051c002bbcc
+sdr 0003 ffff 030051c000
+";
+
+/// Lists the three records with one try, where the call with this number is answered with the code.
+fn interrupted(rt: &impl Abort, alloc: Global, call: u32, code: u8) -> Left {
+    let mut ctl = Counting::interrupting(over(rt, alloc, THREE_ROWS), call, code);
+    listed(rt, alloc, &mut ctl, 1)
 }
 
-// Two calls read the first record past its reservation, two the second and one the third.
-#[test]
-fn a_busy_code_is_one_call_more(rt: HostRuntime) -> Result<(), Fail> {
-    for code in [0xC3, 0x81] {
-        for call in 1..=6 {
-            let left = met(rt.alloc(), call, code)?;
-            assert_eq!(rt; left.out.as_slice(), THREE_LINES);
-            assert_eq!(rt; left.err.len(), 0);
-            assert_eq!(rt; (left.status, left.calls), (0, 7));
-        }
-    }
-    Ok(())
+/// Compares what is left with three lines after seven calls.
+fn is_one_call_more(rt: &impl Abort, alloc: Global, call: u32, code: u8) {
+    let left = interrupted(rt, alloc, call, code);
+    assert!(rt;
+        left.is_done(THREE_LINES, 7),
+        "code {code:02X}h at call {call}: {left:?}"
+    );
 }
 
+// Two calls read the first record after its reservation, two the second and one the third.
 #[test]
-fn every_id_is_handed_out_once(rt: HostRuntime) -> Result<(), Fail> {
-    let mut ctl = Endless::new();
-    let mut cursor = Cursor::start(rt.alloc(), Shelf::Sdr, None, 32, 5)?;
-    let mut next = 0u32;
-    for _ in 0..70_000u32 {
-        match cursor.step(&mut ctl) {
-            Ok(Some(record)) => {
-                assert_eq!(rt; u32::from(record.id), next);
-                next = next.saturating_add(1);
-            }
-            _ => break,
-        }
+fn a_busy_code_is_one_call_more(rt: HostRuntime) {
+    for call in 1..=6 {
+        is_one_call_more(&rt, rt.alloc(), call, 0xC3);
+        is_one_call_more(&rt, rt.alloc(), call, 0x81);
     }
-    assert_eq!(rt; next, 65_535);
-    assert_eq!(rt; cursor.resume_at(), Place::End);
-    assert_eq!(rt; ctl.calls, 65_536);
-    Ok(())
 }

@@ -1,7 +1,25 @@
-use crate::controllers::{Replay, Reply};
+//! Readings, infos and inventories over replayed answers, and how many calls they take.
+use crate::controllers::{Replay, Reply, asked_last};
 use ipmi_bus::{Code, Ended, FruEnded, FruSize, Shelf, read_fru, read_info, read_reading};
 use ipmi_text::Reading;
-use std::test::Fail;
+use std::alloc::Global;
+use std::fmt::Debug;
+use std::process::Abort;
+
+/// Replies, the number of tries, and what is read with how many calls.
+#[derive(Clone, Copy, Debug)]
+struct Case<T> {
+    replies: &'static [Reply],
+    tries: u8,
+    wanted: T,
+    calls: u32,
+}
+
+/// Compares what was read, and the number of calls.
+fn compare<T: Debug + PartialEq>(rt: &impl Abort, case: &Case<T>, got: &T, calls: u32) {
+    assert!(rt; *got == case.wanted, "{case:?}: {got:?}");
+    assert!(rt; calls == case.calls, "{case:?}: {calls} calls");
+}
 
 const READING: Reading = Reading {
     raw: 0x2D,
@@ -10,136 +28,210 @@ const READING: Reading = Reading {
     more: 0x00,
 };
 
+const READINGS: [Case<Result<Option<Reading>, Ended>>; 6] = [
+    Case {
+        replies: &[Reply::Reads(READING)],
+        tries: 0,
+        wanted: Ok(Some(READING)),
+        calls: 1,
+    },
+    Case {
+        replies: &[
+            Reply::Fails(0xC0),
+            Reply::Fails(0xC5),
+            Reply::Reads(READING),
+        ],
+        tries: 2,
+        wanted: Ok(Some(READING)),
+        calls: 3,
+    },
+    Case {
+        replies: &[Reply::Fails(0xCB)],
+        tries: 0,
+        wanted: Ok(None),
+        calls: 1,
+    },
+    Case {
+        replies: &[Reply::Fails(0xC3)],
+        tries: 1,
+        wanted: Err(Ended::GaveUp(7)),
+        calls: 2,
+    },
+    Case {
+        replies: &[Reply::Fails(0xC7)],
+        tries: 5,
+        wanted: Err(Ended::Refused(7, Code(0xC7))),
+        calls: 1,
+    },
+    Case {
+        replies: &[Reply::Fails(0xD4)],
+        tries: 5,
+        wanted: Err(Ended::Refused(7, Code(0xD4))),
+        calls: 1,
+    },
+];
+
+/// Reads a reading for the record 0007h.
+fn reading_is_read(rt: &impl Abort, case: &Case<Result<Option<Reading>, Ended>>) {
+    let mut ctl = Replay::new(case.replies);
+    let reading = read_reading(&mut ctl, 7, 0, 1, case.tries);
+    compare(rt, case, &reading, ctl.calls);
+}
+
+#[test]
+fn a_reading_is_asked_for_until_it_comes(rt: HostRuntime) {
+    for case in &READINGS {
+        reading_is_read(&rt, case);
+    }
+}
+
 const INFO: [u8; 14] = [
     0x51, 3, 0, 0, 4, 1, 0, 0, 0x20, 0xFF, 0xFF, 0xFF, 0xFF, 0x02,
 ];
 
-#[test]
-fn a_reading_is_asked_for_until_it_comes(rt: HostRuntime) {
-    let cases = [
-        ([Reply::Reads(READING)].as_slice(), 0, Ok(Some(READING)), 1),
-        (
-            &[
-                Reply::Fails(0xC0),
-                Reply::Fails(0xC5),
-                Reply::Reads(READING),
-            ],
-            2,
-            Ok(Some(READING)),
-            3,
-        ),
-        (&[Reply::Fails(0xCB)], 0, Ok(None), 1),
-        (&[Reply::Fails(0xC3)], 1, Err(Ended::GaveUp(7)), 2),
-        (
-            &[Reply::Fails(0xC7)],
-            5,
-            Err(Ended::Refused(7, Code(0xC7))),
-            1,
-        ),
-        (
-            &[Reply::Fails(0xD4)],
-            5,
-            Err(Ended::Refused(7, Code(0xD4))),
-            1,
-        ),
-    ];
-    for (replies, tries, reading, calls) in cases {
-        let mut ctl = Replay::new(replies);
-        assert_eq!(rt; read_reading(&mut ctl, 7, 0, 1, tries), reading);
-        assert_eq!(rt; ctl.calls, calls);
-    }
+const INFOS: [Case<Result<Option<[u8; 14]>, Ended>>; 5] = [
+    Case {
+        replies: &[Reply::Tells(INFO)],
+        tries: 0,
+        wanted: Ok(Some(INFO)),
+        calls: 1,
+    },
+    Case {
+        replies: &[Reply::Fails(0x81), Reply::Tells(INFO)],
+        tries: 1,
+        wanted: Ok(Some(INFO)),
+        calls: 2,
+    },
+    Case {
+        replies: &[Reply::Fails(0xCB)],
+        tries: 0,
+        wanted: Ok(None),
+        calls: 1,
+    },
+    Case {
+        replies: &[Reply::Fails(0xC5)],
+        tries: 0,
+        wanted: Err(Ended::GaveUp(0)),
+        calls: 1,
+    },
+    Case {
+        replies: &[Reply::Fails(0xC1)],
+        tries: 5,
+        wanted: Err(Ended::Refused(0, Code(0xC1))),
+        calls: 1,
+    },
+];
+
+/// Reads the info of the event log.
+fn info_is_read(rt: &impl Abort, case: &Case<Result<Option<[u8; 14]>, Ended>>) {
+    let mut ctl = Replay::new(case.replies);
+    let info = read_info(&mut ctl, Shelf::Sel, case.tries);
+    compare(rt, case, &info, ctl.calls);
 }
 
 #[test]
 fn an_info_is_asked_for_until_it_comes(rt: HostRuntime) {
-    let cases = [
-        ([Reply::Tells(INFO)].as_slice(), 0, Ok(Some(INFO)), 1),
-        (
-            &[Reply::Fails(0x81), Reply::Tells(INFO)],
-            1,
-            Ok(Some(INFO)),
-            2,
-        ),
-        (&[Reply::Fails(0xCB)], 0, Ok(None), 1),
-        (&[Reply::Fails(0xC5)], 0, Err(Ended::GaveUp(0)), 1),
-        (
-            &[Reply::Fails(0xC1)],
-            5,
-            Err(Ended::Refused(0, Code(0xC1))),
-            1,
-        ),
-    ];
-    for (replies, tries, info, calls) in cases {
-        let mut ctl = Replay::new(replies);
-        assert_eq!(rt; read_info(&mut ctl, Shelf::Sel, tries), info);
-        assert_eq!(rt; ctl.calls, calls);
+    for case in &INFOS {
+        info_is_read(&rt, case);
     }
 }
-
-const THREE_BYTES: Reply = Reply::Has(FruSize {
-    size: 3,
-    words: false,
-});
 
 const EIGHT_BYTES: Reply = Reply::Has(FruSize {
     size: 8,
     words: false,
 });
 
-const EIGHT_WORDS: Reply = Reply::Has(FruSize {
-    size: 8,
-    words: true,
-});
+const ENDED_INVENTORIES: [Case<FruEnded>; 7] = [
+    Case {
+        replies: &[Reply::Has(FruSize {
+            size: 8,
+            words: true,
+        })],
+        tries: 5,
+        wanted: FruEnded::Words,
+        calls: 1,
+    },
+    Case {
+        replies: &[EIGHT_BYTES, Reply::Gives(&[], 0)],
+        tries: 5,
+        wanted: FruEnded::Stalled,
+        calls: 2,
+    },
+    Case {
+        replies: &[EIGHT_BYTES, Reply::Fails(0xCA)],
+        tries: 5,
+        wanted: FruEnded::Stalled,
+        calls: 5,
+    },
+    Case {
+        replies: &[Reply::Fails(0xCB)],
+        tries: 5,
+        wanted: FruEnded::Refused(Code(0xCB)),
+        calls: 1,
+    },
+    Case {
+        replies: &[Reply::Fails(0xC7)],
+        tries: 5,
+        wanted: FruEnded::Refused(Code(0xC7)),
+        calls: 1,
+    },
+    Case {
+        replies: &[EIGHT_BYTES, Reply::Fails(0xD4)],
+        tries: 5,
+        wanted: FruEnded::Refused(Code(0xD4)),
+        calls: 2,
+    },
+    Case {
+        replies: &[Reply::Fails(0xC0)],
+        tries: 5,
+        wanted: FruEnded::GaveUp,
+        calls: 6,
+    },
+];
 
-#[test]
-fn an_inventory_is_read_in_parts(rt: HostRuntime) -> Result<(), Fail> {
-    let replies = [
-        Reply::Fails(0x81),
-        THREE_BYTES,
-        Reply::Gives(&[1, 2], 0),
-        Reply::Fails(0xC0),
-        Reply::Gives(&[3], 0),
-    ];
-    let mut ctl = Replay::new(&replies);
-    let bytes = read_fru(rt.alloc(), &mut ctl, 0, 2, 2)?;
-    assert_eq!(rt; bytes.as_slice(), [1, 2, 3].as_slice());
-    assert_eq!(rt; (ctl.calls, ctl.offset, ctl.room), (5, 2, 1));
-    let mut ctl = Replay::new(&replies);
-    assert!(rt;
-        matches!(
-            read_fru(rt.alloc(), &mut ctl, 0, 2, 1),
-            Err(FruEnded::GaveUp)
-        )
-    );
-    Ok(())
+/// Asks for an inventory in parts of 32 bytes, which doesn't come.
+fn inventory_ends(rt: &impl Abort, alloc: Global, case: &Case<FruEnded>) {
+    let mut ctl = Replay::new(case.replies);
+    let ended = read_fru(alloc, &mut ctl, 0, 32, case.tries).expect_err(rt, "no inventory");
+    compare(rt, case, &ended, ctl.calls);
 }
 
 #[test]
 fn an_inventory_ends_by_name(rt: HostRuntime) {
-    let cases = [
-        ([EIGHT_WORDS].as_slice(), FruEnded::Words, 1),
-        (&[EIGHT_BYTES, Reply::Gives(&[], 0)], FruEnded::Stalled, 2),
-        (&[EIGHT_BYTES, Reply::Fails(0xCA)], FruEnded::Stalled, 5),
-        (&[Reply::Fails(0xCB)], FruEnded::Refused(Code(0xCB)), 1),
-        (&[Reply::Fails(0xC7)], FruEnded::Refused(Code(0xC7)), 1),
-        (
-            &[EIGHT_BYTES, Reply::Fails(0xD4)],
-            FruEnded::Refused(Code(0xD4)),
-            2,
-        ),
-        (&[Reply::Fails(0xC0)], FruEnded::GaveUp, 6),
-    ];
-    for (replies, ended, calls) in cases {
-        let mut ctl = Replay::new(replies);
-        match read_fru(rt.alloc(), &mut ctl, 0, 32, 5) {
-            Ok(_) => panic!(rt; "an inventory"),
-            Err(e) => assert_eq!(rt; e, ended),
-        }
-        assert_eq!(rt; ctl.calls, calls);
+    for case in &ENDED_INVENTORIES {
+        inventory_ends(&rt, rt.alloc(), case);
     }
 }
 
-const BYTE_INVENTORY: [Reply; 2] = [
+/// An inventory of three bytes in two parts, with two troubles on the way.
+const TWO_TROUBLES: [Reply; 5] = [
+    Reply::Fails(0x81),
+    Reply::Has(FruSize {
+        size: 3,
+        words: false,
+    }),
+    Reply::Gives(&[1, 2], 0),
+    Reply::Fails(0xC0),
+    Reply::Gives(&[3], 0),
+];
+
+#[test]
+fn an_inventory_is_read_in_parts(rt: HostRuntime) {
+    let mut ctl = Replay::new(&TWO_TROUBLES);
+    let bytes = read_fru(rt.alloc(), &mut ctl, 0, 2, 2).expect(&rt, "an inventory");
+    assert!(rt; bytes.as_slice() == [1, 2, 3].as_slice(), "{bytes:?}");
+    assert!(rt; ctl.calls == 5, "{} calls", ctl.calls);
+    asked_last(&rt, &ctl, 2, 1);
+}
+
+#[test]
+fn an_inventory_meets_as_many_troubles_as_there_are_tries(rt: HostRuntime) {
+    let mut ctl = Replay::new(&TWO_TROUBLES);
+    let ended = read_fru(rt.alloc(), &mut ctl, 0, 2, 1).err();
+    assert!(rt; ended == Some(FruEnded::GaveUp), "{ended:?}");
+}
+
+const ONE_BYTE: [Reply; 2] = [
     Reply::Has(FruSize {
         size: 1,
         words: false,
@@ -147,20 +239,27 @@ const BYTE_INVENTORY: [Reply; 2] = [
     Reply::Gives(&[7], 0),
 ];
 
+/// Compares an inventory of the one byte.
+fn is_one_byte(rt: &impl Abort, bytes: &[u8]) {
+    assert!(rt; bytes == [7].as_slice(), "{bytes:?}");
+}
+
 #[test]
-fn an_inventory_has_memory(rt: HostRuntime) -> Result<(), Fail> {
-    let mut ctl = Replay::new(&BYTE_INVENTORY);
-    let bytes = read_fru(rt.alloc(), &mut ctl, 0, 32, 5)?;
-    assert_eq!(rt; bytes.as_slice(), [7].as_slice());
-    Ok(())
+fn an_inventory_has_memory(rt: HostRuntime) {
+    let mut ctl = Replay::new(&ONE_BYTE);
+    let bytes = read_fru(rt.alloc(), &mut ctl, 0, 32, 5).expect(&rt, "an inventory");
+    is_one_byte(&rt, &bytes);
 }
 
 // Where memory is refused, only the size was asked for.
 #[test]
 fn memory_may_be_refused(rt: HostRuntime) {
-    let mut ctl = Replay::new(&BYTE_INVENTORY);
+    let mut ctl = Replay::new(&ONE_BYTE);
     match read_fru(rt.alloc(), &mut ctl, 0, 32, 5) {
-        Ok(bytes) => assert_eq!(rt; bytes.as_slice(), [7].as_slice()),
-        Err(e) => assert_eq!(rt; (e, ctl.calls), (FruEnded::Memory, 1)),
+        Ok(bytes) => is_one_byte(&rt, &bytes),
+        Err(ended) => {
+            assert!(rt; ended == FruEnded::Memory, "{ended:?}");
+            assert!(rt; ctl.calls == 1, "{} calls", ctl.calls);
+        }
     }
 }

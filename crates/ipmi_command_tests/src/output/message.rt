@@ -1,119 +1,199 @@
-use crate::writers::{Full, Idle, Limited, Slow};
-use ipmi_output::{Message, say, write_message};
-use ipmi_output::MessageSink;
-use ipmi_output::{SinkFault, Written};
+//! The line of each message, and what writers that fall short hold of one.
+use crate::writers::{Full, Idle, Limited, Slow, is_written};
 use ipmi_bus::{Code, Ended};
 use ipmi_image::ImageFault;
+use ipmi_output::{Message, MessageSink, SinkFault, Written, say, write_message};
+use std::alloc::Global;
+use std::process::Abort;
 
-const REFUSED: Message<'static> = Message::Ended(Ended::Refused(0x0002, Code(0xD4)));
+/// A message and its line.
+#[derive(Clone, Copy)]
+struct Case {
+    message: Message<'static>,
+    line: &'static str,
+}
 
-const REFUSED_LINE: &[u8] = b"record 0002h refused with code D4h\n";
+const REFUSED: Case = Case {
+    message: Message::Ended(Ended::Refused(0x0002, Code(0xD4))),
+    line: "record 0002h refused with code D4h\n",
+};
 
-const TWICE: Message<'static> = Message::Image(ImageFault::Twice(107));
+const TWICE: Case = Case {
+    message: Message::Image(ImageFault::Twice(107)),
+    line: "image line 107: twice\n",
+};
 
-const TWICE_LINE: &[u8] = b"image line 107: twice\n";
+const UNREAD: Case = Case {
+    message: Message::CannotRead("saved.image"),
+    line: "cannot read saved.image\n",
+};
 
-const UNREAD: Message<'static> = Message::CannotRead("saved.image");
+/// Says the message, and compares the line.
+fn is_said(rt: &impl Abort, alloc: Global, case: &Case) {
+    let mut err = Vec::new(alloc);
+    say(&mut err, case.message);
+    is_written(rt, &err, case.line);
+}
 
-const UNREAD_LINE: &[u8] = b"cannot read saved.image\n";
+fn are_said(rt: &impl Abort, alloc: Global, cases: &[Case]) {
+    for case in cases {
+        is_said(rt, alloc, case);
+    }
+}
+
+const OF_THE_PROGRAM: [Case; 5] = [
+    Case {
+        message: Message::Usage,
+        line: "usage: ipmitool [--image FILE] [--from HEX4] [--part N] [--tries N] fru|sdr|sel WORDS\n",
+    },
+    Case {
+        message: Message::CannotRead("FILE"),
+        line: "cannot read FILE\n",
+    },
+    Case {
+        message: Message::CannotRead(""),
+        line: "cannot read \n",
+    },
+    Case {
+        message: Message::WriteFault,
+        line: "write fault\n",
+    },
+    Case {
+        message: Message::OutOfMemory,
+        line: "out of memory\n",
+    },
+];
 
 #[test]
 fn messages_of_the_program_are_lines(rt: HostRuntime) {
-    let cases = [
-        (
-            Message::Usage,
-            b"usage: ipmitool [--image FILE] [--from HEX4] [--part N] [--tries N] fru|sdr|sel WORDS\n".as_slice(),
-        ),
-        (Message::CannotRead("FILE"), b"cannot read FILE\n"),
-        (Message::CannotRead(""), b"cannot read \n"),
-        (Message::WriteFault, b"write fault\n"),
-        (Message::OutOfMemory, b"out of memory\n"),
-    ];
-    for (message, line) in cases {
-        let mut err = Vec::new(rt.alloc());
-        say(&mut err, message);
-        assert_eq!(rt; err.as_slice(), line);
-    }
+    are_said(&rt, rt.alloc(), &OF_THE_PROGRAM);
 }
+
+const OF_ENDED_LISTINGS: [Case; 8] = [
+    Case {
+        message: Message::Ended(Ended::Cycle(0x0007)),
+        line: "cycle at 0007h\n",
+    },
+    Case {
+        message: Message::Ended(Ended::Missing(0x0009)),
+        line: "record 0009h not present\n",
+    },
+    Case {
+        message: Message::Ended(Ended::Missing(0x1A2B)),
+        line: "record 1A2Bh not present\n",
+    },
+    REFUSED,
+    Case {
+        message: Message::Ended(Ended::Refused(0xC3FF, Code(0x0A))),
+        line: "record C3FFh refused with code 0Ah\n",
+    },
+    Case {
+        message: Message::Ended(Ended::GaveUp(0x0000)),
+        line: "gave up at 0000h\n",
+    },
+    Case {
+        message: Message::Ended(Ended::Stalled(0x0000)),
+        line: "stalled at 0000h\n",
+    },
+    Case {
+        message: Message::Ended(Ended::Malformed(0xFFFE)),
+        line: "malformed record FFFEh\n",
+    },
+];
 
 #[test]
 fn ended_listings_name_the_record(rt: HostRuntime) {
-    let cases = [
-        (Ended::Cycle(0x0007), b"cycle at 0007h\n".as_slice()),
-        (Ended::Missing(0x0009), b"record 0009h not present\n"),
-        (Ended::Missing(0x1A2B), b"record 1A2Bh not present\n"),
-        (Ended::Refused(0x0002, Code(0xD4)), REFUSED_LINE),
-        (
-            Ended::Refused(0xC3FF, Code(0x0A)),
-            b"record C3FFh refused with code 0Ah\n",
-        ),
-        (Ended::GaveUp(0x0000), b"gave up at 0000h\n"),
-        (Ended::Stalled(0x0000), b"stalled at 0000h\n"),
-        (Ended::Malformed(0xFFFE), b"malformed record FFFEh\n"),
-    ];
-    for (ended, line) in cases {
-        let mut err = Vec::new(rt.alloc());
-        say(&mut err, Message::Ended(ended));
-        assert_eq!(rt; err.as_slice(), line);
-    }
+    are_said(&rt, rt.alloc(), &OF_ENDED_LISTINGS);
 }
+
+const OF_IMAGE_FAULTS: [Case; 11] = [
+    Case {
+        message: Message::Image(ImageFault::Memory),
+        line: "out of memory\n",
+    },
+    Case {
+        message: Message::Image(ImageFault::Header),
+        line: "image: header\n",
+    },
+    Case {
+        message: Message::Image(ImageFault::Line(12)),
+        line: "image line 12: not a line\n",
+    },
+    Case {
+        message: Message::Image(ImageFault::Hex(2)),
+        line: "image line 2: hex\n",
+    },
+    Case {
+        message: Message::Image(ImageFault::Id(30)),
+        line: "image line 30: id\n",
+    },
+    TWICE,
+    Case {
+        message: Message::Image(ImageFault::Length(9)),
+        line: "image line 9: length\n",
+    },
+    Case {
+        message: Message::Image(ImageFault::FirstId(10)),
+        line: "image line 10: first id\n",
+    },
+    Case {
+        message: Message::Image(ImageFault::NoEnd),
+        line: "image: no end\n",
+    },
+    Case {
+        message: Message::Image(ImageFault::AfterEnd(65536)),
+        line: "image line 65536: after end\n",
+    },
+    Case {
+        message: Message::Image(ImageFault::TooMany(usize::MAX)),
+        line: "image line 18446744073709551615: too many bytes\n",
+    },
+];
 
 #[test]
 fn image_faults_name_the_line(rt: HostRuntime) {
-    let cases = [
-        (ImageFault::Memory, b"out of memory\n".as_slice()),
-        (ImageFault::Header, b"image: header\n"),
-        (ImageFault::Line(12), b"image line 12: not a line\n"),
-        (ImageFault::Hex(2), b"image line 2: hex\n"),
-        (ImageFault::Id(30), b"image line 30: id\n"),
-        (ImageFault::Twice(107), TWICE_LINE),
-        (ImageFault::Length(9), b"image line 9: length\n"),
-        (ImageFault::FirstId(10), b"image line 10: first id\n"),
-        (ImageFault::NoEnd, b"image: no end\n"),
-        (
-            ImageFault::AfterEnd(65536),
-            b"image line 65536: after end\n",
-        ),
-        (
-            ImageFault::TooMany(usize::MAX),
-            b"image line 18446744073709551615: too many bytes\n",
-        ),
-    ];
-    for (fault, line) in cases {
-        let mut err = Vec::new(rt.alloc());
-        say(&mut err, Message::Image(fault));
-        assert_eq!(rt; err.as_slice(), line);
-    }
+    are_said(&rt, rt.alloc(), &OF_IMAGE_FAULTS);
 }
 
 #[test]
-fn a_line_stands_behind_the_last_one(rt: HostRuntime) {
+fn a_line_comes_after_the_last_one(rt: HostRuntime) {
     let mut err = Vec::new(rt.alloc());
-    assert_eq!(rt; write_message(&mut err, REFUSED), Ok(()));
-    assert_eq!(rt; write_message(&mut err, Message::OutOfMemory), Ok(()));
-    assert_eq!(rt;
-        err.as_slice(),
-        b"record 0002h refused with code D4h\nout of memory\n".as_slice()
+    assert!(rt; write_message(&mut err, REFUSED.message) == Ok(()));
+    assert!(rt; write_message(&mut err, Message::OutOfMemory) == Ok(()));
+    is_written(
+        &rt,
+        &err,
+        "record 0002h refused with code D4h\nout of memory\n",
     );
+}
+
+/// Writes the message where only this many bytes are taken.
+fn is_cut_short(rt: &impl Abort, alloc: Global, case: &Case, room: usize) {
+    let mut err = Limited {
+        got: Vec::new(alloc),
+        room,
+    };
+    let result = write_message(&mut err, case.message);
+    assert!(rt; result == Err(SinkFault), "{room} bytes of {}", case.line);
+    is_written(
+        rt,
+        &err.got,
+        case.line.get(..room).expect(rt, "so many bytes"),
+    );
+}
+
+/// The same for each number of bytes below those of the line.
+fn is_cut_short_anywhere(rt: &impl Abort, alloc: Global, case: &Case) {
+    for room in 0..case.line.len() {
+        is_cut_short(rt, alloc, case, room);
+    }
 }
 
 #[test]
 fn a_writer_that_fails_holds_a_first_part_of_the_line(rt: HostRuntime) {
-    let cases = [
-        (REFUSED, REFUSED_LINE),
-        (TWICE, TWICE_LINE),
-        (UNREAD, UNREAD_LINE),
-    ];
-    for (message, line) in cases {
-        for room in 0..line.len() {
-            let mut err = Limited {
-                got: Vec::new(rt.alloc()),
-                room,
-            };
-            assert_eq!(rt; write_message(&mut err, message), Err(SinkFault));
-            assert_eq!(rt; err.got.as_slice(), &line[..room]);
-        }
-    }
+    is_cut_short_anywhere(&rt, rt.alloc(), &REFUSED);
+    is_cut_short_anywhere(&rt, rt.alloc(), &TWICE);
+    is_cut_short_anywhere(&rt, rt.alloc(), &UNREAD);
 }
 
 #[test]
@@ -121,32 +201,32 @@ fn a_slow_writer_gets_the_whole_line(rt: HostRuntime) {
     let mut err = Slow {
         got: Vec::new(rt.alloc()),
     };
-    assert_eq!(rt; write_message(&mut err, REFUSED), Ok(()));
-    assert_eq!(rt; err.got.as_slice(), REFUSED_LINE);
+    assert!(rt; write_message(&mut err, REFUSED.message) == Ok(()));
+    is_written(&rt, &err.got, REFUSED.line);
 }
 
 #[test]
-fn a_writer_that_takes_nothing_ends_the_line(rt: HostRuntime) {
-    assert_eq!(rt; write_message(&mut Idle, REFUSED), Err(SinkFault));
+fn a_writer_that_takes_nothing_is_at_fault(rt: HostRuntime) {
+    assert!(rt; write_message(&mut Idle, REFUSED.message) == Err(SinkFault));
 }
 
 #[test]
-fn a_writer_whose_faults_are_counted_takes_messages(rt: HostRuntime) {
+fn a_sink_takes_messages_too(rt: HostRuntime) {
     let mut err = Written::new(Slow {
         got: Vec::new(rt.alloc()),
     });
-    assert_eq!(rt; write_message(&mut err, TWICE), Ok(()));
-    assert_eq!(rt; err.offer(b"record"), Ok(3));
-    assert_eq!(rt;
-        err.into_inner().got.as_slice(),
-        b"image line 107: twice\nrec".as_slice()
-    );
+    assert!(rt; write_message(&mut err, TWICE.message) == Ok(()));
+    assert!(rt; err.offer(b"record") == Ok(3));
+    is_written(&rt, &err.into_inner().got, "image line 107: twice\nrec");
+}
 
-    let mut full = Written::new(Full {
+#[test]
+fn a_full_sink_keeps_the_first_bytes(rt: HostRuntime) {
+    let mut err = Written::new(Full {
         got: Vec::new(rt.alloc()),
         room: 10,
     });
-    assert_eq!(rt; write_message(&mut full, TWICE), Err(SinkFault));
-    assert_eq!(rt; full.offer(b"record"), Ok(0));
-    assert_eq!(rt; full.into_inner().got.as_slice(), b"image line".as_slice());
+    assert!(rt; write_message(&mut err, TWICE.message) == Err(SinkFault));
+    assert!(rt; err.offer(b"record") == Ok(0));
+    is_written(&rt, &err.into_inner().got, "image line");
 }

@@ -1,29 +1,25 @@
-use crate::writers::{Idle, Limited, Slow};
+//! Writers as sinks: what one call takes, and whole texts.
+use crate::writers::{Idle, Limited, Slow, is_written};
 use ipmi_output::{Sink, SinkFault, Written, write_all};
-use std::test::Fail;
 
-const LINE: &[u8] = b"sdr 0001 0002 010051c001aa\n";
+const LINE: &str = "sdr 0001 0002 010051c001aa\n";
 
 #[test]
 fn one_call_takes_what_the_writer_takes(rt: HostRuntime) {
     let mut out = Written::new(Slow {
         got: Vec::new(rt.alloc()),
     });
-    assert_eq!(rt; out.write(LINE), Ok(3));
-    assert_eq!(rt; out.into_inner().got.as_slice(), b"sdr".as_slice());
+    assert!(rt; out.write(LINE.as_bytes()) == Ok(3));
+    is_written(&rt, &out.into_inner().got, "sdr");
 }
 
 #[test]
-fn a_vector_gets_all_bytes_behind_its_own(rt: HostRuntime) -> Result<(), Fail> {
-    let begun = b"> ".as_slice().to_vec(rt.alloc())?;
+fn a_vector_gets_all_bytes_after_its_own(rt: HostRuntime) {
+    let begun = b"> ".as_slice().to_vec(rt.alloc()).expect(&rt, "memory");
     let mut out = Written::new(begun);
-    assert_eq!(rt; write_all(&mut out, LINE), Ok(()));
-    assert_eq!(rt; write_all(&mut out, b""), Ok(()));
-    assert_eq!(rt;
-        out.into_inner().as_slice(),
-        b"> sdr 0001 0002 010051c001aa\n".as_slice()
-    );
-    Ok(())
+    assert!(rt; write_all(&mut out, LINE.as_bytes()) == Ok(()));
+    assert!(rt; write_all(&mut out, b"") == Ok(()));
+    is_written(&rt, &out.into_inner(), "> sdr 0001 0002 010051c001aa\n");
 }
 
 #[test]
@@ -31,8 +27,8 @@ fn a_slow_writer_gets_all_bytes(rt: HostRuntime) {
     let mut out = Written::new(Slow {
         got: Vec::new(rt.alloc()),
     });
-    assert_eq!(rt; write_all(&mut out, LINE), Ok(()));
-    assert_eq!(rt; out.into_inner().got.as_slice(), LINE);
+    assert!(rt; write_all(&mut out, LINE.as_bytes()) == Ok(()));
+    is_written(&rt, &out.into_inner().got, LINE);
 }
 
 #[test]
@@ -41,21 +37,19 @@ fn a_writer_that_fails_keeps_what_it_took(rt: HostRuntime) {
         got: Vec::new(rt.alloc()),
         room: 10,
     });
-    assert_eq!(rt; write_all(&mut out, LINE), Err(SinkFault));
-    assert_eq!(rt; out.into_inner().got.as_slice(), b"sdr 0001 0".as_slice());
+    assert!(rt; write_all(&mut out, LINE.as_bytes()) == Err(SinkFault));
+    is_written(&rt, &out.into_inner().got, "sdr 0001 0");
 }
 
 #[test]
 fn a_writer_that_takes_nothing_is_at_fault(rt: HostRuntime) {
     let mut out = Written::new(Idle);
-    assert_eq!(rt; out.write(LINE), Ok(0));
-    assert_eq!(rt; write_all(&mut out, LINE), Err(SinkFault));
+    assert!(rt; out.write(LINE.as_bytes()) == Ok(0));
+    assert!(rt; write_all(&mut out, LINE.as_bytes()) == Err(SinkFault));
 }
 
 #[test]
-fn a_fault_has_a_message(rt: HostRuntime) -> Result<(), Fail> {
-    let fault = SinkFault;
-    let text = format!(in rt.alloc(); "{fault}")?;
-    assert_eq!(rt; text.as_str(), "write fault");
-    Ok(())
+fn a_fault_has_a_message(rt: HostRuntime) {
+    let text = format!(in rt.alloc(); "{SinkFault}").expect(&rt, "memory");
+    assert!(rt; text.as_str() == "write fault");
 }
