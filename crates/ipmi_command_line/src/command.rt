@@ -116,13 +116,7 @@ impl Model for Command {
 
 impl Command {
     /// A command of numbers in their ranges.
-    pub fn new(
-        task: Task,
-        from: Option<u16>,
-        part: u8,
-        tries: u8,
-        image: Option<Word>,
-    ) -> Command
+    pub fn new(task: Task, from: Option<u16>, part: u8, tries: u8, image: Option<Word>) -> Command
         requires { IsCommand task from part }
         ensures { result ≡ record { task = task; from = from; part = part; tries = tries; image = image } }
     {

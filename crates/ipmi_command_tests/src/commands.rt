@@ -2,12 +2,12 @@
 mod answers;
 mod image_faults;
 mod images;
-mod left;
+pub(crate) mod left;
 mod long_listings;
 mod moods;
 mod outcomes;
-mod over_images;
+pub(crate) mod over_images;
 mod pages;
 mod printed;
-mod saved;
+pub(crate) mod saved;
 mod short_outputs;

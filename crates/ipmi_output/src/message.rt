@@ -38,10 +38,7 @@ pub fn say<E: MessageSink>(err: &mut E, message: Message<'_>)
 }
 
 /// Writes the message and a line feed.
-pub fn write_message<E: MessageSink>(
-    err: &mut E,
-    message: Message<'_>,
-) -> Result<(), SinkFault>
+pub fn write_message<E: MessageSink>(err: &mut E, message: Message<'_>) -> Result<(), SinkFault>
     ensures { WritesAll (E.received err.old) (E.received err.new) result (line_text (message_text message.entry)) }
 {
     match message {

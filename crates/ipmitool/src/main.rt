@@ -5,12 +5,11 @@ mod input;
 #[cfg(test)]
 mod tests;
 
+use input::{InputFault, read_input, words_of};
 pub use ipmi_command_line::{Command, Count, Kind, Task, UsageFault, Word, Words, command_of};
+use ipmi_commands::is_answered;
 pub use ipmi_commands::{answer, run, run_pages, run_to_message_sink};
 pub use ipmi_output::{MessageSink, Sink, SinkFault, Written};
-
-use input::{InputFault, read_input, words_of};
-use ipmi_commands::is_answered;
 use ipmi_output::{Message, say};
 use std::io::{self, BufWriter, Input, Write};
 use std::process::ExitCode;

@@ -1,5 +1,6 @@
 //! Codes and their classes, the ends of a listing by name, a later step, parts and ids.
-use crate::bus::listings::{Left, listed, listed_by_bytes, over};
+use crate::bus::listings::{is_done, is_ended, listed, listed_by_bytes};
+use crate::commands::over_images::over;
 use crate::controllers::{Counting, Endless, Replay, Reply, asked_last};
 use ipmi_bus::{Code, CodeClass, Cursor, Ended, Event, Place, Record, Shelf, Tally};
 use std::alloc::Global;
@@ -117,8 +118,8 @@ const ENDINGS: [Case; 9] = [
 /// Lists over a controller with these replies, and compares what is said after how many calls.
 fn ends_by_name(rt: &impl Abort, alloc: Global, case: &Case) {
     let mut ctl = Counting::new(Replay::new(case.replies));
-    let left = listed(rt, alloc, &mut ctl, case.tries);
-    assert!(rt; left.is_ended(case.said, case.calls), "{case:?}: {left:?}");
+    let left = listed(alloc, &mut ctl, case.tries);
+    is_ended(rt, alloc, &left, case.said, case.calls);
 }
 
 #[test]
@@ -136,8 +137,9 @@ fn a_short_part_is_kept(rt: HostRuntime) {
         Reply::Gives(&[0x51, 0xC0, 0x00], 0xFFFF),
     ];
     let mut ctl = Counting::new(Replay::new(&replies));
-    let left = listed(&rt, rt.alloc(), &mut ctl, 5);
-    assert!(rt; left.is_done("sdr 0001 ffff 010051c000\n", 3), "{left:?}");
+    let left = listed(rt.alloc(), &mut ctl, 5);
+    let line = "sdr 0001 ffff 010051c000\n";
+    is_done(&rt, rt.alloc(), &left, line, 3, "a short part");
     asked_last(&rt, &ctl.inner, 2, 3);
 }
 
@@ -151,19 +153,19 @@ fn longest_line(rt: &impl Abort, alloc: Global) -> String {
     line
 }
 
-/// Lists the record of this line in parts of one byte.
-fn line_listed(rt: &impl Abort, alloc: Global, line: &str) -> Left {
+/// Lists the record of this line in parts of one byte: it comes again, after so many calls.
+fn is_listed_again(rt: &impl Abort, alloc: Global, line: &str, calls: u32) {
     let image = format!(in alloc; "ipmi-image 1\n{line}end\n").expect(rt, "memory");
-    let mut ctl = Counting::new(over(rt, alloc, &image));
-    listed_by_bytes(rt, alloc, &mut ctl)
+    let mut ctl = over(rt, alloc, &image);
+    let left = listed_by_bytes(alloc, &mut ctl);
+    is_done(rt, alloc, &left, line, calls, "the longest record");
 }
 
 // A reservation, and a call for each of the 256 bytes.
 #[test]
 fn the_longest_record_is_read(rt: HostRuntime) {
     let line = longest_line(&rt, rt.alloc());
-    let left = line_listed(&rt, rt.alloc(), &line);
-    assert!(rt; left.is_done(&line, 257), "{left:?}");
+    is_listed_again(&rt, rt.alloc(), &line, 257);
 }
 
 /// A cursor over sensor data records, which asks for 32 bytes at once.

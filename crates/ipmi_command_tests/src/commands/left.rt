@@ -9,7 +9,7 @@ use std::process::Abort;
 
 /// What a command left: output, messages, status and the number of calls.
 #[derive(Drop)]
-pub(super) struct Left {
+pub(crate) struct Left {
     pub out: Vec<u8>,
     pub err: Vec<u8>,
     pub status: u8,
@@ -17,15 +17,14 @@ pub(super) struct Left {
 }
 
 /// What the command leaves over the controller.
-pub(super) fn left_by<C: Controller + Drop>(
+pub(crate) fn left_by<C: Controller + Drop>(
     alloc: Global,
-    ctl: Counting<C>,
+    ctl: &mut Counting<C>,
     command: &Command,
 ) -> Left {
-    let mut ctl = ctl;
     let mut out = Written::new(Vec::new(alloc));
     let mut err = Vec::new(alloc);
-    let status = run(alloc, &mut ctl, command, &mut out, &mut err);
+    let status = run(alloc, ctl, command, &mut out, &mut err);
     Left {
         out: out.into_inner(),
         err,
@@ -35,7 +34,7 @@ pub(super) fn left_by<C: Controller + Drop>(
 }
 
 /// The bytes as a text.
-pub(super) fn text_of<'a>(rt: &impl Abort, bytes: &'a [u8]) -> &'a str {
+pub(crate) fn text_of<'a>(rt: &impl Abort, bytes: &'a [u8]) -> &'a str {
     std::str::from_utf8(bytes).expect(rt, "a text")
 }
 
@@ -50,7 +49,7 @@ fn left_text(rt: &impl Abort, alloc: Global, left: &Left) -> String {
 }
 
 /// Asserts that this was left, in the form of `left_text`.
-pub(super) fn is_left(rt: &impl Abort, alloc: Global, left: &Left, wanted: &str, case: &str) {
+pub(crate) fn is_left(rt: &impl Abort, alloc: Global, left: &Left, wanted: &str, case: &str) {
     let got = left_text(rt, alloc, left);
     assert!(rt; got.as_str() == wanted, "{case}: got {got}");
 }
@@ -65,7 +64,7 @@ fn numbers_text(rt: &impl Abort, alloc: Global, left: &Left) -> String {
 }
 
 /// Asserts that these numbers and these messages were left, in the form of `numbers_text`.
-pub(super) fn has_numbers(rt: &impl Abort, alloc: Global, left: &Left, wanted: &str, case: &str) {
+pub(crate) fn has_numbers(rt: &impl Abort, alloc: Global, left: &Left, wanted: &str, case: &str) {
     let got = numbers_text(rt, alloc, left);
     assert!(rt; got.as_str() == wanted, "{case}: got {got}");
 }

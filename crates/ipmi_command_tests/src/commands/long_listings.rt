@@ -36,11 +36,8 @@ fn rising_lines(rt: &impl Abort, alloc: Global) -> String {
 
 /// What a listing of the image in hex leaves.
 fn left_over(rt: &impl Abort, alloc: Global, image: &str) -> Left {
-    left_by(
-        alloc,
-        over(rt, alloc, image),
-        &command(rt, alloc, "sdr hex"),
-    )
+    let mut ctl = over(rt, alloc, image);
+    left_by(alloc, &mut ctl, &command(rt, alloc, "sdr hex"))
 }
 
 // 65,534 lines of 25 bytes each.
@@ -54,8 +51,8 @@ fn there_may_be_as_many_rows_as_there_are_ids(rt: HostRuntime) {
 
 /// What a listing of records without a last one leaves.
 fn left_endless(rt: &impl Abort, alloc: Global) -> Left {
-    let ctl = Counting::new(Endless::new());
-    left_by(alloc, ctl, &command(rt, alloc, "sdr hex"))
+    let mut ctl = Counting::new(Endless::new());
+    left_by(alloc, &mut ctl, &command(rt, alloc, "sdr hex"))
 }
 
 // 65,535 lines, one for each id from 0000 to fffe, of 25 bytes each: `sdr IIII NNNN `, ten digits and a line feed.

@@ -9,8 +9,8 @@ use std::process::Abort;
 /// What is left by a listing of three records with so many tries, whose calls meet these moods.
 fn met(rt: &impl Abort, alloc: Global, tries: &str, moods: &str) -> Left {
     let words = format!(in alloc; "--tries {tries} sdr hex").expect(rt, "memory");
-    let ctl = scripted(rt, alloc, THREE_ROWS, moods);
-    left_by(alloc, ctl, &command(rt, alloc, words.as_str()))
+    let mut ctl = scripted(rt, alloc, THREE_ROWS, moods);
+    left_by(alloc, &mut ctl, &command(rt, alloc, words.as_str()))
 }
 
 /// The text with a line feed after its message, which is after a bar, where there is one.

@@ -12,8 +12,8 @@ use std::process::Abort;
 /// Asserts what the words in the first line of a case leave over three records: the rest of the case.
 fn leaves(rt: &impl Abort, alloc: Global, case: &str) {
     let (words, wanted) = case.split_once('\n').expect(rt, "a line of words");
-    let ctl = over(rt, alloc, THREE_ROWS);
-    let left = left_by(alloc, ctl, &command(rt, alloc, words));
+    let mut ctl = over(rt, alloc, THREE_ROWS);
+    let left = left_by(alloc, &mut ctl, &command(rt, alloc, words));
     is_left(rt, alloc, &left, wanted, words);
 }
 

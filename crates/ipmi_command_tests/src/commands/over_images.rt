@@ -7,13 +7,25 @@ use std::alloc::Global;
 use std::process::Abort;
 
 /// The image of a text.
-pub(super) fn image_of(rt: &impl Abort, alloc: Global, text: &str) -> Image {
+pub(crate) fn image_of(rt: &impl Abort, alloc: Global, text: &str) -> Image {
     Image::read(alloc, text.as_bytes()).expect(rt, "an image")
 }
 
 /// A controller over the image.
-pub(super) fn over(rt: &impl Abort, alloc: Global, image: &str) -> Counting<ImageController> {
+pub(crate) fn over(rt: &impl Abort, alloc: Global, image: &str) -> Counting<ImageController> {
     Counting::new(ImageController::new(image_of(rt, alloc, image)))
+}
+
+/// The same, with the call of this number answered with the code.
+pub(crate) fn interrupting(
+    rt: &impl Abort,
+    alloc: Global,
+    image: &str,
+    call: u32,
+    code: u8,
+) -> Counting<ImageController> {
+    let ctl = ImageController::new(image_of(rt, alloc, image));
+    Counting::interrupting(ctl, call, code)
 }
 
 /// The mood that a letter means. A dot grants all, `1` one byte; `N` changes the second record, and `E` leaves none.
@@ -40,7 +52,7 @@ fn push(rt: &impl Abort, alloc: Global, moods: &mut Vec<Mood>, letter: u8) {
 }
 
 /// A controller over the image whose calls meet the moods of these letters, and then none.
-pub(super) fn scripted(
+pub(crate) fn scripted(
     rt: &impl Abort,
     alloc: Global,
     image: &str,

@@ -12,8 +12,8 @@ fn prints(rt: &impl Abort, alloc: Global, case: &str) {
     let (first, wanted) = case.split_once('\n').expect(rt, "a first line");
     let (words, rest) = first.split_once('|').expect(rt, "words");
     let (name, moods) = rest.split_once('|').expect(rt, "an image and moods");
-    let ctl = scripted(rt, alloc, image_named(rt, name), moods);
-    let left = left_by(alloc, ctl, &command(rt, alloc, words));
+    let mut ctl = scripted(rt, alloc, image_named(rt, name), moods);
+    let left = left_by(alloc, &mut ctl, &command(rt, alloc, words));
     is_left(rt, alloc, &left, wanted, first);
 }
 

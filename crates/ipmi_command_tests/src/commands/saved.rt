@@ -2,7 +2,7 @@
 use std::process::Abort;
 
 /// Three records, of 27, 29 and 25 bytes as lines.
-pub(super) const THREE_ROWS: &str = "ipmi-image 1
+pub(crate) const THREE_ROWS: &str = "ipmi-image 1
 sdr 0001 0002 010051c001aa
 sdr 0002 0003 020051c002bbcc
 sdr 0003 ffff 030051c000
@@ -10,7 +10,7 @@ end
 ";
 
 /// The lines of the three records.
-pub(super) const THREE_LINES: &str = "sdr 0001 0002 010051c001aa
+pub(crate) const THREE_LINES: &str = "sdr 0001 0002 010051c001aa
 sdr 0002 0003 020051c002bbcc
 sdr 0003 ffff 030051c000
 ";

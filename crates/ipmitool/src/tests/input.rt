@@ -1,5 +1,5 @@
-use ipmi_command_line::UsageFault;
 use crate::input::words_of;
+use ipmi_command_line::UsageFault;
 use std::env::{Env, FillError};
 use std::test::Fail;
 
