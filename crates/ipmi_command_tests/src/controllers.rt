@@ -1,7 +1,7 @@
 //! Controllers for tests: one counts the calls of another and may answer one of them with a code, one replays a written
 //! list of answers, and one has a record for every id. None of them claims to be honest.
 ghost use Rattle.std.specs.Prelude.{◌≡◌, ◌+◌, ◌≤◌, length, drop};
-ghost use Rattle.ipmi_command_tests.specs.Controllers.{seen_calling};
+ghost use Rattle.ipmi_bus.specs.Unclaimed.{calls_only};
 
 use ipmi_bus::{Code, Controller, Event, FruSize, Part, Shelf, Tally};
 use ipmi_text::Reading;
@@ -51,7 +51,7 @@ impl<C: Controller + Drop> Counting<C> {
 }
 
 impl<C: Controller + Drop> Controller for Counting<C> {
-    ghost seen = { λ c. seen_calling c.tally.counts };
+    ghost seen = { λ c. calls_only c.tally.counts.calls };
 
     fn reserve(&mut self, shelf: Shelf) -> Result<u16, Code> {
         self.count_call()?;
@@ -182,7 +182,7 @@ fn give(bytes: &[u8], into: &mut [u8]) -> usize
 }
 
 impl Controller for Replay<'_> {
-    ghost seen = { λ c. seen_calling c.tally.counts };
+    ghost seen = { λ c. calls_only c.tally.counts.calls };
 
     fn reserve(&mut self, _shelf: Shelf) -> Result<u16, Code> {
         match self.next_reply() {
@@ -263,7 +263,7 @@ impl Endless {
 }
 
 impl Controller for Endless {
-    ghost seen = { λ c. seen_calling c.tally.counts };
+    ghost seen = { λ c. calls_only c.tally.counts.calls };
 
     fn reserve(&mut self, _shelf: Shelf) -> Result<u16, Code> {
         self.count_call();
