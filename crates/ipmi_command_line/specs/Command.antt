@@ -10,6 +10,7 @@ use Rattle.ipmi_command_line.specs.declared.command.UsageFault.TheVariants as fa
 use Rattle.ipmi_command_line.specs.Arguments.{free_words, is_taken, rows_of_words}
 use Rattle.ipmi_command_line.specs.Number.{decimal_of, four_hex_of, within}
 use Rattle.ipmi_command_line.specs.Table.{task_of}
+use Rattle.ipmi_command_line.specs.Task.{takes_from}
 
 -- a command, as clauses see it
 pub record CommandState : Type 0 where
@@ -18,32 +19,6 @@ pub record CommandState : Type 0 where
   pub part : ℕ
   pub tries : ℕ
   pub image : Option (List ℕ)
-
--- whether an id to start from goes with the task
-abbrev pub takes_from : Task → Bool
-takes_from (task.Fru id) = false
-takes_from task.Hex = true
-takes_from (task.List kind) = true
-takes_from (task.Elist kind) = true
-takes_from (task.Get name) = true
-takes_from (task.Info shelf) = false
-takes_from (task.SelList entries) = true
-takes_from (task.SelGet id) = false
-takes_from task.Rewrite = false
-
--- the tasks that list all records of a shelf, which can be done in pages
-abbrev pub is_listing : Task → Bool
-is_listing (task.Fru id) = false
-is_listing task.Hex = true
-is_listing (task.List kind) = true
-is_listing (task.Elist kind) = true
-is_listing (task.Get name) = false
-is_listing (task.Info shelf) = false
-is_listing (task.SelList count.All) = true
-is_listing (task.SelList (count.First n)) = false
-is_listing (task.SelList (count.Last n)) = false
-is_listing (task.SelGet id) = false
-is_listing task.Rewrite = false
 
 -- ---- the ranges
 

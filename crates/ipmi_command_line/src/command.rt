@@ -1,7 +1,8 @@
 //! What a command line asks for.
 ghost use Rattle.std.specs.Prelude.{◌≡◌, ◌≤◌, ◌<◌, ◌⊎◌, Err, IfOk, IfSome, IsSome, IsTrue, MatchResult, None, Ok, Some, length, option_map};
 ghost use Rattle.clap.specs.Words.{found_of, rows_of};
-ghost use Rattle.ipmi_command_line.specs.Command.{IsCommand, IsTask, command_of_matches, command_of_task, is_stray, meaning_of, number_or, start_of_text, is_listing, takes_from};
+ghost use Rattle.ipmi_command_line.specs.Command.{IsCommand, IsTask, command_of_matches, command_of_task, is_stray, meaning_of, number_or, start_of_text};
+ghost use Rattle.ipmi_command_line.specs.Task.{count_of, is_listing, limit_of, shelf_of, start_by, takes_from};
 ghost use Rattle.ipmi_command_line.specs.declared.command.UsageFault.TheVariants as fault;
 
 use crate::arguments::{arguments, value};
@@ -9,7 +10,7 @@ use crate::number::{decimal, four_hex};
 use crate::table::task_of;
 use crate::words::{Word, Words};
 use clap::ArgMatches;
-use ipmi_bus::Shelf;
+use ipmi_bus::{Place, Shelf};
 use std::alloc::{AllocError, Global};
 use std::marker::Model;
 use thiserror::Error;
@@ -67,6 +68,90 @@ pub enum Task {
     SelGet(u16),
     /// `image rewrite`.
     Rewrite,
+}
+
+impl Count {
+    /// After how many records a listing stops, where there is such a limit; the newest entries have none.
+    pub fn limit(&self) -> Option<u32>
+        ensures { result ≡ limit_of self.now }
+    {
+        match self {
+            Count::First(n) => Some(u32::from(*n)),
+            Count::All | Count::Last(_) => None,
+        }
+    }
+}
+
+impl Task {
+    /// The shelf whose records the task is about.
+    pub fn shelf(&self) -> Shelf
+        ensures { result ≡ shelf_of self.now }
+    {
+        match self {
+            Task::SelList(_) | Task::SelGet(_) => Shelf::Sel,
+            Task::Info(shelf) => *shelf,
+            Task::Hex
+            | Task::List(_)
+            | Task::Elist(_)
+            | Task::Get(_)
+            | Task::Fru(_)
+            | Task::Rewrite => Shelf::Sdr,
+        }
+    }
+
+    /// Where its listing begins: at its own id, where it has one; otherwise at the id that is given, or at the first
+    /// record.
+    pub fn start(&self, from: Option<u16>) -> Place
+        ensures { result ≡ start_by self.now from }
+    {
+        match (self, from) {
+            (Task::SelGet(id), _) => Place::Id(*id),
+            (_, Some(id)) => Place::Id(id),
+            (_, None) => Place::First,
+        }
+    }
+
+    /// How many of the shelf's records it asks for.
+    pub fn count(&self) -> Count
+        ensures { result ≡ count_of self.now }
+    {
+        match self {
+            Task::SelList(entries) => *entries,
+            Task::SelGet(_) => Count::First(1),
+            Task::Hex
+            | Task::List(_)
+            | Task::Elist(_)
+            | Task::Get(_)
+            | Task::Info(_)
+            | Task::Fru(_)
+            | Task::Rewrite => Count::All,
+        }
+    }
+
+    /// Whether an id to start from goes with the task.
+    pub fn takes_from(&self) -> bool
+        ensures { result ≡ takes_from self.now }
+    {
+        match self {
+            Task::Hex | Task::List(_) | Task::Elist(_) | Task::Get(_) | Task::SelList(_) => true,
+            Task::Info(_) | Task::SelGet(_) | Task::Fru(_) | Task::Rewrite => false,
+        }
+    }
+
+    /// Whether it lists all records of a shelf, so that it can be done in pages.
+    pub fn is_listing(&self) -> bool
+        ensures { result ≡ is_listing self.now }
+    {
+        match self {
+            Task::Hex | Task::List(_) | Task::Elist(_) | Task::SelList(Count::All) => true,
+            Task::SelList(Count::First(_) | Count::Last(_))
+            | Task::Get(_)
+            | Task::Info(_)
+            | Task::SelGet(_)
+            | Task::Fru(_)
+            | Task::Rewrite => false,
+        }
+    }
 }
 
 /// Why a command line is no command.
@@ -165,15 +250,7 @@ impl Command {
     pub fn is_listing(&self) -> bool
         ensures { result ≡ is_listing self.now.task }
     {
-        match self.task {
-            Task::Hex | Task::List(_) | Task::Elist(_) | Task::SelList(Count::All) => true,
-            Task::SelList(Count::First(_) | Count::Last(_))
-            | Task::Fru(_)
-            | Task::Get(_)
-            | Task::Info(_)
-            | Task::SelGet(_)
-            | Task::Rewrite => false,
-        }
+        self.task.is_listing()
     }
 
     /// The file that the image is in, `--image`; without it, it is standard input.
@@ -184,21 +261,11 @@ impl Command {
     }
 }
 
-/// Whether an id to start from goes with the task.
-fn takes_from(task: &Task) -> bool
-    ensures { result ≡ takes_from task.now }
-{
-    match task {
-        Task::Hex | Task::List(_) | Task::Elist(_) | Task::Get(_) | Task::SelList(_) => true,
-        Task::Fru(_) | Task::Info(_) | Task::SelGet(_) | Task::Rewrite => false,
-    }
-}
-
 /// Whether an id to start from is given to a task that takes none.
 fn is_stray(task: &Task, from: Option<u16>) -> bool
     ensures { result ≡ is_stray task.now from }
 {
-    from.is_some() && !takes_from(task)
+    from.is_some() && !task.takes_from()
 }
 
 /// The id to start from, if there is one: four hex digits, neither `0000` nor `FFFF`. Nothing where it is none.

@@ -19,7 +19,8 @@ use Rattle.ipmi_bus.specs.CursorState.{CursorState}
 use Rattle.ipmi_bus.specs.Step.{IsStep, StepLeaves, StepCalls, HandsOut, AsksNothing}
 use Rattle.ipmi_bus.specs.Store.{Store}
 use Rattle.ipmi_command_line.specs.declared.command.Task.{Task}
-use Rattle.ipmi_commands.specs.Listing.{calls_for, calls_at_spots, first_rows, IsBelow, IsPlace, HasCalled, ListingCalls}
+use Rattle.ipmi_commands.specs.Listing.{calls_for, calls_at_spots, IsBelow, IsPlace, HasCalled, ListingCalls}
+use Rattle.ipmi_commands.specs.Plan.{first_rows}
 use Rattle.ipmi_commands.specs.Plan.{spots_after}
 
 -- ---- digits

@@ -25,9 +25,11 @@ use Rattle.ipmi_bus.proofs.WalkLemmas.{asks_next}
 use Rattle.ipmi_command_line.specs.declared.command.Task.{Task}
 use Rattle.ipmi_commands.specs.declared.stop.Stop.{Stop}
 use Rattle.ipmi_commands.specs.declared.stop.Stop.TheVariants as stop
-use Rattle.ipmi_commands.specs.Listing.{first_rows, first_end, IsBelow, first_plan, IsOutcome, IsUnrefused, calls_for, calls_at_spots, FindsText, FindsNone, MayStopAt, IsLeft, after_one, HasListed, ListsHonest, IsListing}
+use Rattle.ipmi_commands.specs.Listing.{IsBelow, first_plan, IsOutcome, IsUnrefused, calls_for, calls_at_spots, FindsText, FindsNone, MayStopAt, IsLeft, after_one, HasListed, ListsHonest, IsListing}
+use Rattle.ipmi_commands.specs.Plan.{first_rows, first_end}
 use Rattle.ipmi_commands.specs.Pieces.{IsRowPiece}
-use Rattle.ipmi_commands.specs.Plan.{Plan, Item, Spot, AtRecord, WalkEnds, row_item, row_items, Printed, Outcome, IsAllowed, CountsSo, IsFine, IsAmong, StopsAt, spots_at, spots_after, shelf_of}
+use Rattle.ipmi_commands.specs.Plan.{Plan, Item, Spot, AtRecord, WalkEnds, row_item, row_items, Printed, Outcome, IsAllowed, CountsSo, HasFreshTroubles, IsFine, IsAmong, StopsAt, spots_at, spots_after}
+use Rattle.ipmi_command_line.specs.Task.{shelf_of}
 use Rattle.ipmi_commands.specs.Plan as plan
 use Rattle.ipmi_commands.proofs.CallLemmas.{digits_some, one_id_more, calls_upto, calls_within, calls_more}
 use Rattle.ipmi_commands.proofs.ItemLemmas.{items_joined, none_printed, printed_more, row_there, end_spot}
@@ -109,12 +111,20 @@ unrefused_more : (tries : ℕ) (s s' s'' : Seen) → IsUnrefused s s' → Within
 unrefused_more tries s s' s'' before step = let grows = before.troubles in let more = step.grows in record { refusals = step.refusals ∙ before.refusals; troubles = omega (arith, grows, more) }
 
 -- what an outcome counts, it counts since before
-pub counts_since : (tries : ℕ) (s s' s'' : Seen) (outcome : Outcome) → IsUnrefused s s' → CountsSo tries s' s'' outcome → CountsSo tries s s'' outcome
-counts_since tries s s' s'' (plan.Finished end) before counts = counts ∙ before.refusals
-counts_since tries s s' s'' (plan.GaveUp spot) before counts = let grows = before.troubles in let more = counts.1 in (counts.0 ∙ before.refusals, omega (arith, grows, more), counts.2)
-counts_since tries s s' s'' (plan.Refused spot code) before counts = (counts.0 ∙ ap (λ (x : ℕ). x + 1) before.refusals, counts.1)
-counts_since tries s s' s'' plan.OutOfMemory before counts = counts ∙ before.refusals
-counts_since tries s s' s'' plan.WriteFault before counts = counts ∙ before.refusals
+module _ (tries : ℕ) (s s' s'' : Seen) (later : s''.stores_added ≡ s.stores_added → s''.stores_added ≡ s'.stores_added) where
+  fresh_since : (spot : Spot) → HasFreshTroubles tries s' s'' spot → HasFreshTroubles tries s s'' spot
+  fresh_since (AtRecord n) fresh = fresh
+  fresh_since (plan.AtInventory id) fresh = (fresh.0, λ same. fresh.1 (later same))
+
+  pub counts_since : (outcome : Outcome) → IsUnrefused s s' → CountsSo tries s' s'' outcome → CountsSo tries s s'' outcome
+  counts_since (plan.Finished end) before counts = counts ∙ before.refusals
+  counts_since (plan.GaveUp spot) before counts =
+      let grows = before.troubles in
+      let more = counts.1 in
+      (counts.0 ∙ before.refusals, omega (arith, grows, more), fresh_since spot counts.2)
+  counts_since (plan.Refused spot code) before counts = (counts.0 ∙ ap (λ (x : ℕ). x + 1) before.refusals, counts.1)
+  counts_since plan.OutOfMemory before counts = counts ∙ before.refusals
+  counts_since plan.WriteFault before counts = counts ∙ before.refusals
 
 -- a step that handed out a record asked for it
 asks_something : (now next : CursorState) (row : Row) → StepLeaves now next (Ok (Some row)) → AsksNothing now → ⊥
@@ -473,7 +483,7 @@ module _ (t : Task) (tries : ℕ) (most rest : Option ℕ) (begun next : CursorS
         outcome = none.outcome;
         outcome_is = none.outcome_is;
         stays = stays_trans s s' s'' taken.stays none.asks.stays;
-        counts = counts_since tries s s' s'' none.outcome taken.unrefused none.counts;
+        counts = counts_since tries s s' s'' (behind none.asks.stays) none.outcome taken.unrefused none.counts;
         grows = omega (arith, low, high);
         along = λ same start walk end w ends stands.
             let there = taken.along (before none.asks.stays same) start walk end w ends stands in

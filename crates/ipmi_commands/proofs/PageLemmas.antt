@@ -17,9 +17,11 @@ use Rattle.ipmi_bus.proofs.SinceLemmas.{stays_refl}
 use Rattle.ipmi_command_line.specs.declared.command.Task.{Task}
 use Rattle.ipmi_commands.specs.declared.stop.Stop.{Stop}
 use Rattle.ipmi_commands.specs.declared.stop.Stop.TheVariants as stop
-use Rattle.ipmi_commands.specs.Listing.{first_rows, first_end, most_for_one, most_calls, IsListing, ListingCalls}
+use Rattle.ipmi_commands.specs.Listing.{most_for_one, most_on_walk, IsListing, ListingCalls}
+use Rattle.ipmi_commands.specs.Plan.{first_rows, first_end}
 use Rattle.ipmi_commands.specs.Pages.{start_at, wants_none, GoesOn, PageAlong, IsPage, IsStopped, ArePages, pages_made}
-use Rattle.ipmi_commands.specs.Plan.{WalkEnds, row_items, Printed, shelf_of}
+use Rattle.ipmi_commands.specs.Plan.{WalkEnds, row_items, Printed}
+use Rattle.ipmi_command_line.specs.Task.{shelf_of}
 use Rattle.ipmi_commands.specs.Plan as plan
 use Rattle.ipmi_commands.proofs.CallLemmas.{digits_most}
 use Rattle.ipmi_commands.proofs.ItemLemmas.{none_printed}
@@ -202,7 +204,7 @@ page_by_cursor t most place tries begun now s s' text text' result some none par
 }
 
 -- over any controller
-pub page_calls : (t : Task) (tries : ℕ) (begun now : CursorState) (s s' : Seen) → 0 < begun.part → ListingCalls (most_for_one t tries) begun now s s' → s'.calls ≤ s.calls + most_calls t tries
+pub page_calls : (t : Task) (tries : ℕ) (begun now : CursorState) (s s' : Seen) → 0 < begun.part → ListingCalls (most_for_one t tries) begun now s s' → s'.calls ≤ s.calls + most_on_walk t tries
 page_calls t tries begun now s s' part listing = let eight = digits_most begun.part in let calls = listing.calls part in omega (arith, calls, eight)
 
 -- ---- pages, one after another

@@ -17,9 +17,11 @@ use Rattle.ipmi_bus.proofs.WalkLemmas.{walk_tail}
 use Rattle.ipmi_command_line.specs.declared.command.Task.{Task}
 use Rattle.ipmi_commands.specs.declared.stop.Stop.{Stop}
 use Rattle.ipmi_commands.specs.declared.stop.Stop.TheVariants as stop
-use Rattle.ipmi_commands.specs.Listing.{calls_for, first_end, first_plan, IsOutcome}
+use Rattle.ipmi_commands.specs.Listing.{calls_for, first_plan, IsOutcome}
+use Rattle.ipmi_commands.specs.Plan.{first_end}
 use Rattle.ipmi_commands.specs.Pages.{GoesOn, PageAlong, IsStopped, ArePages, pages_made, IsOpen}
-use Rattle.ipmi_commands.specs.Plan.{Plan, Item, Spot, RunEnd, WalkEnds, row_items, Printed, Outcome, IsAllowed, CountsSo, IsFine, IsAmong, StopsAt, HasFirstItems, spots_at, end_spots, shelf_of}
+use Rattle.ipmi_commands.specs.Plan.{Plan, Item, Spot, RunEnd, WalkEnds, row_items, Printed, Outcome, IsAllowed, CountsSo, IsFine, IsAmong, StopsAt, HasFirstItems, spots_at, end_spots}
+use Rattle.ipmi_command_line.specs.Task.{shelf_of}
 use Rattle.ipmi_commands.specs.Plan as plan
 use Rattle.ipmi_commands.proofs.ListingLemmas.{counts_since}
 use Rattle.ipmi_commands.proofs.PageLemmas.{made_one, made_none, no_walk}
@@ -290,7 +292,7 @@ pages_are_one t (size ∷ sizes) start tries s s' old new result honest (inr mor
       outcome = later.outcome;
       outcome_is = later.outcome_is;
       stays = stays_trans s more.seen s' page.stays later.stays;
-      counts = counts_since tries s more.seen s' later.outcome (record { refusals = quiet; troubles = page.grows }) later.counts;
+      counts = counts_since tries s more.seen s' (λ same. omega (arith, same, low, high)) later.outcome (record { refusals = quiet; troubles = page.grows }) later.counts;
       grows = omega (arith, before, after);
       leaves = λ same walk end w ends open_.
           let first : more.seen.stores_added ≡ s.stores_added = omega (arith, same, low, high) in

@@ -1,5 +1,5 @@
 -- A listing as a run by its plan.
-use Rattle.std.proofs.Common.{◌≡◌, ◌⊎◌, inl, inr, ℕ, Bool, true, false, Option, None, Result, Ok, Err, List, [], refl, sym, ap, subst, ◌∙◌}
+use Rattle.std.proofs.Common.{◌≡◌, ◌⊎◌, inl, inr, ℕ, ◌+◌, ◌≤◌, Bool, true, false, Option, None, Result, Ok, Err, List, [], refl, sym, ap, subst, ◌∙◌}
 use Rattle.ipmi_bus.specs.declared.step.Place.{Place}
 use Rattle.ipmi_bus.specs.declared.step.Ended.TheVariants.{Cycle, Missing, Refused, GaveUp, Stalled, Malformed}
 use Rattle.ipmi_bus.specs.Shelf.{Row}
@@ -15,9 +15,9 @@ use Rattle.ipmi_command_line.specs.declared.command.Task.TheVariants as task
 use Rattle.ipmi_commands.specs.declared.stop.Stop.{Stop}
 use Rattle.ipmi_commands.specs.declared.stop.Stop.TheVariants as stop
 use Rattle.ipmi_output.specs.declared.message.Message.TheVariants.{Image, OutOfMemory}
-use Rattle.ipmi_command_line.specs.Command.{is_listing}
-use Rattle.ipmi_commands.specs.Listing.{first_plan, IsOutcome, most_of}
-use Rattle.ipmi_commands.specs.Plan.{Plan, WalkEnds, OfImage, Printed, plan_of, rewrite_plan, Outcome, IsAllowed}
+use Rattle.ipmi_command_line.specs.Task.{is_listing, most_of}
+use Rattle.ipmi_commands.specs.Listing.{first_plan, IsOutcome, walk_call_bound, most_on_walk, run_call_bound, most_calls}
+use Rattle.ipmi_commands.specs.Plan.{first_rows, Plan, WalkEnds, OfImage, Printed, plan_of, rewrite_plan, Outcome, IsAllowed}
 use Rattle.ipmi_commands.specs.Plan as plan
 use Rattle.ipmi_output.specs.Received.{Received, ReceivesText}
 use Rattle.ipmi_commands.specs.Pages.{IsPage, ArePages}
@@ -27,18 +27,20 @@ use Rattle.ipmi_commands.specs.Run.{IsRun, IsPagedRun, status_of, stop_status, s
 
 -- ---- a task that is built lists the first rows of its shelf
 
-pub plan_is_first : (t : Task) (store : Store) (start : Place) (walk : List Row) (end : WalkEnd) → is_built t ≡ true → plan_of t store start walk end ≡ first_plan (most_of t) t start walk end
-plan_is_first task.Hex store start walk end built = refl
-plan_is_first (task.List kind) store start walk end built = refl
-plan_is_first (task.Elist kind) store start walk end built = refl
-plan_is_first (task.SelList count.All) store start walk end built = refl
-plan_is_first (task.SelList (count.First n)) store start walk end built = refl
-plan_is_first (task.SelGet id) store start walk end built = refl
-plan_is_first (task.SelList (count.Last n)) store start walk end built = cc built
-plan_is_first (task.Fru id) store start walk end built = cc built
-plan_is_first (task.Get name) store start walk end built = cc built
-plan_is_first (task.Info shelf) store start walk end built = cc built
-plan_is_first task.Rewrite store start walk end built = cc built
+-- it goes along one walk, and asks for nothing before it
+pub record GoesOnce (t : Task) : Type 0 where
+  pub plan_is : (store : Store) (start : Place) (walk : List Row) (end : WalkEnd) → plan_of t store start walk end ≡ first_plan (most_of t) t start walk end
+  pub bound_is : (store : Store) (tries : ℕ) (walk : List Row) → run_call_bound t store tries walk ≡ walk_call_bound t store tries (first_rows (most_of t) walk)
+  pub most_is : (tries : ℕ) → most_calls t tries ≡ most_on_walk t tries
+
+pub goes_once : (t : Task) → is_built t ≡ true → GoesOnce t
+goes_once task.Hex built = record { plan_is = λ store start walk end. refl; bound_is = λ store tries walk. refl; most_is = λ tries. refl }
+goes_once (task.List kind) built = record { plan_is = λ store start walk end. refl; bound_is = λ store tries walk. refl; most_is = λ tries. refl }
+goes_once (task.Elist kind) built = record { plan_is = λ store start walk end. refl; bound_is = λ store tries walk. refl; most_is = λ tries. refl }
+goes_once (task.SelList count.All) built = record { plan_is = λ store start walk end. refl; bound_is = λ store tries walk. refl; most_is = λ tries. refl }
+goes_once (task.SelList (count.First n)) built = record { plan_is = λ store start walk end. refl; bound_is = λ store tries walk. refl; most_is = λ tries. refl }
+goes_once (task.SelGet id) built = record { plan_is = λ store start walk end. refl; bound_is = λ store tries walk. refl; most_is = λ tries. refl }
+goes_once _ built = cc built
 
 -- a listing can be run, and has no limit
 pub listed_whole : (t : Task) → is_listing t ≡ true → (is_built t ≡ true) × (most_of t ≡ None)
@@ -46,13 +48,7 @@ listed_whole task.Hex listing = (refl, refl)
 listed_whole (task.List kind) listing = (refl, refl)
 listed_whole (task.Elist kind) listing = (refl, refl)
 listed_whole (task.SelList count.All) listing = (refl, refl)
-listed_whole (task.SelList (count.First n)) listing = cc listing
-listed_whole (task.SelList (count.Last n)) listing = cc listing
-listed_whole (task.SelGet id) listing = cc listing
-listed_whole (task.Fru id) listing = cc listing
-listed_whole (task.Get name) listing = cc listing
-listed_whole (task.Info shelf) listing = cc listing
-listed_whole task.Rewrite listing = cc listing
+listed_whole _ listing = cc listing
 
 -- ---- outcomes
 
@@ -86,8 +82,9 @@ run_by_listing t start next tries s s' old new said said' st built page message 
   message = subst (λ (l : List ℕ). ReceivesText said said' l) (text_same st page.outcome page.outcome_is) message;
   stays = page.stays;
   counts = page.counts;
-  allowed = λ same walk end w ends. subst (λ (p : Plan). IsAllowed t s.store p old new page.outcome) (sym (plan_is_first t s.store start walk end built)) (page.along same walk end w ends).leaves;
-  calls = λ same walk end w ends. (page.along same walk end w ends).calls;
+  allowed = λ same walk end w ends. subst (λ (p : Plan). IsAllowed t s.store p old new page.outcome) (sym ((goes_once t built).plan_is s.store start walk end)) (page.along same walk end w ends).leaves;
+  calls = λ same walk end w ends.
+      subst (λ (n : ℕ). s'.calls ≤ s.calls + n) (sym ((goes_once t built).bound_is s.store tries walk)) (page.along same walk end w ends).calls;
   plain = page.plain;
 }
 
@@ -105,7 +102,7 @@ run_in_pages t sizes start tries s s' old new said said' st listing honest pages
       counts = one.counts;
       pages = pages;
       allowed = λ same walk end w ends open_.
-          subst (λ (p : Plan). IsAllowed t s.store p old new one.outcome) (sym (plan_is_first t s.store start walk end (listed_whole t listing).0 ∙ ap (λ (most : Option ℕ). first_plan most t start walk end) (listed_whole t listing).1)) (one.leaves same walk end w ends open_);
+          subst (λ (p : Plan). IsAllowed t s.store p old new one.outcome) (sym ((goes_once t (listed_whole t listing).0).plan_is s.store start walk end ∙ ap (λ (most : Option ℕ). first_plan most t start walk end) (listed_whole t listing).1)) (one.leaves same walk end w ends open_);
       calls = one.calls;
       plain = one.plain;
     }

@@ -19,12 +19,14 @@ use Rattle.ipmi_commands.specs.declared.piece.Form.{Form}
 use Rattle.ipmi_commands.specs.declared.piece.Form.TheVariants as form
 use Rattle.ipmi_command_line.specs.declared.command.Task.TheVariants as task
 use Rattle.ipmi_commands.specs.Pieces.{IfChosen, IsLineOf, IsListed, IsListedOfKind, IsRowPiece, reading_for, row_is_of_kind}
-use Rattle.ipmi_commands.specs.Listing.{first_rows, most_of}
-use Rattle.ipmi_commands.specs.Plan.{Subject, OfRow, OfInventory, OfInfo, OfImage, Item, IsRowOfBytes, AreRowsOfBytes, RunEnd, Plan, Finished, IsAllowed, row_items, IsItemText, AreTexts, shelf_of}
+use Rattle.ipmi_command_line.specs.Task.{most_of}
+use Rattle.ipmi_commands.specs.Plan.{first_rows}
+use Rattle.ipmi_commands.specs.Plan.{Subject, OfRow, OfInventory, OfInfo, OfImage, Item, IsRowOfBytes, AreRowsOfBytes, RunEnd, Plan, Finished, IsAllowed, row_items, IsItemText, AreTexts}
+use Rattle.ipmi_command_line.specs.Task.{shelf_of}
 use Rattle.ipmi_commands.specs.Run.{is_built, AllowsAll}
 use Rattle.ipmi_bus.proofs.ShelfLemmas.{look_row}
 use Rattle.ipmi_bus.proofs.ShelfLemmas.{shelf_of as store_shelf}
-use Rattle.ipmi_commands.proofs.PlanLemmas.{plan_is_first}
+use Rattle.ipmi_commands.proofs.PlanLemmas.{goes_once}
 
 one_chosen : (chosen : Bool) (IsText : List ℕ → Type 0) → ((a b : List ℕ) → IsText a → IsText b → a ≡ b) → (a b : List ℕ) → IfChosen chosen IsText a → IfChosen chosen IsText b → a ≡ b
 one_chosen true IsText one a b x y = one a b x y
@@ -97,7 +99,7 @@ pub one_output : WalkExists → (t : Task) (store : Store) (start : Place) (old 
 one_output exists t store start old a b e f built ok allows other =
     let shelf = store_shelf (shelf_of t) store ok in
     let there = exists (shelf_of t) (rows_of (shelf_of t) store) start shelf in
-    let first = plan_is_first t store start there.0 there.1 built in
+    let first = (goes_once t built).plan_is store start there.0 there.1 in
     let x = subst (λ (p : Plan). IsAllowed t store p old a (Finished e)) first (allows there.0 there.1 there.2 there.3) in
     let y = subst (λ (p : Plan). IsAllowed t store p old b (Finished f)) first (other there.0 there.1 there.2 there.3) in
     let rows = rows_of (shelf_of t) store in

@@ -20,34 +20,11 @@ use Rattle.ipmi_command_line.specs.declared.command.Task.TheVariants as task
 use Rattle.ipmi_commands.specs.declared.stop.Stop.{Stop}
 use Rattle.ipmi_commands.specs.declared.stop.Stop.TheVariants as stop
 use Rattle.ipmi_commands.specs.Pieces.{IsRowPiece}
-use Rattle.ipmi_commands.specs.Plan.{Plan, Spot, AtRecord, AtInventory, WalkEnds, row_items, Printed, Outcome, IsAllowed, CountsSo, IsFine, IsAmong, end_spots, shelf_of, spots_after}
+use Rattle.ipmi_commands.specs.Plan.{first_rows, first_end, Plan, Spot, AtRecord, AtInventory, WalkEnds, row_items, Printed, Outcome, IsAllowed, CountsSo, IsFine, IsAmong, end_spots, spots_after}
+use Rattle.ipmi_command_line.specs.Task.{most_of, shelf_of}
 use Rattle.ipmi_commands.specs.Plan as plan
 
 -- ---- how far a listing goes
-
--- the first rows of a walk, or all where there is no limit
-abbrev pub first_rows : Option ℕ → List Row → List Row
-first_rows None walk = walk
-first_rows (Some n) walk = take n walk
-
--- how a listing of them ends: after the last that is wanted no record is asked for
-abbrev pub first_end : Option ℕ → List Row → WalkEnd → WalkEnd
-first_end None walk end = end
-first_end (Some n) walk end = if nat_le n (length walk) then Done else end
-
--- after how many records a listing of the task stops; the last ones have no such limit
-abbrev pub most_of : Task → Option ℕ
-most_of (task.Fru id) = None
-most_of task.Hex = None
-most_of (task.List kind) = None
-most_of (task.Elist kind) = None
-most_of (task.Get name) = None
-most_of (task.Info shelf) = None
-most_of (task.SelList count.All) = None
-most_of (task.SelList (count.First n)) = Some n
-most_of (task.SelList (count.Last n)) = None
-most_of (task.SelGet id) = Some 1
-most_of task.Rewrite = None
 
 -- fewer than are wanted
 abbrev pub IsBelow : Option ℕ → ℕ → Type 0
@@ -103,22 +80,39 @@ walk_call_bound t store tries rows = calls_for t store tries rows + step_call_bo
 -- over any controller, for what is asked for because of one record
 abbrev pub most_after : Task → ℕ → ℕ
 most_after (task.Fru id) tries = fru_call_bound tries 65535
-most_after task.Hex tries = 0
 most_after (task.List kind) tries = tries + 1
 most_after (task.Elist kind) tries = tries + 1
 most_after (task.Get name) tries = tries + 1
-most_after (task.Info shelf) tries = 0
-most_after (task.SelList entries) tries = 0
-most_after (task.SelGet id) tries = 0
-most_after task.Rewrite tries = 0
+most_after _ tries = 0
 
 -- over any controller, for one record and for what is asked for because of it
 abbrev pub most_for_one : Task → ℕ → ℕ
 most_for_one t tries = step_call_bound tries (largest_len (shelf_of t)) + most_after t tries
 
 -- of a cursor over any controller: it asks for at most 65,536 records
+abbrev pub most_on_walk : Task → ℕ → ℕ
+most_on_walk t tries = 65536 * most_for_one t tries + 7
+
+-- ---- calls of a run
+
+-- the last entries are listed on a second walk; an info and one inventory need none, and all inventories begin with that of device 0
+abbrev pub run_call_bound : Task → Store → ℕ → List Row → ℕ
+run_call_bound (task.SelList (count.Last n)) store tries walk =
+    walk_call_bound (task.SelList (count.Last n)) store tries walk + walk_call_bound (task.SelList (count.Last n)) store tries walk
+run_call_bound (task.Info shelf) store tries walk = tries + 1
+run_call_bound (task.Fru (Some id)) store tries walk = calls_at tries store (AtInventory id)
+run_call_bound (task.Fru None) store tries walk = calls_at tries store (AtInventory 0) + walk_call_bound (task.Fru None) store tries walk
+run_call_bound task.Rewrite store tries walk = 0
+run_call_bound t store tries walk = walk_call_bound t store tries (first_rows (most_of t) walk)
+
+-- the same over any controller, where an inventory has at most 65,535 bytes
 abbrev pub most_calls : Task → ℕ → ℕ
-most_calls t tries = 65536 * most_for_one t tries + 7
+most_calls (task.SelList (count.Last n)) tries = most_on_walk (task.SelList (count.Last n)) tries + most_on_walk (task.SelList (count.Last n)) tries
+most_calls (task.Info shelf) tries = tries + 1
+most_calls (task.Fru (Some id)) tries = fru_call_bound tries 65535
+most_calls (task.Fru None) tries = fru_call_bound tries 65535 + most_on_walk (task.Fru None) tries
+most_calls task.Rewrite tries = 0
+most_calls t tries = most_on_walk t tries
 
 -- ---- the text of a record
 

@@ -6,18 +6,34 @@ use Rattle.ipmi_bus.specs.declared.step.Ended.TheVariants.{Cycle}
 use Rattle.ipmi_bus.specs.Shelf.{Row, first_row}
 use Rattle.ipmi_bus.specs.Store.{Store, rows_of}
 use Rattle.ipmi_bus.specs.Walk.{IsWalk, WalkEnd, Done, CycleAt, MissingAt, EndsBy, place_after_rows}
+use Rattle.std.specs.FinSet as set
+use Rattle.ipmi_bus.specs.CursorState.{CursorState, start_of}
 use Rattle.ipmi_bus.specs.Seen.{Seen, StaysHonest}
+use Rattle.ipmi_command_line.specs.Command.{CommandState}
 use Rattle.ipmi_commands.specs.declared.stop.Stop.{Stop}
 use Rattle.ipmi_commands.specs.declared.stop.Stop.TheVariants as stop
 use Rattle.ipmi_command_line.specs.declared.command.Task.{Task}
-use Rattle.ipmi_commands.specs.Listing.{first_rows, first_plan, IsOutcome, walk_call_bound}
-use Rattle.ipmi_commands.specs.Plan.{Outcome, IsAllowed, CountsSo, IsFine, shelf_of}
+use Rattle.ipmi_commands.specs.Listing.{first_plan, IsOutcome, walk_call_bound}
+use Rattle.ipmi_commands.specs.Plan.{first_rows}
+use Rattle.ipmi_commands.specs.Plan.{Outcome, IsAllowed, CountsSo, IsFine}
+use Rattle.ipmi_command_line.specs.Task.{shelf_of}
 
 -- the id that a cursor starts from; after the last record, and at the id 0000h, no cursor is needed
 abbrev pub start_at : Place → Result (Option ℕ) Stop
 start_at First = Ok None
 start_at (Id n) = if n == 0 then Err (stop.Ended (Cycle 0)) else Ok (Some n)
 start_at End = Err stop.Done
+
+-- the cursor of a listing as it starts, from the id or from the first record: it has the command's part size and tries
+abbrev pub listing_cursor : CommandState → Option ℕ → CursorState
+listing_cursor command from = record {
+  shelf = shelf_of command.task;
+  place = start_of from;
+  part = command.part;
+  tries = command.tries;
+  ids = set.empty;
+  reservation = None;
+}
 
 -- a page of no record
 abbrev pub wants_none : Option ℕ → Bool

@@ -100,13 +100,7 @@ IsDevicePiece store view (Some id) text = IfChosen (not (id == 0)) (λ t. IsInve
 -- of a FRU device locator alone
 abbrev pub IsLocatorPiece : Store → Result SdrView SdrFault → List ℕ → Type 0
 IsLocatorPiece store (Ok (view_of.Fru bytes)) text = IsDevicePiece store (view_of.Fru bytes) (sdr.fru_of (view_of.Fru bytes)) text
-IsLocatorPiece store (Ok (view_of.Full bytes)) text = text ≡ []
-IsLocatorPiece store (Ok (view_of.Compact bytes)) text = text ≡ []
-IsLocatorPiece store (Ok (view_of.EventOnly bytes)) text = text ≡ []
-IsLocatorPiece store (Ok (view_of.Generic bytes)) text = text ≡ []
-IsLocatorPiece store (Ok (view_of.Controller bytes)) text = text ≡ []
-IsLocatorPiece store (Ok (view_of.Other bytes)) text = text ≡ []
-IsLocatorPiece store (Err fault) text = text ≡ []
+IsLocatorPiece store _ text = text ≡ []
 
 -- ---- the piece of a row, by the task
 
@@ -116,7 +110,6 @@ IsRowPiece task.Hex store row text = text ≡ line_of row
 IsRowPiece (task.List kind) store row text = IsListedOfKind form.Short kind store row text
 IsRowPiece (task.Elist kind) store row text = IsListedOfKind form.Extended kind store row text
 IsRowPiece (task.Get name) store row text = IsBlockOfName name store row.id (sdr.sdr_view_of row.bytes) text
-IsRowPiece (task.Info shelf) store row text = ⊥
 IsRowPiece (task.SelList entries) store row text = IsSelLine row.id (sel_view_of row.bytes) text
 IsRowPiece (task.SelGet id) store row text = IsSelBlock row.id (sel_view_of row.bytes) text
-IsRowPiece task.Rewrite store row text = ⊥
+IsRowPiece _ store row text = ⊥

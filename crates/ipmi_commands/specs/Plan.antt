@@ -1,8 +1,6 @@
 -- What a command is to print over a store: its items in order, its end, and the spots at which a run may give up or be refused.
 -- Everywhere `old` and `new` are what the output holds before and after.
 use Rattle.std.specs.Prelude.{◌≡◌, ℕ, ◌-◌, ◌==◌, nat_le, ◌||◌, ◌+◌, ◌<◌, Bool, false, if◌then◌else◌, Option, Some, None, is_some, Result, Ok, Err, List, [], ◌∷◌, ◌++◌, length, take, drop, ◌⊎◌}
-use Rattle.ipmi_bus.specs.declared.controller.Shelf.{Shelf}
-use Rattle.ipmi_bus.specs.declared.controller.Shelf.TheVariants.{Sdr, Sel}
 use Rattle.ipmi_bus.specs.declared.step.Place.{Place}
 use Rattle.ipmi_bus.specs.declared.step.Place.TheVariants.{First, Id, End}
 use Rattle.ipmi_bus.specs.Shelf.{Row}
@@ -11,7 +9,6 @@ use Rattle.ipmi_bus.specs.Step.{asked_at}
 use Rattle.ipmi_bus.specs.Store.{Store, info_of}
 use Rattle.ipmi_bus.specs.Walk.{WalkEnd, Done, CycleAt, MissingAt, place_after, place_after_rows}
 use Rattle.ipmi_bus.specs.Seen.{Seen}
-use Rattle.ipmi_bus.specs.CursorState.{start_of}
 use Rattle.ipmi_image.specs.Rewritten.{image_text_of}
 use Rattle.ipmi_records.specs.Info.{IsInfoBlock}
 use Rattle.ipmi_records.specs.Sdr as sdr
@@ -22,57 +19,25 @@ use Rattle.ipmi_command_line.specs.declared.command.Count.TheVariants as count
 use Rattle.ipmi_command_line.specs.declared.command.Kind.{Kind}
 use Rattle.ipmi_command_line.specs.declared.command.Task.{Task}
 use Rattle.ipmi_command_line.specs.declared.command.Task.TheVariants as task
+use Rattle.ipmi_command_line.specs.Task.{most_of}
 use Rattle.ipmi_commands.specs.Pieces.{IsRowPiece, IsInventoryPiece, row_is_of_kind, is_name}
 
 -- ---- used rows
 
--- which entries of a walk are used: all, the first ones, or the last ones of a walk that is done
-abbrev pub used_rows : Count → List Row → WalkEnd → List Row
-used_rows count.All walk end = walk
-used_rows (count.First n) walk end = take n walk
-used_rows (count.Last n) walk Done = drop (length walk - n) walk
-used_rows (count.Last n) walk (CycleAt id) = []
-used_rows (count.Last n) walk (MissingAt id) = []
+-- the first rows of a walk, or all where there is no limit
+abbrev pub first_rows : Option ℕ → List Row → List Row
+first_rows None walk = walk
+first_rows (Some n) walk = take n walk
 
--- how a listing of them ends: after the first ones no further record is asked for
-abbrev pub used_end : Count → List Row → WalkEnd → WalkEnd
-used_end count.All walk end = end
-used_end (count.First n) walk end = if nat_le n (length walk) then Done else end
-used_end (count.Last n) walk end = end
+-- how a listing of them ends: after the last that is wanted no record is asked for
+abbrev pub first_end : Option ℕ → List Row → WalkEnd → WalkEnd
+first_end None walk end = end
+first_end (Some n) walk end = if nat_le n (length walk) then Done else end
 
--- which rows a task asks for, on which shelf, and from where
-abbrev pub count_of : Task → Count
-count_of (task.Fru id) = count.All
-count_of task.Hex = count.All
-count_of (task.List kind) = count.All
-count_of (task.Elist kind) = count.All
-count_of (task.Get name) = count.All
-count_of (task.Info shelf) = count.All
-count_of (task.SelList entries) = entries
-count_of (task.SelGet id) = count.First 1
-count_of task.Rewrite = count.All
-
-abbrev pub shelf_of : Task → Shelf
-shelf_of (task.Fru id) = Sdr
-shelf_of task.Hex = Sdr
-shelf_of (task.List kind) = Sdr
-shelf_of (task.Elist kind) = Sdr
-shelf_of (task.Get name) = Sdr
-shelf_of (task.Info shelf) = shelf
-shelf_of (task.SelList entries) = Sel
-shelf_of (task.SelGet id) = Sel
-shelf_of task.Rewrite = Sdr
-
-abbrev pub start_by : Task → Option ℕ → Place
-start_by (task.SelGet id) from = Id id
-start_by (task.Fru id) from = start_of from
-start_by task.Hex from = start_of from
-start_by (task.List kind) from = start_of from
-start_by (task.Elist kind) from = start_of from
-start_by (task.Get name) from = start_of from
-start_by (task.Info shelf) from = start_of from
-start_by (task.SelList entries) from = start_of from
-start_by task.Rewrite from = start_of from
+-- the last rows of a walk that is done, and none of another
+abbrev pub last_rows : ℕ → List Row → WalkEnd → List Row
+last_rows n walk Done = drop (length walk - n) walk
+last_rows n walk _ = []
 
 -- ---- spots at which a run may give up or be refused
 
@@ -108,14 +73,10 @@ locator_spots (Err fault) = []
 -- what is asked for on account of a row that was found, by the task
 abbrev pub spots_after : Task → Row → List Spot
 spots_after (task.Fru id) row = locator_spots (sdr.sdr_view_of row.bytes)
-spots_after task.Hex row = []
 spots_after (task.List kind) row = listed_spots kind row
 spots_after (task.Elist kind) row = listed_spots kind row
 spots_after (task.Get name) row = named_spots name row.id (sdr.sdr_view_of row.bytes)
-spots_after (task.Info shelf) row = []
-spots_after (task.SelList entries) row = []
-spots_after (task.SelGet id) row = []
-spots_after task.Rewrite row = []
+spots_after _ row = []
 
 -- the ids that are asked for along the rows
 abbrev pub spots_along : Place → List Row → List Spot
@@ -178,23 +139,14 @@ some_has_name name (row ∷ rows) = view_has_name name (sdr.sdr_view_of row.byte
 -- a finished walk on which no record has the name ends by that
 abbrev pub run_end : Task → List Row → WalkEnd → RunEnd
 run_end (task.Get name) rows Done = if some_has_name name rows then WalkEnds Done else NoName name
-run_end (task.Get name) rows (CycleAt n) = WalkEnds (CycleAt n)
-run_end (task.Get name) rows (MissingAt n) = WalkEnds (MissingAt n)
-run_end (task.Fru id) rows end = WalkEnds end
-run_end task.Hex rows end = WalkEnds end
-run_end (task.List kind) rows end = WalkEnds end
-run_end (task.Elist kind) rows end = WalkEnds end
-run_end (task.Info shelf) rows end = WalkEnds end
-run_end (task.SelList entries) rows end = WalkEnds end
-run_end (task.SelGet id) rows end = WalkEnds end
-run_end task.Rewrite rows end = WalkEnds end
+run_end _ rows end = WalkEnds end
 
 -- of a listing that goes along a walk once
 abbrev pub listing_plan : Task → Place → List Row → WalkEnd → Plan
 listing_plan t start walk end = record {
-  items = row_items t start (used_rows (count_of t) walk end);
-  end = run_end t (used_rows (count_of t) walk end) (used_end (count_of t) walk end);
-  end_spots = end_spots start walk (used_end (count_of t) walk end);
+  items = row_items t start (first_rows (most_of t) walk);
+  end = run_end t (first_rows (most_of t) walk) (first_end (most_of t) walk end);
+  end_spots = end_spots start walk (first_end (most_of t) walk end);
 }
 
 -- all the ids asked for along a whole walk and at its end
@@ -213,7 +165,7 @@ end_spots_of_last spots (item ∷ items) at_end = at_end
 
 -- of a listing of the last n entries
 abbrev pub last_items : ℕ → Task → Place → List Row → WalkEnd → List Item
-last_items n t start walk end = row_items t (place_after_rows start (take (length walk - n) walk)) (used_rows (count.Last n) walk end)
+last_items n t start walk end = row_items t (place_after_rows start (take (length walk - n) walk)) (last_rows n walk end)
 
 abbrev pub last_plan : ℕ → Task → Place → List Row → WalkEnd → Plan
 last_plan n t start walk end = record {
@@ -243,22 +195,17 @@ abbrev pub rewrite_plan : Plan
 rewrite_plan = record { items = record { subject = OfImage; spots = [] } ∷ []; end = WalkEnds Done; end_spots = [] }
 
 abbrev pub counted_plan : Count → Task → Place → List Row → WalkEnd → Plan
-counted_plan count.All t start walk end = listing_plan t start walk end
-counted_plan (count.First n) t start walk end = listing_plan t start walk end
 counted_plan (count.Last n) t start walk end = last_plan n t start walk end
+counted_plan _ t start walk end = listing_plan t start walk end
 
 -- what a task is to print over a store, with the walk from its start and how that ends
 abbrev pub plan_of : Task → Store → Place → List Row → WalkEnd → Plan
 plan_of (task.Fru None) store start walk end = inventories_plan walk end
 plan_of (task.Fru (Some id)) store start walk end = inventory_plan id
-plan_of task.Hex store start walk end = listing_plan task.Hex start walk end
-plan_of (task.List kind) store start walk end = listing_plan (task.List kind) start walk end
-plan_of (task.Elist kind) store start walk end = listing_plan (task.Elist kind) start walk end
-plan_of (task.Get name) store start walk end = listing_plan (task.Get name) start walk end
 plan_of (task.Info shelf) store start walk end = info_plan (info_of shelf store)
 plan_of (task.SelList entries) store start walk end = counted_plan entries (task.SelList entries) start walk end
-plan_of (task.SelGet id) store start walk end = listing_plan (task.SelGet id) start walk end
 plan_of task.Rewrite store start walk end = rewrite_plan
+plan_of t store start walk end = listing_plan t start walk end
 
 -- ---- texts
 
@@ -285,9 +232,7 @@ AreTexts t store (item ∷ items) text = TextsJoined (λ first. IsItemText t sto
 -- a row of bytes, as those of a store are
 abbrev pub IsRowOfBytes : Subject → Type 0
 IsRowOfBytes (OfRow row) = AreBytes row.bytes
-IsRowOfBytes (OfInventory id) = ⊥
-IsRowOfBytes (OfInfo info) = ⊥
-IsRowOfBytes OfImage = ⊥
+IsRowOfBytes _ = ⊥
 
 abbrev pub AreRowsOfBytes : List Item → Type 0
 AreRowsOfBytes [] = Unit {0}
@@ -354,19 +299,21 @@ IsAllowed t store plan old new (Refused spot code) = StopsAt spot t store plan o
 IsAllowed t store plan old new OutOfMemory = HasFirstItems t store plan old new
 IsAllowed t store plan old new WriteFault = HasCutItem t store plan old new
 
--- what the controller counted in the run: where it gave up more troubles than the tries, and more than the tries also since it
--- last answered something whole; one refusal, with this code, exactly where it was refused
+-- how many troubles came since the controller last answered something whole, where a run gives up: more than the tries. At an
+-- inventory so many while no store is added, and otherwise at least one, as a shorter inventory may be whole between two of them
+abbrev pub HasFreshTroubles : ℕ → Seen → Seen → Spot → Type 0
+HasFreshTroubles tries s s' (AtRecord n) = tries < s'.fresh_troubles
+HasFreshTroubles tries s s' (AtInventory id) = (0 < s'.fresh_troubles) × (s'.stores_added ≡ s.stores_added → tries < s'.fresh_troubles)
+
+-- what the controller counted in the run: where it gave up more troubles than the tries, as many of them fresh as at the spot; one
+-- refusal, with this code, exactly where it was refused
 abbrev pub CountsSo : ℕ → Seen → Seen → Outcome → Type 0
-CountsSo tries s s' (Finished end) = s'.refusals ≡ s.refusals
-CountsSo tries s s' (GaveUp spot) = (s'.refusals ≡ s.refusals) × (s.troubles + tries < s'.troubles) × (tries < s'.fresh_troubles)
+CountsSo tries s s' (GaveUp spot) = (s'.refusals ≡ s.refusals) × (s.troubles + tries < s'.troubles) × HasFreshTroubles tries s s' spot
 CountsSo tries s s' (Refused spot code) = (s'.refusals ≡ s.refusals + 1) × (s'.last_code ≡ code)
-CountsSo tries s s' OutOfMemory = s'.refusals ≡ s.refusals
-CountsSo tries s s' WriteFault = s'.refusals ≡ s.refusals
+CountsSo tries s s' _ = s'.refusals ≡ s.refusals
 
 -- the run neither gave up nor was refused
 abbrev pub IsFine : Outcome → Type 0
-IsFine (Finished end) = Unit {0}
 IsFine (GaveUp spot) = ⊥
 IsFine (Refused spot code) = ⊥
-IsFine OutOfMemory = Unit {0}
-IsFine WriteFault = Unit {0}
+IsFine _ = Unit {0}

@@ -22,39 +22,29 @@ use Rattle.ipmi_commands.specs.declared.stop.Stop.TheVariants as stop
 use Rattle.ipmi_output.specs.declared.message.Message.{Message}
 use Rattle.ipmi_output.specs.declared.message.Message.TheVariants.{Usage, Image, WriteFault, OutOfMemory}
 use Rattle.ipmi_command_line.specs.Command.{CommandState}
-use Rattle.ipmi_commands.specs.Listing.{IsOutcome, calls_for, first_rows, most_of, walk_call_bound}
+use Rattle.ipmi_commands.specs.Listing.{IsOutcome, calls_for, run_call_bound}
 use Rattle.ipmi_output.specs.Message.{ended_text, refused_text, message_text, line_text}
 use Rattle.ipmi_output.specs.Received.{Received, ReceivesText}
 use Rattle.ipmi_commands.specs.Pages.{ArePages, pages_made, IsOpen}
 use Rattle.ipmi_output.specs.Sink.{TakesPart}
-use Rattle.ipmi_commands.specs.Plan.{plan_of, rewrite_plan, Outcome, IsAllowed, CountsSo, IsFine, shelf_of, start_by}
+use Rattle.ipmi_commands.specs.Plan.{plan_of, rewrite_plan, Outcome, IsAllowed, CountsSo, IsFine}
+use Rattle.ipmi_command_line.specs.Task.{shelf_of, start_by}
 use Rattle.ipmi_commands.specs.Plan as plan
 
 -- the tasks that can be run today
 abbrev pub is_built : Task → Bool
-is_built (task.Fru id) = false
 is_built task.Hex = true
 is_built (task.List kind) = true
 is_built (task.Elist kind) = true
-is_built (task.Get name) = false
-is_built (task.Info shelf) = false
 is_built (task.SelList count.All) = true
 is_built (task.SelList (count.First n)) = true
-is_built (task.SelList (count.Last n)) = false
 is_built (task.SelGet id) = true
-is_built task.Rewrite = false
+is_built _ = false
 
 -- the task that writes an image again is answered, and not run
 abbrev pub is_rewrite : Task → Bool
-is_rewrite (task.Fru id) = false
-is_rewrite task.Hex = false
-is_rewrite (task.List kind) = false
-is_rewrite (task.Elist kind) = false
-is_rewrite (task.Get name) = false
-is_rewrite (task.Info shelf) = false
-is_rewrite (task.SelList entries) = false
-is_rewrite (task.SelGet id) = false
 is_rewrite task.Rewrite = true
+is_rewrite _ = false
 
 -- the tasks whose answer depends on the image
 abbrev pub is_answered : Task → Bool
@@ -112,9 +102,9 @@ abbrev pub AllowsAll : Task → Store → Place → List ℕ → List ℕ → Ou
 AllowsAll t store start old new outcome = (walk : List Row) (end : WalkEnd) → IsWalk (rows_of (shelf_of t) store) start walk → EndsBy (rows_of (shelf_of t) store) start walk end
     → IsAllowed t store (plan_of t store start walk end) old new outcome
 
--- the calls are within the bound for those rows of each walk from the start that are asked for
+-- the calls are within the task's bound for each walk from the start
 abbrev pub CallsWithin : Task → Store → Place → ℕ → ℕ → ℕ → Type 0
-CallsWithin t store start tries before after = (walk : List Row) (end : WalkEnd) → IsWalk (rows_of (shelf_of t) store) start walk → EndsBy (rows_of (shelf_of t) store) start walk end → after ≤ before + walk_call_bound t store tries (first_rows (most_of t) walk)
+CallsWithin t store start tries before after = (walk : List Row) (end : WalkEnd) → IsWalk (rows_of (shelf_of t) store) start walk → EndsBy (rows_of (shelf_of t) store) start walk end → after ≤ before + run_call_bound t store tries walk
 
 -- over any controller a run ends as a listing may stop, and says so
 pub record EndsSo (said said' : Received) (status : ℕ) : Type 0 where
@@ -180,16 +170,7 @@ Says said said' status message n = (status ≡ n) × ReceivesText said said' (li
 -- of bytes that are no image: the fault, or want of memory, which may come before it
 abbrev pub fault_status : ImageFault → ℕ
 fault_status image_fault.Memory = 5
-fault_status image_fault.Header = 3
-fault_status (image_fault.Line line) = 3
-fault_status (image_fault.Hex line) = 3
-fault_status (image_fault.Id line) = 3
-fault_status (image_fault.Twice line) = 3
-fault_status (image_fault.Length line) = 3
-fault_status (image_fault.FirstId line) = 3
-fault_status image_fault.NoEnd = 3
-fault_status (image_fault.AfterEnd line) = 3
-fault_status (image_fault.TooMany line) = 3
+fault_status _ = 3
 
 abbrev pub FailsToRead : ImageFault → List ℕ → List ℕ → Received → Received → ℕ → Type 0
 FailsToRead fault old new said said' status = (new ≡ old) × (Says said said' status (Image fault) (fault_status fault) ⊎ Says said said' status OutOfMemory 5)

@@ -2,7 +2,7 @@
 ghost use Rattle.std.specs.Prelude.{◌≡◌, ◌+◌, true};
 ghost use Rattle.ipmi_bus.specs.Seen.{IsHonest};
 ghost use Rattle.ipmi_commands.specs.Listing.{IsListing, ListingCalls, after_one, faults_of, most_for_one};
-ghost use Rattle.ipmi_commands.specs.Plan.{shelf_of};
+ghost use Rattle.ipmi_command_line.specs.Task.{shelf_of};
 ghost use Rattle.ipmi_commands.specs.Run.{is_built};
 
 use crate::piece::record_piece;

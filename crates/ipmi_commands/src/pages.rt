@@ -1,18 +1,21 @@
 //! Lists records in pages, each with a cursor of its own.
-ghost use Rattle.std.specs.Prelude.{◌≡◌, ◌+◌, ◌*◌, ◌<◌, ◌≤◌, true, Some, IfOk};
+ghost use Rattle.std.specs.Prelude.{◌≡◌, ◌+◌, ◌*◌, ◌<◌, ◌≤◌, true, List, Some, IfOk};
 ghost use Rattle.std.specs.Option.{ForSome};
+ghost use Rattle.ipmi_bus.specs.CursorState.{start_of};
 ghost use Rattle.ipmi_bus.specs.Seen.{IsHonest};
-ghost use Rattle.ipmi_commands.specs.Listing.{faults_of, most_calls, most_of, IsPlace};
-ghost use Rattle.ipmi_commands.specs.Plan.{shelf_of, start_by};
+ghost use Rattle.ipmi_bus.specs.Shelf.{Row};
+ghost use Rattle.ipmi_bus.specs.Standing.{StandsAt};
+ghost use Rattle.ipmi_commands.specs.Listing.{faults_of, most_on_walk, IsPlace};
+ghost use Rattle.ipmi_command_line.specs.Task.{start_by};
 ghost use Rattle.ipmi_commands.specs.Run.{is_built};
-ghost use Rattle.ipmi_commands.specs.Pages.{start_at, wants_none, pages_made, IsPage, ArePages};
+ghost use Rattle.ipmi_commands.specs.Pages.{listing_cursor, start_at, wants_none, pages_made, IsPage, ArePages};
 
 use crate::listing::list_records;
 use crate::stop::Stop;
-use ipmi_bus::{Controller, Cursor, Ended, Place, Shelf};
-use ipmi_command_line::{Command, Count, Task};
+use ipmi_bus::{Controller, Cursor, Ended, Place};
+use ipmi_command_line::Command;
 use ipmi_output::Sink;
-use std::alloc::Global;
+use std::alloc::{AllocError, Global};
 
 /// How a page stopped, and where the next one begins.
 #[derive(Clone, Copy)]
@@ -26,31 +29,7 @@ pub(crate) fn first_place(cmd: &Command) -> Place
     ensures value { result ≡ start_by cmd.now.task cmd.now.from }
     ensures range { IsPlace result }
 {
-    if let Task::SelGet(id) = cmd.task() {
-        return Place::Id(*id);
-    }
-    match cmd.from() {
-        None => Place::First,
-        Some(id) => Place::Id(id),
-    }
-}
-
-/// How many records the task lists, where there is a limit.
-pub(crate) fn most_of(task: &Task) -> Option<u32>
-    ensures { result ≡ most_of task.now }
-{
-    match task {
-        Task::SelList(Count::First(n)) => Some(u32::from(*n)),
-        Task::SelGet(_) => Some(1),
-        Task::SelList(Count::All | Count::Last(_))
-        | Task::Fru(_)
-        | Task::Hex
-        | Task::List(_)
-        | Task::Elist(_)
-        | Task::Get(_)
-        | Task::Info(_)
-        | Task::Rewrite => None,
-    }
+    cmd.task().start(cmd.from())
 }
 
 /// The id that a cursor starts from at the place, or how a listing from there ends without one.
@@ -77,16 +56,15 @@ fn wants_none(most: Option<u32>) -> bool
     }
 }
 
-/// The shelf whose records the task is about.
-fn shelf_of(task: &Task) -> Shelf
-    ensures { result ≡ shelf_of task.now }
+/// A cursor over the records that the command lists, from this id on or from the first. It asks for parts, and tries again, as
+/// the command says.
+fn start_cursor(alloc: Global, cmd: &Command, from: Option<u16>) -> Result<Cursor, AllocError>
+    requires { ForSome from (λ id. (0 < id) × (id < 65535)) }
+    ensures stands { IfOk result (λ cursor. (rows walk : List Row) → StandsAt rows (start_of from) walk 0 cursor) }
+    ensures fresh { IfOk result (λ cursor. cursor ≡ listing_cursor cmd.now from) }
+    ensures some { IfOk result (λ cursor. 0 < cursor.part) }
 {
-    match task {
-        Task::SelList(_) | Task::SelGet(_) => Shelf::Sel,
-        Task::Info(shelf) => *shelf,
-        Task::Fru(_) | Task::Hex | Task::List(_) | Task::Elist(_) | Task::Get(_) | Task::Rewrite =>
-            Shelf::Sdr,
-    }
+    Cursor::start(alloc, cmd.task().shelf(), from, cmd.part(), cmd.tries())
 }
 
 /// Lists the records of the command's shelf from the place, so many at most where there is a limit, with a cursor of its own.
@@ -102,7 +80,7 @@ pub(crate) fn list_page<C: Controller, O: Sink>(
     requires place { IsPlace place }
     ensures faults { O.faults out.new ≡ O.faults out.old + faults_of result.stop }
     ensures place { IsPlace result.resume_at }
-    ensures calls { (C.seen ctl.new).calls ≤ (C.seen ctl.old).calls + most_calls cmd.now.task cmd.now.tries }
+    ensures calls { (C.seen ctl.new).calls ≤ (C.seen ctl.old).calls + most_on_walk cmd.now.task cmd.now.tries }
     ensures none { most ≡ Some 0 → C.seen ctl.new ≡ C.seen ctl.old }
     ensures honest { IsHonest (C.seen ctl.old) →
         IsPage cmd.now.task most place result.resume_at cmd.now.tries
@@ -123,8 +101,7 @@ pub(crate) fn list_page<C: Controller, O: Sink>(
             };
         }
     };
-    let shelf = shelf_of(cmd.task());
-    let Ok(mut cursor) = Cursor::start(alloc, shelf, from, cmd.part(), cmd.tries()) else {
+    let Ok(mut cursor) = start_cursor(alloc, cmd, from) else {
         return Page {
             stop: Stop::Memory,
             resume_at: place,
@@ -147,7 +124,7 @@ pub(crate) fn list_pages<C: Controller, O: Sink>(
 ) -> Stop
     requires { is_built cmd.now.task ≡ true }
     ensures faults { O.faults out.new ≡ O.faults out.old + faults_of result }
-    ensures calls { (C.seen ctl.new).calls ≤ (C.seen ctl.old).calls + pages_made sizes.now * most_calls cmd.now.task cmd.now.tries }
+    ensures calls { (C.seen ctl.new).calls ≤ (C.seen ctl.old).calls + pages_made sizes.now * most_on_walk cmd.now.task cmd.now.tries }
     ensures honest { IsHonest (C.seen ctl.old) →
         ArePages cmd.now.task sizes.now (start_by cmd.now.task cmd.now.from) cmd.now.tries
         (C.seen ctl.old) (C.seen ctl.new) (O.taken out.old) (O.taken out.new) result }

@@ -8,7 +8,8 @@ ghost use Rattle.ipmi_records.specs.SelText.{IsSelBlock, IsSelLine};
 ghost use Rattle.ipmi_commands.specs.Asking.{ReadsFor};
 ghost use Rattle.ipmi_commands.specs.Listing.{faults_of, most_after, Finds, FindsPiece};
 ghost use Rattle.ipmi_commands.specs.Pieces.{is_of_kind, IsLineOf, IsListedOfKind};
-ghost use Rattle.ipmi_commands.specs.Plan.{listed_spots, shelf_of};
+ghost use Rattle.ipmi_commands.specs.Plan.{listed_spots};
+ghost use Rattle.ipmi_command_line.specs.Task.{shelf_of};
 ghost use Rattle.ipmi_commands.specs.Run.{is_built};
 
 use crate::line::record_line;

@@ -3,15 +3,14 @@ ghost use Rattle.std.specs.Prelude.{◌≡◌, ◌+◌, ◌*◌, ◌≤◌, ◌=
 ghost use Rattle.ipmi_bus.specs.Seen.{IsHonest};
 ghost use Rattle.ipmi_image.specs.Image.{store_of_image};
 ghost use Rattle.ipmi_image.specs.Rewritten.{image_text_of};
-ghost use Rattle.ipmi_command_line.specs.Command.{is_listing};
+ghost use Rattle.ipmi_command_line.specs.Task.{is_listing, start_by};
 ghost use Rattle.ipmi_commands.specs.Listing.{faults_of, most_calls};
 ghost use Rattle.ipmi_output.specs.Received.{ReceivesText, of_writer};
 ghost use Rattle.ipmi_commands.specs.Pages.{pages_made};
-ghost use Rattle.ipmi_commands.specs.Plan.{start_by};
 ghost use Rattle.ipmi_commands.specs.Run.{stop_status, stop_text, fault_status, is_answered, is_built, is_rewrite, EndsSo, IsRun, IsPagedRun, Says, WritesImage, AnswersRewrite, AnswersTask, AnswersLine};
 ghost use Rattle.ipmi_output.specs.declared.message.Message.TheVariants as message;
 
-use crate::pages::{first_place, list_page, list_pages, most_of};
+use crate::pages::{first_place, list_page, list_pages};
 use crate::stop::Stop;
 use ipmi_bus::Controller;
 use ipmi_command_line::{Command, Count, Task, UsageFault};
@@ -168,7 +167,8 @@ pub fn run_to_message_sink<C: Controller, O: Sink, E: MessageSink>(
     if !is_built(cmd.task()) {
         return report_usage(err);
     }
-    let stop = list_page(alloc, ctl, cmd, first_place(cmd), most_of(cmd.task()), out).stop;
+    let most = cmd.task().count().limit();
+    let stop = list_page(alloc, ctl, cmd, first_place(cmd), most, out).stop;
     report(stop, err)
 }
 

@@ -1,6 +1,6 @@
 //! Listings in pages.
 ghost use Rattle.std.specs.Prelude.{◌≡◌, true};
-ghost use Rattle.ipmi_command_line.specs.Command.{is_listing};
+ghost use Rattle.ipmi_command_line.specs.Task.{is_listing};
 
 use super::left::{Left, is_left};
 use super::over_images::{over, scripted};

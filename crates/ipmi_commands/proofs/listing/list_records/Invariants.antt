@@ -2,7 +2,7 @@ use Rattle.std.proofs.Common.{◌≡◌, ◌-◌}
 use Rattle.std.specs.FinSet as set
 use Rattle.ipmi_bus.specs.Seen.{IsHonest}
 use Rattle.ipmi_commands.specs.Listing.{HasCalled, ListsHonest, most_for_one}
-use Rattle.ipmi_commands.specs.Plan.{shelf_of}
+use Rattle.ipmi_command_line.specs.Task.{shelf_of}
 use Rattle.ipmi_commands.proofs.listing.list_records.Given as goal
 
 abbrev pub invariant-records : goal.invariant-records

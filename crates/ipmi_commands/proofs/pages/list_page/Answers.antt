@@ -10,18 +10,16 @@ use Rattle.ipmi_commands.proofs.pages.list_page.Goals as goal
 
 pub returns-clause-honest : goal.returns-clause-honest
 returns-clause-honest g c = λ h.
-    let begun = c.in-Ok-start.cursor in
-    let fresh = c.in-Ok-start.ensures.fresh in
+    let begun = c.in-Ok-start_cursor.cursor in
+    let fresh = c.in-Ok-start_cursor.ensures.fresh in
     let at = start_of_place c.args.place c.in-Ok.from (sym c.start_at.ensures.value ∙ c.in-Ok.is) in
-    let part = ap (λ (x : CursorState). x.part) fresh in
-    let range = c.part.ensures.range.0 in
     subst
     (λ (p : Place). IsPage c.args.cmd.now.task c.args.most c.args.place p c.args.cmd.now.tries (g.C.Controller.seen c.args.ctl.now) (g.C.Controller.seen c.list_records-stop.new.ctl) (g.O.Sink.taken c.args.out.now)
     (g.O.Sink.taken c.list_records-stop.new.out) c.list_records-stop.result)
     (sym c.resume_at.ensures)
     (page_by_cursor c.args.cmd.now.task c.args.most c.args.place c.args.cmd.now.tries begun c.list_records-stop.new.cursor _ _ _ _ c.list_records-stop.result (some_wanted c.args.most (sym c.wants_none.ensures ∙ c.if-wants_none.false))
-    (ap (λ (x : CursorState). x.reservation) fresh) (omega (arith, part, range))
-    (subst (λ (p : Place). (rows walk : List Row) → StandsAt rows p walk 0 begun) at c.in-Ok-start.ensures.stands) (c.list_records-stop.ensures.honest h))
+    (ap (λ (x : CursorState). x.reservation) fresh) c.in-Ok-start_cursor.ensures.some
+    (subst (λ (p : Place). (rows walk : List Row) → StandsAt rows p walk 0 begun) at c.in-Ok-start_cursor.ensures.stands) (c.list_records-stop.ensures.honest h))
 
 pub returns-then-wants_none-clause-honest : goal.returns-then-wants_none-clause-honest
 returns-then-wants_none-clause-honest g c = λ h.

@@ -1,9 +1,9 @@
 use Rattle.std.proofs.Common.{arith, ◌*◌, ◌≤◌, ℕ, List, ap, ◌∙◌, subst, drop, get_or, ◌+◌, Some}
 use Rattle.std.proofs.lemmas.List.{at_drop_more}
 use Rattle.ipmi_commands.specs.declared.stop.Stop.{Stop}
-use Rattle.ipmi_commands.specs.Listing.{faults_of, most_calls}
+use Rattle.ipmi_commands.specs.Listing.{faults_of, most_on_walk}
 use Rattle.ipmi_commands.specs.Pages.{IsPage, pages_made}
-use Rattle.ipmi_commands.specs.Plan.{start_by}
+use Rattle.ipmi_command_line.specs.Task.{start_by}
 use Rattle.ipmi_commands.proofs.PageLemmas.{LeadsTo, page_leads, last_leads, stopped, calls_of_page, calls_of_all}
 use Rattle.ipmi_commands.proofs.pages.list_pages.Goals as goal
 
@@ -14,16 +14,16 @@ returns-in-Ended g c =
     let size = get_or c.args.sizes.now c.pages.size-index 0 in
     let left = drop (c.pages.size-index + 1) c.args.sizes.now in
     let split = at_drop_more (λ (l : List ℕ). l) c.args.sizes.now c.pages.size-index 0 c.pages-test.true in
-    let after = λ (before : (g.C.Controller.seen c.pages.ctl).calls + pages_made (drop c.pages.size-index c.args.sizes.now) * most_calls c.args.cmd.now.task c.args.cmd.now.tries ≤ (g.C.Controller.seen c.args.ctl.now).calls + pages_made c.args.sizes.now * most_calls c.args.cmd.now.task c.args.cmd.now.tries).
-    calls_of_page size left (most_calls c.args.cmd.now.task c.args.cmd.now.tries) ((g.C.Controller.seen c.args.ctl.now).calls + pages_made c.args.sizes.now * most_calls c.args.cmd.now.task c.args.cmd.now.tries) (g.C.Controller.seen c.pages.ctl)
+    let after = λ (before : (g.C.Controller.seen c.pages.ctl).calls + pages_made (drop c.pages.size-index c.args.sizes.now) * most_on_walk c.args.cmd.now.task c.args.cmd.now.tries ≤ (g.C.Controller.seen c.args.ctl.now).calls + pages_made c.args.sizes.now * most_on_walk c.args.cmd.now.task c.args.cmd.now.tries).
+    calls_of_page size left (most_on_walk c.args.cmd.now.task c.args.cmd.now.tries) ((g.C.Controller.seen c.args.ctl.now).calls + pages_made c.args.sizes.now * most_on_walk c.args.cmd.now.task c.args.cmd.now.tries) (g.C.Controller.seen c.pages.ctl)
     (g.C.Controller.seen c.list_page-page.new.ctl) page.calls page.none
     (subst
-    (λ (l : List ℕ). (g.C.Controller.seen c.pages.ctl).calls + pages_made l * most_calls c.args.cmd.now.task c.args.cmd.now.tries
-    ≤ (g.C.Controller.seen c.args.ctl.now).calls + pages_made c.args.sizes.now * most_calls c.args.cmd.now.task c.args.cmd.now.tries)
+    (λ (l : List ℕ). (g.C.Controller.seen c.pages.ctl).calls + pages_made l * most_on_walk c.args.cmd.now.task c.args.cmd.now.tries
+    ≤ (g.C.Controller.seen c.args.ctl.now).calls + pages_made c.args.sizes.now * most_on_walk c.args.cmd.now.task c.args.cmd.now.tries)
     split before) in
     record {
       faults = page.faults ∙ ap (λ (n : ℕ). n + faults_of c.list_page-page.result.stop) kept.0;
-      calls = calls_of_all (g.C.Controller.seen c.list_page-page.new.ctl).calls (pages_made left) (most_calls c.args.cmd.now.task c.args.cmd.now.tries) _ (after kept.2);
+      calls = calls_of_all (g.C.Controller.seen c.list_page-page.new.ctl).calls (pages_made left) (most_on_walk c.args.cmd.now.task c.args.cmd.now.tries) _ (after kept.2);
       honest = λ h.
           let now = kept.3 h in
           last_leads c.args.cmd.now.task c.args.sizes.now left size (start_by c.args.cmd.now.task c.args.cmd.now.from) c.pages.place c.list_page-page.result.resume_at c.args.cmd.now.tries _ _ _ _ _ _ c.list_page-page.result.stop
@@ -40,12 +40,12 @@ pages-preserved g c =
     let size = get_or c.args.sizes.now c.pages.size-index 0 in
     let left = drop (c.pages.size-index + 1) c.args.sizes.now in
     let split = at_drop_more (λ (l : List ℕ). l) c.args.sizes.now c.pages.size-index 0 c.pages-test.true in
-    let after = λ (before : (g.C.Controller.seen c.pages.ctl).calls + pages_made (drop c.pages.size-index c.args.sizes.now) * most_calls c.args.cmd.now.task c.args.cmd.now.tries ≤ (g.C.Controller.seen c.args.ctl.now).calls + pages_made c.args.sizes.now * most_calls c.args.cmd.now.task c.args.cmd.now.tries).
-    calls_of_page size left (most_calls c.args.cmd.now.task c.args.cmd.now.tries) ((g.C.Controller.seen c.args.ctl.now).calls + pages_made c.args.sizes.now * most_calls c.args.cmd.now.task c.args.cmd.now.tries) (g.C.Controller.seen c.pages.ctl)
+    let after = λ (before : (g.C.Controller.seen c.pages.ctl).calls + pages_made (drop c.pages.size-index c.args.sizes.now) * most_on_walk c.args.cmd.now.task c.args.cmd.now.tries ≤ (g.C.Controller.seen c.args.ctl.now).calls + pages_made c.args.sizes.now * most_on_walk c.args.cmd.now.task c.args.cmd.now.tries).
+    calls_of_page size left (most_on_walk c.args.cmd.now.task c.args.cmd.now.tries) ((g.C.Controller.seen c.args.ctl.now).calls + pages_made c.args.sizes.now * most_on_walk c.args.cmd.now.task c.args.cmd.now.tries) (g.C.Controller.seen c.pages.ctl)
     (g.C.Controller.seen c.list_page-page.new.ctl) page.calls page.none
     (subst
-    (λ (l : List ℕ). (g.C.Controller.seen c.pages.ctl).calls + pages_made l * most_calls c.args.cmd.now.task c.args.cmd.now.tries
-    ≤ (g.C.Controller.seen c.args.ctl.now).calls + pages_made c.args.sizes.now * most_calls c.args.cmd.now.task c.args.cmd.now.tries)
+    (λ (l : List ℕ). (g.C.Controller.seen c.pages.ctl).calls + pages_made l * most_on_walk c.args.cmd.now.task c.args.cmd.now.tries
+    ≤ (g.C.Controller.seen c.args.ctl.now).calls + pages_made c.args.sizes.now * most_on_walk c.args.cmd.now.task c.args.cmd.now.tries)
     split before) in (
       (let none = ap (λ (st : Stop). faults_of st) c.in-Done.is in let faults = page.faults in let before = kept.0 in omega (arith, none, faults, before)),
       page.place,

@@ -1,8 +1,8 @@
 use Rattle.std.proofs.Common.{◌≡◌, ◌+◌, ◌*◌, ◌≤◌, drop}
 use Rattle.ipmi_bus.specs.Seen.{IsHonest}
-use Rattle.ipmi_commands.specs.Listing.{most_calls, IsPlace}
+use Rattle.ipmi_commands.specs.Listing.{most_on_walk, IsPlace}
 use Rattle.ipmi_commands.specs.Pages.{pages_made}
-use Rattle.ipmi_commands.specs.Plan.{start_by}
+use Rattle.ipmi_command_line.specs.Task.{start_by}
 use Rattle.ipmi_commands.proofs.PageLemmas.{LeadsTo}
 use Rattle.ipmi_commands.proofs.pages.list_pages.Given as goal
 
@@ -11,7 +11,7 @@ abbrev pub invariant-pages : goal.invariant-pages
 invariant-pages g l =
     (g.O.Sink.faults l.out ≡ g.O.Sink.faults l.fn.out)
     × IsPlace l.place
-    × ((g.C.Controller.seen l.ctl).calls + pages_made (drop l.size-index l.sizes) * most_calls l.cmd.task l.cmd.tries ≤ (g.C.Controller.seen l.fn.ctl).calls + pages_made l.fn.sizes * most_calls l.cmd.task l.cmd.tries)
+    × ((g.C.Controller.seen l.ctl).calls + pages_made (drop l.size-index l.sizes) * most_on_walk l.cmd.task l.cmd.tries ≤ (g.C.Controller.seen l.fn.ctl).calls + pages_made l.fn.sizes * most_on_walk l.cmd.task l.cmd.tries)
     × (IsHonest (g.C.Controller.seen l.fn.ctl)
     → IsHonest (g.C.Controller.seen l.ctl)
     × LeadsTo l.cmd.task l.fn.sizes (drop l.size-index l.sizes) (start_by l.cmd.task l.cmd.from) l.place l.cmd.tries (g.C.Controller.seen l.fn.ctl) (g.C.Controller.seen l.ctl) (g.O.Sink.taken l.fn.out) (g.O.Sink.taken l.out))
