@@ -1,5 +1,5 @@
 -- What each task goes along, in one table.
-use Rattle.std.specs.Prelude.{ℕ, Bool, true, false, Option, Some, None}
+use Rattle.std.specs.Prelude.{ℕ, Bool, true, false, List, [], Option, Some, None}
 use Rattle.ipmi_bus.specs.declared.controller.Shelf.{Shelf}
 use Rattle.ipmi_bus.specs.declared.controller.Shelf.TheVariants.{Sdr, Sel}
 use Rattle.ipmi_bus.specs.declared.step.Place.{Place}
@@ -60,6 +60,11 @@ start_at_own None from = start_of from
 
 abbrev pub start_by : Task → Option ℕ → Place
 start_by t from = start_at_own (scope_of t).own_start from
+
+-- the name that is asked for; none of a task that asks for no name
+abbrev pub name_of : Task → List ℕ
+name_of (task.Get name) = name
+name_of _ = []
 
 -- after how many records a listing stops; that of the last ones has no such limit
 abbrev pub limit_of : Count → Option ℕ

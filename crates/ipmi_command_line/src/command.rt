@@ -2,7 +2,7 @@
 ghost use Rattle.std.specs.Prelude.{◌≡◌, ◌≤◌, ◌<◌, ◌⊎◌, Err, IfOk, IfSome, IsSome, IsTrue, MatchResult, None, Ok, Some, length, option_map};
 ghost use Rattle.clap.specs.Words.{found_of, rows_of};
 ghost use Rattle.ipmi_command_line.specs.Command.{IsCommand, IsTask, command_of_matches, command_of_task, is_stray, meaning_of, number_or, start_of_text};
-ghost use Rattle.ipmi_command_line.specs.Task.{count_of, is_listing, limit_of, shelf_of, start_by, takes_from};
+ghost use Rattle.ipmi_command_line.specs.Task.{count_of, is_listing, limit_of, name_of, shelf_of, start_by, takes_from};
 ghost use Rattle.ipmi_command_line.specs.declared.command.UsageFault.TheVariants as fault;
 
 use crate::arguments::{arguments, value};
@@ -125,6 +125,23 @@ impl Task {
             | Task::Info(_)
             | Task::Fru(_)
             | Task::Rewrite => Count::All,
+        }
+    }
+
+    /// The name that it asks for; nothing where it asks for none.
+    pub fn name(&self) -> &str
+        ensures { result.now ≡ name_of self.now }
+    {
+        match self {
+            Task::Get(name) => name.as_str(),
+            Task::Hex
+            | Task::List(_)
+            | Task::Elist(_)
+            | Task::SelList(_)
+            | Task::SelGet(_)
+            | Task::Info(_)
+            | Task::Fru(_)
+            | Task::Rewrite => "",
         }
     }
 

@@ -17,7 +17,7 @@ use Rattle.ipmi_bus.proofs.SinceLemmas.{stays_refl}
 use Rattle.ipmi_command_line.specs.declared.command.Task.{Task}
 use Rattle.ipmi_commands.specs.declared.stop.Stop.{Stop}
 use Rattle.ipmi_commands.specs.declared.stop.Stop.TheVariants as stop
-use Rattle.ipmi_commands.specs.Listing.{most_for_one, most_on_walk, IsListing, ListingCalls}
+use Rattle.ipmi_commands.specs.Listing.{is_done, most_for_one, most_on_walk, IsListing, ListingCalls}
 use Rattle.ipmi_commands.specs.Plan.{first_rows, first_end}
 use Rattle.ipmi_commands.specs.Pages.{start_at, wants_none, GoesOn, PageAlong, IsPage, IsStopped, ArePages, pages_made}
 use Rattle.ipmi_commands.specs.Plan.{WalkEnds, row_items, Printed}
@@ -224,10 +224,10 @@ last_leads t all left size start now next tries s s' s'' old text text' result l
 pub all_lead : (t : Task) (all : List ℕ) (start now next : Place) (tries : ℕ) (s s' s'' : Seen) (old text text' : List ℕ) (result : Stop) → LeadsTo t all [] start now tries s s' old text → IsPage t None now next tries s' s'' text text' result → ArePages t all start tries s s'' old text' result
 all_lead t all start now next tries s s' s'' old text text' result leads page = leads s'' text' result (record { next = next; page = page })
 
-pub stopped : (result : Stop) → ((x : Ended) × (result ≡ stop.Ended x)) ⊎ ((result ≡ stop.Memory) ⊎ (result ≡ stop.WriteFault)) → IsStopped result
-stopped result (inl ended) = subst IsStopped (sym ended.1) tt
-stopped result (inr (inl memory)) = subst IsStopped (sym memory) tt
-stopped result (inr (inr fault)) = subst IsStopped (sym fault) tt
+-- a listing that is done is done after its last record
+pub done : (result : Stop) → is_done result ≡ true → result ≡ stop.Done
+done stop.Done is = refl
+done _ is = cc is
 
 -- the calls of a page: none where it wants no record
 pub made_one : (size : ℕ) (sizes : List ℕ) (most : ℕ) → (size == 0) ≡ false → pages_made (size ∷ sizes) * most ≡ pages_made sizes * most + most

@@ -6,6 +6,7 @@ use Rattle.ipmi_bus.specs.Bounds.{step_call_bound}
 use Rattle.ipmi_bus.specs.declared.controller.Shelf.{Shelf}
 use Rattle.ipmi_bus.specs.declared.step.Place.{Place}
 use Rattle.ipmi_bus.specs.declared.step.Place.TheVariants.{First, Id, End}
+use Rattle.ipmi_bus.specs.declared.inventory.FruEnded.TheVariants as fru
 use Rattle.ipmi_bus.specs.declared.step.Ended.TheVariants.{Cycle, Missing, Refused, GaveUp, Stalled, Malformed}
 use Rattle.ipmi_bus.specs.Shelf.{Row, IsShelf, first_row, look}
 use Rattle.ipmi_bus.specs.Store.{Store, rows_of}
@@ -56,7 +57,12 @@ rest_of_walk shelf rows start (d ∷ done) rest end ok open_ w ends = rest_of_wa
 -- ---- a page as a part of the listing
 
 never_done : (result : Stop) (outcome : Outcome) → IsStopped result → IsOutcome result outcome → outcome ≡ plan.Finished (WalkEnds Done) → ⊥
-never_done stop.Done outcome stopped is done = stopped
+never_done stop.Done outcome stopped is done = cc stopped
+never_done stop.NoName outcome stopped is done = let h = sym is ∙ done in cc h
+never_done stop.NoInfo outcome stopped is done = let h = sym is ∙ done in cc h
+never_done (stop.Inventory id fru.GaveUp) outcome stopped is done = let h = sym is ∙ done in cc h
+never_done (stop.Inventory id (fru.Refused code)) outcome stopped is done = let h = sym is ∙ done in cc h
+never_done (stop.Inventory id _) outcome stopped is done = is
 never_done (stop.Ended (Cycle n)) outcome stopped is done = let h = sym is ∙ done in cc h
 never_done (stop.Ended (Missing n)) outcome stopped is done = let h = sym is ∙ done in cc h
 never_done (stop.Ended (GaveUp n)) outcome stopped is done = let h = sym is ∙ done in cc h

@@ -1,6 +1,7 @@
 -- A listing as a run by its plan.
 use Rattle.std.proofs.Common.{◌≡◌, ◌⊎◌, inl, inr, ℕ, ◌+◌, ◌≤◌, Bool, true, false, Option, None, Result, Ok, Err, List, [], refl, sym, ap, subst, ◌∙◌}
 use Rattle.ipmi_bus.specs.declared.step.Place.{Place}
+use Rattle.ipmi_bus.specs.declared.inventory.FruEnded.TheVariants as fru
 use Rattle.ipmi_bus.specs.declared.step.Ended.TheVariants.{Cycle, Missing, Refused, GaveUp, Stalled, Malformed}
 use Rattle.ipmi_bus.specs.Shelf.{Row}
 use Rattle.ipmi_bus.specs.Store.{Store}
@@ -53,33 +54,41 @@ listed_whole _ listing = cc listing
 -- ---- outcomes
 
 -- the status and the message by how a listing stopped are those of its outcome
-stop_said : (st : Stop) (outcome : Outcome) → IsOutcome st outcome → ◌≡◌ {A = ℕ × List ℕ} (stop_status st, stop_text st) (status_of outcome, outcome_text outcome)
-stop_said stop.Done outcome is = ap (λ (o : Outcome). (status_of o, outcome_text o)) (sym is)
-stop_said (stop.Ended (Cycle n)) outcome is = ap (λ (o : Outcome). (status_of o, outcome_text o)) (sym is)
-stop_said (stop.Ended (Missing n)) outcome is = ap (λ (o : Outcome). (status_of o, outcome_text o)) (sym is)
-stop_said (stop.Ended (GaveUp n)) outcome is = ap (λ (o : Outcome). (status_of o, outcome_text o)) (sym is)
-stop_said (stop.Ended (Refused n code)) outcome is = ap (λ (o : Outcome). (status_of o, outcome_text o)) (sym is)
-stop_said (stop.Ended (Stalled n)) outcome is = absurd is
-stop_said (stop.Ended (Malformed n)) outcome is = absurd is
-stop_said stop.Memory outcome is = ap (λ (o : Outcome). (status_of o, outcome_text o)) (sym is)
-stop_said stop.WriteFault outcome is = ap (λ (o : Outcome). (status_of o, outcome_text o)) (sym is)
+module _ (t : Task) where
+  abbrev said_of : Outcome → ℕ × List ℕ
+  said_of outcome = (status_of outcome, outcome_text t outcome)
 
-status_same : (st : Stop) (outcome : Outcome) → IsOutcome st outcome → stop_status st ≡ status_of outcome
-status_same st outcome is = ap (λ (said : ℕ × List ℕ). said.0) (stop_said st outcome is)
+  stop_said : (st : Stop) (outcome : Outcome) → IsOutcome st outcome → ◌≡◌ {A = ℕ × List ℕ} (stop_status st, stop_text t st) (said_of outcome)
+  stop_said stop.Done outcome is = ap said_of (sym is)
+  stop_said (stop.Ended (Cycle n)) outcome is = ap said_of (sym is)
+  stop_said (stop.Ended (Missing n)) outcome is = ap said_of (sym is)
+  stop_said (stop.Ended (GaveUp n)) outcome is = ap said_of (sym is)
+  stop_said (stop.Ended (Refused n code)) outcome is = ap said_of (sym is)
+  stop_said (stop.Ended _) outcome is = absurd is
+  stop_said stop.NoName outcome is = ap said_of (sym is)
+  stop_said stop.NoInfo outcome is = ap said_of (sym is)
+  stop_said (stop.Inventory id fru.GaveUp) outcome is = ap said_of (sym is)
+  stop_said (stop.Inventory id (fru.Refused code)) outcome is = ap said_of (sym is)
+  stop_said (stop.Inventory id _) outcome is = absurd is
+  stop_said stop.Memory outcome is = ap said_of (sym is)
+  stop_said stop.WriteFault outcome is = ap said_of (sym is)
 
-text_same : (st : Stop) (outcome : Outcome) → IsOutcome st outcome → stop_text st ≡ outcome_text outcome
-text_same st outcome is = ap (λ (said : ℕ × List ℕ). said.1) (stop_said st outcome is)
+  status_same : (st : Stop) (outcome : Outcome) → IsOutcome st outcome → stop_status st ≡ status_of outcome
+  status_same st outcome is = ap (λ (said : ℕ × List ℕ). said.0) (stop_said st outcome is)
+
+  text_same : (st : Stop) (outcome : Outcome) → IsOutcome st outcome → stop_text t st ≡ outcome_text t outcome
+  text_same st outcome is = ap (λ (said : ℕ × List ℕ). said.1) (stop_said st outcome is)
 
 -- ---- runs
 
-pub run_by_listing : (t : Task) (start next : Place) (tries : ℕ) (s s' : Seen) (old new : List ℕ) (said said' : Received) (st : Stop) → is_built t ≡ true → IsPage t (most_of t) start next tries s s' old new st → ReceivesText said said' (stop_text st)
+pub run_by_listing : (t : Task) (start next : Place) (tries : ℕ) (s s' : Seen) (old new : List ℕ) (said said' : Received) (st : Stop) → is_built t ≡ true → IsPage t (most_of t) start next tries s s' old new st → ReceivesText said said' (stop_text t st)
     → IsRun t start tries s s' old new said said' (stop_status st)
 run_by_listing t start next tries s s' old new said said' st built page message = record {
   result = st;
   outcome = page.outcome;
   outcome_is = page.outcome_is;
-  status_is = status_same st page.outcome page.outcome_is;
-  message = subst (λ (l : List ℕ). ReceivesText said said' l) (text_same st page.outcome page.outcome_is) message;
+  status_is = status_same t st page.outcome page.outcome_is;
+  message = subst (λ (l : List ℕ). ReceivesText said said' l) (text_same t st page.outcome page.outcome_is) message;
   stays = page.stays;
   counts = page.counts;
   allowed = λ same walk end w ends. subst (λ (p : Plan). IsAllowed t s.store p old new page.outcome) (sym ((goes_once t built).plan_is s.store start walk end)) (page.along same walk end w ends).leaves;
@@ -88,7 +97,7 @@ run_by_listing t start next tries s s' old new said said' st built page message 
   plain = page.plain;
 }
 
-pub run_in_pages : (t : Task) (sizes : List ℕ) (start : Place) (tries : ℕ) (s s' : Seen) (old new : List ℕ) (said said' : Received) (st : Stop) → is_listing t ≡ true → IsHonest s → ArePages t sizes start tries s s' old new st → ReceivesText said said' (stop_text st)
+pub run_in_pages : (t : Task) (sizes : List ℕ) (start : Place) (tries : ℕ) (s s' : Seen) (old new : List ℕ) (said said' : Received) (st : Stop) → is_listing t ≡ true → IsHonest s → ArePages t sizes start tries s s' old new st → ReceivesText said said' (stop_text t st)
     → IsPagedRun t sizes start tries s s' old new said said' (stop_status st)
 run_in_pages t sizes start tries s s' old new said said' st listing honest pages message =
     let one = pages_are_one t sizes start tries s s' old new st honest pages in
@@ -96,8 +105,8 @@ run_in_pages t sizes start tries s s' old new said said' st listing honest pages
       result = st;
       outcome = one.outcome;
       outcome_is = one.outcome_is;
-      status_is = status_same st one.outcome one.outcome_is;
-      message = subst (λ (l : List ℕ). ReceivesText said said' l) (text_same st one.outcome one.outcome_is) message;
+      status_is = status_same t st one.outcome one.outcome_is;
+      message = subst (λ (l : List ℕ). ReceivesText said said' l) (text_same t st one.outcome one.outcome_is) message;
       stays = one.stays;
       counts = one.counts;
       pages = pages;
@@ -109,7 +118,7 @@ run_in_pages t sizes start tries s s' old new said said' st listing honest pages
 
 -- ---- an image written again
 
-pub rewriting : (store : Store) (old new : List ℕ) (said said' : Received) (st : Stop) → WritesImage (image_text_of store) old new st → ReceivesText said said' (stop_text st) → IsRewriting store old new said said' (stop_status st)
+pub rewriting : (store : Store) (old new : List ℕ) (said said' : Received) (st : Stop) → WritesImage (image_text_of store) old new st → ReceivesText said said' (stop_text task.Rewrite st) → IsRewriting store old new said said' (stop_status st)
 rewriting store old new said said' stop.Done writes message = record {
   outcome = plan.Finished (WalkEnds Done);
   status_is = refl;
@@ -118,7 +127,6 @@ rewriting store old new said said' stop.Done writes message = record {
   unwritten = λ e. cc e;
   fine = tt;
 }
-rewriting store old new said said' (stop.Ended ended) writes message = absurd writes
 rewriting store old new said said' stop.Memory writes message = record {
   outcome = plan.OutOfMemory;
   status_is = refl;
@@ -146,6 +154,7 @@ rewriting store old new said said' stop.WriteFault writes message = record {
   unwritten = λ e. cc e;
   fine = tt;
 }
+rewriting store old new said said' _ writes message = absurd writes
 
 -- ---- an image that is not read
 

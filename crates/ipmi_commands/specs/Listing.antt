@@ -1,10 +1,11 @@
 -- What a listing of the records along a walk leaves in its output, by the plan of its items.
-use Rattle.std.specs.Prelude.{◌≡◌, ℕ, ◌+◌, ◌-◌, ◌*◌, ◌<◌, ◌≤◌, ◌==◌, nat_le, if◌then◌else◌, IsTrue, Option, None, Some, Result, Ok, Err, String, string_bytes, List, [], ◌∷◌, length, take}
+use Rattle.std.specs.Prelude.{◌≡◌, Bool, true, false, ℕ, ◌+◌, ◌-◌, ◌*◌, ◌<◌, ◌≤◌, ◌==◌, nat_le, if◌then◌else◌, IsTrue, Option, None, Some, Result, Ok, Err, String, string_bytes, List, [], ◌∷◌, length, take}
 use Rattle.std.specs.FinSet as set
 use Rattle.std.specs.declared.alloc.Global.{Global}
 use Rattle.ipmi_bus.specs.Bounds.{step_call_bound, fru_call_bound, digits}
 use Rattle.ipmi_bus.specs.declared.step.Place.{Place}
 use Rattle.ipmi_bus.specs.declared.step.Place.TheVariants.{First, Id, End}
+use Rattle.ipmi_bus.specs.declared.inventory.FruEnded.TheVariants as fru
 use Rattle.ipmi_bus.specs.declared.step.Ended.TheVariants.{Cycle, Missing, Refused, GaveUp, Stalled, Malformed}
 use Rattle.ipmi_bus.specs.Readers.{inventory_len, KeepsReservations}
 use Rattle.ipmi_bus.specs.Shelf.{Row, largest_len}
@@ -46,15 +47,23 @@ IsOutcome (stop.Ended (GaveUp n)) outcome = outcome ≡ plan.GaveUp (AtRecord n)
 IsOutcome (stop.Ended (Refused n code)) outcome = outcome ≡ plan.Refused (AtRecord n) code.0
 IsOutcome (stop.Ended (Stalled n)) outcome = ⊥
 IsOutcome (stop.Ended (Malformed n)) outcome = ⊥
+IsOutcome stop.NoName outcome = outcome ≡ plan.Finished plan.NoName
+IsOutcome stop.NoInfo outcome = outcome ≡ plan.Finished plan.NoInfo
+IsOutcome (stop.Inventory id fru.GaveUp) outcome = outcome ≡ plan.GaveUp (AtInventory id)
+IsOutcome (stop.Inventory id (fru.Refused code)) outcome = outcome ≡ plan.Refused (AtInventory id) code.0
+IsOutcome (stop.Inventory id _) outcome = ⊥
 IsOutcome stop.Memory outcome = outcome ≡ plan.OutOfMemory
 IsOutcome stop.WriteFault outcome = outcome ≡ plan.WriteFault
 
 -- a write fault is one fault of the output, and nothing else is
 abbrev pub faults_of : Stop → ℕ
-faults_of stop.Done = 0
-faults_of (stop.Ended e) = 0
-faults_of stop.Memory = 0
 faults_of stop.WriteFault = 1
+faults_of _ = 0
+
+-- after the last record, or after as many as were wanted
+abbrev pub is_done : Stop → Bool
+is_done stop.Done = true
+is_done _ = false
 
 -- ---- calls
 

@@ -13,7 +13,7 @@ use Rattle.ipmi_command_line.specs.Command.{CommandState}
 use Rattle.ipmi_commands.specs.declared.stop.Stop.{Stop}
 use Rattle.ipmi_commands.specs.declared.stop.Stop.TheVariants as stop
 use Rattle.ipmi_command_line.specs.declared.command.Task.{Task}
-use Rattle.ipmi_commands.specs.Listing.{first_plan, IsOutcome, walk_call_bound}
+use Rattle.ipmi_commands.specs.Listing.{is_done, first_plan, IsOutcome, walk_call_bound}
 use Rattle.ipmi_commands.specs.Plan.{first_rows}
 use Rattle.ipmi_commands.specs.Plan.{Outcome, IsAllowed, CountsSo, IsFine}
 use Rattle.ipmi_command_line.specs.Task.{shelf_of}
@@ -67,10 +67,7 @@ pub record IsPage (t : Task) (most : Option ℕ) (start next : Place) (tries : �
 -- ---- pages
 
 abbrev pub IsStopped : Stop → Type 0
-IsStopped stop.Done = ⊥
-IsStopped (stop.Ended ended) = Unit {0}
-IsStopped stop.Memory = Unit {0}
-IsStopped stop.WriteFault = Unit {0}
+IsStopped result = is_done result ≡ false
 
 -- a page with which the listing ends
 pub record LastPage (t : Task) (most : Option ℕ) (start : Place) (tries : ℕ) (s s' : Seen) (old new : List ℕ) (result : Stop) : Type 0 where

@@ -97,7 +97,7 @@ end_spots End walk Done = []
 -- how a run ends that is not cut off
 pub data RunEnd : Type 0 where
   WalkEnds : WalkEnd → RunEnd
-  NoName : List ℕ → RunEnd
+  NoName : RunEnd
   NoInfo : RunEnd
 
 -- what is printed as one piece: a row of a walk, the inventory of a device that no row names, the bytes of an info, an image
@@ -138,7 +138,7 @@ some_has_name name (row ∷ rows) = view_has_name name (sdr.sdr_view_of row.byte
 
 -- a finished walk on which no record has the name ends by that
 abbrev pub run_end : Task → List Row → WalkEnd → RunEnd
-run_end (task.Get name) rows Done = if some_has_name name rows then WalkEnds Done else NoName name
+run_end (task.Get name) rows Done = if some_has_name name rows then WalkEnds Done else NoName
 run_end _ rows end = WalkEnds end
 
 -- of a listing that goes along a walk once

@@ -1,7 +1,7 @@
 -- What a run of a command leaves, and its exit status.
 use Rattle.std.specs.Prelude.{◌≡◌, ◌⊎◌, ℕ, ◌+◌, ◌*◌, ◌≤◌, ◌||◌, Bool, true, false, IsTrue, Result, Ok, Err, List, [], ◌++◌, codes}
-use Rattle.std.specs.Fmt.{decimal}
 use Rattle.ipmi_bus.specs.declared.step.Place.{Place}
+use Rattle.ipmi_bus.specs.declared.inventory.FruEnded.TheVariants as fru
 use Rattle.ipmi_bus.specs.declared.step.Ended.TheVariants.{Cycle, Missing, GaveUp}
 use Rattle.ipmi_bus.specs.Bounds.{step_call_bound}
 use Rattle.ipmi_bus.specs.Shelf.{Row}
@@ -11,7 +11,6 @@ use Rattle.ipmi_bus.specs.Walk as walk_end
 use Rattle.ipmi_bus.specs.Seen.{Seen, StaysHonest}
 use Rattle.ipmi_image.specs.declared.image.ImageFault.{ImageFault}
 use Rattle.ipmi_image.specs.declared.image.ImageFault.TheVariants as image_fault
-use Rattle.ipmi_records.specs.Bytes.{byte_h}
 use Rattle.ipmi_command_line.specs.declared.command.Count.TheVariants as count
 use Rattle.ipmi_command_line.specs.declared.command.Task.{Task}
 use Rattle.ipmi_command_line.specs.declared.command.Task.TheVariants as task
@@ -23,12 +22,12 @@ use Rattle.ipmi_output.specs.declared.message.Message.{Message}
 use Rattle.ipmi_output.specs.declared.message.Message.TheVariants.{Usage, Image, WriteFault, OutOfMemory}
 use Rattle.ipmi_command_line.specs.Command.{CommandState}
 use Rattle.ipmi_commands.specs.Listing.{IsOutcome, calls_for, run_call_bound}
-use Rattle.ipmi_output.specs.Message.{ended_text, refused_text, message_text, line_text}
+use Rattle.ipmi_output.specs.Message.{ended_text, refused_text, inventory_text, refused_inventory_text, no_name_text, no_info_text, message_text, line_text}
 use Rattle.ipmi_output.specs.Received.{Received, ReceivesText}
 use Rattle.ipmi_commands.specs.Pages.{ArePages, pages_made, IsOpen}
 use Rattle.ipmi_output.specs.Sink.{TakesPart}
 use Rattle.ipmi_commands.specs.Plan.{plan_of, rewrite_plan, Outcome, IsAllowed, CountsSo, IsFine}
-use Rattle.ipmi_command_line.specs.Task.{shelf_of, start_by}
+use Rattle.ipmi_command_line.specs.Task.{name_of, shelf_of, start_by}
 use Rattle.ipmi_commands.specs.Plan as plan
 
 -- the tasks that can be run today
@@ -55,45 +54,39 @@ is_answered t = is_rewrite t || is_built t
 -- the exit status by how a listing stopped, and by the outcome of a run
 abbrev pub stop_status : Stop → ℕ
 stop_status stop.Done = 0
-stop_status (stop.Ended e) = 1
 stop_status stop.Memory = 5
 stop_status stop.WriteFault = 4
-
--- what is said of how a listing stopped: a line, or nothing where it is done
-abbrev pub stop_text : Stop → List ℕ
-stop_text stop.Done = []
-stop_text (stop.Ended e) = line_text (ended_text e)
-stop_text stop.Memory = line_text (message_text OutOfMemory)
-stop_text stop.WriteFault = line_text (message_text WriteFault)
+stop_status _ = 1
 
 abbrev pub status_of : Outcome → ℕ
 status_of (plan.Finished (plan.WalkEnds walk_end.Done)) = 0
-status_of (plan.Finished (plan.WalkEnds (walk_end.CycleAt n))) = 1
-status_of (plan.Finished (plan.WalkEnds (walk_end.MissingAt n))) = 1
-status_of (plan.Finished (plan.NoName name)) = 1
-status_of (plan.Finished plan.NoInfo) = 1
-status_of (plan.GaveUp spot) = 1
-status_of (plan.Refused spot code) = 1
 status_of plan.OutOfMemory = 5
 status_of plan.WriteFault = 4
+status_of _ = 1
 
--- a message about the inventory of a device
-abbrev pub inventory_text : ℕ → List ℕ → List ℕ
-inventory_text id text = codes "fru " ++ (decimal id ++ text)
+-- what is said of how a listing of a task stopped: a line, or nothing where it is done
+abbrev pub stop_text : Task → Stop → List ℕ
+stop_text t stop.Done = []
+stop_text t (stop.Ended e) = line_text (ended_text e)
+stop_text t (stop.Inventory id e) = line_text (inventory_text id e)
+stop_text t stop.NoName = line_text (no_name_text (name_of t))
+stop_text t stop.NoInfo = line_text no_info_text
+stop_text t stop.Memory = line_text (message_text OutOfMemory)
+stop_text t stop.WriteFault = line_text (message_text WriteFault)
 
--- what is said of an outcome: a line, or nothing of a run that is done
-abbrev pub outcome_text : Outcome → List ℕ
-outcome_text (plan.Finished (plan.WalkEnds walk_end.Done)) = []
-outcome_text (plan.Finished (plan.WalkEnds (walk_end.CycleAt n))) = line_text (ended_text (Cycle n))
-outcome_text (plan.Finished (plan.WalkEnds (walk_end.MissingAt n))) = line_text (ended_text (Missing n))
-outcome_text (plan.Finished (plan.NoName name)) = line_text (codes "no record named " ++ name)
-outcome_text (plan.Finished plan.NoInfo) = line_text (codes "info not present")
-outcome_text (plan.GaveUp (plan.AtRecord n)) = line_text (ended_text (GaveUp n))
-outcome_text (plan.GaveUp (plan.AtInventory id)) = line_text (inventory_text id (codes " gave up"))
-outcome_text (plan.Refused (plan.AtRecord n) code) = line_text (refused_text n code)
-outcome_text (plan.Refused (plan.AtInventory id) code) = line_text (inventory_text id (codes " refused with code " ++ byte_h code))
-outcome_text plan.OutOfMemory = line_text (message_text OutOfMemory)
-outcome_text plan.WriteFault = line_text (message_text WriteFault)
+-- what is said of an outcome
+abbrev pub outcome_text : Task → Outcome → List ℕ
+outcome_text t (plan.Finished (plan.WalkEnds walk_end.Done)) = []
+outcome_text t (plan.Finished (plan.WalkEnds (walk_end.CycleAt n))) = line_text (ended_text (Cycle n))
+outcome_text t (plan.Finished (plan.WalkEnds (walk_end.MissingAt n))) = line_text (ended_text (Missing n))
+outcome_text t (plan.Finished plan.NoName) = line_text (no_name_text (name_of t))
+outcome_text t (plan.Finished plan.NoInfo) = line_text no_info_text
+outcome_text t (plan.GaveUp (plan.AtRecord n)) = line_text (ended_text (GaveUp n))
+outcome_text t (plan.GaveUp (plan.AtInventory id)) = line_text (inventory_text id fru.GaveUp)
+outcome_text t (plan.Refused (plan.AtRecord n) code) = line_text (refused_text n code)
+outcome_text t (plan.Refused (plan.AtInventory id) code) = line_text (refused_inventory_text id code)
+outcome_text t plan.OutOfMemory = line_text (message_text OutOfMemory)
+outcome_text t plan.WriteFault = line_text (message_text WriteFault)
 
 -- ---- a run
 
@@ -107,10 +100,10 @@ abbrev pub CallsWithin : Task → Store → Place → ℕ → ℕ → ℕ → Ty
 CallsWithin t store start tries before after = (walk : List Row) (end : WalkEnd) → IsWalk (rows_of (shelf_of t) store) start walk → EndsBy (rows_of (shelf_of t) store) start walk end → after ≤ before + run_call_bound t store tries walk
 
 -- over any controller a run ends as a listing may stop, and says so
-pub record EndsSo (said said' : Received) (status : ℕ) : Type 0 where
+pub record EndsSo (t : Task) (said said' : Received) (status : ℕ) : Type 0 where
   pub result : Stop
   pub status_is : status ≡ stop_status result
-  pub message : ReceivesText said said' (stop_text result)
+  pub message : ReceivesText said said' (stop_text t result)
 
 -- a run of a task from its start with these tries, over an honest controller: what it leaves and how many calls it makes while no
 -- store is added, what is said and what is counted, and that nothing is given up or refused over a plain one
@@ -119,7 +112,7 @@ pub record IsRun (t : Task) (start : Place) (tries : ℕ) (s s' : Seen) (old new
   pub outcome : Outcome
   pub outcome_is : IsOutcome result outcome
   pub status_is : status ≡ status_of outcome
-  pub message : ReceivesText said said' (outcome_text outcome)
+  pub message : ReceivesText said said' (outcome_text t outcome)
   pub stays : StaysHonest s s'
   pub counts : CountsSo tries s s' outcome
   pub allowed : s'.stores_added ≡ s.stores_added → AllowsAll t s.store start old new outcome
@@ -145,7 +138,7 @@ pub record IsPagedRun (t : Task) (sizes : List ℕ) (start : Place) (tries : ℕ
   pub outcome : Outcome
   pub outcome_is : IsOutcome result outcome
   pub status_is : status ≡ status_of outcome
-  pub message : ReceivesText said said' (outcome_text outcome)
+  pub message : ReceivesText said said' (outcome_text t outcome)
   pub stays : StaysHonest s s'
   pub counts : CountsSo tries s s' outcome
   pub pages : ArePages t sizes start tries s s' old new result
@@ -159,7 +152,7 @@ pub record IsPagedRun (t : Task) (sizes : List ℕ) (start : Place) (tries : ℕ
 pub record IsRunOverStore (t : Task) (start : Place) (store : Store) (old new : List ℕ) (said said' : Received) (status : ℕ) : Type 0 where
   pub outcome : Outcome
   pub status_is : status ≡ status_of outcome
-  pub message : ReceivesText said said' (outcome_text outcome)
+  pub message : ReceivesText said said' (outcome_text t outcome)
   pub allowed : AllowsAll t store start old new outcome
   pub fine : IsFine outcome
 
@@ -178,15 +171,15 @@ FailsToRead fault old new said said' status = (new ≡ old) × (Says said said' 
 -- the text of an image, by how writing it stopped
 abbrev pub WritesImage : List ℕ → List ℕ → List ℕ → Stop → Type 0
 WritesImage text old new stop.Done = new ≡ old ++ text
-WritesImage text old new (stop.Ended ended) = ⊥
 WritesImage text old new stop.Memory = new ≡ old
 WritesImage text old new stop.WriteFault = TakesPart old new text
+WritesImage text old new _ = ⊥
 
 -- an image written again; nothing of it where memory runs out
 pub record IsRewriting (store : Store) (old new : List ℕ) (said said' : Received) (status : ℕ) : Type 0 where
   pub outcome : Outcome
   pub status_is : status ≡ status_of outcome
-  pub message : ReceivesText said said' (outcome_text outcome)
+  pub message : ReceivesText said said' (outcome_text task.Rewrite outcome)
   pub allowed : IsAllowed task.Rewrite store rewrite_plan old new outcome
   pub unwritten : outcome ≡ plan.OutOfMemory → new ≡ old
   pub fine : IsFine outcome

@@ -132,10 +132,10 @@ pub(crate) fn list_pages<C: Controller, O: Sink>(
     let mut place = first_place(cmd);
     'pages: for size in sizes {
         let page = list_page(alloc, ctl, cmd, place, Some(*size), out);
-        match page.stop {
-            Stop::Done => place = page.resume_at,
-            Stop::Ended(_) | Stop::Memory | Stop::WriteFault => return page.stop,
+        if !page.stop.is_done() {
+            return page.stop;
         }
+        place = page.resume_at;
     }
     list_page(alloc, ctl, cmd, place, None, out).stop
 }

@@ -61,26 +61,40 @@ pub fn is_answered(task: &Task) -> bool
     is_rewrite(task) || is_built(task)
 }
 
-/// Says why a listing stopped, and gives its exit status.
-fn report<E: MessageSink>(stop: Stop, err: &mut E) -> u8
-    ensures status { result ≡ stop_status stop }
-    ensures message { ReceivesText (E.received err.old) (E.received err.new) (stop_text stop) }
+/// The exit status by how a listing stopped.
+fn stop_status(stop: Stop) -> u8
+    ensures { result ≡ stop_status stop }
 {
     match stop {
         Stop::Done => 0,
-        Stop::Ended(ended) => {
-            say(err, Message::Ended(ended));
-            1
-        }
-        Stop::Memory => {
-            say(err, Message::OutOfMemory);
-            5
-        }
-        Stop::WriteFault => {
-            say(err, Message::WriteFault);
-            4
-        }
+        Stop::Ended(_) | Stop::NoName | Stop::NoInfo | Stop::Inventory(_, _) => 1,
+        Stop::WriteFault => 4,
+        Stop::Memory => 5,
     }
+}
+
+/// Says why a listing of the task stopped.
+fn say_stop<E: MessageSink>(task: &Task, stop: Stop, err: &mut E)
+    ensures { ReceivesText (E.received err.old) (E.received err.new) (stop_text task.now stop) }
+{
+    match stop {
+        Stop::Done => {}
+        Stop::Ended(ended) => say(err, Message::Ended(ended)),
+        Stop::NoName => say(err, Message::NoName(task.name())),
+        Stop::NoInfo => say(err, Message::NoInfo),
+        Stop::Inventory(id, ended) => say(err, Message::Inventory(id, ended)),
+        Stop::Memory => say(err, Message::OutOfMemory),
+        Stop::WriteFault => say(err, Message::WriteFault),
+    }
+}
+
+/// Says why a listing of the task stopped, and gives its exit status.
+fn report<E: MessageSink>(task: &Task, stop: Stop, err: &mut E) -> u8
+    ensures status { result ≡ stop_status stop }
+    ensures message { ReceivesText (E.received err.old) (E.received err.new) (stop_text task.now stop) }
+{
+    say_stop(task, stop, err);
+    stop_status(stop)
 }
 
 /// Says how the program is called, and gives the exit status of that.
@@ -130,7 +144,7 @@ pub fn run<C: Controller, O: Sink, E: Write>(
 ) -> u8
     ensures faults { O.faults out.new ≡ O.faults out.old + (if result == 4 then 1 else 0) }
     ensures calls { (C.seen ctl.new).calls ≤ (C.seen ctl.old).calls + most_calls cmd.now.task cmd.now.tries }
-    ensures ends { is_built cmd.now.task ≡ true → EndsSo (of_writer (E.contents err.old)) (of_writer (E.contents err.new)) result }
+    ensures ends { is_built cmd.now.task ≡ true → EndsSo cmd.now.task (of_writer (E.contents err.old)) (of_writer (E.contents err.new)) result }
     ensures built { is_built cmd.now.task ≡ true → IsHonest (C.seen ctl.old) →
         IsRun cmd.now.task (start_by cmd.now.task cmd.now.from) cmd.now.tries
         (C.seen ctl.old) (C.seen ctl.new)
@@ -155,7 +169,7 @@ pub fn run_to_message_sink<C: Controller, O: Sink, E: MessageSink>(
 ) -> u8
     ensures faults { O.faults out.new ≡ O.faults out.old + (if result == 4 then 1 else 0) }
     ensures calls { (C.seen ctl.new).calls ≤ (C.seen ctl.old).calls + most_calls cmd.now.task cmd.now.tries }
-    ensures ends { is_built cmd.now.task ≡ true → EndsSo (E.received err.old) (E.received err.new) result }
+    ensures ends { is_built cmd.now.task ≡ true → EndsSo cmd.now.task (E.received err.old) (E.received err.new) result }
     ensures built { is_built cmd.now.task ≡ true → IsHonest (C.seen ctl.old) →
         IsRun cmd.now.task (start_by cmd.now.task cmd.now.from) cmd.now.tries
         (C.seen ctl.old) (C.seen ctl.new)
@@ -169,7 +183,7 @@ pub fn run_to_message_sink<C: Controller, O: Sink, E: MessageSink>(
     }
     let most = cmd.task().count().limit();
     let stop = list_page(alloc, ctl, cmd, first_place(cmd), most, out).stop;
-    report(stop, err)
+    report(cmd.task(), stop, err)
 }
 
 /// As `run_to_message_sink`, for a listing in pages: each hands out at most as many records as its number says, by a cursor of its own,
@@ -185,14 +199,14 @@ pub fn run_pages<C: Controller, O: Sink, E: MessageSink>(
     requires { is_listing cmd.now.task ≡ true }
     ensures faults { O.faults out.new ≡ O.faults out.old + (if result == 4 then 1 else 0) }
     ensures calls { (C.seen ctl.new).calls ≤ (C.seen ctl.old).calls + pages_made pages.now * most_calls cmd.now.task cmd.now.tries }
-    ensures ends { EndsSo (E.received err.old) (E.received err.new) result }
+    ensures ends { EndsSo cmd.now.task (E.received err.old) (E.received err.new) result }
     ensures honest { IsHonest (C.seen ctl.old) →
         IsPagedRun cmd.now.task pages.now (start_by cmd.now.task cmd.now.from) cmd.now.tries
         (C.seen ctl.old) (C.seen ctl.new)
         (O.taken out.old) (O.taken out.new) (E.received err.old) (E.received err.new) result }
 {
     let stop = list_pages(alloc, ctl, cmd, pages, out);
-    report(stop, err)
+    report(cmd.task(), stop, err)
 }
 
 /// Answers a command line over a saved image, and gives the exit status: as `run`, and 3 for an image that is not
@@ -250,7 +264,7 @@ fn rewrite<O: Sink, E: MessageSink>(alloc: Global, image: &[u8], out: &mut O, er
     match Image::read(alloc, image) {
         Ok(image) => {
             let stop = write_image(alloc, &image, out);
-            report(stop, err)
+            report(&Task::Rewrite, stop, err)
         }
         Err(fault) => report_image(fault, err),
     }

@@ -1,8 +1,9 @@
 //! How a listing stops.
 ghost use Rattle.std.specs.Prelude.{◌≡◌};
+ghost use Rattle.ipmi_commands.specs.Listing.{is_done};
 ghost use Rattle.ipmi_commands.specs.declared.stop.Stop.TheVariants as stop;
 
-use ipmi_bus::Ended;
+use ipmi_bus::{Ended, FruEnded};
 use std::alloc::AllocError;
 
 /// How a listing stopped.
@@ -12,10 +13,25 @@ pub(crate) enum Stop {
     Done,
     /// The cursor gave no record, for this reason.
     Ended(Ended),
+    /// No record has the name that was asked for.
+    NoName,
+    /// The controller has no such info.
+    NoInfo,
+    /// The inventory of the FRU device with this id was not read, for this reason.
+    Inventory(u8, FruEnded),
     /// No memory was left for a line.
     Memory,
     /// The output took no more.
     WriteFault,
+}
+
+impl Stop {
+    /// Whether nothing is left to list, so that a page after this one may begin.
+    pub(crate) fn is_done(self) -> bool
+        ensures { result ≡ is_done self }
+    {
+        self == Stop::Done
+    }
 }
 
 impl From<AllocError> for Stop {

@@ -2,6 +2,8 @@
 use Rattle.std.specs.Prelude.{ℕ, List, ◌++◌, flat_map, codes}
 use Rattle.std.specs.Borrow.{Bor}
 use Rattle.std.specs.Fmt.{decimal}
+use Rattle.ipmi_bus.specs.declared.inventory.FruEnded.{FruEnded}
+use Rattle.ipmi_bus.specs.declared.inventory.FruEnded.TheVariants as fru
 use Rattle.ipmi_bus.specs.declared.step.Ended.{Ended}
 use Rattle.ipmi_bus.specs.declared.step.Ended.TheVariants as ended
 use Rattle.ipmi_image.specs.declared.image.ImageFault.{ImageFault}
@@ -27,6 +29,26 @@ ended_text (ended.GaveUp id) = codes "gave up at " ++ word_h id
 ended_text (ended.Stalled id) = codes "stalled at " ++ word_h id
 ended_text (ended.Malformed id) = codes "malformed record " ++ word_h id
 
+-- that an inventory was refused, with this code
+abbrev pub refused_inventory_text : ℕ → ℕ → List ℕ
+refused_inventory_text id code = codes "fru " ++ (decimal id ++ (codes " refused with code " ++ byte_h code))
+
+-- why an inventory was not read, with the id of its FRU device
+abbrev pub inventory_text : ℕ → FruEnded → List ℕ
+inventory_text id (fru.Refused code) = refused_inventory_text id code.0
+inventory_text id fru.GaveUp = codes "fru " ++ (decimal id ++ codes " gave up")
+inventory_text id fru.Stalled = codes "fru " ++ (decimal id ++ codes " stalled")
+inventory_text id fru.Words = codes "fru " ++ (decimal id ++ codes " uses words")
+inventory_text id fru.Memory = codes "out of memory"
+
+-- that no record has the name
+abbrev pub no_name_text : List ℕ → List ℕ
+no_name_text name = codes "no record named " ++ name
+
+-- that there is no info
+abbrev pub no_info_text : List ℕ
+no_info_text = codes "info not present"
+
 -- what is wrong with a line of an image
 abbrev pub line_fault_text : ℕ → List ℕ → List ℕ
 line_fault_text line what = codes "image line " ++ (decimal line ++ (codes ": " ++ what))
@@ -50,6 +72,9 @@ message_text message.Usage = usage_text
 message_text (message.CannotRead name) = codes "cannot read " ++ name.now
 message_text (message.Image fault) = image_fault_text fault
 message_text (message.Ended ended) = ended_text ended
+message_text (message.Inventory id ended) = inventory_text id ended
+message_text (message.NoName name) = no_name_text name.now
+message_text message.NoInfo = no_info_text
 message_text message.WriteFault = codes "write fault"
 message_text message.OutOfMemory = codes "out of memory"
 

@@ -1,14 +1,14 @@
 //! What the program says on standard error. Each message is one line, written part by part and not made as a whole text
 //! first: so none of them takes memory, and the want of memory can be told as well.
-ghost use Rattle.std.specs.Prelude.{◌≡◌, ◌<◌, true};
-ghost use Rattle.std.specs.Fmt.{digit_glyph};
+ghost use Rattle.std.specs.Prelude.{◌≡◌, ◌<◌, ◌++◌, codes, true};
+ghost use Rattle.std.specs.Fmt.{decimal, digit_glyph};
 ghost use Rattle.ipmi_records.specs.Bytes.{byte_h, upper_byte, word_h};
 ghost use Rattle.ipmi_output.specs.Received.{ReceivesText, WritesAll};
-ghost use Rattle.ipmi_output.specs.Message.{ended_text, image_fault_text, joined_parts, line_fault_text, line_text, message_text};
+ghost use Rattle.ipmi_output.specs.Message.{ended_text, image_fault_text, inventory_text, joined_parts, line_fault_text, line_text, message_text};
 
 use crate::message_sink::{MessageSink, offer_all};
 use crate::sink::SinkFault;
-use ipmi_bus::Ended;
+use ipmi_bus::{Ended, FruEnded};
 use ipmi_image::ImageFault;
 use itoa::Buffer;
 
@@ -23,6 +23,12 @@ pub enum Message<'a> {
     Image(ImageFault),
     /// A listing ended by this name.
     Ended(Ended),
+    /// The inventory of the FRU device with this id was not read, for this reason.
+    Inventory(u8, FruEnded),
+    /// No record has this name.
+    NoName(&'a str),
+    /// The controller has no such info.
+    NoInfo,
     /// The output took no more.
     WriteFault,
     /// No memory was left.
@@ -51,6 +57,9 @@ pub fn write_message<E: MessageSink>(err: &mut E, message: Message<'_>) -> Resul
         Message::CannotRead(name) => write_line(err, &[b"cannot read ", name.as_bytes()]),
         Message::Image(fault) => write_image_fault(err, fault),
         Message::Ended(ended) => write_ended(err, ended),
+        Message::Inventory(id, ended) => write_inventory(err, id, ended),
+        Message::NoName(name) => write_line(err, &[b"no record named ", name.as_bytes()]),
+        Message::NoInfo => write_line(err, &[b"info not present"]),
         Message::WriteFault => write_line(err, &[b"write fault"]),
         Message::OutOfMemory => write_line(err, &[b"out of memory"]),
     }
@@ -76,6 +85,41 @@ fn write_ended<E: MessageSink>(err: &mut E, ended: Ended) -> Result<(), SinkFaul
         Ended::Stalled(id) => write_line(err, &[b"stalled at ", &word_h(id)]),
         Ended::Malformed(id) => write_line(err, &[b"malformed record ", &word_h(id)]),
     }
+}
+
+/// Writes why an inventory was not read.
+fn write_inventory<E: MessageSink>(err: &mut E, id: u8, ended: FruEnded) -> Result<(), SinkFault>
+    ensures { WritesAll (E.received err.old) (E.received err.new) result (line_text (inventory_text id ended)) }
+{
+    match ended {
+        FruEnded::Memory => write_line(err, &[b"out of memory"]),
+        FruEnded::Refused(code) => write_refused_inventory(err, id, &byte_h(code.0)),
+        FruEnded::GaveUp => write_about_inventory(err, id, b" gave up"),
+        FruEnded::Stalled => write_about_inventory(err, id, b" stalled"),
+        FruEnded::Words => write_about_inventory(err, id, b" uses words"),
+    }
+}
+
+/// Writes that an inventory was refused, with the code in these digits.
+fn write_refused_inventory<E: MessageSink>(
+    err: &mut E,
+    id: u8,
+    code: &[u8],
+) -> Result<(), SinkFault>
+    ensures { WritesAll (E.received err.old) (E.received err.new) result (line_text (codes "fru " ++ (decimal id ++ (codes " refused with code " ++ code.now)))) }
+{
+    let mut buffer = Buffer::new();
+    let number = buffer.format(id).as_bytes();
+    write_line(err, &[b"fru ", number, b" refused with code ", code])
+}
+
+/// Writes this about an inventory.
+fn write_about_inventory<E: MessageSink>(err: &mut E, id: u8, what: &[u8]) -> Result<(), SinkFault>
+    ensures { WritesAll (E.received err.old) (E.received err.new) result (line_text (codes "fru " ++ (decimal id ++ what.now))) }
+{
+    let mut buffer = Buffer::new();
+    let number = buffer.format(id).as_bytes();
+    write_line(err, &[b"fru ", number, what])
 }
 
 /// Writes why the input is no image.
