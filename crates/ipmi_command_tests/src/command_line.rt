@@ -2,5 +2,6 @@
 mod faults;
 pub(crate) mod lines;
 mod options;
+mod scopes;
 mod tasks;
 mod words;

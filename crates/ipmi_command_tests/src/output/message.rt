@@ -1,6 +1,6 @@
 //! The line of each message, and what writers that fall short hold of one.
 use crate::writers::{Full, Idle, Limited, Slow, is_written};
-use ipmi_bus::{Code, Ended};
+use ipmi_bus::{Code, Ended, FruEnded};
 use ipmi_image::ImageFault;
 use ipmi_output::{Message, MessageSink, SinkFault, Written, say, write_message};
 use std::alloc::Global;
@@ -41,7 +41,7 @@ fn are_said(rt: &impl Abort, alloc: Global, cases: &[Case]) {
     }
 }
 
-const OF_THE_PROGRAM: [Case; 5] = [
+const OF_THE_PROGRAM: [Case; 12] = [
     Case {
         message: Message::Usage,
         line: "usage: ipmitool [--image FILE] [--from HEX4] [--part N] [--tries N] fru|sdr|sel WORDS\n",
@@ -53,6 +53,34 @@ const OF_THE_PROGRAM: [Case; 5] = [
     Case {
         message: Message::CannotRead(""),
         line: "cannot read \n",
+    },
+    Case {
+        message: Message::NoName("Foo"),
+        line: "no record named Foo\n",
+    },
+    Case {
+        message: Message::NoInfo,
+        line: "info not present\n",
+    },
+    Case {
+        message: Message::Inventory(7, FruEnded::Refused(Code(0xD4))),
+        line: "fru 7 refused with code D4h\n",
+    },
+    Case {
+        message: Message::Inventory(254, FruEnded::GaveUp),
+        line: "fru 254 gave up\n",
+    },
+    Case {
+        message: Message::Inventory(0, FruEnded::Stalled),
+        line: "fru 0 stalled\n",
+    },
+    Case {
+        message: Message::Inventory(0, FruEnded::Words),
+        line: "fru 0 uses words\n",
+    },
+    Case {
+        message: Message::Inventory(0, FruEnded::Memory),
+        line: "out of memory\n",
     },
     Case {
         message: Message::WriteFault,
