@@ -10,12 +10,21 @@ ghost use Rattle.ipmi_commands.specs.Run.{is_built, AllowsAll};
 pub fn rows_have_one_text()
     ensures { (t : Task) (store : Store) (items : List Item) (a b : List ℕ) → is_built t ≡ true →
         AreRowsOfBytes items → AreTexts t store items a → AreTexts t store items b → a ≡ b }
-{}
+{
+    ipmi_records::laws::one_sdr_line();
+    ipmi_records::laws::one_extended_line();
+    ipmi_records::laws::one_sel_line();
+    ipmi_records::laws::one_sel_block();
+}
 
 /// So over a well-formed store a finished run of such a task leaves one output, and ends in one way.
 pub fn finished_runs_are_one()
     ensures { (t : Task) (store : Store) (start : Place) (old a b : List ℕ) (e f : RunEnd) → is_built t ≡ true →
         IsStore store → AllowsAll t store start old a (Finished e) → AllowsAll t store start old b (Finished f) → (a ≡ b) × (e ≡ f) }
 {
+    ipmi_records::laws::one_sdr_line();
+    ipmi_records::laws::one_extended_line();
+    ipmi_records::laws::one_sel_line();
+    ipmi_records::laws::one_sel_block();
     ipmi_bus::laws::one_walk_has_an_end();
 }

@@ -1,7 +1,6 @@
 -- An inventory has at most one text.
 use Rattle.std.proofs.Common.{◌≡◌, ◌∙◌, inl, inr, ℕ, Option, None, Some, Result, Ok, Err, List, [], ◌∷◌, ◌++◌, refl, ap, sym, subst, codes}
-use Rattle.ipmi_text.proofs.DecimalLemmas.{one_text}
-use Rattle.ipmi_text.proofs.TimeLemmas.{one_minutes_text}
+use Rattle.ipmi_text.specs.Laws.{DecimalIsUnique, MinutesTextIsUnique}
 use Rattle.ipmi_fru.specs.declared.area.AreaKind.{AreaKind}
 use Rattle.ipmi_fru.specs.declared.area.AreaKind.TheVariants.{Chassis, Board, Product}
 use Rattle.ipmi_fru.specs.declared.area.AreaFault.{AreaFault}
@@ -16,122 +15,123 @@ use Rattle.ipmi_fru.specs.Print.{IsLead, IsTextFound, IsTextOfArea, IsVoltsAt, I
 use Rattle.ipmi_text.specs.Lines.{labelled}
 use Rattle.ipmi_fru.proofs.UniqueLemmas.{one_list_of_fields, one_list_of_records}
 
--- ---- areas
+module _ (one_text : DecimalIsUnique) (one_minutes_text : MinutesTextIsUnique) where
+  -- ---- areas
 
--- areas with equal parts are equal
-same_area : (a b : Area) → a.kind ≡ b.kind → a.bytes ≡ b.bytes → a.fields ≡ b.fields → a ≡ b
-same_area a b kind bytes fields =
-    ap (λ (k : AreaKind). record { kind = k; bytes = a.bytes; fields = a.fields }) kind
-    ∙ ap (λ (l : List ℕ). record { kind = b.kind; bytes = l; fields = a.fields }) bytes
-    ∙ ap (λ (l : List AreaField). record { kind = b.kind; bytes = b.bytes; fields = l }) fields
+  -- areas with equal parts are equal
+  same_area : (a b : Area) → a.kind ≡ b.kind → a.bytes ≡ b.bytes → a.fields ≡ b.fields → a ≡ b
+  same_area a b kind bytes fields =
+      ap (λ (k : AreaKind). record { kind = k; bytes = a.bytes; fields = a.fields }) kind
+      ∙ ap (λ (l : List ℕ). record { kind = b.kind; bytes = l; fields = a.fields }) bytes
+      ∙ ap (λ (l : List AreaField). record { kind = b.kind; bytes = b.bytes; fields = l }) fields
 
-one_area : (kind : AreaKind) (offset : ℕ) (bytes : List ℕ) (a b : Area) → IsArea kind offset bytes a → IsArea kind offset bytes b → a ≡ b
-one_area kind offset bytes a b x y =
-    let same : a.bytes ≡ b.bytes = x.bytes_are ∙ sym y.bytes_are in
-    let spells : Spells (field_bytes kind b.bytes) a.fields = subst (λ (l : List ℕ). Spells (field_bytes kind l) a.fields) same x.fields_are in
-    same_area a b (x.kind_is ∙ sym y.kind_is) same (one_list_of_fields (field_bytes kind b.bytes) a.fields b.fields spells y.fields_are)
+  one_area : (kind : AreaKind) (offset : ℕ) (bytes : List ℕ) (a b : Area) → IsArea kind offset bytes a → IsArea kind offset bytes b → a ≡ b
+  one_area kind offset bytes a b x y =
+      let same : a.bytes ≡ b.bytes = x.bytes_are ∙ sym y.bytes_are in
+      let spells : Spells (field_bytes kind b.bytes) a.fields = subst (λ (l : List ℕ). Spells (field_bytes kind l) a.fields) same x.fields_are in
+      same_area a b (x.kind_is ∙ sym y.kind_is) same (one_list_of_fields (field_bytes kind b.bytes) a.fields b.fields spells y.fields_are)
 
--- where there is an area there is no fault
-no_fault : (kind : AreaKind) (offset : ℕ) (bytes : List ℕ) (a : Area) (f : AreaFault) → IsArea kind offset bytes a → IsAreaFault kind offset bytes f → ⊥
-no_fault kind offset bytes a f x (inl is) = let fine = x.fine in cc (fine, is)
-no_fault kind offset bytes a f x (inr past) = past.0.no_list a.fields (subst (λ (l : List ℕ). Spells (field_bytes kind l) a.fields) x.bytes_are x.fields_are)
+  -- where there is an area there is no fault
+  no_fault : (kind : AreaKind) (offset : ℕ) (bytes : List ℕ) (a : Area) (f : AreaFault) → IsArea kind offset bytes a → IsAreaFault kind offset bytes f → ⊥
+  no_fault kind offset bytes a f x (inl is) = let fine = x.fine in cc (fine, is)
+  no_fault kind offset bytes a f x (inr past) = past.0.no_list a.fields (subst (λ (l : List ℕ). Spells (field_bytes kind l) a.fields) x.bytes_are x.fields_are)
 
-one_fault : (kind : AreaKind) (offset : ℕ) (bytes : List ℕ) (f g : AreaFault) → IsAreaFault kind offset bytes f → IsAreaFault kind offset bytes g → f ≡ g
-one_fault kind offset bytes f g (inl is) (inl at) = cc (is, at)
-one_fault kind offset bytes f g (inl is) (inr past) = let fine = past.0.fine in cc (is, fine)
-one_fault kind offset bytes f g (inr past) (inl is) = let fine = past.0.fine in cc (is, fine)
-one_fault kind offset bytes f g (inr past) (inr other) = past.1 ∙ sym other.1
+  one_fault : (kind : AreaKind) (offset : ℕ) (bytes : List ℕ) (f g : AreaFault) → IsAreaFault kind offset bytes f → IsAreaFault kind offset bytes g → f ≡ g
+  one_fault kind offset bytes f g (inl is) (inl at) = cc (is, at)
+  one_fault kind offset bytes f g (inl is) (inr past) = let fine = past.0.fine in cc (is, fine)
+  one_fault kind offset bytes f g (inr past) (inl is) = let fine = past.0.fine in cc (is, fine)
+  one_fault kind offset bytes f g (inr past) (inr other) = past.1 ∙ sym other.1
 
-same_offset : (kind : AreaKind) (bytes : List ℕ) (m n : ℕ) → offset_of (place_of kind) bytes ≡ Some m → offset_of (place_of kind) bytes ≡ Some n → n ≡ m
-same_offset kind bytes m n x y = cc (x, y)
+  same_offset : (kind : AreaKind) (bytes : List ℕ) (m n : ℕ) → offset_of (place_of kind) bytes ≡ Some m → offset_of (place_of kind) bytes ≡ Some n → n ≡ m
+  same_offset kind bytes m n x y = cc (x, y)
 
--- an inventory has one thing of a kind
-one_found : (kind : AreaKind) (bytes : List ℕ) (a b : Option (Result Area AreaFault)) → IsFound kind bytes a → IsFound kind bytes b → a ≡ b
-one_found kind bytes None None x y = refl
-one_found kind bytes None (Some (Ok b)) x y = let is = y.1.0 in cc (x, is)
-one_found kind bytes None (Some (Err g)) x y = let is = y.1.0 in cc (x, is)
-one_found kind bytes (Some (Ok a)) None x y = let is = x.1.0 in cc (y, is)
-one_found kind bytes (Some (Err f)) None x y = let is = x.1.0 in cc (y, is)
-one_found kind bytes (Some (Ok a)) (Some (Ok b)) x y =
-    let there : IsArea kind x.0 bytes b = subst (λ (n : ℕ). IsArea kind n bytes b) (same_offset kind bytes x.0 y.0 x.1.0 y.1.0) y.1.1 in
-    ap (λ (area : Area). Some (Ok area)) (one_area kind x.0 bytes a b x.1.1 there)
-one_found kind bytes (Some (Ok a)) (Some (Err g)) x y =
-    absurd (no_fault kind x.0 bytes a g x.1.1 (subst (λ (n : ℕ). IsAreaFault kind n bytes g) (same_offset kind bytes x.0 y.0 x.1.0 y.1.0) y.1.1))
-one_found kind bytes (Some (Err f)) (Some (Ok b)) x y =
-    absurd (no_fault kind x.0 bytes b f (subst (λ (n : ℕ). IsArea kind n bytes b) (same_offset kind bytes x.0 y.0 x.1.0 y.1.0) y.1.1) x.1.1)
-one_found kind bytes (Some (Err f)) (Some (Err g)) x y =
-    let there : IsAreaFault kind x.0 bytes g = subst (λ (n : ℕ). IsAreaFault kind n bytes g) (same_offset kind bytes x.0 y.0 x.1.0 y.1.0) y.1.1 in
-    ap (λ (f : AreaFault). Some (Err f)) (one_fault kind x.0 bytes f g x.1.1 there)
+  -- an inventory has one thing of a kind
+  one_found : (kind : AreaKind) (bytes : List ℕ) (a b : Option (Result Area AreaFault)) → IsFound kind bytes a → IsFound kind bytes b → a ≡ b
+  one_found kind bytes None None x y = refl
+  one_found kind bytes None (Some (Ok b)) x y = let is = y.1.0 in cc (x, is)
+  one_found kind bytes None (Some (Err g)) x y = let is = y.1.0 in cc (x, is)
+  one_found kind bytes (Some (Ok a)) None x y = let is = x.1.0 in cc (y, is)
+  one_found kind bytes (Some (Err f)) None x y = let is = x.1.0 in cc (y, is)
+  one_found kind bytes (Some (Ok a)) (Some (Ok b)) x y =
+      let there : IsArea kind x.0 bytes b = subst (λ (n : ℕ). IsArea kind n bytes b) (same_offset kind bytes x.0 y.0 x.1.0 y.1.0) y.1.1 in
+      ap (λ (area : Area). Some (Ok area)) (one_area kind x.0 bytes a b x.1.1 there)
+  one_found kind bytes (Some (Ok a)) (Some (Err g)) x y =
+      absurd (no_fault kind x.0 bytes a g x.1.1 (subst (λ (n : ℕ). IsAreaFault kind n bytes g) (same_offset kind bytes x.0 y.0 x.1.0 y.1.0) y.1.1))
+  one_found kind bytes (Some (Err f)) (Some (Ok b)) x y =
+      absurd (no_fault kind x.0 bytes b f (subst (λ (n : ℕ). IsArea kind n bytes b) (same_offset kind bytes x.0 y.0 x.1.0 y.1.0) y.1.1) x.1.1)
+  one_found kind bytes (Some (Err f)) (Some (Err g)) x y =
+      let there : IsAreaFault kind x.0 bytes g = subst (λ (n : ℕ). IsAreaFault kind n bytes g) (same_offset kind bytes x.0 y.0 x.1.0 y.1.0) y.1.1 in
+      ap (λ (f : AreaFault). Some (Err f)) (one_fault kind x.0 bytes f g x.1.1 there)
 
-one_lead : (kind : AreaKind) (area text other : List ℕ) → IsLead kind area text → IsLead kind area other → text ≡ other
-one_lead Chassis area text other h k = h ∙ sym k
-one_lead Board area text other h k = h.1.1 ∙ ap (labelled (codes "Board Mfg Date")) (one_minutes_text _ h.0 k.0 h.1.0 k.1.0) ∙ sym k.1.1
-one_lead Product area text other h k = h ∙ sym k
+  one_lead : (kind : AreaKind) (area text other : List ℕ) → IsLead kind area text → IsLead kind area other → text ≡ other
+  one_lead Chassis area text other h k = h ∙ sym k
+  one_lead Board area text other h k = h.1.1 ∙ ap (labelled (codes "Board Mfg Date")) (one_minutes_text _ h.0 k.0 h.1.0 k.1.0) ∙ sym k.1.1
+  one_lead Product area text other h k = h ∙ sym k
 
-one_text_found : (kind : AreaKind) (found : Option (Result Area AreaFault)) (text other : List ℕ) → IsTextFound kind found text → IsTextFound kind found other → text ≡ other
-one_text_found kind None text other h k = h ∙ sym k
-one_text_found kind (Some (Ok area)) text other h k =
-    h.text_is
-    ∙ ap (λ (lead : List ℕ). lead ++ field_lines (language_of area.kind area.bytes) (labels_of area.kind) (extra_label area.kind) area.fields) (one_lead area.kind area.bytes h.lead k.lead h.is_lead k.is_lead)
-    ∙ sym k.text_is
-one_text_found kind (Some (Err f)) text other h k = h ∙ sym k
+  one_text_found : (kind : AreaKind) (found : Option (Result Area AreaFault)) (text other : List ℕ) → IsTextFound kind found text → IsTextFound kind found other → text ≡ other
+  one_text_found kind None text other h k = h ∙ sym k
+  one_text_found kind (Some (Ok area)) text other h k =
+      h.text_is
+      ∙ ap (λ (lead : List ℕ). lead ++ field_lines (language_of area.kind area.bytes) (labels_of area.kind) (extra_label area.kind) area.fields) (one_lead area.kind area.bytes h.lead k.lead h.is_lead k.is_lead)
+      ∙ sym k.text_is
+  one_text_found kind (Some (Err f)) text other h k = h ∙ sym k
 
-one_area_text : (kind : AreaKind) (bytes text other : List ℕ) → IsTextOfArea kind bytes text → IsTextOfArea kind bytes other → text ≡ other
-one_area_text kind bytes text other h k =
-    one_text_found kind k.found text other (subst (λ (found : Option (Result Area AreaFault)). IsTextFound kind found text) (one_found kind bytes h.found k.found h.is_found k.is_found) h.is_text) k.is_text
+  one_area_text : (kind : AreaKind) (bytes text other : List ℕ) → IsTextOfArea kind bytes text → IsTextOfArea kind bytes other → text ≡ other
+  one_area_text kind bytes text other h k =
+      one_text_found kind k.found text other (subst (λ (found : Option (Result Area AreaFault)). IsTextFound kind found text) (one_found kind bytes h.found k.found h.is_found k.is_found) h.is_text) k.is_text
 
--- ---- records
+  -- ---- records
 
-one_volts : (place : ℕ) (bytes text other : List ℕ) → IsVoltsAt place bytes text → IsVoltsAt place bytes other → text ≡ other
-one_volts place bytes text other h k = one_text _ text other h k
+  one_volts : (place : ℕ) (bytes text other : List ℕ) → IsVoltsAt place bytes text → IsVoltsAt place bytes other → text ≡ other
+  one_volts place bytes text other h k = one_text _ text other h k
 
-one_form : (form : RecordForm) (r : MultiRecord) (text other : List ℕ) → IsTextInForm form r text → IsTextInForm form r other → text ≡ other
-one_form Output r text other h k =
-    let nominal = one_volts 1 r.bytes h.nominal k.nominal h.volts.nominal_is k.volts.nominal_is in
-    let low = one_volts 3 r.bytes h.low k.low h.volts.low_is k.volts.low_is in
-    let high = one_volts 5 r.bytes h.high k.high h.volts.high_is k.volts.high_is in
-    h.text_is ∙ rw (nominal, low, high) (sym k.text_is)
-one_form Load r text other h k =
-    let nominal = one_volts 1 r.bytes h.nominal k.nominal h.volts.nominal_is k.volts.nominal_is in
-    let low = one_volts 3 r.bytes h.low k.low h.volts.low_is k.volts.low_is in
-    let high = one_volts 5 r.bytes h.high k.high h.volts.high_is k.volts.high_is in
-    h.text_is ∙ rw (nominal, low, high) (sym k.text_is)
-one_form Access r text other h k = h ∙ sym k
-one_form Other r text other h k = h ∙ sym k
+  one_form : (form : RecordForm) (r : MultiRecord) (text other : List ℕ) → IsTextInForm form r text → IsTextInForm form r other → text ≡ other
+  one_form Output r text other h k =
+      let nominal = one_volts 1 r.bytes h.nominal k.nominal h.volts.nominal_is k.volts.nominal_is in
+      let low = one_volts 3 r.bytes h.low k.low h.volts.low_is k.volts.low_is in
+      let high = one_volts 5 r.bytes h.high k.high h.volts.high_is k.volts.high_is in
+      h.text_is ∙ rw (nominal, low, high) (sym k.text_is)
+  one_form Load r text other h k =
+      let nominal = one_volts 1 r.bytes h.nominal k.nominal h.volts.nominal_is k.volts.nominal_is in
+      let low = one_volts 3 r.bytes h.low k.low h.volts.low_is k.volts.low_is in
+      let high = one_volts 5 r.bytes h.high k.high h.volts.high_is k.volts.high_is in
+      h.text_is ∙ rw (nominal, low, high) (sym k.text_is)
+  one_form Access r text other h k = h ∙ sym k
+  one_form Other r text other h k = h ∙ sym k
 
-one_item : (item : Result MultiRecord MultiFault) (text other : List ℕ) → IsItemText item text → IsItemText item other → text ≡ other
-one_item (Ok r) text other h k = one_form (form_of r) r text other h k
-one_item (Err f) text other h k = h ∙ sym k
+  one_item : (item : Result MultiRecord MultiFault) (text other : List ℕ) → IsItemText item text → IsItemText item other → text ≡ other
+  one_item (Ok r) text other h k = one_form (form_of r) r text other h k
+  one_item (Err f) text other h k = h ∙ sym k
 
-one_list : (items : List (Result MultiRecord MultiFault)) (text other : List ℕ) → AreItemTexts items text → AreItemTexts items other → text ≡ other
-one_list [] text other h k = h ∙ sym k
-one_list (item ∷ items) text other h k =
-    h.2.1.1
-    ∙ ap (λ (l : List ℕ). l ++ h.1) (one_item item h.0 k.0 h.2.0 k.2.0)
-    ∙ ap (λ (l : List ℕ). k.0 ++ l) (one_list items h.1 k.1 h.2.1.0 k.2.1.0)
-    ∙ sym k.2.1.1
+  one_list : (items : List (Result MultiRecord MultiFault)) (text other : List ℕ) → AreItemTexts items text → AreItemTexts items other → text ≡ other
+  one_list [] text other h k = h ∙ sym k
+  one_list (item ∷ items) text other h k =
+      h.2.1.1
+      ∙ ap (λ (l : List ℕ). l ++ h.1) (one_item item h.0 k.0 h.2.0 k.2.0)
+      ∙ ap (λ (l : List ℕ). k.0 ++ l) (one_list items h.1 k.1 h.2.1.0 k.2.1.0)
+      ∙ sym k.2.1.1
 
-one_records_at : (at : Option ℕ) (bytes : List ℕ) (a b : List MultiRecord) (e f : RecordsEnd) → AreRecordsAt at bytes a e → AreRecordsAt at bytes b f → SameList a b e f
-one_records_at None bytes a b e f x y = record { records = x.0 ∙ sym y.0; ends = x.1 ∙ sym y.1 }
-one_records_at (Some offset) bytes a b e f x y = one_list_of_records _ a b e f x y
+  one_records_at : (at : Option ℕ) (bytes : List ℕ) (a b : List MultiRecord) (e f : RecordsEnd) → AreRecordsAt at bytes a e → AreRecordsAt at bytes b f → SameList a b e f
+  one_records_at None bytes a b e f x y = record { records = x.0 ∙ sym y.0; ends = x.1 ∙ sym y.1 }
+  one_records_at (Some offset) bytes a b e f x y = one_list_of_records _ a b e f x y
 
-one_records_text : (bytes text other : List ℕ) → IsTextOfRecords bytes text → IsTextOfRecords bytes other → text ≡ other
-one_records_text bytes text other h k =
-    let same = one_records_at (offset_of records_place bytes) bytes h.records k.records h.end k.end h.are_records k.are_records in
-    let items : items_of h.records h.end ≡ items_of k.records k.end = ap (λ (l : List MultiRecord). items_of l h.end) same.records ∙ ap (items_of k.records) same.ends in
-    one_list (items_of k.records k.end) text other (subst (λ (l : List (Result MultiRecord MultiFault)). AreItemTexts l text) items h.are_texts) k.are_texts
+  one_records_text : (bytes text other : List ℕ) → IsTextOfRecords bytes text → IsTextOfRecords bytes other → text ≡ other
+  one_records_text bytes text other h k =
+      let same = one_records_at (offset_of records_place bytes) bytes h.records k.records h.end k.end h.are_records k.are_records in
+      let items : items_of h.records h.end ≡ items_of k.records k.end = ap (λ (l : List MultiRecord). items_of l h.end) same.records ∙ ap (items_of k.records) same.ends in
+      one_list (items_of k.records k.end) text other (subst (λ (l : List (Result MultiRecord MultiFault)). AreItemTexts l text) items h.are_texts) k.are_texts
 
--- ---- the inventory
+  -- ---- the inventory
 
-one_by_fault : (o : Option FruFault) (bytes text other : List ℕ) → IsTextByFault o bytes text → IsTextByFault o bytes other → text ≡ other
-one_by_fault (Some f) bytes text other h k = h ∙ sym k
-one_by_fault None bytes text other h k =
-    h.text_is
-    ∙ ap (λ (l : List ℕ). l ++ (h.board ++ (h.product ++ h.records))) (one_area_text Chassis bytes h.chassis k.chassis h.is_chassis k.is_chassis)
-    ∙ ap (λ (l : List ℕ). k.chassis ++ (l ++ (h.product ++ h.records))) (one_area_text Board bytes h.board k.board h.is_board k.is_board)
-    ∙ ap (λ (l : List ℕ). k.chassis ++ (k.board ++ (l ++ h.records))) (one_area_text Product bytes h.product k.product h.is_product k.is_product)
-    ∙ ap (λ (l : List ℕ). k.chassis ++ (k.board ++ (k.product ++ l))) (one_records_text bytes h.records k.records h.is_records k.is_records)
-    ∙ sym k.text_is
+  one_by_fault : (o : Option FruFault) (bytes text other : List ℕ) → IsTextByFault o bytes text → IsTextByFault o bytes other → text ≡ other
+  one_by_fault (Some f) bytes text other h k = h ∙ sym k
+  one_by_fault None bytes text other h k =
+      h.text_is
+      ∙ ap (λ (l : List ℕ). l ++ (h.board ++ (h.product ++ h.records))) (one_area_text Chassis bytes h.chassis k.chassis h.is_chassis k.is_chassis)
+      ∙ ap (λ (l : List ℕ). k.chassis ++ (l ++ (h.product ++ h.records))) (one_area_text Board bytes h.board k.board h.is_board k.is_board)
+      ∙ ap (λ (l : List ℕ). k.chassis ++ (k.board ++ (l ++ h.records))) (one_area_text Product bytes h.product k.product h.is_product k.is_product)
+      ∙ ap (λ (l : List ℕ). k.chassis ++ (k.board ++ (k.product ++ l))) (one_records_text bytes h.records k.records h.is_records k.is_records)
+      ∙ sym k.text_is
 
-pub one_fru_text : (bytes text other : List ℕ) → IsFruText bytes text → IsFruText bytes other → text ≡ other
-one_fru_text bytes text other h k = one_by_fault (header_fault bytes) bytes text other h k
+  pub one_fru_text : (bytes text other : List ℕ) → IsFruText bytes text → IsFruText bytes other → text ≡ other
+  one_fru_text bytes text other h k = one_by_fault (header_fault bytes) bytes text other h k

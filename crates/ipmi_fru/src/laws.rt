@@ -17,4 +17,7 @@ pub fn one_list_of_records()
 /// An inventory has at most one text, so what `print_fru` gives is the only one.
 pub fn one_fru_text()
     ensures { (bytes text other : List ℕ) → IsFruText bytes text → IsFruText bytes other → text ≡ other }
-{}
+{
+    ipmi_text::laws::one_decimal_of_a_value();
+    ipmi_text::laws::one_minutes_text();
+}

@@ -1,6 +1,7 @@
 pub mod Bytes
 pub mod Columns
 pub mod Info
+pub mod Laws
 pub mod Sdr
 pub mod SdrText
 pub mod Sel

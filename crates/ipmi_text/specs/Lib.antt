@@ -4,6 +4,7 @@ pub mod Decimal
 pub mod Events
 pub mod FieldText
 pub mod Hex
+pub mod Laws
 pub mod Lines
 pub mod ReadingValue
 pub mod SensorTypes

@@ -1,11 +1,11 @@
 //! What follows from the definitions of texts alone, whatever wrote them.
-ghost use Rattle.std.specs.Prelude.{◌≡◌, ◌≤◌, ℕ, ℤ, List};
+ghost use Rattle.std.specs.Prelude.{◌≡◌, ℤ, List, ℕ};
 ghost use Rattle.ipmi_text.specs.Decimal.{IsDecimalOf};
-ghost use Rattle.ipmi_text.specs.Times.{IsMinutesTextOf, IsUtcTextOf};
+ghost use Rattle.ipmi_text.specs.Laws.{DecimalIsUnique, MinutesTextIsUnique, UtcTextIsUnique};
 
 /// Two decimals of one value are one text, so what `fixed_text` gives is the only one.
 pub fn one_decimal_of_a_value()
-    ensures { (value : ℤ) (text other : List ℕ) → IsDecimalOf value text → IsDecimalOf value other → text ≡ other }
+    ensures { DecimalIsUnique }
 {}
 
 /// A decimal of a value determines the value.
@@ -15,10 +15,10 @@ pub fn one_value_of_a_decimal()
 
 /// A time stamp in seconds has at most one text, so what `utc_text` gives is the only one.
 pub fn one_utc_text()
-    ensures { (seconds : ℕ) (text other : List ℕ) → seconds ≤ 0xffff_ffff → IsUtcTextOf seconds text → IsUtcTextOf seconds other → text ≡ other }
+    ensures { UtcTextIsUnique }
 {}
 
 /// A time stamp in minutes has at most one text, so what `minutes_text` gives is the only one.
 pub fn one_minutes_text()
-    ensures { (minutes : ℕ) (text other : List ℕ) → IsMinutesTextOf minutes text → IsMinutesTextOf minutes other → text ≡ other }
+    ensures { MinutesTextIsUnique }
 {}
