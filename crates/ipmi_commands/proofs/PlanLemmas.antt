@@ -1,12 +1,12 @@
 -- A listing as a run by its plan.
-use Rattle.std.proofs.Common.{◌≡◌, ◌⊎◌, inl, inr, ℕ, ◌+◌, ◌≤◌, Bool, true, false, Option, None, Result, Ok, Err, List, [], refl, sym, ap, subst, ◌∙◌}
+use Rattle.std.proofs.Common.{◌≡◌, ◌⊎◌, inl, inr, ℕ, ◌+◌, ◌≤◌, Bool, true, false, IsTrue, Option, None, Result, Ok, Err, List, [], refl, sym, ap, subst, ◌∙◌}
 use Rattle.ipmi_bus.specs.declared.step.Place.{Place}
 use Rattle.ipmi_bus.specs.declared.inventory.FruEnded.TheVariants as fru
 use Rattle.ipmi_bus.specs.declared.step.Ended.TheVariants.{Cycle, Missing, Refused, GaveUp, Stalled, Malformed}
 use Rattle.ipmi_bus.specs.Shelf.{Row}
 use Rattle.ipmi_bus.specs.Store.{Store}
 use Rattle.ipmi_bus.specs.Walk.{WalkEnd, Done}
-use Rattle.ipmi_bus.specs.Seen.{Seen, IsHonest}
+use Rattle.ipmi_bus.specs.Seen.{Seen, IsHonest, StaysHonest}
 use Rattle.ipmi_image.specs.declared.image.ImageFault.{ImageFault}
 use Rattle.ipmi_image.specs.declared.image.ImageFault.TheVariants as image_fault
 use Rattle.ipmi_image.specs.Rewritten.{image_text_of}
@@ -18,29 +18,29 @@ use Rattle.ipmi_commands.specs.declared.stop.Stop.TheVariants as stop
 use Rattle.ipmi_output.specs.declared.message.Message.TheVariants.{Image, OutOfMemory}
 use Rattle.ipmi_command_line.specs.Task.{is_listing, most_of}
 use Rattle.ipmi_commands.specs.Listing.{first_plan, IsOutcome, walk_call_bound, most_on_walk, run_call_bound, most_calls}
-use Rattle.ipmi_commands.specs.Plan.{first_rows, Plan, WalkEnds, OfImage, Printed, plan_of, rewrite_plan, Outcome, IsAllowed}
+use Rattle.ipmi_commands.specs.Plan.{first_rows, Plan, WalkEnds, OfImage, Printed, plan_of, rewrite_plan, Outcome, IsAllowed, CountsSo, IsFine}
 use Rattle.ipmi_commands.specs.Plan as plan
 use Rattle.ipmi_output.specs.Received.{Received, ReceivesText}
 use Rattle.ipmi_commands.specs.Pages.{IsPage, ArePages}
 use Rattle.ipmi_commands.proofs.ItemLemmas.{none_printed, one_printed}
 use Rattle.ipmi_commands.proofs.PagesLaw.{pages_are_one}
-use Rattle.ipmi_commands.specs.Run.{IsRun, IsPagedRun, status_of, stop_status, stop_text, outcome_text, is_built, fault_status, WritesImage, IsRewriting, Says, AnswersRewrite, AnswersImage, AnswersTask}
+use Rattle.ipmi_commands.specs.Run.{Request, Effect, effect, HasEnded, IsRun, IsPagedRun, status_of, stop_status, stop_text, outcome_text, is_built, fault_status, WritesImage, IsRewriting, Says, AnswersRewrite, AnswersImage, AnswersTask}
 
 -- ---- a task that is built lists the first rows of its shelf
 
 -- it goes along one walk, and asks for nothing before it
 pub record GoesOnce (t : Task) : Type 0 where
   pub plan_is : (store : Store) (start : Place) (walk : List Row) (end : WalkEnd) → plan_of t store start walk end ≡ first_plan (most_of t) t start walk end
-  pub bound_is : (store : Store) (tries : ℕ) (walk : List Row) → run_call_bound t store tries walk ≡ walk_call_bound t store tries (first_rows (most_of t) walk)
+  pub bound_is : (store : Store) (tries : ℕ) (walk : List Row) (end : WalkEnd) → run_call_bound t store tries walk end ≡ walk_call_bound t store tries (first_rows (most_of t) walk)
   pub most_is : (tries : ℕ) → most_calls t tries ≡ most_on_walk t tries
 
 pub goes_once : (t : Task) → is_built t ≡ true → GoesOnce t
-goes_once task.Hex built = record { plan_is = λ store start walk end. refl; bound_is = λ store tries walk. refl; most_is = λ tries. refl }
-goes_once (task.List kind) built = record { plan_is = λ store start walk end. refl; bound_is = λ store tries walk. refl; most_is = λ tries. refl }
-goes_once (task.Elist kind) built = record { plan_is = λ store start walk end. refl; bound_is = λ store tries walk. refl; most_is = λ tries. refl }
-goes_once (task.SelList count.All) built = record { plan_is = λ store start walk end. refl; bound_is = λ store tries walk. refl; most_is = λ tries. refl }
-goes_once (task.SelList (count.First n)) built = record { plan_is = λ store start walk end. refl; bound_is = λ store tries walk. refl; most_is = λ tries. refl }
-goes_once (task.SelGet id) built = record { plan_is = λ store start walk end. refl; bound_is = λ store tries walk. refl; most_is = λ tries. refl }
+goes_once task.Hex built = record { plan_is = λ store start walk end. refl; bound_is = λ store tries walk end. refl; most_is = λ tries. refl }
+goes_once (task.List kind) built = record { plan_is = λ store start walk end. refl; bound_is = λ store tries walk end. refl; most_is = λ tries. refl }
+goes_once (task.Elist kind) built = record { plan_is = λ store start walk end. refl; bound_is = λ store tries walk end. refl; most_is = λ tries. refl }
+goes_once (task.SelList count.All) built = record { plan_is = λ store start walk end. refl; bound_is = λ store tries walk end. refl; most_is = λ tries. refl }
+goes_once (task.SelList (count.First n)) built = record { plan_is = λ store start walk end. refl; bound_is = λ store tries walk end. refl; most_is = λ tries. refl }
+goes_once (task.SelGet id) built = record { plan_is = λ store start walk end. refl; bound_is = λ store tries walk end. refl; most_is = λ tries. refl }
 goes_once _ built = cc built
 
 -- a listing can be run, and has no limit
@@ -81,61 +81,67 @@ module _ (t : Task) where
 
 -- ---- runs
 
-pub run_by_listing : (t : Task) (start next : Place) (tries : ℕ) (s s' : Seen) (old new : List ℕ) (said said' : Received) (st : Stop) → is_built t ≡ true → IsPage t (most_of t) start next tries s s' old new st → ReceivesText said said' (stop_text t st)
-    → IsRun t start tries s s' old new said said' (stop_status st)
-run_by_listing t start next tries s s' old new said said' st built page message = record {
-  result = st;
-  outcome = page.outcome;
-  outcome_is = page.outcome_is;
-  status_is = status_same t st page.outcome page.outcome_is;
-  message = subst (λ (l : List ℕ). ReceivesText said said' l) (text_same t st page.outcome page.outcome_is) message;
-  stays = page.stays;
-  counts = page.counts;
-  allowed = λ same walk end w ends. subst (λ (p : Plan). IsAllowed t s.store p old new page.outcome) (sym ((goes_once t built).plan_is s.store start walk end)) (page.along same walk end w ends).leaves;
-  calls = λ same walk end w ends.
-      subst (λ (n : ℕ). s'.calls ≤ s.calls + n) (sym ((goes_once t built).bound_is s.store tries walk)) (page.along same walk end w ends).calls;
-  plain = page.plain;
-}
+module _ (r : Request) (s s' : Seen) (e : Effect) (st : Stop) (message : ReceivesText e.said e.said' (stop_text r.task st)) where
+  has_ended : (outcome : Outcome) → IsOutcome st outcome → StaysHonest s s' → CountsSo r.tries s s' outcome → (IsTrue s.plain → IsFine outcome)
+      → HasEnded r s s' e st outcome (stop_status st)
+  has_ended outcome is stays counts plain = record {
+    outcome_is = is;
+    status_is = status_same r.task st outcome is;
+    message = subst (λ (l : List ℕ). ReceivesText e.said e.said' l) (text_same r.task st outcome is) message;
+    stays = stays;
+    counts = counts;
+    plain = plain;
+  }
 
-pub run_in_pages : (t : Task) (sizes : List ℕ) (start : Place) (tries : ℕ) (s s' : Seen) (old new : List ℕ) (said said' : Received) (st : Stop) → is_listing t ≡ true → IsHonest s → ArePages t sizes start tries s s' old new st → ReceivesText said said' (stop_text t st)
-    → IsPagedRun t sizes start tries s s' old new said said' (stop_status st)
-run_in_pages t sizes start tries s s' old new said said' st listing honest pages message =
-    let one = pages_are_one t sizes start tries s s' old new st honest pages in
-    record {
-      result = st;
-      outcome = one.outcome;
-      outcome_is = one.outcome_is;
-      status_is = status_same t st one.outcome one.outcome_is;
-      message = subst (λ (l : List ℕ). ReceivesText said said' l) (text_same t st one.outcome one.outcome_is) message;
-      stays = one.stays;
-      counts = one.counts;
-      pages = pages;
-      allowed = λ same walk end w ends open_.
-          subst (λ (p : Plan). IsAllowed t s.store p old new one.outcome) (sym ((goes_once t (listed_whole t listing).0).plan_is s.store start walk end ∙ ap (λ (most : Option ℕ). first_plan most t start walk end) (listed_whole t listing).1)) (one.leaves same walk end w ends open_);
-      calls = one.calls;
-      plain = one.plain;
-    }
+  pub run_by_listing : (next : Place) → is_built r.task ≡ true → IsPage r.task (most_of r.task) r.start next r.tries s s' e.old e.new st → IsRun r s s' e (stop_status st)
+  run_by_listing next built page =
+      let once = goes_once r.task built in
+      record {
+        result = st;
+        outcome = page.outcome;
+        ended = has_ended page.outcome page.outcome_is page.stays page.counts page.plain;
+        allowed = λ same walk end w ends.
+            subst (λ (p : Plan). IsAllowed r.task s.store p e.old e.new page.outcome) (sym (once.plan_is s.store r.start walk end)) (page.along same walk end w ends).leaves;
+        calls = λ same walk end w ends.
+            subst (λ (n : ℕ). s'.calls ≤ s.calls + n) (sym (once.bound_is s.store r.tries walk end)) (page.along same walk end w ends).calls;
+      }
+
+  pub run_in_pages : (sizes : List ℕ) → is_listing r.task ≡ true → IsHonest s → ArePages r.task sizes r.start r.tries s s' e.old e.new st → IsPagedRun r sizes s s' e (stop_status st)
+  run_in_pages sizes listing honest pages =
+      let one = pages_are_one r.task sizes r.start r.tries s s' e.old e.new st honest pages in
+      let whole = listed_whole r.task listing in
+      let first : (walk : List Row) (end : WalkEnd) → plan_of r.task s.store r.start walk end ≡ first_plan None r.task r.start walk end = λ walk end.
+      (goes_once r.task whole.0).plan_is s.store r.start walk end ∙ ap (λ (most : Option ℕ). first_plan most r.task r.start walk end) whole.1 in
+      record {
+        result = st;
+        outcome = one.outcome;
+        ended = has_ended one.outcome one.outcome_is one.stays one.counts one.plain;
+        pages = pages;
+        allowed = λ same walk end w ends open_.
+            subst (λ (p : Plan). IsAllowed r.task s.store p e.old e.new one.outcome) (sym (first walk end)) (one.leaves same walk end w ends open_);
+        calls = one.calls;
+      }
 
 -- ---- an image written again
 
-pub rewriting : (store : Store) (old new : List ℕ) (said said' : Received) (st : Stop) → WritesImage (image_text_of store) old new st → ReceivesText said said' (stop_text task.Rewrite st) → IsRewriting store old new said said' (stop_status st)
-rewriting store old new said said' stop.Done writes message = record {
+pub rewriting : (store : Store) (e : Effect) (st : Stop) → WritesImage (image_text_of store) e.old e.new st → ReceivesText e.said e.said' (stop_text task.Rewrite st) → IsRewriting store e (stop_status st)
+rewriting store e stop.Done writes message = record {
   outcome = plan.Finished (WalkEnds Done);
   status_is = refl;
   message = message;
-  allowed = (one_printed task.Rewrite store (record { subject = OfImage; spots = [] }) (image_text_of store) old new refl writes, refl);
-  unwritten = λ e. cc e;
+  allowed = (one_printed task.Rewrite store (record { subject = OfImage; spots = [] }) (image_text_of store) e.old e.new refl writes, refl);
+  unwritten = λ out. cc out;
   fine = tt;
 }
-rewriting store old new said said' stop.Memory writes message = record {
+rewriting store e stop.Memory writes message = record {
   outcome = plan.OutOfMemory;
   status_is = refl;
   message = message;
-  allowed = record { done = []; rest = rewrite_plan.items; items_are = refl; printed = subst (λ (l : List ℕ). Printed task.Rewrite store [] old l) (sym writes) (none_printed task.Rewrite store old) };
-  unwritten = λ e. writes;
+  allowed = record { done = []; rest = rewrite_plan.items; items_are = refl; printed = subst (λ (l : List ℕ). Printed task.Rewrite store [] e.old l) (sym writes) (none_printed task.Rewrite store e.old) };
+  unwritten = λ out. writes;
   fine = tt;
 }
-rewriting store old new said said' stop.WriteFault writes message = record {
+rewriting store e stop.WriteFault writes message = record {
   outcome = plan.WriteFault;
   status_is = refl;
   message = message;
@@ -144,55 +150,55 @@ rewriting store old new said said' stop.WriteFault writes message = record {
     item = record { subject = OfImage; spots = [] };
     rest = [];
     items_are = refl;
-    whole = old;
-    printed = none_printed task.Rewrite store old;
+    whole = e.old;
+    printed = none_printed task.Rewrite store e.old;
     text = image_text_of store;
     is_text = refl;
     bytes = writes.0;
     new_is = writes.1;
   };
-  unwritten = λ e. cc e;
+  unwritten = λ out. cc out;
   fine = tt;
 }
-rewriting store old new said said' _ writes message = absurd writes
+rewriting store e _ writes message = absurd writes
 
 -- ---- an image that is not read
 
 -- where memory ran out, nothing was written
-unread_rewriting : (read : Result Store ImageFault) (old : List ℕ) (said said' : Received) (status : ℕ) → Says said said' status OutOfMemory 5 → AnswersRewrite read old old said said' status
+unread_rewriting : (read : Result Store ImageFault) (old : List ℕ) (said said' : Received) (status : ℕ) → Says said said' status OutOfMemory 5 → AnswersRewrite read (effect old old said said') status
 unread_rewriting (Ok store) old said said' status says = record {
   outcome = plan.OutOfMemory;
   status_is = says.0;
   message = says.1;
   allowed = record { done = []; rest = rewrite_plan.items; items_are = refl; printed = none_printed task.Rewrite store old };
-  unwritten = λ e. refl;
+  unwritten = λ out. refl;
   fine = tt;
 }
 unread_rewriting (Err fault) old said said' status says = (refl, inr says)
 
-unread_run : (t : Task) (read : Result Store ImageFault) (start : Place) (old : List ℕ) (said said' : Received) (status : ℕ) → Says said said' status OutOfMemory 5 → AnswersImage t read start old old said said' status
-unread_run t (Ok store) start old said said' status says = record {
+unread_run : (r : Request) (read : Result Store ImageFault) (old : List ℕ) (said said' : Received) (status : ℕ) → Says said said' status OutOfMemory 5 → AnswersImage r read (effect old old said said') status
+unread_run r (Ok store) old said said' status says = record {
   outcome = plan.OutOfMemory;
   status_is = says.0;
   message = says.1;
-  allowed = λ walk end w ends. record { done = []; rest = (plan_of t store start walk end).items; items_are = refl; printed = none_printed t store old };
+  allowed = λ walk end w ends. record { done = []; rest = (plan_of r.task store r.start walk end).items; items_are = refl; printed = none_printed r.task store old };
   fine = tt;
 }
-unread_run t (Err fault) start old said said' status says = (refl, inr says)
+unread_run r (Err fault) old said said' status says = (refl, inr says)
 
 -- the fault of the image, or want of memory
 pub not_rewritten : (fault : ImageFault) (read : Result Store ImageFault) (old : List ℕ) (said said' : Received) (status : ℕ) → (fault ≡ image_fault.Memory) ⊎ (read ≡ Err fault)
-    → Says said said' status (Image fault) (fault_status fault) → AnswersRewrite read old old said said' status
+    → Says said said' status (Image fault) (fault_status fault) → AnswersRewrite read (effect old old said said') status
 not_rewritten fault read old said said' status (inl memory) says =
     unread_rewriting read old said said' status (subst (λ (f : ImageFault). Says said said' status (Image f) (fault_status f)) memory says)
 not_rewritten fault read old said said' status (inr is) says =
-    subst (λ (r : Result Store ImageFault). AnswersRewrite r old old said said' status) (sym is) (refl, inl says)
+    subst (λ (r : Result Store ImageFault). AnswersRewrite r (effect old old said said') status) (sym is) (refl, inl says)
 
-pub not_run : (rewrite built : Bool) (t : Task) (fault : ImageFault) (read : Result Store ImageFault) (start : Place) (old : List ℕ) (said said' : Received) (status : ℕ) → rewrite ≡ false → built ≡ true
-    → (fault ≡ image_fault.Memory) ⊎ (read ≡ Err fault) → Says said said' status (Image fault) (fault_status fault) → AnswersTask rewrite built t read start old old said said' status
-not_run true built t fault read start old said said' status ran can is says = cc ran
-not_run false false t fault read start old said said' status ran can is says = cc can
-not_run false true t fault read start old said said' status ran can (inl memory) says =
-    unread_run t read start old said said' status (subst (λ (f : ImageFault). Says said said' status (Image f) (fault_status f)) memory says)
-not_run false true t fault read start old said said' status ran can (inr is) says =
-    subst (λ (r : Result Store ImageFault). AnswersImage t r start old old said said' status) (sym is) (refl, inl says)
+pub not_run : (rewrite built : Bool) (r : Request) (fault : ImageFault) (read : Result Store ImageFault) (old : List ℕ) (said said' : Received) (status : ℕ) → rewrite ≡ false → built ≡ true
+    → (fault ≡ image_fault.Memory) ⊎ (read ≡ Err fault) → Says said said' status (Image fault) (fault_status fault) → AnswersTask rewrite built r read (effect old old said said') status
+not_run true built r fault read old said said' status ran can is says = cc ran
+not_run false false r fault read old said said' status ran can is says = cc can
+not_run false true r fault read old said said' status ran can (inl memory) says =
+    unread_run r read old said said' status (subst (λ (f : ImageFault). Says said said' status (Image f) (fault_status f)) memory says)
+not_run false true r fault read old said said' status ran can (inr is) says =
+    subst (λ (x : Result Store ImageFault). AnswersImage r x (effect old old said said') status) (sym is) (refl, inl says)

@@ -23,7 +23,7 @@ use Rattle.ipmi_command_line.specs.Task.{most_of}
 use Rattle.ipmi_commands.specs.Plan.{first_rows}
 use Rattle.ipmi_commands.specs.Plan.{Subject, OfRow, OfInventory, OfInfo, OfImage, Item, IsRowOfBytes, AreRowsOfBytes, RunEnd, Plan, Finished, IsAllowed, row_items, IsItemText, AreTexts}
 use Rattle.ipmi_command_line.specs.Task.{shelf_of}
-use Rattle.ipmi_commands.specs.Run.{is_built, AllowsAll}
+use Rattle.ipmi_commands.specs.Run.{is_built, AllowsAll, Request}
 use Rattle.ipmi_bus.proofs.ShelfLemmas.{look_row}
 use Rattle.ipmi_bus.proofs.ShelfLemmas.{shelf_of as store_shelf}
 use Rattle.ipmi_commands.proofs.PlanLemmas.{goes_once}
@@ -96,8 +96,10 @@ module _ (one_sdr_line : SdrLineIsUnique) (one_extended_line : ExtendedLineIsUni
       within zero (row ∷ walk) all = tt
       within (suc n) (row ∷ walk) all = (all.0, within n walk all.1)
 
-  pub one_output : WalkExists → (t : Task) (store : Store) (start : Place) (old a b : List ℕ) (e f : RunEnd) → is_built t ≡ true → IsStore store → AllowsAll t store start old a (Finished e) → AllowsAll t store start old b (Finished f) → (a ≡ b) × (e ≡ f)
-  one_output exists t store start old a b e f built ok allows other =
+  pub one_output : WalkExists → (r : Request) (store : Store) (old a b : List ℕ) (e f : RunEnd) → is_built r.task ≡ true → IsStore store → AllowsAll r store old a (Finished e) → AllowsAll r store old b (Finished f) → (a ≡ b) × (e ≡ f)
+  one_output exists r store old a b e f built ok allows other =
+      let t = r.task in
+      let start = r.start in
       let shelf = store_shelf (shelf_of t) store ok in
       let there = exists (shelf_of t) (rows_of (shelf_of t) store) start shelf in
       let first = (goes_once t built).plan_is store start there.0 there.1 in

@@ -21,7 +21,7 @@ use Rattle.ipmi_command_line.specs.declared.command.Task.TheVariants as task
 use Rattle.ipmi_commands.specs.declared.stop.Stop.{Stop}
 use Rattle.ipmi_commands.specs.declared.stop.Stop.TheVariants as stop
 use Rattle.ipmi_commands.specs.Pieces.{IsRowPiece}
-use Rattle.ipmi_commands.specs.Plan.{first_rows, first_end, Plan, Spot, AtRecord, AtInventory, WalkEnds, row_items, Printed, Outcome, IsAllowed, CountsSo, IsFine, IsAmong, end_spots, spots_after}
+use Rattle.ipmi_commands.specs.Plan.{first_rows, first_end, last_rows, Plan, Spot, AtRecord, AtInventory, WalkEnds, row_items, Printed, Outcome, IsAllowed, CountsSo, IsFine, IsAmong, end_spots, spots_after}
 use Rattle.ipmi_command_line.specs.Task.{most_of, shelf_of}
 use Rattle.ipmi_commands.specs.Plan as plan
 
@@ -104,15 +104,21 @@ most_on_walk t tries = 65536 * most_for_one t tries + 7
 
 -- ---- calls of a run
 
--- the last entries are listed on a second walk; an info and one inventory need none, and all inventories begin with that of device 0
-abbrev pub run_call_bound : Task → Store → ℕ → List Row → ℕ
-run_call_bound (task.SelList (count.Last n)) store tries walk =
-    walk_call_bound (task.SelList (count.Last n)) store tries walk + walk_call_bound (task.SelList (count.Last n)) store tries walk
-run_call_bound (task.Info shelf) store tries walk = tries + 1
-run_call_bound (task.Fru (Some id)) store tries walk = calls_at tries store (AtInventory id)
-run_call_bound (task.Fru None) store tries walk = calls_at tries store (AtInventory 0) + walk_call_bound (task.Fru None) store tries walk
-run_call_bound task.Rewrite store tries walk = 0
-run_call_bound t store tries walk = walk_call_bound t store tries (first_rows (most_of t) walk)
+-- the last entries are listed on a second walk, where there are any
+abbrev pub second_walk_bound : ℕ → List Row → ℕ
+second_walk_bound bound [] = 0
+second_walk_bound bound _ = bound
+
+-- an info and one inventory need no walk, and all inventories begin with that of device 0
+abbrev pub run_call_bound : Task → Store → ℕ → List Row → WalkEnd → ℕ
+run_call_bound (task.SelList (count.Last n)) store tries walk end =
+    walk_call_bound (task.SelList (count.Last n)) store tries walk
+    + second_walk_bound (walk_call_bound (task.SelList (count.Last n)) store tries walk) (last_rows n walk end)
+run_call_bound (task.Info shelf) store tries walk end = tries + 1
+run_call_bound (task.Fru (Some id)) store tries walk end = calls_at tries store (AtInventory id)
+run_call_bound (task.Fru None) store tries walk end = calls_at tries store (AtInventory 0) + walk_call_bound (task.Fru None) store tries walk
+run_call_bound task.Rewrite store tries walk end = 0
+run_call_bound t store tries walk end = walk_call_bound t store tries (first_rows (most_of t) walk)
 
 -- the same over any controller, where an inventory has at most 65,535 bytes
 abbrev pub most_calls : Task → ℕ → ℕ

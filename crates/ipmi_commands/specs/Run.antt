@@ -8,7 +8,7 @@ use Rattle.ipmi_bus.specs.Shelf.{Row}
 use Rattle.ipmi_bus.specs.Store.{Store, rows_of}
 use Rattle.ipmi_bus.specs.Walk.{IsWalk, WalkEnd, EndsBy}
 use Rattle.ipmi_bus.specs.Walk as walk_end
-use Rattle.ipmi_bus.specs.Seen.{Seen, StaysHonest}
+use Rattle.ipmi_bus.specs.Seen.{Seen, IsHonest, StaysHonest}
 use Rattle.ipmi_image.specs.declared.image.ImageFault.{ImageFault}
 use Rattle.ipmi_image.specs.declared.image.ImageFault.TheVariants as image_fault
 use Rattle.ipmi_command_line.specs.declared.command.Count.TheVariants as count
@@ -21,7 +21,7 @@ use Rattle.ipmi_commands.specs.declared.stop.Stop.TheVariants as stop
 use Rattle.ipmi_output.specs.declared.message.Message.{Message}
 use Rattle.ipmi_output.specs.declared.message.Message.TheVariants.{Usage, Image, WriteFault, OutOfMemory}
 use Rattle.ipmi_command_line.specs.Command.{CommandState}
-use Rattle.ipmi_commands.specs.Listing.{IsOutcome, calls_for, run_call_bound}
+use Rattle.ipmi_commands.specs.Listing.{IsOutcome, calls_for, run_call_bound, most_calls}
 use Rattle.ipmi_output.specs.Message.{ended_text, refused_text, inventory_text, refused_inventory_text, no_name_text, no_info_text, message_text, line_text}
 use Rattle.ipmi_output.specs.Received.{Received, ReceivesText}
 use Rattle.ipmi_commands.specs.Pages.{ArePages, pages_made, IsOpen}
@@ -55,6 +55,7 @@ is_answered t = is_rewrite t || is_built t
 abbrev pub stop_status : Stop → ℕ
 stop_status stop.Done = 0
 stop_status stop.Memory = 5
+stop_status (stop.Inventory id fru.Memory) = 5
 stop_status stop.WriteFault = 4
 stop_status _ = 1
 
@@ -88,85 +89,125 @@ outcome_text t (plan.Refused (plan.AtInventory id) code) = line_text (refused_in
 outcome_text t plan.OutOfMemory = line_text (message_text OutOfMemory)
 outcome_text t plan.WriteFault = line_text (message_text WriteFault)
 
--- ---- a run
+-- ---- what is asked of a run, and what it leaves
 
--- the output is allowed for the outcome by the plan of the task over a store
-abbrev pub AllowsAll : Task → Store → Place → List ℕ → List ℕ → Outcome → Type 0
-AllowsAll t store start old new outcome = (walk : List Row) (end : WalkEnd) → IsWalk (rows_of (shelf_of t) store) start walk → EndsBy (rows_of (shelf_of t) store) start walk end
-    → IsAllowed t store (plan_of t store start walk end) old new outcome
+-- a task, where it starts, and how many troubles a record may meet
+pub record Request : Type 0 where
+  pub task : Task
+  pub start : Place
+  pub tries : ℕ
 
--- the calls are within the task's bound for each walk from the start
-abbrev pub CallsWithin : Task → Store → Place → ℕ → ℕ → ℕ → Type 0
-CallsWithin t store start tries before after = (walk : List Row) (end : WalkEnd) → IsWalk (rows_of (shelf_of t) store) start walk → EndsBy (rows_of (shelf_of t) store) start walk end → after ≤ before + run_call_bound t store tries walk
+abbrev pub request_of : CommandState → Request
+request_of command = record { task = command.task; start = start_by command.task command.from; tries = command.tries }
 
--- over any controller a run ends as a listing may stop, and says so
-pub record EndsSo (t : Task) (said said' : Received) (status : ℕ) : Type 0 where
-  pub result : Stop
-  pub status_is : status ≡ stop_status result
-  pub message : ReceivesText said said' (stop_text t result)
+-- what the output had taken and what was said before, and after
+pub record Effect : Type 0 where
+  pub old : List ℕ
+  pub new : List ℕ
+  pub said : Received
+  pub said' : Received
 
--- a run of a task from its start with these tries, over an honest controller: what it leaves and how many calls it makes while no
--- store is added, what is said and what is counted, and that nothing is given up or refused over a plain one
-pub record IsRun (t : Task) (start : Place) (tries : ℕ) (s s' : Seen) (old new : List ℕ) (said said' : Received) (status : ℕ) : Type 0 where
-  pub result : Stop
-  pub outcome : Outcome
-  pub outcome_is : IsOutcome result outcome
-  pub status_is : status ≡ status_of outcome
-  pub message : ReceivesText said said' (outcome_text t outcome)
-  pub stays : StaysHonest s s'
-  pub counts : CountsSo tries s s' outcome
-  pub allowed : s'.stores_added ≡ s.stores_added → AllowsAll t s.store start old new outcome
-  pub calls : s'.stores_added ≡ s.stores_added → CallsWithin t s.store start tries s.calls s'.calls
-  pub plain : IsTrue s.plain → IsFine outcome
-
--- ---- a run in pages
-
--- the same as of one run, over each walk that does not end by a cycle
-abbrev pub AllowsOpen : Task → Store → Place → List ℕ → List ℕ → Outcome → Type 0
-AllowsOpen t store start old new outcome = (walk : List Row) (end : WalkEnd) → IsWalk (rows_of (shelf_of t) store) start walk → EndsBy (rows_of (shelf_of t) store) start walk end → IsOpen end
-    → IsAllowed t store (plan_of t store start walk end) old new outcome
-
--- the calls are within the bounds for the rows of such a walk, and for each page that may make calls
-abbrev pub PagesWithin : Task → Store → List ℕ → Place → ℕ → ℕ → ℕ → Type 0
-PagesWithin t store sizes start tries before after = (walk : List Row) (end : WalkEnd) → IsWalk (rows_of (shelf_of t) store) start walk → EndsBy (rows_of (shelf_of t) store) start walk end → IsOpen end
-    → after ≤ before + calls_for t store tries walk + pages_made sizes * (step_call_bound tries 0 + 7)
-
--- a run in pages of these sizes: each page by itself is the listing from its place, of at most as many rows as its size, and where the
--- chain does not end by a cycle all of them leave what one run may leave
-pub record IsPagedRun (t : Task) (sizes : List ℕ) (start : Place) (tries : ℕ) (s s' : Seen) (old new : List ℕ) (said said' : Received) (status : ℕ) : Type 0 where
-  pub result : Stop
-  pub outcome : Outcome
-  pub outcome_is : IsOutcome result outcome
-  pub status_is : status ≡ status_of outcome
-  pub message : ReceivesText said said' (outcome_text t outcome)
-  pub stays : StaysHonest s s'
-  pub counts : CountsSo tries s s' outcome
-  pub pages : ArePages t sizes start tries s s' old new result
-  pub allowed : s'.stores_added ≡ s.stores_added → AllowsOpen t s.store start old new outcome
-  pub calls : s'.stores_added ≡ s.stores_added → PagesWithin t s.store sizes start tries s.calls s'.calls
-  pub plain : IsTrue s.plain → IsFine outcome
-
--- ---- over an image
-
--- over the program's own controller nothing is refused, nor given up
-pub record IsRunOverStore (t : Task) (start : Place) (store : Store) (old new : List ℕ) (said said' : Received) (status : ℕ) : Type 0 where
-  pub outcome : Outcome
-  pub status_is : status ≡ status_of outcome
-  pub message : ReceivesText said said' (outcome_text t outcome)
-  pub allowed : AllowsAll t store start old new outcome
-  pub fine : IsFine outcome
+abbrev pub effect : List ℕ → List ℕ → Received → Received → Effect
+effect old new said said' = record { old = old; new = new; said = said; said' = said' }
 
 -- this status is given, and this message is said
 abbrev pub Says : Received → Received → ℕ → Message → ℕ → Type 0
 Says said said' status message n = (status ≡ n) × ReceivesText said said' (line_text (message_text message))
+
+-- the same, and nothing is written
+abbrev pub OnlySays : Effect → ℕ → Message → ℕ → Type 0
+OnlySays e status message n = (e.new ≡ e.old) × Says e.said e.said' status message n
+
+-- ---- a run
+
+-- along each walk from the start, with its end; a law of the bus says that there is one
+abbrev pub OnWalk : Request → Store → (List Row → WalkEnd → Type 0) → Type 0
+OnWalk r store Holds =
+    (walk : List Row) (end : WalkEnd) → IsWalk (rows_of (shelf_of r.task) store) r.start walk
+    → EndsBy (rows_of (shelf_of r.task) store) r.start walk end → Holds walk end
+
+-- the output is allowed for the outcome by the plan of the task over a store
+abbrev pub AllowsAll : Request → Store → List ℕ → List ℕ → Outcome → Type 0
+AllowsAll r store old new outcome =
+    OnWalk r store (λ walk end. IsAllowed r.task store (plan_of r.task store r.start walk end) old new outcome)
+
+-- the calls are within the task's bound
+abbrev pub CallsWithin : Request → Store → ℕ → ℕ → Type 0
+CallsWithin r store before after = OnWalk r store (λ walk end. after ≤ before + run_call_bound r.task store r.tries walk end)
+
+-- over any controller a run ends as a listing may stop, and says so
+pub record EndsSo (t : Task) (e : Effect) (status : ℕ) : Type 0 where
+  pub result : Stop
+  pub status_is : status ≡ stop_status result
+  pub message : ReceivesText e.said e.said' (stop_text t result)
+
+-- how a run ended over an honest controller, whatever stores were added: what is said and what is counted, and that nothing is
+-- given up or refused over a plain one
+pub record HasEnded (r : Request) (s s' : Seen) (e : Effect) (result : Stop) (outcome : Outcome) (status : ℕ) : Type 0 where
+  pub outcome_is : IsOutcome result outcome
+  pub status_is : status ≡ status_of outcome
+  pub message : ReceivesText e.said e.said' (outcome_text r.task outcome)
+  pub stays : StaysHonest s s'
+  pub counts : CountsSo r.tries s s' outcome
+  pub plain : IsTrue s.plain → IsFine outcome
+
+-- a run over an honest controller: how it ended, and while no store is added what it leaves and how many calls it makes
+pub record IsRun (r : Request) (s s' : Seen) (e : Effect) (status : ℕ) : Type 0 where
+  pub result : Stop
+  pub outcome : Outcome
+  pub ended : HasEnded r s s' e result outcome status
+  pub allowed : s'.stores_added ≡ s.stores_added → AllowsAll r s.store e.old e.new outcome
+  pub calls : s'.stores_added ≡ s.stores_added → CallsWithin r s.store s.calls s'.calls
+
+-- what every run promises: its calls and its end over any controller, and what it is over an honest one; one that can't be made
+-- yet only says how the program is called
+pub record Runs (command : CommandState) (s s' : Seen) (e : Effect) (status : ℕ) : Type 0 where
+  pub calls : s'.calls ≤ s.calls + most_calls command.task command.tries
+  pub ends : is_built command.task ≡ true → EndsSo command.task e status
+  pub built : is_built command.task ≡ true → IsHonest s → IsRun (request_of command) s s' e status
+  pub unbuilt : is_built command.task ≡ false → (s' ≡ s) × OnlySays e status Usage 2
+
+-- ---- a run in pages
+
+-- the same as of one run, over each walk that does not end by a cycle
+abbrev pub AllowsOpen : Request → Store → List ℕ → List ℕ → Outcome → Type 0
+AllowsOpen r store old new outcome =
+    OnWalk r store (λ walk end. IsOpen end → IsAllowed r.task store (plan_of r.task store r.start walk end) old new outcome)
+
+-- the calls are within the bounds for the rows of such a walk, and for each page that may make calls
+abbrev pub PagesWithin : Request → Store → List ℕ → ℕ → ℕ → Type 0
+PagesWithin r store sizes before after =
+    OnWalk r store (λ walk end. IsOpen end
+    → after ≤ before + calls_for r.task store r.tries walk + pages_made sizes * (step_call_bound r.tries 0 + 7))
+
+-- a run in pages of these sizes: each page by itself is the listing from its place, of at most as many rows as its size, and where
+-- the chain does not end by a cycle all of them leave what one run may leave
+pub record IsPagedRun (r : Request) (sizes : List ℕ) (s s' : Seen) (e : Effect) (status : ℕ) : Type 0 where
+  pub result : Stop
+  pub outcome : Outcome
+  pub ended : HasEnded r s s' e result outcome status
+  pub pages : ArePages r.task sizes r.start r.tries s s' e.old e.new result
+  pub allowed : s'.stores_added ≡ s.stores_added → AllowsOpen r s.store e.old e.new outcome
+  pub calls : s'.stores_added ≡ s.stores_added → PagesWithin r s.store sizes s.calls s'.calls
+
+-- ---- over an image
+
+-- over the program's own controller nothing is refused, nor given up
+pub record IsRunOverStore (r : Request) (store : Store) (e : Effect) (status : ℕ) : Type 0 where
+  pub outcome : Outcome
+  pub status_is : status ≡ status_of outcome
+  pub message : ReceivesText e.said e.said' (outcome_text r.task outcome)
+  pub allowed : AllowsAll r store e.old e.new outcome
+  pub fine : IsFine outcome
 
 -- of bytes that are no image: the fault, or want of memory, which may come before it
 abbrev pub fault_status : ImageFault → ℕ
 fault_status image_fault.Memory = 5
 fault_status _ = 3
 
-abbrev pub FailsToRead : ImageFault → List ℕ → List ℕ → Received → Received → ℕ → Type 0
-FailsToRead fault old new said said' status = (new ≡ old) × (Says said said' status (Image fault) (fault_status fault) ⊎ Says said said' status OutOfMemory 5)
+abbrev pub FailsToRead : ImageFault → Effect → ℕ → Type 0
+FailsToRead fault e status =
+    (e.new ≡ e.old) × (Says e.said e.said' status (Image fault) (fault_status fault) ⊎ Says e.said e.said' status OutOfMemory 5)
 
 -- the text of an image, by how writing it stopped
 abbrev pub WritesImage : List ℕ → List ℕ → List ℕ → Stop → Type 0
@@ -176,33 +217,35 @@ WritesImage text old new stop.WriteFault = TakesPart old new text
 WritesImage text old new _ = ⊥
 
 -- an image written again; nothing of it where memory runs out
-pub record IsRewriting (store : Store) (old new : List ℕ) (said said' : Received) (status : ℕ) : Type 0 where
+pub record IsRewriting (store : Store) (e : Effect) (status : ℕ) : Type 0 where
   pub outcome : Outcome
   pub status_is : status ≡ status_of outcome
-  pub message : ReceivesText said said' (outcome_text task.Rewrite outcome)
-  pub allowed : IsAllowed task.Rewrite store rewrite_plan old new outcome
-  pub unwritten : outcome ≡ plan.OutOfMemory → new ≡ old
+  pub message : ReceivesText e.said e.said' (outcome_text task.Rewrite outcome)
+  pub allowed : IsAllowed task.Rewrite store rewrite_plan e.old e.new outcome
+  pub unwritten : outcome ≡ plan.OutOfMemory → e.new ≡ e.old
   pub fine : IsFine outcome
 
 -- with the store of an image, or the fault for which it is none
-abbrev pub AnswersRewrite : Result Store ImageFault → List ℕ → List ℕ → Received → Received → ℕ → Type 0
-AnswersRewrite (Ok store) old new said said' status = IsRewriting store old new said said' status
-AnswersRewrite (Err fault) old new said said' status = FailsToRead fault old new said said' status
+abbrev pub AnswersRewrite : Result Store ImageFault → Effect → ℕ → Type 0
+AnswersRewrite (Ok store) e status = IsRewriting store e status
+AnswersRewrite (Err fault) e status = FailsToRead fault e status
 
-abbrev pub AnswersImage : Task → Result Store ImageFault → Place → List ℕ → List ℕ → Received → Received → ℕ → Type 0
-AnswersImage t (Ok store) start old new said said' status = IsRunOverStore t start store old new said said' status
-AnswersImage t (Err fault) start old new said said' status = FailsToRead fault old new said said' status
+abbrev pub AnswersImage : Request → Result Store ImageFault → Effect → ℕ → Type 0
+AnswersImage r (Ok store) e status = IsRunOverStore r store e status
+AnswersImage r (Err fault) e status = FailsToRead fault e status
 
 -- by whether the task writes the image again, and whether it can be run today
-abbrev pub AnswersTask : Bool → Bool → Task → Result Store ImageFault → Place → List ℕ → List ℕ → Received → Received → ℕ → Type 0
-AnswersTask true built t image start old new said said' status = AnswersRewrite image old new said said' status
-AnswersTask false true t image start old new said said' status = AnswersImage t image start old new said said' status
-AnswersTask false false t image start old new said said' status = (new ≡ old) × Says said said' status Usage 2
+abbrev pub AnswersTask : Bool → Bool → Request → Result Store ImageFault → Effect → ℕ → Type 0
+AnswersTask true built r image e status = AnswersRewrite image e status
+AnswersTask false true r image e status = AnswersImage r image e status
+AnswersTask false false r image e status = OnlySays e status Usage 2
+
+abbrev pub AnswersCommand : CommandState → Result Store ImageFault → Effect → ℕ → Type 0
+AnswersCommand command image e status =
+    AnswersTask (is_rewrite command.task) (is_built command.task) (request_of command) image e status
 
 -- the answer to a command line over an image, by what the image gives
-abbrev pub AnswersLine : Result CommandState UsageFault → Result Store ImageFault → List ℕ → List ℕ → Received → Received → ℕ → Type 0
-AnswersLine (Ok command) image old new said said' status = AnswersTask (is_rewrite command.task) (is_built command.task) command.task image (start_by command.task command.from) old new said said' status
-AnswersLine (Err fault.Memory) image old new said said' status = (new ≡ old) × Says said said' status OutOfMemory 5
-AnswersLine (Err fault.Line) image old new said said' status = (new ≡ old) × Says said said' status Usage 2
-AnswersLine (Err fault.Command) image old new said said' status = (new ≡ old) × Says said said' status Usage 2
-AnswersLine (Err fault.Option) image old new said said' status = (new ≡ old) × Says said said' status Usage 2
+abbrev pub AnswersLine : Result CommandState UsageFault → Result Store ImageFault → Effect → ℕ → Type 0
+AnswersLine (Ok command) image e status = AnswersCommand command image e status
+AnswersLine (Err fault.Memory) image e status = OnlySays e status OutOfMemory 5
+AnswersLine (Err _) image e status = OnlySays e status Usage 2

@@ -1,10 +1,9 @@
 //! What follows from the definitions of plans alone, each the contract of a function that does nothing.
 ghost use Rattle.std.specs.Prelude.{◌≡◌, ℕ, true, List};
-ghost use Rattle.ipmi_bus.specs.declared.step.Place.{Place};
 ghost use Rattle.ipmi_bus.specs.Store.{Store, IsStore};
 ghost use Rattle.ipmi_command_line.specs.declared.command.Task.{Task};
 ghost use Rattle.ipmi_commands.specs.Plan.{Item, AreRowsOfBytes, RunEnd, Finished, AreTexts};
-ghost use Rattle.ipmi_commands.specs.Run.{is_built, AllowsAll};
+ghost use Rattle.ipmi_commands.specs.Run.{is_built, AllowsAll, Request};
 
 /// The texts that a task which can be run today prints for rows are one text.
 pub fn rows_have_one_text()
@@ -19,8 +18,8 @@ pub fn rows_have_one_text()
 
 /// So over a well-formed store a finished run of such a task leaves one output, and ends in one way.
 pub fn finished_runs_are_one()
-    ensures { (t : Task) (store : Store) (start : Place) (old a b : List ℕ) (e f : RunEnd) → is_built t ≡ true →
-        IsStore store → AllowsAll t store start old a (Finished e) → AllowsAll t store start old b (Finished f) → (a ≡ b) × (e ≡ f) }
+    ensures { (r : Request) (store : Store) (old a b : List ℕ) (e f : RunEnd) → is_built r.task ≡ true →
+        IsStore store → AllowsAll r store old a (Finished e) → AllowsAll r store old b (Finished f) → (a ≡ b) × (e ≡ f) }
 {
     ipmi_records::laws::one_sdr_line();
     ipmi_records::laws::one_extended_line();

@@ -3,16 +3,16 @@ ghost use Rattle.std.specs.Prelude.{◌≡◌, ◌+◌, ◌*◌, ◌≤◌, ◌=
 ghost use Rattle.ipmi_bus.specs.Seen.{IsHonest};
 ghost use Rattle.ipmi_image.specs.Image.{store_of_image};
 ghost use Rattle.ipmi_image.specs.Rewritten.{image_text_of};
-ghost use Rattle.ipmi_command_line.specs.Task.{is_listing, start_by};
+ghost use Rattle.ipmi_command_line.specs.Task.{is_listing};
 ghost use Rattle.ipmi_commands.specs.Listing.{faults_of, most_calls};
 ghost use Rattle.ipmi_output.specs.Received.{ReceivesText, of_writer};
 ghost use Rattle.ipmi_commands.specs.Pages.{pages_made};
-ghost use Rattle.ipmi_commands.specs.Run.{stop_status, stop_text, fault_status, is_answered, is_built, is_rewrite, EndsSo, IsRun, IsPagedRun, Says, WritesImage, AnswersRewrite, AnswersTask, AnswersLine};
+ghost use Rattle.ipmi_commands.specs.Run.{stop_status, stop_text, fault_status, is_answered, is_built, is_rewrite, effect, request_of, EndsSo, IsPagedRun, Runs, Says, WritesImage, AnswersCommand, AnswersRewrite, AnswersLine};
 ghost use Rattle.ipmi_output.specs.declared.message.Message.TheVariants as message;
 
 use crate::pages::{first_place, list_page, list_pages};
 use crate::stop::Stop;
-use ipmi_bus::Controller;
+use ipmi_bus::{Controller, FruEnded};
 use ipmi_command_line::{Command, Count, Task, UsageFault};
 use ipmi_image::{Image, ImageController, ImageFault, image_text};
 use ipmi_output::{Message, MessageSink, Sink, say, write_all};
@@ -67,9 +67,9 @@ fn stop_status(stop: Stop) -> u8
 {
     match stop {
         Stop::Done => 0,
-        Stop::Ended(_) | Stop::NoName | Stop::NoInfo | Stop::Inventory(_, _) => 1,
         Stop::WriteFault => 4,
-        Stop::Memory => 5,
+        Stop::Memory | Stop::Inventory(_, FruEnded::Memory) => 5,
+        Stop::Ended(_) | Stop::NoName | Stop::NoInfo | Stop::Inventory(_, _) => 1,
     }
 }
 
@@ -143,17 +143,8 @@ pub fn run<C: Controller, O: Sink, E: Write>(
     err: &mut E,
 ) -> u8
     ensures faults { O.faults out.new ≡ O.faults out.old + (if result == 4 then 1 else 0) }
-    ensures calls { (C.seen ctl.new).calls ≤ (C.seen ctl.old).calls + most_calls cmd.now.task cmd.now.tries }
-    ensures ends { is_built cmd.now.task ≡ true → EndsSo cmd.now.task (of_writer (E.contents err.old)) (of_writer (E.contents err.new)) result }
-    ensures built { is_built cmd.now.task ≡ true → IsHonest (C.seen ctl.old) →
-        IsRun cmd.now.task (start_by cmd.now.task cmd.now.from) cmd.now.tries
-        (C.seen ctl.old) (C.seen ctl.new)
-        (O.taken out.old) (O.taken out.new)
-        (of_writer (E.contents err.old)) (of_writer (E.contents err.new)) result }
-    ensures unbuilt { is_built cmd.now.task ≡ false →
-        (C.seen ctl.new ≡ C.seen ctl.old) × (O.taken out.new ≡ O.taken out.old)
-        × Says
-        (of_writer (E.contents err.old)) (of_writer (E.contents err.new)) result message.Usage 2 }
+    ensures runs { Runs cmd.now (C.seen ctl.old) (C.seen ctl.new)
+        (effect (O.taken out.old) (O.taken out.new) (of_writer (E.contents err.old)) (of_writer (E.contents err.new))) result }
 {
     run_to_message_sink(alloc, ctl, cmd, out, err)
 }
@@ -168,15 +159,8 @@ pub fn run_to_message_sink<C: Controller, O: Sink, E: MessageSink>(
     err: &mut E,
 ) -> u8
     ensures faults { O.faults out.new ≡ O.faults out.old + (if result == 4 then 1 else 0) }
-    ensures calls { (C.seen ctl.new).calls ≤ (C.seen ctl.old).calls + most_calls cmd.now.task cmd.now.tries }
-    ensures ends { is_built cmd.now.task ≡ true → EndsSo cmd.now.task (E.received err.old) (E.received err.new) result }
-    ensures built { is_built cmd.now.task ≡ true → IsHonest (C.seen ctl.old) →
-        IsRun cmd.now.task (start_by cmd.now.task cmd.now.from) cmd.now.tries
-        (C.seen ctl.old) (C.seen ctl.new)
-        (O.taken out.old) (O.taken out.new) (E.received err.old) (E.received err.new) result }
-    ensures unbuilt { is_built cmd.now.task ≡ false →
-        (C.seen ctl.new ≡ C.seen ctl.old) × (O.taken out.new ≡ O.taken out.old)
-        × Says (E.received err.old) (E.received err.new) result message.Usage 2 }
+    ensures runs { Runs cmd.now (C.seen ctl.old) (C.seen ctl.new)
+        (effect (O.taken out.old) (O.taken out.new) (E.received err.old) (E.received err.new)) result }
 {
     if !is_built(cmd.task()) {
         return report_usage(err);
@@ -199,11 +183,10 @@ pub fn run_pages<C: Controller, O: Sink, E: MessageSink>(
     requires { is_listing cmd.now.task ≡ true }
     ensures faults { O.faults out.new ≡ O.faults out.old + (if result == 4 then 1 else 0) }
     ensures calls { (C.seen ctl.new).calls ≤ (C.seen ctl.old).calls + pages_made pages.now * most_calls cmd.now.task cmd.now.tries }
-    ensures ends { EndsSo cmd.now.task (E.received err.old) (E.received err.new) result }
-    ensures honest { IsHonest (C.seen ctl.old) →
-        IsPagedRun cmd.now.task pages.now (start_by cmd.now.task cmd.now.from) cmd.now.tries
-        (C.seen ctl.old) (C.seen ctl.new)
-        (O.taken out.old) (O.taken out.new) (E.received err.old) (E.received err.new) result }
+    ensures ends { EndsSo cmd.now.task
+        (effect (O.taken out.old) (O.taken out.new) (E.received err.old) (E.received err.new)) result }
+    ensures honest { IsHonest (C.seen ctl.old) → IsPagedRun (request_of cmd.now) pages.now (C.seen ctl.old) (C.seen ctl.new)
+        (effect (O.taken out.old) (O.taken out.new) (E.received err.old) (E.received err.new)) result }
 {
     let stop = list_pages(alloc, ctl, cmd, pages, out);
     report(cmd.task(), stop, err)
@@ -220,7 +203,7 @@ pub fn answer<O: Sink, E: MessageSink>(
 ) -> u8
     ensures faults { O.faults out.new ≡ O.faults out.old + (if result == 4 then 1 else 0) }
     ensures answers { AnswersLine line.now (store_of_image image.now)
-        (O.taken out.old) (O.taken out.new) (E.received err.old) (E.received err.new) result }
+        (effect (O.taken out.old) (O.taken out.new) (E.received err.old) (E.received err.new)) result }
 {
     match line {
         Ok(cmd) => answer_command(alloc, cmd, image, out, err),
@@ -241,8 +224,8 @@ fn answer_command<O: Sink, E: MessageSink>(
     err: &mut E,
 ) -> u8
     ensures faults { O.faults out.new ≡ O.faults out.old + (if result == 4 then 1 else 0) }
-    ensures answers { AnswersTask (is_rewrite cmd.now.task) (is_built cmd.now.task) cmd.now.task (store_of_image image.now) (start_by cmd.now.task cmd.now.from)
-        (O.taken out.old) (O.taken out.new) (E.received err.old) (E.received err.new) result }
+    ensures answers { AnswersCommand cmd.now (store_of_image image.now)
+        (effect (O.taken out.old) (O.taken out.new) (E.received err.old) (E.received err.new)) result }
 {
     if is_rewrite(cmd.task()) {
         return rewrite(alloc, image, out, err);
@@ -259,7 +242,8 @@ fn answer_command<O: Sink, E: MessageSink>(
 /// Writes the image again.
 fn rewrite<O: Sink, E: MessageSink>(alloc: Global, image: &[u8], out: &mut O, err: &mut E) -> u8
     ensures faults { O.faults out.new ≡ O.faults out.old + (if result == 4 then 1 else 0) }
-    ensures answers { AnswersRewrite (store_of_image image.now) (O.taken out.old) (O.taken out.new) (E.received err.old) (E.received err.new) result }
+    ensures answers { AnswersRewrite (store_of_image image.now)
+        (effect (O.taken out.old) (O.taken out.new) (E.received err.old) (E.received err.new)) result }
 {
     match Image::read(alloc, image) {
         Ok(image) => {
