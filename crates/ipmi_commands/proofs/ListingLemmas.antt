@@ -33,6 +33,8 @@ use Rattle.ipmi_command_line.specs.Task.{shelf_of}
 use Rattle.ipmi_commands.specs.Plan as plan
 use Rattle.ipmi_commands.proofs.CallLemmas.{digits_some, one_id_more, calls_upto, calls_within, calls_more}
 use Rattle.ipmi_commands.proofs.ItemLemmas.{items_joined, none_printed, printed_more, row_there, end_spot}
+use Rattle.ipmi_commands.specs.Plan.{request}
+use Rattle.ipmi_commands.specs.Listing.{course}
 
 -- ---- limits
 
@@ -230,9 +232,9 @@ pub record Taken (t : Task) (tries : ℕ) (most rest : Option ℕ) (begun next :
 -- ---- one step
 
 module _ (t : Task) (tries : ℕ) (most left : Option ℕ) (begun now : CursorState) (s s' : Seen) (old new : List ℕ) (shelf : now.shelf ≡ shelf_of t) (same_tries : now.tries ≡ tries) (some : 0 < begun.part → 0 < now.part) (honest : IsHonest s)
-    (lists : ListsHonest t tries most left begun now s s' old new) where
+    (lists : ListsHonest t tries most left (course begun now s s' old new)) where
   -- as many were listed as are wanted
-  pub listing_full : after_one left ≡ None → IsListing t tries most begun now s s' old new stop.Done
+  pub listing_full : after_one left ≡ None → IsListing t tries most (course begun now s s' old new) stop.Done
   listing_full none = record {
     outcome = plan.Finished (WalkEnds Done);
     outcome_is = refl;
@@ -275,7 +277,7 @@ module _ (t : Task) (tries : ℕ) (most left : Option ℕ) (begun now : CursorSt
     same_rows same = ap (λ (x : Shelf). rows_of x s'.store) shelf ∙ ap (rows_of (shelf_of t)) (lists.stays.store.stays (first same))
 
     module _ (same : s''.stores_added ≡ s.stores_added) (start : Place) (walk : List Row) (end : WalkEnd) (w : IsWalk (rows_of (shelf_of t) s.store) start walk) (ends : EndsBy (rows_of (shelf_of t) s.store) start walk end)
-        (listed : HasListed t tries s.store start walk most left begun now s s' old new) where
+        (listed : HasListed (request t start tries) s.store walk most left (course begun now s s' old new)) where
       -- the step along the walk of the listing
       along : WalkStep (rows_of (shelf_of t) s.store) start walk end listed.count now next result
       along =
@@ -311,8 +313,8 @@ module _ (t : Task) (tries : ℕ) (most left : Option ℕ) (begun now : CursorSt
       -- the walk is at its end
       at_end : (e : WalkEnd) → outcome ≡ plan.Finished (WalkEnds e)
           → ((same : s''.stores_added ≡ s.stores_added) (start : Place) (walk : List Row) (end : WalkEnd) → IsWalk (rows_of (shelf_of t) s.store) start walk → EndsBy (rows_of (shelf_of t) s.store) start walk end
-          → (listed : HasListed t tries s.store start walk most left begun now s s' old new) → (listed.count ≡ length walk) × (end ≡ e) × StandsAt (rows_of (shelf_of t) s.store) start walk listed.count next)
-          → IsListing t tries most begun next s s'' old new st
+          → (listed : HasListed (request t start tries) s.store walk most left (course begun now s s' old new)) → (listed.count ≡ length walk) × (end ≡ e) × StandsAt (rows_of (shelf_of t) s.store) start walk listed.count next)
+          → IsListing t tries most (course begun next s s'' old new) st
       at_end e finish ended = record {
         outcome = outcome;
         outcome_is = is;
@@ -336,8 +338,8 @@ module _ (t : Task) (tries : ℕ) (most left : Option ℕ) (begun now : CursorSt
       -- nothing came for the id that is asked for
       failed : (n : ℕ) → ((store : Store) (p : Plan) → StopsAt (AtRecord n) t store p old new → IsAllowed t store p old new outcome) → FailsAt n now next → (st ≡ stop.Done → ⊥) → (IsTrue s.plain → CursorHoldsCurrent begun s → IsFine outcome)
           → ((same : s''.stores_added ≡ s.stores_added) (start : Place) (walk : List Row) (end : WalkEnd) → IsWalk (rows_of (shelf_of t) s.store) start walk → EndsBy (rows_of (shelf_of t) s.store) start walk end
-          → (listed : HasListed t tries s.store start walk most left begun now s s' old new) → listed.count ≡ length walk → MayFail end now.place)
-          → IsListing t tries most begun next s s'' old new st
+          → (listed : HasListed (request t start tries) s.store walk most left (course begun now s s' old new)) → listed.count ≡ length walk → MayFail end now.place)
+          → IsListing t tries most (course begun next s s'' old new) st
       failed n allowed fails not_done plain may = record {
         outcome = outcome;
         outcome_is = is;
@@ -359,14 +361,14 @@ module _ (t : Task) (tries : ℕ) (most left : Option ℕ) (begun now : CursorSt
       }
 
   module _ (next : CursorState) (s'' : Seen) (rest : Option ℕ) (wanted : after_one left ≡ Some rest) where
-    pub listing_done : IsStep now next s' s'' (Ok None) → IsListing t tries most begun next s s'' old new stop.Done
+    pub listing_done : IsStep now next s' s'' (Ok None) → IsListing t tries most (course begun next s s'' old new) stop.Done
     listing_done step =
         let counted = unrefused_more now.tries s s' s'' lists.unrefused (step.honest lists.stays.honest).answers.0 in
         at_end next s'' (Ok None) step rest wanted (plan.Finished (WalkEnds Done)) stop.Done refl counted.refusals counted.troubles Done refl
         (λ same start walk end w ends listed. along next s'' (Ok None) step same start walk end w ends listed)
 
     -- the cursor gave no record, for this reason
-    pub listing_ended : (ended : Ended) → IsStep now next s' s'' (Err ended) → IsListing t tries most begun next s s'' old new (stop.Ended ended)
+    pub listing_ended : (ended : Ended) → IsStep now next s' s'' (Err ended) → IsListing t tries most (course begun next s s'' old new) (stop.Ended ended)
     listing_ended (Cycle n) step =
         let still = (step.honest lists.stays.honest).answers in
         let counted = subst (λ (x : Seen). IsUnrefused s x) (sym still) lists.unrefused in
@@ -475,7 +477,7 @@ module _ (t : Task) (tries : ℕ) (most rest : Option ℕ) (begun next : CursorS
   never_done result outcome is may done = subst (MayStopAt (spots_after t row)) (subst (λ (x : Stop). IsOutcome x outcome) done is) may
 
   -- the piece was not found
-  pub listing_none : (result : Stop) → FindsNone (spots_after t row) tries s' s'' result → IsListing t tries most begun next s s'' old new result
+  pub listing_none : (result : Stop) → FindsNone (spots_after t row) tries s' s'' result → IsListing t tries most (course begun next s s'' old new) result
   listing_none result none =
       let low = taken.unrefused.troubles in
       let high = none.asks.grows in
@@ -504,7 +506,7 @@ module _ (t : Task) (tries : ℕ) (most rest : Option ℕ) (begun next : CursorS
     counted = let low = taken.unrefused.troubles in let high = finds.asks.grows in record { refusals = finds.refusals ∙ taken.unrefused.refusals; troubles = omega (arith, low, high) }
 
     -- the piece was written in part
-    pub listing_cut : (n : ℕ) (text : List ℕ) → text ≡ new ++ take n piece_text → IsListing t tries most begun next s s'' old text stop.WriteFault
+    pub listing_cut : (n : ℕ) (text : List ℕ) → text ≡ new ++ take n piece_text → IsListing t tries most (course begun next s s'' old text) stop.WriteFault
     listing_cut n text wrote = record {
       outcome = plan.WriteFault;
       outcome_is = refl;
@@ -535,7 +537,7 @@ module _ (t : Task) (tries : ℕ) (most rest : Option ℕ) (begun next : CursorS
     }
 
     -- the piece was written
-    pub listing_more : (text : List ℕ) → text ≡ new ++ piece_text → ListsHonest t tries most rest begun next s s'' old text
+    pub listing_more : (text : List ℕ) → text ≡ new ++ piece_text → ListsHonest t tries most rest (course begun next s s'' old text)
     listing_more text wrote = record {
       stays = stays_trans s s' s'' taken.stays finds.asks.stays;
       unrefused = counted;
@@ -566,7 +568,7 @@ begun_left : (most : Option ℕ) → IsLeft most 0 most
 begun_left None = refl
 begun_left (Some n) = (n, refl, omega arith)
 
-pub listing_begins : (t : Task) (tries : ℕ) (most : Option ℕ) (begun : CursorState) (s : Seen) (old : List ℕ) → IsHonest s → ListsHonest t tries most most begun begun s s old old
+pub listing_begins : (t : Task) (tries : ℕ) (most : Option ℕ) (begun : CursorState) (s : Seen) (old : List ℕ) → IsHonest s → ListsHonest t tries most most (course begun begun s s old old)
 listing_begins t tries most begun s old honest = record {
   stays = stays_refl s honest;
   unrefused = record { refusals = refl; troubles = omega arith };

@@ -26,6 +26,8 @@ use Rattle.ipmi_commands.specs.Plan as plan
 use Rattle.ipmi_commands.proofs.CallLemmas.{digits_most}
 use Rattle.ipmi_commands.proofs.ItemLemmas.{none_printed}
 use Rattle.ipmi_commands.proofs.ListingLemmas.{limit_end}
+use Rattle.ipmi_commands.specs.Plan.{request, change}
+use Rattle.ipmi_commands.specs.Listing.{course}
 
 -- ---- nothing was written
 
@@ -38,7 +40,7 @@ empty_printed : (t : Task) (store : Store) (most : Option ℕ) (start : Place) (
 empty_printed t store most start text = subst (λ (l : List Row). Printed t store (row_items t start l) text text) (sym (no_first most)) (none_printed t store text)
 
 -- a page of no record
-pub page_of_none : (t : Task) (start : Place) (tries : ℕ) (s : Seen) (text : List ℕ) → IsHonest s → IsPage t (Some 0) start start tries s s text text stop.Done
+pub page_of_none : (t : Task) (start : Place) (tries : ℕ) (s : Seen) (text : List ℕ) → IsHonest s → IsPage (request t start tries) (Some 0) start (change s s text text) stop.Done
 page_of_none t start tries s text honest = record {
   outcome = plan.Finished (WalkEnds Done);
   outcome_is = refl;
@@ -83,7 +85,7 @@ none_wanted None none = cc none
 none_wanted (Some n) none = let zero_ : n ≡ 0 = search arith in ap Some zero_
 
 -- a page at the end
-pub page_at_end : (t : Task) (most : Option ℕ) (tries : ℕ) (s : Seen) (text : List ℕ) → IsHonest s → IsPage t most End End tries s s text text stop.Done
+pub page_at_end : (t : Task) (most : Option ℕ) (tries : ℕ) (s : Seen) (text : List ℕ) → IsHonest s → IsPage (request t End tries) most End (change s s text text) stop.Done
 page_at_end t most tries s text honest = record {
   outcome = plan.Finished (WalkEnds Done);
   outcome_is = refl;
@@ -94,8 +96,8 @@ page_at_end t most tries s text honest = record {
   along = λ same walk end w ends.
       let empty = no_walk (rows_of (shelf_of t) s.store) End walk refl w in
       let done = done_there (rows_of (shelf_of t) s.store) end (subst (λ (l : List Row). EndsBy (rows_of (shelf_of t) s.store) End l end) empty ends) in
-      subst (λ (l : List Row). PageAlong t s.store most End l end End tries s s text text (plan.Finished (WalkEnds Done)) stop.Done) (sym empty)
-      (subst (λ (e : WalkEnd). PageAlong t s.store most End [] e End tries s s text text (plan.Finished (WalkEnds Done)) stop.Done) (sym done)
+      subst (λ (l : List Row). PageAlong (request t End tries) s.store most l end End (change s s text text) (plan.Finished (WalkEnds Done)) stop.Done) (sym empty)
+      (subst (λ (e : WalkEnd). PageAlong (request t End tries) s.store most [] e End (change s s text text) (plan.Finished (WalkEnds Done)) stop.Done) (sym done)
       (record { leaves = (empty_printed t s.store most End text, sym (ap WalkEnds (end_done most))); calls = omega arith; goes_on = λ d. inl (ap (place_after_rows End) (sym (no_first most))) }));
   plain = λ p. tt;
 }
@@ -109,7 +111,7 @@ page_at_end t most tries s text honest = record {
         by_case false = refl
 
 -- a page at the id 0000h
-pub page_at_zero : (t : Task) (most : Option ℕ) (tries : ℕ) (s : Seen) (text : List ℕ) → (most ≡ Some 0 → ⊥) → IsHonest s → IsPage t most (Id 0) (Id 0) tries s s text text (stop.Ended (Cycle 0))
+pub page_at_zero : (t : Task) (most : Option ℕ) (tries : ℕ) (s : Seen) (text : List ℕ) → (most ≡ Some 0 → ⊥) → IsHonest s → IsPage (request t (Id 0) tries) most (Id 0) (change s s text text) (stop.Ended (Cycle 0))
 page_at_zero t most tries s text some honest = record {
   outcome = plan.Finished (WalkEnds (CycleAt 0));
   outcome_is = refl;
@@ -120,28 +122,28 @@ page_at_zero t most tries s text some honest = record {
   along = λ same walk end w ends.
       let empty = no_walk (rows_of (shelf_of t) s.store) (Id 0) walk refl w in
       let cycle = cycle_there (rows_of (shelf_of t) s.store) end (subst (λ (l : List Row). EndsBy (rows_of (shelf_of t) s.store) (Id 0) l end) empty ends) in
-      subst (λ (l : List Row). PageAlong t s.store most (Id 0) l end (Id 0) tries s s text text (plan.Finished (WalkEnds (CycleAt 0))) (stop.Ended (Cycle 0))) (sym empty)
-      (subst (λ (e : WalkEnd). PageAlong t s.store most (Id 0) [] e (Id 0) tries s s text text (plan.Finished (WalkEnds (CycleAt 0))) (stop.Ended (Cycle 0))) (sym cycle)
+      subst (λ (l : List Row). PageAlong (request t (Id 0) tries) s.store most l end (Id 0) (change s s text text) (plan.Finished (WalkEnds (CycleAt 0))) (stop.Ended (Cycle 0))) (sym empty)
+      (subst (λ (e : WalkEnd). PageAlong (request t (Id 0) tries) s.store most [] e (Id 0) (change s s text text) (plan.Finished (WalkEnds (CycleAt 0))) (stop.Ended (Cycle 0))) (sym cycle)
       (record { leaves = (empty_printed t s.store most (Id 0) text, sym (ap WalkEnds (end_of_none most (CycleAt 0) some))); calls = omega arith; goes_on = λ d. cc d }));
   plain = λ p. tt;
 }
 
 -- a page where no cursor is needed
-pub page_without : (t : Task) (most : Option ℕ) (place : Place) (tries : ℕ) (s : Seen) (text : List ℕ) (st : Stop) → (most ≡ Some 0 → ⊥) → start_at place ≡ Err st → IsHonest s → IsPage t most place place tries s s text text st
+pub page_without : (t : Task) (most : Option ℕ) (place : Place) (tries : ℕ) (s : Seen) (text : List ℕ) (st : Stop) → (most ≡ Some 0 → ⊥) → start_at place ≡ Err st → IsHonest s → IsPage (request t place tries) most place (change s s text text) st
 page_without t most First tries s text st some at honest = cc at
 page_without t most (Id n) tries s text st some at honest = by_case (n == 0) refl
   where
-    by_case : (b : Bool) → (n == 0) ≡ b → IsPage t most (Id n) (Id n) tries s s text text st
+    by_case : (b : Bool) → (n == 0) ≡ b → IsPage (request t (Id n) tries) most (Id n) (change s s text text) st
     by_case true e =
         let h = sym (ap (λ (b : Bool). cond b (Err (stop.Ended (Cycle 0))) (Ok (Some n))) e) ∙ at in
         let is : stop.Ended (Cycle 0) ≡ st = cc h in
         let none : n ≡ 0 = search arith in
-        subst (λ (x : Stop). IsPage t most (Id n) (Id n) tries s s text text x) is (subst (λ (m : ℕ). IsPage t most (Id m) (Id m) tries s s text text (stop.Ended (Cycle 0))) (sym none) (page_at_zero t most tries s text some honest))
+        subst (λ (x : Stop). IsPage (request t (Id n) tries) most (Id n) (change s s text text) x) is (subst (λ (m : ℕ). IsPage (request t (Id m) tries) most (Id m) (change s s text text) (stop.Ended (Cycle 0))) (sym none) (page_at_zero t most tries s text some honest))
     by_case false e = let h = sym (ap (λ (b : Bool). cond b (Err (stop.Ended (Cycle 0))) (Ok (Some n))) e) ∙ at in cc h
-page_without t most End tries s text st some at honest = let is : stop.Done ≡ st = cc at in subst (λ (x : Stop). IsPage t most End End tries s s text text x) is (page_at_end t most tries s text honest)
+page_without t most End tries s text st some at honest = let is : stop.Done ≡ st = cc at in subst (λ (x : Stop). IsPage (request t End tries) most End (change s s text text) x) is (page_at_end t most tries s text honest)
 
 -- a page for whose cursor no memory was left
-pub page_without_memory : (t : Task) (most : Option ℕ) (place : Place) (tries : ℕ) (s : Seen) (text : List ℕ) → IsHonest s → IsPage t most place place tries s s text text stop.Memory
+pub page_without_memory : (t : Task) (most : Option ℕ) (place : Place) (tries : ℕ) (s : Seen) (text : List ℕ) → IsHonest s → IsPage (request t place tries) most place (change s s text text) stop.Memory
 page_without_memory t most place tries s text honest = record {
   outcome = plan.OutOfMemory;
   outcome_is = refl;
@@ -183,7 +185,7 @@ first_taken (Some n) walk = by_case (nat_lt n (length walk)) refl
         ap (λ (l : List Row). take (length l) walk) all ∙ take_all (length walk) walk (omega arith) ∙ sym all
 
 pub page_by_cursor : (t : Task) (most : Option ℕ) (place : Place) (tries : ℕ) (begun now : CursorState) (s s' : Seen) (text text' : List ℕ) (result : Stop) → (most ≡ Some 0 → ⊥) → begun.reservation ≡ None → 0 < begun.part
-    → ((rows walk : List Row) → StandsAt rows place walk 0 begun) → IsListing t tries most begun now s s' text text' result → IsPage t most place now.place tries s s' text text' result
+    → ((rows walk : List Row) → StandsAt rows place walk 0 begun) → IsListing t tries most (course begun now s s' text text') result → IsPage (request t place tries) most now.place (change s s' text text') result
 page_by_cursor t most place tries begun now s s' text text' result some none part stands listing = record {
   outcome = listing.outcome;
   outcome_is = listing.outcome_is;
@@ -211,17 +213,17 @@ page_calls t tries begun now s s' part listing = let eight = digits_most begun.p
 
 -- what the pages that are left do is what all of them do
 abbrev pub LeadsTo : Task → List ℕ → List ℕ → Place → Place → ℕ → Seen → Seen → List ℕ → List ℕ → Type 0
-LeadsTo t all left start now tries s s' old text = (s'' : Seen) (new : List ℕ) (result : Stop) → ArePages t left now tries s' s'' text new result → ArePages t all start tries s s'' old new result
+LeadsTo t all left start now tries s s' old text = (s'' : Seen) (new : List ℕ) (result : Stop) → ArePages (request t now tries) left (change s' s'' text new) result → ArePages (request t start tries) all (change s s'' old new) result
 
-pub page_leads : (t : Task) (all left : List ℕ) (size : ℕ) (start now next : Place) (tries : ℕ) (s s' s'' : Seen) (old text text' : List ℕ) → LeadsTo t all (size ∷ left) start now tries s s' old text → IsPage t (Some size) now next tries s' s'' text text' stop.Done
+pub page_leads : (t : Task) (all left : List ℕ) (size : ℕ) (start now next : Place) (tries : ℕ) (s s' s'' : Seen) (old text text' : List ℕ) → LeadsTo t all (size ∷ left) start now tries s s' old text → IsPage (request t now tries) (Some size) next (change s' s'' text text') stop.Done
     → LeadsTo t all left start next tries s s'' old text'
 page_leads t all left size start now next tries s s' s'' old text text' leads page = λ last new result rest. leads last new result (inr (record { next = next; seen = s''; text = text'; page = page; rest = rest }))
 
-pub last_leads : (t : Task) (all left : List ℕ) (size : ℕ) (start now next : Place) (tries : ℕ) (s s' s'' : Seen) (old text text' : List ℕ) (result : Stop) → LeadsTo t all (size ∷ left) start now tries s s' old text → IsPage t (Some size) now next tries s' s'' text text' result → IsStopped result
-    → ArePages t all start tries s s'' old text' result
+pub last_leads : (t : Task) (all left : List ℕ) (size : ℕ) (start now next : Place) (tries : ℕ) (s s' s'' : Seen) (old text text' : List ℕ) (result : Stop) → LeadsTo t all (size ∷ left) start now tries s s' old text → IsPage (request t now tries) (Some size) next (change s' s'' text text') result → IsStopped result
+    → ArePages (request t start tries) all (change s s'' old text') result
 last_leads t all left size start now next tries s s' s'' old text text' result leads page stopped = leads s'' text' result (inl (record { next = next; page = page }, stopped))
 
-pub all_lead : (t : Task) (all : List ℕ) (start now next : Place) (tries : ℕ) (s s' s'' : Seen) (old text text' : List ℕ) (result : Stop) → LeadsTo t all [] start now tries s s' old text → IsPage t None now next tries s' s'' text text' result → ArePages t all start tries s s'' old text' result
+pub all_lead : (t : Task) (all : List ℕ) (start now next : Place) (tries : ℕ) (s s' s'' : Seen) (old text text' : List ℕ) (result : Stop) → LeadsTo t all [] start now tries s s' old text → IsPage (request t now tries) None next (change s' s'' text text') result → ArePages (request t start tries) all (change s s'' old text') result
 all_lead t all start now next tries s s' s'' old text text' result leads page = leads s'' text' result (record { next = next; page = page })
 
 -- a listing that is done is done after its last record

@@ -27,6 +27,7 @@ use Rattle.ipmi_commands.specs.Plan as plan
 use Rattle.ipmi_commands.proofs.ListingLemmas.{counts_since}
 use Rattle.ipmi_commands.proofs.PageLemmas.{made_one, made_none, no_walk}
 use Rattle.ipmi_commands.proofs.ItemLemmas.{items_joined, end_joined, after_items, leaves_joined}
+use Rattle.ipmi_commands.specs.Plan.{request, change}
 
 -- ---- the rest of a walk
 
@@ -170,7 +171,7 @@ behind_calls t store rows start next walk end size tries calls before ok w ends 
         omega (arith, none)
 
 -- the calls of a page, and what is left for those behind it
-page_made : (t : Task) (store : Store) (start next : Place) (walk : List Row) (end : WalkEnd) (size tries : ℕ) (sizes : List ℕ) (s s' : Seen) (old new : List ℕ) (outcome : Outcome) (result : Stop) → PageAlong t store (Some size) start walk end next tries s s' old new outcome result
+page_made : (t : Task) (store : Store) (start next : Place) (walk : List Row) (end : WalkEnd) (size tries : ℕ) (sizes : List ℕ) (s s' : Seen) (old new : List ℕ) (outcome : Outcome) (result : Stop) → PageAlong (request t start tries) store (Some size) walk end next (change s s' old new) outcome result
     → (Some size ≡ Some 0 → s' ≡ s) → s'.calls + pages_made sizes * (step_call_bound tries 0 + 7) ≤ s.calls + calls_for t store tries (take size walk) + pages_made (size ∷ sizes) * (step_call_bound tries 0 + 7)
 page_made t store start next walk end size tries sizes s s' old new outcome result along none = by_case (size == 0) refl
   where
@@ -262,7 +263,7 @@ behind_page t store rows start next walk end size old text new outcome ok w ends
         ended (CycleAt n) ends = absurd ends
         ended (MissingAt n) ends = absurd ends
 
-pub pages_are_one : (t : Task) (sizes : List ℕ) (start : Place) (tries : ℕ) (s s' : Seen) (old new : List ℕ) (result : Stop) → IsHonest s → ArePages t sizes start tries s s' old new result → OneListing t sizes start tries s s' old new result
+pub pages_are_one : (t : Task) (sizes : List ℕ) (start : Place) (tries : ℕ) (s s' : Seen) (old new : List ℕ) (result : Stop) → IsHonest s → ArePages (request t start tries) sizes (change s s' old new) result → OneListing t sizes start tries s s' old new result
 pages_are_one t [] start tries s s' old new result honest last = record {
   outcome = last.page.outcome;
   outcome_is = last.page.outcome_is;

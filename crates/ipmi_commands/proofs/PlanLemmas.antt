@@ -24,7 +24,9 @@ use Rattle.ipmi_output.specs.Received.{Received, ReceivesText}
 use Rattle.ipmi_commands.specs.Pages.{IsPage, ArePages}
 use Rattle.ipmi_commands.proofs.ItemLemmas.{none_printed, one_printed}
 use Rattle.ipmi_commands.proofs.PagesLaw.{pages_are_one}
-use Rattle.ipmi_commands.specs.Run.{Request, Effect, effect, HasEnded, IsRun, IsPagedRun, status_of, stop_status, stop_text, outcome_text, is_built, fault_status, WritesImage, IsRewriting, Says, AnswersRewrite, AnswersImage, AnswersTask}
+use Rattle.ipmi_commands.specs.Plan.{Request}
+use Rattle.ipmi_commands.specs.Run.{Effect, effect, HasEnded, IsRun, IsPagedRun, status_of, stop_status, stop_text, outcome_text, is_built, fault_status, WritesImage, IsRewriting, Says, AnswersRewrite, AnswersImage, AnswersTask}
+use Rattle.ipmi_commands.specs.Plan.{request, change}
 
 -- ---- a task that is built lists the first rows of its shelf
 
@@ -93,7 +95,7 @@ module _ (r : Request) (s s' : Seen) (e : Effect) (st : Stop) (message : Receive
     plain = plain;
   }
 
-  pub run_by_listing : (next : Place) → is_built r.task ≡ true → IsPage r.task (most_of r.task) r.start next r.tries s s' e.old e.new st → IsRun r s s' e (stop_status st)
+  pub run_by_listing : (next : Place) → is_built r.task ≡ true → IsPage (request r.task r.start r.tries) (most_of r.task) next (change s s' e.old e.new) st → IsRun r s s' e (stop_status st)
   run_by_listing next built page =
       let once = goes_once r.task built in
       record {
@@ -106,7 +108,7 @@ module _ (r : Request) (s s' : Seen) (e : Effect) (st : Stop) (message : Receive
             subst (λ (n : ℕ). s'.calls ≤ s.calls + n) (sym (once.bound_is s.store r.tries walk end)) (page.along same walk end w ends).calls;
       }
 
-  pub run_in_pages : (sizes : List ℕ) → is_listing r.task ≡ true → IsHonest s → ArePages r.task sizes r.start r.tries s s' e.old e.new st → IsPagedRun r sizes s s' e (stop_status st)
+  pub run_in_pages : (sizes : List ℕ) → is_listing r.task ≡ true → IsHonest s → ArePages (request r.task r.start r.tries) sizes (change s s' e.old e.new) st → IsPagedRun r sizes s s' e (stop_status st)
   run_in_pages sizes listing honest pages =
       let one = pages_are_one r.task sizes r.start r.tries s s' e.old e.new st honest pages in
       let whole = listed_whole r.task listing in

@@ -23,7 +23,8 @@ use Rattle.ipmi_command_line.specs.Task.{most_of}
 use Rattle.ipmi_commands.specs.Plan.{first_rows}
 use Rattle.ipmi_commands.specs.Plan.{Subject, OfRow, OfInventory, OfInfo, OfImage, Item, IsRowOfBytes, AreRowsOfBytes, RunEnd, Plan, Finished, IsAllowed, row_items, IsItemText, AreTexts}
 use Rattle.ipmi_command_line.specs.Task.{shelf_of}
-use Rattle.ipmi_commands.specs.Run.{is_built, AllowsAll, Request}
+use Rattle.ipmi_commands.specs.Plan.{Request}
+use Rattle.ipmi_commands.specs.Run.{is_built, AllowsAll}
 use Rattle.ipmi_bus.proofs.ShelfLemmas.{look_row}
 use Rattle.ipmi_bus.proofs.ShelfLemmas.{shelf_of as store_shelf}
 use Rattle.ipmi_commands.proofs.PlanLemmas.{goes_once}

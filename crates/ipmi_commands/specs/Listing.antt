@@ -21,7 +21,7 @@ use Rattle.ipmi_command_line.specs.declared.command.Task.TheVariants as task
 use Rattle.ipmi_commands.specs.declared.stop.Stop.{Stop}
 use Rattle.ipmi_commands.specs.declared.stop.Stop.TheVariants as stop
 use Rattle.ipmi_commands.specs.Pieces.{IsRowPiece}
-use Rattle.ipmi_commands.specs.Plan.{first_rows, first_end, last_rows, Plan, Spot, AtRecord, AtInventory, WalkEnds, row_items, Printed, Outcome, IsAllowed, CountsSo, IsFine, IsAmong, end_spots, spots_after}
+use Rattle.ipmi_commands.specs.Plan.{first_rows, first_end, last_rows, Request, request, Plan, Spot, AtRecord, AtInventory, WalkEnds, row_items, Printed, Outcome, IsAllowed, CountsSo, IsFine, IsAmong, end_spots, spots_after}
 use Rattle.ipmi_command_line.specs.Task.{most_of, shelf_of}
 use Rattle.ipmi_commands.specs.Plan as plan
 
@@ -206,35 +206,55 @@ pub record IsUnrefused (s s' : Seen) : Type 0 where
   pub refusals : s'.refusals ≡ s.refusals
   pub troubles : s.troubles ≤ s'.troubles
 
+-- the course of a listing: what was before and after, the cursor too
+pub record Course : Type 0 where
+  pub begun : CursorState
+  pub now : CursorState
+  pub seen : Seen
+  pub seen' : Seen
+  pub old : List ℕ
+  pub new : List ℕ
+
+abbrev pub course : CursorState → CursorState → Seen → Seen → List ℕ → List ℕ → Course
+course begun now seen seen' old new = record { begun = begun; now = now; seen = seen; seen' = seen'; old = old; new = new }
+
 -- along a walk: the cursor stands at some row of it, and texts of the rows before it were written
-pub record HasListed (t : Task) (tries : ℕ) (store : Store) (start : Place) (walk : List Row) (most left : Option ℕ) (begun now : CursorState) (s s' : Seen) (old new : List ℕ) : Type 0 where
+pub record HasListed (r : Request) (store : Store) (walk : List Row) (most left : Option ℕ) (c : Course) : Type 0 where
   pub count : ℕ
-  pub stands : StandsAt (rows_of (shelf_of t) store) start walk count now
-  pub printed : Printed t store (row_items t start (take count walk)) old new
+  pub stands : StandsAt (rows_of (shelf_of r.task) store) r.start walk count c.now
+  pub printed : Printed r.task store (row_items r.task r.start (take count walk)) c.old c.new
   pub wanted : IsLeft most count left
-  pub calls : s'.calls + digits now.part ≤ s.calls + calls_for t store tries (take count walk) + digits begun.part
+  pub calls : c.seen'.calls + digits c.now.part ≤ c.seen.calls + calls_for r.task store r.tries (take count walk) + digits c.begun.part
+
+-- along each walk of a task that has an end, and at the start of which the cursor stood
+abbrev pub OnEachWalk : Task → CursorState → Store → (Place → List Row → WalkEnd → Type 0) → Type 0
+OnEachWalk t begun store Holds =
+    (start : Place) (walk : List Row) (end : WalkEnd) → IsWalk (rows_of (shelf_of t) store) start walk
+    → EndsBy (rows_of (shelf_of t) store) start walk end → StandsAt (rows_of (shelf_of t) store) start walk 0 begun
+    → Holds start walk end
 
 -- since the listing began, over an honest controller
-pub record ListsHonest (t : Task) (tries : ℕ) (most left : Option ℕ) (begun now : CursorState) (s s' : Seen) (old new : List ℕ) : Type 0 where
-  pub stays : StaysHonest s s'
-  pub unrefused : IsUnrefused s s'
-  pub listed : s'.stores_added ≡ s.stores_added → (start : Place) (walk : List Row) (end : WalkEnd) → IsWalk (rows_of (shelf_of t) s.store) start walk → EndsBy (rows_of (shelf_of t) s.store) start walk end
-      → StandsAt (rows_of (shelf_of t) s.store) start walk 0 begun → HasListed t tries s.store start walk most left begun now s s' old new
-  pub plain : IsTrue s.plain → CursorHoldsCurrent begun s → CursorHoldsCurrent now s'
+pub record ListsHonest (t : Task) (tries : ℕ) (most left : Option ℕ) (c : Course) : Type 0 where
+  pub stays : StaysHonest c.seen c.seen'
+  pub unrefused : IsUnrefused c.seen c.seen'
+  pub listed : c.seen'.stores_added ≡ c.seen.stores_added
+      → OnEachWalk t c.begun c.seen.store (λ start walk end. HasListed (request t start tries) c.seen.store walk most left c)
+  pub plain : IsTrue c.seen.plain → CursorHoldsCurrent c.begun c.seen → CursorHoldsCurrent c.now c.seen'
 
 -- a whole listing along a walk: what it leaves, the bound of its calls, and that its cursor stands after the rows that are wanted
-pub record ListsAlong (t : Task) (tries : ℕ) (store : Store) (start : Place) (walk : List Row) (end : WalkEnd) (most : Option ℕ) (begun now : CursorState) (s s' : Seen) (old new : List ℕ) (outcome : Outcome) (result : Stop) : Type 0 where
-  pub leaves : IsAllowed t store (first_plan most t start walk end) old new outcome
-  pub calls : 0 < begun.part → s'.calls + 1 ≤ s.calls + calls_for t store tries (first_rows most walk) + step_call_bound tries 0 + digits begun.part
-  pub goes_on : result ≡ stop.Done → StandsAt (rows_of (shelf_of t) store) start walk (length (first_rows most walk)) now
+pub record ListsAlong (r : Request) (store : Store) (walk : List Row) (end : WalkEnd) (most : Option ℕ) (c : Course) (outcome : Outcome) (result : Stop) : Type 0 where
+  pub leaves : IsAllowed r.task store (first_plan most r.task r.start walk end) c.old c.new outcome
+  pub calls : 0 < c.begun.part
+      → c.seen'.calls + 1 ≤ c.seen.calls + calls_for r.task store r.tries (first_rows most walk) + step_call_bound r.tries 0 + digits c.begun.part
+  pub goes_on : result ≡ stop.Done → StandsAt (rows_of (shelf_of r.task) store) r.start walk (length (first_rows most walk)) c.now
 
 -- a whole listing, over an honest controller
-pub record IsListing (t : Task) (tries : ℕ) (most : Option ℕ) (begun now : CursorState) (s s' : Seen) (old new : List ℕ) (result : Stop) : Type 0 where
+pub record IsListing (t : Task) (tries : ℕ) (most : Option ℕ) (c : Course) (result : Stop) : Type 0 where
   pub outcome : Outcome
   pub outcome_is : IsOutcome result outcome
-  pub stays : StaysHonest s s'
-  pub counts : CountsSo tries s s' outcome
-  pub grows : s.troubles ≤ s'.troubles
-  pub along : s'.stores_added ≡ s.stores_added → (start : Place) (walk : List Row) (end : WalkEnd) → IsWalk (rows_of (shelf_of t) s.store) start walk → EndsBy (rows_of (shelf_of t) s.store) start walk end
-      → StandsAt (rows_of (shelf_of t) s.store) start walk 0 begun → ListsAlong t tries s.store start walk end most begun now s s' old new outcome result
-  pub plain : IsTrue s.plain → CursorHoldsCurrent begun s → IsFine outcome
+  pub stays : StaysHonest c.seen c.seen'
+  pub counts : CountsSo tries c.seen c.seen' outcome
+  pub grows : c.seen.troubles ≤ c.seen'.troubles
+  pub along : c.seen'.stores_added ≡ c.seen.stores_added
+      → OnEachWalk t c.begun c.seen.store (λ start walk end. ListsAlong (request t start tries) c.seen.store walk end most c outcome result)
+  pub plain : IsTrue c.seen.plain → CursorHoldsCurrent c.begun c.seen → IsFine outcome

@@ -15,7 +15,7 @@ use Rattle.ipmi_commands.specs.declared.stop.Stop.TheVariants as stop
 use Rattle.ipmi_command_line.specs.declared.command.Task.{Task}
 use Rattle.ipmi_commands.specs.Listing.{is_done, first_plan, IsOutcome, walk_call_bound}
 use Rattle.ipmi_commands.specs.Plan.{first_rows}
-use Rattle.ipmi_commands.specs.Plan.{Outcome, IsAllowed, CountsSo, IsFine}
+use Rattle.ipmi_commands.specs.Plan.{Request, request, Change, change, OnWalk, Outcome, IsAllowed, CountsSo, IsFine}
 use Rattle.ipmi_command_line.specs.Task.{shelf_of}
 
 -- the id that a cursor starts from; after the last record, and at the id 0000h, no cursor is needed
@@ -47,22 +47,22 @@ GoesOn rows start used next = (next ≡ place_after_rows start used) ⊎ ((next 
 -- ---- a page
 
 -- along the walk from its place: what it leaves, its calls, and where the next page begins
-pub record PageAlong (t : Task) (store : Store) (most : Option ℕ) (start : Place) (walk : List Row) (end : WalkEnd) (next : Place) (tries : ℕ) (s s' : Seen) (old new : List ℕ) (outcome : Outcome) (result : Stop) : Type 0 where
-  pub leaves : IsAllowed t store (first_plan most t start walk end) old new outcome
-  pub calls : s'.calls ≤ s.calls + walk_call_bound t store tries (first_rows most walk)
-  pub goes_on : result ≡ stop.Done → GoesOn (rows_of (shelf_of t) store) start (first_rows most walk) next
+pub record PageAlong (r : Request) (store : Store) (most : Option ℕ) (walk : List Row) (end : WalkEnd) (next : Place) (c : Change) (outcome : Outcome) (result : Stop) : Type 0 where
+  pub leaves : IsAllowed r.task store (first_plan most r.task r.start walk end) c.old c.new outcome
+  pub calls : c.seen'.calls ≤ c.seen.calls + walk_call_bound r.task store r.tries (first_rows most walk)
+  pub goes_on : result ≡ stop.Done → GoesOn (rows_of (shelf_of r.task) store) r.start (first_rows most walk) next
 
 -- of so many records at most, over an honest controller
-pub record IsPage (t : Task) (most : Option ℕ) (start next : Place) (tries : ℕ) (s s' : Seen) (old new : List ℕ) (result : Stop) : Type 0 where
+pub record IsPage (r : Request) (most : Option ℕ) (next : Place) (c : Change) (result : Stop) : Type 0 where
   pub outcome : Outcome
   pub outcome_is : IsOutcome result outcome
-  pub stays : StaysHonest s s'
-  pub counts : CountsSo tries s s' outcome
-  pub grows : s.troubles ≤ s'.troubles
-  pub none : most ≡ Some 0 → s' ≡ s
-  pub along : s'.stores_added ≡ s.stores_added → (walk : List Row) (end : WalkEnd) → IsWalk (rows_of (shelf_of t) s.store) start walk → EndsBy (rows_of (shelf_of t) s.store) start walk end
-      → PageAlong t s.store most start walk end next tries s s' old new outcome result
-  pub plain : IsTrue s.plain → IsFine outcome
+  pub stays : StaysHonest c.seen c.seen'
+  pub counts : CountsSo r.tries c.seen c.seen' outcome
+  pub grows : c.seen.troubles ≤ c.seen'.troubles
+  pub none : most ≡ Some 0 → c.seen' ≡ c.seen
+  pub along : c.seen'.stores_added ≡ c.seen.stores_added
+      → OnWalk r c.seen.store (λ walk end. PageAlong r c.seen.store most walk end next c outcome result)
+  pub plain : IsTrue c.seen.plain → IsFine outcome
 
 -- ---- pages
 
@@ -70,24 +70,24 @@ abbrev pub IsStopped : Stop → Type 0
 IsStopped result = is_done result ≡ false
 
 -- a page with which the listing ends
-pub record LastPage (t : Task) (most : Option ℕ) (start : Place) (tries : ℕ) (s s' : Seen) (old new : List ℕ) (result : Stop) : Type 0 where
+pub record LastPage (r : Request) (most : Option ℕ) (c : Change) (result : Stop) : Type 0 where
   pub next : Place
-  pub page : IsPage t most start next tries s s' old new result
+  pub page : IsPage r most next c result
 
 -- a page after which the listing goes on
-pub record PageThen (t : Task) (size : ℕ) (start : Place) (tries : ℕ) (s : Seen) (old : List ℕ) (Rest : Place → Seen → List ℕ → Type 0) : Type 0 where
+pub record PageThen (r : Request) (size : ℕ) (s : Seen) (old : List ℕ) (Rest : Place → Seen → List ℕ → Type 0) : Type 0 where
   pub next : Place
   pub seen : Seen
   pub text : List ℕ
-  pub page : IsPage t (Some size) start next tries s seen old text stop.Done
+  pub page : IsPage r (Some size) next (change s seen old text) stop.Done
   pub rest : Rest next seen text
 
 -- pages of these sizes, and then one without a limit; a page that ends by name, or for want of memory or by a write fault, ends all
-abbrev pub ArePages : Task → List ℕ → Place → ℕ → Seen → Seen → List ℕ → List ℕ → Stop → Type 0
-ArePages t [] start tries s s' old new result = LastPage t None start tries s s' old new result
-ArePages t (size ∷ sizes) start tries s s' old new result =
-    (LastPage t (Some size) start tries s s' old new result × IsStopped result)
-    ⊎ PageThen t size start tries s old (λ next seen text. ArePages t sizes next tries seen s' text new result)
+abbrev pub ArePages : Request → List ℕ → Change → Stop → Type 0
+ArePages r [] c result = LastPage r None c result
+ArePages r (size ∷ sizes) c result =
+    (LastPage r (Some size) c result × IsStopped result)
+    ⊎ PageThen r size c.seen c.old (λ next seen text. ArePages (request r.task next r.tries) sizes (change seen c.seen' text c.new) result)
 
 -- how many pages may make calls: each that wants a record, and the last one
 abbrev pub pages_made : List ℕ → ℕ

@@ -6,8 +6,8 @@ use Rattle.ipmi_bus.specs.declared.step.Place.TheVariants.{First, Id, End}
 use Rattle.ipmi_bus.specs.Shelf.{Row}
 use Rattle.ipmi_text.specs.Bytes.{AreBytes}
 use Rattle.ipmi_bus.specs.Step.{asked_at}
-use Rattle.ipmi_bus.specs.Store.{Store, info_of}
-use Rattle.ipmi_bus.specs.Walk.{WalkEnd, Done, CycleAt, MissingAt, place_after, place_after_rows}
+use Rattle.ipmi_bus.specs.Store.{Store, info_of, rows_of}
+use Rattle.ipmi_bus.specs.Walk.{IsWalk, EndsBy, WalkEnd, Done, CycleAt, MissingAt, place_after, place_after_rows}
 use Rattle.ipmi_bus.specs.Seen.{Seen}
 use Rattle.ipmi_image.specs.Rewritten.{image_text_of}
 use Rattle.ipmi_records.specs.Info.{IsInfoBlock}
@@ -19,8 +19,35 @@ use Rattle.ipmi_command_line.specs.declared.command.Count.TheVariants as count
 use Rattle.ipmi_command_line.specs.declared.command.Kind.{Kind}
 use Rattle.ipmi_command_line.specs.declared.command.Task.{Task}
 use Rattle.ipmi_command_line.specs.declared.command.Task.TheVariants as task
-use Rattle.ipmi_command_line.specs.Task.{most_of}
+use Rattle.ipmi_command_line.specs.Task.{most_of, shelf_of}
 use Rattle.ipmi_commands.specs.Pieces.{IsRowPiece, IsInventoryPiece, row_is_of_kind, is_name}
+
+-- ---- what is asked for, and what it changes
+
+-- a task, where it starts, and how many troubles a record may meet
+pub record Request : Type 0 where
+  pub task : Task
+  pub start : Place
+  pub tries : ℕ
+
+abbrev pub request : Task → Place → ℕ → Request
+request t start tries = record { task = t; start = start; tries = tries }
+
+-- along each walk from the start, with its end; a law of the bus says that there is one
+abbrev pub OnWalk : Request → Store → (List Row → WalkEnd → Type 0) → Type 0
+OnWalk r store Holds =
+    (walk : List Row) (end : WalkEnd) → IsWalk (rows_of (shelf_of r.task) store) r.start walk
+    → EndsBy (rows_of (shelf_of r.task) store) r.start walk end → Holds walk end
+
+-- what was before and after: the controller, as contracts see it, and what the output holds
+pub record Change : Type 0 where
+  pub seen : Seen
+  pub seen' : Seen
+  pub old : List ℕ
+  pub new : List ℕ
+
+abbrev pub change : Seen → Seen → List ℕ → List ℕ → Change
+change seen seen' old new = record { seen = seen; seen' = seen'; old = old; new = new }
 
 -- ---- used rows
 

@@ -26,7 +26,7 @@ use Rattle.ipmi_output.specs.Message.{ended_text, refused_text, inventory_text, 
 use Rattle.ipmi_output.specs.Received.{Received, ReceivesText}
 use Rattle.ipmi_commands.specs.Pages.{ArePages, pages_made, IsOpen}
 use Rattle.ipmi_output.specs.Sink.{TakesPart}
-use Rattle.ipmi_commands.specs.Plan.{plan_of, rewrite_plan, Outcome, IsAllowed, CountsSo, IsFine}
+use Rattle.ipmi_commands.specs.Plan.{Request, request, Change, change, OnWalk, plan_of, rewrite_plan, Outcome, IsAllowed, CountsSo, IsFine}
 use Rattle.ipmi_command_line.specs.Task.{name_of, shelf_of, start_by}
 use Rattle.ipmi_commands.specs.Plan as plan
 
@@ -91,12 +91,7 @@ outcome_text t plan.WriteFault = line_text (message_text WriteFault)
 
 -- ---- what is asked of a run, and what it leaves
 
--- a task, where it starts, and how many troubles a record may meet
-pub record Request : Type 0 where
-  pub task : Task
-  pub start : Place
-  pub tries : ℕ
-
+-- the request of a command
 abbrev pub request_of : CommandState → Request
 request_of command = record { task = command.task; start = start_by command.task command.from; tries = command.tries }
 
@@ -119,12 +114,6 @@ abbrev pub OnlySays : Effect → ℕ → Message → ℕ → Type 0
 OnlySays e status message n = (e.new ≡ e.old) × Says e.said e.said' status message n
 
 -- ---- a run
-
--- along each walk from the start, with its end; a law of the bus says that there is one
-abbrev pub OnWalk : Request → Store → (List Row → WalkEnd → Type 0) → Type 0
-OnWalk r store Holds =
-    (walk : List Row) (end : WalkEnd) → IsWalk (rows_of (shelf_of r.task) store) r.start walk
-    → EndsBy (rows_of (shelf_of r.task) store) r.start walk end → Holds walk end
 
 -- the output is allowed for the outcome by the plan of the task over a store
 abbrev pub AllowsAll : Request → Store → List ℕ → List ℕ → Outcome → Type 0
@@ -186,7 +175,7 @@ pub record IsPagedRun (r : Request) (sizes : List ℕ) (s s' : Seen) (e : Effect
   pub result : Stop
   pub outcome : Outcome
   pub ended : HasEnded r s s' e result outcome status
-  pub pages : ArePages r.task sizes r.start r.tries s s' e.old e.new result
+  pub pages : ArePages (request r.task r.start r.tries) sizes (change s s' e.old e.new) result
   pub allowed : s'.stores_added ≡ s.stores_added → AllowsOpen r s.store e.old e.new outcome
   pub calls : s'.stores_added ≡ s.stores_added → PagesWithin r s.store sizes s.calls s'.calls
 

@@ -3,7 +3,8 @@ ghost use Rattle.std.specs.Prelude.{◌≡◌, ℕ, true, List};
 ghost use Rattle.ipmi_bus.specs.Store.{Store, IsStore};
 ghost use Rattle.ipmi_command_line.specs.declared.command.Task.{Task};
 ghost use Rattle.ipmi_commands.specs.Plan.{Item, AreRowsOfBytes, RunEnd, Finished, AreTexts};
-ghost use Rattle.ipmi_commands.specs.Run.{is_built, AllowsAll, Request};
+ghost use Rattle.ipmi_commands.specs.Plan.{Request};
+ghost use Rattle.ipmi_commands.specs.Run.{is_built, AllowsAll};
 
 /// The texts that a task which can be run today prints for rows are one text.
 pub fn rows_have_one_text()

@@ -4,6 +4,7 @@ ghost use Rattle.ipmi_bus.specs.Seen.{IsHonest};
 ghost use Rattle.ipmi_commands.specs.Listing.{IsListing, ListingCalls, after_one, faults_of, most_for_one};
 ghost use Rattle.ipmi_command_line.specs.Task.{shelf_of};
 ghost use Rattle.ipmi_commands.specs.Run.{is_built};
+ghost use Rattle.ipmi_commands.specs.Listing.{course};
 
 use crate::piece::record_piece;
 use crate::stop::Stop;
@@ -39,8 +40,7 @@ pub(crate) fn list_records<C: Controller, O: Sink>(
     ensures faults { O.faults out.new ≡ O.faults out.old + faults_of result }
     ensures calls { ListingCalls (most_for_one cmd.now.task cmd.now.tries) cursor.old cursor.new (C.seen ctl.old) (C.seen ctl.new) }
     ensures honest { IsHonest (C.seen ctl.old) →
-        IsListing cmd.now.task cmd.now.tries most cursor.old cursor.new
-        (C.seen ctl.old) (C.seen ctl.new) (O.taken out.old) (O.taken out.new) result }
+        IsListing cmd.now.task cmd.now.tries most (course cursor.old cursor.new (C.seen ctl.old) (C.seen ctl.new) (O.taken out.old) (O.taken out.new)) result }
 {
     let mut left = most;
     'records: loop {

@@ -9,6 +9,7 @@ ghost use Rattle.ipmi_commands.specs.Listing.{faults_of, most_on_walk, IsPlace};
 ghost use Rattle.ipmi_command_line.specs.Task.{start_by};
 ghost use Rattle.ipmi_commands.specs.Run.{is_built};
 ghost use Rattle.ipmi_commands.specs.Pages.{listing_cursor, start_at, wants_none, pages_made, IsPage, ArePages};
+ghost use Rattle.ipmi_commands.specs.Plan.{request, change};
 
 use crate::listing::list_records;
 use crate::stop::Stop;
@@ -83,8 +84,7 @@ pub(crate) fn list_page<C: Controller, O: Sink>(
     ensures calls { (C.seen ctl.new).calls ≤ (C.seen ctl.old).calls + most_on_walk cmd.now.task cmd.now.tries }
     ensures none { most ≡ Some 0 → C.seen ctl.new ≡ C.seen ctl.old }
     ensures honest { IsHonest (C.seen ctl.old) →
-        IsPage cmd.now.task most place result.resume_at cmd.now.tries
-        (C.seen ctl.old) (C.seen ctl.new) (O.taken out.old) (O.taken out.new) result.stop }
+        IsPage (request cmd.now.task place cmd.now.tries) most result.resume_at (change (C.seen ctl.old) (C.seen ctl.new) (O.taken out.old) (O.taken out.new)) result.stop }
 {
     if wants_none(most) {
         return Page {
@@ -126,8 +126,7 @@ pub(crate) fn list_pages<C: Controller, O: Sink>(
     ensures faults { O.faults out.new ≡ O.faults out.old + faults_of result }
     ensures calls { (C.seen ctl.new).calls ≤ (C.seen ctl.old).calls + pages_made sizes.now * most_on_walk cmd.now.task cmd.now.tries }
     ensures honest { IsHonest (C.seen ctl.old) →
-        ArePages cmd.now.task sizes.now (start_by cmd.now.task cmd.now.from) cmd.now.tries
-        (C.seen ctl.old) (C.seen ctl.new) (O.taken out.old) (O.taken out.new) result }
+        ArePages (request cmd.now.task (start_by cmd.now.task cmd.now.from) cmd.now.tries) sizes.now (change (C.seen ctl.old) (C.seen ctl.new) (O.taken out.old) (O.taken out.new)) result }
 {
     let mut place = first_place(cmd);
     'pages: for size in sizes {

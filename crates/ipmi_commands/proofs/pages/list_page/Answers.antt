@@ -7,6 +7,7 @@ use Rattle.ipmi_commands.specs.declared.stop.Stop.TheVariants as stop
 use Rattle.ipmi_commands.specs.Pages.{IsPage}
 use Rattle.ipmi_commands.proofs.PageLemmas.{some_wanted, none_wanted, start_of_place, page_of_none, page_without, page_without_memory, page_by_cursor}
 use Rattle.ipmi_commands.proofs.pages.list_page.Goals as goal
+use Rattle.ipmi_commands.specs.Plan.{request, change}
 
 pub returns-clause-honest : goal.returns-clause-honest
 returns-clause-honest g c = λ h.
@@ -14,8 +15,7 @@ returns-clause-honest g c = λ h.
     let fresh = c.in-Ok-start_cursor.ensures.fresh in
     let at = start_of_place c.args.place c.in-Ok.from (sym c.start_at.ensures.value ∙ c.in-Ok.is) in
     subst
-    (λ (p : Place). IsPage c.args.cmd.now.task c.args.most c.args.place p c.args.cmd.now.tries (g.C.Controller.seen c.args.ctl.now) (g.C.Controller.seen c.list_records-stop.new.ctl) (g.O.Sink.taken c.args.out.now)
-    (g.O.Sink.taken c.list_records-stop.new.out) c.list_records-stop.result)
+    (λ (p : Place). IsPage (request c.args.cmd.now.task c.args.place c.args.cmd.now.tries) c.args.most p (change (g.C.Controller.seen c.args.ctl.now) (g.C.Controller.seen c.list_records-stop.new.ctl) (g.O.Sink.taken c.args.out.now) (g.O.Sink.taken c.list_records-stop.new.out)) c.list_records-stop.result)
     (sym c.resume_at.ensures)
     (page_by_cursor c.args.cmd.now.task c.args.most c.args.place c.args.cmd.now.tries begun c.list_records-stop.new.cursor _ _ _ _ c.list_records-stop.result (some_wanted c.args.most (sym c.wants_none.ensures ∙ c.if-wants_none.false))
     (ap (λ (x : CursorState). x.reservation) fresh) c.in-Ok-start_cursor.ensures.some
@@ -24,7 +24,7 @@ returns-clause-honest g c = λ h.
 pub returns-then-wants_none-clause-honest : goal.returns-then-wants_none-clause-honest
 returns-then-wants_none-clause-honest g c = λ h.
     subst
-    (λ (most : Option ℕ). IsPage c.args.cmd.now.task most c.args.place c.args.place c.args.cmd.now.tries (g.C.Controller.seen c.args.ctl.now) (g.C.Controller.seen c.args.ctl.now) (g.O.Sink.taken c.args.out.now) (g.O.Sink.taken c.args.out.now) stop.Done)
+    (λ (most : Option ℕ). IsPage (request c.args.cmd.now.task c.args.place c.args.cmd.now.tries) most c.args.place (change (g.C.Controller.seen c.args.ctl.now) (g.C.Controller.seen c.args.ctl.now) (g.O.Sink.taken c.args.out.now) (g.O.Sink.taken c.args.out.now)) stop.Done)
     (sym (none_wanted c.args.most (sym c.wants_none.ensures ∙ c.if-wants_none.true))) (page_of_none _ _ _ _ _ h)
 
 pub returns-in-Err-clause-honest : goal.returns-in-Err-clause-honest

@@ -6,6 +6,7 @@ use Rattle.ipmi_commands.specs.Pages.{IsPage, pages_made}
 use Rattle.ipmi_command_line.specs.Task.{start_by}
 use Rattle.ipmi_commands.proofs.PageLemmas.{LeadsTo, page_leads, last_leads, done, calls_of_page, calls_of_all}
 use Rattle.ipmi_commands.proofs.pages.list_pages.Goals as goal
+use Rattle.ipmi_commands.specs.Plan.{request, change}
 
 pub returns-then-not-is_done : goal.returns-then-not-is_done
 returns-then-not-is_done g c =
@@ -55,8 +56,7 @@ pages-preserved g c =
           let now = kept.3 h in
           let page_done =
           subst
-          (λ (st : Stop). IsPage c.args.cmd.now.task (Some size) c.pages.place c.list_page-page.result.resume_at c.args.cmd.now.tries (g.C.Controller.seen c.pages.ctl) (g.C.Controller.seen c.list_page-page.new.ctl) (g.O.Sink.taken c.pages.out)
-          (g.O.Sink.taken c.list_page-page.new.out) st)
+          (λ (st : Stop). IsPage (request c.args.cmd.now.task c.pages.place c.args.cmd.now.tries) (Some size) c.list_page-page.result.resume_at (change (g.C.Controller.seen c.pages.ctl) (g.C.Controller.seen c.list_page-page.new.ctl) (g.O.Sink.taken c.pages.out) (g.O.Sink.taken c.list_page-page.new.out)) st)
           is_done (page.honest now.0) in (
             page_done.stays.honest,
             page_leads c.args.cmd.now.task c.args.sizes.now left size (start_by c.args.cmd.now.task c.args.cmd.now.from) c.pages.place c.list_page-page.result.resume_at c.args.cmd.now.tries _ _ _ _ _ _

@@ -8,6 +8,7 @@ use Rattle.ipmi_commands.specs.Run.{EndsSo, IsRun, effect, is_built, request_of,
 use Rattle.ipmi_output.specs.Received.{ReceivesText}
 use Rattle.ipmi_commands.proofs.PlanLemmas.{goes_once, run_by_listing}
 use Rattle.ipmi_commands.proofs.runs.run_to_message_sink.Goals as goal
+use Rattle.ipmi_commands.specs.Plan.{request, change}
 
 pub returns-clause-runs : goal.returns-clause-runs
 returns-clause-runs g c =
@@ -27,10 +28,10 @@ returns-clause-runs g c =
       built = λ b honest.
           let page =
           subst
-          (λ (most : Option ℕ). IsPage cmd.task most (start_by cmd.task cmd.from) c.list_page-stop.result.resume_at cmd.tries s s' out.old out.new stop)
+          (λ (most : Option ℕ). IsPage (request cmd.task (start_by cmd.task cmd.from) cmd.tries) most c.list_page-stop.result.resume_at (change s s' out.old out.new) stop)
           limit
           (subst
-          (λ (place : Place). IsPage cmd.task c.limit-most.result place c.list_page-stop.result.resume_at cmd.tries s s' out.old out.new stop)
+          (λ (place : Place). IsPage (request cmd.task place cmd.tries) c.limit-most.result c.list_page-stop.result.resume_at (change s s' out.old out.new) stop)
           start
           (c.list_page-stop.ensures.honest honest)) in
           subst
