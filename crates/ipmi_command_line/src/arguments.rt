@@ -39,8 +39,10 @@ fn command_line<'a>(alloc: Global) -> Result<Command<'a>, AllocError>
 
 /// The options and words of a command line, the first word of which is the program's name.
 pub(crate) fn arguments<'a>(alloc: Global, words: &'a Words) -> Result<ArgMatches<'a>, UsageFault>
-    ensures ok { IfOk result (λ m. (is_taken words.entry.now ≡ true) × (rows_of (found_of m) ≡ rows_of_words words.entry.now)) }
-    ensures err { IfErr result (λ e. (e ≡ UsageFault.Memory) ⊎ ((e ≡ UsageFault.Line) × (is_taken words.entry.now ≡ false))) }
+    ensures ok { IfOk result (λ m. (is_taken words.entry.now ≡ true) ×
+        (rows_of (found_of m) ≡ rows_of_words words.entry.now)) }
+    ensures err { IfErr result (λ e. (e ≡ UsageFault.Memory) ⊎
+        ((e ≡ UsageFault.Line) × (is_taken words.entry.now ≡ false))) }
 {
     match command_line(alloc)?.try_get_matches_from(words.as_slice()) {
         Ok(matches) => Ok(matches),

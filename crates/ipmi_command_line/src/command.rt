@@ -220,7 +220,14 @@ impl Command {
     /// A command of numbers in their ranges.
     pub fn new(task: Task, from: Option<u16>, part: u8, tries: u8, image: Option<Word>) -> Command
         requires { IsCommand task from part }
-        ensures { result ≡ record { task = task; from = from; part = part; tries = tries; image = image } }
+        ensures { result ≡ record {
+          task = task;
+          from = from;
+          part = part;
+          tries = tries;
+          image =
+              image;
+        } }
     {
         Command {
             task,
@@ -360,7 +367,8 @@ fn command_of_matches(alloc: Global, matches: &ArgMatches<'_>) -> Result<Command
 /// The command that the words mean, memory aside. The first of them is the program's name.
 pub fn command_of(alloc: Global, words: &Words) -> Result<Command, UsageFault>
     requires { 0 < length words.now }
-    ensures { MatchResult result (λ c. meaning_of words.now ≡ Ok c) (λ e. (e ≡ UsageFault.Memory) ⊎ (meaning_of words.now ≡ Err e)) }
+    ensures { MatchResult result (λ c. meaning_of words.now ≡ Ok c)
+        (λ e. (e ≡ UsageFault.Memory) ⊎ (meaning_of words.now ≡ Err e)) }
 {
     match arguments(alloc, words) {
         Ok(matches) => command_of_matches(alloc, &matches),

@@ -19,8 +19,10 @@ pub fn rows_have_one_text()
 
 /// So over a well-formed store a finished run of such a task leaves one output, and ends in one way.
 pub fn finished_runs_are_one()
-    ensures { (r : Request) (store : Store) (old a b : List ℕ) (e f : RunEnd) → is_built r.task ≡ true →
-        IsStore store → AllowsAll r store old a (Finished e) → AllowsAll r store old b (Finished f) → (a ≡ b) × (e ≡ f) }
+    ensures { (r : Request) (store : Store) (old a b : List ℕ) (e f : RunEnd) →
+        is_built r.task ≡ true →
+        IsStore store → AllowsAll r store old a (Finished e) →
+        AllowsAll r store old b (Finished f) → (a ≡ b) × (e ≡ f) }
 {
     ipmi_records::laws::one_sdr_line();
     ipmi_records::laws::one_extended_line();

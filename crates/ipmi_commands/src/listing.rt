@@ -38,9 +38,11 @@ pub(crate) fn list_records<C: Controller, O: Sink>(
     requires shelf { cursor.old.shelf ≡ shelf_of cmd.now.task }
     requires tries { cursor.old.tries ≡ cmd.now.tries }
     ensures faults { O.faults out.new ≡ O.faults out.old + faults_of result }
-    ensures calls { ListingCalls (most_for_one cmd.now.task cmd.now.tries) cursor.old cursor.new (C.seen ctl.old) (C.seen ctl.new) }
+    ensures calls { ListingCalls (most_for_one cmd.now.task cmd.now.tries) cursor.old cursor.new
+        (C.seen ctl.old) (C.seen ctl.new) }
     ensures honest { IsHonest (C.seen ctl.old) →
-        IsListing cmd.now.task cmd.now.tries most (course cursor.old cursor.new (C.seen ctl.old) (C.seen ctl.new) (O.taken out.old) (O.taken out.new)) result }
+        IsListing cmd.now.task cmd.now.tries most (course cursor.old cursor.new (C.seen ctl.old)
+        (C.seen ctl.new) (O.taken out.old) (O.taken out.new)) result }
 {
     let mut left = most;
     'records: loop {

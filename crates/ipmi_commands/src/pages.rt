@@ -61,7 +61,8 @@ fn wants_none(most: Option<u32>) -> bool
 /// the command says.
 fn start_cursor(alloc: Global, cmd: &Command, from: Option<u16>) -> Result<Cursor, AllocError>
     requires { ForSome from (λ id. (0 < id) × (id < 65535)) }
-    ensures stands { IfOk result (λ cursor. (rows walk : List Row) → StandsAt rows (start_of from) walk 0 cursor) }
+    ensures stands { IfOk result (λ cursor. (rows walk : List Row) →
+        StandsAt rows (start_of from) walk 0 cursor) }
     ensures fresh { IfOk result (λ cursor. cursor ≡ listing_cursor cmd.now from) }
     ensures some { IfOk result (λ cursor. 0 < cursor.part) }
 {
@@ -81,10 +82,12 @@ pub(crate) fn list_page<C: Controller, O: Sink>(
     requires place { IsPlace place }
     ensures faults { O.faults out.new ≡ O.faults out.old + faults_of result.stop }
     ensures place { IsPlace result.resume_at }
-    ensures calls { (C.seen ctl.new).calls ≤ (C.seen ctl.old).calls + most_on_walk cmd.now.task cmd.now.tries }
+    ensures calls { (C.seen ctl.new).calls ≤ (C.seen ctl.old).calls + most_on_walk cmd.now.task
+        cmd.now.tries }
     ensures none { most ≡ Some 0 → C.seen ctl.new ≡ C.seen ctl.old }
     ensures honest { IsHonest (C.seen ctl.old) →
-        IsPage (request cmd.now.task place cmd.now.tries) most result.resume_at (change (C.seen ctl.old) (C.seen ctl.new) (O.taken out.old) (O.taken out.new)) result.stop }
+        IsPage (request cmd.now.task place cmd.now.tries) most result.resume_at
+        (change (C.seen ctl.old) (C.seen ctl.new) (O.taken out.old) (O.taken out.new)) result.stop }
 {
     if wants_none(most) {
         return Page {
@@ -124,9 +127,11 @@ pub(crate) fn list_pages<C: Controller, O: Sink>(
 ) -> Stop
     requires { is_built cmd.now.task ≡ true }
     ensures faults { O.faults out.new ≡ O.faults out.old + faults_of result }
-    ensures calls { (C.seen ctl.new).calls ≤ (C.seen ctl.old).calls + pages_made sizes.now * most_on_walk cmd.now.task cmd.now.tries }
+    ensures calls { (C.seen ctl.new).calls ≤ (C.seen ctl.old).calls + pages_made sizes.now *
+        most_on_walk cmd.now.task cmd.now.tries }
     ensures honest { IsHonest (C.seen ctl.old) →
-        ArePages (request cmd.now.task (start_by cmd.now.task cmd.now.from) cmd.now.tries) sizes.now (change (C.seen ctl.old) (C.seen ctl.new) (O.taken out.old) (O.taken out.new)) result }
+        ArePages (request cmd.now.task (start_by cmd.now.task cmd.now.from) cmd.now.tries) sizes.now
+        (change (C.seen ctl.old) (C.seen ctl.new) (O.taken out.old) (O.taken out.new)) result }
 {
     let mut place = first_place(cmd);
     'pages: for size in sizes {

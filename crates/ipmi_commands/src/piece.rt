@@ -42,7 +42,8 @@ fn entry_bytes(bytes: &[u8]) -> [u8; 16]
 /// The line of an entry of the event log.
 fn entry_line(alloc: Global, lent: &Record<'_>) -> Result<String, AllocError>
     requires { length lent.now.bytes.now ≡ 16 }
-    ensures { IfOk result (λ text. IsSelLine lent.now.id (sel_view_of lent.now.bytes.now) (string_bytes text)) }
+    ensures { IfOk result (λ text. IsSelLine lent.now.id (sel_view_of lent.now.bytes.now)
+        (string_bytes text)) }
 {
     let entry = entry_bytes(lent.bytes);
     sel_line(alloc, lent.id, &SelView::read(&entry))
@@ -51,7 +52,8 @@ fn entry_line(alloc: Global, lent: &Record<'_>) -> Result<String, AllocError>
 /// The block of an entry of the event log.
 fn entry_block(alloc: Global, lent: &Record<'_>) -> Result<String, AllocError>
     requires { length lent.now.bytes.now ≡ 16 }
-    ensures { IfOk result (λ text. IsSelBlock lent.now.id (sel_view_of lent.now.bytes.now) (string_bytes text)) }
+    ensures { IfOk result (λ text. IsSelBlock lent.now.id (sel_view_of lent.now.bytes.now)
+        (string_bytes text)) }
 {
     let entry = entry_bytes(lent.bytes);
     sel_block(alloc, lent.id, &SelView::read(&entry))
@@ -81,7 +83,8 @@ fn reading_for<C: Controller>(
     tries: u8,
 ) -> Result<Option<Reading>, Ended>
     ensures calls { (C.seen ctl.new).calls ≤ (C.seen ctl.old).calls + (tries + 1) }
-    ensures honest { IsHonest (C.seen ctl.old) → ReadsFor id view.now tries (C.seen ctl.old) (C.seen ctl.new) result }
+    ensures honest { IsHonest (C.seen ctl.old) → ReadsFor id view.now tries (C.seen ctl.old)
+        (C.seen ctl.new) result }
 {
     match view.reading_of() {
         None => Ok(None),
@@ -117,7 +120,8 @@ fn listed_line<C: Controller>(
     ensures calls { (C.seen ctl.new).calls ≤ (C.seen ctl.old).calls + (tries + 1) }
     ensures unwritten { IfErr result (λ stop. faults_of stop ≡ 0) }
     ensures honest { let row = row_of_record lent.now in IsHonest (C.seen ctl.old) →
-        Finds (λ store text. IsListedOfKind form kind store row text) (listed_spots kind row) tries (C.seen ctl.old) (C.seen ctl.new) result }
+        Finds (λ store text. IsListedOfKind form kind store row text) (listed_spots kind row) tries
+        (C.seen ctl.old) (C.seen ctl.new) result }
 {
     if !is_of_kind(kind, lent.bytes[3]) {
         return Ok(String::new(alloc));
@@ -138,11 +142,14 @@ pub(crate) fn record_piece<C: Controller>(
     lent: &Record<'_>,
 ) -> Result<String, Stop>
     requires built { is_built cmd.now.task ≡ true }
-    requires whole { length lent.now.bytes.now ≡ whole_len (shelf_of cmd.now.task) lent.now.bytes.now }
-    ensures calls { (C.seen ctl.new).calls ≤ (C.seen ctl.old).calls + most_after cmd.now.task cmd.now.tries }
+    requires whole { length lent.now.bytes.now ≡ whole_len (shelf_of cmd.now.task)
+        lent.now.bytes.now }
+    ensures calls { (C.seen ctl.new).calls ≤ (C.seen ctl.old).calls + most_after cmd.now.task
+        cmd.now.tries }
     ensures unwritten { IfErr result (λ stop. faults_of stop ≡ 0) }
     ensures honest { IsHonest (C.seen ctl.old) →
-        FindsPiece cmd.now.task cmd.now.tries (row_of_record lent.now) (C.seen ctl.old) (C.seen ctl.new) result }
+        FindsPiece cmd.now.task cmd.now.tries (row_of_record lent.now) (C.seen ctl.old)
+        (C.seen ctl.new) result }
 {
     match cmd.task() {
         Task::Hex => Ok(record_line(alloc, lent)?),

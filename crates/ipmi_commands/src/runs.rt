@@ -91,7 +91,8 @@ fn say_stop<E: MessageSink>(task: &Task, stop: Stop, err: &mut E)
 /// Says why a listing of the task stopped, and gives its exit status.
 fn report<E: MessageSink>(task: &Task, stop: Stop, err: &mut E) -> u8
     ensures status { result ≡ stop_status stop }
-    ensures message { ReceivesText (E.received err.old) (E.received err.new) (stop_text task.now stop) }
+    ensures message { ReceivesText (E.received err.old) (E.received err.new)
+        (stop_text task.now stop) }
 {
     say_stop(task, stop, err);
     stop_status(stop)
@@ -126,7 +127,8 @@ fn image_status(fault: ImageFault) -> u8
 
 /// Says why the image is not read, and gives the exit status of that.
 fn report_image<E: MessageSink>(fault: ImageFault, err: &mut E) -> u8
-    ensures { Says (E.received err.old) (E.received err.new) result (message.Image fault) (fault_status fault) }
+    ensures { Says (E.received err.old) (E.received err.new) result (message.Image fault)
+        (fault_status fault) }
 {
     say(err, Message::Image(fault));
     image_status(fault)
@@ -144,7 +146,8 @@ pub fn run<C: Controller, O: Sink, E: Write>(
 ) -> u8
     ensures faults { O.faults out.new ≡ O.faults out.old + (if result == 4 then 1 else 0) }
     ensures runs { Runs cmd.now (C.seen ctl.old) (C.seen ctl.new)
-        (effect (O.taken out.old) (O.taken out.new) (of_writer (E.contents err.old)) (of_writer (E.contents err.new))) result }
+        (effect (O.taken out.old) (O.taken out.new) (of_writer (E.contents err.old))
+        (of_writer (E.contents err.new))) result }
 {
     run_to_message_sink(alloc, ctl, cmd, out, err)
 }
@@ -160,7 +163,8 @@ pub fn run_to_message_sink<C: Controller, O: Sink, E: MessageSink>(
 ) -> u8
     ensures faults { O.faults out.new ≡ O.faults out.old + (if result == 4 then 1 else 0) }
     ensures runs { Runs cmd.now (C.seen ctl.old) (C.seen ctl.new)
-        (effect (O.taken out.old) (O.taken out.new) (E.received err.old) (E.received err.new)) result }
+        (effect (O.taken out.old) (O.taken out.new) (E.received err.old) (E.received err.new))
+        result }
 {
     if !is_built(cmd.task()) {
         return report_usage(err);
@@ -182,11 +186,15 @@ pub fn run_pages<C: Controller, O: Sink, E: MessageSink>(
 ) -> u8
     requires { is_listing cmd.now.task ≡ true }
     ensures faults { O.faults out.new ≡ O.faults out.old + (if result == 4 then 1 else 0) }
-    ensures calls { (C.seen ctl.new).calls ≤ (C.seen ctl.old).calls + pages_made pages.now * most_calls cmd.now.task cmd.now.tries }
+    ensures calls { (C.seen ctl.new).calls ≤ (C.seen ctl.old).calls + pages_made pages.now *
+        most_calls cmd.now.task cmd.now.tries }
     ensures ends { EndsSo cmd.now.task
-        (effect (O.taken out.old) (O.taken out.new) (E.received err.old) (E.received err.new)) result }
-    ensures honest { IsHonest (C.seen ctl.old) → IsPagedRun (request_of cmd.now) pages.now (C.seen ctl.old) (C.seen ctl.new)
-        (effect (O.taken out.old) (O.taken out.new) (E.received err.old) (E.received err.new)) result }
+        (effect (O.taken out.old) (O.taken out.new) (E.received err.old) (E.received err.new))
+        result }
+    ensures honest { IsHonest (C.seen ctl.old) → IsPagedRun (request_of cmd.now) pages.now
+        (C.seen ctl.old) (C.seen ctl.new)
+        (effect (O.taken out.old) (O.taken out.new) (E.received err.old) (E.received err.new))
+        result }
 {
     let stop = list_pages(alloc, ctl, cmd, pages, out);
     report(cmd.task(), stop, err)
@@ -203,7 +211,8 @@ pub fn answer<O: Sink, E: MessageSink>(
 ) -> u8
     ensures faults { O.faults out.new ≡ O.faults out.old + (if result == 4 then 1 else 0) }
     ensures answers { AnswersLine line.now (store_of_image image.now)
-        (effect (O.taken out.old) (O.taken out.new) (E.received err.old) (E.received err.new)) result }
+        (effect (O.taken out.old) (O.taken out.new) (E.received err.old) (E.received err.new))
+        result }
 {
     match line {
         Ok(cmd) => answer_command(alloc, cmd, image, out, err),
@@ -225,7 +234,8 @@ fn answer_command<O: Sink, E: MessageSink>(
 ) -> u8
     ensures faults { O.faults out.new ≡ O.faults out.old + (if result == 4 then 1 else 0) }
     ensures answers { AnswersCommand cmd.now (store_of_image image.now)
-        (effect (O.taken out.old) (O.taken out.new) (E.received err.old) (E.received err.new)) result }
+        (effect (O.taken out.old) (O.taken out.new) (E.received err.old) (E.received err.new))
+        result }
 {
     if is_rewrite(cmd.task()) {
         return rewrite(alloc, image, out, err);
@@ -243,7 +253,8 @@ fn answer_command<O: Sink, E: MessageSink>(
 fn rewrite<O: Sink, E: MessageSink>(alloc: Global, image: &[u8], out: &mut O, err: &mut E) -> u8
     ensures faults { O.faults out.new ≡ O.faults out.old + (if result == 4 then 1 else 0) }
     ensures answers { AnswersRewrite (store_of_image image.now)
-        (effect (O.taken out.old) (O.taken out.new) (E.received err.old) (E.received err.new)) result }
+        (effect (O.taken out.old) (O.taken out.new) (E.received err.old) (E.received err.new))
+        result }
 {
     match Image::read(alloc, image) {
         Ok(image) => {

@@ -127,7 +127,8 @@ fn spells_fields(bytes: &[u8]) -> bool
 /// The field of this place, from 0 on, of those that the bytes spell.
 fn nth_field(bytes: &[u8], place: usize) -> Option<Field<'_>>
     requires { IsTrue (is_some (fields_in bytes.now)) }
-    ensures field { option_map field_of result ≡ slice_get (unwrap_or (fields_in bytes.now) []) place }
+    ensures field { option_map field_of result ≡ slice_get (unwrap_or (fields_in bytes.now) [])
+        place }
     ensures code { IfSome result (λ field. field.code < 4) }
 {
     let mut rest = bytes;
@@ -147,7 +148,8 @@ fn nth_field(bytes: &[u8], place: usize) -> Option<Field<'_>>
 /// The whole area that begins at the offset, whatever its fields are.
 fn whole_area(bytes: &[u8], offset: usize) -> Result<&[u8], AreaFault>
     requires { offset ≤ 2040 }
-    ensures ok { IfOk result (λ area. (area_fault offset bytes.now ≡ None) × (area.now ≡ area_at offset bytes.now)) }
+    ensures ok { IfOk result (λ area. (area_fault offset bytes.now ≡ None) ×
+        (area.now ≡ area_at offset bytes.now)) }
     ensures room { IfOk result (λ area. 8 ≤ length area.now) }
     ensures err { IfErr result (λ fault. area_fault offset bytes.now ≡ Some fault) }
 {

@@ -11,12 +11,14 @@ pub fn one_list_of_fields()
 
 /// Bytes are at most one list of records, with one end.
 pub fn one_list_of_records()
-    ensures { (bytes : List ℕ) (a b : List MultiRecord) (e f : RecordsEnd) → IsRecordList bytes a e → IsRecordList bytes b f → SameList a b e f }
+    ensures { (bytes : List ℕ) (a b : List MultiRecord) (e f : RecordsEnd) →
+        IsRecordList bytes a e → IsRecordList bytes b f → SameList a b e f }
 {}
 
 /// An inventory has at most one text, so what `print_fru` gives is the only one.
 pub fn one_fru_text()
-    ensures { (bytes text other : List ℕ) → IsFruText bytes text → IsFruText bytes other → text ≡ other }
+    ensures { (bytes text other : List ℕ) → IsFruText bytes text → IsFruText bytes other →
+        text ≡ other }
 {
     ipmi_text::laws::one_decimal_of_a_value();
     ipmi_text::laws::one_minutes_text();

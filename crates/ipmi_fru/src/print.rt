@@ -122,7 +122,8 @@ fn multi_fault_name(fault: MultiFault) -> &'static str
 
 /// Appends a line of a label and a text.
 fn push_line(text: &mut String, label: &str, value: &str) -> Result<(), AllocError>
-    ensures { OnOk result (string_bytes text.new ≡ string_bytes text.old ++ labelled label.now value.now) }
+    ensures { OnOk result (string_bytes text.new ≡ string_bytes text.old ++ labelled label.now
+        value.now) }
 {
     text.push_str(label)?;
     text.push_str(": ")?;
@@ -139,7 +140,8 @@ fn push_field(
     field: Field,
 ) -> Result<(), AllocError>
     requires { field.code < 4 }
-    ensures { OnOk result (string_bytes text.new ≡ string_bytes text.old ++ field_line label.now (fru_text_of field.entry.code language field.entry.bytes.now)) }
+    ensures { OnOk result (string_bytes text.new ≡ string_bytes text.old ++ field_line label.now
+        (fru_text_of field.entry.code language field.entry.bytes.now)) }
 {
     let value = fru_text(alloc, field.code, language, field.bytes)?;
     if value.is_empty() {
@@ -157,7 +159,9 @@ fn push_fields(
     fields: &[u8],
 ) -> Result<(), AllocError>
     requires { IsTrue (is_some (fields_in fields.now)) }
-    ensures { OnOk result (string_bytes text.new ≡ string_bytes text.old ++ field_lines language (map (λ label. label.now) labels.now.fields.now) labels.now.extra.now (unwrap_or (fields_in fields.now) [])) }
+    ensures { OnOk result (string_bytes text.new ≡ string_bytes text.old ++ field_lines language
+        (map (λ label. label.now) labels.now.fields.now) labels.now.extra.now
+        (unwrap_or (fields_in fields.now) [])) }
 {
     let mut left = labels.fields.iter();
     let mut rest = fields;

@@ -38,14 +38,16 @@ pub enum Message<'a> {
 /// Says the message, as a line. Where standard error does not take it all, nothing else changes: there is nowhere left
 /// to tell it.
 pub fn say<E: MessageSink>(err: &mut E, message: Message<'_>)
-    ensures { ReceivesText (E.received err.old) (E.received err.new) (line_text (message_text message.entry)) }
+    ensures { ReceivesText (E.received err.old) (E.received err.new)
+        (line_text (message_text message.entry)) }
 {
     let _ = write_message(err, message);
 }
 
 /// Writes the message and a line feed.
 pub fn write_message<E: MessageSink>(err: &mut E, message: Message<'_>) -> Result<(), SinkFault>
-    ensures { WritesAll (E.received err.old) (E.received err.new) result (line_text (message_text message.entry)) }
+    ensures { WritesAll (E.received err.old) (E.received err.new) result
+        (line_text (message_text message.entry)) }
 {
     match message {
         Message::Usage => write_line(
@@ -67,7 +69,8 @@ pub fn write_message<E: MessageSink>(err: &mut E, message: Message<'_>) -> Resul
 
 /// Writes why a listing ended.
 fn write_ended<E: MessageSink>(err: &mut E, ended: Ended) -> Result<(), SinkFault>
-    ensures { WritesAll (E.received err.old) (E.received err.new) result (line_text (ended_text ended)) }
+    ensures { WritesAll (E.received err.old) (E.received err.new) result
+        (line_text (ended_text ended)) }
 {
     match ended {
         Ended::Cycle(id) => write_line(err, &[b"cycle at ", &word_h(id)]),
@@ -89,7 +92,8 @@ fn write_ended<E: MessageSink>(err: &mut E, ended: Ended) -> Result<(), SinkFaul
 
 /// Writes why an inventory was not read.
 fn write_inventory<E: MessageSink>(err: &mut E, id: u8, ended: FruEnded) -> Result<(), SinkFault>
-    ensures { WritesAll (E.received err.old) (E.received err.new) result (line_text (inventory_text id ended)) }
+    ensures { WritesAll (E.received err.old) (E.received err.new) result
+        (line_text (inventory_text id ended)) }
 {
     match ended {
         FruEnded::Memory => write_line(err, &[b"out of memory"]),
@@ -106,7 +110,8 @@ fn write_refused_inventory<E: MessageSink>(
     id: u8,
     code: &[u8],
 ) -> Result<(), SinkFault>
-    ensures { WritesAll (E.received err.old) (E.received err.new) result (line_text (codes "fru " ++ (decimal id ++ (codes " refused with code " ++ code.now)))) }
+    ensures { WritesAll (E.received err.old) (E.received err.new) result
+        (line_text (codes "fru " ++ (decimal id ++ (codes " refused with code " ++ code.now)))) }
 {
     let mut buffer = Buffer::new();
     let number = buffer.format(id).as_bytes();
@@ -115,7 +120,8 @@ fn write_refused_inventory<E: MessageSink>(
 
 /// Writes this about an inventory.
 fn write_about_inventory<E: MessageSink>(err: &mut E, id: u8, what: &[u8]) -> Result<(), SinkFault>
-    ensures { WritesAll (E.received err.old) (E.received err.new) result (line_text (codes "fru " ++ (decimal id ++ what.now))) }
+    ensures { WritesAll (E.received err.old) (E.received err.new) result
+        (line_text (codes "fru " ++ (decimal id ++ what.now))) }
 {
     let mut buffer = Buffer::new();
     let number = buffer.format(id).as_bytes();
@@ -124,7 +130,8 @@ fn write_about_inventory<E: MessageSink>(err: &mut E, id: u8, what: &[u8]) -> Re
 
 /// Writes why the input is no image.
 fn write_image_fault<E: MessageSink>(err: &mut E, fault: ImageFault) -> Result<(), SinkFault>
-    ensures { WritesAll (E.received err.old) (E.received err.new) result (line_text (image_fault_text fault)) }
+    ensures { WritesAll (E.received err.old) (E.received err.new) result
+        (line_text (image_fault_text fault)) }
 {
     match fault {
         ImageFault::Memory => write_line(err, &[b"out of memory"]),
@@ -143,7 +150,8 @@ fn write_image_fault<E: MessageSink>(err: &mut E, fault: ImageFault) -> Result<(
 
 /// Writes what is wrong with this line of an image.
 fn write_line_fault<E: MessageSink>(err: &mut E, line: usize, what: &[u8]) -> Result<(), SinkFault>
-    ensures { WritesAll (E.received err.old) (E.received err.new) result (line_text (line_fault_text line what.now)) }
+    ensures { WritesAll (E.received err.old) (E.received err.new) result
+        (line_text (line_fault_text line what.now)) }
 {
     let mut buffer = Buffer::new();
     let number = buffer.format(line).as_bytes();
@@ -152,7 +160,8 @@ fn write_line_fault<E: MessageSink>(err: &mut E, line: usize, what: &[u8]) -> Re
 
 /// Writes the parts and a line feed.
 fn write_line<E: MessageSink>(err: &mut E, parts: &[&[u8]]) -> Result<(), SinkFault>
-    ensures { WritesAll (E.received err.old) (E.received err.new) result (line_text (joined_parts parts.now)) }
+    ensures { WritesAll (E.received err.old) (E.received err.new) result
+        (line_text (joined_parts parts.now)) }
 {
     write_parts(err, parts)?;
     offer_all(err, b"\n")

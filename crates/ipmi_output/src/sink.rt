@@ -81,7 +81,8 @@ impl<W: Write> Written<W> {
 
     /// The writer again. Where it tells its bytes, as a `Vec<u8>` does, it has got those taken.
     pub fn into_inner(self) -> W
-        ensures { ((w : W) → IsSome (W.contents w)) → W.contents result ≡ Some (⟦<Written<W> as Sink>⟧.taken self) }
+        ensures { ((w : W) → IsSome (W.contents w)) →
+            W.contents result ≡ Some (⟦<Written<W> as Sink>⟧.taken self) }
     {
         let Written {
             writer,
@@ -94,8 +95,10 @@ impl<W: Write> Written<W> {
 
 /// Writes all the bytes, by as many calls as it takes, until one fails or takes none.
 pub fn write_all<O: Sink>(out: &mut O, bytes: &[u8]) -> Result<(), SinkFault>
-    ensures ok { OnOk result ((O.taken out.new ≡ O.taken out.old ++ bytes.now) × (O.faults out.new ≡ O.faults out.old)) }
-    ensures err { OnErr result (TakesPart (O.taken out.old) (O.taken out.new) bytes.now × (O.faults out.new ≡ O.faults out.old + 1)) }
+    ensures ok { OnOk result ((O.taken out.new ≡ O.taken out.old ++ bytes.now) ×
+        (O.faults out.new ≡ O.faults out.old)) }
+    ensures err { OnErr result (TakesPart (O.taken out.old) (O.taken out.new) bytes.now ×
+        (O.faults out.new ≡ O.faults out.old + 1)) }
 {
     let mut done = 0;
     while done < bytes.len() {

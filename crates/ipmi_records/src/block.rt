@@ -124,7 +124,8 @@ fn threshold_text(
     full: &FullSensor,
     threshold: Threshold,
 ) -> Result<String, AllocError>
-    ensures { IfOk result (λ text. IsThresholdText (is_readable threshold full.now) full.now threshold (string_bytes text)) }
+    ensures { IfOk result (λ text. IsThresholdText (is_readable threshold full.now) full.now
+        threshold (string_bytes text)) }
 {
     if !full.is_readable(threshold) {
         return Ok(String::new(alloc));
@@ -149,7 +150,8 @@ fn all_thresholds(alloc: Global, full: &FullSensor) -> Result<String, AllocError
 
 /// The lines of the thresholds that a full record's sensor has.
 fn threshold_lines(alloc: Global, full: &FullSensor, sensor: &Sensor) -> Result<String, AllocError>
-    ensures { IfOk result (λ text. AreThresholdTexts full.now (thresholds_of sensor.now) (string_bytes text)) }
+    ensures { IfOk result (λ text. AreThresholdTexts full.now (thresholds_of sensor.now)
+        (string_bytes text)) }
 {
     if has_thresholds(sensor) {
         return all_thresholds(alloc, full);

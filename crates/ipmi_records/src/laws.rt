@@ -25,7 +25,8 @@ pub fn one_extended_line()
 
 /// A record has at most one block under an id and a reading, so what `sdr_block` gives is the only one.
 pub fn one_sdr_block()
-    ensures { (id : ℕ) (view : SdrView) (reading : Option Reading) (text other : List ℕ) → IsSdrBlock id view reading text → IsSdrBlock id view reading other → text ≡ other }
+    ensures { (id : ℕ) (view : SdrView) (reading : Option Reading) (text other : List ℕ) →
+        IsSdrBlock id view reading text → IsSdrBlock id view reading other → text ≡ other }
 {
     ipmi_text::laws::one_decimal_of_a_value();
     ipmi_text::laws::one_utc_text();
@@ -49,7 +50,8 @@ pub fn one_sel_block()
 
 /// An info has at most one block, so what `info_block` gives is the only one.
 pub fn one_info_block()
-    ensures { (bytes text other : List ℕ) → AreBytes bytes → IsInfoBlock bytes text → IsInfoBlock bytes other → text ≡ other }
+    ensures { (bytes text other : List ℕ) → AreBytes bytes → IsInfoBlock bytes text →
+        IsInfoBlock bytes other → text ≡ other }
 {
     ipmi_text::laws::one_decimal_of_a_value();
     ipmi_text::laws::one_utc_text();

@@ -222,7 +222,8 @@ impl<'a> SdrView<'a> {
 
     /// The name of the record, by its ID string; a record of another type has none.
     pub fn name(&self, alloc: Global) -> Result<Option<String>, AllocError>
-        ensures { IfOk result (λ name. option_map (λ text. string_bytes text) name ≡ name_of self.now) }
+        ensures { IfOk result (λ name. option_map (λ text. string_bytes text) name ≡ name_of
+            self.now) }
     {
         match self.id_string() {
             Some(id) => Ok(Some(sdr_text(alloc, id.type_length, id.rest)?)),

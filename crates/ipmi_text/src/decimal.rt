@@ -40,8 +40,10 @@ impl Factors {
     /// B and the exponent K2 of the result. None where one of them is outside the range that its
     /// bits in the record leave.
     pub fn new(format: u8, linear: u8, m: i16, b: i16, k1: i8, k2: i8) -> Option<Factors>
-        ensures some { IsSome result ↔ HasRanges (record { format = format; linear = linear; m = m; b = b; k1 = k1; k2 = k2 }) }
-        ensures value { IfSome result (λ f. f ≡ record { format = format; linear = linear; m = m; b = b; k1 = k1; k2 = k2 }) }
+        ensures some { IsSome result ↔ HasRanges (record
+            { format = format; linear = linear; m = m; b = b; k1 = k1; k2 = k2 }) }
+        ensures value { IfSome result (λ f. f ≡ record
+            { format = format; linear = linear; m = m; b = b; k1 = k1; k2 = k2 }) }
     {
         if format <= 3
             && linear <= 127

@@ -10,7 +10,8 @@ pub fn one_decimal_of_a_value()
 
 /// A decimal of a value determines the value.
 pub fn one_value_of_a_decimal()
-    ensures { (value other : ℤ) (text : List ℕ) → IsDecimalOf value text → IsDecimalOf other text → value ≡ other }
+    ensures { (value other : ℤ) (text : List ℕ) → IsDecimalOf value text → IsDecimalOf other text →
+        value ≡ other }
 {}
 
 /// A time stamp in seconds has at most one text, so what `utc_text` gives is the only one.

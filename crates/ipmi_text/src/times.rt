@@ -48,7 +48,8 @@ fn date_of_day(day: u32) -> Date
 
 /// `YYYY-MM-DD HH:MM:SS` of so many seconds after 1970-01-01 00:00:00.
 fn text_to_second(alloc: Global, seconds: u32) -> Result<String, AllocError>
-    ensures { IfOk result (λ text. IsMoment (seconds / 86_400) (second_text (seconds % 86_400)) (string_bytes text)) }
+    ensures { IfOk result (λ text. IsMoment (seconds / 86_400) (second_text (seconds % 86_400))
+        (string_bytes text)) }
 {
     let date = date_of_day(seconds / SECONDS_OF_DAY);
     let second = seconds % SECONDS_OF_DAY;
@@ -65,7 +66,8 @@ fn text_to_second(alloc: Global, seconds: u32) -> Result<String, AllocError>
 /// `YYYY-MM-DD HH:MM` of so many minutes after 1996-01-01 00:00.
 fn text_to_minute(alloc: Global, minutes: u32) -> Result<String, AllocError>
     requires { minutes < 2 ^ 24 }
-    ensures { IfOk result (λ text. IsMoment (first_fru_day + minutes / 1440) (minute_text (minutes % 1440)) (string_bytes text)) }
+    ensures { IfOk result (λ text. IsMoment (first_fru_day + minutes / 1440)
+        (minute_text (minutes % 1440)) (string_bytes text)) }
 {
     let date = date_of_day(FIRST_FRU_DAY + minutes / MINUTES_OF_DAY);
     let minute = minutes % MINUTES_OF_DAY;

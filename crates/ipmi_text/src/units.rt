@@ -82,7 +82,8 @@ struct BaseUnit {
 
 impl BaseUnit {
     fn is_empty(self) -> bool
-        ensures { result ≡ not (is_not_empty (unit_name_or_code self.base.0 ++ modifier_part self.units1 self.modifier.0)) }
+        ensures { result ≡ not (is_not_empty (unit_name_or_code self.base.0 ++ modifier_part
+            self.units1 self.modifier.0)) }
     {
         match self.units1 / 2 % 4 {
             1 | 2 => false,
