@@ -1,7 +1,7 @@
 //! A management controller that answers from an image.
 ghost use Rattle.std.specs.Prelude.{◌≡◌, None};
 ghost use Rattle.ipmi_bus.specs.Seen.{IsPlain};
-ghost use Rattle.ipmi_image.specs.Controllers.{seen_of};
+ghost use Rattle.ipmi_image.specs.Controllers.{seen_of, last_number};
 
 use crate::image::Image;
 use crate::responder::{Responder, WHOLE};
@@ -23,6 +23,7 @@ impl ImageController {
         ensures plain { IsPlain (seen_of result) }
         ensures store { (seen_of result).store ≡ image }
         ensures none_current { ((seen_of result).sdr_reservation ≡ None) × ((seen_of result).sel_reservation ≡ None) }
+        ensures none_given { last_number result ≡ 0 }
     {
         ImageController {
             responder: Responder::new(image),

@@ -1,7 +1,8 @@
 //! A management controller that follows a script.
-ghost use Rattle.std.specs.Prelude.{◌≡◌, None};
+ghost use Rattle.std.specs.Prelude.{◌≡◌, false, None, drop};
 ghost use Rattle.ipmi_bus.specs.Seen.{IsHonest};
-ghost use Rattle.ipmi_image.specs.Controllers.{script_seen, TurnCounts, Turns};
+ghost use Rattle.ipmi_image.specs.Responder.{seen_as};
+ghost use Rattle.ipmi_image.specs.Controllers.{script_seen, script_last_number, moods_left, TurnCounts, Turns, mood_turn, after_mood, next_turn, after_next};
 
 use crate::image::Image;
 use crate::responder::{Responder, WHOLE};
@@ -40,12 +41,47 @@ pub struct Scripted {
     moods: IntoIter<Mood>,
 }
 
+/// Makes of a call for so many bytes what the mood says.
+fn mood_turn(responder: &mut Responder, mood: Mood, asked: usize) -> Turn
+    ensures counts { TurnCounts result (seen_as false responder.old) (seen_as false responder.new) }
+    ensures turns { IsHonest (seen_as false responder.old) → Turns asked result (seen_as false responder.old) (seen_as false responder.new) }
+    ensures exact { result ≡ mood_turn asked mood }
+    ensures leaves { responder.new ≡ record (after_mood mood responder.old) { tally = responder.new.tally } }
+{
+    match mood {
+        Mood::Grant(most) => Turn::Answers(most.max(1)),
+        Mood::Cancel => {
+            responder.forget();
+            Turn::Failed(responder.fail(Code(0xC5)))
+        }
+        Mood::Busy => Turn::Failed(responder.fail(Code(0xC0))),
+        Mood::TooLong => {
+            if asked > 1 {
+                return Turn::Failed(responder.fail(Code(0xCA)));
+            }
+            Turn::Answers(WHOLE)
+        }
+        Mood::Refuse(code) => {
+            if code.0 != 0 && code.class() == CodeClass::Refusal {
+                return Turn::Failed(responder.fail(code));
+            }
+            Turn::Answers(WHOLE)
+        }
+        Mood::Change(image) => {
+            responder.change(image);
+            Turn::Answers(WHOLE)
+        }
+    }
+}
+
 impl Scripted {
     /// A controller that holds what the image does, with moods for its first calls. No reservation is current.
     pub fn new(image: Image, moods: Vec<Mood>) -> Scripted
         ensures honest { IsHonest (script_seen result) }
         ensures store { (script_seen result).store ≡ image }
         ensures none_current { ((script_seen result).sdr_reservation ≡ None) × ((script_seen result).sel_reservation ≡ None) }
+        ensures none_given { script_last_number result ≡ 0 }
+        ensures moods { moods_left result ≡ moods.items }
     {
         Scripted {
             responder: Responder::new(image),
@@ -57,31 +93,13 @@ impl Scripted {
     fn turn(&mut self, asked: usize) -> Turn
         ensures counts { TurnCounts result (script_seen self.old) (script_seen self.new) }
         ensures turns { IsHonest (script_seen self.old) → Turns asked result (script_seen self.old) (script_seen self.new) }
+        ensures used { moods_left self.new ≡ drop 1 (moods_left self.old) }
+        ensures exact { result ≡ next_turn asked (moods_left self.old) }
+        ensures leaves { self.new.responder ≡ record (after_next (moods_left self.old) self.old.responder) { tally = self.new.responder.tally } }
     {
         match self.moods.next() {
             None => Turn::Answers(WHOLE),
-            Some(Mood::Grant(most)) => Turn::Answers(most.max(1)),
-            Some(Mood::Cancel) => {
-                self.responder.forget();
-                Turn::Failed(self.responder.fail(Code(0xC5)))
-            }
-            Some(Mood::Busy) => Turn::Failed(self.responder.fail(Code(0xC0))),
-            Some(Mood::TooLong) => {
-                if asked > 1 {
-                    return Turn::Failed(self.responder.fail(Code(0xCA)));
-                }
-                Turn::Answers(WHOLE)
-            }
-            Some(Mood::Refuse(code)) => {
-                if code.0 != 0 && code.class() == CodeClass::Refusal {
-                    return Turn::Failed(self.responder.fail(code));
-                }
-                Turn::Answers(WHOLE)
-            }
-            Some(Mood::Change(image)) => {
-                self.responder.change(image);
-                Turn::Answers(WHOLE)
-            }
+            Some(mood) => mood_turn(&mut self.responder, mood, asked),
         }
     }
 }
