@@ -1,8 +1,10 @@
 -- What contracts see of the controllers over an image, and what a mood may make of a call.
-use Rattle.std.specs.Prelude.{◌≡◌, ℕ, ◌+◌, ◌<◌, ◌==◌, nat_lt, max, if◌then◌else◌, Bool, true, false, ◌&&◌, not, None, List, [], ◌∷◌}
+use Rattle.std.specs.Prelude.{◌≡◌, ℕ, ◌+◌, ◌<◌, ◌==◌, nat_lt, max, if◌then◌else◌, Bool, true, false, ◌&&◌, not, None, Result, Ok, Err, List, [], ◌∷◌}
 use Rattle.std.specs.Vec.Iter.{into_iter_items}
+use Rattle.ipmi_bus.specs.declared.code.Code.{Code}
 use Rattle.ipmi_bus.specs.declared.code.CodeClass.{CodeClass}
 use Rattle.ipmi_bus.specs.declared.code.CodeClass.TheVariants.{Refusal}
+use Rattle.ipmi_bus.specs.declared.controller.Shelf.{Shelf}
 use Rattle.ipmi_bus.specs.declared.controller.Shelf.TheVariants.{Sdr, Sel}
 use Rattle.ipmi_bus.specs.Code.{class_of}
 use Rattle.ipmi_bus.specs.Seen.{Seen, IsQuiet, IsChange, MayLoseReservation}
@@ -14,7 +16,7 @@ use Rattle.ipmi_image.specs.declared.scripted.Mood.TheVariants as mood
 use Rattle.ipmi_image.specs.declared.scripted.Scripted.{Scripted}
 use Rattle.ipmi_image.specs.declared.scripted.Turn.{Turn}
 use Rattle.ipmi_image.specs.declared.scripted.Turn.TheVariants as turn
-use Rattle.ipmi_image.specs.Responder.{cancelled, seen_as}
+use Rattle.ipmi_image.specs.Responder.{cancelled, with_reservation, seen_as}
 
 -- plain
 abbrev pub seen_of : ImageController → Seen
@@ -95,3 +97,28 @@ next_turn asked (next ∷ moods) = mood_turn asked next
 abbrev pub after_next : List Mood → Responder → Responder
 after_next [] r = r
 after_next (next ∷ moods) r = after_mood next r
+
+-- ---- what a scripted controller answers, and what its next mood makes of it before the answer
+
+abbrev pub seen_after_mood : Scripted → Seen
+seen_after_mood s = seen_as false (after_next (moods_left s) s.responder)
+
+-- the plain answer, of so many bytes at most, or the code that the call fails with
+abbrev pub after_turn : {V : Type 0} → Turn → (ℕ → Result V Code) → Result V Code
+after_turn (turn.Answers most) plain = plain most
+after_turn (turn.Failed code) plain = Err code
+
+-- the answer to a call for so many bytes
+abbrev pub script_answer : {V : Type 0} → ℕ → Scripted → (ℕ → Result V Code) → Result V Code
+script_answer asked s plain = after_turn (next_turn asked (moods_left s)) plain
+
+-- but for what it counts, the controller is as its next mood left it
+abbrev pub StaysAfterMood : Scripted → Scripted → Type 0
+StaysAfterMood old new =
+    new.responder ≡ record (after_next (moods_left old) old.responder) { tally = new.responder.tally }
+
+-- the same, with the reservation that was given
+abbrev pub ReservesAfterMood : Shelf → Result ℕ Code → Scripted → Scripted → Type 0
+ReservesAfterMood shelf (Ok number) old new = new.responder ≡
+    record (with_reservation shelf number (after_next (moods_left old) old.responder)) { tally = new.responder.tally }
+ReservesAfterMood shelf (Err code) old new = StaysAfterMood old new

@@ -1,6 +1,7 @@
 -- What contracts see of an image that answers calls.
-use Rattle.std.specs.Prelude.{◌≡◌, ℕ, ◌+◌, ◌-◌, ◌≤◌, ◌==◌, nat_lt, nat_le, min, if◌then◌else◌, Bool, true, ◌&&◌, not, Option, None, Some, Result, Ok, Err, List, [], ◌∷◌, length, drop}
+use Rattle.std.specs.Prelude.{◌≡◌, ℕ, ◌+◌, ◌-◌, ◌≤◌, ◌==◌, nat_lt, nat_le, min, if◌then◌else◌, Bool, true, false, ◌&&◌, not, Option, None, Some, Result, Ok, Err, List, [], ◌∷◌, length, drop}
 use Rattle.ipmi_bus.specs.declared.code.Code.{Code}
+use Rattle.ipmi_bus.specs.declared.controller.FruSize.{FruSize}
 use Rattle.ipmi_bus.specs.declared.controller.Part.{Part}
 use Rattle.ipmi_bus.specs.declared.controller.Shelf.{Shelf}
 use Rattle.ipmi_bus.specs.declared.controller.Shelf.TheVariants.{Sdr, Sel}
@@ -80,6 +81,18 @@ fru_answer offset asked most None = Err not_present
 fru_answer offset asked most (Some bytes) =
     if nat_le (length bytes) offset then Err out_of_range
     else Ok (len_given asked most offset (length bytes))
+
+-- ---- other answers: CBh for what is not there
+
+-- of an info or a reading
+abbrev pub value_answer : {V : Type 0} → Option V → Result V Code
+value_answer None = Err not_present
+value_answer (Some value) = Ok value
+
+-- of the size of an inventory, which is accessed by bytes
+abbrev pub size_answer : Option (List ℕ) → Result FruSize Code
+size_answer None = Err not_present
+size_answer (Some bytes) = Ok (record { size = length bytes; words = false })
 
 -- an image as a controller's contracts see it, where it says that it is plain or not
 abbrev pub seen_as : Bool → Responder → Seen

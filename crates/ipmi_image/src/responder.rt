@@ -8,7 +8,7 @@ ghost use Rattle.ipmi_bus.specs.Seen.{IsHonest};
 ghost use Rattle.ipmi_bus.specs.Answers.{FailsWith, ReserveAnswers, PartAnswers, ValueAnswers, SizeAnswers, BytesAnswers};
 ghost use Rattle.ipmi_image.specs.Image.{chained, first_id};
 ghost use Rattle.ipmi_image.specs.Stored.{row_of};
-ghost use Rattle.ipmi_image.specs.Responder.{seen_as, of_shelf, row_found, place_asked, IsCopied, number_after, with_reservation, part_answer, fru_answer};
+ghost use Rattle.ipmi_image.specs.Responder.{seen_as, of_shelf, row_found, place_asked, IsCopied, number_after, with_reservation, part_answer, fru_answer, value_answer, size_answer};
 
 use crate::image::Image;
 use crate::stored::{StoredRow, Table, sensor_key};
@@ -247,6 +247,7 @@ impl Responder {
         ensures counted { self.new.tally.counts.calls ≡ self.old.tally.counts.calls + 1 }
         ensures answers { (plain : Bool) → IsHonest (seen_as plain self.old) → ValueAnswers (info_of shelf) result (seen_as plain self.old) (seen_as plain self.new) }
         ensures same { self.new ≡ record self.old { tally = self.new.tally } }
+        ensures exact { result ≡ value_answer (info_of shelf self.old.image) }
     {
         self.tally.count(Event::Called);
         self.tally.count(Event::Finished);
@@ -258,6 +259,7 @@ impl Responder {
         ensures counted { self.new.tally.counts.calls ≡ self.old.tally.counts.calls + 1 }
         ensures answers { (plain : Bool) → IsHonest (seen_as plain self.old) → ValueAnswers (reading_of lun number) result (seen_as plain self.old) (seen_as plain self.new) }
         ensures same { self.new ≡ record self.old { tally = self.new.tally } }
+        ensures exact { result ≡ value_answer (reading_of lun number self.old.image) }
     {
         self.tally.count(Event::Called);
         self.tally.count(Event::Finished);
@@ -269,6 +271,7 @@ impl Responder {
         ensures counted { self.new.tally.counts.calls ≡ self.old.tally.counts.calls + 1 }
         ensures answers { (plain : Bool) → IsHonest (seen_as plain self.old) → SizeAnswers id result (seen_as plain self.old) (seen_as plain self.new) }
         ensures same { self.new ≡ record self.old { tally = self.new.tally } }
+        ensures exact { result ≡ size_answer (inventory_of id self.old.image) }
     {
         self.tally.count(Event::Called);
         let Some(bytes) = self.image.inventory(id) else {

@@ -1,8 +1,11 @@
 //! A management controller that follows a script.
-ghost use Rattle.std.specs.Prelude.{◌≡◌, false, None, drop};
-ghost use Rattle.ipmi_bus.specs.Seen.{IsHonest};
-ghost use Rattle.ipmi_image.specs.Responder.{seen_as};
-ghost use Rattle.ipmi_image.specs.Controllers.{script_seen, script_last_number, moods_left, TurnCounts, Turns, mood_turn, after_mood, next_turn, after_next};
+ghost use Rattle.std.specs.Prelude.{◌≡◌, ◌+◌, ◌<◌, ◌≤◌, false, IfOk, OnErr, Ok, None, length, drop};
+ghost use Rattle.ipmi_bus.specs.Shelf.{look};
+ghost use Rattle.ipmi_bus.specs.Store.{rows_of, info_of, reading_of, inventory_of};
+ghost use Rattle.ipmi_bus.specs.Seen.{IsHonest, current};
+ghost use Rattle.ipmi_bus.specs.Answers.{ReserveAnswers, PartAnswers, ValueAnswers, SizeAnswers, BytesAnswers};
+ghost use Rattle.ipmi_image.specs.Responder.{seen_as, number_after, part_answer, fru_answer, value_answer, size_answer};
+ghost use Rattle.ipmi_image.specs.Controllers.{script_seen, script_last_number, moods_left, seen_after_mood, script_answer, StaysAfterMood, ReservesAfterMood, TurnCounts, Turns, mood_turn, after_mood, next_turn, after_next};
 
 use crate::image::Image;
 use crate::responder::{Responder, WHOLE};
@@ -107,7 +110,14 @@ impl Scripted {
 impl Controller for Scripted {
     ghost seen = { script_seen };
 
-    fn reserve(&mut self, shelf: Shelf) -> Result<u16, Code> {
+    fn reserve(&mut self, shelf: Shelf) -> Result<u16, Code>
+        ensures counted { (script_seen self.new).calls ≡ (script_seen self.old).calls + 1 }
+        ensures honest { IsHonest (script_seen self.old) → ReserveAnswers shelf result (script_seen self.old) (script_seen self.new) }
+        ensures exact { result ≡ script_answer 1 self.old
+            (λ most. Ok (number_after (script_last_number self.old))) }
+        ensures used { moods_left self.new ≡ drop 1 (moods_left self.old) }
+        ensures leaves { ReservesAfterMood shelf result self.old self.new }
+    {
         match self.turn(1) {
             Turn::Answers(_) => Ok(self.responder.reserve(shelf)),
             Turn::Failed(code) => Err(code),
@@ -121,7 +131,22 @@ impl Controller for Scripted {
         id: u16,
         offset: u8,
         into: &mut [u8],
-    ) -> Result<Part, Code> {
+    ) -> Result<Part, Code>
+        requires some { 0 < length into.old }
+        requires fits { length into.old < 255 }
+        ensures counted { (script_seen self.new).calls ≡ (script_seen self.old).calls + 1 }
+        ensures fits { IfOk result (λ part. part.got ≤ length into.old) }
+        ensures rest { IfOk result (λ part. drop part.got into.new ≡ drop part.got into.old) }
+        ensures err { OnErr result (into.new ≡ into.old) }
+        ensures honest { IsHonest (script_seen self.old) →
+            PartAnswers (record { shelf = shelf; reservation = reservation; id = id; offset = offset; len = length into.old })
+            result into.new (script_seen self.old) (script_seen self.new) }
+        ensures exact { result ≡ script_answer (length into.old) self.old (λ most. part_answer
+            (record { shelf = shelf; reservation = reservation; id = id; offset = offset; len = length into.old })
+            most (current shelf (seen_after_mood self.old)) (look (rows_of shelf (seen_after_mood self.old).store) id)) }
+        ensures used { moods_left self.new ≡ drop 1 (moods_left self.old) }
+        ensures leaves { StaysAfterMood self.old self.new }
+    {
         match self.turn(into.len()) {
             Turn::Answers(most) => self
                 .responder
@@ -130,28 +155,62 @@ impl Controller for Scripted {
         }
     }
 
-    fn info(&mut self, shelf: Shelf) -> Result<[u8; 14], Code> {
+    fn info(&mut self, shelf: Shelf) -> Result<[u8; 14], Code>
+        ensures counted { (script_seen self.new).calls ≡ (script_seen self.old).calls + 1 }
+        ensures honest { IsHonest (script_seen self.old) → ValueAnswers (info_of shelf) result (script_seen self.old) (script_seen self.new) }
+        ensures exact { result ≡ script_answer 1 self.old
+            (λ most. value_answer (info_of shelf (seen_after_mood self.old).store)) }
+        ensures used { moods_left self.new ≡ drop 1 (moods_left self.old) }
+        ensures leaves { StaysAfterMood self.old self.new }
+    {
         match self.turn(1) {
             Turn::Answers(_) => self.responder.info(shelf),
             Turn::Failed(code) => Err(code),
         }
     }
 
-    fn reading(&mut self, lun: u8, number: u8) -> Result<Reading, Code> {
+    fn reading(&mut self, lun: u8, number: u8) -> Result<Reading, Code>
+        ensures counted { (script_seen self.new).calls ≡ (script_seen self.old).calls + 1 }
+        ensures honest { IsHonest (script_seen self.old) → ValueAnswers (reading_of lun number) result (script_seen self.old) (script_seen self.new) }
+        ensures exact { result ≡ script_answer 1 self.old
+            (λ most. value_answer (reading_of lun number (seen_after_mood self.old).store)) }
+        ensures used { moods_left self.new ≡ drop 1 (moods_left self.old) }
+        ensures leaves { StaysAfterMood self.old self.new }
+    {
         match self.turn(1) {
             Turn::Answers(_) => self.responder.reading(lun, number),
             Turn::Failed(code) => Err(code),
         }
     }
 
-    fn fru_size(&mut self, id: u8) -> Result<FruSize, Code> {
+    fn fru_size(&mut self, id: u8) -> Result<FruSize, Code>
+        ensures counted { (script_seen self.new).calls ≡ (script_seen self.old).calls + 1 }
+        ensures honest { IsHonest (script_seen self.old) → SizeAnswers id result (script_seen self.old) (script_seen self.new) }
+        ensures exact { result ≡ script_answer 1 self.old
+            (λ most. size_answer (inventory_of id (seen_after_mood self.old).store)) }
+        ensures used { moods_left self.new ≡ drop 1 (moods_left self.old) }
+        ensures leaves { StaysAfterMood self.old self.new }
+    {
         match self.turn(1) {
             Turn::Answers(_) => self.responder.fru_size(id),
             Turn::Failed(code) => Err(code),
         }
     }
 
-    fn fru_part(&mut self, id: u8, offset: u16, into: &mut [u8]) -> Result<u8, Code> {
+    fn fru_part(&mut self, id: u8, offset: u16, into: &mut [u8]) -> Result<u8, Code>
+        requires some { 0 < length into.old }
+        requires fits { length into.old < 255 }
+        ensures counted { (script_seen self.new).calls ≡ (script_seen self.old).calls + 1 }
+        ensures fits { IfOk result (λ got. got ≤ length into.old) }
+        ensures rest { IfOk result (λ got. drop got into.new ≡ drop got into.old) }
+        ensures err { OnErr result (into.new ≡ into.old) }
+        ensures honest { IsHonest (script_seen self.old) →
+            BytesAnswers id offset (length into.old) result into.new (script_seen self.old) (script_seen self.new) }
+        ensures exact { result ≡ script_answer (length into.old) self.old
+            (λ most. fru_answer offset (length into.old) most (inventory_of id (seen_after_mood self.old).store)) }
+        ensures used { moods_left self.new ≡ drop 1 (moods_left self.old) }
+        ensures leaves { StaysAfterMood self.old self.new }
+    {
         match self.turn(into.len()) {
             Turn::Answers(most) => self.responder.fru_part(id, offset, most, into),
             Turn::Failed(code) => Err(code),
