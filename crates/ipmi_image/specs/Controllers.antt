@@ -114,11 +114,13 @@ script_answer asked s plain = after_turn (next_turn asked (moods_left s)) plain
 
 -- but for what it counts, the controller is as its next mood left it
 abbrev pub StaysAfterMood : Scripted → Scripted → Type 0
-StaysAfterMood old new =
-    new.responder ≡ record (after_next (moods_left old) old.responder) { tally = new.responder.tally }
+StaysAfterMood old new = new.responder ≡
+    record (after_next (moods_left old) old.responder) { tally = new.responder.tally }
 
 -- the same, with the reservation that was given
 abbrev pub ReservesAfterMood : Shelf → Result ℕ Code → Scripted → Scripted → Type 0
 ReservesAfterMood shelf (Ok number) old new = new.responder ≡
-    record (with_reservation shelf number (after_next (moods_left old) old.responder)) { tally = new.responder.tally }
+    record (with_reservation shelf number (after_next (moods_left old) old.responder)) {
+      tally = new.responder.tally;
+    }
 ReservesAfterMood shelf (Err code) old new = StaysAfterMood old new

@@ -57,8 +57,18 @@ abbrev pub is_stale : ℕ → ℕ → Option ℕ → Bool
 is_stale offset reservation None = nat_lt 0 offset
 is_stale offset reservation (Some last) = nat_lt 0 offset && not (last == reservation)
 
--- ---- parts: CBh for what is not there comes before C5h for a stale reservation, and that before C9h for
--- an offset at or past the end
+-- ---- parts: CBh for what is not there comes before C5h for a stale reservation, and that before
+-- C9h for an offset at or past the end
+
+-- a request for so many bytes, as a call has it
+abbrev pub part_asked : Shelf → ℕ → ℕ → ℕ → ℕ → Asked
+part_asked shelf reservation id offset len = record {
+  shelf = shelf;
+  reservation = reservation;
+  id = id;
+  offset = offset;
+  len = len;
+}
 
 abbrev pub cancelled : Code
 cancelled = record { 0 = 0xC5 }
@@ -66,8 +76,8 @@ cancelled = record { 0 = 0xC5 }
 abbrev pub out_of_range : Code
 out_of_range = record { 0 = 0xC9 }
 
--- the answer to a request for a part of the record, of which so many bytes may be given at most, where
--- this is the shelf's last reservation
+-- the answer to a request for a part of the record, of which so many bytes may be given at most,
+-- where this is the shelf's last reservation
 abbrev pub part_answer : Asked → ℕ → Option ℕ → Option Row → Result Part Code
 part_answer ask most last None = Err not_present
 part_answer ask most last (Some row) =

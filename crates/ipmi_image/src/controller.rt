@@ -4,7 +4,7 @@ ghost use Rattle.ipmi_bus.specs.Shelf.{look};
 ghost use Rattle.ipmi_bus.specs.Store.{rows_of, info_of, reading_of, inventory_of};
 ghost use Rattle.ipmi_bus.specs.Seen.{IsHonest, IsPlain, current};
 ghost use Rattle.ipmi_bus.specs.Answers.{ReserveAnswers, PartAnswers, ValueAnswers, SizeAnswers, BytesAnswers};
-ghost use Rattle.ipmi_image.specs.Responder.{number_after, part_answer, fru_answer, value_answer, size_answer};
+ghost use Rattle.ipmi_image.specs.Responder.{number_after, part_asked, part_answer, fru_answer, value_answer, size_answer};
 ghost use Rattle.ipmi_image.specs.Controllers.{seen_of, last_number};
 
 use crate::image::Image;
@@ -40,7 +40,8 @@ impl Controller for ImageController {
 
     fn reserve(&mut self, shelf: Shelf) -> Result<u16, Code>
         ensures counted { (seen_of self.new).calls ≡ (seen_of self.old).calls + 1 }
-        ensures honest { IsHonest (seen_of self.old) → ReserveAnswers shelf result (seen_of self.old) (seen_of self.new) }
+        ensures honest { IsHonest (seen_of self.old) →
+            ReserveAnswers shelf result (seen_of self.old) (seen_of self.new) }
         ensures exact { result ≡ Ok (number_after (last_number self.old)) }
         ensures last { last_number self.new ≡ number_after (last_number self.old) }
     {
@@ -62,11 +63,12 @@ impl Controller for ImageController {
         ensures rest { IfOk result (λ part. drop part.got into.new ≡ drop part.got into.old) }
         ensures err { OnErr result (into.new ≡ into.old) }
         ensures honest { IsHonest (seen_of self.old) →
-            PartAnswers (record { shelf = shelf; reservation = reservation; id = id; offset = offset; len = length into.old })
-            result into.new (seen_of self.old) (seen_of self.new) }
+            PartAnswers (part_asked shelf reservation id offset (length into.old)) result into.new
+            (seen_of self.old) (seen_of self.new) }
         ensures exact { result ≡ part_answer
-            (record { shelf = shelf; reservation = reservation; id = id; offset = offset; len = length into.old })
-            254 (current shelf (seen_of self.old)) (look (rows_of shelf (seen_of self.old).store) id) }
+            (part_asked shelf reservation id offset (length into.old))
+            254 (current shelf (seen_of self.old))
+            (look (rows_of shelf (seen_of self.old).store) id) }
         ensures last { last_number self.new ≡ last_number self.old }
     {
         self.responder
@@ -75,7 +77,8 @@ impl Controller for ImageController {
 
     fn info(&mut self, shelf: Shelf) -> Result<[u8; 14], Code>
         ensures counted { (seen_of self.new).calls ≡ (seen_of self.old).calls + 1 }
-        ensures honest { IsHonest (seen_of self.old) → ValueAnswers (info_of shelf) result (seen_of self.old) (seen_of self.new) }
+        ensures honest { IsHonest (seen_of self.old) →
+            ValueAnswers (info_of shelf) result (seen_of self.old) (seen_of self.new) }
         ensures exact { result ≡ value_answer (info_of shelf (seen_of self.old).store) }
         ensures last { last_number self.new ≡ last_number self.old }
     {
@@ -84,7 +87,8 @@ impl Controller for ImageController {
 
     fn reading(&mut self, lun: u8, number: u8) -> Result<Reading, Code>
         ensures counted { (seen_of self.new).calls ≡ (seen_of self.old).calls + 1 }
-        ensures honest { IsHonest (seen_of self.old) → ValueAnswers (reading_of lun number) result (seen_of self.old) (seen_of self.new) }
+        ensures honest { IsHonest (seen_of self.old) →
+            ValueAnswers (reading_of lun number) result (seen_of self.old) (seen_of self.new) }
         ensures exact { result ≡ value_answer (reading_of lun number (seen_of self.old).store) }
         ensures last { last_number self.new ≡ last_number self.old }
     {
@@ -93,7 +97,8 @@ impl Controller for ImageController {
 
     fn fru_size(&mut self, id: u8) -> Result<FruSize, Code>
         ensures counted { (seen_of self.new).calls ≡ (seen_of self.old).calls + 1 }
-        ensures honest { IsHonest (seen_of self.old) → SizeAnswers id result (seen_of self.old) (seen_of self.new) }
+        ensures honest { IsHonest (seen_of self.old) →
+            SizeAnswers id result (seen_of self.old) (seen_of self.new) }
         ensures exact { result ≡ size_answer (inventory_of id (seen_of self.old).store) }
         ensures last { last_number self.new ≡ last_number self.old }
     {
@@ -108,7 +113,8 @@ impl Controller for ImageController {
         ensures rest { IfOk result (λ got. drop got into.new ≡ drop got into.old) }
         ensures err { OnErr result (into.new ≡ into.old) }
         ensures honest { IsHonest (seen_of self.old) →
-            BytesAnswers id offset (length into.old) result into.new (seen_of self.old) (seen_of self.new) }
+            BytesAnswers id offset (length into.old) result into.new
+            (seen_of self.old) (seen_of self.new) }
         ensures exact { result ≡
             fru_answer offset (length into.old) 254 (inventory_of id (seen_of self.old).store) }
         ensures last { last_number self.new ≡ last_number self.old }

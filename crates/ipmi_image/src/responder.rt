@@ -8,7 +8,7 @@ ghost use Rattle.ipmi_bus.specs.Seen.{IsHonest};
 ghost use Rattle.ipmi_bus.specs.Answers.{FailsWith, ReserveAnswers, PartAnswers, ValueAnswers, SizeAnswers, BytesAnswers};
 ghost use Rattle.ipmi_image.specs.Image.{chained, first_id};
 ghost use Rattle.ipmi_image.specs.Stored.{row_of};
-ghost use Rattle.ipmi_image.specs.Responder.{seen_as, of_shelf, row_found, place_asked, IsCopied, number_after, with_reservation, part_answer, fru_answer, value_answer, size_answer};
+ghost use Rattle.ipmi_image.specs.Responder.{seen_as, of_shelf, row_found, place_asked, IsCopied, number_after, with_reservation, part_asked, part_answer, fru_answer, value_answer, size_answer};
 
 use crate::image::Image;
 use crate::stored::{StoredRow, Table, sensor_key};
@@ -165,7 +165,8 @@ impl Responder {
         ensures answers { (plain : Bool) → IsHonest (seen_as plain self.old) → ReserveAnswers shelf (Ok result) (seen_as plain self.old) (seen_as plain self.new) }
         ensures number { result ≡ number_after self.old.given }
         ensures another { result ≢ self.old.given }
-        ensures kept { self.new ≡ record (with_reservation shelf result self.old) { tally = self.new.tally } }
+        ensures kept { self.new ≡
+            record (with_reservation shelf result self.old) { tally = self.new.tally } }
     {
         self.tally.count(Event::Called);
         let number = if self.given == 0xFFFF {
@@ -215,7 +216,7 @@ impl Responder {
             result into.new (seen_as plain self.old) (seen_as plain self.new) }
         ensures same { self.new ≡ record self.old { tally = self.new.tally } }
         ensures exact { result ≡ part_answer
-            (record { shelf = shelf; reservation = reservation; id = id; offset = offset; len = length into.old })
+            (part_asked shelf reservation id offset (length into.old))
             most (of_shelf shelf self.old.sdr_reservation self.old.sel_reservation)
             (look (rows_of shelf self.old.image) id) }
     {
@@ -303,7 +304,8 @@ impl Responder {
         ensures answers { (plain : Bool) → IsHonest (seen_as plain self.old) →
             BytesAnswers id offset (length into.old) result into.new (seen_as plain self.old) (seen_as plain self.new) }
         ensures same { self.new ≡ record self.old { tally = self.new.tally } }
-        ensures exact { result ≡ fru_answer offset (length into.old) most (inventory_of id self.old.image) }
+        ensures exact { result ≡
+            fru_answer offset (length into.old) most (inventory_of id self.old.image) }
     {
         self.tally.count(Event::Called);
         let Some(bytes) = self.image.inventory(id) else {

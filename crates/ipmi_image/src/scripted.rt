@@ -4,8 +4,8 @@ ghost use Rattle.ipmi_bus.specs.Shelf.{look};
 ghost use Rattle.ipmi_bus.specs.Store.{rows_of, info_of, reading_of, inventory_of};
 ghost use Rattle.ipmi_bus.specs.Seen.{IsHonest, current};
 ghost use Rattle.ipmi_bus.specs.Answers.{ReserveAnswers, PartAnswers, ValueAnswers, SizeAnswers, BytesAnswers};
-ghost use Rattle.ipmi_image.specs.Responder.{seen_as, number_after, part_answer, fru_answer, value_answer, size_answer};
-ghost use Rattle.ipmi_image.specs.Controllers.{script_seen, script_last_number, moods_left, seen_after_mood, script_answer, StaysAfterMood, ReservesAfterMood, TurnCounts, Turns, mood_turn, after_mood, next_turn, after_next};
+ghost use Rattle.ipmi_image.specs.Responder.{seen_as, number_after, part_asked, part_answer, fru_answer, value_answer, size_answer};
+ghost use Rattle.ipmi_image.specs.Controllers.{script_seen, script_last_number, moods_left, seen_after_mood, script_answer, StaysAfterMood, ReservesAfterMood, TurnCounts, Turns, mood_turn, after_mood, next_turn};
 
 use crate::image::Image;
 use crate::responder::{Responder, WHOLE};
@@ -47,9 +47,11 @@ pub struct Scripted {
 /// Makes of a call for so many bytes what the mood says.
 fn mood_turn(responder: &mut Responder, mood: Mood, asked: usize) -> Turn
     ensures counts { TurnCounts result (seen_as false responder.old) (seen_as false responder.new) }
-    ensures turns { IsHonest (seen_as false responder.old) → Turns asked result (seen_as false responder.old) (seen_as false responder.new) }
+    ensures turns { IsHonest (seen_as false responder.old) →
+        Turns asked result (seen_as false responder.old) (seen_as false responder.new) }
     ensures exact { result ≡ mood_turn asked mood }
-    ensures leaves { responder.new ≡ record (after_mood mood responder.old) { tally = responder.new.tally } }
+    ensures leaves { responder.new ≡
+        record (after_mood mood responder.old) { tally = responder.new.tally } }
 {
     match mood {
         Mood::Grant(most) => Turn::Answers(most.max(1)),
@@ -98,7 +100,7 @@ impl Scripted {
         ensures turns { IsHonest (script_seen self.old) → Turns asked result (script_seen self.old) (script_seen self.new) }
         ensures used { moods_left self.new ≡ drop 1 (moods_left self.old) }
         ensures exact { result ≡ next_turn asked (moods_left self.old) }
-        ensures leaves { self.new.responder ≡ record (after_next (moods_left self.old) self.old.responder) { tally = self.new.responder.tally } }
+        ensures leaves { StaysAfterMood self.old self.new }
     {
         match self.moods.next() {
             None => Turn::Answers(WHOLE),
@@ -112,7 +114,8 @@ impl Controller for Scripted {
 
     fn reserve(&mut self, shelf: Shelf) -> Result<u16, Code>
         ensures counted { (script_seen self.new).calls ≡ (script_seen self.old).calls + 1 }
-        ensures honest { IsHonest (script_seen self.old) → ReserveAnswers shelf result (script_seen self.old) (script_seen self.new) }
+        ensures honest { IsHonest (script_seen self.old) →
+            ReserveAnswers shelf result (script_seen self.old) (script_seen self.new) }
         ensures exact { result ≡ script_answer 1 self.old
             (λ most. Ok (number_after (script_last_number self.old))) }
         ensures used { moods_left self.new ≡ drop 1 (moods_left self.old) }
@@ -139,11 +142,12 @@ impl Controller for Scripted {
         ensures rest { IfOk result (λ part. drop part.got into.new ≡ drop part.got into.old) }
         ensures err { OnErr result (into.new ≡ into.old) }
         ensures honest { IsHonest (script_seen self.old) →
-            PartAnswers (record { shelf = shelf; reservation = reservation; id = id; offset = offset; len = length into.old })
-            result into.new (script_seen self.old) (script_seen self.new) }
+            PartAnswers (part_asked shelf reservation id offset (length into.old)) result into.new
+            (script_seen self.old) (script_seen self.new) }
         ensures exact { result ≡ script_answer (length into.old) self.old (λ most. part_answer
-            (record { shelf = shelf; reservation = reservation; id = id; offset = offset; len = length into.old })
-            most (current shelf (seen_after_mood self.old)) (look (rows_of shelf (seen_after_mood self.old).store) id)) }
+            (part_asked shelf reservation id offset (length into.old))
+            most (current shelf (seen_after_mood self.old))
+            (look (rows_of shelf (seen_after_mood self.old).store) id)) }
         ensures used { moods_left self.new ≡ drop 1 (moods_left self.old) }
         ensures leaves { StaysAfterMood self.old self.new }
     {
@@ -157,7 +161,8 @@ impl Controller for Scripted {
 
     fn info(&mut self, shelf: Shelf) -> Result<[u8; 14], Code>
         ensures counted { (script_seen self.new).calls ≡ (script_seen self.old).calls + 1 }
-        ensures honest { IsHonest (script_seen self.old) → ValueAnswers (info_of shelf) result (script_seen self.old) (script_seen self.new) }
+        ensures honest { IsHonest (script_seen self.old) →
+            ValueAnswers (info_of shelf) result (script_seen self.old) (script_seen self.new) }
         ensures exact { result ≡ script_answer 1 self.old
             (λ most. value_answer (info_of shelf (seen_after_mood self.old).store)) }
         ensures used { moods_left self.new ≡ drop 1 (moods_left self.old) }
@@ -171,7 +176,9 @@ impl Controller for Scripted {
 
     fn reading(&mut self, lun: u8, number: u8) -> Result<Reading, Code>
         ensures counted { (script_seen self.new).calls ≡ (script_seen self.old).calls + 1 }
-        ensures honest { IsHonest (script_seen self.old) → ValueAnswers (reading_of lun number) result (script_seen self.old) (script_seen self.new) }
+        ensures honest { IsHonest (script_seen self.old) →
+            ValueAnswers (reading_of lun number) result
+            (script_seen self.old) (script_seen self.new) }
         ensures exact { result ≡ script_answer 1 self.old
             (λ most. value_answer (reading_of lun number (seen_after_mood self.old).store)) }
         ensures used { moods_left self.new ≡ drop 1 (moods_left self.old) }
@@ -185,7 +192,8 @@ impl Controller for Scripted {
 
     fn fru_size(&mut self, id: u8) -> Result<FruSize, Code>
         ensures counted { (script_seen self.new).calls ≡ (script_seen self.old).calls + 1 }
-        ensures honest { IsHonest (script_seen self.old) → SizeAnswers id result (script_seen self.old) (script_seen self.new) }
+        ensures honest { IsHonest (script_seen self.old) →
+            SizeAnswers id result (script_seen self.old) (script_seen self.new) }
         ensures exact { result ≡ script_answer 1 self.old
             (λ most. size_answer (inventory_of id (seen_after_mood self.old).store)) }
         ensures used { moods_left self.new ≡ drop 1 (moods_left self.old) }
@@ -205,9 +213,11 @@ impl Controller for Scripted {
         ensures rest { IfOk result (λ got. drop got into.new ≡ drop got into.old) }
         ensures err { OnErr result (into.new ≡ into.old) }
         ensures honest { IsHonest (script_seen self.old) →
-            BytesAnswers id offset (length into.old) result into.new (script_seen self.old) (script_seen self.new) }
+            BytesAnswers id offset (length into.old) result into.new
+            (script_seen self.old) (script_seen self.new) }
         ensures exact { result ≡ script_answer (length into.old) self.old
-            (λ most. fru_answer offset (length into.old) most (inventory_of id (seen_after_mood self.old).store)) }
+            (λ most. fru_answer offset (length into.old) most
+            (inventory_of id (seen_after_mood self.old).store)) }
         ensures used { moods_left self.new ≡ drop 1 (moods_left self.old) }
         ensures leaves { StaysAfterMood self.old self.new }
     {

@@ -3,8 +3,8 @@ use ipmi_image::Image;
 use std::alloc::Global;
 use std::process::Abort;
 
-/// Puts the text at the end of the image, with a line feed for each semicolon, and for each tilde the byte FFh, which
-/// is in no UTF-8.
+/// Puts the text at the end of the image, with a line feed for each semicolon, and for each tilde FFh, a byte that
+/// no UTF-8 has.
 fn push_lines(rt: &impl Abort, image: &mut Vec<u8>, text: &str) {
     for byte in text.bytes() {
         let byte = match byte {
