@@ -1,5 +1,5 @@
 -- An answer after what a mood did, and an answer that a mood made.
-use Rattle.std.proofs.Common.{◌≡◌, ℕ, ◌+◌, Bool, true, false, Option, None, Some, Result, Ok, Err, List, refl, sym, ap, ◌∙◌, arith}
+use Rattle.std.proofs.Common.{◌≡◌, ℕ, ◌+◌, Bool, true, false, Option, None, Some, Result, Ok, Err, List, [], ◌∷◌, length, refl, sym, ap, ◌∙◌, arith}
 use Rattle.std.specs.Bool.{IsTrue}
 use Rattle.std.proofs.lemmas.Bool.{true≢false}
 use Rattle.std.proofs.lemmas.Option.{none-some}
@@ -15,6 +15,10 @@ use Rattle.ipmi_bus.specs.Store.{Store}
 use Rattle.ipmi_bus.specs.Seen.{Seen, IsHonest, IsQuiet, IsFinished, IsChange, MayLoseReservation, current}
 use Rattle.ipmi_bus.specs.Answers.{Asked, other, FailsWith, CountsPiece, ReserveGives, ReserveAnswers, PartGives, PartAnswers, ValueGives, ValueAnswers, SizeGives, SizeAnswers, BytesGives, BytesAnswers}
 use Rattle.ipmi_image.specs.Controllers.{Prepares}
+
+pub nothing_left : {X : Type 0} (xs : List X) → length xs ≡ 0 → xs ≡ []
+nothing_left [] none = refl
+nothing_left (x ∷ xs) none = absurd (omega (arith, none))
 
 -- another condition of the same failure
 fails_else : (P P' Q Q' : Type 0) (class : CodeClass) (code : ℕ) (s s' : Seen) → (P → P') → (Q → Q') → FailsWith P Q class code s s' → FailsWith P' Q' class code s s'

@@ -1,14 +1,22 @@
 -- What contracts see of the controllers over an image, and what a mood may make of a call.
-use Rattle.std.specs.Prelude.{◌≡◌, ℕ, ◌+◌, ◌<◌, true, false}
+use Rattle.std.specs.Prelude.{◌≡◌, ℕ, ◌+◌, ◌<◌, ◌==◌, nat_lt, max, if◌then◌else◌, Bool, true, false, ◌&&◌, not, None, Result, Ok, Err, List, [], ◌∷◌}
+use Rattle.std.specs.Vec.Iter.{into_iter_items}
+use Rattle.ipmi_bus.specs.declared.code.Code.{Code}
+use Rattle.ipmi_bus.specs.declared.code.CodeClass.{CodeClass}
+use Rattle.ipmi_bus.specs.declared.code.CodeClass.TheVariants.{Refusal}
+use Rattle.ipmi_bus.specs.declared.controller.Shelf.{Shelf}
 use Rattle.ipmi_bus.specs.declared.controller.Shelf.TheVariants.{Sdr, Sel}
 use Rattle.ipmi_bus.specs.Code.{class_of}
 use Rattle.ipmi_bus.specs.Seen.{Seen, IsQuiet, IsChange, MayLoseReservation}
 use Rattle.ipmi_bus.specs.Answers.{FailsWith}
 use Rattle.ipmi_image.specs.declared.controller.ImageController.{ImageController}
+use Rattle.ipmi_image.specs.declared.responder.Responder.{Responder}
+use Rattle.ipmi_image.specs.declared.scripted.Mood.{Mood}
+use Rattle.ipmi_image.specs.declared.scripted.Mood.TheVariants as mood
 use Rattle.ipmi_image.specs.declared.scripted.Scripted.{Scripted}
 use Rattle.ipmi_image.specs.declared.scripted.Turn.{Turn}
 use Rattle.ipmi_image.specs.declared.scripted.Turn.TheVariants as turn
-use Rattle.ipmi_image.specs.Responder.{seen_as}
+use Rattle.ipmi_image.specs.Responder.{cancelled, with_reservation, seen_as}
 
 -- plain
 abbrev pub seen_of : ImageController → Seen
@@ -17,6 +25,17 @@ seen_of c = seen_as true c.responder
 -- honest, and not plain
 abbrev pub script_seen : Scripted → Seen
 script_seen s = seen_as false s.responder
+
+-- the number of the last reservation that a controller gave, 0 where it gave none
+abbrev pub last_number : ImageController → ℕ
+last_number c = c.responder.given
+
+abbrev pub script_last_number : Scripted → ℕ
+script_last_number s = s.responder.given
+
+-- the moods that are not used up yet, the next call's first
+abbrev pub moods_left : Scripted → List Mood
+moods_left s = into_iter_items s.moods
 
 -- before its answer the controller may change its store and lose its reservations
 pub record Prepares (old new : Seen) : Type 0 where
@@ -41,3 +60,67 @@ TurnCounts (turn.Failed code) old new = new.calls ≡ old.calls + 1
 abbrev pub Turns : ℕ → Turn → Seen → Seen → Type 0
 Turns asked (turn.Answers most) old new = Prepares old new
 Turns asked (turn.Failed code) old new = Fails asked code.0 old new
+
+-- ---- what each mood makes of a call
+
+abbrev pub is_refusal_class : CodeClass → Bool
+is_refusal_class Refusal = true
+is_refusal_class class = false
+
+-- after it no caller asks again or goes on; 00h is no failure
+abbrev pub is_refusal : ℕ → Bool
+is_refusal code = not (code == 0) && is_refusal_class (class_of code)
+
+-- what a mood makes of a call for so many bytes
+abbrev pub mood_turn : ℕ → Mood → Turn
+mood_turn asked (mood.Grant most) = turn.Answers (max most 1)
+mood_turn asked mood.Cancel = turn.Failed cancelled
+mood_turn asked mood.Busy = turn.Failed (record { 0 = 0xC0 })
+mood_turn asked mood.TooLong =
+    if nat_lt 1 asked then turn.Failed (record { 0 = 0xCA }) else turn.Answers 254
+mood_turn asked (mood.Refuse code) =
+    if is_refusal code.0 then turn.Failed code else turn.Answers 254
+mood_turn asked (mood.Change image) = turn.Answers 254
+
+-- the image with its reservations as a mood leaves them, before what the call counts
+abbrev pub after_mood : Mood → Responder → Responder
+after_mood mood.Cancel r = record r { sdr_reservation = None; sel_reservation = None }
+after_mood (mood.Change image) r =
+    record r { image = image; sdr_reservation = None; sel_reservation = None }
+after_mood other r = r
+
+-- the same of the mood that comes next, and of none that is left
+abbrev pub next_turn : ℕ → List Mood → Turn
+next_turn asked [] = turn.Answers 254
+next_turn asked (next ∷ moods) = mood_turn asked next
+
+abbrev pub after_next : List Mood → Responder → Responder
+after_next [] r = r
+after_next (next ∷ moods) r = after_mood next r
+
+-- ---- what a scripted controller answers, and what its next mood makes of it before the answer
+
+abbrev pub seen_after_mood : Scripted → Seen
+seen_after_mood s = seen_as false (after_next (moods_left s) s.responder)
+
+-- the plain answer, of so many bytes at most, or the code that the call fails with
+abbrev pub after_turn : {V : Type 0} → Turn → (ℕ → Result V Code) → Result V Code
+after_turn (turn.Answers most) plain = plain most
+after_turn (turn.Failed code) plain = Err code
+
+-- the answer to a call for so many bytes
+abbrev pub script_answer : {V : Type 0} → ℕ → Scripted → (ℕ → Result V Code) → Result V Code
+script_answer asked s plain = after_turn (next_turn asked (moods_left s)) plain
+
+-- but for what it counts, the controller is as its next mood left it
+abbrev pub StaysAfterMood : Scripted → Scripted → Type 0
+StaysAfterMood old new = new.responder ≡
+    record (after_next (moods_left old) old.responder) { tally = new.responder.tally }
+
+-- the same, with the reservation that was given
+abbrev pub ReservesAfterMood : Shelf → Result ℕ Code → Scripted → Scripted → Type 0
+ReservesAfterMood shelf (Ok number) old new = new.responder ≡
+    record (with_reservation shelf number (after_next (moods_left old) old.responder)) {
+      tally = new.responder.tally;
+    }
+ReservesAfterMood shelf (Err code) old new = StaysAfterMood old new

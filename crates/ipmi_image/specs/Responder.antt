@@ -1,10 +1,13 @@
 -- What contracts see of an image that answers calls.
-use Rattle.std.specs.Prelude.{◌≡◌, ℕ, ◌≤◌, ◌==◌, if◌then◌else◌, Bool, true, Option, None, Some, List, [], ◌∷◌, length, drop}
+use Rattle.std.specs.Prelude.{◌≡◌, ℕ, ◌+◌, ◌-◌, ◌≤◌, ◌==◌, nat_lt, nat_le, min, if◌then◌else◌, Bool, true, false, ◌&&◌, not, Option, None, Some, Result, Ok, Err, List, [], ◌∷◌, length, drop}
+use Rattle.ipmi_bus.specs.declared.code.Code.{Code}
+use Rattle.ipmi_bus.specs.declared.controller.FruSize.{FruSize}
+use Rattle.ipmi_bus.specs.declared.controller.Part.{Part}
 use Rattle.ipmi_bus.specs.declared.controller.Shelf.{Shelf}
 use Rattle.ipmi_bus.specs.declared.controller.Shelf.TheVariants.{Sdr, Sel}
 use Rattle.ipmi_bus.specs.Shelf.{Row}
 use Rattle.ipmi_bus.specs.Seen.{Seen}
-use Rattle.ipmi_bus.specs.Answers.{IsPiece}
+use Rattle.ipmi_bus.specs.Answers.{Asked, IsPiece, not_present}
 use Rattle.ipmi_image.specs.declared.responder.FoundRow.{FoundRow}
 use Rattle.ipmi_image.specs.declared.responder.Responder.{Responder}
 use Rattle.ipmi_image.specs.declared.stored.StoredRow.{StoredRow}
@@ -21,15 +24,85 @@ first_place (row ∷ rows) = Some 0
 abbrev pub place_asked : ℕ → List StoredRow → Option ℕ
 place_asked id rows = if id == 0 then first_place rows else place_of (λ row. row.id) id rows
 
+-- how many bytes come: the least of what is asked for, of what may be given at most, and of what is
+-- left after the offset
+abbrev pub len_given : ℕ → ℕ → ℕ → ℕ → ℕ
+len_given asked most offset len = min (min asked most) (len - offset)
+
 -- so many bytes were copied, at least one, or there is none at the offset
-abbrev pub IsCopied : List ℕ → ℕ → List ℕ → List ℕ → Option ℕ → Type 0
-IsCopied bytes offset old new None = (length bytes ≤ offset) × (new ≡ old)
-IsCopied bytes offset old new (Some got) = IsPiece bytes offset (length old) got new × (drop got new ≡ drop got old)
+abbrev pub IsCopied : List ℕ → ℕ → ℕ → List ℕ → List ℕ → Option ℕ → Type 0
+IsCopied bytes offset most old new None = (length bytes ≤ offset) × (new ≡ old)
+IsCopied bytes offset most old new (Some got) =
+    (got ≡ len_given (length old) most offset (length bytes))
+    × IsPiece bytes offset (length old) got new × (drop got new ≡ drop got old)
 
 -- the shelf's reservation, of both
 abbrev pub of_shelf : Shelf → Option ℕ → Option ℕ → Option ℕ
 of_shelf Sdr sdr sel = sdr
 of_shelf Sel sdr sel = sel
+
+-- ---- reservations
+
+-- the number after this one: 1 comes after FFFFh
+abbrev pub number_after : ℕ → ℕ
+number_after number = if number == 0xFFFF then 1 else number + 1
+
+-- this is the last reservation that was given, and that of the shelf; the other shelf's stays
+abbrev pub with_reservation : Shelf → ℕ → Responder → Responder
+with_reservation Sdr number r = record r { given = number; sdr_reservation = Some number }
+with_reservation Sel number r = record r { given = number; sel_reservation = Some number }
+
+-- past the first byte, and not under the last reservation of the shelf
+abbrev pub is_stale : ℕ → ℕ → Option ℕ → Bool
+is_stale offset reservation None = nat_lt 0 offset
+is_stale offset reservation (Some last) = nat_lt 0 offset && not (last == reservation)
+
+-- ---- parts: CBh for what is not there comes before C5h for a stale reservation, and that before
+-- C9h for an offset at or past the end
+
+-- a request for so many bytes, as a call has it
+abbrev pub part_asked : Shelf → ℕ → ℕ → ℕ → ℕ → Asked
+part_asked shelf reservation id offset len = record {
+  shelf = shelf;
+  reservation = reservation;
+  id = id;
+  offset = offset;
+  len = len;
+}
+
+abbrev pub cancelled : Code
+cancelled = record { 0 = 0xC5 }
+
+abbrev pub out_of_range : Code
+out_of_range = record { 0 = 0xC9 }
+
+-- the answer to a request for a part of the record, of which so many bytes may be given at most,
+-- where this is the shelf's last reservation
+abbrev pub part_answer : Asked → ℕ → Option ℕ → Option Row → Result Part Code
+part_answer ask most last None = Err not_present
+part_answer ask most last (Some row) =
+    if is_stale ask.offset ask.reservation last then Err cancelled
+    else if nat_le (length row.bytes) ask.offset then Err out_of_range
+    else Ok (record { next = row.next; got = len_given ask.len most ask.offset (length row.bytes) })
+
+-- the answer to a request for so many bytes of the inventory, of which so many may be given at most
+abbrev pub fru_answer : ℕ → ℕ → ℕ → Option (List ℕ) → Result ℕ Code
+fru_answer offset asked most None = Err not_present
+fru_answer offset asked most (Some bytes) =
+    if nat_le (length bytes) offset then Err out_of_range
+    else Ok (len_given asked most offset (length bytes))
+
+-- ---- other answers: CBh for what is not there
+
+-- of an info or a reading
+abbrev pub value_answer : {V : Type 0} → Option V → Result V Code
+value_answer None = Err not_present
+value_answer (Some value) = Ok value
+
+-- of the size of an inventory, which is accessed by bytes
+abbrev pub size_answer : Option (List ℕ) → Result FruSize Code
+size_answer None = Err not_present
+size_answer (Some bytes) = Ok (record { size = length bytes; words = false })
 
 -- an image as a controller's contracts see it, where it says that it is plain or not
 abbrev pub seen_as : Bool → Responder → Seen

@@ -1,7 +1,11 @@
 //! A management controller that answers from an image.
-ghost use Rattle.std.specs.Prelude.{◌≡◌, None};
-ghost use Rattle.ipmi_bus.specs.Seen.{IsPlain};
-ghost use Rattle.ipmi_image.specs.Controllers.{seen_of};
+ghost use Rattle.std.specs.Prelude.{◌≡◌, ◌+◌, ◌<◌, ◌≤◌, IfOk, OnErr, Ok, None, length, drop};
+ghost use Rattle.ipmi_bus.specs.Shelf.{look};
+ghost use Rattle.ipmi_bus.specs.Store.{rows_of, info_of, reading_of, inventory_of};
+ghost use Rattle.ipmi_bus.specs.Seen.{IsHonest, IsPlain, current};
+ghost use Rattle.ipmi_bus.specs.Answers.{ReserveAnswers, PartAnswers, ValueAnswers, SizeAnswers, BytesAnswers};
+ghost use Rattle.ipmi_image.specs.Responder.{number_after, part_asked, part_answer, fru_answer, value_answer, size_answer};
+ghost use Rattle.ipmi_image.specs.Controllers.{seen_of, last_number};
 
 use crate::image::Image;
 use crate::responder::{Responder, WHOLE};
@@ -23,6 +27,7 @@ impl ImageController {
         ensures plain { IsPlain (seen_of result) }
         ensures store { (seen_of result).store ≡ image }
         ensures none_current { ((seen_of result).sdr_reservation ≡ None) × ((seen_of result).sel_reservation ≡ None) }
+        ensures none_given { last_number result ≡ 0 }
     {
         ImageController {
             responder: Responder::new(image),
@@ -33,7 +38,13 @@ impl ImageController {
 impl Controller for ImageController {
     ghost seen = { seen_of };
 
-    fn reserve(&mut self, shelf: Shelf) -> Result<u16, Code> {
+    fn reserve(&mut self, shelf: Shelf) -> Result<u16, Code>
+        ensures counted { (seen_of self.new).calls ≡ (seen_of self.old).calls + 1 }
+        ensures honest { IsHonest (seen_of self.old) →
+            ReserveAnswers shelf result (seen_of self.old) (seen_of self.new) }
+        ensures exact { result ≡ Ok (number_after (last_number self.old)) }
+        ensures last { last_number self.new ≡ number_after (last_number self.old) }
+    {
         Ok(self.responder.reserve(shelf))
     }
 
@@ -44,24 +55,70 @@ impl Controller for ImageController {
         id: u16,
         offset: u8,
         into: &mut [u8],
-    ) -> Result<Part, Code> {
+    ) -> Result<Part, Code>
+        requires some { 0 < length into.old }
+        requires fits { length into.old < 255 }
+        ensures counted { (seen_of self.new).calls ≡ (seen_of self.old).calls + 1 }
+        ensures fits { IfOk result (λ part. part.got ≤ length into.old) }
+        ensures rest { IfOk result (λ part. drop part.got into.new ≡ drop part.got into.old) }
+        ensures err { OnErr result (into.new ≡ into.old) }
+        ensures honest { IsHonest (seen_of self.old) →
+            PartAnswers (part_asked shelf reservation id offset (length into.old)) result into.new
+            (seen_of self.old) (seen_of self.new) }
+        ensures exact { result ≡ part_answer
+            (part_asked shelf reservation id offset (length into.old))
+            254 (current shelf (seen_of self.old))
+            (look (rows_of shelf (seen_of self.old).store) id) }
+        ensures last { last_number self.new ≡ last_number self.old }
+    {
         self.responder
             .part(shelf, reservation, id, offset, WHOLE, into)
     }
 
-    fn info(&mut self, shelf: Shelf) -> Result<[u8; 14], Code> {
+    fn info(&mut self, shelf: Shelf) -> Result<[u8; 14], Code>
+        ensures counted { (seen_of self.new).calls ≡ (seen_of self.old).calls + 1 }
+        ensures honest { IsHonest (seen_of self.old) →
+            ValueAnswers (info_of shelf) result (seen_of self.old) (seen_of self.new) }
+        ensures exact { result ≡ value_answer (info_of shelf (seen_of self.old).store) }
+        ensures last { last_number self.new ≡ last_number self.old }
+    {
         self.responder.info(shelf)
     }
 
-    fn reading(&mut self, lun: u8, number: u8) -> Result<Reading, Code> {
+    fn reading(&mut self, lun: u8, number: u8) -> Result<Reading, Code>
+        ensures counted { (seen_of self.new).calls ≡ (seen_of self.old).calls + 1 }
+        ensures honest { IsHonest (seen_of self.old) →
+            ValueAnswers (reading_of lun number) result (seen_of self.old) (seen_of self.new) }
+        ensures exact { result ≡ value_answer (reading_of lun number (seen_of self.old).store) }
+        ensures last { last_number self.new ≡ last_number self.old }
+    {
         self.responder.reading(lun, number)
     }
 
-    fn fru_size(&mut self, id: u8) -> Result<FruSize, Code> {
+    fn fru_size(&mut self, id: u8) -> Result<FruSize, Code>
+        ensures counted { (seen_of self.new).calls ≡ (seen_of self.old).calls + 1 }
+        ensures honest { IsHonest (seen_of self.old) →
+            SizeAnswers id result (seen_of self.old) (seen_of self.new) }
+        ensures exact { result ≡ size_answer (inventory_of id (seen_of self.old).store) }
+        ensures last { last_number self.new ≡ last_number self.old }
+    {
         self.responder.fru_size(id)
     }
 
-    fn fru_part(&mut self, id: u8, offset: u16, into: &mut [u8]) -> Result<u8, Code> {
+    fn fru_part(&mut self, id: u8, offset: u16, into: &mut [u8]) -> Result<u8, Code>
+        requires some { 0 < length into.old }
+        requires fits { length into.old < 255 }
+        ensures counted { (seen_of self.new).calls ≡ (seen_of self.old).calls + 1 }
+        ensures fits { IfOk result (λ got. got ≤ length into.old) }
+        ensures rest { IfOk result (λ got. drop got into.new ≡ drop got into.old) }
+        ensures err { OnErr result (into.new ≡ into.old) }
+        ensures honest { IsHonest (seen_of self.old) →
+            BytesAnswers id offset (length into.old) result into.new
+            (seen_of self.old) (seen_of self.new) }
+        ensures exact { result ≡
+            fru_answer offset (length into.old) 254 (inventory_of id (seen_of self.old).store) }
+        ensures last { last_number self.new ≡ last_number self.old }
+    {
         self.responder.fru_part(id, offset, WHOLE, into)
     }
 }

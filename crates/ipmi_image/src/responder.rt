@@ -3,12 +3,12 @@ ghost use Rattle.std.specs.Prelude.{◌≡◌, ◌+◌, ◌<◌, ◌≤◌, ◌�
 ghost use Rattle.std.specs.Option.{option_map, unwrap_or};
 ghost use Rattle.ipmi_bus.specs.Shelf.{look};
 ghost use Rattle.ipmi_bus.specs.Code.{class_of};
-ghost use Rattle.ipmi_bus.specs.Store.{IsStore, info_of, reading_of, inventory_of};
+ghost use Rattle.ipmi_bus.specs.Store.{IsStore, rows_of, info_of, reading_of, inventory_of};
 ghost use Rattle.ipmi_bus.specs.Seen.{IsHonest};
 ghost use Rattle.ipmi_bus.specs.Answers.{FailsWith, ReserveAnswers, PartAnswers, ValueAnswers, SizeAnswers, BytesAnswers};
 ghost use Rattle.ipmi_image.specs.Image.{chained, first_id};
 ghost use Rattle.ipmi_image.specs.Stored.{row_of};
-ghost use Rattle.ipmi_image.specs.Responder.{seen_as, of_shelf, row_found, place_asked, IsCopied};
+ghost use Rattle.ipmi_image.specs.Responder.{seen_as, of_shelf, row_found, place_asked, IsCopied, number_after, with_reservation, part_asked, part_answer, fru_answer, value_answer, size_answer};
 
 use crate::image::Image;
 use crate::stored::{StoredRow, Table, sensor_key};
@@ -83,7 +83,7 @@ fn copy_piece(bytes: &[u8], offset: usize, most: u8, into: &mut [u8]) -> Option<
     requires some { 0 < length into.old }
     requires fits { length into.old < 255 }
     requires one { 0 < most }
-    ensures { IsCopied bytes.now offset into.old into.new result }
+    ensures { IsCopied bytes.now offset most into.old into.new result }
 {
     if offset >= bytes.len() {
         return None;
@@ -109,6 +109,7 @@ impl Responder {
     pub(crate) fn new(image: Image) -> Responder
         ensures store { (plain : Bool) → (seen_as plain result).store ≡ image }
         ensures none_current { (plain : Bool) → ((seen_as plain result).sdr_reservation ≡ None) × ((seen_as plain result).sel_reservation ≡ None) }
+        ensures none_given { result.given ≡ 0 }
     {
         Responder {
             image,
@@ -132,6 +133,8 @@ impl Responder {
         ensures store { IsStore self.new.image }
         ensures changed { self.new.tally.counts ≡ record self.old.tally.counts { stores_added = self.old.tally.counts.stores_added + 1 } }
         ensures forgotten { (self.new.sdr_reservation ≡ None) × (self.new.sel_reservation ≡ None) }
+        ensures image { self.new.image ≡ image }
+        ensures given { self.new.given ≡ self.old.given }
     {
         self.image = image;
         self.forget();
@@ -160,6 +163,10 @@ impl Responder {
     pub(crate) fn reserve(&mut self, shelf: Shelf) -> u16
         ensures counted { self.new.tally.counts.calls ≡ self.old.tally.counts.calls + 1 }
         ensures answers { (plain : Bool) → IsHonest (seen_as plain self.old) → ReserveAnswers shelf (Ok result) (seen_as plain self.old) (seen_as plain self.new) }
+        ensures number { result ≡ number_after self.old.given }
+        ensures another { result ≢ self.old.given }
+        ensures kept { self.new ≡
+            record (with_reservation shelf result self.old) { tally = self.new.tally } }
     {
         self.tally.count(Event::Called);
         let number = if self.given == 0xFFFF {
@@ -207,6 +214,11 @@ impl Responder {
         ensures answers { (plain : Bool) → IsHonest (seen_as plain self.old) →
             PartAnswers (record { shelf = shelf; reservation = reservation; id = id; offset = offset; len = length into.old })
             result into.new (seen_as plain self.old) (seen_as plain self.new) }
+        ensures same { self.new ≡ record self.old { tally = self.new.tally } }
+        ensures exact { result ≡ part_answer
+            (part_asked shelf reservation id offset (length into.old))
+            most (of_shelf shelf self.old.sdr_reservation self.old.sel_reservation)
+            (look (rows_of shelf self.old.image) id) }
     {
         self.tally.count(Event::Called);
         let is_reserved = self.is_reserved(shelf, reservation, offset);
@@ -235,6 +247,8 @@ impl Responder {
     pub(crate) fn info(&mut self, shelf: Shelf) -> Result<[u8; 14], Code>
         ensures counted { self.new.tally.counts.calls ≡ self.old.tally.counts.calls + 1 }
         ensures answers { (plain : Bool) → IsHonest (seen_as plain self.old) → ValueAnswers (info_of shelf) result (seen_as plain self.old) (seen_as plain self.new) }
+        ensures same { self.new ≡ record self.old { tally = self.new.tally } }
+        ensures exact { result ≡ value_answer (info_of shelf self.old.image) }
     {
         self.tally.count(Event::Called);
         self.tally.count(Event::Finished);
@@ -245,6 +259,8 @@ impl Responder {
     pub(crate) fn reading(&mut self, lun: u8, number: u8) -> Result<Reading, Code>
         ensures counted { self.new.tally.counts.calls ≡ self.old.tally.counts.calls + 1 }
         ensures answers { (plain : Bool) → IsHonest (seen_as plain self.old) → ValueAnswers (reading_of lun number) result (seen_as plain self.old) (seen_as plain self.new) }
+        ensures same { self.new ≡ record self.old { tally = self.new.tally } }
+        ensures exact { result ≡ value_answer (reading_of lun number self.old.image) }
     {
         self.tally.count(Event::Called);
         self.tally.count(Event::Finished);
@@ -255,6 +271,8 @@ impl Responder {
     pub(crate) fn fru_size(&mut self, id: u8) -> Result<FruSize, Code>
         ensures counted { self.new.tally.counts.calls ≡ self.old.tally.counts.calls + 1 }
         ensures answers { (plain : Bool) → IsHonest (seen_as plain self.old) → SizeAnswers id result (seen_as plain self.old) (seen_as plain self.new) }
+        ensures same { self.new ≡ record self.old { tally = self.new.tally } }
+        ensures exact { result ≡ size_answer (inventory_of id self.old.image) }
     {
         self.tally.count(Event::Called);
         let Some(bytes) = self.image.inventory(id) else {
@@ -285,6 +303,9 @@ impl Responder {
         ensures err { OnErr result (into.new ≡ into.old) }
         ensures answers { (plain : Bool) → IsHonest (seen_as plain self.old) →
             BytesAnswers id offset (length into.old) result into.new (seen_as plain self.old) (seen_as plain self.new) }
+        ensures same { self.new ≡ record self.old { tally = self.new.tally } }
+        ensures exact { result ≡
+            fru_answer offset (length into.old) most (inventory_of id self.old.image) }
     {
         self.tally.count(Event::Called);
         let Some(bytes) = self.image.inventory(id) else {

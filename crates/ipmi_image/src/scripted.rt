@@ -1,7 +1,11 @@
 //! A management controller that follows a script.
-ghost use Rattle.std.specs.Prelude.{◌≡◌, None};
-ghost use Rattle.ipmi_bus.specs.Seen.{IsHonest};
-ghost use Rattle.ipmi_image.specs.Controllers.{script_seen, TurnCounts, Turns};
+ghost use Rattle.std.specs.Prelude.{◌≡◌, ◌+◌, ◌<◌, ◌≤◌, false, IfOk, OnErr, Ok, None, length, drop};
+ghost use Rattle.ipmi_bus.specs.Shelf.{look};
+ghost use Rattle.ipmi_bus.specs.Store.{rows_of, info_of, reading_of, inventory_of};
+ghost use Rattle.ipmi_bus.specs.Seen.{IsHonest, current};
+ghost use Rattle.ipmi_bus.specs.Answers.{ReserveAnswers, PartAnswers, ValueAnswers, SizeAnswers, BytesAnswers};
+ghost use Rattle.ipmi_image.specs.Responder.{seen_as, number_after, part_asked, part_answer, fru_answer, value_answer, size_answer};
+ghost use Rattle.ipmi_image.specs.Controllers.{script_seen, script_last_number, moods_left, seen_after_mood, script_answer, StaysAfterMood, ReservesAfterMood, TurnCounts, Turns, mood_turn, after_mood, next_turn};
 
 use crate::image::Image;
 use crate::responder::{Responder, WHOLE};
@@ -40,12 +44,49 @@ pub struct Scripted {
     moods: IntoIter<Mood>,
 }
 
+/// Makes of a call for so many bytes what the mood says.
+fn mood_turn(responder: &mut Responder, mood: Mood, asked: usize) -> Turn
+    ensures counts { TurnCounts result (seen_as false responder.old) (seen_as false responder.new) }
+    ensures turns { IsHonest (seen_as false responder.old) →
+        Turns asked result (seen_as false responder.old) (seen_as false responder.new) }
+    ensures exact { result ≡ mood_turn asked mood }
+    ensures leaves { responder.new ≡
+        record (after_mood mood responder.old) { tally = responder.new.tally } }
+{
+    match mood {
+        Mood::Grant(most) => Turn::Answers(most.max(1)),
+        Mood::Cancel => {
+            responder.forget();
+            Turn::Failed(responder.fail(Code(0xC5)))
+        }
+        Mood::Busy => Turn::Failed(responder.fail(Code(0xC0))),
+        Mood::TooLong => {
+            if asked > 1 {
+                return Turn::Failed(responder.fail(Code(0xCA)));
+            }
+            Turn::Answers(WHOLE)
+        }
+        Mood::Refuse(code) => {
+            if code.0 != 0 && code.class() == CodeClass::Refusal {
+                return Turn::Failed(responder.fail(code));
+            }
+            Turn::Answers(WHOLE)
+        }
+        Mood::Change(image) => {
+            responder.change(image);
+            Turn::Answers(WHOLE)
+        }
+    }
+}
+
 impl Scripted {
     /// A controller that holds what the image does, with moods for its first calls. No reservation is current.
     pub fn new(image: Image, moods: Vec<Mood>) -> Scripted
         ensures honest { IsHonest (script_seen result) }
         ensures store { (script_seen result).store ≡ image }
         ensures none_current { ((script_seen result).sdr_reservation ≡ None) × ((script_seen result).sel_reservation ≡ None) }
+        ensures none_given { script_last_number result ≡ 0 }
+        ensures moods { moods_left result ≡ moods.items }
     {
         Scripted {
             responder: Responder::new(image),
@@ -57,31 +98,13 @@ impl Scripted {
     fn turn(&mut self, asked: usize) -> Turn
         ensures counts { TurnCounts result (script_seen self.old) (script_seen self.new) }
         ensures turns { IsHonest (script_seen self.old) → Turns asked result (script_seen self.old) (script_seen self.new) }
+        ensures used { moods_left self.new ≡ drop 1 (moods_left self.old) }
+        ensures exact { result ≡ next_turn asked (moods_left self.old) }
+        ensures leaves { StaysAfterMood self.old self.new }
     {
         match self.moods.next() {
             None => Turn::Answers(WHOLE),
-            Some(Mood::Grant(most)) => Turn::Answers(most.max(1)),
-            Some(Mood::Cancel) => {
-                self.responder.forget();
-                Turn::Failed(self.responder.fail(Code(0xC5)))
-            }
-            Some(Mood::Busy) => Turn::Failed(self.responder.fail(Code(0xC0))),
-            Some(Mood::TooLong) => {
-                if asked > 1 {
-                    return Turn::Failed(self.responder.fail(Code(0xCA)));
-                }
-                Turn::Answers(WHOLE)
-            }
-            Some(Mood::Refuse(code)) => {
-                if code.0 != 0 && code.class() == CodeClass::Refusal {
-                    return Turn::Failed(self.responder.fail(code));
-                }
-                Turn::Answers(WHOLE)
-            }
-            Some(Mood::Change(image)) => {
-                self.responder.change(image);
-                Turn::Answers(WHOLE)
-            }
+            Some(mood) => mood_turn(&mut self.responder, mood, asked),
         }
     }
 }
@@ -89,7 +112,15 @@ impl Scripted {
 impl Controller for Scripted {
     ghost seen = { script_seen };
 
-    fn reserve(&mut self, shelf: Shelf) -> Result<u16, Code> {
+    fn reserve(&mut self, shelf: Shelf) -> Result<u16, Code>
+        ensures counted { (script_seen self.new).calls ≡ (script_seen self.old).calls + 1 }
+        ensures honest { IsHonest (script_seen self.old) →
+            ReserveAnswers shelf result (script_seen self.old) (script_seen self.new) }
+        ensures exact { result ≡ script_answer 1 self.old
+            (λ most. Ok (number_after (script_last_number self.old))) }
+        ensures used { moods_left self.new ≡ drop 1 (moods_left self.old) }
+        ensures leaves { ReservesAfterMood shelf result self.old self.new }
+    {
         match self.turn(1) {
             Turn::Answers(_) => Ok(self.responder.reserve(shelf)),
             Turn::Failed(code) => Err(code),
@@ -103,7 +134,23 @@ impl Controller for Scripted {
         id: u16,
         offset: u8,
         into: &mut [u8],
-    ) -> Result<Part, Code> {
+    ) -> Result<Part, Code>
+        requires some { 0 < length into.old }
+        requires fits { length into.old < 255 }
+        ensures counted { (script_seen self.new).calls ≡ (script_seen self.old).calls + 1 }
+        ensures fits { IfOk result (λ part. part.got ≤ length into.old) }
+        ensures rest { IfOk result (λ part. drop part.got into.new ≡ drop part.got into.old) }
+        ensures err { OnErr result (into.new ≡ into.old) }
+        ensures honest { IsHonest (script_seen self.old) →
+            PartAnswers (part_asked shelf reservation id offset (length into.old)) result into.new
+            (script_seen self.old) (script_seen self.new) }
+        ensures exact { result ≡ script_answer (length into.old) self.old (λ most. part_answer
+            (part_asked shelf reservation id offset (length into.old))
+            most (current shelf (seen_after_mood self.old))
+            (look (rows_of shelf (seen_after_mood self.old).store) id)) }
+        ensures used { moods_left self.new ≡ drop 1 (moods_left self.old) }
+        ensures leaves { StaysAfterMood self.old self.new }
+    {
         match self.turn(into.len()) {
             Turn::Answers(most) => self
                 .responder
@@ -112,28 +159,68 @@ impl Controller for Scripted {
         }
     }
 
-    fn info(&mut self, shelf: Shelf) -> Result<[u8; 14], Code> {
+    fn info(&mut self, shelf: Shelf) -> Result<[u8; 14], Code>
+        ensures counted { (script_seen self.new).calls ≡ (script_seen self.old).calls + 1 }
+        ensures honest { IsHonest (script_seen self.old) →
+            ValueAnswers (info_of shelf) result (script_seen self.old) (script_seen self.new) }
+        ensures exact { result ≡ script_answer 1 self.old
+            (λ most. value_answer (info_of shelf (seen_after_mood self.old).store)) }
+        ensures used { moods_left self.new ≡ drop 1 (moods_left self.old) }
+        ensures leaves { StaysAfterMood self.old self.new }
+    {
         match self.turn(1) {
             Turn::Answers(_) => self.responder.info(shelf),
             Turn::Failed(code) => Err(code),
         }
     }
 
-    fn reading(&mut self, lun: u8, number: u8) -> Result<Reading, Code> {
+    fn reading(&mut self, lun: u8, number: u8) -> Result<Reading, Code>
+        ensures counted { (script_seen self.new).calls ≡ (script_seen self.old).calls + 1 }
+        ensures honest { IsHonest (script_seen self.old) →
+            ValueAnswers (reading_of lun number) result
+            (script_seen self.old) (script_seen self.new) }
+        ensures exact { result ≡ script_answer 1 self.old
+            (λ most. value_answer (reading_of lun number (seen_after_mood self.old).store)) }
+        ensures used { moods_left self.new ≡ drop 1 (moods_left self.old) }
+        ensures leaves { StaysAfterMood self.old self.new }
+    {
         match self.turn(1) {
             Turn::Answers(_) => self.responder.reading(lun, number),
             Turn::Failed(code) => Err(code),
         }
     }
 
-    fn fru_size(&mut self, id: u8) -> Result<FruSize, Code> {
+    fn fru_size(&mut self, id: u8) -> Result<FruSize, Code>
+        ensures counted { (script_seen self.new).calls ≡ (script_seen self.old).calls + 1 }
+        ensures honest { IsHonest (script_seen self.old) →
+            SizeAnswers id result (script_seen self.old) (script_seen self.new) }
+        ensures exact { result ≡ script_answer 1 self.old
+            (λ most. size_answer (inventory_of id (seen_after_mood self.old).store)) }
+        ensures used { moods_left self.new ≡ drop 1 (moods_left self.old) }
+        ensures leaves { StaysAfterMood self.old self.new }
+    {
         match self.turn(1) {
             Turn::Answers(_) => self.responder.fru_size(id),
             Turn::Failed(code) => Err(code),
         }
     }
 
-    fn fru_part(&mut self, id: u8, offset: u16, into: &mut [u8]) -> Result<u8, Code> {
+    fn fru_part(&mut self, id: u8, offset: u16, into: &mut [u8]) -> Result<u8, Code>
+        requires some { 0 < length into.old }
+        requires fits { length into.old < 255 }
+        ensures counted { (script_seen self.new).calls ≡ (script_seen self.old).calls + 1 }
+        ensures fits { IfOk result (λ got. got ≤ length into.old) }
+        ensures rest { IfOk result (λ got. drop got into.new ≡ drop got into.old) }
+        ensures err { OnErr result (into.new ≡ into.old) }
+        ensures honest { IsHonest (script_seen self.old) →
+            BytesAnswers id offset (length into.old) result into.new
+            (script_seen self.old) (script_seen self.new) }
+        ensures exact { result ≡ script_answer (length into.old) self.old
+            (λ most. fru_answer offset (length into.old) most
+            (inventory_of id (seen_after_mood self.old).store)) }
+        ensures used { moods_left self.new ≡ drop 1 (moods_left self.old) }
+        ensures leaves { StaysAfterMood self.old self.new }
+    {
         match self.turn(into.len()) {
             Turn::Answers(most) => self.responder.fru_part(id, offset, most, into),
             Turn::Failed(code) => Err(code),

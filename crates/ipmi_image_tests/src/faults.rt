@@ -3,10 +3,15 @@ use ipmi_image::Image;
 use std::alloc::Global;
 use std::process::Abort;
 
-/// Puts the text at the end of the image, with a line feed for each semicolon.
+/// Puts the text at the end of the image, with a line feed for each semicolon, and for each tilde FFh, a byte that
+/// no UTF-8 has.
 fn push_lines(rt: &impl Abort, image: &mut Vec<u8>, text: &str) {
     for byte in text.bytes() {
-        let byte = if byte == b';' { b'\n' } else { byte };
+        let byte = match byte {
+            b';' => b'\n',
+            b'~' => 0xFF,
+            _ => byte,
+        };
         image.push(byte).expect(rt, "memory");
     }
 }
@@ -155,6 +160,41 @@ end\u{a0};|line 2: not a line";
 #[test]
 fn each_byte_is_a_character(rt: HostRuntime) {
     have_verdicts(&rt, rt.alloc(), "ipmi-image 1;", TWO_BYTES);
+}
+
+/// Whole images that begin with bytes that are no UTF-8, or have them in their first line.
+const NO_TEXT_FIRST: &str = "~|header
+~;end;|header
+~ipmi-image 1;end;|header
+ipmi-image ~;end;|header
+ipmi-image 1~;end;|header";
+
+/// Lines after the first one, with bytes that are no UTF-8.
+const NO_TEXT: &str = "~|no end
+fru 00 00;~|no end
+~;end;|line 2: not a line
+sdr~ 0001 ffff 010051c000;end;|line 2: not a line
+sdr 0001~ffff 010051c000;end;|line 2: not a line
+sdr 00~ ffff 010051c000;end;|line 2: not a line
+sdr 00~~ ffff 010051c000;end;|line 2: hex
+sdr 0001 ~~~~ 010051c000;end;|line 2: hex
+sdr 0001 ffff 0100~~c000;end;|line 2: hex
+sel 0001 ffff ~;end;|line 2: hex
+fru ~~ 00;end;|line 2: hex
+fru 00 00;fru 00 ~~;end;|line 3: hex
+reading ~ 01 2dc00000;end;|line 2: hex
+reading 0 ~~ 2dc00000;end;|line 2: hex
+info ~~~ 510300000401000020ffffffff02;end;|line 2: not a line
+info sdr ~~;end;|line 2: hex
+end~;|line 2: not a line
+end;~|line 3: after end
+end;~;|line 3: after end";
+
+// An image is bytes, of which those that no text has are no digits, no separators and no words.
+#[test]
+fn bytes_that_are_no_utf8_have_a_fault(rt: HostRuntime) {
+    have_verdicts(&rt, rt.alloc(), "", NO_TEXT_FIRST);
+    have_verdicts(&rt, rt.alloc(), "ipmi-image 1;", NO_TEXT);
 }
 
 /// Lines after the first one, with several faults.

@@ -1,29 +1,34 @@
-use Rattle.std.proofs.Common.{rules, false}
+use Rattle.std.proofs.Common.{◌≡◌, [], ap, refl, sym, ◌∙◌, drop}
+use Rattle.std.specs.Vec.Iter.{into_iter_deque, into_iter_len}
+use Rattle.ipmi_image.specs.declared.scripted.Scripted.{Scripted}
+use Rattle.ipmi_image.specs.Controllers.{moods_left, next_turn}
+use Rattle.ipmi_image.proofs.ScriptLemmas.{nothing_left}
 use Rattle.ipmi_image.proofs.scripted.Scripted.turn.Goals as goal
 
-pub returns-then-asked-gt1-clause-turns : goal.returns-then-asked-gt1-clause-turns
-returns-then-asked-gt1-clause-turns c = λ h. rw c.fail-then-asked-gt1.ensures.code (record {
-  change = search rules;
-  gives = (c.if-asked-gt1.true, (c.fail-then-asked-gt1.ensures.counts false).1);
-  sdr = search rules;
-  sel = search rules;
-})
+-- where none is counted, none is left
+no_mood : (s : Scripted) → into_iter_len s.moods ≡ 0 → moods_left s ≡ []
+no_mood s none = nothing_left _ (sym (into_iter_deque s.moods).ok.0 ∙ none)
 
-pub returns-in-Some-Cancel-clause-turns : goal.returns-in-Some-Cancel-clause-turns
-returns-in-Some-Cancel-clause-turns c = λ h.
-    let all = c.fail.ensures.counts false in
-    let counts = rw c.forget.ensures at all in
-    rw c.fail.ensures.code (record {
-      change = search rules;
-      gives = record { troubles = counts.troubles; fresh_troubles = counts.fresh_troubles; refusals = counts.refusals; last_code = counts.last_code };
-      sdr = search rules;
-      sel = search rules;
-    })
+pub returns-in-None-clause-used : goal.returns-in-None-clause-used
+returns-in-None-clause-used c =
+    let none = no_mood c.args.self.now c.in-None.ensures.cases.0 in
+    sym c.in-None.ensures.items ∙ none ∙ ap (drop 1) (sym none)
 
-pub returns-in-Some-Busy-clause-turns : goal.returns-in-Some-Busy-clause-turns
-returns-in-Some-Busy-clause-turns c = λ h. rw c.fail-in-Some-Busy.ensures.code (record {
-  change = search rules;
-  gives = c.fail-in-Some-Busy.ensures.counts false;
-  sdr = search rules;
-  sel = search rules;
-})
+pub returns-in-None-clause-exact : goal.returns-in-None-clause-exact
+returns-in-None-clause-exact c =
+    let none = no_mood c.args.self.now c.in-None.ensures.cases.0 in
+    ap (next_turn c.args.asked) (sym none)
+
+pub returns-in-None-clause-leaves : goal.returns-in-None-clause-leaves
+returns-in-None-clause-leaves c =
+    let none = no_mood c.args.self.now c.in-None.ensures.cases.0 in
+    rw none refl
+
+pub returns-in-Some-clause-used : goal.returns-in-Some-clause-used
+returns-in-Some-clause-used c = ap (drop 1) (sym c.in-Some.ensures.cases.0)
+
+pub returns-in-Some-clause-exact : goal.returns-in-Some-clause-exact
+returns-in-Some-clause-exact c = rw c.in-Some.ensures.cases.0 c.mood_turn.ensures.exact
+
+pub returns-in-Some-clause-leaves : goal.returns-in-Some-clause-leaves
+returns-in-Some-clause-leaves c = rw c.in-Some.ensures.cases.0 c.mood_turn.ensures.leaves
