@@ -1,6 +1,7 @@
 #!/usr/bin/env bash
 # What the program reads: the file of `--image` or standard input, up to 64 MiB and no byte more; nothing after a usage
 # fault, or for a command that can't be run yet; and the words of its command line where there are none, or where one is no text.
+# And that it says a write fault once.
 set -uo pipefail
 cd "$(dirname "$0")/.."
 make -s build || exit 1
@@ -65,4 +66,13 @@ expect 2 "$(cat "$small")" "$usage" bash -c '"$0" fru; status=$?; cat; exit $sta
 expect 0 "$lines" '' bash -c 'exec -a "" "$0"' "$program" < "$small"
 expect 2 '' "$usage" "$program" $'\xff' < "$small"
 expect 2 '' "$usage" "$program" --image $'a\xff' < "$small"
+
+# A write fault is said once, where a short output meets it as it is flushed, and where a long one meets it before its last line.
+{
+  echo 'ipmi-image 2'
+  for id in {1..4000}; do printf 'sdr %04x - %02x%02x51c000\n' "$id" $((id % 256)) $((id / 256)); done
+  echo 'end'
+} > "$work/many"
+expect 4 '' 'write fault' bash -c '"$0" < "$1" > /dev/full' "$program" "$small"
+expect 4 '' 'write fault' bash -c '"$0" < "$1" > /dev/full' "$program" "$work/many"
 exit "$failed"

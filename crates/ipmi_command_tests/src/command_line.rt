@@ -1,6 +1,7 @@
 //! Command lines: the tasks that words name, options, and faults.
 mod faults;
 pub(crate) mod lines;
+mod memory;
 mod options;
 mod scopes;
 mod tasks;

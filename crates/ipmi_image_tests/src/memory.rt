@@ -33,7 +33,7 @@ fn is_read_and_written(rt: &impl Abort, alloc: Global) -> bool {
 
 // `SAVED` has a line of each kind.
 #[test]
-fn an_image_has_memory(rt: HostRuntime) {
+fn always_out_of_memory(rt: HostRuntime) {
     assert!(rt; is_read_and_written(&rt, rt.alloc()));
 }
 

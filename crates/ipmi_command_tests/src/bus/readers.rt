@@ -245,7 +245,7 @@ fn is_one_byte(rt: &impl Abort, bytes: &[u8]) {
 }
 
 #[test]
-fn an_inventory_has_memory(rt: HostRuntime) {
+fn always_out_of_memory(rt: HostRuntime) {
     let mut ctl = Replay::new(&ONE_BYTE);
     let bytes = read_fru(rt.alloc(), &mut ctl, 0, 32, 5).expect(&rt, "an inventory");
     is_one_byte(&rt, &bytes);

@@ -1,5 +1,6 @@
-//! Command lines that are no command, each with its fault.
+//! Command lines that are no command, each with its fault, which is answered by the usage line.
 use super::lines::{read_line, read_words};
+use crate::commands::answers::is_usage;
 use ipmi_command_line::{Command, UsageFault};
 use std::alloc::{AllocError, Global};
 use std::process::Abort;
@@ -12,9 +13,11 @@ fn is_fault(rt: &impl Abort, got: &Result<Command, UsageFault>, wanted: UsageFau
     }
 }
 
-/// Asserts that the words of a line have this fault.
+/// Asserts that the words of a line have this fault, and that the answer over an image is the usage line.
 fn fails(rt: &impl Abort, alloc: Global, line: &str, fault: UsageFault) {
-    is_fault(rt, &read_line(rt, alloc, line), fault, line);
+    let got = read_line(rt, alloc, line);
+    is_fault(rt, &got, fault, line);
+    is_usage(rt, alloc, &got, line);
 }
 
 /// The same for each of these lines.
@@ -24,9 +27,12 @@ fn all_fail(rt: &impl Abort, alloc: Global, lines: &str, fault: UsageFault) {
     }
 }
 
-/// Asserts that the words of a line, which are split at commas, are no command.
+/// Asserts that the words of a line, which are split at commas, are no command, and that the answer over an image is the usage
+/// line.
 fn no_command(rt: &impl Abort, alloc: Global, line: &str) {
-    is_fault(rt, &read_words(rt, alloc, line), UsageFault::Command, line);
+    let got = read_words(rt, alloc, line);
+    is_fault(rt, &got, UsageFault::Command, line);
+    is_usage(rt, alloc, &got, line);
 }
 
 const OTHER_WORDS: &str = "hex

@@ -1,11 +1,18 @@
 //! What the answer to a command line leaves over the bytes of an image, and how it is compared with what is wanted.
 use super::left::text_of;
+use super::saved::THREE_ROWS;
 use crate::command_line::lines::{command, read_line};
 use ipmi_command_line::{Command, UsageFault};
 use ipmi_commands::answer;
 use ipmi_output::Written;
 use std::alloc::Global;
 use std::process::Abort;
+
+/// What a usage fault leaves, in the form of `answered_text`.
+pub(super) const USAGE: &str = "2
+usage: ipmitool [--image FILE] [--from HEX4] [--part N] [--tries N] fru|sdr|sel WORDS
+--
+";
 
 /// What the answer to a command line left: output, messages and status.
 #[derive(Drop)]
@@ -56,6 +63,16 @@ pub(super) fn is_answered(
 ) {
     let left = left_by_answer(alloc, line, image);
     is_answer(rt, alloc, &left, wanted, case);
+}
+
+/// Asserts that the answer to a command line over three records is the usage line, with no output.
+pub(crate) fn is_usage(
+    rt: &impl Abort,
+    alloc: Global,
+    line: &Result<Command, UsageFault>,
+    case: &str,
+) {
+    is_answered(rt, alloc, line, THREE_ROWS.as_bytes(), USAGE, case);
 }
 
 /// Asserts what the answer to these words leaves. The case is an image, a line of dashes, and what is left.

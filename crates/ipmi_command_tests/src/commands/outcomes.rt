@@ -1,5 +1,5 @@
 //! The outcomes of runs and of answers: the status, the messages and the output, and how many calls are made.
-use super::answers::{is_answered, words_are_answered};
+use super::answers::{USAGE, is_answered, words_are_answered};
 use super::left::{is_left, left_by};
 use super::over_images::over;
 use super::saved::THREE_ROWS;
@@ -141,12 +141,6 @@ fn lines_are_answered_over_an_image(rt: HostRuntime) {
         words_are_answered(&rt, rt.alloc(), THREE_ROWS, case);
     }
 }
-
-/// What a usage fault leaves.
-const USAGE: &str = "2
-usage: ipmitool [--image FILE] [--from HEX4] [--part N] [--tries N] fru|sdr|sel WORDS
---
-";
 
 /// What want of memory leaves.
 const OUT_OF_MEMORY: &str = "5

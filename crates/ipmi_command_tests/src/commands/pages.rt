@@ -216,7 +216,7 @@ fn is_whole(rt: &impl Abort, left: &Left) {
 }
 
 #[test]
-fn pages_have_memory(rt: HostRuntime) {
+fn always_out_of_memory(rt: HostRuntime) {
     let left = three_in_pages(rt.alloc()).expect(&rt, "memory");
     is_whole(&rt, &left);
 }

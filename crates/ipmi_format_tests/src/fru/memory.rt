@@ -28,7 +28,7 @@ Record fault: outside
 
 /// With ample memory the text is whole.
 #[test]
-fn an_inventory_has_memory(rt: HostRuntime) {
+fn always_out_of_memory(rt: HostRuntime) {
     is_text(&rt, print_fru(rt.alloc(), &MIXED), MIXED_LINES, "mixed");
 }
 

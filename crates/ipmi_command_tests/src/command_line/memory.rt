@@ -1,0 +1,56 @@
+//! Each call that takes memory, once: with ample memory, and with requests for memory refused.
+use super::lines::command_of_words;
+use ipmi_command_line::{Command, Task, UsageFault, Word, Words};
+use std::alloc::{AllocError, Global};
+use std::process::Abort;
+
+const LINE: [&str; 6] = ["ipmitool", "--image", "server.image", "sdr", "get", "Fan 1"];
+
+/// The words of the line.
+fn words(alloc: Global) -> Result<Words, AllocError> {
+    let mut words = Words::new(alloc);
+    for word in LINE {
+        words.push(word)?;
+    }
+    Ok(words)
+}
+
+/// The command of the line.
+fn command(rt: &impl Abort, alloc: Global) -> Result<Command, UsageFault> {
+    let words = words(alloc)?;
+    command_of_words(rt, alloc, &words)
+}
+
+/// Asserts that a word is the name.
+fn is_name(rt: &impl Abort, word: &Word) {
+    assert!(rt; word.as_str() == "Fan 1");
+}
+
+/// Asserts that the command has the name and the image. It takes no memory.
+fn is_whole(rt: &impl Abort, command: &Command) {
+    match command.task() {
+        Task::Get(name) => is_name(rt, name),
+        _ => panic!(rt; "another task"),
+    }
+    let image = command.image().expect(rt, "an image");
+    assert!(rt; image.as_str() == "server.image");
+}
+
+/// With ample memory each of them gives what it is asked for.
+#[test]
+fn always_out_of_memory(rt: HostRuntime) {
+    is_name(&rt, &Word::new(rt.alloc(), "Fan 1").expect(&rt, "memory"));
+    is_whole(&rt, &command(&rt, rt.alloc()).expect(&rt, "a command"));
+}
+
+/// Where memory is refused, each of them gives what it is asked for, or wants memory.
+#[test]
+fn memory_may_be_refused(rt: HostRuntime) {
+    if let Ok(word) = Word::new(rt.alloc(), "Fan 1") {
+        is_name(&rt, &word);
+    }
+    match command(&rt, rt.alloc()) {
+        Ok(command) => is_whole(&rt, &command),
+        Err(fault) => assert!(rt; fault == UsageFault::Memory),
+    }
+}

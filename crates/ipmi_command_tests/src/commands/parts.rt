@@ -1,0 +1,120 @@
+//! Listings in parts of other sizes than 32: the same lines, after other numbers of calls.
+use super::left::left_by;
+use super::over_images::over;
+use super::saved::image_named;
+use crate::bus::listings::is_done;
+use crate::command_line::lines::command;
+use std::alloc::Global;
+use std::process::Abort;
+
+/// Asserts that the words leave these lines over an image, in parts of the size before a colon, after as many calls as
+/// the colon is followed by.
+fn lists_in_parts(
+    rt: &impl Abort,
+    alloc: Global,
+    words: &str,
+    image: &str,
+    part: &str,
+    lines: &str,
+) {
+    let (size, calls) = part.split_once(':').expect(rt, "a colon");
+    let calls = calls.parse::<u32>().expect(rt, "a number of calls");
+    let words = format!(in alloc; "--part {size} {words}").expect(rt, "memory");
+    let mut ctl = over(rt, alloc, image);
+    let left = left_by(alloc, &mut ctl, &command(rt, alloc, words.as_str()));
+    is_done(rt, alloc, &left, lines, calls, words.as_str());
+}
+
+/// The same for each part in a text.
+fn lists_in_all_parts(
+    rt: &impl Abort,
+    alloc: Global,
+    words: &str,
+    image: &str,
+    parts: &str,
+    lines: &str,
+) {
+    for part in parts.split_whitespace() {
+        lists_in_parts(rt, alloc, words, image, part, lines);
+    }
+}
+
+/// The same for a case: its first line is the words, the name of the image and the parts, and the other lines are those that
+/// are left.
+fn lists(rt: &impl Abort, alloc: Global, case: &str) {
+    let (first, lines) = case.split_once('\n').expect(rt, "a first line");
+    let (words, rest) = first.split_once('|').expect(rt, "words");
+    let (name, parts) = rest.split_once('|').expect(rt, "an image and parts");
+    lists_in_all_parts(rt, alloc, words, image_named(rt, name), parts, lines);
+}
+
+/// The same for each of these cases.
+fn all_list(rt: &impl Abort, alloc: Global, cases: &str) {
+    for case in cases.split("====\n") {
+        lists(rt, alloc, case);
+    }
+}
+
+const HEX: &str = "sdr hex|three|1:19 2:12 5:6 16:6 254:6
+sdr 0001 0002 010051c001aa
+sdr 0002 0003 020051c002bbcc
+sdr 0003 ffff 030051c000
+====
+sdr hex|sensor and locator|1:77 5:17 16:8 254:5
+sdr 0001 0002 010051013320000103017f680101000000003838000100000100000000000000000000005f5a550000000202000000c84350552054656d70
+sdr 0002 ffff 020051110f200180000000000a0100c450535531
+";
+
+// A reservation, and for each record the parts of its header, which has five bytes, and those of the bytes after it. The
+// three records have 1, 2 and no byte after their headers, and the sensor and the locator 51 and 15.
+#[test]
+fn records_are_listed_in_parts_of_any_size(rt: HostRuntime) {
+    all_list(&rt, rt.alloc(), HEX);
+}
+
+const SENSORS: &str = "sdr list|sensor and locator|1:78 5:18 16:9 254:6
+CPU Temp         | 45 degrees C      | ok
+====
+sdr list all|sensor and locator|1:78 5:18 16:9 254:6
+CPU Temp         | 45 degrees C      | ok
+PSU1             | FRU 1             | na
+====
+sdr list fru|sensor and locator|1:77 5:17 16:8 254:5
+PSU1             | FRU 1             | na
+====
+sdr elist|sensor and locator|1:78 5:18 16:9 254:6
+CPU Temp         | 01h | ok  | 3.1   | 45 degrees C
+====
+sdr elist fru|sensor and locator|1:77 5:17 16:8 254:5
+PSU1             | --h | na  | 10.1  | FRU 1
+";
+
+// The calls for the records in hex, and one for the reading of the sensor where its line is printed.
+#[test]
+fn sensors_are_listed_in_parts_of_any_size(rt: HostRuntime) {
+    all_list(&rt, rt.alloc(), SENSORS);
+}
+
+const ENTRIES: &str = "sel list|log|1:49 5:13 16:4 254:4
+0001 | 1987-01-05 18:48:33 | Temperature #0x30 | Upper Critical going high | Asserted
+0002 | +536870912 s | Temperature #0x30 | Upper Non-critical going high | Deasserted
+0003 | unspecified | OEM record 0xc0 | 001357 | 010203040506
+====
+sel list 2|log|1:33 5:9 16:3 254:3
+0001 | 1987-01-05 18:48:33 | Temperature #0x30 | Upper Critical going high | Asserted
+0002 | +536870912 s | Temperature #0x30 | Upper Non-critical going high | Deasserted
+====
+sel get 3|log|1:17 5:5 16:2 254:2
+Record: 0003h
+Type: C0h
+Time: unspecified
+Manufacturer: 001357
+Data: 010203040506
+
+";
+
+// A reservation, and for each entry the parts of its 16 bytes.
+#[test]
+fn entries_are_listed_in_parts_of_any_size(rt: HostRuntime) {
+    all_list(&rt, rt.alloc(), ENTRIES);
+}
