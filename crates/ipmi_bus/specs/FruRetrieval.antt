@@ -56,15 +56,19 @@ CountsTrouble old new (Err ended) = (ended ≡ GaveUp) × (new ≡ old) × (old.
 
 -- a smaller part is to be asked for; a part of less than one byte can't be
 abbrev pub MakesSmaller : ℕ → FruRetrieval → FruRetrieval → Result (Unit {0}) FruEnded → Type 0
-MakesSmaller asked old new (Ok u) = (smaller_part asked ≡ Some new.part) × (new ≡ record old { part = new.part })
-MakesSmaller asked old new (Err ended) = (ended ≡ Stalled) × (smaller_part asked ≡ None) × (new ≡ old)
+MakesSmaller asked old new (Ok u) =
+    (smaller_part asked ≡ Some new.part) × (new ≡ record old { part = new.part })
+MakesSmaller asked old new (Err ended) =
+    (ended ≡ Stalled) × (smaller_part asked ≡ None) × (new ≡ old)
 
 -- refused with this code
-abbrev pub IsRefusedBy : Code → FruRetrieval → FruRetrieval → Result (Unit {0}) FruEnded → Type 0
+abbrev pub IsRefusedBy : Code → FruRetrieval → FruRetrieval → Result (Unit {0}) FruEnded
+    → Type 0
 IsRefusedBy code old new result = (result ≡ Err (Refused code)) × (new ≡ old)
 
 -- a failing call for a part of so many bytes, by the class of its code: CBh is a refusal
-abbrev pub PartFails : CodeClass → Code → ℕ → FruRetrieval → FruRetrieval → Result (Unit {0}) FruEnded → Type 0
+abbrev pub PartFails : CodeClass → Code → ℕ → FruRetrieval → FruRetrieval
+    → Result (Unit {0}) FruEnded → Type 0
 PartFails Cancelled code asked old new result = CountsTrouble old new result
 PartFails Busy code asked old new result = CountsTrouble old new result
 PartFails SmallerPart code asked old new result = MakesSmaller asked old new result
@@ -77,7 +81,8 @@ TakesPart got old new (Ok u) = (0 < got) × (new ≡ record old { have = old.hav
 TakesPart got old new (Err ended) = (got ≡ 0) × (ended ≡ Stalled) × (new ≡ old)
 
 -- what the answer to a request for so many bytes leaves, once its bytes are in their place
-abbrev pub TakesAnswer : Result ℕ Code → ℕ → FruRetrieval → FruRetrieval → Result (Unit {0}) FruEnded → Type 0
+abbrev pub TakesAnswer : Result ℕ Code → ℕ → FruRetrieval → FruRetrieval
+    → Result (Unit {0}) FruEnded → Type 0
 TakesAnswer (Ok got) asked old new result = TakesPart got old new result
 TakesAnswer (Err code) asked old new result = PartFails (class_of code.0) code asked old new result
 
@@ -87,6 +92,11 @@ pub record IsAnswered (old new : FruRetrieval) (result : Result (Unit {0}) FruEn
   pub filled : FruRetrieval
   pub bytes : filled ≡ record old { bytes = filled.bytes }
   pub takes : TakesAnswer answer (request_len old) filled new result
+
+-- the reading ended so, as its last request was answered
+pub record EndsBy (new : FruRetrieval) (ended : FruEnded) : Type 0 where
+  pub last : FruRetrieval
+  pub answered : IsAnswered last new (Err ended)
 
 -- the bytes so far are the inventory's
 pub record HasRead (r : FruRetrieval) (s : Seen) : Type 0 where
@@ -137,8 +147,22 @@ SizeFails Refusal code troubles tries result = result ≡ Err (Refused code)
 
 -- a size that was told, unless the device is accessed by words
 abbrev pub TakesSize : FruSize → ℕ → Result Size FruEnded → Type 0
-TakesSize told troubles (Ok size) = (told.words ≡ false) × (size ≡ record { bytes = told.size; troubles = troubles })
+TakesSize told troubles (Ok size) =
+    (told.words ≡ false) × (size ≡ record { bytes = told.size; troubles = troubles })
 TakesSize told troubles (Err ended) = (told.words ≡ true) × (ended ≡ Words)
+
+-- what the last answer to a call for the size leaves
+abbrev pub TakesSizeAnswer : Result FruSize Code → ℕ → ℕ → Result Size FruEnded → Type 0
+TakesSizeAnswer (Ok told) troubles tries result = TakesSize told troubles result
+TakesSizeAnswer (Err code) troubles tries (Ok size) = ⊥
+TakesSizeAnswer (Err code) troubles tries (Err ended) =
+    SizeFails (class_of code.0) code troubles tries (Err ended)
+
+-- the last call for the size was answered, after so many troubles
+pub record IsSizeAnswered (tries : ℕ) (result : Result Size FruEnded) : Type 0 where
+  pub answer : Result FruSize Code
+  pub troubles : ℕ
+  pub takes : TakesSizeAnswer answer troubles tries result
 
 -- the size is that of the inventory which the store has when the call returns
 pub record HasSize (id : ℕ) (size : Size) (s s' : Seen) : Type 0 where

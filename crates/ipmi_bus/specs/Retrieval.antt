@@ -128,7 +128,8 @@ pub record CallIsPlain (old new : Retrieval) (s' : Seen) (result : Result Outcom
   pub fine : IsFine result
   pub troubles : new.troubles ≡ old.troubles
 
--- A call of an honest controller. Where a reservation is held and no trouble comes, none is asked for.
+-- A call of an honest controller. Where a reservation is held and no trouble comes, none is asked
+-- for.
 pub record CallIsHonest (old new : Retrieval) (s s' : Seen) (result : Result Outcome Ended) : Type 0 where
   pub stays : StaysHonest s s'
   pub answers : CallAnswers old new s s' result
@@ -151,7 +152,8 @@ abbrev pub IsRefusedBy : Code → Retrieval → Retrieval → Result Outcome End
 IsRefusedBy code old new result = (result ≡ Err (Refused old.id code)) × (new ≡ old)
 
 -- a failing call for a reservation, by the class of its code: CBh and a smaller part are refusals
-abbrev pub ReserveFails : CodeClass → Code → Retrieval → Retrieval → Result Outcome Ended → Type 0
+abbrev pub ReserveFails : CodeClass → Code → Retrieval → Retrieval → Result Outcome Ended
+    → Type 0
 ReserveFails class.Cancelled code old new result = CountsTrouble false old new result
 ReserveFails class.Busy code old new result = CountsTrouble false old new result
 ReserveFails class.SmallerPart code old new result = IsRefusedBy code old new result
@@ -159,8 +161,10 @@ ReserveFails class.NotPresent code old new result = IsRefusedBy code old new res
 ReserveFails class.Refusal code old new result = IsRefusedBy code old new result
 
 -- what the answer to a call for a reservation leaves
-abbrev pub TakesReservation : Result ℕ Code → Retrieval → Retrieval → Result Outcome Ended → Type 0
-TakesReservation (Ok n) old new result = (result ≡ Ok Again) × (new ≡ record old { reservation = Some n })
+abbrev pub TakesReservation : Result ℕ Code → Retrieval → Retrieval → Result Outcome Ended
+    → Type 0
+TakesReservation (Ok n) old new result =
+    (result ≡ Ok Again) × (new ≡ record old { reservation = Some n })
 TakesReservation (Err code) old new result = ReserveFails (class_of code.0) code old new result
 
 -- one call for a reservation was answered
@@ -170,11 +174,13 @@ IsReserveAnswered old new result = (answer : Result ℕ Code) × TakesReservatio
 -- a smaller part is to be asked for; a part of less than one byte can't be
 abbrev pub MakesSmaller : ℕ → Retrieval → Retrieval → Result Outcome Ended → Type 0
 MakesSmaller asked old new result = MatchResult result
-    (λ turn. (turn ≡ Again) × (smaller_part asked ≡ Some new.part) × (new ≡ record old { part = new.part }))
+    (λ turn. (turn ≡ Again) × (smaller_part asked ≡ Some new.part)
+    × (new ≡ record old { part = new.part }))
     (λ ended. (ended ≡ Stalled old.id) × (smaller_part asked ≡ None) × (new ≡ old))
 
 -- a failing call for a part of so many bytes, by the class of its code
-abbrev pub PartFails : CodeClass → Code → ℕ → Retrieval → Retrieval → Result Outcome Ended → Type 0
+abbrev pub PartFails : CodeClass → Code → ℕ → Retrieval → Retrieval → Result Outcome Ended
+    → Type 0
 PartFails class.Cancelled code asked old new result = CountsTrouble true old new result
 PartFails class.Busy code asked old new result = CountsTrouble false old new result
 PartFails class.SmallerPart code asked old new result = MakesSmaller asked old new result
@@ -202,7 +208,8 @@ TakesPart part old new (Err (Cycle id)) = ⊥
 TakesPart part old new (Err (Missing id)) = ⊥
 
 -- what the answer to a request for so many bytes leaves, once its bytes are in the buffer
-abbrev pub TakesAnswer : Result Part Code → ℕ → Retrieval → Retrieval → Result Outcome Ended → Type 0
+abbrev pub TakesAnswer : Result Part Code → ℕ → Retrieval → Retrieval → Result Outcome Ended
+    → Type 0
 TakesAnswer (Ok part) asked old new result = TakesPart part old new result
 TakesAnswer (Err code) asked old new result = PartFails (class_of code.0) code asked old new result
 
@@ -212,6 +219,11 @@ pub record IsAnswered (old new : Retrieval) (result : Result Outcome Ended) : Ty
   pub filled : Retrieval
   pub buffer : filled ≡ record old { buffer = filled.buffer }
   pub takes : TakesAnswer answer (request_len old) filled new result
+
+-- one call was answered: for a reservation where none is held, else for a part
+abbrev pub CallIsAnswered : Option ℕ → Retrieval → Retrieval → Result Outcome Ended → Type 0
+CallIsAnswered None old new result = IsReserveAnswered old new result
+CallIsAnswered (Some n) old new result = IsAnswered old new result
 
 -- one call, for a reservation, where none is held
 abbrev pub unreserved : Option ℕ → ℕ

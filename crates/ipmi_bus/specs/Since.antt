@@ -3,6 +3,8 @@ use Rattle.std.specs.Prelude.{◌≡◌, ℕ, ◌+◌, ◌≤◌, IsTrue, IsSome
 use Rattle.ipmi_bus.specs.declared.step.Ended.{Ended}
 use Rattle.ipmi_bus.specs.declared.step.Ended.TheVariants.{Cycle, Missing, Refused, GaveUp, Stalled, Malformed}
 use Rattle.ipmi_bus.specs.declared.retrieval.Retrieval.{Retrieval}
+use Rattle.ipmi_bus.specs.declared.retrieval.Outcome.{Outcome}
+use Rattle.ipmi_bus.specs.declared.retrieval.Outcome.TheVariants.{Again, Whole, Absent}
 use Rattle.ipmi_bus.specs.declared.retrieval.Retrieved.{Retrieved}
 use Rattle.ipmi_bus.specs.declared.retrieval.Retrieved.TheVariants.{Complete, Nothing}
 use Rattle.ipmi_bus.specs.declared.controller.Shelf.TheVariants.{Sdr}
@@ -11,7 +13,7 @@ use Rattle.ipmi_bus.specs.Store.{rows_of}
 use Rattle.ipmi_bus.specs.Seen.{Seen, IsHonest, StaysHonest}
 use Rattle.ipmi_bus.specs.Tries.{WithinTries, GivesUp, IsRefusedWith}
 use Rattle.ipmi_bus.specs.Bounds.{digits, step_call_bound}
-use Rattle.ipmi_bus.specs.Retrieval.{IsOpen, SameRequest, HasRead, IsReading, HoldsCurrent, KeepsHeld, calls_left, row_len, wanted_len}
+use Rattle.ipmi_bus.specs.Retrieval.{IsOpen, SameRequest, HasRead, IsReading, HoldsCurrent, KeepsHeld, CallIsAnswered, calls_left, row_len, wanted_len}
 
 -- a retrieval at the start of a record
 abbrev pub begun : Retrieval → ℕ → Retrieval
@@ -80,6 +82,20 @@ pub record ReadIsHonest (old : Retrieval) (id : ℕ) (new : Retrieval) (s s' : S
   pub keeps : IsSome old.reservation → s'.troubles ≡ s.troubles → KeepsHeld old new s s'
   pub plain : IsTrue s.plain → HoldsCurrent old s → ReadIsPlain new s' result
   pub calls : s'.stores_added ≡ s.stores_added → s'.calls + digits new.part ≤ s.calls + step_call_bound old.tries (row_len (begun old id) s) + digits old.part
+
+-- what the last call left is what the reading gives
+abbrev pub EndsRead : Result Outcome Ended → Result Retrieved Ended → Type 0
+EndsRead (Ok Again) result = ⊥
+EndsRead (Ok Whole) result = result ≡ Ok Complete
+EndsRead (Ok Absent) result = result ≡ Ok Nothing
+EndsRead (Err ended) result = result ≡ Err ended
+
+-- the reading ended as its last call was answered
+pub record IsEnded (new : Retrieval) (result : Result Retrieved Ended) : Type 0 where
+  pub last : Retrieval
+  pub outcome : Result Outcome Ended
+  pub answered : CallIsAnswered last.reservation last new outcome
+  pub ends : EndsRead outcome result
 
 -- what comes of it over any controller
 abbrev pub ReadLeaves : ℕ → Retrieval → Result Retrieved Ended → Type 0

@@ -4,7 +4,7 @@ ghost use Rattle.ipmi_bus.specs.Seen.{Seen, IsHonest, StaysHonest};
 ghost use Rattle.ipmi_bus.specs.Answers.{BytesAnswers};
 ghost use Rattle.ipmi_bus.specs.Readers.{ReadsInventory, as_inventory};
 ghost use Rattle.ipmi_bus.specs.Code.{class_of};
-ghost use Rattle.ipmi_bus.specs.FruRetrieval.{SizeFails, TakesSize, SizeNext};
+ghost use Rattle.ipmi_bus.specs.FruRetrieval.{SizeFails, TakesSize, IsSizeAnswered, SizeNext};
 ghost use Rattle.ipmi_bus.specs.Bounds.{fru_call_bound};
 
 use crate::calls::{Failure, after_failure, asked_len, smaller_part};
@@ -60,7 +60,7 @@ struct FruRetrieval {
 }
 
 impl FruRetrieval {
-    ghost use Rattle.ipmi_bus.specs.FruRetrieval.{IsBegun, IsOpen, SameInventory, request_len, TakesPart, PartFails, IsAnswered, FruSince, FruNext, calls_left};
+    ghost use Rattle.ipmi_bus.specs.FruRetrieval.{IsBegun, IsOpen, SameInventory, request_len, TakesPart, PartFails, IsAnswered, EndsBy, FruSince, FruNext, calls_left};
 
     /// Asks for some of the bytes that are missing, into their place.
     fn request<C: Controller>(&mut self, ctl: &mut C, asked: usize) -> Result<u8, Code>
@@ -144,6 +144,7 @@ impl FruRetrieval {
         requires { IsBegun self.old }
         ensures same { SameInventory self.old self.new }
         ensures whole { OnOk result (self.new.have ≡ length self.new.bytes.items) }
+        ensures ended { IfErr result (λ ended. EndsBy self.new ended) }
         ensures calls { (C.seen ctl.new).calls + 1 ≤ (C.seen ctl.old).calls + calls_left self.old }
         ensures stays { IsHonest (C.seen ctl.old) → StaysHonest (C.seen ctl.old) (C.seen ctl.new) }
         ensures honest { (s : Seen) → FruSince self.old s (C.seen ctl.old) → FruNext self.old self.new s (C.seen ctl.new) result }
@@ -193,6 +194,7 @@ fn fail_size(code: Code, troubles: u16, tries: u8) -> Result<(), FruEnded>
 fn read_size<C: Controller>(ctl: &mut C, id: u8, tries: u8) -> Result<Size, FruEnded>
     ensures ok { IfOk result (λ size. (size.troubles ≤ tries) × ((C.seen ctl.new).calls ≡ (C.seen ctl.old).calls + size.troubles + 1)) }
     ensures err { OnErr result ((C.seen ctl.new).calls ≤ (C.seen ctl.old).calls + tries + 1) }
+    ensures answered { IsSizeAnswered tries result }
     ensures honest { IsHonest (C.seen ctl.old) → SizeNext id tries (C.seen ctl.old) (C.seen ctl.new) result }
 {
     let mut troubles = 0;
@@ -201,7 +203,7 @@ fn read_size<C: Controller>(ctl: &mut C, id: u8, tries: u8) -> Result<Size, FruE
             Ok(told) => return take_size(told, troubles),
             Err(code) => match fail_size(code, troubles, tries) {
                 Ok(()) => troubles += 1,
-                Err(ended) => return Err(ended),
+                Err(end) => return Err(end),
             },
         }
     }

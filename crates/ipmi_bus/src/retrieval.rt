@@ -52,8 +52,8 @@ pub(crate) struct Retrieval {
 
 impl Retrieval {
     ghost use Rattle.ipmi_bus.specs.Code.{class_of};
-    ghost use Rattle.ipmi_bus.specs.Retrieval.{IsOpen, SameRequest, IsReading, CallIsHonest, wanted_len, request_len, ReserveFails, IsReserveAnswered, PartFails, TakesPart, IsAnswered, request_of, CallLeaves};
-    ghost use Rattle.ipmi_bus.specs.Since.{begun, ReadLeaves, ReadIsHonest};
+    ghost use Rattle.ipmi_bus.specs.Retrieval.{IsOpen, SameRequest, IsReading, CallIsHonest, wanted_len, request_len, ReserveFails, IsReserveAnswered, PartFails, TakesPart, IsAnswered, CallIsAnswered, request_of, CallLeaves};
+    ghost use Rattle.ipmi_bus.specs.Since.{begun, IsEnded, ReadLeaves, ReadIsHonest};
 
     /// How many bytes are asked for in all, as far as the bytes that are there tell.
     fn wanted(&self) -> usize
@@ -210,6 +210,7 @@ impl Retrieval {
         ensures counted { (C.seen ctl.new).calls ≡ (C.seen ctl.old).calls + 1 }
         ensures request { SameRequest self.old self.new }
         ensures leaves { CallLeaves self.old self.new result }
+        ensures answered { CallIsAnswered self.old.reservation self.old self.new result }
         ensures honest { IsHonest (C.seen ctl.old) → IsReading self.old (C.seen ctl.old) → CallIsHonest self.old self.new (C.seen ctl.old) (C.seen ctl.new) result }
     {
         match self.reservation {
@@ -225,6 +226,7 @@ impl Retrieval {
         ensures request { SameRequest (begun self.old id) self.new }
         ensures calls { (C.seen ctl.new).calls + digits self.new.part ≤ (C.seen ctl.old).calls + step_call_bound self.old.tries (largest_len self.old.shelf) + digits self.old.part }
         ensures leaves { ReadLeaves id self.new result }
+        ensures ended { IsEnded self.new result }
         ensures honest { IsHonest (C.seen ctl.old) → ReadIsHonest self.old id self.new (C.seen ctl.old) (C.seen ctl.new) result }
     {
         self.id = id;
