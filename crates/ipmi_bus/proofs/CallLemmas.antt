@@ -2,14 +2,20 @@
 use Rattle.std.proofs.Common.{◌≡◌, ℕ, ◌+◌, ◌<◌, Bool, true, false, Option, None, Some, Result, Ok, Err, refl, sym, ap, subst, ◌∙◌, inl, inr, arith, ◌≤◌}
 use Rattle.std.specs.Prelude.{IsTrue, IsSome}
 use Rattle.std.proofs.lemmas.Bool.{cases_lt}
+use Rattle.ipmi_bus.specs.declared.code.Code.{Code}
+use Rattle.ipmi_bus.specs.declared.code.CodeClass.{CodeClass}
+use Rattle.ipmi_bus.specs.declared.code.CodeClass.TheVariants.{Cancelled, Busy, SmallerPart, NotPresent, Refusal}
 use Rattle.ipmi_bus.specs.declared.controller.Shelf.{Shelf}
 use Rattle.ipmi_bus.specs.declared.step.Ended.{Ended}
+use Rattle.ipmi_bus.specs.declared.step.Ended.TheVariants.{Refused}
 use Rattle.ipmi_bus.specs.declared.retrieval.Outcome.{Outcome}
 use Rattle.ipmi_bus.specs.declared.retrieval.Retrieval.{Retrieval}
 use Rattle.ipmi_bus.specs.Shelf.{Row, look}
 use Rattle.ipmi_bus.specs.Store.{Store, rows_of}
-use Rattle.ipmi_bus.specs.Seen.{Seen, KeepsStore, MayLoseReservation, IsTroubled, current, StaysHonest}
-use Rattle.ipmi_bus.specs.Retrieval.{IsOpen, HasRead, IsReading, HoldsCurrent, GoesOn, HasGivenUp, CallAnswers, CallIsHonest, after_trouble, CountsTrouble}
+use Rattle.ipmi_bus.specs.Code.{class_of}
+use Rattle.ipmi_bus.specs.Answers.{FailsWith, ReserveAnswers}
+use Rattle.ipmi_bus.specs.Seen.{Seen, KeepsStore, MayLoseReservation, IsTroubled, IsRefused, current, StaysHonest}
+use Rattle.ipmi_bus.specs.Retrieval.{IsOpen, HasRead, IsReading, HoldsCurrent, GoesOn, HasGivenUp, CallAnswers, CallIsHonest, after_trouble, CountsTrouble, IsRefusedBy, ReserveFails}
 
 -- where a reservation is current, it was so before, and the store is the same
 pub store_kept : (shelf : Shelf) (s s' : Seen) (n : ℕ) → MayLoseReservation shelf s s' → KeepsStore s s' → current shelf s' ≡ Some n → s'.store ≡ s.store
@@ -90,5 +96,33 @@ pub honest_trouble : (is_cancelled : Bool) (old new : Retrieval) (s s' : Seen) (
 honest_trouble is_cancelled old new s s' result open_ reading stays keeps troubled counts not_plain = record {
   stays = stays;
   answers = trouble_answers is_cancelled old new s s' result open_ reading stays keeps troubled counts;
+  keeps = λ some same. absurd (omega (arith, troubled.troubles));
   plain = λ plain holds. absurd (not_plain plain holds);
 }
+
+-- a call that an honest controller refused
+pub honest_refusal : (old new : Retrieval) (s s' : Seen) (code : Code) (result : Result Outcome Ended) → StaysHonest s s' → MayLoseReservation old.shelf s s' → IsRefused code.0 s s'
+    → IsRefusedBy code old new result → (IsTrue s.plain → HoldsCurrent old s → ⊥) → CallIsHonest old new s s' result
+honest_refusal old new s s' code result stays keeps refused does not_plain =
+    let base : CallIsHonest old old s s' (Err (Refused old.id code)) = record {
+      stays = stays;
+      answers = (refl, refused);
+      keeps = λ some same. record { held = refl; none_given = keeps.none_given };
+      plain = λ plain holds. absurd (not_plain plain holds);
+    } in
+    subst (λ (x : Result Outcome Ended). CallIsHonest old new s s' x) (sym does.0) (subst (λ (r : Retrieval). CallIsHonest old r s s' (Err (Refused old.id code))) (sym does.1) base)
+
+-- a call for a reservation that an honest controller failed
+pub reserve_failed : (old new : Retrieval) (s s' : Seen) (code : Code) (result : Result Outcome Ended) → IsOpen old → IsReading old s → ReserveAnswers old.shelf (Err code) s s'
+    → ReserveFails (class_of code.0) code old new result → CallIsHonest old new s s' result
+reserve_failed old new s s' code result open_ reading answers fails = by_class (class_of code.0) answers.gives.0 fails
+  where
+    not_plain : IsTrue s.plain → HoldsCurrent old s → ⊥
+    not_plain plain holds = cc (answers.plain plain)
+
+    by_class : (class : CodeClass) → FailsWith ⊥ ⊥ class code.0 s s' → ReserveFails class code old new result → CallIsHonest old new s s' result
+    by_class Cancelled troubled does = honest_trouble false old new s s' result open_ reading answers.change.stays answers.gives.1 troubled does not_plain
+    by_class Busy troubled does = honest_trouble false old new s s' result open_ reading answers.change.stays answers.gives.1 troubled does not_plain
+    by_class SmallerPart never does = absurd never.0
+    by_class NotPresent never does = absurd never.0
+    by_class Refusal refused does = honest_refusal old new s s' code result answers.change.stays answers.gives.1 refused does not_plain

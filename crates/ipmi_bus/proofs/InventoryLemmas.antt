@@ -1,21 +1,26 @@
 -- A part of an inventory, as an honest controller gave it.
-use Rattle.std.proofs.Common.{◌≡◌, ℕ, ◌+◌, ◌<◌, ◌≤◌, Bool, true, false, nat_eq, Option, Some, Ok, List, [], length, take, drop, slice_range, refl, sym, ap, subst, ◌∙◌, arith}
-use Rattle.std.specs.Prelude.{unwrap_or, IsSome}
+use Rattle.std.proofs.Common.{◌≡◌, ℕ, ◌+◌, ◌<◌, ◌≤◌, Bool, true, false, nat_eq, Option, None, Some, Result, Ok, Err, List, [], length, take, drop, slice_range, refl, sym, ap, subst, ◌∙◌, arith}
+use Rattle.std.specs.Prelude.{unwrap_or, IsTrue, IsSome}
 use Rattle.std.proofs.lemmas.Bool.Decides.{nat_tests}
 use Rattle.std.proofs.Math.Seq.{take-length}
 use Rattle.std.proofs.lemmas.Bool.{ne_eqb}
+use Rattle.ipmi_bus.specs.declared.code.Code.{Code}
+use Rattle.ipmi_bus.specs.declared.code.CodeClass.{CodeClass}
+use Rattle.ipmi_bus.specs.declared.code.CodeClass.TheVariants.{Cancelled, Busy, SmallerPart, NotPresent, Refusal}
 use Rattle.ipmi_bus.specs.declared.inventory.FruEnded.{FruEnded}
+use Rattle.ipmi_bus.specs.declared.inventory.FruEnded.TheVariants.{Refused, GaveUp}
 use Rattle.ipmi_bus.specs.declared.inventory.Size.{Size}
 use Rattle.ipmi_bus.specs.declared.inventory.FruRetrieval.{FruRetrieval}
 use Rattle.ipmi_bus.specs.Store.{inventory_of}
-use Rattle.ipmi_bus.specs.Seen.{Seen, IsQuiet, StaysHonest}
-use Rattle.ipmi_bus.specs.Answers.{CountsPiece, BytesAnswers}
-use Rattle.ipmi_bus.specs.FruRetrieval.{SameInventory, HasRead, FruSince, FruEnds, HasSize, calls_left}
-use Rattle.ipmi_bus.specs.Readers.{InventoryCounts, InventoryIs, inventory_len}
-use Rattle.ipmi_bus.specs.Tries.{WithinTries}
+use Rattle.ipmi_bus.specs.Code.{class_of}
+use Rattle.ipmi_bus.specs.Seen.{Seen, IsQuiet, IsTroubled, IsFinished, IsRefused, StaysHonest}
+use Rattle.ipmi_bus.specs.Answers.{CountsPiece, FailsWith, BytesAnswers, BytesIsPlain}
+use Rattle.ipmi_bus.specs.FruRetrieval.{IsOpen, SameInventory, CountsTrouble, MakesSmaller, PartFails, TakesPart, HasRead, FruSince, FruEnds, FruNext, HasSize, calls_left}
+use Rattle.ipmi_bus.specs.Readers.{IsRefusedInventory, IsRefusedOverChange, InventoryCounts, InventoryIs, inventory_len}
+use Rattle.ipmi_bus.specs.Tries.{WithinTries, IsRefusedWith}
 use Rattle.ipmi_bus.specs.Bounds.{digits, fru_call_bound}
 use Rattle.ipmi_bus.proofs.SinceLemmas.{stays_trans}
-use Rattle.ipmi_bus.proofs.PartLemmas.{with_piece}
+use Rattle.ipmi_bus.proofs.PartLemmas.{with_piece, smaller_some}
 
 -- with the bytes that came in
 abbrev taken : FruRetrieval → FruRetrieval → ℕ → FruRetrieval
@@ -70,7 +75,7 @@ module _ (old r : FruRetrieval) (s s' s'' : Seen) (asked got : ℕ) (len : lengt
       let quiet : IsQuiet s' s'' = subst (λ (b : Bool). CountsPiece b s' s'') flag gave.gives.2.counts in
       quiet.fresh_troubles ∙ since.fresh (first same) more
 
-  pub part_taken : FruSince (taken old r got) s s''
+  part_taken : FruSince (taken old r got) s s''
   part_taken = record {
     stays = stays_trans s s' s'' since.stays gave.change.stays;
     read = read_more;
@@ -85,6 +90,144 @@ module _ (old r : FruRetrieval) (s s' s'' : Seen) (asked got : ℕ) (len : lengt
         let now = since.stays.plain p in
         (before.0, record { sdr = gave.sdr.plain now ∙ before.1.sdr; sel = gave.sel.plain now ∙ before.1.sel });
   }
+
+  -- the bytes that came are taken
+  pub part_answers : (new : FruRetrieval) (result : Result (Unit {0}) FruEnded) → r ≡ record old { bytes = r.bytes } → TakesPart got r new result → FruNext old new s s'' result
+  part_answers new (Ok u) is takes = subst (λ (x : FruRetrieval). FruSince x s s'') (sym takes.1) (subst (λ (x : FruRetrieval). FruSince (record x { have = x.have + got }) s s'') (sym is) part_taken)
+  part_answers new (Err ended) is takes = absurd (omega (arith, takes.0, gave.gives.2.piece.some))
+
+-- CBh says that nothing is there, and no refusal does
+cbh : (code : ℕ) → class_of code ≡ NotPresent → nat_eq code 0xCB ≡ true
+cbh code is = grind (arith, nat_tests)
+
+not_cbh : (code : ℕ) → class_of code ≡ Refusal → nat_eq code 0xCB ≡ false
+not_cbh code is = ne_eqb _ _ (λ (e : code ≡ 0xCB). let other = sym (ap class_of e) ∙ is in cc other)
+
+-- a call for a part that an honest controller failed
+module _ (old r : FruRetrieval) (s s' s'' : Seen) (asked : ℕ) (code : Code) (into : List ℕ) (is : r ≡ record old { bytes = r.bytes }) (items : r.bytes.items ≡ old.bytes.items) (open_ : IsOpen old) (since : FruSince old s s')
+    (gave : BytesAnswers old.id old.have asked (Err code) into s' s'') where
+  same_id : r.id ≡ old.id
+  same_id = ap (λ (x : FruRetrieval). x.id) is
+
+  same_have : r.have ≡ old.have
+  same_have = ap (λ (x : FruRetrieval). x.have) is
+
+  same_troubles : r.troubles ≡ old.troubles
+  same_troubles = ap (λ (x : FruRetrieval). x.troubles) is
+
+  same_tries : r.tries ≡ old.tries
+  same_tries = ap (λ (x : FruRetrieval). x.tries) is
+
+  stays : StaysHonest s s''
+  stays = stays_trans s s' s'' since.stays gave.change.stays
+
+  at_first : s''.stores_added ≡ s.stores_added → s'.stores_added ≡ s.stores_added
+  at_first same = omega (arith, since.stays.store.grows, gave.change.stays.store.grows)
+
+  -- a plain one gives what is there
+  not_plain : IsTrue s.plain → ⊥
+  not_plain p =
+      let same = since.stays.plain_store p in
+      let read = since.read same in
+      let found : inventory_of old.id s'.store ≡ Some read.whole = ap (inventory_of old.id) (since.stays.store.stays same) ∙ read.found in
+      let plain = subst (λ (o : Option (List ℕ)). BytesIsPlain o old.have (Err code)) found (gave.plain (since.stays.plain p)) in
+      cc (plain (omega (arith, open_.more, read.size)))
+
+  -- the call is to be made again
+  since_failed : (new : FruRetrieval) (k : ℕ) → new.id ≡ old.id → new.have ≡ old.have → new.bytes.items ≡ old.bytes.items → new.troubles ≡ old.troubles + k → s''.troubles ≡ s'.troubles + k
+      → s''.fresh_troubles ≡ s'.fresh_troubles + k → s''.refusals ≡ s'.refusals → s''.last_code ≡ s'.last_code → FruSince new s s''
+  since_failed new k id have bytes troubles counted fresh refusals last_code =
+      let len : length new.bytes.items ≡ length old.bytes.items = ap (length {A = ℕ}) bytes in
+      record {
+        stays = stays;
+        read = λ same.
+            let before = since.read (at_first same) in
+            record {
+              whole = before.whole;
+              found = ap (λ (n : ℕ). inventory_of n s.store) id ∙ before.found;
+              size = before.size ∙ sym len;
+              bytes = ap (λ (n : ℕ). take n new.bytes.items) have ∙ ap (take old.have) bytes ∙ before.bytes ∙ sym (ap (λ (n : ℕ). take n before.whole) have);
+            };
+        troubles = omega (arith, since.troubles);
+        refusals = refusals ∙ since.refusals;
+        last_code = last_code ∙ since.last_code;
+        fresh_most = λ left. omega (arith, since.fresh_most open_.more);
+        found = λ all. absurd (omega (arith, open_.more));
+        fresh = λ same left. omega (arith, since.fresh (at_first same) open_.more);
+        plain = λ p. absurd (not_plain p);
+      }
+
+  given_up : IsTroubled s' s'' → old.troubles ≡ old.tries → FruEnds old.id old.tries s s'' GaveUp
+  given_up troubled all = record {
+    stays = stays;
+    counts = record {
+      troubles = omega (arith, since.troubles, troubled.troubles);
+      some_fresh = omega (arith, troubled.fresh_troubles);
+      fresh_troubles = omega (arith, since.fresh_most open_.more, troubled.fresh_troubles);
+      refusals = troubled.refusals ∙ since.refusals;
+      last_code = troubled.last_code ∙ since.last_code;
+    };
+    is = λ same. record {
+      troubles = omega (arith, since.troubles, troubled.troubles);
+      fresh_troubles = omega (arith, since.fresh (at_first same) open_.more, troubled.fresh_troubles);
+      refusals = troubled.refusals ∙ since.refusals;
+      last_code = troubled.last_code ∙ since.last_code;
+    };
+    plain = λ p. absurd (not_plain p);
+  }
+
+  trouble_answers : (new : FruRetrieval) (result : Result (Unit {0}) FruEnded) → IsTroubled s' s'' → CountsTrouble r new result → FruNext old new s s'' result
+  trouble_answers new (Ok u) troubled counts =
+      subst (λ (x : FruRetrieval). FruSince x s s'') (sym counts.0)
+      (since_failed (record r { troubles = r.troubles + 1 }) 1 same_id same_have items (ap (λ (n : ℕ). n + 1) same_troubles) troubled.troubles troubled.fresh_troubles troubled.refusals troubled.last_code)
+  trouble_answers new (Err ended) troubled counts = subst (λ (e : FruEnded). FruEnds old.id old.tries s s'' e) (sym counts.0) (given_up troubled (sym same_troubles ∙ counts.2 ∙ same_tries))
+
+  smaller_answers : (new : FruRetrieval) (result : Result (Unit {0}) FruEnded) → 1 < asked → IsQuiet s' s'' → MakesSmaller asked r new result → FruNext old new s s'' result
+  smaller_answers new (Ok u) more quiet does =
+      subst (λ (x : FruRetrieval). FruSince x s s'') (sym does.1)
+      (since_failed (record r { part = new.part }) 0 same_id same_have items (omega (arith, same_troubles)) (omega (arith, quiet.troubles)) (omega (arith, quiet.fresh_troubles)) quiet.refusals quiet.last_code)
+  smaller_answers new (Err ended) more quiet does = absurd (smaller_some asked more does.1)
+
+  absent : class_of code.0 ≡ NotPresent → inventory_of old.id s''.store ≡ None → IsFinished s' s'' → FruEnds old.id old.tries s s'' (Refused code)
+  absent class none finished =
+      let within : WithinTries old.tries s s'' = record {
+        grows = omega (arith, since.troubles, finished.troubles);
+        troubles = omega (arith, since.troubles, finished.troubles, open_.troubles);
+        refusals = finished.refusals ∙ since.refusals;
+        last_code = finished.last_code ∙ since.last_code;
+      } in
+      record {
+        stays = stays;
+        counts = subst (λ (b : Bool). IsRefusedOverChange b old.id old.tries code.0 s s'') (sym (cbh code.0 class)) (within, none);
+        is = λ same. subst (λ (b : Bool). IsRefusedInventory b old.id old.tries code.0 s s'') (sym (cbh code.0 class)) (within, ap (inventory_of old.id) (sym (stays.store.stays same)) ∙ none);
+        plain = λ p. absurd (not_plain p);
+      }
+
+  refused : class_of code.0 ≡ Refusal → IsRefused code.0 s' s'' → FruEnds old.id old.tries s s'' (Refused code)
+  refused class refuses =
+      let with_code : IsRefusedWith old.tries code.0 s s'' = record {
+        grows = omega (arith, since.troubles, refuses.troubles);
+        troubles = omega (arith, since.troubles, refuses.troubles, open_.troubles);
+        refusals = omega (arith, since.refusals, refuses.refusals);
+        last_code = refuses.last_code;
+      } in
+      record {
+        stays = stays;
+        counts = subst (λ (b : Bool). IsRefusedOverChange b old.id old.tries code.0 s s'') (sym (not_cbh code.0 class)) with_code;
+        is = λ same. subst (λ (b : Bool). IsRefusedInventory b old.id old.tries code.0 s s'') (sym (not_cbh code.0 class)) with_code;
+        plain = λ p. absurd (not_plain p);
+      }
+
+  part_by_class : (class : CodeClass) (new : FruRetrieval) (result : Result (Unit {0}) FruEnded) → class_of code.0 ≡ class → FailsWith (1 < asked) (inventory_of old.id s''.store ≡ None) class code.0 s' s''
+      → PartFails class code asked r new result → FruNext old new s s'' result
+  part_by_class Cancelled new result class troubled does = trouble_answers new result troubled does
+  part_by_class Busy new result class troubled does = trouble_answers new result troubled does
+  part_by_class SmallerPart new result class fails does = smaller_answers new result fails.0 fails.1 does
+  part_by_class NotPresent new result class fails does = subst (λ (x : Result (Unit {0}) FruEnded). FruNext old new s s'' x) (sym does.0) (absent class fails.0 fails.1)
+  part_by_class Refusal new result class refuses does = subst (λ (x : Result (Unit {0}) FruEnded). FruNext old new s s'' x) (sym does.0) (refused class refuses)
+
+  pub part_failed : (new : FruRetrieval) (result : Result (Unit {0}) FruEnded) → PartFails (class_of code.0) code asked r new result → FruNext old new s s'' result
+  part_failed new result fails = part_by_class (class_of code.0) new result refl gave.gives fails
 
 pub same_trans : (a b c : FruRetrieval) → SameInventory a b → SameInventory b c → SameInventory a c
 same_trans a b c p q = record { id = q.id ∙ p.id; tries = q.tries ∙ p.tries; size = q.size ∙ p.size; some = q.some; fits = q.fits; have = q.have; troubles = q.troubles }

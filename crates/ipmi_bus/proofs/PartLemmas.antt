@@ -1,6 +1,6 @@
 -- What a part of an honest controller leaves of a record that is being read.
 use Rattle.std.proofs.Common.{◌≡◌, ℕ, ◌+◌, ◌<◌, ◌≤◌, Bool, true, false, nat_eq, Option, None, Some, Result, Ok, Err, List, ◌++◌, length, take, drop, get_or, slice_range, refl, sym, ap, subst, ◌∙◌, inl, inr, arith}
-use Rattle.std.specs.Prelude.{IsOk, ◌⊎◌}
+use Rattle.std.specs.Prelude.{IsOk, IsTrue, ◌⊎◌}
 use Rattle.std.proofs.lemmas.Bool.{cases_lt, ne_eqb}
 use Rattle.std.proofs.lemmas.Bool.Decides.{nat_tests}
 use Rattle.std.proofs.lemmas.List.{get_or-take, take-take}
@@ -8,6 +8,8 @@ use Rattle.std.proofs.Math.Seq.{take-add}
 use Rattle.ipmi_bus.specs.declared.controller.Shelf.{Shelf}
 use Rattle.ipmi_bus.specs.declared.controller.Shelf.TheVariants.{Sdr, Sel}
 use Rattle.ipmi_bus.specs.declared.code.Code.{Code}
+use Rattle.ipmi_bus.specs.declared.code.CodeClass.{CodeClass}
+use Rattle.ipmi_bus.specs.declared.code.CodeClass.TheVariants.{Cancelled, Busy, SmallerPart, NotPresent, Refusal}
 use Rattle.ipmi_bus.specs.declared.controller.Part.{Part}
 use Rattle.ipmi_bus.specs.declared.step.Ended.{Ended}
 use Rattle.ipmi_bus.specs.declared.step.Ended.TheVariants.{Cycle, Missing, Refused, GaveUp, Stalled, Malformed}
@@ -16,11 +18,13 @@ use Rattle.ipmi_bus.specs.declared.retrieval.Outcome.TheVariants.{Again, Whole, 
 use Rattle.ipmi_bus.specs.declared.retrieval.Retrieval.{Retrieval}
 use Rattle.ipmi_bus.specs.Shelf.{Row, IsRow, look, whole_len, len_of, largest_len}
 use Rattle.ipmi_bus.specs.Store.{rows_of}
-use Rattle.ipmi_bus.specs.Seen.{Seen, IsHonest, KeepsStore, MayLoseReservation, IsQuiet, current}
-use Rattle.ipmi_bus.specs.Answers.{CountsPiece, GivesPiece, PartIsPlain, PartAnswers}
-use Rattle.ipmi_bus.specs.Retrieval.{IsOpen, HasRead, IsReading, HoldsCurrent, IsCalm, GoesOn, HasWhole, CallAnswers, CallIsPlain, CallIsHonest, TakesPart, wanted_len, after_part, request_of}
+use Rattle.ipmi_bus.specs.Seen.{Seen, IsHonest, KeepsStore, MayLoseReservation, IsQuiet, IsFinished, current}
+use Rattle.ipmi_bus.specs.Answers.{CountsPiece, FailsWith, GivesPiece, PartIsPlain, PartAnswers}
+use Rattle.ipmi_bus.specs.Calls.{smaller_part}
+use Rattle.ipmi_bus.specs.Code.{class_of}
+use Rattle.ipmi_bus.specs.Retrieval.{IsOpen, HasRead, IsReading, HoldsCurrent, IsCalm, GoesOn, HasWhole, CallAnswers, CallIsPlain, CallIsHonest, TakesPart, MakesSmaller, PartFails, wanted_len, after_part, request_of}
 use Rattle.ipmi_bus.proofs.ShelfLemmas.{look_row, shelf_of}
-use Rattle.ipmi_bus.proofs.CallLemmas.{store_kept, read_moved}
+use Rattle.ipmi_bus.proofs.CallLemmas.{store_kept, read_moved, reading_kept, honest_trouble, honest_refusal}
 
 -- the byte at a place that is read
 pub byte_read : (have i : ℕ) (buffer bytes : List ℕ) → i < have → take have buffer ≡ take have bytes → get_or buffer i 0 ≡ get_or bytes i 0
@@ -141,6 +145,18 @@ module _ (old : Retrieval) (buffer : List ℕ) (s s' : Seen) (n asked : ℕ) (pa
   piece_plain new (Ok Absent) takes now held = absurd takes
   piece_plain new (Err ended) takes now held = absurd (no_err new ended takes)
 
+-- a part that is taken leaves the reservation
+takes_held : (part : Part) (old new : Retrieval) (result : Result Outcome Ended) → TakesPart part old new result → new.reservation ≡ old.reservation
+takes_held part old new (Ok Again) takes = ap (λ (r : Retrieval). r.reservation) takes.1
+takes_held part old new (Ok Whole) takes = ap (λ (r : Retrieval). r.reservation) takes.1
+takes_held part old new (Ok Absent) takes = absurd takes
+takes_held part old new (Err (Stalled id)) takes = ap (λ (r : Retrieval). r.reservation) takes.2
+takes_held part old new (Err (Malformed id)) takes = ap (λ (r : Retrieval). r.reservation) takes.1
+takes_held part old new (Err (GaveUp id)) takes = absurd takes
+takes_held part old new (Err (Refused id code)) takes = absurd takes
+takes_held part old new (Err (Cycle id)) takes = absurd takes
+takes_held part old new (Err (Missing id)) takes = absurd takes
+
 -- a part that an honest controller gave
 pub honest_part : (old r new : Retrieval) (s s' : Seen) (n asked : ℕ) (part : Part) (result : Result Outcome Ended) → r ≡ record old { buffer = r.buffer } → take old.have r.buffer ≡ take old.have old.buffer
     → IsReading old s → old.reservation ≡ Some n → PartAnswers (request_of old n asked) (Ok part) (slice_range r.buffer old.have (old.have + asked)) s s' → TakesPart part r new result
@@ -154,6 +170,7 @@ honest_part old r new s s' n asked part result is front reading held parts takes
     record {
       stays = parts.change.stays;
       answers = piece_answers old r.buffer s s' n asked part row ok read gives new result takes';
+      keeps = λ some same. record { held = takes_held part _ new result takes'; none_given = parts.keeps.none_given };
       plain = λ plain holds. piece_plain old r.buffer s s' n asked part row ok read gives new result takes' (parts.keeps.plain plain ∙ holds.held n held) held;
     }
 
@@ -183,3 +200,61 @@ plain_code old s n asked code honest open_ reading holds held plain = elim (plai
   | inl ok ↦ cc ok
   | inr is ↦ let e : code ≡ record { 0 = 0xCB } = cc is in ap (λ (c : Code). c.0) e
 ]
+
+-- more than one byte has a smaller part
+pub smaller_some : (asked : ℕ) → 1 < asked → smaller_part asked ≡ None → ⊥
+smaller_some asked more none = grind (arith, nat_tests)
+
+-- a failing call of an honest controller for a part
+module _ (old new : Retrieval) (s s' : Seen) (n asked : ℕ) (code : Code) (into : List ℕ) (honest : IsHonest s) (open_ : IsOpen old) (reading : IsReading old s) (held : old.reservation ≡ Some n)
+    (parts : PartAnswers (request_of old n asked) (Err code) into s s') where
+  plain_absent : IsTrue s.plain → HoldsCurrent old s → class_of code.0 ≡ NotPresent
+  plain_absent plain holds = ap class_of (plain_code old s n asked code honest open_ reading holds held (parts.plain plain))
+
+  -- a smaller part is to be asked for
+  with_smaller : (part : ℕ) → IsQuiet s s' → (class_of code.0 ≡ NotPresent → ⊥) → CallIsHonest old (record old { part = part }) s s' (Ok Again)
+  with_smaller part quiet not_absent =
+      let kept = reading_kept old s s' parts.keeps parts.change.stays.store open_.reserved reading in
+      record {
+        stays = parts.change.stays;
+        answers = record {
+          reading = record {
+            piece = λ some now. let before = kept.piece some now in
+                (before.0, record { found = before.1.found; within = before.1.within; bytes = before.1.bytes; next = before.1.next });
+          };
+          troubles = omega (arith, quiet.troubles);
+          fresh_troubles = omega (arith, quiet.fresh_troubles);
+          grows = omega arith;
+          refusals = quiet.refusals;
+          last_code = quiet.last_code;
+          within = omega arith;
+        };
+        keeps = λ some same. record { held = refl; none_given = parts.keeps.none_given };
+        plain = λ plain holds. absurd (not_absent (plain_absent plain holds));
+      }
+
+  smaller_answers : (result : Result Outcome Ended) → 1 < asked → IsQuiet s s' → (class_of code.0 ≡ NotPresent → ⊥) → MakesSmaller asked old new result → CallIsHonest old new s s' result
+  smaller_answers (Ok turn) more quiet not_absent does =
+      subst (λ (t : Outcome). CallIsHonest old new s s' (Ok t)) (sym does.0) (subst (λ (r : Retrieval). CallIsHonest old r s s' (Ok Again)) (sym does.2) (with_smaller new.part quiet not_absent))
+  smaller_answers (Err ended) more quiet not_absent does = absurd (smaller_some asked more does.1)
+
+  absent_answers : (result : Result Outcome Ended) → look (rows_of old.shelf s'.store) old.id ≡ None → IsFinished s s' → (result ≡ Ok Absent) × (new ≡ old) → CallIsHonest old new s s' result
+  absent_answers result absent finished does =
+      let base : CallIsHonest old old s s' (Ok Absent) = record {
+        stays = parts.change.stays;
+        answers = record { calm = record { troubles = finished.troubles; refusals = finished.refusals; last_code = finished.last_code }; absent = absent };
+        keeps = λ some same. record { held = refl; none_given = parts.keeps.none_given };
+        plain = λ plain holds. record { holds = record { held = λ m e. parts.keeps.plain plain ∙ holds.held m e }; fine = tt; troubles = refl };
+      } in
+      subst (λ (x : Result Outcome Ended). CallIsHonest old new s s' x) (sym does.0) (subst (λ (r : Retrieval). CallIsHonest old r s s' (Ok Absent)) (sym does.1) base)
+
+  part_by_class : (class : CodeClass) (result : Result Outcome Ended) → (class_of code.0 ≡ NotPresent → class ≡ NotPresent) → FailsWith (1 < asked) (look (rows_of old.shelf s'.store) old.id ≡ None) class code.0 s s'
+      → PartFails class code asked old new result → CallIsHonest old new s s' result
+  part_by_class Cancelled result absent troubled does = honest_trouble true old new s s' result open_ reading parts.change.stays parts.keeps troubled does (λ plain holds. cc (absent (plain_absent plain holds)))
+  part_by_class Busy result absent troubled does = honest_trouble false old new s s' result open_ reading parts.change.stays parts.keeps troubled does (λ plain holds. cc (absent (plain_absent plain holds)))
+  part_by_class SmallerPart result absent fails does = smaller_answers result fails.0 fails.1 (λ e. cc (absent e)) does
+  part_by_class NotPresent result absent fails does = absent_answers result fails.0 fails.1 does
+  part_by_class Refusal result absent refused does = honest_refusal old new s s' code result parts.change.stays parts.keeps refused does (λ plain holds. cc (absent (plain_absent plain holds)))
+
+  pub part_failed : (result : Result Outcome Ended) → PartFails (class_of code.0) code asked old new result → CallIsHonest old new s s' result
+  part_failed result fails = part_by_class (class_of code.0) result (λ e. e) parts.gives fails

@@ -1,5 +1,6 @@
 -- The reading of a record, call after call.
-use Rattle.std.proofs.Common.{◌≡◌, ℕ, ◌+◌, ◌*◌, ◌<◌, ◌≤◌, Option, None, Some, Result, Ok, Err, refl, ap, subst, ◌∙◌, arith, ◌-◌}
+use Rattle.std.proofs.Common.{◌≡◌, ℕ, ◌+◌, ◌*◌, ◌<◌, ◌≤◌, Option, None, Some, Result, Ok, Err, refl, sym, ap, subst, ◌∙◌, arith, ◌-◌}
+use Rattle.std.specs.Prelude.{IsSome}
 use Rattle.ipmi_bus.specs.Bounds.{digits, step_call_bound}
 use Rattle.ipmi_bus.specs.declared.controller.Shelf.{Shelf}
 use Rattle.ipmi_bus.specs.declared.step.Ended.{Ended}
@@ -11,8 +12,8 @@ use Rattle.ipmi_bus.specs.declared.retrieval.Retrieved.{Retrieved}
 use Rattle.ipmi_bus.specs.declared.retrieval.Retrieved.TheVariants.{Complete, Nothing}
 use Rattle.ipmi_bus.specs.Shelf.{look, len_of, largest_len}
 use Rattle.ipmi_bus.specs.Store.{Store, rows_of}
-use Rattle.ipmi_bus.specs.Seen.{Seen, IsHonest, KeepsStore, StaysHonest}
-use Rattle.ipmi_bus.specs.Retrieval.{row_len, IsOpen, SameRequest, IsReading, IsCalm, CallAnswers, CallIsPlain, CallIsHonest, CallLeaves, calls_left, unreserved}
+use Rattle.ipmi_bus.specs.Seen.{Seen, IsHonest, KeepsStore, StaysHonest, current}
+use Rattle.ipmi_bus.specs.Retrieval.{row_len, IsOpen, SameRequest, IsReading, IsCalm, KeepsHeld, CallAnswers, CallIsPlain, CallIsHonest, CallLeaves, calls_left, unreserved}
 use Rattle.ipmi_bus.specs.Since.{begun, HonestSince, Since, ReadAnswers, ReadIsPlain, ReadIsHonest}
 use Rattle.ipmi_bus.specs.Tries.{WithinTries}
 
@@ -36,6 +37,12 @@ stays_refl s h = record { honest = h; plain = λ p. p; store = record { grows = 
 same_request_trans : (a b c : Retrieval) → SameRequest a b → SameRequest b c → SameRequest a c
 same_request_trans a b c p q = record { shelf = q.shelf ∙ p.shelf; tries = q.tries ∙ p.tries; id = q.id ∙ p.id; part = omega (arith, p.part, q.part); some = q.some }
 
+pub keeps_trans : (a b c : Retrieval) (s s' s'' : Seen) → b.shelf ≡ a.shelf → KeepsHeld a b s s' → KeepsHeld b c s' s'' → KeepsHeld a c s s''
+keeps_trans a b c s s' s'' shelf p q = record {
+  held = q.held ∙ p.held;
+  none_given = λ n now. p.none_given n (subst (λ (x : Shelf). current x s'' ≡ Some n → current x s' ≡ Some n) shelf (q.none_given n) now);
+}
+
 -- a record of which nothing is read
 pub since_begun : (r : Retrieval) (id : ℕ) (s : Seen) → 0 < r.part → r.part < 255 → IsOpen (begun r id) → Since (begun r id) (begun r id) s s
 since_begun r id s some fits open_ = record {
@@ -45,6 +52,7 @@ since_begun r id s some fits open_ = record {
   honest = λ h. record {
     stays = stays_refl s h;
     reading = record { piece = λ none now. absurd (omega arith) };
+    keeps = λ some same. record { held = refl; none_given = λ n now. now };
     troubles = omega arith;
     fresh_troubles = omega arith;
     refusals = refl;
@@ -84,12 +92,20 @@ module _ (start now new : Retrieval) (s s' s'' : Seen) (since : Since start now 
       let spent = leaves.1 (row_len start s) (within_more so_far turn e) in
       chain (calls_left (row_len start s) new) (calls_left (row_len start s) now) (calls_left (row_len start s) start) spent before
 
+  keeps_more : (so_far : HonestSince start now s s') → CallIsHonest now new s' s'' (Ok Again) → IsSome start.reservation → s''.troubles ≡ s.troubles → KeepsHeld start new s s''
+  keeps_more so_far turn some same =
+      let first : s'.troubles ≡ s.troubles = omega (arith, so_far.troubles, turn.answers.troubles, turn.answers.grows) in
+      let second : s''.troubles ≡ s'.troubles = omega (arith, first) in
+      let before = so_far.keeps some first in
+      keeps_trans start now new s s' s'' since.request.shelf before (turn.keeps (subst IsSome (sym before.held) some) second)
+
   honest_more : HonestSince start now s s' → CallIsHonest now new s' s'' (Ok Again) → CallLeaves now new (Ok Again) → HonestSince start new s s''
   honest_more so_far turn leaves = record {
     within = within_more so_far turn;
     calls = calls_more so_far turn leaves;
     stays = stays_trans s s' s'' so_far.stays turn.stays;
     reading = turn.answers.reading;
+    keeps = keeps_more so_far turn;
     troubles = omega (arith, so_far.troubles, turn.answers.troubles);
     fresh_troubles = omega (arith, so_far.fresh_troubles, turn.answers.fresh_troubles);
     refusals = turn.answers.refusals ∙ so_far.refusals;
@@ -187,6 +203,27 @@ module _ (old : Retrieval) (id : ℕ) (now new : Retrieval) (s s' s'' : Seen) (s
   answers_of (Err (Stalled n)) not_again so_far answers = answers
   answers_of (Err (Malformed n)) not_again so_far answers = answers
 
+  -- no trouble is taken back
+  grows_of : (result : Result Outcome Ended) → CallAnswers now new s' s'' result → s'.troubles ≤ s''.troubles
+  grows_of (Ok Again) answers = omega (arith, answers.troubles, answers.grows)
+  grows_of (Ok Whole) answers = omega (arith, answers.1.calm.troubles)
+  grows_of (Ok Absent) answers = omega (arith, answers.calm.troubles)
+  grows_of (Err (GaveUp n)) answers = omega (arith, answers.troubles, since.is_open.troubles)
+  grows_of (Err (Refused n code)) answers = omega (arith, answers.1.troubles)
+  grows_of (Err (Cycle n)) answers = absurd answers
+  grows_of (Err (Missing n)) answers = absurd answers
+  grows_of (Err (Stalled n)) answers = absurd answers
+  grows_of (Err (Malformed n)) answers = absurd answers
+
+  keeps_to_end : (result : Result Outcome Ended) → HonestSince (begun old id) now s s' → CallIsHonest now new s' s'' result → IsSome old.reservation → s''.troubles ≡ s.troubles → KeepsHeld old new s s''
+  keeps_to_end result so_far turn some same =
+      let grows = grows_of result turn.answers in
+      let first : s'.troubles ≡ s.troubles = omega (arith, so_far.troubles, grows) in
+      let second : s''.troubles ≡ s'.troubles = omega (arith, first) in
+      let before = so_far.keeps some first in
+      let all = keeps_trans (begun old id) now new s s' s'' since.request.shelf before (turn.keeps (subst IsSome (sym before.held) some) second) in
+      record { held = all.held; none_given = all.none_given }
+
   fine_of : (result : Result Outcome Ended) → (result ≡ Ok Again → ⊥) → CallIsPlain now new s'' result → ReadIsPlain new s'' (read_result result)
   fine_of (Ok Again) not_again plain = absurd (not_again refl)
   fine_of (Ok Whole) not_again plain = record { holds = plain.holds; fine = tt }
@@ -205,6 +242,7 @@ module _ (old : Retrieval) (id : ℕ) (now new : Retrieval) (s s' s'' : Seen) (s
       record {
         stays = stays_trans s s' s'' so_far.stays turn.stays;
         answers = answers_of result not_again so_far turn.answers;
+        keeps = keeps_to_end result so_far turn;
         calls = row_bound turn.stays so_far part;
         plain = λ p holds. fine_of result not_again (turn.plain (so_far.stays.plain p) (so_far.plain p (record { held = holds.held })).holds);
       }

@@ -1,5 +1,5 @@
 -- A cursor's fields as contracts see them, and what it hands out.
-use Rattle.std.specs.Prelude.{◌≡◌, ◌≢◌, ℕ, false, ◌<◌, List, Option, None, Some, Result, Ok, Err, take}
+use Rattle.std.specs.Prelude.{◌≡◌, ◌≢◌, ℕ, false, ◌<◌, List, Option, None, Some, IsSome, Result, Ok, Err, IsOk, take}
 use Rattle.std.specs.FinSet as set
 use Rattle.ipmi_bus.specs.declared.step.Place.{Place}
 use Rattle.ipmi_bus.specs.declared.step.Place.TheVariants.{First, Id, End}
@@ -9,6 +9,7 @@ use Rattle.ipmi_bus.specs.declared.cursor.Next.{Next}
 use Rattle.ipmi_bus.specs.declared.cursor.Next.TheVariants as next
 use Rattle.ipmi_bus.specs.declared.cursor.Progress.{Progress}
 use Rattle.ipmi_bus.specs.Shelf.{Row, id_in}
+use Rattle.ipmi_bus.specs.Seen.{Seen, current}
 use Rattle.ipmi_bus.specs.CursorState.{CursorState}
 use Rattle.ipmi_bus.specs.Step.{cycle_at}
 use Rattle.std.specs.Ordering.{nat_cmp}
@@ -57,3 +58,16 @@ abbrev pub IsNext : Place → set.FinSet nat_cmp → Next → Type 0
 IsNext place ids next.End = place ≡ End
 IsNext place ids (next.Cycle n) = cycle_at place ids ≡ Some n
 IsNext place ids (next.Asks asked) = (cycle_at place ids ≡ None) × IsAsked place asked × IsUnseen place ids asked × LeavesRoom place ids
+
+-- no reservation became current, and the one that is held is kept, unless the step fails
+abbrev pub StepKeeps : CursorState → CursorState → Seen → Seen → Result (Option Row) Ended
+    → Type 0
+StepKeeps old new s s' result =
+    ((n : ℕ) → current old.shelf s' ≡ Some n → current old.shelf s ≡ Some n)
+    × (IsOk result → new.reservation ≡ old.reservation)
+
+-- so it is where one is held and no trouble comes
+abbrev pub KeepsReservation : CursorState → CursorState → Seen → Seen
+    → Result (Option Row) Ended → Type 0
+KeepsReservation old new s s' result =
+    IsSome old.reservation → s'.troubles ≡ s.troubles → StepKeeps old new s s' result

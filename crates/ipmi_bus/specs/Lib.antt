@@ -1,5 +1,6 @@
 pub mod Answers
 pub mod Bounds
+pub mod Calls
 pub mod Code
 pub mod Counts
 pub mod CursorState

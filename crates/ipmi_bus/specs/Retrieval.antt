@@ -1,5 +1,8 @@
 -- A record that is being read in parts: what is there so far, and what one call may leave of it.
 use Rattle.std.specs.Prelude.{◌≡◌, ℕ, max, ◌+◌, ◌-◌, ◌*◌, ◌<◌, ◌≤◌, Bool, true, false, IsTrue, MatchResult, nat_lt, if◌then◌else◌, Option, None, Some, IsSome, Result, Ok, Err, List, length, take, slice_index}
+use Rattle.ipmi_bus.specs.declared.code.Code.{Code}
+use Rattle.ipmi_bus.specs.declared.code.CodeClass.{CodeClass}
+use Rattle.ipmi_bus.specs.declared.code.CodeClass.TheVariants as class
 use Rattle.ipmi_bus.specs.declared.controller.Shelf.{Shelf}
 use Rattle.ipmi_bus.specs.declared.controller.Shelf.TheVariants.{Sdr, Sel}
 use Rattle.ipmi_bus.specs.declared.controller.Part.{Part}
@@ -13,11 +16,17 @@ use Rattle.ipmi_bus.specs.Store.{rows_of}
 use Rattle.ipmi_bus.specs.Seen.{Seen, current, IsRefused, StaysHonest}
 use Rattle.ipmi_bus.specs.Answers.{Asked}
 use Rattle.ipmi_bus.specs.Bounds.{digits}
+use Rattle.ipmi_bus.specs.Calls.{asked_len, smaller_part}
+use Rattle.ipmi_bus.specs.Code.{class_of}
 
 -- how many bytes are asked for, by those that are there: of a sensor data record the header comes first
 abbrev pub wanted_len : Shelf → ℕ → List ℕ → ℕ
 wanted_len Sdr have buffer = if nat_lt have 5 then 5 else 5 + slice_index buffer 4
 wanted_len Sel have buffer = 16
+
+-- how many bytes the next request asks for
+abbrev pub request_len : Retrieval → ℕ
+request_len r = asked_len r.part (wanted_len r.shelf r.have r.buffer - r.have)
 
 -- a record that is not whole yet
 pub record IsOpen (r : Retrieval) : Type 0 where
@@ -50,6 +59,11 @@ pub record IsReading (r : Retrieval) (seen : Seen) : Type 0 where
 -- a reservation that is held is current
 pub record HoldsCurrent (r : Retrieval) (seen : Seen) : Type 0 where
   pub held : (n : ℕ) → r.reservation ≡ Some n → current r.shelf seen ≡ Some n
+
+-- the reservation is held on, and no other became current
+pub record KeepsHeld (old new : Retrieval) (s s' : Seen) : Type 0 where
+  pub held : new.reservation ≡ old.reservation
+  pub none_given : (n : ℕ) → current old.shelf s' ≡ Some n → current old.shelf s ≡ Some n
 
 -- neither a trouble nor a refusal came
 pub record IsCalm (old new : Seen) : Type 0 where
@@ -114,10 +128,12 @@ pub record CallIsPlain (old new : Retrieval) (s' : Seen) (result : Result Outcom
   pub fine : IsFine result
   pub troubles : new.troubles ≡ old.troubles
 
--- a call of an honest controller
+-- A call of an honest controller. Where a reservation is held and no trouble comes, none is asked
+-- for.
 pub record CallIsHonest (old new : Retrieval) (s s' : Seen) (result : Result Outcome Ended) : Type 0 where
   pub stays : StaysHonest s s'
   pub answers : CallAnswers old new s s' result
+  pub keeps : IsSome old.reservation → s'.troubles ≡ s.troubles → KeepsHeld old new s s'
   pub plain : IsTrue s.plain → HoldsCurrent old s → CallIsPlain old new s' result
 
 -- after a trouble, of which one more may come
@@ -130,6 +146,46 @@ abbrev pub CountsTrouble : Bool → Retrieval → Retrieval → Result Outcome E
 CountsTrouble is_cancelled old new result = MatchResult result
     (λ turn. (turn ≡ Again) × (new ≡ after_trouble is_cancelled old) × (old.troubles < old.tries))
     (λ ended. (ended ≡ GaveUp old.id) × (new ≡ old) × (old.troubles ≡ old.tries))
+
+-- refused with this code
+abbrev pub IsRefusedBy : Code → Retrieval → Retrieval → Result Outcome Ended → Type 0
+IsRefusedBy code old new result = (result ≡ Err (Refused old.id code)) × (new ≡ old)
+
+-- a failing call for a reservation, by the class of its code: CBh and a smaller part are refusals
+abbrev pub ReserveFails : CodeClass → Code → Retrieval → Retrieval → Result Outcome Ended
+    → Type 0
+ReserveFails class.Cancelled code old new result = CountsTrouble false old new result
+ReserveFails class.Busy code old new result = CountsTrouble false old new result
+ReserveFails class.SmallerPart code old new result = IsRefusedBy code old new result
+ReserveFails class.NotPresent code old new result = IsRefusedBy code old new result
+ReserveFails class.Refusal code old new result = IsRefusedBy code old new result
+
+-- what the answer to a call for a reservation leaves
+abbrev pub TakesReservation : Result ℕ Code → Retrieval → Retrieval → Result Outcome Ended
+    → Type 0
+TakesReservation (Ok n) old new result =
+    (result ≡ Ok Again) × (new ≡ record old { reservation = Some n })
+TakesReservation (Err code) old new result = ReserveFails (class_of code.0) code old new result
+
+-- one call for a reservation was answered
+abbrev pub IsReserveAnswered : Retrieval → Retrieval → Result Outcome Ended → Type 0
+IsReserveAnswered old new result = (answer : Result ℕ Code) × TakesReservation answer old new result
+
+-- a smaller part is to be asked for; a part of less than one byte can't be
+abbrev pub MakesSmaller : ℕ → Retrieval → Retrieval → Result Outcome Ended → Type 0
+MakesSmaller asked old new result = MatchResult result
+    (λ turn. (turn ≡ Again) × (smaller_part asked ≡ Some new.part)
+    × (new ≡ record old { part = new.part }))
+    (λ ended. (ended ≡ Stalled old.id) × (smaller_part asked ≡ None) × (new ≡ old))
+
+-- a failing call for a part of so many bytes, by the class of its code
+abbrev pub PartFails : CodeClass → Code → ℕ → Retrieval → Retrieval → Result Outcome Ended
+    → Type 0
+PartFails class.Cancelled code asked old new result = CountsTrouble true old new result
+PartFails class.Busy code asked old new result = CountsTrouble false old new result
+PartFails class.SmallerPart code asked old new result = MakesSmaller asked old new result
+PartFails class.NotPresent code asked old new result = (result ≡ Ok Absent) × (new ≡ old)
+PartFails class.Refusal code asked old new result = IsRefusedBy code old new result
 
 -- a request for the bytes after those that are there
 abbrev pub request_of : Retrieval → ℕ → ℕ → Asked
@@ -150,6 +206,24 @@ TakesPart part old new (Err (GaveUp id)) = ⊥
 TakesPart part old new (Err (Refused id code)) = ⊥
 TakesPart part old new (Err (Cycle id)) = ⊥
 TakesPart part old new (Err (Missing id)) = ⊥
+
+-- what the answer to a request for so many bytes leaves, once its bytes are in the buffer
+abbrev pub TakesAnswer : Result Part Code → ℕ → Retrieval → Retrieval → Result Outcome Ended
+    → Type 0
+TakesAnswer (Ok part) asked old new result = TakesPart part old new result
+TakesAnswer (Err code) asked old new result = PartFails (class_of code.0) code asked old new result
+
+-- one request of `request_len` was answered
+pub record IsAnswered (old new : Retrieval) (result : Result Outcome Ended) : Type 0 where
+  pub answer : Result Part Code
+  pub filled : Retrieval
+  pub buffer : filled ≡ record old { buffer = filled.buffer }
+  pub takes : TakesAnswer answer (request_len old) filled new result
+
+-- one call was answered: for a reservation where none is held, else for a part
+abbrev pub CallIsAnswered : Option ℕ → Retrieval → Retrieval → Result Outcome Ended → Type 0
+CallIsAnswered None old new result = IsReserveAnswered old new result
+CallIsAnswered (Some n) old new result = IsAnswered old new result
 
 -- one call, for a reservation, where none is held
 abbrev pub unreserved : Option ℕ → ℕ

@@ -1,8 +1,10 @@
 -- What holds since the reading of a record began, and when it ends.
-use Rattle.std.specs.Prelude.{◌≡◌, ℕ, ◌+◌, ◌≤◌, IsTrue, None, Result, Ok, Err, length}
+use Rattle.std.specs.Prelude.{◌≡◌, ℕ, ◌+◌, ◌≤◌, IsTrue, IsSome, None, Result, Ok, Err, length}
 use Rattle.ipmi_bus.specs.declared.step.Ended.{Ended}
 use Rattle.ipmi_bus.specs.declared.step.Ended.TheVariants.{Cycle, Missing, Refused, GaveUp, Stalled, Malformed}
 use Rattle.ipmi_bus.specs.declared.retrieval.Retrieval.{Retrieval}
+use Rattle.ipmi_bus.specs.declared.retrieval.Outcome.{Outcome}
+use Rattle.ipmi_bus.specs.declared.retrieval.Outcome.TheVariants.{Again, Whole, Absent}
 use Rattle.ipmi_bus.specs.declared.retrieval.Retrieved.{Retrieved}
 use Rattle.ipmi_bus.specs.declared.retrieval.Retrieved.TheVariants.{Complete, Nothing}
 use Rattle.ipmi_bus.specs.declared.controller.Shelf.TheVariants.{Sdr}
@@ -11,7 +13,7 @@ use Rattle.ipmi_bus.specs.Store.{rows_of}
 use Rattle.ipmi_bus.specs.Seen.{Seen, IsHonest, StaysHonest}
 use Rattle.ipmi_bus.specs.Tries.{WithinTries, GivesUp, IsRefusedWith}
 use Rattle.ipmi_bus.specs.Bounds.{digits, step_call_bound}
-use Rattle.ipmi_bus.specs.Retrieval.{IsOpen, SameRequest, HasRead, IsReading, HoldsCurrent, calls_left, row_len, wanted_len}
+use Rattle.ipmi_bus.specs.Retrieval.{IsOpen, SameRequest, HasRead, IsReading, HoldsCurrent, KeepsHeld, CallIsAnswered, calls_left, row_len, wanted_len}
 
 -- a retrieval at the start of a record
 abbrev pub begun : Retrieval → ℕ → Retrieval
@@ -24,6 +26,7 @@ pub record PlainSince (now : Retrieval) (s' : Seen) : Type 0 where
 pub record HonestSince (start now : Retrieval) (s s' : Seen) : Type 0 where
   pub stays : StaysHonest s s'
   pub reading : IsReading now s'
+  pub keeps : IsSome start.reservation → s'.troubles ≡ s.troubles → KeepsHeld start now s s'
   pub troubles : s'.troubles ≡ s.troubles + now.troubles
   pub fresh_troubles : s'.fresh_troubles ≡ s.fresh_troubles + now.troubles
   pub refusals : s'.refusals ≡ s.refusals
@@ -72,11 +75,27 @@ pub record ReadIsPlain (new : Retrieval) (s' : Seen) (result : Result Retrieved 
   pub holds : HoldsCurrent new s'
   pub fine : IsFineRead result
 
+-- over an honest controller: where a reservation is held and no trouble comes, none is asked for
 pub record ReadIsHonest (old : Retrieval) (id : ℕ) (new : Retrieval) (s s' : Seen) (result : Result Retrieved Ended) : Type 0 where
   pub stays : StaysHonest s s'
   pub answers : ReadAnswers old id new s s' result
+  pub keeps : IsSome old.reservation → s'.troubles ≡ s.troubles → KeepsHeld old new s s'
   pub plain : IsTrue s.plain → HoldsCurrent old s → ReadIsPlain new s' result
   pub calls : s'.stores_added ≡ s.stores_added → s'.calls + digits new.part ≤ s.calls + step_call_bound old.tries (row_len (begun old id) s) + digits old.part
+
+-- what the last call left is what the reading gives
+abbrev pub EndsRead : Result Outcome Ended → Result Retrieved Ended → Type 0
+EndsRead (Ok Again) result = ⊥
+EndsRead (Ok Whole) result = result ≡ Ok Complete
+EndsRead (Ok Absent) result = result ≡ Ok Nothing
+EndsRead (Err ended) result = result ≡ Err ended
+
+-- the reading ended as its last call was answered
+pub record IsEnded (new : Retrieval) (result : Result Retrieved Ended) : Type 0 where
+  pub last : Retrieval
+  pub outcome : Result Outcome Ended
+  pub answered : CallIsAnswered last.reservation last new outcome
+  pub ends : EndsRead outcome result
 
 -- what comes of it over any controller
 abbrev pub ReadLeaves : ℕ → Retrieval → Result Retrieved Ended → Type 0

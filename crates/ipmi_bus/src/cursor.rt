@@ -8,7 +8,7 @@ ghost use Rattle.ipmi_bus.specs.Shelf.{Row, whole_len, largest_len};
 ghost use Rattle.ipmi_bus.specs.Walk.{place_after};
 ghost use Rattle.ipmi_bus.specs.Step.{KeepsSettings, StepLeaves, StepCalls, StepIsHonest, StepAnswers, AsksNothing, HasRoom};
 ghost use Rattle.ipmi_bus.specs.Standing.{FollowsWalks, StandsAt};
-ghost use Rattle.ipmi_bus.specs.Handed.{state_of, IsCursor, handed_result, handed_id, IsNext};
+ghost use Rattle.ipmi_bus.specs.Handed.{state_of, IsCursor, handed_result, handed_id, IsNext, KeepsReservation};
 
 use crate::controller::{Controller, Shelf};
 use crate::id_table::IdTable;
@@ -103,6 +103,9 @@ impl Progress {
         ensures no_call { AsksNothing (state_of self.old) → C.seen ctl.new ≡ C.seen ctl.old }
         ensures room { HasRoom (state_of self.old) }
         ensures honest { IsHonest (C.seen ctl.old) → StepIsHonest (state_of self.old) (state_of self.new) (C.seen ctl.old) (C.seen ctl.new) (handed_result self.new result) }
+        ensures keeps { IsHonest (C.seen ctl.old) →
+            KeepsReservation (state_of self.old) (state_of self.new)
+            (C.seen ctl.old) (C.seen ctl.new) (handed_result self.new result) }
     {
         let asked = match self.next() {
             Next::End => return Ok(None),
@@ -142,6 +145,9 @@ impl Progress {
         ensures no_call { AsksNothing (state_of self.old) → C.seen ctl.new ≡ C.seen ctl.old }
         ensures room { HasRoom (state_of self.old) }
         ensures honest { IsHonest (C.seen ctl.old) → StepIsHonest (state_of self.old) (state_of self.new) (C.seen ctl.old) (C.seen ctl.new) (handed_result self.new result) }
+        ensures keeps { IsHonest (C.seen ctl.old) →
+            KeepsReservation (state_of self.old) (state_of self.new)
+            (C.seen ctl.old) (C.seen ctl.new) (handed_result self.new result) }
         ensures walks { IsHonest (C.seen ctl.old) → FollowsWalks (state_of self.old) (state_of self.new) (C.seen ctl.old) (C.seen ctl.new) (handed_result self.new result) }
     {
         self.advance(ctl)

@@ -3,11 +3,13 @@ ghost use Rattle.std.specs.Prelude.{◌≡◌, ◌+◌, ◌<◌, ◌≤◌, Ok, 
 ghost use Rattle.ipmi_bus.specs.Seen.{Seen, IsHonest, StaysHonest};
 ghost use Rattle.ipmi_bus.specs.Answers.{BytesAnswers};
 ghost use Rattle.ipmi_bus.specs.Readers.{ReadsInventory, as_inventory};
-ghost use Rattle.ipmi_bus.specs.FruRetrieval.{SizeNext};
+ghost use Rattle.ipmi_bus.specs.Code.{class_of};
+ghost use Rattle.ipmi_bus.specs.FruRetrieval.{SizeFails, TakesSize, IsSizeAnswered, SizeNext};
 ghost use Rattle.ipmi_bus.specs.Bounds.{fru_call_bound};
 
-use crate::code::{Code, CodeClass};
-use crate::controller::Controller;
+use crate::calls::{Failure, after_failure, asked_len, smaller_part};
+use crate::code::Code;
+use crate::controller::{Controller, FruSize};
 use std::alloc::{AllocError, Global};
 use thiserror::Error;
 
@@ -58,19 +60,7 @@ struct FruRetrieval {
 }
 
 impl FruRetrieval {
-    ghost use Rattle.ipmi_bus.specs.FruRetrieval.{IsBegun, IsOpen, SameInventory, CountsTrouble, FruSince, FruNext, calls_left};
-
-    /// Counts a trouble.
-    fn trouble(&mut self) -> Result<(), FruEnded>
-        requires { self.old.troubles ≤ self.old.tries }
-        ensures { CountsTrouble self.old self.new result }
-    {
-        if self.troubles >= u16::from(self.tries) {
-            return Err(FruEnded::GaveUp);
-        }
-        self.troubles += 1;
-        Ok(())
-    }
+    ghost use Rattle.ipmi_bus.specs.FruRetrieval.{IsBegun, IsOpen, SameInventory, request_len, TakesPart, PartFails, IsAnswered, EndsBy, FruSince, FruNext, calls_left};
 
     /// Asks for some of the bytes that are missing, into their place.
     fn request<C: Controller>(&mut self, ctl: &mut C, asked: usize) -> Result<u8, Code>
@@ -78,6 +68,7 @@ impl FruRetrieval {
         requires fits { asked < 255 }
         requires within { self.old.have + asked ≤ vec_len self.old.bytes }
         requires short { vec_len self.old.bytes ≤ 65535 }
+        requires len { asked ≡ request_len self.old }
         ensures counted { (C.seen ctl.new).calls ≡ (C.seen ctl.old).calls + 1 }
         ensures got { IfOk result (λ got. got ≤ asked) }
         ensures bytes { self.new ≡ record self.old { bytes = self.new.bytes } }
@@ -93,33 +84,58 @@ impl FruRetrieval {
         ctl.fru_part(self.id, have as u16, into)
     }
 
+    /// Takes the bytes that came in.
+    fn take_part(&mut self, got: u8) -> Result<(), FruEnded>
+        requires is_open { IsOpen self.old }
+        requires fits { self.old.have + got ≤ vec_len self.old.bytes }
+        ensures takes { TakesPart got self.old self.new result }
+    {
+        if got == 0 {
+            return Err(FruEnded::Stalled);
+        }
+        self.have += usize::from(got);
+        Ok(())
+    }
+
+    /// Does what is to be done after a failing call for so many bytes.
+    fn fail_part(&mut self, code: Code, asked: usize) -> Result<(), FruEnded>
+        requires is_open { IsOpen self.old }
+        requires asked { asked ≤ self.old.part }
+        ensures fails { PartFails (class_of code.0) code asked self.old self.new result }
+        ensures same { SameInventory self.old self.new }
+        ensures leaves { OnOk result (calls_left self.new < calls_left self.old) }
+    {
+        match after_failure(code, self.troubles, self.tries) {
+            Failure::Again | Failure::Anew => {
+                self.troubles += 1;
+                Ok(())
+            }
+            Failure::Smaller => match smaller_part(asked) {
+                Some(part) => {
+                    self.part = part;
+                    Ok(())
+                }
+                None => Err(FruEnded::Stalled),
+            },
+            Failure::GiveUp => Err(FruEnded::GaveUp),
+            Failure::Absent | Failure::Refuse => Err(FruEnded::Refused(code)),
+        }
+    }
+
     /// Makes one call for the bytes that are missing.
     fn ask_part<C: Controller>(&mut self, ctl: &mut C) -> Result<(), FruEnded>
         requires { IsOpen self.old }
         ensures counted { (C.seen ctl.new).calls ≡ (C.seen ctl.old).calls + 1 }
         ensures same { SameInventory self.old self.new }
         ensures leaves { OnOk result (calls_left self.new < calls_left self.old) }
+        ensures answered { IsAnswered self.old self.new result }
         ensures stays { IsHonest (C.seen ctl.old) → StaysHonest (C.seen ctl.old) (C.seen ctl.new) }
         ensures honest { (s : Seen) → FruSince self.old s (C.seen ctl.old) → FruNext self.old self.new s (C.seen ctl.new) result }
     {
-        let asked = usize::from(self.part).min(self.bytes.len() - self.have);
+        let asked = asked_len(self.part, self.bytes.len() - self.have);
         match self.request(ctl, asked) {
-            Ok(0) => Err(FruEnded::Stalled),
-            Ok(got) => {
-                self.have += usize::from(got);
-                Ok(())
-            }
-            Err(code) => match code.class() {
-                CodeClass::Cancelled | CodeClass::Busy => self.trouble(),
-                CodeClass::SmallerPart => {
-                    if asked == 1 {
-                        return Err(FruEnded::Stalled);
-                    }
-                    self.part = (asked / 2) as u8;
-                    Ok(())
-                }
-                CodeClass::NotPresent | CodeClass::Refusal => Err(FruEnded::Refused(code)),
-            },
+            Ok(got) => self.take_part(got),
+            Err(code) => self.fail_part(code, asked),
         }
     }
 
@@ -128,6 +144,7 @@ impl FruRetrieval {
         requires { IsBegun self.old }
         ensures same { SameInventory self.old self.new }
         ensures whole { OnOk result (self.new.have ≡ length self.new.bytes.items) }
+        ensures ended { IfErr result (λ ended. EndsBy self.new ended) }
         ensures calls { (C.seen ctl.new).calls + 1 ≤ (C.seen ctl.old).calls + calls_left self.old }
         ensures stays { IsHonest (C.seen ctl.old) → StaysHonest (C.seen ctl.old) (C.seen ctl.new) }
         ensures honest { (s : Seen) → FruSince self.old s (C.seen ctl.old) → FruNext self.old self.new s (C.seen ctl.new) result }
@@ -149,34 +166,44 @@ struct Size {
     troubles: u16,
 }
 
+/// The size that was told, after so many troubles.
+fn take_size(told: FruSize, troubles: u16) -> Result<Size, FruEnded>
+    ensures { TakesSize told troubles result }
+{
+    if told.words {
+        return Err(FruEnded::Words);
+    }
+    Ok(Size {
+        bytes: told.size,
+        troubles,
+    })
+}
+
+/// Why there is no size after a failing call; Ok where it is to be asked for again.
+fn fail_size(code: Code, troubles: u16, tries: u8) -> Result<(), FruEnded>
+    ensures { SizeFails (class_of code.0) code troubles tries result }
+{
+    match after_failure(code, troubles, tries) {
+        Failure::Again | Failure::Anew => Ok(()),
+        Failure::GiveUp => Err(FruEnded::GaveUp),
+        Failure::Smaller | Failure::Absent | Failure::Refuse => Err(FruEnded::Refused(code)),
+    }
+}
+
 /// Asks for the size of the inventory.
 fn read_size<C: Controller>(ctl: &mut C, id: u8, tries: u8) -> Result<Size, FruEnded>
     ensures ok { IfOk result (λ size. (size.troubles ≤ tries) × ((C.seen ctl.new).calls ≡ (C.seen ctl.old).calls + size.troubles + 1)) }
     ensures err { OnErr result ((C.seen ctl.new).calls ≤ (C.seen ctl.old).calls + tries + 1) }
+    ensures answered { IsSizeAnswered tries result }
     ensures honest { IsHonest (C.seen ctl.old) → SizeNext id tries (C.seen ctl.old) (C.seen ctl.new) result }
 {
     let mut troubles = 0;
     'asking: loop {
         match ctl.fru_size(id) {
-            Ok(size) => {
-                if size.words {
-                    return Err(FruEnded::Words);
-                }
-                return Ok(Size {
-                    bytes: size.size,
-                    troubles,
-                });
-            }
-            Err(code) => match code.class() {
-                CodeClass::Cancelled | CodeClass::Busy => {
-                    if troubles >= u16::from(tries) {
-                        return Err(FruEnded::GaveUp);
-                    }
-                    troubles += 1;
-                }
-                CodeClass::SmallerPart | CodeClass::NotPresent | CodeClass::Refusal => {
-                    return Err(FruEnded::Refused(code));
-                }
+            Ok(told) => return take_size(told, troubles),
+            Err(code) => match fail_size(code, troubles, tries) {
+                Ok(()) => troubles += 1,
+                Err(end) => return Err(end),
             },
         }
     }

@@ -1,6 +1,7 @@
 //! Records of a management controller, retrieved in parts and handed out along their next ids.
 #![tactic(auto)]
 
+mod calls;
 mod code;
 mod controller;
 mod cursor;

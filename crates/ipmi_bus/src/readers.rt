@@ -4,36 +4,32 @@ ghost use Rattle.ipmi_bus.specs.Seen.{IsHonest};
 ghost use Rattle.ipmi_bus.specs.Store.{info_of, reading_of};
 ghost use Rattle.ipmi_bus.specs.Code.{class_of};
 ghost use Rattle.ipmi_bus.specs.Readers.{EndsUnder, ReadsValue};
-ghost use Rattle.ipmi_bus.specs.Failures.{FailureIs};
+ghost use Rattle.ipmi_bus.specs.Failures.{ValueFailureIs};
 
-use crate::code::{Code, CodeClass};
+use crate::calls::{Failure, after_failure};
+use crate::code::Code;
 use crate::controller::{Controller, Shelf};
 use crate::step::Ended;
 use ipmi_text::Reading;
 
-/// What a failing call leaves to do.
+/// What a failing call for a value leaves to do.
 #[derive(Clone, Copy)]
-pub(crate) enum Failure {
+enum ValueFailure {
     /// To make the call again.
     Again,
     /// Nothing: what was asked for is not there.
     Absent,
 }
 
-/// What to do after a failing call that is not for a part, where so many troubles came before it.
-pub(crate) fn after_failure(code: Code, id: u16, troubles: u16, tries: u8) -> Result<Failure, Ended>
-    ensures { FailureIs (class_of code.0) code id troubles tries result }
+/// What to do after a failing call for a value, where so many troubles came before it.
+fn after_value_failure(code: Code, id: u16, troubles: u16, tries: u8) -> Result<ValueFailure, Ended>
+    ensures { ValueFailureIs (class_of code.0) code id troubles tries result }
 {
-    match code.class() {
-        CodeClass::Cancelled | CodeClass::Busy => {
-            if troubles < u16::from(tries) {
-                Ok(Failure::Again)
-            } else {
-                Err(Ended::GaveUp(id))
-            }
-        }
-        CodeClass::NotPresent => Ok(Failure::Absent),
-        CodeClass::SmallerPart | CodeClass::Refusal => Err(Ended::Refused(id, code)),
+    match after_failure(code, troubles, tries) {
+        Failure::Again | Failure::Anew => Ok(ValueFailure::Again),
+        Failure::Absent => Ok(ValueFailure::Absent),
+        Failure::GiveUp => Err(Ended::GaveUp(id)),
+        Failure::Smaller | Failure::Refuse => Err(Ended::Refused(id, code)),
     }
 }
 
@@ -54,9 +50,9 @@ pub fn read_reading<C: Controller>(
     'asking: loop {
         match ctl.reading(lun, number) {
             Ok(reading) => return Ok(Some(reading)),
-            Err(code) => match after_failure(code, id, troubles, tries) {
-                Ok(Failure::Again) => troubles += 1,
-                Ok(Failure::Absent) => return Ok(None),
+            Err(code) => match after_value_failure(code, id, troubles, tries) {
+                Ok(ValueFailure::Again) => troubles += 1,
+                Ok(ValueFailure::Absent) => return Ok(None),
                 Err(ended) => return Err(ended),
             },
         }
@@ -78,9 +74,9 @@ pub fn read_info<C: Controller>(
     'asking: loop {
         match ctl.info(shelf) {
             Ok(info) => return Ok(Some(info)),
-            Err(code) => match after_failure(code, 0, troubles, tries) {
-                Ok(Failure::Again) => troubles += 1,
-                Ok(Failure::Absent) => return Ok(None),
+            Err(code) => match after_value_failure(code, 0, troubles, tries) {
+                Ok(ValueFailure::Again) => troubles += 1,
+                Ok(ValueFailure::Absent) => return Ok(None),
                 Err(ended) => return Err(ended),
             },
         }

@@ -5,7 +5,8 @@ ghost use Rattle.ipmi_bus.specs.Answers.{PartAnswers};
 ghost use Rattle.ipmi_bus.specs.Shelf.{largest_len};
 ghost use Rattle.ipmi_bus.specs.Bounds.{digits, step_call_bound};
 
-use crate::code::{Code, CodeClass};
+use crate::calls::{Failure, after_failure, asked_len, smaller_part};
+use crate::code::Code;
 use crate::controller::{Controller, Part, Shelf};
 use crate::step::Ended;
 
@@ -50,8 +51,9 @@ pub(crate) struct Retrieval {
 }
 
 impl Retrieval {
-    ghost use Rattle.ipmi_bus.specs.Retrieval.{IsOpen, SameRequest, IsReading, CallIsHonest, wanted_len, CountsTrouble, TakesPart, request_of, CallLeaves};
-    ghost use Rattle.ipmi_bus.specs.Since.{begun, ReadLeaves, ReadIsHonest};
+    ghost use Rattle.ipmi_bus.specs.Code.{class_of};
+    ghost use Rattle.ipmi_bus.specs.Retrieval.{IsOpen, SameRequest, IsReading, CallIsHonest, wanted_len, request_len, ReserveFails, IsReserveAnswered, PartFails, TakesPart, IsAnswered, CallIsAnswered, request_of, CallLeaves};
+    ghost use Rattle.ipmi_bus.specs.Since.{begun, IsEnded, ReadLeaves, ReadIsHonest};
 
     /// How many bytes are asked for in all, as far as the bytes that are there tell.
     fn wanted(&self) -> usize
@@ -69,20 +71,23 @@ impl Retrieval {
         }
     }
 
-    /// Counts a trouble, and drops what was read if the reservation is gone.
-    fn trouble(&mut self, is_cancelled: bool) -> Result<Outcome, Ended>
-        requires { IsOpen self.old }
-        ensures counts { CountsTrouble is_cancelled self.old self.new result }
+    /// Does what is to be done after a failing call for a reservation.
+    fn fail_reserve(&mut self, code: Code) -> Result<Outcome, Ended>
+        requires is_open { IsOpen self.old }
+        ensures fails { ReserveFails (class_of code.0) code self.old self.new result }
+        ensures request { SameRequest self.old self.new }
+        ensures leaves { CallLeaves self.old self.new result }
     {
-        if self.troubles >= u16::from(self.tries) {
-            return Err(Ended::GaveUp(self.id));
+        match after_failure(code, self.troubles, self.tries) {
+            Failure::Again | Failure::Anew => {
+                self.troubles += 1;
+                Ok(Outcome::Again)
+            }
+            Failure::GiveUp => Err(Ended::GaveUp(self.id)),
+            Failure::Smaller | Failure::Absent | Failure::Refuse => {
+                Err(Ended::Refused(self.id, code))
+            }
         }
-        self.troubles += 1;
-        if is_cancelled {
-            self.reservation = None;
-            self.have = 0;
-        }
-        Ok(Outcome::Again)
     }
 
     /// Asks for a reservation.
@@ -92,6 +97,7 @@ impl Retrieval {
         ensures counted { (C.seen ctl.new).calls ≡ (C.seen ctl.old).calls + 1 }
         ensures request { SameRequest self.old self.new }
         ensures leaves { CallLeaves self.old self.new result }
+        ensures answered { IsReserveAnswered self.old self.new result }
         ensures honest { IsHonest (C.seen ctl.old) → IsReading self.old (C.seen ctl.old) → CallIsHonest self.old self.new (C.seen ctl.old) (C.seen ctl.new) result }
     {
         match ctl.reserve(self.shelf) {
@@ -99,13 +105,7 @@ impl Retrieval {
                 self.reservation = Some(reservation);
                 Ok(Outcome::Again)
             }
-            Err(code) => match code.class() {
-                CodeClass::Cancelled => self.trouble(true),
-                CodeClass::Busy => self.trouble(false),
-                CodeClass::SmallerPart | CodeClass::NotPresent | CodeClass::Refusal => {
-                    Err(Ended::Refused(self.id, code))
-                }
-            },
+            Err(code) => self.fail_reserve(code),
         }
     }
 
@@ -140,6 +140,7 @@ impl Retrieval {
         requires some { 0 < asked }
         requires fits { asked < 255 }
         requires within { self.old.have + asked ≤ 256 }
+        requires len { asked ≡ request_len self.old }
         ensures counted { (C.seen ctl.new).calls ≡ (C.seen ctl.old).calls + 1 }
         ensures got { IfOk result (λ part. part.got ≤ asked) }
         ensures buffer { self.new ≡ record self.old { buffer = self.new.buffer } }
@@ -154,6 +155,38 @@ impl Retrieval {
         ctl.part(self.shelf, reservation, self.id, have as u8, into)
     }
 
+    /// Does what is to be done after a failing call for so many bytes.
+    fn fail_part(&mut self, code: Code, asked: usize) -> Result<Outcome, Ended>
+        requires is_open { IsOpen self.old }
+        requires asked { asked ≤ self.old.part }
+        ensures fails { PartFails (class_of code.0) code asked self.old self.new result }
+        ensures request { SameRequest self.old self.new }
+        ensures leaves { CallLeaves self.old self.new result }
+    {
+        match after_failure(code, self.troubles, self.tries) {
+            Failure::Again => {
+                self.troubles += 1;
+                Ok(Outcome::Again)
+            }
+            Failure::Anew => {
+                self.troubles += 1;
+                self.reservation = None;
+                self.have = 0;
+                Ok(Outcome::Again)
+            }
+            Failure::Smaller => match smaller_part(asked) {
+                Some(part) => {
+                    self.part = part;
+                    Ok(Outcome::Again)
+                }
+                None => Err(Ended::Stalled(self.id)),
+            },
+            Failure::Absent => Ok(Outcome::Absent),
+            Failure::GiveUp => Err(Ended::GaveUp(self.id)),
+            Failure::Refuse => Err(Ended::Refused(self.id, code)),
+        }
+    }
+
     /// Asks for the next part under the reservation.
     fn ask_part<C: Controller>(&mut self, ctl: &mut C, reservation: u16) -> Result<Outcome, Ended>
         requires is_open { IsOpen self.old }
@@ -161,25 +194,13 @@ impl Retrieval {
         ensures counted { (C.seen ctl.new).calls ≡ (C.seen ctl.old).calls + 1 }
         ensures request { SameRequest self.old self.new }
         ensures leaves { CallLeaves self.old self.new result }
+        ensures answered { IsAnswered self.old self.new result }
         ensures honest { IsHonest (C.seen ctl.old) → IsReading self.old (C.seen ctl.old) → CallIsHonest self.old self.new (C.seen ctl.old) (C.seen ctl.new) result }
     {
-        let have = self.have;
-        let asked = usize::from(self.part).min(self.wanted() - have);
+        let asked = asked_len(self.part, self.wanted() - self.have);
         match self.request(ctl, reservation, asked) {
             Ok(part) => self.take_part(part),
-            Err(code) => match code.class() {
-                CodeClass::Cancelled => self.trouble(true),
-                CodeClass::Busy => self.trouble(false),
-                CodeClass::SmallerPart => {
-                    if asked == 1 {
-                        return Err(Ended::Stalled(self.id));
-                    }
-                    self.part = (asked / 2) as u8;
-                    Ok(Outcome::Again)
-                }
-                CodeClass::NotPresent => Ok(Outcome::Absent),
-                CodeClass::Refusal => Err(Ended::Refused(self.id, code)),
-            },
+            Err(code) => self.fail_part(code, asked),
         }
     }
 
@@ -189,6 +210,7 @@ impl Retrieval {
         ensures counted { (C.seen ctl.new).calls ≡ (C.seen ctl.old).calls + 1 }
         ensures request { SameRequest self.old self.new }
         ensures leaves { CallLeaves self.old self.new result }
+        ensures answered { CallIsAnswered self.old.reservation self.old self.new result }
         ensures honest { IsHonest (C.seen ctl.old) → IsReading self.old (C.seen ctl.old) → CallIsHonest self.old self.new (C.seen ctl.old) (C.seen ctl.new) result }
     {
         match self.reservation {
@@ -204,6 +226,7 @@ impl Retrieval {
         ensures request { SameRequest (begun self.old id) self.new }
         ensures calls { (C.seen ctl.new).calls + digits self.new.part ≤ (C.seen ctl.old).calls + step_call_bound self.old.tries (largest_len self.old.shelf) + digits self.old.part }
         ensures leaves { ReadLeaves id self.new result }
+        ensures ended { IsEnded self.new result }
         ensures honest { IsHonest (C.seen ctl.old) → ReadIsHonest self.old id self.new (C.seen ctl.old) (C.seen ctl.new) result }
     {
         self.id = id;

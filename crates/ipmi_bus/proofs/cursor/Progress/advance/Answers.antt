@@ -1,7 +1,11 @@
-use Rattle.std.proofs.Common.{◌≡◌, sym, ap, ◌∙◌, arith, ℕ, inr}
+use Rattle.std.proofs.Common.{◌≡◌, None, refl, sym, ap, subst, ◌∙◌, arith, rules, ℕ, inr}
 use Rattle.std.specs.FinSet as set
 use Rattle.std.proofs.lemmas.List.{length-take}
 use Rattle.ipmi_bus.specs.declared.retrieval.Retrieval.{Retrieval}
+use Rattle.ipmi_bus.specs.declared.step.Place.{Place}
+use Rattle.ipmi_bus.specs.declared.step.Place.TheVariants.{First}
+use Rattle.ipmi_bus.specs.Handed.{IsAsked}
+use Rattle.ipmi_bus.specs.Step.{NoneAt}
 use Rattle.ipmi_bus.specs.Seen.{current}
 use Rattle.ipmi_bus.specs.Shelf.{look, len_of, largest_len}
 use Rattle.ipmi_bus.specs.Store.{rows_of}
@@ -67,3 +71,22 @@ returns-in-Ok-Complete-clause-room g c = inr (room_to_ask c.args.self.now.place 
 
 pub returns-in-Err-clause-room : goal.returns-in-Err-clause-room
 returns-in-Err-clause-room g c = inr (room_to_ask c.args.self.now.place c.args.self.now.ids c.in-Asks.id c.requires.first c.in-Asks.ensures.1 c.in-Asks.ensures.3)
+
+pub returns-then-eq-clause-honest : goal.returns-then-eq-clause-honest
+returns-then-eq-clause-honest g c = λ h.
+    let old = c.args.self.now in
+    let asks = c.in-Asks.ensures in
+    let read = c.in-Ok-Nothing.ensures.honest h in
+    let answers = rw c.in-Ok-Nothing.field-0-is at read.answers in
+    let first : old.place ≡ First = search rules in
+    let zero : c.in-Asks.id ≡ 0 = subst (λ (p : Place). IsAsked p c.in-Asks.id) first asks.1 in
+    let none = subst (λ (n : ℕ). look (rows_of old.retrieval.shelf (g.C.Controller.seen c.read.new.ctl).store) n ≡ None) zero answers.absent in
+    record {
+      stays = read.stays;
+      answers = (answers.within, subst (λ (p : Place). NoneAt p old.retrieval.shelf (g.C.Controller.seen c.read.new.ctl)) (sym first) none);
+      calls = λ same.
+          let asked = asked_is old.place c.in-Asks.id asks.1 in
+          calls_moved (g.C.Controller.seen c.read.new.ctl).calls (g.C.Controller.seen c.args.ctl.now).calls old.retrieval.tries c.read.new.self.part c.read.new.self.part old.retrieval.part
+          (λ (n : ℕ). len_of (look (rows_of old.retrieval.shelf (g.C.Controller.seen c.args.ctl.now).store) n)) c.in-Asks.id _ asked refl (read.calls same);
+      plain = λ p holds. let after = read.plain p (record { held = holds.held }) in record { holds = record { held = after.holds.held }; fine = tt };
+    }

@@ -1,13 +1,30 @@
-use Rattle.std.proofs.Common.{sym, subst, ◌+◌}
-use Rattle.ipmi_bus.specs.declared.inventory.FruRetrieval.{FruRetrieval}
-use Rattle.ipmi_bus.specs.FruRetrieval.{FruSince}
-use Rattle.ipmi_bus.proofs.InventoryLemmas.{part_taken}
+use Rattle.std.proofs.Common.{◌≡◌, ℕ, ◌+◌, ◌-◌, Ok, Err, ap, subst, ◌∙◌}
+use Rattle.ipmi_bus.specs.Calls.{asked_len}
+use Rattle.ipmi_bus.specs.Code.{class_of}
+use Rattle.ipmi_bus.specs.FruRetrieval.{request_len, PartFails}
+use Rattle.ipmi_bus.proofs.InventoryLemmas.{part_answers, part_failed}
 use Rattle.ipmi_bus.proofs.inventory.FruRetrieval.ask_part.Goals as goal
 
-pub returns-in-Ok-clause-honest : goal.returns-in-Ok-clause-honest
-returns-in-Ok-clause-honest g c = λ s since.
+pub returns-in-Ok-clause-answered : goal.returns-in-Ok-clause-answered
+returns-in-Ok-clause-answered g c = record { answer = Ok c.in-Ok.got; filled = c.request.new.self; bytes = c.request.ensures.bytes; takes = c.take_part.ensures.takes }
+
+pub returns-in-Err-clause-answered : goal.returns-in-Err-clause-answered
+returns-in-Err-clause-answered g c =
     let old = c.args.self.now in
-    let r = c.request.new.self in
-    let taken = part_taken old r s _ _ c.min-asked.result c.from-in-Ok.result c.in-Ok.ensures.len c.in-Ok.ensures.front since c.requires.more
-    (rw (sym c.from-in-Ok.ensures) at (c.in-Ok.ensures.honest since.stays.honest)) in
-    subst (λ (x : FruRetrieval). FruSince (record x { have = x.have + c.from-in-Ok.result }) s (g.C.Controller.seen c.request.new.ctl)) (sym c.in-Ok.ensures.bytes) taken
+    let len : c.asked_len-asked.result ≡ request_len old = c.asked_len-asked.ensures ∙ ap (λ (n : ℕ). asked_len old.part (n - old.have)) (c.len.ensures ∙ old.bytes.ok.0) in
+    record {
+      answer = Err c.in-Err.code;
+      filled = c.request.new.self;
+      bytes = c.request.ensures.bytes;
+      takes = subst (λ (n : ℕ). PartFails (class_of c.in-Err.code.0) c.in-Err.code n c.request.new.self c.fail_part.new.self c.fail_part.result) len c.fail_part.ensures.fails;
+    }
+
+pub returns-in-Ok-clause-honest : goal.returns-in-Ok-clause-honest
+returns-in-Ok-clause-honest g c =
+    λ s since. part_answers c.args.self.now c.request.new.self s _ _ c.asked_len-asked.result c.in-Ok.got c.in-Ok.ensures.len c.in-Ok.ensures.front since c.requires.more (c.in-Ok.ensures.honest since.stays.honest)
+    c.take_part.new.self c.take_part.result c.request.ensures.bytes c.take_part.ensures.takes
+
+pub returns-in-Err-clause-honest : goal.returns-in-Err-clause-honest
+returns-in-Err-clause-honest g c =
+    λ s since. part_failed c.args.self.now c.request.new.self s _ _ c.asked_len-asked.result c.in-Err.code _ c.request.ensures.bytes c.in-Err.ensures.err c.requires since (c.in-Err.ensures.honest since.stays.honest)
+    c.fail_part.new.self c.fail_part.result c.fail_part.ensures.fails

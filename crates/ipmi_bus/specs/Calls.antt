@@ -1,0 +1,23 @@
+-- How many bytes a call asks for, and what is to be done after one that failed.
+use Rattle.std.specs.Prelude.{◌≡◌, ℕ, min, ◌/◌, ◌<◌, ◌≤◌, ◌⊎◌, nat_lt, if◌then◌else◌, Option, None, Some}
+use Rattle.ipmi_bus.specs.declared.code.CodeClass.{CodeClass}
+use Rattle.ipmi_bus.specs.declared.code.CodeClass.TheVariants.{Cancelled, Busy, SmallerPart, NotPresent, Refusal}
+use Rattle.ipmi_bus.specs.declared.calls.Failure.{Failure}
+use Rattle.ipmi_bus.specs.declared.calls.Failure.TheVariants.{Again, Anew, Smaller, Absent, GiveUp, Refuse}
+
+-- the smaller of the part size and what is missing
+abbrev pub asked_len : ℕ → ℕ → ℕ
+asked_len part missing = min part missing
+
+-- half of what was asked for, rounded down; none where that was one byte
+abbrev pub smaller_part : ℕ → Option ℕ
+smaller_part asked = if nat_lt 1 asked then Some (asked / 2) else None
+
+-- what is to be done after a failing call, by the class of its code and the troubles before it
+abbrev pub FailureIs : Failure → CodeClass → ℕ → ℕ → Type 0
+FailureIs Again class troubles tries = (class ≡ Busy) × (troubles < tries)
+FailureIs Anew class troubles tries = (class ≡ Cancelled) × (troubles < tries)
+FailureIs GiveUp class troubles tries = ((class ≡ Busy) ⊎ (class ≡ Cancelled)) × (tries ≤ troubles)
+FailureIs Smaller class troubles tries = class ≡ SmallerPart
+FailureIs Absent class troubles tries = class ≡ NotPresent
+FailureIs Refuse class troubles tries = class ≡ Refusal

@@ -1,0 +1,57 @@
+//! How many bytes a call asks for, and what is to be done after one that failed.
+ghost use Rattle.std.specs.Prelude.{◌≡◌, ◌<◌};
+ghost use Rattle.ipmi_bus.specs.Code.{class_of};
+ghost use Rattle.ipmi_bus.specs.Calls.{asked_len, smaller_part, FailureIs};
+
+use crate::code::{Code, CodeClass};
+
+/// How many bytes to ask for, with this part size, where so many are missing.
+pub(crate) fn asked_len(part: u8, missing: usize) -> usize
+    ensures { result ≡ asked_len part missing }
+{
+    usize::from(part).min(missing)
+}
+
+/// The part size after a code that asks for a smaller part than these bytes.
+pub(crate) fn smaller_part(asked: usize) -> Option<u8>
+    requires { asked < 255 }
+    ensures { result ≡ smaller_part asked }
+{
+    if asked > 1 {
+        Some((asked / 2) as u8)
+    } else {
+        None
+    }
+}
+
+/// What is to be done after a call that failed.
+#[derive(Clone, Copy)]
+pub(crate) enum Failure {
+    /// A trouble: the same call.
+    Again,
+    /// A trouble that cancelled the reservation: of what is read in parts under one, all calls.
+    Anew,
+    /// The same call, for a smaller part.
+    Smaller,
+    /// Nothing: what was asked for is not there.
+    Absent,
+    /// Nothing: it was one trouble too many.
+    GiveUp,
+    /// Nothing: it was a refusal.
+    Refuse,
+}
+
+/// What is to be done after a call that failed, where so many troubles came before it.
+pub(crate) fn after_failure(code: Code, troubles: u16, tries: u8) -> Failure
+    ensures { FailureIs result (class_of code.0) troubles tries }
+{
+    let is_within = troubles < u16::from(tries);
+    match code.class() {
+        CodeClass::Cancelled if is_within => Failure::Anew,
+        CodeClass::Busy if is_within => Failure::Again,
+        CodeClass::Cancelled | CodeClass::Busy => Failure::GiveUp,
+        CodeClass::SmallerPart => Failure::Smaller,
+        CodeClass::NotPresent => Failure::Absent,
+        CodeClass::Refusal => Failure::Refuse,
+    }
+}
