@@ -21,7 +21,8 @@ use Rattle.ipmi_bus.specs.Retrieval.{HasRead, SameRequest, wanted_len}
 use Rattle.ipmi_bus.specs.Since.{begun}
 use Rattle.ipmi_bus.specs.Handed.{handed_row, handed_id, IsAsked, IsUnseen, LeavesRoom}
 use Rattle.ipmi_bus.specs.Step.{asked_at, HasIdAsked}
-use Rattle.ipmi_bus.proofs.ShelfLemmas.{found_row, shelf_of}
+use Rattle.ipmi_bus.proofs.ShelfLemmas.{found_row}
+use Rattle.ipmi_bus.specs.Store.{store_shelf}
 use Rattle.ipmi_bus.proofs.PartLemmas.{byte_read}
 
 -- rows with equal parts are equal
@@ -54,7 +55,7 @@ pub handed_is : (place : Place) (asked : ℕ) (r : Retrieval) (s : Seen) (row : 
     → look (rows_of r.shelf s.store) asked ≡ Some (record { id = handed_id place asked r.buffer; next = r.next; bytes = take r.have r.buffer })
 handed_is place asked r s row honest asks is read whole some =
     let found : look (rows_of r.shelf s.store) asked ≡ Some row = subst (λ (n : ℕ). look (rows_of r.shelf s.store) n ≡ Some row) is read.found in
-    let id = id_is r.shelf (rows_of r.shelf s.store) place asked r.have r.buffer row (shelf_of r.shelf s.store honest.store) asks found some read.bytes in
+    let id = id_is r.shelf (rows_of r.shelf s.store) place asked r.have r.buffer row (store_shelf r.shelf s.store honest.store) asks found some read.bytes in
     let bytes : take r.have r.buffer ≡ row.bytes = read.bytes ∙ ap (λ (n : ℕ). take n row.bytes) whole ∙ take_all _ row.bytes (omega arith) in
     found ∙ ap Some (sym (same_row (record { id = handed_id place asked r.buffer; next = r.next; bytes = take r.have r.buffer }) row id read.next bytes))
 

@@ -19,7 +19,7 @@ use Rattle.ipmi_bus.specs.FruRetrieval.{IsOpen, SameInventory, CountsTrouble, Ma
 use Rattle.ipmi_bus.specs.Readers.{IsRefusedInventory, IsRefusedOverChange, InventoryCounts, InventoryIs, inventory_len}
 use Rattle.ipmi_bus.specs.Tries.{WithinTries, IsRefusedWith}
 use Rattle.ipmi_bus.specs.Bounds.{digits, fru_call_bound}
-use Rattle.ipmi_bus.proofs.SinceLemmas.{stays_trans}
+use Rattle.ipmi_bus.specs.Seen.{stays_trans}
 use Rattle.ipmi_bus.proofs.PartLemmas.{with_piece, smaller_some}
 
 -- with the bytes that came in

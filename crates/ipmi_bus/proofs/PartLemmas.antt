@@ -23,7 +23,8 @@ use Rattle.ipmi_bus.specs.Answers.{CountsPiece, FailsWith, GivesPiece, PartIsPla
 use Rattle.ipmi_bus.specs.Calls.{smaller_part}
 use Rattle.ipmi_bus.specs.Code.{class_of}
 use Rattle.ipmi_bus.specs.Retrieval.{IsOpen, HasRead, IsReading, HoldsCurrent, IsCalm, GoesOn, HasWhole, CallAnswers, CallIsPlain, CallIsHonest, TakesPart, MakesSmaller, PartFails, wanted_len, after_part, request_of}
-use Rattle.ipmi_bus.proofs.ShelfLemmas.{look_row, shelf_of}
+use Rattle.ipmi_bus.proofs.ShelfLemmas.{look_row}
+use Rattle.ipmi_bus.specs.Store.{store_shelf}
 use Rattle.ipmi_bus.proofs.CallLemmas.{store_kept, read_moved, reading_kept, honest_trouble, honest_refusal}
 
 -- the byte at a place that is read
@@ -164,7 +165,7 @@ pub honest_part : (old r new : Retrieval) (s s' : Seen) (n asked : ℕ) (part : 
 honest_part old r new s s' n asked part result is front reading held parts takes =
     let row = parts.gives.0 in
     let gives = parts.gives.1 in
-    let ok : IsRow old.shelf row = look_row old.shelf _ old.id row (shelf_of old.shelf s'.store parts.change.stays.honest.store) gives.found in
+    let ok : IsRow old.shelf row = look_row old.shelf _ old.id row (store_shelf old.shelf s'.store parts.change.stays.honest.store) gives.found in
     let read = read_piece old r.buffer s s' n asked part row reading parts.keeps parts.change.stays.store held front gives in
     let takes' : TakesPart part (record old { buffer = r.buffer }) new result = subst (λ (x : Retrieval). TakesPart part x new result) is takes in
     record {
@@ -182,7 +183,7 @@ plain_part old s n asked result honest open_ reading holds held plain = by_row (
     by_row : (o : Option Row) → look (rows_of old.shelf s.store) old.id ≡ o → IsOk result ⊎ (result ≡ Err (record { 0 = 0xCB }))
     by_row None found = inr (plain.absent found)
     by_row (Some row) found =
-        let ok : IsRow old.shelf row = look_row old.shelf _ old.id row (shelf_of old.shelf s.store honest.store) found in
+        let ok : IsRow old.shelf row = look_row old.shelf _ old.id row (store_shelf old.shelf s.store honest.store) found in
         let same : take old.have old.buffer ≡ take old.have row.bytes = elim (cases_lt 0 old.have) [
           | inl some ↦
               let before = reading.piece some (holds.held n held ∙ sym held) in

@@ -2,10 +2,8 @@
 use Rattle.std.proofs.Common.{◌≡◌, ◌≢◌, ℕ, Bool, true, false, cond, nat_eq, ◌==◌, ◌||◌, Some, List, [], ◌∷◌, ◌++◌, refl, subst}
 use Rattle.std.proofs.lemmas.Bool.{eqb-true, eqb-false}
 use Rattle.ipmi_bus.specs.declared.controller.Shelf.{Shelf}
-use Rattle.ipmi_bus.specs.declared.controller.Shelf.TheVariants.{Sdr, Sel}
 use Rattle.ipmi_bus.specs.Shelf.{Row, IsRow, IsShelf, AllRows, DistinctIds, LacksId, id_in, look, row_with_id, first_row}
 use Rattle.ipmi_bus.specs.Walk.{has_id}
-use Rattle.ipmi_bus.specs.Store.{Store, IsStore, rows_of}
 
 -- a row that is found is well formed, and has the id
 pub found_row : (shelf : Shelf) (rows : List Row) (n : ℕ) (row : Row) → AllRows shelf rows → row_with_id n rows ≡ Some row → IsRow shelf row × (row.id ≡ n)
@@ -26,10 +24,6 @@ look_row shelf rows n row ok found = by_id (n == 0) found
     by_id : (b : Bool) → cond b (first_row rows) (row_with_id n rows) ≡ Some row → IsRow shelf row
     by_id true found = first_is_row shelf rows row ok.all found
     by_id false found = (found_row shelf rows n row ok.all found).0
-
-pub shelf_of : (shelf : Shelf) (store : Store) → IsStore store → IsShelf shelf (rows_of shelf store)
-shelf_of Sdr store ok = ok.sdr
-shelf_of Sel store ok = ok.sel
 
 -- ---- a row after others
 

@@ -12,7 +12,7 @@ use Rattle.ipmi_bus.specs.declared.retrieval.Retrieved.{Retrieved}
 use Rattle.ipmi_bus.specs.declared.retrieval.Retrieved.TheVariants.{Complete, Nothing}
 use Rattle.ipmi_bus.specs.Shelf.{look, len_of, largest_len}
 use Rattle.ipmi_bus.specs.Store.{Store, rows_of}
-use Rattle.ipmi_bus.specs.Seen.{Seen, IsHonest, KeepsStore, StaysHonest, current}
+use Rattle.ipmi_bus.specs.Seen.{stays_refl, stays_trans, Seen, IsHonest, KeepsStore, StaysHonest, current}
 use Rattle.ipmi_bus.specs.Retrieval.{row_len, IsOpen, SameRequest, IsReading, IsCalm, KeepsHeld, CallAnswers, CallIsPlain, CallIsHonest, CallLeaves, calls_left, unreserved}
 use Rattle.ipmi_bus.specs.Since.{begun, HonestSince, Since, ReadAnswers, ReadIsPlain, ReadIsHonest}
 use Rattle.ipmi_bus.specs.Tries.{WithinTries}
@@ -22,17 +22,6 @@ store_trans a b c p q = record {
   grows = omega (arith, p.grows, q.grows);
   stays = λ e. q.stays (omega (arith, p.grows, q.grows, e)) ∙ p.stays (omega (arith, p.grows, q.grows, e));
 }
-
-pub stays_trans : (a b c : Seen) → StaysHonest a b → StaysHonest b c → StaysHonest a c
-stays_trans a b c p q = record {
-  honest = q.honest;
-  plain = λ h. q.plain (p.plain h);
-  store = store_trans a b c p.store q.store;
-  plain_store = λ h. q.plain_store (p.plain h) ∙ p.plain_store h;
-}
-
-pub stays_refl : (s : Seen) → IsHonest s → StaysHonest s s
-stays_refl s h = record { honest = h; plain = λ p. p; store = record { grows = omega arith; stays = λ e. refl }; plain_store = λ p. refl }
 
 same_request_trans : (a b c : Retrieval) → SameRequest a b → SameRequest b c → SameRequest a c
 same_request_trans a b c p q = record { shelf = q.shelf ∙ p.shelf; tries = q.tries ∙ p.tries; id = q.id ∙ p.id; part = omega (arith, p.part, q.part); some = q.some }

@@ -11,14 +11,15 @@ use Rattle.ipmi_bus.specs.Walk.{row_at, IsWalk, place_after, place_after_rows, h
 use Rattle.ipmi_bus.specs.declared.step.Ended.{Ended}
 use Rattle.ipmi_bus.specs.declared.step.Ended.TheVariants.{Cycle, Missing, Refused, GaveUp, Stalled, Malformed}
 use Rattle.ipmi_bus.specs.CursorState.{CursorState}
-use Rattle.ipmi_bus.specs.Step.{asked_at, cycle_at, AsksNothing, StaysThere, StepLeaves, StepAnswers, StepIsHonest, NoneAt}
+use Rattle.ipmi_bus.specs.Step.{asked_at, cycle_at, AsksAlong, AsksNothing, StaysThere, StepLeaves, StepAnswers, StepIsHonest, NoneAt}
 use Rattle.ipmi_bus.specs.Standing.{StandsAt, WalkStep, MayFail, FollowsWalks}
 use Rattle.std.specs.FinSet.{contains-insert, contains-empty}
 use Rattle.std.specs.Cmp.{nat_cmp_total, unsigned_tied}
 use Rattle.std.specs.Ordering.{nat_cmp}
 use Rattle.std.proofs.lemmas.List.{take_all, take-append-drop, length-drop}
 use Rattle.std.proofs.Math.Seq.{drop-nil, take-add}
-use Rattle.ipmi_bus.proofs.ShelfLemmas.{look_row, found_row, shelf_of}
+use Rattle.ipmi_bus.proofs.ShelfLemmas.{look_row, found_row}
+use Rattle.ipmi_bus.specs.Store.{store_shelf}
 use Rattle.ipmi_bus.specs.Store.{Store, rows_of}
 use Rattle.ipmi_bus.specs.Seen.{Seen, IsHonest}
 
@@ -340,8 +341,11 @@ follows_walks c new s s' result honest leaves step = record {
       let store = step.stays.store.stays same in
       let rows = rows_of c.shelf s.store in
       let finds : Finds rows c.place result = subst (λ (x : Store). Finds (rows_of c.shelf x) c.place result) store (finds_of c s s' result step.answers) in
-      walk_law c.shelf rows start walk k (shelf_of c.shelf s.store honest.store) w c new stands end ends result leaves finds;
+      walk_law c.shelf rows start walk k (store_shelf c.shelf s.store honest.store) w c new stands end ends result leaves finds;
 }
+
+pub asks_along : (c : CursorState) (s : Seen) → IsHonest s → AsksAlong c s
+asks_along c s honest start walk end k w ends stands = asks_next c.shelf (rows_of c.shelf s.store) start walk k (store_shelf c.shelf s.store honest.store) w c c stands end ends
 
 -- a new cursor stands at the start of each walk
 pub stands_at_start : (rows : List Row) (start : Place) (walk : List Row) (c : CursorState) → c.place ≡ start → c.ids ≡ set.empty → StandsAt rows start walk 0 c

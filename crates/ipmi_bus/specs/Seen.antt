@@ -1,4 +1,5 @@
 -- What contracts see of a management controller, and which controllers are honest and plain.
+use Rattle.std.proofs.Common.{refl, ◌∙◌, arith}
 use Rattle.std.specs.Prelude.{◌≡◌, ℕ, ◌+◌, ◌<◌, ◌≤◌, Bool, IsTrue, Option, None, Some}
 use Rattle.ipmi_bus.specs.declared.controller.Shelf.{Shelf}
 use Rattle.ipmi_bus.specs.declared.controller.Shelf.TheVariants.{Sdr, Sel}
@@ -73,6 +74,27 @@ pub record StaysHonest (old new : Seen) : Type 0 where
   pub plain : IsTrue old.plain → IsTrue new.plain
   pub store : KeepsStore old new
   pub plain_store : IsTrue old.plain → new.stores_added ≡ old.stores_added
+
+-- so it does where nothing is asked of it, and over two stretches where it does over each
+pub stays_refl : (s : Seen) → IsHonest s → StaysHonest s s
+stays_refl s honest = record {
+  honest = honest;
+  plain = λ p. p;
+  store = record { grows = omega arith; stays = λ same. refl };
+  plain_store = λ p. refl;
+}
+
+pub stays_trans : (a b c : Seen) → StaysHonest a b → StaysHonest b c → StaysHonest a c
+stays_trans a b c first then_ = record {
+  honest = then_.honest;
+  plain = λ p. then_.plain (first.plain p);
+  store = record {
+    grows = omega (arith, first.store.grows, then_.store.grows);
+    stays = λ same. then_.store.stays (omega (arith, first.store.grows, then_.store.grows, same))
+        ∙ first.store.stays (omega (arith, first.store.grows, then_.store.grows, same));
+  };
+  plain_store = λ p. then_.plain_store (first.plain p) ∙ first.plain_store p;
+}
 
 -- what any call of an honest controller may change: it adds at most one store
 pub record IsChange (old new : Seen) : Type 0 where

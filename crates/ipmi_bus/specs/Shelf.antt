@@ -80,3 +80,9 @@ pub record IsShelf (shelf : Shelf) (rows : List Row) : Type 0 where
   pub distinct : DistinctIds rows
   pub first : BeginsWithId rows
   pub later : LaterHaveIds rows
+
+-- ---- a law
+
+-- a record that is found on a well-formed shelf is a row
+abbrev pub FoundIsRow : Type 0
+FoundIsRow = (shelf : Shelf) (rows : List Row) (n : ℕ) (row : Row) → IsShelf shelf rows → look rows n ≡ Some row → IsRow shelf row

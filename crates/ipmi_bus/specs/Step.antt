@@ -1,5 +1,5 @@
 -- One step of a cursor: what it leaves over any controller, and what it answers over an honest one.
-use Rattle.std.specs.Prelude.{◌≡◌, ◌≢◌, ℕ, ◌+◌, ◌<◌, ◌≤◌, ◌==◌, ◌||◌, false, IsTrue, if◌then◌else◌, Option, None, Some, IsSome, ◌⊎◌, Result, Ok, Err, length}
+use Rattle.std.specs.Prelude.{◌≡◌, ◌≢◌, ℕ, ◌+◌, ◌<◌, ◌≤◌, ◌==◌, ◌||◌, false, IsTrue, if◌then◌else◌, Option, None, Some, IsSome, ◌⊎◌, Result, Ok, Err, List, length, drop}
 use Rattle.std.specs.FinSet as set
 use Rattle.std.specs.Ordering.{nat_cmp}
 use Rattle.ipmi_bus.specs.declared.controller.Shelf.{Shelf}
@@ -8,14 +8,14 @@ use Rattle.ipmi_bus.specs.declared.step.Place.{Place}
 use Rattle.ipmi_bus.specs.declared.step.Place.TheVariants.{First, Id, End}
 use Rattle.ipmi_bus.specs.declared.step.Ended.{Ended}
 use Rattle.ipmi_bus.specs.declared.step.Ended.TheVariants.{Cycle, Missing, Refused, GaveUp, Stalled, Malformed}
-use Rattle.ipmi_bus.specs.Shelf.{Row, look, len_of, largest_len, whole_len, id_in}
+use Rattle.ipmi_bus.specs.Shelf.{Row, first_row, look, len_of, largest_len, whole_len, id_in}
 use Rattle.ipmi_bus.specs.Store.{rows_of}
-use Rattle.ipmi_bus.specs.Walk.{place_after}
+use Rattle.ipmi_bus.specs.Walk.{IsWalk, WalkEnd, EndsBy, place_after}
 use Rattle.ipmi_bus.specs.Seen.{Seen, IsHonest, StaysHonest, current}
 use Rattle.ipmi_bus.specs.Tries.{WithinTries, GivesUp, IsRefusedWith}
 use Rattle.ipmi_bus.specs.Bounds.{step_call_bound, digits}
 use Rattle.ipmi_bus.specs.CursorState.{CursorState}
-use Rattle.ipmi_bus.specs.Standing.{FollowsWalks}
+use Rattle.ipmi_bus.specs.Standing.{StandsAt, FollowsWalks}
 
 -- the id that is asked for: 0000h for the first record (at the end no call is made, and 0 stands in)
 abbrev pub asked_at : Place → ℕ
@@ -89,6 +89,13 @@ StepLeaves old new (Err (Malformed n)) = (cycle_at old.place old.ids ≡ None) �
 abbrev pub AsksNothing : CursorState → Type 0
 AsksNothing c = (c.place ≡ End) ⊎ IsSome (cycle_at c.place c.ids)
 
+-- on a walk it asks for the row that is next, or at the walk's end for none, or asks nothing
+abbrev pub AsksAlong : CursorState → Seen → Type 0
+AsksAlong c s =
+    (start : Place) (walk : List Row) (end : WalkEnd) (k : ℕ) → IsWalk (rows_of c.shelf s.store) start walk
+    → EndsBy (rows_of c.shelf s.store) start walk end → StandsAt (rows_of c.shelf s.store) start walk k c
+    → AsksNothing c ⊎ (len_of (look (rows_of c.shelf s.store) (asked_at c.place)) ≡ len_of (first_row (drop k walk)))
+
 -- a cursor that asks for a record has handed out fewer than all ids
 abbrev pub HasRoom : CursorState → Type 0
 HasRoom c = AsksNothing c ⊎ (set.len c.ids < 65536)
@@ -153,4 +160,5 @@ pub record IsStep (old new : CursorState) (s s' : Seen) (result : Result (Option
   pub no_call : AsksNothing old → s' ≡ s
   pub room : HasRoom old
   pub honest : IsHonest s → StepIsHonest old new s s' result
+  pub asks : IsHonest s → AsksAlong old s
   pub walks : IsHonest s → FollowsWalks old new s s' result

@@ -83,3 +83,8 @@ pub record IsStore (store : Store) : Type 0 where
   pub distinct_readings : AllPairs OtherSensor store.readings
   pub sdr_info : IfSome store.sdr_info IsInfo
   pub sel_info : IfSome store.sel_info IsInfo
+
+-- so both of its shelves are well formed
+pub store_shelf : (shelf : Shelf) (store : Store) → IsStore store → IsShelf shelf (rows_of shelf store)
+store_shelf Sdr store ok = ok.sdr
+store_shelf Sel store ok = ok.sel

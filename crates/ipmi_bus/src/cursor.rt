@@ -6,7 +6,7 @@ ghost use Rattle.std.specs.Borrow.{sem};
 ghost use Rattle.ipmi_bus.specs.Seen.{IsHonest, StaysHonest};
 ghost use Rattle.ipmi_bus.specs.Shelf.{Row, whole_len, largest_len};
 ghost use Rattle.ipmi_bus.specs.Walk.{place_after};
-ghost use Rattle.ipmi_bus.specs.Step.{KeepsSettings, StepLeaves, StepCalls, StepIsHonest, StepAnswers, AsksNothing, HasRoom};
+ghost use Rattle.ipmi_bus.specs.Step.{AsksAlong, KeepsSettings, StepLeaves, StepCalls, StepIsHonest, StepAnswers, AsksNothing, HasRoom};
 ghost use Rattle.ipmi_bus.specs.Standing.{FollowsWalks, StandsAt};
 ghost use Rattle.ipmi_bus.specs.Handed.{state_of, IsCursor, handed_result, handed_id, IsNext, KeepsReservation};
 
@@ -148,6 +148,7 @@ impl Progress {
         ensures keeps { IsHonest (C.seen ctl.old) →
             KeepsReservation (state_of self.old) (state_of self.new)
             (C.seen ctl.old) (C.seen ctl.new) (handed_result self.new result) }
+        ensures asks { IsHonest (C.seen ctl.old) → AsksAlong (state_of self.old) (C.seen ctl.old) }
         ensures walks { IsHonest (C.seen ctl.old) → FollowsWalks (state_of self.old) (state_of self.new) (C.seen ctl.old) (C.seen ctl.new) (handed_result self.new result) }
     {
         self.advance(ctl)

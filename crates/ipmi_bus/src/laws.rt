@@ -1,11 +1,22 @@
 //! Laws of walks and of steps along them, each the contract of a function that does nothing.
-ghost use Rattle.ipmi_bus.specs.Walk.{WalkExists, WalkIsUnique, RestIsWalk};
+ghost use Rattle.ipmi_bus.specs.Shelf.{FoundIsRow};
+ghost use Rattle.ipmi_bus.specs.Walk.{WalkExists, WalkIsUnique, RestIsWalk, TailIsWalk};
 ghost use Rattle.ipmi_bus.specs.Steps.{StepsFollowWalk};
 
 /// From each place of a shelf exactly one walk has an end.
 pub fn one_walk_has_an_end()
     ensures exists { WalkExists }
     ensures unique { WalkIsUnique }
+{}
+
+/// The rest of a walk after its first row is a walk from the place after that.
+pub fn the_tail_is_a_walk()
+    ensures { TailIsWalk }
+{}
+
+/// A record that is found on a well-formed shelf is a row.
+pub fn what_is_found_is_a_row()
+    ensures { FoundIsRow }
 {}
 
 /// Where a walk ends by Done, the walk from the id of any of its rows, other than 0000h, is its rest from that row, and ends

@@ -8,7 +8,7 @@ use Rattle.ipmi_bus.specs.Readers.{ValueIs}
 use Rattle.ipmi_bus.specs.Seen.{Seen, IsHonest}
 use Rattle.ipmi_bus.specs.Shelf.{Row}
 use Rattle.ipmi_bus.specs.Store.{Store}
-use Rattle.ipmi_bus.proofs.SinceLemmas.{stays_refl}
+use Rattle.ipmi_bus.specs.Seen.{stays_refl}
 use Rattle.ipmi_records.specs.declared.sdr.SdrView.{SdrView}
 use Rattle.ipmi_records.specs.Sdr as sdr
 use Rattle.ipmi_command_line.specs.declared.command.Kind.{Kind}

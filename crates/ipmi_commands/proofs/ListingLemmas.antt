@@ -19,9 +19,7 @@ use Rattle.ipmi_bus.specs.CursorState.{CursorState}
 use Rattle.ipmi_bus.specs.Standing.{StandsAt, WalkStep, MayFail}
 use Rattle.ipmi_bus.specs.Step.{IsStep, StepLeaves, FailsAt, AsksNothing, CursorHoldsCurrent, asked_at, HandsOut}
 use Rattle.ipmi_bus.specs.Tries.{WithinTries}
-use Rattle.ipmi_bus.proofs.ShelfLemmas as shelves
-use Rattle.ipmi_bus.proofs.SinceLemmas.{stays_trans, stays_refl}
-use Rattle.ipmi_bus.proofs.WalkLemmas.{asks_next}
+use Rattle.ipmi_bus.specs.Seen.{stays_trans, stays_refl}
 use Rattle.ipmi_command_line.specs.declared.command.Task.{Task}
 use Rattle.ipmi_commands.specs.declared.stop.Stop.{Stop}
 use Rattle.ipmi_commands.specs.declared.stop.Stop.TheVariants as stop
@@ -286,7 +284,9 @@ module _ (t : Task) (tries : ℕ) (most left : Option ℕ) (begun now : CursorSt
 
       -- it asks for the next row, or for none, or asks nothing
       asks : AsksNothing now ⊎ (len_of (look (rows_of (shelf_of t) s.store) (asked_at now.place)) ≡ len_of (first_row (drop listed.count walk)))
-      asks = asks_next (shelf_of t) (rows_of (shelf_of t) s.store) start walk listed.count (shelves.shelf_of (shelf_of t) s.store honest.store) w now next listed.stands end ends
+      asks =
+          subst (λ (rows : List Row). IsWalk rows start walk → EndsBy rows start walk end → StandsAt rows start walk listed.count now → AsksNothing now ⊎ (len_of (look rows (asked_at now.place)) ≡ len_of (first_row (drop listed.count walk)))) (same_rows same)
+          (λ w ends stands. step.asks lists.stays.honest start walk end listed.count w ends stands) w ends listed.stands
 
       bound : s''.calls + digits next.part ≤ s'.calls + step_call_bound tries (len_of (look (rows_of (shelf_of t) s.store) (asked_at now.place))) + digits now.part
       bound =

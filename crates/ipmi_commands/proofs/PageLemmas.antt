@@ -13,7 +13,7 @@ use Rattle.ipmi_bus.specs.Walk.{row_at, IsWalk, WalkEnd, Done, CycleAt, MissingA
 use Rattle.ipmi_bus.specs.Seen.{Seen, IsHonest}
 use Rattle.ipmi_bus.specs.CursorState.{CursorState, start_of}
 use Rattle.ipmi_bus.specs.Standing.{StandsAt}
-use Rattle.ipmi_bus.proofs.SinceLemmas.{stays_refl}
+use Rattle.ipmi_bus.specs.Seen.{stays_refl}
 use Rattle.ipmi_command_line.specs.declared.command.Task.{Task}
 use Rattle.ipmi_commands.specs.declared.stop.Stop.{Stop}
 use Rattle.ipmi_commands.specs.declared.stop.Stop.TheVariants as stop

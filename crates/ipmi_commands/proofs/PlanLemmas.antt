@@ -5,7 +5,7 @@ use Rattle.ipmi_bus.specs.declared.inventory.FruEnded.TheVariants as fru
 use Rattle.ipmi_bus.specs.declared.step.Ended.TheVariants.{Cycle, Missing, Refused, GaveUp, Stalled, Malformed}
 use Rattle.ipmi_bus.specs.Shelf.{Row}
 use Rattle.ipmi_bus.specs.Store.{Store}
-use Rattle.ipmi_bus.specs.Walk.{WalkEnd, Done}
+use Rattle.ipmi_bus.specs.Walk.{TailIsWalk, WalkEnd, Done}
 use Rattle.ipmi_bus.specs.Seen.{Seen, IsHonest, StaysHonest}
 use Rattle.ipmi_image.specs.declared.image.ImageFault.{ImageFault}
 use Rattle.ipmi_image.specs.declared.image.ImageFault.TheVariants as image_fault
@@ -108,9 +108,9 @@ module _ (r : Request) (s s' : Seen) (e : Effect) (st : Stop) (message : Receive
             subst (λ (n : ℕ). s'.calls ≤ s.calls + n) (sym (once.bound_is s.store r.tries walk end)) (page.along same walk end w ends).calls;
       }
 
-  pub run_in_pages : (sizes : List ℕ) → is_listing r.task ≡ true → IsHonest s → ArePages (request r.task r.start r.tries) sizes (change s s' e.old e.new) st → IsPagedRun r sizes s s' e (stop_status st)
-  run_in_pages sizes listing honest pages =
-      let one = pages_are_one r.task sizes r.start r.tries s s' e.old e.new st honest pages in
+  pub run_in_pages : TailIsWalk → (sizes : List ℕ) → is_listing r.task ≡ true → IsHonest s → ArePages (request r.task r.start r.tries) sizes (change s s' e.old e.new) st → IsPagedRun r sizes s s' e (stop_status st)
+  run_in_pages tail sizes listing honest pages =
+      let one = pages_are_one tail r.task sizes r.start r.tries s s' e.old e.new st honest pages in
       let whole = listed_whole r.task listing in
       let first : (walk : List Row) (end : WalkEnd) → plan_of r.task s.store r.start walk end ≡ first_plan None r.task r.start walk end = λ walk end.
       (goes_once r.task whole.0).plan_is s.store r.start walk end ∙ ap (λ (most : Option ℕ). first_plan most r.task r.start walk end) whole.1 in

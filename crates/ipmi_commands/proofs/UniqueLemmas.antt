@@ -25,8 +25,8 @@ use Rattle.ipmi_commands.specs.Plan.{Subject, OfRow, OfInventory, OfInfo, OfImag
 use Rattle.ipmi_command_line.specs.Task.{shelf_of}
 use Rattle.ipmi_commands.specs.Plan.{Request}
 use Rattle.ipmi_commands.specs.Run.{is_built, AllowsAll}
-use Rattle.ipmi_bus.proofs.ShelfLemmas.{look_row}
-use Rattle.ipmi_bus.proofs.ShelfLemmas.{shelf_of as store_shelf}
+use Rattle.ipmi_bus.specs.Shelf.{FoundIsRow}
+use Rattle.ipmi_bus.specs.Store.{store_shelf}
 use Rattle.ipmi_commands.proofs.PlanLemmas.{goes_once}
 
 module _ (one_sdr_line : SdrLineIsUnique) (one_extended_line : ExtendedLineIsUnique) (one_sel_line : SelLineIsUnique) (one_sel_block : SelBlockIsUnique) where
@@ -83,9 +83,9 @@ module _ (one_sdr_line : SdrLineIsUnique) (one_extended_line : ExtendedLineIsUni
 
   -- ---- one output
 
-  rows_are_bytes : (t : Task) (shelf : Shelf) (rows : List Row) (start : Place) (walk : List Row) → IsShelf shelf rows → AllOf rows walk → AreRowsOfBytes (row_items t start walk)
-  rows_are_bytes t shelf rows start [] ok all = tt
-  rows_are_bytes t shelf rows start (row ∷ walk) ok all = ((look_row shelf rows row.id row ok all.0).bytes, rows_are_bytes t shelf rows (place_after row.next) walk ok all.1)
+  rows_are_bytes : FoundIsRow → (t : Task) (shelf : Shelf) (rows : List Row) (start : Place) (walk : List Row) → IsShelf shelf rows → AllOf rows walk → AreRowsOfBytes (row_items t start walk)
+  rows_are_bytes look_row t shelf rows start [] ok all = tt
+  rows_are_bytes look_row t shelf rows start (row ∷ walk) ok all = ((look_row shelf rows row.id row ok all.0).bytes, rows_are_bytes look_row t shelf rows (place_after row.next) walk ok all.1)
 
   first_of_shelf : (most : Option ℕ) (rows walk : List Row) → AllOf rows walk → AllOf rows (first_rows most walk)
   first_of_shelf None rows walk all = all
@@ -97,8 +97,8 @@ module _ (one_sdr_line : SdrLineIsUnique) (one_extended_line : ExtendedLineIsUni
       within zero (row ∷ walk) all = tt
       within (suc n) (row ∷ walk) all = (all.0, within n walk all.1)
 
-  pub one_output : WalkExists → (r : Request) (store : Store) (old a b : List ℕ) (e f : RunEnd) → is_built r.task ≡ true → IsStore store → AllowsAll r store old a (Finished e) → AllowsAll r store old b (Finished f) → (a ≡ b) × (e ≡ f)
-  one_output exists r store old a b e f built ok allows other =
+  pub one_output : WalkExists → FoundIsRow → (r : Request) (store : Store) (old a b : List ℕ) (e f : RunEnd) → is_built r.task ≡ true → IsStore store → AllowsAll r store old a (Finished e) → AllowsAll r store old b (Finished f) → (a ≡ b) × (e ≡ f)
+  one_output exists look_row r store old a b e f built ok allows other =
       let t = r.task in
       let start = r.start in
       let shelf = store_shelf (shelf_of t) store ok in
@@ -108,5 +108,5 @@ module _ (one_sdr_line : SdrLineIsUnique) (one_extended_line : ExtendedLineIsUni
       let y = subst (λ (p : Plan). IsAllowed t store p old b (Finished f)) first (other there.0 there.1 there.2 there.3) in
       let rows = rows_of (shelf_of t) store in
       let items = row_items t start (first_rows (most_of t) there.0) in
-      let bytes = rows_are_bytes t (shelf_of t) rows start (first_rows (most_of t) there.0) shelf (first_of_shelf (most_of t) rows there.0 there.2.of_shelf) in
+      let bytes = rows_are_bytes look_row t (shelf_of t) rows start (first_rows (most_of t) there.0) shelf (first_of_shelf (most_of t) rows there.0 there.2.of_shelf) in
       (x.0.new_is ∙ ap (λ (l : List ℕ). old ++ l) (one_text t store items x.0.text y.0.text built bytes x.0.are y.0.are) ∙ sym y.0.new_is, x.1 ∙ sym y.1)

@@ -29,4 +29,5 @@ pub fn finished_runs_are_one()
     ipmi_records::laws::one_sel_line();
     ipmi_records::laws::one_sel_block();
     ipmi_bus::laws::one_walk_has_an_end();
+    ipmi_bus::laws::what_is_found_is_a_row();
 }

@@ -196,6 +196,7 @@ pub fn run_pages<C: Controller, O: Sink, E: MessageSink>(
         (effect (O.taken out.old) (O.taken out.new) (E.received err.old) (E.received err.new))
         result }
 {
+    ipmi_bus::laws::the_tail_is_a_walk();
     let stop = list_pages(alloc, ctl, cmd, pages, out);
     report(cmd.task(), stop, err)
 }

@@ -18,7 +18,7 @@ returns-clause-honest g c = λ honest.
     subst
     (λ (status : ℕ). IsPagedRun (request_of cmd) c.args.pages.now s s' out status)
     (sym c.report.ensures.status)
-    (run_in_pages (request_of cmd) s s' out stop message c.args.pages.now c.requires honest (c.list_pages-stop.ensures.honest honest))
+    (run_in_pages (request_of cmd) s s' out stop message c.the_tail_is_a_walk.ensures c.args.pages.now c.requires honest (c.list_pages-stop.ensures.honest honest))
 
 pub returns-clause-calls : goal.returns-clause-calls
 returns-clause-calls g c =
