@@ -220,7 +220,7 @@ pub record IsAnswered (old new : Retrieval) (result : Result Outcome Ended) : Ty
   pub buffer : filled ≡ record old { buffer = filled.buffer }
   pub takes : TakesAnswer answer (request_len old) filled new result
 
--- one call was answered: for a reservation where none is held, else for a part
+-- one call was answered: for a reservation where none is held, otherwise for a part
 abbrev pub CallIsAnswered : Option ℕ → Retrieval → Retrieval → Result Outcome Ended → Type 0
 CallIsAnswered None old new result = IsReserveAnswered old new result
 CallIsAnswered (Some n) old new result = IsAnswered old new result

@@ -27,17 +27,17 @@ pub(crate) fn smaller_part(asked: usize) -> Option<u8>
 /// What is to be done after a call that failed.
 #[derive(Clone, Copy)]
 pub(crate) enum Failure {
-    /// A trouble: the same call.
+    /// After a trouble: to make the same call again.
     Again,
-    /// A trouble that cancelled the reservation: of what is read in parts under one, all calls.
+    /// After a trouble that cancelled the reservation: to begin again, where something is read in parts under one.
     Anew,
-    /// The same call, for a smaller part.
+    /// To ask for a smaller part.
     Smaller,
     /// Nothing: what was asked for is not there.
     Absent,
-    /// Nothing: it was one trouble too many.
+    /// To give up: it was one trouble too many.
     GiveUp,
-    /// Nothing: it was a refusal.
+    /// To give up: the call was refused.
     Refuse,
 }
 

@@ -1,4 +1,4 @@
-use Rattle.std.proofs.Common.{◌≡◌, ℕ, ◌+◌, ◌-◌, Ok, Err, ap, subst, ◌∙◌}
+use Rattle.std.proofs.Common.{◌≡◌, ℕ, ◌-◌, Ok, Err, ap, subst, ◌∙◌}
 use Rattle.ipmi_bus.specs.Calls.{asked_len}
 use Rattle.ipmi_bus.specs.Code.{class_of}
 use Rattle.ipmi_bus.specs.FruRetrieval.{request_len, PartFails}
