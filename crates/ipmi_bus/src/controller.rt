@@ -45,7 +45,8 @@ pub trait Controller {
     /// Reserve SDR Repository or Reserve SEL (IPMI v2.0, sections 33.11 and 31.4): the reservation's number.
     fn reserve(&mut self, shelf: Shelf) -> Result<u16, Code>
         ensures counted { (seen self.new).calls ≡ (seen self.old).calls + 1 }
-        ensures honest { IsHonest (seen self.old) → ReserveAnswers shelf result (seen self.old) (seen self.new) };
+        ensures honest { IsHonest (seen self.old) →
+            ReserveAnswers shelf result (seen self.old) (seen self.new) };
 
     /// Get SDR or Get SEL Entry (IPMI v2.0, sections 33.12 and 31.5): bytes of the record with this id, from
     /// the offset on, as many as `into` has, 1 to 254. Id 0000h asks for the first record. At Ok the first
@@ -65,24 +66,34 @@ pub trait Controller {
         ensures rest { IfOk result (λ part. drop part.got into.new ≡ drop part.got into.old) }
         ensures err { OnErr result (into.new ≡ into.old) }
         ensures honest { IsHonest (seen self.old) →
-            PartAnswers (record { shelf = shelf; reservation = reservation; id = id; offset = offset; len = length into.old })
+            PartAnswers (record {
+              shelf = shelf;
+              reservation = reservation;
+              id = id;
+              offset =
+                  offset;
+              len = length into.old;
+            })
             result into.new (seen self.old) (seen self.new) };
 
     /// Get SDR Repository Info or Get SEL Info (IPMI v2.0, sections 33.9 and 31.2): the 14 bytes after the
     /// completion code.
     fn info(&mut self, shelf: Shelf) -> Result<[u8; 14], Code>
         ensures counted { (seen self.new).calls ≡ (seen self.old).calls + 1 }
-        ensures honest { IsHonest (seen self.old) → ValueAnswers (info_of shelf) result (seen self.old) (seen self.new) };
+        ensures honest { IsHonest (seen self.old) →
+            ValueAnswers (info_of shelf) result (seen self.old) (seen self.new) };
 
     /// Get Sensor Reading (IPMI v2.0, section 35.14) of the sensor with this number at this LUN.
     fn reading(&mut self, lun: u8, number: u8) -> Result<Reading, Code>
         ensures counted { (seen self.new).calls ≡ (seen self.old).calls + 1 }
-        ensures honest { IsHonest (seen self.old) → ValueAnswers (reading_of lun number) result (seen self.old) (seen self.new) };
+        ensures honest { IsHonest (seen self.old) →
+            ValueAnswers (reading_of lun number) result (seen self.old) (seen self.new) };
 
     /// Get FRU Inventory Area Info (IPMI v2.0, section 34.1) of the FRU device with this id.
     fn fru_size(&mut self, id: u8) -> Result<FruSize, Code>
         ensures counted { (seen self.new).calls ≡ (seen self.old).calls + 1 }
-        ensures honest { IsHonest (seen self.old) → SizeAnswers id result (seen self.old) (seen self.new) };
+        ensures honest { IsHonest (seen self.old) →
+            SizeAnswers id result (seen self.old) (seen self.new) };
 
     /// Read FRU Data (IPMI v2.0, section 34.2): bytes of the inventory of the FRU device with this id, from the
     /// offset on, as many as `into` has, 1 to 254. At Ok so many first bytes of `into` are the data.

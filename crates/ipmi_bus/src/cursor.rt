@@ -98,11 +98,15 @@ impl Progress {
         ensures cursor { IsCursor self.new }
         ensures same { KeepsSettings (state_of self.old) (state_of self.new) }
         ensures fits { IfOk result (λ o. IfSome o (λ handed. handed.len ≤ 256)) }
-        ensures leaves { StepLeaves (state_of self.old) (state_of self.new) (handed_result self.new result) }
-        ensures calls { StepCalls (largest_len self.old.retrieval.shelf) (state_of self.old) (state_of self.new) (C.seen ctl.old) (C.seen ctl.new) }
+        ensures leaves { StepLeaves (state_of self.old) (state_of self.new)
+            (handed_result self.new result) }
+        ensures calls { StepCalls (largest_len self.old.retrieval.shelf) (state_of self.old)
+            (state_of self.new) (C.seen ctl.old) (C.seen ctl.new) }
         ensures no_call { AsksNothing (state_of self.old) → C.seen ctl.new ≡ C.seen ctl.old }
         ensures room { HasRoom (state_of self.old) }
-        ensures honest { IsHonest (C.seen ctl.old) → StepIsHonest (state_of self.old) (state_of self.new) (C.seen ctl.old) (C.seen ctl.new) (handed_result self.new result) }
+        ensures honest { IsHonest (C.seen ctl.old) →
+            StepIsHonest (state_of self.old) (state_of self.new) (C.seen ctl.old) (C.seen ctl.new)
+            (handed_result self.new result) }
         ensures keeps { IsHonest (C.seen ctl.old) →
             KeepsReservation (state_of self.old) (state_of self.new)
             (C.seen ctl.old) (C.seen ctl.new) (handed_result self.new result) }
@@ -140,16 +144,22 @@ impl Progress {
         ensures cursor { IsCursor self.new }
         ensures same { KeepsSettings (state_of self.old) (state_of self.new) }
         ensures fits { IfOk result (λ o. IfSome o (λ handed. handed.len ≤ 256)) }
-        ensures leaves { StepLeaves (state_of self.old) (state_of self.new) (handed_result self.new result) }
-        ensures calls { StepCalls (largest_len self.old.retrieval.shelf) (state_of self.old) (state_of self.new) (C.seen ctl.old) (C.seen ctl.new) }
+        ensures leaves { StepLeaves (state_of self.old) (state_of self.new)
+            (handed_result self.new result) }
+        ensures calls { StepCalls (largest_len self.old.retrieval.shelf) (state_of self.old)
+            (state_of self.new) (C.seen ctl.old) (C.seen ctl.new) }
         ensures no_call { AsksNothing (state_of self.old) → C.seen ctl.new ≡ C.seen ctl.old }
         ensures room { HasRoom (state_of self.old) }
-        ensures honest { IsHonest (C.seen ctl.old) → StepIsHonest (state_of self.old) (state_of self.new) (C.seen ctl.old) (C.seen ctl.new) (handed_result self.new result) }
+        ensures honest { IsHonest (C.seen ctl.old) →
+            StepIsHonest (state_of self.old) (state_of self.new) (C.seen ctl.old) (C.seen ctl.new)
+            (handed_result self.new result) }
         ensures keeps { IsHonest (C.seen ctl.old) →
             KeepsReservation (state_of self.old) (state_of self.new)
             (C.seen ctl.old) (C.seen ctl.new) (handed_result self.new result) }
         ensures asks { IsHonest (C.seen ctl.old) → AsksAlong (state_of self.old) (C.seen ctl.old) }
-        ensures walks { IsHonest (C.seen ctl.old) → FollowsWalks (state_of self.old) (state_of self.new) (C.seen ctl.old) (C.seen ctl.new) (handed_result self.new result) }
+        ensures walks { IsHonest (C.seen ctl.old) →
+            FollowsWalks (state_of self.old) (state_of self.new) (C.seen ctl.old) (C.seen ctl.new)
+            (handed_result self.new result) }
     {
         self.advance(ctl)
     }
@@ -198,8 +208,16 @@ impl Cursor {
         requires some { 0 < part }
         requires fits { part < 255 }
         requires from { ForSome from (λ id. (0 < id) × (id < 65535)) }
-        ensures stands { IfOk result (λ cursor. (rows walk : List Row) → StandsAt rows (start_of from) walk 0 cursor) }
-        ensures fresh { IfOk result (λ cursor. cursor ≡ record { shelf = shelf; place = start_of from; part = part; tries = tries; ids = set.empty; reservation = None }) }
+        ensures stands { IfOk result (λ cursor. (rows walk : List Row) →
+            StandsAt rows (start_of from) walk 0 cursor) }
+        ensures fresh { IfOk result (λ cursor. cursor ≡ record {
+          shelf = shelf;
+          place = start_of from;
+          part = part;
+          tries = tries;
+          ids = set.empty;
+          reservation = None;
+        }) }
     {
         Ok(Cursor {
             progress: Progress {
@@ -233,13 +251,18 @@ impl Cursor {
     /// Hands out the next record, lent out of the cursor until the next step. After an `Err` the cursor stands
     /// where it stood and holds no reservation, so that a later step tries again.
     pub fn step<C: Controller>(&mut self, ctl: &mut C) -> Result<Option<Record<'_>>, Ended>
-        ensures* after { sem 𝓛 (CursorRests self.entry (λ new. IsStep self.old new (C.seen ctl.old) (C.seen ctl.new) (as_rows result))) }
+        ensures* after { sem 𝓛 (CursorRests self.entry
+            (λ new. IsStep self.old new (C.seen ctl.old) (C.seen ctl.new) (as_rows result))) }
         // what follows is known at once, while the record is lent
         ensures at_end { self.old.place ≡ End → as_rows result ≡ Ok None }
         ensures no_call { AsksNothing self.old → C.seen ctl.new ≡ C.seen ctl.old }
-        ensures whole { IfOk result (λ o. IfSome o (λ record_. length record_.bytes.now ≡ whole_len self.old.shelf record_.bytes.now)) }
-        ensures fits { IfOk result (λ o. IfSome o (λ record_. length record_.bytes.now ≤ largest_len self.old.shelf)) }
-        ensures answers { IsHonest (C.seen ctl.old) → StaysHonest (C.seen ctl.old) (C.seen ctl.new) × StepAnswers self.old (C.seen ctl.old) (C.seen ctl.new) (as_rows result) }
+        ensures whole { IfOk result (λ o. IfSome o
+            (λ record_. length record_.bytes.now ≡ whole_len self.old.shelf record_.bytes.now)) }
+        ensures fits { IfOk result (λ o. IfSome o (λ record_. length record_.bytes.now ≤ largest_len
+            self.old.shelf)) }
+        ensures answers { IsHonest (C.seen ctl.old) →
+            StaysHonest (C.seen ctl.old) (C.seen ctl.new) × StepAnswers self.old (C.seen ctl.old)
+            (C.seen ctl.new) (as_rows result) }
     {
         match self.progress.advance_along(ctl)? {
             None => Ok(None),

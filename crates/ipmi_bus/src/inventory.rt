@@ -73,10 +73,12 @@ impl FruRetrieval {
         ensures got { IfOk result (λ got. got ≤ asked) }
         ensures bytes { self.new ≡ record self.old { bytes = self.new.bytes } }
         ensures len { length self.new.bytes.items ≡ length self.old.bytes.items }
-        ensures front { take self.old.have self.new.bytes.items ≡ take self.old.have self.old.bytes.items }
+        ensures front { take self.old.have self.new.bytes.items ≡ take self.old.have
+            self.old.bytes.items }
         ensures err { OnErr result (self.new.bytes.items ≡ self.old.bytes.items) }
         ensures honest { IsHonest (C.seen ctl.old) →
-            BytesAnswers self.old.id self.old.have asked result (slice_range self.new.bytes.items self.old.have (self.old.have + asked))
+            BytesAnswers self.old.id self.old.have asked result
+            (slice_range self.new.bytes.items self.old.have (self.old.have + asked))
             (C.seen ctl.old) (C.seen ctl.new) }
     {
         let have = self.have;
@@ -130,7 +132,8 @@ impl FruRetrieval {
         ensures leaves { OnOk result (calls_left self.new < calls_left self.old) }
         ensures answered { IsAnswered self.old self.new result }
         ensures stays { IsHonest (C.seen ctl.old) → StaysHonest (C.seen ctl.old) (C.seen ctl.new) }
-        ensures honest { (s : Seen) → FruSince self.old s (C.seen ctl.old) → FruNext self.old self.new s (C.seen ctl.new) result }
+        ensures honest { (s : Seen) → FruSince self.old s (C.seen ctl.old) →
+            FruNext self.old self.new s (C.seen ctl.new) result }
     {
         let asked = asked_len(self.part, self.bytes.len() - self.have);
         match self.request(ctl, asked) {
@@ -147,7 +150,8 @@ impl FruRetrieval {
         ensures ended { IfErr result (λ ended. EndsBy self.new ended) }
         ensures calls { (C.seen ctl.new).calls + 1 ≤ (C.seen ctl.old).calls + calls_left self.old }
         ensures stays { IsHonest (C.seen ctl.old) → StaysHonest (C.seen ctl.old) (C.seen ctl.new) }
-        ensures honest { (s : Seen) → FruSince self.old s (C.seen ctl.old) → FruNext self.old self.new s (C.seen ctl.new) result }
+        ensures honest { (s : Seen) → FruSince self.old s (C.seen ctl.old) →
+            FruNext self.old self.new s (C.seen ctl.new) result }
     {
         'parts: while self.have < self.bytes.len() {
             match self.ask_part(ctl) {
@@ -192,10 +196,12 @@ fn fail_size(code: Code, troubles: u16, tries: u8) -> Result<(), FruEnded>
 
 /// Asks for the size of the inventory.
 fn read_size<C: Controller>(ctl: &mut C, id: u8, tries: u8) -> Result<Size, FruEnded>
-    ensures ok { IfOk result (λ size. (size.troubles ≤ tries) × ((C.seen ctl.new).calls ≡ (C.seen ctl.old).calls + size.troubles + 1)) }
+    ensures ok { IfOk result (λ size. (size.troubles ≤ tries) ×
+        ((C.seen ctl.new).calls ≡ (C.seen ctl.old).calls + size.troubles + 1)) }
     ensures err { OnErr result ((C.seen ctl.new).calls ≤ (C.seen ctl.old).calls + tries + 1) }
     ensures answered { IsSizeAnswered tries result }
-    ensures honest { IsHonest (C.seen ctl.old) → SizeNext id tries (C.seen ctl.old) (C.seen ctl.new) result }
+    ensures honest { IsHonest (C.seen ctl.old) → SizeNext id tries (C.seen ctl.old) (C.seen ctl.new)
+        result }
 {
     let mut troubles = 0;
     'asking: loop {
@@ -222,7 +228,8 @@ pub fn read_fru<C: Controller>(
     requires fits { part < 255 }
     ensures fits { IfOk result (λ bytes. vec_len bytes ≤ 65535) }
     ensures calls { (C.seen ctl.new).calls ≤ (C.seen ctl.old).calls + fru_call_bound tries 65535 }
-    ensures honest { IsHonest (C.seen ctl.old) → ReadsInventory id tries (C.seen ctl.old) (C.seen ctl.new) (as_inventory result) }
+    ensures honest { IsHonest (C.seen ctl.old) → ReadsInventory id tries (C.seen ctl.old)
+        (C.seen ctl.new) (as_inventory result) }
 {
     let size = read_size(ctl, id, tries)?;
     let mut retrieval = FruRetrieval {

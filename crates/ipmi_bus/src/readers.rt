@@ -44,7 +44,8 @@ pub fn read_reading<C: Controller>(
 ) -> Result<Option<Reading>, Ended>
     ensures calls { (C.seen ctl.new).calls ≤ (C.seen ctl.old).calls + (tries + 1) }
     ensures ends { EndsUnder id result }
-    ensures honest { IsHonest (C.seen ctl.old) → ReadsValue (reading_of lun number) tries (C.seen ctl.old) (C.seen ctl.new) result }
+    ensures honest { IsHonest (C.seen ctl.old) → ReadsValue (reading_of lun number) tries
+        (C.seen ctl.old) (C.seen ctl.new) result }
 {
     let mut troubles = 0;
     'asking: loop {
@@ -68,7 +69,8 @@ pub fn read_info<C: Controller>(
 ) -> Result<Option<[u8; 14]>, Ended>
     ensures calls { (C.seen ctl.new).calls ≤ (C.seen ctl.old).calls + (tries + 1) }
     ensures ends { EndsUnder 0 result }
-    ensures honest { IsHonest (C.seen ctl.old) → ReadsValue (info_of shelf) tries (C.seen ctl.old) (C.seen ctl.new) result }
+    ensures honest { IsHonest (C.seen ctl.old) → ReadsValue (info_of shelf) tries (C.seen ctl.old)
+        (C.seen ctl.new) result }
 {
     let mut troubles = 0;
     'asking: loop {

@@ -98,7 +98,8 @@ impl Retrieval {
         ensures request { SameRequest self.old self.new }
         ensures leaves { CallLeaves self.old self.new result }
         ensures answered { IsReserveAnswered self.old self.new result }
-        ensures honest { IsHonest (C.seen ctl.old) → IsReading self.old (C.seen ctl.old) → CallIsHonest self.old self.new (C.seen ctl.old) (C.seen ctl.new) result }
+        ensures honest { IsHonest (C.seen ctl.old) → IsReading self.old (C.seen ctl.old) →
+            CallIsHonest self.old self.new (C.seen ctl.old) (C.seen ctl.new) result }
     {
         match ctl.reserve(self.shelf) {
             Ok(reservation) => {
@@ -112,7 +113,8 @@ impl Retrieval {
     /// Takes the bytes that came in.
     fn take_part(&mut self, part: Part) -> Result<Outcome, Ended>
         requires is_open { IsOpen self.old }
-        requires fits { self.old.have + part.got ≤ wanted_len self.old.shelf self.old.have self.old.buffer }
+        requires fits { self.old.have + part.got ≤ wanted_len self.old.shelf self.old.have
+            self.old.buffer }
         ensures takes { TakesPart part self.old self.new result }
     {
         if part.got == 0 {
@@ -147,7 +149,8 @@ impl Retrieval {
         ensures front { take self.old.have self.new.buffer ≡ take self.old.have self.old.buffer }
         ensures err { OnErr result (self.new ≡ self.old) }
         ensures honest { IsHonest (C.seen ctl.old) →
-            PartAnswers (request_of self.old reservation asked) result (slice_range self.new.buffer self.old.have (self.old.have + asked))
+            PartAnswers (request_of self.old reservation asked) result
+            (slice_range self.new.buffer self.old.have (self.old.have + asked))
             (C.seen ctl.old) (C.seen ctl.new) }
     {
         let have = self.have;
@@ -195,7 +198,8 @@ impl Retrieval {
         ensures request { SameRequest self.old self.new }
         ensures leaves { CallLeaves self.old self.new result }
         ensures answered { IsAnswered self.old self.new result }
-        ensures honest { IsHonest (C.seen ctl.old) → IsReading self.old (C.seen ctl.old) → CallIsHonest self.old self.new (C.seen ctl.old) (C.seen ctl.new) result }
+        ensures honest { IsHonest (C.seen ctl.old) → IsReading self.old (C.seen ctl.old) →
+            CallIsHonest self.old self.new (C.seen ctl.old) (C.seen ctl.new) result }
     {
         let asked = asked_len(self.part, self.wanted() - self.have);
         match self.request(ctl, reservation, asked) {
@@ -211,7 +215,8 @@ impl Retrieval {
         ensures request { SameRequest self.old self.new }
         ensures leaves { CallLeaves self.old self.new result }
         ensures answered { CallIsAnswered self.old.reservation self.old self.new result }
-        ensures honest { IsHonest (C.seen ctl.old) → IsReading self.old (C.seen ctl.old) → CallIsHonest self.old self.new (C.seen ctl.old) (C.seen ctl.new) result }
+        ensures honest { IsHonest (C.seen ctl.old) → IsReading self.old (C.seen ctl.old) →
+            CallIsHonest self.old self.new (C.seen ctl.old) (C.seen ctl.new) result }
     {
         match self.reservation {
             None => self.ask_reservation(ctl),
@@ -224,10 +229,12 @@ impl Retrieval {
         requires some { 0 < self.old.part }
         requires fits { self.old.part < 255 }
         ensures request { SameRequest (begun self.old id) self.new }
-        ensures calls { (C.seen ctl.new).calls + digits self.new.part ≤ (C.seen ctl.old).calls + step_call_bound self.old.tries (largest_len self.old.shelf) + digits self.old.part }
+        ensures calls { (C.seen ctl.new).calls + digits self.new.part ≤ (C.seen ctl.old).calls +
+            step_call_bound self.old.tries (largest_len self.old.shelf) + digits self.old.part }
         ensures leaves { ReadLeaves id self.new result }
         ensures ended { IsEnded self.new result }
-        ensures honest { IsHonest (C.seen ctl.old) → ReadIsHonest self.old id self.new (C.seen ctl.old) (C.seen ctl.new) result }
+        ensures honest { IsHonest (C.seen ctl.old) →
+            ReadIsHonest self.old id self.new (C.seen ctl.old) (C.seen ctl.new) result }
     {
         self.id = id;
         self.troubles = 0;

@@ -26,7 +26,8 @@ impl ImageController {
     pub fn new(image: Image) -> ImageController
         ensures plain { IsPlain (seen_of result) }
         ensures store { (seen_of result).store ≡ image }
-        ensures none_current { ((seen_of result).sdr_reservation ≡ None) × ((seen_of result).sel_reservation ≡ None) }
+        ensures none_current { ((seen_of result).sdr_reservation ≡ None) ×
+            ((seen_of result).sel_reservation ≡ None) }
         ensures none_given { last_number result ≡ 0 }
     {
         ImageController {

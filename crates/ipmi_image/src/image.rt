@@ -155,8 +155,13 @@ fn put_row(
 ) -> Result<(), LineFault>
     requires { IsShelf shelf (chained (map row_of rows.old)) }
     ensures keeps { OnOk result (IsShelf shelf (chained (map row_of rows.new))) }
-    ensures ok { OnOk result ((row_fault shelf (chained (map row_of rows.old)) (record { id = id; next = next; bytes = bytes.items }) ≡ None) × (map row_of rows.new ≡ map row_of rows.old ++ record { id = id; next = next; bytes = bytes.items } ∷ [])) }
-    ensures err { IfErr result (λ e. (e ≡ LineFault.Memory) ⊎ (row_fault shelf (chained (map row_of rows.old)) (record { id = id; next = next; bytes = bytes.items }) ≡ Some e)) }
+    ensures ok { OnOk result ((row_fault shelf (chained (map row_of rows.old))
+        (record { id = id; next = next; bytes = bytes.items }) ≡ None) ×
+        (map row_of rows.new ≡ map row_of rows.old ++ record
+        { id = id; next = next; bytes = bytes.items } ∷ [])) }
+    ensures err { IfErr result (λ e. (e ≡ LineFault.Memory) ⊎
+        (row_fault shelf (chained (map row_of rows.old))
+        (record { id = id; next = next; bytes = bytes.items }) ≡ Some e)) }
 {
     let row = StoredRow { id, next, bytes };
     if let Some(fault) = row_fault(shelf, rows, &row) {
@@ -168,7 +173,8 @@ fn put_row(
 
 /// How many bytes the inventory has so far.
 fn inventory_len(inventories: &Table<StoredInventory>, id: u8) -> usize
-    ensures { result ≡ length (unwrap_or (inventory_in (map table.inventory_of inventories.now) id) []) }
+    ensures { result ≡ length (unwrap_or (inventory_in (map table.inventory_of inventories.now) id)
+        []) }
 {
     match inventories.get(u16::from(id)) {
         Some(inventory) => inventory.bytes.len(),
@@ -179,7 +185,8 @@ fn inventory_len(inventories: &Table<StoredInventory>, id: u8) -> usize
 /// Why the bytes may not be those of the inventory, or more of it.
 fn inventory_fault(inventories: &Table<StoredInventory>, id: u8, bytes: &[u8]) -> Option<LineFault>
     requires { AreInventories (map table.inventory_of inventories.now) }
-    ensures { result ≡ inventory_fault id (inventory_in (map table.inventory_of inventories.now) id) bytes.now }
+    ensures { result ≡ inventory_fault id (inventory_in (map table.inventory_of inventories.now) id)
+        bytes.now }
 {
     if id == 0xFF {
         return Some(LineFault::Id);
@@ -198,8 +205,13 @@ fn put_inventory(
 ) -> Result<(), LineFault>
     requires { AreInventories (map table.inventory_of inventories.old) }
     ensures keeps { OnOk result (AreInventories (map table.inventory_of inventories.new)) }
-    ensures ok { OnOk result ((inventory_fault id (inventory_in (map table.inventory_of inventories.old) id) bytes.items ≡ None) × (map table.inventory_of inventories.new ≡ with_bytes id bytes.items (map table.inventory_of inventories.old))) }
-    ensures err { IfErr result (λ e. (e ≡ LineFault.Memory) ⊎ (inventory_fault id (inventory_in (map table.inventory_of inventories.old) id) bytes.items ≡ Some e)) }
+    ensures ok { OnOk result ((inventory_fault id (inventory_in
+        (map table.inventory_of inventories.old) id) bytes.items ≡ None) ×
+        (map table.inventory_of inventories.new ≡ with_bytes id bytes.items
+        (map table.inventory_of inventories.old))) }
+    ensures err { IfErr result (λ e. (e ≡ LineFault.Memory) ⊎
+        (inventory_fault id (inventory_in (map table.inventory_of inventories.old) id) bytes.items ≡
+        Some e)) }
 {
     if let Some(fault) = inventory_fault(inventories, id, &bytes) {
         return Err(fault);
@@ -227,7 +239,8 @@ fn reading_fault(
     bytes: &[u8],
 ) -> Option<LineFault>
     requires { AreReadings (map sensor_of sensors.now) }
-    ensures { result ≡ reading_fault lun (reading_in (map sensor_of sensors.now) lun number) bytes.now }
+    ensures { result ≡ reading_fault lun (reading_in (map sensor_of sensors.now) lun number)
+        bytes.now }
 {
     if lun > 3 {
         return Some(LineFault::Id);
@@ -250,8 +263,11 @@ fn put_reading(
 ) -> Result<(), LineFault>
     requires { AreReadings (map sensor_of sensors.old) }
     ensures keeps { OnOk result (AreReadings (map sensor_of sensors.new)) }
-    ensures ok { OnOk result ((reading_fault lun (reading_in (map sensor_of sensors.old) lun number) bytes.now ≡ None) × (map sensor_of sensors.new ≡ map sensor_of sensors.old ++ record { lun = lun; number = number; reading = reading_of_bytes bytes.now } ∷ [])) }
-    ensures err { IfErr result (λ e. (e ≡ LineFault.Memory) ⊎ (reading_fault lun (reading_in (map sensor_of sensors.old) lun number) bytes.now ≡ Some e)) }
+    ensures ok { OnOk result ((reading_fault lun (reading_in (map sensor_of sensors.old) lun number)
+        bytes.now ≡ None) × (map sensor_of sensors.new ≡ map sensor_of sensors.old ++ record
+        { lun = lun; number = number; reading = reading_of_bytes bytes.now } ∷ [])) }
+    ensures err { IfErr result (λ e. (e ≡ LineFault.Memory) ⊎
+        (reading_fault lun (reading_in (map sensor_of sensors.old) lun number) bytes.now ≡ Some e)) }
 {
     if let Some(fault) = reading_fault(sensors, lun, number, bytes) {
         return Err(fault);
@@ -307,7 +323,8 @@ impl Contents {
     fn put(&mut self, line: Line) -> Result<(), LineFault>
         requires { IsStore (store_of self.old) }
         ensures keeps { OnOk result (IsStore (store_of self.new)) }
-        ensures lines { (before : List lines.Line) → HoldsLines self.old before → IsPut self.new before (said line) result }
+        ensures lines { (before : List lines.Line) → HoldsLines self.old before →
+            IsPut self.new before (said line) result }
     {
         match line {
             Line::Row {
@@ -348,8 +365,10 @@ fn read_version(line: &[u8]) -> Option<bool>
 
 /// What the lines behind the first one say, up to `end`, the last one.
 fn read_lines(alloc: Global, dashes: bool, bytes: &[u8]) -> Result<Contents, ImageFault>
-    ensures ok { IfOk result (λ contents. IsStore (store_of contents) × (store_behind dashes [] (pieces 10 bytes.now) ≡ Ok (store_of contents))) }
-    ensures err { IfErr result (λ e. (e ≡ ImageFault.Memory) ⊎ (store_behind dashes [] (pieces 10 bytes.now) ≡ Err e)) }
+    ensures ok { IfOk result (λ contents. IsStore (store_of contents) ×
+        (store_behind dashes [] (pieces 10 bytes.now) ≡ Ok (store_of contents))) }
+    ensures err { IfErr result (λ e. (e ≡ ImageFault.Memory) ⊎
+        (store_behind dashes [] (pieces 10 bytes.now) ≡ Err e)) }
 {
     let mut contents = Contents::new(alloc);
     let mut number = 2;
@@ -402,7 +421,8 @@ impl Image {
     pub fn read(alloc: Global, bytes: &[u8]) -> Result<Image, ImageFault>
         ensures store { IfOk result (λ image. IsStore image) }
         ensures ok { IfOk result (λ image. store_of_image bytes.now ≡ Ok image) }
-        ensures err { IfErr result (λ e. (e ≡ ImageFault.Memory) ⊎ (store_of_image bytes.now ≡ Err e)) }
+        ensures err { IfErr result (λ e. (e ≡ ImageFault.Memory) ⊎
+            (store_of_image bytes.now ≡ Err e)) }
     {
         let Some((first, rest)) = cut(bytes, b'\n') else {
             return Err(ImageFault::Header);

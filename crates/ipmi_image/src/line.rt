@@ -67,7 +67,8 @@ impl Line {
 
 /// The two fields, where there are two.
 fn two(fields: &[u8]) -> Option<(&[u8], &[u8])>
-    ensures { MatchOption result ((line : _) → with_two line (pieces 32 fields.now) ≡ Err LineFault.Line) (λ t. pieces 32 fields.now ≡ t.0.now ∷ t.1.now ∷ []) }
+    ensures { MatchOption result ((line : _) → with_two line (pieces 32 fields.now) ≡ Err
+        LineFault.Line) (λ t. pieces 32 fields.now ≡ t.0.now ∷ t.1.now ∷ []) }
 {
     let (first, second) = cut(fields, b' ')?;
     match cut(second, b' ') {
@@ -78,7 +79,8 @@ fn two(fields: &[u8]) -> Option<(&[u8], &[u8])>
 
 /// The three fields, where there are three.
 fn three(fields: &[u8]) -> Option<(&[u8], &[u8], &[u8])>
-    ensures { MatchOption result ((line : _) → with_three line (pieces 32 fields.now) ≡ Err LineFault.Line) (λ t. pieces 32 fields.now ≡ t.0.now ∷ t.1.now ∷ t.2.now ∷ []) }
+    ensures { MatchOption result ((line : _) → with_three line (pieces 32 fields.now) ≡ Err
+        LineFault.Line) (λ t. pieces 32 fields.now ≡ t.0.now ∷ t.1.now ∷ t.2.now ∷ []) }
 {
     let (first, rest) = cut(fields, b' ')?;
     let (second, third) = two(rest)?;

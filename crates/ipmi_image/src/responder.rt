@@ -60,7 +60,11 @@ fn place_of(rows: &Table<StoredRow>, id: u16) -> Option<usize>
 
 /// The record, where this is the following one's id.
 fn found(row: &StoredRow, following: u16) -> FoundRow<'_>
-    ensures { row_found result ≡ record { id = row.now.id; next = unwrap_or row.now.next following; bytes = row.now.bytes.items } }
+    ensures { row_found result ≡ record {
+      id = row.now.id;
+      next = unwrap_or row.now.next following;
+      bytes = row.now.bytes.items;
+    } }
 {
     FoundRow {
         id: row.id,
@@ -108,7 +112,8 @@ impl Responder {
     /// An image that has given no reservation yet.
     pub(crate) fn new(image: Image) -> Responder
         ensures store { (plain : Bool) → (seen_as plain result).store ≡ image }
-        ensures none_current { (plain : Bool) → ((seen_as plain result).sdr_reservation ≡ None) × ((seen_as plain result).sel_reservation ≡ None) }
+        ensures none_current { (plain : Bool) → ((seen_as plain result).sdr_reservation ≡ None) ×
+            ((seen_as plain result).sel_reservation ≡ None) }
         ensures none_given { result.given ≡ 0 }
     {
         Responder {
@@ -131,7 +136,8 @@ impl Responder {
     /// Another image takes the place of this one, and no reservation stays.
     pub(crate) fn change(&mut self, image: Image)
         ensures store { IsStore self.new.image }
-        ensures changed { self.new.tally.counts ≡ record self.old.tally.counts { stores_added = self.old.tally.counts.stores_added + 1 } }
+        ensures changed { self.new.tally.counts ≡ record self.old.tally.counts
+            { stores_added = self.old.tally.counts.stores_added + 1 } }
         ensures forgotten { (self.new.sdr_reservation ≡ None) × (self.new.sel_reservation ≡ None) }
         ensures image { self.new.image ≡ image }
         ensures given { self.new.given ≡ self.old.given }
@@ -147,7 +153,8 @@ impl Responder {
         ensures same { self.new ≡ record self.old { tally = self.new.tally } }
         ensures counted { self.new.tally.counts.calls ≡ self.old.tally.counts.calls + 1 }
         ensures no_store { self.new.tally.counts.stores_added ≡ self.old.tally.counts.stores_added }
-        ensures counts { (plain : Bool) → FailsWith (Unit {0}) (Unit {0}) (class_of code.0) code.0 (seen_as plain self.old) (seen_as plain self.new) }
+        ensures counts { (plain : Bool) → FailsWith (Unit {0}) (Unit {0}) (class_of code.0) code.0
+            (seen_as plain self.old) (seen_as plain self.new) }
     {
         self.tally.count(Event::Called);
         match code.class() {
@@ -162,7 +169,8 @@ impl Responder {
     /// Gives the next number, after FFFFh again 1.
     pub(crate) fn reserve(&mut self, shelf: Shelf) -> u16
         ensures counted { self.new.tally.counts.calls ≡ self.old.tally.counts.calls + 1 }
-        ensures answers { (plain : Bool) → IsHonest (seen_as plain self.old) → ReserveAnswers shelf (Ok result) (seen_as plain self.old) (seen_as plain self.new) }
+        ensures answers { (plain : Bool) → IsHonest (seen_as plain self.old) →
+            ReserveAnswers shelf (Ok result) (seen_as plain self.old) (seen_as plain self.new) }
         ensures number { result ≡ number_after self.old.given }
         ensures another { result ≢ self.old.given }
         ensures kept { self.new ≡
@@ -185,7 +193,10 @@ impl Responder {
     /// Whether bytes from the offset on may be asked for under the reservation: past the first byte it has to be
     /// the last one given for the shelf.
     fn is_reserved(&self, shelf: Shelf, reservation: u16, offset: u8) -> bool
-        ensures { MatchBool result (0 < offset → of_shelf shelf self.now.sdr_reservation self.now.sel_reservation ≡ Some reservation) ((0 < offset) × (of_shelf shelf self.now.sdr_reservation self.now.sel_reservation ≢ Some reservation)) }
+        ensures { MatchBool result (0 < offset → of_shelf shelf self.now.sdr_reservation
+            self.now.sel_reservation ≡ Some reservation)
+            ((0 < offset) × (of_shelf shelf self.now.sdr_reservation self.now.sel_reservation ≢ Some
+            reservation)) }
     {
         let last = match shelf {
             Shelf::Sdr => self.sdr_reservation,
@@ -212,7 +223,14 @@ impl Responder {
         ensures rest { IfOk result (λ part. drop part.got into.new ≡ drop part.got into.old) }
         ensures err { OnErr result (into.new ≡ into.old) }
         ensures answers { (plain : Bool) → IsHonest (seen_as plain self.old) →
-            PartAnswers (record { shelf = shelf; reservation = reservation; id = id; offset = offset; len = length into.old })
+            PartAnswers (record {
+              shelf = shelf;
+              reservation = reservation;
+              id = id;
+              offset =
+                  offset;
+              len = length into.old;
+            })
             result into.new (seen_as plain self.old) (seen_as plain self.new) }
         ensures same { self.new ≡ record self.old { tally = self.new.tally } }
         ensures exact { result ≡ part_answer
@@ -246,7 +264,8 @@ impl Responder {
     /// The info of a shelf.
     pub(crate) fn info(&mut self, shelf: Shelf) -> Result<[u8; 14], Code>
         ensures counted { self.new.tally.counts.calls ≡ self.old.tally.counts.calls + 1 }
-        ensures answers { (plain : Bool) → IsHonest (seen_as plain self.old) → ValueAnswers (info_of shelf) result (seen_as plain self.old) (seen_as plain self.new) }
+        ensures answers { (plain : Bool) → IsHonest (seen_as plain self.old) →
+            ValueAnswers (info_of shelf) result (seen_as plain self.old) (seen_as plain self.new) }
         ensures same { self.new ≡ record self.old { tally = self.new.tally } }
         ensures exact { result ≡ value_answer (info_of shelf self.old.image) }
     {
@@ -258,7 +277,9 @@ impl Responder {
     /// The reading of a sensor.
     pub(crate) fn reading(&mut self, lun: u8, number: u8) -> Result<Reading, Code>
         ensures counted { self.new.tally.counts.calls ≡ self.old.tally.counts.calls + 1 }
-        ensures answers { (plain : Bool) → IsHonest (seen_as plain self.old) → ValueAnswers (reading_of lun number) result (seen_as plain self.old) (seen_as plain self.new) }
+        ensures answers { (plain : Bool) → IsHonest (seen_as plain self.old) →
+            ValueAnswers (reading_of lun number) result (seen_as plain self.old)
+            (seen_as plain self.new) }
         ensures same { self.new ≡ record self.old { tally = self.new.tally } }
         ensures exact { result ≡ value_answer (reading_of lun number self.old.image) }
     {
@@ -270,7 +291,8 @@ impl Responder {
     /// The size of an inventory.
     pub(crate) fn fru_size(&mut self, id: u8) -> Result<FruSize, Code>
         ensures counted { self.new.tally.counts.calls ≡ self.old.tally.counts.calls + 1 }
-        ensures answers { (plain : Bool) → IsHonest (seen_as plain self.old) → SizeAnswers id result (seen_as plain self.old) (seen_as plain self.new) }
+        ensures answers { (plain : Bool) → IsHonest (seen_as plain self.old) →
+            SizeAnswers id result (seen_as plain self.old) (seen_as plain self.new) }
         ensures same { self.new ≡ record self.old { tally = self.new.tally } }
         ensures exact { result ≡ size_answer (inventory_of id self.old.image) }
     {
@@ -302,7 +324,8 @@ impl Responder {
         ensures rest { IfOk result (λ got. drop got into.new ≡ drop got into.old) }
         ensures err { OnErr result (into.new ≡ into.old) }
         ensures answers { (plain : Bool) → IsHonest (seen_as plain self.old) →
-            BytesAnswers id offset (length into.old) result into.new (seen_as plain self.old) (seen_as plain self.new) }
+            BytesAnswers id offset (length into.old) result into.new (seen_as plain self.old)
+            (seen_as plain self.new) }
         ensures same { self.new ≡ record self.old { tally = self.new.tally } }
         ensures exact { result ≡
             fru_answer offset (length into.old) most (inventory_of id self.old.image) }

@@ -34,7 +34,8 @@ impl Text {
 
     /// Puts the bytes in hex behind.
     fn push_hex(&mut self, bytes: &[u8]) -> Result<(), AllocError>
-        ensures { OnOk result (self.new.bytes.items ≡ self.old.bytes.items ++ encode_lower bytes.now) }
+        ensures { OnOk result (self.new.bytes.items ≡ self.old.bytes.items ++ encode_lower
+            bytes.now) }
     {
         let hex = hex::encode(self.alloc, bytes)?;
         self.push(hex.as_bytes())
@@ -42,7 +43,8 @@ impl Text {
 
     /// Puts a row's next id behind, a dash where it is the following row's.
     fn push_next(&mut self, following: u16, next: u16) -> Result<(), AllocError>
-        ensures { OnOk result (self.new.bytes.items ≡ self.old.bytes.items ++ next_field following next) }
+        ensures { OnOk result (self.new.bytes.items ≡ self.old.bytes.items ++ next_field following
+            next) }
     {
         if next == following {
             self.push(b"-")
@@ -53,7 +55,8 @@ impl Text {
 
     /// Puts the first word and the id of a row behind.
     fn push_id(&mut self, word: &[u8], id: u16) -> Result<(), AllocError>
-        ensures { OnOk result (self.new.bytes.items ≡ self.old.bytes.items ++ (word.now ++ 32 ∷ (hex_of 2 id ++ 32 ∷ []))) }
+        ensures { OnOk result (self.new.bytes.items ≡ self.old.bytes.items ++
+            (word.now ++ 32 ∷ (hex_of 2 id ++ 32 ∷ []))) }
     {
         self.push(word)?;
         self.push(b" ")?;
@@ -63,7 +66,8 @@ impl Text {
 
     /// Puts the next id and the bytes of a row behind, and a line feed.
     fn push_rest(&mut self, following: u16, next: u16, bytes: &[u8]) -> Result<(), AllocError>
-        ensures { OnOk result (self.new.bytes.items ≡ self.old.bytes.items ++ (next_field following next ++ 32 ∷ (encode_lower bytes.now ++ 10 ∷ []))) }
+        ensures { OnOk result (self.new.bytes.items ≡ self.old.bytes.items ++
+            (next_field following next ++ 32 ∷ (encode_lower bytes.now ++ 10 ∷ []))) }
     {
         self.push_next(following, next)?;
         self.push(b" ")?;
@@ -74,7 +78,13 @@ impl Text {
     /// Puts the line of a row behind.
     #[tactic(auto, using(crate::proofs::RewriteLemmas::row_joined))]
     fn push_row(&mut self, word: &[u8], following: u16, row: &StoredRow) -> Result<(), AllocError>
-        ensures { OnOk result (self.new.bytes.items ≡ self.old.bytes.items ++ line_text (row_fields word.now following (record { id = row.now.id; next = unwrap_or row.now.next following; bytes = row.now.bytes.items }))) }
+        ensures { OnOk result (self.new.bytes.items ≡ self.old.bytes.items ++ line_text
+            (row_fields word.now following (record {
+              id = row.now.id;
+              next = unwrap_or row.now.next
+                  following;
+              bytes = row.now.bytes.items;
+            }))) }
     {
         self.push_id(word, row.id)?;
         self.push_rest(following, row.next.unwrap_or(following), &row.bytes)
@@ -82,7 +92,8 @@ impl Text {
 
     /// Puts the lines of a shelf behind.
     fn push_rows(&mut self, word: &[u8], rows: &[StoredRow]) -> Result<(), AllocError>
-        ensures { OnOk result (self.new.bytes.items ≡ self.old.bytes.items ++ lines_text (rows_lines word.now (chained (map row_of rows.now)))) }
+        ensures { OnOk result (self.new.bytes.items ≡ self.old.bytes.items ++ lines_text
+            (rows_lines word.now (chained (map row_of rows.now)))) }
     {
         let mut place = 0;
         'rows: while place < rows.len() {
@@ -94,7 +105,8 @@ impl Text {
 
     /// Puts the line of a part of an inventory behind.
     fn push_part(&mut self, id: u8, part: &[u8]) -> Result<(), AllocError>
-        ensures { OnOk result (self.new.bytes.items ≡ self.old.bytes.items ++ line_text (part_fields id part.now)) }
+        ensures { OnOk result (self.new.bytes.items ≡ self.old.bytes.items ++ line_text
+            (part_fields id part.now)) }
     {
         self.push(b"fru ")?;
         self.push_hex(&[id])?;
@@ -105,7 +117,8 @@ impl Text {
 
     /// Puts the lines of an inventory behind.
     fn push_inventory(&mut self, id: u8, bytes: &[u8]) -> Result<(), AllocError>
-        ensures { OnOk result (self.new.bytes.items ≡ self.old.bytes.items ++ lines_text (inventory_lines (record { id = id; bytes = bytes.now }))) }
+        ensures { OnOk result (self.new.bytes.items ≡ self.old.bytes.items ++ lines_text
+            (inventory_lines (record { id = id; bytes = bytes.now }))) }
     {
         let mut rest = bytes;
         'parts: while !rest.is_empty() {
@@ -118,7 +131,8 @@ impl Text {
 
     /// Puts the lines of all inventories behind.
     fn push_inventories(&mut self, inventories: &[StoredInventory]) -> Result<(), AllocError>
-        ensures { OnOk result (self.new.bytes.items ≡ self.old.bytes.items ++ lines_text (flat_map inventory_lines (map table.inventory_of inventories.now))) }
+        ensures { OnOk result (self.new.bytes.items ≡ self.old.bytes.items ++ lines_text
+            (flat_map inventory_lines (map table.inventory_of inventories.now))) }
     {
         let mut place = 0;
         'inventories: while place < inventories.len() {
@@ -140,7 +154,8 @@ impl Text {
     /// Puts the LUN and the number of a sensor behind, and the word before them.
     fn push_sensor(&mut self, lun: u8, number: u8) -> Result<(), AllocError>
         requires { lun ≤ 3 }
-        ensures { OnOk result (self.new.bytes.items ≡ self.old.bytes.items ++ (codes "reading " ++ (drop 1 (hex_of 1 lun) ++ 32 ∷ (hex_of 1 number ++ 32 ∷ [])))) }
+        ensures { OnOk result (self.new.bytes.items ≡ self.old.bytes.items ++
+            (codes "reading " ++ (drop 1 (hex_of 1 lun) ++ 32 ∷ (hex_of 1 number ++ 32 ∷ [])))) }
     {
         self.push(b"reading ")?;
         self.push_lun(lun)?;
@@ -152,7 +167,8 @@ impl Text {
     /// Puts the line of a reading behind.
     fn push_reading(&mut self, sensor: &StoredSensor) -> Result<(), AllocError>
         requires { sensor.now.lun ≤ 3 }
-        ensures { OnOk result (self.new.bytes.items ≡ self.old.bytes.items ++ line_text (reading_fields (sensor_of sensor.now))) }
+        ensures { OnOk result (self.new.bytes.items ≡ self.old.bytes.items ++ line_text
+            (reading_fields (sensor_of sensor.now))) }
     {
         let reading = &sensor.reading;
         let bytes = [reading.raw, reading.flags, reading.status, reading.more];
@@ -163,7 +179,8 @@ impl Text {
 
     /// Puts the line of an info behind, where there is one.
     fn push_info(&mut self, word: &[u8], info: Option<[u8; 14]>) -> Result<(), AllocError>
-        ensures { OnOk result (self.new.bytes.items ≡ self.old.bytes.items ++ lines_text (info_lines word.now info)) }
+        ensures { OnOk result (self.new.bytes.items ≡ self.old.bytes.items ++ lines_text
+            (info_lines word.now info)) }
     {
         let Some(bytes) = info else {
             return Ok(());
@@ -178,7 +195,8 @@ impl Text {
     /// Puts the lines of all readings behind.
     fn push_readings(&mut self, sensors: &[StoredSensor]) -> Result<(), AllocError>
         requires { All (λ sensor. sensor.lun ≤ 3) sensors.now }
-        ensures { OnOk result (self.new.bytes.items ≡ self.old.bytes.items ++ lines_text (map reading_fields (map sensor_of sensors.now))) }
+        ensures { OnOk result (self.new.bytes.items ≡ self.old.bytes.items ++ lines_text
+            (map reading_fields (map sensor_of sensors.now))) }
     {
         let mut place = 0;
         'sensors: while place < sensors.len() {
@@ -191,7 +209,8 @@ impl Text {
     /// Puts the lines of everything but the rows behind, and the last line.
     fn push_others(&mut self, contents: &Contents) -> Result<(), AllocError>
         requires { All (λ sensor. sensor.lun ≤ 3) contents.now.sensors }
-        ensures { OnOk result (self.new.bytes.items ≡ self.old.bytes.items ++ lines_text (other_lines (store_of contents.now))) }
+        ensures { OnOk result (self.new.bytes.items ≡ self.old.bytes.items ++ lines_text
+            (other_lines (store_of contents.now))) }
     {
         self.push_inventories(contents.inventories.as_slice())?;
         self.push_readings(contents.sensors.as_slice())?;
@@ -203,7 +222,8 @@ impl Text {
     /// Puts all lines behind.
     fn push_image(&mut self, contents: &Contents) -> Result<(), AllocError>
         requires { All (λ sensor. sensor.lun ≤ 3) contents.now.sensors }
-        ensures { OnOk result (self.new.bytes.items ≡ self.old.bytes.items ++ image_text_of (store_of contents.now)) }
+        ensures { OnOk result (self.new.bytes.items ≡ self.old.bytes.items ++ image_text_of
+            (store_of contents.now)) }
     {
         self.push(b"ipmi-image 2\n")?;
         self.push_rows(b"sdr", contents.sdr.as_slice())?;

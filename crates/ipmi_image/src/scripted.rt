@@ -84,7 +84,8 @@ impl Scripted {
     pub fn new(image: Image, moods: Vec<Mood>) -> Scripted
         ensures honest { IsHonest (script_seen result) }
         ensures store { (script_seen result).store ≡ image }
-        ensures none_current { ((script_seen result).sdr_reservation ≡ None) × ((script_seen result).sel_reservation ≡ None) }
+        ensures none_current { ((script_seen result).sdr_reservation ≡ None) ×
+            ((script_seen result).sel_reservation ≡ None) }
         ensures none_given { script_last_number result ≡ 0 }
         ensures moods { moods_left result ≡ moods.items }
     {
@@ -97,7 +98,8 @@ impl Scripted {
     /// Uses up a mood on a call for so many bytes; a call for none of its own counts as one for one byte.
     fn turn(&mut self, asked: usize) -> Turn
         ensures counts { TurnCounts result (script_seen self.old) (script_seen self.new) }
-        ensures turns { IsHonest (script_seen self.old) → Turns asked result (script_seen self.old) (script_seen self.new) }
+        ensures turns { IsHonest (script_seen self.old) →
+            Turns asked result (script_seen self.old) (script_seen self.new) }
         ensures used { moods_left self.new ≡ drop 1 (moods_left self.old) }
         ensures exact { result ≡ next_turn asked (moods_left self.old) }
         ensures leaves { StaysAfterMood self.old self.new }

@@ -148,7 +148,8 @@ impl Table<StoredInventory> {
     /// Puts the bytes behind those of the inventory at this place.
     pub(crate) fn append(&mut self, place: usize, bytes: &[u8]) -> Result<(), AllocError>
         requires { place < length self.old }
-        ensures ok { OnOk result (map inventory_of self.new ≡ longer_at place bytes.now (map inventory_of self.old)) }
+        ensures ok { OnOk result (map inventory_of self.new ≡ longer_at place bytes.now
+            (map inventory_of self.old)) }
     {
         self.items[place].bytes.extend_from_slice(bytes)?;
         Ok(())

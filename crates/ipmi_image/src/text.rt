@@ -11,7 +11,8 @@ use std::alloc::Global;
 
 /// The bytes before the first separator, and those after it.
 pub(crate) fn cut(bytes: &[u8], separator: u8) -> Option<(&[u8], &[u8])>
-    ensures cut { MatchOption result (pieces separator bytes.now ≡ bytes.now ∷ []) (λ parts. pieces separator bytes.now ≡ parts.0.now ∷ pieces separator parts.1.now) }
+    ensures cut { MatchOption result (pieces separator bytes.now ≡ bytes.now ∷ [])
+        (λ parts. pieces separator bytes.now ≡ parts.0.now ∷ pieces separator parts.1.now) }
     ensures shorter { IfSome result (λ parts. length parts.1.now < length bytes.now) }
 {
     let at = memchr(separator, bytes)?;
@@ -46,7 +47,8 @@ pub(crate) fn read_digit(digit: &[u8]) -> Option<u8>
 
 /// The bytes that pairs of hex digits are.
 pub(crate) fn read_bytes(alloc: Global, digits: &[u8]) -> Result<Vec<u8>, LineFault>
-    ensures { MatchResult result (λ bytes. bytes_in digits.now ≡ Some bytes.items) (λ e. (e ≡ LineFault.Memory) ⊎ ((e ≡ LineFault.Hex) × (bytes_in digits.now ≡ None))) }
+    ensures { MatchResult result (λ bytes. bytes_in digits.now ≡ Some bytes.items)
+        (λ e. (e ≡ LineFault.Memory) ⊎ ((e ≡ LineFault.Hex) × (bytes_in digits.now ≡ None))) }
 {
     match hex::decode(alloc, digits) {
         Ok(bytes) => Ok(bytes),
