@@ -105,5 +105,6 @@ pub trait Controller {
         ensures rest { IfOk result (λ got. drop got into.new ≡ drop got into.old) }
         ensures err { OnErr result (into.new ≡ into.old) }
         ensures honest { IsHonest (seen self.old) →
-            BytesAnswers id offset (length into.old) result into.new (seen self.old) (seen self.new) };
+            BytesAnswers id offset (length into.old) result into.new
+            (seen self.old) (seen self.new) };
 }

@@ -269,7 +269,8 @@ fn rewrite<O: Sink, E: MessageSink>(alloc: Global, image: &[u8], out: &mut O, er
 /// Writes the text of the image.
 fn write_image<O: Sink>(alloc: Global, image: &Image, out: &mut O) -> Stop
     ensures faults { O.faults out.new ≡ O.faults out.old + faults_of result }
-    ensures text { WritesImage (image_text_of image.now) (O.taken out.old) (O.taken out.new) result }
+    ensures text { WritesImage (image_text_of image.now)
+        (O.taken out.old) (O.taken out.new) result }
 {
     let Ok(text) = image_text(alloc, image) else {
         return Stop::Memory;

@@ -267,7 +267,8 @@ fn put_reading(
         bytes.now ≡ None) × (map sensor_of sensors.new ≡ map sensor_of sensors.old ++ record
         { lun = lun; number = number; reading = reading_of_bytes bytes.now } ∷ [])) }
     ensures err { IfErr result (λ e. (e ≡ LineFault.Memory) ⊎
-        (reading_fault lun (reading_in (map sensor_of sensors.old) lun number) bytes.now ≡ Some e)) }
+        (reading_fault lun (reading_in (map sensor_of sensors.old) lun number) bytes.now
+        ≡ Some e)) }
 {
     if let Some(fault) = reading_fault(sensors, lun, number, bytes) {
         return Err(fault);
@@ -288,7 +289,8 @@ fn put_reading(
 /// Takes the info of a shelf.
 fn put_info(info: &mut Option<[u8; 14]>, bytes: &[u8]) -> Result<(), LineFault>
     ensures keeps { OnOk result (IfSome info.new IsInfo) }
-    ensures ok { OnOk result ((info_fault info.old bytes.now ≡ None) × (info.new ≡ Some bytes.now)) }
+    ensures ok { OnOk result ((info_fault info.old bytes.now ≡ None)
+        × (info.new ≡ Some bytes.now)) }
     ensures err { IfErr result (λ e. info_fault info.old bytes.now ≡ Some e) }
 {
     if info.is_some() {

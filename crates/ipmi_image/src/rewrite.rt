@@ -146,7 +146,8 @@ impl Text {
     /// Puts the one digit of a LUN behind.
     fn push_lun(&mut self, lun: u8) -> Result<(), AllocError>
         requires { lun ≤ 3 }
-        ensures { OnOk result (self.new.bytes.items ≡ self.old.bytes.items ++ drop 1 (hex_of 1 lun)) }
+        ensures { OnOk result
+            (self.new.bytes.items ≡ self.old.bytes.items ++ drop 1 (hex_of 1 lun)) }
     {
         self.push(&[b'0' + lun])
     }

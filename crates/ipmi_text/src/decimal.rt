@@ -125,7 +125,8 @@ fn sign(value: i128) -> &'static str
 /// Appends a point and the digits of a fraction, with no zero at their end. Nothing for 0.
 fn push_fraction(text: &mut String, fraction: u64) -> Result<(), AllocError>
     requires { fraction < 10 ^ 16 }
-    ensures { OnOk result (AppendsFraction fraction (string_bytes text.old) (string_bytes text.new)) }
+    ensures { OnOk result
+        (AppendsFraction fraction (string_bytes text.old) (string_bytes text.new)) }
 {
     if fraction == 0 {
         return Ok(());

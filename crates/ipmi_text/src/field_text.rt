@@ -45,7 +45,8 @@ fn byte_at(bytes: &[u8], at: usize) -> u32
 /// Appends the characters of at most three bytes, low first, in groups of six bits.
 fn push_six_bit(text: &mut String, bytes: &[u8]) -> Result<(), AllocError>
     requires { length bytes.now ≤ 3 }
-    ensures { OnOk result (string_bytes text.new ≡ string_bytes text.old ++ six_bit_text bytes.now) }
+    ensures { OnOk result
+        (string_bytes text.new ≡ string_bytes text.old ++ six_bit_text bytes.now) }
 {
     let number = byte_at(bytes, 0) + (byte_at(bytes, 1) << 8) + (byte_at(bytes, 2) << 16);
     for i in 0..8 * bytes.len() / 6 {
