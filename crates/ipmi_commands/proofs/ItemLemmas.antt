@@ -8,7 +8,7 @@ use Rattle.ipmi_bus.specs.Walk.{WalkEnd, Done, CycleAt, MissingAt, EndsBy, place
 use Rattle.ipmi_bus.specs.Standing.{MayFail}
 use Rattle.ipmi_bus.specs.Step.{asked_at}
 use Rattle.ipmi_command_line.specs.declared.command.Task.{Task}
-use Rattle.ipmi_commands.specs.Pieces.{IsRowPiece}
+use Rattle.ipmi_commands.specs.Plan.{IsRowPiece}
 use Rattle.ipmi_commands.specs.Plan.{Plan, Item, Spot, AtRecord, row_item, row_items, IsItemText, AreTexts, Printed, Outcome, IsAllowed, StopsAt, IsAmong, end_spots}
 use Rattle.ipmi_commands.specs.Plan as plan
 

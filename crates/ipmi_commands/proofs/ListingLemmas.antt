@@ -25,7 +25,7 @@ use Rattle.ipmi_commands.specs.declared.stop.Stop.{Stop}
 use Rattle.ipmi_commands.specs.declared.stop.Stop.TheVariants as stop
 use Rattle.ipmi_commands.specs.Listing.{IsBelow, first_plan, IsOutcome, IsUnrefused, calls_for, calls_at_spots, FindsText, FindsNone, MayStopAt, IsLeft, after_one, HasListed, ListsHonest, IsListing}
 use Rattle.ipmi_commands.specs.Plan.{first_rows, first_end}
-use Rattle.ipmi_commands.specs.Pieces.{IsRowPiece}
+use Rattle.ipmi_commands.specs.Plan.{IsRowPiece}
 use Rattle.ipmi_commands.specs.Plan.{Plan, Item, Spot, AtRecord, WalkEnds, row_item, row_items, Printed, Outcome, IsAllowed, CountsSo, HasFreshTroubles, IsFine, IsAmong, StopsAt, spots_at, spots_after}
 use Rattle.ipmi_command_line.specs.Task.{shelf_of}
 use Rattle.ipmi_commands.specs.Plan as plan

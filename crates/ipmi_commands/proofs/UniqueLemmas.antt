@@ -18,7 +18,8 @@ use Rattle.ipmi_command_line.specs.declared.command.Task.{Task}
 use Rattle.ipmi_commands.specs.declared.piece.Form.{Form}
 use Rattle.ipmi_commands.specs.declared.piece.Form.TheVariants as form
 use Rattle.ipmi_command_line.specs.declared.command.Task.TheVariants as task
-use Rattle.ipmi_commands.specs.Pieces.{IfChosen, IsLineOf, IsListed, IsListedOfKind, IsRowPiece, reading_for, row_is_of_kind}
+use Rattle.ipmi_commands.specs.Pieces.{IfChosen, IsLineOf, IsListed, IsListedOfKind, reading_for, row_is_of_kind}
+use Rattle.ipmi_commands.specs.Plan.{IsRowPiece}
 use Rattle.ipmi_command_line.specs.Task.{most_of}
 use Rattle.ipmi_commands.specs.Plan.{first_rows}
 use Rattle.ipmi_commands.specs.Plan.{Subject, OfRow, OfInventory, OfInfo, OfImage, Item, IsRowOfBytes, AreRowsOfBytes, RunEnd, Plan, Finished, IsAllowed, row_items, IsItemText, AreTexts}

@@ -1,5 +1,5 @@
 -- What a listing of the records along a walk leaves in its output, by the plan of its items.
-use Rattle.std.specs.Prelude.{◌≡◌, Bool, true, false, ℕ, ◌+◌, ◌-◌, ◌*◌, ◌<◌, ◌≤◌, ◌==◌, nat_le, if◌then◌else◌, IsTrue, Option, None, Some, Result, Ok, Err, String, string_bytes, List, [], ◌∷◌, length, take}
+use Rattle.std.specs.Prelude.{◌≡◌, Bool, true, false, ℕ, ◌+◌, ◌-◌, ◌*◌, ◌<◌, ◌≤◌, ◌==◌, if◌then◌else◌, IsTrue, Option, None, Some, Result, Ok, Err, String, string_bytes, List, [], ◌∷◌, length, take}
 use Rattle.std.specs.FinSet as set
 use Rattle.std.specs.declared.alloc.Global.{Global}
 use Rattle.ipmi_bus.specs.Bounds.{step_call_bound, fru_call_bound, digits}
@@ -20,8 +20,8 @@ use Rattle.ipmi_command_line.specs.declared.command.Task.{Task}
 use Rattle.ipmi_command_line.specs.declared.command.Task.TheVariants as task
 use Rattle.ipmi_commands.specs.declared.stop.Stop.{Stop}
 use Rattle.ipmi_commands.specs.declared.stop.Stop.TheVariants as stop
-use Rattle.ipmi_commands.specs.Pieces.{IsRowPiece}
-use Rattle.ipmi_commands.specs.Plan.{first_rows, first_end, last_rows, Request, request, Plan, Spot, AtRecord, AtInventory, WalkEnds, row_items, Printed, Outcome, IsAllowed, CountsSo, IsFine, IsAmong, end_spots, spots_after}
+use Rattle.ipmi_commands.specs.Plan.{IsRowPiece}
+use Rattle.ipmi_commands.specs.Plan.{most_after, first_rows, first_end, last_rows, Request, request, Plan, Spot, AtRecord, AtInventory, WalkEnds, row_items, Printed, Outcome, IsAllowed, CountsSo, IsFine, IsAmong, end_spots, spots_after}
 use Rattle.ipmi_command_line.specs.Task.{most_of, shelf_of}
 use Rattle.ipmi_commands.specs.Plan as plan
 
@@ -85,14 +85,6 @@ calls_for t store tries (row ∷ rows) = step_call_bound tries (length row.bytes
 -- which there are at most seven
 abbrev pub walk_call_bound : Task → Store → ℕ → List Row → ℕ
 walk_call_bound t store tries rows = calls_for t store tries rows + step_call_bound tries 0 + 7
-
--- over any controller, for what is asked for because of one record
-abbrev pub most_after : Task → ℕ → ℕ
-most_after (task.Fru id) tries = fru_call_bound tries 65535
-most_after (task.List kind) tries = tries + 1
-most_after (task.Elist kind) tries = tries + 1
-most_after (task.Get name) tries = tries + 1
-most_after _ tries = 0
 
 -- over any controller, for one record and for what is asked for because of it
 abbrev pub most_for_one : Task → ℕ → ℕ

@@ -10,16 +10,11 @@ use Rattle.ipmi_records.specs.declared.sdr.SdrFault.{SdrFault}
 use Rattle.ipmi_records.specs.declared.sdr.SdrView.{SdrView}
 use Rattle.ipmi_records.specs.declared.sdr.SdrView.TheVariants as view_of
 use Rattle.ipmi_records.specs.Sdr as sdr
-use Rattle.ipmi_records.specs.Sel.{sel_view_of}
 use Rattle.ipmi_records.specs.SdrText.{IsSdrLine, IsExtendedLine, IsSdrBlock, fault_line, printed_name}
-use Rattle.ipmi_records.specs.SelText.{IsSelLine, IsSelBlock}
 use Rattle.ipmi_command_line.specs.declared.command.Kind.{Kind}
 use Rattle.ipmi_command_line.specs.declared.command.Kind.TheVariants as kind
-use Rattle.ipmi_command_line.specs.declared.command.Task.{Task}
-use Rattle.ipmi_command_line.specs.declared.command.Task.TheVariants as task
 use Rattle.ipmi_commands.specs.declared.piece.Form.{Form}
 use Rattle.ipmi_commands.specs.declared.piece.Form.TheVariants as form
-use Rattle.ipmi_commands.specs.Line.{line_of}
 
 -- ---- what is chosen
 
@@ -101,15 +96,3 @@ IsDevicePiece store view (Some id) text = IfChosen (not (id == 0)) (λ t. IsInve
 abbrev pub IsLocatorPiece : Store → Result SdrView SdrFault → List ℕ → Type 0
 IsLocatorPiece store (Ok (view_of.Fru bytes)) text = IsDevicePiece store (view_of.Fru bytes) (sdr.fru_of (view_of.Fru bytes)) text
 IsLocatorPiece store _ text = text ≡ []
-
--- ---- the piece of a row, by the task
-
-abbrev pub IsRowPiece : Task → Store → Row → List ℕ → Type 0
-IsRowPiece (task.Fru id) store row text = IsLocatorPiece store (sdr.sdr_view_of row.bytes) text
-IsRowPiece task.Hex store row text = text ≡ line_of row
-IsRowPiece (task.List kind) store row text = IsListedOfKind form.Short kind store row text
-IsRowPiece (task.Elist kind) store row text = IsListedOfKind form.Extended kind store row text
-IsRowPiece (task.Get name) store row text = IsBlockOfName name store row.id (sdr.sdr_view_of row.bytes) text
-IsRowPiece (task.SelList entries) store row text = IsSelLine row.id (sel_view_of row.bytes) text
-IsRowPiece (task.SelGet id) store row text = IsSelBlock row.id (sel_view_of row.bytes) text
-IsRowPiece _ store row text = ⊥

@@ -12,6 +12,11 @@ use Rattle.ipmi_bus.specs.Seen.{Seen}
 use Rattle.ipmi_image.specs.Rewritten.{image_text_of}
 use Rattle.ipmi_records.specs.Info.{IsInfoBlock}
 use Rattle.ipmi_records.specs.Sdr as sdr
+use Rattle.ipmi_records.specs.Sel.{sel_view_of}
+use Rattle.ipmi_records.specs.SelText.{IsSelLine, IsSelBlock}
+use Rattle.ipmi_commands.specs.Line.{line_of}
+use Rattle.ipmi_commands.specs.declared.piece.Form.TheVariants as form
+use Rattle.ipmi_bus.specs.Bounds.{fru_call_bound}
 use Rattle.ipmi_records.specs.declared.sdr.SdrFault.{SdrFault}
 use Rattle.ipmi_records.specs.declared.sdr.SdrView.{SdrView}
 use Rattle.ipmi_command_line.specs.declared.command.Count.{Count}
@@ -20,7 +25,7 @@ use Rattle.ipmi_command_line.specs.declared.command.Kind.{Kind}
 use Rattle.ipmi_command_line.specs.declared.command.Task.{Task}
 use Rattle.ipmi_command_line.specs.declared.command.Task.TheVariants as task
 use Rattle.ipmi_command_line.specs.Task.{most_of, shelf_of}
-use Rattle.ipmi_commands.specs.Pieces.{IsRowPiece, IsInventoryPiece, row_is_of_kind, is_name}
+use Rattle.ipmi_commands.specs.Pieces.{IsListedOfKind, IsBlockOfName, IsLocatorPiece, IsInventoryPiece, row_is_of_kind, is_name}
 
 -- ---- what is asked for, and what it changes
 
@@ -97,13 +102,43 @@ abbrev pub locator_spots : Result SdrView SdrFault → List Spot
 locator_spots (Ok view) = device_spots (sdr.fru_of view)
 locator_spots (Err fault) = []
 
--- what is asked for on account of a row that was found, by the task
+-- ---- the table of what each task prints for a row
+
+-- its text, nothing for a row that is left out; what is asked for because of it; and at most how many calls that takes over any
+-- controller
+pub record Printing : Type 1 where
+  pub IsText : Store → Row → List ℕ → Type 0
+  pub spots : Row → List Spot
+  pub most : ℕ → ℕ
+
+abbrev pub printing : (Store → Row → List ℕ → Type 0) → (Row → List Spot) → (ℕ → ℕ) → Printing
+printing IsText spots most = record { IsText = IsText; spots = spots; most = most }
+
+abbrev pub printing_of : Task → Printing
+printing_of task.Hex = printing (λ store row text. text ≡ line_of row) (λ row. []) (λ tries. 0)
+printing_of (task.List kind) = printing (λ store row text. IsListedOfKind form.Short kind store row text) (listed_spots kind) (λ tries. tries + 1)
+printing_of (task.Elist kind) = printing (λ store row text. IsListedOfKind form.Extended kind store row text) (listed_spots kind) (λ tries. tries + 1)
+printing_of (task.Get name) =
+    printing (λ store row text. IsBlockOfName name store row.id (sdr.sdr_view_of row.bytes) text)
+    (λ row. named_spots name row.id (sdr.sdr_view_of row.bytes)) (λ tries. tries + 1)
+printing_of (task.SelList entries) = printing (λ store row text. IsSelLine row.id (sel_view_of row.bytes) text) (λ row. []) (λ tries. 0)
+printing_of (task.SelGet id) = printing (λ store row text. IsSelBlock row.id (sel_view_of row.bytes) text) (λ row. []) (λ tries. 0)
+printing_of (task.Fru id) =
+    printing (λ store row text. IsLocatorPiece store (sdr.sdr_view_of row.bytes) text)
+    (λ row. locator_spots (sdr.sdr_view_of row.bytes)) (λ tries. fru_call_bound tries 65535)
+printing_of _ = printing (λ store row text. ⊥) (λ row. []) (λ tries. 0)
+
+-- its columns
+abbrev pub IsRowPiece : Task → Store → Row → List ℕ → Type 0
+IsRowPiece t store row text = (printing_of t).IsText store row text
+
 abbrev pub spots_after : Task → Row → List Spot
-spots_after (task.Fru id) row = locator_spots (sdr.sdr_view_of row.bytes)
-spots_after (task.List kind) row = listed_spots kind row
-spots_after (task.Elist kind) row = listed_spots kind row
-spots_after (task.Get name) row = named_spots name row.id (sdr.sdr_view_of row.bytes)
-spots_after _ row = []
+spots_after t row = (printing_of t).spots row
+
+abbrev pub most_after : Task → ℕ → ℕ
+most_after t tries = (printing_of t).most tries
+
+-- ---- spots along a walk
 
 -- the ids that are asked for along the rows
 abbrev pub spots_along : Place → List Row → List Spot

@@ -1,6 +1,7 @@
 use Rattle.std.proofs.Common.{◌++◌, List, ℕ, take, Ok, ◌∙◌, ap, refl, sym}
 use Rattle.ipmi_bus.specs.Lent.{row_of_record}
-use Rattle.ipmi_commands.specs.Listing.{most_after, most_for_one}
+use Rattle.ipmi_commands.specs.Listing.{most_for_one}
+use Rattle.ipmi_commands.specs.Plan.{most_after}
 use Rattle.ipmi_command_line.specs.Task.{shelf_of}
 use Rattle.ipmi_commands.proofs.CallLemmas.{called_more, called_stopped, called_done, called_failed}
 use Rattle.ipmi_commands.proofs.ListingLemmas.{listing_full, listing_done, listing_ended, listing_taken, listing_none, listing_cut, listing_more, fewer_ids}
