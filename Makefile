@@ -6,11 +6,12 @@ SOURCES := crates.txt $(shell find crates \( -name out -o -name tests -o -name t
 
 .PHONY: demo test memory turns bench build install
 
-# The program on two images: sensors, events, and three sensor data records as they are.
+# The program on two images: sensors, events, inventories, and three sensor data records as they are.
 demo: $(PROGRAM)
 	$(PROGRAM) --image examples/server.image sdr list all
 	$(PROGRAM) --image examples/server.image sdr elist
 	$(PROGRAM) --image examples/server.image sel list
+	$(PROGRAM) --image examples/server.image fru
 	$(PROGRAM) --image examples/three-rows.image sdr hex
 
 # The whole gate, and the tests beside it.

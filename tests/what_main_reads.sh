@@ -1,6 +1,6 @@
 #!/usr/bin/env bash
 # What the program reads: the file of `--image` or standard input, up to 64 MiB and no byte more; nothing after a usage
-# fault, or for a command that can't be run yet; and the words of its command line where there are none, or where one is no text.
+# fault; and the words of its command line where there are none, or where one is no text.
 # And that it says a write fault once.
 set -uo pipefail
 cd "$(dirname "$0")/.."
@@ -58,9 +58,9 @@ expect 3 '' 'cannot read standard input' "$program" < "$work"
 expect 2 '' "$usage" "$program" sdr frob --image "$work/none" < "$small"
 expect 2 "$(cat "$small")" "$usage" bash -c '"$0" sdr frob; status=$?; cat; exit $status' "$program" < "$small"
 
-# The same for a command that can't be run yet.
-expect 2 '' "$usage" "$program" fru --image "$work/none" < "$small"
-expect 2 "$(cat "$small")" "$usage" bash -c '"$0" fru; status=$?; cat; exit $status' "$program" < "$small"
+# Each command reads the image.
+expect 3 '' "cannot read $work/none" "$program" fru --image "$work/none" < "$small"
+expect 1 '' 'info not present' "$program" sel < "$small"
 
 # A first word that is empty is the program's name too, and a word that is no text is no word.
 expect 0 "$lines" '' bash -c 'exec -a "" "$0"' "$program" < "$small"

@@ -1,14 +1,27 @@
 //! Commands over controllers and saved images: what they print, how they end, and how many calls they make.
 pub(crate) mod answers;
+mod blocks;
+mod calls_not_present;
+mod changes;
+mod devices;
+mod entry_types;
+mod faults_at_calls;
 mod image_faults;
 mod images;
+mod infos;
+mod inventories;
+mod inventory_damage;
 pub(crate) mod left;
 mod long_listings;
 mod moods;
+mod newest;
 mod outcomes;
 pub(crate) mod over_images;
 mod pages;
 mod parts;
 mod printed;
+mod record_lengths;
+mod refused_memory;
 pub(crate) mod saved;
 mod short_outputs;
+mod written_answers;

@@ -1,23 +1,27 @@
 -- What the reading that is asked for on account of a record leaves.
-use Rattle.std.proofs.Common.{◌≡◌, ℕ, ◌≤◌, Bool, true, cond, Option, Result, Ok, Err, String, Global, List, [], refl, sym, ap, subst, ◌∙◌, arith}
+use Rattle.std.proofs.Common.{◌≡◌, inl, ℕ, ◌+◌, ◌≤◌, ◌==◌, Bool, true, false, cond, codes, Option, None, Some, Result, Ok, Err, String, Global, List, [], ◌∷◌, refl, sym, ap, subst, ◌∙◌, arith}
 use Rattle.std.specs.Result.{IsErrAnd}
 use Rattle.ipmi_text.specs.declared.reading.Reading.{Reading}
 use Rattle.ipmi_bus.specs.declared.step.Ended.{Ended}
 use Rattle.ipmi_bus.specs.declared.step.Ended.TheVariants.{Cycle, Missing, Refused, GaveUp, Stalled, Malformed}
-use Rattle.ipmi_bus.specs.Readers.{ValueIs}
+use Rattle.ipmi_bus.specs.declared.inventory.FruEnded.{FruEnded}
+use Rattle.ipmi_bus.specs.declared.inventory.FruEnded.TheVariants as fru
+use Rattle.ipmi_bus.specs.declared.controller.Shelf.{Shelf}
+use Rattle.ipmi_bus.specs.Readers.{EndsUnder, ReadsValue, ValueIs, ReadsInventory, InventoryCounts, InventoryIs, IsRefusedInventory, IsRefusedOverChange}
+use Rattle.ipmi_fru.specs.Print.{IsFruText}
 use Rattle.ipmi_bus.specs.Seen.{Seen, IsHonest}
 use Rattle.ipmi_bus.specs.Shelf.{Row}
-use Rattle.ipmi_bus.specs.Store.{Store}
+use Rattle.ipmi_bus.specs.Store.{Store, info_of, inventory_of}
 use Rattle.ipmi_bus.specs.Seen.{stays_refl}
 use Rattle.ipmi_records.specs.declared.sdr.SdrView.{SdrView}
 use Rattle.ipmi_records.specs.Sdr as sdr
 use Rattle.ipmi_command_line.specs.declared.command.Kind.{Kind}
 use Rattle.ipmi_commands.specs.declared.stop.Stop.{Stop}
 use Rattle.ipmi_commands.specs.declared.stop.Stop.TheVariants as stop
-use Rattle.ipmi_commands.specs.Asking.{ReadsFor}
-use Rattle.ipmi_commands.specs.Listing.{AsksAt, FindsNone, Finds}
-use Rattle.ipmi_commands.specs.Pieces.{reading_for, row_is_of_kind}
-use Rattle.ipmi_commands.specs.Plan.{Spot, AtRecord, reading_spots, listed_spots}
+use Rattle.ipmi_commands.specs.Asking.{is_absent, ReadsFor}
+use Rattle.ipmi_commands.specs.Listing.{AsksAt, FindsNone, FindsText, Finds, FindsInfo, MayStopAt}
+use Rattle.ipmi_commands.specs.Pieces.{IsDevicePiece, IsInventoryText, is_name, reading_for, row_is_of_kind}
+use Rattle.ipmi_commands.specs.Plan.{Spot, AtRecord, AtInventory, device_spots, named_spots, reading_spots, listed_spots}
 use Rattle.ipmi_commands.specs.Plan as plan
 
 -- the stop is passed up
@@ -40,7 +44,7 @@ out_of_memory spots tries s honest = record {
 
 -- ---- the reading of a record
 
-value_grows : (value : Store → Option Reading) (tries : ℕ) (s s' : Seen) (result : Result (Option Reading) Ended) → ValueIs value tries s s' result → s.troubles ≤ s'.troubles
+value_grows : {V : Type 0} (value : Store → Option V) (tries : ℕ) (s s' : Seen) (result : Result (Option V) Ended) → ValueIs value tries s s' result → s.troubles ≤ s'.troubles
 value_grows value tries s s' (Ok o) is = is.0.grows
 value_grows value tries s s' (Err (GaveUp n)) is = let troubles = is.troubles in omega (arith, troubles)
 value_grows value tries s s' (Err (Refused n code)) is = is.grows
@@ -85,6 +89,160 @@ module _ (id tries : ℕ) (view : SdrView) (s s' : Seen) where
   fails_at_reading (Missing n) r = absurd r.there
   fails_at_reading (Stalled n) r = absurd r.there
   fails_at_reading (Malformed n) r = absurd r.there
+
+-- ---- the info of a shelf
+
+module _ (shelf : Shelf) (tries : ℕ) (s s' : Seen) where
+  -- no text was found, but not for want of an info
+  none_of_info : (st : Stop) → FindsNone (AtRecord 0 ∷ []) tries s s' st → FindsInfo shelf tries s s' (Err st)
+  none_of_info stop.NoInfo none = absurd (subst (MayStopAt (AtRecord 0 ∷ [])) none.outcome_is none.there)
+  none_of_info _ none = none
+
+  pub info_passed_up : (result : Result (String Global) Stop) (st : Stop) → IsErrAnd result (λ e. e ≡ st) → FindsNone (AtRecord 0 ∷ []) tries s s' st → FindsInfo shelf tries s s' result
+  info_passed_up (Ok text) st is none = absurd is
+  info_passed_up (Err e) st is none = subst (λ (x : Stop). FindsInfo shelf tries s s' (Err x)) (sym is) (none_of_info st none)
+
+  module _ (calls : s'.calls ≤ s.calls + (tries + 1)) where
+    asks_info : (result : Result (Option (List ℕ)) Ended) → ReadsValue (info_of shelf) tries s s' result → AsksAt (AtRecord 0 ∷ []) tries s s'
+    asks_info result r = record {
+      stays = r.stays;
+      grows = value_grows (info_of shelf) tries s s' result r.is;
+      calls = λ same. omega (arith, calls);
+      plain = λ p. (r.plain p).1;
+    }
+
+    pub out_after_info : (info : Option (List ℕ)) → ReadsValue (info_of shelf) tries s s' (Ok info) → FindsNone (AtRecord 0 ∷ []) tries s s' stop.Memory
+    out_after_info info r = record { asks = asks_info (Ok info) r; outcome = plan.OutOfMemory; outcome_is = refl; counts = r.is.0.refusals; there = tt; plain = λ p. tt }
+
+    pub fails_at_info : (ended : Ended) → ReadsValue (info_of shelf) tries s s' (Err ended) → EndsUnder {V = Option (List ℕ)} 0 (Err ended) → FindsNone (AtRecord 0 ∷ []) tries s s' (stop.Ended ended)
+    fails_at_info (GaveUp n) r under =
+        let troubles = r.is.troubles in
+        let fresh = r.is.fresh_troubles in
+        record {
+          asks = asks_info (Err (GaveUp n)) r;
+          outcome = plan.GaveUp (AtRecord n);
+          outcome_is = refl;
+          counts = (r.is.refusals, omega (arith, troubles), omega (arith, fresh));
+          there = inl (ap AtRecord under);
+          plain = λ p. let h = (r.plain p).0 in cc h;
+        }
+    fails_at_info (Refused n code) r under = record {
+      asks = asks_info (Err (Refused n code)) r;
+      outcome = plan.Refused (AtRecord n) code.0;
+      outcome_is = refl;
+      counts = (r.is.refusals, r.is.last_code);
+      there = inl (ap AtRecord under);
+      plain = λ p. let h = (r.plain p).0 in cc h;
+    }
+    fails_at_info (Cycle n) r under = absurd under
+    fails_at_info (Missing n) r under = absurd under
+    fails_at_info (Stalled n) r under = absurd under
+    fails_at_info (Malformed n) r under = absurd under
+
+-- ---- an inventory
+
+module _ (id tries : ℕ) (s s' : Seen) where
+  refused_grows : (absent : Bool) (code : ℕ) → IsRefusedOverChange absent id tries code s s' → s.troubles ≤ s'.troubles
+  refused_grows true code is = is.0.grows
+  refused_grows false code is = is.grows
+
+  inventory_grows : (result : Result (List ℕ) FruEnded) → InventoryCounts id tries s s' result → s.troubles ≤ s'.troubles
+  inventory_grows (Ok bytes) counts = counts.0.grows
+  inventory_grows (Err fru.Memory) counts = counts.0.grows
+  inventory_grows (Err (fru.Refused code)) counts = refused_grows (code.0 == 0xCB) code.0 counts
+  inventory_grows (Err fru.GaveUp) counts = let troubles = counts.troubles in omega (arith, troubles)
+  inventory_grows (Err fru.Stalled) counts = absurd counts
+  inventory_grows (Err fru.Words) counts = absurd counts
+
+  asks_inventory : (result : Result (List ℕ) FruEnded) → ReadsInventory id tries s s' result → AsksAt (AtInventory id ∷ []) tries s s'
+  asks_inventory result r = record {
+    stays = r.stays;
+    grows = inventory_grows result r.counts;
+    calls = λ same. let calls = r.calls same in omega (arith, calls);
+    plain = λ p. (r.plain p).1;
+  }
+
+  -- its bytes were read
+  pub inventory_read : (bytes : List ℕ) (text : List ℕ) → ReadsInventory id tries s s' (Ok bytes) → IsFruText bytes text → FindsText (λ (store : Store) (t : List ℕ). IsInventoryText (inventory_of id store) t) (AtInventory id ∷ []) tries s s' text
+  inventory_read bytes text r is = record {
+    asks = asks_inventory (Ok bytes) r;
+    refusals = r.counts.0.refusals;
+    is = λ same. subst (λ (o : Option (List ℕ)). IsInventoryText o text) (sym (r.is same).1) is;
+  }
+
+  pub out_after_bytes : (bytes : List ℕ) → ReadsInventory id tries s s' (Ok bytes) → FindsNone (AtInventory id ∷ []) tries s s' stop.Memory
+  out_after_bytes bytes r = record { asks = asks_inventory (Ok bytes) r; outcome = plan.OutOfMemory; outcome_is = refl; counts = r.counts.0.refusals; there = tt; plain = λ p. tt }
+
+  -- there is none
+  absent_counts : (ended : FruEnded) → is_absent ended ≡ true → InventoryCounts id tries s s' (Err ended) → s'.refusals ≡ s.refusals
+  absent_counts (fru.Refused code) absent counts = (subst (λ (b : Bool). IsRefusedOverChange b id tries code.0 s s') absent counts).0.refusals
+  absent_counts _ absent counts = cc absent
+
+  absent_is : (ended : FruEnded) → is_absent ended ≡ true → InventoryIs id tries s s' (Err ended) → inventory_of id s.store ≡ None
+  absent_is (fru.Refused code) absent is = (subst (λ (b : Bool). IsRefusedInventory b id tries code.0 s s') absent is).1
+  absent_is _ absent is = cc absent
+
+  pub inventory_absent : (ended : FruEnded) (text : List ℕ) → is_absent ended ≡ true → ReadsInventory id tries s s' (Err ended) → text ≡ codes "not present\n" → FindsText (λ (store : Store) (t : List ℕ). IsInventoryText (inventory_of id store) t) (AtInventory id ∷ []) tries s s' text
+  inventory_absent ended text absent r is = record {
+    asks = asks_inventory (Err ended) r;
+    refusals = absent_counts ended absent r.counts;
+    is = λ same. subst (λ (o : Option (List ℕ)). IsInventoryText o text) (sym (absent_is ended absent (r.is same))) is;
+  }
+
+  pub out_after_absence : (ended : FruEnded) → is_absent ended ≡ true → ReadsInventory id tries s s' (Err ended) → FindsNone (AtInventory id ∷ []) tries s s' stop.Memory
+  out_after_absence ended absent r = record { asks = asks_inventory (Err ended) r; outcome = plan.OutOfMemory; outcome_is = refl; counts = absent_counts ended absent r.counts; there = tt; plain = λ p. tt }
+
+  -- or it was not read
+  pub fails_at_inventory : (ended : FruEnded) → is_absent ended ≡ false → ReadsInventory id tries s s' (Err ended) → FindsNone (AtInventory id ∷ []) tries s s' (stop.Inventory id ended)
+  fails_at_inventory fru.Memory present r = record { asks = asks_inventory (Err fru.Memory) r; outcome = plan.OutOfMemory; outcome_is = refl; counts = r.counts.0.refusals; there = tt; plain = λ p. tt }
+  fails_at_inventory (fru.Refused code) present r =
+      let counts = subst (λ (b : Bool). IsRefusedOverChange b id tries code.0 s s') present r.counts in
+      record {
+        asks = asks_inventory (Err (fru.Refused code)) r;
+        outcome = plan.Refused (AtInventory id) code.0;
+        outcome_is = refl;
+        counts = (counts.refusals, counts.last_code);
+        there = inl refl;
+        plain = λ p. let h = sym (ap (λ (n : ℕ). n == 0xCB) (r.plain p).0) ∙ present in cc h;
+      }
+  fails_at_inventory fru.GaveUp present r =
+      let troubles = r.counts.troubles in
+      record {
+        asks = asks_inventory (Err fru.GaveUp) r;
+        outcome = plan.GaveUp (AtInventory id);
+        outcome_is = refl;
+        counts = (r.counts.refusals, omega (arith, troubles), (r.counts.some_fresh, λ same. let fresh = (r.is same).fresh_troubles in omega (arith, fresh)));
+        there = inl refl;
+        plain = λ p. (r.plain p).0;
+      }
+  fails_at_inventory fru.Stalled present r = absurd r.counts
+  fails_at_inventory fru.Words present r = absurd r.counts
+
+-- a text was found, and no memory is left for what is made of it
+pub out_after_text : (IsText : Store → List ℕ → Type 0) (spots : List Spot) (tries : ℕ) (s s' : Seen) (text : List ℕ) → FindsText IsText spots tries s s' text → FindsNone spots tries s s' stop.Memory
+out_after_text IsText spots tries s s' text finds = record { asks = finds.asks; outcome = plan.OutOfMemory; outcome_is = refl; counts = finds.refusals; there = tt; plain = λ p. tt }
+
+-- ---- a locator
+
+-- its device is elsewhere, so that nothing is asked for
+pub found_elsewhere : (view : SdrView) (id : Option ℕ) (tries : ℕ) (s : Seen) (text : List ℕ) → id ≡ None → ((store : Store) → IsDevicePiece store view None text) → IsHonest s
+    → FindsText (λ (store : Store) (t : List ℕ). IsDevicePiece store view id t) (device_spots id) tries s s text
+found_elsewhere view None tries s text elsewhere is honest = record {
+  asks = record { stays = stays_refl s honest; grows = omega arith; calls = λ same. omega arith; plain = λ p. record { sdr = refl; sel = refl } };
+  refusals = refl;
+  is = λ same. is s.store;
+}
+found_elsewhere view (Some id) tries s text elsewhere is honest = cc elsewhere
+
+-- ---- a record of a name
+
+-- its spots are those of its reading
+pub at_named : (name : List ℕ) (row : Row) (view : SdrView) (tries : ℕ) (s s' : Seen) (st : Stop) → is_name name (sdr.name_of view) ≡ true → sdr.sdr_view_of row.bytes ≡ Ok view
+    → FindsNone (reading_spots row.id (Ok view)) tries s s' st → FindsNone (named_spots name row.id (sdr.sdr_view_of row.bytes)) tries s s' st
+at_named name row view tries s s' st chosen is none =
+    let spots_are : named_spots name row.id (sdr.sdr_view_of row.bytes) ≡ reading_spots row.id (Ok view) =
+    ap (named_spots name row.id) is ∙ ap (λ (b : Bool). cond b (reading_spots row.id (Ok view)) []) chosen in
+    subst (λ (l : List Spot). FindsNone l tries s s' st) (sym spots_are) none
 
 -- ---- a record of a kind
 

@@ -19,7 +19,7 @@ use Rattle.ipmi_bus.specs.CursorState.{CursorState}
 use Rattle.ipmi_bus.specs.Step.{IsStep, StepLeaves, StepCalls, HandsOut, AsksNothing}
 use Rattle.ipmi_bus.specs.Store.{Store}
 use Rattle.ipmi_command_line.specs.declared.command.Task.{Task}
-use Rattle.ipmi_commands.specs.Listing.{calls_for, calls_at_spots, IsBelow, IsPlace, HasCalled, ListingCalls}
+use Rattle.ipmi_commands.specs.Listing.{calls_for, calls_at_spots, IsPlace, HasCalled, ListingCalls}
 use Rattle.ipmi_commands.specs.Plan.{first_rows}
 use Rattle.ipmi_commands.specs.Plan.{spots_after}
 
@@ -42,6 +42,11 @@ pub digits_most : (n : ℕ) → digits n ≤ 8
 digits_most n =
     omega (arith, reaches_most 1 n, reaches_most 2 n, reaches_most 4 n, reaches_most 8 n, reaches_most 16 n, reaches_most 32 n, reaches_most 64 n, reaches_most 128 n)
 
+-- fewer than are wanted
+abbrev pub IsBelow : Option ℕ → ℕ → Type 0
+IsBelow None count = Unit {0}
+IsBelow (Some n) count = count < n
+
 -- ---- over any controller
 
 -- each record that is handed out is one id more
@@ -56,9 +61,8 @@ is_place next fits = by_case (next == 65535) refl
     by_case true e = tt
     by_case false e = search arith
 
-pub called_begun : (each : ℕ) (begun : CursorState) (s : Seen) → HasCalled each begun begun s s
+pub called_begun : (each : ℕ) (begun : CursorState) (s : Seen) → HasCalled each 0 begun begun s s
 called_begun each begun s = record {
-  rows = 0;
   within = omega arith;
   most = omega arith;
   calls = omega arith;
@@ -74,9 +78,9 @@ at_most_all : (rows bound : ℕ) → rows ≤ 65536 → rows * bound ≤ 65536 *
 at_most_all rows bound most = mul-le rows bound 65536 bound most (omega arith)
 
 -- a listing that stopped after a record
-pub called_stopped : (each : ℕ) (begun now : CursorState) (s s' : Seen) → HasCalled each begun now s s' → ListingCalls each begun now s s'
-called_stopped each begun now s s' called =
-    let all : called.rows * each ≤ 65536 * each = at_most_all called.rows each called.most in
+pub called_stopped : (each count : ℕ) (begun now : CursorState) (s s' : Seen) → HasCalled each count begun now s s' → ListingCalls each begun now s s'
+called_stopped each count begun now s s' called =
+    let all : count * each ≤ 65536 * each = at_most_all count each called.most in
     let calls = called.calls in
     record {
       calls = λ some. let one = digits_some now.part (called.some some) in omega (arith, all, calls, one);
@@ -100,8 +104,8 @@ place_kept now next (Err (Stalled n)) none leaves place = subst IsPlace (sym lea
 place_kept now next (Err (Malformed n)) none leaves place = subst IsPlace (sym leaves.1.stays.place) place
 
 -- a step of a listing over this shelf, with these tries, where each record takes so many calls at most
-module _ (tries behind each : ℕ) (shelf : Shelf) (begun now next : CursorState) (s s' s'' : Seen) (each_is : each ≡ step_call_bound tries (largest_len shelf) + behind) (same_shelf : now.shelf ≡ shelf) (same_tries : now.tries ≡ tries)
-    (called : HasCalled each begun now s s') where
+module _ (tries behind each count : ℕ) (shelf : Shelf) (begun now next : CursorState) (s s' s'' : Seen) (each_is : each ≡ step_call_bound tries (largest_len shelf) + behind) (same_shelf : now.shelf ≡ shelf) (same_tries : now.tries ≡ tries)
+    (called : HasCalled each count begun now s s') where
   -- at the bound of a step of the listing
   at_bound : StepCalls (largest_len now.shelf) now next s' s'' → s''.calls + digits next.part ≤ s'.calls + step_call_bound tries (largest_len shelf) + digits now.part
   at_bound calls =
@@ -109,7 +113,7 @@ module _ (tries behind each : ℕ) (shelf : Shelf) (begun now next : CursorState
       (subst (λ (t : ℕ). s''.calls + digits next.part ≤ s'.calls + step_call_bound t (largest_len now.shelf) + digits now.part) same_tries calls)
 
   -- behind a record, and what is asked for on account of it
-  pub called_more : (last : Seen) (row : Row) → IsStep now next s' s'' (Ok (Some row)) → last.calls ≤ s''.calls + behind → HasCalled each begun next s last
+  pub called_more : (last : Seen) (row : Row) → IsStep now next s' s'' (Ok (Some row)) → last.calls ≤ s''.calls + behind → HasCalled each (count + 1) begun next s last
   called_more last row step asked =
       let hands = step.leaves.1 in
       let more = one_id_more now next row hands in
@@ -117,9 +121,8 @@ module _ (tries behind each : ℕ) (shelf : Shelf) (begun now next : CursorState
       let most = hands.at_most in
       let calls = called.calls in
       let stepped = at_bound step.calls in
-      let one = one_bound_more called.rows each in
+      let one = one_bound_more count each in
       record {
-        rows = called.rows + 1;
         within = omega (arith, more, within);
         most = omega (arith, more, within, most);
         calls = subst (λ (n : ℕ). last.calls + digits next.part ≤ s.calls + n + digits begun.part) (sym one) (omega (arith, calls, stepped, asked, each_is));
@@ -138,7 +141,7 @@ module _ (tries behind each : ℕ) (shelf : Shelf) (begun now next : CursorState
     where
       quiet : 0 < begun.part → AsksNothing now → s''.calls + 1 ≤ s.calls + 65536 * each + digits begun.part
       quiet some asks =
-          let all = at_most_all called.rows each called.most in
+          let all = at_most_all count each called.most in
           let one = digits_some now.part (called.some some) in
           let calls = called.calls in
           let same = ap (λ (x : Seen). x.calls) (step.no_call asks) in omega (arith, all, calls, one, same)
@@ -146,8 +149,8 @@ module _ (tries behind each : ℕ) (shelf : Shelf) (begun now next : CursorState
       asked : set.len now.ids < 65536 → s''.calls + 1 ≤ s.calls + 65536 * each + digits begun.part
       asked room =
           let within = called.within in
-          let all = at_most_all (called.rows + 1) each (omega (arith, room, within)) in
-          let more = one_bound_more called.rows each in
+          let all = at_most_all (count + 1) each (omega (arith, room, within)) in
+          let more = one_bound_more count each in
           let calls = called.calls in
           let stepped = at_bound step.calls in
           let one = digits_some next.part step.same.part_not_zero in omega (arith, all, more, calls, stepped, one, each_is)

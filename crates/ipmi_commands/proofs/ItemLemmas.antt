@@ -1,5 +1,6 @@
 -- The items of a plan, one for each row, their texts, and the spots at which a run may stop.
-use Rattle.std.proofs.Common.{◌≡◌, ◌≢◌, inl, ℕ, zero, suc, ◌+◌, ◌<◌, ◌==◌, Bool, true, false, cond, Some, List, [], ◌∷◌, ◌++◌, length, take, drop, refl, sym, ap, subst, ◌∙◌, append_assoc, append-nil, arith}
+use Rattle.std.proofs.Common.{◌≡◌, ◌≢◌, inl, ℕ, zero, suc, ◌+◌, ◌-◌, ◌<◌, ◌≤◌, ◌==◌, Bool, true, false, cond, Option, None, Some, List, [], ◌∷◌, ◌++◌, length, take, drop, refl, sym, ap, subst, ◌∙◌, append_assoc, append-nil, arith}
+use Rattle.std.proofs.lemmas.List.{length-take-le}
 use Rattle.ipmi_bus.specs.declared.step.Place.{Place}
 use Rattle.ipmi_bus.specs.declared.step.Place.TheVariants.{First, Id, End}
 use Rattle.ipmi_bus.specs.Shelf.{Row, first_row}
@@ -8,7 +9,7 @@ use Rattle.ipmi_bus.specs.Walk.{WalkEnd, Done, CycleAt, MissingAt, EndsBy, place
 use Rattle.ipmi_bus.specs.Standing.{MayFail}
 use Rattle.ipmi_bus.specs.Step.{asked_at}
 use Rattle.ipmi_command_line.specs.declared.command.Task.{Task}
-use Rattle.ipmi_commands.specs.Plan.{IsRowPiece}
+use Rattle.ipmi_commands.specs.Listing.{passing, span_items, item_in, subject_in}
 use Rattle.ipmi_commands.specs.Plan.{Plan, Item, Spot, AtRecord, row_item, row_items, IsItemText, AreTexts, Printed, Outcome, IsAllowed, StopsAt, IsAmong, end_spots}
 use Rattle.ipmi_commands.specs.Plan as plan
 
@@ -51,13 +52,43 @@ none_printed t store old = record { text = []; are = refl; new_is = sym (append-
 pub one_printed : (t : Task) (store : Store) (item : Item) (text old new : List ℕ) → IsItemText t store item.subject text → new ≡ old ++ text → Printed t store (item ∷ []) old new
 one_printed t store item text old new is new_is = record { text = text; are = record { first = text; rest = []; is_first = is; is_rest = refl; joined = sym (append-nil text) }; new_is = new_is }
 
+-- ---- rows of which the first are passed
+
+-- of no rows there is no item
+pub span_none : (skip : Option ℕ) (t : Task) (start : Place) → span_items skip t start [] ≡ []
+span_none None t start = refl
+span_none (Some zero) t start = refl
+span_none (Some (suc n)) t start = refl
+
+-- the next one, and those after it
+pub span_next : (skip : Option ℕ) (t : Task) (start : Place) (row : Row) (rows : List Row) → span_items skip t start (row ∷ rows) ≡ item_in skip t start row ∷ span_items (passing skip 1) t (place_after row.next) rows
+span_next None t start row rows = refl
+span_next (Some zero) t start row rows = refl
+span_next (Some (suc n)) t start row rows = let fewer : n ≡ suc n - 1 = omega arith in ap (λ (m : ℕ). item_in (Some (suc n)) t start row ∷ span_items (Some m) t (place_after row.next) rows) fewer
+
+-- those of some rows, and of the rows after them
+pub span_joined : (skip : Option ℕ) (t : Task) (start : Place) (done rest : List Row) → span_items skip t start (done ++ rest) ≡ span_items skip t start done ++ span_items (passing skip (length done)) t (place_after_rows start done) rest
+span_joined None t start [] rest = refl
+span_joined None t start (d ∷ done) rest = ap (λ (l : List Item). item_in None t start d ∷ l) (span_joined None t (place_after d.next) done rest)
+span_joined (Some zero) t start done rest = let none : 0 ≡ 0 - length done = omega arith in items_joined t start done rest ∙ ap (λ (m : ℕ). row_items t start done ++ span_items (Some m) t (place_after_rows start done) rest) none
+span_joined (Some (suc n)) t start [] rest = let all : suc n ≡ suc n - 0 = omega arith in ap (λ (m : ℕ). span_items (Some m) t start rest) all
+span_joined (Some (suc n)) t start (d ∷ done) rest =
+    let fewer : n - length done ≡ suc n - suc (length done) = omega arith in
+    ap (λ (l : List Item). item_in (Some (suc n)) t start d ∷ l) (span_joined (Some n) t (place_after d.next) done rest)
+    ∙ ap (λ (m : ℕ). item_in (Some (suc n)) t start d ∷ (span_items (Some n) t (place_after d.next) done ++ span_items (Some m) t (place_after_rows (place_after d.next) done) rest)) fewer
+
 -- one row more
-pub printed_more : (t : Task) (store : Store) (start : Place) (walk : List Row) (k : ℕ) (row : Row) (text old new more : List ℕ) → first_row (drop k walk) ≡ Some row → Printed t store (row_items t start (take k walk)) old new → IsRowPiece t store row text → more ≡ new ++ text
-    → Printed t store (row_items t start (take (k + 1) walk)) old more
-printed_more t store start walk k row text old new more next printed is more_is =
-    let item = row_item t (place_after_rows start (take k walk)) row in
-    let items = ap (row_items t start) (one_taken walk k row next) ∙ items_joined t start (take k walk) (row ∷ []) in
-    subst (λ (l : List Item). Printed t store l old more) (sym items) (printed_joined t store (row_items t start (take k walk)) (item ∷ []) old new more printed (one_printed t store item text new more is more_is))
+pub printed_more : (skip : Option ℕ) (t : Task) (store : Store) (start : Place) (walk : List Row) (k : ℕ) (row : Row) (text old new more : List ℕ) → k ≤ length walk → first_row (drop k walk) ≡ Some row → Printed t store (span_items skip t start (take k walk)) old new
+    → IsItemText t store (subject_in (passing skip k) row) text → more ≡ new ++ text → Printed t store (span_items skip t start (take (k + 1) walk)) old more
+printed_more skip t store start walk k row text old new more within next printed is more_is =
+    let place = place_after_rows start (take k walk) in
+    let item = item_in (passing skip k) t place row in
+    let items : span_items skip t start (take (k + 1) walk) ≡ span_items skip t start (take k walk) ++ (item ∷ []) =
+    ap (span_items skip t start) (one_taken walk k row next)
+    ∙ span_joined skip t start (take k walk) (row ∷ [])
+    ∙ ap (λ (m : ℕ). span_items skip t start (take k walk) ++ span_items (passing skip m) t place (row ∷ [])) (length-take-le k walk within)
+    ∙ ap (λ (l : List Item). span_items skip t start (take k walk) ++ l) (span_next (passing skip k) t place row [] ∙ ap (λ (l : List Item). item ∷ l) (span_none (passing (passing skip k) 1) t (place_after row.next))) in
+    subst (λ (l : List Item). Printed t store l old more) (sym items) (printed_joined t store (span_items skip t start (take k walk)) (item ∷ []) old new more printed (one_printed t store item text new more is more_is))
 
 -- ---- plans
 
@@ -95,6 +126,7 @@ module _ (t : Task) (store : Store) (first : List Item) (p : Plan) (old text : L
     printed = printed_joined t store first allowed.done old text allowed.whole before allowed.printed;
     text = allowed.text;
     is_text = allowed.is_text;
+    some = allowed.some;
     bytes = allowed.bytes;
     new_is = allowed.new_is;
   }

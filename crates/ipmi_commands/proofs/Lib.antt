@@ -2,8 +2,11 @@ pub mod AskLemmas
 pub mod CallLemmas
 pub mod HexLemmas
 pub mod ItemLemmas
+pub mod LastLemmas
 pub mod ListingLemmas
+pub mod NameLemmas
 pub mod PageLemmas
 pub mod PagesLaw
+pub mod PerformLemmas
 pub mod PlanLemmas
 pub mod UniqueLemmas

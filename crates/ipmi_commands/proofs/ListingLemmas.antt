@@ -1,5 +1,5 @@
 -- A listing, one step of its cursor after another, and the piece of each record.
-use Rattle.std.proofs.Common.{◌≡◌, ◌≢◌, ◌⊎◌, inl, inr, ℕ, zero, suc, ◌+◌, ◌-◌, ◌<◌, ◌≤◌, ◌==◌, nat_le, nat_lt, Bool, true, false, cond, IsTrue, Option, None, Some, IsSome, Result, Ok, Err, List, [], ◌∷◌, ◌++◌, length, take, drop, refl, sym, ap, subst, ◌∙◌, arith}
+use Rattle.std.proofs.Common.{◌≡◌, ◌≢◌, ◌⊎◌, inl, inr, ℕ, zero, suc, ◌+◌, ◌-◌, ◌<◌, ◌≤◌, nat_le, nat_lt, Bool, true, false, cond, IsTrue, Option, None, Some, IsSome, Result, Ok, Err, List, [], ◌∷◌, ◌++◌, length, take, drop, refl, sym, ap, subst, ◌∙◌, arith}
 use Rattle.std.specs.FinSet as set
 use Rattle.std.proofs.lemmas.Bool.{ltb-false}
 use Rattle.std.proofs.lemmas.List.{take_all, length-take-le, take-append-drop}
@@ -21,47 +21,41 @@ use Rattle.ipmi_bus.specs.Step.{IsStep, StepLeaves, FailsAt, AsksNothing, Cursor
 use Rattle.ipmi_bus.specs.Tries.{WithinTries}
 use Rattle.ipmi_bus.specs.Seen.{stays_trans, stays_refl}
 use Rattle.ipmi_command_line.specs.declared.command.Task.{Task}
+use Rattle.ipmi_bus.specs.declared.inventory.FruEnded.TheVariants as fru
+use Rattle.ipmi_commands.specs.Pages.{IsStopped}
 use Rattle.ipmi_commands.specs.declared.stop.Stop.{Stop}
 use Rattle.ipmi_commands.specs.declared.stop.Stop.TheVariants as stop
-use Rattle.ipmi_commands.specs.Listing.{IsBelow, first_plan, IsOutcome, IsUnrefused, calls_for, calls_at_spots, FindsText, FindsNone, MayStopAt, IsLeft, after_one, HasListed, ListsHonest, IsListing}
+use Rattle.ipmi_commands.specs.declared.listing.Span.{Span}
+use Rattle.ipmi_commands.specs.Listing.{IsWithin, is_reached, passing, shown_rows, span_items, span_plan, item_in, subject_in, spots_in, stop_at_end, IsOutcome, IsUnrefused, calls_for, calls_at_spots, FindsText, FindsNone, MayStopAt, HasListed, ListsHonest, IsListing}
 use Rattle.ipmi_commands.specs.Plan.{first_rows, first_end}
-use Rattle.ipmi_commands.specs.Plan.{IsRowPiece}
-use Rattle.ipmi_commands.specs.Plan.{Plan, Item, Spot, AtRecord, WalkEnds, row_item, row_items, Printed, Outcome, IsAllowed, CountsSo, HasFreshTroubles, IsFine, IsAmong, StopsAt, spots_at, spots_after}
+use Rattle.ipmi_commands.specs.Plan.{Plan, Item, IsItemText, Spot, AtRecord, RunEnd, WalkEnds, run_end, done_end, Printed, Outcome, IsAllowed, CountsSo, HasFreshTroubles, IsFine, IsAmong, StopsAt, spots_at, spots_after}
 use Rattle.ipmi_command_line.specs.Task.{shelf_of}
 use Rattle.ipmi_commands.specs.Plan as plan
-use Rattle.ipmi_commands.proofs.CallLemmas.{digits_some, one_id_more, calls_upto, calls_within, calls_more}
-use Rattle.ipmi_commands.proofs.ItemLemmas.{items_joined, none_printed, printed_more, row_there, end_spot}
+use Rattle.ipmi_commands.proofs.CallLemmas.{IsBelow, digits_some, one_id_more, calls_upto, calls_within, calls_more}
+use Rattle.ipmi_commands.proofs.ItemLemmas.{span_joined, span_next, span_none, none_printed, printed_more, row_there, end_spot}
+use Rattle.ipmi_commands.proofs.NameLemmas.{Wrote, done_by, done_is, end_is}
 use Rattle.ipmi_commands.specs.Plan.{request}
 use Rattle.ipmi_commands.specs.Listing.{course}
 
 -- ---- limits
 
--- none is left where as many were listed as are wanted
-at_limit : (most : Option ℕ) (count : ℕ) (left : Option ℕ) → IsLeft most count left → after_one left ≡ None → most ≡ Some count
-at_limit None count left wanted none = let h = sym (ap after_one wanted) ∙ none in cc h
-at_limit (Some n) count left wanted none = ap Some (reached wanted.0 (sym (ap after_one wanted.1) ∙ none) wanted.2)
-  where
-    reached : (m : ℕ) → after_one (Some m) ≡ None → count + m ≡ n → n ≡ count
-    reached m e sum = by_case (m == 0) refl
-      where
-        by_case : (b : Bool) → (m == 0) ≡ b → n ≡ count
-        by_case true z = let none_left : m ≡ 0 = search arith in omega (arith, sum, none_left)
-        by_case false z = let h = sym (ap (λ (b : Bool). cond b None (Some (Some (m - 1)))) z) ∙ e in cc h
+-- as many were listed as are wanted
+at_limit : (most : Option ℕ) (count : ℕ) → is_reached most count ≡ true → most ≡ Some count
+at_limit None count reached = cc reached
+at_limit (Some n) count reached = let same : n ≡ count = search arith in ap Some same
 
--- else one more is wanted
-one_left : (most : Option ℕ) (count : ℕ) (left rest : Option ℕ) → IsLeft most count left → after_one left ≡ Some rest → IsBelow most count × IsLeft most (count + 1) rest
-one_left None count left rest wanted more = let h : None ≡ rest = (let e = sym (ap after_one wanted) ∙ more in cc e) in (tt, sym h)
-one_left (Some n) count left rest wanted more = fewer wanted.0 (sym (ap after_one wanted.1) ∙ more) wanted.2
-  where
-    fewer : (m : ℕ) → after_one (Some m) ≡ Some rest → count + m ≡ n → (count < n) × IsLeft (Some n) (count + 1) rest
-    fewer m e sum = by_case (m == 0) refl
-      where
-        by_case : (b : Bool) → (m == 0) ≡ b → (count < n) × IsLeft (Some n) (count + 1) rest
-        by_case true z = let h = sym (ap (λ (b : Bool). cond b None (Some (Some (m - 1)))) z) ∙ e in cc h
-        by_case false z =
-            let h = sym (ap (λ (b : Bool). cond b None (Some (Some (m - 1)))) z) ∙ e in
-            let is : Some (m - 1) ≡ rest = cc h in
-            let some_left : 0 < m = search arith in (omega (arith, sum, some_left), (m - 1, sym is, omega (arith, sum, some_left)))
+-- otherwise one more is wanted
+one_wanted : (most : Option ℕ) (count : ℕ) → IsWithin most count → is_reached most count ≡ false → IsBelow most count
+one_wanted None count within more = tt
+one_wanted (Some n) count within more = let below : count < n = search arith in below
+
+pub within_more : (most : Option ℕ) (count : ℕ) → IsWithin most count → is_reached most count ≡ false → IsWithin most (count + 1)
+within_more None count within more = tt
+within_more (Some n) count within more = let below = one_wanted (Some n) count within more in omega (arith, below)
+
+pub none_within : (most : Option ℕ) → IsWithin most 0
+none_within None = tt
+none_within (Some n) = omega arith
 
 -- all rows are wanted where more are wanted than there are
 all_rows : (most : Option ℕ) (walk : List Row) → IsBelow most (length walk) → first_rows most walk ≡ walk
@@ -104,6 +98,26 @@ rows_wanted (Some n) k walk below = within n k walk below
     within zero k (first ∷ walk) below = absurd (omega (arith, below))
     within (suc n) zero (first ∷ walk) below = refl
     within (suc n) (suc k) (first ∷ walk) below = ap (λ (l : List Row). first ∷ l) (within n k walk (omega (arith, below)))
+
+-- ---- how it stopped
+
+-- one that is not done did not stop by that
+pub stopped_otherwise : (result : Stop) (outcome : Outcome) → IsStopped result → IsOutcome result outcome → outcome ≡ plan.Finished (WalkEnds Done) → ⊥
+stopped_otherwise stop.Done outcome stopped is done = cc stopped
+stopped_otherwise stop.NoName outcome stopped is done = let h = sym is ∙ done in cc h
+stopped_otherwise stop.NoInfo outcome stopped is done = let h = sym is ∙ done in cc h
+stopped_otherwise (stop.Inventory id fru.GaveUp) outcome stopped is done = let h = sym is ∙ done in cc h
+stopped_otherwise (stop.Inventory id fru.Memory) outcome stopped is done = let h = sym is ∙ done in cc h
+stopped_otherwise (stop.Inventory id (fru.Refused code)) outcome stopped is done = let h = sym is ∙ done in cc h
+stopped_otherwise (stop.Inventory id _) outcome stopped is done = is
+stopped_otherwise (stop.Ended (Cycle n)) outcome stopped is done = let h = sym is ∙ done in cc h
+stopped_otherwise (stop.Ended (Missing n)) outcome stopped is done = let h = sym is ∙ done in cc h
+stopped_otherwise (stop.Ended (GaveUp n)) outcome stopped is done = let h = sym is ∙ done in cc h
+stopped_otherwise (stop.Ended (Refused n code)) outcome stopped is done = let h = sym is ∙ done in cc h
+stopped_otherwise (stop.Ended (Stalled n)) outcome stopped is done = is
+stopped_otherwise (stop.Ended (Malformed n)) outcome stopped is done = is
+stopped_otherwise stop.Memory outcome stopped is done = let h = sym is ∙ done in cc h
+stopped_otherwise stop.WriteFault outcome stopped is done = let h = sym is ∙ done in cc h
 
 -- ---- what was counted
 
@@ -148,112 +162,124 @@ none_left most k walk below none = by_case (nat_lt k (length walk)) refl
     by_case true e = let there = row_there walk k (search arith) in let h = sym (next_wanted most k walk there.0 below there.1) ∙ ap first_row none in cc h
     by_case false e = ltb-false k (length walk) e
 
--- the items of the first ones, and of what is wanted behind them
-items_split : (t : Task) (start : Place) (most : Option ℕ) (k : ℕ) (walk : List Row) → IsBelow most k
-    → row_items t start (first_rows most walk) ≡ row_items t start (take k walk) ++ row_items t (place_after_rows start (take k walk)) (drop k (first_rows most walk))
-items_split t start most k walk below =
-    ap (row_items t start) (sym (take-append-drop k (first_rows most walk)))
-    ∙ items_joined t start (take k (first_rows most walk)) (drop k (first_rows most walk))
-    ∙ ap (λ (l : List Row). row_items t start l ++ row_items t (place_after_rows start l) (drop k (first_rows most walk))) (rows_wanted most k walk below)
+-- the items of the first ones, and of what is wanted after them
+items_split : (n : Option ℕ) (t : Task) (start : Place) (most : Option ℕ) (k : ℕ) (walk : List Row) → IsBelow most k → k ≤ length walk
+    → span_items n t start (first_rows most walk) ≡ span_items n t start (take k walk) ++ span_items (passing n k) t (place_after_rows start (take k walk)) (drop k (first_rows most walk))
+items_split n t start most k walk below within =
+    ap (span_items n t start) (sym (take-append-drop k (first_rows most walk)))
+    ∙ span_joined n t start (take k (first_rows most walk)) (drop k (first_rows most walk))
+    ∙ ap (λ (l : List Row). span_items n t start l ++ span_items (passing n (length l)) t (place_after_rows start l) (drop k (first_rows most walk))) (rows_wanted most k walk below)
+    ∙ ap (λ (m : ℕ). span_items n t start (take k walk) ++ span_items (passing n m) t (place_after_rows start (take k walk)) (drop k (first_rows most walk))) (length-take-le k walk within)
 
-next_split : (t : Task) (start : Place) (most : Option ℕ) (k : ℕ) (walk : List Row) (row : Row) → IsBelow most k → first_row (drop k walk) ≡ Some row
-    → (rest : List Item) × (row_items t start (first_rows most walk) ≡ row_items t start (take k walk) ++ (row_item t (place_after_rows start (take k walk)) row ∷ rest))
-next_split t start most k walk row below next = by_rest (drop k (first_rows most walk)) refl
+next_split : (n : Option ℕ) (t : Task) (start : Place) (most : Option ℕ) (k : ℕ) (walk : List Row) (row : Row) → IsBelow most k → k ≤ length walk → first_row (drop k walk) ≡ Some row
+    → (rest : List Item) × (span_items n t start (first_rows most walk) ≡ span_items n t start (take k walk) ++ (item_in (passing n k) t (place_after_rows start (take k walk)) row ∷ rest))
+next_split n t start most k walk row below within next = by_rest (drop k (first_rows most walk)) refl
   where
     place : Place
     place = place_after_rows start (take k walk)
 
-    by_rest : (l : List Row) → drop k (first_rows most walk) ≡ l → (rest : List Item) × (row_items t start (first_rows most walk) ≡ row_items t start (take k walk) ++ (row_item t (place_after_rows start (take k walk)) row ∷ rest))
+    by_rest : (l : List Row) → drop k (first_rows most walk) ≡ l → (rest : List Item) × (span_items n t start (first_rows most walk) ≡ span_items n t start (take k walk) ++ (item_in (passing n k) t (place_after_rows start (take k walk)) row ∷ rest))
     by_rest [] is = let h = sym (next_wanted most k walk row below next) ∙ ap first_row is in cc h
     by_rest (first ∷ l) is =
         let h = sym (ap first_row is) ∙ next_wanted most k walk row below next in
         let same : first ≡ row = cc h in (
-          row_items t (place_after first.next) l,
-          items_split t start most k walk below
-              ∙ ap (λ (rows : List Row). row_items t start (take k walk) ++ row_items t place rows) is
-              ∙ ap (λ (r : Row). row_items t start (take k walk) ++ (row_item t place r ∷ row_items t (place_after first.next) l)) same,
+          span_items (passing (passing n k) 1) t (place_after first.next) l,
+          items_split n t start most k walk below within
+              ∙ ap (λ (rows : List Row). span_items n t start (take k walk) ++ span_items (passing n k) t place rows) is
+              ∙ ap (λ (items : List Item). span_items n t start (take k walk) ++ items) (span_next (passing n k) t place first l)
+              ∙ ap (λ (r : Row). span_items n t start (take k walk) ++ (item_in (passing n k) t place r ∷ span_items (passing (passing n k) 1) t (place_after first.next) l)) same,
         )
 
 -- ---- what is left at a place of the walk
 
-module _ (t : Task) (store : Store) (start : Place) (walk : List Row) (end : WalkEnd) (most : Option ℕ) (old new : List ℕ) (k : ℕ) (below : IsBelow most k) (within : k ≤ length walk) (printed : Printed t store (row_items t start (take k walk)) old new) where
-  finished : (e : WalkEnd) → k ≡ length walk → end ≡ e → IsAllowed t store (first_plan most t start walk end) old new (plan.Finished (WalkEnds e))
-  finished e at is =
-      let all_below = subst (IsBelow most) at below in
-      (subst (λ (l : List Row). Printed t store (row_items t start l) old new) (take_all k walk (omega (arith, at)) ∙ sym (all_rows most walk all_below)) printed, sym (ap WalkEnds (all_end most walk end all_below ∙ is)))
+module _ (t : Task) (store : Store) (start : Place) (walk : List Row) (end : WalkEnd) (span : Span) (old new : List ℕ) (k : ℕ) (below : IsBelow span.most k) (within : k ≤ length walk) (printed : Printed t store (span_items span.skip t start (take k walk)) old new) where
+  finished : (e : WalkEnd) (run : RunEnd) → k ≡ length walk → end ≡ e → run ≡ run_end t (shown_rows span.skip (take k walk)) e → IsAllowed t store (span_plan span t start walk end) old new (plan.Finished run)
+  finished e run at is ends =
+      let all_below = subst (IsBelow span.most) at below in
+      let rows : take k walk ≡ first_rows span.most walk = take_all k walk (omega (arith, at)) ∙ sym (all_rows span.most walk all_below) in (
+        subst (λ (l : List Row). Printed t store (span_items span.skip t start l) old new) rows printed,
+        ends ∙ ap (λ (l : List Row). run_end t (shown_rows span.skip l) e) rows ∙ ap (run_end t (shown_rows span.skip (first_rows span.most walk))) (sym (all_end span.most walk end all_below ∙ is)),
+      )
 
   -- the id that is asked for next is a spot of what comes next
   asked_spot : EndsBy (rows_of (shelf_of t) store) start walk end → (k ≡ length walk → MayFail end (place_after_rows start (take k walk)))
-      → IsAmong (spots_at (row_items t (place_after_rows start (take k walk)) (drop k (first_rows most walk))) (plan.end_spots start walk (first_end most walk end))) (AtRecord (asked_at (place_after_rows start (take k walk))))
-  asked_spot ends may = by_rest (drop k (first_rows most walk)) refl
+      → IsAmong (spots_at (span_items (passing span.skip k) t (place_after_rows start (take k walk)) (drop k (first_rows span.most walk))) (plan.end_spots start walk (first_end span.most walk end))) (AtRecord (asked_at (place_after_rows start (take k walk))))
+  asked_spot ends may = by_rest (drop k (first_rows span.most walk)) refl
     where
-      by_rest : (l : List Row) → drop k (first_rows most walk) ≡ l
-          → IsAmong (spots_at (row_items t (place_after_rows start (take k walk)) l) (plan.end_spots start walk (first_end most walk end))) (AtRecord (asked_at (place_after_rows start (take k walk))))
-      by_rest (row ∷ l) is = inl refl
+      place : Place
+      place = place_after_rows start (take k walk)
+
+      by_rest : (l : List Row) → drop k (first_rows span.most walk) ≡ l
+          → IsAmong (spots_at (span_items (passing span.skip k) t place l) (plan.end_spots start walk (first_end span.most walk end))) (AtRecord (asked_at place))
+      by_rest (row ∷ l) is = subst (λ (items : List Item). IsAmong (spots_at items (plan.end_spots start walk (first_end span.most walk end))) (AtRecord (asked_at place))) (sym (span_next (passing span.skip k) t place row l)) (inl refl)
       by_rest [] is =
-          let past = none_left most k walk below is in
+          let past = none_left span.most k walk below is in
           let at : k ≡ length walk = omega (arith, past, within) in
           let whole = take_all k walk past in
-          subst (λ (e : WalkEnd). IsAmong (plan.end_spots start walk e) (AtRecord (asked_at (place_after_rows start (take k walk))))) (sym (all_end most walk end (subst (IsBelow most) at below)))
+          subst (λ (items : List Item). IsAmong (spots_at items (plan.end_spots start walk (first_end span.most walk end))) (AtRecord (asked_at place))) (sym (span_none (passing span.skip k) t place))
+          (subst (λ (e : WalkEnd). IsAmong (plan.end_spots start walk e) (AtRecord (asked_at place))) (sym (all_end span.most walk end (subst (IsBelow span.most) at below)))
           (subst (λ (rows : List Row). IsAmong (plan.end_spots start walk end) (AtRecord (asked_at (place_after_rows start rows)))) (sym whole)
-          (end_spot (rows_of (shelf_of t) store) start walk end ends (subst (λ (rows : List Row). MayFail end (place_after_rows start rows)) whole (may at))))
+          (end_spot (rows_of (shelf_of t) store) start walk end ends (subst (λ (rows : List Row). MayFail end (place_after_rows start rows)) whole (may at)))))
 
   stops_there : (n : ℕ) → n ≡ asked_at (place_after_rows start (take k walk)) → EndsBy (rows_of (shelf_of t) store) start walk end → (k ≡ length walk → MayFail end (place_after_rows start (take k walk)))
-      → StopsAt (AtRecord n) t store (first_plan most t start walk end) old new
+      → StopsAt (AtRecord n) t store (span_plan span t start walk end) old new
   stops_there n asked ends may = record {
-    done = row_items t start (take k walk);
-    rest = row_items t (place_after_rows start (take k walk)) (drop k (first_rows most walk));
-    items_are = items_split t start most k walk below;
+    done = span_items span.skip t start (take k walk);
+    rest = span_items (passing span.skip k) t (place_after_rows start (take k walk)) (drop k (first_rows span.most walk));
+    items_are = items_split span.skip t start span.most k walk below within;
     printed = printed;
-    there = subst (λ (m : ℕ). IsAmong (spots_at (row_items t (place_after_rows start (take k walk)) (drop k (first_rows most walk))) (plan.end_spots start walk (first_end most walk end))) (AtRecord m)) (sym asked) (asked_spot ends may);
+    there = subst (λ (m : ℕ). IsAmong (spots_at (span_items (passing span.skip k) t (place_after_rows start (take k walk)) (drop k (first_rows span.most walk))) (plan.end_spots start walk (first_end span.most walk end))) (AtRecord m)) (sym asked) (asked_spot ends may);
   }
 
 -- ---- a record that was handed out, before its piece
 
-pub record TakenAlong (t : Task) (tries : ℕ) (store : Store) (start : Place) (walk : List Row) (most rest : Option ℕ) (begun next : CursorState) (s s' : Seen) (old new : List ℕ) (row : Row) : Type 0 where
-  pub count : ℕ
-  pub below : IsBelow most count
-  pub wanted : IsLeft most (count + 1) rest
+pub record TakenAlong (t : Task) (tries : ℕ) (store : Store) (start : Place) (walk : List Row) (span : Span) (count : ℕ) (begun next : CursorState) (s s' : Seen) (old new : List ℕ) (row : Row) : Type 0 where
+  pub within : count ≤ length walk
   pub next_row : first_row (drop count walk) ≡ Some row
   pub stands : StandsAt (rows_of (shelf_of t) store) start walk (count + 1) next
-  pub printed : Printed t store (row_items t start (take count walk)) old new
+  pub printed : Printed t store (span_items span.skip t start (take count walk)) old new
   pub calls : s'.calls + digits next.part ≤ s.calls + calls_for t store tries (take count walk) + step_call_bound tries (length row.bytes) + digits begun.part
 
-pub record Taken (t : Task) (tries : ℕ) (most rest : Option ℕ) (begun next : CursorState) (s s' : Seen) (old new : List ℕ) (row : Row) : Type 0 where
+pub record Taken (t : Task) (tries : ℕ) (span : Span) (count : ℕ) (begun next : CursorState) (s s' : Seen) (old new : List ℕ) (row : Row) : Type 0 where
   pub stays : StaysHonest s s'
   pub unrefused : IsUnrefused s s'
+  pub below : IsBelow span.most count
   pub some : 0 < next.part
   pub along : s'.stores_added ≡ s.stores_added → (start : Place) (walk : List Row) (end : WalkEnd) → IsWalk (rows_of (shelf_of t) s.store) start walk → EndsBy (rows_of (shelf_of t) s.store) start walk end
-      → StandsAt (rows_of (shelf_of t) s.store) start walk 0 begun → TakenAlong t tries s.store start walk most rest begun next s s' old new row
+      → StandsAt (rows_of (shelf_of t) s.store) start walk 0 begun → TakenAlong t tries s.store start walk span count begun next s s' old new row
   pub plain : IsTrue s.plain → CursorHoldsCurrent begun s → CursorHoldsCurrent next s'
 
 -- ---- one step
 
-module _ (t : Task) (tries : ℕ) (most left : Option ℕ) (begun now : CursorState) (s s' : Seen) (old new : List ℕ) (shelf : now.shelf ≡ shelf_of t) (same_tries : now.tries ≡ tries) (some : 0 < begun.part → 0 < now.part) (honest : IsHonest s)
-    (lists : ListsHonest t tries most left (course begun now s s' old new)) where
+module _ (t : Task) (tries : ℕ) (span : Span) (count : ℕ) (begun now : CursorState) (s s' : Seen) (old new : List ℕ) (wrote : Bool) (shelf : now.shelf ≡ shelf_of t) (same_tries : now.tries ≡ tries) (some : 0 < begun.part → 0 < now.part) (within : IsWithin span.most count)
+    (has_written : Wrote wrote old new) (honest : IsHonest s) (lists : ListsHonest t tries span count (course begun now s s' old new)) where
   -- as many were listed as are wanted
-  pub listing_full : after_one left ≡ None → IsListing t tries most (course begun now s s' old new) stop.Done
-  listing_full none = record {
-    outcome = plan.Finished (WalkEnds Done);
-    outcome_is = refl;
+  pub listing_full : is_reached span.most count ≡ true → IsListing t tries span (course begun now s s' old new) (record { stop = stop_at_end t wrote; count = count })
+  listing_full full = record {
+    outcome = plan.Finished (done_by t wrote);
+    outcome_is = end_is t wrote;
     stays = lists.stays;
     counts = lists.unrefused.refusals;
     grows = lists.unrefused.troubles;
     along = λ same start walk end w ends stands.
         let listed = lists.listed same start walk end w ends stands in
-        let reached = at_limit most listed.count left listed.wanted none in
-        let first : first_rows most walk ≡ take listed.count walk = ap (λ (o : Option ℕ). first_rows o walk) reached in
-        let long : length (first_rows most walk) ≡ listed.count = ap (λ (l : List Row). length l) first ∙ length-take-le listed.count walk listed.stands.within in
+        let reached = at_limit span.most count full in
+        let first : first_rows span.most walk ≡ take count walk = ap (λ (o : Option ℕ). first_rows o walk) reached in
+        let long : length (first_rows span.most walk) ≡ count = ap (λ (l : List Row). length l) first ∙ length-take-le count walk listed.stands.within in
+        let done : first_end span.most walk end ≡ Done = ap (λ (o : Option ℕ). first_end o walk end) reached ∙ limit_end count walk end listed.stands.within in
         let calls = listed.calls in
         record {
           leaves = (
-            subst (λ (l : List Row). Printed t s.store (row_items t start l) old new) (sym first) listed.printed,
-            sym (ap WalkEnds (ap (λ (o : Option ℕ). first_end o walk end) reached ∙ limit_end listed.count walk end listed.stands.within)),
+            subst (λ (l : List Row). Printed t s.store (span_items span.skip t start l) old new) (sym first) listed.printed,
+            done_is t wrote s.store span.skip start (take count walk) old new listed.printed has_written
+                ∙ ap (λ (l : List Row). done_end t (shown_rows span.skip l)) (sym first)
+                ∙ ap (run_end t (shown_rows span.skip (first_rows span.most walk))) (sym done),
           );
           calls = λ part.
               let one = digits_some now.part (some part) in
               let same_calls = ap (calls_for t s.store tries) first in omega (arith, calls, one, same_calls);
           goes_on = λ done. subst (λ (n : ℕ). StandsAt (rows_of (shelf_of t) s.store) start walk n now) (sym long) listed.stands;
+          count = λ done. sym long;
         };
     plain = λ p holds. tt;
   }
@@ -275,18 +301,18 @@ module _ (t : Task) (tries : ℕ) (most left : Option ℕ) (begun now : CursorSt
     same_rows same = ap (λ (x : Shelf). rows_of x s'.store) shelf ∙ ap (rows_of (shelf_of t)) (lists.stays.store.stays (first same))
 
     module _ (same : s''.stores_added ≡ s.stores_added) (start : Place) (walk : List Row) (end : WalkEnd) (w : IsWalk (rows_of (shelf_of t) s.store) start walk) (ends : EndsBy (rows_of (shelf_of t) s.store) start walk end)
-        (listed : HasListed (request t start tries) s.store walk most left (course begun now s s' old new)) where
+        (listed : HasListed (request t start tries) s.store walk span count (course begun now s s' old new)) where
       -- the step along the walk of the listing
-      along : WalkStep (rows_of (shelf_of t) s.store) start walk end listed.count now next result
+      along : WalkStep (rows_of (shelf_of t) s.store) start walk end count now next result
       along =
-          subst (λ (rows : List Row). IsWalk rows start walk → EndsBy rows start walk end → StandsAt rows start walk listed.count now → WalkStep rows start walk end listed.count now next result) (same_rows same)
-          (λ w ends stands. (step.walks lists.stays.honest).follows (second same) start walk end listed.count w ends stands) w ends listed.stands
+          subst (λ (rows : List Row). IsWalk rows start walk → EndsBy rows start walk end → StandsAt rows start walk count now → WalkStep rows start walk end count now next result) (same_rows same)
+          (λ w ends stands. (step.walks lists.stays.honest).follows (second same) start walk end count w ends stands) w ends listed.stands
 
       -- it asks for the next row, or for none, or asks nothing
-      asks : AsksNothing now ⊎ (len_of (look (rows_of (shelf_of t) s.store) (asked_at now.place)) ≡ len_of (first_row (drop listed.count walk)))
+      asks : AsksNothing now ⊎ (len_of (look (rows_of (shelf_of t) s.store) (asked_at now.place)) ≡ len_of (first_row (drop count walk)))
       asks =
-          subst (λ (rows : List Row). IsWalk rows start walk → EndsBy rows start walk end → StandsAt rows start walk listed.count now → AsksNothing now ⊎ (len_of (look rows (asked_at now.place)) ≡ len_of (first_row (drop listed.count walk)))) (same_rows same)
-          (λ w ends stands. step.asks lists.stays.honest start walk end listed.count w ends stands) w ends listed.stands
+          subst (λ (rows : List Row). IsWalk rows start walk → EndsBy rows start walk end → StandsAt rows start walk count now → AsksNothing now ⊎ (len_of (look rows (asked_at now.place)) ≡ len_of (first_row (drop count walk)))) (same_rows same)
+          (λ w ends stands. step.asks lists.stays.honest start walk end count w ends stands) w ends listed.stands
 
       bound : s''.calls + digits next.part ≤ s'.calls + step_call_bound tries (len_of (look (rows_of (shelf_of t) s.store) (asked_at now.place))) + digits now.part
       bound =
@@ -295,27 +321,28 @@ module _ (t : Task) (tries : ℕ) (most left : Option ℕ) (begun now : CursorSt
           ((step.honest lists.stays.honest).calls (second same)))
 
       -- for as many calls as the next row, or none, may take
-      for_next : len_of (look (rows_of (shelf_of t) s.store) (asked_at now.place)) ≡ len_of (first_row (drop listed.count walk))
-          → s''.calls + digits next.part ≤ s'.calls + step_call_bound tries (len_of (first_row (drop listed.count walk))) + digits now.part
+      for_next : len_of (look (rows_of (shelf_of t) s.store) (asked_at now.place)) ≡ len_of (first_row (drop count walk))
+          → s''.calls + digits next.part ≤ s'.calls + step_call_bound tries (len_of (first_row (drop count walk))) + digits now.part
       for_next is = subst (λ (n : ℕ). s''.calls + digits next.part ≤ s'.calls + step_call_bound tries n + digits now.part) is bound
 
       -- and so all of the listing
-      in_all : IsBelow most listed.count → 0 < begun.part → s''.calls + 1 ≤ s.calls + calls_for t s.store tries (first_rows most walk) + step_call_bound tries 0 + digits begun.part
+      in_all : IsBelow span.most count → 0 < begun.part → s''.calls + 1 ≤ s.calls + calls_for t s.store tries (first_rows span.most walk) + step_call_bound tries 0 + digits begun.part
       in_all below part =
-          let upto = calls_upto t s.store tries most listed.count walk below in
+          let upto = calls_upto t s.store tries span.most count walk below in
           let calls = listed.calls in
           elim asks [
             | inl nothing ↦ let same_calls = ap (λ (x : Seen). x.calls) (step.no_call nothing) in let one = digits_some now.part (some part) in omega (arith, upto, calls, same_calls, one)
             | inr is ↦ let one = digits_some next.part step.same.part_not_zero in let stepped = for_next is in omega (arith, upto, calls, stepped, one)
           ]
 
-    module _ (rest : Option ℕ) (wanted : after_one left ≡ Some rest) (outcome : Outcome) (st : Stop) (is : IsOutcome st outcome) (unrefused : CountsSo tries s s'' outcome) (grows : s.troubles ≤ s''.troubles) where
+    module _ (below : IsBelow span.most count) (outcome : Outcome) (st : Stop) (is : IsOutcome st outcome) (unrefused : CountsSo tries s s'' outcome) (grows : s.troubles ≤ s''.troubles) where
       -- the walk is at its end
-      at_end : (e : WalkEnd) → outcome ≡ plan.Finished (WalkEnds e)
+      at_end : (e : WalkEnd) (run : RunEnd) → outcome ≡ plan.Finished run
+          → ((store : Store) (start : Place) (walk : List Row) → Printed t store (span_items span.skip t start (take count walk)) old new → run ≡ run_end t (shown_rows span.skip (take count walk)) e)
           → ((same : s''.stores_added ≡ s.stores_added) (start : Place) (walk : List Row) (end : WalkEnd) → IsWalk (rows_of (shelf_of t) s.store) start walk → EndsBy (rows_of (shelf_of t) s.store) start walk end
-          → (listed : HasListed (request t start tries) s.store walk most left (course begun now s s' old new)) → (listed.count ≡ length walk) × (end ≡ e) × StandsAt (rows_of (shelf_of t) s.store) start walk listed.count next)
-          → IsListing t tries most (course begun next s s'' old new) st
-      at_end e finish ended = record {
+          → (listed : HasListed (request t start tries) s.store walk span count (course begun now s s' old new)) → (count ≡ length walk) × (end ≡ e) × StandsAt (rows_of (shelf_of t) s.store) start walk count next)
+          → IsListing t tries span (course begun next s s'' old new) (record { stop = st; count = count })
+      at_end e run finish ends_so ended = record {
         outcome = outcome;
         outcome_is = is;
         stays = stays;
@@ -323,14 +350,14 @@ module _ (t : Task) (tries : ℕ) (most left : Option ℕ) (begun now : CursorSt
         grows = grows;
         along = λ same start walk end w ends stands.
             let listed = lists.listed (first same) start walk end w ends stands in
-            let below = (one_left most listed.count left rest listed.wanted wanted).0 in
             let there = ended same start walk end w ends listed in
+            let all = ap (λ (l : List Row). length l) (all_rows span.most walk (subst (IsBelow span.most) there.0 below)) in
             record {
-              leaves = subst (λ (o : Outcome). IsAllowed t s.store (first_plan most t start walk end) old new o) (sym finish) (finished t s.store start walk end most old new listed.count below listed.stands.within listed.printed e there.0 there.1);
+              leaves = subst (λ (o : Outcome). IsAllowed t s.store (span_plan span t start walk end) old new o) (sym finish)
+                  (finished t s.store start walk end span old new count below listed.stands.within listed.printed e run there.0 there.1 (ends_so s.store start walk listed.printed));
               calls = λ part. in_all same start walk end w ends listed below part;
-              goes_on = λ done.
-                  let all = ap (λ (l : List Row). length l) (all_rows most walk (subst (IsBelow most) there.0 below)) in
-                  subst (λ (n : ℕ). StandsAt (rows_of (shelf_of t) s.store) start walk n next) (there.0 ∙ sym all) there.2;
+              goes_on = λ done. subst (λ (n : ℕ). StandsAt (rows_of (shelf_of t) s.store) start walk n next) (there.0 ∙ sym all) there.2;
+              count = λ done. there.0 ∙ sym all;
             };
         plain = λ p holds. subst IsFine (sym finish) tt;
       }
@@ -338,8 +365,8 @@ module _ (t : Task) (tries : ℕ) (most left : Option ℕ) (begun now : CursorSt
       -- nothing came for the id that is asked for
       failed : (n : ℕ) → ((store : Store) (p : Plan) → StopsAt (AtRecord n) t store p old new → IsAllowed t store p old new outcome) → FailsAt n now next → (st ≡ stop.Done → ⊥) → (IsTrue s.plain → CursorHoldsCurrent begun s → IsFine outcome)
           → ((same : s''.stores_added ≡ s.stores_added) (start : Place) (walk : List Row) (end : WalkEnd) → IsWalk (rows_of (shelf_of t) s.store) start walk → EndsBy (rows_of (shelf_of t) s.store) start walk end
-          → (listed : HasListed (request t start tries) s.store walk most left (course begun now s s' old new)) → listed.count ≡ length walk → MayFail end now.place)
-          → IsListing t tries most (course begun next s s'' old new) st
+          → (listed : HasListed (request t start tries) s.store walk span count (course begun now s s' old new)) → count ≡ length walk → MayFail end now.place)
+          → IsListing t tries span (course begun next s s'' old new) (record { stop = st; count = count })
       failed n allowed fails not_done plain may = record {
         outcome = outcome;
         outcome_is = is;
@@ -348,42 +375,46 @@ module _ (t : Task) (tries : ℕ) (most left : Option ℕ) (begun now : CursorSt
         grows = grows;
         along = λ same start walk end w ends stands.
             let listed = lists.listed (first same) start walk end w ends stands in
-            let below = (one_left most listed.count left rest listed.wanted wanted).0 in
-            let place = on_walk (rows_of (shelf_of t) s.store) start now.place (place_after_rows start (take listed.count walk)) listed.stands.place fails.not_at_end in
+            let place = on_walk (rows_of (shelf_of t) s.store) start now.place (place_after_rows start (take count walk)) listed.stands.place fails.not_at_end in
             record {
-              leaves = allowed s.store (first_plan most t start walk end)
-                  (stops_there t s.store start walk end most old new listed.count below listed.stands.within listed.printed n (fails.asked ∙ ap asked_at place) ends
+              leaves = allowed s.store (span_plan span t start walk end)
+                  (stops_there t s.store start walk end span old new count below listed.stands.within listed.printed n (fails.asked ∙ ap asked_at place) ends
                   (λ at. subst (λ (x : Place). MayFail end x) place (may same start walk end w ends listed at)));
               calls = λ part. in_all same start walk end w ends listed below part;
               goes_on = λ done. absurd (not_done done);
+              count = λ done. absurd (not_done done);
             };
         plain = plain;
       }
 
-  module _ (next : CursorState) (s'' : Seen) (rest : Option ℕ) (wanted : after_one left ≡ Some rest) where
-    pub listing_done : IsStep now next s' s'' (Ok None) → IsListing t tries most (course begun next s s'' old new) stop.Done
+  module _ (next : CursorState) (s'' : Seen) (wanted : is_reached span.most count ≡ false) where
+    below : IsBelow span.most count
+    below = one_wanted span.most count within wanted
+
+    pub listing_done : IsStep now next s' s'' (Ok None) → IsListing t tries span (course begun next s s'' old new) (record { stop = stop_at_end t wrote; count = count })
     listing_done step =
         let counted = unrefused_more now.tries s s' s'' lists.unrefused (step.honest lists.stays.honest).answers.0 in
-        at_end next s'' (Ok None) step rest wanted (plan.Finished (WalkEnds Done)) stop.Done refl counted.refusals counted.troubles Done refl
+        at_end next s'' (Ok None) step below (plan.Finished (done_by t wrote)) (stop_at_end t wrote) (end_is t wrote) counted.refusals counted.troubles Done (done_by t wrote) refl
+        (λ store start walk printed. done_is t wrote store span.skip start (take count walk) old new printed has_written)
         (λ same start walk end w ends listed. along next s'' (Ok None) step same start walk end w ends listed)
 
     -- the cursor gave no record, for this reason
-    pub listing_ended : (ended : Ended) → IsStep now next s' s'' (Err ended) → IsListing t tries most (course begun next s s'' old new) (stop.Ended ended)
+    pub listing_ended : (ended : Ended) → IsStep now next s' s'' (Err ended) → IsListing t tries span (course begun next s s'' old new) (record { stop = stop.Ended ended; count = count })
     listing_ended (Cycle n) step =
         let still = (step.honest lists.stays.honest).answers in
         let counted = subst (λ (x : Seen). IsUnrefused s x) (sym still) lists.unrefused in
-        at_end next s'' (Err (Cycle n)) step rest wanted (plan.Finished (WalkEnds (CycleAt n))) (stop.Ended (Cycle n)) refl counted.refusals counted.troubles (CycleAt n) refl
+        at_end next s'' (Err (Cycle n)) step below (plan.Finished (WalkEnds (CycleAt n))) (stop.Ended (Cycle n)) refl counted.refusals counted.troubles (CycleAt n) (WalkEnds (CycleAt n)) refl (λ store start walk printed. refl)
         (λ same start walk end w ends listed. along next s'' (Err (Cycle n)) step same start walk end w ends listed)
     listing_ended (Missing n) step =
         let counted = unrefused_more now.tries s s' s'' lists.unrefused (step.honest lists.stays.honest).answers.0 in
-        at_end next s'' (Err (Missing n)) step rest wanted (plan.Finished (WalkEnds (MissingAt n))) (stop.Ended (Missing n)) refl counted.refusals counted.troubles (MissingAt n) refl
+        at_end next s'' (Err (Missing n)) step below (plan.Finished (WalkEnds (MissingAt n))) (stop.Ended (Missing n)) refl counted.refusals counted.troubles (MissingAt n) (WalkEnds (MissingAt n)) refl (λ store start walk printed. refl)
         (λ same start walk end w ends listed. along next s'' (Err (Missing n)) step same start walk end w ends listed)
     listing_ended (GaveUp n) step =
         let answer = (step.honest lists.stays.honest).answers in
         let grows = lists.unrefused.troubles in
         let troubles = answer.troubles in
         let fresh = answer.fresh_troubles in
-        failed next s'' (Err (GaveUp n)) step rest wanted (plan.GaveUp (AtRecord n)) (stop.Ended (GaveUp n)) refl
+        failed next s'' (Err (GaveUp n)) step below (plan.GaveUp (AtRecord n)) (stop.Ended (GaveUp n)) refl
         (answer.refusals ∙ lists.unrefused.refusals, omega (arith, grows, troubles, same_tries), omega (arith, fresh, same_tries)) (omega (arith, grows, troubles)) n (λ store p at. at) step.leaves.1 (λ e. cc e)
         (λ p holds. ((step.honest lists.stays.honest).plain (lists.stays.plain p) (lists.plain p holds)).fine)
         (λ same start walk end w ends listed. (along next s'' (Err (GaveUp n)) step same start walk end w ends listed).1)
@@ -391,7 +422,7 @@ module _ (t : Task) (tries : ℕ) (most left : Option ℕ) (begun now : CursorSt
         let answer = (step.honest lists.stays.honest).answers in
         let grows = lists.unrefused.troubles in
         let troubles = answer.grows in
-        failed next s'' (Err (Refused n code)) step rest wanted (plan.Refused (AtRecord n) code.0) (stop.Ended (Refused n code)) refl
+        failed next s'' (Err (Refused n code)) step below (plan.Refused (AtRecord n) code.0) (stop.Ended (Refused n code)) refl
         (answer.refusals ∙ ap (λ (x : ℕ). x + 1) lists.unrefused.refusals, answer.last_code) (omega (arith, grows, troubles)) n (λ store p at. at) step.leaves.1 (λ e. cc e)
         (λ p holds. ((step.honest lists.stays.honest).plain (lists.stays.plain p) (lists.plain p holds)).fine)
         (λ same start walk end w ends listed. (along next s'' (Err (Refused n code)) step same start walk end w ends listed).1)
@@ -399,25 +430,23 @@ module _ (t : Task) (tries : ℕ) (most left : Option ℕ) (begun now : CursorSt
     listing_ended (Malformed n) step = absurd ((step.honest lists.stays.honest).answers)
 
     -- a record was handed out
-    pub listing_taken : (row : Row) → IsStep now next s' s'' (Ok (Some row)) → Taken t tries most rest begun next s s'' old new row
+    pub listing_taken : (row : Row) → IsStep now next s' s'' (Ok (Some row)) → Taken t tries span count begun next s s'' old new row
     listing_taken row step =
         let answer = (step.honest lists.stays.honest).answers in
         record {
           stays = stays next s'' (Ok (Some row)) step;
           unrefused = unrefused_more now.tries s s' s'' lists.unrefused answer.0;
+          below = below;
           some = step.same.part_not_zero;
           along = λ same start walk end w ends stands.
               let listed = lists.listed (first next s'' (Ok (Some row)) step same) start walk end w ends stands in
               let more = along next s'' (Ok (Some row)) step same start walk end w ends listed in
-              let row_there : len_of (first_row (drop listed.count walk)) ≡ length row.bytes = ap len_of more.0 in
+              let row_there : len_of (first_row (drop count walk)) ≡ length row.bytes = ap len_of more.0 in
               let asked = asks next s'' (Ok (Some row)) step same start walk end w ends listed in
               let calls = listed.calls in
               let same_bound = ap (step_call_bound tries) row_there in
-              let both = one_left most listed.count left rest listed.wanted wanted in
               record {
-                count = listed.count;
-                below = both.0;
-                wanted = both.1;
+                within = listed.stands.within;
                 next_row = more.0;
                 stands = more.1;
                 printed = listed.printed;
@@ -431,7 +460,13 @@ module _ (t : Task) (tries : ℕ) (most left : Option ℕ) (begun now : CursorSt
 
 -- ---- its piece
 
-module _ (t : Task) (tries : ℕ) (most rest : Option ℕ) (begun next : CursorState) (s s' s'' : Seen) (old new : List ℕ) (row : Row) (taken : Taken t tries most rest begun next s s' old new row) where
+-- what is asked for because of a row is within what its task may ask for
+asked_within : (skip : Option ℕ) (tries : ℕ) (t : Task) (store : Store) (row : Row) → calls_at_spots tries store (spots_in skip t row) ≤ calls_at_spots tries store (spots_after t row)
+asked_within None tries t store row = omega arith
+asked_within (Some zero) tries t store row = omega arith
+asked_within (Some (suc n)) tries t store row = omega arith
+
+module _ (t : Task) (tries : ℕ) (span : Span) (count : ℕ) (begun next : CursorState) (s s' s'' : Seen) (old new : List ℕ) (row : Row) (taken : Taken t tries span count begun next s s' old new row) where
   module _ (stays : StaysHonest s' s'') where
     before : s''.stores_added ≡ s.stores_added → s'.stores_added ≡ s.stores_added
     before same = omega (arith, same, taken.stays.store.grows, stays.store.grows)
@@ -439,45 +474,54 @@ module _ (t : Task) (tries : ℕ) (most rest : Option ℕ) (begun next : CursorS
     behind : s''.stores_added ≡ s.stores_added → s''.stores_added ≡ s'.stores_added
     behind same = omega (arith, same, taken.stays.store.grows, stays.store.grows)
 
-  calls_there : (same : s'.stores_added ≡ s.stores_added) → s''.calls ≤ s'.calls + calls_at_spots tries s'.store (spots_after t row) → s''.calls ≤ s'.calls + calls_at_spots tries s.store (spots_after t row)
-  calls_there same calls = subst (λ (x : Store). s''.calls ≤ s'.calls + calls_at_spots tries x (spots_after t row)) (taken.stays.store.stays same) calls
+  -- the spots of the row, and its text
+  abbrev spots : List Spot
+  spots = spots_in (passing span.skip count) t row
+
+  abbrev IsText : Store → List ℕ → Type 0
+  IsText store text = IsItemText t store (subject_in (passing span.skip count) row) text
+
+  calls_there : (same : s'.stores_added ≡ s.stores_added) → s''.calls ≤ s'.calls + calls_at_spots tries s'.store spots → s''.calls ≤ s'.calls + calls_at_spots tries s.store (spots_after t row)
+  calls_there same calls =
+      let here = subst (λ (x : Store). s''.calls ≤ s'.calls + calls_at_spots tries x spots) (taken.stays.store.stays same) calls in
+      let within = asked_within (passing span.skip count) tries t s.store row in omega (arith, here, within)
 
   -- within the calls of all the rows
-  in_all_rows : (same : s'.stores_added ≡ s.stores_added) (start : Place) (walk : List Row) → (there : TakenAlong t tries s.store start walk most rest begun next s s' old new row)
-      → s''.calls ≤ s'.calls + calls_at_spots tries s'.store (spots_after t row) → s''.calls + 1 ≤ s.calls + calls_for t s.store tries (first_rows most walk) + step_call_bound tries 0 + digits begun.part
+  in_all_rows : (same : s'.stores_added ≡ s.stores_added) (start : Place) (walk : List Row) → (there : TakenAlong t tries s.store start walk span count begun next s s' old new row)
+      → s''.calls ≤ s'.calls + calls_at_spots tries s'.store spots → s''.calls + 1 ≤ s.calls + calls_for t s.store tries (first_rows span.most walk) + step_call_bound tries 0 + digits begun.part
   in_all_rows same start walk there asked =
       let calls = there.calls in
       let more = calls_there same asked in
-      let longer = calls_more t s.store tries walk there.count row there.next_row in
-      let within = calls_within t s.store tries most there.count walk there.below in
+      let longer = calls_more t s.store tries walk count row there.next_row in
+      let within = calls_within t s.store tries span.most count walk taken.below in
       let one = digits_some next.part taken.some in omega (arith, calls, more, longer, within, one)
 
   -- a run may stop so at the piece of the row
-  allowed_behind : (start : Place) (walk : List Row) (end : WalkEnd) (there : TakenAlong t tries s.store start walk most rest begun next s s' old new row) (outcome : Outcome) → MayStopAt (spots_after t row) outcome
-      → IsAllowed t s.store (first_plan most t start walk end) old new outcome
+  allowed_behind : (start : Place) (walk : List Row) (end : WalkEnd) (there : TakenAlong t tries s.store start walk span count begun next s s' old new row) (outcome : Outcome) → MayStopAt spots outcome
+      → IsAllowed t s.store (span_plan span t start walk end) old new outcome
   allowed_behind start walk end there outcome may = by_case outcome may
     where
       done : List Item
-      done = row_items t start (take there.count walk)
+      done = span_items span.skip t start (take count walk)
 
-      place : Place
-      place = place_after_rows start (take there.count walk)
+      item : Item
+      item = item_in (passing span.skip count) t (place_after_rows start (take count walk)) row
 
-      stops : (spot : Spot) → IsAmong (spots_after t row) spot → StopsAt spot t s.store (first_plan most t start walk end) old new
-      stops spot among = let split = next_split t start most there.count walk row there.below there.next_row in record { done = done; rest = row_item t place row ∷ split.0; items_are = split.1; printed = there.printed; there = inr among }
+      stops : (spot : Spot) → IsAmong spots spot → StopsAt spot t s.store (span_plan span t start walk end) old new
+      stops spot among = let split = next_split span.skip t start span.most count walk row taken.below there.within there.next_row in record { done = done; rest = item ∷ split.0; items_are = split.1; printed = there.printed; there = inr among }
 
-      by_case : (o : Outcome) → MayStopAt (spots_after t row) o → IsAllowed t s.store (first_plan most t start walk end) old new o
+      by_case : (o : Outcome) → MayStopAt spots o → IsAllowed t s.store (span_plan span t start walk end) old new o
       by_case (plan.Finished e) may = absurd may
       by_case (plan.GaveUp spot) may = stops spot may
       by_case (plan.Refused spot code) may = stops spot may
-      by_case plan.OutOfMemory may = let split = next_split t start most there.count walk row there.below there.next_row in record { done = done; rest = row_item t place row ∷ split.0; items_are = split.1; printed = there.printed }
+      by_case plan.OutOfMemory may = let split = next_split span.skip t start span.most count walk row taken.below there.within there.next_row in record { done = done; rest = item ∷ split.0; items_are = split.1; printed = there.printed }
       by_case plan.WriteFault may = absurd may
 
-  never_done : (result : Stop) (outcome : Outcome) → IsOutcome result outcome → MayStopAt (spots_after t row) outcome → result ≡ stop.Done → ⊥
-  never_done result outcome is may done = subst (MayStopAt (spots_after t row)) (subst (λ (x : Stop). IsOutcome x outcome) done is) may
+  never_done : (result : Stop) (outcome : Outcome) → IsOutcome result outcome → MayStopAt spots outcome → result ≡ stop.Done → ⊥
+  never_done result outcome is may done = subst (MayStopAt spots) (subst (λ (x : Stop). IsOutcome x outcome) done is) may
 
   -- the piece was not found
-  pub listing_none : (result : Stop) → FindsNone (spots_after t row) tries s' s'' result → IsListing t tries most (course begun next s s'' old new) result
+  pub listing_none : (result : Stop) → FindsNone spots tries s' s'' result → IsListing t tries span (course begun next s s'' old new) (record { stop = result; count = count })
   listing_none result none =
       let low = taken.unrefused.troubles in
       let high = none.asks.grows in
@@ -493,21 +537,22 @@ module _ (t : Task) (tries : ℕ) (most rest : Option ℕ) (begun next : CursorS
               leaves = allowed_behind start walk end there none.outcome none.there;
               calls = λ part. in_all_rows (before none.asks.stays same) start walk there (none.asks.calls (behind none.asks.stays same));
               goes_on = λ done. absurd (never_done result none.outcome none.outcome_is none.there done);
+              count = λ done. absurd (never_done result none.outcome none.outcome_is none.there done);
             };
         plain = λ p holds. none.plain (taken.stays.plain p);
       }
 
-  module _ (piece_text : List ℕ) (finds : FindsText (λ (store : Store) (text : List ℕ). IsRowPiece t store row text) (spots_after t row) tries s' s'' piece_text) where
+  module _ (piece_text : List ℕ) (finds : FindsText IsText spots tries s' s'' piece_text) where
     -- it is a text of the row over the store of the beginning
-    is_text : s''.stores_added ≡ s.stores_added → IsRowPiece t s.store row piece_text
-    is_text same = subst (λ (x : Store). IsRowPiece t x row piece_text) (taken.stays.store.stays (before finds.asks.stays same)) (finds.is (behind finds.asks.stays same))
+    is_text : s''.stores_added ≡ s.stores_added → IsText s.store piece_text
+    is_text same = subst (λ (x : Store). IsText x piece_text) (taken.stays.store.stays (before finds.asks.stays same)) (finds.is (behind finds.asks.stays same))
 
     counted : IsUnrefused s s''
     counted = let low = taken.unrefused.troubles in let high = finds.asks.grows in record { refusals = finds.refusals ∙ taken.unrefused.refusals; troubles = omega (arith, low, high) }
 
     -- the piece was written in part
-    pub listing_cut : (n : ℕ) (text : List ℕ) → text ≡ new ++ take n piece_text → IsListing t tries most (course begun next s s'' old text) stop.WriteFault
-    listing_cut n text wrote = record {
+    pub listing_cut : (n : ℕ) (text : List ℕ) → 0 < length piece_text → text ≡ new ++ take n piece_text → IsListing t tries span (course begun next s s'' old text) (record { stop = stop.WriteFault; count = count })
+    listing_cut n text some wrote = record {
       outcome = plan.WriteFault;
       outcome_is = refl;
       stays = stays_trans s s' s'' taken.stays finds.asks.stays;
@@ -517,27 +562,29 @@ module _ (t : Task) (tries : ℕ) (most rest : Option ℕ) (begun next : CursorS
           let there = taken.along (before finds.asks.stays same) start walk end w ends stands in
           record {
             leaves =
-                let split = next_split t start most there.count walk row there.below there.next_row in
+                let split = next_split span.skip t start span.most count walk row taken.below there.within there.next_row in
                 record {
-                  done = row_items t start (take there.count walk);
-                  item = row_item t (place_after_rows start (take there.count walk)) row;
+                  done = span_items span.skip t start (take count walk);
+                  item = item_in (passing span.skip count) t (place_after_rows start (take count walk)) row;
                   rest = split.0;
                   items_are = split.1;
                   whole = new;
                   printed = there.printed;
                   text = piece_text;
                   is_text = is_text same;
+                  some = some;
                   bytes = n;
                   new_is = wrote;
                 };
             calls = λ part. in_all_rows (before finds.asks.stays same) start walk there (finds.asks.calls (behind finds.asks.stays same));
             goes_on = λ done. cc done;
+            count = λ done. cc done;
           };
       plain = λ p holds. tt;
     }
 
     -- the piece was written
-    pub listing_more : (text : List ℕ) → text ≡ new ++ piece_text → ListsHonest t tries most rest (course begun next s s'' old text)
+    pub listing_more : (text : List ℕ) → text ≡ new ++ piece_text → ListsHonest t tries span (count + 1) (course begun next s s'' old text)
     listing_more text wrote = record {
       stays = stays_trans s s' s'' taken.stays finds.asks.stays;
       unrefused = counted;
@@ -545,12 +592,10 @@ module _ (t : Task) (tries : ℕ) (most rest : Option ℕ) (begun next : CursorS
           let there = taken.along (before finds.asks.stays same) start walk end w ends stands in
           let calls = there.calls in
           let more = calls_there (before finds.asks.stays same) (finds.asks.calls (behind finds.asks.stays same)) in
-          let longer = calls_more t s.store tries walk there.count row there.next_row in
+          let longer = calls_more t s.store tries walk count row there.next_row in
           record {
-            count = there.count + 1;
             stands = there.stands;
-            printed = printed_more t s.store start walk there.count row piece_text old new text there.next_row there.printed (is_text same) wrote;
-            wanted = there.wanted;
+            printed = printed_more span.skip t s.store start walk count row piece_text old new text there.within there.next_row there.printed (is_text same) wrote;
             calls = omega (arith, calls, more, longer);
           };
       plain = λ p holds.
@@ -564,14 +609,10 @@ fewer_ids now next row hands = let more = one_id_more now next row hands in let 
 
 -- ---- the beginning
 
-begun_left : (most : Option ℕ) → IsLeft most 0 most
-begun_left None = refl
-begun_left (Some n) = (n, refl, omega arith)
-
-pub listing_begins : (t : Task) (tries : ℕ) (most : Option ℕ) (begun : CursorState) (s : Seen) (old : List ℕ) → IsHonest s → ListsHonest t tries most most (course begun begun s s old old)
-listing_begins t tries most begun s old honest = record {
+pub listing_begins : (t : Task) (tries : ℕ) (span : Span) (begun : CursorState) (s : Seen) (old : List ℕ) → IsHonest s → ListsHonest t tries span 0 (course begun begun s s old old)
+listing_begins t tries span begun s old honest = record {
   stays = stays_refl s honest;
   unrefused = record { refusals = refl; troubles = omega arith };
-  listed = λ same start walk end w ends stands. record { count = 0; stands = stands; printed = none_printed t s.store old; wanted = begun_left most; calls = omega arith };
+  listed = λ same start walk end w ends stands. record { stands = stands; printed = subst (λ (items : List Item). Printed t s.store items old old) (sym (span_none span.skip t start)) (none_printed t s.store old); calls = omega arith };
   plain = λ p holds. holds;
 }

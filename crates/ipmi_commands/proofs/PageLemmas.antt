@@ -1,5 +1,5 @@
 -- Pages of a listing.
-use Rattle.std.proofs.Common.{◌≡◌, ◌⊎◌, inl, inr, ℕ, zero, suc, ◌+◌, ◌*◌, ◌<◌, ◌≤◌, ◌==◌, nat_le, nat_lt, Bool, true, false, cond, Option, None, Some, Ok, Err, List, [], ◌∷◌, length, take, refl, sym, ap, subst, ◌∙◌, arith}
+use Rattle.std.proofs.Common.{◌≡◌, inl, inr, ℕ, zero, suc, ◌+◌, ◌*◌, ◌<◌, ◌≤◌, ◌==◌, nat_le, nat_lt, Bool, true, false, cond, Option, None, Some, Ok, Err, List, [], ◌∷◌, length, take, refl, sym, ap, subst, ◌∙◌, arith}
 use Rattle.std.proofs.lemmas.Bool.{ltb-false}
 use Rattle.std.proofs.Math.Seq.{take-nil}
 use Rattle.std.proofs.lemmas.List.{take_all, length-take-le}
@@ -17,15 +17,18 @@ use Rattle.ipmi_bus.specs.Seen.{stays_refl}
 use Rattle.ipmi_command_line.specs.declared.command.Task.{Task}
 use Rattle.ipmi_commands.specs.declared.stop.Stop.{Stop}
 use Rattle.ipmi_commands.specs.declared.stop.Stop.TheVariants as stop
-use Rattle.ipmi_commands.specs.Listing.{is_done, most_for_one, most_on_walk, IsListing, ListingCalls}
+use Rattle.ipmi_commands.specs.declared.listing.Listed.{Listed}
+use Rattle.ipmi_command_line.specs.declared.command.Task.TheVariants as task
+use Rattle.ipmi_commands.specs.Listing.{is_done, is_reached, stop_at_end, up_to, most_for_one, most_on_walk, IsListing, ListingCalls}
 use Rattle.ipmi_commands.specs.Plan.{first_rows, first_end}
-use Rattle.ipmi_commands.specs.Pages.{start_at, wants_none, GoesOn, PageAlong, IsPage, IsStopped, ArePages, pages_made}
-use Rattle.ipmi_commands.specs.Plan.{WalkEnds, row_items, Printed}
+use Rattle.ipmi_commands.specs.Pages.{start_at, GoesOn, PageAlong, IsPage, IsStopped, ArePages, pages_made}
+use Rattle.ipmi_commands.specs.Plan.{WalkEnds, row_items, run_end, done_end, Printed}
 use Rattle.ipmi_command_line.specs.Task.{shelf_of}
 use Rattle.ipmi_commands.specs.Plan as plan
 use Rattle.ipmi_commands.proofs.CallLemmas.{digits_most}
 use Rattle.ipmi_commands.proofs.ItemLemmas.{none_printed}
 use Rattle.ipmi_commands.proofs.ListingLemmas.{limit_end}
+use Rattle.ipmi_commands.proofs.NameLemmas.{done_by, end_is}
 use Rattle.ipmi_commands.specs.Plan.{request, change}
 use Rattle.ipmi_commands.specs.Listing.{course}
 
@@ -39,19 +42,31 @@ no_first (Some n) = take-nil n
 empty_printed : (t : Task) (store : Store) (most : Option ℕ) (start : Place) (text : List ℕ) → Printed t store (row_items t start (first_rows most [])) text text
 empty_printed t store most start text = subst (λ (l : List Row). Printed t store (row_items t start l) text text) (sym (no_first most)) (none_printed t store text)
 
+none_taken : (walk : List Row) → take 0 walk ≡ []
+none_taken [] = refl
+none_taken (row ∷ walk) = refl
+
+-- what a listing of no rows ends by
+done_of_none : (t : Task) → done_by t false ≡ done_end t []
+done_of_none (task.Get name) = refl
+done_of_none _ = refl
+
 -- a page of no record
-pub page_of_none : (t : Task) (start : Place) (tries : ℕ) (s : Seen) (text : List ℕ) → IsHonest s → IsPage (request t start tries) (Some 0) start (change s s text text) stop.Done
+pub page_of_none : (t : Task) (start : Place) (tries : ℕ) (s : Seen) (text : List ℕ) → IsHonest s → IsPage (request t start tries) (Some 0) start (change s s text text) (stop_at_end t false)
 page_of_none t start tries s text honest = record {
-  outcome = plan.Finished (WalkEnds Done);
-  outcome_is = refl;
+  outcome = plan.Finished (done_by t false);
+  outcome_is = end_is t false;
   stays = stays_refl s honest;
   counts = refl;
   grows = omega arith;
   none = λ zero_. refl;
   along = λ same walk end w ends. record {
-    leaves = (none_printed t s.store text, sym (ap WalkEnds (limit_end 0 walk end (omega arith))));
+    leaves = (
+      subst (λ (l : List Row). Printed t s.store (row_items t start l) text text) (sym (none_taken walk)) (none_printed t s.store text),
+      done_of_none t ∙ ap (done_end t) (sym (none_taken walk)) ∙ ap (run_end t (take 0 walk)) (sym (limit_end 0 walk end (omega arith))),
+    );
     calls = omega arith;
-    goes_on = λ done. inl refl;
+    goes_on = λ done. inl (ap (place_after_rows start) (sym (none_taken walk)));
   };
   plain = λ p. tt;
 }
@@ -77,18 +92,18 @@ end_of_none None end some = refl
 end_of_none (Some zero) end some = absurd (some refl)
 end_of_none (Some (suc n)) end some = let e : nat_le (suc n) 0 ≡ false = search arith in ap (λ (b : Bool). cond b Done end) e
 
-pub some_wanted : (most : Option ℕ) → wants_none most ≡ false → most ≡ Some 0 → ⊥
-some_wanted most some none = let h = sym (ap wants_none none) ∙ some in cc h
+pub some_wanted : (most : Option ℕ) → is_reached most 0 ≡ false → most ≡ Some 0 → ⊥
+some_wanted most some none = let h = sym (ap (λ (o : Option ℕ). is_reached o 0) none) ∙ some in cc h
 
-pub none_wanted : (most : Option ℕ) → wants_none most ≡ true → most ≡ Some 0
+pub none_wanted : (most : Option ℕ) → is_reached most 0 ≡ true → most ≡ Some 0
 none_wanted None none = cc none
 none_wanted (Some n) none = let zero_ : n ≡ 0 = search arith in ap Some zero_
 
 -- a page at the end
-pub page_at_end : (t : Task) (most : Option ℕ) (tries : ℕ) (s : Seen) (text : List ℕ) → IsHonest s → IsPage (request t End tries) most End (change s s text text) stop.Done
+pub page_at_end : (t : Task) (most : Option ℕ) (tries : ℕ) (s : Seen) (text : List ℕ) → IsHonest s → IsPage (request t End tries) most End (change s s text text) (stop_at_end t false)
 page_at_end t most tries s text honest = record {
-  outcome = plan.Finished (WalkEnds Done);
-  outcome_is = refl;
+  outcome = plan.Finished (done_by t false);
+  outcome_is = end_is t false;
   stays = stays_refl s honest;
   counts = refl;
   grows = omega arith;
@@ -96,9 +111,9 @@ page_at_end t most tries s text honest = record {
   along = λ same walk end w ends.
       let empty = no_walk (rows_of (shelf_of t) s.store) End walk refl w in
       let done = done_there (rows_of (shelf_of t) s.store) end (subst (λ (l : List Row). EndsBy (rows_of (shelf_of t) s.store) End l end) empty ends) in
-      subst (λ (l : List Row). PageAlong (request t End tries) s.store most l end End (change s s text text) (plan.Finished (WalkEnds Done)) stop.Done) (sym empty)
-      (subst (λ (e : WalkEnd). PageAlong (request t End tries) s.store most [] e End (change s s text text) (plan.Finished (WalkEnds Done)) stop.Done) (sym done)
-      (record { leaves = (empty_printed t s.store most End text, sym (ap WalkEnds (end_done most))); calls = omega arith; goes_on = λ d. inl (ap (place_after_rows End) (sym (no_first most))) }));
+      subst (λ (l : List Row). PageAlong (request t End tries) s.store most l end End (change s s text text) (plan.Finished (done_by t false)) (stop_at_end t false)) (sym empty)
+      (subst (λ (e : WalkEnd). PageAlong (request t End tries) s.store most [] e End (change s s text text) (plan.Finished (done_by t false)) (stop_at_end t false)) (sym done)
+      (record { leaves = (empty_printed t s.store most End text, done_of_none t ∙ ap (done_end t) (sym (no_first most)) ∙ ap (run_end t (first_rows most [])) (sym (end_done most))); calls = omega arith; goes_on = λ d. inl (ap (place_after_rows End) (sym (no_first most))) }));
   plain = λ p. tt;
 }
   where
@@ -124,12 +139,12 @@ page_at_zero t most tries s text some honest = record {
       let cycle = cycle_there (rows_of (shelf_of t) s.store) end (subst (λ (l : List Row). EndsBy (rows_of (shelf_of t) s.store) (Id 0) l end) empty ends) in
       subst (λ (l : List Row). PageAlong (request t (Id 0) tries) s.store most l end (Id 0) (change s s text text) (plan.Finished (WalkEnds (CycleAt 0))) (stop.Ended (Cycle 0))) (sym empty)
       (subst (λ (e : WalkEnd). PageAlong (request t (Id 0) tries) s.store most [] e (Id 0) (change s s text text) (plan.Finished (WalkEnds (CycleAt 0))) (stop.Ended (Cycle 0))) (sym cycle)
-      (record { leaves = (empty_printed t s.store most (Id 0) text, sym (ap WalkEnds (end_of_none most (CycleAt 0) some))); calls = omega arith; goes_on = λ d. cc d }));
+      (record { leaves = (empty_printed t s.store most (Id 0) text, ap (run_end t (first_rows most [])) (sym (end_of_none most (CycleAt 0) some))); calls = omega arith; goes_on = λ d. cc d }));
   plain = λ p. tt;
 }
 
 -- a page where no cursor is needed
-pub page_without : (t : Task) (most : Option ℕ) (place : Place) (tries : ℕ) (s : Seen) (text : List ℕ) (st : Stop) → (most ≡ Some 0 → ⊥) → start_at place ≡ Err st → IsHonest s → IsPage (request t place tries) most place (change s s text text) st
+pub page_without : (t : Task) (most : Option ℕ) (place : Place) (tries : ℕ) (s : Seen) (text : List ℕ) (st : Stop) → (most ≡ Some 0 → ⊥) → start_at t place ≡ Err st → IsHonest s → IsPage (request t place tries) most place (change s s text text) st
 page_without t most First tries s text st some at honest = cc at
 page_without t most (Id n) tries s text st some at honest = by_case (n == 0) refl
   where
@@ -140,7 +155,7 @@ page_without t most (Id n) tries s text st some at honest = by_case (n == 0) ref
         let none : n ≡ 0 = search arith in
         subst (λ (x : Stop). IsPage (request t (Id n) tries) most (Id n) (change s s text text) x) is (subst (λ (m : ℕ). IsPage (request t (Id m) tries) most (Id m) (change s s text text) (stop.Ended (Cycle 0))) (sym none) (page_at_zero t most tries s text some honest))
     by_case false e = let h = sym (ap (λ (b : Bool). cond b (Err (stop.Ended (Cycle 0))) (Ok (Some n))) e) ∙ at in cc h
-page_without t most End tries s text st some at honest = let is : stop.Done ≡ st = cc at in subst (λ (x : Stop). IsPage (request t End tries) most End (change s s text text) x) is (page_at_end t most tries s text honest)
+page_without t most End tries s text st some at honest = let is : stop_at_end t false ≡ st = cc at in subst (λ (x : Stop). IsPage (request t End tries) most End (change s s text text) x) is (page_at_end t most tries s text honest)
 
 -- a page for whose cursor no memory was left
 pub page_without_memory : (t : Task) (most : Option ℕ) (place : Place) (tries : ℕ) (s : Seen) (text : List ℕ) → IsHonest s → IsPage (request t place tries) most place (change s s text text) stop.Memory
@@ -157,16 +172,16 @@ page_without_memory t most place tries s text honest = record {
 
 -- ---- a page by a cursor
 
-pub start_of_place : (place : Place) (from : Option ℕ) → start_at place ≡ Ok from → start_of from ≡ place
-start_of_place First from at = let is : None ≡ from = cc at in ap start_of (sym is)
-start_of_place (Id n) from at = by_case (n == 0) refl
+pub start_of_place : (t : Task) (place : Place) (from : Option ℕ) → start_at t place ≡ Ok from → start_of from ≡ place
+start_of_place t First from at = let is : None ≡ from = cc at in ap start_of (sym is)
+start_of_place t (Id n) from at = by_case (n == 0) refl
   where
     by_case : (b : Bool) → (n == 0) ≡ b → start_of from ≡ Id n
     by_case true e = let h = sym (ap (λ (b : Bool). cond b (Err (stop.Ended (Cycle 0))) (Ok (Some n))) e) ∙ at in cc h
     by_case false e =
         let h = sym (ap (λ (b : Bool). cond b (Err (stop.Ended (Cycle 0))) (Ok (Some n))) e) ∙ at in
         let is : Some n ≡ from = cc h in ap start_of (sym is)
-start_of_place End from at = cc at
+start_of_place t End from at = cc at
 
 goes_on_there : (rows : List Row) (start : Place) (most : Option ℕ) (walk : List Row) (now : CursorState) → StandsAt rows start walk (length (first_rows most walk)) now → take (length (first_rows most walk)) walk ≡ first_rows most walk
     → GoesOn rows start (first_rows most walk) now.place
@@ -184,8 +199,8 @@ first_taken (Some n) walk = by_case (nat_lt n (length walk)) refl
         let all = take_all n walk past in
         ap (λ (l : List Row). take (length l) walk) all ∙ take_all (length walk) walk (omega arith) ∙ sym all
 
-pub page_by_cursor : (t : Task) (most : Option ℕ) (place : Place) (tries : ℕ) (begun now : CursorState) (s s' : Seen) (text text' : List ℕ) (result : Stop) → (most ≡ Some 0 → ⊥) → begun.reservation ≡ None → 0 < begun.part
-    → ((rows walk : List Row) → StandsAt rows place walk 0 begun) → IsListing t tries most (course begun now s s' text text') result → IsPage (request t place tries) most now.place (change s s' text text') result
+pub page_by_cursor : (t : Task) (most : Option ℕ) (place : Place) (tries : ℕ) (begun now : CursorState) (s s' : Seen) (text text' : List ℕ) (result : Listed) → (most ≡ Some 0 → ⊥) → begun.reservation ≡ None → 0 < begun.part
+    → ((rows walk : List Row) → StandsAt rows place walk 0 begun) → IsListing t tries (up_to most) (course begun now s s' text text') result → IsPage (request t place tries) most now.place (change s s' text text') result.stop
 page_by_cursor t most place tries begun now s s' text text' result some none part stands listing = record {
   outcome = listing.outcome;
   outcome_is = listing.outcome_is;

@@ -6,8 +6,7 @@ use Rattle.ipmi_bus.specs.Bounds.{step_call_bound}
 use Rattle.ipmi_bus.specs.declared.controller.Shelf.{Shelf}
 use Rattle.ipmi_bus.specs.declared.step.Place.{Place}
 use Rattle.ipmi_bus.specs.declared.step.Place.TheVariants.{First, Id, End}
-use Rattle.ipmi_bus.specs.declared.inventory.FruEnded.TheVariants as fru
-use Rattle.ipmi_bus.specs.declared.step.Ended.TheVariants.{Cycle, Missing, Refused, GaveUp, Stalled, Malformed}
+use Rattle.ipmi_bus.specs.declared.step.Ended.TheVariants.{Refused, GaveUp}
 use Rattle.ipmi_bus.specs.Shelf.{Row, IsShelf, first_row, look}
 use Rattle.ipmi_bus.specs.Store.{Store, rows_of}
 use Rattle.ipmi_bus.specs.Walk.{row_at, IsWalk, TailIsWalk, WalkEnd, Done, CycleAt, MissingAt, EndsBy, EndsAfter, EndsEmpty, last_next, has_id, place_after, place_after_rows}
@@ -20,13 +19,21 @@ use Rattle.ipmi_commands.specs.declared.stop.Stop.TheVariants as stop
 use Rattle.ipmi_commands.specs.Listing.{calls_for, first_plan, IsOutcome}
 use Rattle.ipmi_commands.specs.Plan.{first_end}
 use Rattle.ipmi_commands.specs.Pages.{GoesOn, PageAlong, IsStopped, ArePages, pages_made, IsOpen}
-use Rattle.ipmi_commands.specs.Plan.{Plan, Item, Spot, RunEnd, WalkEnds, row_items, Printed, Outcome, IsAllowed, CountsSo, IsFine, IsAmong, StopsAt, HasFirstItems, spots_at, end_spots}
-use Rattle.ipmi_command_line.specs.Task.{shelf_of}
+use Rattle.ipmi_command_line.specs.declared.command.Task.TheVariants as task
+use Rattle.ipmi_commands.specs.Plan.{Plan, Item, Spot, RunEnd, WalkEnds, run_end, row_items, Printed, Outcome, IsAllowed, CountsSo, IsFine, IsAmong, StopsAt, spots_at, end_spots}
+use Rattle.ipmi_command_line.specs.Task.{is_listing, shelf_of}
 use Rattle.ipmi_commands.specs.Plan as plan
-use Rattle.ipmi_commands.proofs.ListingLemmas.{counts_since}
+use Rattle.ipmi_commands.proofs.ListingLemmas.{counts_since, stopped_otherwise}
 use Rattle.ipmi_commands.proofs.PageLemmas.{made_one, made_none, no_walk}
 use Rattle.ipmi_commands.proofs.ItemLemmas.{items_joined, end_joined, after_items, leaves_joined}
 use Rattle.ipmi_commands.specs.Plan.{request, change}
+
+-- a listing ends as its walk does
+run_plain : (t : Task) → is_listing t ≡ true → (rows : List Row) (end : WalkEnd) → run_end t rows end ≡ WalkEnds end
+run_plain (task.Get name) listing rows end = cc listing
+run_plain _ listing rows Done = refl
+run_plain _ listing rows (CycleAt n) = refl
+run_plain _ listing rows (MissingAt n) = refl
 
 module _ (walk_tail : TailIsWalk) where
   -- ---- the rest of a walk
@@ -57,30 +64,14 @@ module _ (walk_tail : TailIsWalk) where
 
   -- ---- a page as a part of the listing
 
-  never_done : (result : Stop) (outcome : Outcome) → IsStopped result → IsOutcome result outcome → outcome ≡ plan.Finished (WalkEnds Done) → ⊥
-  never_done stop.Done outcome stopped is done = cc stopped
-  never_done stop.NoName outcome stopped is done = let h = sym is ∙ done in cc h
-  never_done stop.NoInfo outcome stopped is done = let h = sym is ∙ done in cc h
-  never_done (stop.Inventory id fru.GaveUp) outcome stopped is done = let h = sym is ∙ done in cc h
-  never_done (stop.Inventory id (fru.Refused code)) outcome stopped is done = let h = sym is ∙ done in cc h
-  never_done (stop.Inventory id _) outcome stopped is done = is
-  never_done (stop.Ended (Cycle n)) outcome stopped is done = let h = sym is ∙ done in cc h
-  never_done (stop.Ended (Missing n)) outcome stopped is done = let h = sym is ∙ done in cc h
-  never_done (stop.Ended (GaveUp n)) outcome stopped is done = let h = sym is ∙ done in cc h
-  never_done (stop.Ended (Refused n code)) outcome stopped is done = let h = sym is ∙ done in cc h
-  never_done (stop.Ended (Stalled n)) outcome stopped is done = is
-  never_done (stop.Ended (Malformed n)) outcome stopped is done = is
-  never_done stop.Memory outcome stopped is done = let h = sym is ∙ done in cc h
-  never_done stop.WriteFault outcome stopped is done = let h = sym is ∙ done in cc h
-
   -- a page that ended the listing
-  module _ (t : Task) (store : Store) (rows : List Row) (start : Place) (walk : List Row) (end : WalkEnd) (ends : EndsBy rows start walk end) (size : ℕ) (old new : List ℕ) where
+  module _ (t : Task) (store : Store) (rows : List Row) (start : Place) (walk : List Row) (end : WalkEnd) (ends : EndsBy rows start walk end) (size : ℕ) (old new : List ℕ) (listing : is_listing t ≡ true) where
     -- it is the plan of all, where more are wanted than there are
     is_whole : nat_le size (length walk) ≡ false → first_plan (Some size) t start walk end ≡ first_plan None t start walk end
     is_whole past =
         let less : length walk < size = search arith in
-        let of_rows : List Row → Plan = λ l. record { items = row_items t start l; end = WalkEnds (first_end (Some size) walk end); end_spots = end_spots start walk (first_end (Some size) walk end) } in
-        let of_end : WalkEnd → Plan = λ e. record { items = row_items t start walk; end = WalkEnds e; end_spots = end_spots start walk e } in
+        let of_rows : List Row → Plan = λ l. record { items = row_items t start l; end = run_end t l (first_end (Some size) walk end); end_spots = end_spots start walk (first_end (Some size) walk end) } in
+        let of_end : WalkEnd → Plan = λ e. record { items = row_items t start walk; end = run_end t walk e; end_spots = end_spots start walk e } in
         ap of_rows (take_all size walk (omega (arith, less))) ∙ ap of_end (ap (λ (b : Bool). cond b Done end) past)
 
     -- the items behind the page
@@ -117,7 +108,7 @@ module _ (walk_tail : TailIsWalk) where
       }
 
       inside : (o : Outcome) → (o ≡ plan.Finished (WalkEnds Done) → ⊥) → IsAllowed t store (first_plan (Some size) t start walk end) old new o → IsAllowed t store (first_plan None t start walk end) old new o
-      inside (plan.Finished e) never allowed = absurd (never (ap plan.Finished (allowed.1 ∙ ap (λ (b : Bool). WalkEnds (cond b Done end)) fits)))
+      inside (plan.Finished e) never allowed = absurd (never (ap plan.Finished (allowed.1 ∙ ap (λ (b : Bool). run_end t (take size walk) (cond b Done end)) fits ∙ run_plain t listing (take size walk) Done)))
       inside (plan.GaveUp spot) never allowed = stops_wide spot allowed
       inside (plan.Refused spot code) never allowed = stops_wide spot allowed
       inside plan.OutOfMemory never allowed = record { done = allowed.done; rest = allowed.rest ++ left; items_are = more_items allowed.done allowed.rest allowed.items_are; printed = allowed.printed }
@@ -130,6 +121,7 @@ module _ (walk_tail : TailIsWalk) where
         printed = allowed.printed;
         text = allowed.text;
         is_text = allowed.is_text;
+        some = allowed.some;
         bytes = allowed.bytes;
         new_is = allowed.new_is;
       }
@@ -138,7 +130,7 @@ module _ (walk_tail : TailIsWalk) where
     leaves_wide result outcome stopped is_outcome allowed = by_size (nat_le size (length walk)) refl
       where
         by_size : (b : Bool) → nat_le size (length walk) ≡ b → IsAllowed t store (first_plan None t start walk end) old new outcome
-        by_size true fits = inside fits outcome (never_done result outcome stopped is_outcome) allowed
+        by_size true fits = inside fits outcome (stopped_otherwise result outcome stopped is_outcome) allowed
         by_size false past = subst (λ (q : Plan). IsAllowed t store q old new outcome) (is_whole past) allowed
 
   -- ---- calls
@@ -203,9 +195,9 @@ module _ (walk_tail : TailIsWalk) where
   LeavesBehind t store rows next text new outcome = (w : List Row) (e : WalkEnd) → IsWalk rows next w → EndsBy rows next w e → IsOpen e → IsAllowed t store (first_plan None t next w e) text new outcome
 
   -- behind a page the rest of the walk is listed
-  behind_page : (t : Task) (store : Store) (rows : List Row) (start next : Place) (walk : List Row) (end : WalkEnd) (size : ℕ) (old text new : List ℕ) (outcome : Outcome) → IsShelf (shelf_of t) rows → IsWalk rows start walk → EndsBy rows start walk end → IsOpen end
+  behind_page : (t : Task) (store : Store) (rows : List Row) (start next : Place) (walk : List Row) (end : WalkEnd) (size : ℕ) (old text new : List ℕ) (outcome : Outcome) → is_listing t ≡ true → IsShelf (shelf_of t) rows → IsWalk rows start walk → EndsBy rows start walk end → IsOpen end
       → Printed t store (row_items t start (take size walk)) old text → GoesOn rows start (take size walk) next → LeavesBehind t store rows next text new outcome → IsAllowed t store (first_plan None t start walk end) old new outcome
-  behind_page t store rows start next walk end size old text new outcome ok w ends open_ printed goes rest = elim goes [ inl at ↦ on_walk at | inr empty ↦ on_empty empty.0 empty.1 empty.2 ]
+  behind_page t store rows start next walk end size old text new outcome listing ok w ends open_ printed goes rest = elim goes [ inl at ↦ on_walk at | inr empty ↦ on_empty empty.0 empty.1 empty.2 ]
     where
       done : List Row
       done = take size walk
@@ -219,9 +211,10 @@ module _ (walk_tail : TailIsWalk) where
       -- the items of the page, and behind them what is left
       whole_is : after_items (row_items t start done) (first_plan None t (place_after_rows start done) left end) ≡ first_plan None t start walk end
       whole_is =
-          let of_items : List Item → Plan = λ l. record { items = l; end = WalkEnds end; end_spots = end_spots (place_after_rows start done) left end } in
-          let of_spots : List Spot → Plan = λ l. record { items = row_items t start (done ++ left); end = WalkEnds end; end_spots = l } in
-          ap of_items (sym (items_joined t start done left)) ∙ ap of_spots (end_joined start done left end) ∙ ap (λ (l : List Row). first_plan None t start l end) (sym split)
+          let of_items : List Item → Plan = λ l. record { items = l; end = run_end t left end; end_spots = end_spots (place_after_rows start done) left end } in
+          let of_end : RunEnd → Plan = λ e. record { items = row_items t start (done ++ left); end = e; end_spots = end_spots (place_after_rows start done) left end } in
+          let of_spots : List Spot → Plan = λ l. record { items = row_items t start (done ++ left); end = run_end t (done ++ left) end; end_spots = l } in
+          ap of_items (sym (items_joined t start done left)) ∙ ap of_end (run_plain t listing left end ∙ sym (run_plain t listing (done ++ left) end)) ∙ ap of_spots (end_joined start done left end) ∙ ap (λ (l : List Row). first_plan None t start l end) (sym split)
 
       on_walk : next ≡ place_after_rows start done → IsAllowed t store (first_plan None t start walk end) old new outcome
       on_walk at =
@@ -263,8 +256,8 @@ module _ (walk_tail : TailIsWalk) where
           ended (CycleAt n) ends = absurd ends
           ended (MissingAt n) ends = absurd ends
 
-  pub pages_are_one : (t : Task) (sizes : List ℕ) (start : Place) (tries : ℕ) (s s' : Seen) (old new : List ℕ) (result : Stop) → IsHonest s → ArePages (request t start tries) sizes (change s s' old new) result → OneListing t sizes start tries s s' old new result
-  pages_are_one t [] start tries s s' old new result honest last = record {
+  pub pages_are_one : (t : Task) (sizes : List ℕ) (start : Place) (tries : ℕ) (s s' : Seen) (old new : List ℕ) (result : Stop) → is_listing t ≡ true → IsHonest s → ArePages (request t start tries) sizes (change s s' old new) result → OneListing t sizes start tries s s' old new result
+  pages_are_one t [] start tries s s' old new result listing honest last = record {
     outcome = last.page.outcome;
     outcome_is = last.page.outcome_is;
     stays = last.page.stays;
@@ -274,22 +267,22 @@ module _ (walk_tail : TailIsWalk) where
     calls = λ same walk end w ends open_. let calls = (last.page.along same walk end w ends).calls in omega (arith, calls);
     plain = last.page.plain;
   }
-  pages_are_one t (size ∷ sizes) start tries s s' old new result honest (inl last) = record {
+  pages_are_one t (size ∷ sizes) start tries s s' old new result listing honest (inl last) = record {
     outcome = last.0.page.outcome;
     outcome_is = last.0.page.outcome_is;
     stays = last.0.page.stays;
     counts = last.0.page.counts;
     grows = last.0.page.grows;
     leaves = λ same walk end w ends open_.
-        leaves_wide t s.store (rows_of (shelf_of t) s.store) start walk end ends size old new result last.0.page.outcome last.1 last.0.page.outcome_is (last.0.page.along same walk end w ends).leaves;
+        leaves_wide t s.store (rows_of (shelf_of t) s.store) start walk end ends size old new listing result last.0.page.outcome last.1 last.0.page.outcome_is (last.0.page.along same walk end w ends).leaves;
     calls = λ same walk end w ends open_.
         let made = page_made t s.store start last.0.next walk end size tries sizes s s' old new last.0.page.outcome result (last.0.page.along same walk end w ends) last.0.page.none in
         let rows = calls_split t s.store tries size walk in omega (arith, made, rows);
     plain = last.0.page.plain;
   }
-  pages_are_one t (size ∷ sizes) start tries s s' old new result honest (inr more) =
+  pages_are_one t (size ∷ sizes) start tries s s' old new result listing honest (inr more) =
       let page = more.page in
-      let later = pages_are_one t sizes more.next tries more.seen s' more.text new result page.stays.honest more.rest in
+      let later = pages_are_one t sizes more.next tries more.seen s' more.text new result listing page.stays.honest more.rest in
       let low = page.stays.store.grows in
       let high = later.stays.store.grows in
       let before = page.grows in
@@ -306,7 +299,7 @@ module _ (walk_tail : TailIsWalk) where
             let second : s'.stores_added ≡ more.seen.stores_added = omega (arith, same, low, high) in
             let along = page.along first walk end w ends in
             let there = subst (λ (o : Outcome). IsAllowed t s.store (first_plan (Some size) t start walk end) old more.text o) page.outcome_is along.leaves in
-            behind_page t s.store (rows_of (shelf_of t) s.store) start more.next walk end size old more.text new later.outcome (store_shelf (shelf_of t) s.store honest.store) w ends open_ there.0 (along.goes_on refl)
+            behind_page t s.store (rows_of (shelf_of t) s.store) start more.next walk end size old more.text new later.outcome listing (store_shelf (shelf_of t) s.store honest.store) w ends open_ there.0 (along.goes_on refl)
             (subst (λ (x : Store). LeavesBehind t x (rows_of (shelf_of t) x) more.next more.text new later.outcome) (page.stays.store.stays first) (later.leaves second));
         calls = λ same walk end w ends open_.
             let first : more.seen.stores_added ≡ s.stores_added = omega (arith, same, low, high) in

@@ -2,7 +2,7 @@
 use Rattle.std.proofs.Common.{◌≡◌, ◌⊎◌, inl, inr, ℕ, ◌+◌, ◌≤◌, Bool, true, false, IsTrue, Option, None, Result, Ok, Err, List, [], refl, sym, ap, subst, ◌∙◌}
 use Rattle.ipmi_bus.specs.declared.step.Place.{Place}
 use Rattle.ipmi_bus.specs.declared.inventory.FruEnded.TheVariants as fru
-use Rattle.ipmi_bus.specs.declared.step.Ended.TheVariants.{Cycle, Missing, Refused, GaveUp, Stalled, Malformed}
+use Rattle.ipmi_bus.specs.declared.step.Ended.TheVariants.{Cycle, Missing, Refused, GaveUp}
 use Rattle.ipmi_bus.specs.Shelf.{Row}
 use Rattle.ipmi_bus.specs.Store.{Store}
 use Rattle.ipmi_bus.specs.Walk.{TailIsWalk, WalkEnd, Done}
@@ -25,10 +25,10 @@ use Rattle.ipmi_commands.specs.Pages.{IsPage, ArePages}
 use Rattle.ipmi_commands.proofs.ItemLemmas.{none_printed, one_printed}
 use Rattle.ipmi_commands.proofs.PagesLaw.{pages_are_one}
 use Rattle.ipmi_commands.specs.Plan.{Request}
-use Rattle.ipmi_commands.specs.Run.{Effect, effect, HasEnded, IsRun, IsPagedRun, status_of, stop_status, stop_text, outcome_text, is_built, fault_status, WritesImage, IsRewriting, Says, AnswersRewrite, AnswersImage, AnswersTask}
-use Rattle.ipmi_commands.specs.Plan.{request, change}
+use Rattle.ipmi_commands.specs.Run.{Effect, effect, HasEnded, IsRun, IsPagedRun, status_of, stop_status, stop_text, outcome_text, lists_once, Performs, fault_status, WritesImage, IsRewriting, Says, AnswersRewrite, AnswersImage, AnswersTask}
+use Rattle.ipmi_commands.specs.Plan.{Change, request, change}
 
--- ---- a task that is built lists the first rows of its shelf
+-- ---- a task that lists the first rows of its shelf
 
 -- it goes along one walk, and asks for nothing before it
 pub record GoesOnce (t : Task) : Type 0 where
@@ -36,17 +36,18 @@ pub record GoesOnce (t : Task) : Type 0 where
   pub bound_is : (store : Store) (tries : ℕ) (walk : List Row) (end : WalkEnd) → run_call_bound t store tries walk end ≡ walk_call_bound t store tries (first_rows (most_of t) walk)
   pub most_is : (tries : ℕ) → most_calls t tries ≡ most_on_walk t tries
 
-pub goes_once : (t : Task) → is_built t ≡ true → GoesOnce t
-goes_once task.Hex built = record { plan_is = λ store start walk end. refl; bound_is = λ store tries walk end. refl; most_is = λ tries. refl }
-goes_once (task.List kind) built = record { plan_is = λ store start walk end. refl; bound_is = λ store tries walk end. refl; most_is = λ tries. refl }
-goes_once (task.Elist kind) built = record { plan_is = λ store start walk end. refl; bound_is = λ store tries walk end. refl; most_is = λ tries. refl }
-goes_once (task.SelList count.All) built = record { plan_is = λ store start walk end. refl; bound_is = λ store tries walk end. refl; most_is = λ tries. refl }
-goes_once (task.SelList (count.First n)) built = record { plan_is = λ store start walk end. refl; bound_is = λ store tries walk end. refl; most_is = λ tries. refl }
-goes_once (task.SelGet id) built = record { plan_is = λ store start walk end. refl; bound_is = λ store tries walk end. refl; most_is = λ tries. refl }
-goes_once _ built = cc built
+pub goes_once : (t : Task) → lists_once t ≡ true → GoesOnce t
+goes_once task.Hex lists = record { plan_is = λ store start walk end. refl; bound_is = λ store tries walk end. refl; most_is = λ tries. refl }
+goes_once (task.List kind) lists = record { plan_is = λ store start walk end. refl; bound_is = λ store tries walk end. refl; most_is = λ tries. refl }
+goes_once (task.Elist kind) lists = record { plan_is = λ store start walk end. refl; bound_is = λ store tries walk end. refl; most_is = λ tries. refl }
+goes_once (task.Get name) lists = record { plan_is = λ store start walk end. refl; bound_is = λ store tries walk end. refl; most_is = λ tries. refl }
+goes_once (task.SelList count.All) lists = record { plan_is = λ store start walk end. refl; bound_is = λ store tries walk end. refl; most_is = λ tries. refl }
+goes_once (task.SelList (count.First n)) lists = record { plan_is = λ store start walk end. refl; bound_is = λ store tries walk end. refl; most_is = λ tries. refl }
+goes_once (task.SelGet id) lists = record { plan_is = λ store start walk end. refl; bound_is = λ store tries walk end. refl; most_is = λ tries. refl }
+goes_once _ lists = cc lists
 
--- a listing can be run, and has no limit
-pub listed_whole : (t : Task) → is_listing t ≡ true → (is_built t ≡ true) × (most_of t ≡ None)
+-- a listing goes once, and has no limit
+pub listed_whole : (t : Task) → is_listing t ≡ true → (lists_once t ≡ true) × (most_of t ≡ None)
 listed_whole task.Hex listing = (refl, refl)
 listed_whole (task.List kind) listing = (refl, refl)
 listed_whole (task.Elist kind) listing = (refl, refl)
@@ -70,6 +71,7 @@ module _ (t : Task) where
   stop_said stop.NoName outcome is = ap said_of (sym is)
   stop_said stop.NoInfo outcome is = ap said_of (sym is)
   stop_said (stop.Inventory id fru.GaveUp) outcome is = ap said_of (sym is)
+  stop_said (stop.Inventory id fru.Memory) outcome is = ap said_of (sym is)
   stop_said (stop.Inventory id (fru.Refused code)) outcome is = ap said_of (sym is)
   stop_said (stop.Inventory id _) outcome is = absurd is
   stop_said stop.Memory outcome is = ap said_of (sym is)
@@ -80,6 +82,22 @@ module _ (t : Task) where
 
   text_same : (st : Stop) (outcome : Outcome) → IsOutcome st outcome → stop_text t st ≡ outcome_text t outcome
   text_same st outcome is = ap (λ (said : ℕ × List ℕ). said.1) (stop_said st outcome is)
+
+-- a page of all that it wants is the task
+pub listing_performs : (r : Request) (next : Place) (c : Change) (st : Stop) → lists_once r.task ≡ true → IsPage r (most_of r.task) next c st → Performs r c st
+listing_performs r next c st lists page =
+    let once = goes_once r.task lists in
+    record {
+      outcome = page.outcome;
+      outcome_is = page.outcome_is;
+      stays = page.stays;
+      counts = page.counts;
+      plain = page.plain;
+      allowed = λ same walk end w ends.
+          subst (λ (p : Plan). IsAllowed r.task c.seen.store p c.old c.new page.outcome) (sym (once.plan_is c.seen.store r.start walk end)) (page.along same walk end w ends).leaves;
+      calls = λ same walk end w ends.
+          subst (λ (n : ℕ). c.seen'.calls ≤ c.seen.calls + n) (sym (once.bound_is c.seen.store r.tries walk end)) (page.along same walk end w ends).calls;
+    }
 
 -- ---- runs
 
@@ -95,22 +113,18 @@ module _ (r : Request) (s s' : Seen) (e : Effect) (st : Stop) (message : Receive
     plain = plain;
   }
 
-  pub run_by_listing : (next : Place) → is_built r.task ≡ true → IsPage (request r.task r.start r.tries) (most_of r.task) next (change s s' e.old e.new) st → IsRun r s s' e (stop_status st)
-  run_by_listing next built page =
-      let once = goes_once r.task built in
-      record {
-        result = st;
-        outcome = page.outcome;
-        ended = has_ended page.outcome page.outcome_is page.stays page.counts page.plain;
-        allowed = λ same walk end w ends.
-            subst (λ (p : Plan). IsAllowed r.task s.store p e.old e.new page.outcome) (sym (once.plan_is s.store r.start walk end)) (page.along same walk end w ends).leaves;
-        calls = λ same walk end w ends.
-            subst (λ (n : ℕ). s'.calls ≤ s.calls + n) (sym (once.bound_is s.store r.tries walk end)) (page.along same walk end w ends).calls;
-      }
+  pub run_of : Performs r (change s s' e.old e.new) st → IsRun r s s' e (stop_status st)
+  run_of performs = record {
+    result = st;
+    outcome = performs.outcome;
+    ended = has_ended performs.outcome performs.outcome_is performs.stays performs.counts performs.plain;
+    allowed = performs.allowed;
+    calls = performs.calls;
+  }
 
   pub run_in_pages : TailIsWalk → (sizes : List ℕ) → is_listing r.task ≡ true → IsHonest s → ArePages (request r.task r.start r.tries) sizes (change s s' e.old e.new) st → IsPagedRun r sizes s s' e (stop_status st)
   run_in_pages tail sizes listing honest pages =
-      let one = pages_are_one tail r.task sizes r.start r.tries s s' e.old e.new st honest pages in
+      let one = pages_are_one tail r.task sizes r.start r.tries s s' e.old e.new st listing honest pages in
       let whole = listed_whole r.task listing in
       let first : (walk : List Row) (end : WalkEnd) → plan_of r.task s.store r.start walk end ≡ first_plan None r.task r.start walk end = λ walk end.
       (goes_once r.task whole.0).plan_is s.store r.start walk end ∙ ap (λ (most : Option ℕ). first_plan most r.task r.start walk end) whole.1 in
@@ -156,8 +170,9 @@ rewriting store e stop.WriteFault writes message = record {
     printed = none_printed task.Rewrite store e.old;
     text = image_text_of store;
     is_text = refl;
-    bytes = writes.0;
-    new_is = writes.1;
+    some = writes.0;
+    bytes = writes.1.0;
+    new_is = writes.1.1;
   };
   unwritten = λ out. cc out;
   fine = tt;
@@ -196,11 +211,10 @@ not_rewritten fault read old said said' status (inl memory) says =
 not_rewritten fault read old said said' status (inr is) says =
     subst (λ (r : Result Store ImageFault). AnswersRewrite r (effect old old said said') status) (sym is) (refl, inl says)
 
-pub not_run : (rewrite built : Bool) (r : Request) (fault : ImageFault) (read : Result Store ImageFault) (old : List ℕ) (said said' : Received) (status : ℕ) → rewrite ≡ false → built ≡ true
-    → (fault ≡ image_fault.Memory) ⊎ (read ≡ Err fault) → Says said said' status (Image fault) (fault_status fault) → AnswersTask rewrite built r read (effect old old said said') status
-not_run true built r fault read old said said' status ran can is says = cc ran
-not_run false false r fault read old said said' status ran can is says = cc can
-not_run false true r fault read old said said' status ran can (inl memory) says =
+pub not_run : (rewrite : Bool) (r : Request) (fault : ImageFault) (read : Result Store ImageFault) (old : List ℕ) (said said' : Received) (status : ℕ) → rewrite ≡ false
+    → (fault ≡ image_fault.Memory) ⊎ (read ≡ Err fault) → Says said said' status (Image fault) (fault_status fault) → AnswersTask rewrite r read (effect old old said said') status
+not_run true r fault read old said said' status ran is says = cc ran
+not_run false r fault read old said said' status ran (inl memory) says =
     unread_run r read old said said' status (subst (λ (f : ImageFault). Says said said' status (Image f) (fault_status f)) memory says)
-not_run false true r fault read old said said' status ran can (inr is) says =
+not_run false r fault read old said said' status ran (inr is) says =
     subst (λ (x : Result Store ImageFault). AnswersImage r x (effect old old said said') status) (sym is) (refl, inl says)

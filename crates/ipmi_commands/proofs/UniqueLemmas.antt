@@ -1,36 +1,46 @@
--- A row has one text, and so have the rows of a listing.
-use Rattle.std.proofs.Common.{◌≡◌, ℕ, zero, suc, Bool, true, false, cond, Option, None, Some, Result, Ok, Err, List, [], ◌∷◌, ◌++◌, take, refl, sym, ap, subst, ◌∙◌}
+-- What is printed has one text, and so has a finished run.
+use Rattle.std.proofs.Common.{◌≡◌, ℕ, zero, suc, ◌-◌, ◌==◌, not, Bool, true, false, cond, codes, Option, None, Some, IfSome, Result, Ok, Err, List, [], ◌∷◌, ◌++◌, length, take, drop, refl, sym, ap, subst, ◌∙◌}
+use Rattle.std.specs.Fmt.{decimal}
 use Rattle.ipmi_bus.specs.declared.controller.Shelf.{Shelf}
-use Rattle.ipmi_bus.specs.Shelf.{Row, IsShelf}
-use Rattle.ipmi_text.specs.Bytes.{AreBytes}
-use Rattle.ipmi_bus.specs.Store.{Store, IsStore, rows_of}
-use Rattle.ipmi_bus.specs.Walk.{AllOf, WalkExists, place_after}
+use Rattle.ipmi_bus.specs.declared.controller.Shelf.TheVariants.{Sdr, Sel}
 use Rattle.ipmi_bus.specs.declared.step.Place.{Place}
+use Rattle.ipmi_bus.specs.Shelf.{Row, IsShelf, FoundIsRow}
+use Rattle.ipmi_text.specs.Bytes.{AreBytes}
+use Rattle.ipmi_text.specs.declared.reading.Reading.{Reading}
+use Rattle.ipmi_bus.specs.Store.{Store, IsStore, IsInfo, info_of, inventory_of, rows_of, store_shelf}
+use Rattle.ipmi_bus.specs.Walk.{AllOf, WalkExists, WalkEnd, Done, CycleAt, MissingAt, place_after, place_after_rows}
+use Rattle.ipmi_fru.specs.Print.{IsFruText}
 use Rattle.ipmi_records.specs.declared.sdr.SdrFault.{SdrFault}
 use Rattle.ipmi_records.specs.declared.sdr.SdrView.{SdrView}
+use Rattle.ipmi_records.specs.declared.sdr.SdrView.TheVariants as view_of
 use Rattle.ipmi_records.specs.declared.sel.SelView.TheVariants.{Event, OemTimed, OemPlain, Other}
-use Rattle.ipmi_records.specs.Sdr.{sdr_view_of}
+use Rattle.ipmi_records.specs.Info.{IsInfoBlock}
+use Rattle.ipmi_records.specs.Sdr.{fru_of, name_of, sdr_view_of}
+use Rattle.ipmi_records.specs.SdrText.{IsSdrBlock}
 use Rattle.ipmi_records.specs.Sel.{entry_bytes, sel_view_of}
 use Rattle.ipmi_records.specs.Laws.{SdrLineIsUnique, ExtendedLineIsUnique, SelLineIsUnique, SelBlockIsUnique}
-use Rattle.ipmi_text.specs.declared.reading.Reading.{Reading}
 use Rattle.ipmi_command_line.specs.declared.command.Kind.{Kind}
+use Rattle.ipmi_command_line.specs.declared.command.Count.TheVariants as count
 use Rattle.ipmi_command_line.specs.declared.command.Task.{Task}
+use Rattle.ipmi_command_line.specs.declared.command.Task.TheVariants as task
+use Rattle.ipmi_command_line.specs.Task.{most_of, shelf_of}
 use Rattle.ipmi_commands.specs.declared.piece.Form.{Form}
 use Rattle.ipmi_commands.specs.declared.piece.Form.TheVariants as form
-use Rattle.ipmi_command_line.specs.declared.command.Task.TheVariants as task
-use Rattle.ipmi_commands.specs.Pieces.{IfChosen, IsLineOf, IsListed, IsListedOfKind, reading_for, row_is_of_kind}
-use Rattle.ipmi_commands.specs.Plan.{IsRowPiece}
-use Rattle.ipmi_command_line.specs.Task.{most_of}
-use Rattle.ipmi_commands.specs.Plan.{first_rows}
-use Rattle.ipmi_commands.specs.Plan.{Subject, OfRow, OfInventory, OfInfo, OfImage, Item, IsRowOfBytes, AreRowsOfBytes, RunEnd, Plan, Finished, IsAllowed, row_items, IsItemText, AreTexts}
-use Rattle.ipmi_command_line.specs.Task.{shelf_of}
-use Rattle.ipmi_commands.specs.Plan.{Request}
-use Rattle.ipmi_commands.specs.Run.{is_built, AllowsAll}
-use Rattle.ipmi_bus.specs.Shelf.{FoundIsRow}
-use Rattle.ipmi_bus.specs.Store.{store_shelf}
-use Rattle.ipmi_commands.proofs.PlanLemmas.{goes_once}
+use Rattle.ipmi_commands.specs.Pieces.{IfChosen, IsBlockOfName, IsDevicePiece, IsInventoryPiece, IsInventoryText, IsLineOf, IsListed, IsListedOfKind, IsLocatorPiece, is_name, name_of_locator, reading_for, row_is_of_kind}
+use Rattle.ipmi_commands.specs.Plan.{Request, Subject, OfRow, Passed, OfInventory, OfInfo, OfImage, Item, Spot, IsOfBytes, AreOfBytes, RunEnd, Finished, IsRowPiece, IsItemText, AreTexts, first_rows, last_rows, last_items, row_items, spots_of_walk, with_first_spots, info_plan, listing_plan, plan_of}
+use Rattle.ipmi_commands.specs.Run.{AllowsAll}
 
-module _ (one_sdr_line : SdrLineIsUnique) (one_extended_line : ExtendedLineIsUnique) (one_sel_line : SelLineIsUnique) (one_sel_block : SelBlockIsUnique) where
+-- what the laws of blocks and of inventories say
+abbrev SdrBlockIsUnique : Type 0
+SdrBlockIsUnique = (id : ℕ) (view : SdrView) (reading : Option Reading) (text other : List ℕ) → IsSdrBlock id view reading text → IsSdrBlock id view reading other → text ≡ other
+
+abbrev InfoBlockIsUnique : Type 0
+InfoBlockIsUnique = (bytes text other : List ℕ) → AreBytes bytes → IsInfoBlock bytes text → IsInfoBlock bytes other → text ≡ other
+
+abbrev FruTextIsUnique : Type 0
+FruTextIsUnique = (bytes text other : List ℕ) → IsFruText bytes text → IsFruText bytes other → text ≡ other
+
+module _ (one_sdr_line : SdrLineIsUnique) (one_extended_line : ExtendedLineIsUnique) (one_sdr_block : SdrBlockIsUnique) (one_sel_line : SelLineIsUnique) (one_sel_block : SelBlockIsUnique) (one_info_block : InfoBlockIsUnique) (one_fru_text : FruTextIsUnique) where
   one_chosen : (chosen : Bool) (IsText : List ℕ → Type 0) → ((a b : List ℕ) → IsText a → IsText b → a ≡ b) → (a b : List ℕ) → IfChosen chosen IsText a → IfChosen chosen IsText b → a ≡ b
   one_chosen true IsText one a b x y = one a b x y
   one_chosen false IsText one a b x y = x ∙ sym y
@@ -56,35 +66,58 @@ module _ (one_sdr_line : SdrLineIsUnique) (one_extended_line : ExtendedLineIsUni
   entry_are_bytes : (bytes : List ℕ) → AreBytes bytes → AreBytes (entry_bytes (sel_view_of bytes))
   entry_are_bytes bytes are = subst AreBytes (sym (same_bytes _ _ _ bytes)) are
 
-  one_piece : (t : Task) (store : Store) (row : Row) (a b : List ℕ) → is_built t ≡ true → AreBytes row.bytes → IsRowPiece t store row a → IsRowPiece t store row b → a ≡ b
-  one_piece task.Hex store row a b built are x y = x ∙ sym y
-  one_piece (task.List kind) store row a b built are x y = one_of_kind form.Short kind store row a b x y
-  one_piece (task.Elist kind) store row a b built are x y = one_of_kind form.Extended kind store row a b x y
-  one_piece (task.SelList entries) store row a b built are x y = one_sel_line row.id (sel_view_of row.bytes) a b (entry_are_bytes row.bytes are) x y
-  one_piece (task.SelGet id) store row a b built are x y = one_sel_block row.id (sel_view_of row.bytes) a b (entry_are_bytes row.bytes are) x y
-  one_piece (task.Fru id) store row a b built are x y = cc built
-  one_piece (task.Get name) store row a b built are x y = cc built
-  one_piece (task.Info shelf) store row a b built are x y = cc built
-  one_piece task.Rewrite store row a b built are x y = cc built
+  one_block_of_name : (name : List ℕ) (store : Store) (id : ℕ) (view : Result SdrView SdrFault) (a b : List ℕ) → IsBlockOfName name store id view a → IsBlockOfName name store id view b → a ≡ b
+  one_block_of_name name store id (Ok view) a b x y = one_chosen (is_name name (name_of view)) (λ l. IsSdrBlock id view (reading_for store view) l) (one_sdr_block id view (reading_for store view)) a b x y
+  one_block_of_name name store id (Err fault) a b x y = x ∙ sym y
 
-  one_item : (t : Task) (store : Store) (subject : Subject) (a b : List ℕ) → is_built t ≡ true → IsRowOfBytes subject → IsItemText t store subject a → IsItemText t store subject b → a ≡ b
-  one_item t store (OfRow row) a b built bytes x y = one_piece t store row a b built bytes x y
-  one_item t store (OfInventory id) a b built bytes x y = absurd bytes
-  one_item t store (OfInfo info) a b built bytes x y = absurd bytes
-  one_item t store OfImage a b built bytes x y = absurd bytes
+  one_inventory_text : (o : Option (List ℕ)) (a b : List ℕ) → IsInventoryText o a → IsInventoryText o b → a ≡ b
+  one_inventory_text None a b x y = x ∙ sym y
+  one_inventory_text (Some bytes) a b x y = one_fru_text bytes a b x y
 
-  -- texts of rows are one text
-  pub one_text : (t : Task) (store : Store) (items : List Item) (a b : List ℕ) → is_built t ≡ true → AreRowsOfBytes items → AreTexts t store items a → AreTexts t store items b → a ≡ b
-  one_text t store [] a b built bytes x y = x ∙ sym y
-  one_text t store (item ∷ items) a b built bytes x y =
+  one_inventory : (store : Store) (id : ℕ) (name a b : List ℕ) → IsInventoryPiece store id name a → IsInventoryPiece store id name b → a ≡ b
+  one_inventory store id name a b x y =
+      x.text_is
+      ∙ ap (λ (l : List ℕ). codes "FRU " ++ (decimal id ++ (name ++ (codes "\n" ++ (l ++ codes "\n"))))) (one_inventory_text (inventory_of id store) x.inventory y.inventory x.is_inventory y.is_inventory)
+      ∙ sym y.text_is
+
+  one_device : (store : Store) (view : SdrView) (id : Option ℕ) (a b : List ℕ) → IsDevicePiece store view id a → IsDevicePiece store view id b → a ≡ b
+  one_device store view None a b x y = x ∙ sym y
+  one_device store view (Some id) a b x y = one_chosen (not (id == 0)) (λ l. IsInventoryPiece store id (name_of_locator view) l) (one_inventory store id (name_of_locator view)) a b x y
+
+  one_locator : (store : Store) (view : Result SdrView SdrFault) (a b : List ℕ) → IsLocatorPiece store view a → IsLocatorPiece store view b → a ≡ b
+  one_locator store (Ok (view_of.Fru bytes)) a b x y = one_device store (view_of.Fru bytes) (fru_of (view_of.Fru bytes)) a b x y
+  one_locator store _ a b x y = x ∙ sym y
+
+  one_piece : (t : Task) (store : Store) (row : Row) (a b : List ℕ) → AreBytes row.bytes → IsRowPiece t store row a → IsRowPiece t store row b → a ≡ b
+  one_piece task.Hex store row a b are x y = x ∙ sym y
+  one_piece (task.List kind) store row a b are x y = one_of_kind form.Short kind store row a b x y
+  one_piece (task.Elist kind) store row a b are x y = one_of_kind form.Extended kind store row a b x y
+  one_piece (task.Get name) store row a b are x y = one_block_of_name name store row.id (sdr_view_of row.bytes) a b x y
+  one_piece (task.SelList entries) store row a b are x y = one_sel_line row.id (sel_view_of row.bytes) a b (entry_are_bytes row.bytes are) x y
+  one_piece (task.SelGet id) store row a b are x y = one_sel_block row.id (sel_view_of row.bytes) a b (entry_are_bytes row.bytes are) x y
+  one_piece (task.Fru id) store row a b are x y = one_locator store (sdr_view_of row.bytes) a b x y
+  one_piece (task.Info shelf) store row a b are x y = x ∙ sym y
+  one_piece task.Rewrite store row a b are x y = x ∙ sym y
+
+  one_item : (t : Task) (store : Store) (subject : Subject) (a b : List ℕ) → IsOfBytes subject → IsItemText t store subject a → IsItemText t store subject b → a ≡ b
+  one_item t store (OfRow row) a b bytes x y = one_piece t store row a b bytes x y
+  one_item t store Passed a b bytes x y = x ∙ sym y
+  one_item t store (OfInventory id) a b bytes x y = one_inventory store id [] a b x y
+  one_item t store (OfInfo info) a b bytes x y = one_info_block info a b bytes x y
+  one_item t store OfImage a b bytes x y = x ∙ sym y
+
+  -- texts of items are one text
+  pub one_text : (t : Task) (store : Store) (items : List Item) (a b : List ℕ) → AreOfBytes items → AreTexts t store items a → AreTexts t store items b → a ≡ b
+  one_text t store [] a b bytes x y = x ∙ sym y
+  one_text t store (item ∷ items) a b bytes x y =
       x.joined
-      ∙ ap (λ (l : List ℕ). l ++ x.rest) (one_item t store item.subject x.first y.first built bytes.0 x.is_first y.is_first)
-      ∙ ap (λ (l : List ℕ). y.first ++ l) (one_text t store items x.rest y.rest built bytes.1 x.is_rest y.is_rest)
+      ∙ ap (λ (l : List ℕ). l ++ x.rest) (one_item t store item.subject x.first y.first bytes.0 x.is_first y.is_first)
+      ∙ ap (λ (l : List ℕ). y.first ++ l) (one_text t store items x.rest y.rest bytes.1 x.is_rest y.is_rest)
       ∙ sym y.joined
 
   -- ---- one output
 
-  rows_are_bytes : FoundIsRow → (t : Task) (shelf : Shelf) (rows : List Row) (start : Place) (walk : List Row) → IsShelf shelf rows → AllOf rows walk → AreRowsOfBytes (row_items t start walk)
+  rows_are_bytes : FoundIsRow → (t : Task) (shelf : Shelf) (rows : List Row) (start : Place) (walk : List Row) → IsShelf shelf rows → AllOf rows walk → AreOfBytes (row_items t start walk)
   rows_are_bytes look_row t shelf rows start [] ok all = tt
   rows_are_bytes look_row t shelf rows start (row ∷ walk) ok all = ((look_row shelf rows row.id row ok all.0).bytes, rows_are_bytes look_row t shelf rows (place_after row.next) walk ok all.1)
 
@@ -98,16 +131,55 @@ module _ (one_sdr_line : SdrLineIsUnique) (one_extended_line : ExtendedLineIsUni
       within zero (row ∷ walk) all = tt
       within (suc n) (row ∷ walk) all = (all.0, within n walk all.1)
 
-  pub one_output : WalkExists → FoundIsRow → (r : Request) (store : Store) (old a b : List ℕ) (e f : RunEnd) → is_built r.task ≡ true → IsStore store → AllowsAll r store old a (Finished e) → AllowsAll r store old b (Finished f) → (a ≡ b) × (e ≡ f)
-  one_output exists look_row r store old a b e f built ok allows other =
-      let t = r.task in
-      let start = r.start in
-      let shelf = store_shelf (shelf_of t) store ok in
-      let there = exists (shelf_of t) (rows_of (shelf_of t) store) start shelf in
-      let first = (goes_once t built).plan_is store start there.0 there.1 in
-      let x = subst (λ (p : Plan). IsAllowed t store p old a (Finished e)) first (allows there.0 there.1 there.2 there.3) in
-      let y = subst (λ (p : Plan). IsAllowed t store p old b (Finished f)) first (other there.0 there.1 there.2 there.3) in
-      let rows = rows_of (shelf_of t) store in
-      let items = row_items t start (first_rows (most_of t) there.0) in
-      let bytes = rows_are_bytes look_row t (shelf_of t) rows start (first_rows (most_of t) there.0) shelf (first_of_shelf (most_of t) rows there.0 there.2.of_shelf) in
-      (x.0.new_is ∙ ap (λ (l : List ℕ). old ++ l) (one_text t store items x.0.text y.0.text built bytes x.0.are y.0.are) ∙ sym y.0.new_is, x.1 ∙ sym y.1)
+  rest_of_shelf : (n : ℕ) (rows walk : List Row) → AllOf rows walk → AllOf rows (drop n walk)
+  rest_of_shelf zero rows walk all = all
+  rest_of_shelf (suc n) rows [] all = tt
+  rest_of_shelf (suc n) rows (row ∷ walk) all = rest_of_shelf n rows walk all.1
+
+  last_of_shelf : (n : ℕ) (rows walk : List Row) (end : WalkEnd) → AllOf rows walk → AllOf rows (last_rows n walk end)
+  last_of_shelf n rows walk Done all = rest_of_shelf (length walk - n) rows walk all
+  last_of_shelf n rows walk (CycleAt m) all = tt
+  last_of_shelf n rows walk (MissingAt m) all = tt
+
+  first_kept : (spots : List Spot) (items : List Item) → AreOfBytes items → AreOfBytes (with_first_spots spots items)
+  first_kept spots [] are = tt
+  first_kept spots (item ∷ items) are = are
+
+  info_bytes : (o : Option (List ℕ)) → IfSome o IsInfo → AreOfBytes (info_plan o).items
+  info_bytes None are = tt
+  info_bytes (Some info) are = (are.all, tt)
+
+  info_of_store : (shelf : Shelf) (store : Store) → IsStore store → IfSome (info_of shelf store) IsInfo
+  info_of_store Sdr store ok = ok.sdr_info
+  info_of_store Sel store ok = ok.sel_info
+
+  module _ (look_row : FoundIsRow) (store : Store) (ok : IsStore store) (start : Place) (walk : List Row) (end : WalkEnd) where
+    listed : (t : Task) → AllOf (rows_of (shelf_of t) store) walk → AreOfBytes (listing_plan t start walk end).items
+    listed t all = rows_are_bytes look_row t (shelf_of t) (rows_of (shelf_of t) store) start (first_rows (most_of t) walk) (store_shelf (shelf_of t) store ok) (first_of_shelf (most_of t) (rows_of (shelf_of t) store) walk all)
+
+    -- what a task is to print is of bytes
+    plan_bytes : (t : Task) → AllOf (rows_of (shelf_of t) store) walk → AreOfBytes (plan_of t store start walk end).items
+    plan_bytes (task.Fru None) all = (tt, rows_are_bytes look_row (task.Fru None) Sdr store.sdr start walk ok.sdr all)
+    plan_bytes (task.Fru (Some id)) all = (tt, tt)
+    plan_bytes (task.Info shelf) all = info_bytes (info_of shelf store) (info_of_store shelf store ok)
+    plan_bytes (task.SelList (count.Last n)) all =
+        first_kept (spots_of_walk start walk end) (last_items n (task.SelList (count.Last n)) start walk end)
+        (rows_are_bytes look_row (task.SelList (count.Last n)) Sel store.sel (place_after_rows start (take (length walk - n) walk)) (last_rows n walk end) ok.sel (last_of_shelf n store.sel walk end all))
+    plan_bytes task.Rewrite all = (tt, tt)
+    plan_bytes task.Hex all = listed task.Hex all
+    plan_bytes (task.List kind) all = listed (task.List kind) all
+    plan_bytes (task.Elist kind) all = listed (task.Elist kind) all
+    plan_bytes (task.Get name) all = listed (task.Get name) all
+    plan_bytes (task.SelList count.All) all = listed (task.SelList count.All) all
+    plan_bytes (task.SelList (count.First n)) all = listed (task.SelList (count.First n)) all
+    plan_bytes (task.SelGet id) all = listed (task.SelGet id) all
+
+  pub one_output : WalkExists → FoundIsRow → (r : Request) (store : Store) (old a b : List ℕ) (e f : RunEnd) → IsStore store → AllowsAll r store old a (Finished e) → AllowsAll r store old b (Finished f) → (a ≡ b) × (e ≡ f)
+  one_output exists look_row r store old a b e f ok allows other =
+      let rows = rows_of (shelf_of r.task) store in
+      let there = exists (shelf_of r.task) rows r.start (store_shelf (shelf_of r.task) store ok) in
+      let x = allows there.0 there.1 there.2 there.3 in
+      let y = other there.0 there.1 there.2 there.3 in
+      let items = (plan_of r.task store r.start there.0 there.1).items in
+      let bytes = plan_bytes look_row store ok r.start there.0 there.1 r.task there.2.of_shelf in
+      (x.0.new_is ∙ ap (λ (l : List ℕ). old ++ l) (one_text r.task store items x.0.text y.0.text bytes x.0.are y.0.are) ∙ sym y.0.new_is, x.1 ∙ sym y.1)

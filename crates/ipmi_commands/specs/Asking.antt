@@ -1,5 +1,7 @@
--- What the reading that is asked for on account of a record leaves.
-use Rattle.std.specs.Prelude.{ℕ, ◌+◌, ◌≤◌, Option, Result, Ok, Err, List}
+-- What the reading that is asked for because of a record leaves, and the reading of an inventory.
+use Rattle.std.specs.Prelude.{ℕ, ◌+◌, ◌≤◌, ◌==◌, Bool, false, Option, Result, Ok, Err, List}
+use Rattle.ipmi_bus.specs.declared.inventory.FruEnded.{FruEnded}
+use Rattle.ipmi_bus.specs.declared.inventory.FruEnded.TheVariants as fru
 use Rattle.ipmi_text.specs.declared.reading.Reading.{Reading}
 use Rattle.ipmi_bus.specs.declared.step.Ended.{Ended}
 use Rattle.ipmi_bus.specs.declared.step.Ended.TheVariants.{Cycle, Missing, Refused, GaveUp, Stalled, Malformed}
@@ -25,3 +27,8 @@ pub record ReadsFor (id : ℕ) (view : SdrView) (tries : ℕ) (s s' : Seen) (res
   pub reads : ReadsValue (λ store. reading_for store view) tries s s' result
   pub calls : s'.calls ≤ s.calls + calls_at_spots tries s.store (reading_spots id (Ok view))
   pub there : EndsAmong (reading_spots id (Ok view)) result
+
+-- the controller has no such inventory
+abbrev pub is_absent : FruEnded → Bool
+is_absent (fru.Refused code) = code.0 == 0xCB
+is_absent _ = false

@@ -1,4 +1,5 @@
 pub mod Asking
+pub mod Last
 pub mod Line
 pub mod Listing
 pub mod Pages

@@ -1,5 +1,5 @@
 -- What a listing of the records along a walk leaves in its output, by the plan of its items.
-use Rattle.std.specs.Prelude.{◌≡◌, Bool, true, false, ℕ, ◌+◌, ◌-◌, ◌*◌, ◌<◌, ◌≤◌, ◌==◌, if◌then◌else◌, IsTrue, Option, None, Some, Result, Ok, Err, String, string_bytes, List, [], ◌∷◌, length, take}
+use Rattle.std.specs.Prelude.{◌≡◌, Bool, true, false, ℕ, zero, suc, ◌+◌, ◌-◌, ◌*◌, ◌<◌, ◌≤◌, ◌==◌, IsTrue, Option, None, Some, Result, Ok, Err, String, string_bytes, List, [], ◌∷◌, length, take, drop}
 use Rattle.std.specs.FinSet as set
 use Rattle.std.specs.declared.alloc.Global.{Global}
 use Rattle.ipmi_bus.specs.Bounds.{step_call_bound, fru_call_bound, digits}
@@ -9,34 +9,85 @@ use Rattle.ipmi_bus.specs.declared.inventory.FruEnded.TheVariants as fru
 use Rattle.ipmi_bus.specs.declared.step.Ended.TheVariants.{Cycle, Missing, Refused, GaveUp, Stalled, Malformed}
 use Rattle.ipmi_bus.specs.Readers.{inventory_len, KeepsReservations}
 use Rattle.ipmi_bus.specs.Shelf.{Row, largest_len}
-use Rattle.ipmi_bus.specs.Store.{Store, rows_of}
-use Rattle.ipmi_bus.specs.Walk.{IsWalk, WalkEnd, Done, CycleAt, MissingAt, EndsBy}
+use Rattle.ipmi_bus.specs.declared.controller.Shelf.{Shelf}
+use Rattle.ipmi_bus.specs.Store.{Store, info_of, rows_of}
+use Rattle.ipmi_bus.specs.Walk.{IsWalk, WalkEnd, Done, CycleAt, MissingAt, EndsBy, place_after}
+use Rattle.ipmi_records.specs.Info.{IsInfoBlock}
 use Rattle.ipmi_bus.specs.Seen.{Seen, StaysHonest}
 use Rattle.ipmi_bus.specs.CursorState.{CursorState}
 use Rattle.ipmi_bus.specs.Standing.{StandsAt}
-use Rattle.ipmi_bus.specs.Step.{CursorHoldsCurrent}
+use Rattle.ipmi_bus.specs.Step.{CursorHoldsCurrent, asked_at}
 use Rattle.ipmi_command_line.specs.declared.command.Count.TheVariants as count
 use Rattle.ipmi_command_line.specs.declared.command.Task.{Task}
 use Rattle.ipmi_command_line.specs.declared.command.Task.TheVariants as task
 use Rattle.ipmi_commands.specs.declared.stop.Stop.{Stop}
 use Rattle.ipmi_commands.specs.declared.stop.Stop.TheVariants as stop
+use Rattle.ipmi_commands.specs.declared.listing.Listed.{Listed}
+use Rattle.ipmi_commands.specs.declared.listing.Span.{Span}
 use Rattle.ipmi_commands.specs.Plan.{IsRowPiece}
-use Rattle.ipmi_commands.specs.Plan.{most_after, first_rows, first_end, last_rows, Request, request, Plan, Spot, AtRecord, AtInventory, WalkEnds, row_items, Printed, Outcome, IsAllowed, CountsSo, IsFine, IsAmong, end_spots, spots_after}
+use Rattle.ipmi_commands.specs.Plan.{most_after, first_rows, first_end, last_rows, Request, request, Plan, Item, IsItemText, Subject, OfRow, Passed, Spot, AtRecord, AtInventory, WalkEnds, row_items, run_end, Printed, Outcome, IsAllowed, CountsSo, IsFine, IsAmong, end_spots, spots_after}
 use Rattle.ipmi_command_line.specs.Task.{most_of, shelf_of}
 use Rattle.ipmi_commands.specs.Plan as plan
 
 -- ---- how far a listing goes
 
--- fewer than are wanted
-abbrev pub IsBelow : Option ℕ → ℕ → Type 0
-IsBelow None count = Unit {0}
-IsBelow (Some n) count = count < n
+-- as many were asked for as are wanted
+abbrev pub is_reached : Option ℕ → ℕ → Bool
+is_reached None count = false
+is_reached (Some n) count = n == count
+
+-- no more than are wanted
+abbrev pub IsWithin : Option ℕ → ℕ → Type 0
+IsWithin None count = Unit {0}
+IsWithin (Some n) count = count ≤ n
+
+-- all records up to a limit, if there is one
+abbrev pub up_to : Option ℕ → Span
+up_to most = record { skip = Some 0; most = most }
 
 -- ---- what it is to print, and how it stopped
 
--- the plan of a listing of the first rows of a walk
+-- how many are still to be passed after so many
+abbrev pub passing : Option ℕ → ℕ → Option ℕ
+passing None count = None
+passing (Some n) count = Some (n - count)
+
+-- what is printed of a row, and asked for because of it, where so many are still to be passed: nothing of those
+abbrev pub subject_in : Option ℕ → Row → Subject
+subject_in (Some zero) row = OfRow row
+subject_in _ row = Passed
+
+abbrev pub spots_in : Option ℕ → Task → Row → List Spot
+spots_in (Some zero) t row = spots_after t row
+spots_in _ t row = []
+
+abbrev pub item_in : Option ℕ → Task → Place → Row → Item
+item_in skip t place row = record { subject = subject_in skip row; spots = AtRecord (asked_at place) ∷ spots_in skip t row }
+
+-- the items of rows of which the first are passed, or all
+abbrev pub span_items : Option ℕ → Task → Place → List Row → List Item
+span_items None t start [] = []
+span_items None t start (row ∷ rows) = item_in None t start row ∷ span_items None t (place_after row.next) rows
+span_items (Some zero) t start rows = row_items t start rows
+span_items (Some (suc n)) t start [] = []
+span_items (Some (suc n)) t start (row ∷ rows) = item_in (Some (suc n)) t start row ∷ span_items (Some n) t (place_after row.next) rows
+
+-- the rows that are not passed
+abbrev pub shown_rows : Option ℕ → List Row → List Row
+shown_rows None rows = []
+shown_rows (Some n) rows = drop n rows
+
+-- the plan of a listing of the rows of a walk in a span
+abbrev pub span_plan : Span → Task → Place → List Row → WalkEnd → Plan
+span_plan span t start walk end = record {
+  items = span_items span.skip t start (first_rows span.most walk);
+  end = run_end t (shown_rows span.skip (first_rows span.most walk)) (first_end span.most walk end);
+  end_spots = end_spots start walk (first_end span.most walk end);
+}
+
+-- that of the first rows
 abbrev pub first_plan : Option ℕ → Task → Place → List Row → WalkEnd → Plan
-first_plan most t start walk end = record { items = row_items t start (first_rows most walk); end = WalkEnds (first_end most walk end); end_spots = end_spots start walk (first_end most walk end) }
+first_plan most t start walk end = span_plan (up_to most) t start walk end
 
 -- how it stopped, as the outcome of a run
 abbrev pub IsOutcome : Stop → Outcome → Type 0
@@ -51,6 +102,7 @@ IsOutcome stop.NoName outcome = outcome ≡ plan.Finished plan.NoName
 IsOutcome stop.NoInfo outcome = outcome ≡ plan.Finished plan.NoInfo
 IsOutcome (stop.Inventory id fru.GaveUp) outcome = outcome ≡ plan.GaveUp (AtInventory id)
 IsOutcome (stop.Inventory id (fru.Refused code)) outcome = outcome ≡ plan.Refused (AtInventory id) code.0
+IsOutcome (stop.Inventory id fru.Memory) outcome = outcome ≡ plan.OutOfMemory
 IsOutcome (stop.Inventory id _) outcome = ⊥
 IsOutcome stop.Memory outcome = outcome ≡ plan.OutOfMemory
 IsOutcome stop.WriteFault outcome = outcome ≡ plan.WriteFault
@@ -64,6 +116,11 @@ faults_of _ = 0
 abbrev pub is_done : Stop → Bool
 is_done stop.Done = true
 is_done _ = false
+
+-- so a listing stops there, by whether it wrote anything: only a command that asks for a name may find none
+abbrev pub stop_at_end : Task → Bool → Stop
+stop_at_end (task.Get name) false = stop.NoName
+stop_at_end _ wrote = stop.Done
 
 -- ---- calls
 
@@ -161,17 +218,26 @@ Finds IsText spots tries s s' (Err stop) = FindsNone spots tries s s' stop
 abbrev pub FindsPiece : Task → ℕ → Row → Seen → Seen → Result (String Global) Stop → Type 0
 FindsPiece t tries row s s' result = Finds (λ store text. IsRowPiece t store row text) (spots_after t row) tries s s' result
 
+-- the same where so many rows are still to be passed
+abbrev pub FindsIn : Option ℕ → Task → ℕ → Row → Seen → Seen → Result (String Global) Stop → Type 0
+FindsIn skip t tries row s s' result = Finds (λ store text. IsItemText t store (subject_in skip row) text) (spots_in skip t row) tries s s' result
+
+-- the block of a shelf's info, where the store has one
+abbrev pub IsBlockOfInfo : Option (List ℕ) → List ℕ → Type 0
+IsBlockOfInfo None text = ⊥
+IsBlockOfInfo (Some info) text = IsInfoBlock info text
+
+-- it is asked for, and there is none
+pub record LacksInfo (shelf : Shelf) (tries : ℕ) (s s' : Seen) : Type 0 where
+  pub asks : AsksAt (AtRecord 0 ∷ []) tries s s'
+  pub refusals : s'.refusals ≡ s.refusals
+  pub is : s'.stores_added ≡ s.stores_added → info_of shelf s.store ≡ None
+
+abbrev pub FindsInfo : Shelf → ℕ → Seen → Seen → Result (String Global) Stop → Type 0
+FindsInfo shelf tries s s' (Err stop.NoInfo) = LacksInfo shelf tries s s'
+FindsInfo shelf tries s s' result = Finds (λ store text. IsBlockOfInfo (info_of shelf store) text) (AtRecord 0 ∷ []) tries s s' result
+
 -- ---- a listing by a cursor
-
--- how many are left of those wanted, after so many
-abbrev pub IsLeft : Option ℕ → ℕ → Option ℕ → Type 0
-IsLeft None count left = left ≡ None
-IsLeft (Some n) count left = (m : ℕ) × (left ≡ Some m) × (count + m ≡ n)
-
--- how many are left after one more; nothing where none is wanted
-abbrev pub after_one : Option ℕ → Option (Option ℕ)
-after_one None = Some None
-after_one (Some n) = if n == 0 then None else Some (Some (n - 1))
 
 -- a cursor can start there, if anything is asked for there
 abbrev pub IsPlace : Place → Type 0
@@ -180,11 +246,10 @@ IsPlace (Id n) = n < 65535
 IsPlace End = Unit {0}
 
 -- since the listing began, over any controller: so many records were handed out, for no more calls than the most for each
-pub record HasCalled (each : ℕ) (begun now : CursorState) (s s' : Seen) : Type 0 where
-  pub rows : ℕ
-  pub within : rows ≤ set.len now.ids
-  pub most : rows ≤ 65536
-  pub calls : s'.calls + digits now.part ≤ s.calls + rows * each + digits begun.part
+pub record HasCalled (each count : ℕ) (begun now : CursorState) (s s' : Seen) : Type 0 where
+  pub within : count ≤ set.len now.ids
+  pub most : count ≤ 65536
+  pub calls : s'.calls + digits now.part ≤ s.calls + count * each + digits begun.part
   pub some : 0 < begun.part → 0 < now.part
   pub place : IsPlace begun.place → IsPlace now.place
 
@@ -210,12 +275,10 @@ pub record Course : Type 0 where
 abbrev pub course : CursorState → CursorState → Seen → Seen → List ℕ → List ℕ → Course
 course begun now seen seen' old new = record { begun = begun; now = now; seen = seen; seen' = seen'; old = old; new = new }
 
--- along a walk: the cursor stands at some row of it, and texts of the rows before it were written
-pub record HasListed (r : Request) (store : Store) (walk : List Row) (most left : Option ℕ) (c : Course) : Type 0 where
-  pub count : ℕ
+-- along a walk: the cursor has passed so many rows of it, and texts of those in the span were written
+pub record HasListed (r : Request) (store : Store) (walk : List Row) (span : Span) (count : ℕ) (c : Course) : Type 0 where
   pub stands : StandsAt (rows_of (shelf_of r.task) store) r.start walk count c.now
-  pub printed : Printed r.task store (row_items r.task r.start (take count walk)) c.old c.new
-  pub wanted : IsLeft most count left
+  pub printed : Printed r.task store (span_items span.skip r.task r.start (take count walk)) c.old c.new
   pub calls : c.seen'.calls + digits c.now.part ≤ c.seen.calls + calls_for r.task store r.tries (take count walk) + digits c.begun.part
 
 -- along each walk of a task that has an end, and at the start of which the cursor stood
@@ -226,27 +289,29 @@ OnEachWalk t begun store Holds =
     → Holds start walk end
 
 -- since the listing began, over an honest controller
-pub record ListsHonest (t : Task) (tries : ℕ) (most left : Option ℕ) (c : Course) : Type 0 where
+pub record ListsHonest (t : Task) (tries : ℕ) (span : Span) (count : ℕ) (c : Course) : Type 0 where
   pub stays : StaysHonest c.seen c.seen'
   pub unrefused : IsUnrefused c.seen c.seen'
   pub listed : c.seen'.stores_added ≡ c.seen.stores_added
-      → OnEachWalk t c.begun c.seen.store (λ start walk end. HasListed (request t start tries) c.seen.store walk most left c)
+      → OnEachWalk t c.begun c.seen.store (λ start walk end. HasListed (request t start tries) c.seen.store walk span count c)
   pub plain : IsTrue c.seen.plain → CursorHoldsCurrent c.begun c.seen → CursorHoldsCurrent c.now c.seen'
 
--- a whole listing along a walk: what it leaves, the bound of its calls, and that its cursor stands after the rows that are wanted
-pub record ListsAlong (r : Request) (store : Store) (walk : List Row) (end : WalkEnd) (most : Option ℕ) (c : Course) (outcome : Outcome) (result : Stop) : Type 0 where
-  pub leaves : IsAllowed r.task store (first_plan most r.task r.start walk end) c.old c.new outcome
+-- a whole listing along a walk: what it leaves, the bound of its calls, that its cursor stands after the rows that are wanted, and
+-- how many these are
+pub record ListsAlong (r : Request) (store : Store) (walk : List Row) (end : WalkEnd) (span : Span) (c : Course) (outcome : Outcome) (result : Listed) : Type 0 where
+  pub leaves : IsAllowed r.task store (span_plan span r.task r.start walk end) c.old c.new outcome
   pub calls : 0 < c.begun.part
-      → c.seen'.calls + 1 ≤ c.seen.calls + calls_for r.task store r.tries (first_rows most walk) + step_call_bound r.tries 0 + digits c.begun.part
-  pub goes_on : result ≡ stop.Done → StandsAt (rows_of (shelf_of r.task) store) r.start walk (length (first_rows most walk)) c.now
+      → c.seen'.calls + 1 ≤ c.seen.calls + calls_for r.task store r.tries (first_rows span.most walk) + step_call_bound r.tries 0 + digits c.begun.part
+  pub goes_on : result.stop ≡ stop.Done → StandsAt (rows_of (shelf_of r.task) store) r.start walk (length (first_rows span.most walk)) c.now
+  pub count : result.stop ≡ stop.Done → result.count ≡ length (first_rows span.most walk)
 
 -- a whole listing, over an honest controller
-pub record IsListing (t : Task) (tries : ℕ) (most : Option ℕ) (c : Course) (result : Stop) : Type 0 where
+pub record IsListing (t : Task) (tries : ℕ) (span : Span) (c : Course) (result : Listed) : Type 0 where
   pub outcome : Outcome
-  pub outcome_is : IsOutcome result outcome
+  pub outcome_is : IsOutcome result.stop outcome
   pub stays : StaysHonest c.seen c.seen'
   pub counts : CountsSo tries c.seen c.seen' outcome
   pub grows : c.seen.troubles ≤ c.seen'.troubles
   pub along : c.seen'.stores_added ≡ c.seen.stores_added
-      → OnEachWalk t c.begun c.seen.store (λ start walk end. ListsAlong (request t start tries) c.seen.store walk end most c outcome result)
+      → OnEachWalk t c.begun c.seen.store (λ start walk end. ListsAlong (request t start tries) c.seen.store walk end span c outcome result)
   pub plain : IsTrue c.seen.plain → CursorHoldsCurrent c.begun c.seen → IsFine outcome

@@ -1,11 +1,11 @@
 -- A listing in pages: each page has a cursor of its own, from where the page before it stopped.
-use Rattle.std.specs.Prelude.{◌≡◌, ℕ, ◌+◌, ◌≤◌, ◌==◌, if◌then◌else◌, ◌⊎◌, Bool, false, IsTrue, Option, None, Some, Result, Ok, Err, List, [], ◌∷◌}
+use Rattle.std.specs.Prelude.{◌≡◌, ℕ, ◌+◌, ◌≤◌, ◌==◌, if◌then◌else◌, ◌⊎◌, false, IsTrue, Option, None, Some, Result, Ok, Err, List, [], ◌∷◌}
 use Rattle.ipmi_bus.specs.declared.step.Place.{Place}
 use Rattle.ipmi_bus.specs.declared.step.Place.TheVariants.{First, Id, End}
 use Rattle.ipmi_bus.specs.declared.step.Ended.TheVariants.{Cycle}
 use Rattle.ipmi_bus.specs.Shelf.{Row, first_row}
 use Rattle.ipmi_bus.specs.Store.{Store, rows_of}
-use Rattle.ipmi_bus.specs.Walk.{IsWalk, WalkEnd, Done, CycleAt, MissingAt, EndsBy, place_after_rows}
+use Rattle.ipmi_bus.specs.Walk.{WalkEnd, Done, CycleAt, MissingAt, place_after_rows}
 use Rattle.std.specs.FinSet as set
 use Rattle.ipmi_bus.specs.CursorState.{CursorState, start_of}
 use Rattle.ipmi_bus.specs.Seen.{Seen, StaysHonest}
@@ -13,16 +13,16 @@ use Rattle.ipmi_command_line.specs.Command.{CommandState}
 use Rattle.ipmi_commands.specs.declared.stop.Stop.{Stop}
 use Rattle.ipmi_commands.specs.declared.stop.Stop.TheVariants as stop
 use Rattle.ipmi_command_line.specs.declared.command.Task.{Task}
-use Rattle.ipmi_commands.specs.Listing.{is_done, first_plan, IsOutcome, walk_call_bound}
+use Rattle.ipmi_commands.specs.Listing.{is_done, stop_at_end, first_plan, IsOutcome, walk_call_bound}
 use Rattle.ipmi_commands.specs.Plan.{first_rows}
 use Rattle.ipmi_commands.specs.Plan.{Request, request, Change, change, OnWalk, Outcome, IsAllowed, CountsSo, IsFine}
 use Rattle.ipmi_command_line.specs.Task.{shelf_of}
 
 -- the id that a cursor starts from; after the last record, and at the id 0000h, no cursor is needed
-abbrev pub start_at : Place → Result (Option ℕ) Stop
-start_at First = Ok None
-start_at (Id n) = if n == 0 then Err (stop.Ended (Cycle 0)) else Ok (Some n)
-start_at End = Err stop.Done
+abbrev pub start_at : Task → Place → Result (Option ℕ) Stop
+start_at t First = Ok None
+start_at t (Id n) = if n == 0 then Err (stop.Ended (Cycle 0)) else Ok (Some n)
+start_at t End = Err (stop_at_end t false)
 
 -- the cursor of a listing as it starts, from the id or from the first record: it has the command's part size and tries
 abbrev pub listing_cursor : CommandState → Option ℕ → CursorState
@@ -34,11 +34,6 @@ listing_cursor command from = record {
   ids = set.empty;
   reservation = None;
 }
-
--- a page of no record
-abbrev pub wants_none : Option ℕ → Bool
-wants_none None = false
-wants_none (Some n) = n == 0
 
 -- where a listing goes on after these rows; on an empty shelf the end will do in place of the start
 abbrev pub GoesOn : List Row → Place → List Row → Place → Type 0

@@ -73,8 +73,8 @@ last_rows n walk _ = []
 
 -- ---- spots at which a run may give up or be refused
 
--- at a record: the id that is asked for, 0000h where it is the first of a shelf, or the record's own id for its reading, or 0000h
--- for an info; or at the inventory of a device
+-- at a record: the id that is asked for, which is 0000h where a walk starts at the first one, or the record's own id for its
+-- reading, or 0000h for an info; or at the inventory of a device
 pub data Spot : Type 0 where
   AtRecord : ℕ → Spot
   AtInventory : ℕ → Spot
@@ -105,7 +105,7 @@ locator_spots (Err fault) = []
 -- ---- the table of what each task prints for a row
 
 -- its text, nothing for a row that is left out; what is asked for because of it; and at most how many calls that takes over any
--- controller
+-- controller. A task that goes along no records prints nothing for one
 pub record Printing : Type 1 where
   pub IsText : Store → Row → List ℕ → Type 0
   pub spots : Row → List Spot
@@ -126,7 +126,7 @@ printing_of (task.SelGet id) = printing (λ store row text. IsSelBlock row.id (s
 printing_of (task.Fru id) =
     printing (λ store row text. IsLocatorPiece store (sdr.sdr_view_of row.bytes) text)
     (λ row. locator_spots (sdr.sdr_view_of row.bytes)) (λ tries. fru_call_bound tries 65535)
-printing_of _ = printing (λ store row text. ⊥) (λ row. []) (λ tries. 0)
+printing_of _ = printing (λ store row text. text ≡ []) (λ row. []) (λ tries. 0)
 
 -- its columns
 abbrev pub IsRowPiece : Task → Store → Row → List ℕ → Type 0
@@ -162,9 +162,11 @@ pub data RunEnd : Type 0 where
   NoName : RunEnd
   NoInfo : RunEnd
 
--- what is printed as one piece: a row of a walk, the inventory of a device that no row names, the bytes of an info, an image
+-- what is printed as one piece: a row of a walk, nothing of a row that is only passed, the inventory of a device that no row names,
+-- the bytes of an info, an image
 pub data Subject : Type 0 where
   OfRow : Row → Subject
+  Passed : Subject
   OfInventory : ℕ → Subject
   OfInfo : List ℕ → Subject
   OfImage : Subject
@@ -198,10 +200,15 @@ abbrev pub some_has_name : List ℕ → List Row → Bool
 some_has_name name [] = false
 some_has_name name (row ∷ rows) = view_has_name name (sdr.sdr_view_of row.bytes) || some_has_name name rows
 
--- a finished walk on which no record has the name ends by that
+-- how a listing of these rows ends: a finished walk on which no record has the name ends by that
+abbrev pub done_end : Task → List Row → RunEnd
+done_end (task.Get name) rows = if some_has_name name rows then WalkEnds Done else NoName
+done_end _ rows = WalkEnds Done
+
 abbrev pub run_end : Task → List Row → WalkEnd → RunEnd
-run_end (task.Get name) rows Done = if some_has_name name rows then WalkEnds Done else NoName
-run_end _ rows end = WalkEnds end
+run_end t rows Done = done_end t rows
+run_end t rows (CycleAt n) = WalkEnds (CycleAt n)
+run_end t rows (MissingAt n) = WalkEnds (MissingAt n)
 
 -- of a listing that goes along a walk once
 abbrev pub listing_plan : Task → Place → List Row → WalkEnd → Plan
@@ -240,8 +247,12 @@ abbrev pub inventory_item : ℕ → Item
 inventory_item id = record { subject = OfInventory id; spots = AtInventory id ∷ [] }
 
 -- of all inventories: that of device 0, and then the locators
-abbrev pub inventories_plan : List Row → WalkEnd → Plan
-inventories_plan walk end = record { items = inventory_item 0 ∷ row_items (task.Fru None) First walk; end = WalkEnds end; end_spots = end_spots First walk end }
+abbrev pub inventories_plan : Place → List Row → WalkEnd → Plan
+inventories_plan start walk end = record {
+  items = inventory_item 0 ∷ row_items (task.Fru None) start walk;
+  end = WalkEnds end;
+  end_spots = end_spots start walk end;
+}
 
 -- of one inventory
 abbrev pub inventory_plan : ℕ → Plan
@@ -262,7 +273,7 @@ counted_plan _ t start walk end = listing_plan t start walk end
 
 -- what a task is to print over a store, with the walk from its start and how that ends
 abbrev pub plan_of : Task → Store → Place → List Row → WalkEnd → Plan
-plan_of (task.Fru None) store start walk end = inventories_plan walk end
+plan_of (task.Fru None) store start walk end = inventories_plan start walk end
 plan_of (task.Fru (Some id)) store start walk end = inventory_plan id
 plan_of (task.Info shelf) store start walk end = info_plan (info_of shelf store)
 plan_of (task.SelList entries) store start walk end = counted_plan entries (task.SelList entries) start walk end
@@ -274,6 +285,7 @@ plan_of t store start walk end = listing_plan t start walk end
 -- a text of one piece
 abbrev pub IsItemText : Task → Store → Subject → List ℕ → Type 0
 IsItemText t store (OfRow row) text = IsRowPiece t store row text
+IsItemText t store Passed text = text ≡ []
 IsItemText t store (OfInventory id) text = IsInventoryPiece store id [] text
 IsItemText t store (OfInfo info) text = IsInfoBlock info text
 IsItemText t store OfImage text = text ≡ image_text_of store
@@ -291,14 +303,15 @@ abbrev pub AreTexts : Task → Store → List Item → List ℕ → Type 0
 AreTexts t store [] text = text ≡ []
 AreTexts t store (item ∷ items) text = TextsJoined (λ first. IsItemText t store item.subject first) (λ rest. AreTexts t store items rest) text
 
--- a row of bytes, as those of a store are
-abbrev pub IsRowOfBytes : Subject → Type 0
-IsRowOfBytes (OfRow row) = AreBytes row.bytes
-IsRowOfBytes _ = ⊥
+-- of bytes, as what a store has is
+abbrev pub IsOfBytes : Subject → Type 0
+IsOfBytes (OfRow row) = AreBytes row.bytes
+IsOfBytes (OfInfo info) = AreBytes info
+IsOfBytes _ = Unit {0}
 
-abbrev pub AreRowsOfBytes : List Item → Type 0
-AreRowsOfBytes [] = Unit {0}
-AreRowsOfBytes (item ∷ items) = IsRowOfBytes item.subject × AreRowsOfBytes items
+abbrev pub AreOfBytes : List Item → Type 0
+AreOfBytes [] = Unit {0}
+AreOfBytes (item ∷ items) = IsOfBytes item.subject × AreOfBytes items
 
 -- ---- allowed results
 
@@ -340,7 +353,7 @@ pub record HasFirstItems (t : Task) (store : Store) (plan : Plan) (old new : Lis
   pub items_are : plan.items ≡ done ++ rest
   pub printed : Printed t store done old new
 
--- texts of the first items were printed, and of a text of the next one the first bytes, perhaps none or all
+-- texts of the first items were printed, and of a text of the next one, which is not empty, the first bytes, perhaps none or all
 pub record HasCutItem (t : Task) (store : Store) (plan : Plan) (old new : List ℕ) : Type 0 where
   pub done : List Item
   pub item : Item
@@ -350,6 +363,7 @@ pub record HasCutItem (t : Task) (store : Store) (plan : Plan) (old new : List �
   pub printed : Printed t store done old whole
   pub text : List ℕ
   pub is_text : IsItemText t store item.subject text
+  pub some : 0 < length text
   pub bytes : ℕ
   pub new_is : new ≡ whole ++ take bytes text
 

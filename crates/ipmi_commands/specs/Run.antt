@@ -1,12 +1,10 @@
 -- What a run of a command leaves, and its exit status.
-use Rattle.std.specs.Prelude.{◌≡◌, ◌⊎◌, ℕ, ◌+◌, ◌*◌, ◌≤◌, ◌||◌, Bool, true, false, IsTrue, Result, Ok, Err, List, [], ◌++◌, codes}
-use Rattle.ipmi_bus.specs.declared.step.Place.{Place}
+use Rattle.std.specs.Prelude.{◌≡◌, ◌⊎◌, ℕ, ◌+◌, ◌*◌, ◌<◌, ◌≤◌, Bool, true, false, IsTrue, Result, Ok, Err, String, string_bytes, List, [], ◌++◌, length}
+use Rattle.std.specs.declared.alloc.Global.{Global}
 use Rattle.ipmi_bus.specs.declared.inventory.FruEnded.TheVariants as fru
 use Rattle.ipmi_bus.specs.declared.step.Ended.TheVariants.{Cycle, Missing, GaveUp}
 use Rattle.ipmi_bus.specs.Bounds.{step_call_bound}
-use Rattle.ipmi_bus.specs.Shelf.{Row}
-use Rattle.ipmi_bus.specs.Store.{Store, rows_of}
-use Rattle.ipmi_bus.specs.Walk.{IsWalk, WalkEnd, EndsBy}
+use Rattle.ipmi_bus.specs.Store.{Store}
 use Rattle.ipmi_bus.specs.Walk as walk_end
 use Rattle.ipmi_bus.specs.Seen.{Seen, IsHonest, StaysHonest}
 use Rattle.ipmi_image.specs.declared.image.ImageFault.{ImageFault}
@@ -27,27 +25,24 @@ use Rattle.ipmi_output.specs.Received.{Received, ReceivesText}
 use Rattle.ipmi_commands.specs.Pages.{ArePages, pages_made, IsOpen}
 use Rattle.ipmi_output.specs.Sink.{TakesPart}
 use Rattle.ipmi_commands.specs.Plan.{Request, request, Change, change, OnWalk, plan_of, rewrite_plan, Outcome, IsAllowed, CountsSo, IsFine}
-use Rattle.ipmi_command_line.specs.Task.{name_of, shelf_of, start_by}
+use Rattle.ipmi_command_line.specs.Task.{name_of, start_by}
 use Rattle.ipmi_commands.specs.Plan as plan
-
--- the tasks that can be run today
-abbrev pub is_built : Task → Bool
-is_built task.Hex = true
-is_built (task.List kind) = true
-is_built (task.Elist kind) = true
-is_built (task.SelList count.All) = true
-is_built (task.SelList (count.First n)) = true
-is_built (task.SelGet id) = true
-is_built _ = false
 
 -- the task that writes an image again is answered, and not run
 abbrev pub is_rewrite : Task → Bool
 is_rewrite task.Rewrite = true
 is_rewrite _ = false
 
--- the tasks whose answer depends on the image
-abbrev pub is_answered : Task → Bool
-is_answered t = is_rewrite t || is_built t
+-- the tasks that go along one walk, and ask for nothing before it
+abbrev pub lists_once : Task → Bool
+lists_once task.Hex = true
+lists_once (task.List kind) = true
+lists_once (task.Elist kind) = true
+lists_once (task.Get name) = true
+lists_once (task.SelList count.All) = true
+lists_once (task.SelList (count.First n)) = true
+lists_once (task.SelGet id) = true
+lists_once _ = false
 
 -- ---- over a controller
 
@@ -64,6 +59,17 @@ status_of (plan.Finished (plan.WalkEnds walk_end.Done)) = 0
 status_of plan.OutOfMemory = 5
 status_of plan.WriteFault = 4
 status_of _ = 1
+
+-- a text that is written, by how that stopped
+abbrev pub WritesText : List ℕ → List ℕ → List ℕ → Stop → Type 0
+WritesText text old new stop.Done = new ≡ old ++ text
+WritesText text old new stop.WriteFault = (0 < length text) × TakesPart old new text
+WritesText text old new _ = ⊥
+
+-- a text that was found, or nothing where it was not, for that reason
+abbrev pub WritesFound : Result (String Global) Stop → List ℕ → List ℕ → Stop → Type 0
+WritesFound (Ok text) old new result = WritesText (string_bytes text) old new result
+WritesFound (Err e) old new result = (result ≡ e) × (new ≡ old)
 
 -- what is said of how a listing of a task stopped: a line, or nothing where it is done
 abbrev pub stop_text : Task → Stop → List ℕ
@@ -124,6 +130,16 @@ AllowsAll r store old new outcome =
 abbrev pub CallsWithin : Request → Store → ℕ → ℕ → Type 0
 CallsWithin r store before after = OnWalk r store (λ walk end. after ≤ before + run_call_bound r.task store r.tries walk end)
 
+-- a task over an honest controller: how it stopped, and while no store is added what it leaves and how many calls it makes
+pub record Performs (r : Request) (c : Change) (result : Stop) : Type 0 where
+  pub outcome : Outcome
+  pub outcome_is : IsOutcome result outcome
+  pub stays : StaysHonest c.seen c.seen'
+  pub counts : CountsSo r.tries c.seen c.seen' outcome
+  pub plain : IsTrue c.seen.plain → IsFine outcome
+  pub allowed : c.seen'.stores_added ≡ c.seen.stores_added → AllowsAll r c.seen.store c.old c.new outcome
+  pub calls : c.seen'.stores_added ≡ c.seen.stores_added → CallsWithin r c.seen.store c.seen.calls c.seen'.calls
+
 -- over any controller a run ends as a listing may stop, and says so
 pub record EndsSo (t : Task) (e : Effect) (status : ℕ) : Type 0 where
   pub result : Stop
@@ -148,13 +164,13 @@ pub record IsRun (r : Request) (s s' : Seen) (e : Effect) (status : ℕ) : Type 
   pub allowed : s'.stores_added ≡ s.stores_added → AllowsAll r s.store e.old e.new outcome
   pub calls : s'.stores_added ≡ s.stores_added → CallsWithin r s.store s.calls s'.calls
 
--- what every run promises: its calls and its end over any controller, and what it is over an honest one; one that can't be made
--- yet only says how the program is called
+-- what every run promises: its calls and its end over any controller, and what it is over an honest one; that of the task that
+-- writes an image again only says how the program is called
 pub record Runs (command : CommandState) (s s' : Seen) (e : Effect) (status : ℕ) : Type 0 where
   pub calls : s'.calls ≤ s.calls + most_calls command.task command.tries
-  pub ends : is_built command.task ≡ true → EndsSo command.task e status
-  pub built : is_built command.task ≡ true → IsHonest s → IsRun (request_of command) s s' e status
-  pub unbuilt : is_built command.task ≡ false → (s' ≡ s) × OnlySays e status Usage 2
+  pub ends : is_rewrite command.task ≡ false → EndsSo command.task e status
+  pub honest : is_rewrite command.task ≡ false → IsHonest s → IsRun (request_of command) s s' e status
+  pub rewrite : is_rewrite command.task ≡ true → (s' ≡ s) × OnlySays e status Usage 2
 
 -- ---- a run in pages
 
@@ -175,7 +191,7 @@ pub record IsPagedRun (r : Request) (sizes : List ℕ) (s s' : Seen) (e : Effect
   pub result : Stop
   pub outcome : Outcome
   pub ended : HasEnded r s s' e result outcome status
-  pub pages : ArePages (request r.task r.start r.tries) sizes (change s s' e.old e.new) result
+  pub pages : ArePages r sizes (change s s' e.old e.new) result
   pub allowed : s'.stores_added ≡ s.stores_added → AllowsOpen r s.store e.old e.new outcome
   pub calls : s'.stores_added ≡ s.stores_added → PagesWithin r s.store sizes s.calls s'.calls
 
@@ -200,10 +216,8 @@ FailsToRead fault e status =
 
 -- the text of an image, by how writing it stopped
 abbrev pub WritesImage : List ℕ → List ℕ → List ℕ → Stop → Type 0
-WritesImage text old new stop.Done = new ≡ old ++ text
 WritesImage text old new stop.Memory = new ≡ old
-WritesImage text old new stop.WriteFault = TakesPart old new text
-WritesImage text old new _ = ⊥
+WritesImage text old new result = WritesText text old new result
 
 -- an image written again; nothing of it where memory runs out
 pub record IsRewriting (store : Store) (e : Effect) (status : ℕ) : Type 0 where
@@ -223,15 +237,13 @@ abbrev pub AnswersImage : Request → Result Store ImageFault → Effect → ℕ
 AnswersImage r (Ok store) e status = IsRunOverStore r store e status
 AnswersImage r (Err fault) e status = FailsToRead fault e status
 
--- by whether the task writes the image again, and whether it can be run today
-abbrev pub AnswersTask : Bool → Bool → Request → Result Store ImageFault → Effect → ℕ → Type 0
-AnswersTask true built r image e status = AnswersRewrite image e status
-AnswersTask false true r image e status = AnswersImage r image e status
-AnswersTask false false r image e status = OnlySays e status Usage 2
+-- by whether the task writes the image again
+abbrev pub AnswersTask : Bool → Request → Result Store ImageFault → Effect → ℕ → Type 0
+AnswersTask true r image e status = AnswersRewrite image e status
+AnswersTask false r image e status = AnswersImage r image e status
 
 abbrev pub AnswersCommand : CommandState → Result Store ImageFault → Effect → ℕ → Type 0
-AnswersCommand command image e status =
-    AnswersTask (is_rewrite command.task) (is_built command.task) (request_of command) image e status
+AnswersCommand command image e status = AnswersTask (is_rewrite command.task) (request_of command) image e status
 
 -- the answer to a command line over an image, by what the image gives
 abbrev pub AnswersLine : Result CommandState UsageFault → Result Store ImageFault → Effect → ℕ → Type 0

@@ -1,33 +1,37 @@
 //! What follows from the definitions of plans alone, each the contract of a function that does nothing.
-ghost use Rattle.std.specs.Prelude.{◌≡◌, ℕ, true, List};
+ghost use Rattle.std.specs.Prelude.{◌≡◌, ℕ, List};
 ghost use Rattle.ipmi_bus.specs.Store.{Store, IsStore};
 ghost use Rattle.ipmi_command_line.specs.declared.command.Task.{Task};
-ghost use Rattle.ipmi_commands.specs.Plan.{Item, AreRowsOfBytes, RunEnd, Finished, AreTexts};
-ghost use Rattle.ipmi_commands.specs.Plan.{Request};
-ghost use Rattle.ipmi_commands.specs.Run.{is_built, AllowsAll};
+ghost use Rattle.ipmi_commands.specs.Plan.{Item, AreOfBytes, Request, RunEnd, Finished, AreTexts};
+ghost use Rattle.ipmi_commands.specs.Run.{AllowsAll};
 
-/// The texts that a task which can be run today prints for rows are one text.
-pub fn rows_have_one_text()
-    ensures { (t : Task) (store : Store) (items : List Item) (a b : List ℕ) → is_built t ≡ true →
-        AreRowsOfBytes items → AreTexts t store items a → AreTexts t store items b → a ≡ b }
+/// The texts that a task prints for items are one text.
+pub fn items_have_one_text()
+    ensures { (t : Task) (store : Store) (items : List Item) (a b : List ℕ) → AreOfBytes items →
+        AreTexts t store items a → AreTexts t store items b → a ≡ b }
 {
     ipmi_records::laws::one_sdr_line();
     ipmi_records::laws::one_extended_line();
+    ipmi_records::laws::one_sdr_block();
     ipmi_records::laws::one_sel_line();
     ipmi_records::laws::one_sel_block();
+    ipmi_records::laws::one_info_block();
+    ipmi_fru::laws::one_fru_text();
 }
 
-/// So over a well-formed store a finished run of such a task leaves one output, and ends in one way.
+/// So over a well-formed store a finished run leaves one output, and ends in one way.
 pub fn finished_runs_are_one()
     ensures { (r : Request) (store : Store) (old a b : List ℕ) (e f : RunEnd) →
-        is_built r.task ≡ true →
         IsStore store → AllowsAll r store old a (Finished e) →
         AllowsAll r store old b (Finished f) → (a ≡ b) × (e ≡ f) }
 {
     ipmi_records::laws::one_sdr_line();
     ipmi_records::laws::one_extended_line();
+    ipmi_records::laws::one_sdr_block();
     ipmi_records::laws::one_sel_line();
     ipmi_records::laws::one_sel_block();
+    ipmi_records::laws::one_info_block();
+    ipmi_fru::laws::one_fru_text();
     ipmi_bus::laws::one_walk_has_an_end();
     ipmi_bus::laws::what_is_found_is_a_row();
 }

@@ -1,12 +1,16 @@
 //! The commands of `ipmitool`, run over any controller or answered over a saved image.
 #![tactic(auto)]
 
+mod info;
+mod inventory;
+mod last;
 pub mod laws;
 mod line;
 mod listing;
 mod pages;
+mod perform;
 mod piece;
 mod runs;
 mod stop;
 
-pub use runs::{answer, is_answered, run, run_pages, run_to_message_sink};
+pub use runs::{answer, run, run_pages, run_to_message_sink};

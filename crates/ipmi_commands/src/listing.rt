@@ -1,66 +1,129 @@
 //! Writes what a command prints for each record that a cursor hands out.
-ghost use Rattle.std.specs.Prelude.{◌≡◌, ◌+◌, true};
+ghost use Rattle.std.specs.Prelude.{◌≡◌, ◌+◌, ◌==◌, ◌||◌, not, length};
 ghost use Rattle.ipmi_bus.specs.Seen.{IsHonest};
-ghost use Rattle.ipmi_commands.specs.Listing.{IsListing, ListingCalls, after_one, faults_of, most_for_one};
+ghost use Rattle.ipmi_commands.specs.Listing.{course, faults_of, is_reached, most_for_one, passing, stop_at_end, IsListing, ListingCalls};
 ghost use Rattle.ipmi_command_line.specs.Task.{shelf_of};
-ghost use Rattle.ipmi_commands.specs.Run.{is_built};
-ghost use Rattle.ipmi_commands.specs.Listing.{course};
 
-use crate::piece::record_piece;
+use crate::piece::piece_in;
 use crate::stop::Stop;
 use ipmi_bus::{Controller, Cursor};
-use ipmi_command_line::Command;
+use ipmi_command_line::{Command, Task};
 use ipmi_output::{Sink, write_all};
 use std::alloc::Global;
 
-/// How many records are still wanted after one more, where there is a limit; nothing where no more is wanted.
-fn after_one(left: Option<u32>) -> Option<Option<u32>>
-    ensures { result ≡ after_one left }
+/// Which of the records along a walk are listed.
+#[derive(Clone, Copy)]
+pub(crate) struct Span {
+    /// How many are passed first, of which nothing is printed; all of them, where there is no number.
+    pub(crate) skip: Option<u32>,
+    /// After how many, those passed among them, the listing is done, where there is a limit.
+    pub(crate) most: Option<u32>,
+}
+
+/// How a listing stopped, and how many records it asked for and got.
+#[derive(Clone, Copy)]
+pub(crate) struct Listed {
+    pub(crate) stop: Stop,
+    pub(crate) count: u32,
+}
+
+/// Whether as many records were asked for as are wanted.
+pub(crate) fn is_reached(most: Option<u32>, count: u32) -> bool
+    ensures { result ≡ is_reached most count }
 {
-    match left {
-        None => Some(None),
-        Some(0) => None,
-        Some(n) => Some(Some(n - 1)),
+    match most {
+        None => false,
+        Some(n) => n == count,
     }
 }
 
-/// Writes what the command prints for each record from where the cursor stands, while the record is lent; for so many at most,
-/// where there is a limit.
+/// How many records are still to be passed after so many; all of them, where there is no number.
+fn passing(skip: Option<u32>, count: u32) -> Option<u32>
+    ensures { result ≡ passing skip count }
+{
+    match skip {
+        None => None,
+        Some(n) => Some(n.saturating_sub(count)),
+    }
+}
+
+/// Whether anything was written, with this text too.
+fn has_written(before: bool, text: &[u8]) -> bool
+    ensures { result ≡ before || not (length text.now == 0) }
+{
+    before || !text.is_empty()
+}
+
+/// How a listing of the task stops at its end, by whether it wrote anything.
+pub(crate) fn stop_at_end(task: &Task, wrote: bool) -> Stop
+    ensures value { result ≡ stop_at_end task.now wrote }
+    ensures unwritten { faults_of result ≡ 0 }
+{
+    match task {
+        Task::Get(_) if !wrote => Stop::NoName,
+        Task::Get(_)
+        | Task::Fru(_)
+        | Task::Hex
+        | Task::List(_)
+        | Task::Elist(_)
+        | Task::Info(_)
+        | Task::SelList(_)
+        | Task::SelGet(_)
+        | Task::Rewrite => Stop::Done,
+    }
+}
+
+/// Writes what the command prints for each record of the span from where the cursor stands, while the record is lent.
 pub(crate) fn list_records<C: Controller, O: Sink>(
     alloc: Global,
     cursor: &mut Cursor,
     ctl: &mut C,
     cmd: &Command,
-    most: Option<u32>,
+    span: Span,
     out: &mut O,
-) -> Stop
-    requires built { is_built cmd.now.task ≡ true }
+) -> Listed
     requires shelf { cursor.old.shelf ≡ shelf_of cmd.now.task }
     requires tries { cursor.old.tries ≡ cmd.now.tries }
-    ensures faults { O.faults out.new ≡ O.faults out.old + faults_of result }
+    ensures faults { O.faults out.new ≡ O.faults out.old + faults_of result.stop }
     ensures calls { ListingCalls (most_for_one cmd.now.task cmd.now.tries) cursor.old cursor.new
         (C.seen ctl.old) (C.seen ctl.new) }
     ensures honest { IsHonest (C.seen ctl.old) →
-        IsListing cmd.now.task cmd.now.tries most (course cursor.old cursor.new (C.seen ctl.old)
+        IsListing cmd.now.task cmd.now.tries span (course cursor.old cursor.new (C.seen ctl.old)
         (C.seen ctl.new) (O.taken out.old) (O.taken out.new)) result }
 {
-    let mut left = most;
+    let mut count = 0;
+    let mut wrote = false;
     'records: loop {
-        let Some(rest) = after_one(left) else {
-            return Stop::Done;
-        };
+        if is_reached(span.most, count) {
+            let stop = stop_at_end(cmd.task(), wrote);
+            return Listed { stop, count };
+        }
         let record = match cursor.step(ctl) {
             Ok(Some(record)) => record,
-            Ok(None) => return Stop::Done,
-            Err(ended) => return Stop::Ended(ended),
+            Ok(None) => {
+                let stop = stop_at_end(cmd.task(), wrote);
+                return Listed { stop, count };
+            }
+            Err(ended) => {
+                let stop = Stop::Ended(ended);
+                return Listed { stop, count };
+            }
         };
-        let text = match record_piece(alloc, ctl, cmd, &record) {
+        let passing = passing(span.skip, count);
+        let text = match piece_in(alloc, ctl, cmd, passing, &record) {
             Ok(text) => text,
-            Err(stop) => return stop,
+            Err(stop) => return Listed { stop, count },
         };
-        match write_all(out, text.as_bytes()) {
-            Ok(()) => left = rest,
-            Err(_) => return Stop::WriteFault,
+        let bytes = text.as_bytes();
+        match write_all(out, bytes) {
+            Ok(()) => {
+                wrote = has_written(wrote, bytes);
+                count += 1;
+            }
+            Err(_) => {
+                let stop = Stop::WriteFault;
+                return Listed { stop, count };
+            }
         }
     }
 }

@@ -1,5 +1,5 @@
 //! Lists records in pages, each with a cursor of its own.
-ghost use Rattle.std.specs.Prelude.{◌≡◌, ◌+◌, ◌*◌, ◌<◌, ◌≤◌, true, List, Some, IfOk};
+ghost use Rattle.std.specs.Prelude.{◌≡◌, ◌+◌, ◌*◌, ◌<◌, ◌≤◌, List, Some, IfOk, IfErr};
 ghost use Rattle.std.specs.Option.{ForSome};
 ghost use Rattle.ipmi_bus.specs.CursorState.{start_of};
 ghost use Rattle.ipmi_bus.specs.Seen.{IsHonest};
@@ -7,14 +7,13 @@ ghost use Rattle.ipmi_bus.specs.Shelf.{Row};
 ghost use Rattle.ipmi_bus.specs.Standing.{StandsAt};
 ghost use Rattle.ipmi_commands.specs.Listing.{faults_of, most_on_walk, IsPlace};
 ghost use Rattle.ipmi_command_line.specs.Task.{start_by};
-ghost use Rattle.ipmi_commands.specs.Run.{is_built};
-ghost use Rattle.ipmi_commands.specs.Pages.{listing_cursor, start_at, wants_none, pages_made, IsPage, ArePages};
+ghost use Rattle.ipmi_commands.specs.Pages.{listing_cursor, start_at, pages_made, IsPage, ArePages};
 ghost use Rattle.ipmi_commands.specs.Plan.{request, change};
 
-use crate::listing::list_records;
+use crate::listing::{Span, is_reached, list_records, stop_at_end};
 use crate::stop::Stop;
 use ipmi_bus::{Controller, Cursor, Ended, Place};
-use ipmi_command_line::Command;
+use ipmi_command_line::{Command, Task};
 use ipmi_output::Sink;
 use std::alloc::{AllocError, Global};
 
@@ -34,32 +33,27 @@ pub(crate) fn first_place(cmd: &Command) -> Place
 }
 
 /// The id that a cursor starts from at the place, or how a listing from there ends without one.
-fn start_at(place: Place) -> Result<Option<u16>, Stop>
+fn start_at(task: &Task, place: Place) -> Result<Option<u16>, Stop>
     requires { IsPlace place }
-    ensures value { result ≡ start_at place }
+    ensures value { result ≡ start_at task.now place }
+    ensures unwritten { IfErr result (λ stop. faults_of stop ≡ 0) }
     ensures range { IfOk result (λ from. ForSome from (λ id. (0 < id) × (id < 65535))) }
 {
     match place {
         Place::First => Ok(None),
         Place::Id(0) => Err(Stop::Ended(Ended::Cycle(0))),
         Place::Id(id) => Ok(Some(id)),
-        Place::End => Err(Stop::Done),
-    }
-}
-
-/// Whether a page has no record.
-fn wants_none(most: Option<u32>) -> bool
-    ensures { result ≡ wants_none most }
-{
-    match most {
-        None => false,
-        Some(n) => n == 0,
+        Place::End => Err(stop_at_end(task, false)),
     }
 }
 
 /// A cursor over the records that the command lists, from this id on or from the first. It asks for parts, and tries again, as
 /// the command says.
-fn start_cursor(alloc: Global, cmd: &Command, from: Option<u16>) -> Result<Cursor, AllocError>
+pub(crate) fn start_cursor(
+    alloc: Global,
+    cmd: &Command,
+    from: Option<u16>,
+) -> Result<Cursor, AllocError>
     requires { ForSome from (λ id. (0 < id) × (id < 65535)) }
     ensures stands { IfOk result (λ cursor. (rows walk : List Row) →
         StandsAt rows (start_of from) walk 0 cursor) }
@@ -78,8 +72,7 @@ pub(crate) fn list_page<C: Controller, O: Sink>(
     most: Option<u32>,
     out: &mut O,
 ) -> Page
-    requires built { is_built cmd.now.task ≡ true }
-    requires place { IsPlace place }
+    requires { IsPlace place }
     ensures faults { O.faults out.new ≡ O.faults out.old + faults_of result.stop }
     ensures place { IsPlace result.resume_at }
     ensures calls { (C.seen ctl.new).calls ≤ (C.seen ctl.old).calls + most_on_walk cmd.now.task
@@ -89,13 +82,15 @@ pub(crate) fn list_page<C: Controller, O: Sink>(
         IsPage (request cmd.now.task place cmd.now.tries) most result.resume_at
         (change (C.seen ctl.old) (C.seen ctl.new) (O.taken out.old) (O.taken out.new)) result.stop }
 {
-    if wants_none(most) {
+    let task = cmd.task();
+    if is_reached(most, 0) {
+        let stop = stop_at_end(task, false);
         return Page {
-            stop: Stop::Done,
+            stop,
             resume_at: place,
         };
     }
-    let from = match start_at(place) {
+    let from = match start_at(task, place) {
         Ok(from) => from,
         Err(stop) => {
             return Page {
@@ -110,9 +105,13 @@ pub(crate) fn list_page<C: Controller, O: Sink>(
             resume_at: place,
         };
     };
-    let stop = list_records(alloc, &mut cursor, ctl, cmd, most, out);
+    let span = Span {
+        skip: Some(0),
+        most,
+    };
+    let listed = list_records(alloc, &mut cursor, ctl, cmd, span, out);
     Page {
-        stop,
+        stop: listed.stop,
         resume_at: cursor.resume_at(),
     }
 }
@@ -125,7 +124,6 @@ pub(crate) fn list_pages<C: Controller, O: Sink>(
     sizes: &[u32],
     out: &mut O,
 ) -> Stop
-    requires { is_built cmd.now.task ≡ true }
     ensures faults { O.faults out.new ≡ O.faults out.old + faults_of result }
     ensures calls { (C.seen ctl.new).calls ≤ (C.seen ctl.old).calls + pages_made sizes.now *
         most_on_walk cmd.now.task cmd.now.tries }

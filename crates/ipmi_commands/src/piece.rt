@@ -1,23 +1,25 @@
 //! What a command prints for a record. Where the text needs a reading, it is asked for here, while the record is lent.
-ghost use Rattle.std.specs.Prelude.{◌≡◌, ◌+◌, ◌≤◌, true, IfOk, IfErr, length, string_bytes};
+ghost use Rattle.std.specs.Prelude.{◌≡◌, ◌+◌, ◌≤◌, IfOk, IfErr, length, string_bytes};
 ghost use Rattle.ipmi_bus.specs.Lent.{row_of_record};
 ghost use Rattle.ipmi_bus.specs.Seen.{IsHonest};
 ghost use Rattle.ipmi_bus.specs.Shelf.{whole_len};
+ghost use Rattle.ipmi_records.specs.Sdr.{name_of, sdr_view_of};
 ghost use Rattle.ipmi_records.specs.Sel.{sel_view_of};
 ghost use Rattle.ipmi_records.specs.SelText.{IsSelBlock, IsSelLine};
 ghost use Rattle.ipmi_commands.specs.Asking.{ReadsFor};
-ghost use Rattle.ipmi_commands.specs.Listing.{faults_of, Finds, FindsPiece};
-ghost use Rattle.ipmi_commands.specs.Plan.{most_after};
-ghost use Rattle.ipmi_commands.specs.Pieces.{is_of_kind, IsLineOf, IsListedOfKind};
-ghost use Rattle.ipmi_commands.specs.Plan.{listed_spots};
+ghost use Rattle.ipmi_commands.specs.Listing.{faults_of, Finds, FindsIn, FindsPiece};
+ghost use Rattle.ipmi_commands.specs.Pieces.{is_name, is_of_kind, IsBlockOfName, IsLineOf, IsListedOfKind};
+ghost use Rattle.ipmi_commands.specs.Plan.{listed_spots, most_after, named_spots};
 ghost use Rattle.ipmi_command_line.specs.Task.{shelf_of};
-ghost use Rattle.ipmi_commands.specs.Run.{is_built};
 
+use crate::inventory::locator_piece;
 use crate::line::record_line;
 use crate::stop::Stop;
 use ipmi_bus::{Controller, Ended, Record, read_reading};
 use ipmi_command_line::{Command, Kind, Task};
-use ipmi_records::{SdrView, SelView, sdr_eline, sdr_fault_line, sdr_line, sel_block, sel_line};
+use ipmi_records::{
+    SdrView, SelView, sdr_block, sdr_eline, sdr_fault_line, sdr_line, sel_block, sel_line,
+};
 use ipmi_text::Reading;
 use std::alloc::{AllocError, Global};
 
@@ -135,14 +137,50 @@ fn listed_line<C: Controller>(
     Ok(line_of(alloc, form, &view, reading)?)
 }
 
+/// Whether the record has this printed name.
+fn has_name(alloc: Global, view: &SdrView<'_>, name: &str) -> Result<bool, AllocError>
+    ensures { IfOk result (λ has. has ≡ is_name name.now (name_of view.now)) }
+{
+    match view.name(alloc)? {
+        Some(own) => Ok(name == own.as_str()),
+        None => Ok(false),
+    }
+}
+
+/// The block of a record with the name, nothing for one without it or with a fault.
+fn named_block<C: Controller>(
+    alloc: Global,
+    ctl: &mut C,
+    name: &str,
+    tries: u8,
+    lent: &Record<'_>,
+) -> Result<String, Stop>
+    ensures calls { (C.seen ctl.new).calls ≤ (C.seen ctl.old).calls + (tries + 1) }
+    ensures unwritten { IfErr result (λ stop. faults_of stop ≡ 0) }
+    ensures honest { let row = row_of_record lent.now in IsHonest (C.seen ctl.old) →
+        Finds (λ store text. IsBlockOfName name.now store row.id (sdr_view_of row.bytes) text)
+        (named_spots name.now row.id (sdr_view_of row.bytes)) tries (C.seen ctl.old)
+        (C.seen ctl.new) result }
+{
+    let Ok(view) = SdrView::read(lent.bytes) else {
+        return Ok(String::new(alloc));
+    };
+    let is_named = has_name(alloc, &view, name)?;
+    if !is_named {
+        return Ok(String::new(alloc));
+    }
+    let id = lent.id;
+    let reading = reading_for(ctl, id, &view, tries)?;
+    Ok(sdr_block(alloc, id, &view, reading)?)
+}
+
 /// What the command prints for the record, nothing for one that it leaves out.
-pub(crate) fn record_piece<C: Controller>(
+fn record_piece<C: Controller>(
     alloc: Global,
     ctl: &mut C,
     cmd: &Command,
     lent: &Record<'_>,
 ) -> Result<String, Stop>
-    requires built { is_built cmd.now.task ≡ true }
     requires whole { length lent.now.bytes.now ≡ whole_len (shelf_of cmd.now.task)
         lent.now.bytes.now }
     ensures calls { (C.seen ctl.new).calls ≤ (C.seen ctl.old).calls + most_after cmd.now.task
@@ -153,11 +191,36 @@ pub(crate) fn record_piece<C: Controller>(
         (C.seen ctl.new) result }
 {
     match cmd.task() {
+        Task::Fru(_) => locator_piece(alloc, ctl, cmd, lent),
         Task::Hex => Ok(record_line(alloc, lent)?),
         Task::List(kind) => listed_line(alloc, ctl, Form::Short, *kind, cmd.tries(), lent),
         Task::Elist(kind) => listed_line(alloc, ctl, Form::Extended, *kind, cmd.tries(), lent),
+        Task::Get(name) => named_block(alloc, ctl, name.as_str(), cmd.tries(), lent),
         Task::SelList(_) => Ok(entry_line(alloc, lent)?),
         Task::SelGet(_) => Ok(entry_block(alloc, lent)?),
-        Task::Fru(_) | Task::Get(_) | Task::Info(_) | Task::Rewrite => unreachable!(),
+        Task::Info(_) | Task::Rewrite => Ok(String::new(alloc)),
+    }
+}
+
+/// The same where so many records are still to be passed, or all of them: nothing is printed of those.
+pub(crate) fn piece_in<C: Controller>(
+    alloc: Global,
+    ctl: &mut C,
+    cmd: &Command,
+    passing: Option<u32>,
+    lent: &Record<'_>,
+) -> Result<String, Stop>
+    requires { length lent.now.bytes.now ≡ whole_len (shelf_of cmd.now.task)
+        lent.now.bytes.now }
+    ensures calls { (C.seen ctl.new).calls ≤ (C.seen ctl.old).calls + most_after cmd.now.task
+        cmd.now.tries }
+    ensures unwritten { IfErr result (λ stop. faults_of stop ≡ 0) }
+    ensures honest { IsHonest (C.seen ctl.old) →
+        FindsIn passing cmd.now.task cmd.now.tries (row_of_record lent.now) (C.seen ctl.old)
+        (C.seen ctl.new) result }
+{
+    match passing {
+        Some(0) => record_piece(alloc, ctl, cmd, lent),
+        Some(_) | None => Ok(String::new(alloc)),
     }
 }

@@ -7,35 +7,18 @@ ghost use Rattle.ipmi_command_line.specs.Task.{is_listing};
 ghost use Rattle.ipmi_commands.specs.Listing.{faults_of, most_calls};
 ghost use Rattle.ipmi_output.specs.Received.{ReceivesText, of_writer};
 ghost use Rattle.ipmi_commands.specs.Pages.{pages_made};
-ghost use Rattle.ipmi_commands.specs.Run.{stop_status, stop_text, fault_status, is_answered, is_built, is_rewrite, effect, request_of, EndsSo, IsPagedRun, Runs, Says, WritesImage, AnswersCommand, AnswersRewrite, AnswersLine};
+ghost use Rattle.ipmi_commands.specs.Run.{stop_status, stop_text, fault_status, is_rewrite, effect, request_of, EndsSo, IsPagedRun, Runs, Says, WritesImage, AnswersCommand, AnswersRewrite, AnswersLine};
 ghost use Rattle.ipmi_output.specs.declared.message.Message.TheVariants as message;
 
-use crate::pages::{first_place, list_page, list_pages};
+use crate::pages::list_pages;
+use crate::perform::{perform, write_text};
 use crate::stop::Stop;
 use ipmi_bus::{Controller, FruEnded};
-use ipmi_command_line::{Command, Count, Task, UsageFault};
+use ipmi_command_line::{Command, Task, UsageFault};
 use ipmi_image::{Image, ImageController, ImageFault, image_text};
-use ipmi_output::{Message, MessageSink, Sink, say, write_all};
+use ipmi_output::{Message, MessageSink, Sink, say};
 use std::alloc::Global;
 use std::io::Write;
-
-/// Whether the task can be run today.
-fn is_built(task: &Task) -> bool
-    ensures { result ≡ is_built task.now }
-{
-    match task {
-        Task::Hex
-        | Task::List(_)
-        | Task::Elist(_)
-        | Task::SelList(Count::All | Count::First(_))
-        | Task::SelGet(_) => true,
-        Task::SelList(Count::Last(_))
-        | Task::Fru(_)
-        | Task::Get(_)
-        | Task::Info(_)
-        | Task::Rewrite => false,
-    }
-}
 
 /// Whether the task writes the image again.
 fn is_rewrite(task: &Task) -> bool
@@ -52,13 +35,6 @@ fn is_rewrite(task: &Task) -> bool
         | Task::SelList(_)
         | Task::SelGet(_) => false,
     }
-}
-
-/// Whether the task can be answered over an image today, so that the image is looked at.
-pub fn is_answered(task: &Task) -> bool
-    ensures { result ≡ is_answered task.now }
-{
-    is_rewrite(task) || is_built(task)
 }
 
 /// The exit status by how a listing stopped.
@@ -135,8 +111,8 @@ fn report_image<E: MessageSink>(fault: ImageFault, err: &mut E) -> u8
 }
 
 /// Does what the command asks for over the controller, and gives the exit status: 0 where all was printed, 1 where
-/// a listing ended by name, 2 for a command that can't be run yet, 4 for a write fault, 5 where memory ran out. Messages
-/// go to any writer.
+/// it ended by name, 2 for `image rewrite`, which only `answer` can do, 4 for a write fault, 5 where memory ran out.
+/// Messages go to any writer.
 pub fn run<C: Controller, O: Sink, E: Write>(
     alloc: Global,
     ctl: &mut C,
@@ -166,11 +142,10 @@ pub fn run_to_message_sink<C: Controller, O: Sink, E: MessageSink>(
         (effect (O.taken out.old) (O.taken out.new) (E.received err.old) (E.received err.new))
         result }
 {
-    if !is_built(cmd.task()) {
+    if is_rewrite(cmd.task()) {
         return report_usage(err);
     }
-    let most = cmd.task().count().limit();
-    let stop = list_page(alloc, ctl, cmd, first_place(cmd), most, out).stop;
+    let stop = perform(alloc, ctl, cmd, out);
     report(cmd.task(), stop, err)
 }
 
@@ -202,7 +177,7 @@ pub fn run_pages<C: Controller, O: Sink, E: MessageSink>(
 }
 
 /// Answers a command line over a saved image, and gives the exit status: as `run`, and 3 for an image that is not
-/// read. After a usage fault, and for a command that can't be run yet, the image is not looked at.
+/// read. After a usage fault the image is not looked at.
 pub fn answer<O: Sink, E: MessageSink>(
     alloc: Global,
     line: &Result<Command, UsageFault>,
@@ -241,9 +216,6 @@ fn answer_command<O: Sink, E: MessageSink>(
     if is_rewrite(cmd.task()) {
         return rewrite(alloc, image, out, err);
     }
-    if !is_built(cmd.task()) {
-        return report_usage(err);
-    }
     match Image::read(alloc, image) {
         Ok(image) => run_to_message_sink(alloc, &mut ImageController::new(image), cmd, out, err),
         Err(fault) => report_image(fault, err),
@@ -275,8 +247,5 @@ fn write_image<O: Sink>(alloc: Global, image: &Image, out: &mut O) -> Stop
     let Ok(text) = image_text(alloc, image) else {
         return Stop::Memory;
     };
-    match write_all(out, &text) {
-        Ok(()) => Stop::Done,
-        Err(_) => Stop::WriteFault,
-    }
+    write_text(&text, out)
 }

@@ -97,6 +97,7 @@ impl<W: Write> Written<W> {
 pub fn write_all<O: Sink>(out: &mut O, bytes: &[u8]) -> Result<(), SinkFault>
     ensures ok { OnOk result ((O.taken out.new ≡ O.taken out.old ++ bytes.now) ×
         (O.faults out.new ≡ O.faults out.old)) }
+    ensures some { OnErr result (0 < length bytes.now) }
     ensures err { OnErr result (TakesPart (O.taken out.old) (O.taken out.new) bytes.now ×
         (O.faults out.new ≡ O.faults out.old + 1)) }
 {

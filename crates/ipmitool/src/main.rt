@@ -7,7 +7,6 @@ mod tests;
 
 use input::{InputFault, read_input, words_of};
 pub use ipmi_command_line::{Command, Count, Kind, Task, UsageFault, Word, Words, command_of};
-use ipmi_commands::is_answered;
 pub use ipmi_commands::{answer, run, run_pages, run_to_message_sink};
 pub use ipmi_output::{MessageSink, Sink, SinkFault, Written};
 use ipmi_output::{Message, say};
@@ -29,7 +28,7 @@ fn input_name(line: &Result<Command, UsageFault>) -> &str {
     }
 }
 
-/// Reads the command line and, where the answer depends on it, the image; answers on buffered standard output, and gives
+/// Reads the command line and, where it is a command, the image; answers on buffered standard output, and gives
 /// the exit status.
 fn program(rt: &HostRuntime) -> u8 {
     let mut err = Written::new(rt.stderr());
@@ -38,8 +37,8 @@ fn program(rt: &HostRuntime) -> u8 {
         Err(fault) => Err(fault),
     };
     let image = match &line {
-        Ok(command) if is_answered(command.task()) => read_input(rt, command.image()),
-        _ => Ok(Vec::new(rt.alloc())),
+        Ok(command) => read_input(rt, command.image()),
+        Err(_) => Ok(Vec::new(rt.alloc())),
     };
     let image = match image {
         Ok(image) => image,

@@ -47,3 +47,11 @@ pub(crate) fn read_words(
 pub(crate) fn command(rt: &impl Abort, alloc: Global, line: &str) -> Command {
     read_line(rt, alloc, line).expect(rt, "a command")
 }
+
+/// The command that these words are, which are split at commas where there is one, and else at spaces.
+pub(crate) fn command_of_case(rt: &impl Abort, alloc: Global, line: &str) -> Command {
+    if line.find(',').is_none() {
+        return command(rt, alloc, line);
+    }
+    read_words(rt, alloc, line).expect(rt, "a command")
+}

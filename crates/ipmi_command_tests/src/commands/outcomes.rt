@@ -3,9 +3,8 @@ use super::answers::{USAGE, is_answered, words_are_answered};
 use super::left::{is_left, left_by};
 use super::over_images::over;
 use super::saved::THREE_ROWS;
-use crate::command_line::lines::command;
-use ipmi_bus::Shelf;
-use ipmi_command_line::{Command, Task, UsageFault};
+use crate::command_line::lines::{command, read_line};
+use ipmi_command_line::{Command, UsageFault};
 use std::alloc::Global;
 use std::process::Abort;
 
@@ -44,23 +43,16 @@ fn a_cursor_starts_from_the_command(rt: HostRuntime) {
     leaves(&rt, rt.alloc(), FROM_THE_SECOND);
 }
 
-const NOT_RUN: &str = "sdr info
-2 0
-usage: ipmitool [--image FILE] [--from HEX4] [--part N] [--tries N] fru|sdr|sel WORDS
---
-====
-image rewrite
+const REWRITE: &str = "image rewrite
 2 0
 usage: ipmitool [--image FILE] [--from HEX4] [--part N] [--tries N] fru|sdr|sel WORDS
 --
 ";
 
-// No call is made for a command that can't be run yet, nor for one that only `answer` serves.
+// No call is made for a command that only `answer` serves.
 #[test]
-fn some_commands_are_not_run(rt: HostRuntime) {
-    for case in NOT_RUN.split("====\n") {
-        leaves(&rt, rt.alloc(), case);
-    }
+fn no_controller_is_written_as_an_image(rt: HostRuntime) {
+    leaves(&rt, rt.alloc(), REWRITE);
 }
 
 const OVER_THREE_RECORDS: &str = "
@@ -130,9 +122,37 @@ sdr list
 --
 ====
 sdr info
-2
-usage: ipmitool [--image FILE] [--from HEX4] [--part N] [--tries N] fru|sdr|sel WORDS
+1
+info not present
 --
+====
+sel
+1
+info not present
+--
+====
+sdr get Foo
+1
+no record named Foo
+--
+====
+sel list last 2
+0
+--
+====
+fru print 5
+0
+--
+FRU 5
+not present
+
+====
+fru
+0
+--
+FRU 0
+not present
+
 ";
 
 #[test]
@@ -160,8 +180,34 @@ fn is_answered_without_image(
 
 #[test]
 fn usage_faults_look_at_no_image(rt: HostRuntime) {
-    let unbuilt = Ok(Command::new(Task::Info(Shelf::Sdr), None, 32, 5, None));
-    is_answered_without_image(&rt, rt.alloc(), &unbuilt, USAGE);
     is_answered_without_image(&rt, rt.alloc(), &Err(UsageFault::Command), USAGE);
     is_answered_without_image(&rt, rt.alloc(), &Err(UsageFault::Memory), OUT_OF_MEMORY);
+}
+
+/// What an image that is none leaves.
+const NO_IMAGE: &str = "3
+image: header
+--
+";
+
+const COMMANDS: &str = "sdr hex
+sdr get Foo
+sdr info
+sel
+sel list last 2
+fru
+fru print 0
+image rewrite";
+
+/// Asserts that these words are answered by the fault of what is no image.
+fn looks_at_the_image(rt: &impl Abort, alloc: Global, words: &str) {
+    let line = read_line(rt, alloc, words);
+    is_answered_without_image(rt, alloc, &line, NO_IMAGE);
+}
+
+#[test]
+fn each_command_looks_at_its_image(rt: HostRuntime) {
+    for words in COMMANDS.lines() {
+        looks_at_the_image(&rt, rt.alloc(), words);
+    }
 }

@@ -1,5 +1,7 @@
 //! Controllers over saved images: plain ones, and those whose calls meet moods, each of which is written as a letter.
+use super::left::{Left, left_by};
 use super::saved::{CHANGED_ROWS, EMPTY};
+use crate::command_line::lines::command_of_case;
 use crate::controllers::Counting;
 use ipmi_bus::Code;
 use ipmi_image::{Image, ImageController, Mood, Scripted};
@@ -63,4 +65,10 @@ pub(crate) fn scripted(
         push(rt, alloc, &mut moods, *letter);
     }
     Counting::new(Scripted::new(image_of(rt, alloc, image), moods))
+}
+
+/// What a command leaves over the image.
+pub(super) fn left_over(rt: &impl Abort, alloc: Global, words: &str, image: &str) -> Left {
+    let mut ctl = over(rt, alloc, image);
+    left_by(alloc, &mut ctl, &command_of_case(rt, alloc, words))
 }

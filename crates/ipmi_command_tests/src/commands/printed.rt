@@ -2,23 +2,23 @@
 use super::left::{is_left, left_by};
 use super::over_images::scripted;
 use super::saved::image_named;
-use crate::command_line::lines::command;
+use crate::command_line::lines::command_of_case;
 use std::alloc::Global;
 use std::process::Abort;
 
 /// Asserts what a command leaves over an image. The first line of the case is the words, the name of the image and the
-/// moods that the calls meet; the other lines are what is left.
+/// moods that the calls meet, with bars between them; the other lines are what is left.
 fn prints(rt: &impl Abort, alloc: Global, case: &str) {
     let (first, wanted) = case.split_once('\n').expect(rt, "a first line");
     let (words, rest) = first.split_once('|').expect(rt, "words");
     let (name, moods) = rest.split_once('|').expect(rt, "an image and moods");
     let mut ctl = scripted(rt, alloc, image_named(rt, name), moods);
-    let left = left_by(alloc, &mut ctl, &command(rt, alloc, words));
+    let left = left_by(alloc, &mut ctl, &command_of_case(rt, alloc, words));
     is_left(rt, alloc, &left, wanted, first);
 }
 
 /// The same for each of these cases.
-fn all_print(rt: &impl Abort, alloc: Global, cases: &str) {
+pub(super) fn all_print(rt: &impl Abort, alloc: Global, cases: &str) {
     for case in cases.split("====\n") {
         prints(rt, alloc, case);
     }

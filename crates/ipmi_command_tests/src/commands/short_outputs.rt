@@ -1,8 +1,8 @@
 //! Outputs that fail or take few bytes, and messages to writers that do.
 use super::answers::{Answered, is_answer};
 use super::over_images::image_of;
-use super::saved::{THREE_LINES, THREE_ROWS, TO_NOWHERE};
-use crate::command_line::lines::command;
+use super::saved::{THREE_LINES, TO_NOWHERE, image_named};
+use crate::command_line::lines::{command, command_of_case};
 use crate::writers::{Full, Limited, Narrow, Slow};
 use ipmi_commands::{answer, run_to_message_sink};
 use ipmi_image::ImageController;
@@ -19,84 +19,205 @@ fn answer_words<O: Sink, E: MessageSink>(
     out: &mut O,
     err: &mut E,
 ) -> u8 {
-    let line = Ok(command(rt, alloc, words));
+    let line = Ok(command_of_case(rt, alloc, words));
     answer(alloc, &line, image.as_bytes(), out, err)
 }
 
+/// A command over an image with a name, and what it prints.
+#[derive(Clone, Copy)]
+struct Printed<'a> {
+    words: &'a str,
+    image: &'a str,
+    text: &'a str,
+}
+
 /// Asserts that an output with so much room has got as many bytes of the text, and that the answer says so.
-fn is_cut(rt: &impl Abort, alloc: Global, left: &Answered, text: &str, room: usize) {
-    let part = text.get(..room.min(text.len())).expect(rt, "a part");
-    let said = if room < text.len() {
-        "4\nwrite fault"
-    } else {
-        "0"
-    };
+fn is_cut(rt: &impl Abort, alloc: Global, left: &Answered, printed: &Printed, room: usize) {
+    let len = printed.text.len();
+    let part = printed.text.get(..room.min(len)).expect(rt, "a part");
+    let said = if room < len { "4\nwrite fault" } else { "0" };
     let wanted = format!(in alloc; "{said}\n--\n{part}").expect(rt, "memory");
-    is_answer(rt, alloc, left, wanted.as_str(), part);
+    let words = printed.words;
+    let case = format!(in alloc; "{words}: {room} bytes").expect(rt, "memory");
+    is_answer(rt, alloc, left, wanted.as_str(), case.as_str());
 }
 
 /// Asserts what the words leave in an output that takes so many bytes, and then fails.
-fn is_cut_where_it_fails(rt: &impl Abort, alloc: Global, words: &str, text: &str, room: usize) {
+fn is_cut_where_it_fails(rt: &impl Abort, alloc: Global, printed: &Printed, room: usize) {
     let got = Vec::new(alloc);
     let mut out = Written::new(Limited { got, room });
     let mut err = Vec::new(alloc);
-    let status = answer_words(rt, alloc, words, THREE_ROWS, &mut out, &mut err);
+    let image = image_named(rt, printed.image);
+    let status = answer_words(rt, alloc, printed.words, image, &mut out, &mut err);
     let out = out.into_inner().got;
-    is_cut(rt, alloc, &Answered { out, err, status }, text, room);
+    is_cut(rt, alloc, &Answered { out, err, status }, printed, room);
 }
 
 /// Asserts what the words leave in an output that takes so many bytes, and then none.
-fn is_cut_where_it_is_full(rt: &impl Abort, alloc: Global, words: &str, text: &str, room: usize) {
+fn is_cut_where_it_is_full(rt: &impl Abort, alloc: Global, printed: &Printed, room: usize) {
     let got = Vec::new(alloc);
     let mut out = Written::new(Full { got, room });
     let mut err = Vec::new(alloc);
-    let status = answer_words(rt, alloc, words, THREE_ROWS, &mut out, &mut err);
+    let image = image_named(rt, printed.image);
+    let status = answer_words(rt, alloc, printed.words, image, &mut out, &mut err);
     let out = out.into_inner().got;
-    is_cut(rt, alloc, &Answered { out, err, status }, text, room);
+    is_cut(rt, alloc, &Answered { out, err, status }, printed, room);
 }
 
-#[test]
-fn an_output_that_fails_keeps_what_was_taken(rt: HostRuntime) {
-    assert!(rt; THREE_LINES.len() == 81);
-    for room in 0..82 {
-        is_cut_where_it_fails(&rt, rt.alloc(), "sdr hex", THREE_LINES, room);
-    }
-}
+const PRINTED: [Printed<'static>; 10] = [
+    Printed {
+        words: "sdr hex",
+        image: "three",
+        text: THREE_LINES,
+    },
+    Printed {
+        words: "sdr,get,CPU Temp",
+        image: "sensor and locator",
+        text: "Record: 0001h
+Type: full
+Name: CPU Temp
+Owner: 20h LUN 0
+Sensor: 01h
+Entity: 3.1
+Kind: Temperature
+Event type: 01h
+Reading: 45 degrees C
+Status: ok
+Upper non-recoverable: 95 degrees C
+Upper critical: 90 degrees C
+Upper non-critical: 85 degrees C
 
-#[test]
-fn an_output_that_takes_no_more_keeps_what_was_taken(rt: HostRuntime) {
-    for room in 0..82 {
-        is_cut_where_it_is_full(&rt, rt.alloc(), "sdr hex", THREE_LINES, room);
-    }
-}
+",
+    },
+    Printed {
+        words: "sdr get PSU1",
+        image: "twins",
+        text: "Record: 0001h
+Type: FRU locator
+Name: PSU1
+Address: 20h
+Entity: 10.1
 
-/// The three records as they are written again.
-const REWRITTEN: &str = "ipmi-image 2
+Record: 0002h
+Type: FRU locator
+Name: PSU1
+Address: 20h
+Entity: 10.2
+
+",
+    },
+    Printed {
+        words: "sdr info",
+        image: "infos",
+        text: "Version: 0x51
+Records: 3
+Free Space: 1024
+Last Addition: 1987-01-05 18:48:33
+Last Erase: unspecified
+Overflow: no
+Support: 0x02
+",
+    },
+    Printed {
+        words: "sel",
+        image: "log",
+        text: "Version: 0x51
+Records: 3
+Free Space: 1024
+Last Addition: 1987-01-05 18:48:33
+Last Erase: unspecified
+Overflow: no
+Support: 0x02
+",
+    },
+    Printed {
+        words: "sel list last 2",
+        image: "log",
+        text: "0002 | +536870912 s | Temperature #0x30 | Upper Non-critical going high | Deasserted
+0003 | unspecified | OEM record 0xc0 | 001357 | 010203040506
+",
+    },
+    Printed {
+        words: "fru print 0",
+        image: "inventory",
+        text: "FRU 0
+Chassis Type: Rack Mount Chassis
+
+",
+    },
+    Printed {
+        words: "fru",
+        image: "two locators",
+        text: "FRU 0
+Chassis Type: Rack Mount Chassis
+
+FRU 1 (PSU1)
+FRU fault: header short
+
+FRU 2 (PSU2)
+Chassis fault: outside
+
+",
+    },
+    Printed {
+        words: "fru print",
+        image: "elsewhere in three ways",
+        text: "FRU 0
+not present
+
+FRU (AB): elsewhere, not read
+
+FRU (CD): elsewhere, not read
+
+FRU (EF): elsewhere, not read
+
+",
+    },
+    Printed {
+        words: "image rewrite",
+        image: "three",
+        text: "ipmi-image 2
 sdr 0001 - 010051c001aa
 sdr 0002 - 020051c002bbcc
 sdr 0003 - 030051c000
 end
-";
+",
+    },
+];
 
+/// Asserts what is left in an output of each room, up to one byte more than the text has.
+fn is_cut_anywhere(rt: &impl Abort, alloc: Global, printed: &Printed) {
+    for room in 0..=printed.text.len().saturating_add(1) {
+        is_cut_where_it_fails(rt, alloc, printed, room);
+        is_cut_where_it_is_full(rt, alloc, printed, room);
+    }
+}
+
+// Whether it fails or takes no more: the output is a first part of the whole text.
 #[test]
-fn an_image_that_is_written_again_may_be_cut_short(rt: HostRuntime) {
-    is_cut_where_it_fails(&rt, rt.alloc(), "image rewrite", REWRITTEN, 20);
+fn an_output_keeps_what_was_taken_before_its_fault(rt: HostRuntime) {
+    for printed in &PRINTED {
+        is_cut_anywhere(&rt, rt.alloc(), printed);
+    }
+}
+
+/// Asserts what is left in an output that takes one byte a call.
+fn is_whole_by_bytes(rt: &impl Abort, alloc: Global, printed: &Printed) {
+    let got = Vec::new(alloc);
+    let mut out = Written::new(Narrow { got });
+    let mut err = Vec::new(alloc);
+    let image = image_named(rt, printed.image);
+    let status = answer_words(rt, alloc, printed.words, image, &mut out, &mut err);
+    let out = out.into_inner().got;
+    let left = Answered { out, err, status };
+    is_cut(rt, alloc, &left, printed, printed.text.len());
 }
 
 #[test]
 fn an_output_may_take_one_byte_a_call(rt: HostRuntime) {
-    let got = Vec::new(rt.alloc());
-    let mut out = Written::new(Narrow { got });
-    let mut err = Vec::new(rt.alloc());
-    let status = answer_words(&rt, rt.alloc(), "sdr hex", THREE_ROWS, &mut out, &mut err);
-    let out = out.into_inner().got;
-    is_cut(
-        &rt,
-        rt.alloc(),
-        &Answered { out, err, status },
-        THREE_LINES,
-        81,
-    );
+    for printed in &PRINTED {
+        is_whole_by_bytes(&rt, rt.alloc(), printed);
+    }
 }
 
 #[test]

@@ -1,0 +1,420 @@
+//! A fault at each call of a command: a busy or a cancelled call that is outlived, one too many of them, a refusal, and
+//! a part that is too long.
+use super::left::{Left, is_left, left_by};
+use super::over_images::scripted;
+use super::saved::image_named;
+use crate::command_line::lines::command_of_case;
+use std::alloc::Global;
+use std::process::Abort;
+
+/// A command over an image, what it leaves, and what a fault does at each of its calls.
+#[derive(Clone, Copy)]
+struct Course<'a> {
+    /// The words, split at commas.
+    words: &'a str,
+    /// The name of the image.
+    image: &'a str,
+    /// A line for each call: what a message names after a fault there, how many lines are printed before, and how many
+    /// calls are made where the call is cancelled once.
+    faults: &'a str,
+    /// The line of the message, where one is left without a fault.
+    said: &'a str,
+    /// The output without a fault.
+    out: &'a str,
+}
+
+/// What a fault does at a call.
+#[derive(Clone, Copy)]
+struct Fault<'a> {
+    names: &'a str,
+    lines: usize,
+    calls: u32,
+}
+
+/// What a line of a course says.
+fn fault_of<'a>(rt: &impl Abort, line: &'a str) -> Fault<'a> {
+    let (names, rest) = line.split_once('|').expect(rt, "what is named");
+    let (lines, calls) = rest.split_once('|').expect(rt, "a number of lines");
+    Fault {
+        names,
+        lines: lines.parse::<usize>().expect(rt, "a number of lines"),
+        calls: calls.parse::<u32>().expect(rt, "a number of calls"),
+    }
+}
+
+const BLOCK: &str = "Record: 0001h
+Type: full
+Name: CPU Temp
+Owner: 20h LUN 0
+Sensor: 01h
+Entity: 3.1
+Kind: Temperature
+Event type: 01h
+Reading: 45 degrees C
+Status: ok
+Upper non-recoverable: 95 degrees C
+Upper critical: 90 degrees C
+Upper non-critical: 85 degrees C
+
+";
+
+const LOCATOR_BLOCK: &str = "Record: 0002h
+Type: FRU locator
+Name: PSU1
+Address: 20h
+Entity: 10.1
+
+";
+
+const INFO: &str = "Version: 0x51
+Records: 3
+Free Space: 1024
+Last Addition: 1987-01-05 18:48:33
+Last Erase: unspecified
+Overflow: no
+Support: 0x02
+";
+
+const NEWEST: &str =
+    "0002 | +536870912 s | Temperature #0x30 | Upper Non-critical going high | Deasserted
+0003 | unspecified | OEM record 0xc0 | 001357 | 010203040506
+";
+
+const INVENTORY: &str = "FRU 0
+Chassis Type: Rack Mount Chassis
+
+";
+
+const INVENTORIES: &str = "FRU 0
+Chassis Type: Rack Mount Chassis
+
+FRU 1 (PSU1)
+FRU fault: header short
+
+FRU 2 (PSU2)
+Chassis fault: outside
+
+";
+
+// A record that is cancelled begins again with a reservation, and its calls so far are made twice. Where a reading or
+// an inventory is cancelled the reservation is lost too, so that the next record begins again after its header.
+const COURSES: [Course<'static>; 10] = [
+    Course {
+        words: "sdr,get,CPU Temp",
+        image: "sensor and locator",
+        faults: "0000h|0|8
+0000h|0|9
+0000h|0|10
+0000h|0|11
+0001h|0|11
+0002h|14|9
+0002h|14|10",
+        said: "",
+        out: BLOCK,
+    },
+    Course {
+        words: "sdr,get,PSU1",
+        image: "sensor and locator",
+        faults: "0000h|0|7
+0000h|0|8
+0000h|0|9
+0000h|0|10
+0002h|0|8
+0002h|0|9",
+        said: "",
+        out: LOCATOR_BLOCK,
+    },
+    Course {
+        words: "sdr,get,Foo",
+        image: "sensor and locator",
+        faults: "0000h|0|7
+0000h|0|8
+0000h|0|9
+0000h|0|10
+0002h|0|8
+0002h|0|9",
+        said: "no record named Foo\n",
+        out: "",
+    },
+    Course {
+        words: "sdr,info",
+        image: "infos",
+        faults: "0000h|0|2",
+        said: "",
+        out: INFO,
+    },
+    Course {
+        words: "sel,info",
+        image: "log",
+        faults: "0000h|0|2",
+        said: "",
+        out: INFO,
+    },
+    Course {
+        words: "sdr,info",
+        image: "three",
+        faults: "0000h|0|2",
+        said: "info not present\n",
+        out: "",
+    },
+    Course {
+        words: "sel,list,last,2",
+        image: "log",
+        faults: "0000h|0|9
+0000h|0|10
+0002h|0|10
+0003h|0|10
+0000h|0|9
+0000h|0|10
+0002h|0|10
+0003h|1|10",
+        said: "",
+        out: NEWEST,
+    },
+    Course {
+        words: "fru,print,0",
+        image: "inventory",
+        faults: "fru 0|0|3
+fru 0|0|3",
+        said: "",
+        out: INVENTORY,
+    },
+    Course {
+        words: "--part,8,fru,print,0",
+        image: "inventory",
+        faults: "fru 0|0|4
+fru 0|0|4
+fru 0|0|4",
+        said: "",
+        out: INVENTORY,
+    },
+    Course {
+        words: "fru,print",
+        image: "two locators",
+        faults: "fru 0|0|12
+fru 0|0|12
+0000h|3|12
+0000h|3|13
+0000h|3|14
+fru 1|3|15
+fru 1|3|15
+0002h|6|13
+0002h|6|14
+fru 2|6|12
+fru 2|6|12",
+        said: "",
+        out: INVENTORIES,
+    },
+];
+
+/// How many calls the course makes without a fault.
+fn calls_of(course: &Course) -> u32 {
+    let mut calls: u32 = 0;
+    for _ in course.faults.lines() {
+        calls = calls.saturating_add(1);
+    }
+    calls
+}
+
+/// What the course leaves with so many tries, where its calls meet these moods.
+fn left_of(rt: &impl Abort, alloc: Global, course: &Course, tries: u8, moods: &str) -> Left {
+    let words = course.words;
+    let words = format!(in alloc; "--tries,{tries},{words}").expect(rt, "memory");
+    let mut ctl = scripted(rt, alloc, image_named(rt, course.image), moods);
+    left_by(alloc, &mut ctl, &command_of_case(rt, alloc, words.as_str()))
+}
+
+/// All that the course leaves, after so many calls.
+fn whole_text(rt: &impl Abort, alloc: Global, course: &Course, calls: u32) -> String {
+    let status = if course.said.is_empty() { 0 } else { 1 };
+    let said = course.said;
+    let out = course.out;
+    format!(in alloc; "{status} {calls}\n{said}--\n{out}").expect(rt, "memory")
+}
+
+/// Puts a line at the end.
+fn push_line(rt: &impl Abort, lines: &mut String, line: &str) {
+    lines.push_str(line).expect(rt, "memory");
+    lines.push_str("\n").expect(rt, "memory");
+}
+
+/// The first lines of a text, so many.
+fn first_lines(rt: &impl Abort, alloc: Global, text: &str, count: usize) -> String {
+    let mut lines = String::new(alloc);
+    for line in text.lines().take(count) {
+        push_line(rt, &mut lines, line);
+    }
+    lines
+}
+
+/// What a course leaves that ends at its call of this number, with this message after the first lines.
+fn ended_text(
+    rt: &impl Abort,
+    alloc: Global,
+    course: &Course,
+    call: u32,
+    fault: &Fault,
+    said: &str,
+) -> String {
+    let lines = first_lines(rt, alloc, course.out, fault.lines);
+    format!(in alloc; "1 {call}\n{said}\n--\n{lines}").expect(rt, "memory")
+}
+
+/// That the tries for what is named were used up.
+fn gave_up(rt: &impl Abort, alloc: Global, names: &str) -> String {
+    if names.starts_with("fru") {
+        return format!(in alloc; "{names} gave up").expect(rt, "memory");
+    }
+    format!(in alloc; "gave up at {names}").expect(rt, "memory")
+}
+
+/// That what is named was refused.
+fn refused(rt: &impl Abort, alloc: Global, names: &str) -> String {
+    if names.starts_with("fru") {
+        return format!(in alloc; "{names} refused with code D4h").expect(rt, "memory");
+    }
+    format!(in alloc; "record {names} refused with code D4h").expect(rt, "memory")
+}
+
+/// Moods that grant the calls before one, which meets this mood.
+fn moods_at(rt: &impl Abort, alloc: Global, call: u32, mood: &str) -> String {
+    let mut moods = String::new(alloc);
+    for _ in 1..call {
+        moods.push_str(".").expect(rt, "memory");
+    }
+    moods.push_str(mood).expect(rt, "memory");
+    moods
+}
+
+/// What a call of a course meets.
+#[derive(Clone, Copy)]
+enum Meeting {
+    /// It is busy once, and there is one try.
+    Busy,
+    /// It is cancelled once, and there is one try.
+    Cancelled,
+    /// It is busy, and there is no try.
+    BusyAtLast,
+    /// It is cancelled, and there is no try.
+    CancelledAtLast,
+    /// It is refused.
+    Refused,
+    /// Its part is too long, if it asks for one.
+    TooLong,
+}
+
+/// How many tries there are, and the mood that the call meets.
+fn script_of(meeting: Meeting) -> (u8, &'static str) {
+    match meeting {
+        Meeting::Busy => (1, "B"),
+        Meeting::Cancelled => (1, "C"),
+        Meeting::BusyAtLast => (0, "B"),
+        Meeting::CancelledAtLast => (0, "C"),
+        Meeting::Refused => (5, "R"),
+        Meeting::TooLong => (0, "L"),
+    }
+}
+
+/// What the course leaves where its call of this number meets this. The number of calls is compared but for a part that is
+/// too long.
+fn wanted_of(
+    rt: &impl Abort,
+    alloc: Global,
+    course: &Course,
+    call: u32,
+    fault: &Fault,
+    meeting: Meeting,
+    calls: u32,
+) -> String {
+    match meeting {
+        Meeting::Busy => whole_text(rt, alloc, course, calls_of(course).saturating_add(1)),
+        Meeting::Cancelled => whole_text(rt, alloc, course, fault.calls),
+        Meeting::TooLong => whole_text(rt, alloc, course, calls),
+        Meeting::BusyAtLast | Meeting::CancelledAtLast => {
+            let said = gave_up(rt, alloc, fault.names);
+            ended_text(rt, alloc, course, call, fault, said.as_str())
+        }
+        Meeting::Refused => {
+            let said = refused(rt, alloc, fault.names);
+            ended_text(rt, alloc, course, call, fault, said.as_str())
+        }
+    }
+}
+
+/// Asserts what the course leaves where its call of this number meets this.
+fn is_met(
+    rt: &impl Abort,
+    alloc: Global,
+    course: &Course,
+    call: u32,
+    fault: &Fault,
+    meeting: Meeting,
+) {
+    let (tries, mood) = script_of(meeting);
+    let moods = moods_at(rt, alloc, call, mood);
+    let left = left_of(rt, alloc, course, tries, moods.as_str());
+    let wanted = wanted_of(rt, alloc, course, call, fault, meeting, left.calls);
+    let words = course.words;
+    let case = format!(in alloc; "{words}: {moods}").expect(rt, "memory");
+    is_left(rt, alloc, &left, wanted.as_str(), case.as_str());
+}
+
+/// The same for each call of the course.
+fn is_met_at_each_call(rt: &impl Abort, alloc: Global, course: &Course, meeting: Meeting) {
+    let mut call: u32 = 0;
+    for line in course.faults.lines() {
+        call = call.saturating_add(1);
+        is_met(rt, alloc, course, call, &fault_of(rt, line), meeting);
+    }
+}
+
+/// The same for each course.
+fn all_are_met(rt: &impl Abort, alloc: Global, meeting: Meeting) {
+    for course in &COURSES {
+        is_met_at_each_call(rt, alloc, course, meeting);
+    }
+}
+
+/// Asserts that the course leaves all after a call for each of its lines, where no call meets a fault.
+fn is_whole_without_faults(rt: &impl Abort, alloc: Global, course: &Course) {
+    let left = left_of(rt, alloc, course, 0, "");
+    let wanted = whole_text(rt, alloc, course, calls_of(course));
+    is_left(rt, alloc, &left, wanted.as_str(), course.words);
+}
+
+#[test]
+fn without_a_fault_no_try_is_needed(rt: HostRuntime) {
+    for course in &COURSES {
+        is_whole_without_faults(&rt, rt.alloc(), course);
+    }
+}
+
+#[test]
+fn a_busy_call_is_made_again(rt: HostRuntime) {
+    all_are_met(&rt, rt.alloc(), Meeting::Busy);
+}
+
+#[test]
+fn a_cancelled_call_changes_no_output(rt: HostRuntime) {
+    all_are_met(&rt, rt.alloc(), Meeting::Cancelled);
+}
+
+#[test]
+fn without_tries_a_busy_call_is_the_last(rt: HostRuntime) {
+    all_are_met(&rt, rt.alloc(), Meeting::BusyAtLast);
+}
+
+#[test]
+fn without_tries_a_cancelled_call_is_the_last(rt: HostRuntime) {
+    all_are_met(&rt, rt.alloc(), Meeting::CancelledAtLast);
+}
+
+#[test]
+fn a_refused_call_is_the_last(rt: HostRuntime) {
+    all_are_met(&rt, rt.alloc(), Meeting::Refused);
+}
+
+#[test]
+fn a_part_that_is_too_long_changes_no_output(rt: HostRuntime) {
+    all_are_met(&rt, rt.alloc(), Meeting::TooLong);
+}

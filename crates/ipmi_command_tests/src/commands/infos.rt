@@ -1,0 +1,219 @@
+//! The infos of the two shelves: seven lines, none where there is no info, and what troubles and refusals make of them.
+use super::left::{is_left, left_by};
+use super::over_images::interrupting;
+use super::printed::all_print;
+use super::saved::image_named;
+use crate::command_line::lines::command;
+use std::alloc::Global;
+use std::process::Abort;
+
+const BLOCKS: &str = "sel info|log|
+0 1
+--
+Version: 0x51
+Records: 3
+Free Space: 1024
+Last Addition: 1987-01-05 18:48:33
+Last Erase: unspecified
+Overflow: no
+Support: 0x02
+====
+sel|log|
+0 1
+--
+Version: 0x51
+Records: 3
+Free Space: 1024
+Last Addition: 1987-01-05 18:48:33
+Last Erase: unspecified
+Overflow: no
+Support: 0x02
+====
+sdr info|infos|
+0 1
+--
+Version: 0x51
+Records: 3
+Free Space: 1024
+Last Addition: 1987-01-05 18:48:33
+Last Erase: unspecified
+Overflow: no
+Support: 0x02
+====
+sel info|infos|
+0 1
+--
+Version: 0x02
+Records: 65535
+Free Space: 65535
+Last Addition: +0 s
+Last Erase: +536870912 s
+Overflow: yes
+Support: 0x82
+====
+--part 1 --tries 0 sel info|log|
+0 1
+--
+Version: 0x51
+Records: 3
+Free Space: 1024
+Last Addition: 1987-01-05 18:48:33
+Last Erase: unspecified
+Overflow: no
+Support: 0x02
+";
+
+// Each shelf has its own info, and a call asks for all of it.
+#[test]
+fn an_info_is_seven_lines(rt: HostRuntime) {
+    all_print(&rt, rt.alloc(), BLOCKS);
+}
+
+const NONE: &str = "sdr info|three|
+1 1
+info not present
+--
+====
+sdr info|log|
+1 1
+info not present
+--
+====
+sel info|three|
+1 1
+info not present
+--
+====
+sel|empty|
+1 1
+info not present
+--
+";
+
+#[test]
+fn an_image_may_have_no_info(rt: HostRuntime) {
+    all_print(&rt, rt.alloc(), NONE);
+}
+
+const MOODS: &str = "--tries 0 sel info|log|B
+1 1
+gave up at 0000h
+--
+====
+--tries 0 sdr info|infos|C
+1 1
+gave up at 0000h
+--
+====
+--tries 1 sel|log|BC
+1 2
+gave up at 0000h
+--
+====
+sel|log|BCBCBC
+1 6
+gave up at 0000h
+--
+====
+sel|log|BCBCB
+0 6
+--
+Version: 0x51
+Records: 3
+Free Space: 1024
+Last Addition: 1987-01-05 18:48:33
+Last Erase: unspecified
+Overflow: no
+Support: 0x02
+====
+sdr info|infos|R
+1 1
+record 0000h refused with code D4h
+--
+====
+sel info|log|CR
+1 2
+record 0000h refused with code D4h
+--
+====
+sel info|three|B
+1 2
+info not present
+--
+====
+sel info|log|L
+0 1
+--
+Version: 0x51
+Records: 3
+Free Space: 1024
+Last Addition: 1987-01-05 18:48:33
+Last Erase: unspecified
+Overflow: no
+Support: 0x02
+";
+
+// With five tries a sixth trouble is the end.
+#[test]
+fn an_info_is_asked_for_until_it_comes(rt: HostRuntime) {
+    all_print(&rt, rt.alloc(), MOODS);
+}
+
+/// Asserts what is left by a request for the log's info that is answered a code. The first line of the case is the code
+/// in hex, and the other lines are what is left.
+fn is_left_after(rt: &impl Abort, alloc: Global, case: &str) {
+    let (digits, wanted) = case.split_once('\n').expect(rt, "a code");
+    let code = u8::from_str_radix(digits, 16).expect(rt, "a code in hex");
+    let mut ctl = interrupting(rt, alloc, image_named(rt, "log"), 1, code);
+    let left = left_by(alloc, &mut ctl, &command(rt, alloc, "--tries 0 sel"));
+    is_left(rt, alloc, &left, wanted, digits);
+}
+
+const CODES: &str = "c7
+1 1
+record 0000h refused with code C7h
+--
+====
+c8
+1 1
+record 0000h refused with code C8h
+--
+====
+ca
+1 1
+record 0000h refused with code CAh
+--
+====
+c9
+1 1
+record 0000h refused with code C9h
+--
+====
+ff
+1 1
+record 0000h refused with code FFh
+--
+====
+cb
+1 1
+info not present
+--
+====
+c3
+1 1
+gave up at 0000h
+--
+====
+81
+1 1
+gave up at 0000h
+--
+";
+
+// An info has no parts, so that no smaller one can be asked for.
+#[test]
+fn each_code_ends_a_request_for_an_info_in_its_way(rt: HostRuntime) {
+    for case in CODES.split("====\n") {
+        is_left_after(&rt, rt.alloc(), case);
+    }
+}

@@ -1,0 +1,390 @@
+//! Commands over written answers, as no image gives them: empty parts, sizes in words, records that never end.
+use super::left::{is_left, left_by};
+use crate::command_line::lines::command;
+use crate::controllers::{Counting, Endless, Replay, Reply};
+use ipmi_bus::FruSize;
+use std::alloc::Global;
+use std::process::Abort;
+
+/// Words, what their calls are answered, and what they leave.
+#[derive(Clone, Copy)]
+struct Case {
+    words: &'static str,
+    replies: &'static [Reply],
+    wanted: &'static str,
+}
+
+/// An inventory of eight bytes.
+const EIGHT: Reply = Reply::Has(FruSize {
+    size: 8,
+    words: false,
+});
+
+/// Asserts what the words leave over these answers.
+fn is_left_over_answers(rt: &impl Abort, alloc: Global, case: &Case) {
+    let mut ctl = Counting::new(Replay::new(case.replies));
+    let left = left_by(alloc, &mut ctl, &command(rt, alloc, case.words));
+    is_left(rt, alloc, &left, case.wanted, case.words);
+}
+
+/// The same for each of these cases.
+fn all_are_left(rt: &impl Abort, alloc: Global, cases: &[Case]) {
+    for case in cases {
+        is_left_over_answers(rt, alloc, case);
+    }
+}
+
+const STALLED: [Case; 7] = [
+    Case {
+        words: "fru print 0",
+        replies: &[Reply::Has(FruSize {
+            size: 8,
+            words: true,
+        })],
+        wanted: "1 1\nfru 0 uses words\n--\n",
+    },
+    Case {
+        words: "fru print 254",
+        replies: &[Reply::Has(FruSize {
+            size: 0,
+            words: true,
+        })],
+        wanted: "1 1\nfru 254 uses words\n--\n",
+    },
+    Case {
+        words: "fru print 0",
+        replies: &[EIGHT, Reply::Gives(&[], 0)],
+        wanted: "1 2\nfru 0 stalled\n--\n",
+    },
+    Case {
+        words: "fru print 7",
+        replies: &[EIGHT, Reply::Gives(&[1, 0, 0], 0), Reply::Gives(&[], 0)],
+        wanted: "1 3\nfru 7 stalled\n--\n",
+    },
+    Case {
+        words: "fru print 0",
+        replies: &[EIGHT, Reply::Fails(0xCA)],
+        wanted: "1 5\nfru 0 stalled\n--\n",
+    },
+    Case {
+        words: "--part 3 fru print 0",
+        replies: &[EIGHT, Reply::Fails(0xC7)],
+        wanted: "1 3\nfru 0 stalled\n--\n",
+    },
+    Case {
+        words: "--part 1 --tries 0 fru print 0",
+        replies: &[EIGHT, Reply::Fails(0xC8)],
+        wanted: "1 2\nfru 0 stalled\n--\n",
+    },
+];
+
+// Words are not read. An empty part, or one of one byte that is too long, goes no further: after eight bytes four, two
+// and one are asked for, and after three bytes one.
+#[test]
+fn an_inventory_by_words_or_without_bytes_is_named(rt: HostRuntime) {
+    all_are_left(&rt, rt.alloc(), &STALLED);
+}
+
+const REFUSED: [Case; 7] = [
+    Case {
+        words: "fru print 0",
+        replies: &[Reply::Fails(0xC7)],
+        wanted: "1 1\nfru 0 refused with code C7h\n--\n",
+    },
+    Case {
+        words: "fru print 0",
+        replies: &[Reply::Fails(0xCA)],
+        wanted: "1 1\nfru 0 refused with code CAh\n--\n",
+    },
+    Case {
+        words: "fru print 0",
+        replies: &[EIGHT, Reply::Fails(0xC9)],
+        wanted: "1 2\nfru 0 refused with code C9h\n--\n",
+    },
+    Case {
+        words: "fru print 0",
+        replies: &[Reply::Fails(0xCB)],
+        wanted: "0 1\n--\nFRU 0\nnot present\n\n",
+    },
+    Case {
+        words: "fru print 0",
+        replies: &[EIGHT, Reply::Fails(0xCB)],
+        wanted: "0 2\n--\nFRU 0\nnot present\n\n",
+    },
+    Case {
+        words: "fru print 0",
+        replies: &[EIGHT, Reply::Gives(&[1, 0, 0], 0), Reply::Fails(0xCB)],
+        wanted: "0 3\n--\nFRU 0\nnot present\n\n",
+    },
+    Case {
+        words: "--tries 1 fru print 0",
+        replies: &[
+            EIGHT,
+            Reply::Fails(0x81),
+            Reply::Gives(&[1, 0, 0, 0], 0),
+            Reply::Fails(0xC3),
+        ],
+        wanted: "1 4\nfru 0 gave up\n--\n",
+    },
+];
+
+// A size has no parts, so that no smaller one can be asked for. Of CBh it is no matter which call is answered it.
+#[test]
+fn an_inventory_is_refused_by_code(rt: HostRuntime) {
+    all_are_left(&rt, rt.alloc(), &REFUSED);
+}
+
+const DISHONEST: [Case; 4] = [
+    Case {
+        words: "fru print 0",
+        replies: &[Reply::Has(FruSize {
+            size: 0,
+            words: false,
+        })],
+        wanted: "0 1\n--\nFRU 0\nFRU fault: header short\n\n",
+    },
+    Case {
+        words: "fru print 0",
+        replies: &[
+            Reply::Has(FruSize {
+                size: 65_535,
+                words: false,
+            }),
+            Reply::Gives(&[0; 32], 0),
+        ],
+        wanted: "0 2049\n--\nFRU 0\nFRU fault: header version\n\n",
+    },
+    Case {
+        words: "--part 254 fru print 0",
+        replies: &[
+            Reply::Has(FruSize {
+                size: 65_535,
+                words: false,
+            }),
+            Reply::Gives(&[0xFF; 254], 0),
+        ],
+        wanted: "0 260\n--\nFRU 0\nFRU fault: header version\n\n",
+    },
+    Case {
+        words: "fru print 0",
+        replies: &[
+            EIGHT,
+            Reply::Gives(&[1], 0),
+            Reply::Gives(&[0], 0),
+            Reply::Gives(&[0], 0),
+            Reply::Gives(&[0], 0),
+            Reply::Gives(&[0], 0),
+            Reply::Gives(&[0], 0),
+            Reply::Gives(&[0], 0),
+            Reply::Gives(&[0xFF, 1, 2], 0),
+        ],
+        wanted: "0 9\n--\nFRU 0\n\n",
+    },
+];
+
+// Nothing, more than any device has, and parts of one byte whatever was asked for. 65,535 bytes take 2,048 parts of 32
+// bytes, or 259 of 254. The last part has no room for more than the eighth byte.
+#[test]
+fn an_inventory_of_any_size_is_printed(rt: HostRuntime) {
+    all_are_left(&rt, rt.alloc(), &DISHONEST);
+}
+
+/// A reservation.
+const RESERVED: Reply = Reply::Reserves(1);
+
+/// The header of a locator of FRU device 1 without a name, after which eleven bytes follow.
+const LOCATOR_HEADER: Reply = Reply::Gives(&[0x01, 0x00, 0x51, 0x11, 0x0B], 0xFFFF);
+
+/// The bytes after that header.
+const LOCATOR_BODY: Reply = Reply::Gives(
+    &[
+        0x20, 0x01, 0x80, 0x00, 0x00, 0x00, 0x00, 0x0A, 0x01, 0x00, 0xC0,
+    ],
+    0xFFFF,
+);
+
+const WALKS: [Case; 14] = [
+    Case {
+        words: "sdr get Foo",
+        replies: &[RESERVED, Reply::Gives(&[], 0)],
+        wanted: "1 2\nstalled at 0000h\n--\n",
+    },
+    Case {
+        words: "sdr get Foo",
+        replies: &[RESERVED, LOCATOR_HEADER, Reply::Gives(&[], 0)],
+        wanted: "1 3\nstalled at 0000h\n--\n",
+    },
+    Case {
+        words: "sdr get Foo",
+        replies: &[RESERVED, Reply::Fails(0xCA)],
+        wanted: "1 4\nstalled at 0000h\n--\n",
+    },
+    Case {
+        words: "sdr get Foo",
+        replies: &[RESERVED, Reply::Gives(&[0x01, 0x00, 0x51, 0xC0, 0xFC], 0)],
+        wanted: "1 2\nmalformed record 0000h\n--\n",
+    },
+    Case {
+        words: "sdr get Foo",
+        replies: &[Reply::Fails(0xCB)],
+        wanted: "1 1\nrecord 0000h refused with code CBh\n--\n",
+    },
+    Case {
+        words: "sdr get Foo",
+        replies: &[RESERVED, LOCATOR_HEADER, LOCATOR_BODY],
+        wanted: "1 3\nno record named Foo\n--\n",
+    },
+    Case {
+        words: "sel list last 1",
+        replies: &[RESERVED, Reply::Gives(&[], 0)],
+        wanted: "1 2\nstalled at 0000h\n--\n",
+    },
+    Case {
+        words: "sel list last 1",
+        replies: &[RESERVED, Reply::Fails(0xC8)],
+        wanted: "1 6\nstalled at 0000h\n--\n",
+    },
+    Case {
+        words: "sel list last 1",
+        replies: &[RESERVED, Reply::Gives(&[7; 16], 0x0707)],
+        wanted: "1 2\ncycle at 0707h\n--\n",
+    },
+    Case {
+        words: "sel list last 1",
+        replies: &[
+            RESERVED,
+            Reply::Gives(&[7; 16], 0xFFFF),
+            RESERVED,
+            Reply::Gives(&[9; 16], 0xFFFF),
+        ],
+        wanted: "0 4\n--\n0909 | record type 0x09 | 09090909090909090909090909\n",
+    },
+    Case {
+        words: "fru",
+        replies: &[
+            EIGHT,
+            Reply::Gives(&[2; 8], 0),
+            RESERVED,
+            Reply::Gives(&[], 0),
+        ],
+        wanted: "1 4\nstalled at 0000h\n--\nFRU 0\nFRU fault: header version\n\n",
+    },
+    Case {
+        words: "fru",
+        replies: &[
+            EIGHT,
+            Reply::Gives(&[2; 8], 0),
+            RESERVED,
+            LOCATOR_HEADER,
+            LOCATOR_BODY,
+            Reply::Has(FruSize {
+                size: 8,
+                words: true,
+            }),
+        ],
+        wanted: "1 6\nfru 1 uses words\n--\nFRU 0\nFRU fault: header version\n\n",
+    },
+    Case {
+        words: "fru",
+        replies: &[
+            EIGHT,
+            Reply::Gives(&[2; 8], 0),
+            RESERVED,
+            LOCATOR_HEADER,
+            LOCATOR_BODY,
+            EIGHT,
+            Reply::Gives(&[], 0),
+        ],
+        wanted: "1 7\nfru 1 stalled\n--\nFRU 0\nFRU fault: header version\n\n",
+    },
+    Case {
+        words: "fru",
+        replies: &[
+            Reply::Fails(0xCB),
+            RESERVED,
+            LOCATOR_HEADER,
+            LOCATOR_BODY,
+            Reply::Fails(0xCB),
+        ],
+        wanted: "0 5\n--\nFRU 0\nnot present\n\nFRU 1 ()\nnot present\n\n",
+    },
+];
+
+// Of a record five bytes, two and one are asked for, and of an entry sixteen, eight, four, two and one. The second walk
+// prints what it finds.
+#[test]
+fn a_walk_over_written_answers_ends_by_name(rt: HostRuntime) {
+    all_are_left(&rt, rt.alloc(), &WALKS);
+}
+
+const ALWAYS_CANCELLED: [Case; 3] = [
+    Case {
+        words: "sdr get Foo",
+        replies: &CANCELLED,
+        wanted: "1 12\ngave up at 0000h\n--\n",
+    },
+    Case {
+        words: "sel list last 2",
+        replies: &CANCELLED,
+        wanted: "1 12\ngave up at 0000h\n--\n",
+    },
+    Case {
+        words: "fru print 9",
+        replies: &[Reply::Fails(0xC5)],
+        wanted: "1 6\nfru 9 gave up\n--\n",
+    },
+];
+
+/// A reservation each time, under which a part is cancelled.
+const CANCELLED: [Reply; 12] = [
+    RESERVED,
+    Reply::Fails(0xC5),
+    RESERVED,
+    Reply::Fails(0xC5),
+    RESERVED,
+    Reply::Fails(0xC5),
+    RESERVED,
+    Reply::Fails(0xC5),
+    RESERVED,
+    Reply::Fails(0xC5),
+    RESERVED,
+    Reply::Fails(0xC5),
+];
+
+// Five tries after the first one.
+#[test]
+fn a_sixth_cancelled_part_is_the_last(rt: HostRuntime) {
+    all_are_left(&rt, rt.alloc(), &ALWAYS_CANCELLED);
+}
+
+/// Asserts what the words leave over records without a last one.
+fn is_left_endless(rt: &impl Abort, alloc: Global, words: &str, wanted: &str) {
+    let mut ctl = Counting::new(Endless::new());
+    let left = left_by(alloc, &mut ctl, &command(rt, alloc, words));
+    is_left(rt, alloc, &left, wanted, words);
+}
+
+const NO_NAME: &str = "1 65536
+no record named Foo
+--
+";
+
+const NEWEST: &str = "0 524282
+--
+fffd | record type 0x51 | c000fdff51c000fdff51c000fd
+fffe | record type 0x51 | c000feff51c000feff51c000fe
+";
+
+const REFUSED_DEVICE: &str = "1 1
+fru 0 refused with code FFh
+--
+";
+
+// 65,535 records in one call each, and as many entries in four each, since a part has at most five bytes here. The
+// entries are counted, and are all passed but for two.
+#[test]
+fn a_walk_without_a_last_record_ends(rt: HostRuntime) {
+    is_left_endless(&rt, rt.alloc(), "sdr get Foo", NO_NAME);
+    is_left_endless(&rt, rt.alloc(), "sel list last 2", NEWEST);
+    is_left_endless(&rt, rt.alloc(), "fru", REFUSED_DEVICE);
+}

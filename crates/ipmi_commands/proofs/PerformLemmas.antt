@@ -1,0 +1,264 @@
+-- A task of one text, and all inventories: a text and then a listing.
+use Rattle.std.proofs.Common.{◌≡◌, ℕ, ◌+◌, ◌<◌, ◌≤◌, IsTrue, Bool, true, false, Option, None, Some, Result, Ok, Err, String, string_bytes, Global, List, [], ◌∷◌, ◌++◌, length, refl, sym, ap, subst, arith}
+use Rattle.ipmi_bus.specs.declared.controller.Shelf.{Shelf}
+use Rattle.ipmi_bus.specs.declared.step.Place.{Place}
+use Rattle.ipmi_bus.specs.Seen.{Seen, stays_trans}
+use Rattle.ipmi_bus.specs.Shelf.{Row}
+use Rattle.ipmi_bus.specs.Store.{Store, info_of}
+use Rattle.ipmi_bus.specs.Walk.{WalkEnd, Done, CycleAt, MissingAt}
+use Rattle.ipmi_command_line.specs.declared.command.Task.{Task}
+use Rattle.ipmi_command_line.specs.declared.command.Task.TheVariants as task
+use Rattle.ipmi_commands.specs.declared.stop.Stop.{Stop}
+use Rattle.ipmi_commands.specs.declared.stop.Stop.TheVariants as stop
+use Rattle.ipmi_commands.specs.Listing.{is_done, first_plan, AsksAt, IsOutcome, Finds, FindsInfo, IsBlockOfInfo, MayStopAt, calls_at_spots, run_call_bound}
+use Rattle.ipmi_commands.specs.Pages.{IsPage, PageAlong}
+use Rattle.ipmi_output.specs.Sink.{TakesPart}
+use Rattle.ipmi_commands.specs.Plan.{Request, request, Change, change, OnWalk, Plan, Item, OfInfo, Spot, AtRecord, RunEnd, WalkEnds, run_end, row_items, end_spots, IsItemText, Printed, Outcome, IsAllowed, CountsSo, IsFine, spots_at, inventory_item, info_plan, plan_of}
+use Rattle.ipmi_commands.specs.Plan as plan
+use Rattle.ipmi_commands.specs.Run.{Performs, WritesFound}
+use Rattle.ipmi_commands.proofs.ItemLemmas.{none_printed, one_printed, after_items, leaves_joined}
+use Rattle.ipmi_commands.proofs.ListingLemmas.{counts_since}
+use Rattle.ipmi_commands.proofs.PageLemmas.{done}
+
+-- nothing was printed
+pub same_printed : (t : Task) (store : Store) (old new : List ℕ) → new ≡ old → Printed t store [] old new
+same_printed t store old new same = subst (λ (l : List ℕ). Printed t store [] old l) (sym same) (none_printed t store old)
+
+-- what is given up or refused before anything is printed, or memory wanted
+pub stops_first : (t : Task) (store : Store) (p : Plan) (old new : List ℕ) (outcome : Outcome) → new ≡ old → MayStopAt (spots_at p.items p.end_spots) outcome → IsAllowed t store p old new outcome
+stops_first t store p old new (plan.Finished e) same may = absurd may
+stops_first t store p old new (plan.GaveUp spot) same may = record { done = []; rest = p.items; items_are = refl; printed = same_printed t store old new same; there = may }
+stops_first t store p old new (plan.Refused spot code) same may = record { done = []; rest = p.items; items_are = refl; printed = same_printed t store old new same; there = may }
+stops_first t store p old new plan.OutOfMemory same may = record { done = []; rest = p.items; items_are = refl; printed = same_printed t store old new same }
+stops_first t store p old new plan.WriteFault same may = absurd may
+
+-- ---- a text that is found and written
+
+abbrev FindsItem : Task → Item → ℕ → Seen → Seen → Result (String Global) Stop → Type 0
+FindsItem t item tries s s' found = Finds (λ store text. IsItemText t store item.subject text) item.spots tries s s' found
+
+-- it is written whole
+pub record TextWritten (t : Task) (item : Item) (tries : ℕ) (c : Change) : Type 0 where
+  pub asks : AsksAt item.spots tries c.seen c.seen'
+  pub refusals : c.seen'.refusals ≡ c.seen.refusals
+  pub printed : c.seen'.stores_added ≡ c.seen.stores_added → Printed t c.seen.store (item ∷ []) c.old c.new
+
+-- or it stops there, whatever was to come after it
+pub record TextStops (t : Task) (item : Item) (tries : ℕ) (c : Change) (result : Stop) : Type 0 where
+  pub asks : AsksAt item.spots tries c.seen c.seen'
+  pub outcome : Outcome
+  pub outcome_is : IsOutcome result outcome
+  pub counts : CountsSo tries c.seen c.seen' outcome
+  pub plain : IsTrue c.seen.plain → IsFine outcome
+  pub allowed : (more : List Item) (e : RunEnd) (at_end : List Spot) → c.seen'.stores_added ≡ c.seen.stores_added
+      → IsAllowed t c.seen.store (record { items = item ∷ more; end = e; end_spots = at_end }) c.old c.new outcome
+
+module _ (t : Task) (item : Item) (tries : ℕ) (c : Change) where
+  pub text_written : (found : Result (String Global) Stop) → FindsItem t item tries c.seen c.seen' found → WritesFound found c.old c.new stop.Done → (found ≡ Err stop.Done → ⊥) → TextWritten t item tries c
+  text_written (Ok text) finds writes never = record { asks = finds.asks; refusals = finds.refusals; printed = λ same. one_printed t c.seen.store item (string_bytes text) c.old c.new (finds.is same) writes }
+  text_written (Err e) finds writes never = absurd (never (ap Err (sym writes.0)))
+
+  pub text_stops : (found : Result (String Global) Stop) (result : Stop) → FindsItem t item tries c.seen c.seen' found → WritesFound found c.old c.new result → is_done result ≡ false → TextStops t item tries c result
+  text_stops (Ok text) stop.Done finds writes stopped = cc stopped
+  text_stops (Ok text) stop.WriteFault finds writes stopped = record {
+    asks = finds.asks;
+    outcome = plan.WriteFault;
+    outcome_is = refl;
+    counts = finds.refusals;
+    plain = λ p. tt;
+    allowed = λ more e at_end same. record {
+      done = [];
+      item = item;
+      rest = more;
+      items_are = refl;
+      whole = c.old;
+      printed = none_printed t c.seen.store c.old;
+      text = string_bytes text;
+      is_text = finds.is same;
+      some = writes.0;
+      bytes = writes.1.0;
+      new_is = writes.1.1;
+    };
+  }
+  text_stops (Ok text) _ finds writes stopped = absurd writes
+  text_stops (Err e) result finds writes stopped = record {
+    asks = finds.asks;
+    outcome = finds.outcome;
+    outcome_is = subst (λ (x : Stop). IsOutcome x finds.outcome) (sym writes.0) finds.outcome_is;
+    counts = finds.counts;
+    plain = finds.plain;
+    allowed = λ more e at_end same. stops_first t c.seen.store (record { items = item ∷ more; end = e; end_spots = at_end }) c.old c.new finds.outcome writes.1 finds.there;
+  }
+
+-- a piece that is not found does not end by Done
+pub never_found : (t : Task) (item : Item) (tries : ℕ) (s s' : Seen) (found : Result (String Global) Stop) → FindsItem t item tries s s' found → found ≡ Err stop.Done → ⊥
+never_found t item tries s s' (Ok text) finds is = cc is
+never_found t item tries s s' (Err e) finds is =
+    let done : e ≡ stop.Done = cc is in
+    let ended = subst (λ (x : Stop). IsOutcome x finds.outcome) done finds.outcome_is in
+    subst (MayStopAt item.spots) ended finds.there
+
+-- ---- a task of one text
+
+pub one_text_performs : (r : Request) (item : Item) (c : Change) (found : Result (String Global) Stop) (result : Stop)
+    → ((store : Store) (walk : List Row) (end : WalkEnd) → plan_of r.task store r.start walk end ≡ record { items = item ∷ []; end = WalkEnds Done; end_spots = [] })
+    → ((store : Store) (walk : List Row) (end : WalkEnd) → calls_at_spots r.tries store item.spots ≤ run_call_bound r.task store r.tries walk end)
+    → FindsItem r.task item r.tries c.seen c.seen' found → WritesFound found c.old c.new result → Performs r c result
+one_text_performs r item c found result plan_is bound_is finds writes = by_case (is_done result) refl
+  where
+    within : AsksAt item.spots r.tries c.seen c.seen' → c.seen'.stores_added ≡ c.seen.stores_added → (walk : List Row) (end : WalkEnd) → c.seen'.calls ≤ c.seen.calls + run_call_bound r.task c.seen.store r.tries walk end
+    within asks same walk end = let calls = asks.calls same in let bound = bound_is c.seen.store walk end in omega (arith, calls, bound)
+
+    by_case : (b : Bool) → is_done result ≡ b → Performs r c result
+    by_case false stopped =
+        let stops = text_stops r.task item r.tries c found result finds writes stopped in
+        record {
+          outcome = stops.outcome;
+          outcome_is = stops.outcome_is;
+          stays = stops.asks.stays;
+          counts = stops.counts;
+          plain = stops.plain;
+          allowed = λ same walk end w ends. subst (λ (p : Plan). IsAllowed r.task c.seen.store p c.old c.new stops.outcome) (sym (plan_is c.seen.store walk end)) (stops.allowed [] (WalkEnds Done) [] same);
+          calls = λ same walk end w ends. within stops.asks same walk end;
+        }
+    by_case true is =
+        let is_done_ = done result is in
+        let written = text_written r.task item r.tries c found finds (subst (WritesFound found c.old c.new) is_done_ writes) (never_found r.task item r.tries c.seen c.seen' found finds) in
+        record {
+          outcome = plan.Finished (WalkEnds Done);
+          outcome_is = subst (λ (x : Stop). IsOutcome x (plan.Finished (WalkEnds Done))) (sym is_done_) refl;
+          stays = written.asks.stays;
+          counts = written.refusals;
+          plain = λ p. tt;
+          allowed = λ same walk end w ends. subst (λ (p : Plan). IsAllowed r.task c.seen.store p c.old c.new (plan.Finished (WalkEnds Done))) (sym (plan_is c.seen.store walk end)) (written.printed same, refl);
+          calls = λ same walk end w ends. within written.asks same walk end;
+        }
+
+-- ---- the info of a shelf
+
+module _ (shelf : Shelf) (start : Place) (tries : ℕ) (c : Change) where
+  info_asked : (walk : List Row) (end : WalkEnd) → AsksAt (AtRecord 0 ∷ []) tries c.seen c.seen' → c.seen'.stores_added ≡ c.seen.stores_added → c.seen'.calls ≤ c.seen.calls + run_call_bound (task.Info shelf) c.seen.store tries walk end
+  info_asked walk end asks same = let calls = asks.calls same in omega (arith, calls)
+
+  info_printed : (o : Option (List ℕ)) (text : List ℕ) → IsBlockOfInfo o text → c.new ≡ c.old ++ text → IsAllowed (task.Info shelf) c.seen.store (info_plan o) c.old c.new (plan.Finished (WalkEnds Done))
+  info_printed None text is wrote = absurd is
+  info_printed (Some info) text is wrote = (one_printed (task.Info shelf) c.seen.store (record { subject = OfInfo info; spots = AtRecord 0 ∷ [] }) text c.old c.new is wrote, refl)
+
+  info_cut : (o : Option (List ℕ)) (text : List ℕ) → IsBlockOfInfo o text → 0 < length text → TakesPart c.old c.new text → IsAllowed (task.Info shelf) c.seen.store (info_plan o) c.old c.new plan.WriteFault
+  info_cut None text is some part = absurd is
+  info_cut (Some info) text is some part = record {
+    done = [];
+    item = record { subject = OfInfo info; spots = AtRecord 0 ∷ [] };
+    rest = [];
+    items_are = refl;
+    whole = c.old;
+    printed = none_printed (task.Info shelf) c.seen.store c.old;
+    text = text;
+    is_text = is;
+    some = some;
+    bytes = part.0;
+    new_is = part.1;
+  }
+
+  info_stops : (o : Option (List ℕ)) (outcome : Outcome) → c.new ≡ c.old → MayStopAt (AtRecord 0 ∷ []) outcome → IsAllowed (task.Info shelf) c.seen.store (info_plan o) c.old c.new outcome
+  info_stops None outcome same may = stops_first (task.Info shelf) c.seen.store (info_plan None) c.old c.new outcome same may
+  info_stops (Some info) outcome same may = stops_first (task.Info shelf) c.seen.store (info_plan (Some info)) c.old c.new outcome same may
+
+  info_lacks : (o : Option (List ℕ)) → o ≡ None → c.new ≡ c.old → IsAllowed (task.Info shelf) c.seen.store (info_plan o) c.old c.new (plan.Finished plan.NoInfo)
+  info_lacks o none same =
+      let printed : IsAllowed (task.Info shelf) c.seen.store (info_plan None) c.old c.new (plan.Finished plan.NoInfo) = (same_printed (task.Info shelf) c.seen.store c.old c.new same, refl) in
+      subst (λ (x : Option (List ℕ)). IsAllowed (task.Info shelf) c.seen.store (info_plan x) c.old c.new (plan.Finished plan.NoInfo)) (sym none) printed
+
+  pub info_performs : (found : Result (String Global) Stop) (result : Stop) → FindsInfo shelf tries c.seen c.seen' found → WritesFound found c.old c.new result → Performs (request (task.Info shelf) start tries) c result
+  info_performs (Ok text) stop.Done finds writes = record {
+    outcome = plan.Finished (WalkEnds Done);
+    outcome_is = refl;
+    stays = finds.asks.stays;
+    counts = finds.refusals;
+    plain = λ p. tt;
+    allowed = λ same walk end w ends. info_printed (info_of shelf c.seen.store) (string_bytes text) (finds.is same) writes;
+    calls = λ same walk end w ends. info_asked walk end finds.asks same;
+  }
+  info_performs (Ok text) stop.WriteFault finds writes = record {
+    outcome = plan.WriteFault;
+    outcome_is = refl;
+    stays = finds.asks.stays;
+    counts = finds.refusals;
+    plain = λ p. tt;
+    allowed = λ same walk end w ends. info_cut (info_of shelf c.seen.store) (string_bytes text) (finds.is same) writes.0 writes.1;
+    calls = λ same walk end w ends. info_asked walk end finds.asks same;
+  }
+  info_performs (Ok text) _ finds writes = absurd writes
+  info_performs (Err stop.NoInfo) result lacks writes = record {
+    outcome = plan.Finished plan.NoInfo;
+    outcome_is = subst (λ (x : Stop). IsOutcome x (plan.Finished plan.NoInfo)) (sym writes.0) refl;
+    stays = lacks.asks.stays;
+    counts = lacks.refusals;
+    plain = λ p. tt;
+    allowed = λ same walk end w ends. info_lacks (info_of shelf c.seen.store) (lacks.is same) writes.1;
+    calls = λ same walk end w ends. info_asked walk end lacks.asks same;
+  }
+  info_performs (Err e) result none writes = record {
+    outcome = none.outcome;
+    outcome_is = subst (λ (x : Stop). IsOutcome x none.outcome) (sym writes.0) none.outcome_is;
+    stays = none.asks.stays;
+    counts = none.counts;
+    plain = none.plain;
+    allowed = λ same walk end w ends. info_stops (info_of shelf c.seen.store) none.outcome writes.1 none.there;
+    calls = λ same walk end w ends. info_asked walk end none.asks same;
+  }
+
+-- ---- all inventories
+
+module _ (start : Place) (tries : ℕ) where
+  abbrev of_all : Request
+  of_all = request (task.Fru None) start tries
+
+  -- it stopped at that of device 0
+  pub first_performs : (c : Change) (result : Stop) → TextStops (task.Fru None) (inventory_item 0) tries c result → Performs of_all c result
+  first_performs c result stops = record {
+    outcome = stops.outcome;
+    outcome_is = stops.outcome_is;
+    stays = stops.asks.stays;
+    counts = stops.counts;
+    plain = stops.plain;
+    allowed = λ same walk end w ends. stops.allowed (row_items (task.Fru None) start walk) (WalkEnds end) (end_spots start walk end) same;
+    calls = λ same walk end w ends. let calls = stops.asks.calls same in omega (arith, calls);
+  }
+
+  ends_as : (rows : List Row) (end : WalkEnd) → run_end (task.Fru None) rows end ≡ WalkEnds end
+  ends_as rows Done = refl
+  ends_as rows (CycleAt n) = refl
+  ends_as rows (MissingAt n) = refl
+
+  after_first : (store : Store) (walk : List Row) (end : WalkEnd) → after_items (inventory_item 0 ∷ []) (first_plan None (task.Fru None) start walk end) ≡ plan_of (task.Fru None) store start walk end
+  after_first store walk end =
+      let of_end : RunEnd → Plan = λ e. record { items = inventory_item 0 ∷ row_items (task.Fru None) start walk; end = e; end_spots = end_spots start walk end } in
+      ap of_end (ends_as walk end)
+
+  -- after it the locators are gone along
+  pub rest_performs : (s s' s'' : Seen) (old text new : List ℕ) (next : Place) (result : Stop) → TextWritten (task.Fru None) (inventory_item 0) tries (change s s' old text) → IsPage of_all None next (change s' s'' text new) result → Performs of_all (change s s'' old new) result
+  rest_performs s s' s'' old text new next result written page =
+      let low = written.asks.stays.store.grows in
+      let high = page.stays.store.grows in
+      record {
+        outcome = page.outcome;
+        outcome_is = page.outcome_is;
+        stays = stays_trans s s' s'' written.asks.stays page.stays;
+        counts = counts_since tries s s' s'' (λ same. omega (arith, same, low, high)) page.outcome (record { refusals = written.refusals; troubles = written.asks.grows }) page.counts;
+        plain = λ p. page.plain (written.asks.stays.plain p);
+        allowed = λ same walk end w ends.
+            let first : s'.stores_added ≡ s.stores_added = omega (arith, same, low, high) in
+            let second : s''.stores_added ≡ s'.stores_added = omega (arith, same, low, high) in
+            let store = written.asks.stays.store.stays first in
+            let along = subst (λ (x : Store). OnWalk of_all x (λ walk end. PageAlong of_all x None walk end next (change s' s'' text new) page.outcome result)) store (page.along second) walk end w ends in
+            subst (λ (p : Plan). IsAllowed (task.Fru None) s.store p old new page.outcome) (after_first s.store walk end)
+            (leaves_joined (task.Fru None) s.store (inventory_item 0 ∷ []) (first_plan None (task.Fru None) start walk end) old text (written.printed first) new page.outcome along.leaves);
+        calls = λ same walk end w ends.
+            let first : s'.stores_added ≡ s.stores_added = omega (arith, same, low, high) in
+            let second : s''.stores_added ≡ s'.stores_added = omega (arith, same, low, high) in
+            let store = written.asks.stays.store.stays first in
+            let along = subst (λ (x : Store). OnWalk of_all x (λ walk end. PageAlong of_all x None walk end next (change s' s'' text new) page.outcome result)) store (page.along second) walk end w ends in
+            let before = written.asks.calls first in
+            let calls = along.calls in omega (arith, before, calls);
+      }

@@ -1,0 +1,14 @@
+use Rattle.std.proofs.Common.{◌∙◌, sym}
+use Rattle.ipmi_commands.proofs.AskLemmas.{passed_up, inventory_absent, out_after_absence, fails_at_inventory}
+use Rattle.ipmi_commands.proofs.inventory.unread_text.Goals as goal
+
+pub returns-then-not-is_absent-clause-read : goal.returns-then-not-is_absent-clause-read
+returns-then-not-is_absent-clause-read c = λ tries s s' r. fails_at_inventory c.args.id tries s s' c.args.ended (sym c.is_absent.ensures ∙ c.if-not-is_absent.true) r
+
+pub returns-in_err-text-clause-read : goal.returns-in_err-text-clause-read
+returns-in_err-text-clause-read c = λ tries s s' r.
+    passed_up _ _ _ _ _ _ _ c.from_residual.ensures.1 (out_after_absence c.args.id tries s s' c.args.ended (sym c.is_absent.ensures ∙ c.if-not-is_absent.false) r)
+
+pub returns-clause-read : goal.returns-clause-read
+returns-clause-read c = λ tries s s' r.
+    inventory_absent c.args.id tries s s' c.args.ended _ (sym c.is_absent.ensures ∙ c.if-not-is_absent.false) r c.in_ok-text.ensures.ok

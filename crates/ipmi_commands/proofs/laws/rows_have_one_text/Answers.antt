@@ -1,5 +1,0 @@
-use Rattle.ipmi_commands.proofs.UniqueLemmas.{one_text}
-use Rattle.ipmi_commands.proofs.laws.rows_have_one_text.Goals as goal
-
-pub returns : goal.returns
-returns c = one_text c.one_sdr_line.ensures c.one_extended_line.ensures c.one_sel_line.ensures c.one_sel_block.ensures
