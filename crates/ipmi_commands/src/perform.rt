@@ -101,12 +101,7 @@ fn print_inventories<C: Controller, O: Sink>(
 }
 
 /// Lists the records that the command asks for, where that takes one walk.
-fn list_once<C: Controller, O: Sink>(
-    alloc: Global,
-    ctl: &mut C,
-    cmd: &Command,
-    out: &mut O,
-) -> Stop
+fn list_once<C: Controller, O: Sink>(alloc: Global, ctl: &mut C, cmd: &Command, out: &mut O) -> Stop
     requires { lists_once cmd.now.task ≡ true }
     ensures faults { O.faults out.new ≡ O.faults out.old + faults_of result }
     ensures calls { (C.seen ctl.new).calls ≤ (C.seen ctl.old).calls + most_calls cmd.now.task
