@@ -2,7 +2,7 @@
  *
  * Without words it does the work of `ipmitool sdr hex`: it reads an image from standard input, and writes the line of
  * each record along the next ids, from the first record on. Statuses are the program's. It takes images of version 1
- * with `sdr` lines alone, checks each line by the same rules before it writes, and keeps the records in an ordered tree.
+ * with only `sdr` lines, checks each line by the same rules before it writes, and keeps the records in an ordered tree.
  * It says of no fault which one it is, leaves out the limit of 64 MiB, and gives no memory back before it ends.
  *
  * With the words `--measure IMAGE PROGRAM [WORD...]` it runs a program over an image again and again, and prints the

@@ -12,7 +12,7 @@ usage='usage: ipmitool [--image FILE] [--from HEX4] [--part N] [--tries N] fru|s
 line='sdr 0001 ffff 010051c000'
 failed=0
 
-# The program with the words behind the first three, over the given standard input: its status, output and message.
+# The program with the words after the first three, over the given standard input: its status, output and message.
 expect() {
   local status=$1 out=$2 err=$3
   shift 3
