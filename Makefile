@@ -1,7 +1,7 @@
 # `make demo` and `make test` are for every reader. The toolchain's command `rt` is all that they need.
 PREFIX ?= /usr/local
 # The name that the program is installed under. It isn't `ipmitool`, which would stand before the system's.
-NAME ?= serdimko
+NAME := serdimko
 PROGRAM := crates/ipmitool/out/ipmitool
 # What the program is built of: no test, must-fail edit or document is among it.
 SOURCES := crates.txt $(shell find crates \( -name out -o -name must-fail -o -name tests -o -name tests.rt -o -name '*_tests' -o -name own_controller \) -prune -o \( -name '*.rt' -o -name '*.antt' \) -print)
@@ -18,7 +18,7 @@ demo: $(PROGRAM)
 
 # A first look: the program compiled and run on an image with no proof of it, in about a minute. Only the copy of the
 # image is a file that it can read. `make try WORDS='sel list'` runs another command.
-WORDS ?= sdr list all
+WORDS := sdr list all
 try:
 	@echo 'unproved: the program is compiled and run, and nothing is proved of it'
 	@cd crates/ipmitool && rt try --data server.image=../../examples/server.image -- --image server.image $(WORDS)
