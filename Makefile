@@ -46,7 +46,7 @@ $(PROGRAM): $(SOURCES)
 	cd crates/ipmitool && rt run < stdin > /dev/null
 	@touch $@
 
-# Where `make install` puts the program, its page and its completions. A shell that expands no ~ behind = hands it on.
+# Where `make install` puts the program, its page and its completions. Some shells leave the ~ of PREFIX=~/DIR to us.
 TO = $(DESTDIR)$(patsubst ~/%,$(HOME)/%,$(PREFIX))
 INSTALLED = "$(TO)/bin/$(NAME)" "$(TO)/share/man/man1/$(NAME).1" \
   "$(TO)/share/bash-completion/completions/$(NAME)" "$(TO)/share/zsh/site-functions/_$(NAME)"
@@ -56,8 +56,8 @@ CHECK_NAME = $(if $(shell printf '%s' '$(NAME)' | grep -xE '[A-Za-z0-9_][A-Za-z0
 # This asks the shell, as `make` itself would not see a program that it has built since it began.
 CHECK_BUILT = $(if $(shell test -x $(PROGRAM) && echo yes),,$(error the program is not built: run `make build` first))
 
-# Copies what is built, and neither builds nor proves: it takes no toolchain, and any user who may write there can do it.
-# The program is no prerequisite for that reason. The name is put into the page and the completions on the way.
+# Copies the program as it was built last, and neither builds nor proves: it takes no toolchain, and another user than the
+# one who built can run it. So the program is no prerequisite. The page and the completions get the name on the way.
 install:
 	$(CHECK_NAME)$(CHECK_BUILT)@for file in $(INSTALLED); do mkdir -p "$${file%/*}" || exit 1; done
 	install -m 755 $(PROGRAM) "$(TO)/bin/$(NAME)"
