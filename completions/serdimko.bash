@@ -1,0 +1,52 @@
+# Completions of serdimko for bash: the words of commands, kinds, options, and file names after --image.
+# tests/man_page.sh compares the options and the table of words with README.md.
+# It calls no function of the package bash-completion, so that a shell may also read it by itself.
+
+_serdimko() {
+  local options='--image --from --part --tries'
+  local cur=${COMP_WORDS[COMP_CWORD]} word value= plain= line= next=
+
+  # What stands before the word: the option whose value it is, whether -- came, and the words without options.
+  for word in "${COMP_WORDS[@]:1:COMP_CWORD-1}"; do
+    if [[ $value ]]; then
+      # readline cuts --image=FILE at its =, so that = is a word here.
+      [[ $word == = ]] || value=
+    elif [[ ! $plain && $word == -- ]]; then
+      plain=yes
+    elif [[ ! $plain && $word == --* ]]; then
+      # An option comes at most once.
+      options=" $options "
+      options=${options/ "${word%%=*}" / }
+      [[ $word == *=* ]] || value=$word
+    else
+      line+="${line:+ }$word"
+    fi
+  done
+
+  COMPREPLY=()
+  if [[ $value == --image ]]; then
+    # With no reply of its own bash completes file names, with their quotes.
+    compopt -o default
+    return
+  fi
+  [[ $value ]] && return
+  if [[ ! $plain && $cur == -* ]]; then
+    COMPREPLY=($(compgen -W "$options" -- "$cur"))
+    return
+  fi
+
+  # What may follow the words before. Names and numbers are not completed.
+  case $line in
+    '') next='fru sdr sel image' ;;
+    'fru') next='print' ;;
+    'sdr') next='list elist get info hex' ;;
+    'sdr list') next='all full compact event generic mclocator fru' ;;
+    'sdr elist') next='all full compact event generic mclocator fru' ;;
+    'sel') next='info list get' ;;
+    'sel list') next='first last' ;;
+    'image') next='rewrite' ;;
+  esac
+  COMPREPLY=($(compgen -W "$next" -- "$cur"))
+}
+
+complete -F _serdimko serdimko
