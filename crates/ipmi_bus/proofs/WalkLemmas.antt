@@ -347,7 +347,7 @@ follows_walks c new s s' result honest leaves step = record {
 pub asks_along : (c : CursorState) (s : Seen) → IsHonest s → AsksAlong c s
 asks_along c s honest start walk end k w ends stands = asks_next c.shelf (rows_of c.shelf s.store) start walk k (store_shelf c.shelf s.store honest.store) w c c stands end ends
 
--- a new cursor stands at the start of each walk
+-- a new cursor is at the start of each walk
 pub stands_at_start : (rows : List Row) (start : Place) (walk : List Row) (c : CursorState) → c.place ≡ start → c.ids ≡ set.empty → StandsAt rows start walk 0 c
 stands_at_start rows start walk c place ids = record {
   within = omega arith;

@@ -30,7 +30,7 @@ pub record IsHonest (seen : Seen) : Type 0 where
   pub said : IsTrue seen.honest
   pub store : IsStore seen.store
 
--- an honest one that says that it is plain: what a plain one owes stands with each answer, and it adds no store
+-- an honest one that says that it is plain: what a plain one owes is said with each answer, and it adds no store
 pub record IsPlain (seen : Seen) : Type 0 where
   pub said : IsTrue seen.plain
   pub honest : IsHonest seen

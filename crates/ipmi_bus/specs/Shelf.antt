@@ -39,7 +39,7 @@ abbrev pub largest_len : Shelf → ℕ
 largest_len Sdr = 256
 largest_len Sel = 16
 
--- a row that may stand on the shelf
+-- a row that may be on the shelf
 pub record IsRow (shelf : Shelf) (row : Row) : Type 0 where
   pub id : row.id < 65535
   pub next : row.next < 65536
@@ -56,7 +56,7 @@ abbrev pub LacksId : ℕ → List Row → Type 0
 LacksId n [] = Unit {0}
 LacksId n (row ∷ rows) = (row.id ≢ n) × LacksId n rows
 
--- no id stands twice
+-- no id comes twice
 abbrev pub DistinctIds : List Row → Type 0
 DistinctIds [] = Unit {0}
 DistinctIds (row ∷ rows) = LacksId row.id rows × DistinctIds rows

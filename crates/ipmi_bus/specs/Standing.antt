@@ -1,4 +1,4 @@
--- Where a cursor stands on a walk, and what a step does there.
+-- Where a cursor is on a walk, and what a step does there.
 use Rattle.std.specs.Prelude.{◌≡◌, ℕ, ◌+◌, ◌≤◌, ◌⊎◌, Option, None, Some, Result, Ok, Err, List, length, take, drop}
 use Rattle.std.specs.FinSet as set
 use Rattle.ipmi_bus.specs.declared.step.Place.{Place}
@@ -23,7 +23,7 @@ MayFail Done place = place ≡ First
 MayFail (CycleAt n) place = ⊥
 MayFail (MissingAt n) place = Unit {0}
 
--- What a step of a cursor that stands at k does: before the walk's end it hands out row k + 1, at the end it answers by that
+-- What a step of a cursor that is at k does: before the walk's end it hands out row k + 1, at the end it answers by that
 -- end, or it gives up or is refused and stays.
 abbrev pub WalkStep : List Row → Place → List Row → WalkEnd → ℕ → CursorState → CursorState → Result (Option Row) Ended → Type 0
 WalkStep rows start walk end k old new (Ok (Some row)) = (first_row (drop k walk) ≡ Some row) × StandsAt rows start walk (k + 1) new
@@ -35,7 +35,7 @@ WalkStep rows start walk end k old new (Err (Refused n code)) = StandsAt rows st
 WalkStep rows start walk end k old new (Err (Stalled n)) = ⊥
 WalkStep rows start walk end k old new (Err (Malformed n)) = ⊥
 
--- where no store is added, the step is one along each walk that has an end and on which the cursor stands
+-- where no store is added, the step is one along each walk that has an end and on which the cursor is
 pub record FollowsWalks (old new : CursorState) (s s' : Seen) (result : Result (Option Row) Ended) : Type 0 where
   pub follows : s'.stores_added ≡ s.stores_added → (start : Place) (walk : List Row) (end : WalkEnd) (k : ℕ) → IsWalk (rows_of old.shelf s.store) start walk → EndsBy (rows_of old.shelf s.store) start walk end
       → StandsAt (rows_of old.shelf s.store) start walk k old → WalkStep (rows_of old.shelf s.store) start walk end k old new result

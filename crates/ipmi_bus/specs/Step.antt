@@ -17,7 +17,7 @@ use Rattle.ipmi_bus.specs.Bounds.{step_call_bound, digits}
 use Rattle.ipmi_bus.specs.CursorState.{CursorState}
 use Rattle.ipmi_bus.specs.Standing.{StandsAt, FollowsWalks}
 
--- the id that is asked for: 0000h for the first record (at the end no call is made, and 0 stands in)
+-- the id that is asked for: 0000h for the first record (at the end no call is made, and 0 is taken)
 abbrev pub asked_at : Place → ℕ
 asked_at First = 0
 asked_at (Id n) = n
@@ -44,7 +44,7 @@ HasIdAsked First row = row.id ≡ id_in row.bytes
 HasIdAsked (Id n) row = row.id ≡ n
 HasIdAsked End row = ⊥
 
--- the cursor stands after a record that it handed out, and that it had not handed out before
+-- the cursor is after a record that it handed out, and that it had not handed out before
 pub record HandsOut (old new : CursorState) (row : Row) : Type 0 where
   pub place : new.place ≡ place_after row.next
   pub ids : new.ids ≡ set.insert old.ids row.id
@@ -56,13 +56,13 @@ pub record HandsOut (old new : CursorState) (row : Row) : Type 0 where
   pub not_at_end : old.place ≢ End
   pub next : row.next < 65536
 
--- the cursor stands where it stood, without a reservation
+-- the cursor is where it was, without a reservation
 pub record StaysThere (old new : CursorState) : Type 0 where
   pub place : new.place ≡ old.place
   pub ids : new.ids ≡ old.ids
   pub reservation : new.reservation ≡ None
 
--- there is no more: the cursor stood at the start or at the end, and stands at the end
+-- there is no more: the cursor was at the start or at the end, and is at the end
 pub record GoesToEnd (old new : CursorState) : Type 0 where
   pub place : new.place ≡ End
   pub ids : new.ids ≡ old.ids

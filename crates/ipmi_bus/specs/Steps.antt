@@ -30,7 +30,7 @@ abbrev pub seen_after : Seen → List Stepped → Seen
 seen_after s [] = s
 seen_after s (step ∷ steps) = seen_after step.seen steps
 
--- the row that an answer hands out stands before these
+-- the row that an answer hands out comes before these
 abbrev pub with_handed : Result (Option Row) Ended → List Row → List Row
 with_handed (Ok (Some row)) rows = row ∷ rows
 with_handed (Ok None) rows = rows
@@ -40,7 +40,7 @@ abbrev pub handed_out : List Stepped → List Row
 handed_out [] = []
 handed_out (step ∷ steps) = with_handed step.result (handed_out steps)
 
--- the first rows of the walk were handed out, and the cursor stands after them
+-- the first rows of the walk were handed out, and the cursor is after them
 pub record HandsOutPrefix (rows : List Row) (start : Place) (walk : List Row) (c : CursorState) (handed : List Row) : Type 0 where
   pub count : ℕ
   pub handed_are : handed ≡ take count walk

@@ -36,7 +36,7 @@ pub struct FruSize {
 
 /// A management controller.
 ///
-/// The clauses `honest` speak of honest controllers alone, the others of every controller: it counts its
+/// The clauses `honest` speak only of honest controllers, the others of every controller: it counts its
 /// calls, and keeps within the buffer that it is given.
 pub trait Controller {
     /// What contracts see of it. It costs nothing when the program runs.

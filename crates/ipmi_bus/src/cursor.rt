@@ -18,7 +18,7 @@ use byteorder::{ByteOrder, LittleEndian};
 use std::alloc::{AllocError, Global};
 use std::marker::Model;
 
-/// A record in the buffer that stands to be handed out.
+/// A record in the buffer that is to be handed out.
 #[derive(Clone, Copy)]
 pub(crate) struct Handed {
     pub(crate) id: u16,
@@ -34,7 +34,7 @@ pub(crate) struct Progress {
     pub(crate) ids: IdTable,
 }
 
-/// What stands to be done.
+/// What is to be done.
 #[derive(Clone, Copy)]
 pub(crate) enum Next {
     End,
@@ -60,7 +60,7 @@ impl Progress {
         }
     }
 
-    /// Goes on to the row that stands whole in the buffer.
+    /// Goes on to the row that is whole in the buffer.
     fn hand_out(&mut self, asked: u16) -> Handed
         requires within { self.old.retrieval.have ≤ 256 }
         requires some { 5 ≤ self.old.retrieval.have }
@@ -92,7 +92,7 @@ impl Progress {
         }
     }
 
-    /// Makes a step. A record that it hands out stands in the buffer.
+    /// Makes a step. A record that it hands out is in the buffer.
     fn advance<C: Controller>(&mut self, ctl: &mut C) -> Result<Option<Handed>, Ended>
         requires { IsCursor self.old }
         ensures cursor { IsCursor self.new }
@@ -138,7 +138,7 @@ impl Progress {
 }
 
 impl Progress {
-    /// A step, seen along the walks on which the cursor stands.
+    /// A step, seen along the walks on which the cursor is.
     fn advance_along<C: Controller>(&mut self, ctl: &mut C) -> Result<Option<Handed>, Ended>
         requires { IsCursor self.old }
         ensures cursor { IsCursor self.new }
@@ -248,7 +248,7 @@ impl Cursor {
         self.progress.place
     }
 
-    /// Hands out the next record, lent out of the cursor until the next step. After an `Err` the cursor stands
+    /// Hands out the next record, lent out of the cursor until the next step. After an `Err` the cursor is
     /// where it stood and holds no reservation, so that a later step tries again.
     pub fn step<C: Controller>(&mut self, ctl: &mut C) -> Result<Option<Record<'_>>, Ended>
         ensures* after { sem 𝓛 (CursorRests self.entry

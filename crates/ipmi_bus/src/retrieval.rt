@@ -24,7 +24,7 @@ pub(crate) enum Outcome {
 /// How the retrieval of a record ended.
 #[derive(Clone, Copy)]
 pub(crate) enum Retrieved {
-    /// The whole record stands in the buffer.
+    /// The whole record is in the buffer.
     Complete,
     /// There is no such record.
     Nothing,

@@ -3,7 +3,7 @@
 use crate::code::Code;
 use thiserror::Error;
 
-/// Where a cursor stands.
+/// Where a cursor is.
 #[derive(Clone, Copy, Debug, PartialEq, Eq)]
 pub enum Place {
     /// Before the shelf's first record.
@@ -25,7 +25,7 @@ pub struct Record<'a> {
     pub bytes: &'a [u8],
 }
 
-/// Why a step gave no record. Each names the id that stood to be asked for: 0000h for the first record.
+/// Why a step gave no record. Each names the id that was to be asked for: 0000h for the first record.
 #[derive(Clone, Copy, Debug, PartialEq, Eq, Error)]
 pub enum Ended {
     /// The next id is 0000h, or that of a record that was handed out before.

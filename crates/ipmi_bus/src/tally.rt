@@ -1,4 +1,4 @@
-//! What a controller counts for contracts alone.
+//! What a controller counts for contracts only.
 ghost use Rattle.std.specs.Prelude.{◌≡◌};
 ghost use Rattle.std.specs.Borrow.{ftrue};
 ghost use Rattle.ipmi_bus.specs.Counts.{Counts};

@@ -1,4 +1,4 @@
-//! Tests of what the commands stand on and of the commands: the bus, the command line, output and messages, and listings.
+//! Tests of what the commands use, and of the commands: the bus, the command line, output and messages, and listings.
 #![tactic(auto)]
 
 #[cfg(test)]

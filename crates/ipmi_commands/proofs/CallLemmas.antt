@@ -112,7 +112,7 @@ module _ (tries behind each count : ℕ) (shelf : Shelf) (begun now next : Curso
       subst (λ (x : Shelf). s''.calls + digits next.part ≤ s'.calls + step_call_bound tries (largest_len x) + digits now.part) same_shelf
       (subst (λ (t : ℕ). s''.calls + digits next.part ≤ s'.calls + step_call_bound t (largest_len now.shelf) + digits now.part) same_tries calls)
 
-  -- behind a record, and what is asked for on account of it
+  -- after a record, and what is asked for on account of it
   pub called_more : (last : Seen) (row : Row) → IsStep now next s' s'' (Ok (Some row)) → last.calls ≤ s''.calls + behind → HasCalled each (count + 1) begun next s last
   called_more last row step asked =
       let hands = step.leaves.1 in

@@ -15,7 +15,7 @@ use Rattle.ipmi_commands.specs.Plan as plan
 
 -- ---- items and rows
 
--- those of some rows, and of the rows behind them
+-- those of some rows, and of the rows after them
 pub items_joined : (t : Task) (start : Place) (done rest : List Row) → row_items t start (done ++ rest) ≡ row_items t start done ++ row_items t (place_after_rows start done) rest
 items_joined t start [] rest = refl
 items_joined t start (d ∷ done) rest = ap (λ (l : List Item). row_item t start d ∷ l) (items_joined t (place_after d.next) done rest)
@@ -38,7 +38,7 @@ texts_joined t store (item ∷ items) more a b are rest = record {
   joined = ap (λ (l : List ℕ). l ++ b) are.joined ∙ append_assoc are.first are.rest b;
 }
 
--- what is printed behind what was printed
+-- what is printed after what was printed
 pub printed_joined : (t : Task) (store : Store) (items more : List Item) (old text new : List ℕ) → Printed t store items old text → Printed t store more text new → Printed t store (items ++ more) old new
 printed_joined t store items more old text new one two = record {
   text = one.text ++ two.text;
@@ -92,11 +92,11 @@ printed_more skip t store start walk k row text old new more within next printed
 
 -- ---- plans
 
--- behind some items
+-- after some items
 abbrev pub after_items : List Item → Plan → Plan
 after_items first p = record { items = first ++ p.items; end = p.end; end_spots = p.end_spots }
 
--- what is printed behind them is printed behind them all
+-- what is printed after them is printed after them all
 module _ (t : Task) (store : Store) (first : List Item) (p : Plan) (old text : List ℕ) (before : Printed t store first old text) (new : List ℕ) where
   stops_joined : (spot : Spot) → StopsAt spot t store p text new → StopsAt spot t store (after_items first p) old new
   stops_joined spot at = record {
@@ -139,7 +139,7 @@ row_there (row ∷ rows) (suc k) within = row_there rows k (omega (arith, within
 
 -- ---- spots
 
--- behind a row a walk does not stand at the start
+-- after a row a walk does not stand at the start
 not_first : (n : ℕ) (rows : List Row) → place_after_rows (place_after n) rows ≢ First
 not_first n [] at = by_case (n == 0xFFFF) at
   where
@@ -148,7 +148,7 @@ not_first n [] at = by_case (n == 0xFFFF) at
     by_case false e = cc e
 not_first n (row ∷ rows) at = not_first row.next rows at
 
--- the id that is asked for behind rows whose last has a next one
+-- the id that is asked for after rows whose last has a next one
 asked_next : (n : ℕ) (rows : List Row) → last_next n rows ≢ 0xFFFF → asked_at (place_after_rows (place_after n) rows) ≡ last_next n rows
 asked_next n [] more = ap asked_at (by_case (n == 0xFFFF) refl)
   where

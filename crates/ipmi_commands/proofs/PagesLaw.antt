@@ -74,7 +74,7 @@ module _ (walk_tail : TailIsWalk) where
         let of_end : WalkEnd → Plan = λ e. record { items = row_items t start walk; end = run_end t walk e; end_spots = end_spots start walk e } in
         ap of_rows (take_all size walk (omega (arith, less))) ∙ ap of_end (ap (λ (b : Bool). cond b Done end) past)
 
-    -- the items behind the page
+    -- the items after the page
     abbrev left : List Item
     left = row_items t (place_after_rows start (take size walk)) (drop size walk)
 
@@ -139,11 +139,11 @@ module _ (walk_tail : TailIsWalk) where
   calls_joined t store tries [] rest = omega arith
   calls_joined t store tries (d ∷ done) rest = let more = calls_joined t store tries done rest in omega (arith, more)
 
-  -- those of a page, and of the rows behind it
+  -- those of a page, and of the rows after it
   calls_split : (t : Task) (store : Store) (tries size : ℕ) (walk : List Row) → calls_for t store tries (take size walk) + calls_for t store tries (drop size walk) ≡ calls_for t store tries walk
   calls_split t store tries size walk = sym (calls_joined t store tries (take size walk) (drop size walk)) ∙ ap (calls_for t store tries) (take-append-drop size walk)
 
-  -- the calls of the pages behind a page
+  -- the calls of the pages after a page
   behind_calls : (t : Task) (store : Store) (rows : List Row) (start next : Place) (walk : List Row) (end : WalkEnd) (size tries calls before : ℕ) → IsShelf (shelf_of t) rows → IsWalk rows start walk → EndsBy rows start walk end → IsOpen end → GoesOn rows start (take size walk) next
       → ((w : List Row) (e : WalkEnd) → IsWalk rows next w → EndsBy rows next w e → IsOpen e → calls ≤ before + calls_for t store tries w) → calls ≤ before + calls_for t store tries (drop size walk)
   behind_calls t store rows start next walk end size tries calls before ok w ends open_ goes rest = elim goes [ inl at ↦ on_walk at | inr empty ↦ on_empty empty.0 ]
@@ -162,7 +162,7 @@ module _ (walk_tail : TailIsWalk) where
           subst (λ (p : Place). IsWalk rows p [] → EndsBy rows p [] Done → calls ≤ before + calls_for t store tries []) at (λ w' ends'. rest [] Done w' ends' tt) (record { of_shelf = tt; distinct = tt; first = tt; links = tt }) tt in
           omega (arith, none)
 
-  -- the calls of a page, and what is left for those behind it
+  -- the calls of a page, and what is left for those after it
   page_made : (t : Task) (store : Store) (start next : Place) (walk : List Row) (end : WalkEnd) (size tries : ℕ) (sizes : List ℕ) (s s' : Seen) (old new : List ℕ) (outcome : Outcome) (result : Stop) → PageAlong (request t start tries) store (Some size) walk end next (change s s' old new) outcome result
       → (Some size ≡ Some 0 → s' ≡ s) → s'.calls + pages_made sizes * (step_call_bound tries 0 + 7) ≤ s.calls + calls_for t store tries (take size walk) + pages_made (size ∷ sizes) * (step_call_bound tries 0 + 7)
   page_made t store start next walk end size tries sizes s s' old new outcome result along none = by_case (size == 0) refl
@@ -190,11 +190,11 @@ module _ (walk_tail : TailIsWalk) where
         → s'.calls ≤ s.calls + calls_for t s.store tries walk + pages_made sizes * (step_call_bound tries 0 + 7)
     pub plain : IsTrue s.plain → IsFine outcome
 
-  -- what the pages behind a page leave, from where they begin
+  -- what the pages after a page leave, from where they begin
   abbrev LeavesBehind : Task → Store → List Row → Place → List ℕ → List ℕ → Outcome → Type 0
   LeavesBehind t store rows next text new outcome = (w : List Row) (e : WalkEnd) → IsWalk rows next w → EndsBy rows next w e → IsOpen e → IsAllowed t store (first_plan None t next w e) text new outcome
 
-  -- behind a page the rest of the walk is listed
+  -- after a page the rest of the walk is listed
   behind_page : (t : Task) (store : Store) (rows : List Row) (start next : Place) (walk : List Row) (end : WalkEnd) (size : ℕ) (old text new : List ℕ) (outcome : Outcome) → is_listing t ≡ true → IsShelf (shelf_of t) rows → IsWalk rows start walk → EndsBy rows start walk end → IsOpen end
       → Printed t store (row_items t start (take size walk)) old text → GoesOn rows start (take size walk) next → LeavesBehind t store rows next text new outcome → IsAllowed t store (first_plan None t start walk end) old new outcome
   behind_page t store rows start next walk end size old text new outcome listing ok w ends open_ printed goes rest = elim goes [ inl at ↦ on_walk at | inr empty ↦ on_empty empty.0 empty.1 empty.2 ]
@@ -208,7 +208,7 @@ module _ (walk_tail : TailIsWalk) where
       split : walk ≡ done ++ left
       split = sym (take-append-drop size walk)
 
-      -- the items of the page, and behind them what is left
+      -- the items of the page, and after them what is left
       whole_is : after_items (row_items t start done) (first_plan None t (place_after_rows start done) left end) ≡ first_plan None t start walk end
       whole_is =
           let of_items : List Item → Plan = λ l. record { items = l; end = run_end t left end; end_spots = end_spots (place_after_rows start done) left end } in

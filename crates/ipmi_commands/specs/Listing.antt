@@ -281,7 +281,7 @@ pub record HasListed (r : Request) (store : Store) (walk : List Row) (span : Spa
   pub printed : Printed r.task store (span_items span.skip r.task r.start (take count walk)) c.old c.new
   pub calls : c.seen'.calls + digits c.now.part ≤ c.seen.calls + calls_for r.task store r.tries (take count walk) + digits c.begun.part
 
--- along each walk of a task that has an end, and at the start of which the cursor stood
+-- along each walk of a task that has an end, and at the start of which the cursor was
 abbrev pub OnEachWalk : Task → CursorState → Store → (Place → List Row → WalkEnd → Type 0) → Type 0
 OnEachWalk t begun store Holds =
     (start : Place) (walk : List Row) (end : WalkEnd) → IsWalk (rows_of (shelf_of t) store) start walk
@@ -296,7 +296,7 @@ pub record ListsHonest (t : Task) (tries : ℕ) (span : Span) (count : ℕ) (c :
       → OnEachWalk t c.begun c.seen.store (λ start walk end. HasListed (request t start tries) c.seen.store walk span count c)
   pub plain : IsTrue c.seen.plain → CursorHoldsCurrent c.begun c.seen → CursorHoldsCurrent c.now c.seen'
 
--- a whole listing along a walk: what it leaves, the bound of its calls, that its cursor stands after the rows that are wanted, and
+-- a whole listing along a walk: what it leaves, the bound of its calls, that its cursor is after the rows that are wanted, and
 -- how many these are
 pub record ListsAlong (r : Request) (store : Store) (walk : List Row) (end : WalkEnd) (span : Span) (c : Course) (outcome : Outcome) (result : Listed) : Type 0 where
   pub leaves : IsAllowed r.task store (span_plan span r.task r.start walk end) c.old c.new outcome

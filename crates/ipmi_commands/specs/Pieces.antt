@@ -92,7 +92,7 @@ abbrev pub IsDevicePiece : Store → SdrView → Option ℕ → List ℕ → Typ
 IsDevicePiece store view None text = text ≡ codes "FRU" ++ (name_of_locator view ++ codes ": elsewhere, not read\n\n")
 IsDevicePiece store view (Some id) text = IfChosen (not (id == 0)) (λ t. IsInventoryPiece store id (name_of_locator view) t) text
 
--- of a FRU device locator alone
+-- only of a FRU device locator
 abbrev pub IsLocatorPiece : Store → Result SdrView SdrFault → List ℕ → Type 0
 IsLocatorPiece store (Ok (view_of.Fru bytes)) text = IsDevicePiece store (view_of.Fru bytes) (sdr.fru_of (view_of.Fru bytes)) text
 IsLocatorPiece store _ text = text ≡ []

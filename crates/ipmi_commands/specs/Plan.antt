@@ -367,7 +367,7 @@ pub record HasCutItem (t : Task) (store : Store) (plan : Plan) (old new : List �
   pub bytes : ℕ
   pub new_is : new ≡ whole ++ take bytes text
 
--- what may stand in the output, by how the run stopped
+-- what may be in the output, by how the run stopped
 abbrev pub IsAllowed : Task → Store → Plan → List ℕ → List ℕ → Outcome → Type 0
 IsAllowed t store plan old new (Finished end) = Printed t store plan.items old new × (end ≡ plan.end)
 IsAllowed t store plan old new (GaveUp spot) = StopsAt spot t store plan old new

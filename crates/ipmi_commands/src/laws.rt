@@ -1,4 +1,4 @@
-//! What follows from the definitions of plans alone, each the contract of a function that does nothing.
+//! What follows from the definitions of plans by themselves, each the contract of a function that does nothing.
 ghost use Rattle.std.specs.Prelude.{◌≡◌, ℕ, List};
 ghost use Rattle.ipmi_bus.specs.Store.{Store, IsStore};
 ghost use Rattle.ipmi_command_line.specs.declared.command.Task.{Task};

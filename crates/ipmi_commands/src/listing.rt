@@ -73,7 +73,7 @@ pub(crate) fn stop_at_end(task: &Task, wrote: bool) -> Stop
     }
 }
 
-/// Writes what the command prints for each record of the span from where the cursor stands, while the record is lent.
+/// Writes what the command prints for each record of the span from where the cursor is, while the record is lent.
 pub(crate) fn list_records<C: Controller, O: Sink>(
     alloc: Global,
     cursor: &mut Cursor,

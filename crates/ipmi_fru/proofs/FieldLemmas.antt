@@ -16,7 +16,7 @@ enough (suc n) (suc m) (byte ∷ bytes) a b =
     ap (λ (o : Option (List AreaField)). cond (nat_eq byte 0xc1) (Some []) (cond (nat_lt (length bytes) (byte % 64)) None (option_map (λ fields. field_in byte bytes ∷ fields) o)))
     (enough n m (drop (byte % 64) bytes) (omega (arith, left, a)) (omega (arith, left, b)))
 
--- a field and what is behind it
+-- a field and what is after it
 pub fields_more : (byte : ℕ) (bytes : List ℕ) → byte ≢ 0xc1 → byte % 64 ≤ length bytes → fields_in (byte ∷ bytes) ≡ option_map (λ fields. field_in byte bytes ∷ fields) (fields_in (drop (byte % 64) bytes))
 fields_more byte bytes goes_on fits =
     let rest = drop (byte % 64) bytes in

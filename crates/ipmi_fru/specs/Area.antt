@@ -35,7 +35,7 @@ abbrev pub Spells : List ℕ → List AreaField → Type 0
 Spells bytes [] = EndsFields bytes
 Spells bytes (field ∷ fields) = (rest : List ℕ) × (BeginsWithField bytes field rest × Spells rest fields)
 
--- the field that a type/length byte and the bytes behind it are
+-- the field that a type/length byte and the bytes after it are
 abbrev pub field_in : ℕ → List ℕ → AreaField
 field_in type_length bytes = record { code = type_length / 64; bytes = take (type_length % 64) bytes }
 
@@ -60,7 +60,7 @@ place_of Chassis = 2
 place_of Board = 3
 place_of Product = 4
 
--- how many bytes stand between the length byte and the first field. Chassis: its type; board: the language and three bytes of
+-- how many bytes are between the length byte and the first field. Chassis: its type; board: the language and three bytes of
 -- the date; product: the language
 abbrev pub head_len : AreaKind → ℕ
 head_len Chassis = 1

@@ -14,11 +14,11 @@ pub record MultiRecord : Type 0 where
   pub last : Bool
   pub bytes : List ℕ
 
--- a record's data stand behind the five bytes of its header, of which the third is their number
+-- a record's data come after the five bytes of its header, of which the third is their number
 abbrev pub data_in : List ℕ → List ℕ
 data_in bytes = take (slice_index bytes 2) (drop 5 bytes)
 
--- what stands behind the record
+-- what comes after the record
 abbrev pub behind_record : List ℕ → List ℕ
 behind_record bytes = drop (5 + slice_index bytes 2) bytes
 
@@ -44,7 +44,7 @@ record_fault bytes =
 abbrev pub RecordsEnd : Type 0
 RecordsEnd = Option MultiFault
 
--- the last record ends the list without a fault, whatever bytes follow; behind any other the list goes on
+-- the last record ends the list without a fault, whatever bytes follow; after any other the list goes on
 abbrev pub ContinuesBy : Bool → List MultiRecord → RecordsEnd → Type 0 → Type 0
 ContinuesBy true records end more = (records ≡ []) × (end ≡ None)
 ContinuesBy false records end more = more
@@ -61,7 +61,7 @@ abbrev pub AreRecordsAt : Option ℕ → List ℕ → List MultiRecord → Recor
 AreRecordsAt None bytes records end = (records ≡ []) × (end ≡ None)
 AreRecordsAt (Some offset) bytes records end = IsRecordList (drop offset bytes) records end
 
--- the records, and behind them the fault, if there is one
+-- the records, and after them the fault, if there is one
 abbrev pub items_of : List MultiRecord → RecordsEnd → List (Result MultiRecord MultiFault)
 items_of [] None = []
 items_of [] (Some f) = Err f ∷ []
@@ -74,7 +74,7 @@ pub record SameList (a b : List MultiRecord) (e f : RecordsEnd) : Type 0 where
 
 -- ---- how the records are found
 
--- what bytes begin with: a fault, or a record and what comes behind it where it is not the last
+-- what bytes begin with: a fault, or a record and what comes after it where it is not the last
 abbrev pub items_by : Option MultiFault → MultiRecord → List (Result MultiRecord MultiFault) → List (Result MultiRecord MultiFault)
 items_by (Some f) r more = Err f ∷ []
 items_by None r more = Ok r ∷ (if r.last then [] else more)

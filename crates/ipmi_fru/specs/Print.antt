@@ -73,7 +73,7 @@ field_lines language labels extra [] = []
 field_lines language [] extra (field ∷ fields) = field_line extra (fru_text_of field.code language field.bytes) ++ field_lines language [] extra fields
 field_lines language (label ∷ labels) extra (field ∷ fields) = field_line label (fru_text_of field.code language field.bytes) ++ field_lines language labels extra fields
 
--- what stands before the lines of the fields: the type of a chassis, the date of a board
+-- what comes before the lines of the fields: the type of a chassis, the date of a board
 abbrev pub IsLead : AreaKind → List ℕ → List ℕ → Type 0
 IsLead Chassis area text = text ≡ labelled (codes "Chassis Type") (chassis_text_of (slice_index area 2))
 IsLead Board area text = (date : List ℕ) × (IsMinutesTextOf (little_from 3 3 area) date × (text ≡ labelled (codes "Board Mfg Date") date))
@@ -150,7 +150,7 @@ pub record IsLoadText (bytes text : List ℕ) : Type 0 where
   pub text_is : text ≡ codes "DC Load " ++ (decimal (slice_index bytes 0 % 16) ++ (codes ": nominal " ++ (nominal
       ++ (codes " V, " ++ (low ++ (codes " to " ++ (high ++ (codes " V, " ++ current_text bytes))))))))
 
--- the data of a management access record behind its subtype: subtypes 01h to 06h are text
+-- the data of a management access record after its subtype: subtypes 01h to 06h are text
 abbrev pub access_text : List ℕ → List ℕ
 access_text bytes =
     if nat_le 1 (slice_index bytes 0) && nat_le (slice_index bytes 0) 6 then latin1_text (drop 1 bytes) else binary_text (drop 1 bytes)
@@ -185,7 +185,7 @@ multi_fault_name fault_of_record.Outside = codes "outside"
 multi_fault_name fault_of_record.HeaderSum = codes "header checksum"
 multi_fault_name fault_of_record.DataSum = codes "data checksum"
 
--- the line of a record, or of the fault behind the last one
+-- the line of a record, or of the fault after the last one
 abbrev pub IsItemText : Result MultiRecord MultiFault → List ℕ → Type 0
 IsItemText (Ok r) text = IsRecordText r text
 IsItemText (Err f) text = text ≡ labelled (codes "Record fault") (multi_fault_name f)

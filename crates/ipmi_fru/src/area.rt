@@ -11,7 +11,7 @@ use byteorder::{ByteOrder, LittleEndian};
 use std::marker::Model;
 use thiserror::Error;
 
-/// The byte that stands behind the last field.
+/// The byte that comes after the last field.
 const NO_MORE_FIELDS: u8 = 0xC1;
 
 /// An area that has fields.
@@ -38,7 +38,7 @@ impl AreaKind {
         }
     }
 
-    /// How many bytes stand between the length byte and the first field.
+    /// How many bytes are between the length byte and the first field.
     fn head_len(self) -> usize
         ensures len { result ≡ head_len self }
         ensures below { result ≤ 4 }
@@ -81,14 +81,14 @@ pub struct Field<'a> {
     pub bytes: &'a [u8],
 }
 
-/// What bytes begin with where fields stand.
+/// What bytes begin with where fields are.
 #[derive(Clone, Copy)]
 pub(crate) enum Beginning<'a> {
     /// No more fields.
     End,
     /// A field that is longer than they are.
     PastEnd,
-    /// A field, and what is behind it.
+    /// A field, and what is after it.
     Field(Field<'a>, &'a [u8]),
 }
 

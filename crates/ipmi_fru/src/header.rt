@@ -83,7 +83,7 @@ impl<'a> Model for FruView<'a> {
 }
 
 impl<'a> FruView<'a> {
-    /// The inventory that bytes are, or the first fault of its header. Its pad byte counts in the sum alone.
+    /// The inventory that bytes are, or the first fault of its header. Its pad byte counts only in the sum.
     pub fn read(bytes: &'a [u8]) -> Result<FruView<'a>, FruFault>
         ensures ok { IfOk result (λ view. (header_fault bytes.now ≡ None) × (view ≡ bytes.now)) }
         ensures err { IfErr result (λ fault. header_fault bytes.now ≡ Some fault) }

@@ -36,7 +36,7 @@ pub struct MultiView<'a> {
     pub bytes: &'a [u8],
 }
 
-/// The record that bytes begin with, and what stands behind it.
+/// The record that bytes begin with, and what comes after it.
 fn read_record(bytes: &[u8]) -> Result<(MultiView<'_>, &[u8]), MultiFault>
     ensures fine { IfOk result (λ r. record_fault bytes.now ≡ None) }
     ensures record { IfOk result (λ r. record_of r.0 ≡ record_in bytes.now) }
@@ -67,7 +67,7 @@ fn read_record(bytes: &[u8]) -> Result<(MultiView<'_>, &[u8]), MultiFault>
     Ok((view, &bytes[end..]))
 }
 
-/// The records of the multirecord area, in their order; behind a fault there is none.
+/// The records of the multirecord area, in their order; after a fault there is none.
 #[derive(Drop)]
 pub struct Records<'a> {
     left: Option<&'a [u8]>,

@@ -301,7 +301,7 @@ fn load_text(alloc: Global, bytes: &[u8]) -> Result<String, AllocError>
     format!(in alloc; "DC Load {number}: nominal {nominal} V, {low} to {high} V, {current}")
 }
 
-/// The data of a management access record behind its subtype: subtypes 01h to 06h are text.
+/// The data of a management access record after its subtype: subtypes 01h to 06h are text.
 fn access_text(alloc: Global, bytes: &[u8]) -> Result<String, AllocError>
     requires { 1 ≤ length bytes.now }
     ensures { IfOk result (λ text. string_bytes text ≡ access_text bytes.now) }
@@ -374,7 +374,7 @@ fn record_text(alloc: Global, view: &MultiView) -> Result<String, AllocError>
     }
 }
 
-/// The line of a record, or of a fault behind the last one.
+/// The line of a record, or of a fault after the last one.
 fn item_text(alloc: Global, item: &Result<MultiView, MultiFault>) -> Result<String, AllocError>
     ensures { IfOk result (λ text. IsItemText (item_of item.now) (string_bytes text)) }
 {

@@ -14,7 +14,7 @@ use Rattle.ipmi_image.specs.Image.{chained, rows_on, store_of_lines, fault_in, u
 use Rattle.ipmi_image.specs.Stored.{store_of, HoldsLines}
 use Rattle.ipmi_image.proofs.TextLemmas.{length-pieces}
 
--- nothing stands behind the last line feed exactly where no byte does
+-- nothing comes after the last line feed exactly where no byte does
 pub ends_here-pieces : (bytes : List ℕ) → ends_here (pieces 10 bytes) ≡ (length bytes == 0)
 unfolding pieces
 ends_here-pieces [] = refl
@@ -34,7 +34,7 @@ pub unended : (dashes : Bool) (before : List Line) (text : List ℕ) → store_b
 unfolding store_behind
 unended dashes before text = refl
 
--- what a line makes of those behind it
+-- what a line makes of those after it
 abbrev pub after_line : Bool → List Line → List (List ℕ) → Result Line LineFault → Result Store ImageFault
 after_line dashes before rest (Ok line) = cond (not (is_end line)) (store_behind dashes (before ++ line ∷ []) rest) (cond (ends_here rest) (Ok (store_of_lines before)) (Err (image_fault.AfterEnd (length before + 3))))
 after_line dashes before rest (Err fault) = Err (at_line (length before + 2) fault)
@@ -70,7 +70,7 @@ store_is contents lines holds =
     ∙ ap (λ (o : Option (List ℕ)). record (store_of_lines lines) { sdr_info = o; sel_info = contents.sel_info }) holds.sdr_info
     ∙ ap (λ (o : Option (List ℕ)). record (store_of_lines lines) { sel_info = o }) holds.sel_info
 
--- the lines behind the first one give the store
+-- the lines after the first one give the store
 pub image_is : (bytes first rest : List ℕ) (dashes : Bool) → pieces 10 bytes ≡ first ∷ pieces 10 rest → Some dashes ≡ dashes_in first → store_of_image bytes ≡ store_behind dashes [] (pieces 10 rest)
 image_is bytes first rest dashes cut is = ap store_of_pieces cut ∙ by (pieces 10 rest) (length-pieces 10 rest)
   where

@@ -110,7 +110,7 @@ module _ (shelf : Shelf) (rows : List Row) (row : SavedRow) (fine : row_fault sh
       by [] s a b d = IsShelf-first shelf (row_before [] row) ok (eqb-true _ _ (same (nat_eq (id_in row.bytes) row.id) d))
       by (first ∷ rows) s a b d = IsShelf-snoc shelf first rows (row_before [] row) s ok (eqb-false row.id 0 (zero_not (nat_eq row.id 0) (nat_eq row.id 65535) a)) b
 
--- so it may stand behind the rows of some lines
+-- so it may come after the rows of some lines
 pub shelf_with : (shelf : Shelf) (rows : List SavedRow) (row : SavedRow) → row_fault shelf (chained rows) row ≡ None → row.id < 65536 → unwrap_or row.next 65535 < 65536 → AreBytes row.bytes → IsShelf shelf (chained rows) → IsShelf shelf (chained (rows ++ row ∷ []))
 shelf_with shelf rows row fine id next bytes shelf_ok =
     let ok = fine_row shelf (chained rows) row fine id next bytes in

@@ -1,4 +1,4 @@
--- What a line puts behind the contents of an image keeps them a store, and is what the line says.
+-- What a line puts after the contents of an image keeps them a store, and is what the line says.
 use Rattle.std.proofs.Common.{◌≡◌, ◌≢◌, ℕ, zero, suc, ◌+◌, ◌<◌, ◌≤◌, Bool, true, false, cond, not, nat_lt, ◌&&◌, ◌⊎◌, inl, inr, Result, Ok, Err, Option, None, Some, List, [], ◌∷◌, ◌++◌, length, get_or, map, refl, sym, ap, subst, ◌∙◌, append-nil, add-one, arith, nat_eq}
 use Rattle.std.specs.List.{slice_get, All, cons_option, filter_map}
 use Rattle.std.proofs.lemmas.Option.{none-some, same_Some}

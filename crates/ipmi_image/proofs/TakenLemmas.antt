@@ -27,7 +27,7 @@ Says [] [] = Unit {0}
 Says (text ∷ texts) (line ∷ lines) = (line_of true text ≡ Ok line) × (is_end line ≡ false) × Says texts lines
 Says texts lines = ⊥
 
--- none has a fault behind those before it
+-- none has a fault after those before it
 abbrev pub Taken : List Line → List Line → Type 0
 Taken before [] = Unit {0}
 Taken before (line ∷ lines) = (fault_in (store_of_lines before) line ≡ None) × Taken (before ++ line ∷ []) lines
@@ -131,7 +131,7 @@ whole_record shelf row ok =
     ap (λ (b : Bool). not b || nat_lt (largest_len shelf) (length row.bytes)) (eq-eqb _ _ ok.whole)
     ∙ (let fits = ok.fits in grind (arith, nat_tests))
 
--- a row in the middle has no fault behind those before it
+-- a row in the middle has no fault after those before it
 row_fits : (shelf : Shelf) (before rows : List Row) (row : Row) (saved : List SavedRow) (s : SavedRow) → s.id ≡ row.id → s.bytes ≡ row.bytes → SameIds saved before → IsShelf shelf (before ++ row ∷ rows) → row_fault shelf (chained saved) s ≡ None
 row_fits shelf before rows row saved s same_id same_bytes same is =
     let one : is_no_id (chained saved) s.id ≡ false = ap (is_no_id (chained saved)) same_id ∙ ap (λ (b : Bool). (nat_eq row.id 0 && not b) || nat_eq row.id 65535) (same-empty saved before same) ∙ middle_id shelf before rows row is in
@@ -156,7 +156,7 @@ fault_of_row : (shelf : Shelf) (lines : List Line) (s : SavedRow) → fault_in (
 fault_of_row Sdr lines s = refl
 fault_of_row Sel lines s = refl
 
--- the rows of a shelf are taken, behind lines that have those before them
+-- the rows of a shelf are taken, after lines that have those before them
 rows_taken : (shelf : Shelf) (before rows : List Row) (lines : List Line) → SameIds (rows_on shelf lines) before → IsShelf shelf (before ++ rows) → Taken lines (row_lines shelf rows)
 rows_taken shelf before [] lines same is = tt
 rows_taken shelf before (row ∷ rows) lines same is =

@@ -15,7 +15,7 @@ pub pieces_one : (separator : ℕ) (bytes : List ℕ) → Lacks separator bytes 
 unfolding pieces
 pieces_one separator bytes lacks = slice_split_none (λ b. nat_eq b separator) bytes lacks
 
--- the first separator stands behind the first piece
+-- the first separator comes after the first piece
 pub pieces_more : (separator : ℕ) (piece rest : List ℕ) → Lacks separator piece → pieces separator (piece ++ separator ∷ rest) ≡ piece ∷ pieces separator rest
 unfolding pieces
 pieces_more separator piece rest lacks = slice_split_at (λ b. nat_eq b separator) piece separator rest lacks (eq-eqb separator separator refl)

@@ -38,7 +38,7 @@ abbrev pub chained : List SavedRow → List Row
 chained [] = []
 chained (row ∷ rows) = row_before rows row ∷ chained rows
 
--- the inventories, with bytes put behind those of the one with this id, or as a new one behind all
+-- the inventories, with bytes put after those of the one with this id, or as a new one after all
 abbrev pub with_bytes : ℕ → List ℕ → List Inventory → List Inventory
 with_bytes id bytes [] = record { id = id; bytes = bytes } ∷ []
 with_bytes id bytes (inventory ∷ inventories) =
@@ -95,7 +95,7 @@ is_empty (row ∷ rows) = false
 abbrev pub is_no_record : Shelf → List ℕ → Bool
 is_no_record shelf bytes = not (length bytes == whole_len shelf bytes) || nat_lt (largest_len shelf) (length bytes)
 
--- no id of a row behind these: 0000h is the first row's alone, and FFFFh none's
+-- no id of a row after these: 0000h is only the first row's, and FFFFh none's
 abbrev pub is_no_id : List Row → ℕ → Bool
 is_no_id rows id = ((id == 0) && not (is_empty rows)) || (id == 65535)
 
@@ -103,7 +103,7 @@ is_no_id rows id = ((id == 0) && not (is_empty rows)) || (id == 65535)
 abbrev pub begins_with_another : List Row → SavedRow → Bool
 begins_with_another rows row = is_empty rows && not (id_in row.bytes == row.id)
 
--- a row behind these: its id, an id that one of them has, its length, and the first bytes of the first one, in this order
+-- a row after these: its id, an id that one of them has, its length, and the first bytes of the first one, in this order
 abbrev pub row_fault : Shelf → List Row → SavedRow → Option LineFault
 row_fault shelf rows row = first_fault (
     (is_no_id rows row.id, fault.Id)
@@ -134,7 +134,7 @@ info_fault already bytes = first_fault (
     ∷ (not (length bytes == 14), fault.Length)
     ∷ [])
 
--- why the line may not stand behind others that make this store
+-- why the line may not come after others that make this store
 abbrev pub fault_in : Store → Line → Option LineFault
 fault_in store (a_row shelf row) = row_fault shelf (rows_of shelf store) row
 fault_in store (an_inventory id bytes) = inventory_fault id (inventory_of id store) bytes
@@ -146,7 +146,7 @@ abbrev pub unless_fault : Option LineFault → Line → Result Line LineFault
 unless_fault None line = Ok line
 unless_fault (Some fault) line = Err fault
 
--- what the line says behind these lines
+-- what the line says after these lines
 abbrev pub line_behind : Bool → List Line → List ℕ → Result Line LineFault
 line_behind dashes before text = elim (line_of dashes text) [ Ok line ↦ unless_fault (fault_in (store_of_lines before) line) line | Err fault ↦ Err fault ]
 
@@ -167,7 +167,7 @@ abbrev pub is_end : Line → Bool
 is_end the_end = true
 is_end line = false
 
--- no byte stands behind the line feed before these pieces
+-- no byte comes after the line feed before these pieces
 abbrev pub ends_here : List (List ℕ) → Bool
 ends_here ([] ∷ []) = true
 ends_here more = false

@@ -56,7 +56,7 @@ shelf_in word =
     else None
 
 -- ---- lines, by their first word: first the fields' lengths, of which that of HEX is not 0, and then the hex digits; how many bytes HEX
--- has to be is asked behind the other lines
+-- has to be is asked after the other lines
 
 -- the line of two fields, or of three
 abbrev pub with_two : (List ℕ → List ℕ → Result Line LineFault) → List (List ℕ) → Result Line LineFault
@@ -112,6 +112,6 @@ line_of_fields dashes (word ∷ fields) =
     else if bytes_eq word (codes "end") then end_line fields
     else Err fault.Line
 
--- the fields stand between single spaces
+-- single spaces separate the fields
 unfoldable pub line_of : Bool → List ℕ → Result Line LineFault
 line_of dashes text = line_of_fields dashes (pieces 32 text)

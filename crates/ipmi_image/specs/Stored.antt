@@ -60,7 +60,7 @@ pub record HoldsLines (contents : Contents) (lines : List Line) : Type 0 where
   pub sdr_info : contents.sdr_info ≡ first_of (filter_map (info_on Sdr) lines)
   pub sel_info : contents.sel_info ≡ first_of (filter_map (info_on Sel) lines)
 
--- a line was put behind these, or may not stand there, or no memory was left
+-- a line was put after these, or may not come there, or no memory was left
 abbrev pub IsPut : Contents → List Line → Line → Result (Unit {0}) LineFault → Type 0
 IsPut new before line result = MatchResult result
     (λ done. (fault_in (store_of_lines before) line ≡ None) × HoldsLines new (before ++ line ∷ []))

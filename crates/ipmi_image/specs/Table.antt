@@ -15,7 +15,7 @@ sensor_key lun number = lun * 256 + number
 abbrev pub inventory_of : StoredInventory → Inventory
 inventory_of inventory = record { id = inventory.id; bytes = inventory.bytes.items }
 
--- the inventory at a place has these bytes behind its own
+-- the inventory at a place has these bytes after its own
 abbrev pub longer_at : ℕ → List ℕ → List Inventory → List Inventory
 longer_at place bytes [] = []
 longer_at zero bytes (inventory ∷ inventories) = record { id = inventory.id; bytes = inventory.bytes ++ bytes } ∷ inventories

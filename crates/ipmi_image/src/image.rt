@@ -31,13 +31,13 @@ pub enum ImageFault {
     #[error("header")]
     Header,
     /// The line has an unknown first word, a wrong number of fields, a field before HEX that is too short or too long, an
-    /// empty HEX, or behind `info` neither `sdr` nor `sel`.
+    /// empty HEX, or after `info` neither `sdr` nor `sel`.
     #[error("line {0}: not a line")]
     Line(usize),
     /// A hex field has a character that is no hex digit, or an odd number of them.
     #[error("line {0}: hex")]
     Hex(usize),
-    /// A record's id FFFFh, or 0000h behind the first record of its shelf; the FRU device FFh; or a LUN above 3.
+    /// A record's id FFFFh, or 0000h after the first record of its shelf; the FRU device FFh; or a LUN above 3.
     #[error("line {0}: id")]
     Id(usize),
     /// The id is on its shelf already, or the reading or the info is given already.
@@ -52,7 +52,7 @@ pub enum ImageFault {
     /// The whole lines run out before `end`.
     #[error("no end")]
     NoEnd,
-    /// Something stands behind the line `end`.
+    /// Something comes after the line `end`.
     #[error("line {0}: after end")]
     AfterEnd(usize),
     /// The inventory has more than 65,535 bytes.
@@ -101,7 +101,7 @@ fn is_whole(shelf: Shelf, bytes: &[u8]) -> bool
     }
 }
 
-/// Whether no record behind these has this id.
+/// Whether no record after these has this id.
 #[tactic(auto, using(crate::proofs::TableLemmas::is_empty_chained))]
 fn is_no_id(rows: &Table<StoredRow>, id: u16) -> bool
     ensures { result ≡ is_no_id (chained (map row_of rows.now)) id }
@@ -126,7 +126,7 @@ fn begins_with_another(rows: &Table<StoredRow>, row: &StoredRow) -> bool
     rows.as_slice().is_empty() && LittleEndian::read_u16(&row.bytes) != row.id
 }
 
-/// Why the record may not stand behind these.
+/// Why the record may not come after these.
 fn row_fault(shelf: Shelf, rows: &Table<StoredRow>, row: &StoredRow) -> Option<LineFault>
     ensures { result ≡ row_fault shelf (chained (map row_of rows.now)) (row_of row.now) }
 {
@@ -145,7 +145,7 @@ fn row_fault(shelf: Shelf, rows: &Table<StoredRow>, row: &StoredRow) -> Option<L
     None
 }
 
-/// Puts the record behind these.
+/// Puts the record after these.
 fn put_row(
     shelf: Shelf,
     rows: &mut Table<StoredRow>,
@@ -197,7 +197,7 @@ fn inventory_fault(inventories: &Table<StoredInventory>, id: u8, bytes: &[u8]) -
     None
 }
 
-/// Puts the bytes behind those of their inventory.
+/// Puts the bytes after those of their inventory.
 fn put_inventory(
     inventories: &mut Table<StoredInventory>,
     id: u8,
@@ -254,7 +254,7 @@ fn reading_fault(
     None
 }
 
-/// Puts the reading of a sensor behind the others.
+/// Puts the reading of a sensor after the others.
 fn put_reading(
     sensors: &mut Table<StoredSensor>,
     lun: u8,
@@ -321,7 +321,7 @@ impl Contents {
         }
     }
 
-    /// Puts what a line says behind what the lines before say.
+    /// Puts what a line says after what the lines before say.
     fn put(&mut self, line: Line) -> Result<(), LineFault>
         requires { IsStore (store_of self.old) }
         ensures keeps { OnOk result (IsStore (store_of self.new)) }
@@ -365,7 +365,7 @@ fn read_version(line: &[u8]) -> Option<bool>
     None
 }
 
-/// What the lines behind the first one say, up to `end`, the last one.
+/// What the lines after the first one say, up to `end`, the last one.
 fn read_lines(alloc: Global, dashes: bool, bytes: &[u8]) -> Result<Contents, ImageFault>
     ensures ok { IfOk result (λ contents. IsStore (store_of contents) ×
         (store_behind dashes [] (pieces 10 bytes.now) ≡ Ok (store_of contents))) }

@@ -111,7 +111,7 @@ fn read_shelf(word: &[u8]) -> Option<Shelf>
     None
 }
 
-/// Reads `ID NEXT HEX` behind the name of a shelf.
+/// Reads `ID NEXT HEX` after the name of a shelf.
 fn read_row(alloc: Global, dashes: bool, shelf: Shelf, fields: &[u8]) -> Result<Line, LineFault>
     ensures { IsRead (with_three (row_line dashes shelf) (pieces 32 fields.now)) result }
 {
@@ -134,7 +134,7 @@ fn read_row(alloc: Global, dashes: bool, shelf: Shelf, fields: &[u8]) -> Result<
     })
 }
 
-/// Reads `ID HEX` behind `fru`.
+/// Reads `ID HEX` after `fru`.
 fn read_inventory(alloc: Global, fields: &[u8]) -> Result<Line, LineFault>
     ensures { IsRead (with_two inventory_line (pieces 32 fields.now)) result }
 {
@@ -150,7 +150,7 @@ fn read_inventory(alloc: Global, fields: &[u8]) -> Result<Line, LineFault>
     Ok(Line::Inventory(id, read_bytes(alloc, hex)?))
 }
 
-/// Reads `LUN NUM HEX8` behind `reading`.
+/// Reads `LUN NUM HEX8` after `reading`.
 fn read_reading(alloc: Global, fields: &[u8]) -> Result<Line, LineFault>
     ensures { IsRead (with_three reading_line (pieces 32 fields.now)) result }
 {
@@ -167,7 +167,7 @@ fn read_reading(alloc: Global, fields: &[u8]) -> Result<Line, LineFault>
     Ok(Line::Reading { lun, number, bytes })
 }
 
-/// Reads `sdr HEX28` or `sel HEX28` behind `info`.
+/// Reads `sdr HEX28` or `sel HEX28` after `info`.
 fn read_info(alloc: Global, fields: &[u8]) -> Result<Line, LineFault>
     ensures { IsRead (with_two info_line (pieces 32 fields.now)) result }
 {

@@ -24,7 +24,7 @@ struct Text {
 }
 
 impl Text {
-    /// Puts these bytes behind.
+    /// Appends these bytes.
     fn push(&mut self, bytes: &[u8]) -> Result<(), AllocError>
         ensures { OnOk result (self.new.bytes.items ≡ self.old.bytes.items ++ bytes.now) }
     {
@@ -32,7 +32,7 @@ impl Text {
         Ok(())
     }
 
-    /// Puts the bytes in hex behind.
+    /// Appends the bytes in hex.
     fn push_hex(&mut self, bytes: &[u8]) -> Result<(), AllocError>
         ensures { OnOk result (self.new.bytes.items ≡ self.old.bytes.items ++ encode_lower
             bytes.now) }
@@ -41,7 +41,7 @@ impl Text {
         self.push(hex.as_bytes())
     }
 
-    /// Puts a row's next id behind, a dash where it is the following row's.
+    /// Appends a row's next id, a dash where it is the following row's.
     fn push_next(&mut self, following: u16, next: u16) -> Result<(), AllocError>
         ensures { OnOk result (self.new.bytes.items ≡ self.old.bytes.items ++ next_field following
             next) }
@@ -53,7 +53,7 @@ impl Text {
         }
     }
 
-    /// Puts the first word and the id of a row behind.
+    /// Appends the first word and the id of a row.
     fn push_id(&mut self, word: &[u8], id: u16) -> Result<(), AllocError>
         ensures { OnOk result (self.new.bytes.items ≡ self.old.bytes.items ++
             (word.now ++ 32 ∷ (hex_of 2 id ++ 32 ∷ []))) }
@@ -64,7 +64,7 @@ impl Text {
         self.push(b" ")
     }
 
-    /// Puts the next id and the bytes of a row behind, and a line feed.
+    /// Appends the next id and the bytes of a row, and a line feed.
     fn push_rest(&mut self, following: u16, next: u16, bytes: &[u8]) -> Result<(), AllocError>
         ensures { OnOk result (self.new.bytes.items ≡ self.old.bytes.items ++
             (next_field following next ++ 32 ∷ (encode_lower bytes.now ++ 10 ∷ []))) }
@@ -75,7 +75,7 @@ impl Text {
         self.push(b"\n")
     }
 
-    /// Puts the line of a row behind.
+    /// Appends the line of a row.
     #[tactic(auto, using(crate::proofs::RewriteLemmas::row_joined))]
     fn push_row(&mut self, word: &[u8], following: u16, row: &StoredRow) -> Result<(), AllocError>
         ensures { OnOk result (self.new.bytes.items ≡ self.old.bytes.items ++ line_text
@@ -90,7 +90,7 @@ impl Text {
         self.push_rest(following, row.next.unwrap_or(following), &row.bytes)
     }
 
-    /// Puts the lines of a shelf behind.
+    /// Appends the lines of a shelf.
     fn push_rows(&mut self, word: &[u8], rows: &[StoredRow]) -> Result<(), AllocError>
         ensures { OnOk result (self.new.bytes.items ≡ self.old.bytes.items ++ lines_text
             (rows_lines word.now (chained (map row_of rows.now)))) }
@@ -103,7 +103,7 @@ impl Text {
         Ok(())
     }
 
-    /// Puts the line of a part of an inventory behind.
+    /// Appends the line of a part of an inventory.
     fn push_part(&mut self, id: u8, part: &[u8]) -> Result<(), AllocError>
         ensures { OnOk result (self.new.bytes.items ≡ self.old.bytes.items ++ line_text
             (part_fields id part.now)) }
@@ -115,7 +115,7 @@ impl Text {
         self.push(b"\n")
     }
 
-    /// Puts the lines of an inventory behind.
+    /// Appends the lines of an inventory.
     fn push_inventory(&mut self, id: u8, bytes: &[u8]) -> Result<(), AllocError>
         ensures { OnOk result (self.new.bytes.items ≡ self.old.bytes.items ++ lines_text
             (inventory_lines (record { id = id; bytes = bytes.now }))) }
@@ -129,7 +129,7 @@ impl Text {
         Ok(())
     }
 
-    /// Puts the lines of all inventories behind.
+    /// Appends the lines of all inventories.
     fn push_inventories(&mut self, inventories: &[StoredInventory]) -> Result<(), AllocError>
         ensures { OnOk result (self.new.bytes.items ≡ self.old.bytes.items ++ lines_text
             (flat_map inventory_lines (map table.inventory_of inventories.now))) }
@@ -143,7 +143,7 @@ impl Text {
         Ok(())
     }
 
-    /// Puts the one digit of a LUN behind.
+    /// Appends the one digit of a LUN.
     fn push_lun(&mut self, lun: u8) -> Result<(), AllocError>
         requires { lun ≤ 3 }
         ensures { OnOk result
@@ -152,7 +152,7 @@ impl Text {
         self.push(&[b'0' + lun])
     }
 
-    /// Puts the LUN and the number of a sensor behind, and the word before them.
+    /// Appends the LUN and the number of a sensor, and the word before them.
     fn push_sensor(&mut self, lun: u8, number: u8) -> Result<(), AllocError>
         requires { lun ≤ 3 }
         ensures { OnOk result (self.new.bytes.items ≡ self.old.bytes.items ++
@@ -165,7 +165,7 @@ impl Text {
         self.push(b" ")
     }
 
-    /// Puts the line of a reading behind.
+    /// Appends the line of a reading.
     fn push_reading(&mut self, sensor: &StoredSensor) -> Result<(), AllocError>
         requires { sensor.now.lun ≤ 3 }
         ensures { OnOk result (self.new.bytes.items ≡ self.old.bytes.items ++ line_text
@@ -178,7 +178,7 @@ impl Text {
         self.push(b"\n")
     }
 
-    /// Puts the line of an info behind, where there is one.
+    /// Appends the line of an info, where there is one.
     fn push_info(&mut self, word: &[u8], info: Option<[u8; 14]>) -> Result<(), AllocError>
         ensures { OnOk result (self.new.bytes.items ≡ self.old.bytes.items ++ lines_text
             (info_lines word.now info)) }
@@ -193,7 +193,7 @@ impl Text {
         self.push(b"\n")
     }
 
-    /// Puts the lines of all readings behind.
+    /// Appends the lines of all readings.
     fn push_readings(&mut self, sensors: &[StoredSensor]) -> Result<(), AllocError>
         requires { All (λ sensor. sensor.lun ≤ 3) sensors.now }
         ensures { OnOk result (self.new.bytes.items ≡ self.old.bytes.items ++ lines_text
@@ -207,7 +207,7 @@ impl Text {
         Ok(())
     }
 
-    /// Puts the lines of everything but the rows behind, and the last line.
+    /// Appends the lines of everything but the rows, and the last line.
     fn push_others(&mut self, contents: &Contents) -> Result<(), AllocError>
         requires { All (λ sensor. sensor.lun ≤ 3) contents.now.sensors }
         ensures { OnOk result (self.new.bytes.items ≡ self.old.bytes.items ++ lines_text
@@ -220,7 +220,7 @@ impl Text {
         self.push(b"end\n")
     }
 
-    /// Puts all lines behind.
+    /// Appends all lines.
     fn push_image(&mut self, contents: &Contents) -> Result<(), AllocError>
         requires { All (λ sensor. sensor.lun ≤ 3) contents.now.sensors }
         ensures { OnOk result (self.new.bytes.items ≡ self.old.bytes.items ++ image_text_of

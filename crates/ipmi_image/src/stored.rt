@@ -145,7 +145,7 @@ impl<T: Keyed + Drop> Table<T> {
 }
 
 impl Table<StoredInventory> {
-    /// Puts the bytes behind those of the inventory at this place.
+    /// Puts the bytes after those of the inventory at this place.
     pub(crate) fn append(&mut self, place: usize, bytes: &[u8]) -> Result<(), AllocError>
         requires { place < length self.old }
         ensures ok { OnOk result (map inventory_of self.new ≡ longer_at place bytes.now

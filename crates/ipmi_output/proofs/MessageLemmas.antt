@@ -54,7 +54,7 @@ pub ReceivesAll-both : (old mid new : Received) (xs ys : List ℕ) → ReceivesA
 ReceivesAll-both old mid new xs ys first second =
     (Appends-both old.taken mid.taken new.taken xs ys first.0 second.0, second.1 ∙ first.1)
 
--- a part of the first bytes is a part of them with more behind them
+-- a part of the first bytes is a part of them with more after them
 pub ReceivesPart-before : (old new : Received) (xs ys : List ℕ) → ReceivesPart old new xs → ReceivesPart old new (xs ++ ys)
 ReceivesPart-before old new xs ys part =
     let within = part.1 in
@@ -62,7 +62,7 @@ ReceivesPart-before old new xs ys part =
     let same : take part.0 xs ≡ take part.0 (xs ++ ys) = sym (take-append-le part.0 xs ys (omega (arith, within))) in
     (part.0, omega (arith, within, whole), Appends-same old.taken new.taken _ _ same part.2, part.3)
 
--- all of the first bytes, and then a part of those behind them
+-- all of the first bytes, and then a part of those after them
 pub ReceivesPart-behind : (old mid new : Received) (xs ys : List ℕ) → ReceivesAll old mid xs → ReceivesPart mid new ys → ReceivesPart old new (xs ++ ys)
 ReceivesPart-behind old mid new xs ys first part =
     let within = part.1 in
@@ -73,7 +73,7 @@ ReceivesPart-behind old mid new xs ys first part =
       part.3 ∙ ap (λ (f : Option ℕ). option_map (λ n. n + 1) f) first.1,
     )
 
--- the parts before part i, that part, and those behind it
+-- the parts before part i, that part, and those after it
 joined_parts-split : (parts : List (Bor (List ℕ))) (i : ℕ) (d : Bor (List ℕ)) → i < length parts
     → joined_parts (take i parts) ++ ((get_or parts i d).now ++ joined_parts (drop (suc i) parts)) ≡ joined_parts parts
 joined_parts-split parts i d within =
@@ -93,7 +93,7 @@ pub WritesAll-failed : {T E : Type 0} (old new : Received) (r : Result T E) (byt
 WritesAll-failed old new (Ok v) bytes failed part = absurd (false≢true failed)
 WritesAll-failed old new (Err e) bytes failed part = part
 
--- some bytes, and then what a call writes of those behind them
+-- some bytes, and then what a call writes of those after them
 pub WritesAll-behind : {T E : Type 0} (old mid new : Received) (r : Result T E) (xs ys : List ℕ) → ReceivesAll old mid xs → WritesAll mid new r ys → WritesAll old new r (xs ++ ys)
 WritesAll-behind old mid new (Ok v) xs ys first all = ReceivesAll-both old mid new xs ys first all
 WritesAll-behind old mid new (Err e) xs ys first part = ReceivesPart-behind old mid new xs ys first part

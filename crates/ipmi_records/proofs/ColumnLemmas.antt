@@ -29,7 +29,7 @@ spaces (suc n) = rw (encode_ascii 32 (omega arith)) (ap (λ (l : List ℕ). 32 �
 less_nothing : (n : ℕ) → n - 0 ≡ n
 less_nothing n = omega arith
 
--- a text that no precision cuts, and the spaces behind it
+-- a text that no precision cuts, and the spaces after it
 padded_column : (width : ℕ) (text : List ℕ) → length text < 2 ^ 64 → padded (format_spec 32 0 0 width (2 ^ 64 - 1)) text ≡ padded_to width text
 unfolding padded
 padded_column width text bound = rw (take_chars_all (2 ^ 64 - 1) text (omega arith), less_nothing (width - char_count text)) (ap (λ (l : List ℕ). text ++ l) (spaces (width - char_count text)))

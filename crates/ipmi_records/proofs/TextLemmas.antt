@@ -25,7 +25,7 @@ use Rattle.ipmi_records.specs.Sensor.{is_readable, threshold_in}
 line_before : (label text rest : List ℕ) → label ++ (codes ": " ++ (text ++ (codes "\n" ++ rest))) ≡ labelled label text ++ rest
 line_before label text rest = simp append_assoc refl
 
--- labels and texts, one behind the other
+-- labels and texts, one after the other
 abbrev flat : List (List ℕ × List ℕ) → List ℕ
 flat [] = []
 flat (pair ∷ pairs) = pair.0 ++ (codes ": " ++ (pair.1 ++ (codes "\n" ++ flat pairs)))

@@ -36,7 +36,7 @@ byte_h n = upper_byte n ++ codes "h"
 abbrev pub word_h : ℕ → List ℕ
 word_h n = upper_byte (n / 256) ++ byte_h (n % 256)
 
--- a text, and behind it as many spaces as it has characters less than the width; a longer text stands whole
+-- a text, and after it as many spaces as it has characters less than the width; a longer text is kept whole
 abbrev pub padded_to : ℕ → List ℕ → List ℕ
 padded_to width text = text ++ replicate (width - char_count text) 32
 

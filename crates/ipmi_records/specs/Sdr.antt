@@ -29,7 +29,7 @@ body_len bytes = byte_at 5 bytes
 
 -- ---- views
 
--- the byte of a record's ID string type/length, behind which the ID string stands
+-- the byte of a record's ID string type/length, after which the ID string comes
 abbrev pub full_id_place : ℕ
 full_id_place = 48
 
@@ -104,7 +104,7 @@ locator_of (Other bytes) = None
 
 -- ---- names
 
--- an ID string: its type/length byte, and all bytes behind that
+-- an ID string: its type/length byte, and all bytes after that
 pub record IdField : Type 0 where
   pub type_length : ℕ
   pub rest : List ℕ

@@ -167,7 +167,7 @@ pub record AreFullLines (bytes : List ℕ) (reading : Option Reading) (text : Li
   pub are_thresholds : AreThresholdTexts bytes (thresholds_of (full_sensor bytes)) thresholds
   pub text_is : text ≡ columns ++ thresholds
 
--- what is known of the sensor's values: of a full and of a compact record alone
+-- what is known of the sensor's values: only of a full and of a compact record
 abbrev pub AreValueLines : SdrView → Option Reading → List ℕ → Type 0
 AreValueLines (Full bytes) reading text = AreFullLines bytes reading text
 AreValueLines (Compact bytes) reading text = AreReadingLines (Compact bytes) reading text

@@ -1,4 +1,4 @@
--- Where the fields of sensors and device locators stand in a sensor data record (IPMI v2.0, section 43).
+-- Where the fields of sensors and device locators are in a sensor data record (IPMI v2.0, section 43).
 use Rattle.std.specs.Prelude.{ℕ, ◌+◌, ◌*◌, ◌/◌, ◌%◌, Bool, ℤ, List}
 use Rattle.ipmi_text.specs.ReadingValue.{SensorFactors}
 use Rattle.ipmi_records.specs.declared.sensor.Entity.{Entity}
@@ -42,7 +42,7 @@ event_only_sensor bytes = sensor_by (byte_at 11 bytes) (byte_at 12 bytes) bytes
 abbrev pub units_in : List ℕ → SensorUnits
 units_in bytes = record { units1 = byte_at 21 bytes; base = byte_at 22 bytes; modifier = byte_at 23 bytes }
 
--- ---- full records alone (table 43-1)
+-- ---- only full records (table 43-1)
 
 -- bits 7:6 of sensor units 1
 abbrev pub analog_format : List ℕ → ℕ

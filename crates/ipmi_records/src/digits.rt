@@ -88,7 +88,7 @@ impl fmt::Display for WordH {
     }
 }
 
-/// A text, and behind it spaces up to a width in characters. A longer text stands whole.
+/// A text, and after it spaces up to a width in characters. A longer text is kept whole.
 #[derive(Clone, Copy, Debug)]
 pub(crate) struct Column<'a> {
     pub(crate) text: &'a str,

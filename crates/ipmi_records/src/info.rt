@@ -61,7 +61,7 @@ fn time_lines(alloc: Global, bytes: &[u8; 14]) -> Result<String, AllocError>
     format!(in alloc; "Last Addition: {addition}\nLast Erase: {erase}\n")
 }
 
-/// Overflow, and the whole byte that it stands in.
+/// Overflow, and the whole byte that it is in.
 fn support_lines(alloc: Global, bytes: &[u8; 14]) -> Result<String, AllocError>
     ensures { IfOk result (λ text. string_bytes text ≡ support_lines bytes.now) }
 {

@@ -1,4 +1,4 @@
-//! What follows from the definitions of lines and blocks alone, whatever wrote them.
+//! What follows from the definitions of lines and blocks by themselves, whatever wrote them.
 ghost use Rattle.std.specs.Prelude.{◌≡◌, ℕ, List, Option};
 ghost use Rattle.ipmi_text.specs.Bytes.{AreBytes};
 ghost use Rattle.ipmi_text.specs.declared.reading.Reading.{Reading};

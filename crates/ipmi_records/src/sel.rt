@@ -14,7 +14,7 @@ fn time_stamp(bytes: &[u8]) -> u32
     LittleEndian::read_u32(&bytes[3..])
 }
 
-/// The bytes behind an entry's type.
+/// The bytes after an entry's type.
 fn plain_data(bytes: &[u8]) -> &[u8]
     requires { length bytes.now ≡ 16 }
     ensures { result.now ≡ plain_data bytes.now }
@@ -210,7 +210,7 @@ impl<'a> OtherEntry<'a> {
         self.bytes
     }
 
-    /// All bytes behind the type.
+    /// All bytes after the type.
     pub fn data_bytes(&self) -> &'a [u8]
         ensures { result.now ≡ plain_data self.now }
     {

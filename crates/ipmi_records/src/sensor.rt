@@ -1,4 +1,4 @@
-//! The records of sensors, and where their fields stand (IPMI v2.0, sections 43.1 to 43.3).
+//! The records of sensors, and where their fields are (IPMI v2.0, sections 43.1 to 43.3).
 ghost use Rattle.std.specs.Prelude.{◌≡◌, ◌*◌, ◌<◌, ◌≤◌, length};
 ghost use Rattle.ipmi_text.specs.ReadingValue.{IsTwosComplement};
 ghost use Rattle.ipmi_records.specs.Bytes.{signed};
@@ -123,7 +123,7 @@ impl Threshold {
     }
 }
 
-/// What a record tells of its sensor, whose sensor type and event/reading type stand elsewhere in each kind.
+/// What a record tells of its sensor, whose sensor type and event/reading type are elsewhere in each kind.
 fn sensor_in(bytes: &[u8], sensor_type: u8, event_type: u8) -> Sensor
     requires { 10 ≤ length bytes.now }
     ensures { result ≡ sensor_by sensor_type event_type bytes.now }

@@ -37,7 +37,7 @@ abbrev pub ten_to : ℤ → ℤ
 ten_to exponent = pos (10 ^ unsigned_abs exponent)
 
 -- (M x + B 10^K1) 10^K2, in units of 10^-16: none where the sensor has no analog reading (format 3)
--- or is not linear. It is asked of factors with HasRanges alone, whose exponents never go below 0 here.
+-- or is not linear. It is asked only of factors with HasRanges, whose exponents never go below 0 here.
 abbrev pub reading_value : SensorFactors → ℕ → Option ℤ
 reading_value f raw =
     if (f.format == 3) || not (f.linear == 0) then None

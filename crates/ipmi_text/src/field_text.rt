@@ -55,7 +55,7 @@ fn push_six_bit(text: &mut String, bytes: &[u8]) -> Result<(), AllocError>
     Ok(())
 }
 
-/// 6-bit ASCII: four characters stand in three bytes.
+/// 6-bit ASCII: four characters fill three bytes.
 fn six_bit_text(alloc: Global, bytes: &[u8]) -> Result<String, AllocError>
     ensures { IfOk result (λ text. string_bytes text ≡ six_bit_text bytes.now) }
 {
@@ -142,7 +142,7 @@ fn first_characters(text: String, count: usize) -> String
 /// The text of a sensor data record's ID string (IPMI v2.0, section 43.15), by its type/length byte and
 /// all bytes after it: hex for Unicode (type 0), BCD plus (1), 6-bit ASCII (2), and 8-bit ASCII and
 /// Latin-1 (3). Bits 4:0 of the type/length byte count the characters (for type 0, the bytes), of which
-/// as many are printed as stand in the next 16 bytes at most.
+/// as many are printed as are in the next 16 bytes at most.
 pub fn sdr_text(alloc: Global, tl: u8, rest: &[u8]) -> Result<String, AllocError>
     ensures { IfOk result (λ text. string_bytes text ≡ sdr_text_of tl rest.now) }
 {

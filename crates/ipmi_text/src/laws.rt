@@ -1,4 +1,4 @@
-//! What follows from the definitions of texts alone, whatever wrote them.
+//! What follows from the definitions of texts by themselves, whatever wrote them.
 ghost use Rattle.std.specs.Prelude.{◌≡◌, ℤ, List, ℕ};
 ghost use Rattle.ipmi_text.specs.Decimal.{IsDecimalOf};
 ghost use Rattle.ipmi_text.specs.Laws.{DecimalIsUnique, MinutesTextIsUnique, UtcTextIsUnique};

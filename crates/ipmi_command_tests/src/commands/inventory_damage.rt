@@ -76,7 +76,7 @@ struct Damage {
     parts: [&'static str; 5],
 }
 
-/// Where the digits of the byte at a place stand in the image.
+/// Where the digits of the byte at a place are in the image.
 fn digits_at(place: usize) -> usize {
     let line = 20_usize.saturating_add((place / 32).saturating_mul(72));
     line.saturating_add((place % 32).saturating_mul(2))

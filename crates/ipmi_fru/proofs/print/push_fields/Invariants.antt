@@ -3,7 +3,7 @@ use Rattle.ipmi_fru.specs.Area.{fields_in}
 use Rattle.ipmi_fru.specs.Print.{field_lines}
 use Rattle.ipmi_fru.proofs.print.push_fields.Given as goal
 
--- the lines so far, with those of the fields that are left behind them
+-- the lines so far, with those of the fields that are left after them
 abbrev pub invariant-fields : goal.invariant-fields
 invariant-fields l =
     IsTrue (is_some (fields_in l.rest))

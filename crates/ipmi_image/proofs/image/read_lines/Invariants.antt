@@ -6,7 +6,7 @@ use Rattle.ipmi_image.specs.Image.{store_behind}
 use Rattle.ipmi_image.specs.Stored.{store_of, HoldsLines}
 use Rattle.ipmi_image.proofs.image.read_lines.Given as goal
 
--- the contents are what the lines before say, and the lines that are left give the same behind them as all did
+-- the contents are what the lines before say, and the lines that are left give the same after them as all did
 abbrev pub invariant-lines : goal.invariant-lines
 invariant-lines l =
     IsStore (store_of l.contents)

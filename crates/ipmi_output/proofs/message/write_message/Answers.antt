@@ -1,4 +1,4 @@
--- The name stands last, with nothing behind it.
+-- The name stands last, with nothing after it.
 use Rattle.std.proofs.lemmas.List.{append-nil}
 use Rattle.ipmi_output.proofs.message.write_message.Goals as goal
 
