@@ -4,7 +4,7 @@ PROGRAM := crates/ipmitool/out/ipmitool
 # What the program is built of: no test, must-fail edit or document is among it.
 SOURCES := crates.txt $(shell find crates \( -name out -o -name tests -o -name tests.rt -o -name '*_tests' -o -name own_controller \) -prune -o \( -name '*.rt' -o -name '*.antt' \) -print)
 
-.PHONY: demo test memory turns bench build install
+.PHONY: demo test memory turns bench capture-test build install
 
 # The program on two images: sensors, events, inventories, and three sensor data records as they are.
 demo: $(PROGRAM)
@@ -29,6 +29,10 @@ turns:
 # Time and memory on long images, against a reference that a C compiler builds; a few seconds, and no time fails it.
 bench: $(PROGRAM)
 	@scripts/bench $(PROGRAM)
+
+# scripts/capture over an ipmitool that makes troubles and over a simulated controller; Debian's ipmitool and openipmi are needed.
+capture-test:
+	@scripts/capture_test
 
 build: $(PROGRAM)
 
