@@ -6,7 +6,7 @@ PROGRAM := crates/ipmitool/out/ipmitool
 # What the program is built of: no test, must-fail edit or document is among it.
 SOURCES := crates.txt $(shell find crates \( -name out -o -name must-fail -o -name tests -o -name tests.rt -o -name '*_tests' -o -name own_controller \) -prune -o \( -name '*.rt' -o -name '*.antt' \) -print)
 
-.PHONY: demo try test memory turns bench build install uninstall
+.PHONY: demo try test memory turns bench capture-test build install uninstall
 
 # The program on two images: sensors, events, inventories, and three sensor data records as they are.
 demo: $(PROGRAM)
@@ -38,6 +38,10 @@ turns:
 # Time and memory on long images, against a reference that a C compiler builds; a few seconds, and no time fails it.
 bench: $(PROGRAM)
 	@scripts/bench $(PROGRAM)
+
+# scripts/capture over an ipmitool that makes troubles and over a simulated controller; Debian's ipmitool and openipmi are needed.
+capture-test:
+	@scripts/capture_test
 
 build: $(PROGRAM)
 
