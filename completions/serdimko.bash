@@ -6,7 +6,7 @@ _serdimko() {
   local options='--image --from --part --tries'
   local cur=${COMP_WORDS[COMP_CWORD]} word value= plain= line= next=
 
-  # What stands before the word: the option whose value it is, whether -- came, and the words without options.
+  # What comes before the word: the option whose value it is, whether -- came, and the words without options.
   for word in "${COMP_WORDS[@]:1:COMP_CWORD-1}"; do
     if [[ $value ]]; then
       # readline cuts --image=FILE at its =, so that = is a word here.
