@@ -19,16 +19,16 @@ use Rattle.ipmi_command_line.specs.declared.command.Kind.{Kind}
 use Rattle.ipmi_commands.specs.declared.stop.Stop.{Stop}
 use Rattle.ipmi_commands.specs.declared.stop.Stop.TheVariants as stop
 use Rattle.ipmi_commands.specs.Asking.{is_absent, ReadsFor}
-use Rattle.ipmi_commands.specs.Listing.{AsksAt, FindsNone, FindsText, Finds, FindsInfo, MayStopAt}
+use Rattle.ipmi_commands.specs.Listing.{AsksAt, FindsBy, FindsNone, FindsText, Finds, FindsInfo, MayStopAt}
 use Rattle.ipmi_commands.specs.Pieces.{IsDevicePiece, IsInventoryText, is_name, reading_for, row_is_of_kind}
 use Rattle.ipmi_commands.specs.Plan.{Spot, AtRecord, AtInventory, device_spots, named_spots, reading_spots, listed_spots}
 use Rattle.ipmi_commands.specs.Plan as plan
 
 -- the stop is passed up
-pub passed_up : (IsText : Store → List ℕ → Type 0) (spots : List Spot) (tries : ℕ) (s s' : Seen) (result : Result (String Global) Stop) (st : Stop) → IsErrAnd result (λ e. e ≡ st) → FindsNone spots tries s s' st
-    → Finds IsText spots tries s s' result
-passed_up IsText spots tries s s' (Ok text) st is none = absurd is
-passed_up IsText spots tries s s' (Err e) st is none = subst (λ (x : Stop). FindsNone spots tries s s' x) (sym is) none
+pub passed_up : {T : Type 0} (bytes : T → List ℕ) (IsText : Store → List ℕ → Type 0) (spots : List Spot) (tries : ℕ) (s s' : Seen) (result : Result T Stop) (st : Stop)
+    → IsErrAnd result (λ e. e ≡ st) → FindsNone spots tries s s' st → FindsBy bytes IsText spots tries s s' result
+passed_up bytes IsText spots tries s s' (Ok found) st is none = absurd is
+passed_up bytes IsText spots tries s s' (Err e) st is none = subst (λ (x : Stop). FindsNone spots tries s s' x) (sym is) none
 
 -- ---- nothing was asked for
 

@@ -1,6 +1,5 @@
 pub mod AskLemmas
 pub mod CallLemmas
-pub mod HexLemmas
 pub mod ItemLemmas
 pub mod LastLemmas
 pub mod ListingLemmas

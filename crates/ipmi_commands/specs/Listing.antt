@@ -2,6 +2,7 @@
 use Rattle.std.specs.Prelude.{◌≡◌, Bool, true, false, ℕ, zero, suc, ◌+◌, ◌-◌, ◌*◌, ◌<◌, ◌≤◌, ◌==◌, IsTrue, Option, None, Some, Result, Ok, Err, String, string_bytes, List, [], ◌∷◌, length, take, drop}
 use Rattle.std.specs.FinSet as set
 use Rattle.std.specs.declared.alloc.Global.{Global}
+use Rattle.arrayvec.specs.ArrayVec.{ArrayVec}
 use Rattle.ipmi_bus.specs.Bounds.{step_call_bound, fru_call_bound, digits}
 use Rattle.ipmi_bus.specs.declared.step.Place.{Place}
 use Rattle.ipmi_bus.specs.declared.step.Place.TheVariants.{First, Id, End}
@@ -20,6 +21,8 @@ use Rattle.ipmi_bus.specs.Step.{CursorHoldsCurrent, asked_at}
 use Rattle.ipmi_command_line.specs.declared.command.Count.TheVariants as count
 use Rattle.ipmi_command_line.specs.declared.command.Task.{Task}
 use Rattle.ipmi_command_line.specs.declared.command.Task.TheVariants as task
+use Rattle.ipmi_commands.specs.declared.piece.Piece.{Piece}
+use Rattle.ipmi_commands.specs.declared.piece.Piece.TheVariants as piece
 use Rattle.ipmi_commands.specs.declared.stop.Stop.{Stop}
 use Rattle.ipmi_commands.specs.declared.stop.Stop.TheVariants as stop
 use Rattle.ipmi_commands.specs.declared.listing.Listed.{Listed}
@@ -209,18 +212,26 @@ pub record FindsNone (spots : List Spot) (tries : ℕ) (s s' : Seen) (result : S
   pub there : MayStopAt spots outcome
   pub plain : IsTrue s.plain → IsFine outcome
 
--- a text that is made with what is asked for at these spots
+-- something is found of which these are the bytes, with what is asked for at these spots
+abbrev pub FindsBy : {T : Type 0} → (T → List ℕ) → (Store → List ℕ → Type 0) → List Spot → ℕ → Seen → Seen → Result T Stop → Type 0
+FindsBy bytes IsText spots tries s s' (Ok found) = FindsText IsText spots tries s s' (bytes found)
+FindsBy bytes IsText spots tries s s' (Err stop) = FindsNone spots tries s s' stop
+
 abbrev pub Finds : (Store → List ℕ → Type 0) → List Spot → ℕ → Seen → Seen → Result (String Global) Stop → Type 0
-Finds IsText spots tries s s' (Ok text) = FindsText IsText spots tries s s' (string_bytes text)
-Finds IsText spots tries s s' (Err stop) = FindsNone spots tries s s' stop
+Finds IsText spots tries s s' result = FindsBy string_bytes IsText spots tries s s' result
+
+-- the bytes of a piece, where this is the line that was written
+abbrev pub bytes_of : ArrayVec ℕ → Piece → List ℕ
+bytes_of line piece.Line = line.items
+bytes_of line (piece.Text text) = string_bytes text
 
 -- what the task prints for a row
-abbrev pub FindsPiece : Task → ℕ → Row → Seen → Seen → Result (String Global) Stop → Type 0
-FindsPiece t tries row s s' result = Finds (λ store text. IsRowPiece t store row text) (spots_after t row) tries s s' result
+abbrev pub FindsPiece : Task → ℕ → Row → Seen → Seen → ArrayVec ℕ → Result Piece Stop → Type 0
+FindsPiece t tries row s s' line result = FindsBy (bytes_of line) (λ store text. IsRowPiece t store row text) (spots_after t row) tries s s' result
 
 -- the same where so many rows are still to be passed
-abbrev pub FindsIn : Option ℕ → Task → ℕ → Row → Seen → Seen → Result (String Global) Stop → Type 0
-FindsIn skip t tries row s s' result = Finds (λ store text. IsItemText t store (subject_in skip row) text) (spots_in skip t row) tries s s' result
+abbrev pub FindsIn : Option ℕ → Task → ℕ → Row → Seen → Seen → ArrayVec ℕ → Result Piece Stop → Type 0
+FindsIn skip t tries row s s' line result = FindsBy (bytes_of line) (λ store text. IsItemText t store (subject_in skip row) text) (spots_in skip t row) tries s s' result
 
 -- the block of a shelf's info, where the store has one
 abbrev pub IsBlockOfInfo : Option (List ℕ) → List ℕ → Type 0

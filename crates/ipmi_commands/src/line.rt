@@ -1,36 +1,59 @@
 //! The line of a record as `sdr hex` prints it: its line in an image, in lower case.
-ghost use Rattle.std.specs.Prelude.{◌≡◌, IfOk, string_bytes};
+ghost use Rattle.std.specs.Prelude.{◌≡◌, ◌+◌, ◌*◌, ◌++◌, ◌≤◌, ◌∷◌, [], length};
+ghost use Rattle.hex.specs.Hex.{encode_lower};
 ghost use Rattle.ipmi_bus.specs.Lent.{row_of_record};
+ghost use Rattle.ipmi_image.specs.Rewritten.{hex_of};
 ghost use Rattle.ipmi_commands.specs.Line.{line_of};
 
+use arrayvec::ArrayVec;
 use ipmi_bus::Record;
-use std::alloc::{AllocError, Global};
-use std::fmt;
 
-/// A number as four hex digits in lower case.
-#[derive(Clone, Copy, Debug)]
-struct Hex4(u16);
+/// A line, with room for the longest: a word, two ids of four digits, 256 bytes in hex, three spaces and a line feed.
+pub(crate) type Line = ArrayVec<u8, 527>;
 
-impl fmt::Display for Hex4 {
-    ghost use Rattle.std.specs.Prelude.{Some};
-    ghost use Rattle.ipmi_commands.specs.Line.{four_digits};
-
-    ghost output = { λ x. Some (four_digits x.0) };
-
-    #[tactic(auto, using(crate::proofs::HexLemmas::hex_word))]
-    fn fmt<W: fmt::Write>(&self, f: &mut fmt::Formatter<W>) -> fmt::Result {
-        let number = self.0;
-        write!(f, "{number:04x}")
-    }
+/// Appends bytes that there is room for.
+fn push(line: &mut Line, bytes: &[u8])
+    requires { length line.old.items + length bytes.now ≤ 527 }
+    ensures items { line.new.items ≡ line.old.items ++ bytes.now }
+    ensures len { length line.new.items ≡ length line.old.items + length bytes.now }
+{
+    let _fits = line.try_extend_from_slice(bytes);
 }
 
-/// `sdr ID NEXT HEX` and a line feed: the two ids in four hex digits, then the bytes in hex.
-#[tactic(auto, unfolding(crate::specs::Line::line_of))]
-pub(crate) fn record_line(alloc: Global, lent: &Record<'_>) -> Result<String, AllocError>
-    ensures { IfOk result (λ line. string_bytes line ≡ line_of (row_of_record lent.now)) }
+/// Appends an id in hex, and a space.
+fn push_id(line: &mut Line, id: u16)
+    requires { length line.old.items + 5 ≤ 527 }
+    ensures items { line.new.items ≡ line.old.items ++ (hex_of 2 id ++ 32 ∷ []) }
+    ensures len { length line.new.items ≡ length line.old.items + 5 }
 {
-    let hex = hex::encode(alloc, lent.bytes)?;
-    let id = Hex4(lent.id);
-    let next = Hex4(lent.next);
-    format!(in alloc; "sdr {id} {next} {hex}\n")
+    let mut digits = [0; 4];
+    let _fits = hex::encode_to_slice(&id.to_be_bytes(), &mut digits);
+    push(line, &digits);
+    push(line, b" ");
+}
+
+/// Appends the bytes of a record in hex.
+fn push_hex(line: &mut Line, bytes: &[u8])
+    requires record { length bytes.now ≤ 256 }
+    requires room { length line.old.items + 2 * length bytes.now ≤ 527 }
+    ensures items { line.new.items ≡ line.old.items ++ encode_lower bytes.now }
+    ensures len { length line.new.items ≡ length line.old.items + 2 * length bytes.now }
+{
+    let mut digits = [0; 512];
+    let digits = &mut digits[..2 * bytes.len()];
+    let _fits = hex::encode_to_slice(bytes, digits);
+    push(line, digits);
+}
+
+/// `sdr ID NEXT HEX` and a line feed: the two ids in four hex digits, then the bytes in hex. It takes no memory.
+pub(crate) fn record_line(lent: &Record<'_>, line: &mut Line)
+    requires { length lent.now.bytes.now ≤ 256 }
+    ensures { line.new.items ≡ line_of (row_of_record lent.now) }
+{
+    line.clear();
+    push(line, b"sdr ");
+    push_id(line, lent.id);
+    push_id(line, lent.next);
+    push_hex(line, lent.bytes);
+    push(line, b"\n");
 }

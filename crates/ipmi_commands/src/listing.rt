@@ -1,9 +1,11 @@
 //! Writes what a command prints for each record that a cursor hands out.
-ghost use Rattle.std.specs.Prelude.{◌≡◌, ◌+◌, ◌==◌, ◌||◌, not, length};
+ghost use Rattle.std.specs.Prelude.{◌≡◌, ◌≢◌, ◌+◌, ◌==◌, ◌||◌, not, length};
 ghost use Rattle.ipmi_bus.specs.Seen.{IsHonest};
 ghost use Rattle.ipmi_commands.specs.Listing.{course, faults_of, is_reached, most_for_one, passing, stop_at_end, IsListing, ListingCalls};
 ghost use Rattle.ipmi_command_line.specs.Task.{shelf_of};
+ghost use Rattle.ipmi_command_line.specs.declared.command.Task.TheVariants as task;
 
+use crate::line::Line;
 use crate::piece::piece_in;
 use crate::stop::Stop;
 use ipmi_bus::{Controller, Cursor};
@@ -85,6 +87,7 @@ pub(crate) fn list_records<C: Controller, O: Sink>(
     requires shelf { cursor.old.shelf ≡ shelf_of cmd.now.task }
     requires tries { cursor.old.tries ≡ cmd.now.tries }
     ensures faults { O.faults out.new ≡ O.faults out.old + faults_of result.stop }
+    ensures no_memory { cmd.now.task ≡ task.Hex → result.stop ≢ Stop.Memory }
     ensures calls { ListingCalls (most_for_one cmd.now.task cmd.now.tries) cursor.old cursor.new
         (C.seen ctl.old) (C.seen ctl.new) }
     ensures honest { IsHonest (C.seen ctl.old) →
@@ -93,6 +96,7 @@ pub(crate) fn list_records<C: Controller, O: Sink>(
 {
     let mut count = 0;
     let mut wrote = false;
+    let mut line = Line::new();
     'records: loop {
         if is_reached(span.most, count) {
             let stop = stop_at_end(cmd.task(), wrote);
@@ -110,11 +114,11 @@ pub(crate) fn list_records<C: Controller, O: Sink>(
             }
         };
         let passing = passing(span.skip, count);
-        let text = match piece_in(alloc, ctl, cmd, passing, &record) {
-            Ok(text) => text,
+        let piece = match piece_in(alloc, ctl, cmd, passing, &record, &mut line) {
+            Ok(piece) => piece,
             Err(stop) => return Listed { stop, count },
         };
-        let bytes = text.as_bytes();
+        let bytes = piece.bytes(&line);
         match write_all(out, bytes) {
             Ok(()) => {
                 wrote = has_written(wrote, bytes);

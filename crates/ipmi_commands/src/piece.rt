@@ -1,19 +1,20 @@
 //! What a command prints for a record. Where the text needs a reading, it is asked for here, while the record is lent.
-ghost use Rattle.std.specs.Prelude.{◌≡◌, ◌+◌, ◌≤◌, IfOk, IfErr, length, string_bytes};
+ghost use Rattle.std.specs.Prelude.{◌≡◌, ◌+◌, ◌≤◌, IfOk, IfErr, IsOk, length, string_bytes};
 ghost use Rattle.ipmi_bus.specs.Lent.{row_of_record};
 ghost use Rattle.ipmi_bus.specs.Seen.{IsHonest};
-ghost use Rattle.ipmi_bus.specs.Shelf.{whole_len};
+ghost use Rattle.ipmi_bus.specs.Shelf.{largest_len, whole_len};
+ghost use Rattle.ipmi_command_line.specs.declared.command.Task.TheVariants as task;
 ghost use Rattle.ipmi_records.specs.Sdr.{name_of, sdr_view_of};
 ghost use Rattle.ipmi_records.specs.Sel.{sel_view_of};
 ghost use Rattle.ipmi_records.specs.SelText.{IsSelBlock, IsSelLine};
 ghost use Rattle.ipmi_commands.specs.Asking.{ReadsFor};
-ghost use Rattle.ipmi_commands.specs.Listing.{faults_of, Finds, FindsIn, FindsPiece};
+ghost use Rattle.ipmi_commands.specs.Listing.{bytes_of, faults_of, Finds, FindsIn, FindsPiece};
 ghost use Rattle.ipmi_commands.specs.Pieces.{is_name, is_of_kind, IsBlockOfName, IsLineOf, IsListedOfKind};
 ghost use Rattle.ipmi_commands.specs.Plan.{listed_spots, most_after, named_spots};
 ghost use Rattle.ipmi_command_line.specs.Task.{shelf_of};
 
 use crate::inventory::locator_piece;
-use crate::line::record_line;
+use crate::line::{Line, record_line};
 use crate::stop::Stop;
 use ipmi_bus::{Controller, Ended, Record, read_reading};
 use ipmi_command_line::{Command, Kind, Task};
@@ -174,31 +175,65 @@ fn named_block<C: Controller>(
     Ok(sdr_block(alloc, id, &view, reading)?)
 }
 
+/// What is printed for a record.
+#[derive(Drop)]
+pub(crate) enum Piece {
+    /// The line that was written for it.
+    Line,
+    /// A text.
+    Text(String),
+}
+
+impl Piece {
+    /// Its bytes, where this is the line that was written.
+    pub(crate) fn bytes<'a>(&'a self, line: &'a Line) -> &'a [u8]
+        ensures { result.now ≡ bytes_of line.now self.now }
+    {
+        match self {
+            Piece::Line => line.as_slice(),
+            Piece::Text(text) => text.as_bytes(),
+        }
+    }
+}
+
 /// What the command prints for the record, nothing for one that it leaves out.
 fn record_piece<C: Controller>(
     alloc: Global,
     ctl: &mut C,
     cmd: &Command,
     lent: &Record<'_>,
-) -> Result<String, Stop>
+    line: &mut Line,
+) -> Result<Piece, Stop>
     requires whole { length lent.now.bytes.now ≡ whole_len (shelf_of cmd.now.task)
         lent.now.bytes.now }
+    requires fits { length lent.now.bytes.now ≤ largest_len (shelf_of cmd.now.task) }
     ensures calls { (C.seen ctl.new).calls ≤ (C.seen ctl.old).calls + most_after cmd.now.task
         cmd.now.tries }
     ensures unwritten { IfErr result (λ stop. faults_of stop ≡ 0) }
+    ensures no_memory { cmd.now.task ≡ task.Hex → IsOk result }
     ensures honest { IsHonest (C.seen ctl.old) →
         FindsPiece cmd.now.task cmd.now.tries (row_of_record lent.now) (C.seen ctl.old)
-        (C.seen ctl.new) result }
+        (C.seen ctl.new) line.new result }
 {
+    let tries = cmd.tries();
     match cmd.task() {
-        Task::Fru(_) => locator_piece(alloc, ctl, cmd, lent),
-        Task::Hex => Ok(record_line(alloc, lent)?),
-        Task::List(kind) => listed_line(alloc, ctl, Form::Short, *kind, cmd.tries(), lent),
-        Task::Elist(kind) => listed_line(alloc, ctl, Form::Extended, *kind, cmd.tries(), lent),
-        Task::Get(name) => named_block(alloc, ctl, name.as_str(), cmd.tries(), lent),
-        Task::SelList(_) => Ok(entry_line(alloc, lent)?),
-        Task::SelGet(_) => Ok(entry_block(alloc, lent)?),
-        Task::Info(_) | Task::Rewrite => Ok(String::new(alloc)),
+        Task::Hex => {
+            record_line(lent, line);
+            Ok(Piece::Line)
+        }
+        Task::Fru(_) => Ok(Piece::Text(locator_piece(alloc, ctl, cmd, lent)?)),
+        Task::List(kind) => {
+            let text = listed_line(alloc, ctl, Form::Short, *kind, tries, lent)?;
+            Ok(Piece::Text(text))
+        }
+        Task::Elist(kind) => {
+            let text = listed_line(alloc, ctl, Form::Extended, *kind, tries, lent)?;
+            Ok(Piece::Text(text))
+        }
+        Task::Get(name) => Ok(Piece::Text(named_block(alloc, ctl, name.as_str(), tries, lent)?)),
+        Task::SelList(_) => Ok(Piece::Text(entry_line(alloc, lent)?)),
+        Task::SelGet(_) => Ok(Piece::Text(entry_block(alloc, lent)?)),
+        Task::Info(_) | Task::Rewrite => Ok(Piece::Text(String::new(alloc))),
     }
 }
 
@@ -209,18 +244,21 @@ pub(crate) fn piece_in<C: Controller>(
     cmd: &Command,
     passing: Option<u32>,
     lent: &Record<'_>,
-) -> Result<String, Stop>
-    requires { length lent.now.bytes.now ≡ whole_len (shelf_of cmd.now.task)
+    line: &mut Line,
+) -> Result<Piece, Stop>
+    requires whole { length lent.now.bytes.now ≡ whole_len (shelf_of cmd.now.task)
         lent.now.bytes.now }
+    requires fits { length lent.now.bytes.now ≤ largest_len (shelf_of cmd.now.task) }
     ensures calls { (C.seen ctl.new).calls ≤ (C.seen ctl.old).calls + most_after cmd.now.task
         cmd.now.tries }
     ensures unwritten { IfErr result (λ stop. faults_of stop ≡ 0) }
+    ensures no_memory { cmd.now.task ≡ task.Hex → IsOk result }
     ensures honest { IsHonest (C.seen ctl.old) →
         FindsIn passing cmd.now.task cmd.now.tries (row_of_record lent.now) (C.seen ctl.old)
-        (C.seen ctl.new) result }
+        (C.seen ctl.new) line.new result }
 {
     match passing {
-        Some(0) => record_piece(alloc, ctl, cmd, lent),
-        Some(_) | None => Ok(String::new(alloc)),
+        Some(0) => record_piece(alloc, ctl, cmd, lent, line),
+        Some(_) | None => Ok(Piece::Text(String::new(alloc))),
     }
 }

@@ -1,59 +1,128 @@
-//! Lists the three records of a controller of its own, which counts its calls and claims nothing else.
+//! A controller of one's own, which is no image: two records, the reading of the first one and an inventory in memory. It gives
+//! at most eight bytes at a time, and each third call finds it busy. Its sensors are listed by the library's calls, and the
+//! serial number of its board is read.
 #![tactic(auto)]
 
 ghost use Rattle.ipmi_bus.specs.Unclaimed.{calls_only};
 
-use ipmi_bus::{Code, Controller, Event, FruSize, Part, Shelf, Tally};
+use ipmi_bus::{Code, Controller, Event, FruSize, Part, Shelf, Tally, read_fru};
+use ipmi_command_line::{Command, Kind, Task};
+use ipmi_fru::FruView;
+use ipmi_output::Written;
+use ipmi_text::{Reading, fru_text};
+use std::alloc::Global;
 
+/// A full sensor record, a temperature with the name `Temp`.
+const SENSOR: &[u8] = b"\x01\0\x51\x01\x2f\x20\0\x01\x07\x01\x7f\x44\x01\x01\x80\x02\x80\x32\x18\0\0\x01\0\0\x01\0\0\0\0\0\0\0\0\0\0\xff\0\0\x50\x46\0\0\0\0\0\0\0\xc4Temp";
+
+/// A FRU device locator, device 0, with the name `Board`.
+const LOCATOR: &[u8] = b"\x02\0\x51\x11\x10\x20\0\x80\0\0\x10\0\x07\x01\0\xc5Board";
+
+/// A header, and a board: manufacturer, product and serial number.
+const INVENTORY: &[u8] = b"\x01\0\0\x01\0\0\0\xfe\x01\x04\0\0\0\0\xc4ACME\xc2B1\xc7SN-0042\xc0\xc0\xc1\0\0\0\0\0\0\x50";
+
+/// The code of a busy answer, and that of what is not there.
+const BUSY: Code = Code(0xC0);
+const NOT_PRESENT: Code = Code(0xCB);
+
+/// The most bytes that one answer has.
+const MOST: usize = 8;
+
+/// The controller, which counts its calls and claims nothing else.
 #[derive(Drop)]
-struct Shelved(Tally);
+struct Board {
+    tally: Tally,
+    turn: u8,
+}
 
-impl Controller for Shelved {
-    ghost seen = { λ c. calls_only c.0.counts.calls };
+impl Board {
+    /// Counts a call, and answers whether the board can serve it.
+    fn begin(&mut self) -> Result<(), Code>
+        ensures { self.new.tally.counts.calls ≡ self.old.tally.counts.calls + 1 }
+    {
+        self.tally.count(Event::Called);
+        self.turn = (self.turn + 1) % 3;
+        if self.turn == 0 { Err(BUSY) } else { Ok(()) }
+    }
+}
+
+/// Bytes from the offset on, as many as there is room for, and at most eight.
+fn copy_part(bytes: &[u8], offset: usize, into: &mut [u8]) -> Result<u8, Code>
+    ensures { IfOk result (λ got. got ≤ length into.old) }
+{
+    let rest = bytes.get(offset..).ok_or(Code(0xC9))?;
+    let got = rest.len().min(into.len()).min(MOST);
+    into[..got].copy_from_slice(&rest[..got]);
+    Ok(got as u8)
+}
+
+impl Controller for Board {
+    ghost seen = { λ board. calls_only board.tally.counts.calls };
 
     fn reserve(&mut self, _: Shelf) -> Result<u16, Code> {
-        self.0.count(Event::Called);
+        self.begin()?;
         Ok(1)
     }
 
-    fn part(&mut self, _: Shelf, _: u16, id: u16, at: u8, into: &mut [u8]) -> Result<Part, Code> {
-        self.0.count(Event::Called);
-        let (next, record): (u16, &[u8]) = match id {
-            0 | 1 => (2, b"\x01\0\x51\xC0\x01\xAA"),
-            2 => (3, b"\x02\0\x51\xC0\x02\xBB\xCC"),
-            3 => (0xFFFF, b"\x03\0\x51\xC0\0"),
-            _ => return Err(Code(0xCB)),
+    fn part(&mut self, shelf: Shelf, _: u16, id: u16, at: u8, into: &mut [u8]) -> Result<Part, Code> {
+        self.begin()?;
+        let (next, record) = match (shelf, id) {
+            (Shelf::Sdr, 0 | 1) => (2, SENSOR),
+            (Shelf::Sdr, 2) => (0xFFFF, LOCATOR),
+            _ => return Err(NOT_PRESENT),
         };
-        let rest = record.get(at as usize..).ok_or(Code(0xC9))?;
-        let got = rest.len().min(into.len()) as u8;
-        into[..got as usize].copy_from_slice(&rest[..got as usize]);
+        let got = copy_part(record, usize::from(at), into)?;
         Ok(Part { next, got })
     }
 
     fn info(&mut self, _: Shelf) -> Result<[u8; 14], Code> {
-        self.0.count(Event::Called);
-        Err(Code(0xC1))
+        self.begin()?;
+        Err(NOT_PRESENT)
     }
 
-    fn reading(&mut self, _: u8, _: u8) -> Result<ipmi_text::Reading, Code> {
-        self.0.count(Event::Called);
-        Err(Code(0xCB))
+    fn reading(&mut self, lun: u8, number: u8) -> Result<Reading, Code> {
+        self.begin()?;
+        if lun != 0 || number != 1 {
+            return Err(NOT_PRESENT);
+        }
+        Ok(Reading { raw: 45, flags: 0xC0, status: 0xC0, more: 0 })
     }
 
-    fn fru_size(&mut self, _: u8) -> Result<FruSize, Code> {
-        self.0.count(Event::Called);
-        Err(Code(0xCB))
+    fn fru_size(&mut self, id: u8) -> Result<FruSize, Code> {
+        self.begin()?;
+        if id != 0 {
+            return Err(NOT_PRESENT);
+        }
+        Ok(FruSize { size: INVENTORY.len() as u16, words: false })
     }
 
-    fn fru_part(&mut self, _: u8, _: u16, _: &mut [u8]) -> Result<u8, Code> {
-        self.0.count(Event::Called);
-        Err(Code(0xCB))
+    fn fru_part(&mut self, id: u8, at: u16, into: &mut [u8]) -> Result<u8, Code> {
+        self.begin()?;
+        if id != 0 {
+            return Err(NOT_PRESENT);
+        }
+        copy_part(INVENTORY, usize::from(at), into)
     }
 }
 
+/// The serial number of the board of device 0: the third field of its board area.
+fn board_serial<C: Controller>(alloc: Global, ctl: &mut C) -> Option<String> {
+    let bytes = read_fru(alloc, ctl, 0, 32, 5).ok()?;
+    let board = FruView::read(&bytes).ok()?.board()?.ok()?;
+    let language = *board.head().first()?;
+    let serial = board.field(2)?;
+    fru_text(alloc, serial.code, language, serial.bytes).ok()
+}
+
 fn main(rt: HostRuntime) -> std::process::ExitCode {
-    let command = ipmi_command_line::Command::new(ipmi_command_line::Task::Hex, None, 4, 5, None);
-    let mut out = ipmi_output::Written::new(std::io::writer(&rt));
-    let ctl = &mut Shelved(Tally::new());
-    ipmi_commands::run(rt.alloc(), ctl, &command, &mut out, &mut rt.stderr()).into()
+    let mut ctl = Board { tally: Tally::new(), turn: 0 };
+    let command = Command::new(Task::List(Kind::All), None, 32, 5, None);
+    let mut out = Written::new(std::io::writer(&rt));
+    let status = ipmi_commands::run(rt.alloc(), &mut ctl, &command, &mut out, &mut rt.stderr());
+    if let Some(serial) = board_serial(rt.alloc(), &mut ctl) {
+        if println!(rt; "Board serial: {serial}").is_err() {
+            return 4.into();
+        }
+    }
+    status.into()
 }

@@ -5,7 +5,7 @@ use Rattle.ipmi_commands.proofs.inventory.inventory_text.Goals as goal
 
 pub returns-in_err-text-in-Ok-clause-honest : goal.returns-in_err-text-in-Ok-clause-honest
 returns-in_err-text-in-Ok-clause-honest g c = λ h.
-    passed_up _ _ _ _ _ _ _ c.from_residual.ensures.1 (out_after_bytes c.args.id _ _ _ _ (rw c.tries.ensures at c.in-Ok.ensures.honest h))
+    passed_up _ _ _ _ _ _ _ _ c.from_residual.ensures.1 (out_after_bytes c.args.id _ _ _ _ (rw c.tries.ensures at c.in-Ok.ensures.honest h))
 
 pub returns-in_ok-text-in-Ok-clause-honest : goal.returns-in_ok-text-in-Ok-clause-honest
 returns-in_ok-text-in-Ok-clause-honest g c = λ h.

@@ -79,16 +79,16 @@ returns-in-Err-write_all-clause-honest g c = λ h.
     let taken =
     listing_taken _ _ _ _ _ _ _ _ _ _ _ kept.1 kept.2 kept.3.some kept.4 kept.5 h (kept.6 h) c.step.follows.lender-at-none _ (sym c.is_reached.ensures ∙ c.if-is_reached.false) (row_of_record c.in-Ok-Some.record) step in
     listing_cut _ _ _ _ _ _ _ _ _ _ (g.O.Sink.taken c.records.out) _ taken _ (rw c.passing-passing.ensures at c.in-Ok.ensures.honest taken.stays.honest) cut.0 _
-    (rw c.as_bytes-bytes.ensures.value at c.in-Err-write_all.ensures.some)
-    (cut.1 ∙ ap (λ (l : List ℕ). g.O.Sink.taken c.records.out ++ take cut.0 l) c.as_bytes-bytes.ensures.value)
+    (rw c.bytes-bytes.ensures at c.in-Err-write_all.ensures.some)
+    (cut.1 ∙ ap (λ (l : List ℕ). g.O.Sink.taken c.records.out ++ take cut.0 l) c.bytes-bytes.ensures)
 
-pub records-smaller : goal.records-smaller
-records-smaller g c =
+pub records-smaller-in-Ok-write_all : goal.records-smaller-in-Ok-write_all
+records-smaller-in-Ok-write_all g c =
     let step = rw (c.in-Ok-Some.is ∙ ap Ok c.in-Ok-Some.field-0-is) at c.step.follows.holds-at-none in
     fewer_ids c.records.cursor c.step.follows.lender-at-none (row_of_record c.in-Ok-Some.record) step.leaves.1
 
-pub records-preserved : goal.records-preserved
-records-preserved g c =
+pub records-preserved-in-Ok-write_all : goal.records-preserved-in-Ok-write_all
+records-preserved-in-Ok-write_all g c =
     let kept = c.records.invariant in
     let cmd = c.args.cmd.now in
     let step = rw (c.in-Ok-Some.is ∙ ap Ok c.in-Ok-Some.field-0-is) at c.step.follows.holds-at-none in
@@ -98,9 +98,9 @@ records-preserved g c =
       step.same.tries ∙ kept.2,
       called_more cmd.tries (most_after cmd.task cmd.tries) (most_for_one cmd.task cmd.tries) _ (shelf_of cmd.task) _ c.records.cursor _ _ _ _ refl kept.1 kept.2 kept.3 _ (row_of_record c.in-Ok-Some.record) step c.piece_in.ensures.calls,
       within_more _ _ kept.4 (sym c.is_reached.ensures ∙ c.if-is_reached.false),
-      subst (λ (b : Bool). Wrote b (g.O.Sink.taken c.args.out.now) (g.O.Sink.taken c.write_all.new.out)) (sym c.has_written-wrote.ensures) (wrote_more c.records.wrote _ _ _ c.as_bytes-bytes.result.now kept.5 wrote.0),
+      subst (λ (b : Bool). Wrote b (g.O.Sink.taken c.args.out.now) (g.O.Sink.taken c.write_all.new.out)) (sym c.has_written-wrote.ensures) (wrote_more c.records.wrote _ _ _ c.bytes-bytes.result.now kept.5 wrote.0),
       λ h.
           let taken =
           listing_taken _ _ _ _ _ _ _ _ _ _ _ kept.1 kept.2 kept.3.some kept.4 kept.5 h (kept.6 h) c.step.follows.lender-at-none _ (sym c.is_reached.ensures ∙ c.if-is_reached.false) (row_of_record c.in-Ok-Some.record) step in
-          listing_more _ _ _ _ _ _ _ _ _ _ (g.O.Sink.taken c.records.out) _ taken _ (rw c.passing-passing.ensures at c.in-Ok.ensures.honest taken.stays.honest) _ (wrote.0 ∙ ap (λ (l : List ℕ). g.O.Sink.taken c.records.out ++ l) c.as_bytes-bytes.ensures.value),
+          listing_more _ _ _ _ _ _ _ _ _ _ (g.O.Sink.taken c.records.out) _ taken _ (rw c.passing-passing.ensures at c.in-Ok.ensures.honest taken.stays.honest) _ (wrote.0 ∙ ap (λ (l : List ℕ). g.O.Sink.taken c.records.out ++ l) c.bytes-bytes.ensures),
     )
