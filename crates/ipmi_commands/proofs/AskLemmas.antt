@@ -19,7 +19,7 @@ use Rattle.ipmi_command_line.specs.declared.command.Kind.{Kind}
 use Rattle.ipmi_commands.specs.declared.stop.Stop.{Stop}
 use Rattle.ipmi_commands.specs.declared.stop.Stop.TheVariants as stop
 use Rattle.ipmi_commands.specs.Asking.{is_absent, ReadsFor}
-use Rattle.ipmi_commands.specs.Listing.{AsksAt, FindsBy, FindsNone, FindsText, Finds, FindsInfo, MayStopAt}
+use Rattle.ipmi_commands.specs.Listing.{AsksAt, FindsBy, FindsNone, FindsText, FindsInfo, MayStopAt}
 use Rattle.ipmi_commands.specs.Pieces.{IsDevicePiece, IsInventoryText, is_name, reading_for, row_is_of_kind}
 use Rattle.ipmi_commands.specs.Plan.{Spot, AtRecord, AtInventory, device_spots, named_spots, reading_spots, listed_spots}
 use Rattle.ipmi_commands.specs.Plan as plan

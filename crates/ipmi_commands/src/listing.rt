@@ -123,6 +123,8 @@ pub(crate) fn list_records<C: Controller, O: Sink>(
             Ok(()) => {
                 wrote = has_written(wrote, bytes);
                 count += 1;
+                // here, so that the loop has one way back, whether there is a text or not
+                drop(piece);
             }
             Err(_) => {
                 let stop = Stop::WriteFault;

@@ -3,6 +3,7 @@
 //! serial number of its board is read.
 #![tactic(auto)]
 
+ghost use Rattle.std.specs.Prelude.{◌≡◌, ◌+◌, ◌≤◌, IfOk, OnErr, length, drop};
 ghost use Rattle.ipmi_bus.specs.Unclaimed.{calls_only};
 
 use ipmi_bus::{Code, Controller, Event, FruSize, Part, Shelf, Tally, read_fru};
@@ -13,16 +14,19 @@ use ipmi_text::{Reading, fru_text};
 use std::alloc::Global;
 
 /// A full sensor record, a temperature with the name `Temp`.
-const SENSOR: &[u8] = b"\x01\0\x51\x01\x2f\x20\0\x01\x07\x01\x7f\x44\x01\x01\x80\x02\x80\x32\x18\0\0\x01\0\0\x01\0\0\0\0\0\0\0\0\0\0\xff\0\0\x50\x46\0\0\0\0\0\0\0\xc4Temp";
+const SENSOR: &[u8] =
+    b"\x01\0\x51\x01\x2f\x20\0\x01\x07\x01\x7f\x44\x01\x01\x80\x02\x80\x32\x18\0\0\x01\0\0\x01\0\0\0\0\0\0\0\0\0\0\xff\0\0\x50\x46\0\0\0\0\0\0\0\xc4Temp";
 
 /// A FRU device locator, device 0, with the name `Board`.
 const LOCATOR: &[u8] = b"\x02\0\x51\x11\x10\x20\0\x80\0\0\x10\0\x07\x01\0\xc5Board";
 
 /// A header, and a board: manufacturer, product and serial number.
-const INVENTORY: &[u8] = b"\x01\0\0\x01\0\0\0\xfe\x01\x04\0\0\0\0\xc4ACME\xc2B1\xc7SN-0042\xc0\xc0\xc1\0\0\0\0\0\0\x50";
+const INVENTORY: &[u8] =
+    b"\x01\0\0\x01\0\0\0\xfe\x01\x04\0\0\0\0\xc4ACME\xc2B1\xc7SN-0042\xc0\xc0\xc1\0\0\0\0\0\0\x50";
 
 /// The code of a busy answer, and that of what is not there.
 const BUSY: Code = Code(0xC0);
+
 const NOT_PRESENT: Code = Code(0xCB);
 
 /// The most bytes that one answer has.
@@ -41,14 +45,20 @@ impl Board {
         ensures { self.new.tally.counts.calls ≡ self.old.tally.counts.calls + 1 }
     {
         self.tally.count(Event::Called);
-        self.turn = (self.turn + 1) % 3;
-        if self.turn == 0 { Err(BUSY) } else { Ok(()) }
+        self.turn = self.turn.wrapping_add(1);
+        if self.turn % 3 == 0 {
+            Err(BUSY)
+        } else {
+            Ok(())
+        }
     }
 }
 
 /// Bytes from the offset on, as many as there is room for, and at most eight.
 fn copy_part(bytes: &[u8], offset: usize, into: &mut [u8]) -> Result<u8, Code>
-    ensures { IfOk result (λ got. got ≤ length into.old) }
+    ensures fits { IfOk result (λ got. got ≤ length into.old) }
+    ensures rest { IfOk result (λ got. drop got into.new ≡ drop got into.old) }
+    ensures err { OnErr result (into.new ≡ into.old) }
 {
     let rest = bytes.get(offset..).ok_or(Code(0xC9))?;
     let got = rest.len().min(into.len()).min(MOST);
@@ -64,7 +74,14 @@ impl Controller for Board {
         Ok(1)
     }
 
-    fn part(&mut self, shelf: Shelf, _: u16, id: u16, at: u8, into: &mut [u8]) -> Result<Part, Code> {
+    fn part(
+        &mut self,
+        shelf: Shelf,
+        _: u16,
+        id: u16,
+        at: u8,
+        into: &mut [u8],
+    ) -> Result<Part, Code> {
         self.begin()?;
         let (next, record) = match (shelf, id) {
             (Shelf::Sdr, 0 | 1) => (2, SENSOR),
@@ -85,7 +102,12 @@ impl Controller for Board {
         if lun != 0 || number != 1 {
             return Err(NOT_PRESENT);
         }
-        Ok(Reading { raw: 45, flags: 0xC0, status: 0xC0, more: 0 })
+        Ok(Reading {
+            raw: 45,
+            flags: 0xC0,
+            status: 0xC0,
+            more: 0,
+        })
     }
 
     fn fru_size(&mut self, id: u8) -> Result<FruSize, Code> {
@@ -93,7 +115,10 @@ impl Controller for Board {
         if id != 0 {
             return Err(NOT_PRESENT);
         }
-        Ok(FruSize { size: INVENTORY.len() as u16, words: false })
+        Ok(FruSize {
+            size: INVENTORY.len() as u16,
+            words: false,
+        })
     }
 
     fn fru_part(&mut self, id: u8, at: u16, into: &mut [u8]) -> Result<u8, Code> {
@@ -115,7 +140,10 @@ fn board_serial<C: Controller>(alloc: Global, ctl: &mut C) -> Option<String> {
 }
 
 fn main(rt: HostRuntime) -> std::process::ExitCode {
-    let mut ctl = Board { tally: Tally::new(), turn: 0 };
+    let mut ctl = Board {
+        tally: Tally::new(),
+        turn: 0,
+    };
     let command = Command::new(Task::List(Kind::All), None, 32, 5, None);
     let mut out = Written::new(std::io::writer(&rt));
     let status = ipmi_commands::run(rt.alloc(), &mut ctl, &command, &mut out, &mut rt.stderr());

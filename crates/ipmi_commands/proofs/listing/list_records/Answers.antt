@@ -82,13 +82,13 @@ returns-in-Err-write_all-clause-honest g c = λ h.
     (rw c.bytes-bytes.ensures at c.in-Err-write_all.ensures.some)
     (cut.1 ∙ ap (λ (l : List ℕ). g.O.Sink.taken c.records.out ++ take cut.0 l) c.bytes-bytes.ensures)
 
-pub records-smaller-in-Ok-write_all : goal.records-smaller-in-Ok-write_all
-records-smaller-in-Ok-write_all g c =
+pub records-smaller : goal.records-smaller
+records-smaller g c =
     let step = rw (c.in-Ok-Some.is ∙ ap Ok c.in-Ok-Some.field-0-is) at c.step.follows.holds-at-none in
     fewer_ids c.records.cursor c.step.follows.lender-at-none (row_of_record c.in-Ok-Some.record) step.leaves.1
 
-pub records-preserved-in-Ok-write_all : goal.records-preserved-in-Ok-write_all
-records-preserved-in-Ok-write_all g c =
+pub records-preserved : goal.records-preserved
+records-preserved g c =
     let kept = c.records.invariant in
     let cmd = c.args.cmd.now in
     let step = rw (c.in-Ok-Some.is ∙ ap Ok c.in-Ok-Some.field-0-is) at c.step.follows.holds-at-none in
