@@ -9,8 +9,17 @@ use crate::digits::{ByteH, WordH};
 use crate::locator::Locator;
 use crate::sdr::SdrView;
 use crate::sensor::{FullSensor, Sensor, Threshold};
-use ipmi_text::{Reading, sensor_type_text};
+use ipmi_text::{Reading, sensor_type_text, text_with_room};
 use std::alloc::{AllocError, Global};
+
+/// The room for most groups of a few lines.
+const PART_ROOM: usize = 96;
+
+/// The room for the lines of most values.
+const LINES_ROOM: usize = 288;
+
+/// The room for most blocks.
+const BLOCK_ROOM: usize = 512;
 
 /// What a record is.
 fn kind_text(alloc: Global, view: &SdrView) -> Result<String, AllocError>
@@ -32,7 +41,7 @@ fn name_line(alloc: Global, view: &SdrView) -> Result<String, AllocError>
     ensures { IfOk result (λ text. string_bytes text ≡ name_line (name_of view.now)) }
 {
     match view.name(alloc)? {
-        Some(name) => format!(in alloc; "Name: {name}\n"),
+        Some(name) => text_with_room(alloc, PART_ROOM, format_args!("Name: {name}\n")),
         None => Ok(String::new(alloc)),
     }
 }
@@ -44,7 +53,11 @@ fn head_lines(alloc: Global, id: u16, view: &SdrView) -> Result<String, AllocErr
     let id = WordH(id);
     let kind = kind_text(alloc, view)?;
     let name = name_line(alloc, view)?;
-    format!(in alloc; "Record: {id}\nType: {kind}\n{name}")
+    text_with_room(
+        alloc,
+        PART_ROOM,
+        format_args!("Record: {id}\nType: {kind}\n{name}"),
+    )
 }
 
 /// Where a sensor is asked for.
@@ -54,7 +67,11 @@ fn key_lines(alloc: Global, sensor: &Sensor) -> Result<String, AllocError>
     let owner = ByteH(sensor.owner);
     let lun = sensor.lun;
     let number = ByteH(sensor.number);
-    format!(in alloc; "Owner: {owner} LUN {lun}\nSensor: {number}\n")
+    text_with_room(
+        alloc,
+        PART_ROOM,
+        format_args!("Owner: {owner} LUN {lun}\nSensor: {number}\n"),
+    )
 }
 
 /// What a sensor senses.
@@ -64,7 +81,11 @@ fn subject_lines(alloc: Global, sensor: &Sensor) -> Result<String, AllocError>
     let entity = sensor.entity;
     let kind = sensor_type_text(alloc, sensor.sensor_type)?;
     let event_type = ByteH(sensor.event_type);
-    format!(in alloc; "Entity: {entity}\nKind: {kind}\nEvent type: {event_type}\n")
+    text_with_room(
+        alloc,
+        PART_ROOM,
+        format_args!("Entity: {entity}\nKind: {kind}\nEvent type: {event_type}\n"),
+    )
 }
 
 /// What the record tells of its sensor.
@@ -76,7 +97,7 @@ fn sensor_lines(alloc: Global, sensor: Option<Sensor>) -> Result<String, AllocEr
     };
     let key = key_lines(alloc, &sensor)?;
     let subject = subject_lines(alloc, &sensor)?;
-    format!(in alloc; "{key}{subject}")
+    text_with_room(alloc, PART_ROOM, format_args!("{key}{subject}"))
 }
 
 /// What the record tells of its device.
@@ -88,7 +109,11 @@ fn locator_lines(alloc: Global, locator: Option<Locator>) -> Result<String, Allo
     };
     let address = ByteH(locator.address);
     let entity = locator.entity;
-    format!(in alloc; "Address: {address}\nEntity: {entity}\n")
+    text_with_room(
+        alloc,
+        PART_ROOM,
+        format_args!("Address: {address}\nEntity: {entity}\n"),
+    )
 }
 
 /// The two columns of a line, a line for each.
@@ -101,7 +126,11 @@ fn reading_lines(
 {
     let column = reading_column(alloc, view, reading)?;
     let status = status_of(view, reading);
-    format!(in alloc; "Reading: {column}\nStatus: {status}\n")
+    text_with_room(
+        alloc,
+        PART_ROOM,
+        format_args!("Reading: {column}\nStatus: {status}\n"),
+    )
 }
 
 /// The name of a threshold.
@@ -132,7 +161,7 @@ fn threshold_text(
     }
     let name = threshold_name(threshold);
     let value = raw_text(alloc, full, full.threshold(threshold))?;
-    format!(in alloc; "{name}: {value}\n")
+    text_with_room(alloc, PART_ROOM, format_args!("{name}: {value}\n"))
 }
 
 /// The lines of all thresholds.
@@ -145,7 +174,7 @@ fn all_thresholds(alloc: Global, full: &FullSensor) -> Result<String, AllocError
     let d = threshold_text(alloc, full, Threshold::LowerNonRecoverable)?;
     let e = threshold_text(alloc, full, Threshold::LowerCritical)?;
     let f = threshold_text(alloc, full, Threshold::LowerNonCritical)?;
-    format!(in alloc; "{a}{b}{c}{d}{e}{f}")
+    text_with_room(alloc, LINES_ROOM, format_args!("{a}{b}{c}{d}{e}{f}"))
 }
 
 /// The lines of the thresholds that a full record's sensor has.
@@ -171,7 +200,7 @@ fn value_lines(
         SdrView::Full(full) => {
             let columns = reading_lines(alloc, view, reading)?;
             let thresholds = threshold_lines(alloc, full, &full.sensor())?;
-            format!(in alloc; "{columns}{thresholds}")
+            text_with_room(alloc, LINES_ROOM, format_args!("{columns}{thresholds}"))
         }
         SdrView::Compact(_) => reading_lines(alloc, view, reading),
         SdrView::EventOnly(_) => Ok(String::new(alloc)),
@@ -195,5 +224,9 @@ pub fn sdr_block(
     let sensor = sensor_lines(alloc, view.sensor())?;
     let locator = locator_lines(alloc, view.locator())?;
     let values = value_lines(alloc, view, reading)?;
-    format!(in alloc; "{head}{sensor}{locator}{values}\n")
+    text_with_room(
+        alloc,
+        BLOCK_ROOM,
+        format_args!("{head}{sensor}{locator}{values}\n"),
+    )
 }

@@ -2,11 +2,14 @@
 ghost use Rattle.std.specs.Prelude.{◌≡◌, IfOk, string_bytes};
 ghost use Rattle.ipmi_records.specs.Columns.{IsFullColumn, IsRawText, IsReadingColumn, after_space, compact_column, fru_column, has_thresholds, is_there, sensor_status, shown_of, shown_reading, states_text, status_of, threshold_status, type_text, unit_text_in};
 
-use crate::digits::{ByteH, HexByte, HexWord, has_bit};
+use crate::digits::{ByteH, HexWord, has_bit};
 use crate::sdr::{OWN_ADDRESS, SdrView};
 use crate::sensor::{FullSensor, Sensor};
-use ipmi_text::{Reading, convert, fixed_text, unit_text};
+use ipmi_text::{HexByte, Reading, convert, fixed_text, text_with_room, unit_text};
 use std::alloc::{AllocError, Global};
+
+/// The room for most columns.
+const ROOM: usize = 32;
 
 /// What a sensor that could be read shows.
 #[derive(Clone, Copy)]
@@ -58,7 +61,7 @@ fn after_space(alloc: Global, text: String) -> Result<String, AllocError>
     if text.is_empty() {
         return Ok(text);
     }
-    format!(in alloc; " {text}")
+    text_with_room(alloc, ROOM, format_args!(" {text}"))
 }
 
 /// The units of a full record's sensor.
@@ -75,11 +78,11 @@ pub(crate) fn raw_text(alloc: Global, full: &FullSensor, raw: u8) -> Result<Stri
 {
     let Some(value) = convert(&full.factors(), raw) else {
         let raw = HexByte(raw);
-        return format!(in alloc; "raw 0x{raw}");
+        return text_with_room(alloc, ROOM, format_args!("raw 0x{raw}"));
     };
     let number = fixed_text(alloc, value)?;
     let unit = after_space(alloc, unit_text_in(alloc, full)?)?;
-    format!(in alloc; "{number}{unit}")
+    text_with_room(alloc, ROOM, format_args!("{number}{unit}"))
 }
 
 /// The states of a discrete sensor.
@@ -87,7 +90,7 @@ fn states_text(alloc: Global, reading: Reading) -> Result<String, AllocError>
     ensures { IfOk result (λ text. string_bytes text ≡ states_text reading) }
 {
     let states = HexWord(256 * u16::from(reading.more % 128) + u16::from(reading.status));
-    format!(in alloc; "states 0x{states}")
+    text_with_room(alloc, ROOM, format_args!("states 0x{states}"))
 }
 
 /// The reading column of a full record.
@@ -122,7 +125,7 @@ fn fru_column(alloc: Global, fru: Option<u8>) -> Result<String, AllocError>
     ensures { IfOk result (λ text. string_bytes text ≡ fru_column fru) }
 {
     match fru {
-        Some(fru) => format!(in alloc; "FRU {fru}"),
+        Some(fru) => text_with_room(alloc, ROOM, format_args!("FRU {fru}")),
         None => String::from_str(alloc, "elsewhere"),
     }
 }
@@ -132,7 +135,7 @@ pub(crate) fn type_text(alloc: Global, kind: u8) -> Result<String, AllocError>
     ensures { IfOk result (λ text. string_bytes text ≡ type_text kind) }
 {
     let kind = HexByte(kind);
-    format!(in alloc; "record type 0x{kind}")
+    text_with_room(alloc, ROOM, format_args!("record type 0x{kind}"))
 }
 
 /// The reading column of a record.
@@ -151,7 +154,7 @@ pub(crate) fn reading_column(
         SdrView::Fru(fru) => fru_column(alloc, fru.fru_of()),
         SdrView::Controller(controller) => {
             let address = ByteH(controller.locator().address);
-            format!(in alloc; "controller {address}")
+            text_with_room(alloc, ROOM, format_args!("controller {address}"))
         }
         SdrView::Other(other) => type_text(alloc, other.bytes()[3]),
     }

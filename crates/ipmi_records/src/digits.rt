@@ -2,24 +2,8 @@
 ghost use Rattle.std.specs.Prelude.{◌≡◌, ◌<◌};
 ghost use Rattle.ipmi_records.specs.Bytes.{has_bit};
 
+use ipmi_text::HexByte;
 use std::fmt;
-
-/// A byte, printed as two lower-case hex digits.
-#[derive(Clone, Copy, Debug)]
-pub(crate) struct HexByte(pub(crate) u8);
-
-impl fmt::Display for HexByte {
-    ghost use Rattle.std.specs.Prelude.{Some};
-    ghost use Rattle.ipmi_text.specs.Hex.{hex_byte};
-
-    ghost output = { λ byte. Some (hex_byte byte.0) };
-
-    #[tactic(auto, using(std::proofs::lemmas::Fmt::hex_byte))]
-    fn fmt<W: fmt::Write>(&self, f: &mut fmt::Formatter<W>) -> fmt::Result {
-        let byte = self.0;
-        write!(f, "{byte:02x}")
-    }
-}
 
 /// A byte, printed as two upper-case hex digits.
 #[derive(Clone, Copy, Debug)]

@@ -2,10 +2,13 @@
 ghost use Rattle.std.specs.Prelude.{◌≡◌, IfOk, string_bytes};
 ghost use Rattle.ipmi_records.specs.Info.{AreTimeLines, IsInfoBlock, count_lines, free_space, has_overflow, last_addition, last_erase, overflow_text, record_count, support_lines};
 
-use crate::digits::{HexByte, has_bit};
+use crate::digits::has_bit;
 use byteorder::{ByteOrder, LittleEndian};
-use ipmi_text::utc_text;
+use ipmi_text::{HexByte, text_with_room, utc_text};
 use std::alloc::{AllocError, Global};
+
+/// The room for the text.
+const ROOM: usize = 192;
 
 /// How many records there are.
 fn record_count(bytes: &[u8; 14]) -> u16
@@ -49,7 +52,11 @@ fn count_lines(alloc: Global, bytes: &[u8; 14]) -> Result<String, AllocError>
     let version = HexByte(bytes[0]);
     let records = record_count(bytes);
     let free = free_space(bytes);
-    format!(in alloc; "Version: 0x{version}\nRecords: {records}\nFree Space: {free}\n")
+    text_with_room(
+        alloc,
+        ROOM,
+        format_args!("Version: 0x{version}\nRecords: {records}\nFree Space: {free}\n"),
+    )
 }
 
 /// The two times.
@@ -58,7 +65,11 @@ fn time_lines(alloc: Global, bytes: &[u8; 14]) -> Result<String, AllocError>
 {
     let addition = utc_text(alloc, last_addition(bytes))?;
     let erase = utc_text(alloc, last_erase(bytes))?;
-    format!(in alloc; "Last Addition: {addition}\nLast Erase: {erase}\n")
+    text_with_room(
+        alloc,
+        ROOM,
+        format_args!("Last Addition: {addition}\nLast Erase: {erase}\n"),
+    )
 }
 
 /// Overflow, and the whole byte that it is in.
@@ -67,7 +78,11 @@ fn support_lines(alloc: Global, bytes: &[u8; 14]) -> Result<String, AllocError>
 {
     let overflow = overflow_text(bytes);
     let support = HexByte(bytes[13]);
-    format!(in alloc; "Overflow: {overflow}\nSupport: 0x{support}\n")
+    text_with_room(
+        alloc,
+        ROOM,
+        format_args!("Overflow: {overflow}\nSupport: 0x{support}\n"),
+    )
 }
 
 /// The block of the answer of Get SDR Repository Info or of Get SEL Info (IPMI v2.0, sections 33.9 and 31.2): seven lines.
@@ -77,5 +92,5 @@ pub fn info_block(alloc: Global, bytes: &[u8; 14]) -> Result<String, AllocError>
     let counts = count_lines(alloc, bytes)?;
     let times = time_lines(alloc, bytes)?;
     let support = support_lines(alloc, bytes)?;
-    format!(in alloc; "{counts}{times}{support}")
+    text_with_room(alloc, ROOM, format_args!("{counts}{times}{support}"))
 }

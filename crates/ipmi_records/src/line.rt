@@ -7,8 +7,14 @@ use crate::digits::{ByteH, Column, WordH};
 use crate::locator::Locator;
 use crate::sdr::{SdrFault, SdrView};
 use crate::sensor::Sensor;
-use ipmi_text::Reading;
+use ipmi_text::{Reading, text_with_room};
 use std::alloc::{AllocError, Global};
+
+/// The room for a number or an entity.
+const PART_ROOM: usize = 8;
+
+/// The room for most lines.
+const LINE_ROOM: usize = 80;
 
 /// The name of a record, nothing where it has none.
 fn printed_name(alloc: Global, view: &SdrView) -> Result<String, AllocError>
@@ -40,7 +46,11 @@ pub fn sdr_line(
         text: column.as_str(),
         width: 17,
     };
-    format!(in alloc; "{name} | {column} | {status}\n")
+    text_with_room(
+        alloc,
+        LINE_ROOM,
+        format_args!("{name} | {column} | {status}\n"),
+    )
 }
 
 /// The number of a sensor, and dashes where there is none.
@@ -51,7 +61,7 @@ fn number_text(alloc: Global, sensor: Option<Sensor>) -> Result<String, AllocErr
         None => String::from_str(alloc, "--h"),
         Some(sensor) => {
             let number = ByteH(sensor.number);
-            format!(in alloc; "{number}")
+            text_with_room(alloc, PART_ROOM, format_args!("{number}"))
         }
     }
 }
@@ -66,12 +76,12 @@ fn entity_column(
 {
     if let Some(sensor) = sensor {
         let entity = sensor.entity;
-        return format!(in alloc; "{entity}");
+        return text_with_room(alloc, PART_ROOM, format_args!("{entity}"));
     }
     match locator {
         Some(locator) => {
             let entity = locator.entity;
-            format!(in alloc; "{entity}")
+            text_with_room(alloc, PART_ROOM, format_args!("{entity}"))
         }
         None => String::from_str(alloc, "-"),
     }
@@ -102,7 +112,11 @@ pub fn sdr_eline(
         text: entity.as_str(),
         width: 5,
     };
-    format!(in alloc; "{name} | {number} | {status} | {entity} | {column}\n")
+    text_with_room(
+        alloc,
+        LINE_ROOM,
+        format_args!("{name} | {number} | {status} | {entity} | {column}\n"),
+    )
 }
 
 /// The name of a record's fault.
@@ -122,5 +136,5 @@ pub fn sdr_fault_line(alloc: Global, id: u16, fault: SdrFault) -> Result<String,
 {
     let id = WordH(id);
     let fault = fault_text(fault);
-    format!(in alloc; "record {id}: {fault}\n")
+    text_with_room(alloc, LINE_ROOM, format_args!("record {id}: {fault}\n"))
 }

@@ -4,10 +4,19 @@ ghost use Rattle.ipmi_records.specs.Sel.{is_deasserted, manufacturer};
 ghost use Rattle.ipmi_records.specs.SelText.{AreEventLines, AreFieldLines, AreOemLines, AreOriginLines, IsEventLine, IsOemLine, IsSelBlock, IsSelLine, direction_text, event_body_lines, manufacturer_text, plain_line, sensor_text, words_of_event};
 
 use crate::column::type_text;
-use crate::digits::{ByteH, HexByte, HexWord, WordH};
+use crate::digits::{ByteH, HexWord, WordH};
 use crate::sel::{EventEntry, OemTimedEntry, SelView};
-use ipmi_text::{event_text, sensor_type_text, utc_text};
+use ipmi_text::{HexByte, event_text, sensor_type_text, text_with_room, utc_text};
 use std::alloc::{AllocError, Global};
+
+/// The room for most parts of a line.
+const PART_ROOM: usize = 32;
+
+/// The room for most lines.
+const LINE_ROOM: usize = 128;
+
+/// The room for most blocks.
+const BLOCK_ROOM: usize = 256;
 
 /// The sensor of an event.
 fn sensor_text(alloc: Global, event: &EventEntry) -> Result<String, AllocError>
@@ -15,7 +24,7 @@ fn sensor_text(alloc: Global, event: &EventEntry) -> Result<String, AllocError>
 {
     let kind = sensor_type_text(alloc, event.sensor_type())?;
     let number = HexByte(event.sensor_number());
-    format!(in alloc; "{kind} #0x{number}")
+    text_with_room(alloc, PART_ROOM, format_args!("{kind} #0x{number}"))
 }
 
 /// The words of an event.
@@ -43,7 +52,7 @@ fn manufacturer_text(alloc: Global, entry: &OemTimedEntry) -> Result<String, All
     let number = entry.manufacturer();
     let high = HexByte((number / 65536 % 256) as u8);
     let low = HexWord((number % 65536) as u16);
-    format!(in alloc; "{high}{low}")
+    text_with_room(alloc, PART_ROOM, format_args!("{high}{low}"))
 }
 
 /// The line of an event.
@@ -55,7 +64,11 @@ fn event_line(alloc: Global, id: u16, event: &EventEntry) -> Result<String, Allo
     let sensor = sensor_text(alloc, event)?;
     let words = words_of_event(alloc, event)?;
     let direction = direction_text(event);
-    format!(in alloc; "{id} | {time} | {sensor} | {words} | {direction}\n")
+    text_with_room(
+        alloc,
+        LINE_ROOM,
+        format_args!("{id} | {time} | {sensor} | {words} | {direction}\n"),
+    )
 }
 
 /// The line of an OEM record with a time stamp.
@@ -67,7 +80,11 @@ fn oem_line(alloc: Global, id: u16, entry: &OemTimedEntry) -> Result<String, All
     let kind = HexByte(entry.bytes()[2]);
     let manufacturer = manufacturer_text(alloc, entry)?;
     let bytes = hex::encode(alloc, entry.data_bytes())?;
-    format!(in alloc; "{id} | {time} | OEM record 0x{kind} | {manufacturer} | {bytes}\n")
+    text_with_room(
+        alloc,
+        LINE_ROOM,
+        format_args!("{id} | {time} | OEM record 0x{kind} | {manufacturer} | {bytes}\n"),
+    )
 }
 
 /// The line of an entry under its id.
@@ -81,13 +98,17 @@ pub fn sel_line(alloc: Global, id: u16, view: &SelView) -> Result<String, AllocE
             let id = HexWord(id);
             let kind = HexByte(entry.bytes()[2]);
             let bytes = hex::encode(alloc, entry.data_bytes())?;
-            format!(in alloc; "{id} | OEM record 0x{kind} | {bytes}\n")
+            text_with_room(
+                alloc,
+                LINE_ROOM,
+                format_args!("{id} | OEM record 0x{kind} | {bytes}\n"),
+            )
         }
         SelView::Other(entry) => {
             let id = HexWord(id);
             let kind = type_text(alloc, entry.bytes()[2])?;
             let bytes = hex::encode(alloc, entry.data_bytes())?;
-            format!(in alloc; "{id} | {kind} | {bytes}\n")
+            text_with_room(alloc, LINE_ROOM, format_args!("{id} | {kind} | {bytes}\n"))
         }
     }
 }
@@ -99,7 +120,11 @@ fn origin_lines(alloc: Global, event: &EventEntry) -> Result<String, AllocError>
     let time = utc_text(alloc, event.time_stamp())?;
     let generator = WordH(event.generator());
     let revision = ByteH(event.revision());
-    format!(in alloc; "Time: {time}\nGenerator: {generator}\nRevision: {revision}\n")
+    text_with_room(
+        alloc,
+        BLOCK_ROOM,
+        format_args!("Time: {time}\nGenerator: {generator}\nRevision: {revision}\n"),
+    )
 }
 
 /// What an event says.
@@ -110,7 +135,11 @@ fn event_body_lines(alloc: Global, event: &EventEntry) -> Result<String, AllocEr
     let words = words_of_event(alloc, event)?;
     let direction = direction_text(event);
     let bytes = hex::encode(alloc, event.data_bytes())?;
-    format!(in alloc; "Sensor: {sensor}\nEvent: {words}\nDirection: {direction}\nData: {bytes}\n")
+    text_with_room(
+        alloc,
+        BLOCK_ROOM,
+        format_args!("Sensor: {sensor}\nEvent: {words}\nDirection: {direction}\nData: {bytes}\n"),
+    )
 }
 
 /// The fields of an event, a line for each.
@@ -119,7 +148,7 @@ fn event_lines(alloc: Global, event: &EventEntry) -> Result<String, AllocError>
 {
     let origin = origin_lines(alloc, event)?;
     let body = event_body_lines(alloc, event)?;
-    format!(in alloc; "{origin}{body}")
+    text_with_room(alloc, BLOCK_ROOM, format_args!("{origin}{body}"))
 }
 
 /// The fields of an OEM record with a time stamp, a line for each.
@@ -129,7 +158,11 @@ fn oem_lines(alloc: Global, entry: &OemTimedEntry) -> Result<String, AllocError>
     let time = utc_text(alloc, entry.time_stamp())?;
     let manufacturer = manufacturer_text(alloc, entry)?;
     let bytes = hex::encode(alloc, entry.data_bytes())?;
-    format!(in alloc; "Time: {time}\nManufacturer: {manufacturer}\nData: {bytes}\n")
+    text_with_room(
+        alloc,
+        BLOCK_ROOM,
+        format_args!("Time: {time}\nManufacturer: {manufacturer}\nData: {bytes}\n"),
+    )
 }
 
 /// The fields of an entry, a line for each.
@@ -141,11 +174,11 @@ fn field_lines(alloc: Global, view: &SelView) -> Result<String, AllocError>
         SelView::OemTimed(entry) => oem_lines(alloc, entry),
         SelView::OemPlain(entry) => {
             let bytes = hex::encode(alloc, entry.data_bytes())?;
-            format!(in alloc; "Data: {bytes}\n")
+            text_with_room(alloc, BLOCK_ROOM, format_args!("Data: {bytes}\n"))
         }
         SelView::Other(entry) => {
             let bytes = hex::encode(alloc, entry.data_bytes())?;
-            format!(in alloc; "Data: {bytes}\n")
+            text_with_room(alloc, BLOCK_ROOM, format_args!("Data: {bytes}\n"))
         }
     }
 }
@@ -157,5 +190,9 @@ pub fn sel_block(alloc: Global, id: u16, view: &SelView) -> Result<String, Alloc
     let id = WordH(id);
     let kind = ByteH(view.entry_type());
     let fields = field_lines(alloc, view)?;
-    format!(in alloc; "Record: {id}\nType: {kind}\n{fields}\n")
+    text_with_room(
+        alloc,
+        BLOCK_ROOM,
+        format_args!("Record: {id}\nType: {kind}\n{fields}\n"),
+    )
 }

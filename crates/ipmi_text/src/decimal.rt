@@ -3,6 +3,7 @@ ghost use Rattle.std.specs.Prelude.{◌≡◌, ◌≤◌, ◌<◌, ◌^◌, ◌�
 ghost use Rattle.ipmi_text.specs.Decimal.{AppendsFraction, IsDecimalOf, sign_of};
 ghost use Rattle.ipmi_text.specs.ReadingValue.{HasRanges, IsTwosComplement, SensorFactors, raw_number, reading_value, ten_to};
 
+use crate::room::text_with_room;
 use std::alloc::{AllocError, Global};
 use std::marker::Model;
 
@@ -12,6 +13,9 @@ pub struct Fixed(pub i128);
 
 /// 1 in units of 10^-16.
 const ONE: u64 = 10_000_000_000_000_000;
+
+/// The room for the decimal of most values: a sign, whole digits, a point and 16 digits.
+const ROOM: usize = 32;
 
 /// The factors by which a full sensor record turns a raw reading into a value (IPMI v2.0, section
 /// 36.3 and table 43-1). Contracts see them as a record of their numbers.
@@ -150,7 +154,7 @@ pub fn fixed_text(alloc: Global, value: Fixed) -> Result<String, AllocError>
     let size = value.0.unsigned_abs();
     let sign = sign(value.0);
     let whole = size / ONE as u128;
-    let mut text = format!(in alloc; "{sign}{whole}")?;
+    let mut text = text_with_room(alloc, ROOM, format_args!("{sign}{whole}"))?;
     push_fraction(&mut text, (size % ONE as u128) as u64)?;
     Ok(text)
 }

@@ -1,7 +1,13 @@
-//! A name out of a table, and the two hex digits of a code that has no name.
-ghost use Rattle.std.specs.Prelude.{◌≡◌, map, option_map, slice_get};
+//! A name out of a table, and the two hex digits of a byte.
+ghost use Rattle.std.specs.Prelude.{◌≡◌, ◌<◌, ◌∷◌, [], false, map, option_map, slice_get};
+ghost use Rattle.std.specs.Fmt.{digit_glyph};
 
 use std::fmt;
+
+/// The lower-case hex digits, by their value.
+const HEX_DIGITS: [&str; 16] = [
+    "0", "1", "2", "3", "4", "5", "6", "7", "8", "9", "a", "b", "c", "d", "e", "f",
+];
 
 /// The name at a place of a table.
 pub(crate) fn entry(table: &[&'static str], at: usize) -> Option<&'static str>
@@ -10,9 +16,17 @@ pub(crate) fn entry(table: &[&'static str], at: usize) -> Option<&'static str>
     table.get(at).copied()
 }
 
+/// The lower-case hex digit of a number below 16.
+fn hex_digit(value: u8) -> &'static str
+    requires { value < 16 }
+    ensures { result.now ≡ digit_glyph false value ∷ [] }
+{
+    HEX_DIGITS[value as usize]
+}
+
 /// A byte, printed as two lower-case hex digits.
 #[derive(Clone, Copy, Debug)]
-pub(crate) struct HexByte(pub(crate) u8);
+pub struct HexByte(pub u8);
 
 impl fmt::Display for HexByte {
     ghost use Rattle.std.specs.Prelude.{Some};
@@ -20,9 +34,8 @@ impl fmt::Display for HexByte {
 
     ghost output = { λ byte. Some (hex_byte byte.0) };
 
-    #[tactic(auto, using(std::proofs::lemmas::Fmt::hex_byte))]
     fn fmt<W: fmt::Write>(&self, f: &mut fmt::Formatter<W>) -> fmt::Result {
-        let byte = self.0;
-        write!(f, "{byte:02x}")
+        f.write_str(hex_digit(self.0 / 16))?;
+        f.write_str(hex_digit(self.0 % 16))
     }
 }

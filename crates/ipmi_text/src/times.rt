@@ -3,6 +3,7 @@ ghost use Rattle.std.specs.Prelude.{◌≡◌, ◌+◌, ◌/◌, ◌%◌, ◌<�
 ghost use Rattle.jiff.specs.Words.{epoch_day};
 ghost use Rattle.ipmi_text.specs.Times.{IsMinutesTextOf, IsMoment, IsUtcTextOf, first_fru_day, minute_text, second_text};
 
+use crate::room::text_with_room;
 use jiff::ToSpan;
 use jiff::civil::{Date, date};
 use std::alloc::{AllocError, Global};
@@ -10,6 +11,9 @@ use std::fmt;
 
 /// The day number of 1996-01-01, counted from 1970-01-01.
 const FIRST_FRU_DAY: u32 = 9496;
+
+/// The room for a text: more than its 19 bytes.
+const ROOM: usize = 24;
 
 const SECONDS_OF_DAY: u32 = 86_400;
 
@@ -60,7 +64,7 @@ fn text_to_second(alloc: Global, seconds: u32) -> Result<String, AllocError>
         value: second / 60 % 60,
     };
     let second = TwoDigits { value: second % 60 };
-    format!(in alloc; "{date} {hour}:{minute}:{second}")
+    text_with_room(alloc, ROOM, format_args!("{date} {hour}:{minute}:{second}"))
 }
 
 /// `YYYY-MM-DD HH:MM` of so many minutes after 1996-01-01 00:00.
@@ -73,7 +77,7 @@ fn text_to_minute(alloc: Global, minutes: u32) -> Result<String, AllocError>
     let minute = minutes % MINUTES_OF_DAY;
     let hour = TwoDigits { value: minute / 60 };
     let minute = TwoDigits { value: minute % 60 };
-    format!(in alloc; "{date} {hour}:{minute}")
+    text_with_room(alloc, ROOM, format_args!("{date} {hour}:{minute}"))
 }
 
 /// The text of a time stamp of the event log, in seconds (IPMI v2.0, section 37): `unspecified` for
@@ -85,7 +89,7 @@ pub fn utc_text(alloc: Global, seconds: u32) -> Result<String, AllocError>
     if seconds == u32::MAX {
         String::from_str(alloc, "unspecified")
     } else if seconds <= LAST_SINCE_START {
-        format!(in alloc; "+{seconds} s")
+        text_with_room(alloc, ROOM, format_args!("+{seconds} s"))
     } else {
         text_to_second(alloc, seconds)
     }

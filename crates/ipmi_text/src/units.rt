@@ -3,6 +3,7 @@ ghost use Rattle.std.specs.Prelude.{◌≡◌, [], ◌++◌, ◌&&◌, IfOk, cod
 ghost use Rattle.ipmi_text.specs.Units.{is_not_empty, modifier_part, percent_part, rate_part, unit_name_or_code, unit_text_of};
 
 use crate::names::{HexByte, entry};
+use crate::room::text_with_room;
 use std::alloc::{AllocError, Global};
 use std::fmt;
 
@@ -34,6 +35,9 @@ const UNITS: [&str; 25] = [
     "minute",
     "hour",
 ];
+
+/// The room for the text of most units.
+const ROOM: usize = 32;
 
 /// The rates, by bits 5:3 of sensor units 1.
 const RATES: [&str; 8] = [
@@ -150,5 +154,9 @@ pub fn unit_text(alloc: Global, units1: u8, base: u8, modifier: u8) -> Result<St
     let has_unit = !unit.is_empty();
     let first = gap(has_percent, has_unit);
     let second = gap(has_percent || has_unit, !rate.is_empty());
-    format!(in alloc; "{percent}{first}{unit}{second}{rate}")
+    text_with_room(
+        alloc,
+        ROOM,
+        format_args!("{percent}{first}{unit}{second}{rate}"),
+    )
 }

@@ -6,4 +6,4 @@ use Rattle.ipmi_records.proofs.TextLemmas.{key_lines_joined}
 use Rattle.ipmi_records.proofs.block.key_lines.Goals as goal
 
 pub returns : goal.returns
-returns c = IfOk-weaker c.format.result _ _ (λ t h. h ∙ key_lines_joined (byte_h c.args.sensor.now.owner) (decimal c.args.sensor.now.lun) (byte_h c.args.sensor.now.number)) c.format.ensures.ok
+returns c = IfOk-weaker c.text_with_room.result _ _ (λ t h. h ∙ key_lines_joined (byte_h c.args.sensor.now.owner) (decimal c.args.sensor.now.lun) (byte_h c.args.sensor.now.number)) c.text_with_room.ensures

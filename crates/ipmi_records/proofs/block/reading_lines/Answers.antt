@@ -4,4 +4,4 @@ use Rattle.ipmi_records.proofs.TextLemmas.{reading_lines_made}
 use Rattle.ipmi_records.proofs.block.reading_lines.Goals as goal
 
 pub returns : goal.returns
-returns c = IfOk-weaker c.format.result _ _ (λ t h. reading_lines_made c.args.view.now c.args.reading (string_bytes c.in_ok-column.column) c.status_of-status.result.now (string_bytes t) c.in_ok-column.ensures c.status_of-status.ensures h) c.format.ensures.ok
+returns c = IfOk-weaker c.text_with_room.result _ _ (λ t h. reading_lines_made c.args.view.now c.args.reading (string_bytes c.in_ok-column.column) c.status_of-status.result.now (string_bytes t) c.in_ok-column.ensures c.status_of-status.ensures h) c.text_with_room.ensures

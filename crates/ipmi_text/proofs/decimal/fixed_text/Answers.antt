@@ -11,6 +11,6 @@ returns c =
     let size_is : c.unsigned_abs-size.result ≡ unsigned_abs v = search rules in
     let small : unsigned_abs v < 10 ^ 64 = omega (arith, c.unsigned_abs-size.ensures.bound, size_is) in
     let sign_is : c.sign-sign.result.now ≡ sign_of v = search rules in
-    let start_is : string_bytes c.in_ok-text.text ≡ sign_of v ++ decimal (unsigned_abs v / 10 ^ 16) = let h = c.in_ok-text.ensures.ok in rw (← size_is, ← sign_is) h in
+    let start_is : string_bytes c.in_ok-text.text ≡ sign_of v ++ decimal (unsigned_abs v / 10 ^ 16) = let h = c.in_ok-text.ensures in rw (← size_is, ← sign_is) h in
     let fraction_is : AppendsFraction (unsigned_abs v % 10 ^ 16) (string_bytes c.in_ok-text.text) (string_bytes c.push_fraction.new.text) = rw (← size_is) c.in_ok-push_fraction.ensures in
     made v _ _ small start_is fraction_is

@@ -18,4 +18,4 @@ returns c =
       | else-has_percent w ↦ let absent : is_not_empty p ≡ false = sym percent_is ∙ ap not w.if-has_percent.false in w.gap-is ∙ unit_is ∙ rw absent refl
     ] in
     rw (← c.percent_part-percent.ensures, ← c.rate_part-rate.ensures)
-    (IfOk-weaker c.format.result _ _ (λ t h. h ∙ spaced p u r _ _ (rw (← percent_is, ← unit_is) c.gap-first.ensures) (rw (← either_is, ← rate_is) c.gap-second.ensures)) c.format.ensures.ok)
+    (IfOk-weaker c.text_with_room.result _ _ (λ t h. h ∙ spaced p u r _ _ (rw (← percent_is, ← unit_is) c.gap-first.ensures) (rw (← either_is, ← rate_is) c.gap-second.ensures)) c.text_with_room.ensures)
