@@ -10,8 +10,9 @@ use Rattle.ipmi_bus.specs.Shelf.{Row, whole_len, largest_len, id_in, IsRow, AllR
 use Rattle.ipmi_bus.proofs.ShelfLemmas.{IsShelf-first, IsShelf-snoc}
 use Rattle.ipmi_image.specs.Line.{SavedRow}
 use Rattle.ipmi_bus.specs.Walk.{has_id}
+use Rattle.ipmi_image.specs.declared.line.LineFault.{LineFault}
 use Rattle.ipmi_image.specs.declared.line.LineFault.TheVariants as fault
-use Rattle.ipmi_image.specs.Image.{chained, row_before, is_empty, is_no_record, is_no_id, begins_with_another, row_fault}
+use Rattle.ipmi_image.specs.Image.{chained, row_before, is_empty, is_no_record, is_no_id, begins_with_another, first_fault, row_fault}
 
 -- a row stays one with another next id
 other_next : (shelf : Shelf) (row : SavedRow) (following : List SavedRow) (last : SavedRow) → last.id < 65535 → IsRow shelf (row_before [] row) → IsRow shelf (row_before (last ∷ following) row)
@@ -51,6 +52,25 @@ shelf-snoc shelf rows row old is new = record {
   later = later rows row new.later;
 }
 
+-- ---- a row whose id was looked for last
+
+module _ (shelf : Shelf) (rows : List Row) (row : SavedRow) (is_id : is_no_id rows row.id ≡ false) where
+  rest_is : (a b : Bool) (rest : Option LineFault) → a ≡ false → b ≡ false → cond a (Some fault.Id) (cond b (Some fault.Twice) rest) ≡ rest
+  rest_is true b rest e f = cc
+  rest_is false true rest e f = cc
+  rest_is false false rest e f = refl
+
+  twice_is : (a b : Bool) (rest : Option LineFault) → a ≡ false → b ≡ true → cond a (Some fault.Id) (cond b (Some fault.Twice) rest) ≡ Some fault.Twice
+  twice_is true b rest e f = cc
+  twice_is false false rest e f = cc
+  twice_is false true rest e f = refl
+
+  pub new_row_fault : has_id rows row.id ≡ false → row_fault shelf rows row ≡ first_fault ((is_no_record shelf row.bytes, fault.Length) ∷ (begins_with_another rows row, fault.FirstId) ∷ [])
+  new_row_fault new = rest_is (is_no_id rows row.id) (has_id rows row.id) _ is_id new
+
+  pub row_twice : has_id rows row.id ≡ true → row_fault shelf rows row ≡ Some fault.Twice
+  row_twice old = twice_is (is_no_id rows row.id) (has_id rows row.id) _ is_id old
+
 -- ---- a row without a fault
 
 module _ (shelf : Shelf) (rows : List Row) (row : SavedRow) (fine : row_fault shelf rows row ≡ None) where
@@ -66,9 +86,6 @@ module _ (shelf : Shelf) (rows : List Row) (row : SavedRow) (fine : row_fault sh
       by false ea false eb true ec d ed f = absurd (none-some _ (sym f))
       by false ea false eb false ec true ed f = absurd (none-some _ (sym f))
       by false ea false eb false ec false ed f = (ea, eb, ec, ed)
-
-  pub fine_fresh : has_id rows row.id ≡ false
-  fine_fresh = fine_parts.1
 
   pub fine_row : row.id < 65536 → unwrap_or row.next 65535 < 65536 → AreBytes row.bytes → IsRow shelf (row_before [] row)
   fine_row id next bytes =

@@ -7,7 +7,7 @@ use Rattle.std.specs.Result.{OnOk, IfErr}
 use Rattle.ipmi_text.specs.declared.reading.Reading.{Reading}
 use Rattle.ipmi_image.specs.declared.line.LineFault.{LineFault}
 use Rattle.ipmi_image.specs.declared.line.LineFault.TheVariants as fault
-use Rattle.std.proofs.lemmas.Bool.{eqb-true, eqb-false, eq-eqb, true≢false}
+use Rattle.std.proofs.lemmas.Bool.{eqb-false, eq-eqb, true≢false}
 use Rattle.std.proofs.lemmas.Bool.Decides.{nat_tests}
 use Rattle.std.proofs.lemmas.List.{length-append}
 use Rattle.std.proofs.lemmas.List.Quantifiers.{all_pairs_push}
@@ -225,14 +225,13 @@ inventory_fine id already bytes fine = by (nat_eq id 255) refl (nat_lt 65535 (le
     by false ea true eb f = absurd (none-some _ (sym f))
     by false ea false eb f = (eqb-false id 255 ea, grind (arith, nat_tests))
 
-pub reading_fine : (lun : ℕ) (already : Option Reading) (bytes : List ℕ) → reading_fault lun already bytes ≡ None → (already ≡ None) × (length bytes ≡ 4)
-reading_fine lun already bytes fine = by (nat_lt 3 lun) already (nat_eq (length bytes) 4) refl fine
+pub reading_fine : (lun : ℕ) (already : Option Reading) (bytes : List ℕ) → reading_fault lun already bytes ≡ None → (already ≡ None) × (lun ≤ 3)
+reading_fine lun already bytes fine = by (nat_lt 3 lun) refl already (not (nat_eq (length bytes) 4)) fine
   where
-    by : (a : Bool) (o : Option Reading) (b : Bool) → nat_eq (length bytes) 4 ≡ b → cond a (Some fault.Id) (cond (is_some o) (Some fault.Twice) (cond (not b) (Some fault.Length) None)) ≡ None → (o ≡ None) × (length bytes ≡ 4)
-    by true o b e f = absurd (none-some _ (sym f))
-    by false (Some r) b e f = absurd (none-some _ (sym f))
-    by false None true e f = (refl, eqb-true _ _ e)
-    by false None false e f = absurd (none-some _ (sym f))
+    by : (a : Bool) → nat_lt 3 lun ≡ a → (o : Option Reading) (b : Bool) → cond a (Some fault.Id) (cond (is_some o) (Some fault.Twice) (cond b (Some fault.Length) None)) ≡ None → (o ≡ None) × (lun ≤ 3)
+    by true e o b f = absurd (none-some _ (sym f))
+    by false e (Some r) b f = absurd (none-some _ (sym f))
+    by false e None b f = (refl, grind (arith, nat_tests))
 
 other_sensor : (readings : List SensorReading) (lun number : ℕ) (reading : Reading) (k : ℕ) (d : SensorReading) → reading_in readings lun number ≡ None → k < length readings → OtherSensor (get_or readings k d) (record { lun = lun; number = number; reading = reading })
 other_sensor [] lun number reading k d none lt = absurd (omega (arith, lt))

@@ -1,9 +1,14 @@
 -- Items found by their keys.
-use Rattle.std.proofs.Common.{◌≡◌, ℕ, zero, suc, ◌+◌, ◌*◌, ◌<◌, Bool, true, false, cond, nat_eq, ◌&&◌, ◌||◌, Option, None, Some, List, [], ◌∷◌, ◌++◌, length, drop, get_or, set, map, refl, sym, ap, ◌∙◌, add-one, option_map, arith}
+use Rattle.std.proofs.Common.{◌≡◌, ℕ, zero, suc, ◌+◌, ◌*◌, ◌<◌, ◌≤◌, Bool, true, false, cond, nat_eq, ◌&&◌, ◌||◌, Option, None, Some, List, [], ◌∷◌, ◌++◌, length, drop, get_or, set, map, refl, sym, ap, subst, ◌∙◌, add-one, option_map, arith}
 use Rattle.std.specs.Option.{option_or, option_and_then, is_some}
-use Rattle.std.specs.List.{slice_get, find, All}
+use Rattle.std.specs.List.{slice_get, find, list_any, All, IsDistinct}
+use Rattle.std.specs.Bool.{MatchBool}
 use Rattle.std.specs.Ordering.{is_eq, nat_cmp}
 use Rattle.std.proofs.lemmas.Option.{none-some, same_Some, slice_get-get_or}
+use Rattle.std.proofs.lemmas.Cmp.{nat_eq_equiv}
+use Rattle.std.proofs.lemmas.List.{length-map, map-append}
+use Rattle.std.proofs.lemmas.Map.Keys.{IsDistinct-push}
+use Rattle.std.proofs.lemmas.Map.Steps.{length-le_from_distinct_below}
 use Rattle.std.proofs.lemmas.Bool.{eqb-true, eqb-false, eq-eqb, ne_eqb}
 use Rattle.std.proofs.lemmas.Bool.Decides.{nat_tests}
 use Rattle.ipmi_bus.specs.Shelf.{Row, row_with_id}
@@ -12,7 +17,7 @@ use Rattle.ipmi_bus.specs.Walk.{has_id}
 use Rattle.ipmi_image.specs.declared.stored.StoredRow.{StoredRow}
 use Rattle.ipmi_image.specs.declared.stored.StoredInventory.{StoredInventory}
 use Rattle.ipmi_image.specs.declared.stored.StoredSensor.{StoredSensor}
-use Rattle.ipmi_image.specs.Table.{place_of, sensor_key, inventory_of, longer_at}
+use Rattle.ipmi_image.specs.Table.{place_of, IsIndex, sensor_key, inventory_of, longer_at}
 use Rattle.ipmi_image.specs.Image.{chained, row_before, is_empty, with_bytes}
 use Rattle.ipmi_image.specs.Stored.{row_of, sensor_of}
 
@@ -167,23 +172,73 @@ sensor_find (x ∷ xs) lun number all lt =
 
 -- ---- an index beside the items
 
--- the place of a new key is put beside the others
-pub index-push : {T : Type 0} (key : T → ℕ) (items : List T) (item : T) (old new : ℕ → Option ℕ) → ((q : ℕ) → old q ≡ place_of key q items) → place_of key (key item) items ≡ None → ((q : ℕ) → new q ≡ cond (nat_eq (key item) q) (Some (length items)) (old q)) → (q : ℕ) → new q ≡ place_of key q (items ++ item ∷ [])
-index-push key items item old new was absent puts q = puts q ∙ by (nat_eq (key item) q) refl ∙ sym (place_of-snoc key q items item)
+-- no items yet
+pub index_new : {T : Type 0} (key : T → ℕ) (places : ℕ → Option ℕ) → ((q : ℕ) → places q ≡ None) → IsIndex key [] places
+unfolding IsDistinct
+index_new key places none = record { found = none; distinct = tt; below = λ q place is. absurd (none-some place is) }
+
+any_key : {T : Type 0} (key : T → ℕ) (q : ℕ) (items : List T) → list_any (nat_eq q) (map key items) ≡ is_some (place_of key q items)
+any_key key q [] = refl
+any_key key q (x ∷ xs) = ap (λ (b : Bool). b || list_any (nat_eq q) (map key xs)) (eqb_comm q (key x)) ∙ by (nat_eq (key x) q) (place_of key q xs) (any_key key q xs)
+  where
+    by : (b : Bool) (o : Option ℕ) → list_any (nat_eq q) (map key xs) ≡ is_some o → (b || list_any (nat_eq q) (map key xs)) ≡ is_some (cond b (Some 0) (option_map (λ p. p + 1) o))
+    by true o e = refl
+    by false None e = e
+    by false (Some p) e = e
+
+-- keys below FFFFh with no two equal are at most FFFFh
+pub index_len : {T : Type 0} (key : T → ℕ) (items : List T) (places : ℕ → Option ℕ) → IsIndex key items places → length items ≤ 65535
+index_len key items places index =
+    let len : length (map key items) ≤ 65535 = length-le_from_distinct_below (map key items) 65535 index.distinct (λ q m. by q (place_of key q items) refl (sym (any_key key q items) ∙ m)) in
+    rw length-map at len
+  where
+    by : (q : ℕ) (o : Option ℕ) → place_of key q items ≡ o → is_some o ≡ true → q < 65535
+    by q None e m = cc m
+    by q (Some place) e m = index.below q place e
+
+-- a new key's item is put at the end, and its place beside the others
+pub index_push : {T : Type 0} (key : T → ℕ) (items : List T) (item : T) (old new : ℕ → Option ℕ) → IsIndex key items old → key item < 65535 → place_of key (key item) items ≡ None → ((q : ℕ) → new q ≡ cond (nat_eq (key item) q) (Some (length items)) (old q)) → IsIndex key (items ++ item ∷ []) new
+index_push key items item old new index lt absent puts = record {
+  found = λ q. puts q ∙ by q (nat_eq (key item) q) refl ∙ sym (place_of-snoc key q items item);
+  distinct = rw map-append (IsDistinct-push nat_eq_equiv (map key items) (key item) index.distinct (any_key key (key item) items ∙ ap is_some absent));
+  below = λ q place is. low q place (nat_eq (key item) q) refl (place_of key q items) refl (sym (place_of-snoc key q items item) ∙ is);
+}
   where
     nothing : (o : Option ℕ) → o ≡ option_or o None
     nothing None = refl
     nothing (Some p) = refl
 
-    by : (b : Bool) → nat_eq (key item) q ≡ b → cond b (Some (length items)) (old q) ≡ option_or (place_of key q items) (here b (length items))
-    by true e = ap (λ (o : Option ℕ). option_or o (Some (length items))) (sym absent ∙ ap (λ (k : ℕ). place_of key k items) (eqb-true _ _ e))
-    by false e = was q ∙ nothing (place_of key q items)
+    by : (q : ℕ) (b : Bool) → nat_eq (key item) q ≡ b → cond b (Some (length items)) (old q) ≡ option_or (place_of key q items) (here b (length items))
+    by q true e = ap (λ (o : Option ℕ). option_or o (Some (length items))) (sym absent ∙ ap (λ (k : ℕ). place_of key k items) (eqb-true _ _ e))
+    by q false e = index.found q ∙ nothing (place_of key q items)
+
+    low : (q place : ℕ) (b : Bool) → nat_eq (key item) q ≡ b → (o : Option ℕ) → place_of key q items ≡ o → option_or o (here b (length items)) ≡ Some place → q < 65535
+    low q place b e (Some p) f is = index.below q p f
+    low q place true e None f is = let same = eqb-true _ _ e in omega (arith, same, lt)
+    low q place false e None f is = absurd (none-some place is)
+
+-- what was put, where none had its key
+pub was_put : {P : Type 0} (is_new : Bool) (o : Option ℕ) → MatchBool is_new ((o ≡ None) × P) (is_some o ≡ true) → o ≡ None → P
+was_put true o m none = m.1
+was_put false o m none = cc
 
 -- an item in another's place, with its key, is found where that was
-pub place_of-set : {T : Type 0} (key : T → ℕ) (q : ℕ) (items : List T) (place : ℕ) (item d : T) → key item ≡ key (get_or items place d) → place_of key q (set items place item) ≡ place_of key q items
+place_of-set : {T : Type 0} (key : T → ℕ) (q : ℕ) (items : List T) (place : ℕ) (item d : T) → key item ≡ key (get_or items place d) → place_of key q (set items place item) ≡ place_of key q items
 place_of-set key q [] place item d is = refl
 place_of-set key q (x ∷ xs) zero item d is = ap (λ (k : ℕ). cond (nat_eq k q) (Some 0) (option_map (λ p. p + 1) (place_of key q xs))) is
 place_of-set key q (x ∷ xs) (suc place) item d is = ap (λ (o : Option ℕ). cond (nat_eq (key x) q) (Some 0) (option_map (λ p. p + 1) o)) (place_of-set key q xs place item d is)
+
+map_set : {T : Type 0} (key : T → ℕ) (items : List T) (place : ℕ) (item d : T) → key item ≡ key (get_or items place d) → map key (set items place item) ≡ map key items
+map_set key [] place item d is = refl
+map_set key (x ∷ xs) zero item d is = ap (λ (k : ℕ). k ∷ map key xs) is
+map_set key (x ∷ xs) (suc place) item d is = ap (λ (l : List ℕ). key x ∷ l) (map_set key xs place item d is)
+
+pub index_set : {T : Type 0} (key : T → ℕ) (items : List T) (places : ℕ → Option ℕ) (place : ℕ) (item d : T) → IsIndex key items places → key item ≡ key (get_or items place d) → IsIndex key (set items place item) places
+index_set key items places place item d index is = record {
+  found = λ q. index.found q ∙ sym (place_of-set key q items place item d is);
+  distinct = subst (IsDistinct nat_eq) (sym (map_set key items place item d is)) index.distinct;
+  below = λ q at found. index.below q at (sym (place_of-set key q items place item d is) ∙ found);
+}
 
 pub map-longer : (items : List StoredInventory) (place : ℕ) (item d : StoredInventory) (bytes : List ℕ) → inventory_of item ≡ record { id = (get_or items place d).id; bytes = (get_or items place d).bytes.items ++ bytes } → map inventory_of (set items place item) ≡ longer_at place bytes (map inventory_of items)
 map-longer [] place item d bytes is = refl

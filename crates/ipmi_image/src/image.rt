@@ -6,7 +6,7 @@ ghost use Rattle.ipmi_bus.specs.Walk.{has_id};
 ghost use Rattle.ipmi_bus.specs.Store.{IsStore, IsInfo, rows_of, inventory_of, inventory_in, reading_of, reading_in, info_of};
 ghost use Rattle.ipmi_image.specs.Text.{pieces};
 ghost use Rattle.ipmi_image.specs.Line as lines;
-ghost use Rattle.ipmi_image.specs.Image.{chained, is_no_record, is_no_id, begins_with_another, row_fault, inventory_fault, reading_fault, info_fault, reading_of_bytes, with_bytes, at_line, dashes_in, store_behind, store_of_image};
+ghost use Rattle.ipmi_image.specs.Image.{chained, is_no_record, is_no_id, begins_with_another, first_fault, row_fault, inventory_fault, reading_fault, info_fault, reading_of_bytes, with_bytes, at_line, dashes_in, store_behind, store_of_image};
 ghost use Rattle.ipmi_image.specs.Table as table;
 ghost use Rattle.ipmi_image.specs.Rewritten.{IsSaved};
 ghost use Rattle.ipmi_image.specs.Stored.{row_of, sensor_of, said, store_of, AreInventories, AreReadings, HoldsLines, IsPut};
@@ -126,16 +126,11 @@ fn begins_with_another(rows: &Table<StoredRow>, row: &StoredRow) -> bool
     rows.as_slice().is_empty() && LittleEndian::read_u16(&row.bytes) != row.id
 }
 
-/// Why the record may not come after these.
-fn row_fault(shelf: Shelf, rows: &Table<StoredRow>, row: &StoredRow) -> Option<LineFault>
-    ensures { result ≡ row_fault shelf (chained (map row_of rows.now)) (row_of row.now) }
+/// Why the bytes may not be those of the record after these.
+fn bytes_fault(shelf: Shelf, rows: &Table<StoredRow>, row: &StoredRow) -> Option<LineFault>
+    ensures { result ≡ first_fault ((is_no_record shelf row.now.bytes.items, LineFault.Length) ∷
+        (begins_with_another (chained (map row_of rows.now)) (row_of row.now), LineFault.FirstId) ∷ []) }
 {
-    if is_no_id(rows, row.id) {
-        return Some(LineFault::Id);
-    }
-    if has_id(rows, row.id) {
-        return Some(LineFault::Twice);
-    }
     if !is_whole(shelf, &row.bytes) {
         return Some(LineFault::Length);
     }
@@ -163,12 +158,22 @@ fn put_row(
         (row_fault shelf (chained (map row_of rows.old))
         (record { id = id; next = next; bytes = bytes.items }) ≡ Some e)) }
 {
-    let row = StoredRow { id, next, bytes };
-    if let Some(fault) = row_fault(shelf, rows, &row) {
-        return Err(fault);
+    if is_no_id(rows, id) {
+        return Err(LineFault::Id);
     }
-    rows.push(row)?;
-    Ok(())
+    let row = StoredRow { id, next, bytes };
+    if let Some(fault) = bytes_fault(shelf, rows, &row) {
+        return Err(if has_id(rows, id) {
+            LineFault::Twice
+        } else {
+            fault
+        });
+    }
+    if rows.push(row)? {
+        Ok(())
+    } else {
+        Err(LineFault::Twice)
+    }
 }
 
 /// How many bytes the inventory has so far.
@@ -218,7 +223,9 @@ fn put_inventory(
     }
     match inventories.place(u16::from(id)) {
         Some(place) => inventories.append(place, &bytes)?,
-        None => inventories.push(StoredInventory { id, bytes })?,
+        None => {
+            inventories.push(StoredInventory { id, bytes })?;
+        }
     }
     Ok(())
 }

@@ -1,5 +1,5 @@
 //! What an image keeps, in the order of its lines, and an index to find it by.
-ghost use Rattle.std.specs.Prelude.{◌≡◌, ℕ, ◌==◌, ◌<◌, ◌++◌, ◌∷◌, [], List, None, OnOk, map, option_map, find, length};
+ghost use Rattle.std.specs.Prelude.{◌≡◌, ℕ, ◌==◌, ◌<◌, ◌++◌, ◌∷◌, [], List, None, true, MatchBool, IfOk, OnOk, is_some, map, option_map, find, length};
 ghost use Rattle.ipmi_image.specs.Table.{place_of, sensor_key, inventory_of, longer_at};
 
 use ipmi_text::Reading;
@@ -76,20 +76,20 @@ pub(crate) fn sensor_key(lun: u8, number: u8) -> u16
 pub(crate) struct Table<T: Keyed + Drop> {
     items: Vec<T>,
     /// The place of each key's item.
-    places: BTreeMap<u16, usize>,
+    places: BTreeMap<u16, u16>,
 }
 
 impl<T: Keyed + Drop> Model for Table<T> {
-    ghost use Rattle.std.specs.Prelude.{◌≡◌, ℕ, List};
+    ghost use Rattle.std.specs.Prelude.{List};
     ghost use Rattle.std.specs.Ordering.{nat_cmp};
     ghost use Rattle.std.specs.BTreeMap.{get};
-    ghost use Rattle.ipmi_image.specs.Table.{place_of};
+    ghost use Rattle.ipmi_image.specs.Table.{IsIndex};
 
     ghost Value = { List T };
 
     ghost view = { λ t. t.items.items };
 
-    ghost invariant = { λ t. (q : ℕ) → get nat_cmp t.places q ≡ place_of T.key q t.items.items };
+    ghost invariant = { λ t. IsIndex T.key t.items.items (get nat_cmp t.places) };
 }
 
 impl<T: Keyed + Drop> Table<T> {
@@ -114,7 +114,7 @@ impl<T: Keyed + Drop> Table<T> {
     pub(crate) fn place(&self, key: u16) -> Option<usize>
         ensures { result ≡ place_of T.key key self.now }
     {
-        self.places.get(&key).copied()
+        self.places.get(&key).copied().map(usize::from)
     }
 
     /// The item with this key.
@@ -126,16 +126,23 @@ impl<T: Keyed + Drop> Table<T> {
         Some(&self.items[place])
     }
 
-    /// Puts an item with a new key at the end.
-    pub(crate) fn push(&mut self, item: T) -> Result<(), AllocError>
-        requires { place_of T.key (T.key item) self.old ≡ None }
-        ensures ok { OnOk result (self.new ≡ self.old ++ item ∷ []) }
+    /// Puts an item at the end, where none has its key, and says whether it did.
+    pub(crate) fn push(&mut self, item: T) -> Result<bool, AllocError>
+        requires { T.key item < 65535 }
+        ensures { IfOk result (λ is_new. MatchBool is_new
+            ((place_of T.key (T.key item) self.old ≡ None) × (self.new ≡ self.old ++ item ∷ []))
+            (is_some (place_of T.key (T.key item) self.old) ≡ true)) }
     {
         let key = item.key();
-        let place = self.items.len();
+        let place = self.items.len() as u16;
         self.items.push(item)?;
         match self.places.insert(key, place) {
-            Ok(_) => Ok(()),
+            Ok(None) => Ok(true),
+            Ok(Some(first)) => {
+                self.items.pop();
+                self.places.insert(key, first)?;
+                Ok(false)
+            }
             Err(_) => {
                 self.items.pop();
                 Err(AllocError)

@@ -6,7 +6,7 @@ use Rattle.ipmi_image.specs.declared.stored.StoredInventory.{StoredInventory}
 use Rattle.ipmi_image.specs.Table.{place_of, inventory_of, longer_at}
 use Rattle.ipmi_image.specs.Image.{inventory_fault}
 use Rattle.ipmi_image.specs.Stored.{AreInventories}
-use Rattle.ipmi_image.proofs.TableLemmas.{place_below, with_bytes-found, with_bytes-new}
+use Rattle.ipmi_image.proofs.TableLemmas.{place_below, was_put, with_bytes-found, with_bytes-new}
 use Rattle.ipmi_image.proofs.StoreLemmas.{inventory_fine, AreInventories-more, AreInventories-new}
 use Rattle.ipmi_image.proofs.image.put_inventory.Goals as goal
 
@@ -45,7 +45,7 @@ returns-in_ok-push-in-None-clause-keeps c =
     let fine = inventory_fine c.args.id (inventory_in (map inventory_of items) c.args.id) bytes (sym (c.in_default.ensures ∙ ap (inventory_fault c.args.id (inventory_in (map inventory_of items) c.args.id)) c.deref.ensures.value)) in
     let all : AreBytes bytes = search rules in
     let fits : length bytes ≤ 65535 = let most = fine.1 in omega (arith, most) in
-    let new : map inventory_of c.push.new.self ≡ map inventory_of items ++ record { id = c.args.id; bytes = bytes } ∷ [] = ap (map inventory_of) c.in_ok-push-in-None.ensures.ok ∙ map-append inventory_of items _ in
+    let new : map inventory_of c.push.new.self ≡ map inventory_of items ++ record { id = c.args.id; bytes = bytes } ∷ [] = ap (map inventory_of) (was_put c.in_ok-push-in-None.field-0 _ c.in_ok-push-in-None.ensures none) ∙ map-append inventory_of items _ in
     subst AreInventories (sym new) (AreInventories-new items c.args.id bytes none (omega (arith, c.ranges.id)) fine.0 fits all c.requires)
 
 pub returns-in_ok-push-in-None-clause-ok : goal.returns-in_ok-push-in-None-clause-ok
@@ -54,5 +54,5 @@ returns-in_ok-push-in-None-clause-ok c =
     let bytes = c.args.bytes.items in
     let none : place_of key c.args.id items ≡ None = ap (λ (k : ℕ). place_of key k items) (sym c.from.ensures) ∙ sym c.in-None.ensures in (
       sym (c.in_default.ensures ∙ ap (inventory_fault c.args.id (inventory_in (map inventory_of items) c.args.id)) c.deref.ensures.value),
-      ap (map inventory_of) c.in_ok-push-in-None.ensures.ok ∙ map-append inventory_of items _ ∙ sym (with_bytes-new items c.args.id bytes none),
+      ap (map inventory_of) (was_put c.in_ok-push-in-None.field-0 _ c.in_ok-push-in-None.ensures none) ∙ map-append inventory_of items _ ∙ sym (with_bytes-new items c.args.id bytes none),
     )

@@ -1,15 +1,15 @@
-use Rattle.std.proofs.Common.{◌≡◌, ap, sym, ◌∙◌, ◌++◌, List, ℕ, get_or, map}
+use Rattle.std.proofs.Common.{◌≡◌, ap, ◌∙◌, ◌++◌, List, ℕ, get_or, map}
 use Rattle.ipmi_image.specs.Table.{inventory_of, longer_at}
 use Rattle.ipmi_bus.specs.Store.{Inventory}
 use Rattle.ipmi_image.specs.declared.stored.StoredInventory.{StoredInventory}
-use Rattle.ipmi_image.proofs.TableLemmas.{place_of-set, map-longer}
+use Rattle.ipmi_image.proofs.TableLemmas.{index_set, map-longer}
 use Rattle.ipmi_image.proofs.stored.Table+StoredInventory.append.Goals as goal
 
 pub invariant_of-self : goal.invariant_of-self
-invariant_of-self c = λ q. c.self.invariant q ∙ sym (place_of-set (λ (i : StoredInventory). i.id) q c.self.inside.items.items c.args.place (record { id = c.index_mut.result.now.id; bytes = c.extend_from_slice.new.self }) c.index_mut.result.now (ap (λ (i : StoredInventory). i.id) c.index_mut.ensures.value))
+invariant_of-self c = index_set (λ (i : StoredInventory). i.id) c.self.inside.items.items _ c.args.place (record { id = c.index_mut.result.now.id; bytes = c.extend_from_slice.new.self }) c.index_mut.result.now c.self.invariant (ap (λ (i : StoredInventory). i.id) c.index_mut.ensures.value)
 
 pub invariant_of-self-2 : goal.invariant_of-self-2
-invariant_of-self-2 c = λ q. c.self.invariant q ∙ sym (place_of-set (λ (i : StoredInventory). i.id) q c.self.inside.items.items c.args.place (record { id = c.index_mut.result.now.id; bytes = c.extend_from_slice.new.self }) c.index_mut.result.now (ap (λ (i : StoredInventory). i.id) c.index_mut.ensures.value))
+invariant_of-self-2 c = index_set (λ (i : StoredInventory). i.id) c.self.inside.items.items _ c.args.place (record { id = c.index_mut.result.now.id; bytes = c.extend_from_slice.new.self }) c.index_mut.result.now c.self.invariant (ap (λ (i : StoredInventory). i.id) c.index_mut.ensures.value)
 
 pub returns : goal.returns
 returns c =
