@@ -7,6 +7,7 @@ pub mod laws;
 mod line;
 mod responder;
 mod rewrite;
+mod rows;
 mod scripted;
 mod stored;
 mod text;

@@ -3,13 +3,13 @@ ghost use Rattle.std.specs.Prelude.{◌≡◌, ◌++◌, ◌∷◌, [], ◌≤�
 ghost use Rattle.std.specs.Option.{unwrap_or};
 ghost use Rattle.hex.specs.Hex.{encode_lower};
 ghost use Rattle.ipmi_image.specs.Image.{chained, store_of_image};
-ghost use Rattle.ipmi_image.specs.Stored.{row_of, sensor_of, store_of};
+ghost use Rattle.ipmi_image.specs.Stored.{sensor_of, store_of};
 ghost use Rattle.ipmi_image.specs.Table as table;
 ghost use Rattle.ipmi_image.specs.Rewritten.{hex_of, next_field, row_fields, rows_lines, part_fields, inventory_lines, reading_fields, info_lines, other_lines, line_text, lines_text, image_text_of};
 
 use crate::image::{Contents, Image};
-use crate::responder::id_at;
-use crate::stored::{StoredInventory, StoredRow, StoredSensor};
+use crate::rows::{Rows, StoredRow};
+use crate::stored::{StoredInventory, StoredSensor};
 use ipmi_bus::Shelf;
 use std::alloc::{AllocError, Global};
 
@@ -81,24 +81,23 @@ impl Text {
         ensures { OnOk result (self.new.bytes.items ≡ self.old.bytes.items ++ line_text
             (row_fields word.now following (record {
               id = row.now.id;
-              next = unwrap_or row.now.next
-                  following;
-              bytes = row.now.bytes.items;
+              next = unwrap_or row.now.next following;
+              bytes = row.now.bytes.now;
             }))) }
     {
         self.push_id(word, row.id)?;
-        self.push_rest(following, row.next.unwrap_or(following), &row.bytes)
+        self.push_rest(following, row.next.unwrap_or(following), row.bytes)
     }
 
     /// Appends the lines of a shelf.
-    fn push_rows(&mut self, word: &[u8], rows: &[StoredRow]) -> Result<(), AllocError>
+    fn push_rows(&mut self, word: &[u8], rows: &Rows) -> Result<(), AllocError>
         ensures { OnOk result (self.new.bytes.items ≡ self.old.bytes.items ++ lines_text
-            (rows_lines word.now (chained (map row_of rows.now)))) }
+            (rows_lines word.now (chained rows.now))) }
     {
         let mut place = 0;
-        'rows: while place < rows.len() {
-            self.push_row(word, id_at(rows, place + 1), &rows[place])?;
+        'rows: while let Some(row) = rows.get(place) {
             place += 1;
+            self.push_row(word, rows.id_at(place), &row)?;
         }
         Ok(())
     }
@@ -227,8 +226,8 @@ impl Text {
             (store_of contents.now)) }
     {
         self.push(b"ipmi-image 2\n")?;
-        self.push_rows(b"sdr", contents.sdr.as_slice())?;
-        self.push_rows(b"sel", contents.sel.as_slice())?;
+        self.push_rows(b"sdr", &contents.sdr)?;
+        self.push_rows(b"sel", &contents.sel)?;
         self.push_others(contents)
     }
 }
