@@ -67,8 +67,8 @@ module _ (bytes more : List ℕ) where
       let len = length-append bytes more in
       record {
         within = All-append (λ (head : RowHead). head.start + head.len ≤ length (bytes ++ more)) heads _
-          (λ k d lt. let le = are.within k d lt in omega (arith, le, len))
-          (All-cons (λ (head : RowHead). head.start + head.len ≤ length (bytes ++ more)) _ [] (omega (arith, len)) (λ k d lt. absurd (omega (arith, lt))));
+            (λ k d lt. let le = are.within k d lt in omega (arith, le, len))
+            (All-cons (λ (head : RowHead). head.start + head.len ≤ length (bytes ++ more)) _ [] (omega (arith, len)) (λ k d lt. absurd (omega (arith, lt))));
         size = let count = length-append heads (record { id = id; next = next; start = length bytes; len = length more } ∷ []) in let size = are.size in omega (arith, size, len, count, fits);
         few = let count = length-append heads (record { id = id; next = next; start = length bytes; len = length more } ∷ []) in omega (arith, count, more_fit);
       }

@@ -20,7 +20,6 @@ const PART: usize = 64;
 #[derive(Drop)]
 struct Text {
     bytes: Vec<u8>,
-    alloc: Global,
 }
 
 impl Text {
@@ -37,8 +36,17 @@ impl Text {
         ensures { OnOk result (self.new.bytes.items ≡ self.old.bytes.items ++ encode_lower
             bytes.now) }
     {
-        let hex = hex::encode(self.alloc, bytes)?;
-        self.push(hex.as_bytes())
+        let start = self.bytes.len();
+        let Some(end) = bytes
+            .len()
+            .checked_mul(2)
+            .and_then(|len| len.checked_add(start))
+        else {
+            return Err(AllocError);
+        };
+        self.bytes.resize(end, 0)?;
+        hex::encode_to_slice(bytes, &mut self.bytes[start..]).unwrap();
+        Ok(())
     }
 
     /// Appends a row's next id, a dash where it is the following row's.
@@ -241,9 +249,7 @@ pub fn image_text(alloc: Global, image: &Image) -> Result<Vec<u8>, AllocError>
 {
     let mut text = Text {
         bytes: Vec::new(alloc),
-        alloc,
     };
     text.push_image(image.contents())?;
-    let Text { bytes, alloc: _ } = text;
-    Ok(bytes)
+    Ok(text.bytes)
 }
