@@ -2,7 +2,7 @@
 use Rattle.std.specs.Prelude.{ℕ, ◌≡◌, ◌≢◌, ◌⊎◌, ◌++◌, ◌∷◌, [], Some, None, Result, Ok, Err, MatchResult, List, map, filter_map, All, AllPairs}
 use Rattle.ipmi_bus.specs.declared.controller.Shelf.TheVariants.{Sdr, Sel}
 use Rattle.ipmi_bus.specs.Store.{Store, Inventory, SensorReading, IsInventory, IsSensorReading, OtherSensor}
-use Rattle.ipmi_image.specs.declared.image.Contents.{Contents}
+use Rattle.ipmi_image.specs.declared.contents.Contents.{Contents}
 use Rattle.ipmi_image.specs.declared.line.Line.{Line as line}
 use Rattle.ipmi_image.specs.declared.line.Line.TheVariants as of
 use Rattle.ipmi_image.specs.declared.line.LineFault.{LineFault}

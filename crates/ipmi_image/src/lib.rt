@@ -1,6 +1,7 @@
 //! Saved images of a management controller, and controllers that answer from one.
 #![tactic(auto)]
 
+mod contents;
 mod controller;
 mod image;
 pub mod laws;

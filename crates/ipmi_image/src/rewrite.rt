@@ -7,7 +7,8 @@ ghost use Rattle.ipmi_image.specs.Stored.{sensor_of, store_of};
 ghost use Rattle.ipmi_image.specs.Table as table;
 ghost use Rattle.ipmi_image.specs.Rewritten.{hex_of, next_field, row_fields, rows_lines, part_fields, inventory_lines, reading_fields, info_lines, other_lines, line_text, lines_text, image_text_of};
 
-use crate::image::{Contents, Image};
+use crate::contents::Contents;
+use crate::image::Image;
 use crate::rows::{Rows, StoredRow};
 use crate::stored::{StoredInventory, StoredSensor};
 use ipmi_bus::Shelf;
@@ -15,6 +16,9 @@ use std::alloc::{AllocError, Global};
 
 /// The most bytes of an inventory on one line.
 const PART: usize = 64;
+
+/// The room of a text for its first and last line, and for what most images say beside their records.
+const OTHER_ROOM: usize = 4096;
 
 /// A text that grows.
 #[derive(Drop)]
@@ -247,9 +251,11 @@ pub fn image_text(alloc: Global, image: &Image) -> Result<Vec<u8>, AllocError>
     ensures text { IfOk result (λ text. text.items ≡ image_text_of image.now) }
     ensures again { IfOk result (λ text. store_of_image text.items ≡ Ok image.now) }
 {
+    let contents = image.contents();
+    let room = contents.sdr.line_room() + contents.sel.line_room() + OTHER_ROOM;
     let mut text = Text {
-        bytes: Vec::new(alloc),
+        bytes: Vec::with_capacity(alloc, room)?,
     };
-    text.push_image(image.contents())?;
+    text.push_image(contents)?;
     Ok(text.bytes)
 }

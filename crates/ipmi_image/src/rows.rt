@@ -1,5 +1,5 @@
 //! The records of a shelf, with their bytes one after the other.
-ghost use Rattle.std.specs.Prelude.{◌≡◌, ◌≤◌, ◌<◌, ◌==◌, ◌++◌, ◌∷◌, [], MatchBool, IfOk, IfSome, None, true, is_some, option_map, length, drop};
+ghost use Rattle.std.specs.Prelude.{◌≡◌, ◌≤◌, ◌<◌, ◌==◌, ◌^◌, ◌++◌, ◌∷◌, [], MatchBool, IfOk, IfSome, None, true, is_some, option_map, length, drop};
 ghost use Rattle.std.specs.List.{slice_get};
 ghost use Rattle.ipmi_image.specs.Image.{first_id};
 ghost use Rattle.ipmi_image.specs.Table.{place_of};
@@ -73,9 +73,17 @@ impl Rows {
 
     /// How many there are.
     pub(crate) fn len(&self) -> usize
-        ensures { result ≡ length self.now }
+        ensures len { result ≡ length self.now }
+        ensures few { result ≤ 65535 }
     {
         self.heads.as_slice().len()
+    }
+
+    /// The room that lines of these take in an image, at most: 15 characters beside the bytes of each.
+    pub(crate) fn line_room(&self) -> usize
+        ensures few { result ≤ 2 ^ 26 }
+    {
+        self.len() * 15 + self.bytes.len() * 2
     }
 
     /// The record at the place.

@@ -8,7 +8,7 @@ use Rattle.ipmi_image.specs.Image.{inventory_fault}
 use Rattle.ipmi_image.specs.Stored.{AreInventories}
 use Rattle.ipmi_image.proofs.TableLemmas.{place_below, was_put, with_bytes-found, with_bytes-new}
 use Rattle.ipmi_image.proofs.StoreLemmas.{are_bytes, inventory_fine, AreInventories-more, AreInventories-new}
-use Rattle.ipmi_image.proofs.image.put_inventory.Goals as goal
+use Rattle.ipmi_image.proofs.contents.put_inventory.Goals as goal
 
 abbrev key : StoredInventory → ℕ
 key inventory = inventory.id

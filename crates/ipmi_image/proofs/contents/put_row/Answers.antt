@@ -8,7 +8,7 @@ use Rattle.ipmi_image.specs.Image.{chained, row_fault}
 use Rattle.ipmi_image.proofs.TableLemmas.{has_id_place}
 use Rattle.ipmi_image.proofs.ShelfLemmas.{new_row_fault, row_twice, shelf_with}
 use Rattle.ipmi_image.proofs.StoreLemmas.{are_bytes}
-use Rattle.ipmi_image.proofs.image.put_row.Goals as goal
+use Rattle.ipmi_image.proofs.contents.put_row.Goals as goal
 
 pub returns-then-branch-clause-keeps : goal.returns-then-branch-clause-keeps
 returns-then-branch-clause-keeps c =

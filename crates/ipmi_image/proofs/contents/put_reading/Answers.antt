@@ -6,7 +6,7 @@ use Rattle.ipmi_image.specs.Image.{reading_of_bytes}
 use Rattle.ipmi_image.specs.Stored.{sensor_of, AreReadings}
 use Rattle.ipmi_image.proofs.TableLemmas.{reading_place, none_found, was_put}
 use Rattle.ipmi_image.proofs.StoreLemmas.{reading_fine, AreReadings-new}
-use Rattle.ipmi_image.proofs.image.put_reading.Goals as goal
+use Rattle.ipmi_image.proofs.contents.put_reading.Goals as goal
 
 pub push-requires : goal.push-requires
 push-requires c =
