@@ -100,13 +100,11 @@ fn read_next(field: &[u8]) -> Option<Option<u16>>
 fn read_shelf(word: &[u8]) -> Option<Shelf>
     ensures { result ≡ shelf_in word.now }
 {
-    if word == b"sdr".as_slice() {
-        return Some(Shelf::Sdr);
+    match word {
+        b"sdr" => Some(Shelf::Sdr),
+        b"sel" => Some(Shelf::Sel),
+        _ => None,
     }
-    if word == b"sel".as_slice() {
-        return Some(Shelf::Sel);
-    }
-    None
 }
 
 /// Reads `ID NEXT HEX` after the name of a shelf.

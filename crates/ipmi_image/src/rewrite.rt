@@ -145,11 +145,8 @@ impl Text {
         ensures { OnOk result (self.new.bytes.items ≡ self.old.bytes.items ++ lines_text
             (flat_map inventory_lines (map table.inventory_of inventories.now))) }
     {
-        let mut place = 0;
-        'inventories: while place < inventories.len() {
-            let inventory = &inventories[place];
+        'inventories: for inventory in inventories {
             self.push_inventory(inventory.id, &inventory.bytes)?;
-            place += 1;
         }
         Ok(())
     }
@@ -210,10 +207,8 @@ impl Text {
         ensures { OnOk result (self.new.bytes.items ≡ self.old.bytes.items ++ lines_text
             (map reading_fields (map sensor_of sensors.now))) }
     {
-        let mut place = 0;
-        'sensors: while place < sensors.len() {
-            self.push_reading(&sensors[place])?;
-            place += 1;
+        'sensors: for sensor in sensors {
+            self.push_reading(sensor)?;
         }
         Ok(())
     }
