@@ -2,12 +2,14 @@
 # Each name that docs/definitions.md has in bold is one that the file linked after it defines.
 set -uo pipefail
 cd "$(dirname "$0")/.." || exit 1
+# shellcheck disable=SC2016
+quoted='`[A-Za-z_]+`'
 failed=0
 count=0
 names=
 while IFS= read -r token; do
   case $token in
-    '**'*) names=$(grep -oE '`[A-Za-z_]+`' <<< "$token" | tr -d '`') ;;
+    '**'*) names=$(grep -oE "$quoted" <<< "$token" | tr -d '`') ;;
     *)
       file=${token#../}
       for name in $names; do
