@@ -1,5 +1,5 @@
 -- The reading of a record, call after call.
-use Rattle.std.proofs.Common.{◌≡◌, ℕ, ◌+◌, ◌*◌, ◌<◌, ◌≤◌, Option, None, Some, Result, Ok, Err, refl, sym, ap, subst, ◌∙◌, arith, ◌-◌}
+use Rattle.std.proofs.Common.{◌≡◌, ℕ, ◌+◌, ◌*◌, ◌<◌, ◌≤◌, Bool, true, false, Option, None, Some, Result, Ok, Err, refl, sym, ap, subst, ◌∙◌, arith, ◌-◌}
 use Rattle.std.specs.Prelude.{IsSome}
 use Rattle.ipmi_bus.specs.Bounds.{digits, step_call_bound}
 use Rattle.ipmi_bus.specs.declared.controller.Shelf.{Shelf}
@@ -8,8 +8,6 @@ use Rattle.ipmi_bus.specs.declared.step.Ended.TheVariants.{Cycle, Missing, Refus
 use Rattle.ipmi_bus.specs.declared.retrieval.Outcome.{Outcome}
 use Rattle.ipmi_bus.specs.declared.retrieval.Outcome.TheVariants.{Again, Whole, Absent}
 use Rattle.ipmi_bus.specs.declared.retrieval.Retrieval.{Retrieval}
-use Rattle.ipmi_bus.specs.declared.retrieval.Retrieved.{Retrieved}
-use Rattle.ipmi_bus.specs.declared.retrieval.Retrieved.TheVariants.{Complete, Nothing}
 use Rattle.ipmi_bus.specs.Shelf.{look, len_of, largest_len}
 use Rattle.ipmi_bus.specs.Store.{Store, rows_of}
 use Rattle.ipmi_bus.specs.Seen.{stays_refl, stays_trans, Seen, IsHonest, KeepsStore, StaysHonest, current}
@@ -161,10 +159,10 @@ module _ (old : Retrieval) (id : ℕ) (now new : Retrieval) (s s' s'' : Seen) (s
   }
 
   -- the answer of the last call is that of the whole reading
-  abbrev read_result : Result Outcome Ended → Result Retrieved Ended
-  read_result (Ok Again) = Ok Nothing
-  read_result (Ok Whole) = Ok Complete
-  read_result (Ok Absent) = Ok Nothing
+  abbrev read_result : Result Outcome Ended → Result Bool Ended
+  read_result (Ok Again) = Ok false
+  read_result (Ok Whole) = Ok true
+  read_result (Ok Absent) = Ok false
   read_result (Err e) = Err e
 
   answers_of : (result : Result Outcome Ended) → (result ≡ Ok Again → ⊥) → HonestSince (begun old id) now s s' → CallAnswers now new s' s'' result → ReadAnswers old id new s s'' (read_result result)
