@@ -9,7 +9,7 @@ use Rattle.ipmi_bus.specs.declared.controller.Shelf.TheVariants.{Sdr}
 use Rattle.ipmi_bus.specs.Shelf.{Row, look, largest_len}
 use Rattle.ipmi_bus.specs.Store.{rows_of}
 use Rattle.ipmi_bus.specs.Seen.{Seen, IsHonest, StaysHonest}
-use Rattle.ipmi_bus.specs.Tries.{WithinTries, GivesUp, IsRefusedWith}
+use Rattle.ipmi_bus.specs.Tries.{WithinTries, GivesUp, IsRefusedWith, NotGivenUpOrRefused}
 use Rattle.ipmi_bus.specs.Bounds.{digits, step_call_bound}
 use Rattle.ipmi_bus.specs.Retrieval.{IsOpen, SameRequest, HasRead, IsReading, HoldsCurrent, KeepsHeld, CallIsAnswered, calls_left, row_len, wanted_len}
 
@@ -59,19 +59,9 @@ ReadAnswers old id new s s' (Err (Missing n)) = ⊥
 ReadAnswers old id new s s' (Err (Stalled n)) = ⊥
 ReadAnswers old id new s s' (Err (Malformed n)) = ⊥
 
--- neither given up nor refused
-abbrev pub IsFineRead : Result Bool Ended → Type 0
-IsFineRead (Ok is_there) = Unit {0}
-IsFineRead (Err (GaveUp id)) = ⊥
-IsFineRead (Err (Refused id code)) = ⊥
-IsFineRead (Err (Cycle id)) = Unit {0}
-IsFineRead (Err (Missing id)) = Unit {0}
-IsFineRead (Err (Stalled id)) = Unit {0}
-IsFineRead (Err (Malformed id)) = Unit {0}
-
 pub record ReadIsPlain (new : Retrieval) (s' : Seen) (result : Result Bool Ended) : Type 0 where
   pub holds : HoldsCurrent new s'
-  pub fine : IsFineRead result
+  pub fine : NotGivenUpOrRefused result
 
 -- over an honest controller: where a reservation is held and no trouble comes, none is asked for
 pub record ReadIsHonest (old : Retrieval) (id : ℕ) (new : Retrieval) (s s' : Seen) (result : Result Bool Ended) : Type 0 where
