@@ -1,6 +1,6 @@
 //! The multirecord area of an inventory: records one after the other, up to one that is marked as the last.
 ghost use Rattle.std.specs.Prelude.{◌≡◌, ◌<◌, IfOk, IfErr, Some, None, length};
-ghost use Rattle.ipmi_fru.specs.Multirecord.{record_in, record_fault, behind_record, record_of, items_after, items_left};
+ghost use Rattle.ipmi_fru.specs.Multirecord.{record_in, record_fault, multi_fault_name, behind_record, record_of, items_after, items_left};
 
 use crate::header::{is_zero_sum, sum_of};
 use thiserror::Error;
@@ -23,8 +23,21 @@ pub enum MultiFault {
     DataSum,
 }
 
+impl MultiFault {
+    /// The name of the fault, as `print_fru` prints it.
+    pub fn name(self) -> &'static str
+        ensures { result.now ≡ multi_fault_name self }
+    {
+        match self {
+            MultiFault::Outside => "outside",
+            MultiFault::HeaderSum => "header checksum",
+            MultiFault::DataSum => "data checksum",
+        }
+    }
+}
+
 /// A record of the multirecord area (Platform Management FRU Information Storage Definition v1.0, section 16).
-#[derive(Clone, Copy, Debug)]
+#[derive(Clone, Copy, Debug, PartialEq, Eq)]
 pub struct MultiView<'a> {
     /// The type of the record.
     pub kind: u8,
@@ -68,7 +81,7 @@ fn read_record(bytes: &[u8]) -> Result<(MultiView<'_>, &[u8]), MultiFault>
 }
 
 /// The records of the multirecord area, in their order; after a fault there is none.
-#[derive(Drop)]
+#[derive(Clone, Debug, Drop)]
 pub struct Records<'a> {
     left: Option<&'a [u8]>,
 }

@@ -1,6 +1,6 @@
 use Rattle.std.proofs.Common.{rules, ◌/◌}
 use Rattle.ipmi_fru.proofs.FieldLemmas.{begins_field}
-use Rattle.ipmi_fru.proofs.area.split_field.Goals as goal
+use Rattle.ipmi_fru.proofs.field.Beginning.of.Goals as goal
 
 pub returns : goal.returns
 returns c =

@@ -1,7 +1,7 @@
 use Rattle.std.proofs.Common.{◌≡◌, ◌++◌, ◌∙◌, sym, ap, subst, refl, rules, [], string_bytes, append_assoc, append-nil}
 use Rattle.ipmi_fru.specs.Multirecord.{items_left}
 use Rattle.ipmi_fru.specs.Print.{AreItemTexts}
-use Rattle.ipmi_fru.proofs.print.records_text.Goals as goal
+use Rattle.ipmi_fru.proofs.record_text.records_text.Goals as goal
 
 pub records-preserved : goal.records-preserved
 records-preserved c more texts =
@@ -16,4 +16,4 @@ records-preserved c more texts =
 pub returns : goal.returns
 returns c =
     subst (AreItemTexts (items_left c.args.records)) (append-nil (string_bytes c.records.text))
-    (c.records.invariant [] (subst (λ items. AreItemTexts items []) (sym c.in_default.ensures.steps.0) refl))
+    (c.records.invariant [] (subst (λ items. AreItemTexts items []) (sym c.in-None.ensures.steps.0) refl))
