@@ -1,12 +1,13 @@
 //! The reading column and the status of a record.
 ghost use Rattle.std.specs.Prelude.{◌≡◌, IfOk, string_bytes};
-ghost use Rattle.ipmi_records.specs.Columns.{IsFullColumn, IsRawText, IsReadingColumn, after_space, compact_column, fru_column, has_thresholds, is_there, sensor_status, shown_of, shown_reading, states_text, status_of, threshold_status, type_text, unit_text_in};
+ghost use Rattle.ipmi_records.specs.Columns.{IsFullColumn, IsRawText, IsReadingColumn, after_space, compact_column, fru_column, has_thresholds, is_there, sensor_status, shown_of, shown_reading, states_text, status_of, threshold_status, unit_text_in};
 
 use crate::digits::{ByteH, HexWord, has_bit};
 use crate::sdr::{OWN_ADDRESS, SdrView};
 use crate::sensor::{FullSensor, Sensor};
 use ipmi_text::{HexByte, Reading, convert, fixed_text, text_with_room, unit_text};
 use std::alloc::{AllocError, Global};
+use std::fmt;
 
 /// The room for most columns.
 const ROOM: usize = 32;
@@ -130,12 +131,20 @@ fn fru_column(alloc: Global, fru: Option<u8>) -> Result<String, AllocError>
     }
 }
 
-/// What stands for a type without a name.
-pub(crate) fn type_text(alloc: Global, kind: u8) -> Result<String, AllocError>
-    ensures { IfOk result (λ text. string_bytes text ≡ type_text kind) }
-{
-    let kind = HexByte(kind);
-    text_with_room(alloc, ROOM, format_args!("record type 0x{kind}"))
+/// A record type without a name, printed as its number.
+#[derive(Clone, Copy, Debug)]
+pub(crate) struct RecordType(pub(crate) u8);
+
+impl fmt::Display for RecordType {
+    ghost use Rattle.std.specs.Prelude.{Some};
+    ghost use Rattle.ipmi_records.specs.Columns.{type_text};
+
+    ghost output = { λ kind. Some (type_text kind.0) };
+
+    fn fmt<W: fmt::Write>(&self, f: &mut fmt::Formatter<W>) -> fmt::Result {
+        let kind = HexByte(self.0);
+        write!(f, "record type 0x{kind}")
+    }
 }
 
 /// The reading column of a record.
@@ -156,7 +165,7 @@ pub(crate) fn reading_column(
             let address = ByteH(controller.locator().address);
             text_with_room(alloc, ROOM, format_args!("controller {address}"))
         }
-        SdrView::Other(other) => type_text(alloc, other.bytes()[3]),
+        SdrView::Other(other) => text_with_room(alloc, ROOM, RecordType(other.bytes()[3])),
     }
 }
 

@@ -9,4 +9,5 @@ pub mod Lines
 pub mod ReadingValue
 pub mod SensorTypes
 pub mod Times
+pub mod TwoDigits
 pub mod Units
