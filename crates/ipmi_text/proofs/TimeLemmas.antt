@@ -1,5 +1,5 @@
 -- The two digits of a number, and texts of points in time.
-use Rattle.std.proofs.Common.{◌≡◌, ◌∙◌, ℕ, List, ◌<◌, ◌≤◌, sym, ◌/◌, ◌%◌, ◌-◌, ◌+◌, ◌^◌, false, [], ◌∷◌, ◌++◌, ap, refl, arith, inl, inr}
+use Rattle.std.proofs.Common.{◌≡◌, ◌∙◌, ℕ, List, ◌<◌, ◌≤◌, sym, ◌/◌, ◌%◌, ◌+◌, false, [], ◌∷◌, ◌++◌, ap, refl, arith, inl, inr}
 use Rattle.std.specs.Fmt.{digit_glyph}
 use Rattle.std.proofs.lemmas.Bool.{cases_lt}
 use Rattle.std.proofs.lemmas.Bool.Decides.{nat_tests}

@@ -1,3 +1,4 @@
+pub mod Appended
 pub mod Bytes
 pub mod Chassis
 pub mod Decimal

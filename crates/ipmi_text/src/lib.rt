@@ -15,12 +15,12 @@ mod two_digits;
 mod units;
 
 pub use chassis::chassis_text;
-pub use decimal::{Factors, Fixed, convert, fixed_text};
+pub use decimal::{Factors, Fixed, convert, fixed_text, push_fixed};
 pub use events::{EventWords, event_text};
-pub use field_text::{fru_text, sdr_text};
+pub use field_text::{fru_text, push_sdr_text, sdr_text};
 pub use names::HexByte;
 pub use reading::Reading;
 pub use room::text_with_room;
 pub use sensor_types::{SensorType, sensor_type_text};
 pub use times::{Moment, UtcTime, minutes_text, utc_text};
-pub use units::unit_text;
+pub use units::{Units, unit_text};
