@@ -4,7 +4,7 @@ ghost use Rattle.ipmi_records.specs.Sdr.{name_of};
 ghost use Rattle.ipmi_records.specs.Sensor.{is_readable};
 ghost use Rattle.ipmi_records.specs.SdrText.{AreReadingLines, AreThresholdTexts, AreValueLines, IsSdrBlock, IsThresholdText, all_thresholds, head_lines, key_lines, kind_text, locator_lines, name_line, sensor_lines, subject_lines, threshold_name, thresholds_of};
 
-use crate::column::{RecordType, has_thresholds, raw_text, reading_column, status_of};
+use crate::column::{RecordType, has_thresholds, push_raw, push_reading, status_of};
 use crate::digits::{ByteH, WordH};
 use crate::locator::Locator;
 use crate::sdr::SdrView;
@@ -124,13 +124,12 @@ fn reading_lines(
 ) -> Result<String, AllocError>
     ensures { IfOk result (λ text. AreReadingLines view.now reading (string_bytes text)) }
 {
-    let column = reading_column(alloc, view, reading)?;
+    let mut text = String::with_capacity(alloc, PART_ROOM)?;
+    text.push_str("Reading: ")?;
+    push_reading(&mut text, view, reading)?;
     let status = status_of(view, reading);
-    text_with_room(
-        alloc,
-        PART_ROOM,
-        format_args!("Reading: {column}\nStatus: {status}\n"),
-    )
+    write!(text, "\nStatus: {status}\n")?;
+    Ok(text)
 }
 
 /// The name of a threshold.
@@ -160,8 +159,11 @@ fn threshold_text(
         return Ok(String::new(alloc));
     }
     let name = threshold_name(threshold);
-    let value = raw_text(alloc, full, full.threshold(threshold))?;
-    text_with_room(alloc, PART_ROOM, format_args!("{name}: {value}\n"))
+    let mut text = String::with_capacity(alloc, PART_ROOM)?;
+    write!(text, "{name}: ")?;
+    push_raw(&mut text, full, full.threshold(threshold))?;
+    text.push_str("\n")?;
+    Ok(text)
 }
 
 /// The lines of all thresholds.
