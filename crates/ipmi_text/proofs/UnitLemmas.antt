@@ -46,3 +46,14 @@ pub spaced : (p u r f s : List ℕ)
     → s ≡ (if (is_not_empty p || is_not_empty u) && is_not_empty r then codes " " else [])
     → p ++ (f ++ (u ++ (s ++ r))) ≡ join_with_byte 32 (filter is_not_empty (p ∷ u ∷ r ∷ []))
 spaced p u r f s first second = rw (first, second) (joined_parts p u r)
+
+-- they are nothing only where each is
+pub nothing_joined : (p u r : List ℕ) → (not (is_not_empty p) && not (is_not_empty u)) && not (is_not_empty r) ≡ not (is_not_empty (join_with_byte 32 (filter is_not_empty (p ∷ u ∷ r ∷ []))))
+nothing_joined [] [] [] = refl
+nothing_joined [] [] (z ∷ zs) = refl
+nothing_joined [] (y ∷ ys) [] = refl
+nothing_joined [] (y ∷ ys) (z ∷ zs) = refl
+nothing_joined (x ∷ xs) [] [] = refl
+nothing_joined (x ∷ xs) [] (z ∷ zs) = refl
+nothing_joined (x ∷ xs) (y ∷ ys) [] = refl
+nothing_joined (x ∷ xs) (y ∷ ys) (z ∷ zs) = refl

@@ -138,25 +138,68 @@ fn gap(before: bool, after: bool) -> &'static str
 }
 
 /// The units of a sensor by its bytes sensor units 1, base unit and modifier unit (IPMI v2.0, tables
-/// 43-1 and 43-15): percent, base unit with modifier, and rate, of which those that are not empty are
-/// joined by one space.
+/// 43-1 and 43-15), printed as percent, base unit with modifier, and rate, of which those that are not
+/// empty are joined by one space.
+#[derive(Clone, Copy, Debug, PartialEq, Eq)]
+pub struct Units {
+    /// Sensor units 1: the rate, how the modifier is used, percentage.
+    pub units1: u8,
+    /// The base unit.
+    pub base: u8,
+    /// The modifier unit.
+    pub modifier: u8,
+}
+
+impl Units {
+    /// Whether they print as nothing.
+    pub fn is_empty(self) -> bool
+        ensures { result ≡ not (is_not_empty (unit_text_of self.units1 self.base self.modifier)) }
+    {
+        let unit = BaseUnit {
+            units1: self.units1,
+            base: UnitName(self.base),
+            modifier: UnitName(self.modifier),
+        };
+        let no_percent = percent_part(self.units1).is_empty();
+        let no_unit = unit.is_empty();
+        let no_rate = rate_part(self.units1).is_empty();
+        no_percent & no_unit & no_rate
+    }
+}
+
+impl fmt::Display for Units {
+    ghost use Rattle.std.specs.Prelude.{Some};
+    ghost use Rattle.ipmi_text.specs.Units.{unit_text_of};
+
+    ghost output = { λ units. Some (unit_text_of units.units1 units.base units.modifier) };
+
+    fn fmt<W: fmt::Write>(&self, f: &mut fmt::Formatter<W>) -> fmt::Result {
+        let percent = percent_part(self.units1);
+        let unit = BaseUnit {
+            units1: self.units1,
+            base: UnitName(self.base),
+            modifier: UnitName(self.modifier),
+        };
+        let rate = rate_part(self.units1);
+        let has_percent = !percent.is_empty();
+        let has_unit = !unit.is_empty();
+        let first = gap(has_percent, has_unit);
+        let second = gap(has_percent || has_unit, !rate.is_empty());
+        write!(f, "{percent}{first}{unit}{second}{rate}")
+    }
+}
+
+/// The units of a sensor by its bytes sensor units 1, base unit and modifier unit, as `Units` prints them.
 pub fn unit_text(alloc: Global, units1: u8, base: u8, modifier: u8) -> Result<String, AllocError>
     ensures { IfOk result (λ text. string_bytes text ≡ unit_text_of units1 base modifier) }
 {
-    let percent = percent_part(units1);
-    let unit = BaseUnit {
-        units1,
-        base: UnitName(base),
-        modifier: UnitName(modifier),
-    };
-    let rate = rate_part(units1);
-    let has_percent = !percent.is_empty();
-    let has_unit = !unit.is_empty();
-    let first = gap(has_percent, has_unit);
-    let second = gap(has_percent || has_unit, !rate.is_empty());
     text_with_room(
         alloc,
         ROOM,
-        format_args!("{percent}{first}{unit}{second}{rate}"),
+        Units {
+            units1,
+            base,
+            modifier,
+        },
     )
 }

@@ -3,7 +3,7 @@ use Rattle.std.proofs.Math.Seq.{drop-cons}
 use Rattle.std.proofs.lemmas.Grind.{common_steps}
 use Rattle.ipmi_text.specs.FieldText.{latin1_character, latin1_text}
 use Rattle.ipmi_text.proofs.FieldLemmas.{latin1_step}
-use Rattle.ipmi_text.proofs.field_text.latin1_text.Goals as goal
+use Rattle.ipmi_text.proofs.field_text.push_latin1_text.Goals as goal
 
 pub loop-byte-preserved : goal.loop-byte-preserved
 loop-byte-preserved c =
