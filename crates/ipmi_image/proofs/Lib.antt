@@ -5,6 +5,7 @@ pub mod ParseLemmas
 pub mod ReadLemmas
 pub mod RespondLemmas
 pub mod RewriteLemmas
+pub mod RowsLemmas
 pub mod SavedLemmas
 pub mod ScriptLemmas
 pub mod ShelfLemmas

@@ -7,7 +7,7 @@ use Rattle.ipmi_bus.specs.declared.controller.Shelf.TheVariants.{Sdr, Sel}
 use Rattle.ipmi_image.specs.declared.line.LineFault.{LineFault}
 use Rattle.ipmi_image.specs.declared.image.ImageFault.{ImageFault}
 use Rattle.ipmi_image.specs.declared.image.ImageFault.TheVariants as image_fault
-use Rattle.ipmi_image.specs.declared.image.Contents.{Contents}
+use Rattle.ipmi_image.specs.declared.contents.Contents.{Contents}
 use Rattle.ipmi_image.specs.Text.{pieces}
 use Rattle.ipmi_image.specs.Line.{SavedRow, Line, a_row, an_inventory, a_reading, an_info, the_end, line_of}
 use Rattle.ipmi_image.specs.Image.{chained, rows_on, store_of_lines, fault_in, unless_fault, line_behind, at_line, is_end, ends_here, store_behind, dashes_in, store_of_pieces, store_of_image}

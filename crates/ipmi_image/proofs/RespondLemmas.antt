@@ -1,57 +1,60 @@
 -- The row that an id asks for.
-use Rattle.std.proofs.Common.{◌≡◌, ℕ, ◌<◌, Bool, true, false, cond, nat_eq, None, Some, List, [], ◌∷◌, length, map, refl, sym, ap, ◌∙◌, arith}
+use Rattle.std.proofs.Common.{◌≡◌, ℕ, ◌<◌, Bool, true, false, cond, nat_eq, None, Some, List, [], ◌∷◌, length, refl, sym, ap, ◌∙◌, arith}
 use Rattle.std.specs.List.{slice_get}
 use Rattle.std.proofs.lemmas.Option.{none-some, same_Some}
+use Rattle.std.proofs.lemmas.List.{length-drop}
 use Rattle.ipmi_bus.specs.declared.controller.Shelf.{Shelf}
 use Rattle.ipmi_bus.specs.declared.controller.Shelf.TheVariants.{Sdr, Sel}
 use Rattle.ipmi_bus.specs.Seen.{current}
 use Rattle.ipmi_bus.specs.Shelf.{look, first_row, row_with_id}
 use Rattle.ipmi_image.specs.declared.responder.Responder.{Responder}
-use Rattle.ipmi_image.specs.declared.stored.StoredRow.{StoredRow}
+use Rattle.ipmi_image.specs.Line.{SavedRow}
 use Rattle.ipmi_image.specs.Table.{place_of}
 use Rattle.ipmi_image.specs.Image.{chained}
-use Rattle.ipmi_image.specs.Stored.{row_of}
+use Rattle.ipmi_image.specs.Rows.{id_of}
 use Rattle.ipmi_image.specs.Responder.{first_place, place_asked, of_shelf, seen_as}
+use Rattle.ipmi_image.proofs.RowsLemmas.{drop_past}
 use Rattle.ipmi_image.proofs.TableLemmas.{row_at, row_found, row_missing, place_below}
 
-abbrev key : StoredRow → ℕ
-key row = row.id
-
-pub asked_none : (rows : List StoredRow) (id : ℕ) → place_asked id rows ≡ None → look (chained (map row_of rows)) id ≡ None
+pub asked_none : (rows : List SavedRow) (id : ℕ) → place_asked id rows ≡ None → look (chained rows) id ≡ None
 asked_none rows id none = by (nat_eq id 0) none
   where
-    first : (rows : List StoredRow) → first_place rows ≡ None → first_row (chained (map row_of rows)) ≡ None
+    first : (rows : List SavedRow) → first_place rows ≡ None → first_row (chained rows) ≡ None
     first [] e = refl
     first (row ∷ rows) e = absurd (none-some 0 (sym e))
 
-    by : (b : Bool) → cond b (first_place rows) (place_of key id rows) ≡ None → cond b (first_row (chained (map row_of rows))) (row_with_id id (chained (map row_of rows))) ≡ None
+    by : (b : Bool) → cond b (first_place rows) (place_of id_of id rows) ≡ None → cond b (first_row (chained rows)) (row_with_id id (chained rows)) ≡ None
     by true e = first rows e
     by false e = row_missing rows id e
 
-pub asked_below : (rows : List StoredRow) (id place : ℕ) → place_asked id rows ≡ Some place → place < length rows
+asked_below : (rows : List SavedRow) (id place : ℕ) → place_asked id rows ≡ Some place → place < length rows
 asked_below rows id place at = by (nat_eq id 0) at
   where
-    first : (rows : List StoredRow) → first_place rows ≡ Some place → place < length rows
+    first : (rows : List SavedRow) → first_place rows ≡ Some place → place < length rows
     first [] e = absurd (none-some place e)
     first (row ∷ rows) e = let is = same_Some 0 place e in omega (arith, is)
 
-    by : (b : Bool) → cond b (first_place rows) (place_of key id rows) ≡ Some place → place < length rows
+    by : (b : Bool) → cond b (first_place rows) (place_of id_of id rows) ≡ Some place → place < length rows
     by true e = first rows e
-    by false e = place_below key id rows place e
+    by false e = place_below id_of id rows place e
 
-pub asked_found : (rows : List StoredRow) (id place : ℕ) (row : StoredRow) → place_asked id rows ≡ Some place → slice_get rows place ≡ Some row → look (chained (map row_of rows)) id ≡ Some (row_at rows place row)
+pub asked_found : (rows : List SavedRow) (id place : ℕ) (row : SavedRow) → place_asked id rows ≡ Some place → slice_get rows place ≡ Some row → look (chained rows) id ≡ Some (row_at rows place row)
 asked_found rows id place row at is = by (nat_eq id 0) at
   where
-    first : (rows : List StoredRow) → first_place rows ≡ Some place → slice_get rows place ≡ Some row → first_row (chained (map row_of rows)) ≡ Some (row_at rows place row)
+    first : (rows : List SavedRow) → first_place rows ≡ Some place → slice_get rows place ≡ Some row → first_row (chained rows) ≡ Some (row_at rows place row)
     first [] e s = absurd (none-some place e)
     first (r ∷ rows) e s =
         let zero_is : 0 ≡ place = same_Some 0 place e in
         let h : slice_get (r ∷ rows) 0 ≡ Some row = ap (slice_get (r ∷ rows)) zero_is ∙ s in
-        ap (λ (x : StoredRow). Some (row_at (r ∷ rows) 0 x)) (same_Some r row h) ∙ ap (λ (n : ℕ). Some (row_at (r ∷ rows) n row)) zero_is
+        ap (λ (x : SavedRow). Some (row_at (r ∷ rows) 0 x)) (same_Some r row h) ∙ ap (λ (n : ℕ). Some (row_at (r ∷ rows) n row)) zero_is
 
-    by : (b : Bool) → cond b (first_place rows) (place_of key id rows) ≡ Some place → cond b (first_row (chained (map row_of rows))) (row_with_id id (chained (map row_of rows))) ≡ Some (row_at rows place row)
+    by : (b : Bool) → cond b (first_place rows) (place_of id_of id rows) ≡ Some place → cond b (first_row (chained rows)) (row_with_id id (chained rows)) ≡ Some (row_at rows place row)
     by true e = first rows e is
     by false e = row_found rows id place row e is
+
+-- a place that is asked for is one of the list
+pub asked_there : (rows : List SavedRow) (id place : ℕ) → place_asked id rows ≡ Some place → slice_get rows place ≡ None → ⊥
+asked_there rows id place at past = let lt = asked_below rows id place at in let len = ap length (drop_past rows place past) in let is = length-drop place rows in omega (arith, lt, len, is)
 
 pub current_is : (shelf : Shelf) (plain : Bool) (r : Responder) → current shelf (seen_as plain r) ≡ of_shelf shelf r.sdr_reservation r.sel_reservation
 current_is Sdr plain r = refl

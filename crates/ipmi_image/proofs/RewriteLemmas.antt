@@ -1,13 +1,16 @@
 -- Texts put together piece by piece.
-use Rattle.std.proofs.Common.{◌≡◌, ℕ, zero, suc, ◌+◌, ◌/◌, ◌≤◌, ◌<◌, Result, Ok, Err, List, [], ◌∷◌, ◌++◌, length, take, drop, get_or, map, refl, sym, ap, ◌∙◌, append_assoc, arith, codes}
+use Rattle.std.proofs.Common.{◌≡◌, ℕ, zero, suc, ◌+◌, ◌/◌, ◌≤◌, ◌<◌, Result, Ok, Err, List, [], ◌∷◌, ◌++◌, length, take, drop, get_or, map, refl, sym, ap, ◌∙◌, append_assoc, append-nil, Some, None, arith, codes}
 use Rattle.std.specs.Result.{OnOk}
-use Rattle.std.specs.List.{flat_map}
+use Rattle.std.specs.List.{flat_map, slice_get}
 use Rattle.std.proofs.lemmas.List.{length-drop, drop_more}
 use Rattle.hex.specs.Hex.{encode_with}
 use Rattle.ipmi_bus.specs.Store.{Store}
 use Rattle.ipmi_image.specs.declared.stored.StoredInventory.{StoredInventory}
+use Rattle.ipmi_image.specs.Line.{SavedRow}
+use Rattle.ipmi_image.specs.Image.{chained, first_id, row_before}
 use Rattle.ipmi_image.specs.Table.{inventory_of}
-use Rattle.ipmi_image.specs.Rewritten.{hex_of, first_parts, parts_of, part_fields, inventory_lines, line_text, lines_text, lines_of, image_text_of}
+use Rattle.ipmi_image.specs.Rewritten.{hex_of, first_parts, parts_of, part_fields, first_row_id, row_fields, rows_lines, inventory_lines, line_text, lines_text, lines_of, image_text_of}
+use Rattle.ipmi_image.proofs.RowsLemmas.{drop_found, drop_past}
 
 pub on_ok : {A E : Type 0} (r : Result A E) {P Q : Type 0} → OnOk r P → (P → Q) → OnOk r Q
 on_ok (Ok x) p f = f p
@@ -53,6 +56,24 @@ inventory_put self new target items place item lt is next was =
     ∙ ap (λ (l : List ℕ). self ++ l) (sym (lines_text-append (inventory_lines (inventory_of item)) rest))
     ∙ ap (λ (l : List StoredInventory). self ++ lines_text (flat_map inventory_lines (map inventory_of l))) (sym (drop_more items place item lt ∙ ap (λ (x : StoredInventory). x ∷ drop (place + 1) items) (sym is)))
     ∙ was
+
+first_chained : (rows : List SavedRow) → first_row_id (chained rows) ≡ first_id rows
+first_chained [] = refl
+first_chained (row ∷ rows) = refl
+
+pub row_put : (self new target word : List ℕ) (rows : List SavedRow) (place : ℕ) (row : SavedRow) → slice_get rows place ≡ Some row
+    → new ≡ self ++ line_text (row_fields word (first_id (drop (place + 1) rows)) (row_before (drop (place + 1) rows) row))
+    → self ++ lines_text (rows_lines word (chained (drop place rows))) ≡ target → new ++ lines_text (rows_lines word (chained (drop (place + 1) rows))) ≡ target
+row_put self new target word rows place row at next was =
+    let rest = drop (place + 1) rows in
+    let line = row_before rest row in
+    ap (λ (l : List ℕ). l ++ lines_text (rows_lines word (chained rest))) (next ∙ ap (λ (n : ℕ). self ++ line_text (row_fields word n line)) (sym (first_chained rest)))
+    ∙ append_assoc self (line_text (row_fields word (first_row_id (chained rest)) line)) (lines_text (rows_lines word (chained rest)))
+    ∙ ap (λ (l : List SavedRow). self ++ lines_text (rows_lines word (chained l))) (sym (drop_found rows place row at))
+    ∙ was
+
+pub rows_done : (self target word : List ℕ) (rows : List SavedRow) (place : ℕ) → slice_get rows place ≡ None → self ++ lines_text (rows_lines word (chained (drop place rows))) ≡ target → self ≡ target
+rows_done self target word rows place past was = sym (append-nil self) ∙ ap (λ (l : List SavedRow). self ++ lines_text (rows_lines word (chained l))) (sym (drop_past rows place past)) ∙ was
 
 abbrev Lines : Type 0
 Lines = List (List (List ℕ))

@@ -9,7 +9,7 @@ use Rattle.ipmi_image.specs.declared.line.LineFault.{LineFault}
 use Rattle.ipmi_image.specs.declared.line.LineFault.TheVariants as fault
 use Rattle.std.proofs.lemmas.Bool.{eqb-false, eq-eqb, true≢false}
 use Rattle.std.proofs.lemmas.Bool.Decides.{nat_tests}
-use Rattle.std.proofs.lemmas.List.{length-append}
+use Rattle.std.proofs.lemmas.List.{get_or_default, length-append}
 use Rattle.std.proofs.lemmas.List.Quantifiers.{all_pairs_push}
 use Rattle.std.proofs.lemmas.List.Elements.{All-cons, All-append, filter_map-append}
 use Rattle.std.proofs.lemmas.List.Sums.{fold-append}
@@ -17,14 +17,13 @@ use Rattle.ipmi_bus.specs.declared.controller.Shelf.{Shelf}
 use Rattle.ipmi_bus.specs.declared.controller.Shelf.TheVariants.{Sdr, Sel}
 use Rattle.ipmi_text.specs.Bytes.{AreBytes}
 use Rattle.ipmi_bus.specs.Store.{Inventory, SensorReading, IsInventory, IsSensorReading, OtherSensor, inventory_in, reading_in}
-use Rattle.ipmi_image.specs.declared.image.Contents.{Contents}
-use Rattle.ipmi_image.specs.declared.stored.StoredRow.{StoredRow}
+use Rattle.ipmi_image.specs.declared.contents.Contents.{Contents}
 use Rattle.ipmi_image.specs.declared.stored.StoredInventory.{StoredInventory}
 use Rattle.ipmi_image.specs.declared.stored.StoredSensor.{StoredSensor}
 use Rattle.ipmi_image.specs.Line.{SavedRow, Line, a_row, an_inventory, a_reading, an_info, the_end}
 use Rattle.ipmi_image.specs.Table.{place_of, inventory_of, longer_at}
 use Rattle.ipmi_image.specs.Image.{row_on, rows_on, chained, with_bytes, with_inventory_line, inventories_of, reading_of_bytes, sensor_on, info_on, first_of, store_of_lines, row_fault, inventory_fault, reading_fault, info_fault, fault_in}
-use Rattle.ipmi_image.specs.Stored.{row_of, sensor_of, HoldsLines, IsPut, AreInventories, AreReadings}
+use Rattle.ipmi_image.specs.Stored.{sensor_of, HoldsLines, IsPut, AreInventories, AreReadings}
 
 -- ---- inventories
 
@@ -69,10 +68,10 @@ module _ (before : List Line) (line : Line) where
 -- ---- each kind of line
 
 module _ (old : Contents) (before : List Line) (holds : HoldsLines old before) where
-  pub sdr-fault : (row : SavedRow) → fault_in (store_of_lines before) (a_row Sdr row) ≡ row_fault Sdr (chained (map row_of old.sdr)) row
+  pub sdr-fault : (row : SavedRow) → fault_in (store_of_lines before) (a_row Sdr row) ≡ row_fault Sdr (chained old.sdr) row
   sdr-fault row = ap (λ (l : List SavedRow). row_fault Sdr (chained l) row) (sym holds.sdr)
 
-  pub sel-fault : (row : SavedRow) → fault_in (store_of_lines before) (a_row Sel row) ≡ row_fault Sel (chained (map row_of old.sel)) row
+  pub sel-fault : (row : SavedRow) → fault_in (store_of_lines before) (a_row Sel row) ≡ row_fault Sel (chained old.sel) row
   sel-fault row = ap (λ (l : List SavedRow). row_fault Sel (chained l) row) (sym holds.sel)
 
   pub bytes-fault : (id : ℕ) (bytes : List ℕ) → fault_in (store_of_lines before) (an_inventory id bytes) ≡ inventory_fault id (inventory_in (map inventory_of old.inventories) id) bytes
@@ -87,7 +86,7 @@ module _ (old : Contents) (before : List Line) (holds : HoldsLines old before) w
   pub sel_info-fault : (bytes : List ℕ) → fault_in (store_of_lines before) (an_info Sel bytes) ≡ info_fault old.sel_info bytes
   sel_info-fault bytes = ap (λ (o : Option (List ℕ)). info_fault o bytes) (sym holds.sel_info)
 
-  pub sdr-put : (row : SavedRow) (sdr : List StoredRow) → map row_of sdr ≡ map row_of old.sdr ++ row ∷ [] → HoldsLines (record old { sdr = sdr }) (before ++ a_row Sdr row ∷ [])
+  pub sdr-put : (row : SavedRow) (sdr : List SavedRow) → sdr ≡ old.sdr ++ row ∷ [] → HoldsLines (record old { sdr = sdr }) (before ++ a_row Sdr row ∷ [])
   sdr-put row sdr is = let line = a_row Sdr row in record {
     sdr = is ∙ ap (λ (l : List SavedRow). l ++ row ∷ []) holds.sdr ∙ sym (filter_map-append (row_on Sdr) before (line ∷ []));
     sel = holds.sel ∙ sym (rows-same before line Sel refl);
@@ -97,7 +96,7 @@ module _ (old : Contents) (before : List Line) (holds : HoldsLines old before) w
     sel_info = holds.sel_info ∙ ap first_of (sym (infos-same before line Sel refl));
   }
 
-  pub sel-put : (row : SavedRow) (sel : List StoredRow) → map row_of sel ≡ map row_of old.sel ++ row ∷ [] → HoldsLines (record old { sel = sel }) (before ++ a_row Sel row ∷ [])
+  pub sel-put : (row : SavedRow) (sel : List SavedRow) → sel ≡ old.sel ++ row ∷ [] → HoldsLines (record old { sel = sel }) (before ++ a_row Sel row ∷ [])
   sel-put row sel is = let line = a_row Sel row in record {
     sdr = holds.sdr ∙ sym (rows-same before line Sdr refl);
     sel = is ∙ ap (λ (l : List SavedRow). l ++ row ∷ []) holds.sel ∙ sym (filter_map-append (row_on Sel) before (line ∷ []));
@@ -252,6 +251,9 @@ AreReadings-new readings new none is are = record {
 pub info_fine : (already : Option (List ℕ)) (bytes : List ℕ) → info_fault already bytes ≡ None → already ≡ None
 info_fine None bytes fine = refl
 info_fine (Some x) bytes fine = absurd (none-some _ (sym fine))
+
+pub are_bytes : (bytes : List ℕ) → ((k : ℕ) → get_or bytes k 0 < 256) → AreBytes bytes
+are_bytes bytes below k d lt = subst (λ (n : ℕ). n < 256) (get_or_default bytes k 0 d lt) (below k)
 
 pub put_is : (new : Contents) (before : List Line) (line : Line) (f : Option LineFault) (P : Type 0) (r : Result (Unit {0}) LineFault) → fault_in (store_of_lines before) line ≡ f
     → OnOk r ((f ≡ None) × P) → ((f ≡ None) → P → HoldsLines new (before ++ line ∷ [])) → IfErr r (λ e. (e ≡ fault.Memory) ⊎ (f ≡ Some e)) → IsPut new before line r

@@ -7,19 +7,21 @@ use Rattle.std.specs.Ordering.{is_eq, nat_cmp}
 use Rattle.std.proofs.lemmas.Option.{none-some, same_Some, slice_get-get_or}
 use Rattle.std.proofs.lemmas.Cmp.{nat_eq_equiv}
 use Rattle.std.proofs.lemmas.List.{length-map, map-append}
-use Rattle.std.proofs.lemmas.Map.Keys.{IsDistinct-push}
+use Rattle.std.proofs.Math.ListN.{get_or-map}
+use Rattle.std.proofs.lemmas.Map.Keys.{IsDistinct-push, IsDistinct-tail, apart_from_distinct}
 use Rattle.std.proofs.lemmas.Map.Steps.{length-le_from_distinct_below}
 use Rattle.std.proofs.lemmas.Bool.{eqb-true, eqb-false, eq-eqb, ne_eqb}
 use Rattle.std.proofs.lemmas.Bool.Decides.{nat_tests}
 use Rattle.ipmi_bus.specs.Shelf.{Row, row_with_id}
 use Rattle.ipmi_bus.specs.Store.{Inventory, IsSensorReading, inventory_in, reading_in}
 use Rattle.ipmi_bus.specs.Walk.{has_id}
-use Rattle.ipmi_image.specs.declared.stored.StoredRow.{StoredRow}
+use Rattle.ipmi_image.specs.Line.{SavedRow}
 use Rattle.ipmi_image.specs.declared.stored.StoredInventory.{StoredInventory}
 use Rattle.ipmi_image.specs.declared.stored.StoredSensor.{StoredSensor}
+use Rattle.ipmi_image.specs.Rows.{id_of}
 use Rattle.ipmi_image.specs.Table.{place_of, IsIndex, sensor_key, inventory_of, longer_at}
 use Rattle.ipmi_image.specs.Image.{chained, row_before, is_empty, with_bytes}
-use Rattle.ipmi_image.specs.Stored.{row_of, sensor_of}
+use Rattle.ipmi_image.specs.Stored.{sensor_of}
 
 eqb_comm : (a b : ℕ) → nat_eq a b ≡ nat_eq b a
 eqb_comm a b = grind (arith, nat_tests)
@@ -63,51 +65,51 @@ is_some-place_of {T} key q (x ∷ xs) = by (nat_eq (key x) q) (place_of key q xs
 
 -- ---- rows
 
-pub has_id_place : (rows : List StoredRow) (id : ℕ) → has_id (chained (map row_of rows)) id ≡ is_some (place_of (λ (row : StoredRow). row.id) id rows)
+pub has_id_place : (rows : List SavedRow) (id : ℕ) → has_id (chained rows) id ≡ is_some (place_of id_of id rows)
 has_id_place [] id = refl
-has_id_place (row ∷ rows) id = ap (λ (b : Bool). b || has_id (chained (map row_of rows)) id) (eqb_comm id row.id) ∙ by (nat_eq row.id id) (place_of (λ (r : StoredRow). r.id) id rows) (has_id_place rows id)
+has_id_place (row ∷ rows) id = ap (λ (b : Bool). b || has_id (chained rows) id) (eqb_comm id row.id) ∙ by (nat_eq row.id id) (place_of id_of id rows) (has_id_place rows id)
   where
-    by : (b : Bool) (o : Option ℕ) → has_id (chained (map row_of rows)) id ≡ is_some o → (b || has_id (chained (map row_of rows)) id) ≡ is_some (cond b (Some 0) (option_map (λ p. p + 1) o))
+    by : (b : Bool) (o : Option ℕ) → has_id (chained rows) id ≡ is_some o → (b || has_id (chained rows) id) ≡ is_some (cond b (Some 0) (option_map (λ p. p + 1) o))
     by true o e = refl
     by false None e = e
     by false (Some p) e = e
 
-pub is_empty_chained : (rows : List StoredRow) → is_empty (chained (map row_of rows)) ≡ nat_eq (length rows) 0
+pub is_empty_chained : (rows : List SavedRow) → is_empty (chained rows) ≡ nat_eq (length rows) 0
 is_empty_chained [] = refl
 is_empty_chained (row ∷ rows) = sym (ne_eqb (suc (length rows)) 0 (λ e. absurd (omega (arith, e))))
 
 -- the row at a place, with the next id that it has there
-abbrev pub row_at : List StoredRow → ℕ → StoredRow → Row
-row_at rows place row = row_before (map row_of (drop (place + 1) rows)) (row_of row)
+abbrev pub row_at : List SavedRow → ℕ → SavedRow → Row
+row_at rows place row = row_before (drop (place + 1) rows) row
 
-abbrev FoundAt : List StoredRow → ℕ → StoredRow → Type 0
-FoundAt rows id row = (p : ℕ) → place_of (λ (s : StoredRow). s.id) id rows ≡ Some p → slice_get rows p ≡ Some row → row_with_id id (chained (map row_of rows)) ≡ Some (row_at rows p row)
+abbrev FoundAt : List SavedRow → ℕ → SavedRow → Type 0
+FoundAt rows id row = (p : ℕ) → place_of id_of id rows ≡ Some p → slice_get rows p ≡ Some row → row_with_id id (chained rows) ≡ Some (row_at rows p row)
 
-pub row_found : (rows : List StoredRow) (id place : ℕ) (row : StoredRow) → place_of (λ (r : StoredRow). r.id) id rows ≡ Some place → slice_get rows place ≡ Some row → row_with_id id (chained (map row_of rows)) ≡ Some (row_at rows place row)
+pub row_found : (rows : List SavedRow) (id place : ℕ) (row : SavedRow) → place_of id_of id rows ≡ Some place → slice_get rows place ≡ Some row → row_with_id id (chained rows) ≡ Some (row_at rows place row)
 row_found [] id place row at is = absurd (none-some place at)
-row_found (r ∷ rows) id place row at is = by (λ p found h. row_found rows id p row found h) (nat_eq r.id id) (place_of (λ (s : StoredRow). s.id) id rows) refl at
+row_found (r ∷ rows) id place row at is = by (λ p found h. row_found rows id p row found h) (nat_eq r.id id) (place_of id_of id rows) refl at
   where
-    first : (k : ℕ) → 0 ≡ k → slice_get (r ∷ rows) k ≡ Some row → Some (row_before (map row_of rows) (row_of r)) ≡ Some (row_at (r ∷ rows) k row)
+    first : (k : ℕ) → 0 ≡ k → slice_get (r ∷ rows) k ≡ Some row → Some (row_before rows r) ≡ Some (row_at (r ∷ rows) k row)
     first k e s =
         let h : slice_get (r ∷ rows) 0 ≡ Some row = ap (slice_get (r ∷ rows)) e ∙ s in
-        ap (λ (x : StoredRow). Some (row_before (map row_of rows) (row_of x))) (same_Some r row h) ∙ ap (λ (n : ℕ). Some (row_at (r ∷ rows) n row)) e
+        ap (λ (x : SavedRow). Some (row_before rows x)) (same_Some r row h) ∙ ap (λ (n : ℕ). Some (row_at (r ∷ rows) n row)) e
 
-    later : FoundAt rows id row → (p k : ℕ) → p + 1 ≡ k → slice_get (r ∷ rows) k ≡ Some row → place_of (λ (s : StoredRow). s.id) id rows ≡ Some p → row_with_id id (chained (map row_of rows)) ≡ Some (row_at (r ∷ rows) k row)
+    later : FoundAt rows id row → (p k : ℕ) → p + 1 ≡ k → slice_get (r ∷ rows) k ≡ Some row → place_of id_of id rows ≡ Some p → row_with_id id (chained rows) ≡ Some (row_at (r ∷ rows) k row)
     later ih p k e s found =
         let k_is : suc p ≡ k = sym (add-one p) ∙ e in
         let h : slice_get rows p ≡ Some row = ap (slice_get (r ∷ rows)) k_is ∙ s in
-        ih p found h ∙ ap (λ (n : ℕ). Some (row_before (map row_of (drop n rows)) (row_of row))) e ∙ ap (λ (n : ℕ). Some (row_before (map row_of (drop n (r ∷ rows))) (row_of row))) (sym (add-one k))
+        ih p found h ∙ ap (λ (n : ℕ). Some (row_before (drop n rows) row)) e ∙ ap (λ (n : ℕ). Some (row_before (drop n (r ∷ rows)) row)) (sym (add-one k))
 
-    by : FoundAt rows id row → (b : Bool) (o : Option ℕ) → place_of (λ (s : StoredRow). s.id) id rows ≡ o → cond b (Some 0) (option_map (λ p. p + 1) o) ≡ Some place → cond b (Some (row_before (map row_of rows) (row_of r))) (row_with_id id (chained (map row_of rows))) ≡ Some (row_at (r ∷ rows) place row)
+    by : FoundAt rows id row → (b : Bool) (o : Option ℕ) → place_of id_of id rows ≡ o → cond b (Some 0) (option_map (λ p. p + 1) o) ≡ Some place → cond b (Some (row_before rows r)) (row_with_id id (chained rows)) ≡ Some (row_at (r ∷ rows) place row)
     by ih true o e f = first place (same_Some 0 place f) is
     by ih false None e f = absurd (none-some place f)
     by ih false (Some p) e f = later ih p place (same_Some (p + 1) place f) is e
 
-pub row_missing : (rows : List StoredRow) (id : ℕ) → place_of (λ (row : StoredRow). row.id) id rows ≡ None → row_with_id id (chained (map row_of rows)) ≡ None
+pub row_missing : (rows : List SavedRow) (id : ℕ) → place_of id_of id rows ≡ None → row_with_id id (chained rows) ≡ None
 row_missing [] id at = refl
-row_missing (r ∷ rows) id at = by (λ e. row_missing rows id e) (nat_eq r.id id) (place_of (λ (s : StoredRow). s.id) id rows) refl at
+row_missing (r ∷ rows) id at = by (λ e. row_missing rows id e) (nat_eq r.id id) (place_of id_of id rows) refl at
   where
-    by : (place_of (λ (s : StoredRow). s.id) id rows ≡ None → row_with_id id (chained (map row_of rows)) ≡ None) → (b : Bool) (o : Option ℕ) → place_of (λ (s : StoredRow). s.id) id rows ≡ o → cond b (Some 0) (option_map (λ p. p + 1) o) ≡ None → cond b (Some (row_before (map row_of rows) (row_of r))) (row_with_id id (chained (map row_of rows))) ≡ None
+    by : (place_of id_of id rows ≡ None → row_with_id id (chained rows) ≡ None) → (b : Bool) (o : Option ℕ) → place_of id_of id rows ≡ o → cond b (Some 0) (option_map (λ p. p + 1) o) ≡ None → cond b (Some (row_before rows r)) (row_with_id id (chained rows)) ≡ None
     by ih true o e f = absurd (none-some 0 (sym f))
     by ih false None e f = ih e
     by ih false (Some p) e f = absurd (none-some (p + 1) (sym f))
@@ -186,6 +188,18 @@ any_key key q (x ∷ xs) = ap (λ (b : Bool). b || list_any (nat_eq q) (map key 
     by false None e = e
     by false (Some p) e = e
 
+-- where no two keys are equal, an item with the key is found at its place
+pub place_at : {T : Type 0} (key : T → ℕ) (q : ℕ) (items : List T) (place : ℕ) (d : T) → IsDistinct nat_eq (map key items) → place < length items → key (get_or items place d) ≡ q → place_of key q items ≡ Some place
+place_at key q [] place d distinct lt is = absurd (omega (arith, lt))
+place_at key q (x ∷ xs) zero d distinct lt is = ap (λ (b : Bool). cond b (Some 0) (option_map (λ p. p + 1) (place_of key q xs))) (eq-eqb _ _ is)
+place_at key q (x ∷ xs) (suc place) d distinct lt is =
+    let below : suc place < length (map key (x ∷ xs)) = let len = length-map xs key in omega (arith, lt, len) in
+    let apart : nat_eq (key x) (get_or (map key xs) place (key d)) ≡ false = apart_from_distinct nat_eq (map key (x ∷ xs)) 0 (suc place) (key d) distinct (omega arith) below in
+    let other : nat_eq (key x) q ≡ false = ap (nat_eq (key x)) (sym is ∙ sym (get_or-map key xs place d)) ∙ apart in
+    ap (λ (o : Option ℕ). cond (nat_eq (key x) q) (Some 0) (option_map (λ p. p + 1) o)) (place_at key q xs place d (IsDistinct-tail nat_eq (key x) (map key xs) distinct) (omega (arith, lt)) is)
+    ∙ ap (λ (b : Bool). cond b (Some 0) (Some (place + 1))) other
+    ∙ ap Some (add-one place)
+
 -- keys below FFFFh with no two equal are at most FFFFh
 pub index_len : {T : Type 0} (key : T → ℕ) (items : List T) (places : ℕ → Option ℕ) → IsIndex key items places → length items ≤ 65535
 index_len key items places index =
@@ -218,9 +232,9 @@ index_push key items item old new index lt absent puts = record {
     low q place false e None f is = absurd (none-some place is)
 
 -- what was put, where none had its key
-pub was_put : {P : Type 0} (is_new : Bool) (o : Option ℕ) → MatchBool is_new ((o ≡ None) × P) (is_some o ≡ true) → o ≡ None → P
-was_put true o m none = m.1
-was_put false o m none = cc
+pub was_put : {P : Type 0} (Q : Type 0) (is_new : Bool) (o : Option ℕ) → MatchBool is_new ((o ≡ None) × P) ((is_some o ≡ true) × Q) → o ≡ None → P
+was_put Q true o m none = m.1
+was_put Q false o m none = let there = m.0 in cc
 
 -- an item in another's place, with its key, is found where that was
 place_of-set : {T : Type 0} (key : T → ℕ) (q : ℕ) (items : List T) (place : ℕ) (item d : T) → key item ≡ key (get_or items place d) → place_of key q (set items place item) ≡ place_of key q items

@@ -112,15 +112,19 @@ after_turn (turn.Failed code) plain = Err code
 abbrev pub script_answer : {V : Type 0} → ℕ → Scripted → (ℕ → Result V Code) → Result V Code
 script_answer asked s plain = after_turn (next_turn asked (moods_left s)) plain
 
--- but for what it counts, the controller is as its next mood left it
+-- but for what it counts, and for the place where it looks first, the controller is as its next mood left it
 abbrev pub StaysAfterMood : Scripted → Scripted → Type 0
 StaysAfterMood old new = new.responder ≡
-    record (after_next (moods_left old) old.responder) { tally = new.responder.tally }
+    record (after_next (moods_left old) old.responder) {
+      near = new.responder.near;
+      tally = new.responder.tally;
+    }
 
 -- the same, with the reservation that was given
 abbrev pub ReservesAfterMood : Shelf → Result ℕ Code → Scripted → Scripted → Type 0
 ReservesAfterMood shelf (Ok number) old new = new.responder ≡
     record (with_reservation shelf number (after_next (moods_left old) old.responder)) {
+      near = new.responder.near;
       tally = new.responder.tally;
     }
 ReservesAfterMood shelf (Err code) old new = StaysAfterMood old new

@@ -3,6 +3,7 @@ pub mod Image
 pub mod Line
 pub mod Responder
 pub mod Rewritten
+pub mod Rows
 pub mod Stored
 pub mod Table
 pub mod Text

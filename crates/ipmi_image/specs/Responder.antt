@@ -10,19 +10,20 @@ use Rattle.ipmi_bus.specs.Seen.{Seen}
 use Rattle.ipmi_bus.specs.Answers.{Asked, IsPiece, not_present}
 use Rattle.ipmi_image.specs.declared.responder.FoundRow.{FoundRow}
 use Rattle.ipmi_image.specs.declared.responder.Responder.{Responder}
-use Rattle.ipmi_image.specs.declared.stored.StoredRow.{StoredRow}
+use Rattle.ipmi_image.specs.Line.{SavedRow}
 use Rattle.ipmi_image.specs.Table.{place_of}
+use Rattle.ipmi_image.specs.Rows.{id_of}
 
 abbrev pub row_found : FoundRow → Row
 row_found row = record { id = row.id; next = row.next; bytes = row.bytes.now }
 
-abbrev pub first_place : List StoredRow → Option ℕ
+abbrev pub first_place : List SavedRow → Option ℕ
 first_place [] = None
 first_place (row ∷ rows) = Some 0
 
 -- the place of the record that the id asks for: 0000h asks for the first
-abbrev pub place_asked : ℕ → List StoredRow → Option ℕ
-place_asked id rows = if id == 0 then first_place rows else place_of (λ row. row.id) id rows
+abbrev pub place_asked : ℕ → List SavedRow → Option ℕ
+place_asked id rows = if id == 0 then first_place rows else place_of id_of id rows
 
 -- how many bytes come: the least of what is asked for, of what may be given at most, and of what is
 -- left after the offset

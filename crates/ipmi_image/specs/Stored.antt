@@ -1,41 +1,37 @@
 -- What an image keeps, as contracts see it.
-use Rattle.std.specs.Prelude.{◌≡◌, ◌≢◌, ◌⊎◌, ◌++◌, ◌∷◌, [], Some, None, Result, Ok, Err, MatchResult, List, map, filter_map, All, AllPairs}
+use Rattle.std.specs.Prelude.{ℕ, ◌≡◌, ◌≢◌, ◌⊎◌, ◌++◌, ◌∷◌, [], Some, None, Result, Ok, Err, MatchResult, List, map, filter_map, All, AllPairs}
 use Rattle.ipmi_bus.specs.declared.controller.Shelf.TheVariants.{Sdr, Sel}
 use Rattle.ipmi_bus.specs.Store.{Store, Inventory, SensorReading, IsInventory, IsSensorReading, OtherSensor}
-use Rattle.ipmi_image.specs.declared.image.Contents.{Contents}
+use Rattle.ipmi_image.specs.declared.contents.Contents.{Contents}
 use Rattle.ipmi_image.specs.declared.line.Line.{Line as line}
 use Rattle.ipmi_image.specs.declared.line.Line.TheVariants as of
 use Rattle.ipmi_image.specs.declared.line.LineFault.{LineFault}
 use Rattle.ipmi_image.specs.declared.line.LineFault.TheVariants as fault
-use Rattle.ipmi_image.specs.declared.stored.StoredRow.{StoredRow}
 use Rattle.ipmi_image.specs.declared.stored.StoredSensor.{StoredSensor}
 use Rattle.ipmi_image.specs.Table.{inventory_of}
-use Rattle.ipmi_image.specs.Line.{SavedRow, Line, a_row, an_inventory, a_reading, an_info, the_end}
+use Rattle.ipmi_image.specs.Line.{Line, a_row, an_inventory, a_reading, an_info, the_end}
 use Rattle.ipmi_image.specs.Image.{chained, rows_on, inventories_of, sensor_on, info_on, first_of, store_of_lines, fault_in}
-
-abbrev pub row_of : StoredRow → SavedRow
-row_of row = record { id = row.id; next = row.next; bytes = row.bytes.items }
 
 abbrev pub sensor_of : StoredSensor → SensorReading
 sensor_of sensor = record { lun = sensor.lun; number = sensor.number; reading = sensor.reading }
 
--- what a line that was read says
-abbrev pub said : line → Line
-said (of.Row shelf id next bytes) = a_row shelf (record { id = id; next = next; bytes = bytes.items })
-said (of.Inventory id bytes) = an_inventory id bytes.items
-said (of.Reading lun number bytes) = a_reading lun number bytes.items
-said (of.Info shelf bytes) = an_info shelf bytes.items
-said of.End = the_end
+-- what a line that was read says of these bytes
+abbrev pub said : List ℕ → line → Line
+said bytes (of.Row shelf id next) = a_row shelf (record { id = id; next = next; bytes = bytes })
+said bytes (of.Inventory id) = an_inventory id bytes
+said bytes (of.Reading lun number) = a_reading lun number bytes
+said bytes (of.Info shelf) = an_info shelf bytes
+said bytes of.End = the_end
 
--- the line or its fault was found, or no memory was left for it
-abbrev pub IsRead : Result Line LineFault → Result line LineFault → Type 0
-IsRead wanted result = MatchResult result (λ l. wanted ≡ Ok (said l)) (λ e. (e ≡ fault.Memory) ⊎ (wanted ≡ Err e))
+-- the line with these bytes or its fault was found, or no memory was left for it
+abbrev pub IsRead : Result Line LineFault → List ℕ → Result line LineFault → Type 0
+IsRead wanted bytes result = MatchResult result (λ l. wanted ≡ Ok (said bytes l)) (λ e. (e ≡ fault.Memory) ⊎ (wanted ≡ Err e))
 
 -- what the contents of an image are
 abbrev pub store_of : Contents → Store
 store_of contents = record {
-  sdr = chained (map row_of contents.sdr);
-  sel = chained (map row_of contents.sel);
+  sdr = chained contents.sdr;
+  sel = chained contents.sel;
   inventories = map inventory_of contents.inventories;
   readings = map sensor_of contents.sensors;
   sdr_info = contents.sdr_info;
@@ -53,8 +49,8 @@ pub record AreReadings (readings : List SensorReading) : Type 0 where
 
 -- the contents are what these lines say
 pub record HoldsLines (contents : Contents) (lines : List Line) : Type 0 where
-  pub sdr : map row_of contents.sdr ≡ rows_on Sdr lines
-  pub sel : map row_of contents.sel ≡ rows_on Sel lines
+  pub sdr : contents.sdr ≡ rows_on Sdr lines
+  pub sel : contents.sel ≡ rows_on Sel lines
   pub inventories : map inventory_of contents.inventories ≡ inventories_of lines
   pub readings : map sensor_of contents.sensors ≡ filter_map sensor_on lines
   pub sdr_info : contents.sdr_info ≡ first_of (filter_map (info_on Sdr) lines)

@@ -1,20 +1,17 @@
 //! A saved image of a management controller, read from its text.
-ghost use Rattle.std.specs.Prelude.{◌≡◌, ◌⊎◌, ◌++◌, ◌∷◌, [], ◌≤◌, List, All, not, IsTrue, IfOk, IfErr, IfSome, OnOk, Ok, Err, Some, None, unwrap_or, is_some, length, vec_len, map};
+ghost use Rattle.std.specs.Prelude.{◌≡◌, ◌⊎◌, [], ◌≤◌, All, IfOk, IfErr, IfSome, Ok, Err, length};
 ghost use Rattle.std.specs.Option.{option_map};
-ghost use Rattle.ipmi_bus.specs.Shelf.{IsShelf};
-ghost use Rattle.ipmi_bus.specs.Walk.{has_id};
-ghost use Rattle.ipmi_bus.specs.Store.{IsStore, IsInfo, rows_of, inventory_of, inventory_in, reading_of, reading_in, info_of};
+ghost use Rattle.ipmi_bus.specs.Store.{IsStore, rows_of, inventory_of, reading_of, info_of};
 ghost use Rattle.ipmi_image.specs.Text.{pieces};
-ghost use Rattle.ipmi_image.specs.Line as lines;
-ghost use Rattle.ipmi_image.specs.Image.{chained, is_no_record, is_no_id, begins_with_another, first_fault, row_fault, inventory_fault, reading_fault, info_fault, reading_of_bytes, with_bytes, at_line, dashes_in, store_behind, store_of_image};
-ghost use Rattle.ipmi_image.specs.Table as table;
+ghost use Rattle.ipmi_image.specs.Image.{chained, at_line, dashes_in, store_behind, store_of_image};
 ghost use Rattle.ipmi_image.specs.Rewritten.{IsSaved};
-ghost use Rattle.ipmi_image.specs.Stored.{row_of, sensor_of, said, store_of, AreInventories, AreReadings, HoldsLines, IsPut};
+ghost use Rattle.ipmi_image.specs.Stored.{store_of};
 
-use crate::line::{Line, LineFault, read_line};
-use crate::stored::{StoredInventory, StoredRow, StoredSensor, Table, sensor_key};
+use crate::contents::Contents;
+use crate::line::{LineFault, read_line};
+use crate::rows::Rows;
+use crate::stored::sensor_key;
 use crate::text::cut;
-use byteorder::{ByteOrder, LittleEndian};
 use ipmi_bus::Shelf;
 use ipmi_text::Reading;
 use std::alloc::Global;
@@ -78,287 +75,6 @@ impl LineFault {
     }
 }
 
-/// What the lines so far say.
-#[derive(Drop)]
-pub(crate) struct Contents {
-    pub(crate) sdr: Table<StoredRow>,
-    pub(crate) sel: Table<StoredRow>,
-    pub(crate) inventories: Table<StoredInventory>,
-    pub(crate) sensors: Table<StoredSensor>,
-    pub(crate) sdr_info: Option<[u8; 14]>,
-    pub(crate) sel_info: Option<[u8; 14]>,
-}
-
-/// Whether the bytes are as many as a whole record of the shelf.
-fn is_whole(shelf: Shelf, bytes: &[u8]) -> bool
-    ensures whole { result ≡ not (is_no_record shelf bytes.now) }
-    ensures some { IsTrue result → 5 ≤ length bytes.now }
-{
-    let len = bytes.len();
-    match shelf {
-        Shelf::Sdr => len >= 5 && len == 5 + usize::from(bytes[4]) && len <= 256,
-        Shelf::Sel => len == 16,
-    }
-}
-
-/// Whether no record after these has this id.
-#[tactic(auto, using(crate::proofs::TableLemmas::is_empty_chained))]
-fn is_no_id(rows: &Table<StoredRow>, id: u16) -> bool
-    ensures { result ≡ is_no_id (chained (map row_of rows.now)) id }
-{
-    (id == 0 && !rows.as_slice().is_empty()) || id == 0xFFFF
-}
-
-/// Whether one of these has this id.
-#[tactic(auto, using(crate::proofs::TableLemmas::has_id_place))]
-fn has_id(rows: &Table<StoredRow>, id: u16) -> bool
-    ensures { result ≡ has_id (chained (map row_of rows.now)) id }
-{
-    rows.place(id).is_some()
-}
-
-/// Whether the record is the first, and its bytes begin with another id.
-#[tactic(auto, using(crate::proofs::TableLemmas::is_empty_chained))]
-fn begins_with_another(rows: &Table<StoredRow>, row: &StoredRow) -> bool
-    requires { 2 ≤ vec_len row.now.bytes }
-    ensures { result ≡ begins_with_another (chained (map row_of rows.now)) (row_of row.now) }
-{
-    rows.as_slice().is_empty() && LittleEndian::read_u16(&row.bytes) != row.id
-}
-
-/// Why the bytes may not be those of the record after these.
-fn bytes_fault(shelf: Shelf, rows: &Table<StoredRow>, row: &StoredRow) -> Option<LineFault>
-    ensures { result ≡ first_fault ((is_no_record shelf row.now.bytes.items, LineFault.Length) ∷
-        (begins_with_another (chained (map row_of rows.now)) (row_of row.now), LineFault.FirstId) ∷ []) }
-{
-    if !is_whole(shelf, &row.bytes) {
-        return Some(LineFault::Length);
-    }
-    if begins_with_another(rows, row) {
-        return Some(LineFault::FirstId);
-    }
-    None
-}
-
-/// Puts the record after these.
-fn put_row(
-    shelf: Shelf,
-    rows: &mut Table<StoredRow>,
-    id: u16,
-    next: Option<u16>,
-    bytes: Vec<u8>,
-) -> Result<(), LineFault>
-    requires { IsShelf shelf (chained (map row_of rows.old)) }
-    ensures keeps { OnOk result (IsShelf shelf (chained (map row_of rows.new))) }
-    ensures ok { OnOk result ((row_fault shelf (chained (map row_of rows.old))
-        (record { id = id; next = next; bytes = bytes.items }) ≡ None) ×
-        (map row_of rows.new ≡ map row_of rows.old ++ record
-        { id = id; next = next; bytes = bytes.items } ∷ [])) }
-    ensures err { IfErr result (λ e. (e ≡ LineFault.Memory) ⊎
-        (row_fault shelf (chained (map row_of rows.old))
-        (record { id = id; next = next; bytes = bytes.items }) ≡ Some e)) }
-{
-    if is_no_id(rows, id) {
-        return Err(LineFault::Id);
-    }
-    let row = StoredRow { id, next, bytes };
-    if let Some(fault) = bytes_fault(shelf, rows, &row) {
-        return Err(if has_id(rows, id) {
-            LineFault::Twice
-        } else {
-            fault
-        });
-    }
-    if rows.push(row)? {
-        Ok(())
-    } else {
-        Err(LineFault::Twice)
-    }
-}
-
-/// How many bytes the inventory has so far.
-fn inventory_len(inventories: &Table<StoredInventory>, id: u8) -> usize
-    ensures { result ≡ length (unwrap_or (inventory_in (map table.inventory_of inventories.now) id)
-        []) }
-{
-    match inventories.get(u16::from(id)) {
-        Some(inventory) => inventory.bytes.len(),
-        None => 0,
-    }
-}
-
-/// Why the bytes may not be those of the inventory, or more of it.
-fn inventory_fault(inventories: &Table<StoredInventory>, id: u8, bytes: &[u8]) -> Option<LineFault>
-    requires { AreInventories (map table.inventory_of inventories.now) }
-    ensures { result ≡ inventory_fault id (inventory_in (map table.inventory_of inventories.now) id)
-        bytes.now }
-{
-    if id == 0xFF {
-        return Some(LineFault::Id);
-    }
-    if inventory_len(inventories, id) + bytes.len() > 0xFFFF {
-        return Some(LineFault::TooMany);
-    }
-    None
-}
-
-/// Puts the bytes after those of their inventory.
-fn put_inventory(
-    inventories: &mut Table<StoredInventory>,
-    id: u8,
-    bytes: Vec<u8>,
-) -> Result<(), LineFault>
-    requires { AreInventories (map table.inventory_of inventories.old) }
-    ensures keeps { OnOk result (AreInventories (map table.inventory_of inventories.new)) }
-    ensures ok { OnOk result ((inventory_fault id (inventory_in
-        (map table.inventory_of inventories.old) id) bytes.items ≡ None) ×
-        (map table.inventory_of inventories.new ≡ with_bytes id bytes.items
-        (map table.inventory_of inventories.old))) }
-    ensures err { IfErr result (λ e. (e ≡ LineFault.Memory) ⊎
-        (inventory_fault id (inventory_in (map table.inventory_of inventories.old) id) bytes.items ≡
-        Some e)) }
-{
-    if let Some(fault) = inventory_fault(inventories, id, &bytes) {
-        return Err(fault);
-    }
-    match inventories.place(u16::from(id)) {
-        Some(place) => inventories.append(place, &bytes)?,
-        None => {
-            inventories.push(StoredInventory { id, bytes })?;
-        }
-    }
-    Ok(())
-}
-
-/// Whether the sensor has a reading already.
-fn has_reading(sensors: &Table<StoredSensor>, lun: u8, number: u8) -> bool
-    requires { AreReadings (map sensor_of sensors.now) }
-    ensures { result ≡ is_some (reading_in (map sensor_of sensors.now) lun number) }
-{
-    sensors.place(sensor_key(lun, number)).is_some()
-}
-
-/// Why the bytes may not be the reading of the sensor.
-fn reading_fault(
-    sensors: &Table<StoredSensor>,
-    lun: u8,
-    number: u8,
-    bytes: &[u8],
-) -> Option<LineFault>
-    requires { AreReadings (map sensor_of sensors.now) }
-    ensures { result ≡ reading_fault lun (reading_in (map sensor_of sensors.now) lun number)
-        bytes.now }
-{
-    if lun > 3 {
-        return Some(LineFault::Id);
-    }
-    if has_reading(sensors, lun, number) {
-        return Some(LineFault::Twice);
-    }
-    if bytes.len() != 4 {
-        return Some(LineFault::Length);
-    }
-    None
-}
-
-/// Puts the reading of a sensor after the others.
-fn put_reading(
-    sensors: &mut Table<StoredSensor>,
-    lun: u8,
-    number: u8,
-    bytes: &[u8],
-) -> Result<(), LineFault>
-    requires { AreReadings (map sensor_of sensors.old) }
-    ensures keeps { OnOk result (AreReadings (map sensor_of sensors.new)) }
-    ensures ok { OnOk result ((reading_fault lun (reading_in (map sensor_of sensors.old) lun number)
-        bytes.now ≡ None) × (map sensor_of sensors.new ≡ map sensor_of sensors.old ++ record
-        { lun = lun; number = number; reading = reading_of_bytes bytes.now } ∷ [])) }
-    ensures err { IfErr result (λ e. (e ≡ LineFault.Memory) ⊎
-        (reading_fault lun (reading_in (map sensor_of sensors.old) lun number) bytes.now
-        ≡ Some e)) }
-{
-    if let Some(fault) = reading_fault(sensors, lun, number, bytes) {
-        return Err(fault);
-    }
-    sensors.push(StoredSensor {
-        lun,
-        number,
-        reading: Reading {
-            raw: bytes[0],
-            flags: bytes[1],
-            status: bytes[2],
-            more: bytes[3],
-        },
-    })?;
-    Ok(())
-}
-
-/// Takes the info of a shelf.
-fn put_info(info: &mut Option<[u8; 14]>, bytes: &[u8]) -> Result<(), LineFault>
-    ensures keeps { OnOk result (IfSome info.new IsInfo) }
-    ensures ok { OnOk result ((info_fault info.old bytes.now ≡ None)
-        × (info.new ≡ Some bytes.now)) }
-    ensures err { IfErr result (λ e. info_fault info.old bytes.now ≡ Some e) }
-{
-    if info.is_some() {
-        return Err(LineFault::Twice);
-    }
-    if bytes.len() != 14 {
-        return Err(LineFault::Length);
-    }
-    let mut whole = [0; 14];
-    whole.copy_from_slice(bytes);
-    *info = Some(whole);
-    Ok(())
-}
-
-impl Contents {
-    /// Nothing yet.
-    fn new(alloc: Global) -> Contents
-        ensures empty { HoldsLines result [] }
-        ensures store { IsStore (store_of result) }
-    {
-        Contents {
-            sdr: Table::new(alloc),
-            sel: Table::new(alloc),
-            inventories: Table::new(alloc),
-            sensors: Table::new(alloc),
-            sdr_info: None,
-            sel_info: None,
-        }
-    }
-
-    /// Puts what a line says after what the lines before say.
-    fn put(&mut self, line: Line) -> Result<(), LineFault>
-        requires { IsStore (store_of self.old) }
-        ensures keeps { OnOk result (IsStore (store_of self.new)) }
-        ensures lines { (before : List lines.Line) → HoldsLines self.old before →
-            IsPut self.new before (said line) result }
-    {
-        match line {
-            Line::Row {
-                shelf: Shelf::Sdr,
-                id,
-                next,
-                bytes,
-            } => put_row(Shelf::Sdr, &mut self.sdr, id, next, bytes),
-            Line::Row {
-                shelf: Shelf::Sel,
-                id,
-                next,
-                bytes,
-            } => put_row(Shelf::Sel, &mut self.sel, id, next, bytes),
-            Line::Inventory(id, bytes) => put_inventory(&mut self.inventories, id, bytes),
-            Line::Reading { lun, number, bytes } => {
-                put_reading(&mut self.sensors, lun, number, &bytes)
-            }
-            Line::Info(Shelf::Sdr, bytes) => put_info(&mut self.sdr_info, &bytes),
-            Line::Info(Shelf::Sel, bytes) => put_info(&mut self.sel_info, &bytes),
-            Line::End => Ok(()),
-        }
-    }
-}
-
 /// Whether the image's rows may have a dash for their next id, as its first line says.
 fn read_version(line: &[u8]) -> Option<bool>
     ensures { result ≡ dashes_in line.now }
@@ -373,20 +89,21 @@ fn read_version(line: &[u8]) -> Option<bool>
 }
 
 /// What the lines after the first one say, up to `end`, the last one.
-fn read_lines(alloc: Global, dashes: bool, bytes: &[u8]) -> Result<Contents, ImageFault>
+fn read_lines(alloc: Global, dashes: bool, text: &[u8]) -> Result<Contents, ImageFault>
     ensures ok { IfOk result (λ contents. IsStore (store_of contents) ×
-        (store_behind dashes [] (pieces 10 bytes.now) ≡ Ok (store_of contents))) }
+        (store_behind dashes [] (pieces 10 text.now) ≡ Ok (store_of contents))) }
     ensures err { IfErr result (λ e. (e ≡ ImageFault.Memory) ⊎
-        (store_behind dashes [] (pieces 10 bytes.now) ≡ Err e)) }
+        (store_behind dashes [] (pieces 10 text.now) ≡ Err e)) }
 {
     let mut contents = Contents::new(alloc);
     let mut number = 2;
-    let mut rest = bytes;
+    let mut rest = text;
+    let mut bytes = Vec::new(alloc);
     'lines: loop {
-        let Some((text, after)) = cut(rest, b'\n') else {
+        let Some((line, after)) = cut(rest, b'\n') else {
             return Err(ImageFault::NoEnd);
         };
-        let line = match read_line(alloc, dashes, text) {
+        let line = match read_line(&mut bytes, dashes, line) {
             Ok(line) => line,
             Err(fault) => return Err(fault.at(number)),
         };
@@ -396,7 +113,7 @@ fn read_lines(alloc: Global, dashes: bool, bytes: &[u8]) -> Result<Contents, Ima
             }
             return Err(ImageFault::AfterEnd(number + 1));
         }
-        if let Err(fault) = contents.put(line) {
+        if let Err(fault) = contents.put(alloc, line, &bytes) {
             return Err(fault.at(number));
         }
         number += 1;
@@ -455,8 +172,8 @@ impl Image {
     }
 
     /// The records of the shelf, in their order.
-    pub(crate) fn rows(&self, shelf: Shelf) -> &Table<StoredRow>
-        ensures { chained (map row_of result.now) ≡ rows_of shelf self.now }
+    pub(crate) fn rows(&self, shelf: Shelf) -> &Rows
+        ensures { chained result.now ≡ rows_of shelf self.now }
     {
         match shelf {
             Shelf::Sdr => &self.contents.sdr,

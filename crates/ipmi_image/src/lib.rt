@@ -1,12 +1,14 @@
 //! Saved images of a management controller, and controllers that answer from one.
 #![tactic(auto)]
 
+mod contents;
 mod controller;
 mod image;
 pub mod laws;
 mod line;
 mod responder;
 mod rewrite;
+mod rows;
 mod scripted;
 mod stored;
 mod text;

@@ -1,5 +1,5 @@
 //! What one line of an image says.
-ghost use Rattle.std.specs.Prelude.{◌≡◌, ◌==◌, ◌&&◌, ◌||◌, ◌⊎◌, [], ◌∷◌, MatchOption, MatchResult, IsTrue, Some, None, Ok, Err, length};
+ghost use Rattle.std.specs.Prelude.{◌≡◌, ℕ, List, ◌==◌, ◌&&◌, ◌||◌, ◌⊎◌, [], ◌∷◌, MatchOption, MatchResult, IsTrue, Some, None, Ok, Err, length};
 ghost use Rattle.ipmi_image.specs.Text.{pieces};
 ghost use Rattle.ipmi_image.specs.Line.{is_dash, next_in, shelf_in, with_two, with_three, row_line, inventory_line, reading_line, info_line, line_of};
 ghost use Rattle.ipmi_image.specs.Image.{is_end};
@@ -7,7 +7,7 @@ ghost use Rattle.ipmi_image.specs.Stored.{said, IsRead};
 
 use crate::text::{cut, read_bytes, read_digit, read_u8, read_u16};
 use ipmi_bus::Shelf;
-use std::alloc::{AllocError, Global};
+use std::alloc::AllocError;
 
 /// Why a line is refused, or no memory was left for it.
 #[derive(Clone, Copy, Debug, PartialEq, Eq)]
@@ -32,26 +32,24 @@ impl From<AllocError> for LineFault {
     }
 }
 
-/// What a line says by itself.
-#[derive(Debug, Drop)]
+/// What a line says by itself of the bytes that its last field has.
+#[derive(Clone, Copy, Debug)]
 pub(crate) enum Line {
     /// A record of a shelf. Without a next id it has the following one's.
     Row {
         shelf: Shelf,
         id: u16,
         next: Option<u16>,
-        bytes: Vec<u8>,
     },
     /// More bytes of the inventory of the FRU device with this id.
-    Inventory(u8, Vec<u8>),
+    Inventory(u8),
     /// What the sensor with this number answers at this LUN.
     Reading {
         lun: u8,
         number: u8,
-        bytes: Vec<u8>,
     },
     /// What the shelf's repository info is.
-    Info(Shelf, Vec<u8>),
+    Info(Shelf),
     /// The last line.
     End,
 }
@@ -59,7 +57,7 @@ pub(crate) enum Line {
 impl Line {
     /// Whether it is the last line.
     pub(crate) fn is_end(&self) -> bool
-        ensures { result ≡ is_end (said self.now) }
+        ensures { (bytes : List ℕ) → result ≡ is_end (said bytes self.now) }
     {
         matches!(self, Line::End)
     }
@@ -102,18 +100,21 @@ fn read_next(field: &[u8]) -> Option<Option<u16>>
 fn read_shelf(word: &[u8]) -> Option<Shelf>
     ensures { result ≡ shelf_in word.now }
 {
-    if word == b"sdr".as_slice() {
-        return Some(Shelf::Sdr);
+    match word {
+        b"sdr" => Some(Shelf::Sdr),
+        b"sel" => Some(Shelf::Sel),
+        _ => None,
     }
-    if word == b"sel".as_slice() {
-        return Some(Shelf::Sel);
-    }
-    None
 }
 
 /// Reads `ID NEXT HEX` after the name of a shelf.
-fn read_row(alloc: Global, dashes: bool, shelf: Shelf, fields: &[u8]) -> Result<Line, LineFault>
-    ensures { IsRead (with_three (row_line dashes shelf) (pieces 32 fields.now)) result }
+fn read_row(
+    bytes: &mut Vec<u8>,
+    dashes: bool,
+    shelf: Shelf,
+    fields: &[u8],
+) -> Result<Line, LineFault>
+    ensures { IsRead (with_three (row_line dashes shelf) (pieces 32 fields.now)) bytes.new.items result }
 {
     let Some((id, next, hex)) = three(fields) else {
         return Err(LineFault::Line);
@@ -125,18 +126,13 @@ fn read_row(alloc: Global, dashes: bool, shelf: Shelf, fields: &[u8]) -> Result<
     let (Some(id), Some(next)) = (read_u16(id), read_next(next)) else {
         return Err(LineFault::Hex);
     };
-    let bytes = read_bytes(alloc, hex)?;
-    Ok(Line::Row {
-        shelf,
-        id,
-        next,
-        bytes,
-    })
+    read_bytes(bytes, hex)?;
+    Ok(Line::Row { shelf, id, next })
 }
 
 /// Reads `ID HEX` after `fru`.
-fn read_inventory(alloc: Global, fields: &[u8]) -> Result<Line, LineFault>
-    ensures { IsRead (with_two inventory_line (pieces 32 fields.now)) result }
+fn read_inventory(bytes: &mut Vec<u8>, fields: &[u8]) -> Result<Line, LineFault>
+    ensures { IsRead (with_two inventory_line (pieces 32 fields.now)) bytes.new.items result }
 {
     let Some((id, hex)) = two(fields) else {
         return Err(LineFault::Line);
@@ -147,12 +143,13 @@ fn read_inventory(alloc: Global, fields: &[u8]) -> Result<Line, LineFault>
     let Some(id) = read_u8(id) else {
         return Err(LineFault::Hex);
     };
-    Ok(Line::Inventory(id, read_bytes(alloc, hex)?))
+    read_bytes(bytes, hex)?;
+    Ok(Line::Inventory(id))
 }
 
 /// Reads `LUN NUM HEX8` after `reading`.
-fn read_reading(alloc: Global, fields: &[u8]) -> Result<Line, LineFault>
-    ensures { IsRead (with_three reading_line (pieces 32 fields.now)) result }
+fn read_reading(bytes: &mut Vec<u8>, fields: &[u8]) -> Result<Line, LineFault>
+    ensures { IsRead (with_three reading_line (pieces 32 fields.now)) bytes.new.items result }
 {
     let Some((lun, number, hex)) = three(fields) else {
         return Err(LineFault::Line);
@@ -163,13 +160,13 @@ fn read_reading(alloc: Global, fields: &[u8]) -> Result<Line, LineFault>
     let (Some(lun), Some(number)) = (read_digit(lun), read_u8(number)) else {
         return Err(LineFault::Hex);
     };
-    let bytes = read_bytes(alloc, hex)?;
-    Ok(Line::Reading { lun, number, bytes })
+    read_bytes(bytes, hex)?;
+    Ok(Line::Reading { lun, number })
 }
 
 /// Reads `sdr HEX28` or `sel HEX28` after `info`.
-fn read_info(alloc: Global, fields: &[u8]) -> Result<Line, LineFault>
-    ensures { IsRead (with_two info_line (pieces 32 fields.now)) result }
+fn read_info(bytes: &mut Vec<u8>, fields: &[u8]) -> Result<Line, LineFault>
+    ensures { IsRead (with_two info_line (pieces 32 fields.now)) bytes.new.items result }
 {
     let Some((word, hex)) = two(fields) else {
         return Err(LineFault::Line);
@@ -180,12 +177,13 @@ fn read_info(alloc: Global, fields: &[u8]) -> Result<Line, LineFault>
     if hex.is_empty() {
         return Err(LineFault::Line);
     }
-    Ok(Line::Info(shelf, read_bytes(alloc, hex)?))
+    read_bytes(bytes, hex)?;
+    Ok(Line::Info(shelf))
 }
 
-/// Reads a line without its line feed; in version 2 a row's NEXT may be a dash.
-pub(crate) fn read_line(alloc: Global, dashes: bool, line: &[u8]) -> Result<Line, LineFault>
-    ensures { IsRead (line_of dashes line.now) result }
+/// Reads a line without its line feed, and the bytes that it has; in version 2 a row's NEXT may be a dash.
+pub(crate) fn read_line(bytes: &mut Vec<u8>, dashes: bool, line: &[u8]) -> Result<Line, LineFault>
+    ensures { IsRead (line_of dashes line.now) bytes.new.items result }
 {
     let Some((word, fields)) = cut(line, b' ') else {
         if line == b"end".as_slice() {
@@ -194,15 +192,15 @@ pub(crate) fn read_line(alloc: Global, dashes: bool, line: &[u8]) -> Result<Line
         return Err(LineFault::Line);
     };
     if word == b"sdr".as_slice() {
-        read_row(alloc, dashes, Shelf::Sdr, fields)
+        read_row(bytes, dashes, Shelf::Sdr, fields)
     } else if word == b"sel".as_slice() {
-        read_row(alloc, dashes, Shelf::Sel, fields)
+        read_row(bytes, dashes, Shelf::Sel, fields)
     } else if word == b"fru".as_slice() {
-        read_inventory(alloc, fields)
+        read_inventory(bytes, fields)
     } else if word == b"reading".as_slice() {
-        read_reading(alloc, fields)
+        read_reading(bytes, fields)
     } else if word == b"info".as_slice() {
-        read_info(alloc, fields)
+        read_info(bytes, fields)
     } else {
         Err(LineFault::Line)
     }

@@ -6,12 +6,11 @@ ghost use Rattle.ipmi_bus.specs.Code.{class_of};
 ghost use Rattle.ipmi_bus.specs.Store.{IsStore, rows_of, info_of, reading_of, inventory_of};
 ghost use Rattle.ipmi_bus.specs.Seen.{IsHonest};
 ghost use Rattle.ipmi_bus.specs.Answers.{FailsWith, ReserveAnswers, PartAnswers, ValueAnswers, SizeAnswers, BytesAnswers};
-ghost use Rattle.ipmi_image.specs.Image.{chained, first_id};
-ghost use Rattle.ipmi_image.specs.Stored.{row_of};
+ghost use Rattle.ipmi_image.specs.Image.{chained};
 ghost use Rattle.ipmi_image.specs.Responder.{seen_as, of_shelf, row_found, place_asked, IsCopied, number_after, with_reservation, part_asked, part_answer, fru_answer, value_answer, size_answer};
 
 use crate::image::Image;
-use crate::stored::{StoredRow, Table, sensor_key};
+use crate::rows::Rows;
 use ipmi_bus::{Code, CodeClass, Event, FruSize, Part, Shelf, Tally};
 use ipmi_text::Reading;
 
@@ -27,59 +26,40 @@ const OUT_OF_RANGE: u8 = 0xC9;
 /// The most bytes that a part may have.
 pub(crate) const WHOLE: u8 = 254;
 
-/// A record with the next id that it has on its shelf.
+/// A record with its place and with the next id that it has on its shelf.
 #[derive(Clone, Copy)]
 struct FoundRow<'a> {
+    place: usize,
     id: u16,
     next: u16,
     bytes: &'a [u8],
 }
 
-/// The id of the record at the place, FFFFh where there is none.
-pub(crate) fn id_at(rows: &[StoredRow], place: usize) -> u16
-    ensures { result ≡ first_id (map row_of (drop place rows.now)) }
-{
-    match rows.get(place) {
-        Some(row) => row.id,
-        None => 0xFFFF,
-    }
-}
-
-/// The place of the record that the id asks for: 0000h asks for the first.
-fn place_of(rows: &Table<StoredRow>, id: u16) -> Option<usize>
+/// The place of the record that the id asks for: 0000h asks for the first. It is looked for near a place first.
+fn place_of(rows: &Rows, near: usize, id: u16) -> Option<usize>
     ensures { result ≡ place_asked id rows.now }
 {
     if id != 0 {
-        return rows.place(id);
+        return rows.place_near(id, near);
     }
-    if rows.as_slice().is_empty() {
+    if rows.is_empty() {
         return None;
     }
     Some(0)
 }
 
-/// The record, where this is the following one's id.
-fn found(row: &StoredRow, following: u16) -> FoundRow<'_>
-    ensures { row_found result ≡ record {
-      id = row.now.id;
-      next = unwrap_or row.now.next following;
-      bytes = row.now.bytes.items;
-    } }
+/// The record that the id asks for. It is looked for near a place first.
+fn look_up(rows: &Rows, near: usize, id: u16) -> Option<FoundRow<'_>>
+    ensures { option_map row_found result ≡ look (chained rows.now) id }
 {
-    FoundRow {
+    let place = place_of(rows, near, id)?;
+    let row = rows.get(place)?;
+    Some(FoundRow {
+        place,
         id: row.id,
-        next: row.next.unwrap_or(following),
-        bytes: row.bytes.as_slice(),
-    }
-}
-
-/// The record that the id asks for.
-fn look_up(rows: &Table<StoredRow>, id: u16) -> Option<FoundRow<'_>>
-    ensures { option_map row_found result ≡ look (chained (map row_of rows.now)) id }
-{
-    let place = place_of(rows, id)?;
-    let rows = rows.as_slice();
-    Some(found(&rows[place], id_at(rows, place + 1)))
+        next: row.next.unwrap_or(rows.id_at(place + 1)),
+        bytes: row.bytes,
+    })
 }
 
 /// Copies bytes from the offset on, as many as there is room for, and at most so many.
@@ -105,6 +85,8 @@ pub(crate) struct Responder {
     given: u16,
     sdr_reservation: Option<u16>,
     sel_reservation: Option<u16>,
+    /// The place of the record that was found last: a listing asks for it again, or for one next to it.
+    near: usize,
     tally: Tally,
 }
 
@@ -121,6 +103,7 @@ impl Responder {
             given: 0,
             sdr_reservation: None,
             sel_reservation: None,
+            near: 0,
             tally: Tally::new(),
         }
     }
@@ -232,7 +215,7 @@ impl Responder {
               len = length into.old;
             })
             result into.new (seen_as plain self.old) (seen_as plain self.new) }
-        ensures same { self.new ≡ record self.old { tally = self.new.tally } }
+        ensures same { self.new ≡ record self.old { near = self.new.near; tally = self.new.tally } }
         ensures exact { result ≡ part_answer
             (part_asked shelf reservation id offset (length into.old))
             most (of_shelf shelf self.old.sdr_reservation self.old.sel_reservation)
@@ -240,10 +223,11 @@ impl Responder {
     {
         self.tally.count(Event::Called);
         let is_reserved = self.is_reserved(shelf, reservation, offset);
-        let Some(row) = look_up(self.image.rows(shelf), id) else {
+        let Some(row) = look_up(self.image.rows(shelf), self.near, id) else {
             self.tally.count(Event::Finished);
             return Err(NOT_PRESENT);
         };
+        self.near = row.place;
         if !is_reserved {
             self.tally.count(Event::Troubled);
             return Err(CANCELLED);

@@ -3,24 +3,27 @@ ghost use Rattle.std.specs.Prelude.{◌≡◌, ◌++◌, ◌∷◌, [], ◌≤�
 ghost use Rattle.std.specs.Option.{unwrap_or};
 ghost use Rattle.hex.specs.Hex.{encode_lower};
 ghost use Rattle.ipmi_image.specs.Image.{chained, store_of_image};
-ghost use Rattle.ipmi_image.specs.Stored.{row_of, sensor_of, store_of};
+ghost use Rattle.ipmi_image.specs.Stored.{sensor_of, store_of};
 ghost use Rattle.ipmi_image.specs.Table as table;
 ghost use Rattle.ipmi_image.specs.Rewritten.{hex_of, next_field, row_fields, rows_lines, part_fields, inventory_lines, reading_fields, info_lines, other_lines, line_text, lines_text, image_text_of};
 
-use crate::image::{Contents, Image};
-use crate::responder::id_at;
-use crate::stored::{StoredInventory, StoredRow, StoredSensor};
+use crate::contents::Contents;
+use crate::image::Image;
+use crate::rows::{Rows, StoredRow};
+use crate::stored::{StoredInventory, StoredSensor};
 use ipmi_bus::Shelf;
 use std::alloc::{AllocError, Global};
 
 /// The most bytes of an inventory on one line.
 const PART: usize = 64;
 
+/// The room of a text for its first and last line, and for what most images say beside their records.
+const OTHER_ROOM: usize = 4096;
+
 /// A text that grows.
 #[derive(Drop)]
 struct Text {
     bytes: Vec<u8>,
-    alloc: Global,
 }
 
 impl Text {
@@ -37,8 +40,17 @@ impl Text {
         ensures { OnOk result (self.new.bytes.items ≡ self.old.bytes.items ++ encode_lower
             bytes.now) }
     {
-        let hex = hex::encode(self.alloc, bytes)?;
-        self.push(hex.as_bytes())
+        let start = self.bytes.len();
+        let Some(end) = bytes
+            .len()
+            .checked_mul(2)
+            .and_then(|len| len.checked_add(start))
+        else {
+            return Err(AllocError);
+        };
+        self.bytes.resize(end, 0)?;
+        hex::encode_to_slice(bytes, &mut self.bytes[start..]).unwrap();
+        Ok(())
     }
 
     /// Appends a row's next id, a dash where it is the following row's.
@@ -81,24 +93,23 @@ impl Text {
         ensures { OnOk result (self.new.bytes.items ≡ self.old.bytes.items ++ line_text
             (row_fields word.now following (record {
               id = row.now.id;
-              next = unwrap_or row.now.next
-                  following;
-              bytes = row.now.bytes.items;
+              next = unwrap_or row.now.next following;
+              bytes = row.now.bytes.now;
             }))) }
     {
         self.push_id(word, row.id)?;
-        self.push_rest(following, row.next.unwrap_or(following), &row.bytes)
+        self.push_rest(following, row.next.unwrap_or(following), row.bytes)
     }
 
     /// Appends the lines of a shelf.
-    fn push_rows(&mut self, word: &[u8], rows: &[StoredRow]) -> Result<(), AllocError>
+    fn push_rows(&mut self, word: &[u8], rows: &Rows) -> Result<(), AllocError>
         ensures { OnOk result (self.new.bytes.items ≡ self.old.bytes.items ++ lines_text
-            (rows_lines word.now (chained (map row_of rows.now)))) }
+            (rows_lines word.now (chained rows.now))) }
     {
         let mut place = 0;
-        'rows: while place < rows.len() {
-            self.push_row(word, id_at(rows, place + 1), &rows[place])?;
+        'rows: while let Some(row) = rows.get(place) {
             place += 1;
+            self.push_row(word, rows.id_at(place), &row)?;
         }
         Ok(())
     }
@@ -134,11 +145,8 @@ impl Text {
         ensures { OnOk result (self.new.bytes.items ≡ self.old.bytes.items ++ lines_text
             (flat_map inventory_lines (map table.inventory_of inventories.now))) }
     {
-        let mut place = 0;
-        'inventories: while place < inventories.len() {
-            let inventory = &inventories[place];
+        'inventories: for inventory in inventories {
             self.push_inventory(inventory.id, &inventory.bytes)?;
-            place += 1;
         }
         Ok(())
     }
@@ -199,10 +207,8 @@ impl Text {
         ensures { OnOk result (self.new.bytes.items ≡ self.old.bytes.items ++ lines_text
             (map reading_fields (map sensor_of sensors.now))) }
     {
-        let mut place = 0;
-        'sensors: while place < sensors.len() {
-            self.push_reading(&sensors[place])?;
-            place += 1;
+        'sensors: for sensor in sensors {
+            self.push_reading(sensor)?;
         }
         Ok(())
     }
@@ -227,8 +233,8 @@ impl Text {
             (store_of contents.now)) }
     {
         self.push(b"ipmi-image 2\n")?;
-        self.push_rows(b"sdr", contents.sdr.as_slice())?;
-        self.push_rows(b"sel", contents.sel.as_slice())?;
+        self.push_rows(b"sdr", &contents.sdr)?;
+        self.push_rows(b"sel", &contents.sel)?;
         self.push_others(contents)
     }
 }
@@ -240,11 +246,11 @@ pub fn image_text(alloc: Global, image: &Image) -> Result<Vec<u8>, AllocError>
     ensures text { IfOk result (λ text. text.items ≡ image_text_of image.now) }
     ensures again { IfOk result (λ text. store_of_image text.items ≡ Ok image.now) }
 {
+    let contents = image.contents();
+    let room = contents.sdr.line_room() + contents.sel.line_room() + OTHER_ROOM;
     let mut text = Text {
-        bytes: Vec::new(alloc),
-        alloc,
+        bytes: Vec::with_capacity(alloc, room)?,
     };
-    text.push_image(image.contents())?;
-    let Text { bytes, alloc: _ } = text;
-    Ok(bytes)
+    text.push_image(contents)?;
+    Ok(text.bytes)
 }

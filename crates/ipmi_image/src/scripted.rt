@@ -50,8 +50,8 @@ fn mood_turn(responder: &mut Responder, mood: Mood, asked: usize) -> Turn
     ensures turns { IsHonest (seen_as false responder.old) →
         Turns asked result (seen_as false responder.old) (seen_as false responder.new) }
     ensures exact { result ≡ mood_turn asked mood }
-    ensures leaves { responder.new ≡
-        record (after_mood mood responder.old) { tally = responder.new.tally } }
+    ensures leaves { responder.new ≡ record (after_mood mood responder.old)
+        { near = responder.new.near; tally = responder.new.tally } }
 {
     match mood {
         Mood::Grant(most) => Turn::Answers(most.max(1)),

@@ -1,5 +1,5 @@
 //! What an image keeps, in the order of its lines, and an index to find it by.
-ghost use Rattle.std.specs.Prelude.{◌≡◌, ℕ, ◌==◌, ◌<◌, ◌++◌, ◌∷◌, [], List, None, true, MatchBool, IfOk, OnOk, is_some, map, option_map, find, length};
+ghost use Rattle.std.specs.Prelude.{◌≡◌, ℕ, ◌==◌, ◌<◌, ◌≤◌, ◌++◌, ◌∷◌, [], List, None, Some, true, MatchBool, IsTrue, IfOk, OnErr, OnOk, is_some, map, option_map, find, length};
 ghost use Rattle.ipmi_image.specs.Table.{place_of, sensor_key, inventory_of, longer_at};
 
 use ipmi_text::Reading;
@@ -15,22 +15,6 @@ pub(crate) trait Keyed {
     /// The number that it is found by.
     fn key(&self) -> u16
         ensures { result ≡ key self.now };
-}
-
-/// A record of a shelf. Without a next id it has the following one's.
-#[derive(Debug, Drop)]
-pub(crate) struct StoredRow {
-    pub(crate) id: u16,
-    pub(crate) next: Option<u16>,
-    pub(crate) bytes: Vec<u8>,
-}
-
-impl Keyed for StoredRow {
-    ghost key = { λ row. row.id };
-
-    fn key(&self) -> u16 {
-        self.id
-    }
 }
 
 /// The inventory of a FRU device.
@@ -117,6 +101,34 @@ impl<T: Keyed + Drop> Table<T> {
         self.places.get(&key).copied().map(usize::from)
     }
 
+    /// Whether the item at the place has this key. Where it says so, that is the item's place.
+    fn is_at(&self, place: usize, key: u16) -> bool
+        ensures { IsTrue result → place_of T.key key self.now ≡ Some place }
+    {
+        match self.items.get(place) {
+            Some(item) => item.key() == key,
+            None => false,
+        }
+    }
+
+    /// The place of the item with this key. It is looked for at a place and next to it before it is looked up.
+    pub(crate) fn place_near(&self, key: u16, near: usize) -> Option<usize>
+        ensures { result ≡ place_of T.key key self.now }
+    {
+        if self.is_at(near, key) {
+            return Some(near);
+        }
+        let after = near.wrapping_add(1);
+        if self.is_at(after, key) {
+            return Some(after);
+        }
+        let before = near.wrapping_sub(1);
+        if self.is_at(before, key) {
+            return Some(before);
+        }
+        self.place(key)
+    }
+
     /// The item with this key.
     #[tactic(auto, using(crate::proofs::TableLemmas::found_at))]
     pub(crate) fn get(&self, key: u16) -> Option<&T>
@@ -129,9 +141,11 @@ impl<T: Keyed + Drop> Table<T> {
     /// Puts an item at the end, where none has its key, and says whether it did.
     pub(crate) fn push(&mut self, item: T) -> Result<bool, AllocError>
         requires { T.key item < 65535 }
-        ensures { IfOk result (λ is_new. MatchBool is_new
+        ensures ok { IfOk result (λ is_new. MatchBool is_new
             ((place_of T.key (T.key item) self.old ≡ None) × (self.new ≡ self.old ++ item ∷ []))
-            (is_some (place_of T.key (T.key item) self.old) ≡ true)) }
+            ((is_some (place_of T.key (T.key item) self.old) ≡ true) × (self.new ≡ self.old))) }
+        ensures err { OnErr result (self.new ≡ self.old) }
+        ensures few { length self.new ≤ 65535 }
     {
         let key = item.key();
         let place = self.items.len() as u16;

@@ -5,9 +5,8 @@ ghost use Rattle.ipmi_image.specs.Line.{bytes_in, number_in, digit_in};
 
 use crate::line::LineFault;
 use byteorder::{BigEndian, ByteOrder};
-use hex::{FromHex, FromHexError};
+use hex::FromHex;
 use memchr::memchr;
-use std::alloc::Global;
 
 /// The bytes before the first separator, and those after it.
 pub(crate) fn cut(bytes: &[u8], separator: u8) -> Option<(&[u8], &[u8])>
@@ -45,14 +44,14 @@ pub(crate) fn read_digit(digit: &[u8]) -> Option<u8>
     read_u8(&[b'0', digit[0]])
 }
 
-/// The bytes that pairs of hex digits are.
-pub(crate) fn read_bytes(alloc: Global, digits: &[u8]) -> Result<Vec<u8>, LineFault>
-    ensures { MatchResult result (λ bytes. bytes_in digits.now ≡ Some bytes.items)
+/// Reads the bytes that pairs of hex digits are.
+pub(crate) fn read_bytes(bytes: &mut Vec<u8>, digits: &[u8]) -> Result<(), LineFault>
+    ensures { MatchResult result (λ done. bytes_in digits.now ≡ Some bytes.new.items)
         (λ e. (e ≡ LineFault.Memory) ⊎ ((e ≡ LineFault.Hex) × (bytes_in digits.now ≡ None))) }
 {
-    match hex::decode(alloc, digits) {
-        Ok(bytes) => Ok(bytes),
-        Err(FromHexError::OutOfMemory) => Err(LineFault::Memory),
+    bytes.resize(digits.len() / 2, 0)?;
+    match hex::decode_to_slice(digits, bytes) {
+        Ok(()) => Ok(()),
         Err(_) => Err(LineFault::Hex),
     }
 }

@@ -22,8 +22,8 @@ returns-in-Err-clause-err c =
     elim c.in-Err.ensures [
       | inl memory ↦ inl (c.at.ensures ∙ ap (at_line c.lines.number) memory)
       | inr is ↦ inr (
-          sym lines.3 ∙ ap (store_behind c.args.dashes lines.0) c.in-Some.ensures.cut ∙ one_line c.args.dashes lines.0 c.in-Some.text.now c.in-Some.after.now
-          ∙ ap (after_line c.args.dashes lines.0 rest) (line_err c.args.dashes lines.0 c.in-Some.text.now c.in-Err.fault is)
+          sym lines.3 ∙ ap (store_behind c.args.dashes lines.0) c.in-Some.ensures.cut ∙ one_line c.args.dashes lines.0 c.in-Some.line.now c.in-Some.after.now
+          ∙ ap (after_line c.args.dashes lines.0 rest) (line_err c.args.dashes lines.0 c.in-Some.line.now c.in-Err.fault is)
           ∙ ap (λ (n : ℕ). Err (at_line n c.in-Err.fault)) lines.2 ∙ ap (λ (e : ImageFault). Err e) (sym c.at.ensures))
     ]
 
@@ -31,10 +31,10 @@ pub returns-then-is_empty-clause-ok : goal.returns-then-is_empty-clause-ok
 returns-then-is_empty-clause-ok c =
     let lines = c.lines.invariant.1 in
     let rest = pieces 10 c.in-Some.after.now in
-    let last : said c.in-Ok.line ≡ the_end = end_is _ (sym c.is_end.ensures ∙ c.if-is_end.true) in (
+    let last : said c.read_line.new.bytes.items c.in-Ok.line ≡ the_end = end_is _ (sym (c.is_end.ensures _) ∙ c.if-is_end.true) in (
       c.lines.invariant.0,
-      sym lines.3 ∙ ap (store_behind c.args.dashes lines.0) c.in-Some.ensures.cut ∙ one_line c.args.dashes lines.0 c.in-Some.text.now c.in-Some.after.now
-          ∙ ap (after_line c.args.dashes lines.0 rest) (line_found c.args.dashes lines.0 c.in-Some.text.now the_end None (c.in-Ok.ensures ∙ ap Ok last) refl)
+      sym lines.3 ∙ ap (store_behind c.args.dashes lines.0) c.in-Some.ensures.cut ∙ one_line c.args.dashes lines.0 c.in-Some.line.now c.in-Some.after.now
+          ∙ ap (after_line c.args.dashes lines.0 rest) (line_found c.args.dashes lines.0 c.in-Some.line.now the_end None (c.in-Ok.ensures ∙ ap Ok last) refl)
           ∙ ap (λ (b : Bool). cond b (Ok (store_of_lines lines.0)) (Err (fault.AfterEnd (length lines.0 + 3)))) (ends_here-pieces c.in-Some.after.now ∙ sym c.is_empty.ensures ∙ c.if-is_empty.true)
           ∙ ap (λ (s : Store). Ok s) (sym (store_is c.lines.contents lines.0 lines.1)),
     )
@@ -43,10 +43,10 @@ pub returns-then-is_end-clause-err : goal.returns-then-is_end-clause-err
 returns-then-is_end-clause-err c =
     let lines = c.lines.invariant.1 in
     let rest = pieces 10 c.in-Some.after.now in
-    let last : said c.in-Ok.line ≡ the_end = end_is _ (sym c.is_end.ensures ∙ c.if-is_end.true) in
+    let last : said c.read_line.new.bytes.items c.in-Ok.line ≡ the_end = end_is _ (sym (c.is_end.ensures _) ∙ c.if-is_end.true) in
     let number : length lines.0 + 3 ≡ c.lines.number + 1 = let is = lines.2 in omega (arith, is) in
-    inr (sym lines.3 ∙ ap (store_behind c.args.dashes lines.0) c.in-Some.ensures.cut ∙ one_line c.args.dashes lines.0 c.in-Some.text.now c.in-Some.after.now
-    ∙ ap (after_line c.args.dashes lines.0 rest) (line_found c.args.dashes lines.0 c.in-Some.text.now the_end None (c.in-Ok.ensures ∙ ap Ok last) refl)
+    inr (sym lines.3 ∙ ap (store_behind c.args.dashes lines.0) c.in-Some.ensures.cut ∙ one_line c.args.dashes lines.0 c.in-Some.line.now c.in-Some.after.now
+    ∙ ap (after_line c.args.dashes lines.0 rest) (line_found c.args.dashes lines.0 c.in-Some.line.now the_end None (c.in-Ok.ensures ∙ ap Ok last) refl)
     ∙ ap (λ (b : Bool). cond b (Ok (store_of_lines lines.0)) (Err (fault.AfterEnd (length lines.0 + 3)))) (ends_here-pieces c.in-Some.after.now ∙ sym c.is_empty.ensures ∙ c.if-is_empty.false)
     ∙ ap (λ (n : ℕ). Err (fault.AfterEnd n)) number)
 
@@ -57,8 +57,8 @@ returns-in-Err-put-clause-err c =
     elim (c.in-Err-put.ensures.lines lines.0 lines.1) [
       | inl memory ↦ inl (c.at-in-Err-put.ensures ∙ ap (at_line c.lines.number) memory)
       | inr is ↦ inr (
-          sym lines.3 ∙ ap (store_behind c.args.dashes lines.0) c.in-Some.ensures.cut ∙ one_line c.args.dashes lines.0 c.in-Some.text.now c.in-Some.after.now
-          ∙ ap (after_line c.args.dashes lines.0 rest) (line_found c.args.dashes lines.0 c.in-Some.text.now (said c.in-Ok.line) (Some c.in-Err-put.fault) c.in-Ok.ensures is)
+          sym lines.3 ∙ ap (store_behind c.args.dashes lines.0) c.in-Some.ensures.cut ∙ one_line c.args.dashes lines.0 c.in-Some.line.now c.in-Some.after.now
+          ∙ ap (after_line c.args.dashes lines.0 rest) (line_found c.args.dashes lines.0 c.in-Some.line.now (said c.deref.result.now c.in-Ok.line) (Some c.in-Err-put.fault) (c.in-Ok.ensures ∙ ap (λ l. Ok (said l c.in-Ok.line)) (sym c.deref.ensures.value)) is)
           ∙ ap (λ (n : ℕ). Err (at_line n c.in-Err-put.fault)) lines.2 ∙ ap (λ (e : ImageFault). Err e) (sym c.at-in-Err-put.ensures))
     ]
 
@@ -66,9 +66,9 @@ pub lines-preserved : goal.lines-preserved
 lines-preserved c =
     let lines = c.lines.invariant.1 in
     let rest = pieces 10 c.in-Some.after.now in
-    let line = said c.in-Ok.line in
+    let line = said c.deref.result.now c.in-Ok.line in
     let put = c.in_default-put.ensures.lines lines.0 lines.1 in
-    let more : is_end line ≡ false = sym c.is_end.ensures ∙ c.if-is_end.false in
+    let more : is_end line ≡ false = sym (c.is_end.ensures _) ∙ c.if-is_end.false in
     let long = length-append lines.0 (line ∷ []) in
     let shorter = c.in-Some.ensures.shorter in
     let number = lines.2 in
@@ -78,8 +78,8 @@ lines-preserved c =
         lines.0 ++ line ∷ [],
         put.1,
         omega (arith, long, number),
-        sym (ap (store_behind c.args.dashes lines.0) c.in-Some.ensures.cut ∙ one_line c.args.dashes lines.0 c.in-Some.text.now c.in-Some.after.now
-            ∙ ap (after_line c.args.dashes lines.0 rest) (line_found c.args.dashes lines.0 c.in-Some.text.now line None c.in-Ok.ensures put.0)
+        sym (ap (store_behind c.args.dashes lines.0) c.in-Some.ensures.cut ∙ one_line c.args.dashes lines.0 c.in-Some.line.now c.in-Some.after.now
+            ∙ ap (after_line c.args.dashes lines.0 rest) (line_found c.args.dashes lines.0 c.in-Some.line.now line None (c.in-Ok.ensures ∙ ap (λ l. Ok (said l c.in-Ok.line)) (sym c.deref.ensures.value)) put.0)
             ∙ ap (λ (b : Bool). cond (not b) (store_behind c.args.dashes (lines.0 ++ line ∷ []) rest) (cond (ends_here rest) (Ok (store_of_lines lines.0)) (Err (fault.AfterEnd (length lines.0 + 3))))) more)
             ∙ lines.3,
       ),

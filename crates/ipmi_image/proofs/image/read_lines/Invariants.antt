@@ -11,8 +11,8 @@ abbrev pub invariant-lines : goal.invariant-lines
 invariant-lines l =
     IsStore (store_of l.contents)
     × ((before : List Line) × HoldsLines l.contents before × (length before + 2 ≡ l.number)
-    × (store_behind l.dashes before (pieces 10 l.rest) ≡ store_behind l.dashes [] (pieces 10 l.bytes)))
-    × (l.number + length l.rest ≤ length l.bytes + 2)
+    × (store_behind l.dashes before (pieces 10 l.rest) ≡ store_behind l.dashes [] (pieces 10 l.text)))
+    × (l.number + length l.rest ≤ length l.text + 2)
 
 abbrev pub decreases-lines : goal.decreases-lines
 decreases-lines l = length l.rest

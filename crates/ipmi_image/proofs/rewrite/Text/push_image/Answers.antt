@@ -5,6 +5,4 @@ use Rattle.ipmi_image.proofs.rewrite.Text.push_image.Goals as goal
 
 pub returns : goal.returns
 returns c =
-    let sdr = rw c.as_slice.ensures at c.in_ok-push_rows.ensures in
-    let sel = rw c.as_slice-2.ensures at c.in_ok-push_rows-2.ensures in
-    on_ok c.push_others.result c.push_others.ensures (λ is. image_joined _ _ _ _ _ _ _ _ c.in_ok-push.ensures sdr sel is ∙ ap (λ (l : List ℕ). c.args.self.now.bytes.items ++ l) (text_is (store_of c.args.contents.now)))
+    on_ok c.push_others.result c.push_others.ensures (λ is. image_joined _ _ _ _ _ _ _ _ c.in_ok-push.ensures c.in_ok-push_rows.ensures c.in_ok-push_rows-2.ensures is ∙ ap (λ (l : List ℕ). c.args.self.now.bytes.items ++ l) (text_is (store_of c.args.contents.now)))

@@ -1,4 +1,4 @@
-use Rattle.std.proofs.Common.{◌≡◌, ◌++◌, ◌-◌, ◌≤◌, length, drop, map}
+use Rattle.std.proofs.Common.{◌≡◌, ◌++◌, drop, map}
 use Rattle.std.specs.Prelude.{flat_map}
 use Rattle.ipmi_image.specs.Table.{inventory_of}
 use Rattle.ipmi_image.specs.Rewritten.{inventory_lines, lines_text}
@@ -7,8 +7,4 @@ use Rattle.ipmi_image.proofs.rewrite.Text.push_inventories.Given as goal
 -- with the lines of the inventories that are left the text is what it is to be
 abbrev pub invariant-inventories : goal.invariant-inventories
 invariant-inventories l =
-    (l.place ≤ length l.inventories)
-    × (l.self.bytes.items ++ lines_text (flat_map inventory_lines (map inventory_of (drop l.place l.inventories))) ≡ l.fn.self.bytes.items ++ lines_text (flat_map inventory_lines (map inventory_of l.inventories)))
-
-abbrev pub decreases-inventories : goal.decreases-inventories
-decreases-inventories l = length l.inventories - l.place
+    l.self.bytes.items ++ lines_text (flat_map inventory_lines (map inventory_of (drop l.inventory-index l.inventories))) ≡ l.fn.self.bytes.items ++ lines_text (flat_map inventory_lines (map inventory_of l.inventories))

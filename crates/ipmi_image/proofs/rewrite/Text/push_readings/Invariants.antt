@@ -1,4 +1,4 @@
-use Rattle.std.proofs.Common.{◌≡◌, ◌++◌, ◌-◌, ◌≤◌, length, drop, map}
+use Rattle.std.proofs.Common.{◌≡◌, ◌++◌, drop, map}
 use Rattle.ipmi_image.specs.Stored.{sensor_of}
 use Rattle.ipmi_image.specs.Rewritten.{reading_fields, lines_text}
 use Rattle.ipmi_image.proofs.rewrite.Text.push_readings.Given as goal
@@ -6,8 +6,4 @@ use Rattle.ipmi_image.proofs.rewrite.Text.push_readings.Given as goal
 -- with the lines of the readings that are left the text is what it is to be
 abbrev pub invariant-sensors : goal.invariant-sensors
 invariant-sensors l =
-    (l.place ≤ length l.sensors)
-    × (l.self.bytes.items ++ lines_text (map reading_fields (map sensor_of (drop l.place l.sensors))) ≡ l.fn.self.bytes.items ++ lines_text (map reading_fields (map sensor_of l.sensors)))
-
-abbrev pub decreases-sensors : goal.decreases-sensors
-decreases-sensors l = length l.sensors - l.place
+    l.self.bytes.items ++ lines_text (map reading_fields (map sensor_of (drop l.sensor-index l.sensors))) ≡ l.fn.self.bytes.items ++ lines_text (map reading_fields (map sensor_of l.sensors))

@@ -1,6 +1,5 @@
-use Rattle.std.proofs.Common.{◌≡◌, ◌++◌, ◌-◌, ◌≤◌, length, drop, map}
+use Rattle.std.proofs.Common.{◌≡◌, ◌++◌, ◌-◌, ◌≤◌, length, drop}
 use Rattle.ipmi_image.specs.Image.{chained}
-use Rattle.ipmi_image.specs.Stored.{row_of}
 use Rattle.ipmi_image.specs.Rewritten.{rows_lines, lines_text}
 use Rattle.ipmi_image.proofs.rewrite.Text.push_rows.Given as goal
 
@@ -8,7 +7,7 @@ use Rattle.ipmi_image.proofs.rewrite.Text.push_rows.Given as goal
 abbrev pub invariant-rows : goal.invariant-rows
 invariant-rows l =
     (l.place ≤ length l.rows)
-    × (l.self.bytes.items ++ lines_text (rows_lines l.word (chained (map row_of (drop l.place l.rows)))) ≡ l.fn.self.bytes.items ++ lines_text (rows_lines l.word (chained (map row_of l.rows))))
+    × (l.self.bytes.items ++ lines_text (rows_lines l.word (chained (drop l.place l.rows))) ≡ l.fn.self.bytes.items ++ lines_text (rows_lines l.word (chained l.rows)))
 
 abbrev pub decreases-rows : goal.decreases-rows
 decreases-rows l = length l.rows - l.place

@@ -21,3 +21,9 @@ invariant_of-self-in-Ok-None g c =
     let index = index_push key items c.args.item places (get nat_cmp c.insert.new.self) c.self.invariant c.requires absent
     (λ k. updates.0 k ∙ ap (λ n. cond (is_eq (nat_cmp (key c.args.item) k)) (Some n) (places k)) c.self.inside.items.ok.0 ∙ ap (λ b. cond b (Some (length items)) (places k)) (eq_of_cmp (key c.args.item) k)) in
     rw c.in_ok-push.ensures.items index
+
+pub returns-in_err-push-clause-few : goal.returns-in_err-push-clause-few
+returns-in_err-push-clause-few g c = rw c.in_err-push.ensures.items (index_len g.T.Keyed.key c.self.inside.items.items (get nat_cmp c.self.inside.places) c.self.invariant)
+
+pub returns-in-Ok-None-clause-few : goal.returns-in-Ok-None-clause-few
+returns-in-Ok-None-clause-few g c = index_len g.T.Keyed.key c.push.new.self.items (get nat_cmp c.insert.new.self) (invariant_of-self-in-Ok-None g c)

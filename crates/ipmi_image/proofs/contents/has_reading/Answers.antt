@@ -3,7 +3,7 @@ use Rattle.std.specs.Option.{is_some}
 use Rattle.ipmi_image.specs.declared.stored.StoredSensor.{StoredSensor}
 use Rattle.ipmi_image.specs.Table.{place_of, sensor_key}
 use Rattle.ipmi_image.proofs.TableLemmas.{reading_place}
-use Rattle.ipmi_image.proofs.image.has_reading.Goals as goal
+use Rattle.ipmi_image.proofs.contents.has_reading.Goals as goal
 
 pub returns : goal.returns
 returns c =

@@ -4,7 +4,7 @@ use Rattle.ipmi_bus.specs.Store.{inventory_in}
 use Rattle.ipmi_image.specs.declared.stored.StoredInventory.{StoredInventory}
 use Rattle.ipmi_image.specs.Table.{inventory_of}
 use Rattle.ipmi_image.proofs.TableLemmas.{inventory_find}
-use Rattle.ipmi_image.proofs.image.inventory_len.Goals as goal
+use Rattle.ipmi_image.proofs.contents.inventory_len.Goals as goal
 
 pub returns-in-Some : goal.returns-in-Some
 returns-in-Some c =

@@ -1,0 +1,37 @@
+use Rattle.std.proofs.Common.{rules, ◌≡◌, ◌≤◌, ◌++◌, ◌∷◌, [], None, ap, sym, ◌∙◌, arith, length, List, ℕ, map}
+use Rattle.std.specs.Option.{is_some}
+use Rattle.ipmi_image.specs.Table.{place_of}
+use Rattle.ipmi_image.specs.Rows.{id_of, row_in, row_of}
+use Rattle.ipmi_image.specs.Line.{SavedRow}
+use Rattle.ipmi_image.specs.declared.rows.RowHead.{RowHead}
+use Rattle.ipmi_image.proofs.RowsLemmas.{place_in, rows_with}
+use Rattle.ipmi_image.proofs.rows.Rows.push.Goals as goal
+
+pub overflow_cast-head : goal.overflow_cast-head
+overflow_cast-head c =
+    let size = c.self.invariant.size in
+    let few = c.self.invariant.few in
+    let ok = c.self.inside.bytes.ok.0 in
+    let is = c.len-start.ensures in
+    omega (arith, size, few, ok, is)
+
+pub returns-in-Ok-true : goal.returns-in-Ok-true
+returns-in-Ok-true c =
+    let put = rw c.in-Ok-true.field-0-test at c.in-Ok-true.ensures.ok in
+    let bytes = c.self.inside.bytes.items in
+    let heads = c.self.inside.heads in
+    let more = c.args.row.now.bytes.now in
+    let id = c.args.row.now.id in
+    let next = c.args.row.now.next in
+    let start : c.len-start.result ≡ length bytes = c.len-start.ensures ∙ c.self.inside.bytes.ok.0 in (
+      ap (place_of id_of id) (sym c.self.view_is) ∙ place_in bytes id heads ∙ put.0,
+      ap (λ l. map (row_in l) c.push.new.self) c.in_ok-extend_from_slice.ensures.items
+          ∙ ap (map (row_in (bytes ++ more))) (put.1 ∙ ap (λ n. let head : RowHead = record { id = id; next = next; start = n; len = length more } in heads ++ head ∷ []) start)
+          ∙ rows_with bytes more heads id next c.self.invariant.within
+          ∙ ap (λ (l : List SavedRow). l ++ row_of c.args.row.now ∷ []) c.self.view_is,
+    )
+
+pub returns-in-Ok-false : goal.returns-in-Ok-false
+returns-in-Ok-false c =
+    let put = rw c.in-Ok-false.field-0-test at c.in-Ok-false.ensures.ok in
+    ap (λ l. is_some (place_of id_of c.args.row.now.id l)) (sym c.self.view_is) ∙ ap is_some (place_in c.self.inside.bytes.items c.args.row.now.id c.self.inside.heads) ∙ put.0

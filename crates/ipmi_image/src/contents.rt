@@ -1,0 +1,283 @@
+//! What the lines of an image say, one after the other.
+ghost use Rattle.std.specs.Prelude.{◌≡◌, ◌⊎◌, ◌++◌, ◌∷◌, [], ◌≤◌, List, not, IsTrue, IfErr, IfSome, OnOk, Some, None, unwrap_or, is_some, length, map};
+ghost use Rattle.ipmi_bus.specs.Shelf.{IsShelf};
+ghost use Rattle.ipmi_bus.specs.Store.{IsStore, IsInfo, inventory_in, reading_in};
+ghost use Rattle.ipmi_image.specs.Line as lines;
+ghost use Rattle.ipmi_image.specs.Image.{chained, is_no_record, is_no_id, begins_with_another, first_fault, row_fault, inventory_fault, reading_fault, info_fault, reading_of_bytes, with_bytes};
+ghost use Rattle.ipmi_image.specs.Table as table;
+ghost use Rattle.ipmi_image.specs.Rows.{row_of};
+ghost use Rattle.ipmi_image.specs.Stored.{sensor_of, said, store_of, AreInventories, AreReadings, HoldsLines, IsPut};
+
+use crate::line::{Line, LineFault};
+use crate::rows::{Rows, StoredRow};
+use crate::stored::{StoredInventory, StoredSensor, Table, sensor_key};
+use byteorder::{ByteOrder, LittleEndian};
+use ipmi_bus::Shelf;
+use ipmi_text::Reading;
+use std::alloc::Global;
+
+/// What the lines so far say.
+#[derive(Drop)]
+pub(crate) struct Contents {
+    pub(crate) sdr: Rows,
+    pub(crate) sel: Rows,
+    pub(crate) inventories: Table<StoredInventory>,
+    pub(crate) sensors: Table<StoredSensor>,
+    pub(crate) sdr_info: Option<[u8; 14]>,
+    pub(crate) sel_info: Option<[u8; 14]>,
+}
+
+/// Whether the bytes are as many as a whole record of the shelf.
+fn is_whole(shelf: Shelf, bytes: &[u8]) -> bool
+    ensures whole { result ≡ not (is_no_record shelf bytes.now) }
+    ensures some { IsTrue result → 5 ≤ length bytes.now }
+{
+    let len = bytes.len();
+    match shelf {
+        Shelf::Sdr => len >= 5 && len == 5 + usize::from(bytes[4]) && len <= 256,
+        Shelf::Sel => len == 16,
+    }
+}
+
+/// Whether no record after these has this id.
+#[tactic(auto, using(crate::proofs::TableLemmas::is_empty_chained))]
+fn is_no_id(rows: &Rows, id: u16) -> bool
+    ensures { result ≡ is_no_id (chained rows.now) id }
+{
+    (id == 0 && !rows.is_empty()) || id == 0xFFFF
+}
+
+/// Whether the record is the first, and its bytes begin with another id.
+#[tactic(auto, using(crate::proofs::TableLemmas::is_empty_chained))]
+fn begins_with_another(rows: &Rows, row: &StoredRow) -> bool
+    requires { 2 ≤ length row.now.bytes.now }
+    ensures { result ≡ begins_with_another (chained rows.now) (row_of row.now) }
+{
+    rows.is_empty() && LittleEndian::read_u16(row.bytes) != row.id
+}
+
+/// Why the bytes may not be those of the record after these.
+fn bytes_fault(shelf: Shelf, rows: &Rows, row: &StoredRow) -> Option<LineFault>
+    ensures { result ≡ first_fault ((is_no_record shelf row.now.bytes.now, LineFault.Length) ∷
+        (begins_with_another (chained rows.now) (row_of row.now), LineFault.FirstId) ∷ []) }
+{
+    if !is_whole(shelf, row.bytes) {
+        return Some(LineFault::Length);
+    }
+    if begins_with_another(rows, row) {
+        return Some(LineFault::FirstId);
+    }
+    None
+}
+
+/// Puts the record after these.
+#[tactic(auto, using(crate::proofs::TableLemmas::has_id_place))]
+fn put_row(
+    shelf: Shelf,
+    rows: &mut Rows,
+    id: u16,
+    next: Option<u16>,
+    bytes: &[u8],
+) -> Result<(), LineFault>
+    requires { IsShelf shelf (chained rows.old) }
+    ensures keeps { OnOk result (IsShelf shelf (chained rows.new)) }
+    ensures ok { OnOk result ((row_fault shelf (chained rows.old)
+        (record { id = id; next = next; bytes = bytes.now }) ≡ None) ×
+        (rows.new ≡ rows.old ++ record { id = id; next = next; bytes = bytes.now } ∷ [])) }
+    ensures err { IfErr result (λ e. (e ≡ LineFault.Memory) ⊎ (row_fault shelf (chained rows.old)
+        (record { id = id; next = next; bytes = bytes.now }) ≡ Some e)) }
+{
+    if is_no_id(rows, id) {
+        return Err(LineFault::Id);
+    }
+    let row = StoredRow { id, next, bytes };
+    if let Some(fault) = bytes_fault(shelf, rows, &row) {
+        return Err(if rows.has_id(id) {
+            LineFault::Twice
+        } else {
+            fault
+        });
+    }
+    if rows.push(&row)? {
+        Ok(())
+    } else {
+        Err(LineFault::Twice)
+    }
+}
+
+/// How many bytes the inventory has so far.
+fn inventory_len(inventories: &Table<StoredInventory>, id: u8) -> usize
+    ensures { result ≡ length (unwrap_or (inventory_in (map table.inventory_of inventories.now) id)
+        []) }
+{
+    match inventories.get(u16::from(id)) {
+        Some(inventory) => inventory.bytes.len(),
+        None => 0,
+    }
+}
+
+/// Why the bytes may not be those of the inventory, or more of it.
+fn inventory_fault(inventories: &Table<StoredInventory>, id: u8, bytes: &[u8]) -> Option<LineFault>
+    requires { AreInventories (map table.inventory_of inventories.now) }
+    ensures { result ≡ inventory_fault id (inventory_in (map table.inventory_of inventories.now) id)
+        bytes.now }
+{
+    if id == 0xFF {
+        return Some(LineFault::Id);
+    }
+    if inventory_len(inventories, id) + bytes.len() > 0xFFFF {
+        return Some(LineFault::TooMany);
+    }
+    None
+}
+
+/// Puts the bytes after those of their inventory.
+fn put_inventory(
+    alloc: Global,
+    inventories: &mut Table<StoredInventory>,
+    id: u8,
+    bytes: &[u8],
+) -> Result<(), LineFault>
+    requires { AreInventories (map table.inventory_of inventories.old) }
+    ensures keeps { OnOk result (AreInventories (map table.inventory_of inventories.new)) }
+    ensures ok { OnOk result ((inventory_fault id (inventory_in
+        (map table.inventory_of inventories.old) id) bytes.now ≡ None) ×
+        (map table.inventory_of inventories.new ≡ with_bytes id bytes.now
+        (map table.inventory_of inventories.old))) }
+    ensures err { IfErr result (λ e. (e ≡ LineFault.Memory) ⊎
+        (inventory_fault id (inventory_in (map table.inventory_of inventories.old) id) bytes.now ≡
+        Some e)) }
+{
+    if let Some(fault) = inventory_fault(inventories, id, bytes) {
+        return Err(fault);
+    }
+    match inventories.place(u16::from(id)) {
+        Some(place) => inventories.append(place, bytes)?,
+        None => {
+            let bytes = bytes.to_vec(alloc)?;
+            inventories.push(StoredInventory { id, bytes })?;
+        }
+    }
+    Ok(())
+}
+
+/// Whether the sensor has a reading already.
+fn has_reading(sensors: &Table<StoredSensor>, lun: u8, number: u8) -> bool
+    requires { AreReadings (map sensor_of sensors.now) }
+    ensures { result ≡ is_some (reading_in (map sensor_of sensors.now) lun number) }
+{
+    sensors.place(sensor_key(lun, number)).is_some()
+}
+
+/// Why the bytes may not be the reading of the sensor.
+fn reading_fault(
+    sensors: &Table<StoredSensor>,
+    lun: u8,
+    number: u8,
+    bytes: &[u8],
+) -> Option<LineFault>
+    requires { AreReadings (map sensor_of sensors.now) }
+    ensures { result ≡ reading_fault lun (reading_in (map sensor_of sensors.now) lun number)
+        bytes.now }
+{
+    if lun > 3 {
+        return Some(LineFault::Id);
+    }
+    if has_reading(sensors, lun, number) {
+        return Some(LineFault::Twice);
+    }
+    if bytes.len() != 4 {
+        return Some(LineFault::Length);
+    }
+    None
+}
+
+/// Puts the reading of a sensor after the others.
+fn put_reading(
+    sensors: &mut Table<StoredSensor>,
+    lun: u8,
+    number: u8,
+    bytes: &[u8],
+) -> Result<(), LineFault>
+    requires { AreReadings (map sensor_of sensors.old) }
+    ensures keeps { OnOk result (AreReadings (map sensor_of sensors.new)) }
+    ensures ok { OnOk result ((reading_fault lun (reading_in (map sensor_of sensors.old) lun number)
+        bytes.now ≡ None) × (map sensor_of sensors.new ≡ map sensor_of sensors.old ++ record
+        { lun = lun; number = number; reading = reading_of_bytes bytes.now } ∷ [])) }
+    ensures err { IfErr result (λ e. (e ≡ LineFault.Memory) ⊎
+        (reading_fault lun (reading_in (map sensor_of sensors.old) lun number) bytes.now
+        ≡ Some e)) }
+{
+    if let Some(fault) = reading_fault(sensors, lun, number, bytes) {
+        return Err(fault);
+    }
+    sensors.push(StoredSensor {
+        lun,
+        number,
+        reading: Reading {
+            raw: bytes[0],
+            flags: bytes[1],
+            status: bytes[2],
+            more: bytes[3],
+        },
+    })?;
+    Ok(())
+}
+
+/// Takes the info of a shelf.
+fn put_info(info: &mut Option<[u8; 14]>, bytes: &[u8]) -> Result<(), LineFault>
+    ensures keeps { OnOk result (IfSome info.new IsInfo) }
+    ensures ok { OnOk result ((info_fault info.old bytes.now ≡ None)
+        × (info.new ≡ Some bytes.now)) }
+    ensures err { IfErr result (λ e. info_fault info.old bytes.now ≡ Some e) }
+{
+    if info.is_some() {
+        return Err(LineFault::Twice);
+    }
+    if bytes.len() != 14 {
+        return Err(LineFault::Length);
+    }
+    let mut whole = [0; 14];
+    whole.copy_from_slice(bytes);
+    *info = Some(whole);
+    Ok(())
+}
+
+impl Contents {
+    /// Nothing yet.
+    pub(crate) fn new(alloc: Global) -> Contents
+        ensures empty { HoldsLines result [] }
+        ensures store { IsStore (store_of result) }
+    {
+        Contents {
+            sdr: Rows::new(alloc),
+            sel: Rows::new(alloc),
+            inventories: Table::new(alloc),
+            sensors: Table::new(alloc),
+            sdr_info: None,
+            sel_info: None,
+        }
+    }
+
+    /// Puts what a line with these bytes says after what the lines before say.
+    pub(crate) fn put(&mut self, alloc: Global, line: Line, bytes: &[u8]) -> Result<(), LineFault>
+        requires { IsStore (store_of self.old) }
+        ensures keeps { OnOk result (IsStore (store_of self.new)) }
+        ensures lines { (before : List lines.Line) → HoldsLines self.old before →
+            IsPut self.new before (said bytes.now line) result }
+    {
+        match line {
+            Line::Row { shelf, id, next } => match shelf {
+                Shelf::Sdr => put_row(Shelf::Sdr, &mut self.sdr, id, next, bytes),
+                Shelf::Sel => put_row(Shelf::Sel, &mut self.sel, id, next, bytes),
+            },
+            Line::Inventory(id) => put_inventory(alloc, &mut self.inventories, id, bytes),
+            Line::Reading { lun, number } => put_reading(&mut self.sensors, lun, number, bytes),
+            Line::Info(shelf) => match shelf {
+                Shelf::Sdr => put_info(&mut self.sdr_info, bytes),
+                Shelf::Sel => put_info(&mut self.sel_info, bytes),
+            },
+            Line::End => Ok(()),
+        }
+    }
+}

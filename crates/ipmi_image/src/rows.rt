@@ -1,0 +1,157 @@
+//! The records of a shelf, with their bytes one after the other.
+ghost use Rattle.std.specs.Prelude.{◌≡◌, ◌≤◌, ◌<◌, ◌==◌, ◌^◌, ◌++◌, ◌∷◌, [], MatchBool, IfOk, IfSome, None, true, is_some, option_map, length, drop};
+ghost use Rattle.std.specs.List.{slice_get};
+ghost use Rattle.ipmi_image.specs.Image.{first_id};
+ghost use Rattle.ipmi_image.specs.Table.{place_of};
+ghost use Rattle.ipmi_image.specs.Rows.{id_of, row_of};
+
+use crate::stored::{Keyed, Table};
+use std::alloc::{AllocError, Global};
+use std::marker::Model;
+
+/// A record of a shelf. Without a next id it has the following one's.
+#[derive(Clone, Copy, Debug)]
+pub(crate) struct StoredRow<'a> {
+    pub(crate) id: u16,
+    pub(crate) next: Option<u16>,
+    pub(crate) bytes: &'a [u8],
+}
+
+/// A record of a shelf, with the place and the number of its bytes among those of the shelf.
+#[derive(Clone, Copy, Debug)]
+pub(crate) struct RowHead {
+    id: u16,
+    next: Option<u16>,
+    start: u32,
+    len: u16,
+}
+
+impl Keyed for RowHead {
+    ghost key = { λ head. head.id };
+
+    fn key(&self) -> u16 {
+        self.id
+    }
+}
+
+/// The records of a shelf, in their order. Their bytes are in one `Vec`, so that a record costs no memory of its own.
+#[derive(Drop)]
+pub(crate) struct Rows {
+    heads: Table<RowHead>,
+    bytes: Vec<u8>,
+}
+
+impl Model for Rows {
+    ghost use Rattle.std.specs.Prelude.{List, map};
+    ghost use Rattle.ipmi_image.specs.Line.{SavedRow};
+    ghost use Rattle.ipmi_image.specs.Rows.{row_in, AreHeads};
+
+    ghost Value = { List SavedRow };
+
+    ghost view = { λ rows. map (row_in rows.bytes.items) rows.heads };
+
+    ghost invariant = { λ rows. AreHeads rows.heads rows.bytes.items };
+}
+
+impl Rows {
+    /// No records yet.
+    pub(crate) fn new(alloc: Global) -> Rows
+        ensures { result ≡ [] }
+    {
+        Rows {
+            heads: Table::new(alloc),
+            bytes: Vec::new(alloc),
+        }
+    }
+
+    /// Whether there are none.
+    pub(crate) fn is_empty(&self) -> bool
+        ensures { result ≡ (length self.now == 0) }
+    {
+        self.heads.as_slice().is_empty()
+    }
+
+    /// How many there are.
+    pub(crate) fn len(&self) -> usize
+        ensures len { result ≡ length self.now }
+        ensures few { result ≤ 65535 }
+    {
+        self.heads.as_slice().len()
+    }
+
+    /// The room that lines of these take in an image, at most: 15 characters beside the bytes of each.
+    pub(crate) fn line_room(&self) -> usize
+        ensures few { result ≤ 2 ^ 26 }
+    {
+        self.len() * 15 + self.bytes.len() * 2
+    }
+
+    /// The record at the place.
+    pub(crate) fn get(&self, place: usize) -> Option<StoredRow<'_>>
+        ensures row { option_map row_of result ≡ slice_get self.now place }
+        ensures few { IfSome result (λ row. place < 65535) }
+    {
+        let head = self.heads.as_slice().get(place)?;
+        let start = head.start as usize;
+        let end = start + usize::from(head.len);
+        Some(StoredRow {
+            id: head.id,
+            next: head.next,
+            bytes: &self.bytes[start..end],
+        })
+    }
+
+    /// The id of the record at the place, FFFFh where there is none.
+    pub(crate) fn id_at(&self, place: usize) -> u16
+        ensures { result ≡ first_id (drop place self.now) }
+    {
+        match self.heads.as_slice().get(place) {
+            Some(head) => head.id,
+            None => 0xFFFF,
+        }
+    }
+
+    /// Whether one of them has this id.
+    pub(crate) fn has_id(&self, id: u16) -> bool
+        ensures { result ≡ is_some (place_of id_of id self.now) }
+    {
+        self.heads.place(id).is_some()
+    }
+
+    /// The place of the record with this id. It is looked for at a place and next to it before it is looked up.
+    pub(crate) fn place_near(&self, id: u16, near: usize) -> Option<usize>
+        ensures { result ≡ place_of id_of id self.now }
+    {
+        self.heads.place_near(id, near)
+    }
+
+    /// Puts a record at the end, where none has its id, and says whether it did.
+    pub(crate) fn push(&mut self, row: &StoredRow) -> Result<bool, AllocError>
+        requires id { row.now.id < 65535 }
+        requires fits { length row.now.bytes.now ≤ 256 }
+        ensures { IfOk result (λ is_new. MatchBool is_new
+            ((place_of id_of row.now.id self.old ≡ None) ×
+            (self.new ≡ self.old ++ row_of row.now ∷ []))
+            (is_some (place_of id_of row.now.id self.old) ≡ true)) }
+    {
+        let start = self.bytes.len();
+        self.bytes.extend_from_slice(row.bytes)?;
+        let head = RowHead {
+            id: row.id,
+            next: row.next,
+            start: start as u32,
+            len: row.bytes.len() as u16,
+        };
+        match self.heads.push(head) {
+            Ok(true) => Ok(true),
+            Ok(false) => {
+                self.bytes.truncate(start);
+                Ok(false)
+            }
+            Err(error) => {
+                self.bytes.truncate(start);
+                Err(error)
+            }
+        }
+    }
+}
