@@ -13,6 +13,9 @@ use thiserror::Error;
 /// The bytes of a header.
 const HEADER: usize = 8;
 
+/// Bits 3:0 of the first byte of a header or an area: its format version.
+const VERSION: u8 = 0x0F;
+
 /// The place of the offset of the multirecord area.
 const RECORDS: usize = 5;
 
@@ -54,7 +57,7 @@ pub(crate) fn bytes_of(units: u8) -> usize
 pub(crate) fn has_version_1(byte: u8) -> bool
     ensures { result ≡ (version_in byte == 1) }
 {
-    byte % 16 == 1
+    byte & VERSION == 1
 }
 
 /// The sum of the bytes modulo 256.

@@ -8,6 +8,12 @@ use thiserror::Error;
 /// The bytes of a record's header.
 const HEADER: usize = 5;
 
+/// Bits 3:0 of a record's second byte: the version of its format.
+const VERSION: u8 = 0x0F;
+
+/// Bit 7 of it: the record is the last one.
+const LAST: u8 = 0x80;
+
 /// Why a record can't be read. The first one that applies is the answer: Outside for the header, HeaderSum, Outside for the
 /// data, DataSum.
 #[derive(Clone, Copy, Debug, PartialEq, Eq, Error)]
@@ -73,8 +79,8 @@ fn read_record(bytes: &[u8]) -> Result<(MultiView<'_>, &[u8]), MultiFault>
     }
     let view = MultiView {
         kind: bytes[0],
-        version: bytes[1] % 16,
-        last: bytes[1] >= 128,
+        version: bytes[1] & VERSION,
+        last: bytes[1] & LAST != 0,
         bytes: data,
     };
     Ok((view, &bytes[end..]))

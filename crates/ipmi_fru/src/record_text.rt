@@ -1,5 +1,5 @@
 //! The lines of multirecords.
-ghost use Rattle.std.specs.Prelude.{◌≡◌, ◌≤◌, ◌+◌, IfOk, length, string_bytes};
+ghost use Rattle.std.specs.Prelude.{◌≡◌, ◌%◌, ◌≤◌, ◌+◌, IfOk, length, string_bytes};
 ghost use Rattle.byteorder.specs.Endian.{twos_complement};
 ghost use Rattle.ipmi_fru.specs.Multirecord.{item_of, items_left, record_of};
 ghost use Rattle.ipmi_fru.specs.Print.{number_at, IsVoltsAt, current_text, dc_start, before_low, before_high, standby_text, IsDcText, access_text, access_line, other_line, form_of, IsRecordText, IsItemText, AreItemTexts};
@@ -32,6 +32,9 @@ const MANAGEMENT_ACCESS: u8 = 3;
 
 /// The least number of data bytes of a DC output and of a DC load.
 const DC_LEN: usize = 13;
+
+/// Bit 7 of the first data byte of a DC output: it is a standby one.
+const STANDBY: u8 = 0x80;
 
 /// Which record of direct current it is.
 #[derive(Clone, Copy)]
@@ -118,12 +121,19 @@ fn words_of(kind: DcKind) -> DcWords
     }
 }
 
+/// Bits 3:0 of the first data byte of a DC record: the number of the output or the load.
+fn number_of(byte: u8) -> u8
+    ensures { result ≡ byte % 16 }
+{
+    byte & 0x0F
+}
+
 /// Whether an output is a standby one, by the byte of its number.
 fn standby_text(kind: DcKind, byte: u8) -> &'static str
     ensures { result.now ≡ standby_text kind byte }
 {
     match kind {
-        DcKind::Output if byte >= 128 => " standby",
+        DcKind::Output if byte & STANDBY != 0 => " standby",
         DcKind::Output | DcKind::Load => "",
     }
 }
@@ -138,7 +148,7 @@ fn dc_text(alloc: Global, kind: DcKind, bytes: &[u8]) -> Result<String, AllocErr
         before_low,
         before_high,
     } = words_of(kind);
-    let number = bytes[0] % 16;
+    let number = number_of(bytes[0]);
     let standby = standby_text(kind, bytes[0]);
     let nominal = volts_text(alloc, bytes, 1)?;
     let low = volts_text(alloc, bytes, 3)?;

@@ -12,6 +12,7 @@ returns c =
     let start = c.words_of.ensures.start in
     let before_low = c.words_of.ensures.low in
     let before_high = c.words_of.ensures.high in
+    let number = c.number_of-number.ensures in
     let standby = c.standby_text-standby.ensures in
     let current = c.in_ok-current.ensures in
     said (IsDcText c.args.kind bytes) c.format.result _ c.format.ensures.ok (record {
@@ -19,5 +20,5 @@ returns c =
       low = low;
       high = high;
       volts = record { nominal_is = c.in_ok-nominal.ensures; low_is = c.in_ok-low.ensures; high_is = c.in_ok-high.ensures };
-      text_is = rw (start, before_low, before_high, standby, current) refl;
+      text_is = rw (start, before_low, before_high, number, standby, current) refl;
     })
