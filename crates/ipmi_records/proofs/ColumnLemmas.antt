@@ -3,17 +3,18 @@ use Rattle.std.proofs.Common.{◌≡◌, ◌∙◌, ℕ, ℤ, Option, Some, List
 use Rattle.ipmi_text.specs.Appended.{Appends}
 use Rattle.ipmi_text.specs.Decimal.{IsDecimalOf}
 use Rattle.ipmi_text.specs.ReadingValue.{reading_value}
-use Rattle.ipmi_records.specs.Columns.{IsRawText, IsValueText, after_space, unit_text_in}
+use Rattle.ipmi_text.specs.Units.{after_space}
+use Rattle.ipmi_records.specs.Columns.{IsRawText, IsValueText, unit_text_in}
 use Rattle.ipmi_records.specs.Sensor.{factors_in}
 
 -- a number and its unit
-pub quantity_appended : (bytes gap unit old number new : List ℕ) (raw : ℕ) (value : ℤ) → Some value ≡ reading_value (factors_in bytes) raw → Appends (IsDecimalOf value) old number
-    → unit ≡ unit_text_in bytes → gap ++ unit ≡ after_space unit → new ≡ number ++ (gap ++ unit) → Appends (IsRawText bytes raw) old new
-quantity_appended bytes gap unit old number new raw value value_is h unit_is gap_is text_is =
+pub quantity_appended : (bytes unit old number new : List ℕ) (raw : ℕ) (value : ℤ) → Some value ≡ reading_value (factors_in bytes) raw → Appends (IsDecimalOf value) old number
+    → unit ≡ unit_text_in bytes → new ≡ number ++ after_space unit → Appends (IsRawText bytes raw) old new
+quantity_appended bytes unit old number new raw value value_is h unit_is text_is =
     let part = h.part ++ after_space (unit_text_in bytes) in
     record {
       part = part;
       is_text = subst (λ (v : Option ℤ). IsValueText v (unit_text_in bytes) raw part) value_is (record { number = h.part; is_decimal = h.is_text; text_is = refl });
-      text_is = text_is ∙ ap (λ (l : List ℕ). number ++ l) (gap_is ∙ ap after_space unit_is) ∙ ap (λ (l : List ℕ). l ++ after_space (unit_text_in bytes)) h.text_is
+      text_is = text_is ∙ ap (λ (l : List ℕ). number ++ after_space l) unit_is ∙ ap (λ (l : List ℕ). l ++ after_space (unit_text_in bytes)) h.text_is
           ∙ append_assoc old h.part (after_space (unit_text_in bytes));
     }

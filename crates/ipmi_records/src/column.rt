@@ -2,12 +2,12 @@
 ghost use Rattle.std.specs.Prelude.{◌≡◌, ◌++◌, OnOk, string_bytes};
 ghost use Rattle.ipmi_text.specs.Appended.{Appends};
 ghost use Rattle.ipmi_text.specs.Units.{unit_text_of};
-ghost use Rattle.ipmi_records.specs.Columns.{IsAnalogColumn, IsFullColumn, IsRawText, IsReadingColumn, after_space, compact_column, fru_column, has_analog, has_thresholds, is_there, sensor_status, shown_of, shown_reading, states_text, status_of, threshold_status, unit_text_in};
+ghost use Rattle.ipmi_records.specs.Columns.{IsAnalogColumn, IsFullColumn, IsRawText, IsReadingColumn, compact_column, fru_column, has_analog, has_thresholds, is_there, sensor_status, shown_of, shown_reading, states_text, status_of, threshold_status, unit_text_in};
 
 use crate::digits::{ByteH, HexWord, has_bit};
 use crate::sdr::{OWN_ADDRESS, SdrView};
 use crate::sensor::{FullSensor, Sensor};
-use ipmi_text::{HexByte, Reading, Units, convert, push_fixed};
+use ipmi_text::{HexByte, Reading, Units, convert, push_fixed, push_units};
 use std::alloc::AllocError;
 use std::fmt;
 
@@ -66,14 +66,6 @@ fn units_of(full: &FullSensor) -> Units
     }
 }
 
-/// What is between a number and its units.
-fn gap_before(units: Units) -> &'static str
-    ensures { result.now ++ unit_text_of units.units1 units.base units.modifier ≡ after_space
-        (unit_text_of units.units1 units.base units.modifier) }
-{
-    if units.is_empty() { "" } else { " " }
-}
-
 /// Appends what a raw byte of a full record's sensor means.
 pub(crate) fn push_raw(text: &mut String, full: &FullSensor, raw: u8) -> Result<(), AllocError>
     ensures { OnOk result
@@ -84,9 +76,7 @@ pub(crate) fn push_raw(text: &mut String, full: &FullSensor, raw: u8) -> Result<
         return write!(text, "raw 0x{raw}");
     };
     push_fixed(text, value)?;
-    let units = units_of(full);
-    let gap = gap_before(units);
-    write!(text, "{gap}{units}")
+    push_units(text, units_of(full))
 }
 
 /// Appends the states of a discrete sensor.

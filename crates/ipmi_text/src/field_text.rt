@@ -1,5 +1,5 @@
 //! The texts of type/length fields.
-ghost use Rattle.std.specs.Prelude.{◌≡◌, ◌<◌, ◌≤◌, ◌++◌, IfOk, IsAscii, IsTrue, OnOk, length, slice_index, string_bytes, take};
+ghost use Rattle.std.specs.Prelude.{◌≡◌, ◌<◌, ◌≤◌, ◌++◌, ◌↔◌, IfOk, IfSome, IsAscii, IsTrue, OnOk, length, slice_index, string_bytes, take};
 ghost use Rattle.ipmi_text.specs.FieldText.{bcd_plus_character, bcd_plus_text, bytes_used, fru_text_of, is_english, latin1_character, latin1_text, sdr_text_of, six_bit_text};
 
 use std::alloc::{AllocError, Global};
@@ -79,11 +79,38 @@ fn latin1_character(byte: u8) -> u8
     }
 }
 
+/// Whether a byte is printed as itself, and is one byte of UTF-8.
+fn is_plain(byte: u8) -> bool
+    ensures { IsTrue result ↔ (0x20 ≤ byte) × (byte ≤ 0x7e) }
+{
+    0x20 <= byte && byte <= 0x7e
+}
+
+/// The text of bytes that are all printed as themselves.
+#[tactic(auto, using(crate::proofs::FieldLemmas::all_plain))]
+fn plain_text(bytes: &[u8]) -> Option<&str>
+    ensures { IfSome result (λ text. text.now ≡ latin1_text bytes.now) }
+{
+    for byte in bytes {
+        if !is_plain(*byte) {
+            return None;
+        }
+    }
+    match str::from_utf8(bytes) {
+        Ok(text) => Some(text),
+        Err(_) => None,
+    }
+}
+
 /// Appends the text of 8-bit ASCII and Latin-1, as far as the first 00h.
 fn push_latin1_text(text: &mut String, bytes: &[u8]) -> Result<(), AllocError>
     ensures { OnOk result
         (string_bytes text.new ≡ string_bytes text.old ++ latin1_text bytes.now) }
 {
+    // most texts are plain, and such a one is appended at once
+    if let Some(plain) = plain_text(bytes) {
+        return text.push_str(plain);
+    }
     for byte in bytes {
         if *byte == 0 {
             return Ok(());

@@ -23,4 +23,4 @@ pub use reading::Reading;
 pub use room::text_with_room;
 pub use sensor_types::{SensorType, sensor_type_text};
 pub use times::{Moment, UtcTime, minutes_text, utc_text};
-pub use units::{Units, unit_text};
+pub use units::{Units, push_units, unit_text};

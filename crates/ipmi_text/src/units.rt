@@ -1,6 +1,6 @@
 //! The units of a sensor's readings.
-ghost use Rattle.std.specs.Prelude.{◌≡◌, [], ◌++◌, ◌&&◌, IfOk, codes, if◌then◌else◌, not, string_bytes};
-ghost use Rattle.ipmi_text.specs.Units.{is_not_empty, modifier_part, percent_part, rate_part, unit_name_or_code, unit_text_of};
+ghost use Rattle.std.specs.Prelude.{◌≡◌, [], ◌++◌, ◌&&◌, IfOk, IfSome, OnOk, codes, if◌then◌else◌, not, option_map, string_bytes};
+ghost use Rattle.ipmi_text.specs.Units.{after_space, is_not_empty, modifier_part, percent_part, rate_part, unit_name, unit_name_or_code, unit_text_of};
 
 use crate::names::{HexByte, entry};
 use crate::room::text_with_room;
@@ -43,6 +43,13 @@ const ROOM: usize = 32;
 const RATES: [&str; 8] = [
     "", "per us", "per ms", "per s", "per min", "per hour", "per day", "",
 ];
+
+/// The name of a unit, where it has one.
+fn unit_name(code: u8) -> Option<&'static str>
+    ensures { option_map (λ s. s.now) result ≡ unit_name code }
+{
+    entry(UNITS.as_slice(), code as usize)
+}
 
 /// A base or modifier unit, printed as its name, or as `unit 0xNN` where it has none.
 #[derive(Clone, Copy, Debug)]
@@ -151,8 +158,20 @@ pub struct Units {
 }
 
 impl Units {
+    /// What they print as, where that is the name of the base unit and no more.
+    fn plain_name(self) -> Option<&'static str>
+        ensures { IfSome result (λ name. name.now ≡ unit_text_of self.units1 self.base
+            self.modifier) }
+    {
+        if self.units1 % 64 == 0 {
+            unit_name(self.base)
+        } else {
+            None
+        }
+    }
+
     /// Whether they print as nothing.
-    pub fn is_empty(self) -> bool
+    fn is_empty(self) -> bool
         ensures { result ≡ not (is_not_empty (unit_text_of self.units1 self.base self.modifier)) }
     {
         let unit = BaseUnit {
@@ -186,6 +205,43 @@ impl fmt::Display for Units {
         let first = gap(has_percent, has_unit);
         let second = gap(has_percent || has_unit, !rate.is_empty());
         write!(f, "{percent}{first}{unit}{second}{rate}")
+    }
+}
+
+/// The space before units, where they are not empty.
+fn gap_before(units: Units) -> &'static str
+    ensures { result.now ++ unit_text_of units.units1 units.base units.modifier ≡ after_space
+        (unit_text_of units.units1 units.base units.modifier) }
+{
+    if units.is_empty() { "" } else { " " }
+}
+
+/// Appends a space and a text, and nothing where that is empty.
+#[tactic(auto, using(crate::proofs::UnitLemmas::space_before, crate::proofs::UnitLemmas::nothing_before))]
+fn push_after_space(text: &mut String, part: &str) -> Result<(), AllocError>
+    ensures { OnOk result
+        (string_bytes text.new ≡ string_bytes text.old ++ after_space part.now) }
+{
+    if part.is_empty() {
+        return Ok(());
+    }
+    text.push(' ')?;
+    text.push_str(part)?;
+    Ok(())
+}
+
+/// Appends a space and units, and nothing where these print as nothing.
+pub fn push_units(text: &mut String, units: Units) -> Result<(), AllocError>
+    ensures { OnOk result (string_bytes text.new ≡ string_bytes text.old ++ after_space
+        (unit_text_of units.units1 units.base units.modifier)) }
+{
+    // most sensors have a base unit and nothing else
+    match units.plain_name() {
+        Some(name) => push_after_space(text, name),
+        None => {
+            let gap = gap_before(units);
+            write!(text, "{gap}{units}")
+        }
     }
 }
 

@@ -1,7 +1,7 @@
 //! Texts that are displayed in another text, or appended to it.
 use crate::cases::{byte_of, is_text, parts};
 use ipmi_text::{
-    EventWords, Fixed, HexByte, SensorType, Units, UtcTime, push_fixed, push_sdr_text,
+    EventWords, Fixed, HexByte, SensorType, Units, UtcTime, push_fixed, push_sdr_text, push_units,
     text_with_room,
 };
 use std::alloc::{AllocError, Global};
@@ -32,6 +32,15 @@ fn a_byte_is_two_hex_digits(rt: HostRuntime) {
     }
 }
 
+/// Units by their bytes.
+fn units(units1: u8, base: u8, modifier: u8) -> Units {
+    Units {
+        units1,
+        base,
+        modifier,
+    }
+}
+
 /// One of each type that is displayed, in a text far past its room.
 fn displayed(alloc: Global) -> Result<String, AllocError> {
     let kind = SensorType(0x04);
@@ -40,11 +49,7 @@ fn displayed(alloc: Global) -> Result<String, AllocError> {
         data1: 0x59,
     };
     let time = UtcTime::of(0x22bb_5951);
-    let units = Units {
-        units1: 0x18,
-        base: 0x12,
-        modifier: 0,
-    };
+    let units = units(0x18, 0x12, 0x00);
     text_with_room(
         alloc,
         8,
@@ -58,14 +63,20 @@ fn a_text_grows_past_its_room(rt: HostRuntime) {
     is_text(&rt, displayed(rt.alloc()), wanted, "past the room");
 }
 
-/// A decimal and two ID strings after other texts.
+/// A decimal, units and ID strings after other texts.
 fn appended(alloc: Global) -> Result<String, AllocError> {
     let mut text = String::from_str(alloc, "at ")?;
     push_fixed(&mut text, Fixed(-15_000_000_000_000_000))?;
+    push_units(&mut text, units(0x00, 0x01, 0x00))?;
+    push_units(&mut text, units(0x00, 0x00, 0x00))?;
+    push_units(&mut text, units(0x0a, 0x07, 0x16))?;
+    push_units(&mut text, units(0x01, 0x00, 0x00))?;
     text.push_str(" of ")?;
     push_sdr_text(alloc, &mut text, 0xc4, b"CPU1 Temp")?;
     text.push_str(", ")?;
     push_sdr_text(alloc, &mut text, 0x43, b"\x12\x3b")?;
+    text.push_str(", ")?;
+    push_sdr_text(alloc, &mut text, 0xc4, b"A\x7f\0B")?;
     Ok(text)
 }
 
@@ -74,7 +85,7 @@ fn parts_are_appended(rt: HostRuntime) {
     is_text(
         &rt,
         appended(rt.alloc()),
-        "at -1.5 of CPU1, 123",
+        "at -1.5 degrees C Joules/second per us % of CPU1, 123, A.",
         "appended",
     );
 }

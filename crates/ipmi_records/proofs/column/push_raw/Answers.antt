@@ -8,6 +8,6 @@ use Rattle.ipmi_records.proofs.column.push_raw.Goals as goal
 
 pub returns : goal.returns
 returns c =
-    let units = c.units_of-units.result in
+    let units = c.units_of.result in
     let value_is : Some c.in-Some.value.0 ≡ reading_value (factors_in c.args.full.now) c.args.raw = search rules in
-    IfOk-weaker c.write-2.result _ _ (λ _ h. quantity_appended c.args.full.now c.gap_before-gap.result.now (unit_text_of units.units1 units.base units.modifier) (string_bytes c.args.text.now) (string_bytes c.push_fixed.new.text) (string_bytes c.write-2.new.self) c.args.raw c.in-Some.value.0 value_is c.in_ok-push_fixed.ensures c.units_of-units.ensures c.gap_before-gap.ensures h) c.write-2.ensures.bytes
+    IfOk-weaker c.push_units.result _ _ (λ _ h. quantity_appended c.args.full.now (unit_text_of units.units1 units.base units.modifier) (string_bytes c.args.text.now) (string_bytes c.push_fixed.new.text) (string_bytes c.push_units.new.text) c.args.raw c.in-Some.value.0 value_is c.in_ok-push_fixed.ensures c.units_of.ensures h) c.push_units.ensures
