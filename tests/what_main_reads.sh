@@ -52,6 +52,7 @@ expect 0 "$(tail -n 2 <<< "$lines")" '' "$program" sdr --from 0002 --image="$sma
 expect 3 '' "cannot read $work/none" "$program" --image "$work/none" < "$small"
 expect 3 '' "cannot read $work" "$program" --image "$work" < "$small"
 expect 3 '' 'cannot read ' "$program" --image '' < "$small"
+expect 3 '' "cannot read $work/a\\x0Ab\\x1B" "$program" --image "$work/a"$'\nb\e' < "$small"
 expect 3 '' 'cannot read standard input' "$program" < "$work"
 
 # After a usage fault the rest of standard input is all of it, and no file is opened.

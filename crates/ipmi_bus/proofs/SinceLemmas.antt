@@ -1,5 +1,5 @@
 -- The reading of a record, call after call.
-use Rattle.std.proofs.Common.{◌≡◌, ℕ, ◌+◌, ◌*◌, ◌<◌, ◌≤◌, Option, None, Some, Result, Ok, Err, refl, sym, ap, subst, ◌∙◌, arith, ◌-◌}
+use Rattle.std.proofs.Common.{◌≡◌, ℕ, ◌+◌, ◌*◌, ◌<◌, ◌≤◌, Bool, true, false, Option, None, Some, Result, Ok, Err, refl, sym, ap, subst, ◌∙◌, arith, ◌-◌}
 use Rattle.std.specs.Prelude.{IsSome}
 use Rattle.ipmi_bus.specs.Bounds.{digits, step_call_bound}
 use Rattle.ipmi_bus.specs.declared.controller.Shelf.{Shelf}
@@ -8,13 +8,11 @@ use Rattle.ipmi_bus.specs.declared.step.Ended.TheVariants.{Cycle, Missing, Refus
 use Rattle.ipmi_bus.specs.declared.retrieval.Outcome.{Outcome}
 use Rattle.ipmi_bus.specs.declared.retrieval.Outcome.TheVariants.{Again, Whole, Absent}
 use Rattle.ipmi_bus.specs.declared.retrieval.Retrieval.{Retrieval}
-use Rattle.ipmi_bus.specs.declared.retrieval.Retrieved.{Retrieved}
-use Rattle.ipmi_bus.specs.declared.retrieval.Retrieved.TheVariants.{Complete, Nothing}
 use Rattle.ipmi_bus.specs.Shelf.{look, len_of, largest_len}
 use Rattle.ipmi_bus.specs.Store.{Store, rows_of}
 use Rattle.ipmi_bus.specs.Seen.{stays_refl, stays_trans, Seen, IsHonest, KeepsStore, StaysHonest, current}
-use Rattle.ipmi_bus.specs.Retrieval.{row_len, IsOpen, SameRequest, IsReading, IsCalm, KeepsHeld, CallAnswers, CallIsPlain, CallIsHonest, CallLeaves, calls_left, unreserved}
-use Rattle.ipmi_bus.specs.Since.{begun, HonestSince, Since, ReadAnswers, ReadIsPlain, ReadIsHonest}
+use Rattle.ipmi_bus.specs.Retrieval.{row_len, IsOpen, SameRequest, IsReading, IsCalm, KeepsHeld, CallAnswers, CallIsPlain, CallIsHonest, CallIsAnswered, CallLeaves, calls_left, unreserved}
+use Rattle.ipmi_bus.specs.Since.{begun, HonestSince, Since, ReadAnswers, ReadIsPlain, ReadIsHonest, EndsRead, IsEnded}
 use Rattle.ipmi_bus.specs.Tries.{WithinTries}
 
 pub store_trans : (a b c : Seen) → KeepsStore a b → KeepsStore b c → KeepsStore a c
@@ -161,10 +159,13 @@ module _ (old : Retrieval) (id : ℕ) (now new : Retrieval) (s s' s'' : Seen) (s
   }
 
   -- the answer of the last call is that of the whole reading
-  abbrev read_result : Result Outcome Ended → Result Retrieved Ended
-  read_result (Ok Again) = Ok Nothing
-  read_result (Ok Whole) = Ok Complete
-  read_result (Ok Absent) = Ok Nothing
+  abbrev is_there : Outcome → Bool
+  is_there Again = false
+  is_there Whole = true
+  is_there Absent = false
+
+  abbrev read_result : Result Outcome Ended → Result Bool Ended
+  read_result (Ok turn) = Ok (is_there turn)
   read_result (Err e) = Err e
 
   answers_of : (result : Result Outcome Ended) → (result ≡ Ok Again → ⊥) → HonestSince (begun old id) now s s' → CallAnswers now new s' s'' result → ReadAnswers old id new s s'' (read_result result)
@@ -213,16 +214,9 @@ module _ (old : Retrieval) (id : ℕ) (now new : Retrieval) (s s' s'' : Seen) (s
       let all = keeps_trans (begun old id) now new s s' s'' since.request.shelf before (turn.keeps (subst IsSome (sym before.held) some) second) in
       record { held = all.held; none_given = all.none_given }
 
-  fine_of : (result : Result Outcome Ended) → (result ≡ Ok Again → ⊥) → CallIsPlain now new s'' result → ReadIsPlain new s'' (read_result result)
-  fine_of (Ok Again) not_again plain = absurd (not_again refl)
-  fine_of (Ok Whole) not_again plain = record { holds = plain.holds; fine = tt }
-  fine_of (Ok Absent) not_again plain = record { holds = plain.holds; fine = tt }
-  fine_of (Err (GaveUp n)) not_again plain = absurd plain.fine
-  fine_of (Err (Refused n code)) not_again plain = absurd plain.fine
-  fine_of (Err (Cycle n)) not_again plain = record { holds = plain.holds; fine = tt }
-  fine_of (Err (Missing n)) not_again plain = record { holds = plain.holds; fine = tt }
-  fine_of (Err (Stalled n)) not_again plain = record { holds = plain.holds; fine = tt }
-  fine_of (Err (Malformed n)) not_again plain = record { holds = plain.holds; fine = tt }
+  fine_of : (result : Result Outcome Ended) → CallIsPlain now new s'' result → ReadIsPlain new s'' (read_result result)
+  fine_of (Ok turn) plain = record { holds = plain.holds; fine = tt }
+  fine_of (Err ended) plain = record { holds = plain.holds; fine = plain.fine }
 
   honest_ends : (result : Result Outcome Ended) → (result ≡ Ok Again → ⊥) → (IsHonest s' → IsReading now s' → CallIsHonest now new s' s'' result) → new.part ≡ now.part → IsHonest s → ReadIsHonest old id new s s'' (read_result result)
   honest_ends result not_again honest part h =
@@ -233,7 +227,7 @@ module _ (old : Retrieval) (id : ℕ) (now new : Retrieval) (s s' s'' : Seen) (s
         answers = answers_of result not_again so_far turn.answers;
         keeps = keeps_to_end result so_far turn;
         calls = row_bound turn.stays so_far part;
-        plain = λ p holds. fine_of result not_again (turn.plain (so_far.stays.plain p) (so_far.plain p (record { held = holds.held })).holds);
+        plain = λ p holds. fine_of result (turn.plain (so_far.stays.plain p) (so_far.plain p (record { held = holds.held })).holds);
       }
 
   -- the part size is that before the last call
@@ -255,3 +249,8 @@ module _ (old : Retrieval) (id : ℕ) (now new : Retrieval) (s s' s'' : Seen) (s
 
   pub ends_err : (ended : Ended) (result : Result Outcome Ended) → result ≡ Err ended → CallLeaves now new result → (IsHonest s' → IsReading now s' → CallIsHonest now new s' s'' result) → IsHonest s → ReadIsHonest old id new s s'' (Err ended)
   ends_err ended result is leaves honest h = ends_as (Err ended) result is (λ e. cc e) leaves honest h
+
+-- so it is over any controller
+pub ended_as : (last new : Retrieval) (outcome t : Result Outcome Ended) (result : Result Bool Ended) → outcome ≡ t → CallIsAnswered last.reservation last new outcome → EndsRead t result → IsEnded new result
+ended_as last new outcome t result is answered ends =
+    record { last = last; outcome = t; answered = subst (λ (x : Result Outcome Ended). CallIsAnswered last.reservation last new x) is answered; ends = ends }

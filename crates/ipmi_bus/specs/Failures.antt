@@ -7,7 +7,7 @@ use Rattle.ipmi_bus.specs.declared.step.Ended.{Ended}
 use Rattle.ipmi_bus.specs.declared.step.Ended.TheVariants.{Refused, GaveUp}
 use Rattle.ipmi_bus.specs.declared.readers.ValueFailure.{ValueFailure}
 use Rattle.ipmi_bus.specs.declared.readers.ValueFailure.TheVariants.{Again, Absent}
-use Rattle.ipmi_bus.specs.Seen.{Seen, StaysHonest}
+use Rattle.ipmi_bus.specs.Seen.{Seen, IsHonest, StaysHonest}
 use Rattle.ipmi_bus.specs.Readers.{KeepsReservations}
 
 -- one trouble more, or it was one too many
@@ -30,3 +30,8 @@ pub record HasAsked (troubles : ℕ) (s s' : Seen) : Type 0 where
   pub refusals : s'.refusals ≡ s.refusals
   pub last_code : s'.last_code ≡ s.last_code
   pub plain : IsTrue s.plain → (troubles ≡ 0) × KeepsReservations s s'
+
+-- the same call was made so often, each time with a trouble
+abbrev pub IsAsking : ℕ → ℕ → Seen → Seen → Type 0
+IsAsking troubles tries s s' =
+    (troubles ≤ tries) × (s'.calls ≡ s.calls + troubles) × (IsHonest s → HasAsked troubles s s')

@@ -15,6 +15,7 @@ use Rattle.ipmi_bus.specs.Shelf.{Row, look, len_of, largest_len}
 use Rattle.ipmi_bus.specs.Store.{rows_of}
 use Rattle.ipmi_bus.specs.Seen.{Seen, current, IsRefused, StaysHonest}
 use Rattle.ipmi_bus.specs.Answers.{Asked}
+use Rattle.ipmi_bus.specs.Tries.{NotGivenUpOrRefused}
 use Rattle.ipmi_bus.specs.Bounds.{digits}
 use Rattle.ipmi_bus.specs.Calls.{asked_len, smaller_part}
 use Rattle.ipmi_bus.specs.Code.{class_of}
@@ -113,19 +114,9 @@ CallAnswers old new s s' (Err (Missing id)) = ⊥
 CallAnswers old new s s' (Err (Stalled id)) = ⊥
 CallAnswers old new s s' (Err (Malformed id)) = ⊥
 
--- neither given up nor refused
-abbrev pub IsFine : Result Outcome Ended → Type 0
-IsFine (Ok turn) = Unit {0}
-IsFine (Err (GaveUp id)) = ⊥
-IsFine (Err (Refused id code)) = ⊥
-IsFine (Err (Cycle id)) = Unit {0}
-IsFine (Err (Missing id)) = Unit {0}
-IsFine (Err (Stalled id)) = Unit {0}
-IsFine (Err (Malformed id)) = Unit {0}
-
 pub record CallIsPlain (old new : Retrieval) (s' : Seen) (result : Result Outcome Ended) : Type 0 where
   pub holds : HoldsCurrent new s'
-  pub fine : IsFine result
+  pub fine : NotGivenUpOrRefused result
   pub troubles : new.troubles ≡ old.troubles
 
 -- A call of an honest controller. Where a reservation is held and no trouble comes, none is asked

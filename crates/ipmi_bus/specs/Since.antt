@@ -1,17 +1,15 @@
 -- What holds since the reading of a record began, and when it ends.
-use Rattle.std.specs.Prelude.{◌≡◌, ℕ, ◌+◌, ◌≤◌, IsTrue, IsSome, None, Result, Ok, Err, length}
+use Rattle.std.specs.Prelude.{◌≡◌, ℕ, ◌+◌, ◌≤◌, Bool, true, false, IsTrue, IsSome, None, Result, Ok, Err, length}
 use Rattle.ipmi_bus.specs.declared.step.Ended.{Ended}
 use Rattle.ipmi_bus.specs.declared.step.Ended.TheVariants.{Cycle, Missing, Refused, GaveUp, Stalled, Malformed}
 use Rattle.ipmi_bus.specs.declared.retrieval.Retrieval.{Retrieval}
 use Rattle.ipmi_bus.specs.declared.retrieval.Outcome.{Outcome}
 use Rattle.ipmi_bus.specs.declared.retrieval.Outcome.TheVariants.{Again, Whole, Absent}
-use Rattle.ipmi_bus.specs.declared.retrieval.Retrieved.{Retrieved}
-use Rattle.ipmi_bus.specs.declared.retrieval.Retrieved.TheVariants.{Complete, Nothing}
 use Rattle.ipmi_bus.specs.declared.controller.Shelf.TheVariants.{Sdr}
 use Rattle.ipmi_bus.specs.Shelf.{Row, look, largest_len}
 use Rattle.ipmi_bus.specs.Store.{rows_of}
 use Rattle.ipmi_bus.specs.Seen.{Seen, IsHonest, StaysHonest}
-use Rattle.ipmi_bus.specs.Tries.{WithinTries, GivesUp, IsRefusedWith}
+use Rattle.ipmi_bus.specs.Tries.{WithinTries, GivesUp, IsRefusedWith, NotGivenUpOrRefused}
 use Rattle.ipmi_bus.specs.Bounds.{digits, step_call_bound}
 use Rattle.ipmi_bus.specs.Retrieval.{IsOpen, SameRequest, HasRead, IsReading, HoldsCurrent, KeepsHeld, CallIsAnswered, calls_left, row_len, wanted_len}
 
@@ -51,9 +49,9 @@ pub record ReadsNone (old : Retrieval) (id : ℕ) (s s' : Seen) : Type 0 where
   pub within : WithinTries old.tries s s'
   pub absent : look (rows_of old.shelf s'.store) id ≡ None
 
-abbrev pub ReadAnswers : Retrieval → ℕ → Retrieval → Seen → Seen → Result Retrieved Ended → Type 0
-ReadAnswers old id new s s' (Ok Complete) = (row : Row) × ReadsRow old new s s' row
-ReadAnswers old id new s s' (Ok Nothing) = ReadsNone old id s s'
+abbrev pub ReadAnswers : Retrieval → ℕ → Retrieval → Seen → Seen → Result Bool Ended → Type 0
+ReadAnswers old id new s s' (Ok true) = (row : Row) × ReadsRow old new s s' row
+ReadAnswers old id new s s' (Ok false) = ReadsNone old id s s'
 ReadAnswers old id new s s' (Err (GaveUp n)) = GivesUp old.tries s s'
 ReadAnswers old id new s s' (Err (Refused n code)) = IsRefusedWith old.tries code.0 s s'
 ReadAnswers old id new s s' (Err (Cycle n)) = ⊥
@@ -61,22 +59,12 @@ ReadAnswers old id new s s' (Err (Missing n)) = ⊥
 ReadAnswers old id new s s' (Err (Stalled n)) = ⊥
 ReadAnswers old id new s s' (Err (Malformed n)) = ⊥
 
--- neither given up nor refused
-abbrev pub IsFineRead : Result Retrieved Ended → Type 0
-IsFineRead (Ok retrieved) = Unit {0}
-IsFineRead (Err (GaveUp id)) = ⊥
-IsFineRead (Err (Refused id code)) = ⊥
-IsFineRead (Err (Cycle id)) = Unit {0}
-IsFineRead (Err (Missing id)) = Unit {0}
-IsFineRead (Err (Stalled id)) = Unit {0}
-IsFineRead (Err (Malformed id)) = Unit {0}
-
-pub record ReadIsPlain (new : Retrieval) (s' : Seen) (result : Result Retrieved Ended) : Type 0 where
+pub record ReadIsPlain (new : Retrieval) (s' : Seen) (result : Result Bool Ended) : Type 0 where
   pub holds : HoldsCurrent new s'
-  pub fine : IsFineRead result
+  pub fine : NotGivenUpOrRefused result
 
 -- over an honest controller: where a reservation is held and no trouble comes, none is asked for
-pub record ReadIsHonest (old : Retrieval) (id : ℕ) (new : Retrieval) (s s' : Seen) (result : Result Retrieved Ended) : Type 0 where
+pub record ReadIsHonest (old : Retrieval) (id : ℕ) (new : Retrieval) (s s' : Seen) (result : Result Bool Ended) : Type 0 where
   pub stays : StaysHonest s s'
   pub answers : ReadAnswers old id new s s' result
   pub keeps : IsSome old.reservation → s'.troubles ≡ s.troubles → KeepsHeld old new s s'
@@ -84,23 +72,23 @@ pub record ReadIsHonest (old : Retrieval) (id : ℕ) (new : Retrieval) (s s' : S
   pub calls : s'.stores_added ≡ s.stores_added → s'.calls + digits new.part ≤ s.calls + step_call_bound old.tries (row_len (begun old id) s) + digits old.part
 
 -- what the last call left is what the reading gives
-abbrev pub EndsRead : Result Outcome Ended → Result Retrieved Ended → Type 0
+abbrev pub EndsRead : Result Outcome Ended → Result Bool Ended → Type 0
 EndsRead (Ok Again) result = ⊥
-EndsRead (Ok Whole) result = result ≡ Ok Complete
-EndsRead (Ok Absent) result = result ≡ Ok Nothing
+EndsRead (Ok Whole) result = result ≡ Ok true
+EndsRead (Ok Absent) result = result ≡ Ok false
 EndsRead (Err ended) result = result ≡ Err ended
 
 -- the reading ended as its last call was answered
-pub record IsEnded (new : Retrieval) (result : Result Retrieved Ended) : Type 0 where
+pub record IsEnded (new : Retrieval) (result : Result Bool Ended) : Type 0 where
   pub last : Retrieval
   pub outcome : Result Outcome Ended
   pub answered : CallIsAnswered last.reservation last new outcome
   pub ends : EndsRead outcome result
 
 -- what comes of it over any controller
-abbrev pub ReadLeaves : ℕ → Retrieval → Result Retrieved Ended → Type 0
-ReadLeaves id new (Ok Complete) = (5 ≤ new.have) × (new.have ≤ largest_len new.shelf) × (new.have ≡ wanted_len new.shelf new.have new.buffer)
-ReadLeaves id new (Ok Nothing) = Unit {0}
+abbrev pub ReadLeaves : ℕ → Retrieval → Result Bool Ended → Type 0
+ReadLeaves id new (Ok true) = (5 ≤ new.have) × (new.have ≤ largest_len new.shelf) × (new.have ≡ wanted_len new.shelf new.have new.buffer)
+ReadLeaves id new (Ok false) = Unit {0}
 ReadLeaves id new (Err (GaveUp n)) = n ≡ id
 ReadLeaves id new (Err (Refused n code)) = n ≡ id
 ReadLeaves id new (Err (Stalled n)) = n ≡ id

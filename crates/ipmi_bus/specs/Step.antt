@@ -12,7 +12,7 @@ use Rattle.ipmi_bus.specs.Shelf.{Row, first_row, look, len_of, largest_len, whol
 use Rattle.ipmi_bus.specs.Store.{rows_of}
 use Rattle.ipmi_bus.specs.Walk.{IsWalk, WalkEnd, EndsBy, place_after}
 use Rattle.ipmi_bus.specs.Seen.{Seen, IsHonest, StaysHonest, current}
-use Rattle.ipmi_bus.specs.Tries.{WithinTries, GivesUp, IsRefusedWith}
+use Rattle.ipmi_bus.specs.Tries.{WithinTries, GivesUp, IsRefusedWith, NotGivenUpOrRefused}
 use Rattle.ipmi_bus.specs.Bounds.{step_call_bound, digits}
 use Rattle.ipmi_bus.specs.CursorState.{CursorState}
 use Rattle.ipmi_bus.specs.Standing.{StandsAt, FollowsWalks}
@@ -127,16 +127,6 @@ StepAnswers old s s' (Err (Malformed n)) = ⊥
 -- a reservation that the cursor holds is current
 pub record CursorHoldsCurrent (c : CursorState) (seen : Seen) : Type 0 where
   pub held : (n : ℕ) → c.reservation ≡ Some n → current c.shelf seen ≡ Some n
-
--- neither given up nor refused
-abbrev pub NotGivenUpOrRefused : Result (Option Row) Ended → Type 0
-NotGivenUpOrRefused (Ok o) = Unit {0}
-NotGivenUpOrRefused (Err (GaveUp id)) = ⊥
-NotGivenUpOrRefused (Err (Refused id code)) = ⊥
-NotGivenUpOrRefused (Err (Cycle id)) = Unit {0}
-NotGivenUpOrRefused (Err (Missing id)) = Unit {0}
-NotGivenUpOrRefused (Err (Stalled id)) = Unit {0}
-NotGivenUpOrRefused (Err (Malformed id)) = Unit {0}
 
 -- over a plain controller
 pub record StepIsPlain (new : CursorState) (s' : Seen) (result : Result (Option Row) Ended) : Type 0 where

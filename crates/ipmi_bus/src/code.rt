@@ -23,15 +23,39 @@ impl Code {
     ghost use Rattle.std.specs.Prelude.{◌≡◌};
     ghost use Rattle.ipmi_bus.specs.Code.{class_of};
 
+    /// The FRU device is busy, or the event log is being erased.
+    pub const DEVICE_BUSY: Code = Code(0x81);
+
+    /// The node is busy.
+    pub const NODE_BUSY: Code = Code(0xC0);
+
+    /// The command took too long.
+    pub const TIMEOUT: Code = Code(0xC3);
+
+    /// The reservation was cancelled.
+    pub const CANCELLED: Code = Code(0xC5);
+
+    /// The length of the request is wrong.
+    pub const WRONG_LENGTH: Code = Code(0xC7);
+
+    /// The length of the request is more than the field has.
+    pub const TOO_LONG: Code = Code(0xC8);
+
+    /// As many bytes as are asked for can't be given.
+    pub const TOO_MANY_BYTES: Code = Code(0xCA);
+
+    /// What was asked for is not there.
+    pub const NOT_PRESENT: Code = Code(0xCB);
+
     /// What the code means for a retrieval.
     pub fn class(self) -> CodeClass
         ensures { result ≡ class_of self.0 }
     {
-        match self.0 {
-            0xC5 => CodeClass::Cancelled,
-            0xC0 | 0xC3 | 0x81 => CodeClass::Busy,
-            0xC7 | 0xC8 | 0xCA => CodeClass::SmallerPart,
-            0xCB => CodeClass::NotPresent,
+        match self {
+            Code::CANCELLED => CodeClass::Cancelled,
+            Code::NODE_BUSY | Code::TIMEOUT | Code::DEVICE_BUSY => CodeClass::Busy,
+            Code::WRONG_LENGTH | Code::TOO_LONG | Code::TOO_MANY_BYTES => CodeClass::SmallerPart,
+            Code::NOT_PRESENT => CodeClass::NotPresent,
             _ => CodeClass::Refusal,
         }
     }

@@ -6,19 +6,19 @@ ghost use Rattle.std.specs.Borrow.{sem};
 ghost use Rattle.ipmi_bus.specs.Seen.{IsHonest, StaysHonest};
 ghost use Rattle.ipmi_bus.specs.Shelf.{Row, whole_len, largest_len};
 ghost use Rattle.ipmi_bus.specs.Walk.{place_after};
-ghost use Rattle.ipmi_bus.specs.Step.{AsksAlong, KeepsSettings, StepLeaves, StepCalls, StepIsHonest, StepAnswers, AsksNothing, HasRoom};
-ghost use Rattle.ipmi_bus.specs.Standing.{FollowsWalks, StandsAt};
+ghost use Rattle.ipmi_bus.specs.Step.{KeepsSettings, StepLeaves, StepCalls, StepIsHonest, StepAnswers, AsksNothing, HasRoom};
+ghost use Rattle.ipmi_bus.specs.Standing.{StandsAt};
 ghost use Rattle.ipmi_bus.specs.Handed.{state_of, IsCursor, handed_result, handed_id, IsNext, KeepsReservation};
 
 use crate::controller::{Controller, Shelf};
 use crate::id_table::IdTable;
-use crate::retrieval::{Retrieval, Retrieved};
+use crate::retrieval::Retrieval;
 use crate::step::{Ended, Place, Record};
 use byteorder::{ByteOrder, LittleEndian};
 use std::alloc::{AllocError, Global};
 use std::marker::Model;
 
-/// A record in the buffer that is to be handed out.
+/// A record in the buffer that is to be handed out. A `Record` would lend the buffer, of which `advance` has to speak.
 #[derive(Clone, Copy)]
 pub(crate) struct Handed {
     pub(crate) id: u16,
@@ -26,7 +26,7 @@ pub(crate) struct Handed {
     pub(crate) len: usize,
 }
 
-/// A cursor's retrieval, its place and the ids that it has handed out.
+/// A cursor's retrieval, its place and the ids that it has handed out. It is apart from `Cursor`, whose view has no buffer.
 #[derive(Drop)]
 pub(crate) struct Progress {
     pub(crate) retrieval: Retrieval,
@@ -120,8 +120,8 @@ impl Progress {
             Next::Asks(id) => id,
         };
         match self.retrieval.read(ctl, asked) {
-            Ok(Retrieved::Complete) => Ok(Some(self.hand_out(asked))),
-            Ok(Retrieved::Nothing) => {
+            Ok(true) => Ok(Some(self.hand_out(asked))),
+            Ok(false) => {
                 if self.place == Place::First {
                     self.place = Place::End;
                     return Ok(None);
@@ -134,34 +134,6 @@ impl Progress {
                 Err(ended)
             }
         }
-    }
-}
-
-impl Progress {
-    /// A step, seen along the walks on which the cursor is.
-    fn advance_along<C: Controller>(&mut self, ctl: &mut C) -> Result<Option<Handed>, Ended>
-        requires { IsCursor self.old }
-        ensures cursor { IsCursor self.new }
-        ensures same { KeepsSettings (state_of self.old) (state_of self.new) }
-        ensures fits { IfOk result (λ o. IfSome o (λ handed. handed.len ≤ 256)) }
-        ensures leaves { StepLeaves (state_of self.old) (state_of self.new)
-            (handed_result self.new result) }
-        ensures calls { StepCalls (largest_len self.old.retrieval.shelf) (state_of self.old)
-            (state_of self.new) (C.seen ctl.old) (C.seen ctl.new) }
-        ensures no_call { AsksNothing (state_of self.old) → C.seen ctl.new ≡ C.seen ctl.old }
-        ensures room { HasRoom (state_of self.old) }
-        ensures honest { IsHonest (C.seen ctl.old) →
-            StepIsHonest (state_of self.old) (state_of self.new) (C.seen ctl.old) (C.seen ctl.new)
-            (handed_result self.new result) }
-        ensures keeps { IsHonest (C.seen ctl.old) →
-            KeepsReservation (state_of self.old) (state_of self.new)
-            (C.seen ctl.old) (C.seen ctl.new) (handed_result self.new result) }
-        ensures asks { IsHonest (C.seen ctl.old) → AsksAlong (state_of self.old) (C.seen ctl.old) }
-        ensures walks { IsHonest (C.seen ctl.old) →
-            FollowsWalks (state_of self.old) (state_of self.new) (C.seen ctl.old) (C.seen ctl.new)
-            (handed_result self.new result) }
-    {
-        self.advance(ctl)
     }
 }
 
@@ -250,6 +222,7 @@ impl Cursor {
 
     /// Hands out the next record, lent out of the cursor until the next step. After an `Err` the cursor is
     /// where it stood and holds no reservation, so that a later step tries again.
+    #[tactic(auto, using(crate::proofs::WalkLemmas::follows_walks, crate::proofs::WalkLemmas::asks_along))]
     pub fn step<C: Controller>(&mut self, ctl: &mut C) -> Result<Option<Record<'_>>, Ended>
         ensures* after { sem 𝓛 (CursorRests self.entry
             (λ new. IsStep self.old new (C.seen ctl.old) (C.seen ctl.new) (as_rows result))) }
@@ -264,7 +237,7 @@ impl Cursor {
             StaysHonest (C.seen ctl.old) (C.seen ctl.new) × StepAnswers self.old (C.seen ctl.old)
             (C.seen ctl.new) (as_rows result) }
     {
-        match self.progress.advance_along(ctl)? {
+        match self.progress.advance(ctl)? {
             None => Ok(None),
             Some(handed) => Ok(Some(Record {
                 id: handed.id,

@@ -21,15 +21,6 @@ pub(crate) enum Outcome {
     Absent,
 }
 
-/// How the retrieval of a record ended.
-#[derive(Clone, Copy)]
-pub(crate) enum Retrieved {
-    /// The whole record is in the buffer.
-    Complete,
-    /// There is no such record.
-    Nothing,
-}
-
 /// A record that is being read, and what is kept from record to record.
 #[derive(Drop)]
 pub(crate) struct Retrieval {
@@ -224,8 +215,8 @@ impl Retrieval {
         }
     }
 
-    /// Reads the record with this id, whole, if it is there.
-    pub(crate) fn read<C: Controller>(&mut self, ctl: &mut C, id: u16) -> Result<Retrieved, Ended>
+    /// Reads the record with this id, whole, and answers whether it is there.
+    pub(crate) fn read<C: Controller>(&mut self, ctl: &mut C, id: u16) -> Result<bool, Ended>
         requires some { 0 < self.old.part }
         requires fits { self.old.part < 255 }
         ensures request { SameRequest (begun self.old id) self.new }
@@ -242,8 +233,8 @@ impl Retrieval {
         'reading: loop {
             match self.make_call(ctl) {
                 Ok(Outcome::Again) => {}
-                Ok(Outcome::Whole) => return Ok(Retrieved::Complete),
-                Ok(Outcome::Absent) => return Ok(Retrieved::Nothing),
+                Ok(Outcome::Whole) => return Ok(true),
+                Ok(Outcome::Absent) => return Ok(false),
                 Err(ended) => return Err(ended),
             }
         }

@@ -15,6 +15,21 @@ use std::alloc::{AllocError, Global};
 use std::marker::Model;
 use thiserror::Error;
 
+/// The least id of a record that a command line may name; 0000h asks for the first record.
+pub(crate) const FIRST_ID: u16 = 1;
+
+/// The greatest one; FFFFh says that there is no next record.
+pub(crate) const LAST_ID: u16 = 0xFFFE;
+
+/// How many bytes a request asks for, where `--part` is not given.
+const PART: u8 = 32;
+
+/// The most bytes that a request may ask for.
+const LARGEST_PART: u8 = 254;
+
+/// How many troubles a step may meet, where `--tries` is not given.
+const TRIES: u8 = 5;
+
 /// Which sensor data records are listed, by their type.
 #[derive(Clone, Copy, Debug, PartialEq, Eq)]
 pub enum Kind {
@@ -300,7 +315,7 @@ fn start_of_text(text: Option<&str>) -> Option<Option<u16>>
     let Some(text) = text else {
         return Some(None);
     };
-    let id = four_hex(text, 1, 65534)?;
+    let id = four_hex(text, FIRST_ID, LAST_ID)?;
     Some(Some(id))
 }
 
@@ -340,10 +355,10 @@ fn command_of_task(
     let Some(from) = start_of_text(value(matches, "from")) else {
         return Err(UsageFault::Option);
     };
-    let Some(part) = number_or(value(matches, "part"), 32, 1, 254) else {
+    let Some(part) = number_or(value(matches, "part"), PART, 1, LARGEST_PART) else {
         return Err(UsageFault::Option);
     };
-    let Some(tries) = number_or(value(matches, "tries"), 5, 0, 255) else {
+    let Some(tries) = number_or(value(matches, "tries"), TRIES, 0, u8::MAX) else {
         return Err(UsageFault::Option);
     };
     if is_stray(&task, from) {

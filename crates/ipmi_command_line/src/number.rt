@@ -1,5 +1,5 @@
 //! Numbers on a command line.
-ghost use Rattle.std.specs.Prelude.{◌≡◌, ◌≤◌, IfSome};
+ghost use Rattle.std.specs.Prelude.{◌≡◌, ◌≤◌, IfSome, Some};
 ghost use Rattle.std.specs.Char.{is_ascii_digit, is_ascii_hexdigit};
 ghost use Rattle.std.specs.List.{list_all};
 ghost use Rattle.ipmi_command_line.specs.Number.{decimal_of, four_hex_of, has_leading_zero, hex_of, number_of, within};
@@ -22,6 +22,14 @@ fn has_leading_zero(text: &str) -> bool
     text.len() > 1 && text.as_bytes()[0] == b'0'
 }
 
+/// The number, if it is from `low` to `high`.
+fn in_range(n: u16, low: u16, high: u16) -> Option<u16>
+    ensures value { result ≡ within low high (Some n) }
+    ensures range { IfSome result (λ n. (low ≤ n) × (n ≤ high)) }
+{
+    if low <= n && n <= high { Some(n) } else { None }
+}
+
 /// A number in decimal, from `low` to `high`.
 pub(crate) fn decimal(text: &str, low: u16, high: u16) -> Option<u16>
     ensures value { result ≡ within low high (decimal_of text.now) }
@@ -33,7 +41,7 @@ pub(crate) fn decimal(text: &str, low: u16, high: u16) -> Option<u16>
     let Ok(n) = text.parse::<u16>() else {
         return None;
     };
-    if low <= n && n <= high { Some(n) } else { None }
+    in_range(n, low, high)
 }
 
 /// One to four hex digits, as a number from `low` to `high`.
@@ -47,7 +55,7 @@ fn hex(text: &str, low: u16, high: u16) -> Option<u16>
     let Ok(n) = u16::from_str_radix(text, 16) else {
         return None;
     };
-    if low <= n && n <= high { Some(n) } else { None }
+    in_range(n, low, high)
 }
 
 /// Four hex digits, as a number from `low` to `high`.

@@ -4,7 +4,7 @@ use Rattle.std.specs.Option.{option_map, is_some}
 use Rattle.std.proofs.lemmas.Bool.{ne_eqb, eq-eqb, eqb-true, eqb-false, true≢false}
 use Rattle.std.proofs.lemmas.Bool.Decides.{nat_tests}
 use Rattle.std.proofs.lemmas.List.{length-append, length-drop, length-take-le, take-append-drop, take-append-le, drop-append-le, take_all, drop_all}
-use Rattle.ipmi_fru.specs.Area.{AreaField, Spells, field_in, fields_from, fields_in}
+use Rattle.ipmi_fru.specs.Field.{AreaField, Spells, field_in, fields_from, fields_in}
 
 -- more steps than there are bytes change nothing
 pub enough : (n m : ℕ) (bytes : List ℕ) → length bytes ≤ n → length bytes ≤ m → fields_from n bytes ≡ fields_from m bytes

@@ -6,10 +6,11 @@ use Rattle.ipmi_fru.specs.declared.area.AreaKind.TheVariants.{Chassis, Board, Pr
 use Rattle.ipmi_fru.specs.declared.area.AreaFault.{AreaFault}
 use Rattle.ipmi_fru.specs.declared.header.FruFault.{FruFault}
 use Rattle.ipmi_fru.specs.declared.multirecord.MultiFault.{MultiFault}
-use Rattle.ipmi_fru.specs.declared.print.RecordForm.{RecordForm}
-use Rattle.ipmi_fru.specs.declared.print.RecordForm.TheVariants.{Output, Load, Access, Other}
+use Rattle.ipmi_fru.specs.declared.record_text.RecordForm.{RecordForm}
+use Rattle.ipmi_fru.specs.declared.record_text.RecordForm.TheVariants.{Dc, Access, Other}
 use Rattle.ipmi_fru.specs.Header.{header_fault, offset_of, records_place}
-use Rattle.ipmi_fru.specs.Area.{Area, AreaField, Spells, IsArea, IsAreaFault, IsFound, field_bytes, place_of}
+use Rattle.ipmi_fru.specs.Field.{AreaField, Spells}
+use Rattle.ipmi_fru.specs.Area.{Area, IsArea, IsAreaFault, IsFound, field_bytes, place_of}
 use Rattle.ipmi_fru.specs.Multirecord.{MultiRecord, RecordsEnd, AreRecordsAt, SameList, items_of}
 use Rattle.ipmi_fru.specs.Print.{IsLead, IsTextFound, IsTextOfArea, IsVoltsAt, IsTextInForm, IsItemText, AreItemTexts, IsTextOfRecords, IsTextByFault, IsFruText, field_lines, labels_of, extra_label, language_of, form_of}
 use Rattle.ipmi_text.specs.Lines.{labelled}
@@ -86,12 +87,7 @@ module _ (one_text : DecimalIsUnique) (one_minutes_text : MinutesTextIsUnique) w
   one_volts place bytes text other h k = one_text _ text other h k
 
   one_form : (form : RecordForm) (r : MultiRecord) (text other : List ℕ) → IsTextInForm form r text → IsTextInForm form r other → text ≡ other
-  one_form Output r text other h k =
-      let nominal = one_volts 1 r.bytes h.nominal k.nominal h.volts.nominal_is k.volts.nominal_is in
-      let low = one_volts 3 r.bytes h.low k.low h.volts.low_is k.volts.low_is in
-      let high = one_volts 5 r.bytes h.high k.high h.volts.high_is k.volts.high_is in
-      h.text_is ∙ rw (nominal, low, high) (sym k.text_is)
-  one_form Load r text other h k =
+  one_form (Dc kind) r text other h k =
       let nominal = one_volts 1 r.bytes h.nominal k.nominal h.volts.nominal_is k.volts.nominal_is in
       let low = one_volts 3 r.bytes h.low k.low h.volts.low_is k.volts.low_is in
       let high = one_volts 5 r.bytes h.high k.high h.volts.high_is k.volts.high_is in

@@ -1,58 +1,11 @@
--- The chassis, board and product areas (Platform Management FRU Information Storage Definition v1.0, sections 10 to 12), and
--- the type/length bytes of their fields (section 13).
-use Rattle.std.specs.Prelude.{◌≡◌, ◌≢◌, ℕ, zero, suc, ◌<◌, ◌+◌, ◌-◌, ◌*◌, ◌/◌, ◌%◌, ◌==◌, nat_lt, not, if◌then◌else◌, ◌⊎◌, IsTrue, is_some, Option, Some, None, option_map, unwrap_or, Result, Ok, Err, List, [], ◌∷◌, ◌++◌, length, take, drop, slice_index}
+-- The chassis, board and product areas (Platform Management FRU Information Storage Definition v1.0, sections 10 to 12).
+use Rattle.std.specs.Prelude.{◌≡◌, ℕ, ◌<◌, ◌+◌, ◌-◌, ◌*◌, ◌==◌, nat_lt, not, if◌then◌else◌, ◌⊎◌, IsTrue, is_some, Option, Some, None, unwrap_or, Result, Ok, Err, List, [], length, take, drop, slice_index, codes}
 use Rattle.ipmi_fru.specs.declared.area.AreaKind.{AreaKind}
 use Rattle.ipmi_fru.specs.declared.area.AreaKind.TheVariants.{Chassis, Board, Product}
 use Rattle.ipmi_fru.specs.declared.area.AreaFault.{AreaFault}
 use Rattle.ipmi_fru.specs.declared.area.AreaFault.TheVariants as fault
-use Rattle.ipmi_fru.specs.declared.area.Field.{Field}
-use Rattle.ipmi_fru.specs.declared.area.Beginning.{Beginning}
-use Rattle.ipmi_fru.specs.declared.area.Beginning.TheVariants as beginning
 use Rattle.ipmi_fru.specs.Header.{is_zero_sum, version_in, offset_of}
-
--- ---- fields
-
--- bits 7:6 of its type/length byte, and its data
-pub record AreaField : Type 0 where
-  pub code : ℕ
-  pub bytes : List ℕ
-
--- bytes that begin with a field: a type/length byte other than C1h, and as many bytes as its bits 5:0 say; then the rest
-pub record BeginsWithField (bytes : List ℕ) (field : AreaField) (rest : List ℕ) : Type 0 where
-  pub type_length : ℕ
-  pub is_no_end : type_length ≢ 0xc1
-  pub code_is : field.code ≡ type_length / 64
-  pub length_is : length field.bytes ≡ type_length % 64
-  pub bytes_are : bytes ≡ type_length ∷ (field.bytes ++ rest)
-
--- no bytes are left, or C1h comes; that the bytes may just run out is the project's own
-abbrev pub EndsFields : List ℕ → Type 0
-EndsFields [] = Unit {0}
-EndsFields (byte ∷ bytes) = byte ≡ 0xc1
-
--- the bytes spell these fields, one after the other
-abbrev pub Spells : List ℕ → List AreaField → Type 0
-Spells bytes [] = EndsFields bytes
-Spells bytes (field ∷ fields) = (rest : List ℕ) × (BeginsWithField bytes field rest × Spells rest fields)
-
--- the field that a type/length byte and the bytes after it are
-abbrev pub field_in : ℕ → List ℕ → AreaField
-field_in type_length bytes = record { code = type_length / 64; bytes = take (type_length % 64) bytes }
-
--- the fields that bytes spell, at most n, or none where they spell no list
-abbrev pub fields_from : ℕ → List ℕ → Option (List AreaField)
-fields_from n [] = Some []
-fields_from zero (byte ∷ bytes) = None
-fields_from (suc n) (byte ∷ bytes) =
-    if byte == 0xc1 then Some []
-    else if nat_lt (length bytes) (byte % 64) then None
-    else option_map (λ fields. field_in byte bytes ∷ fields) (fields_from n (drop (byte % 64) bytes))
-
--- with as many steps as there are bytes
-abbrev pub fields_in : List ℕ → Option (List AreaField)
-fields_in bytes = fields_from (length bytes) bytes
-
--- ---- areas
+use Rattle.ipmi_fru.specs.Field.{AreaField, Spells, fields_in}
 
 -- the place of the area's offset in the header
 abbrev pub place_of : AreaKind → ℕ
@@ -89,6 +42,14 @@ area_fault offset bytes =
     else if not (is_zero_sum (area_at offset bytes)) then Some fault.Sum
     else None
 
+-- the name of a fault, which is the project's own, as those of the other faults are
+abbrev pub area_fault_name : AreaFault → List ℕ
+area_fault_name fault.Outside = codes "outside"
+area_fault_name fault.Version = codes "version"
+area_fault_name fault.Length = codes "length"
+area_fault_name fault.Sum = codes "checksum"
+area_fault_name fault.FieldPastEnd = codes "field past end"
+
 -- an area as it is seen: its kind, its bytes and its fields
 pub record Area : Type 0 where
   pub kind : AreaKind
@@ -112,16 +73,6 @@ abbrev pub IsAreaFault : AreaKind → ℕ → List ℕ → AreaFault → Type 0
 IsAreaFault kind offset bytes f = (area_fault offset bytes ≡ Some f) ⊎ (HasFieldPastEnd kind offset bytes × (f ≡ fault.FieldPastEnd))
 
 -- ---- how the fields are found
-
--- a field as it is seen
-abbrev pub field_of : Field → AreaField
-field_of f = record { code = f.code; bytes = f.bytes.now }
-
--- the bytes that spell these fields, or none, begin so
-abbrev pub Begins : List ℕ → Beginning → Type 0
-Begins bytes beginning.End = fields_in bytes ≡ Some []
-Begins bytes beginning.PastEnd = fields_in bytes ≡ None
-Begins bytes (beginning.Field f rest) = (fields_in bytes ≡ option_map (λ fields. field_of f ∷ fields) (fields_in rest.now)) × ((f.code < 4) × (length rest.now < length bytes))
 
 -- an area with the fields that are found in it
 abbrev pub area_in : AreaKind → List ℕ → Area

@@ -1,5 +1,5 @@
 -- The zero checksum, and the common header (Platform Management FRU Information Storage Definition v1.0, section 8).
-use Rattle.std.specs.Prelude.{ℕ, ◌*◌, ◌%◌, ◌==◌, nat_lt, not, Bool, if◌then◌else◌, Option, Some, None, List, length, take, slice_index, sum}
+use Rattle.std.specs.Prelude.{ℕ, ◌*◌, ◌%◌, ◌==◌, nat_lt, not, Bool, if◌then◌else◌, Option, Some, None, List, length, take, slice_index, sum, codes}
 use Rattle.ipmi_fru.specs.declared.header.FruFault.{FruFault}
 use Rattle.ipmi_fru.specs.declared.header.FruFault.TheVariants as fault
 
@@ -18,6 +18,12 @@ header_fault bytes =
     else if not (version_in (slice_index bytes 0) == 1) then Some fault.HeaderVersion
     else if not (is_zero_sum (take 8 bytes)) then Some fault.HeaderSum
     else None
+
+-- the name of a fault
+abbrev pub fru_fault_name : FruFault → List ℕ
+fru_fault_name fault.Short = codes "header short"
+fru_fault_name fault.HeaderVersion = codes "header version"
+fru_fault_name fault.HeaderSum = codes "header checksum"
 
 -- The header's bytes: version, the offsets of internal use, chassis, board, product and records, pad, checksum.
 -- the place of the offset of the records

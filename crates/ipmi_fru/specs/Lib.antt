@@ -1,4 +1,5 @@
 pub mod Area
+pub mod Field
 pub mod Header
 pub mod Multirecord
 pub mod Print

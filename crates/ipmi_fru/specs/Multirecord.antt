@@ -1,5 +1,5 @@
 -- The multirecord area (Platform Management FRU Information Storage Definition v1.0, section 16).
-use Rattle.std.specs.Prelude.{◌≡◌, ℕ, zero, suc, ◌+◌, ◌%◌, nat_le, nat_lt, not, Bool, true, false, if◌then◌else◌, Option, Some, None, Result, Ok, Err, List, [], ◌∷◌, length, take, drop, slice_index}
+use Rattle.std.specs.Prelude.{◌≡◌, ℕ, zero, suc, ◌+◌, ◌%◌, nat_le, nat_lt, not, Bool, true, false, if◌then◌else◌, Option, Some, None, Result, Ok, Err, List, [], ◌∷◌, length, take, drop, slice_index, codes}
 use Rattle.ipmi_fru.specs.declared.multirecord.MultiFault.{MultiFault}
 use Rattle.ipmi_fru.specs.declared.multirecord.MultiFault.TheVariants as fault
 use Rattle.ipmi_fru.specs.declared.multirecord.MultiView.{MultiView}
@@ -39,6 +39,12 @@ record_fault bytes =
     else if nat_lt (length bytes) (5 + slice_index bytes 2) then Some fault.Outside
     else if not (is_zero_sum (slice_index bytes 3 ∷ data_in bytes)) then Some fault.DataSum
     else None
+
+-- the name of a fault
+abbrev pub multi_fault_name : MultiFault → List ℕ
+multi_fault_name fault.Outside = codes "outside"
+multi_fault_name fault.HeaderSum = codes "header checksum"
+multi_fault_name fault.DataSum = codes "data checksum"
 
 -- how a list of records ends: with the last record, or with the first fault
 abbrev pub RecordsEnd : Type 0

@@ -11,18 +11,18 @@ use Rattle.ipmi_text.specs.Decimal.{IsDecimalOf}
 use Rattle.ipmi_text.specs.Lines.{labelled}
 use Rattle.ipmi_text.specs.Times.{IsMinutesTextOf}
 use Rattle.ipmi_fru.specs.declared.header.FruFault.{FruFault}
-use Rattle.ipmi_fru.specs.declared.header.FruFault.TheVariants as fault_of_header
 use Rattle.ipmi_fru.specs.declared.area.AreaKind.{AreaKind}
 use Rattle.ipmi_fru.specs.declared.area.AreaKind.TheVariants.{Chassis, Board, Product}
 use Rattle.ipmi_fru.specs.declared.area.AreaFault.{AreaFault}
-use Rattle.ipmi_fru.specs.declared.area.AreaFault.TheVariants as fault_of_area
 use Rattle.ipmi_fru.specs.declared.multirecord.MultiFault.{MultiFault}
-use Rattle.ipmi_fru.specs.declared.multirecord.MultiFault.TheVariants as fault_of_record
-use Rattle.ipmi_fru.specs.declared.print.RecordForm.{RecordForm}
-use Rattle.ipmi_fru.specs.declared.print.RecordForm.TheVariants.{Output, Load, Access, Other}
-use Rattle.ipmi_fru.specs.Header.{header_fault, offset_of, records_place}
-use Rattle.ipmi_fru.specs.Area.{AreaField, Area, IsFound}
-use Rattle.ipmi_fru.specs.Multirecord.{MultiRecord, RecordsEnd, AreRecordsAt, items_of}
+use Rattle.ipmi_fru.specs.declared.record_text.DcKind.{DcKind}
+use Rattle.ipmi_fru.specs.declared.record_text.DcKind.TheVariants.{Output, Load}
+use Rattle.ipmi_fru.specs.declared.record_text.RecordForm.{RecordForm}
+use Rattle.ipmi_fru.specs.declared.record_text.RecordForm.TheVariants.{Dc, Access, Other}
+use Rattle.ipmi_fru.specs.Header.{header_fault, fru_fault_name, offset_of, records_place}
+use Rattle.ipmi_fru.specs.Field.{AreaField}
+use Rattle.ipmi_fru.specs.Area.{Area, IsFound, area_fault_name}
+use Rattle.ipmi_fru.specs.Multirecord.{MultiRecord, RecordsEnd, multi_fault_name, AreRecordsAt, items_of}
 
 -- ---- areas
 
@@ -79,13 +79,6 @@ IsLead Chassis area text = text ≡ labelled (codes "Chassis Type") (chassis_tex
 IsLead Board area text = (date : List ℕ) × (IsMinutesTextOf (little_from 3 3 area) date × (text ≡ labelled (codes "Board Mfg Date") date))
 IsLead Product area text = text ≡ []
 
-abbrev pub area_fault_name : AreaFault → List ℕ
-area_fault_name fault_of_area.Outside = codes "outside"
-area_fault_name fault_of_area.Version = codes "version"
-area_fault_name fault_of_area.Length = codes "length"
-area_fault_name fault_of_area.Sum = codes "checksum"
-area_fault_name fault_of_area.FieldPastEnd = codes "field past end"
-
 -- the lines of an area
 pub record IsAreaText (area : Area) (text : List ℕ) : Type 0 where
   pub lead : List ℕ
@@ -129,26 +122,33 @@ current_line ripple least greatest =
 abbrev pub current_text : List ℕ → List ℕ
 current_text bytes = current_line (number_at 7 bytes) (number_at 9 bytes) (number_at 11 bytes)
 
+-- how the line of an output and that of a load begin
+abbrev pub dc_start : DcKind → List ℕ
+dc_start Output = codes "DC Output "
+dc_start Load = codes "DC Load "
+
 -- bit 7 of an output's number
-abbrev pub standby_text : ℕ → List ℕ
-standby_text byte = if nat_le 128 byte then codes " standby" else []
+abbrev pub standby_text : DcKind → ℕ → List ℕ
+standby_text Output byte = if nat_le 128 byte then codes " standby" else []
+standby_text Load byte = []
 
-pub record IsOutputText (bytes text : List ℕ) : Type 0 where
+-- the limits of an output are deviations, and those of a load are voltages
+abbrev pub before_low : DcKind → List ℕ
+before_low Output = codes " V, negative deviation "
+before_low Load = codes " V, "
+
+abbrev pub before_high : DcKind → List ℕ
+before_high Output = codes " V, positive deviation "
+before_high Load = codes " to "
+
+pub record IsDcText (kind : DcKind) (bytes text : List ℕ) : Type 0 where
   pub nominal : List ℕ
   pub low : List ℕ
   pub high : List ℕ
   pub volts : AreVolts bytes nominal low high
-  pub text_is : text ≡ codes "DC Output " ++ (decimal (slice_index bytes 0 % 16) ++ (standby_text (slice_index bytes 0)
+  pub text_is : text ≡ dc_start kind ++ (decimal (slice_index bytes 0 % 16) ++ (standby_text kind (slice_index bytes 0)
       ++ (codes ": nominal " ++ (nominal
-      ++ (codes " V, negative deviation " ++ (low ++ (codes " V, positive deviation " ++ (high ++ (codes " V, " ++ current_text bytes)))))))))
-
-pub record IsLoadText (bytes text : List ℕ) : Type 0 where
-  pub nominal : List ℕ
-  pub low : List ℕ
-  pub high : List ℕ
-  pub volts : AreVolts bytes nominal low high
-  pub text_is : text ≡ codes "DC Load " ++ (decimal (slice_index bytes 0 % 16) ++ (codes ": nominal " ++ (nominal
-      ++ (codes " V, " ++ (low ++ (codes " to " ++ (high ++ (codes " V, " ++ current_text bytes))))))))
+      ++ (before_low kind ++ (low ++ (before_high kind ++ (high ++ (codes " V, " ++ current_text bytes)))))))))
 
 -- the data of a management access record after its subtype: subtypes 01h to 06h are text
 abbrev pub access_text : List ℕ → List ℕ
@@ -165,25 +165,19 @@ other_line r = codes "Record 0x" ++ (binary_text (r.kind ∷ []) ++ (codes ": " 
 -- what a record is printed as, by its type and the number of its data bytes
 abbrev pub form_of : MultiRecord → RecordForm
 form_of r =
-    if (r.kind == 1) && nat_le 13 (length r.bytes) then Output
-    else if (r.kind == 2) && nat_le 13 (length r.bytes) then Load
+    if (r.kind == 1) && nat_le 13 (length r.bytes) then Dc Output
+    else if (r.kind == 2) && nat_le 13 (length r.bytes) then Dc Load
     else if (r.kind == 3) && nat_le 1 (length r.bytes) then Access
     else Other
 
 abbrev pub IsTextInForm : RecordForm → MultiRecord → List ℕ → Type 0
-IsTextInForm Output r text = IsOutputText r.bytes text
-IsTextInForm Load r text = IsLoadText r.bytes text
+IsTextInForm (Dc kind) r text = IsDcText kind r.bytes text
 IsTextInForm Access r text = text ≡ access_line r.bytes
 IsTextInForm Other r text = text ≡ other_line r
 
 -- the line of a record
 abbrev pub IsRecordText : MultiRecord → List ℕ → Type 0
 IsRecordText r text = IsTextInForm (form_of r) r text
-
-abbrev pub multi_fault_name : MultiFault → List ℕ
-multi_fault_name fault_of_record.Outside = codes "outside"
-multi_fault_name fault_of_record.HeaderSum = codes "header checksum"
-multi_fault_name fault_of_record.DataSum = codes "data checksum"
 
 -- the line of a record, or of the fault after the last one
 abbrev pub IsItemText : Result MultiRecord MultiFault → List ℕ → Type 0
@@ -203,11 +197,6 @@ pub record IsTextOfRecords (bytes text : List ℕ) : Type 0 where
   pub are_texts : AreItemTexts (items_of records end) text
 
 -- ---- the inventory
-
-abbrev pub fru_fault_name : FruFault → List ℕ
-fru_fault_name fault_of_header.Short = codes "header short"
-fru_fault_name fault_of_header.HeaderVersion = codes "header version"
-fru_fault_name fault_of_header.HeaderSum = codes "header checksum"
 
 -- chassis, board, product and records, each printed whatever the others are
 pub record IsTextOfAreas (bytes text : List ℕ) : Type 0 where

@@ -1,18 +1,17 @@
-//! The chassis, board and product areas of an inventory, and their fields.
-ghost use Rattle.std.specs.Prelude.{◌≡◌, ◌+◌, ◌<◌, ◌≤◌, [], IfSome, IfOk, IfErr, Some, None, IsTrue, is_some, unwrap_or, slice_get, length, slice_index};
+//! The chassis, board and product areas of an inventory.
+ghost use Rattle.std.specs.Prelude.{◌≡◌, ◌+◌, ◌<◌, ◌≤◌, IfSome, IfOk, IfErr, Some, None, slice_get, length, slice_index};
 ghost use Rattle.std.specs.Option.{option_map};
 ghost use Rattle.byteorder.specs.Endian.{little_from};
 ghost use Rattle.ipmi_fru.specs.Print.{language_of};
 ghost use Rattle.ipmi_fru.specs.declared.area.AreaKind.TheVariants.{Board, Chassis};
-ghost use Rattle.ipmi_fru.specs.Area.{Area, fields_in, field_of, Begins, place_of, head_len, area_at, head_of, field_bytes, area_fault, IsArea, IsAreaFault};
+ghost use Rattle.ipmi_fru.specs.Field.{field_of};
+ghost use Rattle.ipmi_fru.specs.Area.{Area, area_fault_name, place_of, head_len, area_at, head_of, field_bytes, area_fault, IsArea, IsAreaFault};
 
+use crate::field::{Field, Fields};
 use crate::header::{bytes_of, has_version_1, is_zero_sum};
 use byteorder::{ByteOrder, LittleEndian};
 use std::marker::Model;
 use thiserror::Error;
-
-/// The byte that comes after the last field.
-const NO_MORE_FIELDS: u8 = 0xC1;
 
 /// An area that has fields.
 #[derive(Clone, Copy, Debug, PartialEq, Eq)]
@@ -72,76 +71,18 @@ pub enum AreaFault {
     FieldPastEnd,
 }
 
-/// A field of an area, as its type/length byte and its data are (section 13).
-#[derive(Clone, Copy, Debug)]
-pub struct Field<'a> {
-    /// Bits 7:6 of the type/length byte: 0 binary, 1 BCD plus, 2 6-bit ASCII, 3 by the language.
-    pub code: u8,
-    /// The data.
-    pub bytes: &'a [u8],
-}
-
-/// What bytes begin with where fields are.
-#[derive(Clone, Copy)]
-pub(crate) enum Beginning<'a> {
-    /// No more fields.
-    End,
-    /// A field that is longer than they are.
-    PastEnd,
-    /// A field, and what is after it.
-    Field(Field<'a>, &'a [u8]),
-}
-
-/// What the bytes begin with.
-pub(crate) fn split_field(bytes: &[u8]) -> Beginning<'_>
-    ensures { Begins bytes.now result }
-{
-    let Some((first, behind)) = bytes.split_first() else {
-        return Beginning::End;
-    };
-    let type_length = *first;
-    if type_length == NO_MORE_FIELDS {
-        return Beginning::End;
-    }
-    let Some((bytes, rest)) = behind.split_at_checked(usize::from(type_length % 64)) else {
-        return Beginning::PastEnd;
-    };
-    let code = type_length / 64;
-    Beginning::Field(Field { code, bytes }, rest)
-}
-
-/// Whether the bytes spell a list of fields.
-fn spells_fields(bytes: &[u8]) -> bool
-    ensures { result ≡ is_some (fields_in bytes.now) }
-{
-    let mut rest = bytes;
-    'fields: loop {
-        match split_field(rest) {
-            Beginning::End => return true,
-            Beginning::PastEnd => return false,
-            Beginning::Field(_, behind) => rest = behind,
+impl AreaFault {
+    /// The name of the fault, as `print_fru` prints it.
+    pub fn name(self) -> &'static str
+        ensures { result.now ≡ area_fault_name self }
+    {
+        match self {
+            AreaFault::Outside => "outside",
+            AreaFault::Version => "version",
+            AreaFault::Length => "length",
+            AreaFault::Sum => "checksum",
+            AreaFault::FieldPastEnd => "field past end",
         }
-    }
-}
-
-/// The field of this place, from 0 on, of those that the bytes spell.
-fn nth_field(bytes: &[u8], place: usize) -> Option<Field<'_>>
-    requires { IsTrue (is_some (fields_in bytes.now)) }
-    ensures field { option_map field_of result ≡ slice_get (unwrap_or (fields_in bytes.now) [])
-        place }
-    ensures code { IfSome result (λ field. field.code < 4) }
-{
-    let mut rest = bytes;
-    let mut left = place;
-    'fields: loop {
-        let Beginning::Field(field, behind) = split_field(rest) else {
-            return None;
-        };
-        if left == 0 {
-            return Some(field);
-        }
-        left -= 1;
-        rest = behind;
     }
 }
 
@@ -184,7 +125,7 @@ fn field_part(kind: AreaKind, area: &[u8]) -> &[u8]
 
 /// An area without a fault: that of the chassis, the board or the product (Platform Management FRU Information Storage
 /// Definition v1.0, sections 10 to 12).
-#[derive(Drop)]
+#[derive(Clone, Debug, Drop)]
 pub struct AreaView<'a> {
     kind: AreaKind,
     bytes: &'a [u8],
@@ -212,7 +153,7 @@ impl<'a> AreaView<'a> {
         ensures err { IfErr result (λ fault. IsAreaFault kind offset bytes.now fault) }
     {
         let area = whole_area(bytes, offset)?;
-        if !spells_fields(field_part(kind, area)) {
+        if !Fields::are_spelt(field_part(kind, area)) {
             return Err(AreaFault::FieldPastEnd);
         }
         Ok(AreaView { kind, bytes: area })
@@ -253,14 +194,6 @@ impl<'a> AreaView<'a> {
         }
     }
 
-    /// The bytes between the head and the checksum, which spell the fields.
-    pub(crate) fn field_part(&self) -> &'a [u8]
-        ensures found { IsTrue (is_some (fields_in result.now)) }
-        ensures fields { unwrap_or (fields_in result.now) [] ≡ self.now.fields }
-    {
-        field_part(self.kind, self.bytes)
-    }
-
     /// The bytes between the length byte and the first field. Chassis: its type; board: the language and the date in minutes,
     /// low byte first; product: the language.
     pub fn head(&self) -> &'a [u8]
@@ -270,11 +203,18 @@ impl<'a> AreaView<'a> {
         &self.bytes[2..2 + self.kind.head_len()]
     }
 
-    /// The field of this place, from 0 on; none past the last one.
+    /// The fields, in their order.
+    pub fn fields(&self) -> Fields<'a>
+        ensures { result ≡ self.now.fields }
+    {
+        Fields::new(field_part(self.kind, self.bytes))
+    }
+
+    /// The field of this place, from 0 on; none past the last one. It goes past all fields before it: to list them, `fields`.
     pub fn field(&self, place: usize) -> Option<Field<'a>>
         ensures field { option_map field_of result ≡ slice_get self.now.fields place }
         ensures code { IfSome result (λ field. field.code < 4) }
     {
-        nth_field(self.field_part(), place)
+        self.fields().nth(place)
     }
 }

@@ -1,6 +1,6 @@
 //! The common header of an inventory, which says where its areas begin.
 ghost use Rattle.std.specs.Prelude.{◌≡◌, ◌%◌, ◌≤◌, ◌*◌, ◌==◌, IfOk, IfErr, IfSome, Some, None, drop, sum};
-ghost use Rattle.ipmi_fru.specs.Header.{is_zero_sum, version_in, header_fault, offset_of};
+ghost use Rattle.ipmi_fru.specs.Header.{is_zero_sum, version_in, header_fault, fru_fault_name, offset_of};
 ghost use Rattle.ipmi_fru.specs.declared.area.AreaKind.TheVariants.{Chassis, Board, Product};
 ghost use Rattle.ipmi_fru.specs.Area.{IsFound};
 ghost use Rattle.ipmi_fru.specs.Multirecord.{HasItems, items_left};
@@ -12,6 +12,9 @@ use thiserror::Error;
 
 /// The bytes of a header.
 const HEADER: usize = 8;
+
+/// Bits 3:0 of the first byte of a header or an area: its format version.
+const VERSION: u8 = 0x0F;
 
 /// The place of the offset of the multirecord area.
 const RECORDS: usize = 5;
@@ -30,6 +33,19 @@ pub enum FruFault {
     HeaderSum,
 }
 
+impl FruFault {
+    /// The name of the fault, as `print_fru` prints it.
+    pub fn name(self) -> &'static str
+        ensures { result.now ≡ fru_fault_name self }
+    {
+        match self {
+            FruFault::Short => "header short",
+            FruFault::HeaderVersion => "header version",
+            FruFault::HeaderSum => "header checksum",
+        }
+    }
+}
+
 /// The bytes that so many units are, in which a header counts offsets and an area its length.
 pub(crate) fn bytes_of(units: u8) -> usize
     ensures { result ≡ 8 * units }
@@ -41,7 +57,7 @@ pub(crate) fn bytes_of(units: u8) -> usize
 pub(crate) fn has_version_1(byte: u8) -> bool
     ensures { result ≡ (version_in byte == 1) }
 {
-    byte % 16 == 1
+    byte & VERSION == 1
 }
 
 /// The sum of the bytes modulo 256.
@@ -49,10 +65,8 @@ pub(crate) fn sum_of(bytes: &[u8]) -> u8
     ensures { result ≡ sum bytes.now % 256 }
 {
     let mut total: u8 = 0;
-    let mut place = 0;
-    'bytes: while place < bytes.len() {
-        total = total.wrapping_add(bytes[place]);
-        place += 1;
+    'bytes: for byte in bytes {
+        total = total.wrapping_add(*byte);
     }
     total
 }
@@ -66,7 +80,7 @@ pub(crate) fn is_zero_sum(bytes: &[u8]) -> bool
 
 /// The inventory of a FRU device, whose header has no fault (Platform Management FRU Information Storage Definition v1.0,
 /// section 8).
-#[derive(Drop)]
+#[derive(Clone, Debug, Drop)]
 pub struct FruView<'a> {
     bytes: &'a [u8],
 }

@@ -3,12 +3,16 @@
 #![tactic(auto)]
 
 mod area;
+mod area_text;
+mod field;
 mod header;
 pub mod laws;
 mod multirecord;
 mod print;
+mod record_text;
 
-pub use area::{AreaFault, AreaView, Field};
+pub use area::{AreaFault, AreaView};
+pub use field::{Field, Fields};
 pub use header::{FruFault, FruView};
 pub use multirecord::{MultiFault, MultiView, Records};
 pub use print::print_fru;

@@ -1,12 +1,18 @@
 //! The multirecord area of an inventory: records one after the other, up to one that is marked as the last.
 ghost use Rattle.std.specs.Prelude.{◌≡◌, ◌<◌, IfOk, IfErr, Some, None, length};
-ghost use Rattle.ipmi_fru.specs.Multirecord.{record_in, record_fault, behind_record, record_of, items_after, items_left};
+ghost use Rattle.ipmi_fru.specs.Multirecord.{record_in, record_fault, multi_fault_name, behind_record, record_of, items_after, items_left};
 
 use crate::header::{is_zero_sum, sum_of};
 use thiserror::Error;
 
 /// The bytes of a record's header.
 const HEADER: usize = 5;
+
+/// Bits 3:0 of a record's second byte: the version of its format.
+const VERSION: u8 = 0x0F;
+
+/// Bit 7 of it: the record is the last one.
+const LAST: u8 = 0x80;
 
 /// Why a record can't be read. The first one that applies is the answer: Outside for the header, HeaderSum, Outside for the
 /// data, DataSum.
@@ -23,8 +29,21 @@ pub enum MultiFault {
     DataSum,
 }
 
+impl MultiFault {
+    /// The name of the fault, as `print_fru` prints it.
+    pub fn name(self) -> &'static str
+        ensures { result.now ≡ multi_fault_name self }
+    {
+        match self {
+            MultiFault::Outside => "outside",
+            MultiFault::HeaderSum => "header checksum",
+            MultiFault::DataSum => "data checksum",
+        }
+    }
+}
+
 /// A record of the multirecord area (Platform Management FRU Information Storage Definition v1.0, section 16).
-#[derive(Clone, Copy, Debug)]
+#[derive(Clone, Copy, Debug, PartialEq, Eq)]
 pub struct MultiView<'a> {
     /// The type of the record.
     pub kind: u8,
@@ -60,15 +79,15 @@ fn read_record(bytes: &[u8]) -> Result<(MultiView<'_>, &[u8]), MultiFault>
     }
     let view = MultiView {
         kind: bytes[0],
-        version: bytes[1] % 16,
-        last: bytes[1] >= 128,
+        version: bytes[1] & VERSION,
+        last: bytes[1] & LAST != 0,
         bytes: data,
     };
     Ok((view, &bytes[end..]))
 }
 
 /// The records of the multirecord area, in their order; after a fault there is none.
-#[derive(Drop)]
+#[derive(Clone, Debug, Drop)]
 pub struct Records<'a> {
     left: Option<&'a [u8]>,
 }

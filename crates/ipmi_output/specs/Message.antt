@@ -1,5 +1,6 @@
 -- The text of each message.
-use Rattle.std.specs.Prelude.{ℕ, List, ◌++◌, flat_map, codes}
+use Rattle.std.specs.Prelude.{ℕ, List, [], ◌∷◌, ◌++◌, flat_map, codes, if◌then◌else◌}
+use Rattle.std.specs.Char.{is_ascii_control}
 use Rattle.std.specs.Borrow.{Bor}
 use Rattle.std.specs.Fmt.{decimal}
 use Rattle.ipmi_bus.specs.declared.inventory.FruEnded.{FruEnded}
@@ -8,7 +9,7 @@ use Rattle.ipmi_bus.specs.declared.step.Ended.{Ended}
 use Rattle.ipmi_bus.specs.declared.step.Ended.TheVariants as ended
 use Rattle.ipmi_image.specs.declared.image.ImageFault.{ImageFault}
 use Rattle.ipmi_image.specs.declared.image.ImageFault.TheVariants as fault
-use Rattle.ipmi_records.specs.Bytes.{byte_h, word_h}
+use Rattle.ipmi_records.specs.Bytes.{byte_h, upper_byte, word_h}
 use Rattle.ipmi_output.specs.declared.message.Message.{Message}
 use Rattle.ipmi_output.specs.declared.message.Message.TheVariants as message
 
@@ -41,6 +42,15 @@ inventory_text id fru.Stalled = codes "fru " ++ (decimal id ++ codes " stalled")
 inventory_text id fru.Words = codes "fru " ++ (decimal id ++ codes " uses words")
 inventory_text id fru.Memory = codes "out of memory"
 
+-- a byte of a file's name as it is printed: a control byte, below 20h or 7Fh, as `\x` and two upper-case hex digits, any other as
+-- it is, a backslash too
+abbrev pub escaped_byte : ℕ → List ℕ
+escaped_byte byte = if is_ascii_control byte then codes "\\x" ++ upper_byte byte else byte ∷ []
+
+-- a file's name as it is printed: it has no line feed, so that its message is one line
+abbrev pub escaped_name : List ℕ → List ℕ
+escaped_name name = flat_map escaped_byte name
+
 -- that no record has the name
 abbrev pub no_name_text : List ℕ → List ℕ
 no_name_text name = codes "no record named " ++ name
@@ -69,7 +79,7 @@ image_fault_text (fault.TooMany line) = line_fault_text line (codes "too many by
 
 abbrev pub message_text : Message → List ℕ
 message_text message.Usage = usage_text
-message_text (message.CannotRead name) = codes "cannot read " ++ name.now
+message_text (message.CannotRead name) = codes "cannot read " ++ escaped_name name.now
 message_text (message.Image fault) = image_fault_text fault
 message_text (message.Ended ended) = ended_text ended
 message_text (message.Inventory id ended) = inventory_text id ended

@@ -4,7 +4,7 @@ ghost use Rattle.std.specs.Prelude.{◌≡◌, ◌<◌, ◌++◌, codes, true};
 ghost use Rattle.std.specs.Fmt.{decimal, digit_glyph};
 ghost use Rattle.ipmi_records.specs.Bytes.{byte_h, upper_byte, word_h};
 ghost use Rattle.ipmi_output.specs.Received.{ReceivesText, WritesAll};
-ghost use Rattle.ipmi_output.specs.Message.{ended_text, image_fault_text, inventory_text, joined_parts, line_fault_text, line_text, message_text};
+ghost use Rattle.ipmi_output.specs.Message.{ended_text, escaped_name, image_fault_text, inventory_text, joined_parts, line_fault_text, line_text, message_text};
 
 use crate::message_sink::{MessageSink, offer_all};
 use crate::sink::SinkFault;
@@ -17,7 +17,8 @@ use itoa::Buffer;
 pub enum Message<'a> {
     /// How the program is called.
     Usage,
-    /// What is named could not be read, or is too long.
+    /// What is named could not be read, or is too long. A control byte of the name, below 20h or 7Fh, is printed as `\x` and
+    /// two upper-case hex digits, so that the message stays one line; all others are printed as they are.
     CannotRead(&'a str),
     /// The input is no image.
     Image(ImageFault),
@@ -56,7 +57,7 @@ pub fn write_message<E: MessageSink>(err: &mut E, message: Message<'_>) -> Resul
                 b"usage: ipmitool [--image FILE] [--from HEX4] [--part N] [--tries N] fru|sdr|sel WORDS",
             ],
         ),
-        Message::CannotRead(name) => write_line(err, &[b"cannot read ", name.as_bytes()]),
+        Message::CannotRead(name) => write_cannot_read(err, name.as_bytes()),
         Message::Image(fault) => write_image_fault(err, fault),
         Message::Ended(ended) => write_ended(err, ended),
         Message::Inventory(id, ended) => write_inventory(err, id, ended),
@@ -65,6 +66,45 @@ pub fn write_message<E: MessageSink>(err: &mut E, message: Message<'_>) -> Resul
         Message::WriteFault => write_line(err, &[b"write fault"]),
         Message::OutOfMemory => write_line(err, &[b"out of memory"]),
     }
+}
+
+/// Writes that what has this name can't be read.
+fn write_cannot_read<E: MessageSink>(err: &mut E, name: &[u8]) -> Result<(), SinkFault>
+    ensures { WritesAll (E.received err.old) (E.received err.new) result
+        (line_text (codes "cannot read " ++ escaped_name name.now)) }
+{
+    offer_all(err, b"cannot read ")?;
+    write_escaped(err, name)?;
+    offer_all(err, b"\n")
+}
+
+/// Writes a name with its control bytes escaped. The bytes between two of them go out together.
+fn write_escaped<E: MessageSink>(err: &mut E, name: &[u8]) -> Result<(), SinkFault>
+    ensures { WritesAll (E.received err.old) (E.received err.new) result (escaped_name name.now) }
+{
+    let mut begun = 0;
+    let mut at = 0;
+    while at < name.len() {
+        let byte = name[at];
+        if byte.is_ascii_control() {
+            write_before_control(err, &name[begun..at], byte)?;
+            begun = at + 1;
+        }
+        at += 1;
+    }
+    offer_all(err, &name[begun..])
+}
+
+/// Writes these bytes as they are, and after them a control byte, escaped.
+fn write_before_control<E: MessageSink>(
+    err: &mut E,
+    before: &[u8],
+    control: u8,
+) -> Result<(), SinkFault>
+    ensures { WritesAll (E.received err.old) (E.received err.new) result
+        (before.now ++ (codes "\\x" ++ upper_byte control)) }
+{
+    write_parts(err, &[before, b"\\x", &upper_byte(control)])
 }
 
 /// Writes why a listing ended.

@@ -1,7 +1,9 @@
 -- Lines and blocks out of the parts that the code puts together.
 use Rattle.std.proofs.Common.{◌≡◌, ◌∙◌, ℕ, List, [], ◌∷◌, ◌++◌, Bool, true, Option, codes, ap, sym, subst, refl, append_assoc, append-nil}
-use Rattle.std.specs.Fmt.{decimal}
+use Rattle.std.proofs.Common.{◌-◌, drop, length, replicate}
+use Rattle.std.specs.Fmt.{char_count, decimal}
 use Rattle.std.specs.List.{concat}
+use Rattle.ipmi_text.specs.Appended.{Appends}
 use Rattle.ipmi_text.specs.Hex.{hex_byte}
 use Rattle.ipmi_text.specs.FieldText.{binary_text}
 use Rattle.ipmi_text.specs.Times.{IsUtcTextOf}
@@ -16,7 +18,8 @@ use Rattle.ipmi_text.specs.Lines.{labelled}
 use Rattle.ipmi_records.specs.Columns.{IsRawText, IsReadingColumn, status_of}
 use Rattle.ipmi_records.specs.Info.{AreTimeLines, IsInfoBlock, count_lines, free_space, info_version, last_addition, last_erase, record_count, support_lines}
 use Rattle.ipmi_records.specs.Sdr.{locator_of, sensor_of}
-use Rattle.ipmi_records.specs.SdrText.{AreReadingLines, AreThresholdTexts, AreValueLines, IsExtendedLine, IsSdrBlock, IsSdrLine, IsThresholdText, all_thresholds, entity_column, entity_text, head_lines, line_text, locator_lines, number_text, printed_name, sensor_lines, subject_lines, threshold_name}
+use Rattle.ipmi_records.specs.SdrText.{AreReadingLines, AreThresholdTexts, AreValueLines, IsExtendedLine, IsSdrBlock, IsSdrLine, IsThresholdText, all_thresholds, entity_column, entity_text, extended_text, head_lines, line_text, locator_lines, number_text, printed_name, sensor_columns, sensor_lines, subject_lines, threshold_name}
+use Rattle.ipmi_records.proofs.PaddingLemmas.{padded_after}
 use Rattle.ipmi_records.specs.Sel.{entry_type, event_data, generator, is_deasserted, manufacturer, oem_data, revision, sensor_number, sensor_type, time_stamp}
 use Rattle.ipmi_records.specs.SelText.{AreEventLines, AreOemLines, AreOriginLines, event_body_lines, IsEventLine, IsOemLine, direction_text, manufacturer_text, sensor_text, words_of_event}
 use Rattle.ipmi_records.specs.Sensor.{is_readable, threshold_in}
@@ -39,13 +42,20 @@ lines_joined : (pairs : List (List ℕ × List ℕ)) → flat pairs ≡ concat (
 lines_joined [] = refl
 lines_joined (pair ∷ pairs) = line_before pair.0 pair.1 (flat pairs) ∙ ap (λ (l : List ℕ). labelled pair.0 pair.1 ++ l) (lines_joined pairs)
 
-pub reading_lines_made : (view : SdrView) (reading : Option Reading) (column status text : List ℕ) → IsReadingColumn view reading column → status ≡ status_of view reading
-    → text ≡ codes "Reading: " ++ (column ++ (codes "\nStatus: " ++ (status ++ codes "\n"))) → AreReadingLines view reading text
-reading_lines_made view reading column status text is_column status_is text_is =
+-- a text that was appended between two others
+between : (front part back first second third : List ℕ) → first ≡ front → second ≡ first ++ part → third ≡ second ++ back → third ≡ front ++ (part ++ back)
+between front part back first second third first_is second_is third_is =
+    third_is ∙ ap (λ (t : List ℕ). t ++ back) (second_is ∙ ap (λ (t : List ℕ). t ++ part) first_is) ∙ append_assoc front part back
+
+pub reading_lines_made : (view : SdrView) (reading : Option Reading) (status empty first second text : List ℕ) → empty ≡ [] → first ≡ empty ++ codes "Reading: "
+    → Appends (IsReadingColumn view reading) first second → status ≡ status_of view reading → text ≡ second ++ (codes "\nStatus: " ++ (status ++ codes "\n"))
+    → AreReadingLines view reading text
+reading_lines_made view reading status empty first second text empty_is first_is h status_is text_is =
     record {
-      column = column;
-      is_column = is_column;
-      text_is = text_is ∙ line_before (codes "Reading") column (labelled (codes "Status") status) ∙ ap (λ (s : List ℕ). labelled (codes "Reading") column ++ labelled (codes "Status") s) status_is;
+      column = h.part;
+      is_column = h.is_text;
+      text_is = between (codes "Reading: ") h.part (codes "\nStatus: " ++ (status ++ codes "\n")) first second text (first_is ∙ ap (λ (t : List ℕ). t ++ codes "Reading: ") empty_is) h.text_is text_is
+          ∙ line_before (codes "Reading") h.part (labelled (codes "Status") status) ∙ ap (λ (s : List ℕ). labelled (codes "Reading") h.part ++ labelled (codes "Status") s) status_is;
     }
 
 pub key_lines_joined : (owner lun number : List ℕ)
@@ -60,14 +70,15 @@ subject_lines_made sensor kind text kind_is text_is = text_is
     ∙ lines_joined ((codes "Entity", entity_text sensor.entity) ∷ (codes "Kind", kind) ∷ (codes "Event type", byte_h sensor.event_type) ∷ [])
     ∙ ap (λ (l : List ℕ). labelled (codes "Entity") (entity_text sensor.entity) ++ (labelled (codes "Kind") l ++ labelled (codes "Event type") (byte_h sensor.event_type))) kind_is
 
-pub threshold_made : (bytes : List ℕ) (threshold : Threshold) (readable : Bool) (raw : ℕ) (name value text : List ℕ) → readable ≡ is_readable threshold bytes → readable ≡ true
-    → raw ≡ threshold_in threshold bytes → IsRawText bytes raw value → name ≡ threshold_name threshold
-    → text ≡ name ++ (codes ": " ++ (value ++ codes "\n")) → IsThresholdText (is_readable threshold bytes) bytes threshold text
-threshold_made bytes threshold readable raw name value text readable_is so raw_is is_value name_is text_is =
+pub threshold_made : (bytes : List ℕ) (threshold : Threshold) (readable : Bool) (raw : ℕ) (name empty first second text : List ℕ) → readable ≡ is_readable threshold bytes → readable ≡ true
+    → raw ≡ threshold_in threshold bytes → name ≡ threshold_name threshold → empty ≡ [] → first ≡ empty ++ (name ++ codes ": ") → Appends (IsRawText bytes raw) first second
+    → text ≡ second ++ codes "\n" → IsThresholdText (is_readable threshold bytes) bytes threshold text
+threshold_made bytes threshold readable raw name empty first second text readable_is so raw_is name_is empty_is first_is h text_is =
     subst (λ (b : Bool). IsThresholdText b bytes threshold text) (sym so ∙ readable_is) (record {
-      value = value;
-      is_value = subst (λ (n : ℕ). IsRawText bytes n value) raw_is is_value;
-      text_is = text_is ∙ ap (λ (l : List ℕ). labelled l value) name_is;
+      value = h.part;
+      is_value = subst (λ (n : ℕ). IsRawText bytes n h.part) raw_is h.is_text;
+      text_is = between (name ++ codes ": ") h.part (codes "\n") first second text (first_is ∙ ap (λ (t : List ℕ). t ++ (name ++ codes ": ")) empty_is) h.text_is text_is
+          ∙ append_assoc name (codes ": ") (h.part ++ codes "\n") ∙ ap (λ (l : List ℕ). labelled l h.part) name_is;
     })
 
 one_threshold_more : (bytes : List ℕ) (threshold : Threshold) (thresholds : List Threshold) (line more : List ℕ) → IsThresholdText (is_readable threshold bytes) bytes threshold line
@@ -102,17 +113,46 @@ block_made id view reading head sensor locator values text head_is sensor_is loc
           ∙ ap (λ (l : List ℕ). head_lines id view ++ (sensor_lines (sensor_of view) ++ (l ++ (values ++ codes "\n")))) locator_is;
     }
 
-pub line_made : (view : SdrView) (reading : Option Reading) (name column shown status text : List ℕ) → name ≡ printed_name view → IsReadingColumn view reading column → shown ≡ column → status ≡ status_of view reading
-    → text ≡ padded_to 16 name ++ (codes " | " ++ (padded_to 17 shown ++ (codes " | " ++ (status ++ codes "\n")))) → IsSdrLine view reading text
-line_made view reading name column shown status text name_is is_column shown_is status_is text_is =
-    record { column = column; is_column = is_column; text_is = text_is ∙ ap (λ (l : List ℕ). line_text l shown status) name_is ∙ ap (λ (l : List ℕ). line_text (printed_name view) l status) shown_is ∙ ap (line_text (printed_name view) column) status_is }
+pub line_made : (view : SdrView) (reading : Option Reading) (start : ℕ) (status empty named opened read filled text : List ℕ) → empty ≡ [] → named ≡ empty ++ padded_to 16 (printed_name view)
+    → opened ≡ named ++ codes " | " → start ≡ length opened → Appends (IsReadingColumn view reading) opened read
+    → filled ≡ read ++ replicate (17 - char_count (drop start read)) 32 → status ≡ status_of view reading → text ≡ filled ++ (codes " | " ++ (status ++ codes "\n")) → IsSdrLine view reading text
+line_made view reading start status empty named opened read filled text empty_is named_is opened_is start_is h filled_is status_is text_is =
+    let name = padded_to 16 (printed_name view) in
+    let named_so : named ≡ name = named_is ∙ ap (λ (t : List ℕ). t ++ name) empty_is in
+    let opened_so : opened ≡ name ++ codes " | " = opened_is ∙ ap (λ (t : List ℕ). t ++ codes " | ") named_so in
+    let filled_so : filled ≡ opened ++ padded_to 17 h.part = padded_after 17 start opened h.part read filled h.text_is start_is filled_is in
+    record {
+      column = h.part;
+      is_column = h.is_text;
+      text_is = between (name ++ codes " | ") (padded_to 17 h.part) (codes " | " ++ (status ++ codes "\n")) opened filled text opened_so filled_so text_is
+          ∙ append_assoc name (codes " | ") (padded_to 17 h.part ++ (codes " | " ++ (status ++ codes "\n"))) ∙ ap (line_text (printed_name view) h.part) status_is;
+    }
 
-pub extended_line_made : (view : SdrView) (reading : Option Reading) (name number status entity column text : List ℕ) → name ≡ printed_name view → number ≡ number_text (sensor_of view)
-    → status ≡ status_of view reading → entity ≡ entity_column (sensor_of view) (locator_of view) → IsReadingColumn view reading column
-    → text ≡ padded_to 16 name ++ (codes " | " ++ (number ++ (codes " | " ++ (padded_to 3 status ++ (codes " | " ++ (padded_to 5 entity ++ (codes " | " ++ (column ++ codes "\n"))))))))
-    → IsExtendedLine view reading text
-extended_line_made view reading name number status entity column text name_is number_is status_is entity_is is_column text_is =
-    record { column = column; is_column = is_column; text_is = text_is ∙ rw (name_is, number_is, status_is, entity_is) refl }
+pub extended_line_made : (view : SdrView) (reading : Option Reading) (status empty named opened read text : List ℕ) → empty ≡ [] → named ≡ empty ++ padded_to 16 (printed_name view)
+    → opened ≡ named ++ sensor_columns view status → status ≡ status_of view reading → Appends (IsReadingColumn view reading) opened read → text ≡ read ++ codes "\n" → IsExtendedLine view reading text
+extended_line_made view reading status empty named opened read text empty_is named_is opened_is status_is h text_is =
+    let name = padded_to 16 (printed_name view) in
+    let named_so : named ≡ name = named_is ∙ ap (λ (t : List ℕ). t ++ name) empty_is in
+    let opened_so : opened ≡ name ++ sensor_columns view status = opened_is ∙ ap (λ (t : List ℕ). t ++ sensor_columns view status) named_so in
+    record {
+      column = h.part;
+      is_column = h.is_text;
+      text_is = between (name ++ sensor_columns view status) h.part (codes "\n") opened read text opened_so h.text_is text_is
+          ∙ columns_joined name (number_text (sensor_of view)) (padded_to 3 status) (padded_to 5 (entity_column (sensor_of view) (locator_of view))) h.part
+          ∙ ap (λ (s : List ℕ). extended_text view s h.part) status_is;
+    }
+  where
+    columns_joined : (name number status entity column : List ℕ)
+        → (name ++ (codes " | " ++ (number ++ (codes " | " ++ (status ++ (codes " | " ++ (entity ++ codes " | "))))))) ++ (column ++ codes "\n")
+        ≡ name ++ (codes " | " ++ (number ++ (codes " | " ++ (status ++ (codes " | " ++ (entity ++ (codes " | " ++ (column ++ codes "\n"))))))))
+    columns_joined name number status entity column = simp append_assoc refl
+
+pub sensor_columns_made : (view : SdrView) (number status entity old first second third fourth text : List ℕ) → number ≡ number_text (sensor_of view)
+    → entity ≡ entity_column (sensor_of view) (locator_of view)
+    → first ≡ old ++ (codes " | " ++ (number ++ codes " | ")) → second ≡ first ++ padded_to 3 status → third ≡ second ++ codes " | " → fourth ≡ third ++ padded_to 5 entity
+    → text ≡ fourth ++ codes " | " → text ≡ old ++ sensor_columns view status
+sensor_columns_made view number status entity old first second third fourth text number_is entity_is first_is second_is third_is fourth_is text_is =
+    text_is ∙ rw (fourth_is, third_is, second_is, first_is, number_is, entity_is) (simp append_assoc refl)
 
 -- ---- the event log
 

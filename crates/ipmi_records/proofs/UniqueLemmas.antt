@@ -19,7 +19,8 @@ use Rattle.ipmi_records.specs.declared.sel.SelView.TheVariants as entry_view
 use Rattle.ipmi_records.specs.declared.sensor.Threshold.{Threshold}
 use Rattle.ipmi_records.specs.Bytes.{byte_h, columns_line, hex_word, word_h}
 use Rattle.ipmi_text.specs.Lines.{labelled}
-use Rattle.ipmi_records.specs.Columns.{IsAnalogColumn, IsFullColumn, IsRawText, IsReadingColumn, IsValueText, after_space, has_analog, shown_of, status_of, unit_text_in}
+use Rattle.ipmi_text.specs.Units.{after_space}
+use Rattle.ipmi_records.specs.Columns.{IsAnalogColumn, IsFullColumn, IsRawText, IsReadingColumn, IsValueText, has_analog, shown_of, status_of, unit_text_in}
 use Rattle.ipmi_records.specs.Info.{AreTimeLines, IsInfoBlock, count_lines, last_addition, last_erase, support_lines}
 use Rattle.ipmi_records.specs.Sdr.{locator_of, sensor_of}
 use Rattle.ipmi_records.specs.SdrText.{AreReadingLines, AreThresholdTexts, AreValueLines, IsExtendedLine, IsSdrBlock, IsSdrLine, IsThresholdText, extended_text, head_lines, line_text, locator_lines, printed_name, sensor_lines, threshold_name, thresholds_of}

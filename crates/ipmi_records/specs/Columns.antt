@@ -5,7 +5,7 @@ use Rattle.std.specs.Fmt.{decimal}
 use Rattle.ipmi_text.specs.Decimal.{IsDecimalOf}
 use Rattle.ipmi_text.specs.Hex.{hex_byte}
 use Rattle.ipmi_text.specs.ReadingValue.{reading_value}
-use Rattle.ipmi_text.specs.Units.{unit_text_of}
+use Rattle.ipmi_text.specs.Units.{after_space, unit_text_of}
 use Rattle.ipmi_text.specs.declared.reading.Reading.{Reading}
 use Rattle.ipmi_records.specs.declared.column.Shown.{Shown}
 use Rattle.ipmi_records.specs.declared.column.Shown.TheVariants as shown
@@ -31,11 +31,6 @@ abbrev pub shown_of : Sensor → Option Reading → Shown
 shown_of sensor reading = if sensor.owner == own_address then shown_reading reading else shown.OtherOwner
 
 -- ---- values
-
--- nothing for an empty text, else a space and the text
-abbrev pub after_space : List ℕ → List ℕ
-after_space [] = []
-after_space (c ∷ text) = 32 ∷ c ∷ text
 
 abbrev pub unit_text_in : List ℕ → List ℕ
 unit_text_in bytes = unit_text_of (units_in bytes).units1 (units_in bytes).base (units_in bytes).modifier

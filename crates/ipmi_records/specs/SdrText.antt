@@ -45,6 +45,10 @@ number_text (Some sensor) = byte_h sensor.number
 abbrev pub entity_text : Entity → List ℕ
 entity_text entity = decimal entity.id ++ (codes "." ++ decimal entity.instance)
 
+abbrev pub entity_or_dash : Option Entity → List ℕ
+entity_or_dash None = codes "-"
+entity_or_dash (Some entity) = entity_text entity
+
 -- the entity of a sensor or a device, a dash for other records
 abbrev pub entity_column : Option Sensor → Option Locator → List ℕ
 entity_column (Some sensor) locator = entity_text sensor.entity
@@ -61,6 +65,11 @@ extended_text view status reading =
     ∷ padded_to 5 (entity_column (sensor_of view) (locator_of view))
     ∷ reading
     ∷ [])
+
+-- the columns between name and reading
+abbrev pub sensor_columns : SdrView → List ℕ → List ℕ
+sensor_columns view status =
+    codes " | " ++ (number_text (sensor_of view) ++ (codes " | " ++ (padded_to 3 status ++ (codes " | " ++ (padded_to 5 (entity_column (sensor_of view) (locator_of view)) ++ codes " | ")))))
 
 pub record IsExtendedLine (view : SdrView) (reading : Option Reading) (text : List ℕ) : Type 0 where
   pub column : List ℕ

@@ -15,9 +15,13 @@ use Rattle.ipmi_records.specs.Sel.{entry_bytes, entry_type, event_data, event_ty
 
 -- ---- fields
 
--- the sensor of an event: what it senses, and its number
+-- a sensor: what it senses, and its number
+abbrev pub numbered_sensor : ℕ → ℕ → List ℕ
+numbered_sensor type number = sensor_type_text_of type ++ (codes " #0x" ++ hex_byte number)
+
+-- the sensor of an event
 abbrev pub sensor_text : List ℕ → List ℕ
-sensor_text bytes = sensor_type_text_of (sensor_type bytes) ++ (codes " #0x" ++ hex_byte (sensor_number bytes))
+sensor_text bytes = numbered_sensor (sensor_type bytes) (sensor_number bytes)
 
 -- the words of an event, by its type and the first byte of its data
 abbrev pub words_of_event : List ℕ → List ℕ

@@ -4,12 +4,12 @@ ghost use Rattle.ipmi_records.specs.Sdr.{name_of};
 ghost use Rattle.ipmi_records.specs.Sensor.{is_readable};
 ghost use Rattle.ipmi_records.specs.SdrText.{AreReadingLines, AreThresholdTexts, AreValueLines, IsSdrBlock, IsThresholdText, all_thresholds, head_lines, key_lines, kind_text, locator_lines, name_line, sensor_lines, subject_lines, threshold_name, thresholds_of};
 
-use crate::column::{has_thresholds, raw_text, reading_column, status_of, type_text};
+use crate::column::{RecordType, has_thresholds, push_raw, push_reading, status_of};
 use crate::digits::{ByteH, WordH};
 use crate::locator::Locator;
 use crate::sdr::SdrView;
 use crate::sensor::{FullSensor, Sensor, Threshold};
-use ipmi_text::{Reading, sensor_type_text, text_with_room};
+use ipmi_text::{Reading, SensorType, text_with_room};
 use std::alloc::{AllocError, Global};
 
 /// The room for most groups of a few lines.
@@ -32,7 +32,7 @@ fn kind_text(alloc: Global, view: &SdrView) -> Result<String, AllocError>
         SdrView::Generic(_) => String::from_str(alloc, "generic locator"),
         SdrView::Fru(_) => String::from_str(alloc, "FRU locator"),
         SdrView::Controller(_) => String::from_str(alloc, "controller locator"),
-        SdrView::Other(other) => type_text(alloc, other.bytes()[3]),
+        SdrView::Other(other) => text_with_room(alloc, PART_ROOM, RecordType(other.bytes()[3])),
     }
 }
 
@@ -79,7 +79,7 @@ fn subject_lines(alloc: Global, sensor: &Sensor) -> Result<String, AllocError>
     ensures { IfOk result (λ text. string_bytes text ≡ subject_lines sensor.now) }
 {
     let entity = sensor.entity;
-    let kind = sensor_type_text(alloc, sensor.sensor_type)?;
+    let kind = SensorType(sensor.sensor_type);
     let event_type = ByteH(sensor.event_type);
     text_with_room(
         alloc,
@@ -124,13 +124,12 @@ fn reading_lines(
 ) -> Result<String, AllocError>
     ensures { IfOk result (λ text. AreReadingLines view.now reading (string_bytes text)) }
 {
-    let column = reading_column(alloc, view, reading)?;
+    let mut text = String::with_capacity(alloc, PART_ROOM)?;
+    text.push_str("Reading: ")?;
+    push_reading(&mut text, view, reading)?;
     let status = status_of(view, reading);
-    text_with_room(
-        alloc,
-        PART_ROOM,
-        format_args!("Reading: {column}\nStatus: {status}\n"),
-    )
+    write!(text, "\nStatus: {status}\n")?;
+    Ok(text)
 }
 
 /// The name of a threshold.
@@ -160,8 +159,11 @@ fn threshold_text(
         return Ok(String::new(alloc));
     }
     let name = threshold_name(threshold);
-    let value = raw_text(alloc, full, full.threshold(threshold))?;
-    text_with_room(alloc, PART_ROOM, format_args!("{name}: {value}\n"))
+    let mut text = String::with_capacity(alloc, PART_ROOM)?;
+    write!(text, "{name}: ")?;
+    push_raw(&mut text, full, full.threshold(threshold))?;
+    text.push_str("\n")?;
+    Ok(text)
 }
 
 /// The lines of all thresholds.

@@ -1,15 +1,15 @@
 //! The reading column and the status of a record.
-ghost use Rattle.std.specs.Prelude.{◌≡◌, IfOk, string_bytes};
-ghost use Rattle.ipmi_records.specs.Columns.{IsFullColumn, IsRawText, IsReadingColumn, after_space, compact_column, fru_column, has_thresholds, is_there, sensor_status, shown_of, shown_reading, states_text, status_of, threshold_status, type_text, unit_text_in};
+ghost use Rattle.std.specs.Prelude.{◌≡◌, ◌++◌, OnOk, string_bytes};
+ghost use Rattle.ipmi_text.specs.Appended.{Appends};
+ghost use Rattle.ipmi_text.specs.Units.{unit_text_of};
+ghost use Rattle.ipmi_records.specs.Columns.{IsAnalogColumn, IsFullColumn, IsRawText, IsReadingColumn, compact_column, fru_column, has_analog, has_thresholds, is_there, sensor_status, shown_of, shown_reading, states_text, status_of, threshold_status, unit_text_in};
 
 use crate::digits::{ByteH, HexWord, has_bit};
 use crate::sdr::{OWN_ADDRESS, SdrView};
 use crate::sensor::{FullSensor, Sensor};
-use ipmi_text::{HexByte, Reading, convert, fixed_text, text_with_room, unit_text};
-use std::alloc::{AllocError, Global};
-
-/// The room for most columns.
-const ROOM: usize = 32;
+use ipmi_text::{HexByte, Reading, Units, convert, push_fixed, push_units};
+use std::alloc::AllocError;
+use std::fmt;
 
 /// What a sensor that could be read shows.
 #[derive(Clone, Copy)]
@@ -54,109 +54,125 @@ fn shown_of(sensor: &Sensor, reading: Option<Reading>) -> Shown
     }
 }
 
-/// The text, and a space before it where it is not empty.
-fn after_space(alloc: Global, text: String) -> Result<String, AllocError>
-    ensures { IfOk result (λ spaced. string_bytes spaced ≡ after_space (string_bytes text)) }
-{
-    if text.is_empty() {
-        return Ok(text);
-    }
-    text_with_room(alloc, ROOM, format_args!(" {text}"))
-}
-
 /// The units of a full record's sensor.
-fn unit_text_in(alloc: Global, full: &FullSensor) -> Result<String, AllocError>
-    ensures { IfOk result (λ text. string_bytes text ≡ unit_text_in full.now) }
+fn units_of(full: &FullSensor) -> Units
+    ensures { unit_text_of result.units1 result.base result.modifier ≡ unit_text_in full.now }
 {
     let units = full.units();
-    unit_text(alloc, units.units1, units.base, units.modifier)
+    Units {
+        units1: units.units1,
+        base: units.base,
+        modifier: units.modifier,
+    }
 }
 
-/// What a raw byte of a full record's sensor means.
-pub(crate) fn raw_text(alloc: Global, full: &FullSensor, raw: u8) -> Result<String, AllocError>
-    ensures { IfOk result (λ text. IsRawText full.now raw (string_bytes text)) }
+/// Appends what a raw byte of a full record's sensor means.
+pub(crate) fn push_raw(text: &mut String, full: &FullSensor, raw: u8) -> Result<(), AllocError>
+    ensures { OnOk result
+        (Appends (IsRawText full.now raw) (string_bytes text.old) (string_bytes text.new)) }
 {
     let Some(value) = convert(&full.factors(), raw) else {
         let raw = HexByte(raw);
-        return text_with_room(alloc, ROOM, format_args!("raw 0x{raw}"));
+        return write!(text, "raw 0x{raw}");
     };
-    let number = fixed_text(alloc, value)?;
-    let unit = after_space(alloc, unit_text_in(alloc, full)?)?;
-    text_with_room(alloc, ROOM, format_args!("{number}{unit}"))
+    push_fixed(text, value)?;
+    push_units(text, units_of(full))
 }
 
-/// The states of a discrete sensor.
-fn states_text(alloc: Global, reading: Reading) -> Result<String, AllocError>
-    ensures { IfOk result (λ text. string_bytes text ≡ states_text reading) }
+/// Appends the states of a discrete sensor.
+fn push_states(text: &mut String, reading: Reading) -> Result<(), AllocError>
+    ensures { OnOk result
+        (string_bytes text.new ≡ string_bytes text.old ++ states_text reading) }
 {
     let states = HexWord(256 * u16::from(reading.more % 128) + u16::from(reading.status));
-    text_with_room(alloc, ROOM, format_args!("states 0x{states}"))
+    write!(text, "states 0x{states}")
 }
 
-/// The reading column of a full record.
-fn full_column(alloc: Global, full: &FullSensor, shown: Shown) -> Result<String, AllocError>
-    ensures { IfOk result (λ text. IsFullColumn full.now shown (string_bytes text)) }
+/// Appends the value of a full record's sensor, or its states.
+fn push_value(text: &mut String, full: &FullSensor, reading: Reading) -> Result<(), AllocError>
+    ensures { OnOk result (Appends (IsAnalogColumn (has_analog full.now) full.now reading)
+        (string_bytes text.old) (string_bytes text.new)) }
+{
+    if full.analog_format() == 3 {
+        return push_states(text, reading);
+    }
+    push_raw(text, full, reading.raw)
+}
+
+/// Appends the reading column of a full record.
+fn push_full(text: &mut String, full: &FullSensor, shown: Shown) -> Result<(), AllocError>
+    ensures { OnOk result
+        (Appends (IsFullColumn full.now shown) (string_bytes text.old) (string_bytes text.new)) }
 {
     match shown {
-        Shown::OtherOwner => String::from_str(alloc, "other owner"),
-        Shown::NoReading => String::from_str(alloc, "no reading"),
-        Shown::Value(reading) => {
-            if full.analog_format() == 3 {
-                return states_text(alloc, reading);
-            }
-            raw_text(alloc, full, reading.raw)
-        }
+        Shown::OtherOwner => text.push_str("other owner"),
+        Shown::NoReading => text.push_str("no reading"),
+        Shown::Value(reading) => push_value(text, full, reading),
     }
 }
 
-/// The reading column of a compact record.
-fn compact_column(alloc: Global, shown: Shown) -> Result<String, AllocError>
-    ensures { IfOk result (λ text. string_bytes text ≡ compact_column shown) }
+/// Appends the reading column of a compact record.
+fn push_compact(text: &mut String, shown: Shown) -> Result<(), AllocError>
+    ensures { OnOk result
+        (string_bytes text.new ≡ string_bytes text.old ++ compact_column shown) }
 {
     match shown {
-        Shown::OtherOwner => String::from_str(alloc, "other owner"),
-        Shown::NoReading => String::from_str(alloc, "no reading"),
-        Shown::Value(reading) => states_text(alloc, reading),
+        Shown::OtherOwner => text.push_str("other owner"),
+        Shown::NoReading => text.push_str("no reading"),
+        Shown::Value(reading) => push_states(text, reading),
     }
 }
 
-/// The reading column of a FRU locator.
-fn fru_column(alloc: Global, fru: Option<u8>) -> Result<String, AllocError>
-    ensures { IfOk result (λ text. string_bytes text ≡ fru_column fru) }
+/// Appends the reading column of a FRU locator.
+fn push_fru(text: &mut String, fru: Option<u8>) -> Result<(), AllocError>
+    ensures { OnOk result (string_bytes text.new ≡ string_bytes text.old ++ fru_column fru) }
 {
     match fru {
-        Some(fru) => text_with_room(alloc, ROOM, format_args!("FRU {fru}")),
-        None => String::from_str(alloc, "elsewhere"),
+        Some(fru) => write!(text, "FRU {fru}"),
+        None => text.push_str("elsewhere"),
     }
 }
 
-/// What stands for a type without a name.
-pub(crate) fn type_text(alloc: Global, kind: u8) -> Result<String, AllocError>
-    ensures { IfOk result (λ text. string_bytes text ≡ type_text kind) }
-{
-    let kind = HexByte(kind);
-    text_with_room(alloc, ROOM, format_args!("record type 0x{kind}"))
+/// A record type without a name, printed as its number.
+#[derive(Clone, Copy, Debug)]
+pub(crate) struct RecordType(pub(crate) u8);
+
+impl fmt::Display for RecordType {
+    ghost use Rattle.std.specs.Prelude.{Some};
+    ghost use Rattle.ipmi_records.specs.Columns.{type_text};
+
+    ghost output = { λ kind. Some (type_text kind.0) };
+
+    fn fmt<W: fmt::Write>(&self, f: &mut fmt::Formatter<W>) -> fmt::Result {
+        let kind = HexByte(self.0);
+        write!(f, "record type 0x{kind}")
+    }
 }
 
-/// The reading column of a record.
-pub(crate) fn reading_column(
-    alloc: Global,
+/// Appends the reading column of a record.
+pub(crate) fn push_reading(
+    text: &mut String,
     view: &SdrView,
     reading: Option<Reading>,
-) -> Result<String, AllocError>
-    ensures { IfOk result (λ text. IsReadingColumn view.now reading (string_bytes text)) }
+) -> Result<(), AllocError>
+    ensures { OnOk result
+        (Appends (IsReadingColumn view.now reading) (string_bytes text.old)
+        (string_bytes text.new)) }
 {
     match view {
-        SdrView::Full(full) => full_column(alloc, full, shown_of(&full.sensor(), reading)),
-        SdrView::Compact(compact) => compact_column(alloc, shown_of(&compact.sensor(), reading)),
-        SdrView::EventOnly(_) => String::from_str(alloc, "event only"),
-        SdrView::Generic(_) => String::from_str(alloc, "generic device"),
-        SdrView::Fru(fru) => fru_column(alloc, fru.fru_of()),
+        SdrView::Full(full) => push_full(text, full, shown_of(&full.sensor(), reading)),
+        SdrView::Compact(compact) => push_compact(text, shown_of(&compact.sensor(), reading)),
+        SdrView::EventOnly(_) => text.push_str("event only"),
+        SdrView::Generic(_) => text.push_str("generic device"),
+        SdrView::Fru(fru) => push_fru(text, fru.fru_of()),
         SdrView::Controller(controller) => {
             let address = ByteH(controller.locator().address);
-            text_with_room(alloc, ROOM, format_args!("controller {address}"))
+            write!(text, "controller {address}")
         }
-        SdrView::Other(other) => type_text(alloc, other.bytes()[3]),
+        SdrView::Other(other) => {
+            let kind = RecordType(other.bytes()[3]);
+            write!(text, "{kind}")
+        }
     }
 }
 

@@ -1,4 +1,4 @@
-//! Hex digits of a fixed number, columns of a fixed width, and single bits.
+//! Hex digits of a fixed number, and single bits.
 ghost use Rattle.std.specs.Prelude.{◌≡◌, ◌<◌};
 ghost use Rattle.ipmi_records.specs.Bytes.{has_bit};
 
@@ -69,29 +69,6 @@ impl fmt::Display for WordH {
         let high = UpperByte((self.0 / 256) as u8);
         let low = ByteH((self.0 % 256) as u8);
         write!(f, "{high}{low}")
-    }
-}
-
-/// A text, and after it spaces up to a width in characters. A longer text is kept whole.
-#[derive(Clone, Copy, Debug)]
-pub(crate) struct Column<'a> {
-    pub(crate) text: &'a str,
-    pub(crate) width: usize,
-}
-
-impl<'a> fmt::Display for Column<'a> {
-    ghost use Rattle.std.specs.Prelude.{Some};
-    ghost use Rattle.ipmi_records.specs.Bytes.{padded_to};
-
-    ghost output = { λ column. Some (padded_to column.width column.text.now) };
-
-    fn fmt<W: fmt::Write>(&self, f: &mut fmt::Formatter<W>) -> fmt::Result {
-        let text = self.text;
-        let width = self.width;
-        // no text is longer than a precision can say, so none is cut
-        let len = text.len();
-        prove!(len <= usize::MAX);
-        write!(f, "{text:width$}")
     }
 }
 

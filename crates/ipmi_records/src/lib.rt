@@ -10,6 +10,7 @@ pub mod laws;
 mod line;
 mod locator;
 mod log;
+mod padding;
 mod sdr;
 mod sel;
 mod sensor;

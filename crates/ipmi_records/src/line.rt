@@ -1,29 +1,40 @@
 //! The lines of sensor data records.
-ghost use Rattle.std.specs.Prelude.{◌≡◌, IfOk, string_bytes};
-ghost use Rattle.ipmi_records.specs.SdrText.{IsExtendedLine, IsSdrLine, entity_column, fault_line, fault_text, number_text, printed_name};
+ghost use Rattle.std.specs.Prelude.{◌≡◌, ◌++◌, IfOk, OnOk, string_bytes};
+ghost use Rattle.ipmi_records.specs.Bytes.{padded_to};
+ghost use Rattle.ipmi_records.specs.SdrText.{IsExtendedLine, IsSdrLine, entity_column, entity_or_dash, fault_line, fault_text, printed_name, sensor_columns};
 
-use crate::column::{reading_column, status_of};
-use crate::digits::{ByteH, Column, WordH};
+use crate::column::{push_reading, status_of};
+use crate::digits::{ByteH, WordH};
 use crate::locator::Locator;
+use crate::padding::pad;
 use crate::sdr::{SdrFault, SdrView};
-use crate::sensor::Sensor;
-use ipmi_text::{Reading, text_with_room};
+use crate::sensor::{Entity, Sensor};
+use ipmi_text::{Reading, push_sdr_text, text_with_room};
 use std::alloc::{AllocError, Global};
-
-/// The room for a number or an entity.
-const PART_ROOM: usize = 8;
+use std::fmt;
 
 /// The room for most lines.
 const LINE_ROOM: usize = 80;
 
-/// The name of a record, nothing where it has none.
-fn printed_name(alloc: Global, view: &SdrView) -> Result<String, AllocError>
-    ensures { IfOk result (λ text. string_bytes text ≡ printed_name view.now) }
+/// Appends the name of a record, nothing where it has none.
+fn push_name(alloc: Global, line: &mut String, view: &SdrView) -> Result<(), AllocError>
+    ensures { OnOk result
+        (string_bytes line.new ≡ string_bytes line.old ++ printed_name view.now) }
 {
-    match view.name(alloc)? {
-        Some(name) => Ok(name),
-        None => Ok(String::new(alloc)),
+    match view.id_string() {
+        Some(id) => push_sdr_text(alloc, line, id.type_length, id.rest),
+        None => Ok(()),
     }
+}
+
+/// Appends the name of a record in 16 characters.
+fn push_name_column(alloc: Global, line: &mut String, view: &SdrView) -> Result<(), AllocError>
+    ensures { OnOk result
+        (string_bytes line.new ≡ string_bytes line.old ++ padded_to 16 (printed_name view.now)) }
+{
+    let start = line.as_bytes().len();
+    push_name(alloc, line, view)?;
+    pad(line, start, 16)
 }
 
 /// The line of a record: its name in 16 characters, its reading column in 17, and its status. The reading is what Get Sensor Reading
@@ -35,56 +46,94 @@ pub fn sdr_line(
 ) -> Result<String, AllocError>
     ensures { IfOk result (λ text. IsSdrLine view.now reading (string_bytes text)) }
 {
-    let name = printed_name(alloc, view)?;
-    let column = reading_column(alloc, view, reading)?;
+    let mut line = String::with_capacity(alloc, LINE_ROOM)?;
+    push_name_column(alloc, &mut line, view)?;
+    line.push_str(" | ")?;
+    let start = line.as_bytes().len();
+    push_reading(&mut line, view, reading)?;
+    pad(&mut line, start, 17)?;
     let status = status_of(view, reading);
-    let name = Column {
-        text: name.as_str(),
-        width: 16,
-    };
-    let column = Column {
-        text: column.as_str(),
-        width: 17,
-    };
-    text_with_room(
-        alloc,
-        LINE_ROOM,
-        format_args!("{name} | {column} | {status}\n"),
-    )
+    write!(line, " | {status}\n")?;
+    Ok(line)
 }
 
-/// The number of a sensor, and dashes where there is none.
-fn number_text(alloc: Global, sensor: Option<Sensor>) -> Result<String, AllocError>
-    ensures { IfOk result (λ text. string_bytes text ≡ number_text sensor) }
+/// The number of a sensor, printed as dashes where there is none.
+#[derive(Clone, Copy, Debug)]
+struct SensorNumber(Option<Sensor>);
+
+impl fmt::Display for SensorNumber {
+    ghost use Rattle.std.specs.Prelude.{Some};
+    ghost use Rattle.ipmi_records.specs.SdrText.{number_text};
+
+    ghost output = { λ number. Some (number_text number.0) };
+
+    fn fmt<W: fmt::Write>(&self, f: &mut fmt::Formatter<W>) -> fmt::Result {
+        match self.0 {
+            None => f.write_str("--h"),
+            Some(sensor) => {
+                let number = ByteH(sensor.number);
+                write!(f, "{number}")
+            }
+        }
+    }
+}
+
+/// The entity of a sensor or a device.
+fn entity_of(sensor: Option<Sensor>, locator: Option<Locator>) -> Option<Entity>
+    ensures { entity_or_dash result ≡ entity_column sensor locator }
 {
     match sensor {
-        None => String::from_str(alloc, "--h"),
-        Some(sensor) => {
-            let number = ByteH(sensor.number);
-            text_with_room(alloc, PART_ROOM, format_args!("{number}"))
-        }
+        Some(sensor) => Some(sensor.entity),
+        None => match locator {
+            Some(locator) => Some(locator.entity),
+            None => None,
+        },
     }
 }
 
-/// The entity of a sensor or a device, and a dash where there is none.
-fn entity_column(
-    alloc: Global,
-    sensor: Option<Sensor>,
-    locator: Option<Locator>,
-) -> Result<String, AllocError>
-    ensures { IfOk result (λ text. string_bytes text ≡ entity_column sensor locator) }
+/// Appends an entity, a dash where there is none.
+fn push_entity(line: &mut String, entity: Option<Entity>) -> Result<(), AllocError>
+    ensures { OnOk result
+        (string_bytes line.new ≡ string_bytes line.old ++ entity_or_dash entity) }
 {
-    if let Some(sensor) = sensor {
-        let entity = sensor.entity;
-        return text_with_room(alloc, PART_ROOM, format_args!("{entity}"));
+    match entity {
+        Some(entity) => write!(line, "{entity}"),
+        None => line.push_str("-"),
     }
-    match locator {
-        Some(locator) => {
-            let entity = locator.entity;
-            text_with_room(alloc, PART_ROOM, format_args!("{entity}"))
-        }
-        None => String::from_str(alloc, "-"),
-    }
+}
+
+/// Appends an entity in 5 characters, a dash where there is none.
+fn push_entity_column(line: &mut String, entity: Option<Entity>) -> Result<(), AllocError>
+    ensures { OnOk result
+        (string_bytes line.new ≡ string_bytes line.old ++ padded_to 5 (entity_or_dash entity)) }
+{
+    let start = line.as_bytes().len();
+    push_entity(line, entity)?;
+    pad(line, start, 5)
+}
+
+/// Appends a status in 3 characters.
+fn push_status_column(line: &mut String, status: &str) -> Result<(), AllocError>
+    ensures { OnOk result
+        (string_bytes line.new ≡ string_bytes line.old ++ padded_to 3 status.now) }
+{
+    let start = line.as_bytes().len();
+    line.push_str(status)?;
+    pad(line, start, 3)
+}
+
+/// Appends the number, the status and the entity of a record, after and before ` | `.
+fn push_sensor_columns(line: &mut String, view: &SdrView, status: &str) -> Result<(), AllocError>
+    ensures { OnOk result
+        (string_bytes line.new ≡ string_bytes line.old ++ sensor_columns view.now status.now) }
+{
+    let number = SensorNumber(view.sensor());
+    write!(line, " | {number} | ")?;
+    push_status_column(line, status)?;
+    line.push_str(" | ")?;
+    push_entity_column(line, entity_of(view.sensor(), view.locator()))?;
+    line.push_str(" | ")?;
+    Ok(())
 }
 
 /// The extended line of a record: its name, the sensor's number, its status, the entity and the reading column. The reading is as for
@@ -96,27 +145,12 @@ pub fn sdr_eline(
 ) -> Result<String, AllocError>
     ensures { IfOk result (λ text. IsExtendedLine view.now reading (string_bytes text)) }
 {
-    let name = printed_name(alloc, view)?;
-    let number = number_text(alloc, view.sensor())?;
-    let entity = entity_column(alloc, view.sensor(), view.locator())?;
-    let column = reading_column(alloc, view, reading)?;
-    let name = Column {
-        text: name.as_str(),
-        width: 16,
-    };
-    let status = Column {
-        text: status_of(view, reading),
-        width: 3,
-    };
-    let entity = Column {
-        text: entity.as_str(),
-        width: 5,
-    };
-    text_with_room(
-        alloc,
-        LINE_ROOM,
-        format_args!("{name} | {number} | {status} | {entity} | {column}\n"),
-    )
+    let mut line = String::with_capacity(alloc, LINE_ROOM)?;
+    push_name_column(alloc, &mut line, view)?;
+    push_sensor_columns(&mut line, view, status_of(view, reading))?;
+    push_reading(&mut line, view, reading)?;
+    line.push_str("\n")?;
+    Ok(line)
 }
 
 /// The name of a record's fault.

@@ -1,16 +1,15 @@
 //! The lines and blocks of the event log's entries.
 ghost use Rattle.std.specs.Prelude.{◌≡◌, IfOk, string_bytes};
-ghost use Rattle.ipmi_records.specs.Sel.{is_deasserted, manufacturer};
-ghost use Rattle.ipmi_records.specs.SelText.{AreEventLines, AreFieldLines, AreOemLines, AreOriginLines, IsEventLine, IsOemLine, IsSelBlock, IsSelLine, direction_text, event_body_lines, manufacturer_text, plain_line, sensor_text, words_of_event};
+ghost use Rattle.ipmi_text.specs.Events.{event_text_of};
+ghost use Rattle.ipmi_records.specs.Sel.{is_deasserted};
+ghost use Rattle.ipmi_records.specs.SelText.{AreEventLines, AreFieldLines, AreOemLines, AreOriginLines, IsEventLine, IsOemLine, IsSelBlock, IsSelLine, direction_text, event_body_lines, numbered_sensor, plain_line, sensor_text, words_of_event};
 
-use crate::column::type_text;
+use crate::column::RecordType;
 use crate::digits::{ByteH, HexWord, WordH};
 use crate::sel::{EventEntry, OemTimedEntry, SelView};
-use ipmi_text::{HexByte, event_text, sensor_type_text, text_with_room, utc_text};
+use ipmi_text::{EventWords, HexByte, SensorType, UtcTime, text_with_room};
 use std::alloc::{AllocError, Global};
-
-/// The room for most parts of a line.
-const PART_ROOM: usize = 32;
+use std::fmt;
 
 /// The room for most lines.
 const LINE_ROOM: usize = 128;
@@ -18,20 +17,44 @@ const LINE_ROOM: usize = 128;
 /// The room for most blocks.
 const BLOCK_ROOM: usize = 256;
 
+/// The sensor of an event, printed as what it senses and its number.
+#[derive(Clone, Copy, Debug)]
+struct EventSensor {
+    kind: SensorType,
+    number: HexByte,
+}
+
+impl fmt::Display for EventSensor {
+    ghost use Rattle.std.specs.Prelude.{Some};
+    ghost use Rattle.ipmi_records.specs.SelText.{numbered_sensor};
+
+    ghost output = { λ sensor. Some (numbered_sensor sensor.kind.0 sensor.number.0) };
+
+    fn fmt<W: fmt::Write>(&self, f: &mut fmt::Formatter<W>) -> fmt::Result {
+        let kind = self.kind;
+        let number = self.number;
+        write!(f, "{kind} #0x{number}")
+    }
+}
+
 /// The sensor of an event.
-fn sensor_text(alloc: Global, event: &EventEntry) -> Result<String, AllocError>
-    ensures { IfOk result (λ text. string_bytes text ≡ sensor_text event.now) }
+fn sensor_of_event(event: &EventEntry) -> EventSensor
+    ensures { numbered_sensor result.kind.0 result.number.0 ≡ sensor_text event.now }
 {
-    let kind = sensor_type_text(alloc, event.sensor_type())?;
-    let number = HexByte(event.sensor_number());
-    text_with_room(alloc, PART_ROOM, format_args!("{kind} #0x{number}"))
+    EventSensor {
+        kind: SensorType(event.sensor_type()),
+        number: HexByte(event.sensor_number()),
+    }
 }
 
 /// The words of an event.
-fn words_of_event(alloc: Global, event: &EventEntry) -> Result<String, AllocError>
-    ensures { IfOk result (λ text. string_bytes text ≡ words_of_event event.now) }
+fn words_of_event(event: &EventEntry) -> EventWords
+    ensures { event_text_of result.event result.data1 ≡ words_of_event event.now }
 {
-    event_text(alloc, event.event_type(), event.data_bytes()[0])
+    EventWords {
+        event: event.event_type(),
+        data1: event.data_bytes()[0],
+    }
 }
 
 /// Whether an event comes or goes.
@@ -45,14 +68,21 @@ fn direction_text(event: &EventEntry) -> &'static str
     }
 }
 
-/// A manufacturer's number in six hex digits.
-fn manufacturer_text(alloc: Global, entry: &OemTimedEntry) -> Result<String, AllocError>
-    ensures { IfOk result (λ text. string_bytes text ≡ manufacturer_text (manufacturer entry.now)) }
-{
-    let number = entry.manufacturer();
-    let high = HexByte((number / 65536 % 256) as u8);
-    let low = HexWord((number % 65536) as u16);
-    text_with_room(alloc, PART_ROOM, format_args!("{high}{low}"))
+/// A manufacturer's number, printed as six hex digits.
+#[derive(Clone, Copy, Debug)]
+struct Manufacturer(u32);
+
+impl fmt::Display for Manufacturer {
+    ghost use Rattle.std.specs.Prelude.{Some};
+    ghost use Rattle.ipmi_records.specs.SelText.{manufacturer_text};
+
+    ghost output = { λ number. Some (manufacturer_text number.0) };
+
+    fn fmt<W: fmt::Write>(&self, f: &mut fmt::Formatter<W>) -> fmt::Result {
+        let high = HexByte((self.0 / 65536 % 256) as u8);
+        let low = HexWord((self.0 % 65536) as u16);
+        write!(f, "{high}{low}")
+    }
 }
 
 /// The line of an event.
@@ -60,9 +90,9 @@ fn event_line(alloc: Global, id: u16, event: &EventEntry) -> Result<String, Allo
     ensures { IfOk result (λ text. IsEventLine id event.now (string_bytes text)) }
 {
     let id = HexWord(id);
-    let time = utc_text(alloc, event.time_stamp())?;
-    let sensor = sensor_text(alloc, event)?;
-    let words = words_of_event(alloc, event)?;
+    let time = UtcTime::of(event.time_stamp());
+    let sensor = sensor_of_event(event);
+    let words = words_of_event(event);
     let direction = direction_text(event);
     text_with_room(
         alloc,
@@ -76,9 +106,9 @@ fn oem_line(alloc: Global, id: u16, entry: &OemTimedEntry) -> Result<String, All
     ensures { IfOk result (λ text. IsOemLine id entry.now (string_bytes text)) }
 {
     let id = HexWord(id);
-    let time = utc_text(alloc, entry.time_stamp())?;
+    let time = UtcTime::of(entry.time_stamp());
     let kind = HexByte(entry.bytes()[2]);
-    let manufacturer = manufacturer_text(alloc, entry)?;
+    let manufacturer = Manufacturer(entry.manufacturer());
     let bytes = hex::encode(alloc, entry.data_bytes())?;
     text_with_room(
         alloc,
@@ -106,7 +136,7 @@ pub fn sel_line(alloc: Global, id: u16, view: &SelView) -> Result<String, AllocE
         }
         SelView::Other(entry) => {
             let id = HexWord(id);
-            let kind = type_text(alloc, entry.bytes()[2])?;
+            let kind = RecordType(entry.bytes()[2]);
             let bytes = hex::encode(alloc, entry.data_bytes())?;
             text_with_room(alloc, LINE_ROOM, format_args!("{id} | {kind} | {bytes}\n"))
         }
@@ -117,7 +147,7 @@ pub fn sel_line(alloc: Global, id: u16, view: &SelView) -> Result<String, AllocE
 fn origin_lines(alloc: Global, event: &EventEntry) -> Result<String, AllocError>
     ensures { IfOk result (λ text. AreOriginLines event.now (string_bytes text)) }
 {
-    let time = utc_text(alloc, event.time_stamp())?;
+    let time = UtcTime::of(event.time_stamp());
     let generator = WordH(event.generator());
     let revision = ByteH(event.revision());
     text_with_room(
@@ -131,8 +161,8 @@ fn origin_lines(alloc: Global, event: &EventEntry) -> Result<String, AllocError>
 fn event_body_lines(alloc: Global, event: &EventEntry) -> Result<String, AllocError>
     ensures { IfOk result (λ text. string_bytes text ≡ event_body_lines event.now) }
 {
-    let sensor = sensor_text(alloc, event)?;
-    let words = words_of_event(alloc, event)?;
+    let sensor = sensor_of_event(event);
+    let words = words_of_event(event);
     let direction = direction_text(event);
     let bytes = hex::encode(alloc, event.data_bytes())?;
     text_with_room(
@@ -155,8 +185,8 @@ fn event_lines(alloc: Global, event: &EventEntry) -> Result<String, AllocError>
 fn oem_lines(alloc: Global, entry: &OemTimedEntry) -> Result<String, AllocError>
     ensures { IfOk result (λ text. AreOemLines entry.now (string_bytes text)) }
 {
-    let time = utc_text(alloc, entry.time_stamp())?;
-    let manufacturer = manufacturer_text(alloc, entry)?;
+    let time = UtcTime::of(entry.time_stamp());
+    let manufacturer = Manufacturer(entry.manufacturer());
     let bytes = hex::encode(alloc, entry.data_bytes())?;
     text_with_room(
         alloc,

@@ -1,5 +1,5 @@
 -- The long division that makes the digits of a fraction.
-use Rattle.std.proofs.Common.{◌≡◌, ◌≢◌, ℕ, suc, ◌+◌, ◌-◌, ◌*◌, ◌/◌, ◌%◌, ◌^◌, ◌<◌, ◌≤◌, List, [], ◌∷◌, ◌++◌, length, get_or, slice_index, replicate, arith, refl, zero, ap, sym, ◌∙◌, append_assoc, append-nil, inl, inr}
+use Rattle.std.proofs.Common.{◌≡◌, ◌≢◌, ℕ, suc, ◌+◌, ◌-◌, ◌*◌, ◌/◌, ◌%◌, ◌^◌, ◌<◌, ◌≤◌, List, [], ◌∷◌, ◌++◌, length, get_or, slice_index, replicate, arith, refl, zero, ap, sym, subst, ◌∙◌, append_assoc, append-nil, inl, inr}
 use Rattle.std.proofs.lemmas.Bool.{cases_lt}
 use Rattle.std.specs.Char.{digit_value}
 use Rattle.std.specs.Str.Parse.{AllDigits, digits_value}
@@ -11,6 +11,7 @@ use Rattle.std.proofs.Math.ListN.{get_or-append}
 use Rattle.std.specs.Fmt.{decimal}
 use Rattle.std.specs.Prelude.{ℤ, unsigned_abs}
 use Rattle.std.proofs.lemmas.Fmt.{decimal_by_steps_wide, decimal_digit, decimal_is_IsNumeral_wide}
+use Rattle.ipmi_text.specs.Appended.{Appends}
 use Rattle.ipmi_text.specs.Decimal.{AppendsFraction, IsDecimalOf, IsFraction, IsWhole, after_point, filled, sign_of}
 
 -- ds are the first digits of the fraction n, and rest is what is left of it, below the last place
@@ -190,3 +191,19 @@ made v start text small start_is h =
       text_is = h.text_is ∙ ap (λ t. t ++ after_point h.digits) start_is ∙ append_assoc (sign_of v) (decimal (n / 10 ^ 16)) (after_point h.digits);
       size_is = rw ((decimal_is_IsNumeral_wide (n / 10 ^ 16) whole_small).1, h.value_is) (omega arith);
     }
+
+-- after any text
+pub appended : (v : ℤ) (old start text : List ℕ) → unsigned_abs v < 10 ^ 64 → start ≡ old ++ (sign_of v ++ decimal (unsigned_abs v / 10 ^ 16))
+    → AppendsFraction (unsigned_abs v % 10 ^ 16) start text → Appends (IsDecimalOf v) old text
+appended v old start text small start_is h =
+    let front = sign_of v ++ decimal (unsigned_abs v / 10 ^ 16) in
+    let fraction : AppendsFraction (unsigned_abs v % 10 ^ 16) front (front ++ after_point h.digits)
+    = record { digits = h.digits; is_fraction = h.is_fraction; value_is = h.value_is; text_is = refl } in
+    record {
+      part = front ++ after_point h.digits;
+      is_text = made v front (front ++ after_point h.digits) small refl fraction;
+      text_is = h.text_is ∙ ap (λ t. t ++ after_point h.digits) start_is ∙ append_assoc old front (after_point h.digits);
+    }
+
+pub alone : (v : ℤ) (old text : List ℕ) → old ≡ [] → Appends (IsDecimalOf v) old text → IsDecimalOf v text
+alone v old text none h = subst (IsDecimalOf v) (sym (h.text_is ∙ ap (λ t. t ++ h.part) none)) h.is_text

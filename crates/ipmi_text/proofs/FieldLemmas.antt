@@ -1,7 +1,10 @@
 -- Texts of fields, a step at a time.
-use Rattle.std.proofs.Common.{◌≡◌, ◌≢◌, ◌∙◌, ℕ, zero, suc, ◌+◌, ◌*◌, ◌/◌, ◌%◌, ◌^◌, ◌<◌, ◌≤◌, ◌==◌, true, false, List, [], ◌∷◌, ◌++◌, length, get_or, slice_index, take, drop, map, encode_utf8, ap, sym, refl, arith, append-nil, length-drop, codes, ◌-◌, Bool, nat_lt, ◌&&◌}
+use Rattle.std.proofs.Common.{◌≡◌, ◌≢◌, ◌∙◌, ℕ, zero, suc, ◌+◌, ◌*◌, ◌/◌, ◌%◌, ◌^◌, ◌<◌, ◌≤◌, ◌==◌, true, false, List, [], ◌∷◌, ◌++◌, length, get_or, slice_index, take, drop, map, encode_utf8, ap, sym, refl, arith, append-nil, length-drop, codes, ◌-◌, Bool, nat_le, nat_lt, ◌&&◌, add-one, append_assoc}
 use Rattle.std.proofs.Math.Nat.{div-div-eq-div-mul}
-use Rattle.std.proofs.Math.Seq.{take-length}
+use Rattle.std.proofs.Math.ListN.{drop_of_length-le}
+use Rattle.std.proofs.Math.Seq.{drop-cons, take-length}
+use Rattle.std.proofs.lemmas.List.{take_all, take_more}
+use Rattle.std.proofs.lemmas.Str.{encode_ascii}
 use Rattle.std.proofs.lemmas.Nat.{pow-add}
 use Rattle.std.proofs.lemmas.Bool.Decides.{nat_tests}
 use Rattle.std.specs.List.{position_or_len, range_with_len}
@@ -107,6 +110,33 @@ latin1_step b bs h =
     let test : (b == 0) ≡ false = grind (arith, nat_tests) in
     let one_more : 1 + position_or_len (λ b. b == 0) bs ≡ suc (position_or_len (λ b. b == 0) bs) = omega arith in
     rw (test, one_more) refl
+
+plain_character : (b : ℕ) → 0x20 ≤ b → b ≤ 0x7e → latin1_character b ≡ b
+plain_character b low high =
+    let above : nat_le 0x20 b ≡ true = grind (arith, nat_tests) in
+    let below : nat_le b 0x7e ≡ true = grind (arith, nat_tests) in
+    rw (above, below) refl
+
+plain_step : (b : ℕ) (bs : List ℕ) → 0x20 ≤ b → b ≤ 0x7e → latin1_text (b ∷ bs) ≡ b ∷ latin1_text bs
+plain_step b bs low high =
+    let some : b ≢ 0 = λ e. absurd (omega (arith, e)) in
+    latin1_step b bs some ∙ ap (λ (x : ℕ). encode_utf8 x ++ latin1_text bs) (plain_character b low high) ∙ ap (λ (t : List ℕ). t ++ latin1_text bs) (encode_ascii b (omega arith))
+
+-- bytes that are printed as themselves, one after another
+pub plain_so_far : (bs : List ℕ) (i : ℕ) → i < length bs → 0x20 ≤ get_or bs i 0 → get_or bs i 0 ≤ 0x7e
+    → take i bs ++ latin1_text (drop i bs) ≡ latin1_text bs → take (i + 1) bs ++ latin1_text (drop (i + 1) bs) ≡ latin1_text bs
+plain_so_far bs i within low high so_far =
+    let b = get_or bs i 0 in
+    let here : latin1_text (drop i bs) ≡ b ∷ latin1_text (drop (suc i) bs) = ap latin1_text (drop-cons bs i 0 within) ∙ plain_step b (drop (suc i) bs) low high in
+    ap (λ (t : List ℕ). t ++ latin1_text (drop (i + 1) bs)) (take_more bs i 0 within)
+    ∙ append_assoc (take i bs) (b ∷ []) (latin1_text (drop (i + 1) bs))
+    ∙ ap (λ (k : ℕ). take i bs ++ b ∷ latin1_text (drop k bs)) (add-one i)
+    ∙ ap (λ (t : List ℕ). take i bs ++ t) (sym here) ∙ so_far
+
+pub all_plain : (bs : List ℕ) (i : ℕ) → length bs ≤ i → take i bs ++ latin1_text (drop i bs) ≡ latin1_text bs → bs ≡ latin1_text bs
+all_plain bs i past so_far =
+    let none : latin1_text (drop i bs) ≡ [] = ap latin1_text (drop_of_length-le bs past) in
+    sym (append-nil bs) ∙ ap (λ (t : List ℕ). bs ++ t) (sym none) ∙ ap (λ (t : List ℕ). t ++ latin1_text (drop i bs)) (sym (take_all i bs past)) ∙ so_far
 
 -- the code's shifts lose nothing
 pub number_is : (a b c x y z : ℕ) → a ≡ x → b ≡ y → c ≡ z → b < 256 → c < 256 → a + b * 256 % 4294967296 + c * 65536 % 4294967296 ≡ x + y * 256 + z * 65536

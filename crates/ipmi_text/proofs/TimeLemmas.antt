@@ -1,26 +1,23 @@
--- What `{:02}` writes.
-use Rattle.std.proofs.Common.{◌≡◌, ◌∙◌, ℕ, List, ◌<◌, ◌≤◌, sym, ◌/◌, ◌%◌, ◌-◌, ◌+◌, ◌^◌, false, [], ◌∷◌, ◌++◌, ap, refl, arith, inl, inr}
-use Rattle.std.specs.Fmt.{char_count, decimal, format_spec, padded_integral}
+-- The two digits of a number, and texts of points in time.
+use Rattle.std.proofs.Common.{◌≡◌, ◌∙◌, ℕ, List, ◌<◌, ◌≤◌, sym, ◌/◌, ◌%◌, ◌+◌, false, [], ◌∷◌, ◌++◌, ap, refl, arith, inl, inr}
+use Rattle.std.specs.Fmt.{digit_glyph}
 use Rattle.std.proofs.lemmas.Bool.{cases_lt}
-use Rattle.std.proofs.lemmas.Fmt.{decimal_digit, decimal_step}
+use Rattle.std.proofs.lemmas.Bool.Decides.{nat_tests}
 use Rattle.jiff.proofs.Family.{epoch_day_injective}
 use Rattle.jiff.specs.Words.{date_text, epoch_day}
 use Rattle.jiff.specs.declared.civil.Date.{Date}
-use Rattle.ipmi_text.specs.Times.{IsMinutesTextOf, IsMoment, IsUtcTextOf, two_digits}
+use Rattle.ipmi_text.specs.Times.{IsMinutesTextOf, IsMoment, IsUtcTextOf}
+use Rattle.ipmi_text.specs.TwoDigits.{two_digits}
 
--- what `{:02}` writes of a number below 100
-pub two_digits_padded : (n : ℕ) → n < 100 → padded_integral (format_spec 32 0 4 2 (2 ^ 64 - 1)) false [] (decimal n) ≡ two_digits n
-unfolding padded_integral char_count
-two_digits_padded n small = elim (cases_lt n 10) [
-  | inl one ↦
-      let high : n / 10 ≡ 0 = omega arith in
-      let low : n % 10 ≡ n = omega arith in
-      rw (decimal_digit n one, high, low) refl
-  | inr more ↦
-      let front : n / 10 < 10 = omega arith in
-      let e : decimal n ≡ two_digits n = decimal_step n more (omega arith) ∙ ap (λ ds. ds ++ (48 + n % 10) ∷ []) (decimal_digit (n / 10) front) in
-      rw e refl
-]
+-- the two glyphs of a number below 100
+pub two_glyphs : (n : ℕ) → n < 100 → digit_glyph false (n / 10) ∷ digit_glyph false (n % 10) ∷ [] ≡ two_digits n
+two_glyphs n small =
+    let high : n / 10 < 10 = omega arith in
+    let low : n % 10 < 10 = omega arith in
+    rw (decimal_glyph (n / 10) high, decimal_glyph (n % 10) low) refl
+  where
+    decimal_glyph : (d : ℕ) → d < 10 → digit_glyph false d ≡ 48 + d
+    decimal_glyph d h = grind (arith, nat_tests)
 
 date_text_same : (a b : Date) → epoch_day a ≡ epoch_day b → date_text a ≡ date_text b
 date_text_same a b e = let parts = epoch_day_injective a b e in rw (parts.0, parts.1, parts.2) refl

@@ -1,10 +1,10 @@
 -- The parts of a unit's text, and the spaces between them.
 use Rattle.std.proofs.Common.{◌≡◌, ℕ, ◌≤◌, ◌<◌, ◌/◌, ◌%◌, suc, List, [], ◌∷◌, ◌++◌, length, ◌==◌, not, ◌&&◌, ◌||◌, Bool, true, false, if◌then◌else◌, codes, refl, ap, append-nil, arith, inl, inr}
-use Rattle.std.specs.Prelude.{filter}
+use Rattle.std.specs.Prelude.{IfSome, None, Option, Some, filter, option_map, slice_get}
 use Rattle.std.specs.List.{join_with_byte}
 use Rattle.std.proofs.lemmas.Bool.{cases_lt}
 use Rattle.std.proofs.lemmas.Bool.Decides.{nat_tests}
-use Rattle.ipmi_text.specs.Units.{is_not_empty, modifier_part, unit_name_or_code}
+use Rattle.ipmi_text.specs.Units.{after_space, is_not_empty, modifier_part, unit_name_or_code, unit_text_of, units}
 
 suc_is_not_zero : (n : ℕ) → (suc n == 0) ≡ false
 suc_is_not_zero n = grind (arith, nat_tests)
@@ -46,3 +46,40 @@ pub spaced : (p u r f s : List ℕ)
     → s ≡ (if (is_not_empty p || is_not_empty u) && is_not_empty r then codes " " else [])
     → p ++ (f ++ (u ++ (s ++ r))) ≡ join_with_byte 32 (filter is_not_empty (p ∷ u ∷ r ∷ []))
 spaced p u r f s first second = rw (first, second) (joined_parts p u r)
+
+-- they are nothing only where each is
+pub nothing_joined : (p u r : List ℕ) → (not (is_not_empty p) && not (is_not_empty u)) && not (is_not_empty r) ≡ not (is_not_empty (join_with_byte 32 (filter is_not_empty (p ∷ u ∷ r ∷ []))))
+nothing_joined [] [] [] = refl
+nothing_joined [] [] (z ∷ zs) = refl
+nothing_joined [] (y ∷ ys) [] = refl
+nothing_joined [] (y ∷ ys) (z ∷ zs) = refl
+nothing_joined (x ∷ xs) [] [] = refl
+nothing_joined (x ∷ xs) [] (z ∷ zs) = refl
+nothing_joined (x ∷ xs) (y ∷ ys) [] = refl
+nothing_joined (x ∷ xs) (y ∷ ys) (z ∷ zs) = refl
+
+-- a name that is all there is
+alone : (name : List ℕ) → name ≡ join_with_byte 32 (filter is_not_empty ([] ∷ (name ++ []) ∷ [] ∷ []))
+alone [] = refl
+alone (c ∷ name) = rw append-nil refl
+
+plain_units : (units1 base modifier : ℕ) (name : List ℕ) → units1 % 64 ≡ 0 → Some name ≡ slice_get units base → name ≡ unit_text_of units1 base modifier
+plain_units units1 base modifier name none name_is =
+    let no_percent : units1 % 2 ≡ 0 = omega arith in
+    let no_modifier : units1 / 2 % 4 ≡ 0 = omega arith in
+    let no_rate : units1 / 8 % 8 ≡ 0 = omega arith in
+    rw (no_percent, no_modifier, no_rate, ← name_is) (alone name)
+
+-- of a unit with a name, nothing else is printed
+pub plain_units_named : {X : Type 0} (text : X → List ℕ) (name : Option X) (units1 base modifier : ℕ) → units1 % 64 ≡ 0 → option_map text name ≡ slice_get units base
+    → IfSome name (λ (x : X). text x ≡ unit_text_of units1 base modifier)
+plain_units_named text None units1 base modifier none name_is = tt
+plain_units_named text (Some x) units1 base modifier none name_is = plain_units units1 base modifier (text x) none name_is
+
+pub space_before : (text : List ℕ) → (length text == 0) ≡ false → after_space text ≡ 32 ∷ text
+space_before [] some = cc
+space_before (c ∷ text) some = refl
+
+pub nothing_before : (text : List ℕ) → (length text == 0) ≡ true → after_space text ≡ []
+nothing_before [] none = refl
+nothing_before (c ∷ text) none = absurd (let some = suc_is_not_zero (length text) in cc)

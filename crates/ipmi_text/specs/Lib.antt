@@ -1,3 +1,4 @@
+pub mod Appended
 pub mod Bytes
 pub mod Chassis
 pub mod Decimal
@@ -9,4 +10,5 @@ pub mod Lines
 pub mod ReadingValue
 pub mod SensorTypes
 pub mod Times
+pub mod TwoDigits
 pub mod Units

@@ -1,12 +1,12 @@
 -- The texts of points in time, all in UTC.
-use Rattle.std.specs.Prelude.{◌≡◌, ℕ, ◌+◌, ◌<◌, ◌≤◌, ◌/◌, ◌%◌, List, [], ◌∷◌, ◌++◌, pos, codes}
+use Rattle.std.specs.Prelude.{◌≡◌, ℕ, ◌+◌, ◌<◌, ◌≤◌, ◌/◌, ◌%◌, List, ◌++◌, pos, codes}
 use Rattle.std.specs.Fmt.{decimal}
 use Rattle.jiff.specs.Words.{date_text, epoch_day}
 use Rattle.jiff.specs.declared.civil.Date.{Date}
-
--- a number below 100 in two digits
-abbrev pub two_digits : ℕ → List ℕ
-two_digits n = (48 + n / 10) ∷ (48 + n % 10) ∷ []
+use Rattle.ipmi_text.specs.TwoDigits.{two_digits}
+use Rattle.ipmi_text.specs.declared.times.Moment.{Moment}
+use Rattle.ipmi_text.specs.declared.times.UtcTime.{UtcTime}
+use Rattle.ipmi_text.specs.declared.times.UtcTime.TheVariants.{Unspecified, SinceStart, At}
 
 -- HH:MM of a minute of the day
 abbrev pub minute_text : ℕ → List ℕ
@@ -21,6 +21,16 @@ pub record IsMoment (day : ℕ) (time text : List ℕ) : Type 0 where
   pub date : Date
   pub day_is : epoch_day date ≡ pos day
   pub text_is : text ≡ date_text date ++ (codes " " ++ time)
+
+-- what a moment, and what the meaning of a time stamp, is printed as
+abbrev pub moment_text : Moment → List ℕ
+moment_text moment =
+    date_text moment.date ++ (codes " " ++ (two_digits moment.hour.value ++ (codes ":" ++ (two_digits moment.minute.value ++ (codes ":" ++ two_digits moment.second.value)))))
+
+abbrev pub utc_time_text : UtcTime → List ℕ
+utc_time_text Unspecified = codes "unspecified"
+utc_time_text (SinceStart seconds) = codes "+" ++ (decimal seconds ++ codes " s")
+utc_time_text (At moment) = moment_text moment
 
 -- a time stamp in seconds (IPMI v2.0, section 37): FFFFFFFFh is unspecified, those up to 20000000h count
 -- from the start of the controller's clock, and all others from 1970-01-01 00:00:00

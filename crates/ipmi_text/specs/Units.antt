@@ -1,6 +1,6 @@
 -- The names of units (IPMI v2.0, table 43-15), and how a sensor's units are put together from them
 -- (table 43-1, sensor units 1 to 3).
-use Rattle.std.specs.Prelude.{ℕ, ◌/◌, ◌%◌, ◌==◌, Bool, true, false, List, [], ◌∷◌, ◌++◌, codes, slice_get, unwrap_or, if◌then◌else◌, filter}
+use Rattle.std.specs.Prelude.{ℕ, ◌/◌, ◌%◌, ◌==◌, Bool, true, false, List, [], ◌∷◌, ◌++◌, codes, Option, slice_get, unwrap_or, if◌then◌else◌, filter}
 use Rattle.std.specs.List.{join_with_byte}
 use Rattle.ipmi_text.specs.Hex.{hex_byte}
 
@@ -33,9 +33,13 @@ units =
     codes "minute" ∷
     codes "hour" ∷ []
 
+-- the name of a unit, if it has one
+abbrev pub unit_name : ℕ → Option (List ℕ)
+unit_name code = slice_get units code
+
 -- the name of a unit, or else `unit 0xNN`
 abbrev pub unit_name_or_code : ℕ → List ℕ
-unit_name_or_code code = unwrap_or (slice_get units code) (codes "unit 0x" ++ hex_byte code)
+unit_name_or_code code = unwrap_or (unit_name code) (codes "unit 0x" ++ hex_byte code)
 
 -- `%` where bit 0 of units 1 is set
 abbrev pub percent_part : ℕ → List ℕ
@@ -72,3 +76,8 @@ abbrev pub unit_text_of : ℕ → ℕ → ℕ → List ℕ
 unit_text_of units1 base modifier =
     join_with_byte 32 (filter is_not_empty
     (percent_part units1 ∷ (unit_name_or_code base ++ modifier_part units1 modifier) ∷ rate_part units1 ∷ []))
+
+-- nothing for an empty text, else a space and the text
+abbrev pub after_space : List ℕ → List ℕ
+after_space [] = []
+after_space (c ∷ text) = 32 ∷ c ∷ text

@@ -1,9 +1,9 @@
 //! The values of readings, by the factors of a sensor's record, and their exact decimal texts.
-ghost use Rattle.std.specs.Prelude.{◌≡◌, ◌≤◌, ◌<◌, ◌^◌, ◌↔◌, ◌≤ℤ◌, ◌*ℤ◌, ◌*◌, pos, IfOk, IfSome, IsSome, IsTrue, OnOk, option_map, string_bytes, unsigned_abs};
+ghost use Rattle.std.specs.Prelude.{◌≡◌, ◌≤◌, ◌<◌, ◌/◌, ◌%◌, ◌^◌, ◌↔◌, ◌≤ℤ◌, ◌*ℤ◌, ◌*◌, pos, IfOk, IfSome, IsSome, IsTrue, OnOk, option_map, string_bytes, unsigned_abs};
+ghost use Rattle.ipmi_text.specs.Appended.{Appends};
 ghost use Rattle.ipmi_text.specs.Decimal.{AppendsFraction, IsDecimalOf, sign_of};
 ghost use Rattle.ipmi_text.specs.ReadingValue.{HasRanges, IsTwosComplement, SensorFactors, raw_number, reading_value, ten_to};
 
-use crate::room::text_with_room;
 use std::alloc::{AllocError, Global};
 use std::marker::Model;
 
@@ -101,6 +101,10 @@ fn scaled(number: i32, exponent: i32) -> i128
     ensures value { result ≡ number *ℤ ten_to exponent }
     ensures size { unsigned_abs result ≤ 2 ^ 17 * 10 ^ 30 }
 {
+    // most sensors have no offset
+    if number == 0 {
+        return 0;
+    }
     number as i128 * 10i128.pow(exponent as u32)
 }
 
@@ -146,15 +150,37 @@ fn push_fraction(text: &mut String, fraction: u64) -> Result<(), AllocError>
     Ok(())
 }
 
-/// The shortest exact decimal of a value. Contracts say what its sign and digits are, and the module
+/// The whole ones in a size, and the units that are left.
+fn parts(size: u128) -> (u128, u64)
+    ensures whole { result.0 ≡ size / 10 ^ 16 }
+    ensures rest { result.1 ≡ size % 10 ^ 16 }
+{
+    // a division of 64 bits is far cheaper, and nearly all sizes have no more
+    if size <= u64::MAX as u128 {
+        let size = size as u64;
+        ((size / ONE) as u128, size % ONE)
+    } else {
+        (size / ONE as u128, (size % ONE as u128) as u64)
+    }
+}
+
+/// Appends the shortest exact decimal of a value. Contracts say what its sign and digits are, and the module
 /// `laws` that there is no other.
+pub fn push_fixed(text: &mut String, value: Fixed) -> Result<(), AllocError>
+    ensures { OnOk result
+        (Appends (IsDecimalOf value.0) (string_bytes text.old) (string_bytes text.new)) }
+{
+    let (whole, fraction) = parts(value.0.unsigned_abs());
+    let sign = sign(value.0);
+    write!(text, "{sign}{whole}")?;
+    push_fraction(text, fraction)
+}
+
+/// The shortest exact decimal of a value, as `push_fixed` appends it.
 pub fn fixed_text(alloc: Global, value: Fixed) -> Result<String, AllocError>
     ensures { IfOk result (λ text. IsDecimalOf value.0 (string_bytes text)) }
 {
-    let size = value.0.unsigned_abs();
-    let sign = sign(value.0);
-    let whole = size / ONE as u128;
-    let mut text = text_with_room(alloc, ROOM, format_args!("{sign}{whole}"))?;
-    push_fraction(&mut text, (size % ONE as u128) as u64)?;
+    let mut text = String::with_capacity(alloc, ROOM)?;
+    push_fixed(&mut text, value)?;
     Ok(text)
 }

@@ -2,9 +2,13 @@
 ghost use Rattle.std.specs.Prelude.{◌≡◌, ◌<◌, IfOk, option_map, string_bytes};
 ghost use Rattle.ipmi_text.specs.Events.{event_name, event_text_of};
 
-use crate::names::{HexByte, entry};
+use crate::names::{HexByte, entry, hex_digit};
+use crate::room::text_with_room;
 use std::alloc::{AllocError, Global};
 use std::fmt;
+
+/// The room for the words of any event.
+const ROOM: usize = 40;
 
 /// The offsets of a threshold event, from 0 on (IPMI v2.0, table 42-2).
 const THRESHOLD_EVENTS: [&str; 12] = [
@@ -35,10 +39,8 @@ impl fmt::Display for HexDigit {
 
     ghost output = { λ digit. Some (digit_glyph false digit.value ∷ []) };
 
-    #[tactic(auto, using(std::proofs::lemmas::Fmt::hex_one_digit))]
     fn fmt<W: fmt::Write>(&self, f: &mut fmt::Formatter<W>) -> fmt::Result {
-        let value = self.value;
-        write!(f, "{value:x}")
+        f.write_str(hex_digit(self.value))
     }
 }
 
@@ -53,18 +55,38 @@ fn event_name(event: u8, offset: u8) -> Option<&'static str>
     }
 }
 
+/// The words of an event (IPMI v2.0, section 42.1 and table 42-2), or `event 0xTT offset 0xO` where it has none.
+#[derive(Clone, Copy, Debug, PartialEq, Eq)]
+pub struct EventWords {
+    /// The event/reading type code.
+    pub event: u8,
+    /// The first data byte, whose bits 3:0 are the offset.
+    pub data1: u8,
+}
+
+impl fmt::Display for EventWords {
+    ghost use Rattle.std.specs.Prelude.{Some};
+    ghost use Rattle.ipmi_text.specs.Events.{event_text_of};
+
+    ghost output = { λ words. Some (event_text_of words.event words.data1) };
+
+    fn fmt<W: fmt::Write>(&self, f: &mut fmt::Formatter<W>) -> fmt::Result {
+        let offset = self.data1 % 16;
+        match event_name(self.event, offset) {
+            Some(name) => f.write_str(name),
+            None => {
+                let event = HexByte(self.event);
+                let offset = HexDigit { value: offset };
+                write!(f, "event 0x{event} offset 0x{offset}")
+            }
+        }
+    }
+}
+
 /// The words of an event, by its event/reading type code and its first data byte, whose bits 3:0
 /// are the offset (IPMI v2.0, section 42.1 and table 42-2), or `event 0xTT offset 0xO` where it has none.
 pub fn event_text(alloc: Global, event: u8, data1: u8) -> Result<String, AllocError>
     ensures { IfOk result (λ text. string_bytes text ≡ event_text_of event data1) }
 {
-    let offset = data1 % 16;
-    match event_name(event, offset) {
-        Some(name) => String::from_str(alloc, name),
-        None => {
-            let event = HexByte(event);
-            let offset = HexDigit { value: offset };
-            format!(in alloc; "event 0x{event} offset 0x{offset}")
-        }
-    }
+    text_with_room(alloc, ROOM, EventWords { event, data1 })
 }

@@ -1,5 +1,5 @@
 //! The texts of type/length fields.
-ghost use Rattle.std.specs.Prelude.{◌≡◌, ◌<◌, ◌≤◌, ◌++◌, IfOk, IsAscii, IsTrue, OnOk, length, slice_index, string_bytes, take};
+ghost use Rattle.std.specs.Prelude.{◌≡◌, ◌<◌, ◌≤◌, ◌++◌, ◌↔◌, IfOk, IfSome, IsAscii, IsTrue, OnOk, length, slice_index, string_bytes, take};
 ghost use Rattle.ipmi_text.specs.FieldText.{bcd_plus_character, bcd_plus_text, bytes_used, fru_text_of, is_english, latin1_character, latin1_text, sdr_text_of, six_bit_text};
 
 use std::alloc::{AllocError, Global};
@@ -79,17 +79,53 @@ fn latin1_character(byte: u8) -> u8
     }
 }
 
+/// Whether a byte is printed as itself, and is one byte of UTF-8.
+fn is_plain(byte: u8) -> bool
+    ensures { IsTrue result ↔ (0x20 ≤ byte) × (byte ≤ 0x7e) }
+{
+    0x20 <= byte && byte <= 0x7e
+}
+
+/// The text of bytes that are all printed as themselves.
+#[tactic(auto, using(crate::proofs::FieldLemmas::all_plain))]
+fn plain_text(bytes: &[u8]) -> Option<&str>
+    ensures { IfSome result (λ text. text.now ≡ latin1_text bytes.now) }
+{
+    for byte in bytes {
+        if !is_plain(*byte) {
+            return None;
+        }
+    }
+    match str::from_utf8(bytes) {
+        Ok(text) => Some(text),
+        Err(_) => None,
+    }
+}
+
+/// Appends the text of 8-bit ASCII and Latin-1, as far as the first 00h.
+fn push_latin1_text(text: &mut String, bytes: &[u8]) -> Result<(), AllocError>
+    ensures { OnOk result
+        (string_bytes text.new ≡ string_bytes text.old ++ latin1_text bytes.now) }
+{
+    // most texts are plain, and such a one is appended at once
+    if let Some(plain) = plain_text(bytes) {
+        return text.push_str(plain);
+    }
+    for byte in bytes {
+        if *byte == 0 {
+            return Ok(());
+        }
+        text.push(latin1_character(*byte) as char)?;
+    }
+    Ok(())
+}
+
 /// 8-bit ASCII and Latin-1, as far as the first 00h.
 fn latin1_text(alloc: Global, bytes: &[u8]) -> Result<String, AllocError>
     ensures { IfOk result (λ text. string_bytes text ≡ latin1_text bytes.now) }
 {
-    let mut text = String::new(alloc);
-    for byte in bytes {
-        if *byte == 0 {
-            return Ok(text);
-        }
-        text.push(latin1_character(*byte) as char)?;
-    }
+    let mut text = String::with_capacity(alloc, bytes.len())?;
+    push_latin1_text(&mut text, bytes)?;
     Ok(text)
 }
 
@@ -154,4 +190,21 @@ pub fn sdr_text(alloc: Global, tl: u8, rest: &[u8]) -> Result<String, AllocError
         2 => Ok(first_characters(six_bit_text(alloc, bytes)?, count)),
         _ => latin1_text(alloc, bytes),
     }
+}
+
+/// Appends the text of a sensor data record's ID string, which `sdr_text` tells of.
+pub fn push_sdr_text(
+    alloc: Global,
+    text: &mut String,
+    tl: u8,
+    rest: &[u8],
+) -> Result<(), AllocError>
+    ensures { OnOk result
+        (string_bytes text.new ≡ string_bytes text.old ++ sdr_text_of tl rest.now) }
+{
+    if tl / 64 == 3 {
+        return push_latin1_text(text, bytes_used(tl, rest));
+    }
+    let part = sdr_text(alloc, tl, rest)?;
+    text.push_str(part.as_str())
 }

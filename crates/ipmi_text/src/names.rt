@@ -17,7 +17,7 @@ pub(crate) fn entry(table: &[&'static str], at: usize) -> Option<&'static str>
 }
 
 /// The lower-case hex digit of a number below 16.
-fn hex_digit(value: u8) -> &'static str
+pub(crate) fn hex_digit(value: u8) -> &'static str
     requires { value < 16 }
     ensures { result.now ≡ digit_glyph false value ∷ [] }
 {

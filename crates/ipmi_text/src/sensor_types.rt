@@ -3,7 +3,12 @@ ghost use Rattle.std.specs.Prelude.{◌≡◌, IfOk, option_map, string_bytes};
 ghost use Rattle.ipmi_text.specs.SensorTypes.{sensor_type_name, sensor_type_text_of};
 
 use crate::names::{HexByte, entry};
+use crate::room::text_with_room;
 use std::alloc::{AllocError, Global};
+use std::fmt;
+
+/// The room for the text of any sensor type.
+const ROOM: usize = 32;
 
 /// The names, from type 01h on, some of them shortened (IPMI v2.0, table 42-3).
 const SENSOR_TYPES: [&str; 44] = [
@@ -64,15 +69,30 @@ fn sensor_type_name(code: u8) -> Option<&'static str>
     }
 }
 
+/// A sensor type, printed as its name (IPMI v2.0, table 42-3), or as `sensor type 0xNN` where it has none.
+#[derive(Clone, Copy, Debug, PartialEq, Eq)]
+pub struct SensorType(pub u8);
+
+impl fmt::Display for SensorType {
+    ghost use Rattle.std.specs.Prelude.{Some};
+    ghost use Rattle.ipmi_text.specs.SensorTypes.{sensor_type_text_of};
+
+    ghost output = { λ kind. Some (sensor_type_text_of kind.0) };
+
+    fn fmt<W: fmt::Write>(&self, f: &mut fmt::Formatter<W>) -> fmt::Result {
+        match sensor_type_name(self.0) {
+            Some(name) => f.write_str(name),
+            None => {
+                let code = HexByte(self.0);
+                write!(f, "sensor type 0x{code}")
+            }
+        }
+    }
+}
+
 /// The name of a sensor type (IPMI v2.0, table 42-3), or `sensor type 0xNN` where it has none.
 pub fn sensor_type_text(alloc: Global, code: u8) -> Result<String, AllocError>
     ensures { IfOk result (λ text. string_bytes text ≡ sensor_type_text_of code) }
 {
-    match sensor_type_name(code) {
-        Some(name) => String::from_str(alloc, name),
-        None => {
-            let code = HexByte(code);
-            format!(in alloc; "sensor type 0x{code}")
-        }
-    }
+    text_with_room(alloc, ROOM, SensorType(code))
 }

@@ -1,9 +1,10 @@
 //! The texts of points in time.
 ghost use Rattle.std.specs.Prelude.{◌≡◌, ◌+◌, ◌/◌, ◌%◌, ◌<◌, ◌≤◌, ◌^◌, IfOk, string_bytes, pos};
 ghost use Rattle.jiff.specs.Words.{epoch_day};
-ghost use Rattle.ipmi_text.specs.Times.{IsMinutesTextOf, IsMoment, IsUtcTextOf, first_fru_day, minute_text, second_text};
+ghost use Rattle.ipmi_text.specs.Times.{IsMinutesTextOf, IsMoment, IsUtcTextOf, first_fru_day, minute_text, moment_text, second_text, utc_time_text};
 
 use crate::room::text_with_room;
+use crate::two_digits::TwoDigits;
 use jiff::ToSpan;
 use jiff::civil::{Date, date};
 use std::alloc::{AllocError, Global};
@@ -22,23 +23,68 @@ const MINUTES_OF_DAY: u32 = 1440;
 /// The last time stamp that counts from the start of the controller's clock.
 const LAST_SINCE_START: u32 = 0x2000_0000;
 
-/// A number below 100, printed in two digits.
+/// A date and a second of its day, printed as `YYYY-MM-DD HH:MM:SS`.
 #[derive(Clone, Copy, Debug)]
-struct TwoDigits {
-    value: u32,
-    ghost below: { value < 100 },
+pub struct Moment {
+    date: Date,
+    hour: TwoDigits,
+    minute: TwoDigits,
+    second: TwoDigits,
 }
 
-impl fmt::Display for TwoDigits {
+impl fmt::Display for Moment {
     ghost use Rattle.std.specs.Prelude.{Some};
-    ghost use Rattle.ipmi_text.specs.Times.{two_digits};
+    ghost use Rattle.ipmi_text.specs.Times.{moment_text};
 
-    ghost output = { λ number. Some (two_digits number.value) };
+    ghost output = { λ moment. Some (moment_text moment) };
 
-    #[tactic(auto, using(crate::proofs::TimeLemmas::two_digits_padded))]
     fn fmt<W: fmt::Write>(&self, f: &mut fmt::Formatter<W>) -> fmt::Result {
-        let value = self.value;
-        write!(f, "{value:02}")
+        let date = self.date;
+        let hour = self.hour;
+        let minute = self.minute;
+        let second = self.second;
+        write!(f, "{date} {hour}:{minute}:{second}")
+    }
+}
+
+/// What a time stamp of the event log stands for (IPMI v2.0, section 37), printed as `utc_text` says.
+#[derive(Clone, Copy, Debug)]
+pub enum UtcTime {
+    /// FFFFFFFFh: no time.
+    Unspecified,
+    /// Up to 20000000h: the seconds since the controller's clock began.
+    SinceStart(u32),
+    /// A moment in UTC.
+    At(Moment),
+}
+
+impl UtcTime {
+    /// What so many seconds stand for.
+    pub fn of(seconds: u32) -> UtcTime
+        ensures { IsUtcTextOf seconds (utc_time_text result) }
+    {
+        if seconds == u32::MAX {
+            UtcTime::Unspecified
+        } else if seconds <= LAST_SINCE_START {
+            UtcTime::SinceStart(seconds)
+        } else {
+            UtcTime::At(moment_of(seconds))
+        }
+    }
+}
+
+impl fmt::Display for UtcTime {
+    ghost use Rattle.std.specs.Prelude.{Some};
+    ghost use Rattle.ipmi_text.specs.Times.{utc_time_text};
+
+    ghost output = { λ time. Some (utc_time_text time) };
+
+    fn fmt<W: fmt::Write>(&self, f: &mut fmt::Formatter<W>) -> fmt::Result {
+        match self {
+            UtcTime::Unspecified => f.write_str("unspecified"),
+            UtcTime::SinceStart(seconds) => write!(f, "+{seconds} s"),
+            UtcTime::At(moment) => write!(f, "{moment}"),
+        }
     }
 }
 
@@ -50,21 +96,21 @@ fn date_of_day(day: u32) -> Date
     date(1970, 1, 1).checked_add((day as i64).days()).unwrap()
 }
 
-/// `YYYY-MM-DD HH:MM:SS` of so many seconds after 1970-01-01 00:00:00.
-fn text_to_second(alloc: Global, seconds: u32) -> Result<String, AllocError>
-    ensures { IfOk result (λ text. IsMoment (seconds / 86_400) (second_text (seconds % 86_400))
-        (string_bytes text)) }
+/// The moment so many seconds after 1970-01-01 00:00:00.
+fn moment_of(seconds: u32) -> Moment
+    ensures { IsMoment (seconds / 86_400) (second_text (seconds % 86_400)) (moment_text result) }
 {
-    let date = date_of_day(seconds / SECONDS_OF_DAY);
     let second = seconds % SECONDS_OF_DAY;
-    let hour = TwoDigits {
-        value: second / 60 / 60,
-    };
-    let minute = TwoDigits {
-        value: second / 60 % 60,
-    };
-    let second = TwoDigits { value: second % 60 };
-    text_with_room(alloc, ROOM, format_args!("{date} {hour}:{minute}:{second}"))
+    Moment {
+        date: date_of_day(seconds / SECONDS_OF_DAY),
+        hour: TwoDigits {
+            value: second / 60 / 60,
+        },
+        minute: TwoDigits {
+            value: second / 60 % 60,
+        },
+        second: TwoDigits { value: second % 60 },
+    }
 }
 
 /// `YYYY-MM-DD HH:MM` of so many minutes after 1996-01-01 00:00.
@@ -86,13 +132,7 @@ fn text_to_minute(alloc: Global, minutes: u32) -> Result<String, AllocError>
 pub fn utc_text(alloc: Global, seconds: u32) -> Result<String, AllocError>
     ensures { IfOk result (λ text. IsUtcTextOf seconds (string_bytes text)) }
 {
-    if seconds == u32::MAX {
-        String::from_str(alloc, "unspecified")
-    } else if seconds <= LAST_SINCE_START {
-        text_with_room(alloc, ROOM, format_args!("+{seconds} s"))
-    } else {
-        text_to_second(alloc, seconds)
-    }
+    text_with_room(alloc, ROOM, UtcTime::of(seconds))
 }
 
 /// The text of a board's manufacturing date, in minutes from 1996-01-01 00:00 (Platform Management FRU

@@ -1,6 +1,6 @@
 //! The units of a sensor's readings.
-ghost use Rattle.std.specs.Prelude.{◌≡◌, [], ◌++◌, ◌&&◌, IfOk, codes, if◌then◌else◌, not, string_bytes};
-ghost use Rattle.ipmi_text.specs.Units.{is_not_empty, modifier_part, percent_part, rate_part, unit_name_or_code, unit_text_of};
+ghost use Rattle.std.specs.Prelude.{◌≡◌, [], ◌++◌, ◌&&◌, IfOk, IfSome, OnOk, codes, if◌then◌else◌, not, option_map, string_bytes};
+ghost use Rattle.ipmi_text.specs.Units.{after_space, is_not_empty, modifier_part, percent_part, rate_part, unit_name, unit_name_or_code, unit_text_of};
 
 use crate::names::{HexByte, entry};
 use crate::room::text_with_room;
@@ -43,6 +43,13 @@ const ROOM: usize = 32;
 const RATES: [&str; 8] = [
     "", "per us", "per ms", "per s", "per min", "per hour", "per day", "",
 ];
+
+/// The name of a unit, where it has one.
+fn unit_name(code: u8) -> Option<&'static str>
+    ensures { option_map (λ s. s.now) result ≡ unit_name code }
+{
+    entry(UNITS.as_slice(), code as usize)
+}
 
 /// A base or modifier unit, printed as its name, or as `unit 0xNN` where it has none.
 #[derive(Clone, Copy, Debug)]
@@ -138,25 +145,117 @@ fn gap(before: bool, after: bool) -> &'static str
 }
 
 /// The units of a sensor by its bytes sensor units 1, base unit and modifier unit (IPMI v2.0, tables
-/// 43-1 and 43-15): percent, base unit with modifier, and rate, of which those that are not empty are
-/// joined by one space.
+/// 43-1 and 43-15), printed as percent, base unit with modifier, and rate, of which those that are not
+/// empty are joined by one space.
+#[derive(Clone, Copy, Debug, PartialEq, Eq)]
+pub struct Units {
+    /// Sensor units 1: the rate, how the modifier is used, percentage.
+    pub units1: u8,
+    /// The base unit.
+    pub base: u8,
+    /// The modifier unit.
+    pub modifier: u8,
+}
+
+impl Units {
+    /// What they print as, where that is the name of the base unit and no more.
+    fn plain_name(self) -> Option<&'static str>
+        ensures { IfSome result (λ name. name.now ≡ unit_text_of self.units1 self.base
+            self.modifier) }
+    {
+        if self.units1 % 64 == 0 {
+            unit_name(self.base)
+        } else {
+            None
+        }
+    }
+
+    /// Whether they print as nothing.
+    fn is_empty(self) -> bool
+        ensures { result ≡ not (is_not_empty (unit_text_of self.units1 self.base self.modifier)) }
+    {
+        let unit = BaseUnit {
+            units1: self.units1,
+            base: UnitName(self.base),
+            modifier: UnitName(self.modifier),
+        };
+        let no_percent = percent_part(self.units1).is_empty();
+        let no_unit = unit.is_empty();
+        let no_rate = rate_part(self.units1).is_empty();
+        no_percent & no_unit & no_rate
+    }
+}
+
+impl fmt::Display for Units {
+    ghost use Rattle.std.specs.Prelude.{Some};
+    ghost use Rattle.ipmi_text.specs.Units.{unit_text_of};
+
+    ghost output = { λ units. Some (unit_text_of units.units1 units.base units.modifier) };
+
+    fn fmt<W: fmt::Write>(&self, f: &mut fmt::Formatter<W>) -> fmt::Result {
+        let percent = percent_part(self.units1);
+        let unit = BaseUnit {
+            units1: self.units1,
+            base: UnitName(self.base),
+            modifier: UnitName(self.modifier),
+        };
+        let rate = rate_part(self.units1);
+        let has_percent = !percent.is_empty();
+        let has_unit = !unit.is_empty();
+        let first = gap(has_percent, has_unit);
+        let second = gap(has_percent || has_unit, !rate.is_empty());
+        write!(f, "{percent}{first}{unit}{second}{rate}")
+    }
+}
+
+/// The space before units, where they are not empty.
+fn gap_before(units: Units) -> &'static str
+    ensures { result.now ++ unit_text_of units.units1 units.base units.modifier ≡ after_space
+        (unit_text_of units.units1 units.base units.modifier) }
+{
+    if units.is_empty() { "" } else { " " }
+}
+
+/// Appends a space and a text, and nothing where that is empty.
+#[tactic(auto, using(crate::proofs::UnitLemmas::space_before, crate::proofs::UnitLemmas::nothing_before))]
+fn push_after_space(text: &mut String, part: &str) -> Result<(), AllocError>
+    ensures { OnOk result
+        (string_bytes text.new ≡ string_bytes text.old ++ after_space part.now) }
+{
+    if part.is_empty() {
+        return Ok(());
+    }
+    text.push(' ')?;
+    text.push_str(part)?;
+    Ok(())
+}
+
+/// Appends a space and units, and nothing where these print as nothing.
+pub fn push_units(text: &mut String, units: Units) -> Result<(), AllocError>
+    ensures { OnOk result (string_bytes text.new ≡ string_bytes text.old ++ after_space
+        (unit_text_of units.units1 units.base units.modifier)) }
+{
+    // most sensors have a base unit and nothing else
+    match units.plain_name() {
+        Some(name) => push_after_space(text, name),
+        None => {
+            let gap = gap_before(units);
+            write!(text, "{gap}{units}")
+        }
+    }
+}
+
+/// The units of a sensor by its bytes sensor units 1, base unit and modifier unit, as `Units` prints them.
 pub fn unit_text(alloc: Global, units1: u8, base: u8, modifier: u8) -> Result<String, AllocError>
     ensures { IfOk result (λ text. string_bytes text ≡ unit_text_of units1 base modifier) }
 {
-    let percent = percent_part(units1);
-    let unit = BaseUnit {
-        units1,
-        base: UnitName(base),
-        modifier: UnitName(modifier),
-    };
-    let rate = rate_part(units1);
-    let has_percent = !percent.is_empty();
-    let has_unit = !unit.is_empty();
-    let first = gap(has_percent, has_unit);
-    let second = gap(has_percent || has_unit, !rate.is_empty());
     text_with_room(
         alloc,
         ROOM,
-        format_args!("{percent}{first}{unit}{second}{rate}"),
+        Units {
+            units1,
+            base,
+            modifier,
+        },
     )
 }

@@ -28,6 +28,12 @@ const UNREAD: Case = Case {
     line: "cannot read saved.image\n",
 };
 
+/// One whose name has a line feed in it, first bytes before it and last ones after it.
+const UNREAD_IN_TWO_LINES: Case = Case {
+    message: Message::CannotRead("a\nb"),
+    line: "cannot read a\\x0Ab\n",
+};
+
 /// Says the message, and compares the line.
 fn is_said(rt: &impl Abort, alloc: Global, case: &Case) {
     let mut err = Vec::new(alloc);
@@ -41,7 +47,7 @@ fn are_said(rt: &impl Abort, alloc: Global, cases: &[Case]) {
     }
 }
 
-const OF_THE_PROGRAM: [Case; 12] = [
+const OF_THE_PROGRAM: [Case; 13] = [
     Case {
         message: Message::Usage,
         line: "usage: ipmitool [--image FILE] [--from HEX4] [--part N] [--tries N] fru|sdr|sel WORDS\n",
@@ -53,6 +59,10 @@ const OF_THE_PROGRAM: [Case; 12] = [
     Case {
         message: Message::CannotRead(""),
         line: "cannot read \n",
+    },
+    Case {
+        message: Message::CannotRead("\na\u{1f}\u{7f} \\x0A~\u{e9}\u{85}\t\u{0}"),
+        line: "cannot read \\x0Aa\\x1F\\x7F \\x0A~\u{e9}\u{85}\\x09\\x00\n",
     },
     Case {
         message: Message::NoName("Foo"),
@@ -222,6 +232,7 @@ fn a_writer_that_fails_holds_a_first_part_of_the_line(rt: HostRuntime) {
     is_cut_short_anywhere(&rt, rt.alloc(), &REFUSED);
     is_cut_short_anywhere(&rt, rt.alloc(), &TWICE);
     is_cut_short_anywhere(&rt, rt.alloc(), &UNREAD);
+    is_cut_short_anywhere(&rt, rt.alloc(), &UNREAD_IN_TWO_LINES);
 }
 
 #[test]

@@ -1,7 +1,7 @@
 //! What is read from an inventory without printing it: the heads of its areas, the fields of an area, and its records.
 use super::examples::BOARD;
 use crate::cases::{bytes_of, is_text, parts};
-use ipmi_fru::{AreaFault, AreaView, FruView};
+use ipmi_fru::{AreaFault, AreaView, FruFault, FruView, MultiFault};
 use std::alloc::Global;
 use std::process::Abort;
 
@@ -11,6 +11,10 @@ const FIELDS: &str = "0|Some(Field { code: 2, bytes: [41, 220, 166] })
 2|Some(Field { code: 3, bytes: [65, 233, 0, 66] })
 3|None
 18446744073709551615|None";
+
+/// What five calls of the iterator over the fields of the board give.
+const LISTED: &str =
+    "[Some(Field { code: 2, bytes: [41, 220, 166] }), Some(Field { code: 1, bytes: [18, 59] }), Some(Field { code: 3, bytes: [65, 233, 0, 66] }), None, None]";
 
 /// An inventory of a chassis and a product.
 const CHASSIS_AND_PRODUCT: &str = "01000100020000fc010117c100000026010119c100000024";
@@ -56,6 +60,20 @@ fn has_field(rt: &impl Abort, alloc: Global, board: &AreaView<'_>, line: &str) {
     is_text(rt, format!(in alloc; "{field:?}"), wanted, line);
 }
 
+/// Asserts what the iterator over the fields of a board gives at each of five calls.
+fn lists_fields(rt: &impl Abort, alloc: Global, board: &AreaView<'_>, wanted: &str) {
+    let mut fields = board.fields();
+    let first = [
+        fields.next(),
+        fields.next(),
+        fields.next(),
+        fields.next(),
+        fields.next(),
+    ];
+    is_text(rt, format!(in alloc; "{first:?}"), wanted, "fields");
+    assert!(rt; first[1] == board.field(1) && first[1] != first[2]);
+}
+
 /// Asserts what an inventory's iterator of records gives at each of four calls.
 fn has_records(rt: &impl Abort, alloc: Global, digits: &str, wanted: &str) {
     let bytes = bytes_of(rt, alloc, digits);
@@ -91,6 +109,21 @@ fn a_board_has_its_fields(rt: HostRuntime) {
     for line in FIELDS.lines() {
         has_field(&rt, rt.alloc(), &board, line);
     }
+    lists_fields(&rt, rt.alloc(), &board, LISTED);
+}
+
+#[test]
+fn a_fault_has_a_name(rt: HostRuntime) {
+    let header = FruFault::HeaderVersion.name();
+    let area = AreaFault::FieldPastEnd.name();
+    let record = MultiFault::DataSum.name();
+    let names = format!(in rt.alloc(); "{header}, {area}, {record}");
+    is_text(
+        &rt,
+        names,
+        "header version, field past end, data checksum",
+        "names",
+    );
 }
 
 #[test]

@@ -1,13 +1,9 @@
-use Rattle.std.proofs.Common.{◌≡◌, ◌+◌, ◌-◌, ◌≤◌}
-use Rattle.ipmi_bus.specs.Seen.{IsHonest}
-use Rattle.ipmi_bus.specs.Failures.{HasAsked}
+use Rattle.std.proofs.Common.{◌-◌}
+use Rattle.ipmi_bus.specs.Failures.{IsAsking}
 use Rattle.ipmi_bus.proofs.readers.read_reading.Given as goal
 
 abbrev pub invariant-asking : goal.invariant-asking
-invariant-asking g l =
-    (l.troubles ≤ l.tries)
-    × ((g.C.Controller.seen l.ctl).calls ≡ (g.C.Controller.seen l.fn.ctl).calls + l.troubles)
-    × (IsHonest (g.C.Controller.seen l.fn.ctl) → HasAsked l.troubles (g.C.Controller.seen l.fn.ctl) (g.C.Controller.seen l.ctl))
+invariant-asking g l = IsAsking l.troubles l.tries (g.C.Controller.seen l.fn.ctl) (g.C.Controller.seen l.ctl)
 
 abbrev pub decreases-asking : goal.decreases-asking
 decreases-asking g l = l.tries - l.troubles

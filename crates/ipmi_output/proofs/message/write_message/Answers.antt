@@ -1,10 +1,10 @@
--- The name stands last, with nothing after it.
+-- The name comes last, with nothing after it.
 use Rattle.std.proofs.lemmas.List.{append-nil}
 use Rattle.ipmi_output.proofs.message.write_message.Goals as goal
 
 pub returns-in-CannotRead : goal.returns-in-CannotRead
 returns-in-CannotRead g c =
-    rw c.in-CannotRead.is (rw (c.as_bytes.ensures.value, append-nil c.in-CannotRead.name.now) at c.write_line-in-CannotRead.ensures)
+    rw c.in-CannotRead.is (rw c.as_bytes.ensures.value at c.write_cannot_read.ensures)
 
 pub returns-in-NoName : goal.returns-in-NoName
 returns-in-NoName g c =

@@ -12,11 +12,11 @@ use Rattle.ipmi_bus.specs.Store.{rows_of}
 use Rattle.ipmi_bus.proofs.CursorLemmas.{room_to_ask, hands_row, handed_whole, largest_fits, unseen, not_end, asked_is, calls_moved}
 use Rattle.ipmi_bus.proofs.cursor.Progress.advance.Goals as goal
 
-pub returns-in-Ok-Complete-clause-leaves : goal.returns-in-Ok-Complete-clause-leaves
-returns-in-Ok-Complete-clause-leaves g c =
+pub returns-in-Ok-true-clause-leaves : goal.returns-in-Ok-true-clause-leaves
+returns-in-Ok-true-clause-leaves g c =
     let asks = c.in-Asks.ensures in
     let old = c.args.self.now in
-    let leaves = rw c.in-Ok-Complete.field-0-is at c.in-Ok-Complete.ensures.leaves in
+    let leaves = rw c.in-Ok-true.field-0-test at c.in-Ok-true.ensures.leaves in
     let shown = handed_whole old.retrieval.shelf old.retrieval c.read.new.self c.hand_out.new.self c.hand_out.result old.place c.in-Asks.id asks.1 c.read.ensures.request.shelf leaves.0 leaves.2
     c.hand_out.ensures.id c.hand_out.ensures.len c.hand_out.ensures.retrieval (let fits = leaves.1 in omega (arith, c.hand_out.ensures.room, largest_fits c.read.new.self.shelf)) in (
       asks.0,
@@ -37,12 +37,12 @@ returns-in-Ok-Complete-clause-leaves g c =
       },
     )
 
-pub returns-in-Ok-Complete-clause-honest : goal.returns-in-Ok-Complete-clause-honest
-returns-in-Ok-Complete-clause-honest g c = λ h.
+pub returns-in-Ok-true-clause-honest : goal.returns-in-Ok-true-clause-honest
+returns-in-Ok-true-clause-honest g c = λ h.
     let asks = c.in-Asks.ensures in
-    let read = c.in-Ok-Complete.ensures.honest h in
-    let answers = rw c.in-Ok-Complete.field-0-is at read.answers in
-    let leaves = rw c.in-Ok-Complete.field-0-is at c.in-Ok-Complete.ensures.leaves in
+    let read = c.in-Ok-true.ensures.honest h in
+    let answers = rw c.in-Ok-true.field-0-test at read.answers in
+    let leaves = rw c.in-Ok-true.field-0-test at c.in-Ok-true.ensures.leaves in
     let row = answers.0 in
     let reads = answers.1 in
     record {
@@ -66,8 +66,8 @@ returns-in-Ok-Complete-clause-honest g c = λ h.
 pub returns-then-eq-clause-room : goal.returns-then-eq-clause-room
 returns-then-eq-clause-room g c = inr (room_to_ask c.args.self.now.place c.args.self.now.ids c.in-Asks.id c.requires.first c.in-Asks.ensures.1 c.in-Asks.ensures.3)
 
-pub returns-in-Ok-Complete-clause-room : goal.returns-in-Ok-Complete-clause-room
-returns-in-Ok-Complete-clause-room g c = inr (room_to_ask c.args.self.now.place c.args.self.now.ids c.in-Asks.id c.requires.first c.in-Asks.ensures.1 c.in-Asks.ensures.3)
+pub returns-in-Ok-true-clause-room : goal.returns-in-Ok-true-clause-room
+returns-in-Ok-true-clause-room g c = inr (room_to_ask c.args.self.now.place c.args.self.now.ids c.in-Asks.id c.requires.first c.in-Asks.ensures.1 c.in-Asks.ensures.3)
 
 pub returns-in-Err-clause-room : goal.returns-in-Err-clause-room
 returns-in-Err-clause-room g c = inr (room_to_ask c.args.self.now.place c.args.self.now.ids c.in-Asks.id c.requires.first c.in-Asks.ensures.1 c.in-Asks.ensures.3)
@@ -76,8 +76,8 @@ pub returns-then-eq-clause-honest : goal.returns-then-eq-clause-honest
 returns-then-eq-clause-honest g c = λ h.
     let old = c.args.self.now in
     let asks = c.in-Asks.ensures in
-    let read = c.in-Ok-Nothing.ensures.honest h in
-    let answers = rw c.in-Ok-Nothing.field-0-is at read.answers in
+    let read = c.in-Ok-false.ensures.honest h in
+    let answers = rw c.in-Ok-false.field-0-test at read.answers in
     let first : old.place ≡ First = search rules in
     let zero : c.in-Asks.id ≡ 0 = subst (λ (p : Place). IsAsked p c.in-Asks.id) first asks.1 in
     let none = subst (λ (n : ℕ). look (rows_of old.retrieval.shelf (g.C.Controller.seen c.read.new.ctl).store) n ≡ None) zero answers.absent in

@@ -1,9 +1,6 @@
-use Rattle.std.proofs.Common.{Result, Ok, Err, refl, ap, subst, ◌∙◌}
-use Rattle.ipmi_bus.specs.declared.step.Ended.{Ended}
-use Rattle.ipmi_bus.specs.declared.retrieval.Outcome.{Outcome}
+use Rattle.std.proofs.Common.{Ok, Err, refl, ap, ◌∙◌}
 use Rattle.ipmi_bus.specs.declared.retrieval.Outcome.TheVariants.{Whole, Absent}
-use Rattle.ipmi_bus.specs.Retrieval.{CallIsAnswered}
-use Rattle.ipmi_bus.proofs.SinceLemmas.{since_more, ends_as, ends_err}
+use Rattle.ipmi_bus.proofs.SinceLemmas.{since_more, ends_as, ends_err, ended_as}
 use Rattle.ipmi_bus.proofs.retrieval.Retrieval.read.Goals as goal
 
 pub reading-preserved : goal.reading-preserved
@@ -23,31 +20,10 @@ returns-in-Err-clause-honest g c =
     ends_err c.args.self.now c.args.id _ _ _ _ _ c.reading.invariant c.make_call.ensures.request c.make_call.ensures.counted c.in-Err.ended c.make_call.result c.in-Err.is c.make_call.ensures.leaves c.make_call.ensures.honest
 
 pub returns-in-Ok-Whole-clause-ended : goal.returns-in-Ok-Whole-clause-ended
-returns-in-Ok-Whole-clause-ended g c =
-    let last = c.reading.self in
-    record {
-      last = last;
-      outcome = Ok Whole;
-      answered = subst (λ (x : Result Outcome Ended). CallIsAnswered last.reservation last c.make_call.new.self x) (c.in-Ok-Whole.is ∙ ap Ok c.in-Ok-Whole.field-0-is) c.make_call.ensures.answered;
-      ends = refl;
-    }
+returns-in-Ok-Whole-clause-ended g c = ended_as c.reading.self _ _ (Ok Whole) _ (c.in-Ok-Whole.is ∙ ap Ok c.in-Ok-Whole.field-0-is) c.make_call.ensures.answered refl
 
 pub returns-in-Ok-Absent-clause-ended : goal.returns-in-Ok-Absent-clause-ended
-returns-in-Ok-Absent-clause-ended g c =
-    let last = c.reading.self in
-    record {
-      last = last;
-      outcome = Ok Absent;
-      answered = subst (λ (x : Result Outcome Ended). CallIsAnswered last.reservation last c.make_call.new.self x) (c.in-Ok-Absent.is ∙ ap Ok c.in-Ok-Absent.field-0-is) c.make_call.ensures.answered;
-      ends = refl;
-    }
+returns-in-Ok-Absent-clause-ended g c = ended_as c.reading.self _ _ (Ok Absent) _ (c.in-Ok-Absent.is ∙ ap Ok c.in-Ok-Absent.field-0-is) c.make_call.ensures.answered refl
 
 pub returns-in-Err-clause-ended : goal.returns-in-Err-clause-ended
-returns-in-Err-clause-ended g c =
-    let last = c.reading.self in
-    record {
-      last = last;
-      outcome = Err c.in-Err.ended;
-      answered = subst (λ (x : Result Outcome Ended). CallIsAnswered last.reservation last c.make_call.new.self x) c.in-Err.is c.make_call.ensures.answered;
-      ends = refl;
-    }
+returns-in-Err-clause-ended g c = ended_as c.reading.self _ _ (Err c.in-Err.ended) _ c.in-Err.is c.make_call.ensures.answered refl

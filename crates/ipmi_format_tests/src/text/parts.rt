@@ -1,0 +1,91 @@
+//! Texts that are displayed in another text, or appended to it.
+use crate::cases::{byte_of, is_text, parts};
+use ipmi_text::{
+    EventWords, Fixed, HexByte, SensorType, Units, UtcTime, push_fixed, push_sdr_text, push_units,
+    text_with_room,
+};
+use std::alloc::{AllocError, Global};
+use std::process::Abort;
+
+/// Two hex digits in any case, and how the byte is displayed.
+const BYTES: &str = "00|00
+09|09
+0a|0a
+0F|0f
+10|10
+9C|9c
+a0|a0
+FF|ff";
+
+/// Asserts how a byte is displayed, in room for it and in none.
+fn is_byte(rt: &impl Abort, alloc: Global, line: &str) {
+    let (digits, wanted) = parts(rt, line);
+    let byte = HexByte(byte_of(rt, digits));
+    is_text(rt, text_with_room(alloc, 2, byte), wanted, line);
+    is_text(rt, text_with_room(alloc, 0, byte), wanted, line);
+}
+
+#[test]
+fn a_byte_is_two_hex_digits(rt: HostRuntime) {
+    for line in BYTES.lines() {
+        is_byte(&rt, rt.alloc(), line);
+    }
+}
+
+/// Units by their bytes.
+fn units(units1: u8, base: u8, modifier: u8) -> Units {
+    Units {
+        units1,
+        base,
+        modifier,
+    }
+}
+
+/// One of each type that is displayed, in a text far past its room.
+fn displayed(alloc: Global) -> Result<String, AllocError> {
+    let kind = SensorType(0x04);
+    let words = EventWords {
+        event: 0x01,
+        data1: 0x59,
+    };
+    let time = UtcTime::of(0x22bb_5951);
+    let units = units(0x18, 0x12, 0x00);
+    text_with_room(
+        alloc,
+        8,
+        format_args!("{kind} | {words} | {time} | {units}"),
+    )
+}
+
+#[test]
+fn a_text_grows_past_its_room(rt: HostRuntime) {
+    let wanted = "Fan | Upper Critical going high | 1988-06-19 06:04:01 | RPM per s";
+    is_text(&rt, displayed(rt.alloc()), wanted, "past the room");
+}
+
+/// A decimal, units and ID strings after other texts.
+fn appended(alloc: Global) -> Result<String, AllocError> {
+    let mut text = String::from_str(alloc, "at ")?;
+    push_fixed(&mut text, Fixed(-15_000_000_000_000_000))?;
+    push_units(&mut text, units(0x00, 0x01, 0x00))?;
+    push_units(&mut text, units(0x00, 0x00, 0x00))?;
+    push_units(&mut text, units(0x0a, 0x07, 0x16))?;
+    push_units(&mut text, units(0x01, 0x00, 0x00))?;
+    text.push_str(" of ")?;
+    push_sdr_text(alloc, &mut text, 0xc4, b"CPU1 Temp")?;
+    text.push_str(", ")?;
+    push_sdr_text(alloc, &mut text, 0x43, b"\x12\x3b")?;
+    text.push_str(", ")?;
+    push_sdr_text(alloc, &mut text, 0xc4, b"A\x7f\0B")?;
+    Ok(text)
+}
+
+#[test]
+fn parts_are_appended(rt: HostRuntime) {
+    is_text(
+        &rt,
+        appended(rt.alloc()),
+        "at -1.5 degrees C Joules/second per us % of CPU1, 123, A.",
+        "appended",
+    );
+}

@@ -1,9 +1,0 @@
-use Rattle.std.proofs.Common.{rules, ◌/◌}
-use Rattle.ipmi_fru.proofs.FieldLemmas.{begins_field}
-use Rattle.ipmi_fru.proofs.area.split_field.Goals as goal
-
-pub returns : goal.returns
-returns c =
-    let byte = c.in-Some.first.now in
-    let parts = c.in-Some-split_at_checked in
-    (begins_field c.args.bytes.now c.in-Some.behind.now parts.rest.now byte (record { code = byte / 64; bytes = parts.bytes.now }) (search rules) (search rules) (search rules) (search rules) (search rules), search rules)

@@ -1,8 +1,0 @@
-use Rattle.std.proofs.Common.{◌++◌, List, ℕ, string_bytes}
-use Rattle.ipmi_fru.specs.Multirecord.{items_left}
-use Rattle.ipmi_fru.specs.Print.{AreItemTexts}
-use Rattle.ipmi_fru.proofs.print.records_text.Given as goal
-
--- the lines so far, with those of what is left after them
-abbrev pub invariant-records : goal.invariant-records
-invariant-records l = (more : List ℕ) → AreItemTexts (items_left l.records) more → AreItemTexts (items_left l.fn.records) (string_bytes l.text ++ more)

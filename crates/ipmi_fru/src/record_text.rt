@@ -1,0 +1,239 @@
+//! The lines of multirecords.
+ghost use Rattle.std.specs.Prelude.{◌≡◌, ◌%◌, ◌≤◌, ◌+◌, IfOk, length, string_bytes};
+ghost use Rattle.byteorder.specs.Endian.{twos_complement};
+ghost use Rattle.ipmi_fru.specs.Multirecord.{item_of, items_left, record_of};
+ghost use Rattle.ipmi_fru.specs.Print.{number_at, IsVoltsAt, current_text, dc_start, before_low, before_high, standby_text, IsDcText, access_text, access_line, other_line, form_of, IsRecordText, IsItemText, AreItemTexts};
+
+use crate::multirecord::{MultiFault, MultiView, Records};
+use byteorder::{ByteOrder, LittleEndian};
+use ipmi_text::{Fixed, fixed_text, fru_text};
+use std::alloc::{AllocError, Global};
+
+/// 10 mV, the unit of the voltages in a record, as a `Fixed`.
+const TEN_MILLIVOLTS: i128 = 100_000_000_000_000;
+
+/// The code of a field that is binary.
+const BINARY: u8 = 0;
+
+/// The code of a field whose form the language decides: Latin-1 in English.
+const BY_LANGUAGE: u8 = 3;
+
+/// The language code of English.
+const ENGLISH: u8 = 0;
+
+/// The type of a DC output record.
+const DC_OUTPUT: u8 = 1;
+
+/// The type of a DC load record.
+const DC_LOAD: u8 = 2;
+
+/// The type of a management access record.
+const MANAGEMENT_ACCESS: u8 = 3;
+
+/// The least number of data bytes of a DC output and of a DC load.
+const DC_LEN: usize = 13;
+
+/// Bit 7 of the first data byte of a DC output: it is a standby one.
+const STANDBY: u8 = 0x80;
+
+/// Which record of direct current it is.
+#[derive(Clone, Copy)]
+enum DcKind {
+    /// What a supply gives.
+    Output,
+    /// What a load takes.
+    Load,
+}
+
+/// What a record is printed as.
+#[derive(Clone, Copy)]
+enum RecordForm {
+    /// A DC output or a DC load.
+    Dc(DcKind),
+    /// A management access record.
+    Access,
+    /// A record of another type, or with too few data.
+    Other,
+}
+
+/// The number of two data bytes from a place on.
+fn number_at(bytes: &[u8], place: usize) -> u16
+    requires { place + 2 ≤ length bytes.now }
+    ensures { result ≡ number_at place bytes.now }
+{
+    LittleEndian::read_u16(&bytes[place..])
+}
+
+/// The signed number of two data bytes from a place on.
+fn signed_at(bytes: &[u8], place: usize) -> i16
+    requires { place + 2 ≤ length bytes.now }
+    ensures { result ≡ twos_complement 2 (number_at place bytes.now) }
+{
+    number_at(bytes, place).cast_signed()
+}
+
+/// The volts of two data bytes from a place on.
+fn volts_text(alloc: Global, bytes: &[u8], place: usize) -> Result<String, AllocError>
+    requires { place + 2 ≤ length bytes.now }
+    ensures { IfOk result (λ text. IsVoltsAt place bytes.now (string_bytes text)) }
+{
+    fixed_text(
+        alloc,
+        Fixed(i128::from(signed_at(bytes, place)) * TEN_MILLIVOLTS),
+    )
+}
+
+/// The ripple and the currents of an output or a load.
+fn current_text(alloc: Global, bytes: &[u8]) -> Result<String, AllocError>
+    requires { 13 ≤ length bytes.now }
+    ensures { IfOk result (λ text. string_bytes text ≡ current_text bytes.now) }
+{
+    let ripple = number_at(bytes, 7);
+    let least = number_at(bytes, 9);
+    let most = number_at(bytes, 11);
+    format!(in alloc; "ripple {ripple} mV, current {least} to {most} mA\n")
+}
+
+/// What the line of a DC record says beside its numbers.
+struct DcWords {
+    start: &'static str,
+    before_low: &'static str,
+    before_high: &'static str,
+}
+
+/// What the line of an output and that of a load say beside their numbers.
+fn words_of(kind: DcKind) -> DcWords
+    ensures start { result.start.now ≡ dc_start kind }
+    ensures low { result.before_low.now ≡ before_low kind }
+    ensures high { result.before_high.now ≡ before_high kind }
+{
+    match kind {
+        DcKind::Output => DcWords {
+            start: "DC Output ",
+            before_low: " V, negative deviation ",
+            before_high: " V, positive deviation ",
+        },
+        DcKind::Load => DcWords {
+            start: "DC Load ",
+            before_low: " V, ",
+            before_high: " to ",
+        },
+    }
+}
+
+/// Bits 3:0 of the first data byte of a DC record: the number of the output or the load.
+fn number_of(byte: u8) -> u8
+    ensures { result ≡ byte % 16 }
+{
+    byte & 0x0F
+}
+
+/// Whether an output is a standby one, by the byte of its number.
+fn standby_text(kind: DcKind, byte: u8) -> &'static str
+    ensures { result.now ≡ standby_text kind byte }
+{
+    match kind {
+        DcKind::Output if byte & STANDBY != 0 => " standby",
+        DcKind::Output | DcKind::Load => "",
+    }
+}
+
+/// The line of a DC output or a DC load.
+fn dc_text(alloc: Global, kind: DcKind, bytes: &[u8]) -> Result<String, AllocError>
+    requires { 13 ≤ length bytes.now }
+    ensures { IfOk result (λ text. IsDcText kind bytes.now (string_bytes text)) }
+{
+    let DcWords {
+        start,
+        before_low,
+        before_high,
+    } = words_of(kind);
+    let number = number_of(bytes[0]);
+    let standby = standby_text(kind, bytes[0]);
+    let nominal = volts_text(alloc, bytes, 1)?;
+    let low = volts_text(alloc, bytes, 3)?;
+    let high = volts_text(alloc, bytes, 5)?;
+    let current = current_text(alloc, bytes)?;
+    format!(in alloc;
+        "{start}{number}{standby}: nominal {nominal}{before_low}{low}{before_high}{high} V, {current}"
+    )
+}
+
+/// The data of a management access record after its subtype: subtypes 01h to 06h are text.
+fn access_text(alloc: Global, bytes: &[u8]) -> Result<String, AllocError>
+    requires { 1 ≤ length bytes.now }
+    ensures { IfOk result (λ text. string_bytes text ≡ access_text bytes.now) }
+{
+    let subtype = bytes[0];
+    if (1..=6).contains(&subtype) {
+        return fru_text(alloc, BY_LANGUAGE, ENGLISH, &bytes[1..]);
+    }
+    fru_text(alloc, BINARY, ENGLISH, &bytes[1..])
+}
+
+/// The line of a management access record.
+fn access_line(alloc: Global, bytes: &[u8]) -> Result<String, AllocError>
+    requires { 1 ≤ length bytes.now }
+    ensures { IfOk result (λ text. string_bytes text ≡ access_line bytes.now) }
+{
+    let subtype = hex::encode(alloc, &bytes[..1])?;
+    let value = access_text(alloc, bytes)?;
+    format!(in alloc; "Management Access 0x{subtype}: {value}\n")
+}
+
+/// The line of a record that is printed as it is.
+fn other_line(alloc: Global, view: &MultiView) -> Result<String, AllocError>
+    ensures { IfOk result (λ text. string_bytes text ≡ other_line (record_of view.now)) }
+{
+    let kind = hex::encode(alloc, &[view.kind])?;
+    let data = hex::encode(alloc, view.bytes)?;
+    format!(in alloc; "Record 0x{kind}: {data}\n")
+}
+
+/// What a record is printed as, by its type and the number of its data bytes.
+fn form_of(view: &MultiView) -> RecordForm
+    ensures { result ≡ form_of (record_of view.now) }
+{
+    let len = view.bytes.len();
+    match view.kind {
+        DC_OUTPUT if len >= DC_LEN => RecordForm::Dc(DcKind::Output),
+        DC_LOAD if len >= DC_LEN => RecordForm::Dc(DcKind::Load),
+        MANAGEMENT_ACCESS if len >= 1 => RecordForm::Access,
+        _ => RecordForm::Other,
+    }
+}
+
+/// The line of a record.
+fn record_text(alloc: Global, view: &MultiView) -> Result<String, AllocError>
+    ensures { IfOk result (λ text. IsRecordText (record_of view.now) (string_bytes text)) }
+{
+    match form_of(view) {
+        RecordForm::Dc(kind) => dc_text(alloc, kind, view.bytes),
+        RecordForm::Access => access_line(alloc, view.bytes),
+        RecordForm::Other => other_line(alloc, view),
+    }
+}
+
+/// The line of a record, or of a fault after the last one.
+fn item_text(alloc: Global, item: &Result<MultiView, MultiFault>) -> Result<String, AllocError>
+    ensures { IfOk result (λ text. IsItemText (item_of item.now) (string_bytes text)) }
+{
+    match item {
+        Ok(view) => record_text(alloc, view),
+        Err(fault) => {
+            let fault = fault.name();
+            format!(in alloc; "Record fault: {fault}\n")
+        }
+    }
+}
+
+/// The lines of the records, and of the fault that ends them.
+pub(crate) fn records_text(alloc: Global, records: Records) -> Result<String, AllocError>
+    ensures { IfOk result (λ text. AreItemTexts (items_left records.entry) (string_bytes text)) }
+{
+    let mut text = String::new(alloc);
+    'records: for item in records {
+        text.push_str(&item_text(alloc, &item)?)?;
+    }
+    Ok(text)
+}

@@ -1,0 +1,20 @@
+-- A part of the name, or of what comes before it, is a part of the line.
+use Rattle.std.proofs.Common.{◌++◌, codes}
+use Rattle.ipmi_output.specs.Message.{escaped_name}
+use Rattle.ipmi_output.proofs.MessageLemmas.{ReceivesAll-both, ReceivesPart-before, ReceivesPart-behind, WritesAll-behind, WritesAll-failed}
+use Rattle.ipmi_output.proofs.message.write_cannot_read.Goals as goal
+
+pub returns-in_err-offer_all : goal.returns-in_err-offer_all
+returns-in_err-offer_all g c =
+    WritesAll-failed _ _ c.from_residual.result _ c.from_residual.ensures.0
+    (ReceivesPart-before _ _ _ (codes "\n") (ReceivesPart-before _ _ _ (escaped_name c.args.name.now) c.in_err-offer_all.ensures))
+
+pub returns-in_err-write_escaped : goal.returns-in_err-write_escaped
+returns-in_err-write_escaped g c =
+    WritesAll-failed _ _ c.from_residual-in_err-write_escaped.result _ c.from_residual-in_err-write_escaped.ensures.0
+    (ReceivesPart-before _ _ _ (codes "\n") (ReceivesPart-behind _ _ _ _ _ c.in_ok-offer_all.ensures c.in_err-write_escaped.ensures))
+
+pub returns : goal.returns
+returns g c =
+    WritesAll-behind _ (g.E.MessageSink.received c.write_escaped.new.err) _ c.offer_all-2.result (codes "cannot read " ++ escaped_name c.args.name.now) (codes "\n")
+    (ReceivesAll-both _ _ _ _ _ c.in_ok-offer_all.ensures c.in_ok-write_escaped.ensures) c.offer_all-2.ensures

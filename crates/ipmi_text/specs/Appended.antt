@@ -1,0 +1,8 @@
+-- What is said of a text that was appended to another.
+use Rattle.std.specs.Prelude.{◌≡◌, ℕ, List, ◌++◌}
+
+-- new is old, and after it a text of which this holds
+pub record Appends (IsText : List ℕ → Type 0) (old new : List ℕ) : Type 0 where
+  pub part : List ℕ
+  pub is_text : IsText part
+  pub text_is : new ≡ old ++ part
