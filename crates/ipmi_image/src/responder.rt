@@ -6,7 +6,7 @@ ghost use Rattle.ipmi_bus.specs.Code.{class_of};
 ghost use Rattle.ipmi_bus.specs.Store.{IsStore, rows_of, info_of, reading_of, inventory_of};
 ghost use Rattle.ipmi_bus.specs.Seen.{IsHonest};
 ghost use Rattle.ipmi_bus.specs.Answers.{FailsWith, ReserveAnswers, PartAnswers, ValueAnswers, SizeAnswers, BytesAnswers};
-ghost use Rattle.ipmi_image.specs.Image.{chained};
+ghost use Rattle.ipmi_image.specs.Image.{chained, first_id};
 ghost use Rattle.ipmi_image.specs.Responder.{seen_as, of_shelf, row_found, place_asked, IsCopied, number_after, with_reservation, part_asked, part_answer, fru_answer, value_answer, size_answer};
 
 use crate::image::Image;
@@ -48,6 +48,17 @@ fn place_of(rows: &Rows, near: usize, id: u16) -> Option<usize>
     Some(0)
 }
 
+/// The next id of the record at the place: the following record's where it has none.
+fn next_of(rows: &Rows, place: usize, next: Option<u16>) -> u16
+    requires { place < 65535 }
+    ensures { result ≡ unwrap_or next (first_id (drop (place + 1) rows.now)) }
+{
+    match next {
+        Some(next) => next,
+        None => rows.id_at(place + 1),
+    }
+}
+
 /// The record that the id asks for. It is looked for near a place first.
 fn look_up(rows: &Rows, near: usize, id: u16) -> Option<FoundRow<'_>>
     ensures { option_map row_found result ≡ look (chained rows.now) id }
@@ -57,7 +68,7 @@ fn look_up(rows: &Rows, near: usize, id: u16) -> Option<FoundRow<'_>>
     Some(FoundRow {
         place,
         id: row.id,
-        next: row.next.unwrap_or(rows.id_at(place + 1)),
+        next: next_of(rows, place, row.next),
         bytes: row.bytes,
     })
 }

@@ -1,5 +1,4 @@
-use Rattle.std.proofs.Common.{◌≡◌, ap, sym, ◌∙◌, arith, Some, ℕ}
-use Rattle.std.specs.Option.{unwrap_or}
+use Rattle.std.proofs.Common.{ap, sym, ◌∙◌, Some, ℕ}
 use Rattle.ipmi_bus.specs.Shelf.{Row}
 use Rattle.ipmi_image.specs.Rows.{row_of}
 use Rattle.ipmi_image.proofs.RespondLemmas.{asked_none, asked_found, asked_there}
@@ -11,11 +10,11 @@ returns-in_err-place c = rw c.from_residual.ensures (sym (asked_none c.args.rows
 pub returns-in_err-row : goal.returns-in_err-row
 returns-in_err-row c = absurd (asked_there c.args.rows.now c.args.id c.in_ok-place.place (sym c.in_ok-place.ensures) (sym c.in_err-row.ensures.row))
 
-pub overflow_add-place : goal.overflow_add-place
-overflow_add-place c = let few = c.in_ok-row.ensures.few in omega (arith, few)
+pub next_of-requires : goal.next_of-requires
+next_of-requires c = c.in_ok-row.ensures.few
 
 pub returns : goal.returns
 returns c =
     let row = c.in_ok-row.row in
-    ap (λ (n : ℕ). let r : Row = record { id = row.id; next = n; bytes = row.bytes.now } in Some r) (c.unwrap_or.ensures ∙ ap (unwrap_or row.next) c.id_at.ensures)
+    ap (λ (n : ℕ). let r : Row = record { id = row.id; next = n; bytes = row.bytes.now } in Some r) c.next_of.ensures
     ∙ sym (asked_found c.args.rows.now c.args.id c.in_ok-place.place (row_of row) (sym c.in_ok-place.ensures) (sym c.in_ok-row.ensures.row))
