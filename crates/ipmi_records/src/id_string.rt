@@ -3,7 +3,7 @@ ghost use Rattle.std.specs.Prelude.{◌≡◌, ◌<◌, ◌≤◌, length};
 ghost use Rattle.ipmi_records.specs.Sdr.{id_field_at, id_field_of};
 
 /// The ID string of a record, as its type/length byte and the bytes after it are (IPMI v2.0, section 43.15).
-#[derive(Clone, Copy, Debug)]
+#[derive(Clone, Copy, Debug, PartialEq, Eq)]
 pub struct IdString<'a> {
     /// The type/length byte.
     pub type_length: u8,

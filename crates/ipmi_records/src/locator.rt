@@ -33,7 +33,7 @@ fn locator_in(bytes: &[u8]) -> Locator
 }
 
 /// A generic device locator (section 43.7).
-#[derive(Drop)]
+#[derive(Clone, Debug, Drop)]
 pub struct GenericLocator<'a> {
     bytes: &'a [u8],
 }
@@ -81,7 +81,7 @@ impl<'a> GenericLocator<'a> {
 }
 
 /// A FRU device locator (section 43.8).
-#[derive(Drop)]
+#[derive(Clone, Debug, Drop)]
 pub struct FruLocator<'a> {
     bytes: &'a [u8],
 }
@@ -161,7 +161,7 @@ impl<'a> FruLocator<'a> {
 }
 
 /// A management controller device locator (section 43.9).
-#[derive(Drop)]
+#[derive(Clone, Debug, Drop)]
 pub struct ControllerLocator<'a> {
     bytes: &'a [u8],
 }

@@ -32,7 +32,7 @@ pub enum SdrFault {
 }
 
 /// A record of a type that has no view of its own.
-#[derive(Drop)]
+#[derive(Clone, Debug, Drop)]
 pub struct OtherRecord<'a> {
     bytes: &'a [u8],
 }
@@ -66,7 +66,7 @@ impl<'a> OtherRecord<'a> {
 }
 
 /// A sensor data record, by its type.
-#[derive(Drop)]
+#[derive(Clone, Debug, Drop)]
 pub enum SdrView<'a> {
     /// Type 01h.
     Full(FullSensor<'a>),

@@ -23,7 +23,7 @@ fn plain_data(bytes: &[u8]) -> &[u8]
 }
 
 /// An event (section 32.1).
-#[derive(Drop)]
+#[derive(Clone, Debug, Drop)]
 pub struct EventEntry<'a> {
     bytes: &'a [u8],
 }
@@ -106,7 +106,7 @@ impl<'a> EventEntry<'a> {
 }
 
 /// An OEM record with a time stamp (section 32.2).
-#[derive(Drop)]
+#[derive(Clone, Debug, Drop)]
 pub struct OemTimedEntry<'a> {
     bytes: &'a [u8],
 }
@@ -153,7 +153,7 @@ impl<'a> OemTimedEntry<'a> {
 }
 
 /// An OEM record without a time stamp (section 32.3).
-#[derive(Drop)]
+#[derive(Clone, Debug, Drop)]
 pub struct OemPlainEntry<'a> {
     bytes: &'a [u8],
 }
@@ -186,7 +186,7 @@ impl<'a> OemPlainEntry<'a> {
 }
 
 /// An entry of another type.
-#[derive(Drop)]
+#[derive(Clone, Debug, Drop)]
 pub struct OtherEntry<'a> {
     bytes: &'a [u8],
 }
@@ -219,7 +219,7 @@ impl<'a> OtherEntry<'a> {
 }
 
 /// An entry of the event log, by its type.
-#[derive(Drop)]
+#[derive(Clone, Debug, Drop)]
 pub enum SelView<'a> {
     /// Type 02h.
     Event(EventEntry<'a>),

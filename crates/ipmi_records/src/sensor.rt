@@ -165,7 +165,7 @@ fn signed(half: u16, bits: u16) -> i16
 }
 
 /// A full sensor record (section 43.1).
-#[derive(Drop)]
+#[derive(Clone, Debug, Drop)]
 pub struct FullSensor<'a> {
     bytes: &'a [u8],
 }
@@ -303,7 +303,7 @@ impl<'a> FullSensor<'a> {
 }
 
 /// A compact sensor record (section 43.2).
-#[derive(Drop)]
+#[derive(Clone, Debug, Drop)]
 pub struct CompactSensor<'a> {
     bytes: &'a [u8],
 }
@@ -358,7 +358,7 @@ impl<'a> CompactSensor<'a> {
 }
 
 /// An event-only record (section 43.3), whose sensor has no reading.
-#[derive(Drop)]
+#[derive(Clone, Debug, Drop)]
 pub struct EventOnlySensor<'a> {
     bytes: &'a [u8],
 }
