@@ -22,7 +22,7 @@ use std::alloc::{AllocError, Global};
 fn is_absent(ended: FruEnded) -> bool
     ensures { result ≡ is_absent ended }
 {
-    ended == FruEnded::Refused(Code(0xCB))
+    ended == FruEnded::Refused(Code::NOT_PRESENT)
 }
 
 /// What is printed where the inventory of a device was not read: that there is none, if that is why.

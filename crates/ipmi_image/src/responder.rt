@@ -14,12 +14,6 @@ use crate::rows::Rows;
 use ipmi_bus::{Code, CodeClass, Event, FruSize, Part, Shelf, Tally};
 use ipmi_text::Reading;
 
-/// What was asked for is not there.
-const NOT_PRESENT: Code = Code(0xCB);
-
-/// The reservation was cancelled.
-const CANCELLED: Code = Code(0xC5);
-
 /// The parameter is out of range: there is no byte at the offset.
 const OUT_OF_RANGE: u8 = 0xC9;
 
@@ -236,12 +230,12 @@ impl Responder {
         let is_reserved = self.is_reserved(shelf, reservation, offset);
         let Some(row) = look_up(self.image.rows(shelf), self.near, id) else {
             self.tally.count(Event::Finished);
-            return Err(NOT_PRESENT);
+            return Err(Code::NOT_PRESENT);
         };
         self.near = row.place;
         if !is_reserved {
             self.tally.count(Event::Troubled);
-            return Err(CANCELLED);
+            return Err(Code::CANCELLED);
         }
         let Some(got) = copy_piece(row.bytes, usize::from(offset), most, into) else {
             self.tally.count(Event::Refused(OUT_OF_RANGE));
@@ -266,7 +260,7 @@ impl Responder {
     {
         self.tally.count(Event::Called);
         self.tally.count(Event::Finished);
-        self.image.info(shelf).ok_or(NOT_PRESENT)
+        self.image.info(shelf).ok_or(Code::NOT_PRESENT)
     }
 
     /// The reading of a sensor.
@@ -280,7 +274,7 @@ impl Responder {
     {
         self.tally.count(Event::Called);
         self.tally.count(Event::Finished);
-        self.image.reading(lun, number).ok_or(NOT_PRESENT)
+        self.image.reading(lun, number).ok_or(Code::NOT_PRESENT)
     }
 
     /// The size of an inventory.
@@ -294,7 +288,7 @@ impl Responder {
         self.tally.count(Event::Called);
         let Some(bytes) = self.image.inventory(id) else {
             self.tally.count(Event::Finished);
-            return Err(NOT_PRESENT);
+            return Err(Code::NOT_PRESENT);
         };
         let size = bytes.len() as u16;
         if size == 0 {
@@ -328,7 +322,7 @@ impl Responder {
         self.tally.count(Event::Called);
         let Some(bytes) = self.image.inventory(id) else {
             self.tally.count(Event::Finished);
-            return Err(NOT_PRESENT);
+            return Err(Code::NOT_PRESENT);
         };
         let Some(got) = copy_piece(bytes, usize::from(offset), most, into) else {
             self.tally.count(Event::Refused(OUT_OF_RANGE));

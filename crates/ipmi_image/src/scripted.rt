@@ -57,12 +57,12 @@ fn mood_turn(responder: &mut Responder, mood: Mood, asked: usize) -> Turn
         Mood::Grant(most) => Turn::Answers(most.max(1)),
         Mood::Cancel => {
             responder.forget();
-            Turn::Failed(responder.fail(Code(0xC5)))
+            Turn::Failed(responder.fail(Code::CANCELLED))
         }
-        Mood::Busy => Turn::Failed(responder.fail(Code(0xC0))),
+        Mood::Busy => Turn::Failed(responder.fail(Code::NODE_BUSY)),
         Mood::TooLong => {
             if asked > 1 {
-                return Turn::Failed(responder.fail(Code(0xCA)));
+                return Turn::Failed(responder.fail(Code::TOO_MANY_BYTES));
             }
             Turn::Answers(WHOLE)
         }

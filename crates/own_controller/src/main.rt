@@ -24,11 +24,6 @@ const LOCATOR: &[u8] = b"\x02\0\x51\x11\x10\x20\0\x80\0\0\x10\0\x07\x01\0\xc5Boa
 const INVENTORY: &[u8] =
     b"\x01\0\0\x01\0\0\0\xfe\x01\x04\0\0\0\0\xc4ACME\xc2B1\xc7SN-0042\xc0\xc0\xc1\0\0\0\0\0\0\x50";
 
-/// The code of a busy answer, and that of what is not there.
-const BUSY: Code = Code(0xC0);
-
-const NOT_PRESENT: Code = Code(0xCB);
-
 /// The most bytes that one answer has.
 const MOST: usize = 8;
 
@@ -47,7 +42,7 @@ impl Board {
         self.tally.count(Event::Called);
         self.turn = self.turn.wrapping_add(1);
         if self.turn % 3 == 0 {
-            Err(BUSY)
+            Err(Code::NODE_BUSY)
         } else {
             Ok(())
         }
@@ -86,7 +81,7 @@ impl Controller for Board {
         let (next, record) = match (shelf, id) {
             (Shelf::Sdr, 0 | 1) => (2, SENSOR),
             (Shelf::Sdr, 2) => (0xFFFF, LOCATOR),
-            _ => return Err(NOT_PRESENT),
+            _ => return Err(Code::NOT_PRESENT),
         };
         let got = copy_part(record, usize::from(at), into)?;
         Ok(Part { next, got })
@@ -94,13 +89,13 @@ impl Controller for Board {
 
     fn info(&mut self, _: Shelf) -> Result<[u8; 14], Code> {
         self.begin()?;
-        Err(NOT_PRESENT)
+        Err(Code::NOT_PRESENT)
     }
 
     fn reading(&mut self, lun: u8, number: u8) -> Result<Reading, Code> {
         self.begin()?;
         if lun != 0 || number != 1 {
-            return Err(NOT_PRESENT);
+            return Err(Code::NOT_PRESENT);
         }
         Ok(Reading {
             raw: 45,
@@ -113,7 +108,7 @@ impl Controller for Board {
     fn fru_size(&mut self, id: u8) -> Result<FruSize, Code> {
         self.begin()?;
         if id != 0 {
-            return Err(NOT_PRESENT);
+            return Err(Code::NOT_PRESENT);
         }
         Ok(FruSize {
             size: INVENTORY.len() as u16,
@@ -124,7 +119,7 @@ impl Controller for Board {
     fn fru_part(&mut self, id: u8, at: u16, into: &mut [u8]) -> Result<u8, Code> {
         self.begin()?;
         if id != 0 {
-            return Err(NOT_PRESENT);
+            return Err(Code::NOT_PRESENT);
         }
         copy_part(INVENTORY, usize::from(at), into)
     }
