@@ -26,10 +26,9 @@ fn push_id(line: &mut Line, id: u16)
     ensures items { line.new.items ≡ line.old.items ++ (hex_of 2 id ++ 32 ∷ []) }
     ensures len { length line.new.items ≡ length line.old.items + 5 }
 {
-    let mut digits = [0; 4];
-    let _fits = hex::encode_to_slice(&id.to_be_bytes(), &mut digits);
-    push(line, &digits);
-    push(line, b" ");
+    let mut field = [b' '; 5];
+    let _fits = hex::encode_to_slice(&id.to_be_bytes(), &mut field[..4]);
+    push(line, &field);
 }
 
 /// Appends the bytes of a record in hex.
