@@ -208,18 +208,10 @@ others_info shelf (Some bytes) = (λ inventories. refl, tt)
 Taken-more : (a b : List Line) → Taken [] a → Taken a b → Taken [] (a ++ b)
 Taken-more a b x y = Taken-append [] a b x y
 
-others_append : (a b : List Line) → AreOthers a → AreOthers b → AreOthers (a ++ b)
-others_append [] b x y = y
-others_append (line ∷ a) b x y = (x.0, others_append a b x.1 y)
-
 same_store : (a b : Store) → a.sdr ≡ b.sdr → a.sel ≡ b.sel → a.inventories ≡ b.inventories → a.readings ≡ b.readings → a.sdr_info ≡ b.sdr_info → a.sel_info ≡ b.sel_info → a ≡ b
 same_store a b e1 e2 e3 e4 e5 e6 =
-    ap (λ (l : List Row). let s : Store = record { sdr = l; sel = a.sel; inventories = a.inventories; readings = a.readings; sdr_info = a.sdr_info; sel_info = a.sel_info } in s) e1
-    ∙ ap (λ (l : List Row). let s : Store = record { sdr = b.sdr; sel = l; inventories = a.inventories; readings = a.readings; sdr_info = a.sdr_info; sel_info = a.sel_info } in s) e2
-    ∙ ap (λ (l : List Inventory). let s : Store = record { sdr = b.sdr; sel = b.sel; inventories = l; readings = a.readings; sdr_info = a.sdr_info; sel_info = a.sel_info } in s) e3
-    ∙ ap (λ (l : List SensorReading). let s : Store = record { sdr = b.sdr; sel = b.sel; inventories = b.inventories; readings = l; sdr_info = a.sdr_info; sel_info = a.sel_info } in s) e4
-    ∙ ap (λ (o : Option (List ℕ)). let s : Store = record { sdr = b.sdr; sel = b.sel; inventories = b.inventories; readings = b.readings; sdr_info = o; sel_info = a.sel_info } in s) e5
-    ∙ ap (λ (o : Option (List ℕ)). let s : Store = record { sdr = b.sdr; sel = b.sel; inventories = b.inventories; readings = b.readings; sdr_info = b.sdr_info; sel_info = o } in s) e6
+    let made = λ (s : Store). let x : Store = record { sdr = s.sdr; sel = s.sel; inventories = s.inventories; readings = s.readings; sdr_info = s.sdr_info; sel_info = s.sel_info } in x in
+    let same : made a ≡ made b = cc in same
 
 module _ (store : Store) (is : IsStore store) (saved : IsSaved store) where
   -- what the lines say, shelf by shelf and so on

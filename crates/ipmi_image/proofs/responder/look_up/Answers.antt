@@ -1,4 +1,4 @@
-use Rattle.std.proofs.Common.{◌≡◌, ap, sym, ◌∙◌, arith, Some, ℕ}
+use Rattle.std.proofs.Common.{ap, sym, ◌∙◌, arith, Some, ℕ}
 use Rattle.std.specs.Option.{unwrap_or}
 use Rattle.ipmi_bus.specs.Shelf.{Row}
 use Rattle.ipmi_image.specs.Rows.{row_of}

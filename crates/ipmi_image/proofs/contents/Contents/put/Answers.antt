@@ -5,7 +5,7 @@ use Rattle.ipmi_image.specs.declared.contents.Contents.{Contents}
 use Rattle.ipmi_image.specs.Line.{SavedRow, a_row, an_inventory, a_reading, an_info}
 use Rattle.ipmi_image.specs.Table.{inventory_of}
 use Rattle.ipmi_image.specs.Image.{chained, with_bytes, row_fault, inventory_fault, reading_fault, info_fault, reading_of_bytes}
-use Rattle.ipmi_image.specs.Stored.{sensor_of, HoldsLines, IsPut}
+use Rattle.ipmi_image.specs.Stored.{sensor_of, HoldsLines}
 use Rattle.ipmi_image.proofs.StoreLemmas.{sdr-fault, sel-fault, bytes-fault, sensor-fault, sdr_info-fault, sel_info-fault, sdr-put, sel-put, bytes-put, sensor-put, sdr_info-put, sel_info-put, end-put, info_fine, put_is, or_memory}
 use Rattle.ipmi_image.proofs.contents.Contents.put.Goals as goal
 
