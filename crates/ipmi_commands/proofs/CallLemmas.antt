@@ -20,8 +20,7 @@ use Rattle.ipmi_bus.specs.Step.{IsStep, StepLeaves, StepCalls, HandsOut, AsksNot
 use Rattle.ipmi_bus.specs.Store.{Store}
 use Rattle.ipmi_command_line.specs.declared.command.Task.{Task}
 use Rattle.ipmi_commands.specs.Listing.{calls_for, calls_at_spots, IsPlace, HasCalled, ListingCalls}
-use Rattle.ipmi_commands.specs.Plan.{first_rows}
-use Rattle.ipmi_commands.specs.Plan.{spots_after}
+use Rattle.ipmi_commands.specs.Plan.{first_rows, spots_after}
 
 -- ---- digits
 
@@ -61,15 +60,6 @@ is_place next fits = by_case (next == 65535) refl
     by_case true e = tt
     by_case false e = search arith
 
-pub called_begun : (each : ℕ) (begun : CursorState) (s : Seen) → HasCalled each 0 begun begun s s
-called_begun each begun s = record {
-  within = omega arith;
-  most = omega arith;
-  calls = omega arith;
-  some = λ some. some;
-  place = λ place. place;
-}
-
 one_bound_more : (rows bound : ℕ) → (rows + 1) * bound ≡ rows * bound + bound
 one_bound_more rows bound = omega arith
 
@@ -98,10 +88,7 @@ place_kept now next (Ok (Some row)) none leaves place = absurd none
 place_kept now next (Ok None) none leaves place = subst IsPlace (sym leaves.1.place) tt
 place_kept now next (Err (Cycle n)) none leaves place = subst IsPlace (sym leaves.1.place) place
 place_kept now next (Err (Missing n)) none leaves place = subst IsPlace (sym leaves.1.place) place
-place_kept now next (Err (GaveUp n)) none leaves place = subst IsPlace (sym leaves.1.stays.place) place
-place_kept now next (Err (Refused n code)) none leaves place = subst IsPlace (sym leaves.1.stays.place) place
-place_kept now next (Err (Stalled n)) none leaves place = subst IsPlace (sym leaves.1.stays.place) place
-place_kept now next (Err (Malformed n)) none leaves place = subst IsPlace (sym leaves.1.stays.place) place
+place_kept now next (Err _) none leaves place = subst IsPlace (sym leaves.1.stays.place) place
 
 -- a step of a listing over this shelf, with these tries, where each record takes so many calls at most
 module _ (tries behind each count : ℕ) (shelf : Shelf) (begun now next : CursorState) (s s' s'' : Seen) (each_is : each ≡ step_call_bound tries (largest_len shelf) + behind) (same_shelf : now.shelf ≡ shelf) (same_tries : now.tries ≡ tries)

@@ -64,10 +64,6 @@ span_without_memory r span s text honest = record {
 
 -- ---- items that are passed
 
-among_more : (first rest : List Spot) (spot : Spot) → IsAmong rest spot → IsAmong (first ++ rest) spot
-among_more [] rest spot among = among
-among_more (x ∷ first) rest spot among = inr (among_more first rest spot among)
-
 -- each is passed, and its spots are among these
 abbrev pub AllPassed : (Spot → Type 0) → List Item → Type 0
 AllPassed Within [] = Unit {0}

@@ -14,28 +14,24 @@ use Rattle.ipmi_bus.specs.Readers.{KeepsReservations}
 use Rattle.ipmi_bus.specs.Shelf.{Row, first_row, look, len_of}
 use Rattle.ipmi_bus.specs.Store.{Store, rows_of}
 use Rattle.ipmi_bus.specs.Walk.{IsWalk, WalkEnd, Done, CycleAt, MissingAt, EndsBy, place_after, place_after_rows}
-use Rattle.ipmi_bus.specs.Seen.{Seen, IsHonest, StaysHonest, current}
+use Rattle.ipmi_bus.specs.Seen.{Seen, IsHonest, StaysHonest, current, stays_trans, stays_refl}
 use Rattle.ipmi_bus.specs.CursorState.{CursorState}
 use Rattle.ipmi_bus.specs.Standing.{StandsAt, WalkStep, MayFail}
 use Rattle.ipmi_bus.specs.Step.{IsStep, StepLeaves, FailsAt, AsksNothing, CursorHoldsCurrent, asked_at, HandsOut}
 use Rattle.ipmi_bus.specs.Tries.{WithinTries}
-use Rattle.ipmi_bus.specs.Seen.{stays_trans, stays_refl}
 use Rattle.ipmi_command_line.specs.declared.command.Task.{Task}
 use Rattle.ipmi_bus.specs.declared.inventory.FruEnded.TheVariants as fru
 use Rattle.ipmi_commands.specs.Pages.{IsStopped}
 use Rattle.ipmi_commands.specs.declared.stop.Stop.{Stop}
 use Rattle.ipmi_commands.specs.declared.stop.Stop.TheVariants as stop
 use Rattle.ipmi_commands.specs.declared.listing.Span.{Span}
-use Rattle.ipmi_commands.specs.Listing.{IsWithin, is_reached, passing, shown_rows, span_items, span_plan, item_in, subject_in, spots_in, stop_at_end, IsOutcome, IsUnrefused, calls_for, calls_at_spots, FindsText, FindsNone, MayStopAt, HasListed, ListsHonest, IsListing}
-use Rattle.ipmi_commands.specs.Plan.{first_rows, first_end}
-use Rattle.ipmi_commands.specs.Plan.{Plan, Item, IsItemText, Spot, AtRecord, RunEnd, WalkEnds, run_end, done_end, Printed, Outcome, IsAllowed, CountsSo, HasFreshTroubles, IsFine, IsAmong, StopsAt, spots_at, spots_after}
+use Rattle.ipmi_commands.specs.Listing.{IsWithin, is_reached, passing, shown_rows, span_items, span_plan, item_in, subject_in, spots_in, stop_at_end, IsOutcome, IsUnrefused, calls_for, calls_at_spots, FindsText, FindsNone, MayStopAt, HasListed, ListsHonest, IsListing, course}
+use Rattle.ipmi_commands.specs.Plan.{first_rows, first_end, Plan, Item, IsItemText, Spot, AtRecord, RunEnd, WalkEnds, run_end, done_end, Printed, Outcome, IsAllowed, CountsSo, HasFreshTroubles, IsFine, IsAmong, StopsAt, spots_at, spots_after, request}
 use Rattle.ipmi_command_line.specs.Task.{shelf_of}
 use Rattle.ipmi_commands.specs.Plan as plan
 use Rattle.ipmi_commands.proofs.CallLemmas.{IsBelow, digits_some, one_id_more, calls_upto, calls_within, calls_more}
 use Rattle.ipmi_commands.proofs.ItemLemmas.{span_joined, span_next, span_none, none_printed, printed_more, row_there, end_spot}
 use Rattle.ipmi_commands.proofs.NameLemmas.{Wrote, done_by, done_is, end_is}
-use Rattle.ipmi_commands.specs.Plan.{request}
-use Rattle.ipmi_commands.specs.Listing.{course}
 
 -- ---- limits
 
@@ -52,10 +48,6 @@ one_wanted (Some n) count within more = let below : count < n = search arith in 
 pub within_more : (most : Option ℕ) (count : ℕ) → IsWithin most count → is_reached most count ≡ false → IsWithin most (count + 1)
 within_more None count within more = tt
 within_more (Some n) count within more = let below = one_wanted (Some n) count within more in omega (arith, below)
-
-pub none_within : (most : Option ℕ) → IsWithin most 0
-none_within None = tt
-none_within (Some n) = omega arith
 
 -- all rows are wanted where more are wanted than there are
 all_rows : (most : Option ℕ) (walk : List Row) → IsBelow most (length walk) → first_rows most walk ≡ walk
@@ -104,20 +96,11 @@ rows_wanted (Some n) k walk below = within n k walk below
 -- one that is not done did not stop by that
 pub stopped_otherwise : (result : Stop) (outcome : Outcome) → IsStopped result → IsOutcome result outcome → outcome ≡ plan.Finished (WalkEnds Done) → ⊥
 stopped_otherwise stop.Done outcome stopped is done = cc stopped
-stopped_otherwise stop.NoName outcome stopped is done = let h = sym is ∙ done in cc h
-stopped_otherwise stop.NoInfo outcome stopped is done = let h = sym is ∙ done in cc h
-stopped_otherwise (stop.Inventory id fru.GaveUp) outcome stopped is done = let h = sym is ∙ done in cc h
-stopped_otherwise (stop.Inventory id fru.Memory) outcome stopped is done = let h = sym is ∙ done in cc h
-stopped_otherwise (stop.Inventory id (fru.Refused code)) outcome stopped is done = let h = sym is ∙ done in cc h
-stopped_otherwise (stop.Inventory id _) outcome stopped is done = is
-stopped_otherwise (stop.Ended (Cycle n)) outcome stopped is done = let h = sym is ∙ done in cc h
-stopped_otherwise (stop.Ended (Missing n)) outcome stopped is done = let h = sym is ∙ done in cc h
-stopped_otherwise (stop.Ended (GaveUp n)) outcome stopped is done = let h = sym is ∙ done in cc h
-stopped_otherwise (stop.Ended (Refused n code)) outcome stopped is done = let h = sym is ∙ done in cc h
+stopped_otherwise (stop.Inventory id fru.Stalled) outcome stopped is done = is
+stopped_otherwise (stop.Inventory id fru.Words) outcome stopped is done = is
 stopped_otherwise (stop.Ended (Stalled n)) outcome stopped is done = is
 stopped_otherwise (stop.Ended (Malformed n)) outcome stopped is done = is
-stopped_otherwise stop.Memory outcome stopped is done = let h = sym is ∙ done in cc h
-stopped_otherwise stop.WriteFault outcome stopped is done = let h = sym is ∙ done in cc h
+stopped_otherwise _ outcome stopped is done = let h = sym is ∙ done in cc h
 
 -- ---- what was counted
 
@@ -606,13 +589,3 @@ module _ (t : Task) (tries : ℕ) (span : Span) (count : ℕ) (begun next : Curs
 -- each record that is handed out leaves fewer ids
 pub fewer_ids : (now next : CursorState) (row : Row) → HandsOut now next row → 65536 - set.len next.ids < 65536 - set.len now.ids
 fewer_ids now next row hands = let more = one_id_more now next row hands in let most = hands.at_most in omega (arith, more, most)
-
--- ---- the beginning
-
-pub listing_begins : (t : Task) (tries : ℕ) (span : Span) (begun : CursorState) (s : Seen) (old : List ℕ) → IsHonest s → ListsHonest t tries span 0 (course begun begun s s old old)
-listing_begins t tries span begun s old honest = record {
-  stays = stays_refl s honest;
-  unrefused = record { refusals = refl; troubles = omega arith };
-  listed = λ same start walk end w ends stands. record { stands = stands; printed = subst (λ (items : List Item). Printed t s.store items old old) (sym (span_none span.skip t start)) (none_printed t s.store old); calls = omega arith };
-  plain = λ p holds. holds;
-}

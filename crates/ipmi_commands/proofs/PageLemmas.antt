@@ -9,27 +9,23 @@ use Rattle.ipmi_bus.specs.declared.step.Ended.TheVariants.{Cycle}
 use Rattle.ipmi_bus.specs.Shelf.{Row}
 use Rattle.ipmi_bus.specs.Store.{Store, rows_of}
 use Rattle.ipmi_bus.specs.Walk.{row_at, IsWalk, WalkEnd, Done, CycleAt, MissingAt, EndsBy, place_after_rows}
-use Rattle.ipmi_bus.specs.Seen.{Seen, IsHonest}
+use Rattle.ipmi_bus.specs.Seen.{Seen, IsHonest, stays_refl}
 use Rattle.ipmi_bus.specs.CursorState.{CursorState, start_of}
 use Rattle.ipmi_bus.specs.Standing.{StandsAt}
-use Rattle.ipmi_bus.specs.Seen.{stays_refl}
 use Rattle.ipmi_command_line.specs.declared.command.Task.{Task}
 use Rattle.ipmi_commands.specs.declared.stop.Stop.{Stop}
 use Rattle.ipmi_commands.specs.declared.stop.Stop.TheVariants as stop
 use Rattle.ipmi_commands.specs.declared.listing.Listed.{Listed}
 use Rattle.ipmi_command_line.specs.declared.command.Task.TheVariants as task
-use Rattle.ipmi_commands.specs.Listing.{is_done, is_reached, stop_at_end, up_to, most_for_one, most_on_walk, IsListing, ListingCalls}
-use Rattle.ipmi_commands.specs.Plan.{first_rows, first_end}
+use Rattle.ipmi_commands.specs.Listing.{is_done, is_reached, stop_at_end, up_to, most_for_one, most_on_walk, IsListing, ListingCalls, course}
+use Rattle.ipmi_commands.specs.Plan.{first_rows, first_end, WalkEnds, row_items, run_end, done_end, Printed, request, change}
 use Rattle.ipmi_commands.specs.Pages.{start_at, GoesOn, PageAlong, IsPage, IsStopped, ArePages, pages_made}
-use Rattle.ipmi_commands.specs.Plan.{WalkEnds, row_items, run_end, done_end, Printed}
 use Rattle.ipmi_command_line.specs.Task.{shelf_of}
 use Rattle.ipmi_commands.specs.Plan as plan
 use Rattle.ipmi_commands.proofs.CallLemmas.{digits_most}
 use Rattle.ipmi_commands.proofs.ItemLemmas.{none_printed}
 use Rattle.ipmi_commands.proofs.ListingLemmas.{limit_end}
 use Rattle.ipmi_commands.proofs.NameLemmas.{done_by, end_is}
-use Rattle.ipmi_commands.specs.Plan.{request, change}
-use Rattle.ipmi_commands.specs.Listing.{course}
 
 -- ---- nothing was written
 
@@ -236,9 +232,6 @@ page_leads t all left size start now next tries s s' s'' old text text' leads pa
 pub last_leads : (t : Task) (all left : List ℕ) (size : ℕ) (start now next : Place) (tries : ℕ) (s s' s'' : Seen) (old text text' : List ℕ) (result : Stop) → LeadsTo t all (size ∷ left) start now tries s s' old text → IsPage (request t now tries) (Some size) next (change s' s'' text text') result → IsStopped result
     → ArePages (request t start tries) all (change s s'' old text') result
 last_leads t all left size start now next tries s s' s'' old text text' result leads page stopped = leads s'' text' result (inl (record { next = next; page = page }, stopped))
-
-pub all_lead : (t : Task) (all : List ℕ) (start now next : Place) (tries : ℕ) (s s' s'' : Seen) (old text text' : List ℕ) (result : Stop) → LeadsTo t all [] start now tries s s' old text → IsPage (request t now tries) None next (change s' s'' text text') result → ArePages (request t start tries) all (change s s'' old text') result
-all_lead t all start now next tries s s' s'' old text text' result leads page = leads s'' text' result (record { next = next; page = page })
 
 -- a listing that is done is done after its last record
 pub done : (result : Stop) → is_done result ≡ true → result ≡ stop.Done

@@ -7,25 +7,21 @@ use Rattle.ipmi_bus.specs.declared.controller.Shelf.{Shelf}
 use Rattle.ipmi_bus.specs.declared.step.Place.{Place}
 use Rattle.ipmi_bus.specs.declared.step.Place.TheVariants.{First, Id, End}
 use Rattle.ipmi_bus.specs.Shelf.{Row, IsShelf, first_row, look}
-use Rattle.ipmi_bus.specs.Store.{Store, rows_of}
+use Rattle.ipmi_bus.specs.Store.{Store, rows_of, store_shelf}
 use Rattle.ipmi_bus.specs.Walk.{row_at, IsWalk, TailIsWalk, WalkEnd, Done, CycleAt, MissingAt, EndsBy, EndsAfter, EndsEmpty, last_next, has_id, place_after, place_after_rows}
-use Rattle.ipmi_bus.specs.Seen.{Seen, IsHonest, StaysHonest}
-use Rattle.ipmi_bus.specs.Store.{store_shelf}
-use Rattle.ipmi_bus.specs.Seen.{stays_trans}
+use Rattle.ipmi_bus.specs.Seen.{Seen, IsHonest, StaysHonest, stays_trans}
 use Rattle.ipmi_command_line.specs.declared.command.Task.{Task}
 use Rattle.ipmi_commands.specs.declared.stop.Stop.{Stop}
 use Rattle.ipmi_commands.specs.declared.stop.Stop.TheVariants as stop
 use Rattle.ipmi_commands.specs.Listing.{calls_for, first_plan, IsOutcome}
-use Rattle.ipmi_commands.specs.Plan.{first_end}
+use Rattle.ipmi_commands.specs.Plan.{first_end, Plan, Item, Spot, RunEnd, WalkEnds, run_end, row_items, Printed, Outcome, IsAllowed, CountsSo, IsFine, IsAmong, StopsAt, spots_at, end_spots, request, change}
 use Rattle.ipmi_commands.specs.Pages.{GoesOn, PageAlong, IsStopped, ArePages, pages_made, IsOpen}
 use Rattle.ipmi_command_line.specs.declared.command.Task.TheVariants as task
-use Rattle.ipmi_commands.specs.Plan.{Plan, Item, Spot, RunEnd, WalkEnds, run_end, row_items, Printed, Outcome, IsAllowed, CountsSo, IsFine, IsAmong, StopsAt, spots_at, end_spots}
 use Rattle.ipmi_command_line.specs.Task.{is_listing, shelf_of}
 use Rattle.ipmi_commands.specs.Plan as plan
 use Rattle.ipmi_commands.proofs.ListingLemmas.{counts_since, stopped_otherwise}
 use Rattle.ipmi_commands.proofs.PageLemmas.{made_one, made_none, no_walk}
 use Rattle.ipmi_commands.proofs.ItemLemmas.{items_joined, end_joined, after_items, leaves_joined}
-use Rattle.ipmi_commands.specs.Plan.{request, change}
 
 -- a listing ends as its walk does
 run_plain : (t : Task) → is_listing t ≡ true → (rows : List Row) (end : WalkEnd) → run_end t rows end ≡ WalkEnds end

@@ -2,7 +2,7 @@
 use Rattle.std.proofs.Common.{◌≡◌, ◌⊎◌, inl, inr, ℕ, ◌+◌, ◌≤◌, Bool, true, false, IsTrue, Option, None, Result, Ok, Err, List, [], refl, sym, ap, subst, ◌∙◌}
 use Rattle.ipmi_bus.specs.declared.step.Place.{Place}
 use Rattle.ipmi_bus.specs.declared.inventory.FruEnded.TheVariants as fru
-use Rattle.ipmi_bus.specs.declared.step.Ended.TheVariants.{Cycle, Missing, Refused, GaveUp}
+use Rattle.ipmi_bus.specs.declared.step.Ended.TheVariants.{Stalled, Malformed}
 use Rattle.ipmi_bus.specs.Shelf.{Row}
 use Rattle.ipmi_bus.specs.Store.{Store}
 use Rattle.ipmi_bus.specs.Walk.{TailIsWalk, WalkEnd, Done}
@@ -18,15 +18,13 @@ use Rattle.ipmi_commands.specs.declared.stop.Stop.TheVariants as stop
 use Rattle.ipmi_output.specs.declared.message.Message.TheVariants.{Image, OutOfMemory}
 use Rattle.ipmi_command_line.specs.Task.{is_listing, most_of}
 use Rattle.ipmi_commands.specs.Listing.{first_plan, IsOutcome, walk_call_bound, most_on_walk, run_call_bound, most_calls}
-use Rattle.ipmi_commands.specs.Plan.{first_rows, Plan, WalkEnds, OfImage, Printed, plan_of, rewrite_plan, Outcome, IsAllowed, CountsSo, IsFine}
+use Rattle.ipmi_commands.specs.Plan.{first_rows, Plan, WalkEnds, OfImage, Printed, plan_of, rewrite_plan, Outcome, IsAllowed, CountsSo, IsFine, Request, Change, request, change}
 use Rattle.ipmi_commands.specs.Plan as plan
 use Rattle.ipmi_output.specs.Received.{Received, ReceivesText}
 use Rattle.ipmi_commands.specs.Pages.{IsPage, ArePages}
 use Rattle.ipmi_commands.proofs.ItemLemmas.{none_printed, one_printed}
 use Rattle.ipmi_commands.proofs.PagesLaw.{pages_are_one}
-use Rattle.ipmi_commands.specs.Plan.{Request}
 use Rattle.ipmi_commands.specs.Run.{Effect, effect, HasEnded, IsRun, IsPagedRun, status_of, stop_status, stop_text, outcome_text, lists_once, Performs, fault_status, WritesImage, IsRewriting, Says, AnswersRewrite, AnswersImage, AnswersTask}
-use Rattle.ipmi_commands.specs.Plan.{Change, request, change}
 
 -- ---- a task that lists the first rows of its shelf
 
@@ -37,14 +35,11 @@ pub record GoesOnce (t : Task) : Type 0 where
   pub most_is : (tries : ℕ) → most_calls t tries ≡ most_on_walk t tries
 
 pub goes_once : (t : Task) → lists_once t ≡ true → GoesOnce t
-goes_once task.Hex lists = record { plan_is = λ store start walk end. refl; bound_is = λ store tries walk end. refl; most_is = λ tries. refl }
-goes_once (task.List kind) lists = record { plan_is = λ store start walk end. refl; bound_is = λ store tries walk end. refl; most_is = λ tries. refl }
-goes_once (task.Elist kind) lists = record { plan_is = λ store start walk end. refl; bound_is = λ store tries walk end. refl; most_is = λ tries. refl }
-goes_once (task.Get name) lists = record { plan_is = λ store start walk end. refl; bound_is = λ store tries walk end. refl; most_is = λ tries. refl }
-goes_once (task.SelList count.All) lists = record { plan_is = λ store start walk end. refl; bound_is = λ store tries walk end. refl; most_is = λ tries. refl }
-goes_once (task.SelList (count.First n)) lists = record { plan_is = λ store start walk end. refl; bound_is = λ store tries walk end. refl; most_is = λ tries. refl }
-goes_once (task.SelGet id) lists = record { plan_is = λ store start walk end. refl; bound_is = λ store tries walk end. refl; most_is = λ tries. refl }
-goes_once _ lists = cc lists
+goes_once (task.Fru id) lists = cc lists
+goes_once (task.Info shelf) lists = cc lists
+goes_once (task.SelList (count.Last n)) lists = cc lists
+goes_once task.Rewrite lists = cc lists
+goes_once _ lists = record { plan_is = λ store start walk end. refl; bound_is = λ store tries walk end. refl; most_is = λ tries. refl }
 
 -- a listing goes once, and has no limit
 pub listed_whole : (t : Task) → is_listing t ≡ true → (lists_once t ≡ true) × (most_of t ≡ None)
@@ -62,20 +57,11 @@ module _ (t : Task) where
   said_of outcome = (status_of outcome, outcome_text t outcome)
 
   stop_said : (st : Stop) (outcome : Outcome) → IsOutcome st outcome → ◌≡◌ {A = ℕ × List ℕ} (stop_status st, stop_text t st) (said_of outcome)
-  stop_said stop.Done outcome is = ap said_of (sym is)
-  stop_said (stop.Ended (Cycle n)) outcome is = ap said_of (sym is)
-  stop_said (stop.Ended (Missing n)) outcome is = ap said_of (sym is)
-  stop_said (stop.Ended (GaveUp n)) outcome is = ap said_of (sym is)
-  stop_said (stop.Ended (Refused n code)) outcome is = ap said_of (sym is)
-  stop_said (stop.Ended _) outcome is = absurd is
-  stop_said stop.NoName outcome is = ap said_of (sym is)
-  stop_said stop.NoInfo outcome is = ap said_of (sym is)
-  stop_said (stop.Inventory id fru.GaveUp) outcome is = ap said_of (sym is)
-  stop_said (stop.Inventory id fru.Memory) outcome is = ap said_of (sym is)
-  stop_said (stop.Inventory id (fru.Refused code)) outcome is = ap said_of (sym is)
-  stop_said (stop.Inventory id _) outcome is = absurd is
-  stop_said stop.Memory outcome is = ap said_of (sym is)
-  stop_said stop.WriteFault outcome is = ap said_of (sym is)
+  stop_said (stop.Ended (Stalled n)) outcome is = absurd is
+  stop_said (stop.Ended (Malformed n)) outcome is = absurd is
+  stop_said (stop.Inventory id fru.Stalled) outcome is = absurd is
+  stop_said (stop.Inventory id fru.Words) outcome is = absurd is
+  stop_said _ outcome is = ap said_of (sym is)
 
   status_same : (st : Stop) (outcome : Outcome) → IsOutcome st outcome → stop_status st ≡ status_of outcome
   status_same st outcome is = ap (λ (said : ℕ × List ℕ). said.0) (stop_said st outcome is)

@@ -89,22 +89,19 @@ module _ (one_sdr_line : SdrLineIsUnique) (one_extended_line : ExtendedLineIsUni
   one_locator store _ a b x y = x ∙ sym y
 
   one_piece : (t : Task) (store : Store) (row : Row) (a b : List ℕ) → AreBytes row.bytes → IsRowPiece t store row a → IsRowPiece t store row b → a ≡ b
-  one_piece task.Hex store row a b are x y = x ∙ sym y
   one_piece (task.List kind) store row a b are x y = one_of_kind form.Short kind store row a b x y
   one_piece (task.Elist kind) store row a b are x y = one_of_kind form.Extended kind store row a b x y
   one_piece (task.Get name) store row a b are x y = one_block_of_name name store row.id (sdr_view_of row.bytes) a b x y
   one_piece (task.SelList entries) store row a b are x y = one_sel_line row.id (sel_view_of row.bytes) a b (entry_are_bytes row.bytes are) x y
   one_piece (task.SelGet id) store row a b are x y = one_sel_block row.id (sel_view_of row.bytes) a b (entry_are_bytes row.bytes are) x y
   one_piece (task.Fru id) store row a b are x y = one_locator store (sdr_view_of row.bytes) a b x y
-  one_piece (task.Info shelf) store row a b are x y = x ∙ sym y
-  one_piece task.Rewrite store row a b are x y = x ∙ sym y
+  one_piece _ store row a b are x y = x ∙ sym y
 
   one_item : (t : Task) (store : Store) (subject : Subject) (a b : List ℕ) → IsOfBytes subject → IsItemText t store subject a → IsItemText t store subject b → a ≡ b
   one_item t store (OfRow row) a b bytes x y = one_piece t store row a b bytes x y
-  one_item t store Passed a b bytes x y = x ∙ sym y
   one_item t store (OfInventory id) a b bytes x y = one_inventory store id [] a b x y
   one_item t store (OfInfo info) a b bytes x y = one_info_block info a b bytes x y
-  one_item t store OfImage a b bytes x y = x ∙ sym y
+  one_item t store _ a b bytes x y = x ∙ sym y
 
   -- texts of items are one text
   pub one_text : (t : Task) (store : Store) (items : List Item) (a b : List ℕ) → AreOfBytes items → AreTexts t store items a → AreTexts t store items b → a ≡ b
@@ -166,13 +163,7 @@ module _ (one_sdr_line : SdrLineIsUnique) (one_extended_line : ExtendedLineIsUni
         first_kept (spots_of_walk start walk end) (last_items n (task.SelList (count.Last n)) start walk end)
         (rows_are_bytes look_row (task.SelList (count.Last n)) Sel store.sel (place_after_rows start (take (length walk - n) walk)) (last_rows n walk end) ok.sel (last_of_shelf n store.sel walk end all))
     plan_bytes task.Rewrite all = (tt, tt)
-    plan_bytes task.Hex all = listed task.Hex all
-    plan_bytes (task.List kind) all = listed (task.List kind) all
-    plan_bytes (task.Elist kind) all = listed (task.Elist kind) all
-    plan_bytes (task.Get name) all = listed (task.Get name) all
-    plan_bytes (task.SelList count.All) all = listed (task.SelList count.All) all
-    plan_bytes (task.SelList (count.First n)) all = listed (task.SelList (count.First n)) all
-    plan_bytes (task.SelGet id) all = listed (task.SelGet id) all
+    plan_bytes t all = listed t all
 
   pub one_output : WalkExists → FoundIsRow → (r : Request) (store : Store) (old a b : List ℕ) (e f : RunEnd) → IsStore store → AllowsAll r store old a (Finished e) → AllowsAll r store old b (Finished f) → (a ≡ b) × (e ≡ f)
   one_output exists look_row r store old a b e f ok allows other =
