@@ -20,7 +20,7 @@ pub items_joined : (t : Task) (start : Place) (done rest : List Row) → row_ite
 items_joined t start [] rest = refl
 items_joined t start (d ∷ done) rest = ap (λ (l : List Item). row_item t start d ∷ l) (items_joined t (place_after d.next) done rest)
 
-one_taken : (rows : List Row) (k : ℕ) (row : Row) → first_row (drop k rows) ≡ Some row → take (k + 1) rows ≡ take k rows ++ (row ∷ [])
+pub one_taken : (rows : List Row) (k : ℕ) (row : Row) → first_row (drop k rows) ≡ Some row → take (k + 1) rows ≡ take k rows ++ (row ∷ [])
 one_taken [] zero row next = cc next
 one_taken [] (suc k) row next = cc next
 one_taken (first ∷ rows) zero row next = let same : first ≡ row = cc next in ap (λ (r : Row). r ∷ []) same
@@ -130,12 +130,6 @@ module _ (t : Task) (store : Store) (first : List Item) (p : Plan) (old text : L
     bytes = allowed.bytes;
     new_is = allowed.new_is;
   }
-
--- a row that is there
-pub row_there : (rows : List Row) (k : ℕ) → k < length rows → (row : Row) × (first_row (drop k rows) ≡ Some row)
-row_there [] k within = absurd (omega (arith, within))
-row_there (row ∷ rows) zero within = (row, refl)
-row_there (row ∷ rows) (suc k) within = row_there rows k (omega (arith, within))
 
 -- ---- spots
 

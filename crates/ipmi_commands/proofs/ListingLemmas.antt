@@ -2,7 +2,7 @@
 use Rattle.std.proofs.Common.{◌≡◌, ◌≢◌, ◌⊎◌, inl, inr, ℕ, zero, suc, ◌+◌, ◌-◌, ◌<◌, ◌≤◌, nat_le, nat_lt, Bool, true, false, cond, IsTrue, Option, None, Some, IsSome, Result, Ok, Err, List, [], ◌∷◌, ◌++◌, length, take, drop, refl, sym, ap, subst, ◌∙◌, arith}
 use Rattle.std.specs.FinSet as set
 use Rattle.std.proofs.lemmas.Bool.{ltb-false}
-use Rattle.std.proofs.lemmas.List.{take_all, length-take-le, take-append-drop}
+use Rattle.std.proofs.lemmas.List.{take_all, length-drop, length-take, length-take-le, take-append-drop}
 use Rattle.ipmi_bus.specs.Bounds.{step_call_bound, digits}
 use Rattle.ipmi_bus.specs.declared.controller.Shelf.{Shelf}
 use Rattle.ipmi_bus.specs.declared.controller.Shelf.TheVariants.{Sdr, Sel}
@@ -29,8 +29,8 @@ use Rattle.ipmi_commands.specs.Listing.{IsWithin, is_reached, passing, shown_row
 use Rattle.ipmi_commands.specs.Plan.{first_rows, first_end, Plan, Item, IsItemText, Spot, AtRecord, RunEnd, WalkEnds, run_end, done_end, Printed, Outcome, IsAllowed, CountsSo, HasFreshTroubles, IsFine, IsAmong, StopsAt, spots_at, spots_after, request}
 use Rattle.ipmi_command_line.specs.Task.{shelf_of}
 use Rattle.ipmi_commands.specs.Plan as plan
-use Rattle.ipmi_commands.proofs.CallLemmas.{IsBelow, digits_some, one_id_more, calls_upto, calls_within, calls_more}
-use Rattle.ipmi_commands.proofs.ItemLemmas.{span_joined, span_next, span_none, none_printed, printed_more, row_there, end_spot}
+use Rattle.ipmi_commands.proofs.CallLemmas.{IsBelow, digits_some, one_id_more, calls_upto, calls_within, calls_more, rows_wanted, next_wanted, one_within, below_within}
+use Rattle.ipmi_commands.proofs.ItemLemmas.{span_joined, span_next, span_none, none_printed, printed_more, end_spot}
 use Rattle.ipmi_commands.proofs.NameLemmas.{Wrote, done_by, done_is, end_is}
 
 -- ---- limits
@@ -46,8 +46,7 @@ one_wanted None count within more = tt
 one_wanted (Some n) count within more = let below : count < n = search arith in below
 
 pub within_more : (most : Option ℕ) (count : ℕ) → IsWithin most count → is_reached most count ≡ false → IsWithin most (count + 1)
-within_more None count within more = tt
-within_more (Some n) count within more = let below = one_wanted (Some n) count within more in omega (arith, below)
+within_more most count within more = one_within most count (one_wanted most count within more)
 
 -- all rows are wanted where more are wanted than there are
 all_rows : (most : Option ℕ) (walk : List Row) → IsBelow most (length walk) → first_rows most walk ≡ walk
@@ -65,31 +64,6 @@ all_end (Some n) walk end below = by_case (nat_le n (length walk)) refl
 -- and the end is none where no more are wanted
 pub limit_end : (count : ℕ) (walk : List Row) (end : WalkEnd) → count ≤ length walk → first_end (Some count) walk end ≡ Done
 limit_end count walk end within = let e : nat_le count (length walk) ≡ true = search arith in ap (λ (b : Bool). cond b Done end) e
-
--- the next row is among those that are wanted
-next_wanted : (most : Option ℕ) (k : ℕ) (walk : List Row) (row : Row) → IsBelow most k → first_row (drop k walk) ≡ Some row → first_row (drop k (first_rows most walk)) ≡ Some row
-next_wanted None k walk row below next = next
-next_wanted (Some n) k walk row below next = within n k walk below next
-  where
-    within : (n k : ℕ) (walk : List Row) → k < n → first_row (drop k walk) ≡ Some row → first_row (drop k (take n walk)) ≡ Some row
-    within n zero [] below next = cc next
-    within n (suc k) [] below next = cc next
-    within zero k (first ∷ walk) below next = absurd (omega (arith, below))
-    within (suc n) zero (first ∷ walk) below next = next
-    within (suc n) (suc k) (first ∷ walk) below next = within n k walk (omega (arith, below)) next
-
--- and so are those before it
-rows_wanted : (most : Option ℕ) (k : ℕ) (walk : List Row) → IsBelow most k → take k (first_rows most walk) ≡ take k walk
-rows_wanted None k walk below = refl
-rows_wanted (Some n) k walk below = within n k walk below
-  where
-    within : (n k : ℕ) (walk : List Row) → k < n → take k (take n walk) ≡ take k walk
-    within n zero [] below = refl
-    within zero (suc k) [] below = refl
-    within (suc n) (suc k) [] below = refl
-    within zero k (first ∷ walk) below = absurd (omega (arith, below))
-    within (suc n) zero (first ∷ walk) below = refl
-    within (suc n) (suc k) (first ∷ walk) below = ap (λ (l : List Row). first ∷ l) (within n k walk (omega (arith, below)))
 
 -- ---- how it stopped
 
@@ -139,11 +113,11 @@ kept_current Sel s s' keeps = keeps.sel
 
 -- no row is left where no more are wanted
 none_left : (most : Option ℕ) (k : ℕ) (walk : List Row) → IsBelow most k → drop k (first_rows most walk) ≡ [] → length walk ≤ k
-none_left most k walk below none = by_case (nat_lt k (length walk)) refl
-  where
-    by_case : (b : Bool) → nat_lt k (length walk) ≡ b → length walk ≤ k
-    by_case true e = let there = row_there walk k (search arith) in let h = sym (next_wanted most k walk there.0 below there.1) ∙ ap first_row none in cc h
-    by_case false e = ltb-false k (length walk) e
+none_left None k walk below none = let len = length-drop k walk in let zero_ = ap (λ (l : List Row). length l) none in omega (arith, len, zero_)
+none_left (Some n) k walk below none =
+    let len = length-drop k (take n walk) in
+    let first = length-take n walk in
+    let zero_ = ap (λ (l : List Row). length l) none in omega (arith, below, len, first, zero_)
 
 -- the items of the first ones, and of what is wanted after them
 items_split : (n : Option ℕ) (t : Task) (start : Place) (most : Option ℕ) (k : ℕ) (walk : List Row) → IsBelow most k → k ≤ length walk
@@ -151,7 +125,7 @@ items_split : (n : Option ℕ) (t : Task) (start : Place) (most : Option ℕ) (k
 items_split n t start most k walk below within =
     ap (span_items n t start) (sym (take-append-drop k (first_rows most walk)))
     ∙ span_joined n t start (take k (first_rows most walk)) (drop k (first_rows most walk))
-    ∙ ap (λ (l : List Row). span_items n t start l ++ span_items (passing n (length l)) t (place_after_rows start l) (drop k (first_rows most walk))) (rows_wanted most k walk below)
+    ∙ ap (λ (l : List Row). span_items n t start l ++ span_items (passing n (length l)) t (place_after_rows start l) (drop k (first_rows most walk))) (rows_wanted most k walk (below_within most k below))
     ∙ ap (λ (m : ℕ). span_items n t start (take k walk) ++ span_items (passing n m) t (place_after_rows start (take k walk)) (drop k (first_rows most walk))) (length-take-le k walk within)
 
 next_split : (n : Option ℕ) (t : Task) (start : Place) (most : Option ℕ) (k : ℕ) (walk : List Row) (row : Row) → IsBelow most k → k ≤ length walk → first_row (drop k walk) ≡ Some row
@@ -162,9 +136,9 @@ next_split n t start most k walk row below within next = by_rest (drop k (first_
     place = place_after_rows start (take k walk)
 
     by_rest : (l : List Row) → drop k (first_rows most walk) ≡ l → (rest : List Item) × (span_items n t start (first_rows most walk) ≡ span_items n t start (take k walk) ++ (item_in (passing n k) t (place_after_rows start (take k walk)) row ∷ rest))
-    by_rest [] is = let h = sym (next_wanted most k walk row below next) ∙ ap first_row is in cc h
+    by_rest [] is = let h = sym (next_wanted most k walk below ∙ next) ∙ ap first_row is in cc h
     by_rest (first ∷ l) is =
-        let h = sym (ap first_row is) ∙ next_wanted most k walk row below next in
+        let h = sym (ap first_row is) ∙ next_wanted most k walk below ∙ next in
         let same : first ≡ row = cc h in (
           span_items (passing (passing n k) 1) t (place_after first.next) l,
           items_split n t start most k walk below within

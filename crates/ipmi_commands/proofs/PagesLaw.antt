@@ -1,5 +1,6 @@
 -- Pages over a chain that does not end by a cycle are one listing.
 use Rattle.std.proofs.Common.{◌≡◌, inl, inr, ℕ, ◌+◌, ◌*◌, ◌<◌, ◌≤◌, ◌==◌, nat_le, Bool, true, false, cond, ◌||◌, IsTrue, None, Some, List, [], ◌∷◌, ◌++◌, length, take, drop, refl, sym, ap, subst, ◌∙◌, append_assoc, append-nil, arith}
+use Rattle.std.proofs.lemmas.Bool.{or_parts}
 use Rattle.std.proofs.lemmas.List.{take_all, take-append-drop}
 use Rattle.std.proofs.Math.Seq.{take-nil, drop-nil}
 use Rattle.ipmi_bus.specs.Bounds.{step_call_bound}
@@ -19,6 +20,7 @@ use Rattle.ipmi_commands.specs.Pages.{GoesOn, PageAlong, IsStopped, ArePages, pa
 use Rattle.ipmi_command_line.specs.declared.command.Task.TheVariants as task
 use Rattle.ipmi_command_line.specs.Task.{is_listing, shelf_of}
 use Rattle.ipmi_commands.specs.Plan as plan
+use Rattle.ipmi_commands.proofs.CallLemmas.{calls_split}
 use Rattle.ipmi_commands.proofs.ListingLemmas.{counts_since, stopped_otherwise}
 use Rattle.ipmi_commands.proofs.PageLemmas.{made_one, made_none, no_walk}
 use Rattle.ipmi_commands.proofs.ItemLemmas.{items_joined, end_joined, after_items, leaves_joined}
@@ -46,11 +48,7 @@ module _ (walk_tail : TailIsWalk) where
   rest_ends rows start d [] end ends open_ = no_more rows d.next (d ∷ []) end ends open_
   rest_ends rows start d (r ∷ rest) Done ends open_ = ends
   rest_ends rows start d (r ∷ rest) (CycleAt n) ends open_ = absurd open_
-  rest_ends rows start d (r ∷ rest) (MissingAt n) ends open_ = (ends.0, ends.1, ends.2, lacks ((last_next r.next rest) == d.id) (has_id (r ∷ rest) (last_next r.next rest)) ends.3, ends.4)
-    where
-      lacks : (a b : Bool) → (a || b) ≡ false → b ≡ false
-      lacks true b e = cc e
-      lacks false b e = e
+  rest_ends rows start d (r ∷ rest) (MissingAt n) ends open_ = (ends.0, ends.1, ends.2, (or_parts (last_next r.next rest == d.id) (has_id (r ∷ rest) (last_next r.next rest)) ends.3).1, ends.4)
 
   rest_of_walk : (shelf : Shelf) (rows : List Row) (start : Place) (done rest : List Row) (end : WalkEnd) → IsShelf shelf rows → IsOpen end → IsWalk rows start (done ++ rest) → EndsBy rows start (done ++ rest) end
       → IsWalk rows (place_after_rows start done) rest × EndsBy rows (place_after_rows start done) rest end
@@ -129,14 +127,6 @@ module _ (walk_tail : TailIsWalk) where
         by_size false past = subst (λ (q : Plan). IsAllowed t store q old new outcome) (is_whole past) allowed
 
   -- ---- calls
-
-  calls_joined : (t : Task) (store : Store) (tries : ℕ) (done rest : List Row) → calls_for t store tries (done ++ rest) ≡ calls_for t store tries done + calls_for t store tries rest
-  calls_joined t store tries [] rest = omega arith
-  calls_joined t store tries (d ∷ done) rest = let more = calls_joined t store tries done rest in omega (arith, more)
-
-  -- those of a page, and of the rows after it
-  calls_split : (t : Task) (store : Store) (tries size : ℕ) (walk : List Row) → calls_for t store tries (take size walk) + calls_for t store tries (drop size walk) ≡ calls_for t store tries walk
-  calls_split t store tries size walk = sym (calls_joined t store tries (take size walk) (drop size walk)) ∙ ap (calls_for t store tries) (take-append-drop size walk)
 
   -- the calls of the pages after a page
   behind_calls : (t : Task) (store : Store) (rows : List Row) (start next : Place) (walk : List Row) (end : WalkEnd) (size tries calls before : ℕ) → IsShelf (shelf_of t) rows → IsWalk rows start walk → EndsBy rows start walk end → IsOpen end → GoesOn rows start (take size walk) next
