@@ -11,7 +11,7 @@ use Rattle.ipmi_bus.specs.Bounds.{step_call_bound, digits, reaches}
 use Rattle.ipmi_bus.specs.declared.controller.Shelf.{Shelf}
 use Rattle.ipmi_bus.specs.declared.step.Place.TheVariants.{Id, End}
 use Rattle.ipmi_bus.specs.declared.step.Ended.{Ended}
-use Rattle.ipmi_bus.specs.declared.step.Ended.TheVariants.{Cycle, Missing, Refused, GaveUp, Stalled, Malformed}
+use Rattle.ipmi_bus.specs.declared.step.Ended.TheVariants.{Cycle, Missing}
 use Rattle.ipmi_bus.specs.Shelf.{Row, first_row, len_of, largest_len}
 use Rattle.ipmi_bus.specs.Walk.{place_after}
 use Rattle.ipmi_bus.specs.Seen.{Seen}

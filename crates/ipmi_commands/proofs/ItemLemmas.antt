@@ -12,6 +12,7 @@ use Rattle.ipmi_command_line.specs.declared.command.Task.{Task}
 use Rattle.ipmi_commands.specs.Listing.{passing, span_items, item_in, subject_in}
 use Rattle.ipmi_commands.specs.Plan.{Plan, Item, Spot, AtRecord, row_item, row_items, IsItemText, AreTexts, Printed, Outcome, IsAllowed, StopsAt, IsAmong, end_spots}
 use Rattle.ipmi_commands.specs.Plan as plan
+use Rattle.ipmi_output.specs.Sink.{TakesPart}
 
 -- ---- items and rows
 
@@ -51,6 +52,22 @@ none_printed t store old = record { text = []; are = refl; new_is = sym (append-
 
 pub one_printed : (t : Task) (store : Store) (item : Item) (text old new : List ℕ) → IsItemText t store item.subject text → new ≡ old ++ text → Printed t store (item ∷ []) old new
 one_printed t store item text old new is new_is = record { text = text; are = record { first = text; rest = []; is_first = is; is_rest = refl; joined = sym (append-nil text) }; new_is = new_is }
+
+-- of a text of the first item only a part
+pub first_cut : (t : Task) (store : Store) (p : Plan) (item : Item) (rest : List Item) (text old new : List ℕ) → p.items ≡ item ∷ rest → IsItemText t store item.subject text → 0 < length text → TakesPart old new text → IsAllowed t store p old new plan.WriteFault
+first_cut t store p item rest text old new items_are is some part = record {
+  done = [];
+  item = item;
+  rest = rest;
+  items_are = items_are;
+  whole = old;
+  printed = none_printed t store old;
+  text = text;
+  is_text = is;
+  some = some;
+  bytes = part.0;
+  new_is = part.1;
+}
 
 -- ---- rows of which the first are passed
 

@@ -1,7 +1,6 @@
 -- A listing, one step of its cursor after another, and the piece of each record.
-use Rattle.std.proofs.Common.{◌≡◌, ◌≢◌, ◌⊎◌, inl, inr, ℕ, zero, suc, ◌+◌, ◌-◌, ◌<◌, ◌≤◌, nat_le, nat_lt, Bool, true, false, cond, IsTrue, Option, None, Some, IsSome, Result, Ok, Err, List, [], ◌∷◌, ◌++◌, length, take, drop, refl, sym, ap, subst, ◌∙◌, arith}
+use Rattle.std.proofs.Common.{◌≡◌, ◌≢◌, ◌⊎◌, inl, inr, ℕ, zero, suc, ◌+◌, ◌-◌, ◌<◌, ◌≤◌, nat_le, Bool, true, false, cond, IsTrue, Option, None, Some, IsSome, Result, Ok, Err, List, [], ◌∷◌, ◌++◌, length, take, drop, refl, sym, ap, subst, ◌∙◌, arith}
 use Rattle.std.specs.FinSet as set
-use Rattle.std.proofs.lemmas.Bool.{ltb-false}
 use Rattle.std.proofs.lemmas.List.{take_all, length-drop, length-take, length-take-le, take-append-drop}
 use Rattle.ipmi_bus.specs.Bounds.{step_call_bound, digits}
 use Rattle.ipmi_bus.specs.declared.controller.Shelf.{Shelf}
@@ -14,7 +13,7 @@ use Rattle.ipmi_bus.specs.Readers.{KeepsReservations}
 use Rattle.ipmi_bus.specs.Shelf.{Row, first_row, look, len_of}
 use Rattle.ipmi_bus.specs.Store.{Store, rows_of}
 use Rattle.ipmi_bus.specs.Walk.{IsWalk, WalkEnd, Done, CycleAt, MissingAt, EndsBy, place_after, place_after_rows}
-use Rattle.ipmi_bus.specs.Seen.{Seen, IsHonest, StaysHonest, current, stays_trans, stays_refl}
+use Rattle.ipmi_bus.specs.Seen.{Seen, IsHonest, StaysHonest, current, stays_trans}
 use Rattle.ipmi_bus.specs.CursorState.{CursorState}
 use Rattle.ipmi_bus.specs.Standing.{StandsAt, WalkStep, MayFail}
 use Rattle.ipmi_bus.specs.Step.{IsStep, StepLeaves, FailsAt, AsksNothing, CursorHoldsCurrent, asked_at, HandsOut}
@@ -30,7 +29,7 @@ use Rattle.ipmi_commands.specs.Plan.{first_rows, first_end, Plan, Item, IsItemTe
 use Rattle.ipmi_command_line.specs.Task.{shelf_of}
 use Rattle.ipmi_commands.specs.Plan as plan
 use Rattle.ipmi_commands.proofs.CallLemmas.{IsBelow, digits_some, one_id_more, calls_upto, calls_within, calls_more, rows_wanted, next_wanted, one_within, below_within}
-use Rattle.ipmi_commands.proofs.ItemLemmas.{span_joined, span_next, span_none, none_printed, printed_more, end_spot}
+use Rattle.ipmi_commands.proofs.ItemLemmas.{span_joined, span_next, span_none, printed_more, end_spot}
 use Rattle.ipmi_commands.proofs.NameLemmas.{Wrote, done_by, done_is, end_is}
 
 -- ---- limits

@@ -1,5 +1,5 @@
 -- Pages of a listing.
-use Rattle.std.proofs.Common.{◌≡◌, inl, inr, ℕ, zero, suc, ◌+◌, ◌*◌, ◌<◌, ◌≤◌, ◌==◌, nat_le, nat_lt, Bool, true, false, cond, Option, None, Some, Ok, Err, List, [], ◌∷◌, length, take, refl, sym, ap, subst, ◌∙◌, arith}
+use Rattle.std.proofs.Common.{◌≡◌, inl, inr, ℕ, zero, suc, ◌+◌, ◌*◌, ◌<◌, ◌≤◌, ◌==◌, nat_le, Bool, true, false, cond, Option, None, Some, Ok, Err, List, [], ◌∷◌, length, take, refl, sym, ap, subst, ◌∙◌, arith}
 use Rattle.std.proofs.Math.Seq.{take-nil}
 use Rattle.std.proofs.lemmas.List.{take_all, take_min, length-take}
 use Rattle.ipmi_bus.specs.declared.step.Place.{Place}
@@ -105,12 +105,12 @@ page_of_no_rows : (t : Task) (most : Option ℕ) (start : Place) (tries : ℕ) (
     → (result ≡ stop.Done → (rows : List Row) → GoesOn rows start (first_rows most []) start) → IsPage (request t start tries) most start (change s s text text) result
 page_of_no_rows t most start tries s text only run result honest no_row one_end is ends_so goes_on = quiet_page (request t start tries) most start s text (plan.Finished run) result honest is refl tt
     (λ walk end w ends.
-        let rows = rows_of (shelf_of t) s.store in
-        let empty = no_walk rows start walk (no_row rows) w in
-        let end_is_ = one_end rows end (subst (λ (l : List Row). EndsBy rows start l end) empty ends) in
-        subst (λ (l : List Row). PageAlong (request t start tries) s.store most l end start (change s s text text) (plan.Finished run) result) (sym empty)
-        (subst (λ (e : WalkEnd). PageAlong (request t start tries) s.store most [] e start (change s s text text) (plan.Finished run) result) (sym end_is_)
-        (record { leaves = (empty_printed t s.store most start text, ends_so); calls = omega arith; goes_on = λ done. goes_on done rows })))
+    let rows = rows_of (shelf_of t) s.store in
+    let empty = no_walk rows start walk (no_row rows) w in
+    let end_is_ = one_end rows end (subst (λ (l : List Row). EndsBy rows start l end) empty ends) in
+    subst (λ (l : List Row). PageAlong (request t start tries) s.store most l end start (change s s text text) (plan.Finished run) result) (sym empty)
+    (subst (λ (e : WalkEnd). PageAlong (request t start tries) s.store most [] e start (change s s text text) (plan.Finished run) result) (sym end_is_)
+    (record { leaves = (empty_printed t s.store most start text, ends_so); calls = omega arith; goes_on = λ done. goes_on done rows })))
 
 end_done : (most : Option ℕ) → first_end most [] Done ≡ Done
 end_done None = refl

@@ -22,7 +22,7 @@ use Rattle.ipmi_commands.specs.Plan.{first_rows, Plan, WalkEnds, OfImage, Printe
 use Rattle.ipmi_commands.specs.Plan as plan
 use Rattle.ipmi_output.specs.Received.{Received, ReceivesText}
 use Rattle.ipmi_commands.specs.Pages.{IsPage, ArePages}
-use Rattle.ipmi_commands.proofs.ItemLemmas.{none_printed, one_printed}
+use Rattle.ipmi_commands.proofs.ItemLemmas.{none_printed, one_printed, first_cut}
 use Rattle.ipmi_commands.proofs.PagesLaw.{pages_are_one}
 use Rattle.ipmi_commands.specs.Run.{Effect, effect, HasEnded, IsRun, IsPagedRun, status_of, stop_status, stop_text, outcome_text, lists_once, Performs, fault_status, WritesImage, IsRewriting, Says, AnswersRewrite, AnswersImage, AnswersTask}
 
@@ -147,19 +147,7 @@ rewriting store e stop.WriteFault writes message = record {
   outcome = plan.WriteFault;
   status_is = refl;
   message = message;
-  allowed = record {
-    done = [];
-    item = record { subject = OfImage; spots = [] };
-    rest = [];
-    items_are = refl;
-    whole = e.old;
-    printed = none_printed task.Rewrite store e.old;
-    text = image_text_of store;
-    is_text = refl;
-    some = writes.0;
-    bytes = writes.1.0;
-    new_is = writes.1.1;
-  };
+  allowed = first_cut task.Rewrite store rewrite_plan (record { subject = OfImage; spots = [] }) [] (image_text_of store) e.old e.new refl refl writes.0 writes.1;
   unwritten = λ out. cc out;
   fine = tt;
 }

@@ -27,7 +27,7 @@ use Rattle.ipmi_command_line.specs.Task.{most_of, shelf_of}
 use Rattle.ipmi_commands.specs.declared.piece.Form.{Form}
 use Rattle.ipmi_commands.specs.declared.piece.Form.TheVariants as form
 use Rattle.ipmi_commands.specs.Pieces.{IfChosen, IsBlockOfName, IsDevicePiece, IsInventoryPiece, IsInventoryText, IsLineOf, IsListed, IsListedOfKind, IsLocatorPiece, is_name, name_of_locator, reading_for, row_is_of_kind}
-use Rattle.ipmi_commands.specs.Plan.{Request, Subject, OfRow, Passed, OfInventory, OfInfo, OfImage, Item, Spot, IsOfBytes, AreOfBytes, RunEnd, Finished, IsRowPiece, IsItemText, AreTexts, first_rows, last_rows, last_items, row_items, spots_of_walk, with_first_spots, info_plan, listing_plan, plan_of}
+use Rattle.ipmi_commands.specs.Plan.{Request, Subject, OfRow, OfInventory, OfInfo, Item, Spot, IsOfBytes, AreOfBytes, RunEnd, Finished, IsRowPiece, IsItemText, AreTexts, first_rows, last_rows, last_items, row_items, spots_of_walk, with_first_spots, info_plan, listing_plan, plan_of}
 use Rattle.ipmi_commands.specs.Run.{AllowsAll}
 
 -- what the laws of blocks and of inventories say
