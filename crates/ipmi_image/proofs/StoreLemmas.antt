@@ -15,14 +15,14 @@ use Rattle.std.proofs.lemmas.List.Elements.{All-cons, All-append, filter_map-app
 use Rattle.std.proofs.lemmas.List.Sums.{fold-append}
 use Rattle.ipmi_bus.specs.declared.controller.Shelf.TheVariants.{Sdr, Sel}
 use Rattle.ipmi_text.specs.Bytes.{AreBytes}
-use Rattle.ipmi_bus.specs.Store.{Inventory, SensorReading, IsInventory, IsSensorReading, OtherSensor, inventory_in, reading_in}
+use Rattle.ipmi_bus.specs.Store.{Store, Inventory, SensorReading, IsInventory, IsSensorReading, OtherSensor, inventory_in, reading_in}
 use Rattle.ipmi_image.specs.declared.contents.Contents.{Contents}
 use Rattle.ipmi_image.specs.declared.stored.StoredInventory.{StoredInventory}
 use Rattle.ipmi_image.specs.declared.stored.StoredSensor.{StoredSensor}
 use Rattle.ipmi_image.specs.Line.{SavedRow, Line, a_row, an_inventory, a_reading, an_info, the_end}
 use Rattle.ipmi_image.specs.Table.{place_of, inventory_of, longer_at}
-use Rattle.ipmi_image.specs.Image.{row_on, chained, with_bytes, with_inventory_line, reading_of_bytes, sensor_on, info_on, first_of, store_of_lines, row_fault, inventory_fault, reading_fault, info_fault, fault_in}
-use Rattle.ipmi_image.specs.Stored.{sensor_of, HoldsLines, IsPut, AreInventories, AreReadings}
+use Rattle.ipmi_image.specs.Image.{row_on, chained, with_bytes, with_inventory_line, reading_of_bytes, sensor_on, info_on, first_of, store_of_lines, inventory_fault, reading_fault, info_fault, fault_in}
+use Rattle.ipmi_image.specs.Stored.{sensor_of, store_of, HoldsLines, IsPut, AreInventories, AreReadings}
 use Rattle.ipmi_image.proofs.TableLemmas.{place_some, place_none}
 
 -- ---- inventories
@@ -80,24 +80,18 @@ first_of-after (x ∷ l) (Some bytes) = refl
 
 -- ---- each kind of line
 
+pub same_store : (a b : Store) → a.sdr ≡ b.sdr → a.sel ≡ b.sel → a.inventories ≡ b.inventories → a.readings ≡ b.readings → a.sdr_info ≡ b.sdr_info → a.sel_info ≡ b.sel_info → a ≡ b
+same_store a b e1 e2 e3 e4 e5 e6 =
+    let made = λ (s : Store). let x : Store = record { sdr = s.sdr; sel = s.sel; inventories = s.inventories; readings = s.readings; sdr_info = s.sdr_info; sel_info = s.sel_info } in x in
+    let same : made a ≡ made b = cc in same
+
+-- what is kept is what the lines say
+pub store_is : (contents : Contents) (lines : List Line) → HoldsLines contents lines → store_of contents ≡ store_of_lines lines
+store_is contents lines holds = same_store (store_of contents) (store_of_lines lines) (ap chained holds.sdr) (ap chained holds.sel) holds.inventories holds.readings holds.sdr_info holds.sel_info
+
 module _ (old : Contents) (before : List Line) (holds : HoldsLines old before) where
-  pub sdr-fault : (row : SavedRow) → fault_in (store_of_lines before) (a_row Sdr row) ≡ row_fault Sdr (chained old.sdr) row
-  sdr-fault row = ap (λ (l : List SavedRow). row_fault Sdr (chained l) row) (sym holds.sdr)
-
-  pub sel-fault : (row : SavedRow) → fault_in (store_of_lines before) (a_row Sel row) ≡ row_fault Sel (chained old.sel) row
-  sel-fault row = ap (λ (l : List SavedRow). row_fault Sel (chained l) row) (sym holds.sel)
-
-  pub bytes-fault : (id : ℕ) (bytes : List ℕ) → fault_in (store_of_lines before) (an_inventory id bytes) ≡ inventory_fault id (inventory_in (map inventory_of old.inventories) id) bytes
-  bytes-fault id bytes = ap (λ (l : List Inventory). inventory_fault id (inventory_in l id) bytes) (sym holds.inventories)
-
-  pub sensor-fault : (lun number : ℕ) (bytes : List ℕ) → fault_in (store_of_lines before) (a_reading lun number bytes) ≡ reading_fault lun (reading_in (map sensor_of old.sensors) lun number) bytes
-  sensor-fault lun number bytes = ap (λ (l : List SensorReading). reading_fault lun (reading_in l lun number) bytes) (sym holds.readings)
-
-  pub sdr_info-fault : (bytes : List ℕ) → fault_in (store_of_lines before) (an_info Sdr bytes) ≡ info_fault old.sdr_info bytes
-  sdr_info-fault bytes = ap (λ (o : Option (List ℕ)). info_fault o bytes) (sym holds.sdr_info)
-
-  pub sel_info-fault : (bytes : List ℕ) → fault_in (store_of_lines before) (an_info Sel bytes) ≡ info_fault old.sel_info bytes
-  sel_info-fault bytes = ap (λ (o : Option (List ℕ)). info_fault o bytes) (sym holds.sel_info)
+  pub fault_is : (line : Line) → fault_in (store_of_lines before) line ≡ fault_in (store_of old) line
+  fault_is line = ap (λ (s : Store). fault_in s line) (sym (store_is old before holds))
 
   -- each part of the new contents is the old one's with what the line says of it
   holds-after : (new : Contents) (line : Line) → new.sdr ≡ said_after old.sdr (row_on Sdr line) → new.sel ≡ said_after old.sel (row_on Sel line)
