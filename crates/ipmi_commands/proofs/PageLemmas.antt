@@ -1,7 +1,7 @@
 -- Pages of a listing.
-use Rattle.std.proofs.Common.{◌≡◌, inl, inr, ℕ, zero, suc, ◌+◌, ◌*◌, ◌<◌, ◌≤◌, ◌==◌, nat_le, Bool, true, false, cond, Option, None, Some, Ok, Err, List, [], ◌∷◌, length, take, refl, sym, ap, subst, ◌∙◌, arith}
+use Rattle.std.proofs.Common.{◌≡◌, inl, inr, ℕ, zero, suc, ◌+◌, ◌*◌, ◌<◌, ◌≤◌, ◌==◌, nat_le, Bool, true, false, cond, Option, None, Some, Ok, Err, List, [], ◌∷◌, length, take, drop, get_or, refl, sym, ap, subst, ◌∙◌, arith}
 use Rattle.std.proofs.Math.Seq.{take-nil}
-use Rattle.std.proofs.lemmas.List.{take_all, take_min, length-take}
+use Rattle.std.proofs.lemmas.List.{take_all, take_min, length-take, at_drop_more}
 use Rattle.ipmi_bus.specs.declared.step.Place.{Place}
 use Rattle.ipmi_bus.specs.declared.step.Place.TheVariants.{First, Id, End}
 use Rattle.ipmi_bus.specs.declared.step.Ended.TheVariants.{Cycle}
@@ -202,35 +202,40 @@ page_calls t tries begun now s s' part listing = let eight = digits_most begun.p
 abbrev pub LeadsTo : Task → List ℕ → List ℕ → Place → Place → ℕ → Seen → Seen → List ℕ → List ℕ → Type 0
 LeadsTo t all left start now tries s s' old text = (s'' : Seen) (new : List ℕ) (result : Stop) → ArePages (request t now tries) left (change s' s'' text new) result → ArePages (request t start tries) all (change s s'' old new) result
 
-pub page_leads : (t : Task) (all left : List ℕ) (size : ℕ) (start now next : Place) (tries : ℕ) (s s' s'' : Seen) (old text text' : List ℕ) → LeadsTo t all (size ∷ left) start now tries s s' old text → IsPage (request t now tries) (Some size) next (change s' s'' text text') stop.Done
-    → LeadsTo t all left start next tries s s'' old text'
-page_leads t all left size start now next tries s s' s'' old text text' leads page = λ last new result rest. leads last new result (inr (record { next = next; seen = s''; text = text'; page = page; rest = rest }))
+module _ (t : Task) (all : List ℕ) (k : ℕ) (start now next : Place) (tries : ℕ) (s s' s'' : Seen) (old text text' : List ℕ) (there : k < length all) (leads : LeadsTo t all (drop k all) start now tries s s' old text) where
+  leads_here : LeadsTo t all (get_or all k 0 ∷ drop (k + 1) all) start now tries s s' old text
+  leads_here = subst (λ (l : List ℕ). LeadsTo t all l start now tries s s' old text) (at_drop_more (λ (l : List ℕ). l) all k 0 there) leads
 
-pub last_leads : (t : Task) (all left : List ℕ) (size : ℕ) (start now next : Place) (tries : ℕ) (s s' s'' : Seen) (old text text' : List ℕ) (result : Stop) → LeadsTo t all (size ∷ left) start now tries s s' old text → IsPage (request t now tries) (Some size) next (change s' s'' text text') result → IsStopped result
-    → ArePages (request t start tries) all (change s s'' old text') result
-last_leads t all left size start now next tries s s' s'' old text text' result leads page stopped = leads s'' text' result (inl (record { next = next; page = page }, stopped))
+  pub page_leads : IsPage (request t now tries) (Some (get_or all k 0)) next (change s' s'' text text') stop.Done → LeadsTo t all (drop (k + 1) all) start next tries s s'' old text'
+  page_leads page = λ last new result rest. leads_here last new result (inr (record { next = next; seen = s''; text = text'; page = page; rest = rest }))
+
+  pub last_leads : (result : Stop) → IsPage (request t now tries) (Some (get_or all k 0)) next (change s' s'' text text') result → IsStopped result → ArePages (request t start tries) all (change s s'' old text') result
+  last_leads result page stopped = leads_here s'' text' result (inl (record { next = next; page = page }, stopped))
 
 -- a listing that is done is done after its last record
 pub done : (result : Stop) → is_done result ≡ true → result ≡ stop.Done
 done stop.Done is = refl
 done _ is = cc is
 
--- the calls of a page: none where it wants no record
-pub made_one : (size : ℕ) (sizes : List ℕ) (most : ℕ) → (size == 0) ≡ false → pages_made (size ∷ sizes) * most ≡ pages_made sizes * most + most
-made_one size sizes most some = let one : pages_made (size ∷ sizes) ≡ pages_made sizes + 1 = ap (λ (b : Bool). cond b (pages_made sizes) (pages_made sizes + 1)) some in ap (λ (n : ℕ). n * most) one ∙ (let same : (pages_made sizes + 1) * most ≡ pages_made sizes * most + most = omega arith in same)
-
-pub made_none : (size : ℕ) (sizes : List ℕ) (most : ℕ) → (size == 0) ≡ true → pages_made (size ∷ sizes) * most ≡ pages_made sizes * most
-made_none size sizes most none = let same : pages_made (size ∷ sizes) ≡ pages_made sizes = ap (λ (b : Bool). cond b (pages_made sizes) (pages_made sizes + 1)) none in ap (λ (n : ℕ). n * most) same
-
-pub calls_of_page : (size : ℕ) (sizes : List ℕ) (most bound : ℕ) (s s' : Seen) → s'.calls ≤ s.calls + most → (Some size ≡ Some 0 → s' ≡ s) → s.calls + pages_made (size ∷ sizes) * most ≤ bound → s'.calls + pages_made sizes * most ≤ bound
-calls_of_page size sizes most bound s s' page none before = by_case (size == 0) refl
+-- the calls of a page, none where it wants no record, and of those after it
+pub calls_of_page : (size : ℕ) (sizes : List ℕ) (more most : ℕ) (s s' : Seen) → s'.calls ≤ s.calls + more + most → (Some size ≡ Some 0 → s' ≡ s)
+    → s'.calls + pages_made sizes * most ≤ s.calls + more + pages_made (size ∷ sizes) * most
+calls_of_page size sizes more most s s' page none = by_case (size == 0) refl
   where
-    by_case : (b : Bool) → (size == 0) ≡ b → s'.calls + pages_made sizes * most ≤ bound
+    by_case : (b : Bool) → (size == 0) ≡ b → s'.calls + pages_made sizes * most ≤ s.calls + more + pages_made (size ∷ sizes) * most
     by_case true e =
         let zero_ : size ≡ 0 = search arith in
         let same = ap (λ (x : Seen). x.calls) (none (ap Some zero_)) in
-        let made = made_none size sizes most e in omega (arith, same, made, before)
-    by_case false e = let made = made_one size sizes most e in omega (arith, page, made, before)
+        let made = ap (λ (b : Bool). cond b (pages_made sizes) (pages_made sizes + 1) * most) e in omega (arith, same, made)
+    by_case false e =
+        let made = ap (λ (b : Bool). cond b (pages_made sizes) (pages_made sizes + 1) * most) e in
+        let one : (pages_made sizes + 1) * most ≡ pages_made sizes * most + most = omega arith in omega (arith, page, made, one)
+
+pub calls_after_page : (sizes : List ℕ) (k most bound : ℕ) (s s' : Seen) → k < length sizes → s'.calls ≤ s.calls + most → (Some (get_or sizes k 0) ≡ Some 0 → s' ≡ s)
+    → s.calls + pages_made (drop k sizes) * most ≤ bound → s'.calls + pages_made (drop (k + 1) sizes) * most ≤ bound
+calls_after_page sizes k most bound s s' there page none before =
+    let made = at_drop_more (λ (l : List ℕ). pages_made l * most) sizes k 0 there in
+    let after = calls_of_page (get_or sizes k 0) (drop (k + 1) sizes) 0 most s s' (omega (arith, page)) none in omega (arith, before, made, after)
 
 -- the calls of all pages, where a page is the last
 pub calls_of_all : (calls made most bound : ℕ) → calls + made * most ≤ bound → calls ≤ bound

@@ -13,16 +13,15 @@ use Rattle.ipmi_bus.specs.Walk.{row_at, IsWalk, TailIsWalk, WalkEnd, Done, Cycle
 use Rattle.ipmi_bus.specs.Seen.{Seen, IsHonest, StaysHonest, stays_trans}
 use Rattle.ipmi_command_line.specs.declared.command.Task.{Task}
 use Rattle.ipmi_commands.specs.declared.stop.Stop.{Stop}
-use Rattle.ipmi_commands.specs.declared.stop.Stop.TheVariants as stop
 use Rattle.ipmi_commands.specs.Listing.{calls_for, first_plan, IsOutcome}
 use Rattle.ipmi_commands.specs.Plan.{first_end, Plan, Item, Spot, RunEnd, WalkEnds, run_end, row_items, Printed, Outcome, IsAllowed, CountsSo, IsFine, IsAmong, StopsAt, spots_at, end_spots, request, change}
-use Rattle.ipmi_commands.specs.Pages.{GoesOn, PageAlong, IsStopped, ArePages, pages_made, IsOpen}
+use Rattle.ipmi_commands.specs.Pages.{GoesOn, IsStopped, ArePages, pages_made, IsOpen}
 use Rattle.ipmi_command_line.specs.declared.command.Task.TheVariants as task
 use Rattle.ipmi_command_line.specs.Task.{is_listing, shelf_of}
 use Rattle.ipmi_commands.specs.Plan as plan
 use Rattle.ipmi_commands.proofs.CallLemmas.{calls_split}
 use Rattle.ipmi_commands.proofs.ListingLemmas.{counts_since, stopped_otherwise}
-use Rattle.ipmi_commands.proofs.PageLemmas.{made_one, made_none, no_walk}
+use Rattle.ipmi_commands.proofs.PageLemmas.{calls_of_page, no_walk}
 use Rattle.ipmi_commands.proofs.ItemLemmas.{items_joined, end_joined, after_items, leaves_joined}
 
 -- a listing ends as its walk does
@@ -147,20 +146,6 @@ module _ (walk_tail : TailIsWalk) where
           subst (λ (p : Place). IsWalk rows p [] → EndsBy rows p [] Done → calls ≤ before + calls_for t store tries []) at (λ w' ends'. rest [] Done w' ends' tt) (record { of_shelf = tt; distinct = tt; first = tt; links = tt }) tt in
           omega (arith, none)
 
-  -- the calls of a page, and what is left for those after it
-  page_made : (t : Task) (store : Store) (start next : Place) (walk : List Row) (end : WalkEnd) (size tries : ℕ) (sizes : List ℕ) (s s' : Seen) (old new : List ℕ) (outcome : Outcome) (result : Stop) → PageAlong (request t start tries) store (Some size) walk end next (change s s' old new) outcome result
-      → (Some size ≡ Some 0 → s' ≡ s) → s'.calls + pages_made sizes * (step_call_bound tries 0 + 7) ≤ s.calls + calls_for t store tries (take size walk) + pages_made (size ∷ sizes) * (step_call_bound tries 0 + 7)
-  page_made t store start next walk end size tries sizes s s' old new outcome result along none = by_case (size == 0) refl
-    where
-      by_case : (b : Bool) → (size == 0) ≡ b → s'.calls + pages_made sizes * (step_call_bound tries 0 + 7) ≤ s.calls + calls_for t store tries (take size walk) + pages_made (size ∷ sizes) * (step_call_bound tries 0 + 7)
-      by_case true e =
-          let zero_ : size ≡ 0 = search arith in
-          let same = ap (λ (x : Seen). x.calls) (none (ap Some zero_)) in
-          let made = made_none size sizes (step_call_bound tries 0 + 7) e in omega (arith, same, made)
-      by_case false e =
-          let page = along.calls in
-          let made = made_one size sizes (step_call_bound tries 0 + 7) e in omega (arith, page, made)
-
   -- ---- the law
 
   pub record OneListing (t : Task) (sizes : List ℕ) (start : Place) (tries : ℕ) (s s' : Seen) (old new : List ℕ) (result : Stop) : Type 0 where
@@ -261,7 +246,8 @@ module _ (walk_tail : TailIsWalk) where
     leaves = λ same walk end w ends open_.
         leaves_wide t s.store (rows_of (shelf_of t) s.store) start walk end ends size old new listing result last.0.page.outcome last.1 last.0.page.outcome_is (last.0.page.along same walk end w ends).leaves;
     calls = λ same walk end w ends open_.
-        let made = page_made t s.store start last.0.next walk end size tries sizes s s' old new last.0.page.outcome result (last.0.page.along same walk end w ends) last.0.page.none in
+        let page = (last.0.page.along same walk end w ends).calls in
+        let made = calls_of_page size sizes (calls_for t s.store tries (take size walk)) (step_call_bound tries 0 + 7) s s' (omega (arith, page)) last.0.page.none in
         let rows = calls_split t s.store tries size walk in omega (arith, made, rows);
     plain = last.0.page.plain;
   }
@@ -294,7 +280,8 @@ module _ (walk_tail : TailIsWalk) where
             behind_calls t s.store (rows_of (shelf_of t) s.store) start more.next walk end size tries s'.calls (more.seen.calls + pages_made sizes * (step_call_bound tries 0 + 7)) (store_shelf (shelf_of t) s.store honest.store) w ends open_ (along.goes_on refl)
             (subst (λ (x : Store). (w : List Row) (e : WalkEnd) → IsWalk (rows_of (shelf_of t) x) more.next w → EndsBy (rows_of (shelf_of t) x) more.next w e → IsOpen e → s'.calls ≤ more.seen.calls + pages_made sizes * (step_call_bound tries 0 + 7) + calls_for t x tries w) (page.stays.store.stays first)
             (λ w' e' is' ends' open'. let calls = later.calls second w' e' is' ends' open' in omega (arith, calls))) in
-            let made = page_made t s.store start more.next walk end size tries sizes s more.seen old more.text page.outcome stop.Done along page.none in
+            let asked = along.calls in
+            let made = calls_of_page size sizes (calls_for t s.store tries (take size walk)) (step_call_bound tries 0 + 7) s more.seen (omega (arith, asked)) page.none in
             let rows = calls_split t s.store tries size walk in omega (arith, behind, made, rows);
         plain = λ p. later.plain (page.stays.plain p);
       }

@@ -24,7 +24,7 @@ use Rattle.ipmi_output.specs.Received.{Received, ReceivesText}
 use Rattle.ipmi_commands.specs.Pages.{IsPage, ArePages}
 use Rattle.ipmi_commands.proofs.ItemLemmas.{none_printed, one_printed, first_cut}
 use Rattle.ipmi_commands.proofs.PagesLaw.{pages_are_one}
-use Rattle.ipmi_commands.specs.Run.{Effect, effect, HasEnded, IsRun, IsPagedRun, status_of, stop_status, stop_text, outcome_text, lists_once, Performs, fault_status, WritesImage, IsRewriting, Says, AnswersRewrite, AnswersImage, AnswersTask}
+use Rattle.ipmi_commands.specs.Run.{Effect, effect, HasEnded, IsRun, IsPagedRun, status_of, stop_status, stop_text, outcome_text, lists_once, Performs, fault_status, WritesImage, IsRewriting, Says, AnswersTask}
 
 -- ---- a task that lists the first rows of its shelf
 
@@ -156,8 +156,8 @@ rewriting store e _ writes message = absurd writes
 -- ---- an image that is not read
 
 -- where memory ran out, nothing was written
-unread_rewriting : (read : Result Store ImageFault) (old : List ℕ) (said said' : Received) (status : ℕ) → Says said said' status OutOfMemory 5 → AnswersRewrite read (effect old old said said') status
-unread_rewriting (Ok store) old said said' status says = record {
+unread : (rewrite : Bool) (r : Request) (read : Result Store ImageFault) (old : List ℕ) (said said' : Received) (status : ℕ) → Says said said' status OutOfMemory 5 → AnswersTask rewrite r read (effect old old said said') status
+unread true r (Ok store) old said said' status says = record {
   outcome = plan.OutOfMemory;
   status_is = says.0;
   message = says.1;
@@ -165,30 +165,23 @@ unread_rewriting (Ok store) old said said' status says = record {
   unwritten = λ out. refl;
   fine = tt;
 }
-unread_rewriting (Err fault) old said said' status says = (refl, inr says)
-
-unread_run : (r : Request) (read : Result Store ImageFault) (old : List ℕ) (said said' : Received) (status : ℕ) → Says said said' status OutOfMemory 5 → AnswersImage r read (effect old old said said') status
-unread_run r (Ok store) old said said' status says = record {
+unread false r (Ok store) old said said' status says = record {
   outcome = plan.OutOfMemory;
   status_is = says.0;
   message = says.1;
   allowed = λ walk end w ends. record { done = []; rest = (plan_of r.task store r.start walk end).items; items_are = refl; printed = none_printed r.task store old };
   fine = tt;
 }
-unread_run r (Err fault) old said said' status says = (refl, inr says)
+unread true r (Err fault) old said said' status says = (refl, inr says)
+unread false r (Err fault) old said said' status says = (refl, inr says)
 
 -- the fault of the image, or want of memory
-pub not_rewritten : (fault : ImageFault) (read : Result Store ImageFault) (old : List ℕ) (said said' : Received) (status : ℕ) → (fault ≡ image_fault.Memory) ⊎ (read ≡ Err fault)
-    → Says said said' status (Image fault) (fault_status fault) → AnswersRewrite read (effect old old said said') status
-not_rewritten fault read old said said' status (inl memory) says =
-    unread_rewriting read old said said' status (subst (λ (f : ImageFault). Says said said' status (Image f) (fault_status f)) memory says)
-not_rewritten fault read old said said' status (inr is) says =
-    subst (λ (r : Result Store ImageFault). AnswersRewrite r (effect old old said said') status) (sym is) (refl, inl says)
-
-pub not_run : (rewrite : Bool) (r : Request) (fault : ImageFault) (read : Result Store ImageFault) (old : List ℕ) (said said' : Received) (status : ℕ) → rewrite ≡ false
+pub not_answered : (rewrite : Bool) (r : Request) (fault : ImageFault) (read : Result Store ImageFault) (old : List ℕ) (said said' : Received) (status : ℕ)
     → (fault ≡ image_fault.Memory) ⊎ (read ≡ Err fault) → Says said said' status (Image fault) (fault_status fault) → AnswersTask rewrite r read (effect old old said said') status
-not_run true r fault read old said said' status ran is says = cc ran
-not_run false r fault read old said said' status ran (inl memory) says =
-    unread_run r read old said said' status (subst (λ (f : ImageFault). Says said said' status (Image f) (fault_status f)) memory says)
-not_run false r fault read old said said' status ran (inr is) says =
-    subst (λ (x : Result Store ImageFault). AnswersImage r x (effect old old said said') status) (sym is) (refl, inl says)
+not_answered rewrite r fault read old said said' status (inl memory) says =
+    unread rewrite r read old said said' status (subst (λ (f : ImageFault). Says said said' status (Image f) (fault_status f)) memory says)
+not_answered rewrite r fault read old said said' status (inr is) says = subst (λ (x : Result Store ImageFault). AnswersTask rewrite r x (effect old old said said') status) (sym is) (failed rewrite)
+  where
+    failed : (b : Bool) → AnswersTask b r (Err fault) (effect old old said said') status
+    failed true = (refl, inl says)
+    failed false = (refl, inl says)
