@@ -3,22 +3,21 @@ use Rattle.std.proofs.Common.{◌≡◌, inl, ℕ, ◌+◌, ◌≤◌, ◌==◌,
 use Rattle.std.specs.Result.{IsErrAnd}
 use Rattle.ipmi_text.specs.declared.reading.Reading.{Reading}
 use Rattle.ipmi_bus.specs.declared.step.Ended.{Ended}
-use Rattle.ipmi_bus.specs.declared.step.Ended.TheVariants.{Cycle, Missing, Refused, GaveUp, Stalled, Malformed}
+use Rattle.ipmi_bus.specs.declared.step.Ended.TheVariants.{Refused, GaveUp}
 use Rattle.ipmi_bus.specs.declared.inventory.FruEnded.{FruEnded}
 use Rattle.ipmi_bus.specs.declared.inventory.FruEnded.TheVariants as fru
 use Rattle.ipmi_bus.specs.declared.controller.Shelf.{Shelf}
 use Rattle.ipmi_bus.specs.Readers.{EndsUnder, ReadsValue, ValueIs, ReadsInventory, InventoryCounts, InventoryIs, IsRefusedInventory, IsRefusedOverChange}
 use Rattle.ipmi_fru.specs.Print.{IsFruText}
-use Rattle.ipmi_bus.specs.Seen.{Seen, IsHonest}
+use Rattle.ipmi_bus.specs.Seen.{Seen, IsHonest, stays_refl}
 use Rattle.ipmi_bus.specs.Shelf.{Row}
 use Rattle.ipmi_bus.specs.Store.{Store, info_of, inventory_of}
-use Rattle.ipmi_bus.specs.Seen.{stays_refl}
 use Rattle.ipmi_records.specs.declared.sdr.SdrView.{SdrView}
 use Rattle.ipmi_records.specs.Sdr as sdr
 use Rattle.ipmi_command_line.specs.declared.command.Kind.{Kind}
 use Rattle.ipmi_commands.specs.declared.stop.Stop.{Stop}
 use Rattle.ipmi_commands.specs.declared.stop.Stop.TheVariants as stop
-use Rattle.ipmi_commands.specs.Asking.{is_absent, ReadsFor}
+use Rattle.ipmi_commands.specs.Asking.{is_absent, EndsAmong, ReadsFor}
 use Rattle.ipmi_commands.specs.Listing.{AsksAt, FindsBy, FindsNone, FindsText, FindsInfo, MayStopAt}
 use Rattle.ipmi_commands.specs.Pieces.{IsDevicePiece, IsInventoryText, is_name, reading_for, row_is_of_kind}
 use Rattle.ipmi_commands.specs.Plan.{Spot, AtRecord, AtInventory, device_spots, named_spots, reading_spots, listed_spots}
@@ -30,17 +29,17 @@ pub passed_up : {T : Type 0} (bytes : T → List ℕ) (IsText : Store → List �
 passed_up bytes IsText spots tries s s' (Ok found) st is none = absurd is
 passed_up bytes IsText spots tries s s' (Err e) st is none = subst (λ (x : Stop). FindsNone spots tries s s' x) (sym is) none
 
--- ---- nothing was asked for
+-- ---- no memory is left
+
+no_memory : (spots : List Spot) (tries : ℕ) (s s' : Seen) → AsksAt spots tries s s' → s'.refusals ≡ s.refusals → FindsNone spots tries s s' stop.Memory
+no_memory spots tries s s' asks refusals = record { asks = asks; outcome = plan.OutOfMemory; outcome_is = refl; counts = refusals; there = tt; plain = λ p. tt }
+
+-- nothing was asked for
+asks_nothing : (spots : List Spot) (tries : ℕ) (s : Seen) → IsHonest s → AsksAt spots tries s s
+asks_nothing spots tries s honest = record { stays = stays_refl s honest; grows = omega arith; calls = λ same. omega arith; plain = λ p. record { sdr = refl; sel = refl } }
 
 pub out_of_memory : (spots : List Spot) (tries : ℕ) (s : Seen) → IsHonest s → FindsNone spots tries s s stop.Memory
-out_of_memory spots tries s honest = record {
-  asks = record { stays = stays_refl s honest; grows = omega arith; calls = λ same. omega arith; plain = λ p. record { sdr = refl; sel = refl } };
-  outcome = plan.OutOfMemory;
-  outcome_is = refl;
-  counts = refl;
-  there = tt;
-  plain = λ p. tt;
-}
+out_of_memory spots tries s honest = no_memory spots tries s s (asks_nothing spots tries s honest) refl
 
 -- ---- the reading of a record
 
@@ -48,10 +47,31 @@ value_grows : {V : Type 0} (value : Store → Option V) (tries : ℕ) (s s' : Se
 value_grows value tries s s' (Ok o) is = is.0.grows
 value_grows value tries s s' (Err (GaveUp n)) is = let troubles = is.troubles in omega (arith, troubles)
 value_grows value tries s s' (Err (Refused n code)) is = is.grows
-value_grows value tries s s' (Err (Cycle n)) is = absurd is
-value_grows value tries s s' (Err (Missing n)) is = absurd is
-value_grows value tries s s' (Err (Stalled n)) is = absurd is
-value_grows value tries s s' (Err (Malformed n)) is = absurd is
+value_grows value tries s s' (Err _) is = absurd is
+
+-- it is given up or refused at one of the spots
+fails_at_value : {V : Type 0} (value : Store → Option V) (spots : List Spot) (tries : ℕ) (s s' : Seen) (ended : Ended) → AsksAt spots tries s s' → ReadsValue value tries s s' (Err ended)
+    → EndsAmong {V = Option V} spots (Err ended) → FindsNone spots tries s s' (stop.Ended ended)
+fails_at_value value spots tries s s' (GaveUp n) asks r there =
+    let troubles = r.is.troubles in
+    let fresh = r.is.fresh_troubles in
+    record {
+      asks = asks;
+      outcome = plan.GaveUp (AtRecord n);
+      outcome_is = refl;
+      counts = (r.is.refusals, omega (arith, troubles), omega (arith, fresh));
+      there = there;
+      plain = λ p. let h = (r.plain p).0 in cc h;
+    }
+fails_at_value value spots tries s s' (Refused n code) asks r there = record {
+  asks = asks;
+  outcome = plan.Refused (AtRecord n) code.0;
+  outcome_is = refl;
+  counts = (r.is.refusals, r.is.last_code);
+  there = there;
+  plain = λ p. let h = (r.plain p).0 in cc h;
+}
+fails_at_value value spots tries s s' _ asks r there = absurd there
 
 module _ (id tries : ℕ) (view : SdrView) (s s' : Seen) where
   asks_reading : (result : Result (Option Reading) Ended) → ReadsFor id view tries s s' result → AsksAt (reading_spots id (Ok view)) tries s s'
@@ -63,32 +83,10 @@ module _ (id tries : ℕ) (view : SdrView) (s s' : Seen) where
   }
 
   pub out_after_reading : (reading : Option Reading) → ReadsFor id view tries s s' (Ok reading) → FindsNone (reading_spots id (Ok view)) tries s s' stop.Memory
-  out_after_reading reading r = record { asks = asks_reading (Ok reading) r; outcome = plan.OutOfMemory; outcome_is = refl; counts = r.reads.is.0.refusals; there = tt; plain = λ p. tt }
+  out_after_reading reading r = no_memory _ tries s s' (asks_reading (Ok reading) r) r.reads.is.0.refusals
 
   pub fails_at_reading : (ended : Ended) → ReadsFor id view tries s s' (Err ended) → FindsNone (reading_spots id (Ok view)) tries s s' (stop.Ended ended)
-  fails_at_reading (GaveUp n) r =
-      let troubles = r.reads.is.troubles in
-      let fresh = r.reads.is.fresh_troubles in
-      record {
-        asks = asks_reading (Err (GaveUp n)) r;
-        outcome = plan.GaveUp (AtRecord n);
-        outcome_is = refl;
-        counts = (r.reads.is.refusals, omega (arith, troubles), omega (arith, fresh));
-        there = r.there;
-        plain = λ p. let h = (r.reads.plain p).0 in cc h;
-      }
-  fails_at_reading (Refused n code) r = record {
-    asks = asks_reading (Err (Refused n code)) r;
-    outcome = plan.Refused (AtRecord n) code.0;
-    outcome_is = refl;
-    counts = (r.reads.is.refusals, r.reads.is.last_code);
-    there = r.there;
-    plain = λ p. let h = (r.reads.plain p).0 in cc h;
-  }
-  fails_at_reading (Cycle n) r = absurd r.there
-  fails_at_reading (Missing n) r = absurd r.there
-  fails_at_reading (Stalled n) r = absurd r.there
-  fails_at_reading (Malformed n) r = absurd r.there
+  fails_at_reading ended r = fails_at_value (λ store. reading_for store view) _ tries s s' ended (asks_reading (Err ended) r) r.reads r.there
 
 -- ---- the info of a shelf
 
@@ -112,32 +110,16 @@ module _ (shelf : Shelf) (tries : ℕ) (s s' : Seen) where
     }
 
     pub out_after_info : (info : Option (List ℕ)) → ReadsValue (info_of shelf) tries s s' (Ok info) → FindsNone (AtRecord 0 ∷ []) tries s s' stop.Memory
-    out_after_info info r = record { asks = asks_info (Ok info) r; outcome = plan.OutOfMemory; outcome_is = refl; counts = r.is.0.refusals; there = tt; plain = λ p. tt }
+    out_after_info info r = no_memory _ tries s s' (asks_info (Ok info) r) r.is.0.refusals
+
+    -- its spot is that of the record 0000h
+    at_info : (ended : Ended) → EndsUnder {V = Option (List ℕ)} 0 (Err ended) → EndsAmong {V = Option (List ℕ)} (AtRecord 0 ∷ []) (Err ended)
+    at_info (GaveUp n) under = inl (ap AtRecord under)
+    at_info (Refused n code) under = inl (ap AtRecord under)
+    at_info _ under = absurd under
 
     pub fails_at_info : (ended : Ended) → ReadsValue (info_of shelf) tries s s' (Err ended) → EndsUnder {V = Option (List ℕ)} 0 (Err ended) → FindsNone (AtRecord 0 ∷ []) tries s s' (stop.Ended ended)
-    fails_at_info (GaveUp n) r under =
-        let troubles = r.is.troubles in
-        let fresh = r.is.fresh_troubles in
-        record {
-          asks = asks_info (Err (GaveUp n)) r;
-          outcome = plan.GaveUp (AtRecord n);
-          outcome_is = refl;
-          counts = (r.is.refusals, omega (arith, troubles), omega (arith, fresh));
-          there = inl (ap AtRecord under);
-          plain = λ p. let h = (r.plain p).0 in cc h;
-        }
-    fails_at_info (Refused n code) r under = record {
-      asks = asks_info (Err (Refused n code)) r;
-      outcome = plan.Refused (AtRecord n) code.0;
-      outcome_is = refl;
-      counts = (r.is.refusals, r.is.last_code);
-      there = inl (ap AtRecord under);
-      plain = λ p. let h = (r.plain p).0 in cc h;
-    }
-    fails_at_info (Cycle n) r under = absurd under
-    fails_at_info (Missing n) r under = absurd under
-    fails_at_info (Stalled n) r under = absurd under
-    fails_at_info (Malformed n) r under = absurd under
+    fails_at_info ended r under = fails_at_value (info_of shelf) _ tries s s' ended (asks_info (Err ended) r) r (at_info ended under)
 
 -- ---- an inventory
 
@@ -151,8 +133,7 @@ module _ (id tries : ℕ) (s s' : Seen) where
   inventory_grows (Err fru.Memory) counts = counts.0.grows
   inventory_grows (Err (fru.Refused code)) counts = refused_grows (code.0 == 0xCB) code.0 counts
   inventory_grows (Err fru.GaveUp) counts = let troubles = counts.troubles in omega (arith, troubles)
-  inventory_grows (Err fru.Stalled) counts = absurd counts
-  inventory_grows (Err fru.Words) counts = absurd counts
+  inventory_grows (Err _) counts = absurd counts
 
   asks_inventory : (result : Result (List ℕ) FruEnded) → ReadsInventory id tries s s' result → AsksAt (AtInventory id ∷ []) tries s s'
   asks_inventory result r = record {
@@ -171,7 +152,7 @@ module _ (id tries : ℕ) (s s' : Seen) where
   }
 
   pub out_after_bytes : (bytes : List ℕ) → ReadsInventory id tries s s' (Ok bytes) → FindsNone (AtInventory id ∷ []) tries s s' stop.Memory
-  out_after_bytes bytes r = record { asks = asks_inventory (Ok bytes) r; outcome = plan.OutOfMemory; outcome_is = refl; counts = r.counts.0.refusals; there = tt; plain = λ p. tt }
+  out_after_bytes bytes r = no_memory _ tries s s' (asks_inventory (Ok bytes) r) r.counts.0.refusals
 
   -- there is none
   absent_counts : (ended : FruEnded) → is_absent ended ≡ true → InventoryCounts id tries s s' (Err ended) → s'.refusals ≡ s.refusals
@@ -190,7 +171,7 @@ module _ (id tries : ℕ) (s s' : Seen) where
   }
 
   pub out_after_absence : (ended : FruEnded) → is_absent ended ≡ true → ReadsInventory id tries s s' (Err ended) → FindsNone (AtInventory id ∷ []) tries s s' stop.Memory
-  out_after_absence ended absent r = record { asks = asks_inventory (Err ended) r; outcome = plan.OutOfMemory; outcome_is = refl; counts = absent_counts ended absent r.counts; there = tt; plain = λ p. tt }
+  out_after_absence ended absent r = no_memory _ tries s s' (asks_inventory (Err ended) r) (absent_counts ended absent r.counts)
 
   -- or it was not read
   pub fails_at_inventory : (ended : FruEnded) → is_absent ended ≡ false → ReadsInventory id tries s s' (Err ended) → FindsNone (AtInventory id ∷ []) tries s s' (stop.Inventory id ended)
@@ -215,12 +196,11 @@ module _ (id tries : ℕ) (s s' : Seen) where
         there = inl refl;
         plain = λ p. (r.plain p).0;
       }
-  fails_at_inventory fru.Stalled present r = absurd r.counts
-  fails_at_inventory fru.Words present r = absurd r.counts
+  fails_at_inventory _ present r = absurd r.counts
 
 -- a text was found, and no memory is left for what is made of it
 pub out_after_text : (IsText : Store → List ℕ → Type 0) (spots : List Spot) (tries : ℕ) (s s' : Seen) (text : List ℕ) → FindsText IsText spots tries s s' text → FindsNone spots tries s s' stop.Memory
-out_after_text IsText spots tries s s' text finds = record { asks = finds.asks; outcome = plan.OutOfMemory; outcome_is = refl; counts = finds.refusals; there = tt; plain = λ p. tt }
+out_after_text IsText spots tries s s' text finds = no_memory spots tries s s' finds.asks finds.refusals
 
 -- ---- a locator
 
@@ -228,7 +208,7 @@ out_after_text IsText spots tries s s' text finds = record { asks = finds.asks; 
 pub found_elsewhere : (view : SdrView) (id : Option ℕ) (tries : ℕ) (s : Seen) (text : List ℕ) → id ≡ None → ((store : Store) → IsDevicePiece store view None text) → IsHonest s
     → FindsText (λ (store : Store) (t : List ℕ). IsDevicePiece store view id t) (device_spots id) tries s s text
 found_elsewhere view None tries s text elsewhere is honest = record {
-  asks = record { stays = stays_refl s honest; grows = omega arith; calls = λ same. omega arith; plain = λ p. record { sdr = refl; sel = refl } };
+  asks = asks_nothing [] tries s honest;
   refusals = refl;
   is = λ same. is s.store;
 }

@@ -1,17 +1,17 @@
 -- How many calls a listing makes.
-use Rattle.std.proofs.Common.{◌≡◌, inl, inr, ℕ, zero, suc, ◌+◌, ◌*◌, ◌<◌, ◌≤◌, ◌==◌, nat_le, Bool, true, false, cond, Option, None, Some, Result, Ok, Err, List, [], ◌∷◌, length, take, drop, refl, sym, ap, subst, ◌∙◌, arith}
+use Rattle.std.proofs.Common.{◌≡◌, inl, inr, ℕ, zero, suc, ◌+◌, ◌*◌, ◌<◌, ◌≤◌, ◌==◌, nat_le, Bool, true, false, cond, Option, None, Some, Result, Ok, Err, List, [], ◌∷◌, ◌++◌, length, take, drop, refl, sym, ap, subst, ◌∙◌, arith}
 use Rattle.std.specs.FinSet as set
 use Rattle.std.specs.FinSet.{len-insert}
 use Rattle.std.specs.Ordering.{nat_cmp}
 use Rattle.std.specs.Cmp.{nat_cmp_total}
 use Rattle.std.proofs.lemmas.Nat.{mul-le}
-use Rattle.std.proofs.lemmas.List.{take_all}
-use Rattle.std.proofs.Math.Seq.{take-nil, drop-nil}
+use Rattle.std.proofs.lemmas.List.{take-append-drop}
+use Rattle.std.proofs.Math.Seq.{take-nil}
 use Rattle.ipmi_bus.specs.Bounds.{step_call_bound, digits, reaches}
 use Rattle.ipmi_bus.specs.declared.controller.Shelf.{Shelf}
 use Rattle.ipmi_bus.specs.declared.step.Place.TheVariants.{Id, End}
 use Rattle.ipmi_bus.specs.declared.step.Ended.{Ended}
-use Rattle.ipmi_bus.specs.declared.step.Ended.TheVariants.{Cycle, Missing, Refused, GaveUp, Stalled, Malformed}
+use Rattle.ipmi_bus.specs.declared.step.Ended.TheVariants.{Cycle, Missing}
 use Rattle.ipmi_bus.specs.Shelf.{Row, first_row, len_of, largest_len}
 use Rattle.ipmi_bus.specs.Walk.{place_after}
 use Rattle.ipmi_bus.specs.Seen.{Seen}
@@ -19,9 +19,9 @@ use Rattle.ipmi_bus.specs.CursorState.{CursorState}
 use Rattle.ipmi_bus.specs.Step.{IsStep, StepLeaves, StepCalls, HandsOut, AsksNothing}
 use Rattle.ipmi_bus.specs.Store.{Store}
 use Rattle.ipmi_command_line.specs.declared.command.Task.{Task}
-use Rattle.ipmi_commands.specs.Listing.{calls_for, calls_at_spots, IsPlace, HasCalled, ListingCalls}
-use Rattle.ipmi_commands.specs.Plan.{first_rows}
-use Rattle.ipmi_commands.specs.Plan.{spots_after}
+use Rattle.ipmi_commands.specs.Listing.{IsWithin, calls_for, calls_at_spots, IsPlace, HasCalled, ListingCalls}
+use Rattle.ipmi_commands.specs.Plan.{first_rows, spots_after}
+use Rattle.ipmi_commands.proofs.ItemLemmas.{one_taken}
 
 -- ---- digits
 
@@ -61,15 +61,6 @@ is_place next fits = by_case (next == 65535) refl
     by_case true e = tt
     by_case false e = search arith
 
-pub called_begun : (each : ℕ) (begun : CursorState) (s : Seen) → HasCalled each 0 begun begun s s
-called_begun each begun s = record {
-  within = omega arith;
-  most = omega arith;
-  calls = omega arith;
-  some = λ some. some;
-  place = λ place. place;
-}
-
 one_bound_more : (rows bound : ℕ) → (rows + 1) * bound ≡ rows * bound + bound
 one_bound_more rows bound = omega arith
 
@@ -98,10 +89,7 @@ place_kept now next (Ok (Some row)) none leaves place = absurd none
 place_kept now next (Ok None) none leaves place = subst IsPlace (sym leaves.1.place) tt
 place_kept now next (Err (Cycle n)) none leaves place = subst IsPlace (sym leaves.1.place) place
 place_kept now next (Err (Missing n)) none leaves place = subst IsPlace (sym leaves.1.place) place
-place_kept now next (Err (GaveUp n)) none leaves place = subst IsPlace (sym leaves.1.stays.place) place
-place_kept now next (Err (Refused n code)) none leaves place = subst IsPlace (sym leaves.1.stays.place) place
-place_kept now next (Err (Stalled n)) none leaves place = subst IsPlace (sym leaves.1.stays.place) place
-place_kept now next (Err (Malformed n)) none leaves place = subst IsPlace (sym leaves.1.stays.place) place
+place_kept now next (Err _) none leaves place = subst IsPlace (sym leaves.1.stays.place) place
 
 -- a step of a listing over this shelf, with these tries, where each record takes so many calls at most
 module _ (tries behind each count : ℕ) (shelf : Shelf) (begun now next : CursorState) (s s' s'' : Seen) (each_is : each ≡ step_call_bound tries (largest_len shelf) + behind) (same_shelf : now.shelf ≡ shelf) (same_tries : now.tries ≡ tries)
@@ -163,59 +151,67 @@ module _ (tries behind each count : ℕ) (shelf : Shelf) (begun now next : Curso
 
 -- ---- along a walk
 
-no_calls : (t : Task) (store : Store) (tries k : ℕ) → calls_for t store tries (take k []) ≡ 0
-no_calls t store tries k = ap (calls_for t store tries) (take-nil k)
+-- the first rows are the walk's as far as they are wanted
+pub rows_wanted : (most : Option ℕ) (k : ℕ) (walk : List Row) → IsWithin most k → take k (first_rows most walk) ≡ take k walk
+rows_wanted None k walk within = refl
+rows_wanted (Some n) k walk within = fewer n k walk within
+  where
+    fewer : (n k : ℕ) (walk : List Row) → k ≤ n → take k (take n walk) ≡ take k walk
+    fewer n zero [] le = refl
+    fewer n zero (first ∷ walk) le = refl
+    fewer n (suc k) [] le = ap (take (suc k)) (take-nil n)
+    fewer zero (suc k) (first ∷ walk) le = absurd (omega (arith, le))
+    fewer (suc n) (suc k) (first ∷ walk) le = ap (λ (l : List Row). first ∷ l) (fewer n k walk (omega (arith, le)))
 
-none_there : (k : ℕ) → len_of (first_row (drop k [])) ≡ 0
-none_there k = ap (λ (l : List Row). len_of (first_row l)) (drop-nil k)
+-- and so is the next one
+pub next_wanted : (most : Option ℕ) (k : ℕ) (walk : List Row) → IsBelow most k → first_row (drop k (first_rows most walk)) ≡ first_row (drop k walk)
+next_wanted None k walk below = refl
+next_wanted (Some n) k walk below = fewer n k walk below
+  where
+    fewer : (n k : ℕ) (walk : List Row) → k < n → first_row (drop k (take n walk)) ≡ first_row (drop k walk)
+    fewer n k [] below = ap (λ (l : List Row). first_row (drop k l)) (take-nil n)
+    fewer zero k (first ∷ walk) below = absurd (omega (arith, below))
+    fewer (suc n) zero (first ∷ walk) below = refl
+    fewer (suc n) (suc k) (first ∷ walk) below = fewer n k walk (omega (arith, below))
 
--- the calls for the first rows, and of a step for the next one, or of one that finds none
-calls_first : (t : Task) (store : Store) (tries n k : ℕ) (walk : List Row) → k < n → calls_for t store tries (take k walk) + step_call_bound tries (len_of (first_row (drop k walk))) ≤ calls_for t store tries (take n walk) + step_call_bound tries 0
-calls_first t store tries n k [] below =
-    let left = no_calls t store tries k in
-    let right = no_calls t store tries n in
-    let same = ap (step_call_bound tries) (none_there k) in omega (arith, left, right, same)
-calls_first t store tries zero k (row ∷ walk) below = absurd (omega (arith, below))
-calls_first t store tries (suc n) zero (row ∷ walk) below = omega arith
-calls_first t store tries (suc n) (suc k) (row ∷ walk) below = let rest = calls_first t store tries n k walk (omega (arith, below)) in omega (arith, rest)
+pub one_within : (most : Option ℕ) (k : ℕ) → IsBelow most k → IsWithin most (k + 1)
+one_within None k below = tt
+one_within (Some n) k below = omega (arith, below)
 
-calls_all : (t : Task) (store : Store) (tries k : ℕ) (walk : List Row) → calls_for t store tries (take k walk) + step_call_bound tries (len_of (first_row (drop k walk))) ≤ calls_for t store tries walk + step_call_bound tries 0
-calls_all t store tries k walk =
-    let first = calls_first t store tries (k + 1 + length walk) k walk (omega arith) in
-    let all = ap (calls_for t store tries) (take_all (k + 1 + length walk) walk (omega arith)) in omega (arith, first, all)
+pub below_within : (most : Option ℕ) (k : ℕ) → IsBelow most k → IsWithin most k
+below_within None k below = tt
+below_within (Some n) k below = omega (arith, below)
 
+calls_joined : (t : Task) (store : Store) (tries : ℕ) (done rest : List Row) → calls_for t store tries (done ++ rest) ≡ calls_for t store tries done + calls_for t store tries rest
+calls_joined t store tries [] rest = omega arith
+calls_joined t store tries (d ∷ done) rest = let more = calls_joined t store tries done rest in omega (arith, more)
+
+-- those for the first rows, and for the rows after them
+pub calls_split : (t : Task) (store : Store) (tries size : ℕ) (walk : List Row) → calls_for t store tries (take size walk) + calls_for t store tries (drop size walk) ≡ calls_for t store tries walk
+calls_split t store tries size walk = sym (calls_joined t store tries (take size walk) (drop size walk)) ∙ ap (calls_for t store tries) (take-append-drop size walk)
+
+-- a step for the next row, or one that finds none
+next_calls : (t : Task) (store : Store) (tries : ℕ) (rows : List Row) → step_call_bound tries (len_of (first_row rows)) ≤ calls_for t store tries rows + step_call_bound tries 0
+next_calls t store tries [] = omega arith
+next_calls t store tries (row ∷ rows) = omega arith
+
+-- the calls for the first rows, and of such a step
 pub calls_upto : (t : Task) (store : Store) (tries : ℕ) (most : Option ℕ) (k : ℕ) (walk : List Row) → IsBelow most k
     → calls_for t store tries (take k walk) + step_call_bound tries (len_of (first_row (drop k walk))) ≤ calls_for t store tries (first_rows most walk) + step_call_bound tries 0
-calls_upto t store tries None k walk below = calls_all t store tries k walk
-calls_upto t store tries (Some n) k walk below = calls_first t store tries n k walk below
+calls_upto t store tries most k walk below =
+    let split = calls_split t store tries k (first_rows most walk) in
+    let done = ap (calls_for t store tries) (rows_wanted most k walk (below_within most k below)) in
+    let next = next_calls t store tries (drop k (first_rows most walk)) in
+    let same = ap (λ (o : Option Row). step_call_bound tries (len_of o)) (next_wanted most k walk below) in omega (arith, split, done, next, same)
 
 -- with one row more
 pub calls_more : (t : Task) (store : Store) (tries : ℕ) (walk : List Row) (k : ℕ) (row : Row) → first_row (drop k walk) ≡ Some row → calls_for t store tries (take (k + 1) walk) ≡ calls_for t store tries (take k walk) + (step_call_bound tries (length row.bytes) + calls_at_spots tries store (spots_after t row))
-calls_more t store tries [] zero row next = cc next
-calls_more t store tries [] (suc k) row next = cc next
-calls_more t store tries (first ∷ walk) zero row next = let same : first ≡ row = cc next in let bytes = ap (λ (r : Row). step_call_bound tries (length r.bytes) + calls_at_spots tries store (spots_after t r)) same in omega (arith, bytes)
-calls_more t store tries (first ∷ walk) (suc k) row next =
-    let same : calls_for t store tries (take (suc k + 1) (first ∷ walk)) ≡ calls_for t store tries (take (suc (k + 1)) (first ∷ walk)) = (let one_on : suc k + 1 ≡ suc (k + 1) = omega arith in ap (λ (n : ℕ). calls_for t store tries (take n (first ∷ walk))) one_on) in
-    let rest = calls_more t store tries walk k row next in omega (arith, same, rest)
+calls_more t store tries walk k row next =
+    let joined = calls_joined t store tries (take k walk) (row ∷ []) in
+    let same = ap (calls_for t store tries) (one_taken walk k row next) in omega (arith, joined, same)
 
 -- those of one row more, where it is wanted
-first_within : (t : Task) (store : Store) (tries n k : ℕ) (walk : List Row) → k < n → calls_for t store tries (take (k + 1) walk) ≤ calls_for t store tries (take n walk)
-first_within t store tries n k [] below = let left = no_calls t store tries (k + 1) in omega (arith, left)
-first_within t store tries zero k (row ∷ walk) below = absurd (omega (arith, below))
-first_within t store tries (suc n) zero (row ∷ walk) below = omega arith
-first_within t store tries (suc n) (suc k) (row ∷ walk) below =
-    let one_on : suc k + 1 ≡ suc (k + 1) = omega arith in
-    let same = ap (λ (m : ℕ). calls_for t store tries (take m (row ∷ walk))) one_on in
-    let rest = first_within t store tries n k walk (omega (arith, below)) in omega (arith, same, rest)
-
-all_within : (t : Task) (store : Store) (tries k : ℕ) (walk : List Row) → calls_for t store tries (take k walk) ≤ calls_for t store tries walk
-all_within t store tries zero walk = omega arith
-all_within t store tries (suc k) walk =
-    let first = first_within t store tries (k + 1 + length walk) k walk (omega arith) in
-    let all = ap (calls_for t store tries) (take_all (k + 1 + length walk) walk (omega arith)) in
-    let one_on : k + 1 ≡ suc k = omega arith in
-    let same = ap (λ (n : ℕ). calls_for t store tries (take n walk)) one_on in omega (arith, first, all, same)
-
 pub calls_within : (t : Task) (store : Store) (tries : ℕ) (most : Option ℕ) (k : ℕ) (walk : List Row) → IsBelow most k → calls_for t store tries (take (k + 1) walk) ≤ calls_for t store tries (first_rows most walk)
-calls_within t store tries None k walk below = all_within t store tries (k + 1) walk
-calls_within t store tries (Some n) k walk below = first_within t store tries n k walk below
+calls_within t store tries most k walk below =
+    let split = calls_split t store tries (k + 1) (first_rows most walk) in
+    let same = ap (calls_for t store tries) (rows_wanted most (k + 1) walk (one_within most k below)) in omega (arith, split, same)

@@ -12,6 +12,7 @@ use Rattle.ipmi_command_line.specs.declared.command.Task.{Task}
 use Rattle.ipmi_commands.specs.Listing.{passing, span_items, item_in, subject_in}
 use Rattle.ipmi_commands.specs.Plan.{Plan, Item, Spot, AtRecord, row_item, row_items, IsItemText, AreTexts, Printed, Outcome, IsAllowed, StopsAt, IsAmong, end_spots}
 use Rattle.ipmi_commands.specs.Plan as plan
+use Rattle.ipmi_output.specs.Sink.{TakesPart}
 
 -- ---- items and rows
 
@@ -20,7 +21,7 @@ pub items_joined : (t : Task) (start : Place) (done rest : List Row) → row_ite
 items_joined t start [] rest = refl
 items_joined t start (d ∷ done) rest = ap (λ (l : List Item). row_item t start d ∷ l) (items_joined t (place_after d.next) done rest)
 
-one_taken : (rows : List Row) (k : ℕ) (row : Row) → first_row (drop k rows) ≡ Some row → take (k + 1) rows ≡ take k rows ++ (row ∷ [])
+pub one_taken : (rows : List Row) (k : ℕ) (row : Row) → first_row (drop k rows) ≡ Some row → take (k + 1) rows ≡ take k rows ++ (row ∷ [])
 one_taken [] zero row next = cc next
 one_taken [] (suc k) row next = cc next
 one_taken (first ∷ rows) zero row next = let same : first ≡ row = cc next in ap (λ (r : Row). r ∷ []) same
@@ -51,6 +52,22 @@ none_printed t store old = record { text = []; are = refl; new_is = sym (append-
 
 pub one_printed : (t : Task) (store : Store) (item : Item) (text old new : List ℕ) → IsItemText t store item.subject text → new ≡ old ++ text → Printed t store (item ∷ []) old new
 one_printed t store item text old new is new_is = record { text = text; are = record { first = text; rest = []; is_first = is; is_rest = refl; joined = sym (append-nil text) }; new_is = new_is }
+
+-- of a text of the first item only a part
+pub first_cut : (t : Task) (store : Store) (p : Plan) (item : Item) (rest : List Item) (text old new : List ℕ) → p.items ≡ item ∷ rest → IsItemText t store item.subject text → 0 < length text → TakesPart old new text → IsAllowed t store p old new plan.WriteFault
+first_cut t store p item rest text old new items_are is some part = record {
+  done = [];
+  item = item;
+  rest = rest;
+  items_are = items_are;
+  whole = old;
+  printed = none_printed t store old;
+  text = text;
+  is_text = is;
+  some = some;
+  bytes = part.0;
+  new_is = part.1;
+}
 
 -- ---- rows of which the first are passed
 
@@ -130,12 +147,6 @@ module _ (t : Task) (store : Store) (first : List Item) (p : Plan) (old text : L
     bytes = allowed.bytes;
     new_is = allowed.new_is;
   }
-
--- a row that is there
-pub row_there : (rows : List Row) (k : ℕ) → k < length rows → (row : Row) × (first_row (drop k rows) ≡ Some row)
-row_there [] k within = absurd (omega (arith, within))
-row_there (row ∷ rows) zero within = (row, refl)
-row_there (row ∷ rows) (suc k) within = row_there rows k (omega (arith, within))
 
 -- ---- spots
 

@@ -19,7 +19,7 @@ use Rattle.ipmi_commands.specs.declared.stop.Stop.{Stop}
 use Rattle.ipmi_commands.specs.declared.stop.Stop.TheVariants as stop
 use Rattle.ipmi_commands.specs.Last.{ListsSpan, SpanAlong}
 use Rattle.ipmi_commands.specs.Listing.{course, item_in, span_items, span_plan, IsListing, IsOutcome, walk_call_bound, run_call_bound, second_walk_bound}
-use Rattle.ipmi_commands.specs.Plan.{Request, request, Change, change, OnWalk, Plan, Item, Passed, Spot, AtRecord, RunEnd, WalkEnds, row_items, run_end, spots_along, spots_of_walk, end_spots, spots_at, last_items, last_plan, with_first_spots, end_spots_of_last, IsItemText, AreTexts, Printed, Outcome, IsAllowed, IsAmong, CountsSo}
+use Rattle.ipmi_commands.specs.Plan.{Request, request, Change, change, OnWalk, Plan, Item, Passed, Spot, AtRecord, RunEnd, WalkEnds, row_items, run_end, spots_along, spots_of_walk, end_spots, spots_at, last_items, last_plan, with_first_spots, end_spots_of_last, IsItemText, AreTexts, Printed, Outcome, IsAllowed, IsAmong, StopsAt, CountsSo}
 use Rattle.ipmi_commands.specs.Plan as plan
 use Rattle.ipmi_commands.specs.Run.{Performs}
 use Rattle.ipmi_commands.specs.Pages.{IsStopped}
@@ -64,10 +64,6 @@ span_without_memory r span s text honest = record {
 
 -- ---- items that are passed
 
-among_more : (first rest : List Spot) (spot : Spot) → IsAmong rest spot → IsAmong (first ++ rest) spot
-among_more [] rest spot among = among
-among_more (x ∷ first) rest spot among = inr (among_more first rest spot among)
-
 -- each is passed, and its spots are among these
 abbrev pub AllPassed : (Spot → Type 0) → List Item → Type 0
 AllPassed Within [] = Unit {0}
@@ -100,6 +96,10 @@ module _ (t : Task) (store : Store) (spots at_end : List Spot) (e : RunEnd) (sho
   texts_kept [] text are = are
   texts_kept (item ∷ items) text are = record { first = are.first; rest = are.rest; is_first = are.is_first; is_rest = are.is_rest; joined = are.joined }
 
+  -- an item that comes next and is not passed comes next in the other, perhaps with other spots
+  abbrev NextIs : List Item → List Item → Type 0
+  NextIs rest rest' = (item : Item) (more : List Item) → rest ≡ item ∷ more → (item.subject ≡ Passed → ⊥) → (item' : Item) × (more' : List Item) × (rest' ≡ item' ∷ more') × (item'.subject ≡ item.subject)
+
   -- the first items of the one are first items of the other, with the same texts
   record FirstOf (rest : List Item) (text : List ℕ) : Type 0 where
     pub done' : List Item
@@ -107,6 +107,7 @@ module _ (t : Task) (store : Store) (spots at_end : List Spot) (e : RunEnd) (sho
     pub items_are : widened.items ≡ done' ++ rest'
     pub are : AreTexts t store done' text
     pub among : (spot : Spot) → IsAmong (spots_at rest at_end) spot → IsAmong (spots_at rest' widened.end_spots) spot
+    pub next : NextIs rest rest'
 
   first_of : (passed : List Item) → AllPassed (IsAmong spots) passed → (done rest : List Item) (text : List ℕ) → passed ++ shown ≡ done ++ rest → AreTexts t store done text → FirstOf rest text
   first_of [] all [] rest text is are = record {
@@ -115,6 +116,7 @@ module _ (t : Task) (store : Store) (spots at_end : List Spot) (e : RunEnd) (sho
     items_are = refl;
     are = are;
     among = λ spot among. subst (λ (l : List Spot). IsAmong l spot) (sym (first_there spots shown at_end)) (there spot (subst (λ (l : List Item). IsAmong (spots_at l at_end) spot) (sym is) among));
+    next = λ item more e some. (record { subject = item.subject; spots = spots }, more, ap (with_first_spots spots) (is ∙ e), refl);
   }
   first_of [] all (d ∷ done) rest text is are = by_shown shown is
     where
@@ -125,6 +127,7 @@ module _ (t : Task) (store : Store) (spots at_end : List Spot) (e : RunEnd) (sho
         items_are = ap (with_first_spots spots) is;
         are = record { first = are.first; rest = are.rest; is_first = are.is_first; is_rest = are.is_rest; joined = are.joined };
         among = λ spot among. subst (λ (l : List Item). IsAmong (spots_at rest (end_spots_of_last spots l at_end)) spot) (sym is) among;
+        next = λ item more e some. (item, more, e, refl);
       }
   first_of (p ∷ passed) all [] rest text is are = record {
     done' = [];
@@ -132,6 +135,7 @@ module _ (t : Task) (store : Store) (spots at_end : List Spot) (e : RunEnd) (sho
     items_are = refl;
     are = are;
     among = λ spot among. subst (λ (l : List Spot). IsAmong l spot) (sym (first_there spots shown at_end)) (all.1 spot (subst (λ (l : List Item). IsAmong (spots_at l at_end) spot) (sym is) among));
+    next = λ item more e some. let h = is ∙ e in let same : p ≡ item = cc h in absurd (some (subst (λ (x : Item). x.subject ≡ Passed) same all.0));
   }
   first_of (p ∷ passed) all (d ∷ done) rest text is are =
       let same : p ≡ d = cc is in
@@ -139,40 +143,6 @@ module _ (t : Task) (store : Store) (spots at_end : List Spot) (e : RunEnd) (sho
       let none = no_text t store d are.first (subst (λ (x : Item). x.subject ≡ Passed) same all.0) are.is_first in
       let text_is : text ≡ are.rest = are.joined ∙ ap (λ (l : List ℕ). l ++ are.rest) none in
       subst (FirstOf rest) (sym text_is) (first_of passed all.2 done rest are.rest tail are.is_rest)
-
-  -- and so where an item that is not passed comes next
-  record CutOf (item : Item) (text : List ℕ) : Type 0 where
-    pub done' : List Item
-    pub item' : Item
-    pub rest' : List Item
-    pub items_are : widened.items ≡ done' ++ (item' ∷ rest')
-    pub are : AreTexts t store done' text
-    pub same : item'.subject ≡ item.subject
-
-  cut_of : (passed : List Item) → AllPassed (IsAmong spots) passed → (done : List Item) (item : Item) (rest : List Item) (text : List ℕ) → (item.subject ≡ Passed → ⊥) → passed ++ shown ≡ done ++ (item ∷ rest) → AreTexts t store done text → CutOf item text
-  cut_of [] all [] item rest text some is are = record {
-    done' = [];
-    item' = record { subject = item.subject; spots = spots };
-    rest' = rest;
-    items_are = ap (with_first_spots spots) is;
-    are = are;
-    same = refl;
-  }
-  cut_of [] all (d ∷ done) item rest text some is are = record {
-    done' = record { subject = d.subject; spots = spots } ∷ done;
-    item' = item;
-    rest' = rest;
-    items_are = ap (with_first_spots spots) is;
-    are = record { first = are.first; rest = are.rest; is_first = are.is_first; is_rest = are.is_rest; joined = are.joined };
-    same = refl;
-  }
-  cut_of (p ∷ passed) all [] item rest text some is are = let same : p ≡ item = cc is in absurd (some (subst (λ (x : Item). x.subject ≡ Passed) same all.0))
-  cut_of (p ∷ passed) all (d ∷ done) item rest text some is are =
-      let same : p ≡ d = cc is in
-      let tail : passed ++ shown ≡ done ++ (item ∷ rest) = cc is in
-      let none = no_text t store d are.first (subst (λ (x : Item). x.subject ≡ Passed) same all.0) are.is_first in
-      let text_is : text ≡ are.rest = are.joined ∙ ap (λ (l : List ℕ). l ++ are.rest) none in
-      subst (CutOf item) (sym text_is) (cut_of passed all.2 done item rest are.rest some tail are.is_rest)
 
   -- the texts of all are those of the shown ones
   all_of : (passed : List Item) → AllPassed (IsAmong spots) passed → (text : List ℕ) → AreTexts t store (passed ++ shown) text → AreTexts t store shown text
@@ -182,32 +152,32 @@ module _ (t : Task) (store : Store) (spots at_end : List Spot) (e : RunEnd) (sho
       subst (AreTexts t store shown) (sym (are.joined ∙ ap (λ (l : List ℕ). l ++ are.rest) none)) (all_of passed all.2 are.rest are.is_rest)
 
   -- what may be left by the one may be left by the other
+  stops_widened : (passed : List Item) → AllPassed (IsAmong spots) passed → (old new : List ℕ) (spot : Spot) → StopsAt spot t store (passed_first passed) old new → StopsAt spot t store widened old new
+  stops_widened passed all old new spot at =
+      let first = first_of passed all at.done at.rest at.printed.text at.items_are at.printed.are in
+      record { done = first.done'; rest = first.rest'; items_are = first.items_are; printed = record { text = at.printed.text; are = first.are; new_is = at.printed.new_is }; there = first.among spot at.there }
+
   pub leaves_widened : (passed : List Item) → AllPassed (IsAmong spots) passed → (old new : List ℕ) (outcome : Outcome) → IsAllowed t store (passed_first passed) old new outcome → IsAllowed t store widened old new outcome
   leaves_widened passed all old new (plan.Finished end) allowed = (record { text = allowed.0.text; are = texts_kept shown allowed.0.text (all_of passed all allowed.0.text allowed.0.are); new_is = allowed.0.new_is }, allowed.1)
-  leaves_widened passed all old new (plan.GaveUp spot) allowed =
-      let first = first_of passed all allowed.done allowed.rest allowed.printed.text allowed.items_are allowed.printed.are in
-      record { done = first.done'; rest = first.rest'; items_are = first.items_are; printed = record { text = allowed.printed.text; are = first.are; new_is = allowed.printed.new_is }; there = first.among spot allowed.there }
-  leaves_widened passed all old new (plan.Refused spot code) allowed =
-      let first = first_of passed all allowed.done allowed.rest allowed.printed.text allowed.items_are allowed.printed.are in
-      record { done = first.done'; rest = first.rest'; items_are = first.items_are; printed = record { text = allowed.printed.text; are = first.are; new_is = allowed.printed.new_is }; there = first.among spot allowed.there }
+  leaves_widened passed all old new (plan.GaveUp spot) allowed = stops_widened passed all old new spot allowed
+  leaves_widened passed all old new (plan.Refused spot code) allowed = stops_widened passed all old new spot allowed
   leaves_widened passed all old new plan.OutOfMemory allowed =
       let first = first_of passed all allowed.done allowed.rest allowed.printed.text allowed.items_are allowed.printed.are in
       record { done = first.done'; rest = first.rest'; items_are = first.items_are; printed = record { text = allowed.printed.text; are = first.are; new_is = allowed.printed.new_is } }
   leaves_widened passed all old new plan.WriteFault allowed =
       let some = allowed.some in
-      let cut =
-      cut_of passed all allowed.done allowed.item allowed.rest allowed.printed.text
-      (λ passed. let none = ap (λ (l : List ℕ). length l) (no_text t store allowed.item allowed.text passed allowed.is_text) in omega (arith, some, none))
-      allowed.items_are allowed.printed.are in
+      let first = first_of passed all allowed.done (allowed.item ∷ allowed.rest) allowed.printed.text allowed.items_are allowed.printed.are in
+      let next = first.next allowed.item allowed.rest refl
+      (λ passed. let none = ap (λ (l : List ℕ). length l) (no_text t store allowed.item allowed.text passed allowed.is_text) in omega (arith, some, none)) in
       record {
-        done = cut.done';
-        item = cut.item';
-        rest = cut.rest';
-        items_are = cut.items_are;
+        done = first.done';
+        item = next.0;
+        rest = next.1;
+        items_are = first.items_are ∙ ap (λ (l : List Item). first.done' ++ l) next.2;
         whole = allowed.whole;
-        printed = record { text = allowed.printed.text; are = cut.are; new_is = allowed.printed.new_is };
+        printed = record { text = allowed.printed.text; are = first.are; new_is = allowed.printed.new_is };
         text = allowed.text;
-        is_text = subst (λ (x : plan.Subject). IsItemText t store x allowed.text) (sym cut.same) allowed.is_text;
+        is_text = subst (λ (x : plan.Subject). IsItemText t store x allowed.text) (sym next.3) allowed.is_text;
         some = allowed.some;
         bytes = allowed.bytes;
         new_is = allowed.new_is;

@@ -1,8 +1,7 @@
 -- A listing, one step of its cursor after another, and the piece of each record.
-use Rattle.std.proofs.Common.{◌≡◌, ◌≢◌, ◌⊎◌, inl, inr, ℕ, zero, suc, ◌+◌, ◌-◌, ◌<◌, ◌≤◌, nat_le, nat_lt, Bool, true, false, cond, IsTrue, Option, None, Some, IsSome, Result, Ok, Err, List, [], ◌∷◌, ◌++◌, length, take, drop, refl, sym, ap, subst, ◌∙◌, arith}
+use Rattle.std.proofs.Common.{◌≡◌, ◌≢◌, ◌⊎◌, inl, inr, ℕ, zero, suc, ◌+◌, ◌-◌, ◌<◌, ◌≤◌, nat_le, Bool, true, false, cond, IsTrue, Option, None, Some, IsSome, Result, Ok, Err, List, [], ◌∷◌, ◌++◌, length, take, drop, refl, sym, ap, subst, ◌∙◌, arith}
 use Rattle.std.specs.FinSet as set
-use Rattle.std.proofs.lemmas.Bool.{ltb-false}
-use Rattle.std.proofs.lemmas.List.{take_all, length-take-le, take-append-drop}
+use Rattle.std.proofs.lemmas.List.{take_all, length-drop, length-take, length-take-le, take-append-drop}
 use Rattle.ipmi_bus.specs.Bounds.{step_call_bound, digits}
 use Rattle.ipmi_bus.specs.declared.controller.Shelf.{Shelf}
 use Rattle.ipmi_bus.specs.declared.controller.Shelf.TheVariants.{Sdr, Sel}
@@ -14,28 +13,24 @@ use Rattle.ipmi_bus.specs.Readers.{KeepsReservations}
 use Rattle.ipmi_bus.specs.Shelf.{Row, first_row, look, len_of}
 use Rattle.ipmi_bus.specs.Store.{Store, rows_of}
 use Rattle.ipmi_bus.specs.Walk.{IsWalk, WalkEnd, Done, CycleAt, MissingAt, EndsBy, place_after, place_after_rows}
-use Rattle.ipmi_bus.specs.Seen.{Seen, IsHonest, StaysHonest, current}
+use Rattle.ipmi_bus.specs.Seen.{Seen, IsHonest, StaysHonest, current, stays_trans}
 use Rattle.ipmi_bus.specs.CursorState.{CursorState}
 use Rattle.ipmi_bus.specs.Standing.{StandsAt, WalkStep, MayFail}
 use Rattle.ipmi_bus.specs.Step.{IsStep, StepLeaves, FailsAt, AsksNothing, CursorHoldsCurrent, asked_at, HandsOut}
 use Rattle.ipmi_bus.specs.Tries.{WithinTries}
-use Rattle.ipmi_bus.specs.Seen.{stays_trans, stays_refl}
 use Rattle.ipmi_command_line.specs.declared.command.Task.{Task}
 use Rattle.ipmi_bus.specs.declared.inventory.FruEnded.TheVariants as fru
 use Rattle.ipmi_commands.specs.Pages.{IsStopped}
 use Rattle.ipmi_commands.specs.declared.stop.Stop.{Stop}
 use Rattle.ipmi_commands.specs.declared.stop.Stop.TheVariants as stop
 use Rattle.ipmi_commands.specs.declared.listing.Span.{Span}
-use Rattle.ipmi_commands.specs.Listing.{IsWithin, is_reached, passing, shown_rows, span_items, span_plan, item_in, subject_in, spots_in, stop_at_end, IsOutcome, IsUnrefused, calls_for, calls_at_spots, FindsText, FindsNone, MayStopAt, HasListed, ListsHonest, IsListing}
-use Rattle.ipmi_commands.specs.Plan.{first_rows, first_end}
-use Rattle.ipmi_commands.specs.Plan.{Plan, Item, IsItemText, Spot, AtRecord, RunEnd, WalkEnds, run_end, done_end, Printed, Outcome, IsAllowed, CountsSo, HasFreshTroubles, IsFine, IsAmong, StopsAt, spots_at, spots_after}
+use Rattle.ipmi_commands.specs.Listing.{IsWithin, is_reached, passing, shown_rows, span_items, span_plan, item_in, subject_in, spots_in, stop_at_end, IsOutcome, IsUnrefused, calls_for, calls_at_spots, FindsText, FindsNone, MayStopAt, HasListed, ListsHonest, IsListing, course}
+use Rattle.ipmi_commands.specs.Plan.{first_rows, first_end, Plan, Item, IsItemText, Spot, AtRecord, RunEnd, WalkEnds, run_end, done_end, Printed, Outcome, IsAllowed, CountsSo, HasFreshTroubles, IsFine, IsAmong, StopsAt, spots_at, spots_after, request}
 use Rattle.ipmi_command_line.specs.Task.{shelf_of}
 use Rattle.ipmi_commands.specs.Plan as plan
-use Rattle.ipmi_commands.proofs.CallLemmas.{IsBelow, digits_some, one_id_more, calls_upto, calls_within, calls_more}
-use Rattle.ipmi_commands.proofs.ItemLemmas.{span_joined, span_next, span_none, none_printed, printed_more, row_there, end_spot}
+use Rattle.ipmi_commands.proofs.CallLemmas.{IsBelow, digits_some, one_id_more, calls_upto, calls_within, calls_more, rows_wanted, next_wanted, one_within, below_within}
+use Rattle.ipmi_commands.proofs.ItemLemmas.{span_joined, span_next, span_none, printed_more, end_spot}
 use Rattle.ipmi_commands.proofs.NameLemmas.{Wrote, done_by, done_is, end_is}
-use Rattle.ipmi_commands.specs.Plan.{request}
-use Rattle.ipmi_commands.specs.Listing.{course}
 
 -- ---- limits
 
@@ -50,12 +45,7 @@ one_wanted None count within more = tt
 one_wanted (Some n) count within more = let below : count < n = search arith in below
 
 pub within_more : (most : Option ℕ) (count : ℕ) → IsWithin most count → is_reached most count ≡ false → IsWithin most (count + 1)
-within_more None count within more = tt
-within_more (Some n) count within more = let below = one_wanted (Some n) count within more in omega (arith, below)
-
-pub none_within : (most : Option ℕ) → IsWithin most 0
-none_within None = tt
-none_within (Some n) = omega arith
+within_more most count within more = one_within most count (one_wanted most count within more)
 
 -- all rows are wanted where more are wanted than there are
 all_rows : (most : Option ℕ) (walk : List Row) → IsBelow most (length walk) → first_rows most walk ≡ walk
@@ -74,50 +64,16 @@ all_end (Some n) walk end below = by_case (nat_le n (length walk)) refl
 pub limit_end : (count : ℕ) (walk : List Row) (end : WalkEnd) → count ≤ length walk → first_end (Some count) walk end ≡ Done
 limit_end count walk end within = let e : nat_le count (length walk) ≡ true = search arith in ap (λ (b : Bool). cond b Done end) e
 
--- the next row is among those that are wanted
-next_wanted : (most : Option ℕ) (k : ℕ) (walk : List Row) (row : Row) → IsBelow most k → first_row (drop k walk) ≡ Some row → first_row (drop k (first_rows most walk)) ≡ Some row
-next_wanted None k walk row below next = next
-next_wanted (Some n) k walk row below next = within n k walk below next
-  where
-    within : (n k : ℕ) (walk : List Row) → k < n → first_row (drop k walk) ≡ Some row → first_row (drop k (take n walk)) ≡ Some row
-    within n zero [] below next = cc next
-    within n (suc k) [] below next = cc next
-    within zero k (first ∷ walk) below next = absurd (omega (arith, below))
-    within (suc n) zero (first ∷ walk) below next = next
-    within (suc n) (suc k) (first ∷ walk) below next = within n k walk (omega (arith, below)) next
-
--- and so are those before it
-rows_wanted : (most : Option ℕ) (k : ℕ) (walk : List Row) → IsBelow most k → take k (first_rows most walk) ≡ take k walk
-rows_wanted None k walk below = refl
-rows_wanted (Some n) k walk below = within n k walk below
-  where
-    within : (n k : ℕ) (walk : List Row) → k < n → take k (take n walk) ≡ take k walk
-    within n zero [] below = refl
-    within zero (suc k) [] below = refl
-    within (suc n) (suc k) [] below = refl
-    within zero k (first ∷ walk) below = absurd (omega (arith, below))
-    within (suc n) zero (first ∷ walk) below = refl
-    within (suc n) (suc k) (first ∷ walk) below = ap (λ (l : List Row). first ∷ l) (within n k walk (omega (arith, below)))
-
 -- ---- how it stopped
 
 -- one that is not done did not stop by that
 pub stopped_otherwise : (result : Stop) (outcome : Outcome) → IsStopped result → IsOutcome result outcome → outcome ≡ plan.Finished (WalkEnds Done) → ⊥
 stopped_otherwise stop.Done outcome stopped is done = cc stopped
-stopped_otherwise stop.NoName outcome stopped is done = let h = sym is ∙ done in cc h
-stopped_otherwise stop.NoInfo outcome stopped is done = let h = sym is ∙ done in cc h
-stopped_otherwise (stop.Inventory id fru.GaveUp) outcome stopped is done = let h = sym is ∙ done in cc h
-stopped_otherwise (stop.Inventory id fru.Memory) outcome stopped is done = let h = sym is ∙ done in cc h
-stopped_otherwise (stop.Inventory id (fru.Refused code)) outcome stopped is done = let h = sym is ∙ done in cc h
-stopped_otherwise (stop.Inventory id _) outcome stopped is done = is
-stopped_otherwise (stop.Ended (Cycle n)) outcome stopped is done = let h = sym is ∙ done in cc h
-stopped_otherwise (stop.Ended (Missing n)) outcome stopped is done = let h = sym is ∙ done in cc h
-stopped_otherwise (stop.Ended (GaveUp n)) outcome stopped is done = let h = sym is ∙ done in cc h
-stopped_otherwise (stop.Ended (Refused n code)) outcome stopped is done = let h = sym is ∙ done in cc h
+stopped_otherwise (stop.Inventory id fru.Stalled) outcome stopped is done = is
+stopped_otherwise (stop.Inventory id fru.Words) outcome stopped is done = is
 stopped_otherwise (stop.Ended (Stalled n)) outcome stopped is done = is
 stopped_otherwise (stop.Ended (Malformed n)) outcome stopped is done = is
-stopped_otherwise stop.Memory outcome stopped is done = let h = sym is ∙ done in cc h
-stopped_otherwise stop.WriteFault outcome stopped is done = let h = sym is ∙ done in cc h
+stopped_otherwise _ outcome stopped is done = let h = sym is ∙ done in cc h
 
 -- ---- what was counted
 
@@ -156,11 +112,11 @@ kept_current Sel s s' keeps = keeps.sel
 
 -- no row is left where no more are wanted
 none_left : (most : Option ℕ) (k : ℕ) (walk : List Row) → IsBelow most k → drop k (first_rows most walk) ≡ [] → length walk ≤ k
-none_left most k walk below none = by_case (nat_lt k (length walk)) refl
-  where
-    by_case : (b : Bool) → nat_lt k (length walk) ≡ b → length walk ≤ k
-    by_case true e = let there = row_there walk k (search arith) in let h = sym (next_wanted most k walk there.0 below there.1) ∙ ap first_row none in cc h
-    by_case false e = ltb-false k (length walk) e
+none_left None k walk below none = let len = length-drop k walk in let zero_ = ap (λ (l : List Row). length l) none in omega (arith, len, zero_)
+none_left (Some n) k walk below none =
+    let len = length-drop k (take n walk) in
+    let first = length-take n walk in
+    let zero_ = ap (λ (l : List Row). length l) none in omega (arith, below, len, first, zero_)
 
 -- the items of the first ones, and of what is wanted after them
 items_split : (n : Option ℕ) (t : Task) (start : Place) (most : Option ℕ) (k : ℕ) (walk : List Row) → IsBelow most k → k ≤ length walk
@@ -168,7 +124,7 @@ items_split : (n : Option ℕ) (t : Task) (start : Place) (most : Option ℕ) (k
 items_split n t start most k walk below within =
     ap (span_items n t start) (sym (take-append-drop k (first_rows most walk)))
     ∙ span_joined n t start (take k (first_rows most walk)) (drop k (first_rows most walk))
-    ∙ ap (λ (l : List Row). span_items n t start l ++ span_items (passing n (length l)) t (place_after_rows start l) (drop k (first_rows most walk))) (rows_wanted most k walk below)
+    ∙ ap (λ (l : List Row). span_items n t start l ++ span_items (passing n (length l)) t (place_after_rows start l) (drop k (first_rows most walk))) (rows_wanted most k walk (below_within most k below))
     ∙ ap (λ (m : ℕ). span_items n t start (take k walk) ++ span_items (passing n m) t (place_after_rows start (take k walk)) (drop k (first_rows most walk))) (length-take-le k walk within)
 
 next_split : (n : Option ℕ) (t : Task) (start : Place) (most : Option ℕ) (k : ℕ) (walk : List Row) (row : Row) → IsBelow most k → k ≤ length walk → first_row (drop k walk) ≡ Some row
@@ -179,9 +135,9 @@ next_split n t start most k walk row below within next = by_rest (drop k (first_
     place = place_after_rows start (take k walk)
 
     by_rest : (l : List Row) → drop k (first_rows most walk) ≡ l → (rest : List Item) × (span_items n t start (first_rows most walk) ≡ span_items n t start (take k walk) ++ (item_in (passing n k) t (place_after_rows start (take k walk)) row ∷ rest))
-    by_rest [] is = let h = sym (next_wanted most k walk row below next) ∙ ap first_row is in cc h
+    by_rest [] is = let h = sym (next_wanted most k walk below ∙ next) ∙ ap first_row is in cc h
     by_rest (first ∷ l) is =
-        let h = sym (ap first_row is) ∙ next_wanted most k walk row below next in
+        let h = sym (ap first_row is) ∙ next_wanted most k walk below ∙ next in
         let same : first ≡ row = cc h in (
           span_items (passing (passing n k) 1) t (place_after first.next) l,
           items_split n t start most k walk below within
@@ -606,13 +562,3 @@ module _ (t : Task) (tries : ℕ) (span : Span) (count : ℕ) (begun next : Curs
 -- each record that is handed out leaves fewer ids
 pub fewer_ids : (now next : CursorState) (row : Row) → HandsOut now next row → 65536 - set.len next.ids < 65536 - set.len now.ids
 fewer_ids now next row hands = let more = one_id_more now next row hands in let most = hands.at_most in omega (arith, more, most)
-
--- ---- the beginning
-
-pub listing_begins : (t : Task) (tries : ℕ) (span : Span) (begun : CursorState) (s : Seen) (old : List ℕ) → IsHonest s → ListsHonest t tries span 0 (course begun begun s s old old)
-listing_begins t tries span begun s old honest = record {
-  stays = stays_refl s honest;
-  unrefused = record { refusals = refl; troubles = omega arith };
-  listed = λ same start walk end w ends stands. record { stands = stands; printed = subst (λ (items : List Item). Printed t s.store items old old) (sym (span_none span.skip t start)) (none_printed t s.store old); calls = omega arith };
-  plain = λ p holds. holds;
-}

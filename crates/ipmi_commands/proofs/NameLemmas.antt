@@ -1,5 +1,6 @@
 -- Whether a record of a name was found, by whether anything was written.
 use Rattle.std.proofs.Common.{◌≡◌, ℕ, zero, suc, ◌+◌, ◌<◌, ◌==◌, ◌||◌, not, Bool, true, false, cond, Option, None, Some, Result, Ok, Err, List, [], ◌∷◌, ◌++◌, length, refl, sym, ap, subst, ◌∙◌, append-nil, arith}
+use Rattle.std.proofs.lemmas.Bool.{or_parts}
 use Rattle.std.proofs.lemmas.List.{length-append}
 use Rattle.ipmi_bus.specs.declared.step.Place.{Place}
 use Rattle.ipmi_bus.specs.Shelf.{Row}
@@ -72,14 +73,6 @@ module _ (name : List ℕ) (store : Store) where
   some_of id (Ok view) text has is = block_some id view (reading_for store view) text (chosen (is_name name (name_of view)) (λ t. IsSdrBlock id view (reading_for store view) t) text has is)
   some_of id (Err fault) text has is = cc has
 
-  first_none : (a b : Bool) → (a || b) ≡ false → a ≡ false
-  first_none true b neither = cc neither
-  first_none false b neither = refl
-
-  rest_none : (a b : Bool) → (a || b) ≡ false → b ≡ false
-  rest_none true b neither = cc neither
-  rest_none false b neither = neither
-
   -- where none has it, nothing is printed
   none_text : (skip : Option ℕ) (start : Place) (rows : List Row) (text : List ℕ) → some_has_name name (shown_rows skip rows) ≡ false → AreTexts (task.Get name) store (span_items skip (task.Get name) start rows) text → text ≡ []
   none_text None start [] text lack are = are
@@ -88,8 +81,8 @@ module _ (name : List ℕ) (store : Store) where
   none_text (Some zero) start (row ∷ rows) text lack are =
       let view = sdr_view_of row.bytes in
       are.joined
-      ∙ ap (λ (l : List ℕ). l ++ are.rest) (none_of row.id view are.first (first_none (view_has_name name view) (some_has_name name rows) lack) are.is_first)
-      ∙ none_text (Some zero) (place_after row.next) rows are.rest (rest_none (view_has_name name view) (some_has_name name rows) lack) are.is_rest
+      ∙ ap (λ (l : List ℕ). l ++ are.rest) (none_of row.id view are.first (or_parts (view_has_name name view) (some_has_name name rows) lack).0 are.is_first)
+      ∙ none_text (Some zero) (place_after row.next) rows are.rest (or_parts (view_has_name name view) (some_has_name name rows) lack).1 are.is_rest
   none_text (Some (suc n)) start [] text lack are = are
   none_text (Some (suc n)) start (row ∷ rows) text lack are = are.joined ∙ ap (λ (l : List ℕ). l ++ are.rest) are.is_first ∙ none_text (Some n) (place_after row.next) rows are.rest lack are.is_rest
 

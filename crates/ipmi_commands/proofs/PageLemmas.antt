@@ -1,35 +1,30 @@
 -- Pages of a listing.
-use Rattle.std.proofs.Common.{◌≡◌, inl, inr, ℕ, zero, suc, ◌+◌, ◌*◌, ◌<◌, ◌≤◌, ◌==◌, nat_le, nat_lt, Bool, true, false, cond, Option, None, Some, Ok, Err, List, [], ◌∷◌, length, take, refl, sym, ap, subst, ◌∙◌, arith}
-use Rattle.std.proofs.lemmas.Bool.{ltb-false}
+use Rattle.std.proofs.Common.{◌≡◌, inl, inr, ℕ, zero, suc, ◌+◌, ◌*◌, ◌<◌, ◌≤◌, ◌==◌, nat_le, Bool, true, false, cond, Option, None, Some, Ok, Err, List, [], ◌∷◌, length, take, drop, get_or, refl, sym, ap, subst, ◌∙◌, arith}
 use Rattle.std.proofs.Math.Seq.{take-nil}
-use Rattle.std.proofs.lemmas.List.{take_all, length-take-le}
+use Rattle.std.proofs.lemmas.List.{take_all, take_min, length-take, at_drop_more}
 use Rattle.ipmi_bus.specs.declared.step.Place.{Place}
 use Rattle.ipmi_bus.specs.declared.step.Place.TheVariants.{First, Id, End}
 use Rattle.ipmi_bus.specs.declared.step.Ended.TheVariants.{Cycle}
 use Rattle.ipmi_bus.specs.Shelf.{Row}
 use Rattle.ipmi_bus.specs.Store.{Store, rows_of}
 use Rattle.ipmi_bus.specs.Walk.{row_at, IsWalk, WalkEnd, Done, CycleAt, MissingAt, EndsBy, place_after_rows}
-use Rattle.ipmi_bus.specs.Seen.{Seen, IsHonest}
+use Rattle.ipmi_bus.specs.Seen.{Seen, IsHonest, stays_refl}
 use Rattle.ipmi_bus.specs.CursorState.{CursorState, start_of}
 use Rattle.ipmi_bus.specs.Standing.{StandsAt}
-use Rattle.ipmi_bus.specs.Seen.{stays_refl}
 use Rattle.ipmi_command_line.specs.declared.command.Task.{Task}
 use Rattle.ipmi_commands.specs.declared.stop.Stop.{Stop}
 use Rattle.ipmi_commands.specs.declared.stop.Stop.TheVariants as stop
 use Rattle.ipmi_commands.specs.declared.listing.Listed.{Listed}
 use Rattle.ipmi_command_line.specs.declared.command.Task.TheVariants as task
-use Rattle.ipmi_commands.specs.Listing.{is_done, is_reached, stop_at_end, up_to, most_for_one, most_on_walk, IsListing, ListingCalls}
-use Rattle.ipmi_commands.specs.Plan.{first_rows, first_end}
+use Rattle.ipmi_commands.specs.Listing.{is_done, is_reached, stop_at_end, up_to, most_for_one, most_on_walk, IsOutcome, IsListing, ListingCalls, course}
+use Rattle.ipmi_commands.specs.Plan.{Request, OnWalk, Outcome, CountsSo, IsFine, RunEnd, first_rows, first_end, WalkEnds, row_items, run_end, done_end, Printed, request, change}
 use Rattle.ipmi_commands.specs.Pages.{start_at, GoesOn, PageAlong, IsPage, IsStopped, ArePages, pages_made}
-use Rattle.ipmi_commands.specs.Plan.{WalkEnds, row_items, run_end, done_end, Printed}
 use Rattle.ipmi_command_line.specs.Task.{shelf_of}
 use Rattle.ipmi_commands.specs.Plan as plan
 use Rattle.ipmi_commands.proofs.CallLemmas.{digits_most}
 use Rattle.ipmi_commands.proofs.ItemLemmas.{none_printed}
 use Rattle.ipmi_commands.proofs.ListingLemmas.{limit_end}
 use Rattle.ipmi_commands.proofs.NameLemmas.{done_by, end_is}
-use Rattle.ipmi_commands.specs.Plan.{request, change}
-use Rattle.ipmi_commands.specs.Listing.{course}
 
 -- ---- nothing was written
 
@@ -50,25 +45,31 @@ done_of_none : (t : Task) → done_by t false ≡ done_end t []
 done_of_none (task.Get name) = refl
 done_of_none _ = refl
 
--- a page of no record
-pub page_of_none : (t : Task) (start : Place) (tries : ℕ) (s : Seen) (text : List ℕ) → IsHonest s → IsPage (request t start tries) (Some 0) start (change s s text text) (stop_at_end t false)
-page_of_none t start tries s text honest = record {
-  outcome = plan.Finished (done_by t false);
-  outcome_is = end_is t false;
+-- a page that asks for nothing
+quiet_page : (r : Request) (most : Option ℕ) (next : Place) (s : Seen) (text : List ℕ) (outcome : Outcome) (result : Stop) → IsHonest s → IsOutcome result outcome → CountsSo r.tries s s outcome → IsFine outcome
+    → OnWalk r s.store (λ walk end. PageAlong r s.store most walk end next (change s s text text) outcome result) → IsPage r most next (change s s text text) result
+quiet_page r most next s text outcome result honest is counts fine along = record {
+  outcome = outcome;
+  outcome_is = is;
   stays = stays_refl s honest;
-  counts = refl;
+  counts = counts;
   grows = omega arith;
   none = λ zero_. refl;
-  along = λ same walk end w ends. record {
-    leaves = (
-      subst (λ (l : List Row). Printed t s.store (row_items t start l) text text) (sym (none_taken walk)) (none_printed t s.store text),
-      done_of_none t ∙ ap (done_end t) (sym (none_taken walk)) ∙ ap (run_end t (take 0 walk)) (sym (limit_end 0 walk end (omega arith))),
-    );
-    calls = omega arith;
-    goes_on = λ done. inl (ap (place_after_rows start) (sym (none_taken walk)));
-  };
-  plain = λ p. tt;
+  along = λ same. along;
+  plain = λ p. fine;
 }
+
+-- a page of no record
+pub page_of_none : (t : Task) (start : Place) (tries : ℕ) (s : Seen) (text : List ℕ) → IsHonest s → IsPage (request t start tries) (Some 0) start (change s s text text) (stop_at_end t false)
+page_of_none t start tries s text honest = quiet_page (request t start tries) (Some 0) start s text (plan.Finished (done_by t false)) (stop_at_end t false) honest (end_is t false) refl tt
+    (λ walk end w ends. record {
+      leaves = (
+        subst (λ (l : List Row). Printed t s.store (row_items t start l) text text) (sym (none_taken walk)) (none_printed t s.store text),
+        done_of_none t ∙ ap (done_end t) (sym (none_taken walk)) ∙ ap (run_end t (take 0 walk)) (sym (limit_end 0 walk end (omega arith))),
+      );
+      calls = omega arith;
+      goes_on = λ done. inl (ap (place_after_rows start) (sym (none_taken walk)));
+    })
 
 -- no walk goes from where no row is
 pub no_walk : (rows : List Row) (start : Place) (walk : List Row) → row_at start rows ≡ None → IsWalk rows start walk → walk ≡ []
@@ -98,49 +99,36 @@ pub none_wanted : (most : Option ℕ) → is_reached most 0 ≡ true → most �
 none_wanted None none = cc none
 none_wanted (Some n) none = let zero_ : n ≡ 0 = search arith in ap Some zero_
 
--- a page at the end
-pub page_at_end : (t : Task) (most : Option ℕ) (tries : ℕ) (s : Seen) (text : List ℕ) → IsHonest s → IsPage (request t End tries) most End (change s s text text) (stop_at_end t false)
-page_at_end t most tries s text honest = record {
-  outcome = plan.Finished (done_by t false);
-  outcome_is = end_is t false;
-  stays = stays_refl s honest;
-  counts = refl;
-  grows = omega arith;
-  none = λ zero_. refl;
-  along = λ same walk end w ends.
-      let empty = no_walk (rows_of (shelf_of t) s.store) End walk refl w in
-      let done = done_there (rows_of (shelf_of t) s.store) end (subst (λ (l : List Row). EndsBy (rows_of (shelf_of t) s.store) End l end) empty ends) in
-      subst (λ (l : List Row). PageAlong (request t End tries) s.store most l end End (change s s text text) (plan.Finished (done_by t false)) (stop_at_end t false)) (sym empty)
-      (subst (λ (e : WalkEnd). PageAlong (request t End tries) s.store most [] e End (change s s text text) (plan.Finished (done_by t false)) (stop_at_end t false)) (sym done)
-      (record { leaves = (empty_printed t s.store most End text, done_of_none t ∙ ap (done_end t) (sym (no_first most)) ∙ ap (run_end t (first_rows most [])) (sym (end_done most))); calls = omega arith; goes_on = λ d. inl (ap (place_after_rows End) (sym (no_first most))) }));
-  plain = λ p. tt;
-}
+-- a page at a place from which no walk goes, and which has only this end
+page_of_no_rows : (t : Task) (most : Option ℕ) (start : Place) (tries : ℕ) (s : Seen) (text : List ℕ) (only : WalkEnd) (run : RunEnd) (result : Stop) → IsHonest s → ((rows : List Row) → row_at start rows ≡ None)
+    → ((rows : List Row) (end : WalkEnd) → EndsBy rows start [] end → end ≡ only) → IsOutcome result (plan.Finished run) → run ≡ run_end t (first_rows most []) (first_end most [] only)
+    → (result ≡ stop.Done → (rows : List Row) → GoesOn rows start (first_rows most []) start) → IsPage (request t start tries) most start (change s s text text) result
+page_of_no_rows t most start tries s text only run result honest no_row one_end is ends_so goes_on = quiet_page (request t start tries) most start s text (plan.Finished run) result honest is refl tt
+    (λ walk end w ends.
+    let rows = rows_of (shelf_of t) s.store in
+    let empty = no_walk rows start walk (no_row rows) w in
+    let end_is_ = one_end rows end (subst (λ (l : List Row). EndsBy rows start l end) empty ends) in
+    subst (λ (l : List Row). PageAlong (request t start tries) s.store most l end start (change s s text text) (plan.Finished run) result) (sym empty)
+    (subst (λ (e : WalkEnd). PageAlong (request t start tries) s.store most [] e start (change s s text text) (plan.Finished run) result) (sym end_is_)
+    (record { leaves = (empty_printed t s.store most start text, ends_so); calls = omega arith; goes_on = λ done. goes_on done rows })))
+
+end_done : (most : Option ℕ) → first_end most [] Done ≡ Done
+end_done None = refl
+end_done (Some n) = by_case (nat_le n 0)
   where
-    end_done : (most : Option ℕ) → first_end most [] Done ≡ Done
-    end_done None = refl
-    end_done (Some n) = by_case (nat_le n 0)
-      where
-        by_case : (b : Bool) → cond b Done Done ≡ Done
-        by_case true = refl
-        by_case false = refl
+    by_case : (b : Bool) → cond b Done Done ≡ Done
+    by_case true = refl
+    by_case false = refl
+
+-- a page at the end
+page_at_end : (t : Task) (most : Option ℕ) (tries : ℕ) (s : Seen) (text : List ℕ) → IsHonest s → IsPage (request t End tries) most End (change s s text text) (stop_at_end t false)
+page_at_end t most tries s text honest = page_of_no_rows t most End tries s text Done (done_by t false) (stop_at_end t false) honest (λ rows. refl) done_there (end_is t false)
+    (done_of_none t ∙ ap (done_end t) (sym (no_first most)) ∙ ap (run_end t (first_rows most [])) (sym (end_done most))) (λ done rows. inl (ap (place_after_rows End) (sym (no_first most))))
 
 -- a page at the id 0000h
-pub page_at_zero : (t : Task) (most : Option ℕ) (tries : ℕ) (s : Seen) (text : List ℕ) → (most ≡ Some 0 → ⊥) → IsHonest s → IsPage (request t (Id 0) tries) most (Id 0) (change s s text text) (stop.Ended (Cycle 0))
-page_at_zero t most tries s text some honest = record {
-  outcome = plan.Finished (WalkEnds (CycleAt 0));
-  outcome_is = refl;
-  stays = stays_refl s honest;
-  counts = refl;
-  grows = omega arith;
-  none = λ zero_. refl;
-  along = λ same walk end w ends.
-      let empty = no_walk (rows_of (shelf_of t) s.store) (Id 0) walk refl w in
-      let cycle = cycle_there (rows_of (shelf_of t) s.store) end (subst (λ (l : List Row). EndsBy (rows_of (shelf_of t) s.store) (Id 0) l end) empty ends) in
-      subst (λ (l : List Row). PageAlong (request t (Id 0) tries) s.store most l end (Id 0) (change s s text text) (plan.Finished (WalkEnds (CycleAt 0))) (stop.Ended (Cycle 0))) (sym empty)
-      (subst (λ (e : WalkEnd). PageAlong (request t (Id 0) tries) s.store most [] e (Id 0) (change s s text text) (plan.Finished (WalkEnds (CycleAt 0))) (stop.Ended (Cycle 0))) (sym cycle)
-      (record { leaves = (empty_printed t s.store most (Id 0) text, ap (run_end t (first_rows most [])) (sym (end_of_none most (CycleAt 0) some))); calls = omega arith; goes_on = λ d. cc d }));
-  plain = λ p. tt;
-}
+page_at_zero : (t : Task) (most : Option ℕ) (tries : ℕ) (s : Seen) (text : List ℕ) → (most ≡ Some 0 → ⊥) → IsHonest s → IsPage (request t (Id 0) tries) most (Id 0) (change s s text text) (stop.Ended (Cycle 0))
+page_at_zero t most tries s text some honest = page_of_no_rows t most (Id 0) tries s text (CycleAt 0) (WalkEnds (CycleAt 0)) (stop.Ended (Cycle 0)) honest (λ rows. refl) cycle_there refl
+    (ap (run_end t (first_rows most [])) (sym (end_of_none most (CycleAt 0) some))) (λ done rows. cc done)
 
 -- a page where no cursor is needed
 pub page_without : (t : Task) (most : Option ℕ) (place : Place) (tries : ℕ) (s : Seen) (text : List ℕ) (st : Stop) → (most ≡ Some 0 → ⊥) → start_at t place ≡ Err st → IsHonest s → IsPage (request t place tries) most place (change s s text text) st
@@ -158,16 +146,8 @@ page_without t most End tries s text st some at honest = let is : stop_at_end t 
 
 -- a page for whose cursor no memory was left
 pub page_without_memory : (t : Task) (most : Option ℕ) (place : Place) (tries : ℕ) (s : Seen) (text : List ℕ) → IsHonest s → IsPage (request t place tries) most place (change s s text text) stop.Memory
-page_without_memory t most place tries s text honest = record {
-  outcome = plan.OutOfMemory;
-  outcome_is = refl;
-  stays = stays_refl s honest;
-  counts = refl;
-  grows = omega arith;
-  none = λ zero_. refl;
-  along = λ same walk end w ends. record { leaves = record { done = []; rest = row_items t place (first_rows most walk); items_are = refl; printed = none_printed t s.store text }; calls = omega arith; goes_on = λ d. cc d };
-  plain = λ p. tt;
-}
+page_without_memory t most place tries s text honest = quiet_page (request t place tries) most place s text plan.OutOfMemory stop.Memory honest refl refl tt
+    (λ walk end w ends. record { leaves = record { done = []; rest = row_items t place (first_rows most walk); items_are = refl; printed = none_printed t s.store text }; calls = omega arith; goes_on = λ done. cc done })
 
 -- ---- a page by a cursor
 
@@ -189,14 +169,7 @@ goes_on_there rows start most walk now stands first = elim stands.place [ inl at
 -- the first rows are as many as there are of them
 pub first_taken : (most : Option ℕ) (walk : List Row) → take (length (first_rows most walk)) walk ≡ first_rows most walk
 first_taken None walk = take_all (length walk) walk (omega arith)
-first_taken (Some n) walk = by_case (nat_lt n (length walk)) refl
-  where
-    by_case : (b : Bool) → nat_lt n (length walk) ≡ b → take (length (take n walk)) walk ≡ take n walk
-    by_case true e = let le : n ≤ length walk = search arith in ap (λ (k : ℕ). take k walk) (length-take-le n walk le)
-    by_case false e =
-        let past = ltb-false n (length walk) e in
-        let all = take_all n walk past in
-        ap (λ (l : List Row). take (length l) walk) all ∙ take_all (length walk) walk (omega arith) ∙ sym all
+first_taken (Some n) walk = ap (λ (k : ℕ). take k walk) (length-take n walk) ∙ take_min n walk
 
 pub page_by_cursor : (t : Task) (most : Option ℕ) (place : Place) (tries : ℕ) (begun now : CursorState) (s s' : Seen) (text text' : List ℕ) (result : Listed) → (most ≡ Some 0 → ⊥) → begun.reservation ≡ None → 0 < begun.part
     → ((rows walk : List Row) → StandsAt rows place walk 0 begun) → IsListing t tries (up_to most) (course begun now s s' text text') result → IsPage (request t place tries) most now.place (change s s' text text') result.stop
@@ -229,38 +202,40 @@ page_calls t tries begun now s s' part listing = let eight = digits_most begun.p
 abbrev pub LeadsTo : Task → List ℕ → List ℕ → Place → Place → ℕ → Seen → Seen → List ℕ → List ℕ → Type 0
 LeadsTo t all left start now tries s s' old text = (s'' : Seen) (new : List ℕ) (result : Stop) → ArePages (request t now tries) left (change s' s'' text new) result → ArePages (request t start tries) all (change s s'' old new) result
 
-pub page_leads : (t : Task) (all left : List ℕ) (size : ℕ) (start now next : Place) (tries : ℕ) (s s' s'' : Seen) (old text text' : List ℕ) → LeadsTo t all (size ∷ left) start now tries s s' old text → IsPage (request t now tries) (Some size) next (change s' s'' text text') stop.Done
-    → LeadsTo t all left start next tries s s'' old text'
-page_leads t all left size start now next tries s s' s'' old text text' leads page = λ last new result rest. leads last new result (inr (record { next = next; seen = s''; text = text'; page = page; rest = rest }))
+module _ (t : Task) (all : List ℕ) (k : ℕ) (start now next : Place) (tries : ℕ) (s s' s'' : Seen) (old text text' : List ℕ) (there : k < length all) (leads : LeadsTo t all (drop k all) start now tries s s' old text) where
+  leads_here : LeadsTo t all (get_or all k 0 ∷ drop (k + 1) all) start now tries s s' old text
+  leads_here = subst (λ (l : List ℕ). LeadsTo t all l start now tries s s' old text) (at_drop_more (λ (l : List ℕ). l) all k 0 there) leads
 
-pub last_leads : (t : Task) (all left : List ℕ) (size : ℕ) (start now next : Place) (tries : ℕ) (s s' s'' : Seen) (old text text' : List ℕ) (result : Stop) → LeadsTo t all (size ∷ left) start now tries s s' old text → IsPage (request t now tries) (Some size) next (change s' s'' text text') result → IsStopped result
-    → ArePages (request t start tries) all (change s s'' old text') result
-last_leads t all left size start now next tries s s' s'' old text text' result leads page stopped = leads s'' text' result (inl (record { next = next; page = page }, stopped))
+  pub page_leads : IsPage (request t now tries) (Some (get_or all k 0)) next (change s' s'' text text') stop.Done → LeadsTo t all (drop (k + 1) all) start next tries s s'' old text'
+  page_leads page = λ last new result rest. leads_here last new result (inr (record { next = next; seen = s''; text = text'; page = page; rest = rest }))
 
-pub all_lead : (t : Task) (all : List ℕ) (start now next : Place) (tries : ℕ) (s s' s'' : Seen) (old text text' : List ℕ) (result : Stop) → LeadsTo t all [] start now tries s s' old text → IsPage (request t now tries) None next (change s' s'' text text') result → ArePages (request t start tries) all (change s s'' old text') result
-all_lead t all start now next tries s s' s'' old text text' result leads page = leads s'' text' result (record { next = next; page = page })
+  pub last_leads : (result : Stop) → IsPage (request t now tries) (Some (get_or all k 0)) next (change s' s'' text text') result → IsStopped result → ArePages (request t start tries) all (change s s'' old text') result
+  last_leads result page stopped = leads_here s'' text' result (inl (record { next = next; page = page }, stopped))
 
 -- a listing that is done is done after its last record
 pub done : (result : Stop) → is_done result ≡ true → result ≡ stop.Done
 done stop.Done is = refl
 done _ is = cc is
 
--- the calls of a page: none where it wants no record
-pub made_one : (size : ℕ) (sizes : List ℕ) (most : ℕ) → (size == 0) ≡ false → pages_made (size ∷ sizes) * most ≡ pages_made sizes * most + most
-made_one size sizes most some = let one : pages_made (size ∷ sizes) ≡ pages_made sizes + 1 = ap (λ (b : Bool). cond b (pages_made sizes) (pages_made sizes + 1)) some in ap (λ (n : ℕ). n * most) one ∙ (let same : (pages_made sizes + 1) * most ≡ pages_made sizes * most + most = omega arith in same)
-
-pub made_none : (size : ℕ) (sizes : List ℕ) (most : ℕ) → (size == 0) ≡ true → pages_made (size ∷ sizes) * most ≡ pages_made sizes * most
-made_none size sizes most none = let same : pages_made (size ∷ sizes) ≡ pages_made sizes = ap (λ (b : Bool). cond b (pages_made sizes) (pages_made sizes + 1)) none in ap (λ (n : ℕ). n * most) same
-
-pub calls_of_page : (size : ℕ) (sizes : List ℕ) (most bound : ℕ) (s s' : Seen) → s'.calls ≤ s.calls + most → (Some size ≡ Some 0 → s' ≡ s) → s.calls + pages_made (size ∷ sizes) * most ≤ bound → s'.calls + pages_made sizes * most ≤ bound
-calls_of_page size sizes most bound s s' page none before = by_case (size == 0) refl
+-- the calls of a page, none where it wants no record, and of those after it
+pub calls_of_page : (size : ℕ) (sizes : List ℕ) (more most : ℕ) (s s' : Seen) → s'.calls ≤ s.calls + more + most → (Some size ≡ Some 0 → s' ≡ s)
+    → s'.calls + pages_made sizes * most ≤ s.calls + more + pages_made (size ∷ sizes) * most
+calls_of_page size sizes more most s s' page none = by_case (size == 0) refl
   where
-    by_case : (b : Bool) → (size == 0) ≡ b → s'.calls + pages_made sizes * most ≤ bound
+    by_case : (b : Bool) → (size == 0) ≡ b → s'.calls + pages_made sizes * most ≤ s.calls + more + pages_made (size ∷ sizes) * most
     by_case true e =
         let zero_ : size ≡ 0 = search arith in
         let same = ap (λ (x : Seen). x.calls) (none (ap Some zero_)) in
-        let made = made_none size sizes most e in omega (arith, same, made, before)
-    by_case false e = let made = made_one size sizes most e in omega (arith, page, made, before)
+        let made = ap (λ (b : Bool). cond b (pages_made sizes) (pages_made sizes + 1) * most) e in omega (arith, same, made)
+    by_case false e =
+        let made = ap (λ (b : Bool). cond b (pages_made sizes) (pages_made sizes + 1) * most) e in
+        let one : (pages_made sizes + 1) * most ≡ pages_made sizes * most + most = omega arith in omega (arith, page, made, one)
+
+pub calls_after_page : (sizes : List ℕ) (k most bound : ℕ) (s s' : Seen) → k < length sizes → s'.calls ≤ s.calls + most → (Some (get_or sizes k 0) ≡ Some 0 → s' ≡ s)
+    → s.calls + pages_made (drop k sizes) * most ≤ bound → s'.calls + pages_made (drop (k + 1) sizes) * most ≤ bound
+calls_after_page sizes k most bound s s' there page none before =
+    let made = at_drop_more (λ (l : List ℕ). pages_made l * most) sizes k 0 there in
+    let after = calls_of_page (get_or sizes k 0) (drop (k + 1) sizes) 0 most s s' (omega (arith, page)) none in omega (arith, before, made, after)
 
 -- the calls of all pages, where a page is the last
 pub calls_of_all : (calls made most bound : ℕ) → calls + made * most ≤ bound → calls ≤ bound

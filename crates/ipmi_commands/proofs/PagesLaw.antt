@@ -1,5 +1,6 @@
 -- Pages over a chain that does not end by a cycle are one listing.
-use Rattle.std.proofs.Common.{◌≡◌, inl, inr, ℕ, ◌+◌, ◌*◌, ◌<◌, ◌≤◌, ◌==◌, nat_le, Bool, true, false, cond, ◌||◌, IsTrue, None, Some, List, [], ◌∷◌, ◌++◌, length, take, drop, refl, sym, ap, subst, ◌∙◌, append_assoc, append-nil, arith}
+use Rattle.std.proofs.Common.{◌≡◌, inl, inr, ℕ, ◌+◌, ◌*◌, ◌<◌, ◌≤◌, ◌==◌, nat_le, Bool, true, false, cond, IsTrue, None, Some, List, [], ◌∷◌, ◌++◌, length, take, drop, refl, sym, ap, subst, ◌∙◌, append_assoc, append-nil, arith}
+use Rattle.std.proofs.lemmas.Bool.{or_parts}
 use Rattle.std.proofs.lemmas.List.{take_all, take-append-drop}
 use Rattle.std.proofs.Math.Seq.{take-nil, drop-nil}
 use Rattle.ipmi_bus.specs.Bounds.{step_call_bound}
@@ -7,25 +8,21 @@ use Rattle.ipmi_bus.specs.declared.controller.Shelf.{Shelf}
 use Rattle.ipmi_bus.specs.declared.step.Place.{Place}
 use Rattle.ipmi_bus.specs.declared.step.Place.TheVariants.{First, Id, End}
 use Rattle.ipmi_bus.specs.Shelf.{Row, IsShelf, first_row, look}
-use Rattle.ipmi_bus.specs.Store.{Store, rows_of}
+use Rattle.ipmi_bus.specs.Store.{Store, rows_of, store_shelf}
 use Rattle.ipmi_bus.specs.Walk.{row_at, IsWalk, TailIsWalk, WalkEnd, Done, CycleAt, MissingAt, EndsBy, EndsAfter, EndsEmpty, last_next, has_id, place_after, place_after_rows}
-use Rattle.ipmi_bus.specs.Seen.{Seen, IsHonest, StaysHonest}
-use Rattle.ipmi_bus.specs.Store.{store_shelf}
-use Rattle.ipmi_bus.specs.Seen.{stays_trans}
+use Rattle.ipmi_bus.specs.Seen.{Seen, IsHonest, StaysHonest, stays_trans}
 use Rattle.ipmi_command_line.specs.declared.command.Task.{Task}
 use Rattle.ipmi_commands.specs.declared.stop.Stop.{Stop}
-use Rattle.ipmi_commands.specs.declared.stop.Stop.TheVariants as stop
 use Rattle.ipmi_commands.specs.Listing.{calls_for, first_plan, IsOutcome}
-use Rattle.ipmi_commands.specs.Plan.{first_end}
-use Rattle.ipmi_commands.specs.Pages.{GoesOn, PageAlong, IsStopped, ArePages, pages_made, IsOpen}
+use Rattle.ipmi_commands.specs.Plan.{first_end, Plan, Item, Spot, RunEnd, WalkEnds, run_end, row_items, Printed, Outcome, IsAllowed, CountsSo, IsFine, IsAmong, StopsAt, spots_at, end_spots, request, change}
+use Rattle.ipmi_commands.specs.Pages.{GoesOn, IsStopped, ArePages, pages_made, IsOpen}
 use Rattle.ipmi_command_line.specs.declared.command.Task.TheVariants as task
-use Rattle.ipmi_commands.specs.Plan.{Plan, Item, Spot, RunEnd, WalkEnds, run_end, row_items, Printed, Outcome, IsAllowed, CountsSo, IsFine, IsAmong, StopsAt, spots_at, end_spots}
 use Rattle.ipmi_command_line.specs.Task.{is_listing, shelf_of}
 use Rattle.ipmi_commands.specs.Plan as plan
+use Rattle.ipmi_commands.proofs.CallLemmas.{calls_split}
 use Rattle.ipmi_commands.proofs.ListingLemmas.{counts_since, stopped_otherwise}
-use Rattle.ipmi_commands.proofs.PageLemmas.{made_one, made_none, no_walk}
+use Rattle.ipmi_commands.proofs.PageLemmas.{calls_of_page, no_walk}
 use Rattle.ipmi_commands.proofs.ItemLemmas.{items_joined, end_joined, after_items, leaves_joined}
-use Rattle.ipmi_commands.specs.Plan.{request, change}
 
 -- a listing ends as its walk does
 run_plain : (t : Task) → is_listing t ≡ true → (rows : List Row) (end : WalkEnd) → run_end t rows end ≡ WalkEnds end
@@ -50,11 +47,7 @@ module _ (walk_tail : TailIsWalk) where
   rest_ends rows start d [] end ends open_ = no_more rows d.next (d ∷ []) end ends open_
   rest_ends rows start d (r ∷ rest) Done ends open_ = ends
   rest_ends rows start d (r ∷ rest) (CycleAt n) ends open_ = absurd open_
-  rest_ends rows start d (r ∷ rest) (MissingAt n) ends open_ = (ends.0, ends.1, ends.2, lacks ((last_next r.next rest) == d.id) (has_id (r ∷ rest) (last_next r.next rest)) ends.3, ends.4)
-    where
-      lacks : (a b : Bool) → (a || b) ≡ false → b ≡ false
-      lacks true b e = cc e
-      lacks false b e = e
+  rest_ends rows start d (r ∷ rest) (MissingAt n) ends open_ = (ends.0, ends.1, ends.2, (or_parts (last_next r.next rest == d.id) (has_id (r ∷ rest) (last_next r.next rest)) ends.3).1, ends.4)
 
   rest_of_walk : (shelf : Shelf) (rows : List Row) (start : Place) (done rest : List Row) (end : WalkEnd) → IsShelf shelf rows → IsOpen end → IsWalk rows start (done ++ rest) → EndsBy rows start (done ++ rest) end
       → IsWalk rows (place_after_rows start done) rest × EndsBy rows (place_after_rows start done) rest end
@@ -134,14 +127,6 @@ module _ (walk_tail : TailIsWalk) where
 
   -- ---- calls
 
-  calls_joined : (t : Task) (store : Store) (tries : ℕ) (done rest : List Row) → calls_for t store tries (done ++ rest) ≡ calls_for t store tries done + calls_for t store tries rest
-  calls_joined t store tries [] rest = omega arith
-  calls_joined t store tries (d ∷ done) rest = let more = calls_joined t store tries done rest in omega (arith, more)
-
-  -- those of a page, and of the rows after it
-  calls_split : (t : Task) (store : Store) (tries size : ℕ) (walk : List Row) → calls_for t store tries (take size walk) + calls_for t store tries (drop size walk) ≡ calls_for t store tries walk
-  calls_split t store tries size walk = sym (calls_joined t store tries (take size walk) (drop size walk)) ∙ ap (calls_for t store tries) (take-append-drop size walk)
-
   -- the calls of the pages after a page
   behind_calls : (t : Task) (store : Store) (rows : List Row) (start next : Place) (walk : List Row) (end : WalkEnd) (size tries calls before : ℕ) → IsShelf (shelf_of t) rows → IsWalk rows start walk → EndsBy rows start walk end → IsOpen end → GoesOn rows start (take size walk) next
       → ((w : List Row) (e : WalkEnd) → IsWalk rows next w → EndsBy rows next w e → IsOpen e → calls ≤ before + calls_for t store tries w) → calls ≤ before + calls_for t store tries (drop size walk)
@@ -160,20 +145,6 @@ module _ (walk_tail : TailIsWalk) where
           let none : calls ≤ before + calls_for t store tries [] =
           subst (λ (p : Place). IsWalk rows p [] → EndsBy rows p [] Done → calls ≤ before + calls_for t store tries []) at (λ w' ends'. rest [] Done w' ends' tt) (record { of_shelf = tt; distinct = tt; first = tt; links = tt }) tt in
           omega (arith, none)
-
-  -- the calls of a page, and what is left for those after it
-  page_made : (t : Task) (store : Store) (start next : Place) (walk : List Row) (end : WalkEnd) (size tries : ℕ) (sizes : List ℕ) (s s' : Seen) (old new : List ℕ) (outcome : Outcome) (result : Stop) → PageAlong (request t start tries) store (Some size) walk end next (change s s' old new) outcome result
-      → (Some size ≡ Some 0 → s' ≡ s) → s'.calls + pages_made sizes * (step_call_bound tries 0 + 7) ≤ s.calls + calls_for t store tries (take size walk) + pages_made (size ∷ sizes) * (step_call_bound tries 0 + 7)
-  page_made t store start next walk end size tries sizes s s' old new outcome result along none = by_case (size == 0) refl
-    where
-      by_case : (b : Bool) → (size == 0) ≡ b → s'.calls + pages_made sizes * (step_call_bound tries 0 + 7) ≤ s.calls + calls_for t store tries (take size walk) + pages_made (size ∷ sizes) * (step_call_bound tries 0 + 7)
-      by_case true e =
-          let zero_ : size ≡ 0 = search arith in
-          let same = ap (λ (x : Seen). x.calls) (none (ap Some zero_)) in
-          let made = made_none size sizes (step_call_bound tries 0 + 7) e in omega (arith, same, made)
-      by_case false e =
-          let page = along.calls in
-          let made = made_one size sizes (step_call_bound tries 0 + 7) e in omega (arith, page, made)
 
   -- ---- the law
 
@@ -275,7 +246,8 @@ module _ (walk_tail : TailIsWalk) where
     leaves = λ same walk end w ends open_.
         leaves_wide t s.store (rows_of (shelf_of t) s.store) start walk end ends size old new listing result last.0.page.outcome last.1 last.0.page.outcome_is (last.0.page.along same walk end w ends).leaves;
     calls = λ same walk end w ends open_.
-        let made = page_made t s.store start last.0.next walk end size tries sizes s s' old new last.0.page.outcome result (last.0.page.along same walk end w ends) last.0.page.none in
+        let page = (last.0.page.along same walk end w ends).calls in
+        let made = calls_of_page size sizes (calls_for t s.store tries (take size walk)) (step_call_bound tries 0 + 7) s s' (omega (arith, page)) last.0.page.none in
         let rows = calls_split t s.store tries size walk in omega (arith, made, rows);
     plain = last.0.page.plain;
   }
@@ -308,7 +280,8 @@ module _ (walk_tail : TailIsWalk) where
             behind_calls t s.store (rows_of (shelf_of t) s.store) start more.next walk end size tries s'.calls (more.seen.calls + pages_made sizes * (step_call_bound tries 0 + 7)) (store_shelf (shelf_of t) s.store honest.store) w ends open_ (along.goes_on refl)
             (subst (λ (x : Store). (w : List Row) (e : WalkEnd) → IsWalk (rows_of (shelf_of t) x) more.next w → EndsBy (rows_of (shelf_of t) x) more.next w e → IsOpen e → s'.calls ≤ more.seen.calls + pages_made sizes * (step_call_bound tries 0 + 7) + calls_for t x tries w) (page.stays.store.stays first)
             (λ w' e' is' ends' open'. let calls = later.calls second w' e' is' ends' open' in omega (arith, calls))) in
-            let made = page_made t s.store start more.next walk end size tries sizes s more.seen old more.text page.outcome stop.Done along page.none in
+            let asked = along.calls in
+            let made = calls_of_page size sizes (calls_for t s.store tries (take size walk)) (step_call_bound tries 0 + 7) s more.seen (omega (arith, asked)) page.none in
             let rows = calls_split t s.store tries size walk in omega (arith, behind, made, rows);
         plain = λ p. later.plain (page.stays.plain p);
       }

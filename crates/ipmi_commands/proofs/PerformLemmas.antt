@@ -1,5 +1,5 @@
 -- A task of one text, and all inventories: a text and then a listing.
-use Rattle.std.proofs.Common.{◌≡◌, ℕ, ◌+◌, ◌<◌, ◌≤◌, IsTrue, Bool, true, false, Option, None, Some, Result, Ok, Err, String, string_bytes, Global, List, [], ◌∷◌, ◌++◌, length, refl, sym, ap, subst, arith}
+use Rattle.std.proofs.Common.{◌≡◌, ℕ, ◌<◌, ◌≤◌, IsTrue, Bool, true, false, Option, None, Some, Result, Ok, Err, String, string_bytes, Global, List, [], ◌∷◌, ◌++◌, length, refl, sym, ap, subst, arith}
 use Rattle.ipmi_bus.specs.declared.controller.Shelf.{Shelf}
 use Rattle.ipmi_bus.specs.declared.step.Place.{Place}
 use Rattle.ipmi_bus.specs.Seen.{Seen, stays_trans}
@@ -13,10 +13,10 @@ use Rattle.ipmi_commands.specs.declared.stop.Stop.TheVariants as stop
 use Rattle.ipmi_commands.specs.Listing.{is_done, first_plan, AsksAt, IsOutcome, Finds, FindsInfo, IsBlockOfInfo, MayStopAt, calls_at_spots, run_call_bound}
 use Rattle.ipmi_commands.specs.Pages.{IsPage, PageAlong}
 use Rattle.ipmi_output.specs.Sink.{TakesPart}
-use Rattle.ipmi_commands.specs.Plan.{Request, request, Change, change, OnWalk, Plan, Item, OfInfo, Spot, AtRecord, RunEnd, WalkEnds, run_end, row_items, end_spots, IsItemText, Printed, Outcome, IsAllowed, CountsSo, IsFine, spots_at, inventory_item, info_plan, plan_of}
+use Rattle.ipmi_commands.specs.Plan.{Request, request, Change, change, OnWalk, Plan, Item, OfInfo, Spot, AtRecord, AtInventory, RunEnd, WalkEnds, run_end, row_items, end_spots, IsItemText, Printed, Outcome, IsAllowed, CountsSo, IsFine, spots_at, inventory_item, info_plan, plan_of}
 use Rattle.ipmi_commands.specs.Plan as plan
 use Rattle.ipmi_commands.specs.Run.{Performs, WritesFound}
-use Rattle.ipmi_commands.proofs.ItemLemmas.{none_printed, one_printed, after_items, leaves_joined}
+use Rattle.ipmi_commands.proofs.ItemLemmas.{none_printed, one_printed, first_cut, after_items, leaves_joined}
 use Rattle.ipmi_commands.proofs.ListingLemmas.{counts_since}
 use Rattle.ipmi_commands.proofs.PageLemmas.{done}
 
@@ -66,19 +66,7 @@ module _ (t : Task) (item : Item) (tries : ℕ) (c : Change) where
     outcome_is = refl;
     counts = finds.refusals;
     plain = λ p. tt;
-    allowed = λ more e at_end same. record {
-      done = [];
-      item = item;
-      rest = more;
-      items_are = refl;
-      whole = c.old;
-      printed = none_printed t c.seen.store c.old;
-      text = string_bytes text;
-      is_text = finds.is same;
-      some = writes.0;
-      bytes = writes.1.0;
-      new_is = writes.1.1;
-    };
+    allowed = λ more e at_end same. first_cut t c.seen.store (record { items = item ∷ more; end = e; end_spots = at_end }) item more (string_bytes text) c.old c.new refl (finds.is same) writes.0 writes.1;
   }
   text_stops (Ok text) _ finds writes stopped = absurd writes
   text_stops (Err e) result finds writes stopped = record {
@@ -98,47 +86,46 @@ never_found t item tries s s' (Err e) finds is =
     let ended = subst (λ (x : Stop). IsOutcome x finds.outcome) done finds.outcome_is in
     subst (MayStopAt item.spots) ended finds.there
 
--- ---- a task of one text
+-- ---- a task that goes along no walk before it stops
 
+-- it asks at these spots only
+asked_performs : (r : Request) (spots : List Spot) (c : Change) (result : Stop) (outcome : Outcome) → ((walk : List Row) (end : WalkEnd) → calls_at_spots r.tries c.seen.store spots ≤ run_call_bound r.task c.seen.store r.tries walk end)
+    → AsksAt spots r.tries c.seen c.seen' → IsOutcome result outcome → CountsSo r.tries c.seen c.seen' outcome → (IsTrue c.seen.plain → IsFine outcome)
+    → (c.seen'.stores_added ≡ c.seen.stores_added → (walk : List Row) (end : WalkEnd) → IsAllowed r.task c.seen.store (plan_of r.task c.seen.store r.start walk end) c.old c.new outcome) → Performs r c result
+asked_performs r spots c result outcome bound asks is counts plain allowed = record {
+  outcome = outcome;
+  outcome_is = is;
+  stays = asks.stays;
+  counts = counts;
+  plain = plain;
+  allowed = λ same walk end w ends. allowed same walk end;
+  calls = λ same walk end w ends. let calls = asks.calls same in let most = bound walk end in omega (arith, calls, most);
+}
+
+-- a task of one text
 pub one_text_performs : (r : Request) (item : Item) (c : Change) (found : Result (String Global) Stop) (result : Stop)
     → ((store : Store) (walk : List Row) (end : WalkEnd) → plan_of r.task store r.start walk end ≡ record { items = item ∷ []; end = WalkEnds Done; end_spots = [] })
     → ((store : Store) (walk : List Row) (end : WalkEnd) → calls_at_spots r.tries store item.spots ≤ run_call_bound r.task store r.tries walk end)
     → FindsItem r.task item r.tries c.seen c.seen' found → WritesFound found c.old c.new result → Performs r c result
 one_text_performs r item c found result plan_is bound_is finds writes = by_case (is_done result) refl
   where
-    within : AsksAt item.spots r.tries c.seen c.seen' → c.seen'.stores_added ≡ c.seen.stores_added → (walk : List Row) (end : WalkEnd) → c.seen'.calls ≤ c.seen.calls + run_call_bound r.task c.seen.store r.tries walk end
-    within asks same walk end = let calls = asks.calls same in let bound = bound_is c.seen.store walk end in omega (arith, calls, bound)
-
     by_case : (b : Bool) → is_done result ≡ b → Performs r c result
     by_case false stopped =
         let stops = text_stops r.task item r.tries c found result finds writes stopped in
-        record {
-          outcome = stops.outcome;
-          outcome_is = stops.outcome_is;
-          stays = stops.asks.stays;
-          counts = stops.counts;
-          plain = stops.plain;
-          allowed = λ same walk end w ends. subst (λ (p : Plan). IsAllowed r.task c.seen.store p c.old c.new stops.outcome) (sym (plan_is c.seen.store walk end)) (stops.allowed [] (WalkEnds Done) [] same);
-          calls = λ same walk end w ends. within stops.asks same walk end;
-        }
+        asked_performs r item.spots c result stops.outcome (bound_is c.seen.store) stops.asks stops.outcome_is stops.counts stops.plain
+        (λ same walk end. subst (λ (p : Plan). IsAllowed r.task c.seen.store p c.old c.new stops.outcome) (sym (plan_is c.seen.store walk end)) (stops.allowed [] (WalkEnds Done) [] same))
     by_case true is =
         let is_done_ = done result is in
         let written = text_written r.task item r.tries c found finds (subst (WritesFound found c.old c.new) is_done_ writes) (never_found r.task item r.tries c.seen c.seen' found finds) in
-        record {
-          outcome = plan.Finished (WalkEnds Done);
-          outcome_is = subst (λ (x : Stop). IsOutcome x (plan.Finished (WalkEnds Done))) (sym is_done_) refl;
-          stays = written.asks.stays;
-          counts = written.refusals;
-          plain = λ p. tt;
-          allowed = λ same walk end w ends. subst (λ (p : Plan). IsAllowed r.task c.seen.store p c.old c.new (plan.Finished (WalkEnds Done))) (sym (plan_is c.seen.store walk end)) (written.printed same, refl);
-          calls = λ same walk end w ends. within written.asks same walk end;
-        }
+        asked_performs r item.spots c result (plan.Finished (WalkEnds Done)) (bound_is c.seen.store) written.asks (subst (λ (x : Stop). IsOutcome x (plan.Finished (WalkEnds Done))) (sym is_done_) refl) written.refusals (λ p. tt)
+        (λ same walk end. subst (λ (p : Plan). IsAllowed r.task c.seen.store p c.old c.new (plan.Finished (WalkEnds Done))) (sym (plan_is c.seen.store walk end)) (written.printed same, refl))
 
 -- ---- the info of a shelf
 
 module _ (shelf : Shelf) (start : Place) (tries : ℕ) (c : Change) where
-  info_asked : (walk : List Row) (end : WalkEnd) → AsksAt (AtRecord 0 ∷ []) tries c.seen c.seen' → c.seen'.stores_added ≡ c.seen.stores_added → c.seen'.calls ≤ c.seen.calls + run_call_bound (task.Info shelf) c.seen.store tries walk end
-  info_asked walk end asks same = let calls = asks.calls same in omega (arith, calls)
+  info_asked : (result : Stop) (outcome : Outcome) → AsksAt (AtRecord 0 ∷ []) tries c.seen c.seen' → IsOutcome result outcome → CountsSo tries c.seen c.seen' outcome → (IsTrue c.seen.plain → IsFine outcome)
+      → (c.seen'.stores_added ≡ c.seen.stores_added → IsAllowed (task.Info shelf) c.seen.store (info_plan (info_of shelf c.seen.store)) c.old c.new outcome) → Performs (request (task.Info shelf) start tries) c result
+  info_asked result outcome asks is counts plain allowed = asked_performs (request (task.Info shelf) start tries) (AtRecord 0 ∷ []) c result outcome (λ walk end. omega arith) asks is counts plain (λ same walk end. allowed same)
 
   info_printed : (o : Option (List ℕ)) (text : List ℕ) → IsBlockOfInfo o text → c.new ≡ c.old ++ text → IsAllowed (task.Info shelf) c.seen.store (info_plan o) c.old c.new (plan.Finished (WalkEnds Done))
   info_printed None text is wrote = absurd is
@@ -146,19 +133,7 @@ module _ (shelf : Shelf) (start : Place) (tries : ℕ) (c : Change) where
 
   info_cut : (o : Option (List ℕ)) (text : List ℕ) → IsBlockOfInfo o text → 0 < length text → TakesPart c.old c.new text → IsAllowed (task.Info shelf) c.seen.store (info_plan o) c.old c.new plan.WriteFault
   info_cut None text is some part = absurd is
-  info_cut (Some info) text is some part = record {
-    done = [];
-    item = record { subject = OfInfo info; spots = AtRecord 0 ∷ [] };
-    rest = [];
-    items_are = refl;
-    whole = c.old;
-    printed = none_printed (task.Info shelf) c.seen.store c.old;
-    text = text;
-    is_text = is;
-    some = some;
-    bytes = part.0;
-    new_is = part.1;
-  }
+  info_cut (Some info) text is some part = first_cut (task.Info shelf) c.seen.store (info_plan (Some info)) (record { subject = OfInfo info; spots = AtRecord 0 ∷ [] }) [] text c.old c.new refl is some part
 
   info_stops : (o : Option (List ℕ)) (outcome : Outcome) → c.new ≡ c.old → MayStopAt (AtRecord 0 ∷ []) outcome → IsAllowed (task.Info shelf) c.seen.store (info_plan o) c.old c.new outcome
   info_stops None outcome same may = stops_first (task.Info shelf) c.seen.store (info_plan None) c.old c.new outcome same may
@@ -170,43 +145,17 @@ module _ (shelf : Shelf) (start : Place) (tries : ℕ) (c : Change) where
       subst (λ (x : Option (List ℕ)). IsAllowed (task.Info shelf) c.seen.store (info_plan x) c.old c.new (plan.Finished plan.NoInfo)) (sym none) printed
 
   pub info_performs : (found : Result (String Global) Stop) (result : Stop) → FindsInfo shelf tries c.seen c.seen' found → WritesFound found c.old c.new result → Performs (request (task.Info shelf) start tries) c result
-  info_performs (Ok text) stop.Done finds writes = record {
-    outcome = plan.Finished (WalkEnds Done);
-    outcome_is = refl;
-    stays = finds.asks.stays;
-    counts = finds.refusals;
-    plain = λ p. tt;
-    allowed = λ same walk end w ends. info_printed (info_of shelf c.seen.store) (string_bytes text) (finds.is same) writes;
-    calls = λ same walk end w ends. info_asked walk end finds.asks same;
-  }
-  info_performs (Ok text) stop.WriteFault finds writes = record {
-    outcome = plan.WriteFault;
-    outcome_is = refl;
-    stays = finds.asks.stays;
-    counts = finds.refusals;
-    plain = λ p. tt;
-    allowed = λ same walk end w ends. info_cut (info_of shelf c.seen.store) (string_bytes text) (finds.is same) writes.0 writes.1;
-    calls = λ same walk end w ends. info_asked walk end finds.asks same;
-  }
+  info_performs (Ok text) stop.Done finds writes =
+      info_asked stop.Done (plan.Finished (WalkEnds Done)) finds.asks refl finds.refusals (λ p. tt) (λ same. info_printed (info_of shelf c.seen.store) (string_bytes text) (finds.is same) writes)
+  info_performs (Ok text) stop.WriteFault finds writes =
+      info_asked stop.WriteFault plan.WriteFault finds.asks refl finds.refusals (λ p. tt) (λ same. info_cut (info_of shelf c.seen.store) (string_bytes text) (finds.is same) writes.0 writes.1)
   info_performs (Ok text) _ finds writes = absurd writes
-  info_performs (Err stop.NoInfo) result lacks writes = record {
-    outcome = plan.Finished plan.NoInfo;
-    outcome_is = subst (λ (x : Stop). IsOutcome x (plan.Finished plan.NoInfo)) (sym writes.0) refl;
-    stays = lacks.asks.stays;
-    counts = lacks.refusals;
-    plain = λ p. tt;
-    allowed = λ same walk end w ends. info_lacks (info_of shelf c.seen.store) (lacks.is same) writes.1;
-    calls = λ same walk end w ends. info_asked walk end lacks.asks same;
-  }
-  info_performs (Err e) result none writes = record {
-    outcome = none.outcome;
-    outcome_is = subst (λ (x : Stop). IsOutcome x none.outcome) (sym writes.0) none.outcome_is;
-    stays = none.asks.stays;
-    counts = none.counts;
-    plain = none.plain;
-    allowed = λ same walk end w ends. info_stops (info_of shelf c.seen.store) none.outcome writes.1 none.there;
-    calls = λ same walk end w ends. info_asked walk end none.asks same;
-  }
+  info_performs (Err stop.NoInfo) result lacks writes =
+      info_asked result (plan.Finished plan.NoInfo) lacks.asks (subst (λ (x : Stop). IsOutcome x (plan.Finished plan.NoInfo)) (sym writes.0) refl) lacks.refusals (λ p. tt)
+      (λ same. info_lacks (info_of shelf c.seen.store) (lacks.is same) writes.1)
+  info_performs (Err e) result none writes =
+      info_asked result none.outcome none.asks (subst (λ (x : Stop). IsOutcome x none.outcome) (sym writes.0) none.outcome_is) none.counts none.plain
+      (λ same. info_stops (info_of shelf c.seen.store) none.outcome writes.1 none.there)
 
 -- ---- all inventories
 
@@ -216,15 +165,8 @@ module _ (start : Place) (tries : ℕ) where
 
   -- it stopped at that of device 0
   pub first_performs : (c : Change) (result : Stop) → TextStops (task.Fru None) (inventory_item 0) tries c result → Performs of_all c result
-  first_performs c result stops = record {
-    outcome = stops.outcome;
-    outcome_is = stops.outcome_is;
-    stays = stops.asks.stays;
-    counts = stops.counts;
-    plain = stops.plain;
-    allowed = λ same walk end w ends. stops.allowed (row_items (task.Fru None) start walk) (WalkEnds end) (end_spots start walk end) same;
-    calls = λ same walk end w ends. let calls = stops.asks.calls same in omega (arith, calls);
-  }
+  first_performs c result stops = asked_performs of_all (AtInventory 0 ∷ []) c result stops.outcome (λ walk end. omega arith) stops.asks stops.outcome_is stops.counts stops.plain
+      (λ same walk end. stops.allowed (row_items (task.Fru None) start walk) (WalkEnds end) (end_spots start walk end) same)
 
   ends_as : (rows : List Row) (end : WalkEnd) → run_end (task.Fru None) rows end ≡ WalkEnds end
   ends_as rows Done = refl

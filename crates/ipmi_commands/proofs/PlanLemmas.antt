@@ -2,7 +2,7 @@
 use Rattle.std.proofs.Common.{◌≡◌, ◌⊎◌, inl, inr, ℕ, ◌+◌, ◌≤◌, Bool, true, false, IsTrue, Option, None, Result, Ok, Err, List, [], refl, sym, ap, subst, ◌∙◌}
 use Rattle.ipmi_bus.specs.declared.step.Place.{Place}
 use Rattle.ipmi_bus.specs.declared.inventory.FruEnded.TheVariants as fru
-use Rattle.ipmi_bus.specs.declared.step.Ended.TheVariants.{Cycle, Missing, Refused, GaveUp}
+use Rattle.ipmi_bus.specs.declared.step.Ended.TheVariants.{Stalled, Malformed}
 use Rattle.ipmi_bus.specs.Shelf.{Row}
 use Rattle.ipmi_bus.specs.Store.{Store}
 use Rattle.ipmi_bus.specs.Walk.{TailIsWalk, WalkEnd, Done}
@@ -18,15 +18,13 @@ use Rattle.ipmi_commands.specs.declared.stop.Stop.TheVariants as stop
 use Rattle.ipmi_output.specs.declared.message.Message.TheVariants.{Image, OutOfMemory}
 use Rattle.ipmi_command_line.specs.Task.{is_listing, most_of}
 use Rattle.ipmi_commands.specs.Listing.{first_plan, IsOutcome, walk_call_bound, most_on_walk, run_call_bound, most_calls}
-use Rattle.ipmi_commands.specs.Plan.{first_rows, Plan, WalkEnds, OfImage, Printed, plan_of, rewrite_plan, Outcome, IsAllowed, CountsSo, IsFine}
+use Rattle.ipmi_commands.specs.Plan.{first_rows, Plan, WalkEnds, OfImage, Printed, plan_of, rewrite_plan, Outcome, IsAllowed, CountsSo, IsFine, Request, Change, request, change}
 use Rattle.ipmi_commands.specs.Plan as plan
 use Rattle.ipmi_output.specs.Received.{Received, ReceivesText}
 use Rattle.ipmi_commands.specs.Pages.{IsPage, ArePages}
-use Rattle.ipmi_commands.proofs.ItemLemmas.{none_printed, one_printed}
+use Rattle.ipmi_commands.proofs.ItemLemmas.{none_printed, one_printed, first_cut}
 use Rattle.ipmi_commands.proofs.PagesLaw.{pages_are_one}
-use Rattle.ipmi_commands.specs.Plan.{Request}
-use Rattle.ipmi_commands.specs.Run.{Effect, effect, HasEnded, IsRun, IsPagedRun, status_of, stop_status, stop_text, outcome_text, lists_once, Performs, fault_status, WritesImage, IsRewriting, Says, AnswersRewrite, AnswersImage, AnswersTask}
-use Rattle.ipmi_commands.specs.Plan.{Change, request, change}
+use Rattle.ipmi_commands.specs.Run.{Effect, effect, HasEnded, IsRun, IsPagedRun, status_of, stop_status, stop_text, outcome_text, lists_once, Performs, fault_status, WritesImage, IsRewriting, Says, AnswersTask}
 
 -- ---- a task that lists the first rows of its shelf
 
@@ -37,14 +35,11 @@ pub record GoesOnce (t : Task) : Type 0 where
   pub most_is : (tries : ℕ) → most_calls t tries ≡ most_on_walk t tries
 
 pub goes_once : (t : Task) → lists_once t ≡ true → GoesOnce t
-goes_once task.Hex lists = record { plan_is = λ store start walk end. refl; bound_is = λ store tries walk end. refl; most_is = λ tries. refl }
-goes_once (task.List kind) lists = record { plan_is = λ store start walk end. refl; bound_is = λ store tries walk end. refl; most_is = λ tries. refl }
-goes_once (task.Elist kind) lists = record { plan_is = λ store start walk end. refl; bound_is = λ store tries walk end. refl; most_is = λ tries. refl }
-goes_once (task.Get name) lists = record { plan_is = λ store start walk end. refl; bound_is = λ store tries walk end. refl; most_is = λ tries. refl }
-goes_once (task.SelList count.All) lists = record { plan_is = λ store start walk end. refl; bound_is = λ store tries walk end. refl; most_is = λ tries. refl }
-goes_once (task.SelList (count.First n)) lists = record { plan_is = λ store start walk end. refl; bound_is = λ store tries walk end. refl; most_is = λ tries. refl }
-goes_once (task.SelGet id) lists = record { plan_is = λ store start walk end. refl; bound_is = λ store tries walk end. refl; most_is = λ tries. refl }
-goes_once _ lists = cc lists
+goes_once (task.Fru id) lists = cc lists
+goes_once (task.Info shelf) lists = cc lists
+goes_once (task.SelList (count.Last n)) lists = cc lists
+goes_once task.Rewrite lists = cc lists
+goes_once _ lists = record { plan_is = λ store start walk end. refl; bound_is = λ store tries walk end. refl; most_is = λ tries. refl }
 
 -- a listing goes once, and has no limit
 pub listed_whole : (t : Task) → is_listing t ≡ true → (lists_once t ≡ true) × (most_of t ≡ None)
@@ -62,20 +57,11 @@ module _ (t : Task) where
   said_of outcome = (status_of outcome, outcome_text t outcome)
 
   stop_said : (st : Stop) (outcome : Outcome) → IsOutcome st outcome → ◌≡◌ {A = ℕ × List ℕ} (stop_status st, stop_text t st) (said_of outcome)
-  stop_said stop.Done outcome is = ap said_of (sym is)
-  stop_said (stop.Ended (Cycle n)) outcome is = ap said_of (sym is)
-  stop_said (stop.Ended (Missing n)) outcome is = ap said_of (sym is)
-  stop_said (stop.Ended (GaveUp n)) outcome is = ap said_of (sym is)
-  stop_said (stop.Ended (Refused n code)) outcome is = ap said_of (sym is)
-  stop_said (stop.Ended _) outcome is = absurd is
-  stop_said stop.NoName outcome is = ap said_of (sym is)
-  stop_said stop.NoInfo outcome is = ap said_of (sym is)
-  stop_said (stop.Inventory id fru.GaveUp) outcome is = ap said_of (sym is)
-  stop_said (stop.Inventory id fru.Memory) outcome is = ap said_of (sym is)
-  stop_said (stop.Inventory id (fru.Refused code)) outcome is = ap said_of (sym is)
-  stop_said (stop.Inventory id _) outcome is = absurd is
-  stop_said stop.Memory outcome is = ap said_of (sym is)
-  stop_said stop.WriteFault outcome is = ap said_of (sym is)
+  stop_said (stop.Ended (Stalled n)) outcome is = absurd is
+  stop_said (stop.Ended (Malformed n)) outcome is = absurd is
+  stop_said (stop.Inventory id fru.Stalled) outcome is = absurd is
+  stop_said (stop.Inventory id fru.Words) outcome is = absurd is
+  stop_said _ outcome is = ap said_of (sym is)
 
   status_same : (st : Stop) (outcome : Outcome) → IsOutcome st outcome → stop_status st ≡ status_of outcome
   status_same st outcome is = ap (λ (said : ℕ × List ℕ). said.0) (stop_said st outcome is)
@@ -161,19 +147,7 @@ rewriting store e stop.WriteFault writes message = record {
   outcome = plan.WriteFault;
   status_is = refl;
   message = message;
-  allowed = record {
-    done = [];
-    item = record { subject = OfImage; spots = [] };
-    rest = [];
-    items_are = refl;
-    whole = e.old;
-    printed = none_printed task.Rewrite store e.old;
-    text = image_text_of store;
-    is_text = refl;
-    some = writes.0;
-    bytes = writes.1.0;
-    new_is = writes.1.1;
-  };
+  allowed = first_cut task.Rewrite store rewrite_plan (record { subject = OfImage; spots = [] }) [] (image_text_of store) e.old e.new refl refl writes.0 writes.1;
   unwritten = λ out. cc out;
   fine = tt;
 }
@@ -182,8 +156,8 @@ rewriting store e _ writes message = absurd writes
 -- ---- an image that is not read
 
 -- where memory ran out, nothing was written
-unread_rewriting : (read : Result Store ImageFault) (old : List ℕ) (said said' : Received) (status : ℕ) → Says said said' status OutOfMemory 5 → AnswersRewrite read (effect old old said said') status
-unread_rewriting (Ok store) old said said' status says = record {
+unread : (rewrite : Bool) (r : Request) (read : Result Store ImageFault) (old : List ℕ) (said said' : Received) (status : ℕ) → Says said said' status OutOfMemory 5 → AnswersTask rewrite r read (effect old old said said') status
+unread true r (Ok store) old said said' status says = record {
   outcome = plan.OutOfMemory;
   status_is = says.0;
   message = says.1;
@@ -191,30 +165,23 @@ unread_rewriting (Ok store) old said said' status says = record {
   unwritten = λ out. refl;
   fine = tt;
 }
-unread_rewriting (Err fault) old said said' status says = (refl, inr says)
-
-unread_run : (r : Request) (read : Result Store ImageFault) (old : List ℕ) (said said' : Received) (status : ℕ) → Says said said' status OutOfMemory 5 → AnswersImage r read (effect old old said said') status
-unread_run r (Ok store) old said said' status says = record {
+unread false r (Ok store) old said said' status says = record {
   outcome = plan.OutOfMemory;
   status_is = says.0;
   message = says.1;
   allowed = λ walk end w ends. record { done = []; rest = (plan_of r.task store r.start walk end).items; items_are = refl; printed = none_printed r.task store old };
   fine = tt;
 }
-unread_run r (Err fault) old said said' status says = (refl, inr says)
+unread true r (Err fault) old said said' status says = (refl, inr says)
+unread false r (Err fault) old said said' status says = (refl, inr says)
 
 -- the fault of the image, or want of memory
-pub not_rewritten : (fault : ImageFault) (read : Result Store ImageFault) (old : List ℕ) (said said' : Received) (status : ℕ) → (fault ≡ image_fault.Memory) ⊎ (read ≡ Err fault)
-    → Says said said' status (Image fault) (fault_status fault) → AnswersRewrite read (effect old old said said') status
-not_rewritten fault read old said said' status (inl memory) says =
-    unread_rewriting read old said said' status (subst (λ (f : ImageFault). Says said said' status (Image f) (fault_status f)) memory says)
-not_rewritten fault read old said said' status (inr is) says =
-    subst (λ (r : Result Store ImageFault). AnswersRewrite r (effect old old said said') status) (sym is) (refl, inl says)
-
-pub not_run : (rewrite : Bool) (r : Request) (fault : ImageFault) (read : Result Store ImageFault) (old : List ℕ) (said said' : Received) (status : ℕ) → rewrite ≡ false
+pub not_answered : (rewrite : Bool) (r : Request) (fault : ImageFault) (read : Result Store ImageFault) (old : List ℕ) (said said' : Received) (status : ℕ)
     → (fault ≡ image_fault.Memory) ⊎ (read ≡ Err fault) → Says said said' status (Image fault) (fault_status fault) → AnswersTask rewrite r read (effect old old said said') status
-not_run true r fault read old said said' status ran is says = cc ran
-not_run false r fault read old said said' status ran (inl memory) says =
-    unread_run r read old said said' status (subst (λ (f : ImageFault). Says said said' status (Image f) (fault_status f)) memory says)
-not_run false r fault read old said said' status ran (inr is) says =
-    subst (λ (x : Result Store ImageFault). AnswersImage r x (effect old old said said') status) (sym is) (refl, inl says)
+not_answered rewrite r fault read old said said' status (inl memory) says =
+    unread rewrite r read old said said' status (subst (λ (f : ImageFault). Says said said' status (Image f) (fault_status f)) memory says)
+not_answered rewrite r fault read old said said' status (inr is) says = subst (λ (x : Result Store ImageFault). AnswersTask rewrite r x (effect old old said said') status) (sym is) (failed rewrite)
+  where
+    failed : (b : Bool) → AnswersTask b r (Err fault) (effect old old said said') status
+    failed true = (refl, inl says)
+    failed false = (refl, inl says)

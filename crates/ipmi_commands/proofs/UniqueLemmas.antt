@@ -27,7 +27,7 @@ use Rattle.ipmi_command_line.specs.Task.{most_of, shelf_of}
 use Rattle.ipmi_commands.specs.declared.piece.Form.{Form}
 use Rattle.ipmi_commands.specs.declared.piece.Form.TheVariants as form
 use Rattle.ipmi_commands.specs.Pieces.{IfChosen, IsBlockOfName, IsDevicePiece, IsInventoryPiece, IsInventoryText, IsLineOf, IsListed, IsListedOfKind, IsLocatorPiece, is_name, name_of_locator, reading_for, row_is_of_kind}
-use Rattle.ipmi_commands.specs.Plan.{Request, Subject, OfRow, Passed, OfInventory, OfInfo, OfImage, Item, Spot, IsOfBytes, AreOfBytes, RunEnd, Finished, IsRowPiece, IsItemText, AreTexts, first_rows, last_rows, last_items, row_items, spots_of_walk, with_first_spots, info_plan, listing_plan, plan_of}
+use Rattle.ipmi_commands.specs.Plan.{Request, Subject, OfRow, OfInventory, OfInfo, Item, Spot, IsOfBytes, AreOfBytes, RunEnd, Finished, IsRowPiece, IsItemText, AreTexts, first_rows, last_rows, last_items, row_items, spots_of_walk, with_first_spots, info_plan, listing_plan, plan_of}
 use Rattle.ipmi_commands.specs.Run.{AllowsAll}
 
 -- what the laws of blocks and of inventories say
@@ -89,22 +89,19 @@ module _ (one_sdr_line : SdrLineIsUnique) (one_extended_line : ExtendedLineIsUni
   one_locator store _ a b x y = x ∙ sym y
 
   one_piece : (t : Task) (store : Store) (row : Row) (a b : List ℕ) → AreBytes row.bytes → IsRowPiece t store row a → IsRowPiece t store row b → a ≡ b
-  one_piece task.Hex store row a b are x y = x ∙ sym y
   one_piece (task.List kind) store row a b are x y = one_of_kind form.Short kind store row a b x y
   one_piece (task.Elist kind) store row a b are x y = one_of_kind form.Extended kind store row a b x y
   one_piece (task.Get name) store row a b are x y = one_block_of_name name store row.id (sdr_view_of row.bytes) a b x y
   one_piece (task.SelList entries) store row a b are x y = one_sel_line row.id (sel_view_of row.bytes) a b (entry_are_bytes row.bytes are) x y
   one_piece (task.SelGet id) store row a b are x y = one_sel_block row.id (sel_view_of row.bytes) a b (entry_are_bytes row.bytes are) x y
   one_piece (task.Fru id) store row a b are x y = one_locator store (sdr_view_of row.bytes) a b x y
-  one_piece (task.Info shelf) store row a b are x y = x ∙ sym y
-  one_piece task.Rewrite store row a b are x y = x ∙ sym y
+  one_piece _ store row a b are x y = x ∙ sym y
 
   one_item : (t : Task) (store : Store) (subject : Subject) (a b : List ℕ) → IsOfBytes subject → IsItemText t store subject a → IsItemText t store subject b → a ≡ b
   one_item t store (OfRow row) a b bytes x y = one_piece t store row a b bytes x y
-  one_item t store Passed a b bytes x y = x ∙ sym y
   one_item t store (OfInventory id) a b bytes x y = one_inventory store id [] a b x y
   one_item t store (OfInfo info) a b bytes x y = one_info_block info a b bytes x y
-  one_item t store OfImage a b bytes x y = x ∙ sym y
+  one_item t store _ a b bytes x y = x ∙ sym y
 
   -- texts of items are one text
   pub one_text : (t : Task) (store : Store) (items : List Item) (a b : List ℕ) → AreOfBytes items → AreTexts t store items a → AreTexts t store items b → a ≡ b
@@ -115,71 +112,69 @@ module _ (one_sdr_line : SdrLineIsUnique) (one_extended_line : ExtendedLineIsUni
       ∙ ap (λ (l : List ℕ). y.first ++ l) (one_text t store items x.rest y.rest bytes.1 x.is_rest y.is_rest)
       ∙ sym y.joined
 
-  -- ---- one output
+-- ---- one output
 
-  rows_are_bytes : FoundIsRow → (t : Task) (shelf : Shelf) (rows : List Row) (start : Place) (walk : List Row) → IsShelf shelf rows → AllOf rows walk → AreOfBytes (row_items t start walk)
-  rows_are_bytes look_row t shelf rows start [] ok all = tt
-  rows_are_bytes look_row t shelf rows start (row ∷ walk) ok all = ((look_row shelf rows row.id row ok all.0).bytes, rows_are_bytes look_row t shelf rows (place_after row.next) walk ok all.1)
+-- what the law of items says
+abbrev TextIsOne : Type 0
+TextIsOne = (t : Task) (store : Store) (items : List Item) (a b : List ℕ) → AreOfBytes items → AreTexts t store items a → AreTexts t store items b → a ≡ b
 
-  first_of_shelf : (most : Option ℕ) (rows walk : List Row) → AllOf rows walk → AllOf rows (first_rows most walk)
-  first_of_shelf None rows walk all = all
-  first_of_shelf (Some n) rows walk all = within n walk all
-    where
-      within : (n : ℕ) (walk : List Row) → AllOf rows walk → AllOf rows (take n walk)
-      within zero [] all = tt
-      within (suc n) [] all = tt
-      within zero (row ∷ walk) all = tt
-      within (suc n) (row ∷ walk) all = (all.0, within n walk all.1)
+rows_are_bytes : FoundIsRow → (t : Task) (shelf : Shelf) (rows : List Row) (start : Place) (walk : List Row) → IsShelf shelf rows → AllOf rows walk → AreOfBytes (row_items t start walk)
+rows_are_bytes look_row t shelf rows start [] ok all = tt
+rows_are_bytes look_row t shelf rows start (row ∷ walk) ok all = ((look_row shelf rows row.id row ok all.0).bytes, rows_are_bytes look_row t shelf rows (place_after row.next) walk ok all.1)
 
-  rest_of_shelf : (n : ℕ) (rows walk : List Row) → AllOf rows walk → AllOf rows (drop n walk)
-  rest_of_shelf zero rows walk all = all
-  rest_of_shelf (suc n) rows [] all = tt
-  rest_of_shelf (suc n) rows (row ∷ walk) all = rest_of_shelf n rows walk all.1
+first_of_shelf : (most : Option ℕ) (rows walk : List Row) → AllOf rows walk → AllOf rows (first_rows most walk)
+first_of_shelf None rows walk all = all
+first_of_shelf (Some n) rows walk all = within n walk all
+  where
+    within : (n : ℕ) (walk : List Row) → AllOf rows walk → AllOf rows (take n walk)
+    within zero [] all = tt
+    within (suc n) [] all = tt
+    within zero (row ∷ walk) all = tt
+    within (suc n) (row ∷ walk) all = (all.0, within n walk all.1)
 
-  last_of_shelf : (n : ℕ) (rows walk : List Row) (end : WalkEnd) → AllOf rows walk → AllOf rows (last_rows n walk end)
-  last_of_shelf n rows walk Done all = rest_of_shelf (length walk - n) rows walk all
-  last_of_shelf n rows walk (CycleAt m) all = tt
-  last_of_shelf n rows walk (MissingAt m) all = tt
+rest_of_shelf : (n : ℕ) (rows walk : List Row) → AllOf rows walk → AllOf rows (drop n walk)
+rest_of_shelf zero rows walk all = all
+rest_of_shelf (suc n) rows [] all = tt
+rest_of_shelf (suc n) rows (row ∷ walk) all = rest_of_shelf n rows walk all.1
 
-  first_kept : (spots : List Spot) (items : List Item) → AreOfBytes items → AreOfBytes (with_first_spots spots items)
-  first_kept spots [] are = tt
-  first_kept spots (item ∷ items) are = are
+last_of_shelf : (n : ℕ) (rows walk : List Row) (end : WalkEnd) → AllOf rows walk → AllOf rows (last_rows n walk end)
+last_of_shelf n rows walk Done all = rest_of_shelf (length walk - n) rows walk all
+last_of_shelf n rows walk (CycleAt m) all = tt
+last_of_shelf n rows walk (MissingAt m) all = tt
 
-  info_bytes : (o : Option (List ℕ)) → IfSome o IsInfo → AreOfBytes (info_plan o).items
-  info_bytes None are = tt
-  info_bytes (Some info) are = (are.all, tt)
+first_kept : (spots : List Spot) (items : List Item) → AreOfBytes items → AreOfBytes (with_first_spots spots items)
+first_kept spots [] are = tt
+first_kept spots (item ∷ items) are = are
 
-  info_of_store : (shelf : Shelf) (store : Store) → IsStore store → IfSome (info_of shelf store) IsInfo
-  info_of_store Sdr store ok = ok.sdr_info
-  info_of_store Sel store ok = ok.sel_info
+info_bytes : (o : Option (List ℕ)) → IfSome o IsInfo → AreOfBytes (info_plan o).items
+info_bytes None are = tt
+info_bytes (Some info) are = (are.all, tt)
 
-  module _ (look_row : FoundIsRow) (store : Store) (ok : IsStore store) (start : Place) (walk : List Row) (end : WalkEnd) where
-    listed : (t : Task) → AllOf (rows_of (shelf_of t) store) walk → AreOfBytes (listing_plan t start walk end).items
-    listed t all = rows_are_bytes look_row t (shelf_of t) (rows_of (shelf_of t) store) start (first_rows (most_of t) walk) (store_shelf (shelf_of t) store ok) (first_of_shelf (most_of t) (rows_of (shelf_of t) store) walk all)
+info_of_store : (shelf : Shelf) (store : Store) → IsStore store → IfSome (info_of shelf store) IsInfo
+info_of_store Sdr store ok = ok.sdr_info
+info_of_store Sel store ok = ok.sel_info
 
-    -- what a task is to print is of bytes
-    plan_bytes : (t : Task) → AllOf (rows_of (shelf_of t) store) walk → AreOfBytes (plan_of t store start walk end).items
-    plan_bytes (task.Fru None) all = (tt, rows_are_bytes look_row (task.Fru None) Sdr store.sdr start walk ok.sdr all)
-    plan_bytes (task.Fru (Some id)) all = (tt, tt)
-    plan_bytes (task.Info shelf) all = info_bytes (info_of shelf store) (info_of_store shelf store ok)
-    plan_bytes (task.SelList (count.Last n)) all =
-        first_kept (spots_of_walk start walk end) (last_items n (task.SelList (count.Last n)) start walk end)
-        (rows_are_bytes look_row (task.SelList (count.Last n)) Sel store.sel (place_after_rows start (take (length walk - n) walk)) (last_rows n walk end) ok.sel (last_of_shelf n store.sel walk end all))
-    plan_bytes task.Rewrite all = (tt, tt)
-    plan_bytes task.Hex all = listed task.Hex all
-    plan_bytes (task.List kind) all = listed (task.List kind) all
-    plan_bytes (task.Elist kind) all = listed (task.Elist kind) all
-    plan_bytes (task.Get name) all = listed (task.Get name) all
-    plan_bytes (task.SelList count.All) all = listed (task.SelList count.All) all
-    plan_bytes (task.SelList (count.First n)) all = listed (task.SelList (count.First n)) all
-    plan_bytes (task.SelGet id) all = listed (task.SelGet id) all
+module _ (look_row : FoundIsRow) (store : Store) (ok : IsStore store) (start : Place) (walk : List Row) (end : WalkEnd) where
+  listed : (t : Task) → AllOf (rows_of (shelf_of t) store) walk → AreOfBytes (listing_plan t start walk end).items
+  listed t all = rows_are_bytes look_row t (shelf_of t) (rows_of (shelf_of t) store) start (first_rows (most_of t) walk) (store_shelf (shelf_of t) store ok) (first_of_shelf (most_of t) (rows_of (shelf_of t) store) walk all)
 
-  pub one_output : WalkExists → FoundIsRow → (r : Request) (store : Store) (old a b : List ℕ) (e f : RunEnd) → IsStore store → AllowsAll r store old a (Finished e) → AllowsAll r store old b (Finished f) → (a ≡ b) × (e ≡ f)
-  one_output exists look_row r store old a b e f ok allows other =
-      let rows = rows_of (shelf_of r.task) store in
-      let there = exists (shelf_of r.task) rows r.start (store_shelf (shelf_of r.task) store ok) in
-      let x = allows there.0 there.1 there.2 there.3 in
-      let y = other there.0 there.1 there.2 there.3 in
-      let items = (plan_of r.task store r.start there.0 there.1).items in
-      let bytes = plan_bytes look_row store ok r.start there.0 there.1 r.task there.2.of_shelf in
-      (x.0.new_is ∙ ap (λ (l : List ℕ). old ++ l) (one_text r.task store items x.0.text y.0.text bytes x.0.are y.0.are) ∙ sym y.0.new_is, x.1 ∙ sym y.1)
+  -- what a task is to print is of bytes
+  plan_bytes : (t : Task) → AllOf (rows_of (shelf_of t) store) walk → AreOfBytes (plan_of t store start walk end).items
+  plan_bytes (task.Fru None) all = (tt, rows_are_bytes look_row (task.Fru None) Sdr store.sdr start walk ok.sdr all)
+  plan_bytes (task.Fru (Some id)) all = (tt, tt)
+  plan_bytes (task.Info shelf) all = info_bytes (info_of shelf store) (info_of_store shelf store ok)
+  plan_bytes (task.SelList (count.Last n)) all =
+      first_kept (spots_of_walk start walk end) (last_items n (task.SelList (count.Last n)) start walk end)
+      (rows_are_bytes look_row (task.SelList (count.Last n)) Sel store.sel (place_after_rows start (take (length walk - n) walk)) (last_rows n walk end) ok.sel (last_of_shelf n store.sel walk end all))
+  plan_bytes task.Rewrite all = (tt, tt)
+  plan_bytes t all = listed t all
+
+pub one_output : TextIsOne → WalkExists → FoundIsRow → (r : Request) (store : Store) (old a b : List ℕ) (e f : RunEnd) → IsStore store → AllowsAll r store old a (Finished e) → AllowsAll r store old b (Finished f) → (a ≡ b) × (e ≡ f)
+one_output one exists look_row r store old a b e f ok allows other =
+    let rows = rows_of (shelf_of r.task) store in
+    let there = exists (shelf_of r.task) rows r.start (store_shelf (shelf_of r.task) store ok) in
+    let x = allows there.0 there.1 there.2 there.3 in
+    let y = other there.0 there.1 there.2 there.3 in
+    let items = (plan_of r.task store r.start there.0 there.1).items in
+    let bytes = plan_bytes look_row store ok r.start there.0 there.1 r.task there.2.of_shelf in
+    (x.0.new_is ∙ ap (λ (l : List ℕ). old ++ l) (one r.task store items x.0.text y.0.text bytes x.0.are y.0.are) ∙ sym y.0.new_is, x.1 ∙ sym y.1)

@@ -27,8 +27,7 @@ use Rattle.ipmi_commands.specs.declared.stop.Stop.{Stop}
 use Rattle.ipmi_commands.specs.declared.stop.Stop.TheVariants as stop
 use Rattle.ipmi_commands.specs.declared.listing.Listed.{Listed}
 use Rattle.ipmi_commands.specs.declared.listing.Span.{Span}
-use Rattle.ipmi_commands.specs.Plan.{IsRowPiece}
-use Rattle.ipmi_commands.specs.Plan.{most_after, first_rows, first_end, last_rows, Request, request, Plan, Item, IsItemText, Subject, OfRow, Passed, Spot, AtRecord, AtInventory, WalkEnds, row_items, run_end, Printed, Outcome, IsAllowed, CountsSo, IsFine, IsAmong, end_spots, spots_after}
+use Rattle.ipmi_commands.specs.Plan.{IsRowPiece, most_after, first_rows, first_end, last_rows, Request, request, Plan, Item, IsItemText, Subject, OfRow, Passed, Spot, AtRecord, AtInventory, WalkEnds, row_items, run_end, Printed, Outcome, IsAllowed, CountsSo, IsFine, IsAmong, end_spots, spots_after}
 use Rattle.ipmi_command_line.specs.Task.{most_of, shelf_of}
 use Rattle.ipmi_commands.specs.Plan as plan
 

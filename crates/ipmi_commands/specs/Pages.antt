@@ -14,8 +14,7 @@ use Rattle.ipmi_commands.specs.declared.stop.Stop.{Stop}
 use Rattle.ipmi_commands.specs.declared.stop.Stop.TheVariants as stop
 use Rattle.ipmi_command_line.specs.declared.command.Task.{Task}
 use Rattle.ipmi_commands.specs.Listing.{is_done, stop_at_end, first_plan, IsOutcome, walk_call_bound}
-use Rattle.ipmi_commands.specs.Plan.{first_rows}
-use Rattle.ipmi_commands.specs.Plan.{Request, request, Change, change, OnWalk, Outcome, IsAllowed, CountsSo, IsFine}
+use Rattle.ipmi_commands.specs.Plan.{first_rows, Request, request, Change, change, OnWalk, Outcome, IsAllowed, CountsSo, IsFine}
 use Rattle.ipmi_command_line.specs.Task.{shelf_of}
 
 -- the id that a cursor starts from; after the last record, and at the id 0000h, no cursor is needed

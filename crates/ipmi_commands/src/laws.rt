@@ -25,13 +25,7 @@ pub fn finished_runs_are_one()
         IsStore store → AllowsAll r store old a (Finished e) →
         AllowsAll r store old b (Finished f) → (a ≡ b) × (e ≡ f) }
 {
-    ipmi_records::laws::one_sdr_line();
-    ipmi_records::laws::one_extended_line();
-    ipmi_records::laws::one_sdr_block();
-    ipmi_records::laws::one_sel_line();
-    ipmi_records::laws::one_sel_block();
-    ipmi_records::laws::one_info_block();
-    ipmi_fru::laws::one_fru_text();
+    items_have_one_text();
     ipmi_bus::laws::one_walk_has_an_end();
     ipmi_bus::laws::what_is_found_is_a_row();
 }

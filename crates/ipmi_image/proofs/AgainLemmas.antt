@@ -22,6 +22,7 @@ use Rattle.ipmi_image.proofs.TextLemmas.{Lacks, pieces_one, pieces_more}
 use Rattle.ipmi_image.proofs.ReadLemmas.{after_line}
 use Rattle.ipmi_image.proofs.ParseLemmas.{IsField, AreFields, a_word, a_hex, one_are, two_are, no_feed, line_again, saved_row, row_again, part_again, bytes_of_reading, reading_again, info_again}
 use Rattle.ipmi_image.proofs.RewriteLemmas.{digit_of, lines_text-append, text_is}
+use Rattle.ipmi_image.proofs.StoreLemmas.{same_store}
 use Rattle.ipmi_image.proofs.TakenLemmas.{Says, Taken, all_taken, saved_rows, chained-saved, row_lines, shelf_taken, rows_of_lines}
 use Rattle.ipmi_image.proofs.GivenLemmas.{Taken-append, said_inventory, Given, inventories_given, said_reading, GivenReadings, readings_given, AreSilent, silent, silent_map, silent_inventories, same_behind, AreOthers, others_map, same_inventories}
 
@@ -41,27 +42,24 @@ SaysLines texts lines = ⊥
 
 says_append : (a b : List (List (List ℕ))) (x y : List Line) → SaysLines a x → SaysLines b y → SaysLines (a ++ b) (x ++ y)
 says_append [] b [] y s t = t
-says_append [] b (line ∷ x) y s t = absurd s
-says_append (fields ∷ a) b [] y s t = absurd s
 says_append (fields ∷ a) b (line ∷ x) y s t = (s.0, says_append a b x y s.1 t)
+says_append _ b _ y s t = absurd s
 
 all_say : (texts : List (List (List ℕ))) (lines : List Line) → SaysLines texts lines → Says (map (join_with_byte 32) texts) lines
 all_say [] [] s = tt
-all_say [] (line ∷ lines) s = absurd s
-all_say (fields ∷ texts) [] s = absurd s
 all_say (fields ∷ texts) (line ∷ lines) s = let one = s.0 in (one.says, one.more, all_say texts lines s.1)
+all_say _ _ s = absurd s
 
 -- such lines are cut where they were put together
 cut_again : (texts : List (List (List ℕ))) (lines : List Line) (rest : List ℕ) → SaysLines texts lines → pieces 10 (lines_text texts ++ rest) ≡ map (join_with_byte 32) texts ++ pieces 10 rest
 cut_again [] [] rest s = refl
-cut_again [] (line ∷ lines) rest s = absurd s
-cut_again (fields ∷ texts) [] rest s = absurd s
 cut_again (fields ∷ texts) (line ∷ lines) rest s =
     let first = join_with_byte 32 fields in
     let one = s.0 in
     ap (pieces 10) (append_assoc (line_text fields) (lines_text texts) rest ∙ append_assoc first (10 ∷ []) (lines_text texts ++ rest))
     ∙ pieces_more 10 first (lines_text texts ++ rest) one.none
     ∙ ap (λ (l : List (List ℕ)). first ∷ l) (cut_again texts lines rest s.1)
+cut_again _ _ rest s = absurd s
 
 says_fields : (first : List ℕ) (fields : List (List ℕ)) (line : Line) → AreFields (first ∷ fields) → line_of_fields true (first ∷ fields) ≡ Ok line → is_end line ≡ false → SaysLine (first ∷ fields) line
 says_fields first fields line are says more = record { none = no_feed first fields are; says = line_again first fields are ∙ says; more = more }
@@ -207,19 +205,6 @@ others_info shelf (Some bytes) = (λ inventories. refl, tt)
 
 Taken-more : (a b : List Line) → Taken [] a → Taken a b → Taken [] (a ++ b)
 Taken-more a b x y = Taken-append [] a b x y
-
-others_append : (a b : List Line) → AreOthers a → AreOthers b → AreOthers (a ++ b)
-others_append [] b x y = y
-others_append (line ∷ a) b x y = (x.0, others_append a b x.1 y)
-
-same_store : (a b : Store) → a.sdr ≡ b.sdr → a.sel ≡ b.sel → a.inventories ≡ b.inventories → a.readings ≡ b.readings → a.sdr_info ≡ b.sdr_info → a.sel_info ≡ b.sel_info → a ≡ b
-same_store a b e1 e2 e3 e4 e5 e6 =
-    ap (λ (l : List Row). let s : Store = record { sdr = l; sel = a.sel; inventories = a.inventories; readings = a.readings; sdr_info = a.sdr_info; sel_info = a.sel_info } in s) e1
-    ∙ ap (λ (l : List Row). let s : Store = record { sdr = b.sdr; sel = l; inventories = a.inventories; readings = a.readings; sdr_info = a.sdr_info; sel_info = a.sel_info } in s) e2
-    ∙ ap (λ (l : List Inventory). let s : Store = record { sdr = b.sdr; sel = b.sel; inventories = l; readings = a.readings; sdr_info = a.sdr_info; sel_info = a.sel_info } in s) e3
-    ∙ ap (λ (l : List SensorReading). let s : Store = record { sdr = b.sdr; sel = b.sel; inventories = b.inventories; readings = l; sdr_info = a.sdr_info; sel_info = a.sel_info } in s) e4
-    ∙ ap (λ (o : Option (List ℕ)). let s : Store = record { sdr = b.sdr; sel = b.sel; inventories = b.inventories; readings = b.readings; sdr_info = o; sel_info = a.sel_info } in s) e5
-    ∙ ap (λ (o : Option (List ℕ)). let s : Store = record { sdr = b.sdr; sel = b.sel; inventories = b.inventories; readings = b.readings; sdr_info = b.sdr_info; sel_info = o } in s) e6
 
 module _ (store : Store) (is : IsStore store) (saved : IsSaved store) where
   -- what the lines say, shelf by shelf and so on

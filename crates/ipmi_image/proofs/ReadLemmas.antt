@@ -2,16 +2,13 @@
 use Rattle.std.proofs.Common.{◌≡◌, ℕ, suc, ◌+◌, ◌<◌, Bool, true, false, cond, not, nat_eq, ◌==◌, Option, None, Some, Result, Ok, Err, List, [], ◌∷◌, ◌++◌, length, refl, sym, ap, ◌∙◌, arith}
 use Rattle.std.specs.List.{onto_first}
 use Rattle.std.proofs.lemmas.Bool.Decides.{nat_tests}
-use Rattle.ipmi_bus.specs.Store.{Store, Inventory, SensorReading}
-use Rattle.ipmi_bus.specs.declared.controller.Shelf.TheVariants.{Sdr, Sel}
+use Rattle.ipmi_bus.specs.Store.{Store}
 use Rattle.ipmi_image.specs.declared.line.LineFault.{LineFault}
 use Rattle.ipmi_image.specs.declared.image.ImageFault.{ImageFault}
 use Rattle.ipmi_image.specs.declared.image.ImageFault.TheVariants as image_fault
-use Rattle.ipmi_image.specs.declared.contents.Contents.{Contents}
 use Rattle.ipmi_image.specs.Text.{pieces}
-use Rattle.ipmi_image.specs.Line.{SavedRow, Line, a_row, an_inventory, a_reading, an_info, the_end, line_of}
-use Rattle.ipmi_image.specs.Image.{chained, rows_on, store_of_lines, fault_in, unless_fault, line_behind, at_line, is_end, ends_here, store_behind, dashes_in, store_of_pieces, store_of_image}
-use Rattle.ipmi_image.specs.Stored.{store_of, HoldsLines}
+use Rattle.ipmi_image.specs.Line.{Line, a_row, an_inventory, a_reading, an_info, the_end, line_of}
+use Rattle.ipmi_image.specs.Image.{store_of_lines, fault_in, unless_fault, line_behind, at_line, is_end, ends_here, store_behind, dashes_in, store_of_pieces, store_of_image}
 use Rattle.ipmi_image.proofs.TextLemmas.{length-pieces}
 
 -- nothing comes after the last line feed exactly where no byte does
@@ -60,15 +57,6 @@ end_is (an_inventory id bytes) e = cc e
 end_is (a_reading lun number bytes) e = cc e
 end_is (an_info shelf bytes) e = cc e
 end_is the_end e = refl
-
-pub store_is : (contents : Contents) (lines : List Line) → HoldsLines contents lines → store_of contents ≡ store_of_lines lines
-store_is contents lines holds =
-    ap (λ (l : List SavedRow). record (store_of contents) { sdr = chained l }) holds.sdr
-    ∙ ap (λ (l : List SavedRow). record (store_of contents) { sdr = chained (rows_on Sdr lines); sel = chained l }) holds.sel
-    ∙ ap (λ (l : List Inventory). record (store_of contents) { sdr = chained (rows_on Sdr lines); sel = chained (rows_on Sel lines); inventories = l }) holds.inventories
-    ∙ ap (λ (l : List SensorReading). record (store_of_lines lines) { readings = l; sdr_info = contents.sdr_info; sel_info = contents.sel_info }) holds.readings
-    ∙ ap (λ (o : Option (List ℕ)). record (store_of_lines lines) { sdr_info = o; sel_info = contents.sel_info }) holds.sdr_info
-    ∙ ap (λ (o : Option (List ℕ)). record (store_of_lines lines) { sel_info = o }) holds.sel_info
 
 -- the lines after the first one give the store
 pub image_is : (bytes first rest : List ℕ) (dashes : Bool) → pieces 10 bytes ≡ first ∷ pieces 10 rest → Some dashes ≡ dashes_in first → store_of_image bytes ≡ store_behind dashes [] (pieces 10 rest)

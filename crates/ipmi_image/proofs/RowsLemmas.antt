@@ -1,15 +1,14 @@
 -- The records of a shelf over the bytes of all of them.
-use Rattle.std.proofs.Common.{◌≡◌, ℕ, zero, suc, ◌+◌, ◌*◌, ◌<◌, ◌≤◌, Bool, true, false, cond, nat_eq, Option, None, Some, List, [], ◌∷◌, ◌++◌, length, take, drop, get_or, map, refl, sym, ap, subst, ◌∙◌, add-one, option_map, arith}
+use Rattle.std.proofs.Common.{◌≡◌, ℕ, zero, suc, ◌+◌, ◌<◌, ◌≤◌, cond, nat_eq, Option, None, Some, List, [], ◌∷◌, ◌++◌, length, take, drop, get_or, map, refl, sym, ap, ◌∙◌, option_map, arith}
 use Rattle.std.specs.List.{All, slice_get}
 use Rattle.std.proofs.lemmas.Option.{none-some, same_Some}
-use Rattle.std.proofs.lemmas.List.{length-append, length-drop, map-append, take-append-le, drop-append-le}
-use Rattle.std.proofs.lemmas.List.Elements.{All-append, All-cons}
+use Rattle.std.proofs.lemmas.List.{length-drop, map-append, take-append-le, drop-append-le}
 use Rattle.std.proofs.Math.Seq.{take-length, drop-append_seam}
 use Rattle.ipmi_image.specs.declared.rows.RowHead.{RowHead}
 use Rattle.ipmi_image.specs.Line.{SavedRow}
 use Rattle.ipmi_image.specs.Image.{first_id}
 use Rattle.ipmi_image.specs.Table.{place_of}
-use Rattle.ipmi_image.specs.Rows.{id_of, row_in, AreHeads}
+use Rattle.ipmi_image.specs.Rows.{id_of, row_in}
 
 abbrev pub head_id : RowHead → ℕ
 head_id head = head.id
@@ -61,17 +60,6 @@ module _ (bytes more : List ℕ) where
   -- a row whose bytes come after these
   pub bytes_after : take (length more) (drop (length bytes) (bytes ++ more)) ≡ more
   bytes_after = ap (take (length more)) (drop-append_seam bytes more) ∙ take-length more
-
-  pub heads_with : (heads : List RowHead) (id : ℕ) (next : Option ℕ) → length more ≤ 256 → length heads + 1 ≤ 65535 → AreHeads heads bytes → AreHeads (heads ++ record { id = id; next = next; start = length bytes; len = length more } ∷ []) (bytes ++ more)
-  heads_with heads id next fits more_fit are =
-      let len = length-append bytes more in
-      record {
-        within = All-append (λ (head : RowHead). head.start + head.len ≤ length (bytes ++ more)) heads _
-            (λ k d lt. let le = are.within k d lt in omega (arith, le, len))
-            (All-cons (λ (head : RowHead). head.start + head.len ≤ length (bytes ++ more)) _ [] (omega (arith, len)) (λ k d lt. absurd (omega (arith, lt))));
-        size = let count = length-append heads (record { id = id; next = next; start = length bytes; len = length more } ∷ []) in let size = are.size in omega (arith, size, len, count, fits);
-        few = let count = length-append heads (record { id = id; next = next; start = length bytes; len = length more } ∷ []) in omega (arith, count, more_fit);
-      }
 
   pub rows_with : (heads : List RowHead) (id : ℕ) (next : Option ℕ) → All (λ head. head.start + head.len ≤ length bytes) heads
       → map (row_in (bytes ++ more)) (heads ++ record { id = id; next = next; start = length bytes; len = length more } ∷ []) ≡ map (row_in bytes) heads ++ record { id = id; next = next; bytes = more } ∷ []

@@ -1,18 +1,16 @@
 -- What the stores that images give have beside what every store has.
-use Rattle.std.proofs.Common.{◌≡◌, ℕ, ◌+◌, ◌<◌, ◌≤◌, Bool, true, false, cond, not, nat_eq, nat_lt, ◌==◌, ◌&&◌, ◌||◌, Option, None, Some, Result, Ok, Err, zero, suc, List, [], ◌∷◌, ◌++◌, length, get_or, map, refl, sym, ap, subst, ◌∙◌, append-nil, arith, codes}
-use Rattle.std.specs.Option.{ok_or, option_map, option_and_then, is_some}
+use Rattle.std.proofs.Common.{◌≡◌, ℕ, ◌+◌, ◌<◌, ◌≤◌, Bool, true, false, cond, not, nat_eq, ◌==◌, ◌&&◌, ◌||◌, Option, None, Some, Result, Ok, Err, suc, List, [], ◌∷◌, ◌++◌, length, map, refl, sym, subst, ◌∙◌, arith, codes}
+use Rattle.std.specs.Option.{ok_or, option_map, option_and_then}
 use Rattle.std.specs.Result.{result_ok}
-use Rattle.std.specs.List.{All, cons_option, filter_map}
-use Rattle.std.proofs.lemmas.List.{length-append}
+use Rattle.std.specs.List.{All, filter_map}
+use Rattle.std.proofs.lemmas.List.{length-append, length-map}
+use Rattle.std.proofs.Math.ListN.{get_or-map}
 use Rattle.std.specs.Str.{bytes_eq}
-use Rattle.std.proofs.lemmas.Bool.Decides.{nat_tests}
-use Rattle.std.proofs.lemmas.Option.{none-some}
 use Rattle.std.proofs.lemmas.List.Elements.{All-cons, All-append, filter_map-append}
 use Rattle.std.proofs.lemmas.List.Sums.{fold-append}
 use Rattle.hex.specs.declared.error.FromHexError.{FromHexError}
 use Rattle.hex.specs.Hex.{decode_of}
 use Rattle.hex.proofs.HexLemmas.{decode_of-ok}
-use Rattle.ipmi_text.specs.declared.reading.Reading.{Reading}
 use Rattle.ipmi_bus.specs.declared.controller.Shelf.{Shelf}
 use Rattle.ipmi_bus.specs.declared.controller.Shelf.TheVariants.{Sdr, Sel}
 use Rattle.ipmi_bus.specs.Store.{Store, Inventory, SensorReading}
@@ -22,11 +20,12 @@ use Rattle.ipmi_image.specs.declared.image.ImageFault.{ImageFault}
 use Rattle.ipmi_image.specs.declared.image.ImageFault.TheVariants as image_fault
 use Rattle.ipmi_image.specs.Text.{pieces}
 use Rattle.ipmi_image.specs.Line.{Line, a_row, an_inventory, a_reading, an_info, the_end, is_some_text, bytes_in, number_in, digit_in, next_in, is_dash, shelf_in, with_two, with_three, row_line, inventory_line, reading_line, info_line, info_line_of, end_line, line_of_fields, line_of}
-use Rattle.ipmi_image.specs.Image.{with_bytes, with_inventory_line, inventories_of, sensor_on, store_of_lines, reading_fault, fault_in, unless_fault, is_end, ends_here, store_behind, dashes_in, store_of_pieces, store_of_image}
+use Rattle.ipmi_image.specs.Image.{with_bytes, with_inventory_line, inventories_of, sensor_on, store_of_lines, fault_in, unless_fault, is_end, ends_here, store_behind, dashes_in, store_of_pieces, store_of_image}
 use Rattle.ipmi_image.specs.declared.stored.StoredSensor.{StoredSensor}
 use Rattle.ipmi_image.specs.Stored.{sensor_of}
 use Rattle.ipmi_image.specs.Rewritten.{IsSaved}
 use Rattle.ipmi_image.proofs.ReadLemmas.{after_line}
+use Rattle.ipmi_image.proofs.StoreLemmas.{readings-same, reading_fine}
 
 -- ---- a line of an inventory has bytes
 
@@ -135,20 +134,13 @@ with_some id bytes (x ∷ xs) some all = by (nat_eq x.id id) (with_some id bytes
     by true more = All-cons (λ (i : Inventory). 0 < length i.bytes) _ xs (let h = all 0 x (omega arith) in let len = length-append x.bytes bytes in omega (arith, h, len)) rest
     by false more = All-cons (λ (i : Inventory). 0 < length i.bytes) x (with_bytes id bytes xs) (all 0 x (omega arith)) more
 
-lun_fine : (lun : ℕ) (already : Option Reading) (bytes : List ℕ) → reading_fault lun already bytes ≡ None → lun ≤ 3
-lun_fine lun already bytes fine = by (nat_lt 3 lun) refl fine
-  where
-    by : (a : Bool) → nat_lt 3 lun ≡ a → cond a (Some fault.Id) (cond (is_some already) (Some fault.Twice) (cond (not (nat_eq (length bytes) 4)) (Some fault.Length) None)) ≡ None → lun ≤ 3
-    by true e f = absurd (none-some _ (sym f))
-    by false e f = grind (arith, nat_tests)
-
 -- one more line keeps them so
 module _ (before : List Line) (saved : IsSaved (store_of_lines before)) where
   same_inventories : (line : Line) → with_inventory_line (inventories_of before) line ≡ inventories_of before → All (λ i. 0 < length i.bytes) (inventories_of (before ++ line ∷ []))
   same_inventories line same = subst (λ (l : List Inventory). All (λ i. 0 < length i.bytes) l) (sym (fold-append with_inventory_line [] before (line ∷ []) ∙ same)) saved.some
 
   same_readings : (line : Line) → sensor_on line ≡ None → All (λ s. s.lun ≤ 3) (filter_map sensor_on (before ++ line ∷ []))
-  same_readings line none = subst (λ (l : List SensorReading). All (λ s. s.lun ≤ 3) l) (sym (filter_map-append sensor_on before (line ∷ []) ∙ ap (λ (o : Option SensorReading). filter_map sensor_on before ++ cons_option o []) none ∙ append-nil _)) saved.luns
+  same_readings line none = subst (λ (l : List SensorReading). All (λ s. s.lun ≤ 3) l) (sym (readings-same before line none)) saved.luns
 
   pub saved_more : (line : Line) → SaysSome (Ok line) → fault_in (store_of_lines before) line ≡ None → IsSaved (store_of_lines (before ++ line ∷ []))
   saved_more (a_row shelf row) some fine = record { some = same_inventories (a_row shelf row) refl; luns = same_readings (a_row shelf row) refl }
@@ -159,7 +151,7 @@ module _ (before : List Line) (saved : IsSaved (store_of_lines before)) where
   saved_more (a_reading lun number bytes) some fine = record {
     some = same_inventories (a_reading lun number bytes) refl;
     luns = subst (λ (l : List SensorReading). All (λ s. s.lun ≤ 3) l) (sym (filter_map-append sensor_on before (a_reading lun number bytes ∷ [])))
-        (All-append (λ (s : SensorReading). s.lun ≤ 3) (filter_map sensor_on before) _ saved.luns (All-cons (λ (s : SensorReading). s.lun ≤ 3) _ [] (lun_fine lun _ bytes fine) (λ k d lt. absurd (omega (arith, lt)))));
+        (All-append (λ (s : SensorReading). s.lun ≤ 3) (filter_map sensor_on before) _ saved.luns (All-cons (λ (s : SensorReading). s.lun ≤ 3) _ [] (reading_fine lun _ bytes fine).1 (λ k d lt. absurd (omega (arith, lt)))));
   }
   saved_more (an_info shelf bytes) some fine = record { some = same_inventories (an_info shelf bytes) refl; luns = same_readings (an_info shelf bytes) refl }
   saved_more the_end some fine = record { some = same_inventories the_end refl; luns = same_readings the_end refl }
@@ -210,10 +202,7 @@ saved_of_image bytes store e = by (pieces 10 bytes) e
     by (first ∷ []) e = cc e
     by (first ∷ (following ∷ rest)) e = versions first following rest (dashes_in first) e
 
-lun_at : (sensors : List StoredSensor) (k : ℕ) (d : StoredSensor) → All (λ s. s.lun ≤ 3) (map sensor_of sensors) → k < length sensors → (get_or sensors k d).lun ≤ 3
-lun_at [] k d all lt = absurd (omega (arith, lt))
-lun_at (s ∷ sensors) zero d all lt = all 0 (sensor_of s) (omega arith)
-lun_at (s ∷ sensors) (suc k) d all lt = lun_at sensors k d (λ j e below. all (suc j) e (omega (arith, below))) (omega (arith, lt))
-
 pub stored_luns : (sensors : List StoredSensor) → All (λ s. s.lun ≤ 3) (map sensor_of sensors) → All (λ (s : StoredSensor). s.lun ≤ 3) sensors
-stored_luns sensors all = λ k d lt. lun_at sensors k d all lt
+stored_luns sensors all = λ k d lt.
+    let len = length-map sensors sensor_of in
+    subst (λ (s : SensorReading). s.lun ≤ 3) (get_or-map sensor_of sensors k d) (all k (sensor_of d) (omega (arith, lt, len)))

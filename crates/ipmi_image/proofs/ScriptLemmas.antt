@@ -15,6 +15,8 @@ use Rattle.ipmi_bus.specs.Store.{Store}
 use Rattle.ipmi_bus.specs.Seen.{Seen, IsHonest, IsQuiet, IsFinished, IsChange, MayLoseReservation, current}
 use Rattle.ipmi_bus.specs.Answers.{Asked, other, FailsWith, CountsPiece, ReserveGives, ReserveAnswers, PartGives, PartAnswers, ValueGives, ValueAnswers, SizeGives, SizeAnswers, BytesGives, BytesAnswers}
 use Rattle.ipmi_image.specs.Controllers.{Prepares}
+use Rattle.ipmi_image.specs.declared.responder.Responder.{Responder}
+use Rattle.ipmi_image.specs.Responder.{seen_as}
 
 pub nothing_left : {X : Type 0} (xs : List X) → length xs ≡ 0 → xs ≡ []
 nothing_left [] none = refl
@@ -27,6 +29,10 @@ fails_else P P' Q Q' Busy code s s' p q h = h
 fails_else P P' Q Q' SmallerPart code s s' p q h = (p h.0, h.1)
 fails_else P P' Q Q' NotPresent code s s' p q h = (q h.0, h.1)
 fails_else P P' Q Q' Refusal code s s' p q h = h
+
+-- it answers over the store as it is, as one that never changes
+pub same_after : (r r' : Responder) → (IsHonest (seen_as true r) → IsChange (seen_as true r) (seen_as true r')) → IsHonest (seen_as false r) → (seen_as false r').stores_added ≡ (seen_as false r).stores_added
+same_after r r' change honest = let plainly : IsHonest (seen_as true r) = record { said = honest.said; store = honest.store } in (change plainly).stays.plain_store refl
 
 module _ (old mid new : Seen) (honest : IsHonest old) (plain : old.plain ≡ false) (first : Prepares old mid) (same : new.stores_added ≡ mid.stores_added) where
   quiet_on : IsQuiet mid new → IsQuiet old new

@@ -1,6 +1,6 @@
 -- The rows of some lines as a shelf: what one more row changes.
 use Rattle.std.proofs.Common.{◌≡◌, ℕ, ◌<◌, Bool, true, false, cond, not, nat_eq, nat_lt, ◌&&◌, ◌||◌, Option, None, Some, List, [], ◌∷◌, ◌++◌, length, refl, sym, arith}
-use Rattle.std.proofs.lemmas.Bool.{eqb-true, eqb-false}
+use Rattle.std.proofs.lemmas.Bool.{eqb-true, eqb-false, not-false, or_parts}
 use Rattle.std.proofs.lemmas.Bool.Decides.{nat_tests}
 use Rattle.std.proofs.lemmas.Option.{none-some}
 use Rattle.std.specs.Option.{unwrap_or}
@@ -89,9 +89,10 @@ module _ (shelf : Shelf) (rows : List Row) (row : SavedRow) (fine : row_fault sh
 
   pub fine_row : row.id < 65536 → unwrap_or row.next 65535 < 65536 → AreBytes row.bytes → IsRow shelf (row_before [] row)
   fine_row id next bytes =
-      let whole : nat_eq (length row.bytes) (whole_len shelf row.bytes) ≡ true = not_false _ (or_left (not (nat_eq (length row.bytes) (whole_len shelf row.bytes))) (nat_lt (largest_len shelf) (length row.bytes)) fine_parts.2) in
-      let fits : nat_lt (largest_len shelf) (length row.bytes) ≡ false = or_right (not (nat_eq (length row.bytes) (whole_len shelf row.bytes))) (nat_lt (largest_len shelf) (length row.bytes)) fine_parts.2 in
-      let other : nat_eq row.id 65535 ≡ false = or_right (nat_eq row.id 0 && not (is_empty rows)) (nat_eq row.id 65535) fine_parts.0 in
+      let sized = or_parts (not (nat_eq (length row.bytes) (whole_len shelf row.bytes))) (nat_lt (largest_len shelf) (length row.bytes)) fine_parts.2 in
+      let whole : nat_eq (length row.bytes) (whole_len shelf row.bytes) ≡ true = not-false _ sized.0 in
+      let fits : nat_lt (largest_len shelf) (length row.bytes) ≡ false = sized.1 in
+      let other : nat_eq row.id 65535 ≡ false = (or_parts (nat_eq row.id 0 && not (is_empty rows)) (nat_eq row.id 65535) fine_parts.0).1 in
       record {
         id = let ne = eqb-false row.id 65535 other in omega (arith, id, ne);
         next = next;
@@ -99,32 +100,16 @@ module _ (shelf : Shelf) (rows : List Row) (row : SavedRow) (fine : row_fault sh
         fits = grind (arith, nat_tests);
         bytes = bytes;
       }
-    where
-      or_left : (a b : Bool) → (a || b) ≡ false → a ≡ false
-      or_left true b e = e
-      or_left false b e = refl
-
-      or_right : (a b : Bool) → (a || b) ≡ false → b ≡ false
-      or_right true b e = cc e
-      or_right false b e = e
-
-      not_false : (b : Bool) → not b ≡ false → b ≡ true
-      not_false true e = refl
-      not_false false e = cc e
 
   fine_snoc : IsShelf shelf rows → IsRow shelf (row_before [] row) → IsShelf shelf (rows ++ row_before [] row ∷ [])
   fine_snoc shelf_ok ok = by rows shelf_ok fine_parts.0 fine_parts.1 fine_parts.3
     where
-      same : (b : Bool) → not b ≡ false → b ≡ true
-      same true e = refl
-      same false e = cc e
-
       zero_not : (a b : Bool) → ((a && true) || b) ≡ false → a ≡ false
       zero_not true b e = cc e
       zero_not false b e = refl
 
       by : (rows : List Row) → IsShelf shelf rows → is_no_id rows row.id ≡ false → has_id rows row.id ≡ false → begins_with_another rows row ≡ false → IsShelf shelf (rows ++ row_before [] row ∷ [])
-      by [] s a b d = IsShelf-first shelf (row_before [] row) ok (eqb-true _ _ (same (nat_eq (id_in row.bytes) row.id) d))
+      by [] s a b d = IsShelf-first shelf (row_before [] row) ok (eqb-true _ _ (not-false (nat_eq (id_in row.bytes) row.id) d))
       by (first ∷ rows) s a b d = IsShelf-snoc shelf first rows (row_before [] row) s ok (eqb-false row.id 0 (zero_not (nat_eq row.id 0) (nat_eq row.id 65535) a)) b
 
 -- so it may come after the rows of some lines

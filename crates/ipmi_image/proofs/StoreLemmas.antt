@@ -1,8 +1,8 @@
 -- What a line puts after the contents of an image keeps them a store, and is what the line says.
-use Rattle.std.proofs.Common.{◌≡◌, ◌≢◌, ℕ, zero, suc, ◌+◌, ◌<◌, ◌≤◌, Bool, true, false, cond, not, nat_lt, ◌&&◌, ◌⊎◌, inl, inr, Result, Ok, Err, Option, None, Some, List, [], ◌∷◌, ◌++◌, length, get_or, map, refl, sym, ap, subst, ◌∙◌, append-nil, add-one, arith, nat_eq}
+use Rattle.std.proofs.Common.{◌≡◌, ◌≢◌, ℕ, zero, suc, ◌+◌, ◌<◌, ◌≤◌, Bool, true, false, cond, not, nat_lt, ◌&&◌, ◌⊎◌, inl, inr, Result, Ok, Err, Option, None, Some, List, [], ◌∷◌, ◌++◌, length, get_or, map, refl, sym, ap, subst, ◌∙◌, append-nil, arith, nat_eq}
 use Rattle.std.specs.List.{slice_get, All, cons_option, filter_map}
 use Rattle.std.proofs.lemmas.Option.{none-some, same_Some}
-use Rattle.std.specs.Option.{unwrap_or, is_some, option_map}
+use Rattle.std.specs.Option.{unwrap_or, is_some}
 use Rattle.std.specs.Result.{OnOk, IfErr}
 use Rattle.ipmi_text.specs.declared.reading.Reading.{Reading}
 use Rattle.ipmi_image.specs.declared.line.LineFault.{LineFault}
@@ -13,17 +13,17 @@ use Rattle.std.proofs.lemmas.List.{get_or_default, length-append}
 use Rattle.std.proofs.lemmas.List.Quantifiers.{all_pairs_push}
 use Rattle.std.proofs.lemmas.List.Elements.{All-cons, All-append, filter_map-append}
 use Rattle.std.proofs.lemmas.List.Sums.{fold-append}
-use Rattle.ipmi_bus.specs.declared.controller.Shelf.{Shelf}
 use Rattle.ipmi_bus.specs.declared.controller.Shelf.TheVariants.{Sdr, Sel}
 use Rattle.ipmi_text.specs.Bytes.{AreBytes}
-use Rattle.ipmi_bus.specs.Store.{Inventory, SensorReading, IsInventory, IsSensorReading, OtherSensor, inventory_in, reading_in}
+use Rattle.ipmi_bus.specs.Store.{Store, Inventory, SensorReading, IsInventory, IsSensorReading, OtherSensor, inventory_in, reading_in}
 use Rattle.ipmi_image.specs.declared.contents.Contents.{Contents}
 use Rattle.ipmi_image.specs.declared.stored.StoredInventory.{StoredInventory}
 use Rattle.ipmi_image.specs.declared.stored.StoredSensor.{StoredSensor}
 use Rattle.ipmi_image.specs.Line.{SavedRow, Line, a_row, an_inventory, a_reading, an_info, the_end}
 use Rattle.ipmi_image.specs.Table.{place_of, inventory_of, longer_at}
-use Rattle.ipmi_image.specs.Image.{row_on, rows_on, chained, with_bytes, with_inventory_line, inventories_of, reading_of_bytes, sensor_on, info_on, first_of, store_of_lines, row_fault, inventory_fault, reading_fault, info_fault, fault_in}
-use Rattle.ipmi_image.specs.Stored.{sensor_of, HoldsLines, IsPut, AreInventories, AreReadings}
+use Rattle.ipmi_image.specs.Image.{row_on, chained, with_bytes, with_inventory_line, reading_of_bytes, sensor_on, info_on, first_of, store_of_lines, inventory_fault, reading_fault, info_fault, fault_in}
+use Rattle.ipmi_image.specs.Stored.{sensor_of, store_of, HoldsLines, IsPut, AreInventories, AreReadings}
+use Rattle.ipmi_image.proofs.TableLemmas.{place_some, place_none}
 
 -- ---- inventories
 
@@ -52,115 +52,80 @@ AreInventories-longer place bytes xs h are = record {
 
 -- ---- one more line
 
-module _ (before : List Line) (line : Line) where
-  pub rows-same : (shelf : Shelf) → row_on shelf line ≡ None → rows_on shelf (before ++ line ∷ []) ≡ rows_on shelf before
-  rows-same shelf none = filter_map-append (row_on shelf) before (line ∷ []) ∙ ap (λ (o : Option SavedRow). rows_on shelf before ++ cons_option o []) none ∙ append-nil _
+-- a list with what a line says of it, if it says anything
+abbrev said_after : {Y : Type 0} → List Y → Option Y → List Y
+said_after l None = l
+said_after l (Some y) = l ++ y ∷ []
 
-  pub infos-same : (shelf : Shelf) → info_on shelf line ≡ None → filter_map (info_on shelf) (before ++ line ∷ []) ≡ filter_map (info_on shelf) before
-  infos-same shelf none = filter_map-append (info_on shelf) before (line ∷ []) ∙ ap (λ (o : Option (List ℕ)). filter_map (info_on shelf) before ++ cons_option o []) none ∙ append-nil _
+filter_map-after : {Y : Type 0} (h : Line → Option Y) (before : List Line) (line : Line) → filter_map h (before ++ line ∷ []) ≡ said_after (filter_map h before) (h line)
+filter_map-after {Y} h before line = filter_map-append h before (line ∷ []) ∙ by (h line)
+  where
+    by : (o : Option Y) → filter_map h before ++ cons_option o [] ≡ said_after (filter_map h before) o
+    by None = append-nil _
+    by (Some y) = refl
 
-  pub readings-same : sensor_on line ≡ None → filter_map sensor_on (before ++ line ∷ []) ≡ filter_map sensor_on before
-  readings-same none = filter_map-append sensor_on before (line ∷ []) ∙ ap (λ (o : Option SensorReading). filter_map sensor_on before ++ cons_option o []) none ∙ append-nil _
+pub readings-same : (before : List Line) (line : Line) → sensor_on line ≡ None → filter_map sensor_on (before ++ line ∷ []) ≡ filter_map sensor_on before
+readings-same before line none = filter_map-after sensor_on before line ∙ ap (said_after (filter_map sensor_on before)) none
 
-  pub inventories-next : inventories_of (before ++ line ∷ []) ≡ with_inventory_line (inventories_of before) line
-  inventories-next = fold-append with_inventory_line [] before (line ∷ [])
+-- the first info is all there is before the second
+abbrev info_after : Option (List ℕ) → Option (List ℕ) → Option (List ℕ)
+info_after None already = already
+info_after (Some bytes) None = Some bytes
+info_after (Some bytes) (Some x) = Some x
+
+first_of-after : (l : List (List ℕ)) (info : Option (List ℕ)) → first_of (said_after l info) ≡ info_after info (first_of l)
+first_of-after l None = refl
+first_of-after [] (Some bytes) = refl
+first_of-after (x ∷ l) (Some bytes) = refl
 
 -- ---- each kind of line
 
+pub same_store : (a b : Store) → a.sdr ≡ b.sdr → a.sel ≡ b.sel → a.inventories ≡ b.inventories → a.readings ≡ b.readings → a.sdr_info ≡ b.sdr_info → a.sel_info ≡ b.sel_info → a ≡ b
+same_store a b e1 e2 e3 e4 e5 e6 =
+    let made = λ (s : Store). let x : Store = record { sdr = s.sdr; sel = s.sel; inventories = s.inventories; readings = s.readings; sdr_info = s.sdr_info; sel_info = s.sel_info } in x in
+    let same : made a ≡ made b = cc in same
+
+-- what is kept is what the lines say
+pub store_is : (contents : Contents) (lines : List Line) → HoldsLines contents lines → store_of contents ≡ store_of_lines lines
+store_is contents lines holds = same_store (store_of contents) (store_of_lines lines) (ap chained holds.sdr) (ap chained holds.sel) holds.inventories holds.readings holds.sdr_info holds.sel_info
+
 module _ (old : Contents) (before : List Line) (holds : HoldsLines old before) where
-  pub sdr-fault : (row : SavedRow) → fault_in (store_of_lines before) (a_row Sdr row) ≡ row_fault Sdr (chained old.sdr) row
-  sdr-fault row = ap (λ (l : List SavedRow). row_fault Sdr (chained l) row) (sym holds.sdr)
+  pub fault_is : (line : Line) → fault_in (store_of_lines before) line ≡ fault_in (store_of old) line
+  fault_is line = ap (λ (s : Store). fault_in s line) (sym (store_is old before holds))
 
-  pub sel-fault : (row : SavedRow) → fault_in (store_of_lines before) (a_row Sel row) ≡ row_fault Sel (chained old.sel) row
-  sel-fault row = ap (λ (l : List SavedRow). row_fault Sel (chained l) row) (sym holds.sel)
-
-  pub bytes-fault : (id : ℕ) (bytes : List ℕ) → fault_in (store_of_lines before) (an_inventory id bytes) ≡ inventory_fault id (inventory_in (map inventory_of old.inventories) id) bytes
-  bytes-fault id bytes = ap (λ (l : List Inventory). inventory_fault id (inventory_in l id) bytes) (sym holds.inventories)
-
-  pub sensor-fault : (lun number : ℕ) (bytes : List ℕ) → fault_in (store_of_lines before) (a_reading lun number bytes) ≡ reading_fault lun (reading_in (map sensor_of old.sensors) lun number) bytes
-  sensor-fault lun number bytes = ap (λ (l : List SensorReading). reading_fault lun (reading_in l lun number) bytes) (sym holds.readings)
-
-  pub sdr_info-fault : (bytes : List ℕ) → fault_in (store_of_lines before) (an_info Sdr bytes) ≡ info_fault old.sdr_info bytes
-  sdr_info-fault bytes = ap (λ (o : Option (List ℕ)). info_fault o bytes) (sym holds.sdr_info)
-
-  pub sel_info-fault : (bytes : List ℕ) → fault_in (store_of_lines before) (an_info Sel bytes) ≡ info_fault old.sel_info bytes
-  sel_info-fault bytes = ap (λ (o : Option (List ℕ)). info_fault o bytes) (sym holds.sel_info)
+  -- each part of the new contents is the old one's with what the line says of it
+  holds-after : (new : Contents) (line : Line) → new.sdr ≡ said_after old.sdr (row_on Sdr line) → new.sel ≡ said_after old.sel (row_on Sel line)
+      → map inventory_of new.inventories ≡ with_inventory_line (map inventory_of old.inventories) line → map sensor_of new.sensors ≡ said_after (map sensor_of old.sensors) (sensor_on line)
+      → new.sdr_info ≡ info_after (info_on Sdr line) old.sdr_info → new.sel_info ≡ info_after (info_on Sel line) old.sel_info → HoldsLines new (before ++ line ∷ [])
+  holds-after new line sdr sel inventories readings sdr_info sel_info = record {
+    sdr = sdr ∙ ap (λ (l : List SavedRow). said_after l (row_on Sdr line)) holds.sdr ∙ sym (filter_map-after (row_on Sdr) before line);
+    sel = sel ∙ ap (λ (l : List SavedRow). said_after l (row_on Sel line)) holds.sel ∙ sym (filter_map-after (row_on Sel) before line);
+    inventories = inventories ∙ ap (λ (l : List Inventory). with_inventory_line l line) holds.inventories ∙ sym (fold-append with_inventory_line [] before (line ∷ []));
+    readings = readings ∙ ap (λ (l : List SensorReading). said_after l (sensor_on line)) holds.readings ∙ sym (filter_map-after sensor_on before line);
+    sdr_info = sdr_info ∙ ap (info_after (info_on Sdr line)) holds.sdr_info ∙ sym (ap first_of (filter_map-after (info_on Sdr) before line) ∙ first_of-after _ (info_on Sdr line));
+    sel_info = sel_info ∙ ap (info_after (info_on Sel line)) holds.sel_info ∙ sym (ap first_of (filter_map-after (info_on Sel) before line) ∙ first_of-after _ (info_on Sel line));
+  }
 
   pub sdr-put : (row : SavedRow) (sdr : List SavedRow) → sdr ≡ old.sdr ++ row ∷ [] → HoldsLines (record old { sdr = sdr }) (before ++ a_row Sdr row ∷ [])
-  sdr-put row sdr is = let line = a_row Sdr row in record {
-    sdr = is ∙ ap (λ (l : List SavedRow). l ++ row ∷ []) holds.sdr ∙ sym (filter_map-append (row_on Sdr) before (line ∷ []));
-    sel = holds.sel ∙ sym (rows-same before line Sel refl);
-    inventories = holds.inventories ∙ sym (inventories-next before line);
-    readings = holds.readings ∙ sym (readings-same before line refl);
-    sdr_info = holds.sdr_info ∙ ap first_of (sym (infos-same before line Sdr refl));
-    sel_info = holds.sel_info ∙ ap first_of (sym (infos-same before line Sel refl));
-  }
+  sdr-put row sdr is = holds-after (record old { sdr = sdr }) (a_row Sdr row) is refl refl refl refl refl
 
   pub sel-put : (row : SavedRow) (sel : List SavedRow) → sel ≡ old.sel ++ row ∷ [] → HoldsLines (record old { sel = sel }) (before ++ a_row Sel row ∷ [])
-  sel-put row sel is = let line = a_row Sel row in record {
-    sdr = holds.sdr ∙ sym (rows-same before line Sdr refl);
-    sel = is ∙ ap (λ (l : List SavedRow). l ++ row ∷ []) holds.sel ∙ sym (filter_map-append (row_on Sel) before (line ∷ []));
-    inventories = holds.inventories ∙ sym (inventories-next before line);
-    readings = holds.readings ∙ sym (readings-same before line refl);
-    sdr_info = holds.sdr_info ∙ ap first_of (sym (infos-same before line Sdr refl));
-    sel_info = holds.sel_info ∙ ap first_of (sym (infos-same before line Sel refl));
-  }
+  sel-put row sel is = holds-after (record old { sel = sel }) (a_row Sel row) refl is refl refl refl refl
 
   pub bytes-put : (id : ℕ) (bytes : List ℕ) (inventories : List StoredInventory) → map inventory_of inventories ≡ with_bytes id bytes (map inventory_of old.inventories) → HoldsLines (record old { inventories = inventories }) (before ++ an_inventory id bytes ∷ [])
-  bytes-put id bytes inventories is = let line = an_inventory id bytes in record {
-    sdr = holds.sdr ∙ sym (rows-same before line Sdr refl);
-    sel = holds.sel ∙ sym (rows-same before line Sel refl);
-    inventories = is ∙ ap (with_bytes id bytes) holds.inventories ∙ sym (inventories-next before line);
-    readings = holds.readings ∙ sym (readings-same before line refl);
-    sdr_info = holds.sdr_info ∙ ap first_of (sym (infos-same before line Sdr refl));
-    sel_info = holds.sel_info ∙ ap first_of (sym (infos-same before line Sel refl));
-  }
+  bytes-put id bytes inventories is = holds-after (record old { inventories = inventories }) (an_inventory id bytes) refl refl is refl refl refl
 
   pub sensor-put : (lun number : ℕ) (bytes : List ℕ) (sensors : List StoredSensor) → map sensor_of sensors ≡ map sensor_of old.sensors ++ record { lun = lun; number = number; reading = reading_of_bytes bytes } ∷ [] → HoldsLines (record old { sensors = sensors }) (before ++ a_reading lun number bytes ∷ [])
-  sensor-put lun number bytes sensors is = let line = a_reading lun number bytes in record {
-    sdr = holds.sdr ∙ sym (rows-same before line Sdr refl);
-    sel = holds.sel ∙ sym (rows-same before line Sel refl);
-    inventories = holds.inventories ∙ sym (inventories-next before line);
-    readings = is ∙ ap (λ (l : List SensorReading). l ++ record { lun = lun; number = number; reading = reading_of_bytes bytes } ∷ []) holds.readings ∙ sym (filter_map-append sensor_on before (line ∷ []));
-    sdr_info = holds.sdr_info ∙ ap first_of (sym (infos-same before line Sdr refl));
-    sel_info = holds.sel_info ∙ ap first_of (sym (infos-same before line Sel refl));
-  }
+  sensor-put lun number bytes sensors is = holds-after (record old { sensors = sensors }) (a_reading lun number bytes) refl refl refl is refl refl
 
--- the first info is all there is before the second
-first-snoc : (l : List (List ℕ)) (bytes : List ℕ) → None ≡ first_of l → Some bytes ≡ first_of (l ++ bytes ∷ [])
-first-snoc [] bytes none = refl
-first-snoc (x ∷ l) bytes none = absurd (none-some x none)
-
-module _ (old : Contents) (before : List Line) (holds : HoldsLines old before) where
   pub sdr_info-put : (bytes : List ℕ) → old.sdr_info ≡ None → HoldsLines (record old { sdr_info = Some bytes }) (before ++ an_info Sdr bytes ∷ [])
-  sdr_info-put bytes none = let line = an_info Sdr bytes in record {
-    sdr = holds.sdr ∙ sym (rows-same before line Sdr refl);
-    sel = holds.sel ∙ sym (rows-same before line Sel refl);
-    inventories = holds.inventories ∙ sym (inventories-next before line);
-    readings = holds.readings ∙ sym (readings-same before line refl);
-    sdr_info = first-snoc _ bytes (sym none ∙ holds.sdr_info) ∙ ap first_of (sym (filter_map-append (info_on Sdr) before (line ∷ [])));
-    sel_info = holds.sel_info ∙ ap first_of (sym (infos-same before line Sel refl));
-  }
+  sdr_info-put bytes none = holds-after (record old { sdr_info = Some bytes }) (an_info Sdr bytes) refl refl refl refl (sym (ap (info_after (Some bytes)) none)) refl
 
   pub sel_info-put : (bytes : List ℕ) → old.sel_info ≡ None → HoldsLines (record old { sel_info = Some bytes }) (before ++ an_info Sel bytes ∷ [])
-  sel_info-put bytes none = let line = an_info Sel bytes in record {
-    sdr = holds.sdr ∙ sym (rows-same before line Sdr refl);
-    sel = holds.sel ∙ sym (rows-same before line Sel refl);
-    inventories = holds.inventories ∙ sym (inventories-next before line);
-    readings = holds.readings ∙ sym (readings-same before line refl);
-    sdr_info = holds.sdr_info ∙ ap first_of (sym (infos-same before line Sdr refl));
-    sel_info = first-snoc _ bytes (sym none ∙ holds.sel_info) ∙ ap first_of (sym (filter_map-append (info_on Sel) before (line ∷ [])));
-  }
+  sel_info-put bytes none = holds-after (record old { sel_info = Some bytes }) (an_info Sel bytes) refl refl refl refl refl (sym (ap (info_after (Some bytes)) none))
 
   pub end-put : HoldsLines old (before ++ the_end ∷ [])
-  end-put = let line = the_end in record {
-    sdr = holds.sdr ∙ sym (rows-same before line Sdr refl);
-    sel = holds.sel ∙ sym (rows-same before line Sel refl);
-    inventories = holds.inventories ∙ sym (inventories-next before line);
-    readings = holds.readings ∙ sym (readings-same before line refl);
-    sdr_info = holds.sdr_info ∙ ap first_of (sym (infos-same before line Sdr refl));
-    sel_info = holds.sel_info ∙ ap first_of (sym (infos-same before line Sel refl));
-  }
+  end-put = holds-after old the_end refl refl refl refl refl refl
 
 -- ---- inventories and readings of a store
 
@@ -174,18 +139,13 @@ inventory_fits (x ∷ xs) id all = by (inventory_fits xs id (λ k d lt. all (suc
 
 pub inventory_found : (items : List StoredInventory) (id place : ℕ) (x : Inventory) → place_of (λ (i : StoredInventory). i.id) id items ≡ Some place → slice_get (map inventory_of items) place ≡ Some x → inventory_in (map inventory_of items) id ≡ Some x.bytes
 inventory_found [] id place x at is = absurd (none-some place at)
-inventory_found (y ∷ ys) id place x at is = by (λ p f s. inventory_found ys id p x f s) (nat_eq y.id id) (place_of (λ (i : StoredInventory). i.id) id ys) refl at
+inventory_found (y ∷ ys) id place x at is = elim (place_some (λ (i : StoredInventory). i.id) id y ys place at) [
+  | inl first ↦ in_first true first.0 ∙ ap (λ (i : Inventory). Some i.bytes) (same_Some (inventory_of y) x (sym (ap (slice_get (inventory_of y ∷ map inventory_of ys)) first.1) ∙ is))
+  | inr later ↦ in_first false later.0 ∙ inventory_found ys id later.1 x later.2 (sym (ap (slice_get (inventory_of y ∷ map inventory_of ys)) later.3) ∙ is)
+]
   where
-    first : (k : ℕ) → 0 ≡ k → slice_get (inventory_of y ∷ map inventory_of ys) k ≡ Some x → Some y.bytes.items ≡ Some x.bytes
-    first k e s =
-        let h : slice_get (inventory_of y ∷ map inventory_of ys) 0 ≡ Some x = ap (slice_get (inventory_of y ∷ map inventory_of ys)) e ∙ s in
-        ap (λ (i : Inventory). Some i.bytes) (same_Some (inventory_of y) x h)
-
-    by : ((p : ℕ) → place_of (λ (i : StoredInventory). i.id) id ys ≡ Some p → slice_get (map inventory_of ys) p ≡ Some x → inventory_in (map inventory_of ys) id ≡ Some x.bytes)
-        → (b : Bool) (o : Option ℕ) → place_of (λ (i : StoredInventory). i.id) id ys ≡ o → cond b (Some 0) (option_map (λ p. p + 1) o) ≡ Some place → cond b (Some y.bytes.items) (inventory_in (map inventory_of ys) id) ≡ Some x.bytes
-    by ih true o e f = first place (same_Some 0 place f) is
-    by ih false None e f = absurd (none-some place f)
-    by ih false (Some p) e f = ih p e (ap (slice_get (inventory_of y ∷ map inventory_of ys)) (sym (add-one p) ∙ same_Some (p + 1) place f) ∙ is)
+    in_first : (b : Bool) → nat_eq y.id id ≡ b → inventory_in (map inventory_of (y ∷ ys)) id ≡ cond b (Some y.bytes.items) (inventory_in (map inventory_of ys) id)
+    in_first b e = ap (λ (b : Bool). cond b (Some y.bytes.items) (inventory_in (map inventory_of ys) id)) e
 
 -- with more bytes they are still inventories of a store
 pub AreInventories-more : (items : List StoredInventory) (id place : ℕ) (bytes : List ℕ) → place_of (λ (i : StoredInventory). i.id) id items ≡ Some place → length (unwrap_or (inventory_in (map inventory_of items) id) []) + length bytes ≤ 65535 → AreBytes bytes → AreInventories (map inventory_of items) → AreInventories (longer_at place bytes (map inventory_of items))
@@ -199,14 +159,8 @@ AreInventories-more items id place bytes at fits all are = AreInventories-longer
 
 other_id : (items : List StoredInventory) (id k : ℕ) (d : Inventory) → place_of (λ (i : StoredInventory). i.id) id items ≡ None → k < length (map inventory_of items) → (get_or (map inventory_of items) k d).id ≢ id
 other_id [] id k d none lt = absurd (omega (arith, lt))
-other_id (x ∷ xs) id k d none lt = by (λ j f below. other_id xs id j d f below) (nat_eq x.id id) refl (place_of (λ (i : StoredInventory). i.id) id xs) refl none k lt
-  where
-    by : ((j : ℕ) → place_of (λ (i : StoredInventory). i.id) id xs ≡ None → j < length (map inventory_of xs) → (get_or (map inventory_of xs) j d).id ≢ id)
-        → (b : Bool) → nat_eq x.id id ≡ b → (o : Option ℕ) → place_of (λ (i : StoredInventory). i.id) id xs ≡ o → cond b (Some 0) (option_map (λ p. p + 1) o) ≡ None → (k : ℕ) → k < suc (length (map inventory_of xs)) → (get_or (inventory_of x ∷ map inventory_of xs) k d).id ≢ id
-    by ih true e o f n k lt = absurd (none-some 0 (sym n))
-    by ih false e (Some p) f n k lt = absurd (none-some (p + 1) (sym n))
-    by ih false e None f n zero lt = eqb-false x.id id e
-    by ih false e None f n (suc k) lt = ih k f (omega (arith, lt))
+other_id (x ∷ xs) id zero d none lt = eqb-false x.id id (place_none (λ (i : StoredInventory). i.id) id x xs none).0
+other_id (x ∷ xs) id (suc k) d none lt = other_id xs id k d (place_none (λ (i : StoredInventory). i.id) id x xs none).1 (omega (arith, lt))
 
 pub AreInventories-new : (items : List StoredInventory) (id : ℕ) (bytes : List ℕ) → place_of (λ (i : StoredInventory). i.id) id items ≡ None → id < 256 → id ≢ 255 → length bytes ≤ 65535 → AreBytes bytes → AreInventories (map inventory_of items) → AreInventories (map inventory_of items ++ record { id = id; bytes = bytes } ∷ [])
 AreInventories-new items id bytes none lt ne fits all are = record {

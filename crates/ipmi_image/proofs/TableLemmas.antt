@@ -1,5 +1,5 @@
 -- Items found by their keys.
-use Rattle.std.proofs.Common.{◌≡◌, ℕ, zero, suc, ◌+◌, ◌*◌, ◌<◌, ◌≤◌, Bool, true, false, cond, nat_eq, ◌&&◌, ◌||◌, Option, None, Some, List, [], ◌∷◌, ◌++◌, length, drop, get_or, set, map, refl, sym, ap, subst, ◌∙◌, add-one, option_map, arith}
+use Rattle.std.proofs.Common.{◌≡◌, ℕ, zero, suc, ◌+◌, ◌*◌, ◌<◌, ◌≤◌, Bool, true, false, cond, nat_eq, ◌&&◌, ◌||◌, ◌⊎◌, inl, inr, Option, None, Some, List, [], ◌∷◌, ◌++◌, length, drop, get_or, set, map, refl, sym, ap, subst, ◌∙◌, add-one, option_map, arith}
 use Rattle.std.specs.Option.{option_or, option_and_then, is_some}
 use Rattle.std.specs.List.{slice_get, find, list_any, All, IsDistinct}
 use Rattle.std.specs.Bool.{MatchBool}
@@ -63,16 +63,41 @@ is_some-place_of {T} key q (x ∷ xs) = by (nat_eq (key x) q) (place_of key q xs
     by false None e = e
     by false (Some p) e = e
 
+-- an item is found at the head, or one on from where it is found behind that
+pub place_some : {T : Type 0} (key : T → ℕ) (q : ℕ) (x : T) (xs : List T) (place : ℕ) → place_of key q (x ∷ xs) ≡ Some place
+    → ((nat_eq (key x) q ≡ true) × (place ≡ 0)) ⊎ ((nat_eq (key x) q ≡ false) × (p : ℕ) × (place_of key q xs ≡ Some p) × (place ≡ suc p))
+place_some key q x xs place at = by (nat_eq (key x) q) refl (place_of key q xs) refl at
+  where
+    by : (b : Bool) → nat_eq (key x) q ≡ b → (o : Option ℕ) → place_of key q xs ≡ o → cond b (Some 0) (option_map (λ p. p + 1) o) ≡ Some place
+        → ((nat_eq (key x) q ≡ true) × (place ≡ 0)) ⊎ ((nat_eq (key x) q ≡ false) × (p : ℕ) × (place_of key q xs ≡ Some p) × (place ≡ suc p))
+    by true is o e f = inl (is, sym (same_Some 0 place f))
+    by false is None e f = absurd (none-some place f)
+    by false is (Some p) e f = inr (is, p, e, sym (same_Some (p + 1) place f) ∙ add-one p)
+
+pub place_none : {T : Type 0} (key : T → ℕ) (q : ℕ) (x : T) (xs : List T) → place_of key q (x ∷ xs) ≡ None → (nat_eq (key x) q ≡ false) × (place_of key q xs ≡ None)
+place_none key q x xs at = by (nat_eq (key x) q) refl (place_of key q xs) refl at
+  where
+    by : (b : Bool) → nat_eq (key x) q ≡ b → (o : Option ℕ) → place_of key q xs ≡ o → cond b (Some 0) (option_map (λ p. p + 1) o) ≡ None → (nat_eq (key x) q ≡ false) × (place_of key q xs ≡ None)
+    by true is o e f = absurd (none-some 0 (sym f))
+    by false is None e f = (is, e)
+    by false is (Some p) e f = absurd (none-some (p + 1) (sym f))
+
+-- one of the items has the key
+or_place : (b some : Bool) (o : Option ℕ) → some ≡ is_some o → (b || some) ≡ is_some (cond b (Some 0) (option_map (λ p. p + 1) o))
+or_place true some o e = refl
+or_place false some None e = e
+or_place false some (Some p) e = e
+
+-- a part of the item that is found
+or_found : {T Y : Type 0} (f : T → Y) (b : Bool) (x : T) (part : Option Y) (found : Option T) → part ≡ option_map f found → cond b (Some (f x)) part ≡ option_map f (cond b (Some x) found)
+or_found f true x part found e = refl
+or_found f false x part found e = e
+
 -- ---- rows
 
 pub has_id_place : (rows : List SavedRow) (id : ℕ) → has_id (chained rows) id ≡ is_some (place_of id_of id rows)
 has_id_place [] id = refl
-has_id_place (row ∷ rows) id = ap (λ (b : Bool). b || has_id (chained rows) id) (eqb_comm id row.id) ∙ by (nat_eq row.id id) (place_of id_of id rows) (has_id_place rows id)
-  where
-    by : (b : Bool) (o : Option ℕ) → has_id (chained rows) id ≡ is_some o → (b || has_id (chained rows) id) ≡ is_some (cond b (Some 0) (option_map (λ p. p + 1) o))
-    by true o e = refl
-    by false None e = e
-    by false (Some p) e = e
+has_id_place (row ∷ rows) id = ap (λ (b : Bool). b || has_id (chained rows) id) (eqb_comm id row.id) ∙ or_place (nat_eq row.id id) _ (place_of id_of id rows) (has_id_place rows id)
 
 pub is_empty_chained : (rows : List SavedRow) → is_empty (chained rows) ≡ nat_eq (length rows) 0
 is_empty_chained [] = refl
@@ -82,75 +107,55 @@ is_empty_chained (row ∷ rows) = sym (ne_eqb (suc (length rows)) 0 (λ e. absur
 abbrev pub row_at : List SavedRow → ℕ → SavedRow → Row
 row_at rows place row = row_before (drop (place + 1) rows) row
 
-abbrev FoundAt : List SavedRow → ℕ → SavedRow → Type 0
-FoundAt rows id row = (p : ℕ) → place_of id_of id rows ≡ Some p → slice_get rows p ≡ Some row → row_with_id id (chained rows) ≡ Some (row_at rows p row)
-
 pub row_found : (rows : List SavedRow) (id place : ℕ) (row : SavedRow) → place_of id_of id rows ≡ Some place → slice_get rows place ≡ Some row → row_with_id id (chained rows) ≡ Some (row_at rows place row)
 row_found [] id place row at is = absurd (none-some place at)
-row_found (r ∷ rows) id place row at is = by (λ p found h. row_found rows id p row found h) (nat_eq r.id id) (place_of id_of id rows) refl at
+row_found (r ∷ rows) id place row at is = elim (place_some id_of id r rows place at) [
+  | inl first ↦
+      let same = same_Some r row (sym (ap (slice_get (r ∷ rows)) first.1) ∙ is) in
+      in_first true first.0 ∙ ap (λ (x : SavedRow). Some (row_before rows x)) same ∙ ap (λ (k : ℕ). Some (row_at (r ∷ rows) k row)) (sym first.1)
+  | inr later ↦
+      in_first false later.0 ∙ row_found rows id later.1 row later.2 (sym (ap (slice_get (r ∷ rows)) later.3) ∙ is)
+      ∙ ap (λ (n : ℕ). Some (row_before (drop n rows) row)) (add-one later.1) ∙ ap (λ (n : ℕ). Some (row_before (drop n (r ∷ rows)) row)) (sym (add-one (suc later.1)))
+      ∙ ap (λ (k : ℕ). Some (row_at (r ∷ rows) k row)) (sym later.3)
+]
   where
-    first : (k : ℕ) → 0 ≡ k → slice_get (r ∷ rows) k ≡ Some row → Some (row_before rows r) ≡ Some (row_at (r ∷ rows) k row)
-    first k e s =
-        let h : slice_get (r ∷ rows) 0 ≡ Some row = ap (slice_get (r ∷ rows)) e ∙ s in
-        ap (λ (x : SavedRow). Some (row_before rows x)) (same_Some r row h) ∙ ap (λ (n : ℕ). Some (row_at (r ∷ rows) n row)) e
-
-    later : FoundAt rows id row → (p k : ℕ) → p + 1 ≡ k → slice_get (r ∷ rows) k ≡ Some row → place_of id_of id rows ≡ Some p → row_with_id id (chained rows) ≡ Some (row_at (r ∷ rows) k row)
-    later ih p k e s found =
-        let k_is : suc p ≡ k = sym (add-one p) ∙ e in
-        let h : slice_get rows p ≡ Some row = ap (slice_get (r ∷ rows)) k_is ∙ s in
-        ih p found h ∙ ap (λ (n : ℕ). Some (row_before (drop n rows) row)) e ∙ ap (λ (n : ℕ). Some (row_before (drop n (r ∷ rows)) row)) (sym (add-one k))
-
-    by : FoundAt rows id row → (b : Bool) (o : Option ℕ) → place_of id_of id rows ≡ o → cond b (Some 0) (option_map (λ p. p + 1) o) ≡ Some place → cond b (Some (row_before rows r)) (row_with_id id (chained rows)) ≡ Some (row_at (r ∷ rows) place row)
-    by ih true o e f = first place (same_Some 0 place f) is
-    by ih false None e f = absurd (none-some place f)
-    by ih false (Some p) e f = later ih p place (same_Some (p + 1) place f) is e
+    in_first : (b : Bool) → nat_eq r.id id ≡ b → row_with_id id (chained (r ∷ rows)) ≡ cond b (Some (row_before rows r)) (row_with_id id (chained rows))
+    in_first b e = ap (λ (b : Bool). cond b (Some (row_before rows r)) (row_with_id id (chained rows))) e
 
 pub row_missing : (rows : List SavedRow) (id : ℕ) → place_of id_of id rows ≡ None → row_with_id id (chained rows) ≡ None
 row_missing [] id at = refl
-row_missing (r ∷ rows) id at = by (λ e. row_missing rows id e) (nat_eq r.id id) (place_of id_of id rows) refl at
-  where
-    by : (place_of id_of id rows ≡ None → row_with_id id (chained rows) ≡ None) → (b : Bool) (o : Option ℕ) → place_of id_of id rows ≡ o → cond b (Some 0) (option_map (λ p. p + 1) o) ≡ None → cond b (Some (row_before rows r)) (row_with_id id (chained rows)) ≡ None
-    by ih true o e f = absurd (none-some 0 (sym f))
-    by ih false None e f = ih e
-    by ih false (Some p) e f = absurd (none-some (p + 1) (sym f))
+row_missing (r ∷ rows) id at = let none = place_none id_of id r rows at in ap (λ (b : Bool). cond b (Some (row_before rows r)) (row_with_id id (chained rows))) none.0 ∙ row_missing rows id none.1
 
 -- ---- inventories
 
 pub inventory_find : (items : List StoredInventory) (id : ℕ) → inventory_in (map inventory_of items) id ≡ option_map (λ (i : StoredInventory). i.bytes.items) (find (λ (i : StoredInventory). nat_eq i.id id) items)
 inventory_find [] id = refl
-inventory_find (x ∷ xs) id = by (inventory_find xs id) (nat_eq x.id id)
-  where
-    by : inventory_in (map inventory_of xs) id ≡ option_map (λ (i : StoredInventory). i.bytes.items) (find (λ (i : StoredInventory). nat_eq i.id id) xs) → (b : Bool) → cond b (Some x.bytes.items) (inventory_in (map inventory_of xs) id) ≡ option_map (λ (i : StoredInventory). i.bytes.items) (cond b (Some x) (find (λ (i : StoredInventory). nat_eq i.id id) xs))
-    by ih true = refl
-    by ih false = ih
+inventory_find (x ∷ xs) id = or_found (λ (i : StoredInventory). i.bytes.items) (nat_eq x.id id) x _ _ (inventory_find xs id)
 
 pub with_bytes-found : (items : List StoredInventory) (id place : ℕ) (bytes : List ℕ) → place_of (λ (i : StoredInventory). i.id) id items ≡ Some place → with_bytes id bytes (map inventory_of items) ≡ longer_at place bytes (map inventory_of items)
 with_bytes-found [] id place bytes at = absurd (none-some place at)
-with_bytes-found (x ∷ xs) id place bytes at = by (λ p e. with_bytes-found xs id p bytes e) (nat_eq x.id id) (place_of (λ (i : StoredInventory). i.id) id xs) refl at
+with_bytes-found (x ∷ xs) id place bytes at = elim (place_some (λ (i : StoredInventory). i.id) id x xs place at) [
+  | inl first ↦ longer true first.0 ∙ ap (λ (k : ℕ). longer_at k bytes (inventory_of x ∷ map inventory_of xs)) (sym first.1)
+  | inr later ↦ longer false later.0 ∙ ap (λ (l : List Inventory). inventory_of x ∷ l) (with_bytes-found xs id later.1 bytes later.2) ∙ ap (λ (k : ℕ). longer_at k bytes (inventory_of x ∷ map inventory_of xs)) (sym later.3)
+]
   where
-    by : ((p : ℕ) → place_of (λ (i : StoredInventory). i.id) id xs ≡ Some p → with_bytes id bytes (map inventory_of xs) ≡ longer_at p bytes (map inventory_of xs)) → (b : Bool) (o : Option ℕ) → place_of (λ (i : StoredInventory). i.id) id xs ≡ o → cond b (Some 0) (option_map (λ p. p + 1) o) ≡ Some place → cond b (record { id = x.id; bytes = x.bytes.items ++ bytes } ∷ map inventory_of xs) (inventory_of x ∷ with_bytes id bytes (map inventory_of xs)) ≡ longer_at place bytes (inventory_of x ∷ map inventory_of xs)
-    by ih true o e f = ap (λ (k : ℕ). longer_at k bytes (inventory_of x ∷ map inventory_of xs)) (same_Some 0 place f)
-    by ih false None e f = absurd (none-some place f)
-    by ih false (Some p) e f = ap (λ (l : List Inventory). inventory_of x ∷ l) (ih p e) ∙ ap (λ (k : ℕ). longer_at k bytes (inventory_of x ∷ map inventory_of xs)) (sym (add-one p) ∙ same_Some (p + 1) place f)
+    longer : (b : Bool) → nat_eq x.id id ≡ b → with_bytes id bytes (map inventory_of (x ∷ xs)) ≡ cond b (record { id = x.id; bytes = x.bytes.items ++ bytes } ∷ map inventory_of xs) (inventory_of x ∷ with_bytes id bytes (map inventory_of xs))
+    longer b e = ap (λ (b : Bool). cond b (record { id = x.id; bytes = x.bytes.items ++ bytes } ∷ map inventory_of xs) (inventory_of x ∷ with_bytes id bytes (map inventory_of xs))) e
 
 pub with_bytes-new : (items : List StoredInventory) (id : ℕ) (bytes : List ℕ) → place_of (λ (i : StoredInventory). i.id) id items ≡ None → with_bytes id bytes (map inventory_of items) ≡ map inventory_of items ++ record { id = id; bytes = bytes } ∷ []
 with_bytes-new [] id bytes at = refl
-with_bytes-new (x ∷ xs) id bytes at = by (λ e. with_bytes-new xs id bytes e) (nat_eq x.id id) (place_of (λ (i : StoredInventory). i.id) id xs) refl at
-  where
-    by : (place_of (λ (i : StoredInventory). i.id) id xs ≡ None → with_bytes id bytes (map inventory_of xs) ≡ map inventory_of xs ++ record { id = id; bytes = bytes } ∷ []) → (b : Bool) (o : Option ℕ) → place_of (λ (i : StoredInventory). i.id) id xs ≡ o → cond b (Some 0) (option_map (λ p. p + 1) o) ≡ None → cond b (record { id = x.id; bytes = x.bytes.items ++ bytes } ∷ map inventory_of xs) (inventory_of x ∷ with_bytes id bytes (map inventory_of xs)) ≡ inventory_of x ∷ (map inventory_of xs ++ record { id = id; bytes = bytes } ∷ [])
-    by ih true o e f = absurd (none-some 0 (sym f))
-    by ih false None e f = ap (λ (l : List Inventory). inventory_of x ∷ l) (ih e)
-    by ih false (Some p) e f = absurd (none-some (p + 1) (sym f))
+with_bytes-new (x ∷ xs) id bytes at =
+    let none = place_none (λ (i : StoredInventory). i.id) id x xs at in
+    ap (λ (b : Bool). cond b (record { id = x.id; bytes = x.bytes.items ++ bytes } ∷ map inventory_of xs) (inventory_of x ∷ with_bytes id bytes (map inventory_of xs))) none.0
+    ∙ ap (λ (l : List Inventory). inventory_of x ∷ l) (with_bytes-new xs id bytes none.1)
 
 -- a place that is found is one of the list
 pub place_below : {T : Type 0} (key : T → ℕ) (q : ℕ) (items : List T) (place : ℕ) → place_of key q items ≡ Some place → place < length items
 place_below key q [] place at = absurd (none-some place at)
-place_below key q (x ∷ xs) place at = by (λ p e. place_below key q xs p e) (nat_eq (key x) q) (place_of key q xs) refl at
-  where
-    by : ((p : ℕ) → place_of key q xs ≡ Some p → p < length xs) → (b : Bool) (o : Option ℕ) → place_of key q xs ≡ o → cond b (Some 0) (option_map (λ p. p + 1) o) ≡ Some place → place < suc (length xs)
-    by ih true o e f = let is = same_Some 0 place f in omega (arith, is)
-    by ih false None e f = absurd (none-some place f)
-    by ih false (Some p) e f = let is = same_Some (p + 1) place f in let lt = ih p e in omega (arith, is, lt)
+place_below key q (x ∷ xs) place at = elim (place_some key q x xs place at) [
+  | inl first ↦ let is = first.1 in omega (arith, is)
+  | inr later ↦ let is = later.3 in let lt = place_below key q xs later.1 later.2 in omega (arith, is, lt)
+]
 
 -- ---- sensors
 
@@ -166,11 +171,7 @@ pub sensor_find : (items : List StoredSensor) (lun number : ℕ) → All IsSenso
 sensor_find [] lun number all lt = refl
 sensor_find (x ∷ xs) lun number all lt =
     ap (λ (b : Bool). cond b (Some x.reading) (reading_in (map sensor_of xs) lun number)) (same_sensor x.lun x.number lun number (all 0 (sensor_of x) (omega arith)).number lt)
-    ∙ by (sensor_find xs lun number (λ k d below. all (suc k) d (omega (arith, below))) lt) (nat_eq (sensor_key x.lun x.number) (sensor_key lun number))
-  where
-    by : reading_in (map sensor_of xs) lun number ≡ option_map (λ (s : StoredSensor). s.reading) (find (λ (s : StoredSensor). nat_eq (sensor_key s.lun s.number) (sensor_key lun number)) xs) → (b : Bool) → cond b (Some x.reading) (reading_in (map sensor_of xs) lun number) ≡ option_map (λ (s : StoredSensor). s.reading) (cond b (Some x) (find (λ (s : StoredSensor). nat_eq (sensor_key s.lun s.number) (sensor_key lun number)) xs))
-    by ih true = refl
-    by ih false = ih
+    ∙ or_found (λ (s : StoredSensor). s.reading) (nat_eq (sensor_key x.lun x.number) (sensor_key lun number)) x _ _ (sensor_find xs lun number (λ k d below. all (suc k) d (omega (arith, below))) lt)
 
 -- ---- an index beside the items
 
@@ -181,12 +182,7 @@ index_new key places none = record { found = none; distinct = tt; below = λ q p
 
 any_key : {T : Type 0} (key : T → ℕ) (q : ℕ) (items : List T) → list_any (nat_eq q) (map key items) ≡ is_some (place_of key q items)
 any_key key q [] = refl
-any_key key q (x ∷ xs) = ap (λ (b : Bool). b || list_any (nat_eq q) (map key xs)) (eqb_comm q (key x)) ∙ by (nat_eq (key x) q) (place_of key q xs) (any_key key q xs)
-  where
-    by : (b : Bool) (o : Option ℕ) → list_any (nat_eq q) (map key xs) ≡ is_some o → (b || list_any (nat_eq q) (map key xs)) ≡ is_some (cond b (Some 0) (option_map (λ p. p + 1) o))
-    by true o e = refl
-    by false None e = e
-    by false (Some p) e = e
+any_key key q (x ∷ xs) = ap (λ (b : Bool). b || list_any (nat_eq q) (map key xs)) (eqb_comm q (key x)) ∙ or_place (nat_eq (key x) q) _ (place_of key q xs) (any_key key q xs)
 
 -- where no two keys are equal, an item with the key is found at its place
 pub place_at : {T : Type 0} (key : T → ℕ) (q : ℕ) (items : List T) (place : ℕ) (d : T) → IsDistinct nat_eq (map key items) → place < length items → key (get_or items place d) ≡ q → place_of key q items ≡ Some place

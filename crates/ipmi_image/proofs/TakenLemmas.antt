@@ -43,12 +43,11 @@ one_taken before text (following ∷ rest) line some says last fine =
 
 pub all_taken : (before : List Line) (texts rest : List (List ℕ)) (lines : List Line) → 0 < length rest → Says texts lines → Taken before lines → store_behind true before (texts ++ rest) ≡ store_behind true (before ++ lines) rest
 all_taken before [] rest [] some says taken = ap (λ (l : List Line). store_behind true l rest) (sym (append-nil before))
-all_taken before [] rest (line ∷ lines) some says taken = absurd says
-all_taken before (text ∷ texts) rest [] some says taken = absurd says
 all_taken before (text ∷ texts) rest (line ∷ lines) some says taken =
     one_taken before text (texts ++ rest) line (let len = length-append texts rest in omega (arith, some, len)) says.0 says.1 taken.0
     ∙ all_taken (before ++ line ∷ []) texts rest lines some says.2 taken.1
     ∙ ap (λ (l : List Line). store_behind true l rest) (append_assoc before (line ∷ []) lines)
+all_taken before _ rest _ some says taken = absurd says
 
 -- ---- rows
 
@@ -77,21 +76,18 @@ SameIds saved rows = ⊥
 
 same-more : (saved : List SavedRow) (rows : List Row) (s : SavedRow) (row : Row) → SameIds saved rows → s.id ≡ row.id → SameIds (saved ++ s ∷ []) (rows ++ row ∷ [])
 same-more [] [] s row same e = (e, tt)
-same-more [] (r ∷ rows) s row same e = absurd same
-same-more (t ∷ saved) [] s row same e = absurd same
 same-more (t ∷ saved) (r ∷ rows) s row same e = (same.0, same-more saved rows s row same.1 e)
+same-more _ _ s row same e = absurd same
 
 same-has : (saved : List SavedRow) (rows : List Row) (n : ℕ) → SameIds saved rows → has_id (chained saved) n ≡ has_id rows n
 same-has [] [] n same = refl
-same-has [] (r ∷ rows) n same = absurd same
-same-has (t ∷ saved) [] n same = absurd same
 same-has (t ∷ saved) (r ∷ rows) n same = ap (λ (i : ℕ). nat_eq n i || has_id (chained saved) n) same.0 ∙ ap (λ (b : Bool). nat_eq n r.id || b) (same-has saved rows n same.1)
+same-has _ _ n same = absurd same
 
 same-empty : (saved : List SavedRow) (rows : List Row) → SameIds saved rows → is_empty (chained saved) ≡ is_empty rows
 same-empty [] [] same = refl
-same-empty [] (r ∷ rows) same = absurd same
-same-empty (t ∷ saved) [] same = absurd same
 same-empty (t ∷ saved) (r ∷ rows) same = refl
+same-empty _ _ same = absurd same
 
 -- what a shelf says of a row in its middle
 middle_row : (shelf : Shelf) (before rows : List Row) (row : Row) → AllRows shelf (before ++ row ∷ rows) → IsRow shelf row

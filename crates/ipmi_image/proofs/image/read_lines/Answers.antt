@@ -7,7 +7,8 @@ use Rattle.ipmi_image.specs.Text.{pieces}
 use Rattle.ipmi_image.specs.Line.{the_end}
 use Rattle.ipmi_image.specs.Image.{store_of_lines, at_line, is_end, ends_here, store_behind}
 use Rattle.ipmi_image.specs.Stored.{said}
-use Rattle.ipmi_image.proofs.ReadLemmas.{ends_here-pieces, unended, after_line, one_line, line_err, line_found, end_is, store_is}
+use Rattle.ipmi_image.proofs.ReadLemmas.{ends_here-pieces, unended, after_line, one_line, line_err, line_found, end_is}
+use Rattle.ipmi_image.proofs.StoreLemmas.{store_is}
 use Rattle.ipmi_image.proofs.image.read_lines.Goals as goal
 
 pub returns-in_default-clause-err : goal.returns-in_default-clause-err

@@ -1,5 +1,4 @@
-use Rattle.std.proofs.Common.{◌≡◌, ◌<◌, Some, sym, arith, length}
-use Rattle.std.specs.List.{slice_get}
+use Rattle.std.proofs.Common.{sym, arith}
 use Rattle.ipmi_image.specs.Rows.{row_of}
 use Rattle.ipmi_image.proofs.RowsLemmas.{found_below}
 use Rattle.ipmi_image.proofs.RewriteLemmas.{row_put, rows_done}

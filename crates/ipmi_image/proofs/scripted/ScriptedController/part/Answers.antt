@@ -1,13 +1,10 @@
 use Rattle.std.proofs.Common.{true, false, refl, length}
-use Rattle.ipmi_bus.specs.Seen.{IsHonest}
-use Rattle.ipmi_image.specs.Responder.{seen_as}
-use Rattle.ipmi_image.proofs.ScriptLemmas.{after_part}
+use Rattle.ipmi_image.proofs.ScriptLemmas.{same_after, after_part}
 use Rattle.ipmi_image.proofs.scripted.ScriptedController.part.Goals as goal
 
 pub returns-in-Answers-clause-honest : goal.returns-in-Answers-clause-honest
 returns-in-Answers-clause-honest c = λ honest.
     let first = c.in-Answers.ensures.turns honest in
     let then = first.change.stays.honest in
-    let plainly : IsHonest (seen_as true c.turn.new.self.responder) = record { said = then.said; store = then.store } in
-    let same = (c.part.ensures.answers true plainly).change.stays.plain_store refl in
+    let same = same_after c.turn.new.self.responder c.part.new.self (λ plainly. (c.part.ensures.answers true plainly).change) then in
     after_part _ _ _ honest refl first same (record { shelf = c.args.shelf; reservation = c.args.reservation; id = c.args.id; offset = c.args.offset; len = length c.args.into.now }) c.part.result c.part.new.into (c.part.ensures.answers false then)
