@@ -24,7 +24,7 @@ use Rattle.ipmi_image.proofs.ParseLemmas.{IsField, AreFields, a_word, a_hex, one
 use Rattle.ipmi_image.proofs.RewriteLemmas.{digit_of, lines_text-append, text_is}
 use Rattle.ipmi_image.proofs.StoreLemmas.{same_store}
 use Rattle.ipmi_image.proofs.TakenLemmas.{Says, Taken, all_taken, saved_rows, chained-saved, row_lines, shelf_taken, rows_of_lines}
-use Rattle.ipmi_image.proofs.GivenLemmas.{Taken-append, said_inventory, Given, inventories_given, said_reading, GivenReadings, readings_given, AreSilent, silent, silent_map, silent_inventories, same_behind, AreOthers, others_map, same_inventories}
+use Rattle.ipmi_image.proofs.GivenLemmas.{Taken-append, said_inventory, Given, inventories_given, said_reading, readings_given, AreSilent, silent, silent_map, silent_inventories, same_behind, AreOthers, others_map, same_inventories}
 
 -- ---- fields that are lines
 
@@ -274,13 +274,13 @@ module _ (store : Store) (is : IsStore store) (saved : IsSaved store) where
       same_inventories sdr_lines sel_lines (others_map (a_row Sel) (saved_rows store.sel) (λ s inventories. refl))
       ∙ same_inventories [] sdr_lines (others_map (a_row Sdr) (saved_rows store.sdr) (λ s inventories. refl))
 
-  given : Given to_sel fru_lines store.inventories
+  given : Given inventories_of to_sel fru_lines store.inventories
   given = inventories_given [] store.inventories to_sel no_inventory is.inventories saved.some is.distinct_inventories
 
   no_reading : filter_map sensor_on to_fru ≡ []
   no_reading = same_behind sensor_on to_sel fru_lines (silent_inventories sensor_on store.inventories (λ id bytes. refl)) ∙ no_rows_yet sensor_on (λ shelf s. refl)
 
-  given_readings : GivenReadings to_fru sensor_lines store.readings
+  given_readings : Given (filter_map sensor_on) to_fru sensor_lines store.readings
   given_readings = readings_given [] store.readings to_fru no_reading saved.luns is.distinct_readings
 
   no_info : (shelf : Shelf) → filter_map (info_on shelf) to_sensors ≡ []

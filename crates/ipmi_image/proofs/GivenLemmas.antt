@@ -128,12 +128,13 @@ pairs_middle R front rest x pairs = λ k d lt.
 abbrev pub said_inventory : Inventory → List Line
 said_inventory inventory = map (an_inventory inventory.id) (parts_of inventory.bytes)
 
-pub record Given (lines more : List Line) (inventories : List Inventory) : Type 0 where
+-- they are taken after others, and what all of them give is this
+pub record Given {Y : Type 0} (give : List Line → List Y) (lines more : List Line) (ys : List Y) : Type 0 where
   pub taken : Taken lines more
-  pub gives : inventories_of (lines ++ more) ≡ inventories
+  pub gives : give (lines ++ more) ≡ ys
 
 pub inventories_given : (front rest : List Inventory) (lines : List Line) → inventories_of lines ≡ front → All IsInventory (front ++ rest) → All (λ i. 0 < length i.bytes) (front ++ rest) → AllPairs (λ a b. a.id ≢ b.id) (front ++ rest)
-    → Given lines (flat_map said_inventory rest) (front ++ rest)
+    → Given inventories_of lines (flat_map said_inventory rest) (front ++ rest)
 inventories_given front [] lines is all some pairs = record { taken = tt; gives = ap inventories_of (append-nil lines) ∙ is ∙ sym (append-nil front) }
 inventories_given front (x ∷ rest) lines is all some pairs =
     let ok = all_middle IsInventory front rest x all in
@@ -171,11 +172,7 @@ reading_fits lines front x is le absent =
     below : nat_lt 3 x.lun ≡ false
     below = grind (arith, nat_tests)
 
-pub record GivenReadings (lines more : List Line) (readings : List SensorReading) : Type 0 where
-  pub taken : Taken lines more
-  pub gives : filter_map sensor_on (lines ++ more) ≡ readings
-
-pub readings_given : (front rest : List SensorReading) (lines : List Line) → filter_map sensor_on lines ≡ front → All (λ s. s.lun ≤ 3) (front ++ rest) → AllPairs OtherSensor (front ++ rest) → GivenReadings lines (map said_reading rest) (front ++ rest)
+pub readings_given : (front rest : List SensorReading) (lines : List Line) → filter_map sensor_on lines ≡ front → All (λ s. s.lun ≤ 3) (front ++ rest) → AllPairs OtherSensor (front ++ rest) → Given (filter_map sensor_on) lines (map said_reading rest) (front ++ rest)
 readings_given front [] lines is all pairs = record { taken = tt; gives = ap (filter_map sensor_on) (append-nil lines) ∙ is ∙ sym (append-nil front) }
 readings_given front (x ∷ rest) lines is all pairs =
     let joined : (front ++ x ∷ []) ++ rest ≡ front ++ x ∷ rest = append_assoc front (x ∷ []) rest in

@@ -38,21 +38,22 @@ or_none : (b : Bool) (x : Result Line LineFault) → SaysSome x → SaysSome (co
 or_none true x p = p
 or_none false x p = tt
 
+-- nor does what is put together of parts that may be missing, but for the line itself
+some_then : {X : Type 0} (f : X → Option Line) (o : Option X) → ((x : X) → SaysSome (ok_or (f x) fault.Hex)) → SaysSome (ok_or (option_and_then f o) fault.Hex)
+some_then f None says = tt
+some_then f (Some x) says = says x
+
+some_map : {X : Type 0} (f : X → Line) (o : Option X) → ((x : X) → SaysSome (Ok (f x))) → SaysSome (ok_or (option_map f o) fault.Hex)
+some_map f None says = tt
+some_map f (Some x) says = says x
+
 bytes_some : (hex bytes : List ℕ) → is_some_text hex ≡ true → decode_of hex ≡ Ok bytes → 0 < length bytes
 bytes_some [] bytes some e = cc some
 bytes_some (digit ∷ hex) bytes some e = let ok = decode_of-ok (digit ∷ hex) bytes e in let len = ok.2 in omega (arith, len)
 
 rows_some : (dashes : Bool) (shelf : Shelf) (id next hex : List ℕ) → SaysSome (row_line dashes shelf id next hex)
-rows_some dashes shelf id next hex =
-    or_none ((length id == 4) && (((length next == 4) || (dashes && is_dash next)) && is_some_text hex))
-    (ok_or (option_and_then (λ i. option_and_then (λ n. option_map (λ b. a_row shelf (record { id = i; next = n; bytes = b })) (bytes_in hex)) (next_in next)) (number_in 2 id)) fault.Hex)
-    (by (number_in 2 id) (next_in next) (bytes_in hex))
-  where
-    by : (i : Option ℕ) (n : Option (Option ℕ)) (b : Option (List ℕ)) → SaysSome (ok_or (option_and_then (λ i. option_and_then (λ n. option_map (λ b. a_row shelf (record { id = i; next = n; bytes = b })) b) n) i) fault.Hex)
-    by None n b = tt
-    by (Some i) None b = tt
-    by (Some i) (Some n) None = tt
-    by (Some i) (Some n) (Some b) = tt
+rows_some dashes shelf id next hex = or_none ((length id == 4) && (((length next == 4) || (dashes && is_dash next)) && is_some_text hex)) _
+    (some_then _ (number_in 2 id) (λ i. some_then _ (next_in next) (λ n. some_map (λ b. a_row shelf (record { id = i; next = n; bytes = b })) (bytes_in hex) (λ b. tt))))
 
 inventories_some : (id hex : List ℕ) → SaysSome (inventory_line id hex)
 inventories_some id hex = outer (nat_eq (length id) 2) (is_some_text hex) refl
@@ -69,27 +70,15 @@ inventories_some id hex = outer (nat_eq (length id) 2) (is_some_text hex) refl
     outer false false e = tt
 
 readings_some : (lun number hex : List ℕ) → SaysSome (reading_line lun number hex)
-readings_some lun number hex =
-    or_none ((length lun == 1) && ((length number == 2) && is_some_text hex))
-    (ok_or (option_and_then (λ l. option_and_then (λ n. option_map (λ b. a_reading l n b) (bytes_in hex)) (number_in 1 number)) (digit_in lun)) fault.Hex)
-    (by (digit_in lun) (number_in 1 number) (bytes_in hex))
-  where
-    by : (l : Option ℕ) (n : Option ℕ) (b : Option (List ℕ)) → SaysSome (ok_or (option_and_then (λ l. option_and_then (λ n. option_map (λ b. a_reading l n b) b) n) l) fault.Hex)
-    by None n b = tt
-    by (Some l) None b = tt
-    by (Some l) (Some n) None = tt
-    by (Some l) (Some n) (Some b) = tt
+readings_some lun number hex = or_none ((length lun == 1) && ((length number == 2) && is_some_text hex)) _
+    (some_then _ (digit_in lun) (λ l. some_then _ (number_in 1 number) (λ n. some_map (λ b. a_reading l n b) (bytes_in hex) (λ b. tt))))
 
 infos_some : (word hex : List ℕ) → SaysSome (info_line word hex)
 infos_some word hex = by (shelf_in word)
   where
-    inner : (shelf : Shelf) (b : Option (List ℕ)) → SaysSome (ok_or (option_map (λ b. an_info shelf b) b) fault.Hex)
-    inner shelf None = tt
-    inner shelf (Some b) = tt
-
     by : (s : Option Shelf) → SaysSome (info_line_of s hex)
     by None = tt
-    by (Some shelf) = or_none (is_some_text hex) (ok_or (option_map (λ b. an_info shelf b) (bytes_in hex)) fault.Hex) (inner shelf (bytes_in hex))
+    by (Some shelf) = or_none (is_some_text hex) _ (some_map (λ b. an_info shelf b) (bytes_in hex) (λ b. tt))
 
 two : (line : List ℕ → List ℕ → Result Line LineFault) → ((a b : List ℕ) → SaysSome (line a b)) → (fields : List (List ℕ)) → SaysSome (with_two line fields)
 two line h [] = tt

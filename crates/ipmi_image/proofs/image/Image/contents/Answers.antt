@@ -1,4 +1,4 @@
-use Rattle.std.proofs.Common.{rules, subst}
+use Rattle.std.proofs.Common.{subst}
 use Rattle.ipmi_image.specs.Stored.{store_of}
 use Rattle.ipmi_image.specs.Rewritten.{IsSaved}
 use Rattle.ipmi_image.proofs.SavedLemmas.{saved_of_image, stored_luns}
@@ -6,9 +6,6 @@ use Rattle.ipmi_image.proofs.image.Image.contents.Goals as goal
 
 pub returns-clause-luns : goal.returns-clause-luns
 returns-clause-luns c = stored_luns c.self.inside.contents.sensors (saved_of_image c.self.invariant.1.0 (store_of c.self.inside.contents) c.self.invariant.1.1).luns
-
-pub returns-clause-store : goal.returns-clause-store
-returns-clause-store c = search rules
 
 pub returns-clause-saved : goal.returns-clause-saved
 returns-clause-saved c = subst IsSaved c.self.view_is (saved_of_image c.self.invariant.1.0 (store_of c.self.inside.contents) c.self.invariant.1.1)
