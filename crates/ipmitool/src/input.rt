@@ -46,7 +46,11 @@ pub(crate) fn read_image<R: Read + Drop>(alloc: Global, reader: R) -> Result<Vec
     let mut bytes = Vec::new(alloc);
     let mut limited = reader.take(MOST_BYTES + 1);
     match limited.read_to_end(&mut bytes) {
-        Ok(_) if bytes.len() as u64 <= MOST_BYTES => Ok(bytes),
+        Ok(_) if bytes.len() as u64 <= MOST_BYTES => {
+            // The reader has filled all room of the buffer with zeros, of which up to half is not needed.
+            bytes.shrink_to_fit();
+            Ok(bytes)
+        }
         Ok(_) => Err(InputFault::Unreadable),
         Err(error) if error.kind() == ErrorKind::OutOfMemory => Err(InputFault::Memory),
         Err(_) => Err(InputFault::Unreadable),
