@@ -63,7 +63,7 @@ is_some-place_of {T} key q (x ∷ xs) = by (nat_eq (key x) q) (place_of key q xs
     by false None e = e
     by false (Some p) e = e
 
--- an item is found at the head, or one on from where it is found behind that
+-- an item is found at the head, or one place on from where it is found after the head
 pub place_some : {T : Type 0} (key : T → ℕ) (q : ℕ) (x : T) (xs : List T) (place : ℕ) → place_of key q (x ∷ xs) ≡ Some place
     → ((nat_eq (key x) q ≡ true) × (place ≡ 0)) ⊎ ((nat_eq (key x) q ≡ false) × (p : ℕ) × (place_of key q xs ≡ Some p) × (place ≡ suc p))
 place_some key q x xs place at = by (nat_eq (key x) q) refl (place_of key q xs) refl at

@@ -47,7 +47,7 @@ impl fmt::Display for Moment {
     }
 }
 
-/// What a time stamp of the event log stands for (IPMI v2.0, section 37), printed as `utc_text` says.
+/// What a time stamp of the event log means (IPMI v2.0, section 37), printed as `utc_text` says.
 #[derive(Clone, Copy, Debug)]
 pub enum UtcTime {
     /// FFFFFFFFh: no time.
