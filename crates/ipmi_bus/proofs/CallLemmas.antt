@@ -1,5 +1,5 @@
 -- What the answers of an honest controller leave of a record that is being read.
-use Rattle.std.proofs.Common.{◌≡◌, ℕ, ◌+◌, ◌<◌, Bool, true, false, Option, None, Some, Result, Ok, Err, refl, sym, ap, subst, ◌∙◌, inl, inr, arith, ◌≤◌}
+use Rattle.std.proofs.Common.{◌≡◌, ℕ, ◌+◌, ◌<◌, Bool, true, false, Option, None, Some, Result, Ok, Err, refl, sym, subst, ◌∙◌, inl, inr, arith, ◌≤◌}
 use Rattle.std.specs.Prelude.{IsTrue, IsSome}
 use Rattle.std.proofs.lemmas.Bool.{cases_lt}
 use Rattle.ipmi_bus.specs.declared.code.Code.{Code}
@@ -10,8 +10,7 @@ use Rattle.ipmi_bus.specs.declared.step.Ended.{Ended}
 use Rattle.ipmi_bus.specs.declared.step.Ended.TheVariants.{Refused}
 use Rattle.ipmi_bus.specs.declared.retrieval.Outcome.{Outcome}
 use Rattle.ipmi_bus.specs.declared.retrieval.Retrieval.{Retrieval}
-use Rattle.ipmi_bus.specs.Shelf.{Row, look}
-use Rattle.ipmi_bus.specs.Store.{Store, rows_of}
+use Rattle.ipmi_bus.specs.Shelf.{Row}
 use Rattle.ipmi_bus.specs.Code.{class_of}
 use Rattle.ipmi_bus.specs.Answers.{FailsWith, ReserveAnswers}
 use Rattle.ipmi_bus.specs.Seen.{Seen, KeepsStore, MayLoseReservation, IsTroubled, IsRefused, current, StaysHonest}
@@ -26,7 +25,7 @@ store_kept shelf s s' n keeps store now = elim (cases_lt s.stores_added s'.store
 
 pub read_moved : (r : Retrieval) (s s' : Seen) (row : Row) → s'.store ≡ s.store → HasRead r s row → HasRead r s' row
 read_moved r s s' row same read = record {
-  found = ap (λ (store : Store). look (rows_of r.shelf store) r.id) same ∙ read.found;
+  found = rw same read.found;
   within = read.within;
   bytes = read.bytes;
   next = read.next;

@@ -1,5 +1,5 @@
 -- The record that a cursor hands out is the row that it asked for.
-use Rattle.std.proofs.Common.{◌≡◌, ℕ, ◌+◌, ◌*◌, ◌<◌, ◌≤◌, false, cond, nat_eq, Some, List, [], ◌∷◌, length, take, get_or, refl, sym, ap, subst, ◌∙◌, arith}
+use Rattle.std.proofs.Common.{◌≡◌, ℕ, ◌+◌, ◌*◌, ◌<◌, ◌≤◌, false, nat_eq, Some, List, [], ◌∷◌, length, take, get_or, refl, sym, ap, subst, ◌∙◌, arith}
 use Rattle.std.specs.FinSet as set
 use Rattle.std.specs.FinSet.{contains-empty, len-empty}
 use Rattle.std.specs.Ordering.{nat_cmp}
@@ -15,22 +15,19 @@ use Rattle.ipmi_bus.specs.declared.retrieval.Retrieval.{Retrieval}
 use Rattle.ipmi_bus.specs.declared.cursor.Handed.{Handed}
 use Rattle.ipmi_bus.specs.declared.cursor.Progress.{Progress}
 use Rattle.ipmi_bus.specs.Shelf.{Row, IsShelf, BeginsWithId, whole_len, largest_len, look, row_with_id, first_row}
-use Rattle.ipmi_bus.specs.Store.{rows_of}
+use Rattle.ipmi_bus.specs.Store.{rows_of, store_shelf}
 use Rattle.ipmi_bus.specs.Seen.{Seen, IsHonest}
 use Rattle.ipmi_bus.specs.Retrieval.{HasRead, SameRequest, wanted_len}
 use Rattle.ipmi_bus.specs.Since.{begun}
 use Rattle.ipmi_bus.specs.Handed.{handed_row, handed_id, IsAsked, IsUnseen, LeavesRoom}
 use Rattle.ipmi_bus.specs.Step.{asked_at, HasIdAsked}
 use Rattle.ipmi_bus.proofs.ShelfLemmas.{found_row}
-use Rattle.ipmi_bus.specs.Store.{store_shelf}
 use Rattle.ipmi_bus.proofs.PartLemmas.{byte_read}
 
 -- rows with equal parts are equal
 same_row : (a b : Row) → a.id ≡ b.id → a.next ≡ b.next → a.bytes ≡ b.bytes → a ≡ b
 same_row a b id next bytes =
-    ap (λ (n : ℕ). record { id = n; next = a.next; bytes = a.bytes }) id
-    ∙ ap (λ (n : ℕ). record { id = b.id; next = n; bytes = a.bytes }) next
-    ∙ ap (λ (l : List ℕ). record { id = b.id; next = b.next; bytes = l }) bytes
+    rw (id, next, bytes) refl
 
 -- the id that is handed out is the row's
 begins : (rows : List Row) (row : Row) → BeginsWithId rows → first_row rows ≡ Some row → get_or row.bytes 0 0 + 256 * get_or row.bytes 1 0 ≡ row.id
@@ -46,7 +43,7 @@ id_is shelf rows First asked have buffer row ok asks found some same =
     let id = begins rows row ok.first first in omega arith
 id_is shelf rows (Id n) asked have buffer row ok asks found some same =
     let not_first : nat_eq asked 0 ≡ false = ne_eqb asked 0 (λ e. asks.1 (sym asks.0 ∙ e)) in
-    let by_id : row_with_id asked rows ≡ Some row = sym (ap (λ b. cond b (first_row rows) (row_with_id asked rows)) not_first) ∙ found in
+    let by_id : row_with_id asked rows ≡ Some row = sym (rw not_first refl) ∙ found in
     sym (found_row shelf rows asked row ok.all by_id).1
 id_is shelf rows End asked have buffer row ok asks found some same = absurd asks
 
@@ -56,7 +53,7 @@ pub handed_is : (place : Place) (asked : ℕ) (r : Retrieval) (s : Seen) (row : 
 handed_is place asked r s row honest asks is read whole some =
     let found : look (rows_of r.shelf s.store) asked ≡ Some row = subst (λ (n : ℕ). look (rows_of r.shelf s.store) n ≡ Some row) is read.found in
     let id = id_is r.shelf (rows_of r.shelf s.store) place asked r.have r.buffer row (store_shelf r.shelf s.store honest.store) asks found some read.bytes in
-    let bytes : take r.have r.buffer ≡ row.bytes = read.bytes ∙ ap (λ (n : ℕ). take n row.bytes) whole ∙ take_all _ row.bytes (omega arith) in
+    let bytes : take r.have r.buffer ≡ row.bytes = read.bytes ∙ rw whole (take_all _ row.bytes (omega arith)) in
     found ∙ ap Some (sym (same_row (record { id = handed_id place asked r.buffer; next = r.next; bytes = take r.have r.buffer }) row id read.next bytes))
 
 pub asked_is : (place : Place) (asked : ℕ) → IsAsked place asked → asked ≡ asked_at place
@@ -71,7 +68,7 @@ not_end End asked asks is = asks
 
 -- what is handed out was not handed out before
 pub unseen : (place : Place) (ids : set.FinSet nat_cmp) (asked : ℕ) (buffer : List ℕ) → (place ≡ First → ids ≡ set.empty) → IsAsked place asked → IsUnseen place ids asked → set.contains ids (handed_id place asked buffer) ≡ false
-unseen First ids asked buffer first asks new = ap (λ (s : set.FinSet nat_cmp). set.contains s (handed_id First asked buffer)) (first refl) ∙ contains-empty nat_cmp _
+unseen First ids asked buffer first asks new = rw (first refl) (contains-empty nat_cmp _)
 unseen (Id n) ids asked buffer first asks new = new
 unseen End ids asked buffer first asks new = absurd asks
 
@@ -81,11 +78,9 @@ pub hands_row : (old : Progress) (r : Retrieval) (new : Progress) (handed : Hand
     → look (rows_of old.retrieval.shelf s.store) (asked_at old.place) ≡ Some (handed_row new handed)
 hands_row old r new handed asked s honest asks request row read whole some id next len retrieval =
     let found = handed_is old.place asked r s row honest asks request.id read whole some in
-    let bytes : take r.have r.buffer ≡ take handed.len new.retrieval.buffer = ap (λ (n : ℕ). take n r.buffer) (sym len) ∙ ap (λ (x : Retrieval). take handed.len x.buffer) (sym retrieval) in
+    let bytes : take r.have r.buffer ≡ take handed.len new.retrieval.buffer = rw (sym len, sym retrieval) refl in
     let shown = same_row (record { id = handed_id old.place asked r.buffer; next = r.next; bytes = take r.have r.buffer }) (handed_row new handed) (sym id) (sym next) bytes in
-    ap (λ (shelf : Shelf). look (rows_of shelf s.store) (asked_at old.place)) (sym request.shelf)
-    ∙ ap (look (rows_of r.shelf s.store)) (sym (asked_is old.place asked asks))
-    ∙ found ∙ ap Some shown
+    rw (sym request.shelf) (ap (look (rows_of r.shelf s.store)) (sym (asked_is old.place asked asks)) ∙ found ∙ ap Some shown)
 
 -- a bound on calls, at equal part sizes and ids
 pub calls_moved : (calls before tries p q r : ℕ) (len : ℕ → ℕ) (asked at : ℕ) → asked ≡ at → q ≡ p → calls + digits p ≤ before + (tries + 1) * (len asked + 2) + digits r → calls + digits q ≤ before + (tries + 1) * (len at + 2) + digits r
@@ -110,22 +105,22 @@ pub largest_fits : (shelf : Shelf) → largest_len shelf ≤ 256
 largest_fits Sdr = omega arith
 largest_fits Sel = omega arith
 
--- the same of the row that stands in the cursor
+-- the same of the row that the cursor holds
 pub handed_whole : (shelf : Shelf) (old r : Retrieval) (new : Progress) (handed : Handed) (place : Place) (asked : ℕ) → IsAsked place asked → r.shelf ≡ shelf → 5 ≤ r.have → r.have ≡ wanted_len r.shelf r.have r.buffer
     → handed.id ≡ handed_id place asked r.buffer → handed.len ≡ r.have → new.retrieval ≡ r → r.have ≤ length new.retrieval.buffer
     → HasIdAsked place (handed_row new handed) × (length (handed_row new handed).bytes ≡ whole_len shelf (handed_row new handed).bytes)
 handed_whole shelf old r new handed place asked asks same some whole id len is room =
-    let bytes : take handed.len new.retrieval.buffer ≡ take r.have r.buffer = ap (λ (n : ℕ). take n new.retrieval.buffer) len ∙ ap (λ (x : Retrieval). take r.have x.buffer) is in
+    let bytes : take handed.len new.retrieval.buffer ≡ take r.have r.buffer = rw (len, is) refl in
     let shown : handed_row new handed ≡ record { id = handed_id place asked r.buffer; next = handed.next; bytes = take r.have r.buffer } =
     same_row (handed_row new handed) (record { id = handed_id place asked r.buffer; next = handed.next; bytes = take r.have r.buffer }) id refl bytes in
     let fits : r.have ≤ length r.buffer = subst (λ (x : Retrieval). r.have ≤ length x.buffer) is room in
     let long = taken_whole r.shelf r.have r.buffer some fits whole in (
       subst (HasIdAsked place) (sym shown) (has_id_asked place asked r.have handed.next r.buffer some asks),
-      ap (λ (l : List ℕ). length l) bytes ∙ long ∙ ap (λ (s : Shelf). whole_len s (take r.have r.buffer)) same ∙ sym (ap (whole_len shelf) bytes),
+      ap (λ (l : List ℕ). length l) bytes ∙ long ∙ rw same (sym (ap (whole_len shelf) bytes)),
     )
 
 -- a cursor that asks for a record has room for its id
 pub room_to_ask : (place : Place) (ids : set.FinSet nat_cmp) (asked : ℕ) → (place ≡ First → ids ≡ set.empty) → IsAsked place asked → LeavesRoom place ids → set.len ids < 65536
-room_to_ask First ids asked first asks room = let none = ap (λ (s : set.FinSet nat_cmp). set.len s) (first refl) in omega (arith, none, len-empty nat_cmp)
+room_to_ask First ids asked first asks room = omega (arith, ap (λ (s : set.FinSet nat_cmp). set.len s) (first refl), len-empty nat_cmp)
 room_to_ask (Id n) ids asked first asks room = room
 room_to_ask End ids asked first asks room = absurd asks

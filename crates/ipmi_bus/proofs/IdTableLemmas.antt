@@ -52,17 +52,14 @@ marked bytes n = bit_or (get_or bytes (n / 8) 0) (1 * 2 ^ (n % 8) % 2 ^ bits w8)
 -- the bit at q, after that at n is set
 has_bit-put_same : (bytes : List ℕ) (n : ℕ) → n / 8 < length bytes → has_bit (put bytes (n / 8) (marked bytes n)) n ≡ true
 has_bit-put_same bytes n within =
-    eq-eqb _ 1 (ap (λ x. bit_at x (n % 8)) (get_or-set_same bytes (n / 8) (marked bytes n) 0 within) ∙ bit_at_set_same w8 (get_or bytes (n / 8) 0) (n % 8) (omega arith))
+    eq-eqb _ 1 (rw (get_or-set_same bytes (n / 8) (marked bytes n) 0 within) (bit_at_set_same w8 (get_or bytes (n / 8) 0) (n % 8) (omega arith)))
 
 has_bit-put_other : (bytes : List ℕ) (n q : ℕ) → n / 8 < length bytes → q ≢ n → has_bit (put bytes (n / 8) (marked bytes n)) q ≡ has_bit bytes q
 has_bit-put_other bytes n q within ne = elim (cases_eq (q / 8) (n / 8)) [
   | inl e ↦
       let apart : q % 8 ≢ n % 8 = λ same. ne (omega arith) in
       ap (λ x. eqb x 1) (
-      ap (λ i. bit_at (get_or (put bytes (n / 8) (marked bytes n)) i 0) (q % 8)) e
-      ∙ ap (λ x. bit_at x (q % 8)) (get_or-set_same bytes (n / 8) (marked bytes n) 0 within)
-      ∙ bit_at_set_other w8 (get_or bytes (n / 8) 0) (n % 8) (omega arith) (q % 8) apart
-      ∙ ap (λ i. bit_at (get_or bytes i 0) (q % 8)) (sym e))
+      ap (λ i. bit_at (get_or (put bytes (n / 8) (marked bytes n)) i 0) (q % 8)) e ∙ rw (get_or-set_same bytes (n / 8) (marked bytes n) 0 within) (bit_at_set_other w8 (get_or bytes (n / 8) 0) (n % 8) (omega arith) (q % 8) apart ∙ rw (sym e) refl))
   | inr far ↦ ap (λ x. eqb (bit_at x (q % 8)) 1) (get_or-set_other bytes (n / 8) (q / 8) (marked bytes n) 0 far)
 ]
 
@@ -73,7 +70,7 @@ ids_in-put bytes n len fits =
     joined q _ _ _ _ (contains-ids_in (put bytes (n / 8) (marked bytes n)) q) (contains-ids_in bytes q)
     (λ e. ap (has_bit (put bytes (n / 8) (marked bytes n))) e ∙ has_bit-put_same bytes n within)
     (has_bit-put_other bytes n q within)
-    ∙ sym (contains-insert nat_cmp_total (ids_in bytes) n q ∙ ap (λ b. b || set.contains (ids_in bytes) q) (unsigned_tied q n)))
+    ∙ sym (contains-insert nat_cmp_total (ids_in bytes) n q ∙ rw (unsigned_tied q n) refl))
   where
     joined : (q : ℕ) (a b x y : Bool) → a ≡ (nat_lt q 65536 && x) → b ≡ (nat_lt q 65536 && y) → (q ≡ n → x ≡ true) → (q ≢ n → x ≡ y) → a ≡ (nat_eq q n || b)
     joined q a b x y p r same apart = elim (cases_eq q n) [ inl e ↦ grind (arith, nat_tests, same e) | inr ne ↦ grind (arith, nat_tests, apart ne) ]
@@ -83,7 +80,7 @@ pub ids_in-zeros : (zeros : List ℕ) → ((i : ℕ) → get_or zeros i 0 ≡ 0)
 ids_in-zeros zeros all =
     set.same_set nat_cmp_total nat_cmp-IsAntisymmetric _ _ (λ q.
     contains-ids_in zeros q
-    ∙ none q (has_bit zeros q) (ap (λ x. eqb (bit_at x (q % 8)) 1) (all (q / 8)) ∙ ap (λ x. eqb x 1) (bit_at-zero (q % 8)))
+    ∙ none q (has_bit zeros q) (rw (all (q / 8), bit_at-zero (q % 8)) refl)
     ∙ sym (contains-empty nat_cmp q))
   where
     none : (q : ℕ) (b : Bool) → b ≡ false → (nat_lt q 65536 && b) ≡ false
@@ -100,5 +97,4 @@ zero_at zeros n i e = elim (cases_lt i n) [
 pub room_left : (bytes : List ℕ) (n : ℕ) → length bytes ≡ 8192 → n < 65536 → set.contains (ids_in bytes) n ≡ false → set.len (ids_in bytes) < 65536
 room_left bytes n len fits unseen =
     let more : set.len (set.insert (ids_in bytes) n) ≡ set.len (ids_in bytes) + 1 = len-insert nat_cmp_total (ids_in bytes) n ∙ ap (λ (b : Bool). cond b (set.len (ids_in bytes)) (set.len (ids_in bytes) + 1)) unseen in
-    let same = ap (λ (s : set.FinSet nat_cmp). set.len s) (ids_in-put bytes n len fits) in
-    let most = len-ids_in (put bytes (n / 8) (marked bytes n)) in omega (arith, more, same, most)
+    omega (arith, more, ap (λ (s : set.FinSet nat_cmp). set.len s) (ids_in-put bytes n len fits), len-ids_in (put bytes (n / 8) (marked bytes n)))

@@ -13,13 +13,12 @@ use Rattle.ipmi_bus.specs.declared.inventory.Size.{Size}
 use Rattle.ipmi_bus.specs.declared.inventory.FruRetrieval.{FruRetrieval}
 use Rattle.ipmi_bus.specs.Store.{inventory_of}
 use Rattle.ipmi_bus.specs.Code.{class_of}
-use Rattle.ipmi_bus.specs.Seen.{Seen, IsQuiet, IsTroubled, IsFinished, IsRefused, StaysHonest}
+use Rattle.ipmi_bus.specs.Seen.{Seen, IsQuiet, IsTroubled, IsFinished, IsRefused, StaysHonest, stays_trans}
 use Rattle.ipmi_bus.specs.Answers.{CountsPiece, FailsWith, BytesAnswers, BytesIsPlain}
 use Rattle.ipmi_bus.specs.FruRetrieval.{IsOpen, SameInventory, CountsTrouble, MakesSmaller, PartFails, TakesPart, HasRead, FruSince, FruEnds, FruNext, HasSize, calls_left}
 use Rattle.ipmi_bus.specs.Readers.{IsRefusedInventory, IsRefusedOverChange, InventoryCounts, InventoryIs, inventory_len}
 use Rattle.ipmi_bus.specs.Tries.{WithinTries, IsRefusedWith}
 use Rattle.ipmi_bus.specs.Bounds.{digits, fru_call_bound}
-use Rattle.ipmi_bus.specs.Seen.{stays_trans}
 use Rattle.ipmi_bus.proofs.PartLemmas.{with_piece, smaller_some}
 
 -- with the bytes that came in
@@ -107,16 +106,16 @@ not_cbh code is = ne_eqb _ _ (λ (e : code ≡ 0xCB). let other = sym (ap class_
 module _ (old r : FruRetrieval) (s s' s'' : Seen) (asked : ℕ) (code : Code) (into : List ℕ) (is : r ≡ record old { bytes = r.bytes }) (items : r.bytes.items ≡ old.bytes.items) (open_ : IsOpen old) (since : FruSince old s s')
     (gave : BytesAnswers old.id old.have asked (Err code) into s' s'') where
   same_id : r.id ≡ old.id
-  same_id = ap (λ (x : FruRetrieval). x.id) is
+  same_id = rw is refl
 
   same_have : r.have ≡ old.have
-  same_have = ap (λ (x : FruRetrieval). x.have) is
+  same_have = rw is refl
 
   same_troubles : r.troubles ≡ old.troubles
-  same_troubles = ap (λ (x : FruRetrieval). x.troubles) is
+  same_troubles = rw is refl
 
   same_tries : r.tries ≡ old.tries
-  same_tries = ap (λ (x : FruRetrieval). x.tries) is
+  same_tries = rw is refl
 
   stays : StaysHonest s s''
   stays = stays_trans s s' s'' since.stays gave.change.stays
@@ -261,7 +260,8 @@ len_is : (id : ℕ) (size : Size) (s s' : Seen) → HasSize id size s s' → s'.
 len_is id size s s' has same =
     sym has.found.2 ∙ ap (λ (o : Option (List ℕ)). length (unwrap_or o [])) (sym (ap (inventory_of id) (sym (has.stays.store.stays same)) ∙ has.found.1))
 
-digits_most : (n : ℕ) → digits n ≤ 8
+-- a part size has at most eight digits
+pub digits_most : (n : ℕ) → digits n ≤ 8
 digits_most n = grind (arith, nat_tests)
 
 pub bound_is : (id tries : ℕ) (size : Size) (s s' s'' : Seen) (r : FruRetrieval) → HasSize id size s s' → StaysHonest s' s'' → r.troubles ≡ size.troubles → r.tries ≡ tries → r.have ≡ 0 → length r.bytes.items ≡ size.bytes → size.troubles ≤ tries
@@ -270,20 +270,18 @@ bound_is id tries size s s' s'' r has stays troubles tries_are none len few begu
     let first : s'.stores_added ≡ s.stores_added = omega (arith, has.stays.store.grows, stays.store.grows) in
     omega (arith, len_is id size s s' has first, digits_most r.part, none)
 
--- no more troubles came than the tries
-within_tries : (tries : ℕ) (s s' : Seen) (r : FruRetrieval) → FruSince r s s' → r.tries ≡ tries → r.troubles ≤ r.tries → WithinTries tries s s'
-within_tries tries s s' r since tries_are few = record { grows = omega (arith, since.troubles); troubles = omega (arith, since.troubles, few, tries_are); refusals = since.refusals; last_code = since.last_code }
-
 -- all bytes are there
-pub inventory_counted : (id tries : ℕ) (s s' : Seen) (r : FruRetrieval) → FruSince r s s' → r.id ≡ id → r.tries ≡ tries → r.troubles ≤ r.tries → r.have ≡ length r.bytes.items → InventoryCounts id tries s s' (Ok r.bytes.items)
-inventory_counted id tries s s' r since id_is tries_are few all =
-    (within_tries tries s s' r since tries_are few, subst (λ (n : ℕ). IsSome (inventory_of n s'.store)) id_is (since.found all))
+module _ (id tries : ℕ) (s s' : Seen) (r : FruRetrieval) (since : FruSince r s s') (id_is : r.id ≡ id) (tries_are : r.tries ≡ tries) (few : r.troubles ≤ r.tries) (all : r.have ≡ length r.bytes.items) where
+  -- no more troubles came than the tries
+  within_tries : WithinTries tries s s'
+  within_tries = record { grows = omega (arith, since.troubles); troubles = omega (arith, since.troubles, few, tries_are); refusals = since.refusals; last_code = since.last_code }
 
-pub inventory_read : (id tries : ℕ) (s s' : Seen) (r : FruRetrieval) → FruSince r s s' → r.id ≡ id → r.tries ≡ tries → r.troubles ≤ r.tries → r.have ≡ length r.bytes.items → s'.stores_added ≡ s.stores_added → InventoryIs id tries s s' (Ok r.bytes.items)
-inventory_read id tries s s' r since id_is tries_are few all same =
-    let read = since.read same in
-    let bytes : r.bytes.items ≡ read.whole =
-    sym (take-length r.bytes.items) ∙ ap (λ n. take n r.bytes.items) (sym all) ∙ read.bytes ∙ ap (λ n. take n read.whole) (all ∙ sym read.size) ∙ take-length read.whole in (
-      within_tries tries s s' r since tries_are few,
-      ap (λ (n : ℕ). inventory_of n s.store) (sym id_is) ∙ read.found ∙ ap Some (sym bytes),
-    )
+  pub inventory_counted : InventoryCounts id tries s s' (Ok r.bytes.items)
+  inventory_counted = (within_tries, subst (λ (n : ℕ). IsSome (inventory_of n s'.store)) id_is (since.found all))
+
+  pub inventory_read : s'.stores_added ≡ s.stores_added → InventoryIs id tries s s' (Ok r.bytes.items)
+  inventory_read same =
+      let read = since.read same in
+      let bytes : r.bytes.items ≡ read.whole =
+      sym (take-length r.bytes.items) ∙ rw (sym all) (read.bytes ∙ rw (all ∙ sym read.size) (take-length read.whole)) in
+      (within_tries, rw (sym id_is) (read.found ∙ ap Some (sym bytes)))

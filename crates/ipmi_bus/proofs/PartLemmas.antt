@@ -1,5 +1,5 @@
 -- What a part of an honest controller leaves of a record that is being read.
-use Rattle.std.proofs.Common.{◌≡◌, ℕ, ◌+◌, ◌<◌, ◌≤◌, Bool, true, false, nat_eq, Option, None, Some, Result, Ok, Err, List, ◌++◌, length, take, drop, get_or, slice_range, refl, sym, ap, subst, ◌∙◌, inl, inr, arith}
+use Rattle.std.proofs.Common.{◌≡◌, ℕ, ◌+◌, ◌<◌, ◌≤◌, Bool, true, false, nat_eq, Option, None, Some, Result, Ok, Err, List, length, take, drop, get_or, slice_range, refl, sym, ap, subst, ◌∙◌, inl, inr, arith}
 use Rattle.std.specs.Prelude.{IsOk, IsTrue, ◌⊎◌}
 use Rattle.std.proofs.lemmas.Bool.{cases_lt, ne_eqb}
 use Rattle.std.proofs.lemmas.Bool.Decides.{nat_tests}
@@ -12,24 +12,23 @@ use Rattle.ipmi_bus.specs.declared.code.CodeClass.{CodeClass}
 use Rattle.ipmi_bus.specs.declared.code.CodeClass.TheVariants.{Cancelled, Busy, SmallerPart, NotPresent, Refusal}
 use Rattle.ipmi_bus.specs.declared.controller.Part.{Part}
 use Rattle.ipmi_bus.specs.declared.step.Ended.{Ended}
-use Rattle.ipmi_bus.specs.declared.step.Ended.TheVariants.{Cycle, Missing, Refused, GaveUp, Stalled, Malformed}
+use Rattle.ipmi_bus.specs.declared.step.Ended.TheVariants.{Stalled, Malformed}
 use Rattle.ipmi_bus.specs.declared.retrieval.Outcome.{Outcome}
 use Rattle.ipmi_bus.specs.declared.retrieval.Outcome.TheVariants.{Again, Whole, Absent}
 use Rattle.ipmi_bus.specs.declared.retrieval.Retrieval.{Retrieval}
 use Rattle.ipmi_bus.specs.Shelf.{Row, IsRow, look, whole_len, len_of, largest_len}
-use Rattle.ipmi_bus.specs.Store.{rows_of}
+use Rattle.ipmi_bus.specs.Store.{rows_of, store_shelf}
 use Rattle.ipmi_bus.specs.Seen.{Seen, IsHonest, KeepsStore, MayLoseReservation, IsQuiet, IsFinished, current}
 use Rattle.ipmi_bus.specs.Answers.{CountsPiece, FailsWith, GivesPiece, PartIsPlain, PartAnswers}
 use Rattle.ipmi_bus.specs.Calls.{smaller_part}
 use Rattle.ipmi_bus.specs.Code.{class_of}
 use Rattle.ipmi_bus.specs.Retrieval.{IsOpen, HasRead, IsReading, HoldsCurrent, IsCalm, GoesOn, HasWhole, CallAnswers, CallIsPlain, CallIsHonest, TakesPart, MakesSmaller, PartFails, wanted_len, after_part, request_of}
 use Rattle.ipmi_bus.proofs.ShelfLemmas.{look_row}
-use Rattle.ipmi_bus.specs.Store.{store_shelf}
 use Rattle.ipmi_bus.proofs.CallLemmas.{store_kept, read_moved, reading_kept, honest_trouble, honest_refusal}
 
 -- the byte at a place that is read
 pub byte_read : (have i : ℕ) (buffer bytes : List ℕ) → i < have → take have buffer ≡ take have bytes → get_or buffer i 0 ≡ get_or bytes i 0
-byte_read have i buffer bytes lt same = sym (get_or-take have buffer i 0 lt) ∙ ap (λ xs. get_or xs i 0) same ∙ get_or-take have bytes i 0 lt
+byte_read have i buffer bytes lt same = sym (get_or-take have buffer i 0 lt) ∙ rw same (get_or-take have bytes i 0 lt)
 
 -- no more is wanted than the row has
 pub wanted_within : (shelf : Shelf) (have : ℕ) (buffer : List ℕ) (row : Row) → IsRow shelf row → take have buffer ≡ take have row.bytes → wanted_len shelf have buffer ≤ length row.bytes
@@ -57,7 +56,7 @@ before_piece old s s' n row reading keeps store held reserved found = elim (case
       let same = store_kept old.shelf s s' n keeps store now in
       let here = read_moved old s s' before.0 same before.1 in
       let e : before.0 ≡ row = let f = here.found in cc (f, found) in
-      here.bytes ∙ ap (λ (r : Row). take old.have r.bytes) e
+      here.bytes ∙ rw e refl
   | inr none ↦ let zero : old.have ≡ 0 = omega arith in subst (λ (k : ℕ). take k old.buffer ≡ take k row.bytes) (sym zero) refl
 ]
 
@@ -67,7 +66,7 @@ pub with_piece : (have got asked : ℕ) (before after bytes : List ℕ) → got 
 with_piece have got asked before after bytes fits front same piece =
     let range : slice_range after have (have + asked) ≡ take asked (drop have after) = ap (λ (k : ℕ). take k (drop have after)) {y = asked} (omega arith) in
     let inner : take got (drop have after) ≡ take got (drop have bytes) = sym (take-take got asked (drop have after) fits) ∙ sym (ap (take got) range) ∙ piece in
-    take-add have got after ∙ ap (λ xs. xs ++ take got (drop have after)) (front ∙ same) ∙ ap (λ ys. take have bytes ++ ys) inner ∙ sym (take-add have got bytes)
+    take-add have got after ∙ rw (front ∙ same, inner) (sym (take-add have got bytes))
 
 read_piece : (old : Retrieval) (buffer : List ℕ) (s s' : Seen) (n asked : ℕ) (part : Part) (row : Row) → IsReading old s → MayLoseReservation old.shelf s s' → KeepsStore s s' → old.reservation ≡ Some n
     → take old.have buffer ≡ take old.have old.buffer → GivesPiece (request_of old n asked) part (slice_range buffer old.have (old.have + asked)) s s' row
@@ -104,7 +103,7 @@ module _ (old : Retrieval) (buffer : List ℕ) (s s' : Seen) (n asked : ℕ) (pa
         grows = omega arith;
         refusals = quiet.refusals;
         last_code = quiet.last_code;
-        within = let len = ap len_of gives.found in omega (arith, gives.piece.within, len);
+        within = omega (arith, gives.piece.within, ap len_of gives.found);
       }
 
   piece_answers : (new : Retrieval) (result : Result Outcome Ended) → TakesPart part (record old { buffer = buffer }) new result → CallAnswers old new s s' result
@@ -115,11 +114,6 @@ module _ (old : Retrieval) (buffer : List ℕ) (s s' : Seen) (n asked : ℕ) (pa
       let is : old.have + part.got ≡ wanted_len old.shelf (old.have + part.got) buffer = subst (λ (r : Retrieval). r.have ≡ wanted_len r.shelf r.have r.buffer) takes.1 takes.2 in
       let whole : HasWhole (taken old buffer part) s s' row = record { calm = calm; read = read; whole = wanted_whole old.shelf (old.have + part.got) buffer row ok read.bytes is } in
       (row, subst (λ (r : Retrieval). HasWhole r s s' row) (sym takes.1) whole)
-  piece_answers new (Ok Absent) takes = absurd takes
-  piece_answers new (Err (GaveUp id)) takes = absurd takes
-  piece_answers new (Err (Refused id code)) takes = absurd takes
-  piece_answers new (Err (Cycle id)) takes = absurd takes
-  piece_answers new (Err (Missing id)) takes = absurd takes
   piece_answers new (Err (Stalled id)) takes = absurd (omega (arith, takes.0, gives.piece.some))
   piece_answers new (Err (Malformed id)) takes =
       let five : old.have + part.got ≡ 5 = ap (λ (r : Retrieval). r.have) (sym takes.1) ∙ takes.4 in
@@ -127,14 +121,12 @@ module _ (old : Retrieval) (buffer : List ℕ) (s s' : Seen) (n asked : ℕ) (pa
       let byte = byte_read (old.have + part.got) 4 buffer row.bytes (omega arith) read.bytes in
       let largest : largest_len old.shelf ≡ 256 = ap largest_len takes.3 in
       absurd (omega (arith, takes.5, ok.fits, largest))
+  piece_answers new _ takes = absurd takes
 
   no_err : (new : Retrieval) (ended : Ended) → TakesPart part (record old { buffer = buffer }) new (Err ended) → ⊥
-  no_err new (GaveUp id) takes = takes
-  no_err new (Refused id code) takes = takes
-  no_err new (Cycle id) takes = takes
-  no_err new (Missing id) takes = takes
   no_err new (Stalled id) takes = piece_answers new (Err (Stalled id)) takes
   no_err new (Malformed id) takes = piece_answers new (Err (Malformed id)) takes
+  no_err new _ takes = takes
 
   plain_taken : (turn : Outcome) → current old.shelf s' ≡ Some n → old.reservation ≡ Some n → CallIsPlain old (taken old buffer part) s' (Ok turn)
   plain_taken turn now held = record { holds = record { held = λ m e. now ∙ (sym held ∙ e) }; fine = tt; troubles = refl }
@@ -148,15 +140,11 @@ module _ (old : Retrieval) (buffer : List ℕ) (s s' : Seen) (n asked : ℕ) (pa
 
 -- a part that is taken leaves the reservation
 takes_held : (part : Part) (old new : Retrieval) (result : Result Outcome Ended) → TakesPart part old new result → new.reservation ≡ old.reservation
-takes_held part old new (Ok Again) takes = ap (λ (r : Retrieval). r.reservation) takes.1
-takes_held part old new (Ok Whole) takes = ap (λ (r : Retrieval). r.reservation) takes.1
-takes_held part old new (Ok Absent) takes = absurd takes
-takes_held part old new (Err (Stalled id)) takes = ap (λ (r : Retrieval). r.reservation) takes.2
-takes_held part old new (Err (Malformed id)) takes = ap (λ (r : Retrieval). r.reservation) takes.1
-takes_held part old new (Err (GaveUp id)) takes = absurd takes
-takes_held part old new (Err (Refused id code)) takes = absurd takes
-takes_held part old new (Err (Cycle id)) takes = absurd takes
-takes_held part old new (Err (Missing id)) takes = absurd takes
+takes_held part old new (Ok Again) takes = rw takes.1 refl
+takes_held part old new (Ok Whole) takes = rw takes.1 refl
+takes_held part old new (Err (Stalled id)) takes = rw takes.2 refl
+takes_held part old new (Err (Malformed id)) takes = rw takes.1 refl
+takes_held part old new _ takes = absurd takes
 
 -- a part that an honest controller gave
 pub honest_part : (old r new : Retrieval) (s s' : Seen) (n asked : ℕ) (part : Part) (result : Result Outcome Ended) → r ≡ record old { buffer = r.buffer } → take old.have r.buffer ≡ take old.have old.buffer
@@ -175,32 +163,31 @@ honest_part old r new s s' n asked part result is front reading held parts takes
       plain = λ plain holds. piece_plain old r.buffer s s' n asked part row ok read gives new result takes' (parts.keeps.plain plain ∙ holds.held n held) held;
     }
 
--- a plain controller answers a request for more with data, or that there is no such row
-plain_part : (old : Retrieval) (s : Seen) (n asked : ℕ) (result : Result Part Code) → IsHonest s → IsOpen old → IsReading old s → HoldsCurrent old s → old.reservation ≡ Some n
-    → PartIsPlain (request_of old n asked) result s → IsOk result ⊎ (result ≡ Err (record { 0 = 0xCB }))
-plain_part old s n asked result honest open_ reading holds held plain = by_row (look (rows_of old.shelf s.store) old.id) refl
-  where
-    by_row : (o : Option Row) → look (rows_of old.shelf s.store) old.id ≡ o → IsOk result ⊎ (result ≡ Err (record { 0 = 0xCB }))
-    by_row None found = inr (plain.absent found)
-    by_row (Some row) found =
-        let ok : IsRow old.shelf row = look_row old.shelf _ old.id row (store_shelf old.shelf s.store honest.store) found in
-        let same : take old.have old.buffer ≡ take old.have row.bytes = elim (cases_lt 0 old.have) [
-          | inl some ↦
-              let before = reading.piece some (holds.held n held ∙ sym held) in
-              let e : before.0 ≡ row = let f = before.1.found in cc (f, found) in
-              before.1.bytes ∙ ap (λ (r : Row). take old.have r.bytes) e
-          | inr none ↦ let zero : old.have ≡ 0 = omega arith in subst (λ (k : ℕ). take k old.buffer ≡ take k row.bytes) (sym zero) refl
-        ] in
-        let within = wanted_within old.shelf old.have old.buffer row ok same in
-        inl (plain.found row found (omega (arith, open_.more)) (λ some. holds.held n held))
+module _ (old : Retrieval) (s : Seen) (n asked : ℕ) (honest : IsHonest s) (open_ : IsOpen old) (reading : IsReading old s) (holds : HoldsCurrent old s) (held : old.reservation ≡ Some n) where
+  -- a plain controller answers a request for more with data, or that there is no such row
+  plain_part : (result : Result Part Code) → PartIsPlain (request_of old n asked) result s → IsOk result ⊎ (result ≡ Err (record { 0 = 0xCB }))
+  plain_part result plain = by_row (look (rows_of old.shelf s.store) old.id) refl
+    where
+      by_row : (o : Option Row) → look (rows_of old.shelf s.store) old.id ≡ o → IsOk result ⊎ (result ≡ Err (record { 0 = 0xCB }))
+      by_row None found = inr (plain.absent found)
+      by_row (Some row) found =
+          let ok : IsRow old.shelf row = look_row old.shelf _ old.id row (store_shelf old.shelf s.store honest.store) found in
+          let same : take old.have old.buffer ≡ take old.have row.bytes = elim (cases_lt 0 old.have) [
+            | inl some ↦
+                let before = reading.piece some (holds.held n held ∙ sym held) in
+                let e : before.0 ≡ row = let f = before.1.found in cc (f, found) in
+                before.1.bytes ∙ rw e refl
+            | inr none ↦ let zero : old.have ≡ 0 = omega arith in subst (λ (k : ℕ). take k old.buffer ≡ take k row.bytes) (sym zero) refl
+          ] in
+          let within = wanted_within old.shelf old.have old.buffer row ok same in
+          inl (plain.found row found (omega (arith, open_.more)) (λ some. holds.held n held))
 
--- so it answers with no code but CBh
-pub plain_code : (old : Retrieval) (s : Seen) (n asked : ℕ) (code : Code) → IsHonest s → IsOpen old → IsReading old s → HoldsCurrent old s → old.reservation ≡ Some n
-    → PartIsPlain (request_of old n asked) (Err code) s → code.0 ≡ 0xCB
-plain_code old s n asked code honest open_ reading holds held plain = elim (plain_part old s n asked (Err code) honest open_ reading holds held plain) [
-  | inl ok ↦ cc ok
-  | inr is ↦ let e : code ≡ record { 0 = 0xCB } = cc is in ap (λ (c : Code). c.0) e
-]
+  -- so it answers with no code but CBh
+  pub plain_code : (code : Code) → PartIsPlain (request_of old n asked) (Err code) s → code.0 ≡ 0xCB
+  plain_code code plain = elim (plain_part (Err code) plain) [
+    | inl ok ↦ cc ok
+    | inr is ↦ let e : code ≡ record { 0 = 0xCB } = cc is in rw e refl
+  ]
 
 -- more than one byte has a smaller part
 pub smaller_some : (asked : ℕ) → 1 < asked → smaller_part asked ≡ None → ⊥
@@ -210,7 +197,7 @@ smaller_some asked more none = grind (arith, nat_tests)
 module _ (old new : Retrieval) (s s' : Seen) (n asked : ℕ) (code : Code) (into : List ℕ) (honest : IsHonest s) (open_ : IsOpen old) (reading : IsReading old s) (held : old.reservation ≡ Some n)
     (parts : PartAnswers (request_of old n asked) (Err code) into s s') where
   plain_absent : IsTrue s.plain → HoldsCurrent old s → class_of code.0 ≡ NotPresent
-  plain_absent plain holds = ap class_of (plain_code old s n asked code honest open_ reading holds held (parts.plain plain))
+  plain_absent plain holds = ap class_of (plain_code old s n asked honest open_ reading holds held code (parts.plain plain))
 
   -- a smaller part is to be asked for
   with_smaller : (part : ℕ) → IsQuiet s s' → (class_of code.0 ≡ NotPresent → ⊥) → CallIsHonest old (record old { part = part }) s s' (Ok Again)

@@ -1,6 +1,6 @@
 -- Rows of a well-formed shelf.
-use Rattle.std.proofs.Common.{◌≡◌, ◌≢◌, ℕ, Bool, true, false, cond, nat_eq, ◌==◌, ◌||◌, Some, List, [], ◌∷◌, ◌++◌, refl, subst}
-use Rattle.std.proofs.lemmas.Bool.{eqb-true, eqb-false}
+use Rattle.std.proofs.Common.{◌≡◌, ◌≢◌, ℕ, Bool, true, false, cond, nat_eq, ◌==◌, Some, List, [], ◌∷◌, ◌++◌, refl, subst}
+use Rattle.std.proofs.lemmas.Bool.{eqb-true, eqb-false, or_parts}
 use Rattle.ipmi_bus.specs.declared.controller.Shelf.{Shelf}
 use Rattle.ipmi_bus.specs.Shelf.{Row, IsRow, IsShelf, AllRows, DistinctIds, LacksId, id_in, look, row_with_id, first_row}
 use Rattle.ipmi_bus.specs.Walk.{has_id}
@@ -19,17 +19,12 @@ first_is_row shelf [] row all found = cc found
 first_is_row shelf (r ∷ rows) row all found = let e : r ≡ row = cc found in subst (IsRow shelf) e all.0
 
 pub look_row : (shelf : Shelf) (rows : List Row) (n : ℕ) (row : Row) → IsShelf shelf rows → look rows n ≡ Some row → IsRow shelf row
-look_row shelf rows n row ok found = by_id (n == 0) found
-  where
-    by_id : (b : Bool) → cond b (first_row rows) (row_with_id n rows) ≡ Some row → IsRow shelf row
-    by_id true found = first_is_row shelf rows row ok.all found
-    by_id false found = (found_row shelf rows n row ok.all found).0
+look_row shelf rows n row ok found = (elim (n == 0) as (λ b. cond b (first_row rows) (row_with_id n rows) ≡ Some row → IsRow shelf row) [
+  | true ↦ λ h. first_is_row shelf rows row ok.all h
+  | false ↦ λ h. (found_row shelf rows n row ok.all h).0
+]) found
 
 -- ---- a row after others
-
-or_false : (a b : Bool) → (a || b) ≡ false → (a ≡ false) × (b ≡ false)
-or_false true b e = cc e
-or_false false b e = (refl, e)
 
 pub LacksId-snoc : (n : ℕ) (done : List Row) (row : Row) → LacksId n done → row.id ≢ n → LacksId n (done ++ row ∷ [])
 LacksId-snoc n [] row lacks ne = (ne, tt)
@@ -38,7 +33,7 @@ LacksId-snoc n (d ∷ done) row lacks ne = (lacks.0, LacksId-snoc n done row lac
 pub DistinctIds-snoc : (done : List Row) (row : Row) → DistinctIds done → has_id done row.id ≡ false → DistinctIds (done ++ row ∷ [])
 DistinctIds-snoc [] row distinct fresh = (tt, tt)
 DistinctIds-snoc (d ∷ done) row distinct fresh =
-    let parts = or_false (nat_eq row.id d.id) (has_id done row.id) fresh in
+    let parts = or_parts (nat_eq row.id d.id) (has_id done row.id) fresh in
     (LacksId-snoc d.id done row distinct.0 (eqb-false row.id d.id parts.0), DistinctIds-snoc done row distinct.1 parts.1)
 
 AllRows-snoc : (shelf : Shelf) (rows : List Row) (row : Row) → AllRows shelf rows → IsRow shelf row → AllRows shelf (rows ++ row ∷ [])

@@ -4,12 +4,12 @@ use Rattle.std.specs.Prelude.{IsSome}
 use Rattle.ipmi_bus.specs.Bounds.{digits, step_call_bound}
 use Rattle.ipmi_bus.specs.declared.controller.Shelf.{Shelf}
 use Rattle.ipmi_bus.specs.declared.step.Ended.{Ended}
-use Rattle.ipmi_bus.specs.declared.step.Ended.TheVariants.{Cycle, Missing, Refused, GaveUp, Stalled, Malformed}
+use Rattle.ipmi_bus.specs.declared.step.Ended.TheVariants.{Refused, GaveUp, Stalled, Malformed}
 use Rattle.ipmi_bus.specs.declared.retrieval.Outcome.{Outcome}
 use Rattle.ipmi_bus.specs.declared.retrieval.Outcome.TheVariants.{Again, Whole, Absent}
 use Rattle.ipmi_bus.specs.declared.retrieval.Retrieval.{Retrieval}
-use Rattle.ipmi_bus.specs.Shelf.{look, len_of, largest_len}
-use Rattle.ipmi_bus.specs.Store.{Store, rows_of}
+use Rattle.ipmi_bus.specs.Shelf.{look, largest_len}
+use Rattle.ipmi_bus.specs.Store.{rows_of}
 use Rattle.ipmi_bus.specs.Seen.{stays_refl, stays_trans, Seen, IsHonest, KeepsStore, StaysHonest, current}
 use Rattle.ipmi_bus.specs.Retrieval.{row_len, IsOpen, SameRequest, IsReading, IsCalm, KeepsHeld, CallAnswers, CallIsPlain, CallIsHonest, CallIsAnswered, CallLeaves, calls_left, unreserved}
 use Rattle.ipmi_bus.specs.Since.{begun, HonestSince, Since, ReadAnswers, ReadIsPlain, ReadIsHonest, EndsRead, IsEnded}
@@ -53,9 +53,7 @@ since_begun r id s some fits open_ = record {
 -- the length of the row stays while the store does
 row_len_same : (a b : Retrieval) (s s' : Seen) → b.shelf ≡ a.shelf → b.id ≡ a.id → s'.store ≡ s.store → row_len b s' ≡ row_len a s
 row_len_same a b s s' shelf id store =
-    ap (λ (x : Shelf). len_of (look (rows_of x s'.store) b.id)) shelf
-    ∙ ap (λ (n : ℕ). len_of (look (rows_of a.shelf s'.store) n)) id
-    ∙ ap (λ (x : Store). len_of (look (rows_of a.shelf x) a.id)) store
+    rw (shelf, id, store) refl
 
 module _ (start now new : Retrieval) (s s' s'' : Seen) (since : Since start now s s') (request : SameRequest now new) (counted : s''.calls ≡ s'.calls + 1) where
   -- one call is spent
@@ -68,9 +66,7 @@ module _ (start now new : Retrieval) (s s' s'' : Seen) (since : Since start now 
       let second : s''.stores_added ≡ s'.stores_added = omega (arith, so_far.stays.store.grows, turn.stays.store.grows) in
       let store = turn.stays.store.stays second ∙ so_far.stays.store.stays first in
       let len = row_len_same start new s s'' (request.shelf ∙ since.request.shelf) (request.id ∙ since.request.id) store in
-      let before = so_far.within first in
-      let after = turn.answers.within in
-      omega (arith, len, before, after)
+      omega (arith, len, so_far.within first, turn.answers.within)
 
   calls_more : (so_far : HonestSince start now s s') → CallIsHonest now new s' s'' (Ok Again) → CallLeaves now new (Ok Again) → s''.stores_added ≡ s.stores_added → s''.calls + calls_left (row_len start s) new ≤ s.calls + calls_left (row_len start s) start
   calls_more so_far turn leaves e =
@@ -188,10 +184,7 @@ module _ (old : Retrieval) (id : ℕ) (now new : Retrieval) (s s' s'' : Seen) (s
     refusals = omega (arith, so_far.refusals, answers.1.refusals);
     last_code = answers.1.last_code;
   }
-  answers_of (Err (Cycle n)) not_again so_far answers = answers
-  answers_of (Err (Missing n)) not_again so_far answers = answers
-  answers_of (Err (Stalled n)) not_again so_far answers = answers
-  answers_of (Err (Malformed n)) not_again so_far answers = answers
+  answers_of _ not_again so_far answers = answers
 
   -- no trouble is taken back
   grows_of : (result : Result Outcome Ended) → CallAnswers now new s' s'' result → s'.troubles ≤ s''.troubles
@@ -200,10 +193,7 @@ module _ (old : Retrieval) (id : ℕ) (now new : Retrieval) (s s' s'' : Seen) (s
   grows_of (Ok Absent) answers = omega (arith, answers.calm.troubles)
   grows_of (Err (GaveUp n)) answers = omega (arith, answers.troubles, since.is_open.troubles)
   grows_of (Err (Refused n code)) answers = omega (arith, answers.1.troubles)
-  grows_of (Err (Cycle n)) answers = absurd answers
-  grows_of (Err (Missing n)) answers = absurd answers
-  grows_of (Err (Stalled n)) answers = absurd answers
-  grows_of (Err (Malformed n)) answers = absurd answers
+  grows_of _ answers = absurd answers
 
   keeps_to_end : (result : Result Outcome Ended) → HonestSince (begun old id) now s s' → CallIsHonest now new s' s'' result → IsSome old.reservation → s''.troubles ≡ s.troubles → KeepsHeld old new s s''
   keeps_to_end result so_far turn some same =
@@ -239,8 +229,7 @@ module _ (old : Retrieval) (id : ℕ) (now new : Retrieval) (s s' s'' : Seen) (s
   last_part (Err (Refused n code)) not_again leaves = leaves.0
   last_part (Err (Stalled n)) not_again leaves = leaves.0
   last_part (Err (Malformed n)) not_again leaves = leaves.0
-  last_part (Err (Cycle n)) not_again leaves = absurd leaves
-  last_part (Err (Missing n)) not_again leaves = absurd leaves
+  last_part _ not_again leaves = absurd leaves
 
   -- the whole reading ends as the last call did
   pub ends_as : (t result : Result Outcome Ended) → result ≡ t → (t ≡ Ok Again → ⊥) → CallLeaves now new result → (IsHonest s' → IsReading now s' → CallIsHonest now new s' s'' result) → IsHonest s → ReadIsHonest old id new s s'' (read_result t)

@@ -5,9 +5,9 @@ use Rattle.ipmi_bus.specs.declared.controller.Shelf.{Shelf}
 use Rattle.ipmi_bus.specs.declared.step.Place.{Place}
 use Rattle.ipmi_bus.specs.declared.step.Place.TheVariants.{Id}
 use Rattle.ipmi_bus.specs.declared.step.Ended.{Ended}
-use Rattle.ipmi_bus.specs.declared.step.Ended.TheVariants.{Cycle, Missing, Refused, GaveUp, Stalled, Malformed}
+use Rattle.ipmi_bus.specs.declared.step.Ended.TheVariants.{Cycle, Missing, Refused, GaveUp}
 use Rattle.ipmi_bus.specs.Shelf.{Row, IsShelf, first_row}
-use Rattle.ipmi_bus.specs.Store.{Store, rows_of}
+use Rattle.ipmi_bus.specs.Store.{rows_of}
 use Rattle.ipmi_bus.specs.Walk.{IsWalk, WalkEnd, Done, EndsBy, place_after}
 use Rattle.ipmi_bus.specs.Seen.{Seen, IsHonest}
 use Rattle.ipmi_bus.specs.CursorState.{CursorState}
@@ -31,20 +31,17 @@ grows c s [] honest steps = omega arith
 grows c s (step ∷ more) honest steps =
     let between = steps.0 in
     let stays = (steps.1.honest between.honest).stays in
-    let begun = between.store.grows in
-    let first = stays.store.grows in
-    let later = grows step.cursor step.seen more stays.honest steps.2 in
-    omega (arith, begun, first, later)
+    omega (arith, between.store.grows, stays.store.grows, grows step.cursor step.seen more stays.honest steps.2)
 
 -- the next row, and the first ones of those after it
 first_more : (walk : List Row) (k m : ℕ) (row : Row) → first_row (drop k walk) ≡ Some row → row ∷ take m (drop (k + 1) walk) ≡ take (m + 1) (drop k walk)
 first_more walk k m row next =
     let rest = split (drop k walk) next in
-    ap (λ (l : List Row). row ∷ take m l) (sym (drop-drop 1 k walk)) ∙ sym (ap (λ (n : ℕ). take n (drop k walk)) (add-one m) ∙ ap (take (suc m)) rest)
+    rw (sym (drop-drop 1 k walk)) (sym (rw (add-one m) (ap (take (suc m)) rest)))
   where
     split : (l : List Row) → first_row l ≡ Some row → l ≡ row ∷ drop 1 l
     split [] e = cc e
-    split (r ∷ l) e = let same : r ≡ row = cc e in ap (λ (x : Row). x ∷ l) same
+    split (r ∷ l) e = let same : r ≡ row = cc e in rw same refl
 
 -- from the k-th row on
 record HandsOutFrom (rows : List Row) (start : Place) (walk : List Row) (k : ℕ) (c : CursorState) (handed : List Row) : Type 0 where
@@ -58,7 +55,7 @@ module _ (rows : List Row) (start : Place) (walk : List Row) (end : WalkEnd) (w 
   one_more k c c' last (Ok (Some row)) handed step go =
       let more = go (k + 1) step.1 in record {
         count = more.count + 1;
-        handed_are = ap (λ (l : List Row). row ∷ l) more.handed_are ∙ first_more walk k more.count row step.0;
+        handed_are = rw more.handed_are (first_more walk k more.count row step.0);
         stands = subst (λ (n : ℕ). StandsAt rows start walk n last) {x = k + 1 + more.count} (omega arith) more.stands;
       }
   one_more k c c' last (Ok None) handed step go = go k step.2
@@ -66,8 +63,7 @@ module _ (rows : List Row) (start : Place) (walk : List Row) (end : WalkEnd) (w 
   one_more k c c' last (Err (Missing n)) handed step go = go k step.2
   one_more k c c' last (Err (GaveUp n)) handed step go = go k step.0
   one_more k c c' last (Err (Refused n code)) handed step go = go k step.0
-  one_more k c c' last (Err (Stalled n)) handed step go = absurd step
-  one_more k c c' last (Err (Malformed n)) handed step go = absurd step
+  one_more k c c' last _ handed step go = absurd step
 
   steps_from : (k : ℕ) (c : CursorState) (s : Seen) (steps : List Stepped) → IsHonest s → rows_of c.shelf s.store ≡ rows → StandsAt rows start walk k c → AreSteps c s steps → (seen_after s steps).stores_added ≡ s.stores_added
       → HandsOutFrom rows start walk k (cursor_after c steps) (handed_out steps)
@@ -82,9 +78,9 @@ module _ (rows : List Row) (start : Place) (walk : List Row) (end : WalkEnd) (w 
       let before : step.before.stores_added ≡ s.stores_added = omega (arith, begun, low, high) in
       let first : step.seen.stores_added ≡ step.before.stores_added = omega (arith, begun, low, high) in
       let later : (seen_after step.seen more).stores_added ≡ step.seen.stores_added = omega (arith, begun, low, high) in
-      let was : rows_of c.shelf step.before.store ≡ rows = ap (λ (x : Store). rows_of c.shelf x) (between.store.stays before) ∙ is in
+      let was : rows_of c.shelf step.before.store ≡ rows = rw (between.store.stays before) is in
       let is' : rows_of step.cursor.shelf step.seen.store ≡ rows =
-      ap (λ (x : Shelf). rows_of x step.seen.store) made.same.shelf ∙ ap (λ (x : Store). rows_of c.shelf x) (stays.store.stays first) ∙ was in
+      ap (λ (x : Shelf). rows_of x step.seen.store) made.same.shelf ∙ rw (stays.store.stays first) was in
       let along : WalkStep rows start walk end k c step.cursor step.result =
       subst (λ (l : List Row). IsWalk l start walk → EndsBy l start walk end → StandsAt l start walk k c → WalkStep l start walk end k c step.cursor step.result) was
       (λ w ends stands. (made.walks between.honest).follows first start walk end k w ends stands) w ends stands in

@@ -5,6 +5,7 @@ use Rattle.std.specs.FinSet.{contains-insert, contains-empty}
 use Rattle.std.specs.Ordering.{nat_cmp}
 use Rattle.std.specs.Cmp.{nat_cmp_total, unsigned_tied}
 use Rattle.std.specs.Prelude.{IsTrue}
+use Rattle.std.proofs.Math.Bool.{or-false}
 use Rattle.std.proofs.lemmas.Bool.{cases_eq, ne_eqb, eq-eqb, eqb-true, eqb-false}
 use Rattle.std.proofs.lemmas.List.{append-nil}
 use Rattle.ipmi_bus.specs.declared.controller.Shelf.{Shelf}
@@ -14,7 +15,7 @@ use Rattle.ipmi_bus.specs.Shelf.{Row, IsShelf, look, row_with_id, first_row}
 use Rattle.ipmi_bus.specs.Walk.{row_at, Links, AllOf, IsWalk, place_after, place_after_rows, has_id, WalkEnd, Done, CycleAt, MissingAt, EndsBy, EndsAfter, last_next, HasWalk}
 use Rattle.ipmi_bus.specs.Step.{asked_at, cycle_at}
 use Rattle.ipmi_bus.proofs.ShelfLemmas.{DistinctIds-snoc}
-use Rattle.ipmi_bus.proofs.WalkLemmas.{row_next, next_unseen, asks_look, no_cycle, EndFacts, end_facts, place_at_last, id_of}
+use Rattle.ipmi_bus.proofs.WalkLemmas.{row_next, next_unseen, asks_look, no_cycle, EndFacts, end_facts, place_at_last, id_of, has_id-append}
 
 -- the ids of a walk, as a set
 abbrev ids_of : List Row → set.FinSet nat_cmp
@@ -23,7 +24,7 @@ ids_of (row ∷ rows) = set.insert (ids_of rows) row.id
 
 contains-ids_of : (rows : List Row) (n : ℕ) → set.contains (ids_of rows) n ≡ has_id rows n
 contains-ids_of [] n = contains-empty nat_cmp n
-contains-ids_of (row ∷ rows) n = contains-insert nat_cmp_total (ids_of rows) row.id n ∙ ap (λ (b : Bool). b || set.contains (ids_of rows) n) (unsigned_tied n row.id) ∙ ap (λ (b : Bool). nat_eq n row.id || b) (contains-ids_of rows n)
+contains-ids_of (row ∷ rows) n = contains-insert nat_cmp_total (ids_of rows) row.id n ∙ rw (unsigned_tied n row.id, contains-ids_of rows n) refl
 
 -- a walk that has an end has no row after it
 no_more : (shelf : Shelf) (rows : List Row) (start : Place) (done : List Row) (end : WalkEnd) (row : Row) → IsShelf shelf rows → EndsBy rows start done end → row_at (place_after_rows start done) rows ≡ Some row → has_id done row.id ≡ false → ⊥
@@ -62,10 +63,8 @@ same_rest shelf rows start done (r ∷ a) (s ∷ b) e f ok w ends w' ends' =
 -- a walk has one end
 same_end : (rows : List Row) (start : Place) (walk : List Row) (e f : WalkEnd) → EndsBy rows start walk e → EndsBy rows start walk f → e ≡ f
 same_end rows First [] Done Done ends ends' = refl
-same_end rows First [] Done (CycleAt n) ends ends' = absurd ends'
-same_end rows First [] Done (MissingAt n) ends ends' = absurd ends'
-same_end rows First [] (CycleAt m) f ends ends' = absurd ends
-same_end rows First [] (MissingAt m) f ends ends' = absurd ends
+same_end rows First [] Done _ ends ends' = absurd ends'
+same_end rows First [] _ f ends ends' = absurd ends
 same_end rows (Id id) [] Done f ends ends' = absurd ends
 same_end rows (Id id) [] (CycleAt m) Done ends ends' = absurd ends'
 same_end rows (Id id) [] (CycleAt m) (CycleAt n) ends ends' = ap CycleAt (ends.0 ∙ sym ends'.0)
@@ -74,10 +73,8 @@ same_end rows (Id id) [] (MissingAt m) Done ends ends' = absurd ends'
 same_end rows (Id id) [] (MissingAt m) (CycleAt n) ends ends' = absurd (ends.1 ends'.1)
 same_end rows (Id id) [] (MissingAt m) (MissingAt n) ends ends' = ap MissingAt (ends.0 ∙ sym ends'.0)
 same_end rows End [] Done Done ends ends' = refl
-same_end rows End [] Done (CycleAt n) ends ends' = absurd ends'
-same_end rows End [] Done (MissingAt n) ends ends' = absurd ends'
-same_end rows End [] (CycleAt m) f ends ends' = absurd ends
-same_end rows End [] (MissingAt m) f ends ends' = absurd ends
+same_end rows End [] Done _ ends ends' = absurd ends'
+same_end rows End [] _ f ends ends' = absurd ends
 same_end rows start (row ∷ walk) e f ends ends' = same_after (last_next row.next walk) e f ends ends'
   where
     not_both : (next : ℕ) → IsTrue ((next == 0) || has_id (row ∷ walk) next) → next ≢ 0 → has_id (row ∷ walk) next ≡ false → ⊥
@@ -86,8 +83,7 @@ same_end rows start (row ∷ walk) e f ends ends' = same_after (last_next row.ne
 
     same_after : (next : ℕ) (e f : WalkEnd) → EndsAfter rows (row ∷ walk) next e → EndsAfter rows (row ∷ walk) next f → e ≡ f
     same_after next Done Done a b = refl
-    same_after next Done (CycleAt n) a b = absurd (b.1 a)
-    same_after next Done (MissingAt n) a b = absurd (b.1 a)
+    same_after next Done _ a b = absurd (b.1 a)
     same_after next (CycleAt m) Done a b = absurd (a.1 b)
     same_after next (CycleAt m) (CycleAt n) a b = ap CycleAt (a.0 ∙ sym b.0)
     same_after next (CycleAt m) (MissingAt n) a b = absurd (not_both next a.2 b.2 b.3)
@@ -107,17 +103,9 @@ abbrev left_over : List Row → List Row → ℕ
 left_over [] done = 0
 left_over (row ∷ rows) done = cond (has_id done row.id) 0 1 + left_over rows done
 
-has_id-snoc : (done : List Row) (row : Row) (n : ℕ) → has_id (done ++ row ∷ []) n ≡ (has_id done n || nat_eq n row.id)
-has_id-snoc [] row n = elim (nat_eq n row.id) as (λ b. (b || false) ≡ b) [ true ↦ refl | false ↦ refl ]
-has_id-snoc (d ∷ done) row n = ap (λ (b : Bool). nat_eq n d.id || b) (has_id-snoc done row n) ∙ or_assoc (nat_eq n d.id) _ _
-  where
-    or_assoc : (a b c : Bool) → (a || (b || c)) ≡ ((a || b) || c)
-    or_assoc true b c = refl
-    or_assoc false b c = refl
-
 left_over_le : (rows done : List Row) (row : Row) → left_over rows (done ++ row ∷ []) ≤ left_over rows done
 left_over_le [] done row = omega arith
-left_over_le (r ∷ rows) done row = let ih = left_over_le rows done row in let h = has_id-snoc done row r.id in by (has_id done r.id) (nat_eq r.id row.id) _ h ih
+left_over_le (r ∷ rows) done row = by (has_id done r.id) (nat_eq r.id row.id) _ (has_id-append done row r.id) (left_over_le rows done row)
   where
     by : (a b c : Bool) → c ≡ (a || b) → left_over rows (done ++ row ∷ []) ≤ left_over rows done → cond c 0 1 + left_over rows (done ++ row ∷ []) ≤ cond a 0 1 + left_over rows done
     by true b c e ih = subst (λ (x : Bool). cond x 0 1 + left_over rows (done ++ row ∷ []) ≤ 0 + left_over rows done) (sym e) (omega (arith, ih))
@@ -134,18 +122,14 @@ left_over_lt (r ∷ rows) done row found fresh =
     by_id later true is h =
         let same : r.id ≡ row.id = eqb-true r.id row.id is in
         let old : has_id done r.id ≡ false = ap (has_id done) same ∙ fresh in
-        let new : has_id (done ++ row ∷ []) r.id ≡ true = has_id-snoc done row r.id ∙ ap (λ (b : Bool). b || nat_eq r.id row.id) old ∙ is in
+        let new : has_id (done ++ row ∷ []) r.id ≡ true = has_id-append done row r.id ∙ rw old is in
         let le = left_over_le rows done row in
         subst (λ (x : Bool). (cond (has_id (done ++ row ∷ []) r.id) 0 1 + left_over rows (done ++ row ∷ [])) + 1 ≤ cond x 0 1 + left_over rows done) (sym old)
         (subst (λ (x : Bool). (cond x 0 1 + left_over rows (done ++ row ∷ [])) + 1 ≤ 1 + left_over rows done) (sym new) (omega (arith, le)))
     by_id later false is h =
         let lt = later h in
-        let same : has_id (done ++ row ∷ []) r.id ≡ has_id done r.id = has_id-snoc done row r.id ∙ ap (λ (b : Bool). has_id done r.id || b) is ∙ or-nothing (has_id done r.id) in
+        let same : has_id (done ++ row ∷ []) r.id ≡ has_id done r.id = has_id-append done row r.id ∙ rw is (or-false (has_id done r.id)) in
         subst (λ (x : Bool). (cond x 0 1 + left_over rows (done ++ row ∷ [])) + 1 ≤ cond (has_id done r.id) 0 1 + left_over rows done) (sym same) (omega (arith, lt))
-      where
-        or-nothing : (a : Bool) → (a || false) ≡ a
-        or-nothing true = refl
-        or-nothing false = refl
 
 -- a row at a place is a row of the shelf
 found_at : (shelf : Shelf) (place : Place) (rows : List Row) (row : Row) → IsShelf shelf rows → row_at place rows ≡ Some row → (look rows row.id ≡ Some row) × (row_with_id row.id rows ≡ Some row)
@@ -153,11 +137,7 @@ found_at shelf First [] row ok found = cc found
 found_at shelf First (x ∷ rows) row ok found =
     let same : x ≡ row = cc found in
     let here : row_with_id row.id (x ∷ rows) ≡ Some row = ap (λ (b : Bool). cond b (Some x) (row_with_id row.id rows)) (eq-eqb x.id row.id (ap (λ (r : Row). r.id) same)) ∙ found in
-    (by (nat_eq row.id 0) here, here)
-  where
-    by : (b : Bool) → row_with_id row.id (x ∷ rows) ≡ Some row → cond b (Some x) (row_with_id row.id (x ∷ rows)) ≡ Some row
-    by true here = found
-    by false here = here
+    (elim (nat_eq row.id 0) as (λ b. cond b (Some x) (row_with_id row.id (x ∷ rows)) ≡ Some row) [ true ↦ found | false ↦ here ], here)
 found_at shelf (Id n) rows row ok found =
     let is = id_of shelf rows n row ok found in
     let looks = asks_look (Id n) rows row found in
@@ -171,11 +151,10 @@ AllOf-snoc rows (d ∷ done) row all here = (all.0, AllOf-snoc rows done row all
 
 -- the place after a row leads to the next one by its id
 linked : (shelf : Shelf) (next : ℕ) (rows : List Row) (row : Row) → IsShelf shelf rows → row_at (place_after next) rows ≡ Some row → (next ≡ row.id) × (row.id ≢ 0)
-linked shelf next rows row ok found = by (nat_eq next 65535) found
-  where
-    by : (b : Bool) → row_at (cond b End (Id next)) rows ≡ Some row → (next ≡ row.id) × (row.id ≢ 0)
-    by true h = cc h
-    by false h = let is = id_of shelf rows next row ok h in (sym is.1, λ zero. eqb-false next 0 is.0 (sym is.1 ∙ zero))
+linked shelf next rows row ok found = (elim (nat_eq next 65535) as (λ b. row_at (cond b End (Id next)) rows ≡ Some row → (next ≡ row.id) × (row.id ≢ 0)) [
+  | true ↦ λ h. cc h
+  | false ↦ λ h. let is = id_of shelf rows next row ok h in (sym is.1, λ zero. eqb-false next 0 is.0 (sym is.1 ∙ zero))
+]) found
 
 Links-snoc : (shelf : Shelf) (rows : List Row) (d : Row) (done : List Row) (row : Row) → IsShelf shelf rows → Links (d ∷ done) → row_at (place_after_rows (place_after d.next) done) rows ≡ Some row → Links (d ∷ (done ++ row ∷ []))
 Links-snoc shelf rows d [] row ok links found = let l = linked shelf d.next rows row ok found in (l.0, l.1, tt)
@@ -206,7 +185,7 @@ end_after rows walk next none = elim (cases_eq next 65535) [ inl e ↦ (Done, e)
         let empty = sym (ap (λ (b : Bool). cond b None (look rows next)) p) ∙ (sym (ap (λ (x : Place). row_at x rows) place) ∙ none q) in
         (MissingAt next, (refl, ne, eqb-false next 0 p, q, empty))
 
--- where the place has no row, or one that stands in the walk already
+-- where the place has no row, or one that is in the walk already
 ends_here : (shelf : Shelf) (rows : List Row) (start : Place) (walk : List Row) → IsShelf shelf rows → ((row : Row) → row_at (place_after_rows start walk) rows ≡ Some row → has_id walk row.id ≡ true) → HasEnd rows start walk
 unfolding HasEnd
 ends_here shelf rows First [] ok none = by (first_row rows) refl
@@ -243,7 +222,7 @@ decide shelf rows start done ok w go = by (row_at (place_after_rows start done) 
     ending none = let e = ends_here shelf rows start done ok none in (done, e.0, w, e.1)
 
     stands : (row : Row) → row_at (place_after_rows start done) rows ≡ Some row → (b : Bool) → has_id done row.id ≡ b → HasWalk rows start
-    stands row is true has = ending (λ r found. let same : r ≡ row = let h = sym found ∙ is in cc h in ap (λ (x : Row). has_id done x.id) same ∙ has)
+    stands row is true has = ending (λ r found. let same : r ≡ row = let h = sym found ∙ is in cc h in rw same has)
     stands row is false fresh = go row is fresh
 
     by : (o : Option Row) → row_at (place_after_rows start done) rows ≡ o → HasWalk rows start

@@ -1,7 +1,8 @@
 -- Walks, row after row.
-use Rattle.std.proofs.Common.{◌≡◌, ◌≢◌, ℕ, ◌+◌, ◌≤◌, ◌==◌, Bool, true, false, cond, nat_eq, ◌||◌, Option, None, Some, IsSome, Result, Ok, Err, List, [], ◌∷◌, ◌++◌, length, take, drop, refl, sym, ap, subst, ◌∙◌, inl, inr, rules, arith}
+use Rattle.std.proofs.Common.{◌≡◌, ◌≢◌, ℕ, ◌+◌, ◌≤◌, Bool, true, false, cond, nat_eq, ◌||◌, Option, None, Some, IsSome, Result, Ok, Err, List, [], ◌∷◌, ◌++◌, length, take, drop, refl, sym, ap, subst, ◌∙◌, inl, inr, rules, arith}
 use Rattle.std.specs.Prelude.{◌⊎◌}
 use Rattle.std.specs.FinSet as set
+use Rattle.std.proofs.Math.Bool.{or-false, or_assoc, or_comm}
 use Rattle.std.proofs.lemmas.Bool.{ne_eqb, eq-eqb}
 use Rattle.ipmi_bus.specs.declared.controller.Shelf.{Shelf}
 use Rattle.ipmi_bus.specs.declared.step.Place.{Place}
@@ -19,16 +20,15 @@ use Rattle.std.specs.Ordering.{nat_cmp}
 use Rattle.std.proofs.lemmas.List.{take_all, take-append-drop, length-drop}
 use Rattle.std.proofs.Math.Seq.{drop-nil, take-add}
 use Rattle.ipmi_bus.proofs.ShelfLemmas.{look_row, found_row}
-use Rattle.ipmi_bus.specs.Store.{store_shelf}
-use Rattle.ipmi_bus.specs.Store.{Store, rows_of}
+use Rattle.ipmi_bus.specs.Store.{store_shelf, Store, rows_of}
 use Rattle.ipmi_bus.specs.Seen.{Seen, IsHonest}
 
 place_of : (next : ℕ) → next ≢ 65535 → place_after next ≡ Id next
-place_of next ne = ap (λ (b : Bool). cond b End (Id next)) (ne_eqb next 65535 ne)
+place_of next ne = rw (ne_eqb next 65535 ne) refl
 
 -- the row at an id that is not 0000h
 pub row_at_id : (rows : List Row) (n : ℕ) → n ≢ 0 → row_at (Id n) rows ≡ look rows n
-row_at_id rows n ne = ap (λ (b : Bool). cond b None (look rows n)) (ne_eqb n 0 ne)
+row_at_id rows n ne = rw (ne_eqb n 0 ne) refl
 
 -- what follows a walk's first row is a walk from the place after it
 pub walk_tail : (shelf : Shelf) (rows : List Row) (start : Place) (row : Row) (walk : List Row) → IsShelf shelf rows → IsWalk rows start (row ∷ walk) → IsWalk rows (place_after row.next) walk
@@ -40,7 +40,7 @@ walk_tail shelf rows start row (after ∷ walk) ok w =
     record {
       of_shelf = w.of_shelf.1;
       distinct = w.distinct.1;
-      first = ap (λ (p : Place). row_at p rows) place ∙ (row_at_id rows after.id w.links.1 ∙ found);
+      first = rw place (row_at_id rows after.id w.links.1 ∙ found);
       links = w.links.2;
     }
 
@@ -58,16 +58,12 @@ pub next_unseen : (done : List Row) (row : Row) (walk : List Row) → DistinctId
 next_unseen [] row walk distinct = refl
 next_unseen (d ∷ done) row walk distinct =
     let apart : nat_eq row.id d.id ≡ false = ne_eqb row.id d.id (lacks_here d.id done row walk distinct.0) in
-    ap (λ (b : Bool). b || has_id done row.id) apart ∙ next_unseen done row walk distinct.1
+    rw apart (next_unseen done row walk distinct.1)
 
 -- the id asked for at a place that has a row
 pub asks_look : (place : Place) (rows : List Row) (row : Row) → row_at place rows ≡ Some row → look rows (asked_at place) ≡ Some row
 asks_look First rows row found = found
-asks_look (Id n) rows row found = by_zero (nat_eq n 0) found
-  where
-    by_zero : (b : Bool) → cond b None (look rows n) ≡ Some row → look rows n ≡ Some row
-    by_zero true h = cc h
-    by_zero false h = h
+asks_look (Id n) rows row found = (elim (nat_eq n 0) as (λ b. cond b None (look rows n) ≡ Some row → look rows n ≡ Some row) [ true ↦ λ h. cc h | false ↦ λ h. h ]) found
 asks_look End rows row found = cc found
 
 -- it is the row's
@@ -84,21 +80,16 @@ no_cycle shelf rows First ids done row ok same fresh found = refl
 no_cycle shelf rows (Id n) ids done row ok same fresh found =
     let is = id_of shelf rows n row ok found in
     let out : set.contains ids n ≡ false = same n ∙ ap (has_id done) (sym is.1) ∙ fresh in
-    ap (λ (b : Bool). cond (b || set.contains ids n) (Some n) None) is.0 ∙ ap (λ (b : Bool). cond b (Some n) None) out
+    rw (is.0, out) refl
 no_cycle shelf rows End ids done row ok same fresh found = refl
 
 place_after_rows-append : (start : Place) (done : List Row) (row : Row) → place_after_rows start (done ++ row ∷ []) ≡ place_after row.next
 place_after_rows-append start [] row = refl
 place_after_rows-append start (d ∷ done) row = place_after_rows-append (place_after d.next) done row
 
-has_id-append : (done : List Row) (row : Row) (n : ℕ) → has_id (done ++ row ∷ []) n ≡ (nat_eq n row.id || has_id done n)
-has_id-append [] row n = refl
-has_id-append (d ∷ done) row n = ap (λ (b : Bool). nat_eq n d.id || b) (has_id-append done row n) ∙ or_swap (nat_eq n d.id) (nat_eq n row.id) (has_id done n)
-  where
-    or_swap : (a b c : Bool) → (a || (b || c)) ≡ (b || (a || c))
-    or_swap true true c = refl
-    or_swap true false c = refl
-    or_swap false b c = refl
+pub has_id-append : (done : List Row) (row : Row) (n : ℕ) → has_id (done ++ row ∷ []) n ≡ (has_id done n || nat_eq n row.id)
+has_id-append [] row n = or-false (nat_eq n row.id)
+has_id-append (d ∷ done) row n = rw (has_id-append done row n) (sym (or_assoc (nat_eq n d.id) (has_id done n) (nat_eq n row.id)))
 
 -- ---- the place at a walk's end
 
@@ -116,16 +107,11 @@ after_facts : (rows : List Row) (start place : Place) (ids : set.FinSet nat_cmp)
 after_facts rows start place ids walk next Done ends p same = inl (p ∙ ap place_after ends)
 after_facts rows start place ids walk next (CycleAt n) ends p same =
     let at : place ≡ Id next = p ∙ place_of next ends.1 in
-    ap (λ (q : Place). cycle_at q ids) at
-    ∙ ap (λ (b : Bool). cond ((next == 0) || b) (Some next) None) (same next)
-    ∙ ap (λ (b : Bool). cond b (Some next) None) ends.2
-    ∙ ap Some (sym ends.0)
+    rw (at, same next, ends.2) (ap Some (sym ends.0))
 after_facts rows start place ids walk next (MissingAt n) ends p same =
     let at : place ≡ Id next = p ∙ place_of next ends.1 in (
       at ∙ ap Id (sym ends.0),
-      ap (λ (q : Place). cycle_at q ids) at
-          ∙ ap (λ (b : Bool). cond ((next == 0) || b) (Some next) None) (same next ∙ ends.3)
-          ∙ ap (λ (b : Bool). cond (b || false) (Some next) None) (ne_eqb next 0 ends.2),
+      ap (λ (q : Place). cycle_at q ids) at ∙ rw (same next ∙ ends.3, ne_eqb next 0 ends.2) refl,
       ap (look rows) ends.0 ∙ ends.4,
     )
 
@@ -133,27 +119,22 @@ pub end_facts : (rows : List Row) (start : Place) (walk : List Row) (place : Pla
     → EndFacts rows start place ids end
 end_facts rows start (row ∷ walk) place ids end ends p same = after_facts rows start place ids (row ∷ walk) (last_next row.next walk) end ends (p ∙ place_at_last row.next walk) same
 end_facts rows First [] place ids Done ends p same = inr (p, refl, ends)
-end_facts rows First [] place ids (CycleAt n) ends p same = absurd ends
-end_facts rows First [] place ids (MissingAt n) ends p same = absurd ends
+end_facts rows First [] place ids _ ends p same = absurd ends
 end_facts rows (Id id) [] place ids Done ends p same = absurd ends
 end_facts rows (Id id) [] place ids (CycleAt n) ends p same =
-    ap (λ (q : Place). cycle_at q ids) p ∙ ap (λ (b : Bool). cond (b || set.contains ids id) (Some id) None) (eq-eqb id 0 ends.1) ∙ ap Some (sym ends.0)
+    rw (p, eq-eqb id 0 ends.1) (ap Some (sym ends.0))
 end_facts rows (Id id) [] place ids (MissingAt n) ends p same = (
   p ∙ ap Id (sym ends.0),
-  ap (λ (q : Place). cycle_at q ids) p ∙ ap (λ (b : Bool). cond (b || set.contains ids id) (Some id) None) (ne_eqb id 0 ends.1) ∙ ap (λ (b : Bool). cond b (Some id) None) (same id),
+  ap (λ (q : Place). cycle_at q ids) p ∙ rw (ne_eqb id 0 ends.1, same id) refl,
   ap (look rows) ends.0 ∙ ends.2,
 )
 end_facts rows End [] place ids Done ends p same = inl p
-end_facts rows End [] place ids (CycleAt n) ends p same = absurd ends
-end_facts rows End [] place ids (MissingAt n) ends p same = absurd ends
+end_facts rows End [] place ids _ ends p same = absurd ends
 
 -- at the end of an empty shelf
 empty_facts : (rows : List Row) (start : Place) (walk : List Row) (place : Place) (ids : set.FinSet nat_cmp) (end : WalkEnd) → IsWalk rows start walk → EndsBy rows start walk end → place ≡ End → start ≡ First → first_row rows ≡ None
     → EndFacts rows start place ids end
-empty_facts rows start (row ∷ walk) place ids end w ends p first none = let h = sym (ap (λ (q : Place). row_at q rows) first) ∙ w.first in absurd (no_row h none)
-  where
-    no_row : first_row rows ≡ Some row → first_row rows ≡ None → ⊥
-    no_row a b = cc (a, b)
+empty_facts rows start (row ∷ walk) place ids end w ends p first none = let h = sym (ap (λ (q : Place). row_at q rows) first) ∙ w.first in cc (h, none)
 empty_facts rows start [] place ids Done w ends p first none = inl p
 empty_facts rows start [] place ids (CycleAt n) w ends p first none = absurd (subst (λ (q : Place). EndsEmpty rows q (CycleAt n)) first ends)
 empty_facts rows start [] place ids (MissingAt n) w ends p first none = absurd (subst (λ (q : Place). EndsEmpty rows q (MissingAt n)) first ends)
@@ -184,7 +165,7 @@ module _ (shelf : Shelf) (rows : List Row) (start : Place) (walk : List Row) (k 
   -- before the walk's end
   module _ (row : Row) (rest : List Row) (split : drop k walk ≡ row ∷ rest) (end : WalkEnd) where
     whole : walk ≡ take k walk ++ row ∷ rest
-    whole = sym (take-append-drop k walk) ∙ ap (λ (l : List Row). take k walk ++ l) split
+    whole = sym (take-append-drop k walk) ∙ rw split refl
 
     w' : IsWalk rows start (take k walk ++ row ∷ rest)
     w' = subst (IsWalk rows start) whole w
@@ -209,10 +190,10 @@ module _ (shelf : Shelf) (rows : List Row) (start : Place) (walk : List Row) (k 
     found = asks_look c.place rows row at_row
 
     more : take (k + 1) walk ≡ take k walk ++ row ∷ []
-    more = take-add k 1 walk ∙ ap (λ (l : List Row). take k walk ++ take 1 l) split
+    more = take-add k 1 walk ∙ rw split refl
 
     len : k + 1 ≤ length walk
-    len = let h = ap (length {A = Row}) split in omega (arith, length-drop k walk, h)
+    len = omega (arith, length-drop k walk, ap (length {A = Row}) split)
 
     inside : (result : Result (Option Row) Ended) → StepLeaves c new result → Finds rows c.place result → WalkStep rows start walk end k c new result
     inside (Ok (Some r)) leaves finds =
@@ -226,6 +207,7 @@ module _ (shelf : Shelf) (rows : List Row) (start : Place) (walk : List Row) (k 
                 ∙ contains-insert nat_cmp_total c.ids r.id n
                 ∙ ap (λ (b : Bool). b || set.contains c.ids n) (unsigned_tied n r.id ∙ ap (λ (x : Row). nat_eq n x.id) (sym same))
                 ∙ ap (λ (b : Bool). nat_eq n row.id || b) (stands.ids n)
+                ∙ or_comm (nat_eq n row.id) (has_id (take k walk) n)
                 ∙ sym (has_id-append (take k walk) row n) ∙ ap (λ (l : List Row). has_id l n) (sym more);
           },
         )
@@ -239,8 +221,7 @@ module _ (shelf : Shelf) (rows : List Row) (start : Place) (walk : List Row) (k 
     inside (Err (Missing n)) leaves finds = let h = sym (ap (λ (p : Place). look rows (asked_at p)) leaves.2) ∙ found in cc (h, finds)
     inside (Err (GaveUp n)) leaves finds = (still leaves.1.stays, λ (e : k ≡ length walk). absurd (omega (arith, len, e)))
     inside (Err (Refused n code)) leaves finds = (still leaves.1.stays, λ (e : k ≡ length walk). absurd (omega (arith, len, e)))
-    inside (Err (Stalled n)) leaves finds = absurd finds
-    inside (Err (Malformed n)) leaves finds = absurd finds
+    inside _ leaves finds = absurd finds
 
   -- at the walk's end
   module _ (split : drop k walk ≡ []) (end : WalkEnd) (ends : EndsBy rows start walk end) where
@@ -263,10 +244,7 @@ module _ (shelf : Shelf) (rows : List Row) (start : Place) (walk : List Row) (k 
     may_fail (MissingAt n) facts none open_ = tt
 
     ending : (e : WalkEnd) → EndFacts rows start c.place c.ids e → (result : Result (Option Row) Ended) → StepLeaves c new result → Finds rows c.place result → WalkStep rows start walk e k c new result
-    ending Done facts (Ok (Some r)) leaves finds = absurd (elim facts [ inl p ↦ leaves.1.not_at_end p | inr h ↦ let found = sym (ap (λ (p : Place). look rows (asked_at p)) h.0) ∙ finds in no_row found h.2 ])
-      where
-        no_row : first_row rows ≡ Some r → first_row rows ≡ None → ⊥
-        no_row a b = cc (a, b)
+    ending Done facts (Ok (Some r)) leaves finds = absurd (elim facts [ inl p ↦ leaves.1.not_at_end p | inr h ↦ let found = sym (ap (λ (p : Place). look rows (asked_at p)) h.0) ∙ finds in cc (found, h.2) ])
     ending (CycleAt n) facts (Ok (Some r)) leaves finds = let h = sym facts ∙ leaves.0 in cc h
     ending (MissingAt n) facts (Ok (Some r)) leaves finds = let h = sym (ap (λ (p : Place). look rows (asked_at p)) facts.0) ∙ finds in cc (h, facts.2)
     ending Done facts (Ok None) leaves finds = (
@@ -281,21 +259,14 @@ module _ (shelf : Shelf) (rows : List Row) (start : Place) (walk : List Row) (k 
     ending (CycleAt n) facts (Ok None) leaves finds = let h = sym facts ∙ leaves.0 in cc h
     ending (MissingAt n) facts (Ok None) leaves finds = absurd (subst (λ (p : Place). Finds rows p (Ok None)) facts.0 finds)
     ending Done facts (Err (Cycle n)) leaves finds = absurd (elim facts [ inl p ↦ (let h = sym (ap (λ (q : Place). cycle_at q c.ids) p) ∙ leaves.0 in cc h) | inr f ↦ (let h = sym (ap (λ (q : Place). cycle_at q c.ids) f.0) ∙ leaves.0 in cc h) ])
-    ending (CycleAt m) facts (Err (Cycle n)) leaves finds = (at_end, same_cycle m n (sym facts ∙ leaves.0), still leaves.1)
-      where
-        same_cycle : (m n : ℕ) → Some m ≡ Some n → CycleAt m ≡ CycleAt n
-        same_cycle m n h = let e : m ≡ n = cc h in ap CycleAt e
+    ending (CycleAt m) facts (Err (Cycle n)) leaves finds = let h = sym facts ∙ leaves.0 in let e : m ≡ n = cc h in (at_end, ap CycleAt e, still leaves.1)
     ending (MissingAt m) facts (Err (Cycle n)) leaves finds = let h = sym facts.1 ∙ leaves.0 in cc h
     ending Done facts (Err (Missing n)) leaves finds = absurd (elim facts [ inl p ↦ (let h = sym p ∙ leaves.2 in cc h) | inr f ↦ (let h = sym f.0 ∙ leaves.2 in cc h) ])
     ending (CycleAt m) facts (Err (Missing n)) leaves finds = let h = sym facts ∙ leaves.0 in cc h
-    ending (MissingAt m) facts (Err (Missing n)) leaves finds = (at_end, same_id m n (sym facts.0 ∙ leaves.2), still leaves.1)
-      where
-        same_id : (m n : ℕ) → Id m ≡ Id n → MissingAt m ≡ MissingAt n
-        same_id m n h = let e : m ≡ n = cc h in ap MissingAt e
+    ending (MissingAt m) facts (Err (Missing n)) leaves finds = let h = sym facts.0 ∙ leaves.2 in let e : m ≡ n = cc h in (at_end, ap MissingAt e, still leaves.1)
     ending e facts (Err (GaveUp n)) leaves finds = (still leaves.1.stays, λ _. may_fail e facts leaves.0 leaves.1.not_at_end)
     ending e facts (Err (Refused n code)) leaves finds = (still leaves.1.stays, λ _. may_fail e facts leaves.0 leaves.1.not_at_end)
-    ending e facts (Err (Stalled n)) leaves finds = absurd finds
-    ending e facts (Err (Malformed n)) leaves finds = absurd finds
+    ending e facts _ leaves finds = absurd finds
 
   -- a step on a walk that has an end
   pub walk_law : (end : WalkEnd) → EndsBy rows start walk end → (result : Result (Option Row) Ended) → StepLeaves c new result → Finds rows c.place result → WalkStep rows start walk end k c new result
@@ -315,8 +286,8 @@ module _ (shelf : Shelf) (rows : List Row) (start : Place) (walk : List Row) (k 
       asks_at_end (MissingAt n) known = inr (ap len_of (ap (λ (q : Place). look rows (asked_at q)) known.0 ∙ known.2))
 
       by_rest : (l : List Row) → drop k walk ≡ l → AsksNothing c ⊎ (len_of (look rows (asked_at c.place)) ≡ len_of (first_row (drop k walk)))
-      by_rest [] is = elim (asks_at_end end (facts is end ends)) [ inl asks ↦ inl asks | inr nothing ↦ inr (nothing ∙ sym (ap (λ (l : List Row). len_of (first_row l)) is)) ]
-      by_rest (row ∷ rest) is = inr (ap len_of (found row rest is end) ∙ sym (ap (λ (l : List Row). len_of (first_row l)) is))
+      by_rest [] is = elim (asks_at_end end (facts is end ends)) [ inl asks ↦ inl asks | inr nothing ↦ inr (nothing ∙ sym (rw is refl)) ]
+      by_rest (row ∷ rest) is = inr (ap len_of (found row rest is end) ∙ sym (rw is refl))
 
 -- ---- the law over an honest controller, which keeps its store
 
@@ -326,14 +297,12 @@ finds_of c s s' (Ok None) answers = none c.place answers.1
   where
     none : (p : Place) → NoneAt p c.shelf s' → Finds (rows_of c.shelf s'.store) p (Ok None)
     none First h = h
-    none (Id n) h = h
-    none End h = h
+    none _ h = h
 finds_of c s s' (Err (Cycle n)) answers = tt
 finds_of c s s' (Err (Missing n)) answers = answers.1
 finds_of c s s' (Err (GaveUp n)) answers = tt
 finds_of c s s' (Err (Refused n code)) answers = tt
-finds_of c s s' (Err (Stalled n)) answers = answers
-finds_of c s s' (Err (Malformed n)) answers = answers
+finds_of c s s' _ answers = answers
 
 pub follows_walks : (c new : CursorState) (s s' : Seen) (result : Result (Option Row) Ended) → IsHonest s → StepLeaves c new result → StepIsHonest c new s s' result → FollowsWalks c new s s' result
 follows_walks c new s s' result honest leaves step = record {

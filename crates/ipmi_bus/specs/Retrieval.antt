@@ -53,7 +53,7 @@ pub record HasRead (r : Retrieval) (seen : Seen) (row : Row) : Type 0 where
   pub bytes : take r.have r.buffer ≡ take r.have row.bytes
   pub next : r.next ≡ row.next
 
--- while the reservation is current, the bytes so far are of a row that stands
+-- while the reservation is current, the bytes so far are of a row that is there
 pub record IsReading (r : Retrieval) (seen : Seen) : Type 0 where
   pub piece : 0 < r.have → current r.shelf seen ≡ r.reservation → (row : Row) × HasRead r seen row
 

@@ -221,7 +221,7 @@ impl Cursor {
     }
 
     /// Hands out the next record, lent out of the cursor until the next step. After an `Err` the cursor is
-    /// where it stood and holds no reservation, so that a later step tries again.
+    /// where it was and holds no reservation, so that a later step tries again.
     #[tactic(auto, using(crate::proofs::WalkLemmas::follows_walks, crate::proofs::WalkLemmas::asks_along))]
     pub fn step<C: Controller>(&mut self, ctl: &mut C) -> Result<Option<Record<'_>>, Ended>
         ensures* after { sem 𝓛 (CursorRests self.entry

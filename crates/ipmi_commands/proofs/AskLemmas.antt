@@ -1,5 +1,5 @@
 -- What the reading that is asked for on account of a record leaves.
-use Rattle.std.proofs.Common.{◌≡◌, inl, ℕ, ◌+◌, ◌≤◌, ◌==◌, Bool, true, false, cond, codes, Option, None, Some, Result, Ok, Err, String, Global, List, [], ◌∷◌, refl, sym, ap, subst, ◌∙◌, arith}
+use Rattle.std.proofs.Common.{◌≡◌, inl, ℕ, ◌+◌, ◌≤◌, ◌==◌, Bool, true, false, codes, Option, None, Some, Result, Ok, Err, String, Global, List, [], ◌∷◌, refl, sym, ap, subst, ◌∙◌, arith}
 use Rattle.std.specs.Result.{IsErrAnd}
 use Rattle.ipmi_text.specs.declared.reading.Reading.{Reading}
 use Rattle.ipmi_bus.specs.declared.step.Ended.{Ended}
@@ -45,7 +45,7 @@ out_of_memory spots tries s honest = no_memory spots tries s s (asks_nothing spo
 
 value_grows : {V : Type 0} (value : Store → Option V) (tries : ℕ) (s s' : Seen) (result : Result (Option V) Ended) → ValueIs value tries s s' result → s.troubles ≤ s'.troubles
 value_grows value tries s s' (Ok o) is = is.0.grows
-value_grows value tries s s' (Err (GaveUp n)) is = let troubles = is.troubles in omega (arith, troubles)
+value_grows value tries s s' (Err (GaveUp n)) is = omega (arith, is.troubles)
 value_grows value tries s s' (Err (Refused n code)) is = is.grows
 value_grows value tries s s' (Err _) is = absurd is
 
@@ -132,14 +132,14 @@ module _ (id tries : ℕ) (s s' : Seen) where
   inventory_grows (Ok bytes) counts = counts.0.grows
   inventory_grows (Err fru.Memory) counts = counts.0.grows
   inventory_grows (Err (fru.Refused code)) counts = refused_grows (code.0 == 0xCB) code.0 counts
-  inventory_grows (Err fru.GaveUp) counts = let troubles = counts.troubles in omega (arith, troubles)
+  inventory_grows (Err fru.GaveUp) counts = omega (arith, counts.troubles)
   inventory_grows (Err _) counts = absurd counts
 
   asks_inventory : (result : Result (List ℕ) FruEnded) → ReadsInventory id tries s s' result → AsksAt (AtInventory id ∷ []) tries s s'
   asks_inventory result r = record {
     stays = r.stays;
     grows = inventory_grows result r.counts;
-    calls = λ same. let calls = r.calls same in omega (arith, calls);
+    calls = λ same. omega (arith, r.calls same);
     plain = λ p. (r.plain p).1;
   }
 
@@ -192,7 +192,7 @@ module _ (id tries : ℕ) (s s' : Seen) where
         asks = asks_inventory (Err fru.GaveUp) r;
         outcome = plan.GaveUp (AtInventory id);
         outcome_is = refl;
-        counts = (r.counts.refusals, omega (arith, troubles), (r.counts.some_fresh, λ same. let fresh = (r.is same).fresh_troubles in omega (arith, fresh)));
+        counts = (r.counts.refusals, omega (arith, troubles), (r.counts.some_fresh, λ same. omega (arith, (r.is same).fresh_troubles)));
         there = inl refl;
         plain = λ p. (r.plain p).0;
       }
@@ -221,7 +221,7 @@ pub at_named : (name : List ℕ) (row : Row) (view : SdrView) (tries : ℕ) (s s
     → FindsNone (reading_spots row.id (Ok view)) tries s s' st → FindsNone (named_spots name row.id (sdr.sdr_view_of row.bytes)) tries s s' st
 at_named name row view tries s s' st chosen is none =
     let spots_are : named_spots name row.id (sdr.sdr_view_of row.bytes) ≡ reading_spots row.id (Ok view) =
-    ap (named_spots name row.id) is ∙ ap (λ (b : Bool). cond b (reading_spots row.id (Ok view)) []) chosen in
+    ap (named_spots name row.id) is ∙ rw chosen refl in
     subst (λ (l : List Spot). FindsNone l tries s s' st) (sym spots_are) none
 
 -- ---- a record of a kind
@@ -231,5 +231,5 @@ pub at_listed : (kind : Kind) (row : Row) (view : SdrView) (tries : ℕ) (s s' :
     → FindsNone (reading_spots row.id (Ok view)) tries s s' st → FindsNone (listed_spots kind row) tries s s' st
 at_listed kind row view tries s s' st chosen is none =
     let spots_are : listed_spots kind row ≡ reading_spots row.id (Ok view) =
-    ap (λ (b : Bool). cond b (reading_spots row.id (sdr.sdr_view_of row.bytes)) []) chosen ∙ ap (reading_spots row.id) is in
+    rw chosen (ap (reading_spots row.id) is) in
     subst (λ (l : List Spot). FindsNone l tries s s' st) (sym spots_are) none

@@ -1,8 +1,7 @@
 -- How many calls a listing makes.
-use Rattle.std.proofs.Common.{◌≡◌, inl, inr, ℕ, zero, suc, ◌+◌, ◌*◌, ◌<◌, ◌≤◌, ◌==◌, nat_le, Bool, true, false, cond, Option, None, Some, Result, Ok, Err, List, [], ◌∷◌, ◌++◌, length, take, drop, refl, sym, ap, subst, ◌∙◌, arith}
+use Rattle.std.proofs.Common.{◌≡◌, inl, inr, ℕ, zero, suc, ◌+◌, ◌*◌, ◌<◌, ◌≤◌, ◌==◌, nat_le, true, false, cond, Option, None, Some, Result, Ok, Err, List, [], ◌∷◌, ◌++◌, length, take, drop, refl, sym, ap, subst, ◌∙◌, arith}
 use Rattle.std.specs.FinSet as set
 use Rattle.std.specs.FinSet.{len-insert}
-use Rattle.std.specs.Ordering.{nat_cmp}
 use Rattle.std.specs.Cmp.{nat_cmp_total}
 use Rattle.std.proofs.lemmas.Nat.{mul-le}
 use Rattle.std.proofs.lemmas.List.{take-append-drop}
@@ -21,26 +20,15 @@ use Rattle.ipmi_bus.specs.Store.{Store}
 use Rattle.ipmi_command_line.specs.declared.command.Task.{Task}
 use Rattle.ipmi_commands.specs.Listing.{IsWithin, calls_for, calls_at_spots, IsPlace, HasCalled, ListingCalls}
 use Rattle.ipmi_commands.specs.Plan.{first_rows, spots_after}
-use Rattle.ipmi_commands.proofs.ItemLemmas.{one_taken}
+use Rattle.ipmi_commands.proofs.ItemLemmas.{take-next}
 
 -- ---- digits
 
-reaches_most : (power n : ℕ) → reaches power n ≤ 1
-reaches_most power n = by_case (nat_le power n)
-  where
-    by_case : (b : Bool) → cond b 1 0 ≤ 1
-    by_case true = omega arith
-    by_case false = omega arith
-
--- a part size has at least one digit, and at most eight
+-- a part size has at least one digit
 pub digits_some : (n : ℕ) → 0 < n → 1 ≤ digits n
 digits_some n some =
     let reached : nat_le 1 n ≡ true = search arith in
-    let one : reaches 1 n ≡ 1 = ap (λ (b : Bool). cond b 1 0) reached in omega (arith, one)
-
-pub digits_most : (n : ℕ) → digits n ≤ 8
-digits_most n =
-    omega (arith, reaches_most 1 n, reaches_most 2 n, reaches_most 4 n, reaches_most 8 n, reaches_most 16 n, reaches_most 32 n, reaches_most 64 n, reaches_most 128 n)
+    let one : reaches 1 n ≡ 1 = rw reached refl in omega (arith, one)
 
 -- fewer than are wanted
 abbrev pub IsBelow : Option ℕ → ℕ → Type 0
@@ -52,14 +40,10 @@ IsBelow (Some n) count = count < n
 -- each record that is handed out is one id more
 pub one_id_more : (now next : CursorState) (row : Row) → HandsOut now next row → set.len next.ids ≡ set.len now.ids + 1
 one_id_more now next row hands =
-    ap (λ (s : set.FinSet nat_cmp). set.len s) hands.ids ∙ len-insert nat_cmp_total now.ids row.id ∙ ap (λ (b : Bool). cond b (set.len now.ids) (set.len now.ids + 1)) hands.unseen
+    rw hands.ids (len-insert nat_cmp_total now.ids row.id ∙ rw hands.unseen refl)
 
 is_place : (next : ℕ) → next < 65536 → IsPlace (place_after next)
-is_place next fits = by_case (next == 65535) refl
-  where
-    by_case : (b : Bool) → (next == 65535) ≡ b → IsPlace (cond b End (Id next))
-    by_case true e = tt
-    by_case false e = search arith
+is_place next fits = (elim (next == 65535) as (λ b. (next == 65535) ≡ b → IsPlace (cond b End (Id next))) [ true ↦ λ e. tt | false ↦ λ e. search arith ]) refl
 
 one_bound_more : (rows bound : ℕ) → (rows + 1) * bound ≡ rows * bound + bound
 one_bound_more rows bound = omega arith
@@ -74,7 +58,7 @@ called_stopped each count begun now s s' called =
     let all : count * each ≤ 65536 * each = at_most_all count each called.most in
     let calls = called.calls in
     record {
-      calls = λ some. let one = digits_some now.part (called.some some) in omega (arith, all, calls, one);
+      calls = λ some. omega (arith, all, calls, digits_some now.part (called.some some));
       place = called.place;
     }
 
@@ -92,7 +76,7 @@ place_kept now next (Err (Missing n)) none leaves place = subst IsPlace (sym lea
 place_kept now next (Err _) none leaves place = subst IsPlace (sym leaves.1.stays.place) place
 
 -- a step of a listing over this shelf, with these tries, where each record takes so many calls at most
-module _ (tries behind each count : ℕ) (shelf : Shelf) (begun now next : CursorState) (s s' s'' : Seen) (each_is : each ≡ step_call_bound tries (largest_len shelf) + behind) (same_shelf : now.shelf ≡ shelf) (same_tries : now.tries ≡ tries)
+module _ (tries later each count : ℕ) (shelf : Shelf) (begun now next : CursorState) (s s' s'' : Seen) (each_is : each ≡ step_call_bound tries (largest_len shelf) + later) (same_shelf : now.shelf ≡ shelf) (same_tries : now.tries ≡ tries)
     (called : HasCalled each count begun now s s') where
   -- at the bound of a step of the listing
   at_bound : StepCalls (largest_len now.shelf) now next s' s'' → s''.calls + digits next.part ≤ s'.calls + step_call_bound tries (largest_len shelf) + digits now.part
@@ -101,7 +85,7 @@ module _ (tries behind each count : ℕ) (shelf : Shelf) (begun now next : Curso
       (subst (λ (t : ℕ). s''.calls + digits next.part ≤ s'.calls + step_call_bound t (largest_len now.shelf) + digits now.part) same_tries calls)
 
   -- after a record, and what is asked for on account of it
-  pub called_more : (last : Seen) (row : Row) → IsStep now next s' s'' (Ok (Some row)) → last.calls ≤ s''.calls + behind → HasCalled each (count + 1) begun next s last
+  pub called_more : (last : Seen) (row : Row) → IsStep now next s' s'' (Ok (Some row)) → last.calls ≤ s''.calls + later → HasCalled each (count + 1) begun next s last
   called_more last row step asked =
       let hands = step.leaves.1 in
       let more = one_id_more now next row hands in
@@ -130,18 +114,13 @@ module _ (tries behind each count : ℕ) (shelf : Shelf) (begun now next : Curso
       quiet : 0 < begun.part → AsksNothing now → s''.calls + 1 ≤ s.calls + 65536 * each + digits begun.part
       quiet some asks =
           let all = at_most_all count each called.most in
-          let one = digits_some now.part (called.some some) in
-          let calls = called.calls in
-          let same = ap (λ (x : Seen). x.calls) (step.no_call asks) in omega (arith, all, calls, one, same)
+          omega (arith, all, called.calls, digits_some now.part (called.some some), ap (λ (x : Seen). x.calls) (step.no_call asks))
 
       asked : set.len now.ids < 65536 → s''.calls + 1 ≤ s.calls + 65536 * each + digits begun.part
       asked room =
           let within = called.within in
           let all = at_most_all (count + 1) each (omega (arith, room, within)) in
-          let more = one_bound_more count each in
-          let calls = called.calls in
-          let stepped = at_bound step.calls in
-          let one = digits_some next.part step.same.part_not_zero in omega (arith, all, more, calls, stepped, one, each_is)
+          omega (arith, all, one_bound_more count each, called.calls, at_bound step.calls, digits_some next.part step.same.part_not_zero, each_is)
 
   pub called_done : IsStep now next s' s'' (Ok None) → ListingCalls each begun next s s''
   called_done step = called_ended (Ok None) step tt
@@ -152,24 +131,24 @@ module _ (tries behind each count : ℕ) (shelf : Shelf) (begun now next : Curso
 -- ---- along a walk
 
 -- the first rows are the walk's as far as they are wanted
-pub rows_wanted : (most : Option ℕ) (k : ℕ) (walk : List Row) → IsWithin most k → take k (first_rows most walk) ≡ take k walk
-rows_wanted None k walk within = refl
-rows_wanted (Some n) k walk within = fewer n k walk within
+pub take-first_rows : (most : Option ℕ) (k : ℕ) (walk : List Row) → IsWithin most k → take k (first_rows most walk) ≡ take k walk
+take-first_rows None k walk within = refl
+take-first_rows (Some n) k walk within = fewer n k walk within
   where
     fewer : (n k : ℕ) (walk : List Row) → k ≤ n → take k (take n walk) ≡ take k walk
     fewer n zero [] le = refl
     fewer n zero (first ∷ walk) le = refl
     fewer n (suc k) [] le = ap (take (suc k)) (take-nil n)
     fewer zero (suc k) (first ∷ walk) le = absurd (omega (arith, le))
-    fewer (suc n) (suc k) (first ∷ walk) le = ap (λ (l : List Row). first ∷ l) (fewer n k walk (omega (arith, le)))
+    fewer (suc n) (suc k) (first ∷ walk) le = rw (fewer n k walk (omega (arith, le))) refl
 
 -- and so is the next one
-pub next_wanted : (most : Option ℕ) (k : ℕ) (walk : List Row) → IsBelow most k → first_row (drop k (first_rows most walk)) ≡ first_row (drop k walk)
-next_wanted None k walk below = refl
-next_wanted (Some n) k walk below = fewer n k walk below
+pub next-first_rows : (most : Option ℕ) (k : ℕ) (walk : List Row) → IsBelow most k → first_row (drop k (first_rows most walk)) ≡ first_row (drop k walk)
+next-first_rows None k walk below = refl
+next-first_rows (Some n) k walk below = fewer n k walk below
   where
     fewer : (n k : ℕ) (walk : List Row) → k < n → first_row (drop k (take n walk)) ≡ first_row (drop k walk)
-    fewer n k [] below = ap (λ (l : List Row). first_row (drop k l)) (take-nil n)
+    fewer n k [] below = rw (take-nil n) refl
     fewer zero k (first ∷ walk) below = absurd (omega (arith, below))
     fewer (suc n) zero (first ∷ walk) below = refl
     fewer (suc n) (suc k) (first ∷ walk) below = fewer n k walk (omega (arith, below))
@@ -182,36 +161,36 @@ pub below_within : (most : Option ℕ) (k : ℕ) → IsBelow most k → IsWithin
 below_within None k below = tt
 below_within (Some n) k below = omega (arith, below)
 
-calls_joined : (t : Task) (store : Store) (tries : ℕ) (done rest : List Row) → calls_for t store tries (done ++ rest) ≡ calls_for t store tries done + calls_for t store tries rest
-calls_joined t store tries [] rest = omega arith
-calls_joined t store tries (d ∷ done) rest = let more = calls_joined t store tries done rest in omega (arith, more)
+module _ (t : Task) (store : Store) (tries : ℕ) where
+  calls_for-append : (done rest : List Row) → calls_for t store tries (done ++ rest) ≡ calls_for t store tries done + calls_for t store tries rest
+  calls_for-append [] rest = omega arith
+  calls_for-append (d ∷ done) rest = omega (arith, calls_for-append done rest)
 
--- those for the first rows, and for the rows after them
-pub calls_split : (t : Task) (store : Store) (tries size : ℕ) (walk : List Row) → calls_for t store tries (take size walk) + calls_for t store tries (drop size walk) ≡ calls_for t store tries walk
-calls_split t store tries size walk = sym (calls_joined t store tries (take size walk) (drop size walk)) ∙ ap (calls_for t store tries) (take-append-drop size walk)
+  -- those for the first rows, and for the rows after them
+  pub calls_split : (size : ℕ) (walk : List Row) → calls_for t store tries (take size walk) + calls_for t store tries (drop size walk) ≡ calls_for t store tries walk
+  calls_split size walk = sym (calls_for-append (take size walk) (drop size walk)) ∙ ap (calls_for t store tries) (take-append-drop size walk)
 
--- a step for the next row, or one that finds none
-next_calls : (t : Task) (store : Store) (tries : ℕ) (rows : List Row) → step_call_bound tries (len_of (first_row rows)) ≤ calls_for t store tries rows + step_call_bound tries 0
-next_calls t store tries [] = omega arith
-next_calls t store tries (row ∷ rows) = omega arith
+  -- a step for the next row, or one that finds none
+  next_calls : (rows : List Row) → step_call_bound tries (len_of (first_row rows)) ≤ calls_for t store tries rows + step_call_bound tries 0
+  next_calls [] = omega arith
+  next_calls (row ∷ rows) = omega arith
 
--- the calls for the first rows, and of such a step
-pub calls_upto : (t : Task) (store : Store) (tries : ℕ) (most : Option ℕ) (k : ℕ) (walk : List Row) → IsBelow most k
-    → calls_for t store tries (take k walk) + step_call_bound tries (len_of (first_row (drop k walk))) ≤ calls_for t store tries (first_rows most walk) + step_call_bound tries 0
-calls_upto t store tries most k walk below =
-    let split = calls_split t store tries k (first_rows most walk) in
-    let done = ap (calls_for t store tries) (rows_wanted most k walk (below_within most k below)) in
-    let next = next_calls t store tries (drop k (first_rows most walk)) in
-    let same = ap (λ (o : Option Row). step_call_bound tries (len_of o)) (next_wanted most k walk below) in omega (arith, split, done, next, same)
+  -- the calls for the first rows, and of such a step
+  pub calls_upto : (most : Option ℕ) (k : ℕ) (walk : List Row) → IsBelow most k
+      → calls_for t store tries (take k walk) + step_call_bound tries (len_of (first_row (drop k walk))) ≤ calls_for t store tries (first_rows most walk) + step_call_bound tries 0
+  calls_upto most k walk below =
+      let split = calls_split k (first_rows most walk) in
+      let done = ap (calls_for t store tries) (take-first_rows most k walk (below_within most k below)) in
+      let next = next_calls (drop k (first_rows most walk)) in
+      omega (arith, split, done, next, ap (λ (o : Option Row). step_call_bound tries (len_of o)) (next-first_rows most k walk below))
 
--- with one row more
-pub calls_more : (t : Task) (store : Store) (tries : ℕ) (walk : List Row) (k : ℕ) (row : Row) → first_row (drop k walk) ≡ Some row → calls_for t store tries (take (k + 1) walk) ≡ calls_for t store tries (take k walk) + (step_call_bound tries (length row.bytes) + calls_at_spots tries store (spots_after t row))
-calls_more t store tries walk k row next =
-    let joined = calls_joined t store tries (take k walk) (row ∷ []) in
-    let same = ap (calls_for t store tries) (one_taken walk k row next) in omega (arith, joined, same)
+  -- with one row more
+  pub calls_more : (walk : List Row) (k : ℕ) (row : Row) → first_row (drop k walk) ≡ Some row → calls_for t store tries (take (k + 1) walk) ≡ calls_for t store tries (take k walk) + (step_call_bound tries (length row.bytes) + calls_at_spots tries store (spots_after t row))
+  calls_more walk k row next =
+      omega (arith, calls_for-append (take k walk) (row ∷ []), ap (calls_for t store tries) (take-next walk k row next))
 
--- those of one row more, where it is wanted
-pub calls_within : (t : Task) (store : Store) (tries : ℕ) (most : Option ℕ) (k : ℕ) (walk : List Row) → IsBelow most k → calls_for t store tries (take (k + 1) walk) ≤ calls_for t store tries (first_rows most walk)
-calls_within t store tries most k walk below =
-    let split = calls_split t store tries (k + 1) (first_rows most walk) in
-    let same = ap (calls_for t store tries) (rows_wanted most (k + 1) walk (one_within most k below)) in omega (arith, split, same)
+  -- those of one row more, where it is wanted
+  pub calls_within : (most : Option ℕ) (k : ℕ) (walk : List Row) → IsBelow most k → calls_for t store tries (take (k + 1) walk) ≤ calls_for t store tries (first_rows most walk)
+  calls_within most k walk below =
+      let split = calls_split (k + 1) (first_rows most walk) in
+      omega (arith, split, ap (calls_for t store tries) (take-first_rows most (k + 1) walk (one_within most k below)))

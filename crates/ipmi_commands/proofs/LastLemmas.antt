@@ -8,7 +8,7 @@ use Rattle.ipmi_bus.specs.Shelf.{Row}
 use Rattle.ipmi_bus.specs.Standing.{StandsAt}
 use Rattle.ipmi_bus.specs.Step.{asked_at}
 use Rattle.ipmi_bus.specs.Store.{Store, rows_of}
-use Rattle.ipmi_bus.specs.Walk.{IsWalk, EndsBy, WalkEnd, Done, CycleAt, MissingAt, place_after, place_after_rows}
+use Rattle.ipmi_bus.specs.Walk.{IsWalk, EndsBy, WalkEnd, Done, place_after, place_after_rows}
 use Rattle.ipmi_command_line.specs.declared.command.Count.TheVariants as count
 use Rattle.ipmi_command_line.specs.declared.command.Task.{Task}
 use Rattle.ipmi_command_line.specs.declared.command.Task.TheVariants as task
@@ -23,7 +23,7 @@ use Rattle.ipmi_commands.specs.Plan.{Request, request, Change, change, OnWalk, P
 use Rattle.ipmi_commands.specs.Plan as plan
 use Rattle.ipmi_commands.specs.Run.{Performs}
 use Rattle.ipmi_commands.specs.Pages.{IsStopped}
-use Rattle.ipmi_commands.proofs.CallLemmas.{digits_most}
+use Rattle.ipmi_bus.proofs.InventoryLemmas.{digits_most}
 use Rattle.ipmi_commands.proofs.ItemLemmas.{none_printed}
 use Rattle.ipmi_commands.proofs.ListingLemmas.{counts_since, stopped_otherwise}
 use Rattle.ipmi_commands.proofs.PerformLemmas.{same_printed, stops_first}
@@ -141,7 +141,7 @@ module _ (t : Task) (store : Store) (spots at_end : List Spot) (e : RunEnd) (sho
       let same : p ≡ d = cc is in
       let tail : passed ++ shown ≡ done ++ rest = cc is in
       let none = no_text t store d are.first (subst (λ (x : Item). x.subject ≡ Passed) same all.0) are.is_first in
-      let text_is : text ≡ are.rest = are.joined ∙ ap (λ (l : List ℕ). l ++ are.rest) none in
+      let text_is : text ≡ are.rest = are.joined ∙ rw none refl in
       subst (FirstOf rest) (sym text_is) (first_of passed all.2 done rest are.rest tail are.is_rest)
 
   -- the texts of all are those of the shown ones
@@ -149,7 +149,7 @@ module _ (t : Task) (store : Store) (spots at_end : List Spot) (e : RunEnd) (sho
   all_of [] all text are = are
   all_of (p ∷ passed) all text are =
       let none = no_text t store p are.first all.0 are.is_first in
-      subst (AreTexts t store shown) (sym (are.joined ∙ ap (λ (l : List ℕ). l ++ are.rest) none)) (all_of passed all.2 are.rest are.is_rest)
+      subst (AreTexts t store shown) (sym (are.joined ∙ rw none refl)) (all_of passed all.2 are.rest are.is_rest)
 
   -- what may be left by the one may be left by the other
   stops_widened : (passed : List Item) → AllPassed (IsAmong spots) passed → (old new : List ℕ) (spot : Spot) → StopsAt spot t store (passed_first passed) old new → StopsAt spot t store widened old new
@@ -168,7 +168,7 @@ module _ (t : Task) (store : Store) (spots at_end : List Spot) (e : RunEnd) (sho
       let some = allowed.some in
       let first = first_of passed all allowed.done (allowed.item ∷ allowed.rest) allowed.printed.text allowed.items_are allowed.printed.are in
       let next = first.next allowed.item allowed.rest refl
-      (λ passed. let none = ap (λ (l : List ℕ). length l) (no_text t store allowed.item allowed.text passed allowed.is_text) in omega (arith, some, none)) in
+      (λ passed. omega (arith, some, ap (λ (l : List ℕ). length l) (no_text t store allowed.item allowed.text passed allowed.is_text))) in
       record {
         done = first.done';
         item = next.0;
@@ -200,11 +200,11 @@ module _ (n : ℕ) (store : Store) where
     passed_within (IsAmong (spots_along (place_after row.next) rows ++ ends)) (IsAmong (spots_along start (row ∷ rows) ++ ends)) (span_items None t (place_after row.next) (take k rows)) (λ spot among. inr among) (first_passed k (place_after row.next) rows ends),
   )
 
-  span_cut : (k : ℕ) (start : Place) (rows : List Row) → span_items (Some k) t start rows ≡ span_items None t start (take k rows) ++ row_items t (place_after_rows start (take k rows)) (drop k rows)
-  span_cut zero start [] = refl
-  span_cut zero start (row ∷ rows) = refl
-  span_cut (suc k) start [] = refl
-  span_cut (suc k) start (row ∷ rows) = ap (λ (l : List Item). item_in None t start row ∷ l) (span_cut k (place_after row.next) rows)
+  span_items-split : (k : ℕ) (start : Place) (rows : List Row) → span_items (Some k) t start rows ≡ span_items None t start (take k rows) ++ row_items t (place_after_rows start (take k rows)) (drop k rows)
+  span_items-split zero start [] = refl
+  span_items-split zero start (row ∷ rows) = refl
+  span_items-split (suc k) start [] = refl
+  span_items-split (suc k) start (row ∷ rows) = rw (span_items-split k (place_after row.next) rows) refl
 
   -- and so is the id of the first of the last ones, or of the end
   shown_there : (k : ℕ) (start : Place) (rows : List Row) (ends : List Spot) (spot : Spot) → IsAmong (spots_at (row_items t (place_after_rows start (take k rows)) (drop k rows)) ends) spot → IsAmong (spots_along start rows ++ ends) spot
@@ -225,7 +225,7 @@ module _ (n : ℕ) (store : Store) where
       let k = length walk - n in
       let ends = end_spots start walk Done in
       leaves_widened t store (spots_of_walk start walk Done) ends (WalkEnds Done) (last_items n t start walk Done) (λ spot among. shown_there k start walk ends spot among) (span_items None t start (take k walk)) (first_passed k start walk ends) old new outcome
-      (subst (λ (l : List Item). IsAllowed t store (record { items = l; end = WalkEnds Done; end_spots = ends }) old new outcome) (span_cut k start walk) allowed)
+      (subst (λ (l : List Item). IsAllowed t store (record { items = l; end = WalkEnds Done; end_spots = ends }) old new outcome) (span_items-split k start walk) allowed)
 
   -- the first walk prints nothing, and stops at an id of the walk
   quiet : (start : Place) (rows : List Row) (ends : List Spot) (done rest : List Item) (text : List ℕ) → span_items None t start rows ≡ done ++ rest → AreTexts t store done text
@@ -246,7 +246,7 @@ module _ (n : ℕ) (store : Store) where
       (are.joined ∙ ap (λ (l : List ℕ). l ++ are.rest) none ∙ later.0, λ spot among. inr (later.1 spot among))
 
   unchanged : (old new text : List ℕ) → new ≡ old ++ text → text ≡ [] → new ≡ old
-  unchanged old new text is none = is ∙ ap (λ (l : List ℕ). old ++ l) none ∙ append-nil old
+  unchanged old new text is none = is ∙ rw none (append-nil old)
 
   -- none of its items has a text
   no_cut : (from : Place) (rows : List Row) (done : List Item) (item : Item) (rest : List Item) (text : List ℕ) → span_items None t from rows ≡ done ++ (item ∷ rest) → IsItemText t store item.subject text → 0 < length text → ⊥
@@ -254,7 +254,7 @@ module _ (n : ℕ) (store : Store) where
   no_cut from [] (d ∷ done) item rest text is is_text some = cc is
   no_cut from (row ∷ rows) [] item rest text is is_text some =
       let same : item_in None t from row ≡ item = cc is in
-      let none = ap (λ (l : List ℕ). length l) (no_text t store item text (sym (ap (λ (x : Item). x.subject) same)) is_text) in omega (arith, some, none)
+      omega (arith, some, ap (λ (l : List ℕ). length l) (no_text t store item text (sym (ap (λ (x : Item). x.subject) same)) is_text))
   no_cut from (row ∷ rows) (d ∷ done) item rest text is is_text some =
       let tail : span_items None t (place_after row.next) rows ≡ done ++ (item ∷ rest) = cc is in
       no_cut (place_after row.next) rows done item rest text tail is_text some
@@ -271,8 +271,7 @@ module _ (n : ℕ) (store : Store) where
 
       by_end : (e : RunEnd) (end' : WalkEnd) → (plan.Finished e ≡ plan.Finished (WalkEnds Done) → ⊥) → new ≡ old → e ≡ run_end t [] end' → IsAllowed t store (last_plan n t start walk end') old new (plan.Finished e)
       by_end e Done never same is = absurd (never (ap plan.Finished is))
-      by_end e (CycleAt m) never same is = (same_printed t store old new same, is)
-      by_end e (MissingAt m) never same is = (same_printed t store old new same, is)
+      by_end e _ never same is = (same_printed t store old new same, is)
 
       none_of_all : (done rest : List Item) → span_items None t start walk ≡ done ++ rest → Printed t store done old new → new ≡ old
       none_of_all done rest is printed = unchanged old new printed.text printed.new_is (quiet start walk (end_spots start walk end) done rest printed.text is printed.are).0
@@ -295,8 +294,7 @@ module _ (n : ℕ) (store : Store) where
     where
       by_end : (e : WalkEnd) → WalkEnds Done ≡ run_end t [] e → e ≡ Done
       by_end Done is = refl
-      by_end (CycleAt m) is = cc is
-      by_end (MissingAt m) is = cc is
+      by_end _ is = cc is
 
   -- of no entry none is the last
   empty_leaves : (start : Place) (walk : List Row) (old new : List ℕ) → length walk ≡ 0 → new ≡ old → IsAllowed t store (last_plan n t start walk Done) old new (plan.Finished (WalkEnds Done))
@@ -327,7 +325,7 @@ module _ (n : ℕ) (start : Place) (tries : ℕ) where
     counts = lists.counts;
     plain = lists.plain;
     allowed = λ same walk end w ends. first_leaves n c.seen.store start walk end c.old c.new lists.outcome (stopped_otherwise counted.stop lists.outcome stopped lists.outcome_is) (lists.along same walk end w ends).leaves;
-    calls = λ same walk end w ends. let calls = (lists.along same walk end w ends).calls in omega (arith, calls);
+    calls = λ same walk end w ends. omega (arith, (lists.along same walk end w ends).calls);
   }
 
   module _ (s s' : Seen) (old mid : List ℕ) (counted : Listed) (lists : ListsSpan of_last all_counted (change s s' old mid) counted) (done : counted.stop ≡ stop.Done) where
@@ -349,7 +347,7 @@ module _ (n : ℕ) (start : Place) (tries : ℕ) where
           subst (λ (o : Outcome). IsAllowed (task.SelList (count.Last n)) s.store (last_plan n (task.SelList (count.Last n)) start walk end) old mid o) (sym finished)
           (subst (λ (e : WalkEnd). IsAllowed (task.SelList (count.Last n)) s.store (last_plan n (task.SelList (count.Last n)) start walk e) old mid (plan.Finished (WalkEnds Done))) (sym at.0)
           (empty_leaves n s.store start walk old mid long at.1));
-      calls = λ same walk end w ends. let calls = (lists.along same walk end w ends).calls in omega (arith, calls);
+      calls = λ same walk end w ends. omega (arith, (lists.along same walk end w ends).calls);
     }
 
     -- along the walk: it is done, so many entries were counted, and nothing was printed

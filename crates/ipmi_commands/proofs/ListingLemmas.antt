@@ -1,5 +1,5 @@
 -- A listing, one step of its cursor after another, and the piece of each record.
-use Rattle.std.proofs.Common.{◌≡◌, ◌≢◌, ◌⊎◌, inl, inr, ℕ, zero, suc, ◌+◌, ◌-◌, ◌<◌, ◌≤◌, nat_le, Bool, true, false, cond, IsTrue, Option, None, Some, IsSome, Result, Ok, Err, List, [], ◌∷◌, ◌++◌, length, take, drop, refl, sym, ap, subst, ◌∙◌, arith}
+use Rattle.std.proofs.Common.{◌≡◌, ◌≢◌, ◌⊎◌, inl, inr, ℕ, zero, suc, ◌+◌, ◌-◌, ◌<◌, ◌≤◌, nat_le, Bool, true, false, IsTrue, Option, None, Some, IsSome, Result, Ok, Err, List, [], ◌∷◌, ◌++◌, length, take, drop, refl, sym, ap, subst, ◌∙◌, arith}
 use Rattle.std.specs.FinSet as set
 use Rattle.std.proofs.lemmas.List.{take_all, length-drop, length-take, length-take-le, take-append-drop}
 use Rattle.ipmi_bus.specs.Bounds.{step_call_bound, digits}
@@ -28,8 +28,8 @@ use Rattle.ipmi_commands.specs.Listing.{IsWithin, is_reached, passing, shown_row
 use Rattle.ipmi_commands.specs.Plan.{first_rows, first_end, Plan, Item, IsItemText, Spot, AtRecord, RunEnd, WalkEnds, run_end, done_end, Printed, Outcome, IsAllowed, CountsSo, HasFreshTroubles, IsFine, IsAmong, StopsAt, spots_at, spots_after, request}
 use Rattle.ipmi_command_line.specs.Task.{shelf_of}
 use Rattle.ipmi_commands.specs.Plan as plan
-use Rattle.ipmi_commands.proofs.CallLemmas.{IsBelow, digits_some, one_id_more, calls_upto, calls_within, calls_more, rows_wanted, next_wanted, one_within, below_within}
-use Rattle.ipmi_commands.proofs.ItemLemmas.{span_joined, span_next, span_none, printed_more, end_spot}
+use Rattle.ipmi_commands.proofs.CallLemmas.{IsBelow, digits_some, one_id_more, calls_upto, calls_within, calls_more, take-first_rows, next-first_rows, one_within, below_within}
+use Rattle.ipmi_commands.proofs.ItemLemmas.{span_items-append, span_items-cons, span_items-nil, printed_more, end_spot}
 use Rattle.ipmi_commands.proofs.NameLemmas.{Wrote, done_by, done_is, end_is}
 
 -- ---- limits
@@ -48,21 +48,17 @@ pub within_more : (most : Option ℕ) (count : ℕ) → IsWithin most count → 
 within_more most count within more = one_within most count (one_wanted most count within more)
 
 -- all rows are wanted where more are wanted than there are
-all_rows : (most : Option ℕ) (walk : List Row) → IsBelow most (length walk) → first_rows most walk ≡ walk
-all_rows None walk below = refl
-all_rows (Some n) walk below = take_all n walk (omega (arith, below))
+first_rows-all : (most : Option ℕ) (walk : List Row) → IsBelow most (length walk) → first_rows most walk ≡ walk
+first_rows-all None walk below = refl
+first_rows-all (Some n) walk below = take_all n walk (omega (arith, below))
 
-all_end : (most : Option ℕ) (walk : List Row) (end : WalkEnd) → IsBelow most (length walk) → first_end most walk end ≡ end
-all_end None walk end below = refl
-all_end (Some n) walk end below = by_case (nat_le n (length walk)) refl
-  where
-    by_case : (b : Bool) → nat_le n (length walk) ≡ b → cond (nat_le n (length walk)) Done end ≡ end
-    by_case true e = absurd (let le : n ≤ length walk = search arith in omega (arith, le, below))
-    by_case false e = ap (λ (b : Bool). cond b Done end) e
+first_end-all : (most : Option ℕ) (walk : List Row) (end : WalkEnd) → IsBelow most (length walk) → first_end most walk end ≡ end
+first_end-all None walk end below = refl
+first_end-all (Some n) walk end below = let e : nat_le n (length walk) ≡ false = search arith in rw e refl
 
 -- and the end is none where no more are wanted
-pub limit_end : (count : ℕ) (walk : List Row) (end : WalkEnd) → count ≤ length walk → first_end (Some count) walk end ≡ Done
-limit_end count walk end within = let e : nat_le count (length walk) ≡ true = search arith in ap (λ (b : Bool). cond b Done end) e
+pub first_end-none : (count : ℕ) (walk : List Row) (end : WalkEnd) → count ≤ length walk → first_end (Some count) walk end ≡ Done
+first_end-none count walk end within = let e : nat_le count (length walk) ≡ true = search arith in rw e refl
 
 -- ---- how it stopped
 
@@ -92,9 +88,8 @@ module _ (tries : ℕ) (s s' s'' : Seen) (later : s''.stores_added ≡ s.stores_
       let grows = before.troubles in
       let more = counts.1 in
       (counts.0 ∙ before.refusals, omega (arith, grows, more), fresh_since spot counts.2)
-  counts_since (plan.Refused spot code) before counts = (counts.0 ∙ ap (λ (x : ℕ). x + 1) before.refusals, counts.1)
-  counts_since plan.OutOfMemory before counts = counts ∙ before.refusals
-  counts_since plan.WriteFault before counts = counts ∙ before.refusals
+  counts_since (plan.Refused spot code) before counts = (counts.0 ∙ rw before.refusals refl, counts.1)
+  counts_since _ before counts = counts ∙ before.refusals
 
 -- a step that handed out a record asked for it
 asks_something : (now next : CursorState) (row : Row) → StepLeaves now next (Ok (Some row)) → AsksNothing now → ⊥
@@ -114,17 +109,15 @@ kept_current Sel s s' keeps = keeps.sel
 none_left : (most : Option ℕ) (k : ℕ) (walk : List Row) → IsBelow most k → drop k (first_rows most walk) ≡ [] → length walk ≤ k
 none_left None k walk below none = let len = length-drop k walk in let zero_ = ap (λ (l : List Row). length l) none in omega (arith, len, zero_)
 none_left (Some n) k walk below none =
-    let len = length-drop k (take n walk) in
-    let first = length-take n walk in
-    let zero_ = ap (λ (l : List Row). length l) none in omega (arith, below, len, first, zero_)
+    omega (arith, below, length-drop k (take n walk), length-take n walk, ap (λ (l : List Row). length l) none)
 
 -- the items of the first ones, and of what is wanted after them
-items_split : (n : Option ℕ) (t : Task) (start : Place) (most : Option ℕ) (k : ℕ) (walk : List Row) → IsBelow most k → k ≤ length walk
+span_items-wanted : (n : Option ℕ) (t : Task) (start : Place) (most : Option ℕ) (k : ℕ) (walk : List Row) → IsBelow most k → k ≤ length walk
     → span_items n t start (first_rows most walk) ≡ span_items n t start (take k walk) ++ span_items (passing n k) t (place_after_rows start (take k walk)) (drop k (first_rows most walk))
-items_split n t start most k walk below within =
+span_items-wanted n t start most k walk below within =
     ap (span_items n t start) (sym (take-append-drop k (first_rows most walk)))
-    ∙ span_joined n t start (take k (first_rows most walk)) (drop k (first_rows most walk))
-    ∙ ap (λ (l : List Row). span_items n t start l ++ span_items (passing n (length l)) t (place_after_rows start l) (drop k (first_rows most walk))) (rows_wanted most k walk (below_within most k below))
+    ∙ span_items-append n t start (take k (first_rows most walk)) (drop k (first_rows most walk))
+    ∙ ap (λ (l : List Row). span_items n t start l ++ span_items (passing n (length l)) t (place_after_rows start l) (drop k (first_rows most walk))) (take-first_rows most k walk (below_within most k below))
     ∙ ap (λ (m : ℕ). span_items n t start (take k walk) ++ span_items (passing n m) t (place_after_rows start (take k walk)) (drop k (first_rows most walk))) (length-take-le k walk within)
 
 next_split : (n : Option ℕ) (t : Task) (start : Place) (most : Option ℕ) (k : ℕ) (walk : List Row) (row : Row) → IsBelow most k → k ≤ length walk → first_row (drop k walk) ≡ Some row
@@ -135,15 +128,12 @@ next_split n t start most k walk row below within next = by_rest (drop k (first_
     place = place_after_rows start (take k walk)
 
     by_rest : (l : List Row) → drop k (first_rows most walk) ≡ l → (rest : List Item) × (span_items n t start (first_rows most walk) ≡ span_items n t start (take k walk) ++ (item_in (passing n k) t (place_after_rows start (take k walk)) row ∷ rest))
-    by_rest [] is = let h = sym (next_wanted most k walk below ∙ next) ∙ ap first_row is in cc h
+    by_rest [] is = let h = sym (next-first_rows most k walk below ∙ next) ∙ ap first_row is in cc h
     by_rest (first ∷ l) is =
-        let h = sym (ap first_row is) ∙ next_wanted most k walk below ∙ next in
+        let h = sym (ap first_row is) ∙ next-first_rows most k walk below ∙ next in
         let same : first ≡ row = cc h in (
           span_items (passing (passing n k) 1) t (place_after first.next) l,
-          items_split n t start most k walk below within
-              ∙ ap (λ (rows : List Row). span_items n t start (take k walk) ++ span_items (passing n k) t place rows) is
-              ∙ ap (λ (items : List Item). span_items n t start (take k walk) ++ items) (span_next (passing n k) t place first l)
-              ∙ ap (λ (r : Row). span_items n t start (take k walk) ++ (item_in (passing n k) t place r ∷ span_items (passing (passing n k) 1) t (place_after first.next) l)) same,
+          span_items-wanted n t start most k walk below within ∙ rw (is, span_items-cons (passing n k) t place first l, same) refl,
         )
 
 -- ---- what is left at a place of the walk
@@ -152,9 +142,9 @@ module _ (t : Task) (store : Store) (start : Place) (walk : List Row) (end : Wal
   finished : (e : WalkEnd) (run : RunEnd) → k ≡ length walk → end ≡ e → run ≡ run_end t (shown_rows span.skip (take k walk)) e → IsAllowed t store (span_plan span t start walk end) old new (plan.Finished run)
   finished e run at is ends =
       let all_below = subst (IsBelow span.most) at below in
-      let rows : take k walk ≡ first_rows span.most walk = take_all k walk (omega (arith, at)) ∙ sym (all_rows span.most walk all_below) in (
+      let rows : take k walk ≡ first_rows span.most walk = take_all k walk (omega (arith, at)) ∙ sym (first_rows-all span.most walk all_below) in (
         subst (λ (l : List Row). Printed t store (span_items span.skip t start l) old new) rows printed,
-        ends ∙ ap (λ (l : List Row). run_end t (shown_rows span.skip l) e) rows ∙ ap (run_end t (shown_rows span.skip (first_rows span.most walk))) (sym (all_end span.most walk end all_below ∙ is)),
+        ends ∙ rw rows (ap (run_end t (shown_rows span.skip (first_rows span.most walk))) (sym (first_end-all span.most walk end all_below ∙ is))),
       )
 
   -- the id that is asked for next is a spot of what comes next
@@ -167,13 +157,13 @@ module _ (t : Task) (store : Store) (start : Place) (walk : List Row) (end : Wal
 
       by_rest : (l : List Row) → drop k (first_rows span.most walk) ≡ l
           → IsAmong (spots_at (span_items (passing span.skip k) t place l) (plan.end_spots start walk (first_end span.most walk end))) (AtRecord (asked_at place))
-      by_rest (row ∷ l) is = subst (λ (items : List Item). IsAmong (spots_at items (plan.end_spots start walk (first_end span.most walk end))) (AtRecord (asked_at place))) (sym (span_next (passing span.skip k) t place row l)) (inl refl)
+      by_rest (row ∷ l) is = subst (λ (items : List Item). IsAmong (spots_at items (plan.end_spots start walk (first_end span.most walk end))) (AtRecord (asked_at place))) (sym (span_items-cons (passing span.skip k) t place row l)) (inl refl)
       by_rest [] is =
           let past = none_left span.most k walk below is in
           let at : k ≡ length walk = omega (arith, past, within) in
           let whole = take_all k walk past in
-          subst (λ (items : List Item). IsAmong (spots_at items (plan.end_spots start walk (first_end span.most walk end))) (AtRecord (asked_at place))) (sym (span_none (passing span.skip k) t place))
-          (subst (λ (e : WalkEnd). IsAmong (plan.end_spots start walk e) (AtRecord (asked_at place))) (sym (all_end span.most walk end (subst (IsBelow span.most) at below)))
+          subst (λ (items : List Item). IsAmong (spots_at items (plan.end_spots start walk (first_end span.most walk end))) (AtRecord (asked_at place))) (sym (span_items-nil (passing span.skip k) t place))
+          (subst (λ (e : WalkEnd). IsAmong (plan.end_spots start walk e) (AtRecord (asked_at place))) (sym (first_end-all span.most walk end (subst (IsBelow span.most) at below)))
           (subst (λ (rows : List Row). IsAmong (plan.end_spots start walk end) (AtRecord (asked_at (place_after_rows start rows)))) (sym whole)
           (end_spot (rows_of (shelf_of t) store) start walk end ends (subst (λ (rows : List Row). MayFail end (place_after_rows start rows)) whole (may at)))))
 
@@ -182,7 +172,7 @@ module _ (t : Task) (store : Store) (start : Place) (walk : List Row) (end : Wal
   stops_there n asked ends may = record {
     done = span_items span.skip t start (take k walk);
     rest = span_items (passing span.skip k) t (place_after_rows start (take k walk)) (drop k (first_rows span.most walk));
-    items_are = items_split span.skip t start span.most k walk below within;
+    items_are = span_items-wanted span.skip t start span.most k walk below within;
     printed = printed;
     there = subst (λ (m : ℕ). IsAmong (spots_at (span_items (passing span.skip k) t (place_after_rows start (take k walk)) (drop k (first_rows span.most walk))) (plan.end_spots start walk (first_end span.most walk end))) (AtRecord m)) (sym asked) (asked_spot ends may);
   }
@@ -222,7 +212,7 @@ module _ (t : Task) (tries : ℕ) (span : Span) (count : ℕ) (begun now : Curso
         let reached = at_limit span.most count full in
         let first : first_rows span.most walk ≡ take count walk = ap (λ (o : Option ℕ). first_rows o walk) reached in
         let long : length (first_rows span.most walk) ≡ count = ap (λ (l : List Row). length l) first ∙ length-take-le count walk listed.stands.within in
-        let done : first_end span.most walk end ≡ Done = ap (λ (o : Option ℕ). first_end o walk end) reached ∙ limit_end count walk end listed.stands.within in
+        let done : first_end span.most walk end ≡ Done = ap (λ (o : Option ℕ). first_end o walk end) reached ∙ first_end-none count walk end listed.stands.within in
         let calls = listed.calls in
         record {
           leaves = (
@@ -232,8 +222,7 @@ module _ (t : Task) (tries : ℕ) (span : Span) (count : ℕ) (begun now : Curso
                 ∙ ap (run_end t (shown_rows span.skip (first_rows span.most walk))) (sym done),
           );
           calls = λ part.
-              let one = digits_some now.part (some part) in
-              let same_calls = ap (calls_for t s.store tries) first in omega (arith, calls, one, same_calls);
+              omega (arith, calls, digits_some now.part (some part), ap (calls_for t s.store tries) first);
           goes_on = λ done. subst (λ (n : ℕ). StandsAt (rows_of (shelf_of t) s.store) start walk n now) (sym long) listed.stands;
           count = λ done. sym long;
         };
@@ -254,7 +243,7 @@ module _ (t : Task) (tries : ℕ) (span : Span) (count : ℕ) (begun now : Curso
     second same = omega (arith, lists.stays.store.grows, stepped.store.grows)
 
     same_rows : s''.stores_added ≡ s.stores_added → rows_of now.shelf s'.store ≡ rows_of (shelf_of t) s.store
-    same_rows same = ap (λ (x : Shelf). rows_of x s'.store) shelf ∙ ap (rows_of (shelf_of t)) (lists.stays.store.stays (first same))
+    same_rows same = rw shelf (ap (rows_of (shelf_of t)) (lists.stays.store.stays (first same)))
 
     module _ (same : s''.stores_added ≡ s.stores_added) (start : Place) (walk : List Row) (end : WalkEnd) (w : IsWalk (rows_of (shelf_of t) s.store) start walk) (ends : EndsBy (rows_of (shelf_of t) s.store) start walk end)
         (listed : HasListed (request t start tries) s.store walk span count (course begun now s s' old new)) where
@@ -307,7 +296,7 @@ module _ (t : Task) (tries : ℕ) (span : Span) (count : ℕ) (begun now : Curso
         along = λ same start walk end w ends stands.
             let listed = lists.listed (first same) start walk end w ends stands in
             let there = ended same start walk end w ends listed in
-            let all = ap (λ (l : List Row). length l) (all_rows span.most walk (subst (IsBelow span.most) there.0 below)) in
+            let all = ap (λ (l : List Row). length l) (first_rows-all span.most walk (subst (IsBelow span.most) there.0 below)) in
             record {
               leaves = subst (λ (o : Outcome). IsAllowed t s.store (span_plan span t start walk end) old new o) (sym finish)
                   (finished t s.store start walk end span old new count below listed.stands.within listed.printed e run there.0 there.1 (ends_so s.store start walk listed.printed));
@@ -379,7 +368,7 @@ module _ (t : Task) (tries : ℕ) (span : Span) (count : ℕ) (begun now : Curso
         let grows = lists.unrefused.troubles in
         let troubles = answer.grows in
         failed next s'' (Err (Refused n code)) step below (plan.Refused (AtRecord n) code.0) (stop.Ended (Refused n code)) refl
-        (answer.refusals ∙ ap (λ (x : ℕ). x + 1) lists.unrefused.refusals, answer.last_code) (omega (arith, grows, troubles)) n (λ store p at. at) step.leaves.1 (λ e. cc e)
+        (answer.refusals ∙ rw lists.unrefused.refusals refl, answer.last_code) (omega (arith, grows, troubles)) n (λ store p at. at) step.leaves.1 (λ e. cc e)
         (λ p holds. ((step.honest lists.stays.honest).plain (lists.stays.plain p) (lists.plain p holds)).fine)
         (λ same start walk end w ends listed. (along next s'' (Err (Refused n code)) step same start walk end w ends listed).1)
     listing_ended (Stalled n) step = absurd ((step.honest lists.stays.honest).answers)
@@ -408,7 +397,7 @@ module _ (t : Task) (tries : ℕ) (span : Span) (count : ℕ) (begun now : Curso
                 printed = listed.printed;
                 calls = elim asked [
                   | inl nothing ↦ absurd (asks_something now next row step.leaves nothing)
-                  | inr there ↦ let stepped = for_next next s'' (Ok (Some row)) step same start walk end w ends listed there in omega (arith, calls, stepped, same_bound)
+                  | inr there ↦ omega (arith, calls, for_next next s'' (Ok (Some row)) step same start walk end w ends listed there, same_bound)
                 ];
               };
           plain = λ p holds. ((step.honest lists.stays.honest).plain (lists.stays.plain p) (lists.plain p holds)).holds;
@@ -427,8 +416,8 @@ module _ (t : Task) (tries : ℕ) (span : Span) (count : ℕ) (begun next : Curs
     before : s''.stores_added ≡ s.stores_added → s'.stores_added ≡ s.stores_added
     before same = omega (arith, same, taken.stays.store.grows, stays.store.grows)
 
-    behind : s''.stores_added ≡ s.stores_added → s''.stores_added ≡ s'.stores_added
-    behind same = omega (arith, same, taken.stays.store.grows, stays.store.grows)
+    since : s''.stores_added ≡ s.stores_added → s''.stores_added ≡ s'.stores_added
+    since same = omega (arith, same, taken.stays.store.grows, stays.store.grows)
 
   -- the spots of the row, and its text
   abbrev spots : List Spot
@@ -440,7 +429,7 @@ module _ (t : Task) (tries : ℕ) (span : Span) (count : ℕ) (begun next : Curs
   calls_there : (same : s'.stores_added ≡ s.stores_added) → s''.calls ≤ s'.calls + calls_at_spots tries s'.store spots → s''.calls ≤ s'.calls + calls_at_spots tries s.store (spots_after t row)
   calls_there same calls =
       let here = subst (λ (x : Store). s''.calls ≤ s'.calls + calls_at_spots tries x spots) (taken.stays.store.stays same) calls in
-      let within = asked_within (passing span.skip count) tries t s.store row in omega (arith, here, within)
+      omega (arith, here, asked_within (passing span.skip count) tries t s.store row)
 
   -- within the calls of all the rows
   in_all_rows : (same : s'.stores_added ≡ s.stores_added) (start : Place) (walk : List Row) → (there : TakenAlong t tries s.store start walk span count begun next s s' old new row)
@@ -449,13 +438,12 @@ module _ (t : Task) (tries : ℕ) (span : Span) (count : ℕ) (begun next : Curs
       let calls = there.calls in
       let more = calls_there same asked in
       let longer = calls_more t s.store tries walk count row there.next_row in
-      let within = calls_within t s.store tries span.most count walk taken.below in
-      let one = digits_some next.part taken.some in omega (arith, calls, more, longer, within, one)
+      omega (arith, calls, more, longer, calls_within t s.store tries span.most count walk taken.below, digits_some next.part taken.some)
 
   -- a run may stop so at the piece of the row
-  allowed_behind : (start : Place) (walk : List Row) (end : WalkEnd) (there : TakenAlong t tries s.store start walk span count begun next s s' old new row) (outcome : Outcome) → MayStopAt spots outcome
+  allowed_after : (start : Place) (walk : List Row) (end : WalkEnd) (there : TakenAlong t tries s.store start walk span count begun next s s' old new row) (outcome : Outcome) → MayStopAt spots outcome
       → IsAllowed t s.store (span_plan span t start walk end) old new outcome
-  allowed_behind start walk end there outcome may = by_case outcome may
+  allowed_after start walk end there outcome may = by_case outcome may
     where
       done : List Item
       done = span_items span.skip t start (take count walk)
@@ -485,13 +473,13 @@ module _ (t : Task) (tries : ℕ) (span : Span) (count : ℕ) (begun next : Curs
         outcome = none.outcome;
         outcome_is = none.outcome_is;
         stays = stays_trans s s' s'' taken.stays none.asks.stays;
-        counts = counts_since tries s s' s'' (behind none.asks.stays) none.outcome taken.unrefused none.counts;
+        counts = counts_since tries s s' s'' (since none.asks.stays) none.outcome taken.unrefused none.counts;
         grows = omega (arith, low, high);
         along = λ same start walk end w ends stands.
             let there = taken.along (before none.asks.stays same) start walk end w ends stands in
             record {
-              leaves = allowed_behind start walk end there none.outcome none.there;
-              calls = λ part. in_all_rows (before none.asks.stays same) start walk there (none.asks.calls (behind none.asks.stays same));
+              leaves = allowed_after start walk end there none.outcome none.there;
+              calls = λ part. in_all_rows (before none.asks.stays same) start walk there (none.asks.calls (since none.asks.stays same));
               goes_on = λ done. absurd (never_done result none.outcome none.outcome_is none.there done);
               count = λ done. absurd (never_done result none.outcome none.outcome_is none.there done);
             };
@@ -501,7 +489,7 @@ module _ (t : Task) (tries : ℕ) (span : Span) (count : ℕ) (begun next : Curs
   module _ (piece_text : List ℕ) (finds : FindsText IsText spots tries s' s'' piece_text) where
     -- it is a text of the row over the store of the beginning
     is_text : s''.stores_added ≡ s.stores_added → IsText s.store piece_text
-    is_text same = subst (λ (x : Store). IsText x piece_text) (taken.stays.store.stays (before finds.asks.stays same)) (finds.is (behind finds.asks.stays same))
+    is_text same = subst (λ (x : Store). IsText x piece_text) (taken.stays.store.stays (before finds.asks.stays same)) (finds.is (since finds.asks.stays same))
 
     counted : IsUnrefused s s''
     counted = let low = taken.unrefused.troubles in let high = finds.asks.grows in record { refusals = finds.refusals ∙ taken.unrefused.refusals; troubles = omega (arith, low, high) }
@@ -532,7 +520,7 @@ module _ (t : Task) (tries : ℕ) (span : Span) (count : ℕ) (begun next : Curs
                   bytes = n;
                   new_is = wrote;
                 };
-            calls = λ part. in_all_rows (before finds.asks.stays same) start walk there (finds.asks.calls (behind finds.asks.stays same));
+            calls = λ part. in_all_rows (before finds.asks.stays same) start walk there (finds.asks.calls (since finds.asks.stays same));
             goes_on = λ done. cc done;
             count = λ done. cc done;
           };
@@ -547,7 +535,7 @@ module _ (t : Task) (tries : ℕ) (span : Span) (count : ℕ) (begun next : Curs
       listed = λ same start walk end w ends stands.
           let there = taken.along (before finds.asks.stays same) start walk end w ends stands in
           let calls = there.calls in
-          let more = calls_there (before finds.asks.stays same) (finds.asks.calls (behind finds.asks.stays same)) in
+          let more = calls_there (before finds.asks.stays same) (finds.asks.calls (since finds.asks.stays same)) in
           let longer = calls_more t s.store tries walk count row there.next_row in
           record {
             stands = there.stands;

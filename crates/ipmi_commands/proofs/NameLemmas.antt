@@ -24,7 +24,7 @@ Wrote true old new = length old < length new
 Wrote false old new = new ≡ old
 
 pub wrote_more : (wrote : Bool) (old new more text : List ℕ) → Wrote wrote old new → more ≡ new ++ text → Wrote (wrote || not (length text == 0)) old more
-wrote_more true old new more text has is = let long = ap (λ (l : List ℕ). length l) is ∙ length-append new text in omega (arith, long, has)
+wrote_more true old new more text has is = omega (arith, ap (λ (l : List ℕ). length l) is ∙ length-append new text, has)
 wrote_more false old new more [] has is = is ∙ append-nil new ∙ has
 wrote_more false old new more (b ∷ text) has is = subst (λ (some : Bool). Wrote some old more) (sym not_empty) longer
   where
@@ -33,8 +33,7 @@ wrote_more false old new more (b ∷ text) has is = subst (λ (some : Bool). Wro
 
     longer : length old < length more
     longer =
-        let long = ap (λ (l : List ℕ). length l) is ∙ length-append new (b ∷ text) in
-        let same = ap (λ (l : List ℕ). length l) has in omega (arith, long, same)
+        omega (arith, ap (λ (l : List ℕ). length l) is ∙ length-append new (b ∷ text), ap (λ (l : List ℕ). length l) has)
 
 -- ---- the end that is told from it
 
@@ -50,7 +49,7 @@ end_is _ wrote = refl
 -- ---- texts of records with a name
 
 some_first : (text : List ℕ) (x : ℕ) (l : List ℕ) → text ≡ x ∷ l → 0 < length text
-some_first text x l is = let long = ap (λ (t : List ℕ). length t) is in omega (arith, long)
+some_first text x l is = omega (arith, ap (λ (t : List ℕ). length t) is)
 
 -- a block begins with the word Record
 block_some : (id : ℕ) (view : SdrView) (reading : Option Reading) (text : List ℕ) → IsSdrBlock id view reading text → 0 < length text
@@ -76,18 +75,16 @@ module _ (name : List ℕ) (store : Store) where
   -- where none has it, nothing is printed
   none_text : (skip : Option ℕ) (start : Place) (rows : List Row) (text : List ℕ) → some_has_name name (shown_rows skip rows) ≡ false → AreTexts (task.Get name) store (span_items skip (task.Get name) start rows) text → text ≡ []
   none_text None start [] text lack are = are
-  none_text None start (row ∷ rows) text lack are = are.joined ∙ ap (λ (l : List ℕ). l ++ are.rest) are.is_first ∙ none_text None (place_after row.next) rows are.rest lack are.is_rest
+  none_text None start (row ∷ rows) text lack are = are.joined ∙ rw are.is_first (none_text None (place_after row.next) rows are.rest lack are.is_rest)
   none_text (Some zero) start [] text lack are = are
   none_text (Some zero) start (row ∷ rows) text lack are =
       let view = sdr_view_of row.bytes in
-      are.joined
-      ∙ ap (λ (l : List ℕ). l ++ are.rest) (none_of row.id view are.first (or_parts (view_has_name name view) (some_has_name name rows) lack).0 are.is_first)
-      ∙ none_text (Some zero) (place_after row.next) rows are.rest (or_parts (view_has_name name view) (some_has_name name rows) lack).1 are.is_rest
+      are.joined ∙ rw (none_of row.id view are.first (or_parts (view_has_name name view) (some_has_name name rows) lack).0 are.is_first) (none_text (Some zero) (place_after row.next) rows are.rest (or_parts (view_has_name name view) (some_has_name name rows) lack).1 are.is_rest)
   none_text (Some (suc n)) start [] text lack are = are
-  none_text (Some (suc n)) start (row ∷ rows) text lack are = are.joined ∙ ap (λ (l : List ℕ). l ++ are.rest) are.is_first ∙ none_text (Some n) (place_after row.next) rows are.rest lack are.is_rest
+  none_text (Some (suc n)) start (row ∷ rows) text lack are = are.joined ∙ rw are.is_first (none_text (Some n) (place_after row.next) rows are.rest lack are.is_rest)
 
   joined_some : (text first rest : List ℕ) → text ≡ first ++ rest → (0 < length first + length rest) → 0 < length text
-  joined_some text first rest joined some = let long = ap (λ (l : List ℕ). length l) joined ∙ length-append first rest in omega (arith, long, some)
+  joined_some text first rest joined some = omega (arith, ap (λ (l : List ℕ). length l) joined ∙ length-append first rest, some)
 
   -- one of two has it, and what is printed of that one is not empty
   either_some : (a b : Bool) (text first rest : List ℕ) → (a || b) ≡ true → text ≡ first ++ rest → (a ≡ true → 0 < length first) → (b ≡ true → 0 < length rest) → 0 < length text

@@ -21,24 +21,24 @@ use Rattle.ipmi_commands.specs.Plan.{Request, OnWalk, Outcome, CountsSo, IsFine,
 use Rattle.ipmi_commands.specs.Pages.{start_at, GoesOn, PageAlong, IsPage, IsStopped, ArePages, pages_made}
 use Rattle.ipmi_command_line.specs.Task.{shelf_of}
 use Rattle.ipmi_commands.specs.Plan as plan
-use Rattle.ipmi_commands.proofs.CallLemmas.{digits_most}
+use Rattle.ipmi_bus.proofs.InventoryLemmas.{digits_most}
 use Rattle.ipmi_commands.proofs.ItemLemmas.{none_printed}
-use Rattle.ipmi_commands.proofs.ListingLemmas.{limit_end}
+use Rattle.ipmi_commands.proofs.ListingLemmas.{first_end-none}
 use Rattle.ipmi_commands.proofs.NameLemmas.{done_by, end_is}
 
 -- ---- nothing was written
 
-no_first : (most : Option ℕ) → first_rows most [] ≡ []
-no_first None = refl
-no_first (Some n) = take-nil n
+first_rows-nil : (most : Option ℕ) → first_rows most [] ≡ []
+first_rows-nil None = refl
+first_rows-nil (Some n) = take-nil n
 
 -- of no row nothing is printed
 empty_printed : (t : Task) (store : Store) (most : Option ℕ) (start : Place) (text : List ℕ) → Printed t store (row_items t start (first_rows most [])) text text
-empty_printed t store most start text = subst (λ (l : List Row). Printed t store (row_items t start l) text text) (sym (no_first most)) (none_printed t store text)
+empty_printed t store most start text = subst (λ (l : List Row). Printed t store (row_items t start l) text text) (sym (first_rows-nil most)) (none_printed t store text)
 
-none_taken : (walk : List Row) → take 0 walk ≡ []
-none_taken [] = refl
-none_taken (row ∷ walk) = refl
+take-none : (walk : List Row) → take 0 walk ≡ []
+take-none [] = refl
+take-none (row ∷ walk) = refl
 
 -- what a listing of no rows ends by
 done_of_none : (t : Task) → done_by t false ≡ done_end t []
@@ -64,11 +64,11 @@ pub page_of_none : (t : Task) (start : Place) (tries : ℕ) (s : Seen) (text : L
 page_of_none t start tries s text honest = quiet_page (request t start tries) (Some 0) start s text (plan.Finished (done_by t false)) (stop_at_end t false) honest (end_is t false) refl tt
     (λ walk end w ends. record {
       leaves = (
-        subst (λ (l : List Row). Printed t s.store (row_items t start l) text text) (sym (none_taken walk)) (none_printed t s.store text),
-        done_of_none t ∙ ap (done_end t) (sym (none_taken walk)) ∙ ap (run_end t (take 0 walk)) (sym (limit_end 0 walk end (omega arith))),
+        subst (λ (l : List Row). Printed t s.store (row_items t start l) text text) (sym (take-none walk)) (none_printed t s.store text),
+        done_of_none t ∙ ap (done_end t) (sym (take-none walk)) ∙ ap (run_end t (take 0 walk)) (sym (first_end-none 0 walk end (omega arith))),
       );
       calls = omega arith;
-      goes_on = λ done. inl (ap (place_after_rows start) (sym (none_taken walk)));
+      goes_on = λ done. inl (ap (place_after_rows start) (sym (take-none walk)));
     })
 
 -- no walk goes from where no row is
@@ -78,8 +78,7 @@ no_walk rows start (row ∷ walk) none w = let h = sym none ∙ w.first in cc h
 
 done_there : (rows : List Row) (end : WalkEnd) → EndsBy rows End [] end → end ≡ Done
 done_there rows Done ends = refl
-done_there rows (CycleAt n) ends = absurd ends
-done_there rows (MissingAt n) ends = absurd ends
+done_there rows _ ends = absurd ends
 
 cycle_there : (rows : List Row) (end : WalkEnd) → EndsBy rows (Id 0) [] end → end ≡ CycleAt 0
 cycle_there rows Done ends = absurd ends
@@ -87,10 +86,10 @@ cycle_there rows (CycleAt n) ends = ap CycleAt ends.0
 cycle_there rows (MissingAt n) ends = absurd (ends.1 refl)
 
 -- the end of no rows, where some are wanted
-end_of_none : (most : Option ℕ) (end : WalkEnd) → (most ≡ Some 0 → ⊥) → first_end most [] end ≡ end
-end_of_none None end some = refl
-end_of_none (Some zero) end some = absurd (some refl)
-end_of_none (Some (suc n)) end some = let e : nat_le (suc n) 0 ≡ false = search arith in ap (λ (b : Bool). cond b Done end) e
+first_end-nil : (most : Option ℕ) (end : WalkEnd) → (most ≡ Some 0 → ⊥) → first_end most [] end ≡ end
+first_end-nil None end some = refl
+first_end-nil (Some zero) end some = absurd (some refl)
+first_end-nil (Some (suc n)) end some = let e : nat_le (suc n) 0 ≡ false = search arith in rw e refl
 
 pub some_wanted : (most : Option ℕ) → is_reached most 0 ≡ false → most ≡ Some 0 → ⊥
 some_wanted most some none = let h = sym (ap (λ (o : Option ℕ). is_reached o 0) none) ∙ some in cc h
@@ -112,23 +111,19 @@ page_of_no_rows t most start tries s text only run result honest no_row one_end 
     (subst (λ (e : WalkEnd). PageAlong (request t start tries) s.store most [] e start (change s s text text) (plan.Finished run) result) (sym end_is_)
     (record { leaves = (empty_printed t s.store most start text, ends_so); calls = omega arith; goes_on = λ done. goes_on done rows })))
 
-end_done : (most : Option ℕ) → first_end most [] Done ≡ Done
-end_done None = refl
-end_done (Some n) = by_case (nat_le n 0)
-  where
-    by_case : (b : Bool) → cond b Done Done ≡ Done
-    by_case true = refl
-    by_case false = refl
+first_end-done : (most : Option ℕ) → first_end most [] Done ≡ Done
+first_end-done None = refl
+first_end-done (Some n) = elim (nat_le n 0) as (λ b. cond b Done Done ≡ Done) [ true ↦ refl | false ↦ refl ]
 
 -- a page at the end
 page_at_end : (t : Task) (most : Option ℕ) (tries : ℕ) (s : Seen) (text : List ℕ) → IsHonest s → IsPage (request t End tries) most End (change s s text text) (stop_at_end t false)
 page_at_end t most tries s text honest = page_of_no_rows t most End tries s text Done (done_by t false) (stop_at_end t false) honest (λ rows. refl) done_there (end_is t false)
-    (done_of_none t ∙ ap (done_end t) (sym (no_first most)) ∙ ap (run_end t (first_rows most [])) (sym (end_done most))) (λ done rows. inl (ap (place_after_rows End) (sym (no_first most))))
+    (done_of_none t ∙ ap (done_end t) (sym (first_rows-nil most)) ∙ ap (run_end t (first_rows most [])) (sym (first_end-done most))) (λ done rows. inl (ap (place_after_rows End) (sym (first_rows-nil most))))
 
 -- a page at the id 0000h
 page_at_zero : (t : Task) (most : Option ℕ) (tries : ℕ) (s : Seen) (text : List ℕ) → (most ≡ Some 0 → ⊥) → IsHonest s → IsPage (request t (Id 0) tries) most (Id 0) (change s s text text) (stop.Ended (Cycle 0))
 page_at_zero t most tries s text some honest = page_of_no_rows t most (Id 0) tries s text (CycleAt 0) (WalkEnds (CycleAt 0)) (stop.Ended (Cycle 0)) honest (λ rows. refl) cycle_there refl
-    (ap (run_end t (first_rows most [])) (sym (end_of_none most (CycleAt 0) some))) (λ done rows. cc done)
+    (ap (run_end t (first_rows most [])) (sym (first_end-nil most (CycleAt 0) some))) (λ done rows. cc done)
 
 -- a page where no cursor is needed
 pub page_without : (t : Task) (most : Option ℕ) (place : Place) (tries : ℕ) (s : Seen) (text : List ℕ) (st : Stop) → (most ≡ Some 0 → ⊥) → start_at t place ≡ Err st → IsHonest s → IsPage (request t place tries) most place (change s s text text) st
@@ -153,13 +148,10 @@ page_without_memory t most place tries s text honest = quiet_page (request t pla
 
 pub start_of_place : (t : Task) (place : Place) (from : Option ℕ) → start_at t place ≡ Ok from → start_of from ≡ place
 start_of_place t First from at = let is : None ≡ from = cc at in ap start_of (sym is)
-start_of_place t (Id n) from at = by_case (n == 0) refl
-  where
-    by_case : (b : Bool) → (n == 0) ≡ b → start_of from ≡ Id n
-    by_case true e = let h = sym (ap (λ (b : Bool). cond b (Err (stop.Ended (Cycle 0))) (Ok (Some n))) e) ∙ at in cc h
-    by_case false e =
-        let h = sym (ap (λ (b : Bool). cond b (Err (stop.Ended (Cycle 0))) (Ok (Some n))) e) ∙ at in
-        let is : Some n ≡ from = cc h in ap start_of (sym is)
+start_of_place t (Id n) from at = (elim (n == 0) as (λ b. cond b (Err (stop.Ended (Cycle 0))) (Ok (Some n)) ≡ Ok from → start_of from ≡ Id n) [
+  | true ↦ λ h. cc h
+  | false ↦ λ h. let is : Some n ≡ from = cc h in ap start_of (sym is)
+]) at
 start_of_place t End from at = cc at
 
 goes_on_there : (rows : List Row) (start : Place) (most : Option ℕ) (walk : List Row) (now : CursorState) → StandsAt rows start walk (length (first_rows most walk)) now → take (length (first_rows most walk)) walk ≡ first_rows most walk
@@ -169,7 +161,7 @@ goes_on_there rows start most walk now stands first = elim stands.place [ inl at
 -- the first rows are as many as there are of them
 pub first_taken : (most : Option ℕ) (walk : List Row) → take (length (first_rows most walk)) walk ≡ first_rows most walk
 first_taken None walk = take_all (length walk) walk (omega arith)
-first_taken (Some n) walk = ap (λ (k : ℕ). take k walk) (length-take n walk) ∙ take_min n walk
+first_taken (Some n) walk = rw (length-take n walk) (take_min n walk)
 
 pub page_by_cursor : (t : Task) (most : Option ℕ) (place : Place) (tries : ℕ) (begun now : CursorState) (s s' : Seen) (text text' : List ℕ) (result : Listed) → (most ≡ Some 0 → ⊥) → begun.reservation ≡ None → 0 < begun.part
     → ((rows walk : List Row) → StandsAt rows place walk 0 begun) → IsListing t tries (up_to most) (course begun now s s' text text') result → IsPage (request t place tries) most now.place (change s s' text text') result.stop
@@ -225,8 +217,7 @@ calls_of_page size sizes more most s s' page none = by_case (size == 0) refl
     by_case : (b : Bool) → (size == 0) ≡ b → s'.calls + pages_made sizes * most ≤ s.calls + more + pages_made (size ∷ sizes) * most
     by_case true e =
         let zero_ : size ≡ 0 = search arith in
-        let same = ap (λ (x : Seen). x.calls) (none (ap Some zero_)) in
-        let made = ap (λ (b : Bool). cond b (pages_made sizes) (pages_made sizes + 1) * most) e in omega (arith, same, made)
+        omega (arith, ap (λ (x : Seen). x.calls) (none (ap Some zero_)), ap (λ (b : Bool). cond b (pages_made sizes) (pages_made sizes + 1) * most) e)
     by_case false e =
         let made = ap (λ (b : Bool). cond b (pages_made sizes) (pages_made sizes + 1) * most) e in
         let one : (pages_made sizes + 1) * most ≡ pages_made sizes * most + most = omega arith in omega (arith, page, made, one)
@@ -235,7 +226,7 @@ pub calls_after_page : (sizes : List ℕ) (k most bound : ℕ) (s s' : Seen) →
     → s.calls + pages_made (drop k sizes) * most ≤ bound → s'.calls + pages_made (drop (k + 1) sizes) * most ≤ bound
 calls_after_page sizes k most bound s s' there page none before =
     let made = at_drop_more (λ (l : List ℕ). pages_made l * most) sizes k 0 there in
-    let after = calls_of_page (get_or sizes k 0) (drop (k + 1) sizes) 0 most s s' (omega (arith, page)) none in omega (arith, before, made, after)
+    omega (arith, before, made, calls_of_page (get_or sizes k 0) (drop (k + 1) sizes) 0 most s s' (omega (arith, page)) none)
 
 -- the calls of all pages, where a page is the last
 pub calls_of_all : (calls made most bound : ℕ) → calls + made * most ≤ bound → calls ≤ bound

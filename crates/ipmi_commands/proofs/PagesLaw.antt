@@ -1,13 +1,13 @@
 -- Pages over a chain that does not end by a cycle are one listing.
 use Rattle.std.proofs.Common.{◌≡◌, inl, inr, ℕ, ◌+◌, ◌*◌, ◌<◌, ◌≤◌, ◌==◌, nat_le, Bool, true, false, cond, IsTrue, None, Some, List, [], ◌∷◌, ◌++◌, length, take, drop, refl, sym, ap, subst, ◌∙◌, append_assoc, append-nil, arith}
-use Rattle.std.proofs.lemmas.Bool.{or_parts}
+use Rattle.std.proofs.lemmas.Bool.{ne_eqb, or_parts}
 use Rattle.std.proofs.lemmas.List.{take_all, take-append-drop}
 use Rattle.std.proofs.Math.Seq.{take-nil, drop-nil}
 use Rattle.ipmi_bus.specs.Bounds.{step_call_bound}
 use Rattle.ipmi_bus.specs.declared.controller.Shelf.{Shelf}
 use Rattle.ipmi_bus.specs.declared.step.Place.{Place}
 use Rattle.ipmi_bus.specs.declared.step.Place.TheVariants.{First, Id, End}
-use Rattle.ipmi_bus.specs.Shelf.{Row, IsShelf, first_row, look}
+use Rattle.ipmi_bus.specs.Shelf.{Row, IsShelf, first_row}
 use Rattle.ipmi_bus.specs.Store.{Store, rows_of, store_shelf}
 use Rattle.ipmi_bus.specs.Walk.{row_at, IsWalk, TailIsWalk, WalkEnd, Done, CycleAt, MissingAt, EndsBy, EndsAfter, EndsEmpty, last_next, has_id, place_after, place_after_rows}
 use Rattle.ipmi_bus.specs.Seen.{Seen, IsHonest, StaysHonest, stays_trans}
@@ -22,14 +22,13 @@ use Rattle.ipmi_commands.specs.Plan as plan
 use Rattle.ipmi_commands.proofs.CallLemmas.{calls_split}
 use Rattle.ipmi_commands.proofs.ListingLemmas.{counts_since, stopped_otherwise}
 use Rattle.ipmi_commands.proofs.PageLemmas.{calls_of_page, no_walk}
-use Rattle.ipmi_commands.proofs.ItemLemmas.{items_joined, end_joined, after_items, leaves_joined}
+use Rattle.ipmi_commands.proofs.ItemLemmas.{row_items-append, end_spots-joined, after_items, leaves_joined}
 
 -- a listing ends as its walk does
 run_plain : (t : Task) → is_listing t ≡ true → (rows : List Row) (end : WalkEnd) → run_end t rows end ≡ WalkEnds end
 run_plain (task.Get name) listing rows end = cc listing
 run_plain _ listing rows Done = refl
-run_plain _ listing rows (CycleAt n) = refl
-run_plain _ listing rows (MissingAt n) = refl
+run_plain _ listing rows _ = refl
 
 module _ (walk_tail : TailIsWalk) where
   -- ---- the rest of a walk
@@ -37,11 +36,7 @@ module _ (walk_tail : TailIsWalk) where
   no_more : (rows : List Row) (next : ℕ) (before : List Row) (end : WalkEnd) → EndsAfter rows before next end → IsOpen end → EndsEmpty rows (place_after next) end
   no_more rows next before Done ends open_ = subst (λ (n : ℕ). EndsEmpty rows (place_after n) Done) (sym ends) tt
   no_more rows next before (CycleAt n) ends open_ = absurd open_
-  no_more rows next before (MissingAt n) ends open_ = by_case (next == 0xFFFF) refl
-    where
-      by_case : (b : Bool) → (next == 0xFFFF) ≡ b → EndsEmpty rows (cond b End (Id next)) (MissingAt n)
-      by_case true e = absurd (ends.1 (search arith))
-      by_case false e = (ends.0, ends.2, subst (λ (m : ℕ). look rows m ≡ None) (refl) ends.4)
+  no_more rows next before (MissingAt n) ends open_ = subst (λ (b : Bool). EndsEmpty rows (cond b End (Id next)) (MissingAt n)) (sym (ne_eqb next 0xFFFF ends.1)) (ends.0, ends.2, ends.4)
 
   rest_ends : (rows : List Row) (start : Place) (d : Row) (rest : List Row) (end : WalkEnd) → EndsBy rows start (d ∷ rest) end → IsOpen end → EndsBy rows (place_after d.next) rest end
   rest_ends rows start d [] end ends open_ = no_more rows d.next (d ∷ []) end ends open_
@@ -64,30 +59,28 @@ module _ (walk_tail : TailIsWalk) where
         let less : length walk < size = search arith in
         let of_rows : List Row → Plan = λ l. record { items = row_items t start l; end = run_end t l (first_end (Some size) walk end); end_spots = end_spots start walk (first_end (Some size) walk end) } in
         let of_end : WalkEnd → Plan = λ e. record { items = row_items t start walk; end = run_end t walk e; end_spots = end_spots start walk e } in
-        ap of_rows (take_all size walk (omega (arith, less))) ∙ ap of_end (ap (λ (b : Bool). cond b Done end) past)
+        ap of_rows (take_all size walk (omega (arith, less))) ∙ ap of_end (rw past refl)
 
     -- the items after the page
     abbrev left : List Item
     left = row_items t (place_after_rows start (take size walk)) (drop size walk)
 
     items_are : row_items t start walk ≡ row_items t start (take size walk) ++ left
-    items_are = ap (row_items t start) (sym (take-append-drop size walk)) ∙ items_joined t start (take size walk) (drop size walk)
+    items_are = ap (row_items t start) (sym (take-append-drop size walk)) ∙ row_items-append t start (take size walk) (drop size walk)
 
     -- where the page stopped at its end no row is there, and it is that of all
     spot_of_end : (spot : Spot) (at : Place) (l : List Row) (e : WalkEnd) → EndsBy rows at l e → IsAmong (end_spots at l Done) spot → IsAmong (spots_at (row_items t (place_after_rows at (take size l)) (drop size l)) (end_spots at l e)) spot
     spot_of_end spot First [] Done ends among = subst (λ (d : List Row). IsAmong (spots_at (row_items t (place_after_rows First (take size [])) d) (end_spots First [] Done)) spot) (sym (drop-nil size)) among
-    spot_of_end spot First [] (CycleAt n) ends among = absurd ends
-    spot_of_end spot First [] (MissingAt n) ends among = absurd ends
+    spot_of_end spot First [] _ ends among = absurd ends
     spot_of_end spot First (row ∷ l) e ends among = absurd among
-    spot_of_end spot (Id n) l e ends among = absurd among
-    spot_of_end spot End l e ends among = absurd among
+    spot_of_end spot _ l e ends among = absurd among
 
     spot_wide : (spot : Spot) (rest : List Item) → IsAmong (spots_at rest (end_spots start walk Done)) spot → IsAmong (spots_at (rest ++ left) (end_spots start walk end)) spot
     spot_wide spot [] among = spot_of_end spot start walk end ends among
     spot_wide spot (item ∷ rest) among = among
 
     more_items : (done rest : List Item) → row_items t start (take size walk) ≡ done ++ rest → row_items t start walk ≡ done ++ (rest ++ left)
-    more_items done rest is = items_are ∙ ap (λ (l : List Item). l ++ left) is ∙ append_assoc done rest left
+    more_items done rest is = items_are ∙ rw is (append_assoc done rest left)
 
     module _ (fits : nat_le size (length walk) ≡ true) where
       stops_wide : (spot : Spot) → StopsAt spot t store (first_plan (Some size) t start walk end) old new → StopsAt spot t store (first_plan None t start walk end) old new
@@ -100,7 +93,7 @@ module _ (walk_tail : TailIsWalk) where
       }
 
       inside : (o : Outcome) → (o ≡ plan.Finished (WalkEnds Done) → ⊥) → IsAllowed t store (first_plan (Some size) t start walk end) old new o → IsAllowed t store (first_plan None t start walk end) old new o
-      inside (plan.Finished e) never allowed = absurd (never (ap plan.Finished (allowed.1 ∙ ap (λ (b : Bool). run_end t (take size walk) (cond b Done end)) fits ∙ run_plain t listing (take size walk) Done)))
+      inside (plan.Finished e) never allowed = absurd (never (ap plan.Finished (allowed.1 ∙ rw fits (run_plain t listing (take size walk) Done))))
       inside (plan.GaveUp spot) never allowed = stops_wide spot allowed
       inside (plan.Refused spot code) never allowed = stops_wide spot allowed
       inside plan.OutOfMemory never allowed = record { done = allowed.done; rest = allowed.rest ++ left; items_are = more_items allowed.done allowed.rest allowed.items_are; printed = allowed.printed }
@@ -128,9 +121,9 @@ module _ (walk_tail : TailIsWalk) where
   -- ---- calls
 
   -- the calls of the pages after a page
-  behind_calls : (t : Task) (store : Store) (rows : List Row) (start next : Place) (walk : List Row) (end : WalkEnd) (size tries calls before : ℕ) → IsShelf (shelf_of t) rows → IsWalk rows start walk → EndsBy rows start walk end → IsOpen end → GoesOn rows start (take size walk) next
+  calls_of_rest : (t : Task) (store : Store) (rows : List Row) (start next : Place) (walk : List Row) (end : WalkEnd) (size tries calls before : ℕ) → IsShelf (shelf_of t) rows → IsWalk rows start walk → EndsBy rows start walk end → IsOpen end → GoesOn rows start (take size walk) next
       → ((w : List Row) (e : WalkEnd) → IsWalk rows next w → EndsBy rows next w e → IsOpen e → calls ≤ before + calls_for t store tries w) → calls ≤ before + calls_for t store tries (drop size walk)
-  behind_calls t store rows start next walk end size tries calls before ok w ends open_ goes rest = elim goes [ inl at ↦ on_walk at | inr empty ↦ on_empty empty.0 ]
+  calls_of_rest t store rows start next walk end size tries calls before ok w ends open_ goes rest = elim goes [ inl at ↦ on_walk at | inr empty ↦ on_empty empty.0 ]
     where
       split : walk ≡ take size walk ++ drop size walk
       split = sym (take-append-drop size walk)
@@ -161,13 +154,13 @@ module _ (walk_tail : TailIsWalk) where
     pub plain : IsTrue s.plain → IsFine outcome
 
   -- what the pages after a page leave, from where they begin
-  abbrev LeavesBehind : Task → Store → List Row → Place → List ℕ → List ℕ → Outcome → Type 0
-  LeavesBehind t store rows next text new outcome = (w : List Row) (e : WalkEnd) → IsWalk rows next w → EndsBy rows next w e → IsOpen e → IsAllowed t store (first_plan None t next w e) text new outcome
+  abbrev LeavesAfter : Task → Store → List Row → Place → List ℕ → List ℕ → Outcome → Type 0
+  LeavesAfter t store rows next text new outcome = (w : List Row) (e : WalkEnd) → IsWalk rows next w → EndsBy rows next w e → IsOpen e → IsAllowed t store (first_plan None t next w e) text new outcome
 
   -- after a page the rest of the walk is listed
-  behind_page : (t : Task) (store : Store) (rows : List Row) (start next : Place) (walk : List Row) (end : WalkEnd) (size : ℕ) (old text new : List ℕ) (outcome : Outcome) → is_listing t ≡ true → IsShelf (shelf_of t) rows → IsWalk rows start walk → EndsBy rows start walk end → IsOpen end
-      → Printed t store (row_items t start (take size walk)) old text → GoesOn rows start (take size walk) next → LeavesBehind t store rows next text new outcome → IsAllowed t store (first_plan None t start walk end) old new outcome
-  behind_page t store rows start next walk end size old text new outcome listing ok w ends open_ printed goes rest = elim goes [ inl at ↦ on_walk at | inr empty ↦ on_empty empty.0 empty.1 empty.2 ]
+  leaves_of_rest : (t : Task) (store : Store) (rows : List Row) (start next : Place) (walk : List Row) (end : WalkEnd) (size : ℕ) (old text new : List ℕ) (outcome : Outcome) → is_listing t ≡ true → IsShelf (shelf_of t) rows → IsWalk rows start walk → EndsBy rows start walk end → IsOpen end
+      → Printed t store (row_items t start (take size walk)) old text → GoesOn rows start (take size walk) next → LeavesAfter t store rows next text new outcome → IsAllowed t store (first_plan None t start walk end) old new outcome
+  leaves_of_rest t store rows start next walk end size old text new outcome listing ok w ends open_ printed goes rest = elim goes [ inl at ↦ on_walk at | inr empty ↦ on_empty empty.0 empty.1 empty.2 ]
     where
       done : List Row
       done = take size walk
@@ -184,19 +177,19 @@ module _ (walk_tail : TailIsWalk) where
           let of_items : List Item → Plan = λ l. record { items = l; end = run_end t left end; end_spots = end_spots (place_after_rows start done) left end } in
           let of_end : RunEnd → Plan = λ e. record { items = row_items t start (done ++ left); end = e; end_spots = end_spots (place_after_rows start done) left end } in
           let of_spots : List Spot → Plan = λ l. record { items = row_items t start (done ++ left); end = run_end t (done ++ left) end; end_spots = l } in
-          ap of_items (sym (items_joined t start done left)) ∙ ap of_end (run_plain t listing left end ∙ sym (run_plain t listing (done ++ left) end)) ∙ ap of_spots (end_joined start done left end) ∙ ap (λ (l : List Row). first_plan None t start l end) (sym split)
+          ap of_items (sym (row_items-append t start done left)) ∙ ap of_end (run_plain t listing left end ∙ sym (run_plain t listing (done ++ left) end)) ∙ ap of_spots (end_spots-joined start done left end) ∙ rw (sym split) refl
 
       on_walk : next ≡ place_after_rows start done → IsAllowed t store (first_plan None t start walk end) old new outcome
       on_walk at =
           let there = rest_of_walk (shelf_of t) rows start done left end ok open_ (subst (IsWalk rows start) split w) (subst (λ (l : List Row). EndsBy rows start l end) split ends) in
-          let later = subst (λ (x : Place). LeavesBehind t store rows x text new outcome) at rest left end there.0 there.1 open_ in
+          let later = subst (λ (x : Place). LeavesAfter t store rows x text new outcome) at rest left end there.0 there.1 open_ in
           subst (λ (q : Plan). IsAllowed t store q old new outcome) whole_is (leaves_joined t store (row_items t start done) (first_plan None t (place_after_rows start done) left end) old text printed new outcome later)
 
       on_empty : next ≡ End → start ≡ First → first_row rows ≡ None → IsAllowed t store (first_plan None t start walk end) old new outcome
       on_empty at first none =
           let empty : walk ≡ [] = no_walk rows start walk (ap (λ (x : Place). row_at x rows) first ∙ none) w in
           let done_ : end ≡ Done = ended end (subst (λ (x : Place). EndsBy rows x [] end) first (subst (λ (l : List Row). EndsBy rows start l end) empty ends)) in
-          let later = subst (λ (x : Place). LeavesBehind t store rows x text new outcome) at rest [] Done (record { of_shelf = tt; distinct = tt; first = tt; links = tt }) tt tt in
+          let later = subst (λ (x : Place). LeavesAfter t store rows x text new outcome) at rest [] Done (record { of_shelf = tt; distinct = tt; first = tt; links = tt }) tt tt in
           let nothing_more = subst (λ (l : List Row). Printed t store (row_items t start l) old text) (ap (λ (l : List Row). take size l) empty ∙ take-nil size) printed in
           let same : text ≡ old = nothing_more.new_is ∙ ap (λ (l : List ℕ). old ++ l) nothing_more.are ∙ append-nil old in
           subst (λ (l : List Row). IsAllowed t store (first_plan None t start l end) old new outcome) (sym empty)
@@ -223,8 +216,7 @@ module _ (walk_tail : TailIsWalk) where
 
           ended : (e : WalkEnd) → EndsBy rows First [] e → e ≡ Done
           ended Done ends = refl
-          ended (CycleAt n) ends = absurd ends
-          ended (MissingAt n) ends = absurd ends
+          ended _ ends = absurd ends
 
   pub pages_are_one : (t : Task) (sizes : List ℕ) (start : Place) (tries : ℕ) (s s' : Seen) (old new : List ℕ) (result : Stop) → is_listing t ≡ true → IsHonest s → ArePages (request t start tries) sizes (change s s' old new) result → OneListing t sizes start tries s s' old new result
   pages_are_one t [] start tries s s' old new result listing honest last = record {
@@ -234,7 +226,7 @@ module _ (walk_tail : TailIsWalk) where
     counts = last.page.counts;
     grows = last.page.grows;
     leaves = λ same walk end w ends open_. (last.page.along same walk end w ends).leaves;
-    calls = λ same walk end w ends open_. let calls = (last.page.along same walk end w ends).calls in omega (arith, calls);
+    calls = λ same walk end w ends open_. omega (arith, (last.page.along same walk end w ends).calls);
     plain = last.page.plain;
   }
   pages_are_one t (size ∷ sizes) start tries s s' old new result listing honest (inl last) = record {
@@ -248,7 +240,7 @@ module _ (walk_tail : TailIsWalk) where
     calls = λ same walk end w ends open_.
         let page = (last.0.page.along same walk end w ends).calls in
         let made = calls_of_page size sizes (calls_for t s.store tries (take size walk)) (step_call_bound tries 0 + 7) s s' (omega (arith, page)) last.0.page.none in
-        let rows = calls_split t s.store tries size walk in omega (arith, made, rows);
+        omega (arith, made, calls_split t s.store tries size walk);
     plain = last.0.page.plain;
   }
   pages_are_one t (size ∷ sizes) start tries s s' old new result listing honest (inr more) =
@@ -270,18 +262,18 @@ module _ (walk_tail : TailIsWalk) where
             let second : s'.stores_added ≡ more.seen.stores_added = omega (arith, same, low, high) in
             let along = page.along first walk end w ends in
             let there = subst (λ (o : Outcome). IsAllowed t s.store (first_plan (Some size) t start walk end) old more.text o) page.outcome_is along.leaves in
-            behind_page t s.store (rows_of (shelf_of t) s.store) start more.next walk end size old more.text new later.outcome listing (store_shelf (shelf_of t) s.store honest.store) w ends open_ there.0 (along.goes_on refl)
-            (subst (λ (x : Store). LeavesBehind t x (rows_of (shelf_of t) x) more.next more.text new later.outcome) (page.stays.store.stays first) (later.leaves second));
+            leaves_of_rest t s.store (rows_of (shelf_of t) s.store) start more.next walk end size old more.text new later.outcome listing (store_shelf (shelf_of t) s.store honest.store) w ends open_ there.0 (along.goes_on refl)
+            (subst (λ (x : Store). LeavesAfter t x (rows_of (shelf_of t) x) more.next more.text new later.outcome) (page.stays.store.stays first) (later.leaves second));
         calls = λ same walk end w ends open_.
             let first : more.seen.stores_added ≡ s.stores_added = omega (arith, same, low, high) in
             let second : s'.stores_added ≡ more.seen.stores_added = omega (arith, same, low, high) in
             let along = page.along first walk end w ends in
-            let behind =
-            behind_calls t s.store (rows_of (shelf_of t) s.store) start more.next walk end size tries s'.calls (more.seen.calls + pages_made sizes * (step_call_bound tries 0 + 7)) (store_shelf (shelf_of t) s.store honest.store) w ends open_ (along.goes_on refl)
+            let rest_calls =
+            calls_of_rest t s.store (rows_of (shelf_of t) s.store) start more.next walk end size tries s'.calls (more.seen.calls + pages_made sizes * (step_call_bound tries 0 + 7)) (store_shelf (shelf_of t) s.store honest.store) w ends open_ (along.goes_on refl)
             (subst (λ (x : Store). (w : List Row) (e : WalkEnd) → IsWalk (rows_of (shelf_of t) x) more.next w → EndsBy (rows_of (shelf_of t) x) more.next w e → IsOpen e → s'.calls ≤ more.seen.calls + pages_made sizes * (step_call_bound tries 0 + 7) + calls_for t x tries w) (page.stays.store.stays first)
-            (λ w' e' is' ends' open'. let calls = later.calls second w' e' is' ends' open' in omega (arith, calls))) in
+            (λ w' e' is' ends' open'. omega (arith, later.calls second w' e' is' ends' open'))) in
             let asked = along.calls in
             let made = calls_of_page size sizes (calls_for t s.store tries (take size walk)) (step_call_bound tries 0 + 7) s more.seen (omega (arith, asked)) page.none in
-            let rows = calls_split t s.store tries size walk in omega (arith, behind, made, rows);
+            omega (arith, rest_calls, made, calls_split t s.store tries size walk);
         plain = λ p. later.plain (page.stays.plain p);
       }

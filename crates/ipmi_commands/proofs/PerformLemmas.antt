@@ -5,7 +5,7 @@ use Rattle.ipmi_bus.specs.declared.step.Place.{Place}
 use Rattle.ipmi_bus.specs.Seen.{Seen, stays_trans}
 use Rattle.ipmi_bus.specs.Shelf.{Row}
 use Rattle.ipmi_bus.specs.Store.{Store, info_of}
-use Rattle.ipmi_bus.specs.Walk.{WalkEnd, Done, CycleAt, MissingAt}
+use Rattle.ipmi_bus.specs.Walk.{WalkEnd, Done}
 use Rattle.ipmi_command_line.specs.declared.command.Task.{Task}
 use Rattle.ipmi_command_line.specs.declared.command.Task.TheVariants as task
 use Rattle.ipmi_commands.specs.declared.stop.Stop.{Stop}
@@ -170,8 +170,7 @@ module _ (start : Place) (tries : ℕ) where
 
   ends_as : (rows : List Row) (end : WalkEnd) → run_end (task.Fru None) rows end ≡ WalkEnds end
   ends_as rows Done = refl
-  ends_as rows (CycleAt n) = refl
-  ends_as rows (MissingAt n) = refl
+  ends_as rows _ = refl
 
   after_first : (store : Store) (walk : List Row) (end : WalkEnd) → after_items (inventory_item 0 ∷ []) (first_plan None (task.Fru None) start walk end) ≡ plan_of (task.Fru None) store start walk end
   after_first store walk end =
@@ -201,6 +200,5 @@ module _ (start : Place) (tries : ℕ) where
             let second : s''.stores_added ≡ s'.stores_added = omega (arith, same, low, high) in
             let store = written.asks.stays.store.stays first in
             let along = subst (λ (x : Store). OnWalk of_all x (λ walk end. PageAlong of_all x None walk end next (change s' s'' text new) page.outcome result)) store (page.along second) walk end w ends in
-            let before = written.asks.calls first in
-            let calls = along.calls in omega (arith, before, calls);
+            omega (arith, written.asks.calls first, along.calls);
       }

@@ -1,6 +1,5 @@
 -- What is printed has one text, and so has a finished run.
-use Rattle.std.proofs.Common.{◌≡◌, ℕ, zero, suc, ◌-◌, ◌==◌, not, Bool, true, false, cond, codes, Option, None, Some, IfSome, Result, Ok, Err, List, [], ◌∷◌, ◌++◌, length, take, drop, refl, sym, ap, subst, ◌∙◌}
-use Rattle.std.specs.Fmt.{decimal}
+use Rattle.std.proofs.Common.{◌≡◌, ℕ, zero, suc, ◌-◌, ◌==◌, not, Bool, true, false, cond, Option, None, Some, IfSome, Result, Ok, Err, List, [], ◌∷◌, length, take, drop, refl, sym, subst, ◌∙◌}
 use Rattle.ipmi_bus.specs.declared.controller.Shelf.{Shelf}
 use Rattle.ipmi_bus.specs.declared.controller.Shelf.TheVariants.{Sdr, Sel}
 use Rattle.ipmi_bus.specs.declared.step.Place.{Place}
@@ -8,7 +7,7 @@ use Rattle.ipmi_bus.specs.Shelf.{Row, IsShelf, FoundIsRow}
 use Rattle.ipmi_text.specs.Bytes.{AreBytes}
 use Rattle.ipmi_text.specs.declared.reading.Reading.{Reading}
 use Rattle.ipmi_bus.specs.Store.{Store, IsStore, IsInfo, info_of, inventory_of, rows_of, store_shelf}
-use Rattle.ipmi_bus.specs.Walk.{AllOf, WalkExists, WalkEnd, Done, CycleAt, MissingAt, place_after, place_after_rows}
+use Rattle.ipmi_bus.specs.Walk.{AllOf, WalkExists, WalkEnd, Done, place_after, place_after_rows}
 use Rattle.ipmi_fru.specs.Print.{IsFruText}
 use Rattle.ipmi_records.specs.declared.sdr.SdrFault.{SdrFault}
 use Rattle.ipmi_records.specs.declared.sdr.SdrView.{SdrView}
@@ -76,9 +75,7 @@ module _ (one_sdr_line : SdrLineIsUnique) (one_extended_line : ExtendedLineIsUni
 
   one_inventory : (store : Store) (id : ℕ) (name a b : List ℕ) → IsInventoryPiece store id name a → IsInventoryPiece store id name b → a ≡ b
   one_inventory store id name a b x y =
-      x.text_is
-      ∙ ap (λ (l : List ℕ). codes "FRU " ++ (decimal id ++ (name ++ (codes "\n" ++ (l ++ codes "\n"))))) (one_inventory_text (inventory_of id store) x.inventory y.inventory x.is_inventory y.is_inventory)
-      ∙ sym y.text_is
+      x.text_is ∙ rw (one_inventory_text (inventory_of id store) x.inventory y.inventory x.is_inventory y.is_inventory) (sym y.text_is)
 
   one_device : (store : Store) (view : SdrView) (id : Option ℕ) (a b : List ℕ) → IsDevicePiece store view id a → IsDevicePiece store view id b → a ≡ b
   one_device store view None a b x y = x ∙ sym y
@@ -107,10 +104,7 @@ module _ (one_sdr_line : SdrLineIsUnique) (one_extended_line : ExtendedLineIsUni
   pub one_text : (t : Task) (store : Store) (items : List Item) (a b : List ℕ) → AreOfBytes items → AreTexts t store items a → AreTexts t store items b → a ≡ b
   one_text t store [] a b bytes x y = x ∙ sym y
   one_text t store (item ∷ items) a b bytes x y =
-      x.joined
-      ∙ ap (λ (l : List ℕ). l ++ x.rest) (one_item t store item.subject x.first y.first bytes.0 x.is_first y.is_first)
-      ∙ ap (λ (l : List ℕ). y.first ++ l) (one_text t store items x.rest y.rest bytes.1 x.is_rest y.is_rest)
-      ∙ sym y.joined
+      x.joined ∙ rw (one_item t store item.subject x.first y.first bytes.0 x.is_first y.is_first, one_text t store items x.rest y.rest bytes.1 x.is_rest y.is_rest) (sym y.joined)
 
 -- ---- one output
 
@@ -139,8 +133,7 @@ rest_of_shelf (suc n) rows (row ∷ walk) all = rest_of_shelf n rows walk all.1
 
 last_of_shelf : (n : ℕ) (rows walk : List Row) (end : WalkEnd) → AllOf rows walk → AllOf rows (last_rows n walk end)
 last_of_shelf n rows walk Done all = rest_of_shelf (length walk - n) rows walk all
-last_of_shelf n rows walk (CycleAt m) all = tt
-last_of_shelf n rows walk (MissingAt m) all = tt
+last_of_shelf n rows walk _ all = tt
 
 first_kept : (spots : List Spot) (items : List Item) → AreOfBytes items → AreOfBytes (with_first_spots spots items)
 first_kept spots [] are = tt
@@ -177,4 +170,4 @@ one_output one exists look_row r store old a b e f ok allows other =
     let y = other there.0 there.1 there.2 there.3 in
     let items = (plan_of r.task store r.start there.0 there.1).items in
     let bytes = plan_bytes look_row store ok r.start there.0 there.1 r.task there.2.of_shelf in
-    (x.0.new_is ∙ ap (λ (l : List ℕ). old ++ l) (one r.task store items x.0.text y.0.text bytes x.0.are y.0.are) ∙ sym y.0.new_is, x.1 ∙ sym y.1)
+    (x.0.new_is ∙ rw (one r.task store items x.0.text y.0.text bytes x.0.are y.0.are) (sym y.0.new_is), x.1 ∙ sym y.1)

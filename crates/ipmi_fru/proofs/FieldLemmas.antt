@@ -7,58 +7,49 @@ use Rattle.std.proofs.lemmas.List.{length-append, length-drop, length-take-le, t
 use Rattle.ipmi_fru.specs.Field.{AreaField, Spells, field_in, fields_from, fields_in}
 
 -- more steps than there are bytes change nothing
-pub enough : (n m : ℕ) (bytes : List ℕ) → length bytes ≤ n → length bytes ≤ m → fields_from n bytes ≡ fields_from m bytes
-enough n m [] a b = refl
-enough zero m (byte ∷ bytes) a b = absurd (omega (arith, a))
-enough (suc n) zero (byte ∷ bytes) a b = absurd (omega (arith, b))
-enough (suc n) (suc m) (byte ∷ bytes) a b =
+pub fields_from-enough : (n m : ℕ) (bytes : List ℕ) → length bytes ≤ n → length bytes ≤ m → fields_from n bytes ≡ fields_from m bytes
+fields_from-enough n m [] a b = refl
+fields_from-enough zero m (byte ∷ bytes) a b = absurd (omega (arith, a))
+fields_from-enough (suc n) zero (byte ∷ bytes) a b = absurd (omega (arith, b))
+fields_from-enough (suc n) (suc m) (byte ∷ bytes) a b =
     let left = length-drop (byte % 64) bytes in
     ap (λ (o : Option (List AreaField)). cond (nat_eq byte 0xc1) (Some []) (cond (nat_lt (length bytes) (byte % 64)) None (option_map (λ fields. field_in byte bytes ∷ fields) o)))
-    (enough n m (drop (byte % 64) bytes) (omega (arith, left, a)) (omega (arith, left, b)))
+    (fields_from-enough n m (drop (byte % 64) bytes) (omega (arith, left, a)) (omega (arith, left, b)))
 
 -- a field and what is after it
-pub fields_more : (byte : ℕ) (bytes : List ℕ) → byte ≢ 0xc1 → byte % 64 ≤ length bytes → fields_in (byte ∷ bytes) ≡ option_map (λ fields. field_in byte bytes ∷ fields) (fields_in (drop (byte % 64) bytes))
-fields_more byte bytes goes_on fits =
+pub fields_in-cons : (byte : ℕ) (bytes : List ℕ) → byte ≢ 0xc1 → byte % 64 ≤ length bytes → fields_in (byte ∷ bytes) ≡ option_map (λ fields. field_in byte bytes ∷ fields) (fields_in (drop (byte % 64) bytes))
+fields_in-cons byte bytes goes_on fits =
     let rest = drop (byte % 64) bytes in
     let left = length-drop (byte % 64) bytes in
     let more : Option (List AreaField) = option_map (λ fields. field_in byte bytes ∷ fields) (fields_from (length bytes) rest) in
-    ap (λ (b : Bool). cond b (Some []) (cond (nat_lt (length bytes) (byte % 64)) None more)) (ne_eqb byte 0xc1 goes_on)
-    ∙ ap (λ (b : Bool). cond b None more) within
-    ∙ ap (option_map (λ fields. field_in byte bytes ∷ fields)) (enough (length bytes) (length rest) rest (omega (arith, left)) (omega arith))
+    rw (ne_eqb byte 0xc1 goes_on, within) (ap (option_map (λ fields. field_in byte bytes ∷ fields)) (fields_from-enough (length bytes) (length rest) rest (omega (arith, left)) (omega arith)))
   where
     within : nat_lt (length bytes) (byte % 64) ≡ false
     within = grind (arith, nat_tests)
 
-pub begins_field : (bytes behind rest : List ℕ) (byte : ℕ) (field : AreaField) → bytes ≡ byte ∷ behind → byte ≢ 0xc1 → byte % 64 ≤ length behind → field ≡ field_in byte behind → rest ≡ drop (byte % 64) behind
+pub fields_in-first : (bytes after rest : List ℕ) (byte : ℕ) (field : AreaField) → bytes ≡ byte ∷ after → byte ≢ 0xc1 → byte % 64 ≤ length after → field ≡ field_in byte after → rest ≡ drop (byte % 64) after
     → fields_in bytes ≡ option_map (λ fields. field ∷ fields) (fields_in rest)
-begins_field bytes behind rest byte field is no_end fits field_is rest_is =
-    ap fields_in is ∙ fields_more byte behind no_end fits
-    ∙ ap (λ (l : List ℕ). option_map (λ (fields : List AreaField). field_in byte behind ∷ fields) (fields_in l)) (sym rest_is)
-    ∙ ap (λ (f : AreaField). option_map (λ (fields : List AreaField). f ∷ fields) (fields_in rest)) (sym field_is)
+fields_in-first bytes after rest byte field is no_end fits field_is rest_is =
+    ap fields_in is ∙ fields_in-cons byte after no_end fits ∙ rw (sym rest_is, sym field_is) refl
 
 -- ---- the fields that are found are those that the bytes spell
 
-cut_behind : (xs ys : List ℕ) (n : ℕ) → length xs ≡ n → take n (xs ++ ys) ≡ xs
-cut_behind xs ys n is = take-append-le n xs ys (omega (arith, is)) ∙ take_all n xs (omega (arith, is))
+take-append : (xs ys : List ℕ) (n : ℕ) → length xs ≡ n → take n (xs ++ ys) ≡ xs
+take-append xs ys n is = take-append-le n xs ys (omega (arith, is)) ∙ take_all n xs (omega (arith, is))
 
-rest_behind : (xs ys : List ℕ) (n : ℕ) → length xs ≡ n → drop n (xs ++ ys) ≡ ys
-rest_behind xs ys n is = drop-append-le n xs ys (omega (arith, is)) ∙ ap (λ (l : List ℕ). l ++ ys) (drop_all n xs (omega (arith, is)))
+drop-append : (xs ys : List ℕ) (n : ℕ) → length xs ≡ n → drop n (xs ++ ys) ≡ ys
+drop-append xs ys n is = drop-append-le n xs ys (omega (arith, is)) ∙ rw (drop_all n xs (omega (arith, is))) refl
 
 field_again : (byte : ℕ) (field : AreaField) (rest : List ℕ) → field.code ≡ byte / 64 → length field.bytes ≡ byte % 64 → field_in byte (field.bytes ++ rest) ≡ field
 field_again byte field rest code_is length_is =
-    ap (λ (l : List ℕ). let f : AreaField = record { code = byte / 64; bytes = l } in f) (cut_behind field.bytes rest (byte % 64) length_is)
-    ∙ ap (λ (n : ℕ). let f : AreaField = record { code = n; bytes = field.bytes } in f) (sym code_is)
+    rw (take-append field.bytes rest (byte % 64) length_is, sym code_is) refl
 
 one_spelt : (n byte : ℕ) (field : AreaField) (rest : List ℕ) (fields : List AreaField) → byte ≢ 0xc1 → field.code ≡ byte / 64 → length field.bytes ≡ byte % 64 → fields_from n rest ≡ Some fields
     → fields_from (suc n) (byte ∷ (field.bytes ++ rest)) ≡ Some (field ∷ fields)
 one_spelt n byte field rest fields no_end code_is length_is more =
     let bytes = field.bytes ++ rest in
     let found : Option (List AreaField) = option_map (λ fields. field_in byte bytes ∷ fields) (fields_from n (drop (byte % 64) bytes)) in
-    ap (λ (b : Bool). cond b (Some []) (cond (nat_lt (length bytes) (byte % 64)) None found)) (ne_eqb byte 0xc1 no_end)
-    ∙ ap (λ (b : Bool). cond b None found) within
-    ∙ ap (λ (l : List ℕ). option_map (λ (fields : List AreaField). field_in byte bytes ∷ fields) (fields_from n l)) (rest_behind field.bytes rest (byte % 64) length_is)
-    ∙ ap (option_map (λ fields. field_in byte bytes ∷ fields)) more
-    ∙ ap (λ (f : AreaField). Some (f ∷ fields)) (field_again byte field rest code_is length_is)
+    rw (ne_eqb byte 0xc1 no_end, within, drop-append field.bytes rest (byte % 64) length_is) (ap (option_map (λ fields. field_in byte bytes ∷ fields)) more ∙ rw (field_again byte field rest code_is length_is) refl)
   where
     within : nat_lt (length (field.bytes ++ rest)) (byte % 64) ≡ false
     within = let len = length-append field.bytes rest in grind (arith, nat_tests)
@@ -66,7 +57,7 @@ one_spelt n byte field rest fields no_end code_is length_is more =
 spelt : (n : ℕ) (bytes : List ℕ) (fields : List AreaField) → length bytes ≤ n → Spells bytes fields → fields_from n bytes ≡ Some fields
 spelt n [] [] fits spells = refl
 spelt zero (byte ∷ bytes) fields fits spells = absurd (omega (arith, fits))
-spelt (suc n) (byte ∷ bytes) [] fits spells = ap (λ (b : Bool). cond b (Some []) (cond (nat_lt (length bytes) (byte % 64)) None (option_map (λ fields. field_in byte bytes ∷ fields) (fields_from n (drop (byte % 64) bytes))))) (eq-eqb byte 0xc1 spells)
+spelt (suc n) (byte ∷ bytes) [] fits spells = rw (eq-eqb byte 0xc1 spells) refl
 spelt n [] (field ∷ fields) fits spells = let b = spells.1.0 in cc b.bytes_are
 spelt (suc n) (byte ∷ bytes) (field ∷ fields) fits spells =
     let rest = spells.0 in

@@ -1,39 +1,36 @@
 -- The records of the multirecord area, one after the other.
-use Rattle.std.proofs.Common.{◌≡◌, ℕ, zero, suc, ◌+◌, ◌<◌, ◌≤◌, Bool, true, false, cond, not, nat_lt, Option, None, Some, Result, Ok, Err, List, [], ◌∷◌, length, drop, take, slice_index, refl, sym, ap, subst, ◌∙◌, arith}
+use Rattle.std.proofs.Common.{◌≡◌, ℕ, zero, suc, ◌+◌, ◌<◌, ◌≤◌, Bool, true, false, cond, not, nat_lt, Option, None, Some, Result, Ok, List, [], ◌∷◌, length, drop, take, slice_index, refl, sym, ap, subst, ◌∙◌, arith}
 use Rattle.std.proofs.lemmas.List.{length-drop}
 use Rattle.std.proofs.lemmas.Bool.Decides.{nat_tests}
 use Rattle.ipmi_fru.specs.declared.multirecord.MultiFault.{MultiFault}
 use Rattle.ipmi_fru.specs.declared.multirecord.MultiFault.TheVariants as fault
 use Rattle.ipmi_fru.specs.Header.{is_zero_sum, offset_of, records_place}
-use Rattle.ipmi_fru.specs.Multirecord.{MultiRecord, RecordsEnd, ContinuesBy, IsRecordList, AreRecordsAt, HasItems, items_of, data_in, record_in, record_fault, behind_record, items_by, items_from, items_in}
+use Rattle.ipmi_fru.specs.Multirecord.{MultiRecord, RecordsEnd, ContinuesBy, IsRecordList, AreRecordsAt, HasItems, items_of, data_in, record_in, record_fault, after_record, items_by, items_from, items_in}
 
 -- more steps than there are bytes change nothing
-pub items_enough : (n m : ℕ) (bytes : List ℕ) → length bytes < n → length bytes < m → items_from n bytes ≡ items_from m bytes
-items_enough zero m bytes a b = absurd (omega (arith, a))
-items_enough (suc n) zero bytes a b = absurd (omega (arith, b))
-items_enough (suc n) (suc m) [] a b = refl
-items_enough (suc n) (suc m) (byte ∷ bytes) a b =
+pub items_from-enough : (n m : ℕ) (bytes : List ℕ) → length bytes < n → length bytes < m → items_from n bytes ≡ items_from m bytes
+items_from-enough zero m bytes a b = absurd (omega (arith, a))
+items_from-enough (suc n) zero bytes a b = absurd (omega (arith, b))
+items_from-enough (suc n) (suc m) [] a b = refl
+items_from-enough (suc n) (suc m) (byte ∷ bytes) a b =
     let left = length-drop (5 + slice_index (byte ∷ bytes) 2) (byte ∷ bytes) in
-    ap (items_by (record_fault (byte ∷ bytes)) (record_in (byte ∷ bytes))) (items_enough n m (behind_record (byte ∷ bytes)) (omega (arith, left, a)) (omega (arith, left, b)))
+    ap (items_by (record_fault (byte ∷ bytes)) (record_in (byte ∷ bytes))) (items_from-enough n m (after_record (byte ∷ bytes)) (omega (arith, left, a)) (omega (arith, left, b)))
 
 module _ (bytes : List ℕ) where
-  pub items_fault : (f : MultiFault) → record_fault bytes ≡ Some f → items_in bytes ≡ Err f ∷ []
-  items_fault f is = ap (λ (o : Option MultiFault). items_by o (record_in bytes) (items_from (length bytes) (behind_record bytes))) is
+  pub items_in-last : record_fault bytes ≡ None → (r : MultiRecord) → r ≡ record_in bytes → r.last ≡ true → items_in bytes ≡ Ok r ∷ []
+  items_in-last fine r is last =
+      ap (λ (o : Option MultiFault). items_by o (record_in bytes) (items_from (length bytes) (after_record bytes))) fine
+      ∙ ap (λ (r : MultiRecord). items_by None r (items_from (length bytes) (after_record bytes))) (sym is)
+      ∙ ap (λ (b : Bool). Ok r ∷ cond b [] (items_from (length bytes) (after_record bytes))) last
 
-  pub items_last : record_fault bytes ≡ None → (r : MultiRecord) → r ≡ record_in bytes → r.last ≡ true → items_in bytes ≡ Ok r ∷ []
-  items_last fine r is last =
-      ap (λ (o : Option MultiFault). items_by o (record_in bytes) (items_from (length bytes) (behind_record bytes))) fine
-      ∙ ap (λ (r : MultiRecord). items_by None r (items_from (length bytes) (behind_record bytes))) (sym is)
-      ∙ ap (λ (b : Bool). Ok r ∷ cond b [] (items_from (length bytes) (behind_record bytes))) last
-
-  pub items_more : record_fault bytes ≡ None → (r : MultiRecord) (rest : List ℕ) → r ≡ record_in bytes → rest ≡ behind_record bytes → r.last ≡ false → length rest < length bytes → items_in bytes ≡ Ok r ∷ items_in rest
-  items_more fine r rest is rest_is last shorter =
-      let more = items_from (length bytes) (behind_record bytes) in
+  pub items_in-more : record_fault bytes ≡ None → (r : MultiRecord) (rest : List ℕ) → r ≡ record_in bytes → rest ≡ after_record bytes → r.last ≡ false → length rest < length bytes → items_in bytes ≡ Ok r ∷ items_in rest
+  items_in-more fine r rest is rest_is last shorter =
+      let more = items_from (length bytes) (after_record bytes) in
       ap (λ (o : Option MultiFault). items_by o (record_in bytes) more) fine
       ∙ ap (λ (r : MultiRecord). items_by None r more) (sym is)
       ∙ ap (λ (b : Bool). Ok r ∷ cond b [] more) last
       ∙ ap (λ (l : List ℕ). Ok r ∷ items_from (length bytes) l) (sym rest_is)
-      ∙ ap (λ (l : List (Result MultiRecord MultiFault)). Ok r ∷ l) (items_enough (length bytes) (suc (length rest)) rest shorter (omega arith))
+      ∙ ap (λ (l : List (Result MultiRecord MultiFault)). Ok r ∷ l) (items_from-enough (length bytes) (suc (length rest)) rest shorter (omega arith))
 
 -- ---- the items that are found are those of the one list of records
 
@@ -55,16 +52,16 @@ enough_bytes bytes fine = by (nat_lt (length bytes) 5) refl fine
 
 listed : (n : ℕ) (bytes : List ℕ) → length bytes < n → IsListed bytes (items_from n bytes)
 listed zero bytes lt = absurd (omega (arith, lt))
-listed (suc n) bytes lt = by (λ shorter. listed n (behind_record bytes) shorter) (record_fault bytes) refl
+listed (suc n) bytes lt = by (λ shorter. listed n (after_record bytes) shorter) (record_fault bytes) refl
   where
     r : MultiRecord
     r = record_in bytes
 
-    last_or_more : (length (behind_record bytes) < n → IsListed (behind_record bytes) (items_from n (behind_record bytes))) → record_fault bytes ≡ None → (last : Bool) → r.last ≡ last → IsListed bytes (Ok r ∷ cond last [] (items_from n (behind_record bytes)))
+    last_or_more : (length (after_record bytes) < n → IsListed (after_record bytes) (items_from n (after_record bytes))) → record_fault bytes ≡ None → (last : Bool) → r.last ≡ last → IsListed bytes (Ok r ∷ cond last [] (items_from n (after_record bytes)))
     last_or_more ih fine true is = record {
       records = r ∷ [];
       end = None;
-      is_list = (fine, (refl, subst (λ (b : Bool). ContinuesBy b [] None (IsRecordList (behind_record bytes) [] None)) (sym is) (refl, refl)));
+      is_list = (fine, (refl, subst (λ (b : Bool). ContinuesBy b [] None (IsRecordList (after_record bytes) [] None)) (sym is) (refl, refl)));
       items_are = refl;
     }
     last_or_more ih fine false is =
@@ -74,11 +71,11 @@ listed (suc n) bytes lt = by (λ shorter. listed n (behind_record bytes) shorter
         record {
           records = r ∷ more.records;
           end = more.end;
-          is_list = (fine, (refl, subst (λ (b : Bool). ContinuesBy b more.records more.end (IsRecordList (behind_record bytes) more.records more.end)) (sym is) more.is_list));
-          items_are = ap (λ (l : List (Result MultiRecord MultiFault)). Ok r ∷ l) more.items_are;
+          is_list = (fine, (refl, subst (λ (b : Bool). ContinuesBy b more.records more.end (IsRecordList (after_record bytes) more.records more.end)) (sym is) more.is_list));
+          items_are = rw more.items_are refl;
         }
 
-    by : (length (behind_record bytes) < n → IsListed (behind_record bytes) (items_from n (behind_record bytes))) → (o : Option MultiFault) → record_fault bytes ≡ o → IsListed bytes (items_by o r (items_from n (behind_record bytes)))
+    by : (length (after_record bytes) < n → IsListed (after_record bytes) (items_from n (after_record bytes))) → (o : Option MultiFault) → record_fault bytes ≡ o → IsListed bytes (items_by o r (items_from n (after_record bytes)))
     by ih (Some f) is = record { records = []; end = Some f; is_list = is; items_are = refl }
     by ih None is = last_or_more ih is r.last refl
 

@@ -1,5 +1,5 @@
 -- An inventory has at most one text.
-use Rattle.std.proofs.Common.{◌≡◌, ◌∙◌, inl, inr, ℕ, Option, None, Some, Result, Ok, Err, List, [], ◌∷◌, ◌++◌, refl, ap, sym, subst, codes}
+use Rattle.std.proofs.Common.{◌≡◌, ◌∙◌, inl, inr, ℕ, Option, None, Some, Result, Ok, Err, List, [], ◌∷◌, refl, ap, sym, subst, codes}
 use Rattle.ipmi_text.specs.Laws.{DecimalIsUnique, MinutesTextIsUnique}
 use Rattle.ipmi_fru.specs.declared.area.AreaKind.{AreaKind}
 use Rattle.ipmi_fru.specs.declared.area.AreaKind.TheVariants.{Chassis, Board, Product}
@@ -9,10 +9,10 @@ use Rattle.ipmi_fru.specs.declared.multirecord.MultiFault.{MultiFault}
 use Rattle.ipmi_fru.specs.declared.record_text.RecordForm.{RecordForm}
 use Rattle.ipmi_fru.specs.declared.record_text.RecordForm.TheVariants.{Dc, Access, Other}
 use Rattle.ipmi_fru.specs.Header.{header_fault, offset_of, records_place}
-use Rattle.ipmi_fru.specs.Field.{AreaField, Spells}
+use Rattle.ipmi_fru.specs.Field.{Spells}
 use Rattle.ipmi_fru.specs.Area.{Area, IsArea, IsAreaFault, IsFound, field_bytes, place_of}
 use Rattle.ipmi_fru.specs.Multirecord.{MultiRecord, RecordsEnd, AreRecordsAt, SameList, items_of}
-use Rattle.ipmi_fru.specs.Print.{IsLead, IsTextFound, IsTextOfArea, IsVoltsAt, IsTextInForm, IsItemText, AreItemTexts, IsTextOfRecords, IsTextByFault, IsFruText, field_lines, labels_of, extra_label, language_of, form_of}
+use Rattle.ipmi_fru.specs.Print.{IsLead, IsTextFound, IsTextOfArea, IsVoltsAt, IsTextInForm, IsItemText, AreItemTexts, IsTextOfRecords, IsTextByFault, IsFruText, form_of}
 use Rattle.ipmi_text.specs.Lines.{labelled}
 use Rattle.ipmi_fru.proofs.UniqueLemmas.{one_list_of_fields, one_list_of_records}
 
@@ -22,9 +22,7 @@ module _ (one_text : DecimalIsUnique) (one_minutes_text : MinutesTextIsUnique) w
   -- areas with equal parts are equal
   same_area : (a b : Area) → a.kind ≡ b.kind → a.bytes ≡ b.bytes → a.fields ≡ b.fields → a ≡ b
   same_area a b kind bytes fields =
-      ap (λ (k : AreaKind). record { kind = k; bytes = a.bytes; fields = a.fields }) kind
-      ∙ ap (λ (l : List ℕ). record { kind = b.kind; bytes = l; fields = a.fields }) bytes
-      ∙ ap (λ (l : List AreaField). record { kind = b.kind; bytes = b.bytes; fields = l }) fields
+      ap (λ (k : AreaKind). record { kind = k; bytes = a.bytes; fields = a.fields }) kind ∙ rw (bytes, fields) refl
 
   one_area : (kind : AreaKind) (offset : ℕ) (bytes : List ℕ) (a b : Area) → IsArea kind offset bytes a → IsArea kind offset bytes b → a ≡ b
   one_area kind offset bytes a b x y =
@@ -72,9 +70,7 @@ module _ (one_text : DecimalIsUnique) (one_minutes_text : MinutesTextIsUnique) w
   one_text_found : (kind : AreaKind) (found : Option (Result Area AreaFault)) (text other : List ℕ) → IsTextFound kind found text → IsTextFound kind found other → text ≡ other
   one_text_found kind None text other h k = h ∙ sym k
   one_text_found kind (Some (Ok area)) text other h k =
-      h.text_is
-      ∙ ap (λ (lead : List ℕ). lead ++ field_lines (language_of area.kind area.bytes) (labels_of area.kind) (extra_label area.kind) area.fields) (one_lead area.kind area.bytes h.lead k.lead h.is_lead k.is_lead)
-      ∙ sym k.text_is
+      h.text_is ∙ rw (one_lead area.kind area.bytes h.lead k.lead h.is_lead k.is_lead) (sym k.text_is)
   one_text_found kind (Some (Err f)) text other h k = h ∙ sym k
 
   one_area_text : (kind : AreaKind) (bytes text other : List ℕ) → IsTextOfArea kind bytes text → IsTextOfArea kind bytes other → text ≡ other
@@ -102,10 +98,7 @@ module _ (one_text : DecimalIsUnique) (one_minutes_text : MinutesTextIsUnique) w
   one_list : (items : List (Result MultiRecord MultiFault)) (text other : List ℕ) → AreItemTexts items text → AreItemTexts items other → text ≡ other
   one_list [] text other h k = h ∙ sym k
   one_list (item ∷ items) text other h k =
-      h.2.1.1
-      ∙ ap (λ (l : List ℕ). l ++ h.1) (one_item item h.0 k.0 h.2.0 k.2.0)
-      ∙ ap (λ (l : List ℕ). k.0 ++ l) (one_list items h.1 k.1 h.2.1.0 k.2.1.0)
-      ∙ sym k.2.1.1
+      h.2.1.1 ∙ rw (one_item item h.0 k.0 h.2.0 k.2.0, one_list items h.1 k.1 h.2.1.0 k.2.1.0) (sym k.2.1.1)
 
   one_records_at : (at : Option ℕ) (bytes : List ℕ) (a b : List MultiRecord) (e f : RecordsEnd) → AreRecordsAt at bytes a e → AreRecordsAt at bytes b f → SameList a b e f
   one_records_at None bytes a b e f x y = record { records = x.0 ∙ sym y.0; ends = x.1 ∙ sym y.1 }
@@ -114,7 +107,7 @@ module _ (one_text : DecimalIsUnique) (one_minutes_text : MinutesTextIsUnique) w
   one_records_text : (bytes text other : List ℕ) → IsTextOfRecords bytes text → IsTextOfRecords bytes other → text ≡ other
   one_records_text bytes text other h k =
       let same = one_records_at (offset_of records_place bytes) bytes h.records k.records h.end k.end h.are_records k.are_records in
-      let items : items_of h.records h.end ≡ items_of k.records k.end = ap (λ (l : List MultiRecord). items_of l h.end) same.records ∙ ap (items_of k.records) same.ends in
+      let items : items_of h.records h.end ≡ items_of k.records k.end = rw same.records (ap (items_of k.records) same.ends) in
       one_list (items_of k.records k.end) text other (subst (λ (l : List (Result MultiRecord MultiFault)). AreItemTexts l text) items h.are_texts) k.are_texts
 
   -- ---- the inventory
@@ -122,12 +115,7 @@ module _ (one_text : DecimalIsUnique) (one_minutes_text : MinutesTextIsUnique) w
   one_by_fault : (o : Option FruFault) (bytes text other : List ℕ) → IsTextByFault o bytes text → IsTextByFault o bytes other → text ≡ other
   one_by_fault (Some f) bytes text other h k = h ∙ sym k
   one_by_fault None bytes text other h k =
-      h.text_is
-      ∙ ap (λ (l : List ℕ). l ++ (h.board ++ (h.product ++ h.records))) (one_area_text Chassis bytes h.chassis k.chassis h.is_chassis k.is_chassis)
-      ∙ ap (λ (l : List ℕ). k.chassis ++ (l ++ (h.product ++ h.records))) (one_area_text Board bytes h.board k.board h.is_board k.is_board)
-      ∙ ap (λ (l : List ℕ). k.chassis ++ (k.board ++ (l ++ h.records))) (one_area_text Product bytes h.product k.product h.is_product k.is_product)
-      ∙ ap (λ (l : List ℕ). k.chassis ++ (k.board ++ (k.product ++ l))) (one_records_text bytes h.records k.records h.is_records k.is_records)
-      ∙ sym k.text_is
+      h.text_is ∙ rw (one_area_text Chassis bytes h.chassis k.chassis h.is_chassis k.is_chassis, one_area_text Board bytes h.board k.board h.is_board k.is_board, one_area_text Product bytes h.product k.product h.is_product k.is_product, one_records_text bytes h.records k.records h.is_records k.is_records) (sym k.text_is)
 
   pub one_fru_text : (bytes text other : List ℕ) → IsFruText bytes text → IsFruText bytes other → text ≡ other
   one_fru_text bytes text other h k = one_by_fault (header_fault bytes) bytes text other h k

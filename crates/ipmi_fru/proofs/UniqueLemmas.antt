@@ -3,7 +3,7 @@ use Rattle.std.proofs.Common.{◌≡◌, ℕ, zero, suc, ◌+◌, ◌<◌, Bool,
 use Rattle.std.proofs.lemmas.List.{length-drop}
 use Rattle.ipmi_fru.specs.declared.multirecord.MultiFault.{MultiFault}
 use Rattle.ipmi_fru.specs.Field.{AreaField, Spells}
-use Rattle.ipmi_fru.specs.Multirecord.{MultiRecord, RecordsEnd, ContinuesBy, IsRecordList, SameList, record_in, behind_record, items_of, items_by, items_from}
+use Rattle.ipmi_fru.specs.Multirecord.{MultiRecord, RecordsEnd, ContinuesBy, IsRecordList, SameList, record_in, after_record, items_of, items_by, items_from}
 use Rattle.ipmi_fru.proofs.FieldLemmas.{are_found}
 use Rattle.ipmi_fru.proofs.RecordLemmas.{enough_bytes}
 
@@ -13,17 +13,17 @@ one_list_of_fields bytes a b x y = let same : Some a ≡ Some b = sym (are_found
 items_listed : (n : ℕ) (bytes : List ℕ) (records : List MultiRecord) (end : RecordsEnd) → length bytes < n → IsRecordList bytes records end → items_from n bytes ≡ items_of records end
 items_listed zero bytes records end lt is = absurd (omega (arith, lt))
 items_listed (suc n) bytes [] None lt is = absurd is
-items_listed (suc n) bytes [] (Some f) lt is = ap (λ (o : Option MultiFault). items_by o (record_in bytes) (items_from n (behind_record bytes))) is
+items_listed (suc n) bytes [] (Some f) lt is = ap (λ (o : Option MultiFault). items_by o (record_in bytes) (items_from n (after_record bytes))) is
 items_listed (suc n) bytes (r ∷ records) end lt is =
     let left = length-drop (5 + slice_index bytes 2) bytes in
     let some = enough_bytes bytes is.0 in
-    let fewer : length (behind_record bytes) < n = omega (arith, left, some, lt) in
-    ap (λ (o : Option MultiFault). items_by o (record_in bytes) (items_from n (behind_record bytes))) is.0
-    ∙ ap (λ (r : MultiRecord). items_by None r (items_from n (behind_record bytes))) (sym is.1.0)
-    ∙ by (λ more. items_listed n (behind_record bytes) records end fewer more) r.last is.1.1
+    let fewer : length (after_record bytes) < n = omega (arith, left, some, lt) in
+    ap (λ (o : Option MultiFault). items_by o (record_in bytes) (items_from n (after_record bytes))) is.0
+    ∙ ap (λ (r : MultiRecord). items_by None r (items_from n (after_record bytes))) (sym is.1.0)
+    ∙ by (λ more. items_listed n (after_record bytes) records end fewer more) r.last is.1.1
   where
-    by : (IsRecordList (behind_record bytes) records end → items_from n (behind_record bytes) ≡ items_of records end) → (last : Bool) → ContinuesBy last records end (IsRecordList (behind_record bytes) records end)
-        → ◌≡◌ {A = List (Result MultiRecord MultiFault)} (Ok r ∷ cond last [] (items_from n (behind_record bytes))) (Ok r ∷ items_of records end)
+    by : (IsRecordList (after_record bytes) records end → items_from n (after_record bytes) ≡ items_of records end) → (last : Bool) → ContinuesBy last records end (IsRecordList (after_record bytes) records end)
+        → ◌≡◌ {A = List (Result MultiRecord MultiFault)} (Ok r ∷ cond last [] (items_from n (after_record bytes))) (Ok r ∷ items_of records end)
     by ih true more = ap (λ (l : List (Result MultiRecord MultiFault)). Ok r ∷ l) (sym (ap (λ (l : List MultiRecord). items_of l end) more.0 ∙ ap (items_of []) more.1))
     by ih false more = ap (λ (l : List (Result MultiRecord MultiFault)). Ok r ∷ l) (ih more)
 

@@ -19,8 +19,8 @@ abbrev pub data_in : List ℕ → List ℕ
 data_in bytes = take (slice_index bytes 2) (drop 5 bytes)
 
 -- what comes after the record
-abbrev pub behind_record : List ℕ → List ℕ
-behind_record bytes = drop (5 + slice_index bytes 2) bytes
+abbrev pub after_record : List ℕ → List ℕ
+after_record bytes = drop (5 + slice_index bytes 2) bytes
 
 -- the record that bytes begin with
 abbrev pub record_in : List ℕ → MultiRecord
@@ -60,7 +60,7 @@ abbrev pub IsRecordList : List ℕ → List MultiRecord → RecordsEnd → Type 
 IsRecordList bytes [] None = ⊥
 IsRecordList bytes [] (Some f) = record_fault bytes ≡ Some f
 IsRecordList bytes (r ∷ records) end =
-    (record_fault bytes ≡ None) × ((r ≡ record_in bytes) × ContinuesBy r.last records end (IsRecordList (behind_record bytes) records end))
+    (record_fault bytes ≡ None) × ((r ≡ record_in bytes) × ContinuesBy r.last records end (IsRecordList (after_record bytes) records end))
 
 -- the records from an offset on, where there is one; without one no records and no fault
 abbrev pub AreRecordsAt : Option ℕ → List ℕ → List MultiRecord → RecordsEnd → Type 0
@@ -88,7 +88,7 @@ items_by None r more = Ok r ∷ (if r.last then [] else more)
 -- with at most n of them
 abbrev pub items_from : ℕ → List ℕ → List (Result MultiRecord MultiFault)
 items_from zero bytes = []
-items_from (suc n) bytes = items_by (record_fault bytes) (record_in bytes) (items_from n (behind_record bytes))
+items_from (suc n) bytes = items_by (record_fault bytes) (record_in bytes) (items_from n (after_record bytes))
 
 -- no more of them than bytes and one
 abbrev pub items_in : List ℕ → List (Result MultiRecord MultiFault)

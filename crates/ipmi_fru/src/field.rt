@@ -50,14 +50,14 @@ impl<'a> Beginning<'a> {
     fn of(bytes: &'a [u8]) -> Beginning<'a>
         ensures { Begins bytes.now result }
     {
-        let Some((first, behind)) = bytes.split_first() else {
+        let Some((first, after)) = bytes.split_first() else {
             return Beginning::End;
         };
         let type_length = *first;
         if type_length == NO_MORE_FIELDS {
             return Beginning::End;
         }
-        let Some((bytes, rest)) = behind.split_at_checked(len_of(type_length)) else {
+        let Some((bytes, rest)) = after.split_at_checked(len_of(type_length)) else {
             return Beginning::PastEnd;
         };
         let code = code_of(type_length);
@@ -94,7 +94,7 @@ impl<'a> Fields<'a> {
             match Beginning::of(rest) {
                 Beginning::End => return true,
                 Beginning::PastEnd => return false,
-                Beginning::Field(_, behind) => rest = behind,
+                Beginning::Field(_, after) => rest = after,
             }
         }
     }

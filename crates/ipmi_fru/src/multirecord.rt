@@ -1,6 +1,6 @@
 //! The multirecord area of an inventory: records one after the other, up to one that is marked as the last.
 ghost use Rattle.std.specs.Prelude.{◌≡◌, ◌<◌, IfOk, IfErr, Some, None, length};
-ghost use Rattle.ipmi_fru.specs.Multirecord.{record_in, record_fault, multi_fault_name, behind_record, record_of, items_after, items_left};
+ghost use Rattle.ipmi_fru.specs.Multirecord.{record_in, record_fault, multi_fault_name, after_record, record_of, items_after, items_left};
 
 use crate::header::{is_zero_sum, sum_of};
 use thiserror::Error;
@@ -59,7 +59,7 @@ pub struct MultiView<'a> {
 fn read_record(bytes: &[u8]) -> Result<(MultiView<'_>, &[u8]), MultiFault>
     ensures fine { IfOk result (λ r. record_fault bytes.now ≡ None) }
     ensures record { IfOk result (λ r. record_of r.0 ≡ record_in bytes.now) }
-    ensures rest { IfOk result (λ r. r.1.now ≡ behind_record bytes.now) }
+    ensures rest { IfOk result (λ r. r.1.now ≡ after_record bytes.now) }
     ensures shorter { IfOk result (λ r. length r.1.now < length bytes.now) }
     ensures err { IfErr result (λ fault. record_fault bytes.now ≡ Some fault) }
 {

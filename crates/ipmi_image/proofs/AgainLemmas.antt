@@ -1,5 +1,5 @@
 -- A rewritten image gives the store that it was made of.
-use Rattle.std.proofs.Common.{◌≡◌, ℕ, zero, suc, ◌+◌, ◌/◌, ◌<◌, ◌≤◌, Bool, true, false, cond, not, nat_eq, Option, None, Some, Result, Ok, Err, List, [], ◌∷◌, ◌++◌, length, take, drop, map, refl, sym, ap, subst, ◌∙◌, append_assoc, arith, codes}
+use Rattle.std.proofs.Common.{◌≡◌, ℕ, zero, suc, ◌+◌, ◌/◌, ◌<◌, ◌≤◌, Bool, true, false, cond, nat_eq, Option, None, Some, Result, Ok, Err, List, [], ◌∷◌, ◌++◌, length, take, drop, map, refl, sym, ap, subst, ◌∙◌, append_assoc, arith, codes}
 use Rattle.std.specs.Option.{IfSome}
 use Rattle.std.specs.List.{All, filter_map, flat_map, join_with_byte}
 use Rattle.std.proofs.lemmas.Bool.{eq-eqb}
@@ -13,18 +13,17 @@ use Rattle.ipmi_text.specs.Bytes.{AreBytes}
 use Rattle.ipmi_bus.specs.Shelf.{Row, IsRow, AllRows}
 use Rattle.ipmi_bus.specs.Store.{Store, Inventory, SensorReading, IsInventory, IsInfo, IsSensorReading, IsStore}
 use Rattle.ipmi_image.specs.declared.line.LineFault.{LineFault}
-use Rattle.ipmi_image.specs.declared.line.LineFault.TheVariants as fault
 use Rattle.ipmi_image.specs.Text.{pieces}
 use Rattle.ipmi_image.specs.Line.{SavedRow, Line, a_row, an_inventory, a_reading, an_info, the_end, row_line, info_line_of, line_of_fields, line_of}
-use Rattle.ipmi_image.specs.Image.{row_on, rows_on, chained, inventories_of, sensor_on, info_on, first_of, info_fault, fault_in, unless_fault, is_end, store_of_lines, store_behind, store_of_pieces, store_of_image}
+use Rattle.ipmi_image.specs.Image.{row_on, rows_on, chained, inventories_of, sensor_on, info_on, first_of, info_fault, fault_in, unless_fault, is_end, store_of_lines, store_after, store_of_pieces, store_of_image}
 use Rattle.ipmi_image.specs.Rewritten.{hex_of, first_row_id, next_field, row_fields, rows_lines, first_parts, part_fields, inventory_lines, reading_fields, info_lines, line_text, lines_text, lines_of, image_text_of, IsSaved}
 use Rattle.ipmi_image.proofs.TextLemmas.{Lacks, pieces_one, pieces_more}
 use Rattle.ipmi_image.proofs.ReadLemmas.{after_line}
 use Rattle.ipmi_image.proofs.ParseLemmas.{IsField, AreFields, a_word, a_hex, one_are, two_are, no_feed, line_again, saved_row, row_again, part_again, bytes_of_reading, reading_again, info_again}
-use Rattle.ipmi_image.proofs.RewriteLemmas.{digit_of, lines_text-append, text_is}
+use Rattle.ipmi_image.proofs.RewriteLemmas.{of_lun, digit_of, lines_text-append, text_is}
 use Rattle.ipmi_image.proofs.StoreLemmas.{same_store}
 use Rattle.ipmi_image.proofs.TakenLemmas.{Says, Taken, all_taken, saved_rows, chained-saved, row_lines, shelf_taken, rows_of_lines}
-use Rattle.ipmi_image.proofs.GivenLemmas.{Taken-append, said_inventory, Given, inventories_given, said_reading, readings_given, AreSilent, silent, silent_map, silent_inventories, same_behind, AreOthers, others_map, same_inventories}
+use Rattle.ipmi_image.proofs.GivenLemmas.{Taken-append, said_inventory, Given, inventories_given, said_reading, readings_given, AreSilent, silent, silent_map, silent_inventories, filter_map-silent, AreOthers, others_map, same_inventories}
 
 -- ---- fields that are lines
 
@@ -57,8 +56,7 @@ cut_again (fields ∷ texts) (line ∷ lines) rest s =
     let first = join_with_byte 32 fields in
     let one = s.0 in
     ap (pieces 10) (append_assoc (line_text fields) (lines_text texts) rest ∙ append_assoc first (10 ∷ []) (lines_text texts ++ rest))
-    ∙ pieces_more 10 first (lines_text texts ++ rest) one.none
-    ∙ ap (λ (l : List (List ℕ)). first ∷ l) (cut_again texts lines rest s.1)
+    ∙ pieces_more 10 first (lines_text texts ++ rest) one.none ∙ rw (cut_again texts lines rest s.1) refl
 cut_again _ _ rest s = absurd s
 
 says_fields : (first : List ℕ) (fields : List (List ℕ)) (line : Line) → AreFields (first ∷ fields) → line_of_fields true (first ∷ fields) ≡ Ok line → is_end line ≡ false → SaysLine (first ∷ fields) line
@@ -135,14 +133,7 @@ reading_bytes sensor ok =
     All-cons (λ (b : ℕ). b < 256) r.raw (r.flags ∷ r.status ∷ r.more ∷ []) ok.raw flags
 
 a_lun : (lun : ℕ) → lun ≤ 3 → IsField (drop 1 (hex_of 1 lun))
-a_lun lun le = subst IsField (sym (digit_of lun le)) (by lun le)
-  where
-    by : (lun : ℕ) → lun ≤ 3 → IsField ((48 + lun) ∷ [])
-    by zero h = a_word (codes "0") refl refl
-    by (suc zero) h = a_word (codes "1") refl refl
-    by (suc (suc zero)) h = a_word (codes "2") refl refl
-    by (suc (suc (suc zero))) h = a_word (codes "3") refl refl
-    by (suc (suc (suc (suc n)))) h = absurd (omega (arith, h))
+a_lun lun le = rw (digit_of lun le) (of_lun (λ lun. IsField ((48 + lun) ∷ [])) (a_word (codes "0") refl refl) (a_word (codes "1") refl refl) (a_word (codes "2") refl refl) (a_word (codes "3") refl refl) lun le)
 
 reading_says : (sensor : SensorReading) → IsSensorReading sensor → sensor.lun ≤ 3 → SaysLine (reading_fields sensor) (said_reading sensor)
 reading_says sensor ok le =
@@ -185,7 +176,7 @@ fault_of_info Sel lines bytes = refl
 info_taken : (shelf : Shelf) (info : Option (List ℕ)) (lines : List Line) → IfSome info IsInfo → filter_map (info_on shelf) lines ≡ [] → Taken lines (said_info shelf info)
 info_taken shelf None lines ok none = tt
 info_taken shelf (Some bytes) lines ok none =
-    (fault_of_info shelf lines bytes ∙ ap (λ (l : List (List ℕ)). info_fault (first_of l) bytes) none ∙ ap (λ (b : Bool). cond (not b) (Some fault.Length) None) (eq-eqb _ _ ok.len), tt)
+    (fault_of_info shelf lines bytes ∙ rw (none, eq-eqb _ _ ok.len) refl, tt)
 
 info_first : (shelf : Shelf) (info : Option (List ℕ)) → first_of (filter_map (info_on shelf) (said_info shelf info)) ≡ info
 info_first Sdr None = refl
@@ -245,21 +236,21 @@ module _ (store : Store) (is : IsStore store) (saved : IsSaved store) where
   -- none of the infos, and of the readings, and of the inventories
   before_infos : {Y : Type 0} (h : Line → Option Y) → ((shelf : Shelf) (bytes : List ℕ) → h (an_info shelf bytes) ≡ None) → filter_map h all_lines ≡ filter_map h to_sensors
   before_infos h none =
-      same_behind h to_sdr_info (said_info Sel store.sel_info) (silent_info h Sel store.sel_info (none Sel))
-      ∙ same_behind h to_sensors (said_info Sdr store.sdr_info) (silent_info h Sdr store.sdr_info (none Sdr))
+      filter_map-silent h to_sdr_info (said_info Sel store.sel_info) (silent_info h Sel store.sel_info (none Sel))
+      ∙ filter_map-silent h to_sensors (said_info Sdr store.sdr_info) (silent_info h Sdr store.sdr_info (none Sdr))
 
   before_inventories : {Y : Type 0} (h : Line → Option Y) → ((id : ℕ) (bytes : List ℕ) → h (an_inventory id bytes) ≡ None) → ((lun number : ℕ) (bytes : List ℕ) → h (a_reading lun number bytes) ≡ None) → filter_map h to_sensors ≡ filter_map h to_sel
   before_inventories h a b =
-      same_behind h to_fru sensor_lines (readings_silent h b)
-      ∙ same_behind h to_sel fru_lines (silent_inventories h store.inventories a)
+      filter_map-silent h to_fru sensor_lines (readings_silent h b)
+      ∙ filter_map-silent h to_sel fru_lines (silent_inventories h store.inventories a)
 
   no_rows_yet : {Y : Type 0} (h : Line → Option Y) → ((shelf : Shelf) (s : SavedRow) → h (a_row shelf s) ≡ None) → filter_map h to_sel ≡ []
-  no_rows_yet h none = same_behind h sdr_lines sel_lines (rows_silent h Sel store.sel (none Sel)) ∙ silent h sdr_lines (rows_silent h Sdr store.sdr (none Sdr))
+  no_rows_yet h none = filter_map-silent h sdr_lines sel_lines (rows_silent h Sel store.sel (none Sel)) ∙ silent h sdr_lines (rows_silent h Sdr store.sdr (none Sdr))
 
   sdr_rows : rows_on Sdr all_lines ≡ saved_rows store.sdr
   sdr_rows =
       before_infos (row_on Sdr) (λ shelf bytes. refl) ∙ before_inventories (row_on Sdr) (λ id bytes. refl) (λ lun number bytes. refl)
-      ∙ same_behind (row_on Sdr) sdr_lines sel_lines (rows_silent (row_on Sdr) Sel store.sel (λ s. refl)) ∙ rows_of_lines Sdr store.sdr
+      ∙ filter_map-silent (row_on Sdr) sdr_lines sel_lines (rows_silent (row_on Sdr) Sel store.sel (λ s. refl)) ∙ rows_of_lines Sdr store.sdr
 
   no_sel_rows : rows_on Sel sdr_lines ≡ []
   no_sel_rows = silent (row_on Sel) sdr_lines (rows_silent (row_on Sel) Sdr store.sdr (λ s. refl))
@@ -267,7 +258,7 @@ module _ (store : Store) (is : IsStore store) (saved : IsSaved store) where
   sel_rows : rows_on Sel all_lines ≡ saved_rows store.sel
   sel_rows =
       before_infos (row_on Sel) (λ shelf bytes. refl) ∙ before_inventories (row_on Sel) (λ id bytes. refl) (λ lun number bytes. refl)
-      ∙ filter_map-append (row_on Sel) sdr_lines sel_lines ∙ ap (λ (l : List SavedRow). l ++ rows_on Sel sel_lines) no_sel_rows ∙ rows_of_lines Sel store.sel
+      ∙ filter_map-append (row_on Sel) sdr_lines sel_lines ∙ rw no_sel_rows (rows_of_lines Sel store.sel)
 
   no_inventory : inventories_of to_sel ≡ []
   no_inventory =
@@ -278,7 +269,7 @@ module _ (store : Store) (is : IsStore store) (saved : IsSaved store) where
   given = inventories_given [] store.inventories to_sel no_inventory is.inventories saved.some is.distinct_inventories
 
   no_reading : filter_map sensor_on to_fru ≡ []
-  no_reading = same_behind sensor_on to_sel fru_lines (silent_inventories sensor_on store.inventories (λ id bytes. refl)) ∙ no_rows_yet sensor_on (λ shelf s. refl)
+  no_reading = filter_map-silent sensor_on to_sel fru_lines (silent_inventories sensor_on store.inventories (λ id bytes. refl)) ∙ no_rows_yet sensor_on (λ shelf s. refl)
 
   given_readings : Given (filter_map sensor_on) to_fru sensor_lines store.readings
   given_readings = readings_given [] store.readings to_fru no_reading saved.luns is.distinct_readings
@@ -288,7 +279,7 @@ module _ (store : Store) (is : IsStore store) (saved : IsSaved store) where
   no_info Sel = before_inventories (info_on Sel) (λ id bytes. refl) (λ lun number bytes. refl) ∙ no_rows_yet (info_on Sel) (λ shelf s. refl)
 
   no_sel_info : filter_map (info_on Sel) to_sdr_info ≡ []
-  no_sel_info = same_behind (info_on Sel) to_sensors (said_info Sdr store.sdr_info) (silent_info (info_on Sel) Sdr store.sdr_info (λ bytes. refl)) ∙ no_info Sel
+  no_sel_info = filter_map-silent (info_on Sel) to_sensors (said_info Sdr store.sdr_info) (silent_info (info_on Sel) Sdr store.sdr_info (λ bytes. refl)) ∙ no_info Sel
 
   lines_taken : Taken [] all_lines
   lines_taken =
@@ -298,8 +289,8 @@ module _ (store : Store) (is : IsStore store) (saved : IsSaved store) where
       let info = Taken-more to_sensors (said_info Sdr store.sdr_info) readings (info_taken Sdr store.sdr_info to_sensors is.sdr_info (no_info Sdr)) in
       Taken-more to_sdr_info (said_info Sel store.sel_info) info (info_taken Sel store.sel_info to_sdr_info is.sel_info no_sel_info)
 
-  others_behind : (lines : List Line) → inventories_of (lines ++ sensor_lines) ≡ inventories_of lines
-  others_behind lines = same_inventories lines sensor_lines (others_map said_reading store.readings (λ s inventories. refl))
+  inventories_of-readings : (lines : List Line) → inventories_of (lines ++ sensor_lines) ≡ inventories_of lines
+  inventories_of-readings lines = same_inventories lines sensor_lines (others_map said_reading store.readings (λ s inventories. refl))
 
   store_again : store_of_lines all_lines ≡ store
   store_again = same_store (store_of_lines all_lines) store
@@ -307,14 +298,12 @@ module _ (store : Store) (is : IsStore store) (saved : IsSaved store) where
       (ap chained sel_rows ∙ chained-saved store.sel)
       (same_inventories to_sdr_info (said_info Sel store.sel_info) (others_info Sel store.sel_info)
       ∙ same_inventories to_sensors (said_info Sdr store.sdr_info) (others_info Sdr store.sdr_info)
-      ∙ others_behind to_fru ∙ given.gives)
+      ∙ inventories_of-readings to_fru ∙ given.gives)
       (before_infos sensor_on (λ shelf bytes. refl) ∙ given_readings.gives)
-      (ap first_of (same_behind (info_on Sdr) to_sdr_info (said_info Sel store.sel_info) (silent_info (info_on Sdr) Sel store.sel_info (λ bytes. refl))
-      ∙ filter_map-append (info_on Sdr) to_sensors (said_info Sdr store.sdr_info)
-      ∙ ap (λ (l : List (List ℕ)). l ++ filter_map (info_on Sdr) (said_info Sdr store.sdr_info)) (no_info Sdr))
+      (ap first_of (filter_map-silent (info_on Sdr) to_sdr_info (said_info Sel store.sel_info) (silent_info (info_on Sdr) Sel store.sel_info (λ bytes. refl))
+      ∙ filter_map-append (info_on Sdr) to_sensors (said_info Sdr store.sdr_info) ∙ rw (no_info Sdr) refl)
       ∙ info_first Sdr store.sdr_info)
-      (ap first_of (filter_map-append (info_on Sel) to_sdr_info (said_info Sel store.sel_info)
-      ∙ ap (λ (l : List (List ℕ)). l ++ filter_map (info_on Sel) (said_info Sel store.sel_info)) no_sel_info)
+      (ap first_of (filter_map-append (info_on Sel) to_sdr_info (said_info Sel store.sel_info) ∙ rw no_sel_info refl)
       ∙ info_first Sel store.sel_info)
 
   abbrev all_fields : List (List (List ℕ))
@@ -341,13 +330,12 @@ module _ (store : Store) (is : IsStore store) (saved : IsSaved store) where
   end_is : line_of true (codes "end") ≡ Ok the_end
   end_is = line_again (codes "end") [] (a_word (codes "end") refl refl, tt)
 
-  ended : store_behind true all_lines (codes "end" ∷ ([] ∷ [])) ≡ Ok store
-  unfolding store_behind
+  ended : store_after true all_lines (codes "end" ∷ ([] ∷ [])) ≡ Ok store
+  unfolding store_after
   ended =
-      ap (λ (r : Result Line LineFault). after_line true all_lines ([] ∷ []) (elim r [ Ok line ↦ unless_fault (fault_in (store_of_lines all_lines) line) line | Err fault ↦ Err fault ])) end_is
-      ∙ ap (λ (s : Store). Ok s) store_again
+      ap (λ (r : Result Line LineFault). after_line true all_lines ([] ∷ []) (elim r [ Ok line ↦ unless_fault (fault_in (store_of_lines all_lines) line) line | Err fault ↦ Err fault ])) end_is ∙ rw store_again refl
 
-  after_header : (rest : List (List ℕ)) → 0 < length rest → store_of_pieces (codes "ipmi-image 2" ∷ rest) ≡ store_behind true [] rest
+  after_header : (rest : List (List ℕ)) → 0 < length rest → store_of_pieces (codes "ipmi-image 2" ∷ rest) ≡ store_after true [] rest
   after_header [] some = absurd (omega (arith, some))
   after_header (following ∷ rest) some = refl
 
@@ -357,7 +345,7 @@ module _ (store : Store) (is : IsStore store) (saved : IsSaved store) where
   end_cut : pieces 10 (lines_text end_fields) ≡ codes "end" ∷ ([] ∷ [])
   end_cut =
       let word : IsField (codes "end") = a_word (codes "end") refl refl in
-      pieces_more 10 (codes "end") [] word.feed ∙ ap (λ (l : List (List ℕ)). codes "end" ∷ l) (pieces_one 10 [] (λ k d lt. absurd (omega (arith, lt))))
+      pieces_more 10 (codes "end") [] word.feed ∙ rw (pieces_one 10 [] (λ k d lt. absurd (omega (arith, lt)))) refl
 
   text_cut : pieces 10 (image_text_of store) ≡ codes "ipmi-image 2" ∷ (map (join_with_byte 32) all_fields ++ (codes "end" ∷ ([] ∷ [])))
   text_cut =

@@ -1,17 +1,15 @@
 -- Inventories, readings and infos of a rewritten image are taken again, and are what they were.
-use Rattle.std.proofs.Common.{◌≡◌, ◌≢◌, ℕ, zero, suc, ◌+◌, ◌/◌, ◌<◌, ◌≤◌, Bool, true, false, cond, not, nat_eq, nat_lt, ◌&&◌, Option, None, Some, List, [], ◌∷◌, ◌++◌, length, take, drop, get_or, map, refl, sym, ap, subst, ◌∙◌, append_assoc, append-nil, arith}
-use Rattle.std.specs.Option.{unwrap_or, is_some}
-use Rattle.std.specs.List.{All, AllPairs, cons_option, filter_map, flat_map}
+use Rattle.std.proofs.Common.{◌≡◌, ◌≢◌, ℕ, zero, suc, ◌+◌, ◌/◌, ◌<◌, ◌≤◌, Bool, true, false, nat_eq, nat_lt, ◌&&◌, Option, None, Some, List, [], ◌∷◌, ◌++◌, length, take, drop, get_or, map, refl, sym, ap, subst, ◌∙◌, append_assoc, append-nil, arith}
+use Rattle.std.specs.Option.{unwrap_or}
+use Rattle.std.specs.List.{All, AllPairs, filter_map, flat_map}
 use Rattle.std.proofs.lemmas.Bool.{eqb-true, eq-eqb, ne_eqb}
 use Rattle.std.proofs.lemmas.Bool.Decides.{nat_tests}
 use Rattle.std.proofs.lemmas.List.{length-append, length-drop, length-take, take-append-drop, get_or_append_left, get_or-append-add}
 use Rattle.std.proofs.lemmas.List.Elements.{filter_map-append}
 use Rattle.std.proofs.lemmas.List.Sums.{fold-append}
-use Rattle.ipmi_text.specs.declared.reading.Reading.{Reading}
 use Rattle.ipmi_bus.specs.Store.{Inventory, SensorReading, IsInventory, OtherSensor, inventory_in, reading_in}
-use Rattle.ipmi_image.specs.declared.line.LineFault.TheVariants as fault
 use Rattle.ipmi_image.specs.Line.{Line, an_inventory, a_reading}
-use Rattle.ipmi_image.specs.Image.{with_bytes, with_inventory_line, inventories_of, sensor_on, inventory_fault, reading_fault, fault_in, store_of_lines}
+use Rattle.ipmi_image.specs.Image.{with_bytes, with_inventory_line, inventories_of, sensor_on, inventory_fault, fault_in, store_of_lines}
 use Rattle.ipmi_image.specs.Rewritten.{first_parts, parts_of}
 use Rattle.ipmi_image.proofs.ParseLemmas.{bytes_of_reading}
 use Rattle.ipmi_image.proofs.TakenLemmas.{Taken}
@@ -29,16 +27,13 @@ Lacking id inventories = All (λ i. i.id ≢ id) inventories
 tail_lacks : (id : ℕ) (x : Inventory) (xs : List Inventory) → Lacking id (x ∷ xs) → Lacking id xs
 tail_lacks id x xs lacks = λ k d lt. lacks (suc k) d (omega (arith, lt))
 
-with_behind : (id : ℕ) (bytes : List ℕ) (front tail : List Inventory) → Lacking id front → with_bytes id bytes (front ++ tail) ≡ front ++ with_bytes id bytes tail
-with_behind id bytes [] tail lacks = refl
-with_behind id bytes (x ∷ xs) tail lacks =
-    ap (λ (b : Bool). cond b (record { id = x.id; bytes = x.bytes ++ bytes } ∷ (xs ++ tail)) (x ∷ with_bytes id bytes (xs ++ tail))) (ne_eqb x.id id (lacks 0 x (omega arith)))
-    ∙ ap (λ (l : List Inventory). x ∷ l) (with_behind id bytes xs tail (tail_lacks id x xs lacks))
+with_bytes-append : (id : ℕ) (bytes : List ℕ) (front tail : List Inventory) → Lacking id front → with_bytes id bytes (front ++ tail) ≡ front ++ with_bytes id bytes tail
+with_bytes-append id bytes [] tail lacks = refl
+with_bytes-append id bytes (x ∷ xs) tail lacks = rw (ne_eqb x.id id (lacks 0 x (omega arith)), with_bytes-append id bytes xs tail (tail_lacks id x xs lacks)) refl
 
-in_behind : (id : ℕ) (front tail : List Inventory) → Lacking id front → inventory_in (front ++ tail) id ≡ inventory_in tail id
-in_behind id [] tail lacks = refl
-in_behind id (x ∷ xs) tail lacks =
-    ap (λ (b : Bool). cond b (Some x.bytes) (inventory_in (xs ++ tail) id)) (ne_eqb x.id id (lacks 0 x (omega arith))) ∙ in_behind id xs tail (tail_lacks id x xs lacks)
+inventory_in-append : (id : ℕ) (front tail : List Inventory) → Lacking id front → inventory_in (front ++ tail) id ≡ inventory_in tail id
+inventory_in-append id [] tail lacks = refl
+inventory_in-append id (x ∷ xs) tail lacks = rw (ne_eqb x.id id (lacks 0 x (omega arith))) (inventory_in-append id xs tail (tail_lacks id x xs lacks))
 
 -- the inventory as far as it is there
 abbrev so_far : ℕ → Option (List ℕ) → List Inventory
@@ -47,16 +42,15 @@ so_far id (Some bytes) = record { id = id; bytes = bytes } ∷ []
 
 with_so_far : (id : ℕ) (part : List ℕ) (h : Option (List ℕ)) → with_bytes id part (so_far id h) ≡ so_far id (Some (unwrap_or h [] ++ part))
 with_so_far id part None = refl
-with_so_far id part (Some bytes) = ap (λ (b : Bool). cond b (record { id = id; bytes = bytes ++ part } ∷ []) (record { id = id; bytes = bytes } ∷ record { id = id; bytes = part } ∷ [])) (eq-eqb id id refl)
+with_so_far id part (Some bytes) = rw (eq-eqb id id refl) refl
 
 in_so_far : (id : ℕ) (h : Option (List ℕ)) → inventory_in (so_far id h) id ≡ h
 in_so_far id None = refl
-in_so_far id (Some bytes) = ap (λ (b : Bool). cond b (Some bytes) None) (eq-eqb id id refl)
+in_so_far id (Some bytes) = rw (eq-eqb id id refl) refl
 
 no_fault : (id : ℕ) (already : Option (List ℕ)) (part : List ℕ) → id ≤ 254 → length (unwrap_or already []) + length part ≤ 65535 → inventory_fault id already part ≡ None
 no_fault id already part le fits =
-    ap (λ (b : Bool). cond b (Some fault.Id) (cond (nat_lt 65535 (length (unwrap_or already []) + length part)) (Some fault.TooMany) None)) (ne_eqb id 255 (λ e. absurd (omega (arith, le, e))))
-    ∙ ap (λ (b : Bool). cond b (Some fault.TooMany) None) below
+    let ne = ne_eqb id 255 (λ e. absurd (omega (arith, le, e))) in rw (ne, below) refl
   where
     below : nat_lt 65535 (length (unwrap_or already []) + length part) ≡ false
     below = grind (arith, nat_tests)
@@ -65,13 +59,11 @@ module _ (front : List Inventory) (id : ℕ) (lacks : Lacking id front) (le : id
   -- one more part
   part_next : (lines : List Line) (h : Option (List ℕ)) (part : List ℕ) → inventories_of lines ≡ front ++ so_far id h → inventories_of (lines ++ an_inventory id part ∷ []) ≡ front ++ so_far id (Some (unwrap_or h [] ++ part))
   part_next lines h part is =
-      fold-append with_inventory_line [] lines (an_inventory id part ∷ []) ∙ ap (with_bytes id part) is ∙ with_behind id part front (so_far id h) lacks ∙ ap (λ (l : List Inventory). front ++ l) (with_so_far id part h)
+      fold-append with_inventory_line [] lines (an_inventory id part ∷ []) ∙ ap (with_bytes id part) is ∙ with_bytes-append id part front (so_far id h) lacks ∙ rw (with_so_far id part h) refl
 
   part_fits : (lines : List Line) (h : Option (List ℕ)) (part : List ℕ) → inventories_of lines ≡ front ++ so_far id h → length (unwrap_or h []) + length part ≤ 65535 → fault_in (store_of_lines lines) (an_inventory id part) ≡ None
   part_fits lines h part is fits =
-      ap (λ (l : List Inventory). inventory_fault id (inventory_in l id) part) is
-      ∙ ap (λ (o : Option (List ℕ)). inventory_fault id o part) (in_behind id front (so_far id h) lacks ∙ in_so_far id h)
-      ∙ no_fault id h part le fits
+      ap (λ (l : List Inventory). inventory_fault id (inventory_in l id) part) is ∙ rw (inventory_in-append id front (so_far id h) lacks ∙ in_so_far id h) (no_fault id h part le fits)
 
   parts_taken : (n : ℕ) (h : Option (List ℕ)) (rest : List ℕ) (lines : List Line) → n ≡ (length rest + 63) / 64 → length (unwrap_or h []) + length rest ≤ 65535 → inventories_of lines ≡ front ++ so_far id h
       → Taken lines (map (an_inventory id) (first_parts n rest))
@@ -100,8 +92,7 @@ module _ (front : List Inventory) (id : ℕ) (lacks : Lacking id front) (le : id
   inventory_given (suc n) bytes lines count some is =
       let left = length-drop 64 bytes in
       ap inventories_of (sym (append_assoc lines (an_inventory id (take 64 bytes) ∷ []) (map (an_inventory id) (first_parts n (drop 64 bytes)))))
-      ∙ parts_give n (take 64 bytes) (drop 64 bytes) (lines ++ an_inventory id (take 64 bytes) ∷ []) (omega (arith, left, count)) (part_next lines None (take 64 bytes) (is ∙ sym (append-nil front)))
-      ∙ ap (λ (l : List ℕ). front ++ so_far id (Some l)) (take-append-drop 64 bytes)
+      ∙ parts_give n (take 64 bytes) (drop 64 bytes) (lines ++ an_inventory id (take 64 bytes) ∷ []) (omega (arith, left, count)) (part_next lines None (take 64 bytes) (is ∙ sym (append-nil front))) ∙ rw (take-append-drop 64 bytes) refl
 
   pub inventory_taken : (bytes : List ℕ) (lines : List Line) → length bytes ≤ 65535 → inventories_of lines ≡ front → Taken lines (map (an_inventory id) (parts_of bytes))
   inventory_taken bytes lines fits is = parts_taken ((length bytes + 63) / 64) None bytes lines refl (omega (arith, fits)) (is ∙ sym (append-nil front))
@@ -153,7 +144,7 @@ inventories_given front (x ∷ rest) lines is all some pairs =
 
 reading_absent : (front : List SensorReading) (x : SensorReading) → All (λ a. OtherSensor a x) front → reading_in front x.lun x.number ≡ None
 reading_absent [] x others = refl
-reading_absent (a ∷ front) x others = ap (λ (b : Bool). cond b (Some a.reading) (reading_in front x.lun x.number)) (by (nat_eq a.lun x.lun) refl (nat_eq a.number x.number) refl) ∙ reading_absent front x (λ k d lt. others (suc k) d (omega (arith, lt)))
+reading_absent (a ∷ front) x others = rw (by (nat_eq a.lun x.lun) refl (nat_eq a.number x.number) refl) (reading_absent front x (λ k d lt. others (suc k) d (omega (arith, lt))))
   where
     by : (s : Bool) → nat_eq a.lun x.lun ≡ s → (t : Bool) → nat_eq a.number x.number ≡ t → (s && t) ≡ false
     by true e true f = absurd (others 0 a (omega arith) (eqb-true _ _ e) (eqb-true _ _ f))
@@ -164,10 +155,7 @@ abbrev pub said_reading : SensorReading → Line
 said_reading sensor = a_reading sensor.lun sensor.number (bytes_of_reading sensor)
 
 reading_fits : (lines : List Line) (front : List SensorReading) (x : SensorReading) → filter_map sensor_on lines ≡ front → x.lun ≤ 3 → reading_in front x.lun x.number ≡ None → fault_in (store_of_lines lines) (said_reading x) ≡ None
-reading_fits lines front x is le absent =
-    ap (λ (l : List SensorReading). reading_fault x.lun (reading_in l x.lun x.number) (bytes_of_reading x)) is
-    ∙ ap (λ (b : Bool). cond b (Some fault.Id) (cond (is_some (reading_in front x.lun x.number)) (Some fault.Twice) (cond (not (nat_eq (length (bytes_of_reading x)) 4)) (Some fault.Length) None))) below
-    ∙ ap (λ (o : Option Reading). cond (is_some o) (Some fault.Twice) (cond (not (nat_eq (length (bytes_of_reading x)) 4)) (Some fault.Length) None)) absent
+reading_fits lines front x is le absent = rw (is, below, absent) refl
   where
     below : nat_lt 3 x.lun ≡ false
     below = grind (arith, nat_tests)
@@ -176,7 +164,7 @@ pub readings_given : (front rest : List SensorReading) (lines : List Line) → f
 readings_given front [] lines is all pairs = record { taken = tt; gives = ap (filter_map sensor_on) (append-nil lines) ∙ is ∙ sym (append-nil front) }
 readings_given front (x ∷ rest) lines is all pairs =
     let joined : (front ++ x ∷ []) ++ rest ≡ front ++ x ∷ rest = append_assoc front (x ∷ []) rest in
-    let next : filter_map sensor_on (lines ++ said_reading x ∷ []) ≡ front ++ x ∷ [] = filter_map-append sensor_on lines (said_reading x ∷ []) ∙ ap (λ (l : List SensorReading). l ++ x ∷ []) is in
+    let next : filter_map sensor_on (lines ++ said_reading x ∷ []) ≡ front ++ x ∷ [] = filter_map-append sensor_on lines (said_reading x ∷ []) ∙ rw is refl in
     let more = readings_given (front ++ x ∷ []) rest (lines ++ said_reading x ∷ []) next (subst (All (λ (s : SensorReading). s.lun ≤ 3)) (sym joined) all) (subst (AllPairs OtherSensor) (sym joined) pairs) in
     record {
       taken = (reading_fits lines front x is (all_middle (λ (s : SensorReading). s.lun ≤ 3) front rest x all) (reading_absent front x (pairs_middle OtherSensor front rest x pairs)), more.taken);
@@ -191,7 +179,7 @@ AreSilent h (line ∷ lines) = (h line ≡ None) × AreSilent h lines
 
 pub silent : {Y : Type 0} (h : Line → Option Y) (lines : List Line) → AreSilent h lines → filter_map h lines ≡ []
 silent h [] are = refl
-silent {Y} h (line ∷ lines) are = ap (λ (o : Option Y). cons_option o (filter_map h lines)) are.0 ∙ silent h lines are.1
+silent {Y} h (line ∷ lines) are = rw are.0 (silent h lines are.1)
 
 pub silent_append : {Y : Type 0} (h : Line → Option Y) (a b : List Line) → AreSilent h a → AreSilent h b → AreSilent h (a ++ b)
 silent_append h [] b x y = y
@@ -205,8 +193,8 @@ pub silent_inventories : {Y : Type 0} (h : Line → Option Y) (xs : List Invento
 silent_inventories h [] none = tt
 silent_inventories h (x ∷ xs) none = silent_append h (said_inventory x) (flat_map said_inventory xs) (silent_map h (an_inventory x.id) (parts_of x.bytes) (none x.id)) (silent_inventories h xs none)
 
-pub same_behind : {Y : Type 0} (h : Line → Option Y) (lines more : List Line) → AreSilent h more → filter_map h (lines ++ more) ≡ filter_map h lines
-same_behind {Y} h lines more are = filter_map-append h lines more ∙ ap (λ (l : List Y). filter_map h lines ++ l) (silent h more are) ∙ append-nil _
+pub filter_map-silent : {Y : Type 0} (h : Line → Option Y) (lines more : List Line) → AreSilent h more → filter_map h (lines ++ more) ≡ filter_map h lines
+filter_map-silent {Y} h lines more are = filter_map-append h lines more ∙ rw (silent h more are) (append-nil _)
 
 -- lines of which none is of an inventory
 abbrev pub AreOthers : List Line → Type 0

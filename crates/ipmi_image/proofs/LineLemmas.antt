@@ -45,20 +45,12 @@ one_word dashes text cut is = ap (line_of_fields dashes) cut ∙ by (bytes_eq te
     by false false true d e f is = refl
     by false false false true e f is = refl
     by false false false false true f is = refl
-    by false false false false false f is = ap (λ (t : Bool). cond t (end_line []) (Err fault.Line)) is
+    by false false false false false f is = rw is refl
 
 -- a line with fields whose first word is none of these is no line
 pub other_word : (dashes : Bool) (text word rest : List ℕ) → pieces 32 text ≡ word ∷ pieces 32 rest → bytes_eq word (codes "sdr") ≡ false → bytes_eq word (codes "sel") ≡ false → bytes_eq word (codes "fru") ≡ false → bytes_eq word (codes "reading") ≡ false → bytes_eq word (codes "info") ≡ false → line_of dashes text ≡ Err fault.Line
 unfolding line_of
-other_word dashes text word rest cut a b c d e =
-    let l = pieces 32 rest in
-    ap (line_of_fields dashes) cut
-    ∙ ap (λ (t : Bool). cond t (with_three (row_line dashes Sdr) l) (cond (bytes_eq word (codes "sel")) (with_three (row_line dashes Sel) l) (cond (bytes_eq word (codes "fru")) (with_two inventory_line l) (cond (bytes_eq word (codes "reading")) (with_three reading_line l) (cond (bytes_eq word (codes "info")) (with_two info_line l) (cond (bytes_eq word (codes "end")) (end_line l) (Err fault.Line))))))) a
-    ∙ ap (λ (t : Bool). cond t (with_three (row_line dashes Sel) l) (cond (bytes_eq word (codes "fru")) (with_two inventory_line l) (cond (bytes_eq word (codes "reading")) (with_three reading_line l) (cond (bytes_eq word (codes "info")) (with_two info_line l) (cond (bytes_eq word (codes "end")) (end_line l) (Err fault.Line)))))) b
-    ∙ ap (λ (t : Bool). cond t (with_two inventory_line l) (cond (bytes_eq word (codes "reading")) (with_three reading_line l) (cond (bytes_eq word (codes "info")) (with_two info_line l) (cond (bytes_eq word (codes "end")) (end_line l) (Err fault.Line))))) c
-    ∙ ap (λ (t : Bool). cond t (with_three reading_line l) (cond (bytes_eq word (codes "info")) (with_two info_line l) (cond (bytes_eq word (codes "end")) (end_line l) (Err fault.Line)))) d
-    ∙ ap (λ (t : Bool). cond t (with_two info_line l) (cond (bytes_eq word (codes "end")) (end_line l) (Err fault.Line))) e
-    ∙ by (bytes_eq word (codes "end")) l (length-pieces 32 rest)
+other_word dashes text word rest cut a b c d e = rw (cut, a, b, c, d, e) (by (bytes_eq word (codes "end")) (pieces 32 rest) (length-pieces 32 rest))
   where
     by : (t : Bool) (l : List (List ℕ)) → 0 < length l → cond t (end_line l) (Err fault.Line) ≡ Err fault.Line
     by false l some = refl

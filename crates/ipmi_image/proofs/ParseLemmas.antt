@@ -1,6 +1,6 @@
 -- The lines of a rewritten image, read again.
-use Rattle.std.proofs.Common.{◌≡◌, ℕ, zero, suc, ◌+◌, ◌*◌, ◌/◌, ◌%◌, ◌<◌, ◌≤◌, Bool, true, false, cond, not, nat_eq, ◌==◌, ◌&&◌, ◌||◌, Option, None, Some, Result, Ok, Err, List, [], ◌∷◌, length, get_or, slice_index, drop, refl, sym, ap, ◌∙◌, arith, codes}
-use Rattle.std.specs.Option.{ok_or, option_map, option_and_then}
+use Rattle.std.proofs.Common.{◌≡◌, ℕ, zero, suc, ◌*◌, ◌/◌, ◌%◌, ◌<◌, ◌≤◌, Bool, true, false, cond, not, nat_eq, ◌==◌, ◌&&◌, ◌||◌, Option, None, Some, Ok, List, [], ◌∷◌, length, get_or, slice_index, drop, refl, sym, ap, ◌∙◌, arith, codes}
+use Rattle.std.specs.Option.{option_map}
 use Rattle.std.specs.Result.{result_ok}
 use Rattle.std.specs.List.{list_all, join_with_byte}
 use Rattle.std.specs.Bool.{if◌then◌else◌}
@@ -13,12 +13,10 @@ use Rattle.ipmi_bus.specs.declared.controller.Shelf.{Shelf}
 use Rattle.ipmi_text.specs.Bytes.{AreBytes}
 use Rattle.ipmi_bus.specs.Shelf.{Row}
 use Rattle.ipmi_bus.specs.Store.{SensorReading}
-use Rattle.ipmi_image.specs.declared.line.LineFault.{LineFault}
-use Rattle.ipmi_image.specs.declared.line.LineFault.TheVariants as fault
 use Rattle.ipmi_image.specs.Text.{pieces}
-use Rattle.ipmi_image.specs.Line.{SavedRow, Line, a_row, an_inventory, a_reading, an_info, info_line_of, is_some_text, bytes_in, number_in, digit_in, next_in, is_dash, row_line, inventory_line, reading_line, line_of_fields, line_of}
+use Rattle.ipmi_image.specs.Line.{SavedRow, a_row, an_inventory, a_reading, an_info, info_line_of, is_some_text, bytes_in, number_in, digit_in, next_in, is_dash, row_line, inventory_line, reading_line, line_of_fields, line_of}
 use Rattle.ipmi_image.specs.Rewritten.{hex_of, next_field}
-use Rattle.ipmi_image.proofs.RewriteLemmas.{digit_of}
+use Rattle.ipmi_image.proofs.RewriteLemmas.{of_lun, digit_of}
 use Rattle.ipmi_image.proofs.TextLemmas.{Lacks, pieces_one, pieces_more}
 
 -- ---- fields
@@ -71,7 +69,7 @@ two_are x = All-cons (λ (b : ℕ). b < 256) (x / 256 % 256) (x % 256 ∷ []) (o
 
 pub fields_again : (first : List ℕ) (fields : List (List ℕ)) → AreFields (first ∷ fields) → pieces 32 (join_with_byte 32 (first ∷ fields)) ≡ first ∷ fields
 fields_again first [] are = pieces_one 32 first are.0.space
-fields_again first (second ∷ fields) are = pieces_more 32 first (join_with_byte 32 (second ∷ fields)) are.0.space ∙ ap (λ (l : List (List ℕ)). first ∷ l) (fields_again second fields are.1)
+fields_again first (second ∷ fields) are = pieces_more 32 first (join_with_byte 32 (second ∷ fields)) are.0.space ∙ rw (fields_again second fields are.1) refl
 
 pub no_feed : (first : List ℕ) (fields : List (List ℕ)) → AreFields (first ∷ fields) → Lacks 10 (join_with_byte 32 (first ∷ fields))
 no_feed first [] are = are.0.feed
@@ -122,14 +120,7 @@ len_one x = eq-eqb _ 2 (len_again 1 x)
 
 row_is : (shelf : Shelf) (id next hex : List ℕ) (i : ℕ) (n : Option ℕ) (b : List ℕ) → nat_eq (length id) 4 ≡ true → (nat_eq (length next) 4 || (true && is_dash next)) ≡ true → is_some_text hex ≡ true
     → number_in 2 id ≡ Some i → next_in next ≡ Some n → bytes_in hex ≡ Some b → row_line true shelf id next hex ≡ Ok (a_row shelf (record { id = i; next = n; bytes = b }))
-row_is shelf id next hex i n b len dash some id_is next_is bytes_is =
-    let parsed : Result Line LineFault = ok_or (option_and_then (λ i. option_and_then (λ n. option_map (λ b. a_row shelf (record { id = i; next = n; bytes = b })) (bytes_in hex)) (next_in next)) (number_in 2 id)) fault.Hex in
-    ap (λ (t : Bool). cond (t && ((nat_eq (length next) 4 || (true && is_dash next)) && is_some_text hex)) parsed (Err fault.Line)) len
-    ∙ ap (λ (t : Bool). cond (t && is_some_text hex) parsed (Err fault.Line)) dash
-    ∙ ap (λ (t : Bool). cond t parsed (Err fault.Line)) some
-    ∙ ap (λ (o : Option ℕ). ok_or (option_and_then (λ i. option_and_then (λ n. option_map (λ b. a_row shelf (record { id = i; next = n; bytes = b })) (bytes_in hex)) (next_in next)) o) fault.Hex) id_is
-    ∙ ap (λ (o : Option (Option ℕ)). ok_or (option_and_then (λ n. option_map (λ b. a_row shelf (record { id = i; next = n; bytes = b })) (bytes_in hex)) o) fault.Hex) next_is
-    ∙ ap (λ (o : Option (List ℕ)). ok_or (option_map (λ b. a_row shelf (record { id = i; next = n; bytes = b })) o) fault.Hex) bytes_is
+row_is shelf id next hex i n b len dash some id_is next_is bytes_is = rw (len, dash, some, id_is, next_is, bytes_is) refl
 
 pub row_again : (shelf : Shelf) (following : ℕ) (row : Row) → row.id < 65536 → row.next < 65536 → 0 < length row.bytes → AreBytes row.bytes
     → row_line true shelf (hex_of 2 row.id) (next_field following row.next) (encode_lower row.bytes) ≡ Ok (a_row shelf (saved_row following row))
@@ -138,48 +129,26 @@ row_again shelf following row id next some bytes = by (nat_eq row.next following
     by : (t : Bool) → row_line true shelf (hex_of 2 row.id) (cond t (codes "-") (hex_of 2 row.next)) (encode_lower row.bytes) ≡ Ok (a_row shelf (record { id = row.id; next = cond t None (Some row.next); bytes = row.bytes }))
     by true = row_is shelf (hex_of 2 row.id) (codes "-") (encode_lower row.bytes) row.id None row.bytes (len_two row.id) refl (some_again row.bytes some) (word_again row.id id) refl (bytes_again row.bytes bytes)
     by false = row_is shelf (hex_of 2 row.id) (hex_of 2 row.next) (encode_lower row.bytes) row.id (Some row.next) row.bytes (len_two row.id)
-        (ap (λ (t : Bool). t || (true && is_dash (hex_of 2 row.next))) (len_two row.next)) (some_again row.bytes some) (word_again row.id id)
-        (ap (λ (t : Bool). cond t (Some None) (option_map (λ id. Some id) (number_in 2 (hex_of 2 row.next)))) (not_a_dash row.next) ∙ ap (option_map (λ id. Some id)) (word_again row.next next))
+        (rw (len_two row.next) refl) (some_again row.bytes some) (word_again row.id id)
+        (rw (not_a_dash row.next) (ap (option_map (λ id. Some id)) (word_again row.next next)))
         (bytes_again row.bytes bytes)
 
 pub part_again : (id : ℕ) (part : List ℕ) → id < 256 → 0 < length part → AreBytes part → inventory_line (hex_of 1 id) (encode_lower part) ≡ Ok (an_inventory id part)
-part_again id part lt some bytes =
-    let parsed : Result Line LineFault = ok_or (option_and_then (λ i. option_map (λ b. an_inventory i b) (bytes_in (encode_lower part))) (number_in 1 (hex_of 1 id))) fault.Hex in
-    ap (λ (t : Bool). cond (t && is_some_text (encode_lower part)) parsed (Err fault.Line)) (len_one id)
-    ∙ ap (λ (t : Bool). cond t parsed (Err fault.Line)) (some_again part some)
-    ∙ ap (λ (o : Option ℕ). ok_or (option_and_then (λ i. option_map (λ b. an_inventory i b) (bytes_in (encode_lower part))) o) fault.Hex) (byte_again id lt)
-    ∙ ap (λ (o : Option (List ℕ)). ok_or (option_map (λ b. an_inventory id b) o) fault.Hex) (bytes_again part bytes)
+part_again id part lt some bytes = rw (len_one id, some_again part some, byte_again id lt, bytes_again part bytes) refl
 
 -- the four bytes of a reading
 abbrev pub bytes_of_reading : SensorReading → List ℕ
 bytes_of_reading sensor = sensor.reading.raw ∷ sensor.reading.flags ∷ sensor.reading.status ∷ sensor.reading.more ∷ []
 
 lun_again : (lun : ℕ) → lun ≤ 3 → digit_in (drop 1 (hex_of 1 lun)) ≡ Some lun
-unfolding decode_pairs
-lun_again lun le = ap digit_in (digit_of lun le) ∙ by lun le
-  where
-    by : (lun : ℕ) → lun ≤ 3 → digit_in ((48 + lun) ∷ []) ≡ Some lun
-    by zero h = refl
-    by (suc zero) h = refl
-    by (suc (suc zero)) h = refl
-    by (suc (suc (suc zero))) h = refl
-    by (suc (suc (suc (suc n)))) h = absurd (omega (arith, h))
+unfolding decode_pairs encode_with
+lun_again = of_lun (λ lun. digit_in (drop 1 (hex_of 1 lun)) ≡ Some lun) refl refl refl refl
 
 pub reading_again : (sensor : SensorReading) → sensor.lun ≤ 3 → sensor.number < 256 → AreBytes (bytes_of_reading sensor)
     → reading_line (drop 1 (hex_of 1 sensor.lun)) (hex_of 1 sensor.number) (encode_lower (bytes_of_reading sensor)) ≡ Ok (a_reading sensor.lun sensor.number (bytes_of_reading sensor))
 reading_again sensor le lt bytes =
-    let lun = drop 1 (hex_of 1 sensor.lun) in
-    let number = hex_of 1 sensor.number in
-    let hex = encode_lower (bytes_of_reading sensor) in
-    let parsed : Result Line LineFault = ok_or (option_and_then (λ l. option_and_then (λ n. option_map (λ b. a_reading l n b) (bytes_in hex)) (number_in 1 number)) (digit_in lun)) fault.Hex in
-    ap (λ (t : Bool). cond (t && (nat_eq (length number) 2 && is_some_text hex)) parsed (Err fault.Line)) (ap (λ (l : List ℕ). nat_eq (length l) 1) (digit_of sensor.lun le))
-    ∙ ap (λ (t : Bool). cond (t && is_some_text hex) parsed (Err fault.Line)) (len_one sensor.number)
-    ∙ ap (λ (t : Bool). cond t parsed (Err fault.Line)) (some_again (bytes_of_reading sensor) (omega arith))
-    ∙ ap (λ (o : Option ℕ). ok_or (option_and_then (λ l. option_and_then (λ n. option_map (λ b. a_reading l n b) (bytes_in hex)) (number_in 1 number)) o) fault.Hex) (lun_again sensor.lun le)
-    ∙ ap (λ (o : Option ℕ). ok_or (option_and_then (λ n. option_map (λ b. a_reading sensor.lun n b) (bytes_in hex)) o) fault.Hex) (byte_again sensor.number lt)
-    ∙ ap (λ (o : Option (List ℕ)). ok_or (option_map (λ b. a_reading sensor.lun sensor.number b) o) fault.Hex) (bytes_again (bytes_of_reading sensor) bytes)
+    let len : nat_eq (length (drop 1 (hex_of 1 sensor.lun))) 1 ≡ true = rw (digit_of sensor.lun le) refl in
+    rw (len, len_one sensor.number, some_again (bytes_of_reading sensor) (omega arith), lun_again sensor.lun le, byte_again sensor.number lt, bytes_again (bytes_of_reading sensor) bytes) refl
 
 pub info_again : (shelf : Shelf) (bytes : List ℕ) → 0 < length bytes → AreBytes bytes → info_line_of (Some shelf) (encode_lower bytes) ≡ Ok (an_info shelf bytes)
-info_again shelf bytes some all =
-    ap (λ (t : Bool). cond t (ok_or (option_map (λ b. an_info shelf b) (bytes_in (encode_lower bytes))) fault.Hex) (Err fault.Line)) (some_again bytes some)
-    ∙ ap (λ (o : Option (List ℕ)). ok_or (option_map (λ b. an_info shelf b) o) fault.Hex) (bytes_again bytes all)
+info_again shelf bytes some all = rw (some_again bytes some, bytes_again bytes all) refl

@@ -8,7 +8,7 @@ use Rattle.ipmi_image.specs.declared.image.ImageFault.{ImageFault}
 use Rattle.ipmi_image.specs.declared.image.ImageFault.TheVariants as image_fault
 use Rattle.ipmi_image.specs.Text.{pieces}
 use Rattle.ipmi_image.specs.Line.{Line, a_row, an_inventory, a_reading, an_info, the_end, line_of}
-use Rattle.ipmi_image.specs.Image.{store_of_lines, fault_in, unless_fault, line_behind, at_line, is_end, ends_here, store_behind, dashes_in, store_of_pieces, store_of_image}
+use Rattle.ipmi_image.specs.Image.{store_of_lines, fault_in, unless_fault, line_judged, at_line, is_end, ends_here, store_after, dashes_in, store_of_pieces, store_of_image}
 use Rattle.ipmi_image.proofs.TextLemmas.{length-pieces}
 
 -- nothing comes after the last line feed exactly where no byte does
@@ -27,29 +27,34 @@ ends_here-pieces (b ∷ bytes) = by (nat_eq b 10) (pieces 10 bytes) (length-piec
     by false (piece ∷ rest) some = refl
 
 -- a text that does not end by a line feed has no `end`
-pub unended : (dashes : Bool) (before : List Line) (text : List ℕ) → store_behind dashes before (text ∷ []) ≡ Err image_fault.NoEnd
-unfolding store_behind
+pub unended : (dashes : Bool) (before : List Line) (text : List ℕ) → store_after dashes before (text ∷ []) ≡ Err image_fault.NoEnd
+unfolding store_after
 unended dashes before text = refl
 
 -- what a line makes of those after it
 abbrev pub after_line : Bool → List Line → List (List ℕ) → Result Line LineFault → Result Store ImageFault
-after_line dashes before rest (Ok line) = cond (not (is_end line)) (store_behind dashes (before ++ line ∷ []) rest) (cond (ends_here rest) (Ok (store_of_lines before)) (Err (image_fault.AfterEnd (length before + 3))))
+after_line dashes before rest (Ok line) = cond (not (is_end line)) (store_after dashes (before ++ line ∷ []) rest) (cond (ends_here rest) (Ok (store_of_lines before)) (Err (image_fault.AfterEnd (length before + 3))))
 after_line dashes before rest (Err fault) = Err (at_line (length before + 2) fault)
 
-pub one_line : (dashes : Bool) (before : List Line) (text after : List ℕ) → store_behind dashes before (text ∷ pieces 10 after) ≡ after_line dashes before (pieces 10 after) (line_behind dashes before text)
-unfolding store_behind
-one_line dashes before text after = by (pieces 10 after) (length-pieces 10 after) (line_behind dashes before text) refl
+pub one_line : (dashes : Bool) (before : List Line) (text after : List ℕ) → store_after dashes before (text ∷ pieces 10 after) ≡ after_line dashes before (pieces 10 after) (line_judged dashes before text)
+unfolding store_after
+one_line dashes before text after = by (pieces 10 after) (length-pieces 10 after) (line_judged dashes before text) refl
   where
-    by : (l : List (List ℕ)) → 0 < length l → (r : Result Line LineFault) → line_behind dashes before text ≡ r → store_behind dashes before (text ∷ l) ≡ after_line dashes before l r
+    by : (l : List (List ℕ)) → 0 < length l → (r : Result Line LineFault) → line_judged dashes before text ≡ r → store_after dashes before (text ∷ l) ≡ after_line dashes before l r
     by [] some r e = absurd (omega (arith, some))
     by (following ∷ rest) some r e = ap (after_line dashes before (following ∷ rest)) e
 
-module _ (dashes : Bool) (before : List Line) (text : List ℕ) where
-  pub line_err : (fault : LineFault) → line_of dashes text ≡ Err fault → line_behind dashes before text ≡ Err fault
-  line_err fault e = ap (λ (r : Result Line LineFault). elim r [ Ok line ↦ unless_fault (fault_in (store_of_lines before) line) line | Err fault ↦ Err fault ]) e
+-- lines whose first is cut off give what it makes of the others
+pub lines_after : (dashes : Bool) (before : List Line) (all text after : List ℕ) (r : Result Line LineFault) (given : Result Store ImageFault) → pieces 10 all ≡ text ∷ pieces 10 after → line_judged dashes before text ≡ r
+    → store_after dashes before (pieces 10 all) ≡ given → given ≡ after_line dashes before (pieces 10 after) r
+lines_after dashes before all text after r given cut line was = sym was ∙ ap (store_after dashes before) cut ∙ one_line dashes before text after ∙ ap (after_line dashes before (pieces 10 after)) line
 
-  pub line_found : (line : Line) (f : Option LineFault) → line_of dashes text ≡ Ok line → fault_in (store_of_lines before) line ≡ f → line_behind dashes before text ≡ unless_fault f line
-  line_found line f e is = ap (λ (r : Result Line LineFault). elim r [ Ok line ↦ unless_fault (fault_in (store_of_lines before) line) line | Err fault ↦ Err fault ]) e ∙ ap (λ (o : Option LineFault). unless_fault o line) is
+module _ (dashes : Bool) (before : List Line) (text : List ℕ) where
+  pub line_err : (fault : LineFault) → line_of dashes text ≡ Err fault → line_judged dashes before text ≡ Err fault
+  line_err fault e = rw (line_judged, e) refl
+
+  pub line_found : (line : Line) (f : Option LineFault) → line_of dashes text ≡ Ok line → fault_in (store_of_lines before) line ≡ f → line_judged dashes before text ≡ unless_fault f line
+  line_found line f e is = rw (line_judged, e, is) refl
 
 pub end_is : (line : Line) → is_end line ≡ true → line ≡ the_end
 end_is (a_row shelf row) e = cc e
@@ -59,9 +64,9 @@ end_is (an_info shelf bytes) e = cc e
 end_is the_end e = refl
 
 -- the lines after the first one give the store
-pub image_is : (bytes first rest : List ℕ) (dashes : Bool) → pieces 10 bytes ≡ first ∷ pieces 10 rest → Some dashes ≡ dashes_in first → store_of_image bytes ≡ store_behind dashes [] (pieces 10 rest)
+pub image_is : (bytes first rest : List ℕ) (dashes : Bool) → pieces 10 bytes ≡ first ∷ pieces 10 rest → Some dashes ≡ dashes_in first → store_of_image bytes ≡ store_after dashes [] (pieces 10 rest)
 image_is bytes first rest dashes cut is = ap store_of_pieces cut ∙ by (pieces 10 rest) (length-pieces 10 rest)
   where
-    by : (l : List (List ℕ)) → 0 < length l → store_of_pieces (first ∷ l) ≡ store_behind dashes [] l
+    by : (l : List (List ℕ)) → 0 < length l → store_of_pieces (first ∷ l) ≡ store_after dashes [] l
     by [] some = absurd (omega (arith, some))
-    by (following ∷ more) some = ap (λ (o : Option Bool). elim o [ Some dashes ↦ store_behind dashes [] (following ∷ more) | None ↦ Err image_fault.Header ]) (sym is)
+    by (following ∷ more) some = ap (λ (o : Option Bool). elim o [ Some dashes ↦ store_after dashes [] (following ∷ more) | None ↦ Err image_fault.Header ]) (sym is)

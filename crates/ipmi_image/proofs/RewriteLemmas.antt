@@ -9,7 +9,7 @@ use Rattle.ipmi_image.specs.declared.stored.StoredInventory.{StoredInventory}
 use Rattle.ipmi_image.specs.Line.{SavedRow}
 use Rattle.ipmi_image.specs.Image.{chained, first_id, row_before}
 use Rattle.ipmi_image.specs.Table.{inventory_of}
-use Rattle.ipmi_image.specs.Rewritten.{hex_of, first_parts, parts_of, part_fields, first_row_id, row_fields, rows_lines, inventory_lines, line_text, lines_text, lines_of, image_text_of}
+use Rattle.ipmi_image.specs.Rewritten.{hex_of, parts_of, part_fields, first_row_id, row_fields, rows_lines, inventory_lines, line_text, lines_text, lines_of, image_text_of}
 use Rattle.ipmi_image.proofs.RowsLemmas.{drop_found, drop_past}
 
 pub on_ok : {A E : Type 0} (r : Result A E) {P Q : Type 0} → OnOk r P → (P → Q) → OnOk r Q
@@ -19,21 +19,25 @@ on_ok (Err e) p f = p
 pub row_joined : (o a b c d : List ℕ) → (o ++ (a ++ 32 ∷ (b ++ 32 ∷ []))) ++ (c ++ 32 ∷ (d ++ 10 ∷ [])) ≡ o ++ ((a ++ 32 ∷ (b ++ 32 ∷ (c ++ 32 ∷ d))) ++ 10 ∷ [])
 row_joined o a b c d = simp append_assoc refl
 
+-- what holds of each LUN
+pub of_lun : (P : ℕ → Type 0) → P 0 → P 1 → P 2 → P 3 → (lun : ℕ) → lun ≤ 3 → P lun
+of_lun P a b c d zero h = a
+of_lun P a b c d (suc zero) h = b
+of_lun P a b c d (suc (suc zero)) h = c
+of_lun P a b c d (suc (suc (suc zero))) h = d
+of_lun P a b c d (suc (suc (suc (suc n)))) h = absurd (omega (arith, h))
+
 pub digit_of : (lun : ℕ) → lun ≤ 3 → drop 1 (hex_of 1 lun) ≡ (48 + lun) ∷ []
 unfolding encode_with
-digit_of zero h = refl
-digit_of (suc zero) h = refl
-digit_of (suc (suc zero)) h = refl
-digit_of (suc (suc (suc zero))) h = refl
-digit_of (suc (suc (suc (suc n)))) h = absurd (omega (arith, h))
+digit_of = of_lun (λ lun. drop 1 (hex_of 1 lun) ≡ (48 + lun) ∷ []) refl refl refl refl
 
 pub lines_text-append : (a b : List (List (List ℕ))) → lines_text (a ++ b) ≡ lines_text a ++ lines_text b
 lines_text-append [] b = refl
-lines_text-append (x ∷ a) b = ap (λ (l : List ℕ). line_text x ++ l) (lines_text-append a b) ∙ sym (append_assoc (line_text x) (lines_text a) (lines_text b))
+lines_text-append (x ∷ a) b = rw (lines_text-append a b) (sym (append_assoc (line_text x) (lines_text a) (lines_text b)))
 
 -- the first part, and the parts of what is left
 pub parts-more : (bytes : List ℕ) → 0 < length bytes → parts_of bytes ≡ take 64 bytes ∷ parts_of (drop 64 bytes)
-parts-more bytes some = ap (λ (n : ℕ). first_parts n bytes) count
+parts-more bytes some = rw count refl
   where
     count : (length bytes + 63) / 64 ≡ suc ((length (drop 64 bytes) + 63) / 64)
     count = let len = length-drop 64 bytes in rw len (omega (arith, some))
@@ -41,21 +45,14 @@ parts-more bytes some = ap (λ (n : ℕ). first_parts n bytes) count
 pub part_put : (id : ℕ) (self new target rest part after : List ℕ) → 0 < length rest → part ≡ take 64 rest → after ≡ drop 64 rest → new ≡ self ++ line_text (part_fields id part)
     → self ++ lines_text (map (part_fields id) (parts_of rest)) ≡ target → new ++ lines_text (map (part_fields id) (parts_of after)) ≡ target
 part_put id self new target rest part after some is_part is_after next was =
-    ap (λ (l : List ℕ). l ++ lines_text (map (part_fields id) (parts_of after))) (next ∙ ap (λ (l : List ℕ). self ++ line_text (part_fields id l)) is_part)
-    ∙ append_assoc self (line_text (part_fields id (take 64 rest))) (lines_text (map (part_fields id) (parts_of after)))
-    ∙ ap (λ (l : List ℕ). self ++ (line_text (part_fields id (take 64 rest)) ++ lines_text (map (part_fields id) (parts_of l)))) is_after
-    ∙ ap (λ (l : List (List ℕ)). self ++ lines_text (map (part_fields id) l)) (sym (parts-more rest some))
-    ∙ was
+    let left = rw (parts-more rest some) at was in
+    rw (next, is_part, is_after, append_assoc self) left
 
 pub inventory_put : (self new target : List ℕ) (items : List StoredInventory) (place : ℕ) (item : StoredInventory) → place < length items → item ≡ get_or items place item → new ≡ self ++ lines_text (inventory_lines (inventory_of item))
     → self ++ lines_text (flat_map inventory_lines (map inventory_of (drop place items))) ≡ target → new ++ lines_text (flat_map inventory_lines (map inventory_of (drop (place + 1) items))) ≡ target
 inventory_put self new target items place item lt is next was =
-    let rest = flat_map inventory_lines (map inventory_of (drop (place + 1) items)) in
-    ap (λ (l : List ℕ). l ++ lines_text rest) next
-    ∙ append_assoc self (lines_text (inventory_lines (inventory_of item))) (lines_text rest)
-    ∙ ap (λ (l : List ℕ). self ++ l) (sym (lines_text-append (inventory_lines (inventory_of item)) rest))
-    ∙ ap (λ (l : List StoredInventory). self ++ lines_text (flat_map inventory_lines (map inventory_of l))) (sym (drop_more items place item lt ∙ ap (λ (x : StoredInventory). x ∷ drop (place + 1) items) (sym is)))
-    ∙ was
+    let left = rw (drop_more items place item lt, ← is, lines_text-append) at was in
+    rw (next, append_assoc self) left
 
 first_chained : (rows : List SavedRow) → first_row_id (chained rows) ≡ first_id rows
 first_chained [] = refl
@@ -65,15 +62,11 @@ pub row_put : (self new target word : List ℕ) (rows : List SavedRow) (place : 
     → new ≡ self ++ line_text (row_fields word (first_id (drop (place + 1) rows)) (row_before (drop (place + 1) rows) row))
     → self ++ lines_text (rows_lines word (chained (drop place rows))) ≡ target → new ++ lines_text (rows_lines word (chained (drop (place + 1) rows))) ≡ target
 row_put self new target word rows place row at next was =
-    let rest = drop (place + 1) rows in
-    let line = row_before rest row in
-    ap (λ (l : List ℕ). l ++ lines_text (rows_lines word (chained rest))) (next ∙ ap (λ (n : ℕ). self ++ line_text (row_fields word n line)) (sym (first_chained rest)))
-    ∙ append_assoc self (line_text (row_fields word (first_row_id (chained rest)) line)) (lines_text (rows_lines word (chained rest)))
-    ∙ ap (λ (l : List SavedRow). self ++ lines_text (rows_lines word (chained l))) (sym (drop_found rows place row at))
-    ∙ was
+    let left = rw (drop_found rows place row at, first_chained (drop (place + 1) rows)) at was in
+    rw (next, append_assoc self) left
 
 pub rows_done : (self target word : List ℕ) (rows : List SavedRow) (place : ℕ) → slice_get rows place ≡ None → self ++ lines_text (rows_lines word (chained (drop place rows))) ≡ target → self ≡ target
-rows_done self target word rows place past was = sym (append-nil self) ∙ ap (λ (l : List SavedRow). self ++ lines_text (rows_lines word (chained l))) (sym (drop_past rows place past)) ∙ was
+rows_done self target word rows place past was = rw (drop_past rows place past, append-nil) at was
 
 abbrev Lines : Type 0
 Lines = List (List (List ℕ))

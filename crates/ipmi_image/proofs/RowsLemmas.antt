@@ -1,5 +1,5 @@
 -- The records of a shelf over the bytes of all of them.
-use Rattle.std.proofs.Common.{◌≡◌, ℕ, zero, suc, ◌+◌, ◌<◌, ◌≤◌, cond, nat_eq, Option, None, Some, List, [], ◌∷◌, ◌++◌, length, take, drop, get_or, map, refl, sym, ap, ◌∙◌, option_map, arith}
+use Rattle.std.proofs.Common.{◌≡◌, ℕ, zero, suc, ◌+◌, ◌<◌, ◌≤◌, Option, None, Some, List, [], ◌∷◌, ◌++◌, length, take, drop, get_or, map, refl, sym, ap, ◌∙◌, arith}
 use Rattle.std.specs.List.{All, slice_get}
 use Rattle.std.proofs.lemmas.Option.{none-some, same_Some}
 use Rattle.std.proofs.lemmas.List.{length-drop, map-append, take-append-le, drop-append-le}
@@ -15,7 +15,7 @@ head_id head = head.id
 
 pub place_in : (bytes : List ℕ) (id : ℕ) (heads : List RowHead) → place_of id_of id (map (row_in bytes) heads) ≡ place_of head_id id heads
 place_in bytes id [] = refl
-place_in bytes id (head ∷ heads) = ap (λ (o : Option ℕ). cond (nat_eq head.id id) (Some 0) (option_map (λ p. p + 1) o)) (place_in bytes id heads)
+place_in bytes id (head ∷ heads) = rw (place_in bytes id heads) refl
 
 -- the id of the row at a place
 pub first_id_at : (bytes : List ℕ) (heads : List RowHead) (place : ℕ) (d : RowHead) → place < length heads → first_id (drop place (map (row_in bytes) heads)) ≡ (get_or heads place d).id
@@ -54,8 +54,7 @@ module _ (bytes more : List ℕ) where
       let fits = within 0 head (omega arith) in
       let front : drop head.start (bytes ++ more) ≡ drop head.start bytes ++ more = drop-append-le head.start bytes more (omega (arith, fits)) in
       let enough : head.len ≤ length (drop head.start bytes) = let len = length-drop head.start bytes in omega (arith, fits, len) in
-      ap (λ (l : List ℕ). let row : SavedRow = record { id = head.id; next = head.next; bytes = l } in row ∷ map (row_in (bytes ++ more)) heads) (ap (take head.len) front ∙ take-append-le head.len (drop head.start bytes) more enough)
-      ∙ ap (λ (l : List SavedRow). row_in bytes head ∷ l) (longer_bytes heads (λ k d lt. within (suc k) d (omega (arith, lt))))
+      ap (λ (l : List ℕ). let row : SavedRow = record { id = head.id; next = head.next; bytes = l } in row ∷ map (row_in (bytes ++ more)) heads) (ap (take head.len) front ∙ take-append-le head.len (drop head.start bytes) more enough) ∙ rw (longer_bytes heads (λ k d lt. within (suc k) d (omega (arith, lt)))) refl
 
   -- a row whose bytes come after these
   pub bytes_after : take (length more) (drop (length bytes) (bytes ++ more)) ≡ more
@@ -64,6 +63,4 @@ module _ (bytes more : List ℕ) where
   pub rows_with : (heads : List RowHead) (id : ℕ) (next : Option ℕ) → All (λ head. head.start + head.len ≤ length bytes) heads
       → map (row_in (bytes ++ more)) (heads ++ record { id = id; next = next; start = length bytes; len = length more } ∷ []) ≡ map (row_in bytes) heads ++ record { id = id; next = next; bytes = more } ∷ []
   rows_with heads id next within =
-      map-append (row_in (bytes ++ more)) heads _
-      ∙ ap (λ (l : List SavedRow). l ++ row_in (bytes ++ more) (record { id = id; next = next; start = length bytes; len = length more }) ∷ []) (longer_bytes heads within)
-      ∙ ap (λ (l : List ℕ). let row : SavedRow = record { id = id; next = next; bytes = l } in map (row_in bytes) heads ++ row ∷ []) bytes_after
+      map-append (row_in (bytes ++ more)) heads _ ∙ rw (longer_bytes heads within, bytes_after) refl

@@ -20,7 +20,7 @@ use Rattle.ipmi_image.specs.declared.image.ImageFault.{ImageFault}
 use Rattle.ipmi_image.specs.declared.image.ImageFault.TheVariants as image_fault
 use Rattle.ipmi_image.specs.Text.{pieces}
 use Rattle.ipmi_image.specs.Line.{Line, a_row, an_inventory, a_reading, an_info, the_end, is_some_text, bytes_in, number_in, digit_in, next_in, is_dash, shelf_in, with_two, with_three, row_line, inventory_line, reading_line, info_line, info_line_of, end_line, line_of_fields, line_of}
-use Rattle.ipmi_image.specs.Image.{with_bytes, with_inventory_line, inventories_of, sensor_on, store_of_lines, fault_in, unless_fault, is_end, ends_here, store_behind, dashes_in, store_of_pieces, store_of_image}
+use Rattle.ipmi_image.specs.Image.{with_bytes, with_inventory_line, inventories_of, sensor_on, store_of_lines, fault_in, unless_fault, is_end, ends_here, store_after, dashes_in, store_of_pieces, store_of_image}
 use Rattle.ipmi_image.specs.declared.stored.StoredSensor.{StoredSensor}
 use Rattle.ipmi_image.specs.Stored.{sensor_of}
 use Rattle.ipmi_image.specs.Rewritten.{IsSaved}
@@ -150,28 +150,28 @@ unfolding line_of
 says_some dashes text line e = subst SaysSome e (fields_some dashes (pieces 32 text))
 
 -- what all lines give
-saved_behind : (dashes : Bool) (before : List Line) (texts : List (List ℕ)) (store : Store) → IsSaved (store_of_lines before) → store_behind dashes before texts ≡ Ok store → IsSaved store
-unfolding store_behind
-saved_behind dashes before [] store saved e = cc e
-saved_behind dashes before (text ∷ []) store saved e = cc e
-saved_behind dashes before (text ∷ (following ∷ rest)) store saved e = by (λ line s more. saved_behind dashes (before ++ line ∷ []) (following ∷ rest) store s more) (line_of dashes text) refl e
+saved_after : (dashes : Bool) (before : List Line) (texts : List (List ℕ)) (store : Store) → IsSaved (store_of_lines before) → store_after dashes before texts ≡ Ok store → IsSaved store
+unfolding store_after
+saved_after dashes before [] store saved e = cc e
+saved_after dashes before (text ∷ []) store saved e = cc e
+saved_after dashes before (text ∷ (following ∷ rest)) store saved e = by (λ line s more. saved_after dashes (before ++ line ∷ []) (following ∷ rest) store s more) (line_of dashes text) refl e
   where
     at_end : (t : Bool) → cond t (Ok (store_of_lines before)) (Err (image_fault.AfterEnd (length before + 3))) ≡ Ok store → IsSaved store
     at_end true e = let is : store_of_lines before ≡ store = cc e in subst IsSaved is saved
     at_end false e = cc e
 
-    taken : ((line : Line) → IsSaved (store_of_lines (before ++ line ∷ [])) → store_behind dashes (before ++ line ∷ []) (following ∷ rest) ≡ Ok store → IsSaved store)
+    taken : ((line : Line) → IsSaved (store_of_lines (before ++ line ∷ [])) → store_after dashes (before ++ line ∷ []) (following ∷ rest) ≡ Ok store → IsSaved store)
         → (line : Line) → IsSaved (store_of_lines (before ++ line ∷ [])) → (last : Bool)
-        → cond (not last) (store_behind dashes (before ++ line ∷ []) (following ∷ rest)) (cond (ends_here (following ∷ rest)) (Ok (store_of_lines before)) (Err (image_fault.AfterEnd (length before + 3)))) ≡ Ok store → IsSaved store
+        → cond (not last) (store_after dashes (before ++ line ∷ []) (following ∷ rest)) (cond (ends_here (following ∷ rest)) (Ok (store_of_lines before)) (Err (image_fault.AfterEnd (length before + 3)))) ≡ Ok store → IsSaved store
     taken ih line s true e = at_end (ends_here (following ∷ rest)) e
     taken ih line s false e = ih line s e
 
-    judged : ((line : Line) → IsSaved (store_of_lines (before ++ line ∷ [])) → store_behind dashes (before ++ line ∷ []) (following ∷ rest) ≡ Ok store → IsSaved store)
+    judged : ((line : Line) → IsSaved (store_of_lines (before ++ line ∷ [])) → store_after dashes (before ++ line ∷ []) (following ∷ rest) ≡ Ok store → IsSaved store)
         → (line : Line) → SaysSome (Ok line) → (f : Option LineFault) → fault_in (store_of_lines before) line ≡ f → after_line dashes before (following ∷ rest) (unless_fault f line) ≡ Ok store → IsSaved store
     judged ih line says (Some f) is e = cc e
     judged ih line says None is e = taken ih line (saved_more before saved line says is) (is_end line) e
 
-    by : ((line : Line) → IsSaved (store_of_lines (before ++ line ∷ [])) → store_behind dashes (before ++ line ∷ []) (following ∷ rest) ≡ Ok store → IsSaved store)
+    by : ((line : Line) → IsSaved (store_of_lines (before ++ line ∷ [])) → store_after dashes (before ++ line ∷ []) (following ∷ rest) ≡ Ok store → IsSaved store)
         → (r : Result Line LineFault) → line_of dashes text ≡ r → after_line dashes before (following ∷ rest) (elim r [ Ok line ↦ unless_fault (fault_in (store_of_lines before) line) line | Err fault ↦ Err fault ]) ≡ Ok store → IsSaved store
     by ih (Err f) is e = cc e
     by ih (Ok line) is e = judged ih line (says_some dashes text line is) (fault_in (store_of_lines before) line) refl e
@@ -182,8 +182,8 @@ nothing = record { some = λ k d lt. absurd (omega (arith, lt)); luns = λ k d l
 pub saved_of_image : (bytes : List ℕ) (store : Store) → store_of_image bytes ≡ Ok store → IsSaved store
 saved_of_image bytes store e = by (pieces 10 bytes) e
   where
-    versions : (first following : List ℕ) (rest : List (List ℕ)) (o : Option Bool) → ◌≡◌ {A = Result Store ImageFault} (elim o [ Some dashes ↦ store_behind dashes [] (following ∷ rest) | None ↦ Err image_fault.Header ]) (Ok store) → IsSaved store
-    versions first following rest (Some dashes) e = saved_behind dashes [] (following ∷ rest) store nothing e
+    versions : (first following : List ℕ) (rest : List (List ℕ)) (o : Option Bool) → ◌≡◌ {A = Result Store ImageFault} (elim o [ Some dashes ↦ store_after dashes [] (following ∷ rest) | None ↦ Err image_fault.Header ]) (Ok store) → IsSaved store
+    versions first following rest (Some dashes) e = saved_after dashes [] (following ∷ rest) store nothing e
     versions first following rest None e = cc e
 
     by : (l : List (List ℕ)) → store_of_pieces l ≡ Ok store → IsSaved store

@@ -1,5 +1,5 @@
 -- An answer after what a mood did, and an answer that a mood made.
-use Rattle.std.proofs.Common.{◌≡◌, ℕ, ◌+◌, Bool, true, false, Option, None, Some, Result, Ok, Err, List, [], ◌∷◌, length, refl, sym, ap, ◌∙◌, arith}
+use Rattle.std.proofs.Common.{◌≡◌, ℕ, Bool, true, false, Option, None, Some, Result, Ok, Err, List, [], ◌∷◌, length, refl, sym, ◌∙◌, arith}
 use Rattle.std.specs.Bool.{IsTrue}
 use Rattle.std.proofs.lemmas.Bool.{true≢false}
 use Rattle.std.proofs.lemmas.Option.{none-some}
@@ -31,10 +31,20 @@ fails_else P P' Q Q' NotPresent code s s' p q h = (q h.0, h.1)
 fails_else P P' Q Q' Refusal code s s' p q h = h
 
 -- it answers over the store as it is, as one that never changes
-pub same_after : (r r' : Responder) → (IsHonest (seen_as true r) → IsChange (seen_as true r) (seen_as true r')) → IsHonest (seen_as false r) → (seen_as false r').stores_added ≡ (seen_as false r).stores_added
+same_after : (r r' : Responder) → (IsHonest (seen_as true r) → IsChange (seen_as true r) (seen_as true r')) → IsHonest (seen_as false r) → (seen_as false r').stores_added ≡ (seen_as false r).stores_added
 same_after r r' change honest = let plainly : IsHonest (seen_as true r) = record { said = honest.said; store = honest.store } in (change plainly).stays.plain_store refl
 
-module _ (old mid new : Seen) (honest : IsHonest old) (plain : old.plain ≡ false) (first : Prepares old mid) (same : new.stores_added ≡ mid.stores_added) where
+module _ (old : Seen) (r r' : Responder) (honest : IsHonest old) (plain : old.plain ≡ false) (first : Prepares old (seen_as false r))
+    (plainly : IsHonest (seen_as true r) → IsChange (seen_as true r) (seen_as true r')) where
+  abbrev mid : Seen
+  mid = seen_as false r
+
+  abbrev new : Seen
+  new = seen_as false r'
+
+  same : new.stores_added ≡ mid.stores_added
+  same = same_after r r' plainly first.change.stays.honest
+
   quiet_on : IsQuiet mid new → IsQuiet old new
   quiet_on q = record { troubles = q.troubles ∙ first.quiet.troubles; fresh_troubles = q.fresh_troubles ∙ first.quiet.fresh_troubles; refusals = q.refusals ∙ first.quiet.refusals; last_code = q.last_code ∙ first.quiet.last_code }
 
@@ -46,11 +56,11 @@ module _ (old mid new : Seen) (honest : IsHonest old) (plain : old.plain ≡ fal
   piece false h = quiet_on h
 
   fails : (P Q : Type 0) (class : CodeClass) (code : ℕ) → FailsWith P Q class code mid new → FailsWith P Q class code old new
-  fails P Q Cancelled code q = record { troubles = q.troubles ∙ ap (λ n. n + 1) first.quiet.troubles; fresh_troubles = q.fresh_troubles ∙ ap (λ n. n + 1) first.quiet.fresh_troubles; refusals = q.refusals ∙ first.quiet.refusals; last_code = q.last_code ∙ first.quiet.last_code }
-  fails P Q Busy code q = record { troubles = q.troubles ∙ ap (λ n. n + 1) first.quiet.troubles; fresh_troubles = q.fresh_troubles ∙ ap (λ n. n + 1) first.quiet.fresh_troubles; refusals = q.refusals ∙ first.quiet.refusals; last_code = q.last_code ∙ first.quiet.last_code }
+  fails P Q Cancelled code q = record { troubles = q.troubles ∙ rw first.quiet.troubles refl; fresh_troubles = q.fresh_troubles ∙ rw first.quiet.fresh_troubles refl; refusals = q.refusals ∙ first.quiet.refusals; last_code = q.last_code ∙ first.quiet.last_code }
+  fails P Q Busy code q = record { troubles = q.troubles ∙ rw first.quiet.troubles refl; fresh_troubles = q.fresh_troubles ∙ rw first.quiet.fresh_troubles refl; refusals = q.refusals ∙ first.quiet.refusals; last_code = q.last_code ∙ first.quiet.last_code }
   fails P Q SmallerPart code h = (h.0, quiet_on h.1)
   fails P Q NotPresent code h = (h.0, finished h.1)
-  fails P Q Refusal code q = record { troubles = q.troubles ∙ first.quiet.troubles; fresh_troubles = q.fresh_troubles ∙ first.quiet.fresh_troubles; refusals = q.refusals ∙ ap (λ n. n + 1) first.quiet.refusals; last_code = q.last_code }
+  fails P Q Refusal code q = record { troubles = q.troubles ∙ first.quiet.troubles; fresh_troubles = q.fresh_troubles ∙ first.quiet.fresh_troubles; refusals = q.refusals ∙ rw first.quiet.refusals refl; last_code = q.last_code }
 
   not_plain : {A : Type 0} → IsTrue old.plain → A
   not_plain {A} h = absurd (true≢false (sym h ∙ plain))

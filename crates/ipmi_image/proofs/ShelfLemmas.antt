@@ -10,7 +10,6 @@ use Rattle.ipmi_bus.specs.Shelf.{Row, whole_len, largest_len, id_in, IsRow, AllR
 use Rattle.ipmi_bus.proofs.ShelfLemmas.{IsShelf-first, IsShelf-snoc}
 use Rattle.ipmi_image.specs.Line.{SavedRow}
 use Rattle.ipmi_bus.specs.Walk.{has_id}
-use Rattle.ipmi_image.specs.declared.line.LineFault.{LineFault}
 use Rattle.ipmi_image.specs.declared.line.LineFault.TheVariants as fault
 use Rattle.ipmi_image.specs.Image.{chained, row_before, is_empty, is_no_record, is_no_id, begins_with_another, first_fault, row_fault}
 
@@ -55,21 +54,11 @@ shelf-snoc shelf rows row old is new = record {
 -- ---- a row whose id was looked for last
 
 module _ (shelf : Shelf) (rows : List Row) (row : SavedRow) (is_id : is_no_id rows row.id ≡ false) where
-  rest_is : (a b : Bool) (rest : Option LineFault) → a ≡ false → b ≡ false → cond a (Some fault.Id) (cond b (Some fault.Twice) rest) ≡ rest
-  rest_is true b rest e f = cc
-  rest_is false true rest e f = cc
-  rest_is false false rest e f = refl
-
-  twice_is : (a b : Bool) (rest : Option LineFault) → a ≡ false → b ≡ true → cond a (Some fault.Id) (cond b (Some fault.Twice) rest) ≡ Some fault.Twice
-  twice_is true b rest e f = cc
-  twice_is false false rest e f = cc
-  twice_is false true rest e f = refl
-
   pub new_row_fault : has_id rows row.id ≡ false → row_fault shelf rows row ≡ first_fault ((is_no_record shelf row.bytes, fault.Length) ∷ (begins_with_another rows row, fault.FirstId) ∷ [])
-  new_row_fault new = rest_is (is_no_id rows row.id) (has_id rows row.id) _ is_id new
+  new_row_fault new = rw (is_id, new) refl
 
   pub row_twice : has_id rows row.id ≡ true → row_fault shelf rows row ≡ Some fault.Twice
-  row_twice old = twice_is (is_no_id rows row.id) (has_id rows row.id) _ is_id old
+  row_twice old = rw (is_id, old) refl
 
 -- ---- a row without a fault
 

@@ -91,17 +91,17 @@ store_is contents lines holds = same_store (store_of contents) (store_of_lines l
 
 module _ (old : Contents) (before : List Line) (holds : HoldsLines old before) where
   pub fault_is : (line : Line) → fault_in (store_of_lines before) line ≡ fault_in (store_of old) line
-  fault_is line = ap (λ (s : Store). fault_in s line) (sym (store_is old before holds))
+  fault_is line = rw (sym (store_is old before holds)) refl
 
   -- each part of the new contents is the old one's with what the line says of it
   holds-after : (new : Contents) (line : Line) → new.sdr ≡ said_after old.sdr (row_on Sdr line) → new.sel ≡ said_after old.sel (row_on Sel line)
       → map inventory_of new.inventories ≡ with_inventory_line (map inventory_of old.inventories) line → map sensor_of new.sensors ≡ said_after (map sensor_of old.sensors) (sensor_on line)
       → new.sdr_info ≡ info_after (info_on Sdr line) old.sdr_info → new.sel_info ≡ info_after (info_on Sel line) old.sel_info → HoldsLines new (before ++ line ∷ [])
   holds-after new line sdr sel inventories readings sdr_info sel_info = record {
-    sdr = sdr ∙ ap (λ (l : List SavedRow). said_after l (row_on Sdr line)) holds.sdr ∙ sym (filter_map-after (row_on Sdr) before line);
-    sel = sel ∙ ap (λ (l : List SavedRow). said_after l (row_on Sel line)) holds.sel ∙ sym (filter_map-after (row_on Sel) before line);
-    inventories = inventories ∙ ap (λ (l : List Inventory). with_inventory_line l line) holds.inventories ∙ sym (fold-append with_inventory_line [] before (line ∷ []));
-    readings = readings ∙ ap (λ (l : List SensorReading). said_after l (sensor_on line)) holds.readings ∙ sym (filter_map-after sensor_on before line);
+    sdr = sdr ∙ rw holds.sdr (sym (filter_map-after (row_on Sdr) before line));
+    sel = sel ∙ rw holds.sel (sym (filter_map-after (row_on Sel) before line));
+    inventories = inventories ∙ rw holds.inventories (sym (fold-append with_inventory_line [] before (line ∷ [])));
+    readings = readings ∙ rw holds.readings (sym (filter_map-after sensor_on before line));
     sdr_info = sdr_info ∙ ap (info_after (info_on Sdr line)) holds.sdr_info ∙ sym (ap first_of (filter_map-after (info_on Sdr) before line) ∙ first_of-after _ (info_on Sdr line));
     sel_info = sel_info ∙ ap (info_after (info_on Sel line)) holds.sel_info ∙ sym (ap first_of (filter_map-after (info_on Sel) before line) ∙ first_of-after _ (info_on Sel line));
   }
@@ -140,12 +140,9 @@ inventory_fits (x ∷ xs) id all = by (inventory_fits xs id (λ k d lt. all (suc
 pub inventory_found : (items : List StoredInventory) (id place : ℕ) (x : Inventory) → place_of (λ (i : StoredInventory). i.id) id items ≡ Some place → slice_get (map inventory_of items) place ≡ Some x → inventory_in (map inventory_of items) id ≡ Some x.bytes
 inventory_found [] id place x at is = absurd (none-some place at)
 inventory_found (y ∷ ys) id place x at is = elim (place_some (λ (i : StoredInventory). i.id) id y ys place at) [
-  | inl first ↦ in_first true first.0 ∙ ap (λ (i : Inventory). Some i.bytes) (same_Some (inventory_of y) x (sym (ap (slice_get (inventory_of y ∷ map inventory_of ys)) first.1) ∙ is))
-  | inr later ↦ in_first false later.0 ∙ inventory_found ys id later.1 x later.2 (sym (ap (slice_get (inventory_of y ∷ map inventory_of ys)) later.3) ∙ is)
+  | inl first ↦ rw first.0 (ap (λ (i : Inventory). Some i.bytes) (same_Some (inventory_of y) x (rw first.1 at is)))
+  | inr later ↦ rw later.0 (inventory_found ys id later.1 x later.2 (rw later.3 at is))
 ]
-  where
-    in_first : (b : Bool) → nat_eq y.id id ≡ b → inventory_in (map inventory_of (y ∷ ys)) id ≡ cond b (Some y.bytes.items) (inventory_in (map inventory_of ys) id)
-    in_first b e = ap (λ (b : Bool). cond b (Some y.bytes.items) (inventory_in (map inventory_of ys) id)) e
 
 -- with more bytes they are still inventories of a store
 pub AreInventories-more : (items : List StoredInventory) (id place : ℕ) (bytes : List ℕ) → place_of (λ (i : StoredInventory). i.id) id items ≡ Some place → length (unwrap_or (inventory_in (map inventory_of items) id) []) + length bytes ≤ 65535 → AreBytes bytes → AreInventories (map inventory_of items) → AreInventories (longer_at place bytes (map inventory_of items))
@@ -193,7 +190,7 @@ other_sensor (x ∷ xs) lun number reading k d none lt = by (λ j n below. other
     by : ((j : ℕ) → reading_in xs lun number ≡ None → j < length xs → OtherSensor (get_or xs j d) (record { lun = lun; number = number; reading = reading }))
         → (b : Bool) → (nat_eq x.lun lun && nat_eq x.number number) ≡ b → cond b (Some x.reading) (reading_in xs lun number) ≡ None → (k : ℕ) → k < suc (length xs) → OtherSensor (get_or (x ∷ xs) k d) (record { lun = lun; number = number; reading = reading })
     by ih true e n k lt = absurd (none-some _ (sym n))
-    by ih false e n zero lt = λ same same'. let one = eq-eqb x.lun lun same in let two = eq-eqb x.number number same' in true≢false (sym (ap (λ (b : Bool). b && nat_eq x.number number) one ∙ two) ∙ e)
+    by ih false e n zero lt = λ same same'. let one = eq-eqb x.lun lun same in let two = eq-eqb x.number number same' in true≢false (sym (rw one two) ∙ e)
     by ih false e n (suc k) lt = ih k n (omega (arith, lt))
 
 pub AreReadings-new : (readings : List SensorReading) (new : SensorReading) → reading_in readings new.lun new.number ≡ None → IsSensorReading new → AreReadings readings → AreReadings (readings ++ new ∷ [])

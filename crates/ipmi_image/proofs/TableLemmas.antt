@@ -13,7 +13,7 @@ use Rattle.std.proofs.lemmas.Map.Steps.{length-le_from_distinct_below}
 use Rattle.std.proofs.lemmas.Bool.{eqb-true, eqb-false, eq-eqb, ne_eqb}
 use Rattle.std.proofs.lemmas.Bool.Decides.{nat_tests}
 use Rattle.ipmi_bus.specs.Shelf.{Row, row_with_id}
-use Rattle.ipmi_bus.specs.Store.{Inventory, IsSensorReading, inventory_in, reading_in}
+use Rattle.ipmi_bus.specs.Store.{IsSensorReading, inventory_in, reading_in}
 use Rattle.ipmi_bus.specs.Walk.{has_id}
 use Rattle.ipmi_image.specs.Line.{SavedRow}
 use Rattle.ipmi_image.specs.declared.stored.StoredInventory.{StoredInventory}
@@ -36,7 +36,7 @@ place_of-snoc key q [] item = by (nat_eq (key item) q)
     by : (b : Bool) → cond b (Some 0) None ≡ option_or None (here b 0)
     by true = refl
     by false = refl
-place_of-snoc key q (x ∷ xs) item = ap (λ (o : Option ℕ). cond (nat_eq (key x) q) (Some 0) (option_map (λ p. p + 1) o)) (place_of-snoc key q xs item) ∙ by (nat_eq (key x) q) (place_of key q xs) (nat_eq (key item) q)
+place_of-snoc key q (x ∷ xs) item = rw (place_of-snoc key q xs item) (by (nat_eq (key x) q) (place_of key q xs) (nat_eq (key item) q))
   where
     by : (b : Bool) (o : Option ℕ) (c : Bool) → cond b (Some 0) (option_map (λ p. p + 1) (option_or o (here c (length xs)))) ≡ option_or (cond b (Some 0) (option_map (λ p. p + 1) o)) (here c (suc (length xs)))
     by true o c = refl
@@ -44,7 +44,7 @@ place_of-snoc key q (x ∷ xs) item = ap (λ (o : Option ℕ). cond (nat_eq (key
     by false None true = ap Some (add-one (length xs))
     by false None false = refl
 
--- at the place that is found stands the first item with the key
+-- at the place that is found is the first item with the key
 pub found_at : {T : Type 0} (key : T → ℕ) (q : ℕ) (items : List T) → option_and_then (slice_get items) (place_of key q items) ≡ find (λ x. nat_eq (key x) q) items
 found_at key q [] = refl
 found_at {T} key q (x ∷ xs) = by (nat_eq (key x) q) (place_of key q xs) (found_at key q xs)
@@ -52,7 +52,7 @@ found_at {T} key q (x ∷ xs) = by (nat_eq (key x) q) (place_of key q xs) (found
     by : (b : Bool) (o : Option ℕ) → option_and_then (slice_get xs) o ≡ find (λ y. nat_eq (key y) q) xs → option_and_then (slice_get (x ∷ xs)) (cond b (Some 0) (option_map (λ p. p + 1) o)) ≡ cond b (Some x) (find (λ y. nat_eq (key y) q) xs)
     by true o e = refl
     by false None e = e
-    by false (Some p) e = ap (λ (k : ℕ). slice_get (x ∷ xs) k) (add-one p) ∙ e
+    by false (Some p) e = rw (add-one p) e
 
 pub is_some-place_of : {T : Type 0} (key : T → ℕ) (q : ℕ) (items : List T) → is_some (place_of key q items) ≡ is_some (find (λ x. nat_eq (key x) q) items)
 is_some-place_of key q [] = refl
@@ -97,7 +97,7 @@ or_found f false x part found e = e
 
 pub has_id_place : (rows : List SavedRow) (id : ℕ) → has_id (chained rows) id ≡ is_some (place_of id_of id rows)
 has_id_place [] id = refl
-has_id_place (row ∷ rows) id = ap (λ (b : Bool). b || has_id (chained rows) id) (eqb_comm id row.id) ∙ or_place (nat_eq row.id id) _ (place_of id_of id rows) (has_id_place rows id)
+has_id_place (row ∷ rows) id = rw (eqb_comm id row.id) (or_place (nat_eq row.id id) _ (place_of id_of id rows) (has_id_place rows id))
 
 pub is_empty_chained : (rows : List SavedRow) → is_empty (chained rows) ≡ nat_eq (length rows) 0
 is_empty_chained [] = refl
@@ -111,20 +111,17 @@ pub row_found : (rows : List SavedRow) (id place : ℕ) (row : SavedRow) → pla
 row_found [] id place row at is = absurd (none-some place at)
 row_found (r ∷ rows) id place row at is = elim (place_some id_of id r rows place at) [
   | inl first ↦
-      let same = same_Some r row (sym (ap (slice_get (r ∷ rows)) first.1) ∙ is) in
-      in_first true first.0 ∙ ap (λ (x : SavedRow). Some (row_before rows x)) same ∙ ap (λ (k : ℕ). Some (row_at (r ∷ rows) k row)) (sym first.1)
+      let same = same_Some r row (rw first.1 at is) in
+      rw (first.0, first.1, same) refl
   | inr later ↦
-      in_first false later.0 ∙ row_found rows id later.1 row later.2 (sym (ap (slice_get (r ∷ rows)) later.3) ∙ is)
+      rw later.0 (row_found rows id later.1 row later.2 (rw later.3 at is)
       ∙ ap (λ (n : ℕ). Some (row_before (drop n rows) row)) (add-one later.1) ∙ ap (λ (n : ℕ). Some (row_before (drop n (r ∷ rows)) row)) (sym (add-one (suc later.1)))
-      ∙ ap (λ (k : ℕ). Some (row_at (r ∷ rows) k row)) (sym later.3)
+      ∙ ap (λ (k : ℕ). Some (row_at (r ∷ rows) k row)) (sym later.3))
 ]
-  where
-    in_first : (b : Bool) → nat_eq r.id id ≡ b → row_with_id id (chained (r ∷ rows)) ≡ cond b (Some (row_before rows r)) (row_with_id id (chained rows))
-    in_first b e = ap (λ (b : Bool). cond b (Some (row_before rows r)) (row_with_id id (chained rows))) e
 
 pub row_missing : (rows : List SavedRow) (id : ℕ) → place_of id_of id rows ≡ None → row_with_id id (chained rows) ≡ None
 row_missing [] id at = refl
-row_missing (r ∷ rows) id at = let none = place_none id_of id r rows at in ap (λ (b : Bool). cond b (Some (row_before rows r)) (row_with_id id (chained rows))) none.0 ∙ row_missing rows id none.1
+row_missing (r ∷ rows) id at = let none = place_none id_of id r rows at in rw none.0 (row_missing rows id none.1)
 
 -- ---- inventories
 
@@ -135,19 +132,15 @@ inventory_find (x ∷ xs) id = or_found (λ (i : StoredInventory). i.bytes.items
 pub with_bytes-found : (items : List StoredInventory) (id place : ℕ) (bytes : List ℕ) → place_of (λ (i : StoredInventory). i.id) id items ≡ Some place → with_bytes id bytes (map inventory_of items) ≡ longer_at place bytes (map inventory_of items)
 with_bytes-found [] id place bytes at = absurd (none-some place at)
 with_bytes-found (x ∷ xs) id place bytes at = elim (place_some (λ (i : StoredInventory). i.id) id x xs place at) [
-  | inl first ↦ longer true first.0 ∙ ap (λ (k : ℕ). longer_at k bytes (inventory_of x ∷ map inventory_of xs)) (sym first.1)
-  | inr later ↦ longer false later.0 ∙ ap (λ (l : List Inventory). inventory_of x ∷ l) (with_bytes-found xs id later.1 bytes later.2) ∙ ap (λ (k : ℕ). longer_at k bytes (inventory_of x ∷ map inventory_of xs)) (sym later.3)
+  | inl first ↦ rw (first.0, first.1) refl
+  | inr later ↦ rw (later.0, later.3, with_bytes-found xs id later.1 bytes later.2) refl
 ]
-  where
-    longer : (b : Bool) → nat_eq x.id id ≡ b → with_bytes id bytes (map inventory_of (x ∷ xs)) ≡ cond b (record { id = x.id; bytes = x.bytes.items ++ bytes } ∷ map inventory_of xs) (inventory_of x ∷ with_bytes id bytes (map inventory_of xs))
-    longer b e = ap (λ (b : Bool). cond b (record { id = x.id; bytes = x.bytes.items ++ bytes } ∷ map inventory_of xs) (inventory_of x ∷ with_bytes id bytes (map inventory_of xs))) e
 
 pub with_bytes-new : (items : List StoredInventory) (id : ℕ) (bytes : List ℕ) → place_of (λ (i : StoredInventory). i.id) id items ≡ None → with_bytes id bytes (map inventory_of items) ≡ map inventory_of items ++ record { id = id; bytes = bytes } ∷ []
 with_bytes-new [] id bytes at = refl
 with_bytes-new (x ∷ xs) id bytes at =
     let none = place_none (λ (i : StoredInventory). i.id) id x xs at in
-    ap (λ (b : Bool). cond b (record { id = x.id; bytes = x.bytes.items ++ bytes } ∷ map inventory_of xs) (inventory_of x ∷ with_bytes id bytes (map inventory_of xs))) none.0
-    ∙ ap (λ (l : List Inventory). inventory_of x ∷ l) (with_bytes-new xs id bytes none.1)
+    rw (none.0, with_bytes-new xs id bytes none.1) refl
 
 -- a place that is found is one of the list
 pub place_below : {T : Type 0} (key : T → ℕ) (q : ℕ) (items : List T) (place : ℕ) → place_of key q items ≡ Some place → place < length items
@@ -170,8 +163,7 @@ same_sensor lun number lun' number' lt lt' = by (nat_eq lun lun') refl (nat_eq n
 pub sensor_find : (items : List StoredSensor) (lun number : ℕ) → All IsSensorReading (map sensor_of items) → number < 256 → reading_in (map sensor_of items) lun number ≡ option_map (λ (s : StoredSensor). s.reading) (find (λ (s : StoredSensor). nat_eq (sensor_key s.lun s.number) (sensor_key lun number)) items)
 sensor_find [] lun number all lt = refl
 sensor_find (x ∷ xs) lun number all lt =
-    ap (λ (b : Bool). cond b (Some x.reading) (reading_in (map sensor_of xs) lun number)) (same_sensor x.lun x.number lun number (all 0 (sensor_of x) (omega arith)).number lt)
-    ∙ or_found (λ (s : StoredSensor). s.reading) (nat_eq (sensor_key x.lun x.number) (sensor_key lun number)) x _ _ (sensor_find xs lun number (λ k d below. all (suc k) d (omega (arith, below))) lt)
+    rw (same_sensor x.lun x.number lun number (all 0 (sensor_of x) (omega arith)).number lt) (or_found (λ (s : StoredSensor). s.reading) (nat_eq (sensor_key x.lun x.number) (sensor_key lun number)) x _ _ (sensor_find xs lun number (λ k d below. all (suc k) d (omega (arith, below))) lt))
 
 -- ---- an index beside the items
 
@@ -182,19 +174,25 @@ index_new key places none = record { found = none; distinct = tt; below = λ q p
 
 any_key : {T : Type 0} (key : T → ℕ) (q : ℕ) (items : List T) → list_any (nat_eq q) (map key items) ≡ is_some (place_of key q items)
 any_key key q [] = refl
-any_key key q (x ∷ xs) = ap (λ (b : Bool). b || list_any (nat_eq q) (map key xs)) (eqb_comm q (key x)) ∙ or_place (nat_eq (key x) q) _ (place_of key q xs) (any_key key q xs)
+any_key key q (x ∷ xs) = rw (eqb_comm q (key x)) (or_place (nat_eq (key x) q) _ (place_of key q xs) (any_key key q xs))
 
 -- where no two keys are equal, an item with the key is found at its place
 pub place_at : {T : Type 0} (key : T → ℕ) (q : ℕ) (items : List T) (place : ℕ) (d : T) → IsDistinct nat_eq (map key items) → place < length items → key (get_or items place d) ≡ q → place_of key q items ≡ Some place
 place_at key q [] place d distinct lt is = absurd (omega (arith, lt))
-place_at key q (x ∷ xs) zero d distinct lt is = ap (λ (b : Bool). cond b (Some 0) (option_map (λ p. p + 1) (place_of key q xs))) (eq-eqb _ _ is)
+place_at key q (x ∷ xs) zero d distinct lt is = rw (eq-eqb _ _ is) refl
 place_at key q (x ∷ xs) (suc place) d distinct lt is =
     let below : suc place < length (map key (x ∷ xs)) = let len = length-map xs key in omega (arith, lt, len) in
     let apart : nat_eq (key x) (get_or (map key xs) place (key d)) ≡ false = apart_from_distinct nat_eq (map key (x ∷ xs)) 0 (suc place) (key d) distinct (omega arith) below in
     let other : nat_eq (key x) q ≡ false = ap (nat_eq (key x)) (sym is ∙ sym (get_or-map key xs place d)) ∙ apart in
-    ap (λ (o : Option ℕ). cond (nat_eq (key x) q) (Some 0) (option_map (λ p. p + 1) o)) (place_at key q xs place d (IsDistinct-tail nat_eq (key x) (map key xs) distinct) (omega (arith, lt)) is)
-    ∙ ap (λ (b : Bool). cond b (Some 0) (Some (place + 1))) other
-    ∙ ap Some (add-one place)
+    rw (other, place_at key q xs place d (IsDistinct-tail nat_eq (key x) (map key xs) distinct) (omega (arith, lt)) is, add-one place) refl
+
+-- the item at the place that is found has the key
+pub key-place_of : {T : Type 0} (key : T → ℕ) (q : ℕ) (items : List T) (place : ℕ) (d : T) → place_of key q items ≡ Some place → key (get_or items place d) ≡ q
+key-place_of key q [] place d at = absurd (none-some place at)
+key-place_of key q (x ∷ xs) place d at = elim (place_some key q x xs place at) [
+  | inl first ↦ ap (λ (p : ℕ). key (get_or (x ∷ xs) p d)) first.1 ∙ eqb-true (key x) q first.0
+  | inr later ↦ ap (λ (p : ℕ). key (get_or (x ∷ xs) p d)) later.3 ∙ key-place_of key q xs later.1 d later.2
+]
 
 -- keys below FFFFh with no two equal are at most FFFFh
 pub index_len : {T : Type 0} (key : T → ℕ) (items : List T) (places : ℕ → Option ℕ) → IsIndex key items places → length items ≤ 65535
@@ -235,13 +233,13 @@ was_put Q false o m none = let there = m.0 in cc
 -- an item in another's place, with its key, is found where that was
 place_of-set : {T : Type 0} (key : T → ℕ) (q : ℕ) (items : List T) (place : ℕ) (item d : T) → key item ≡ key (get_or items place d) → place_of key q (set items place item) ≡ place_of key q items
 place_of-set key q [] place item d is = refl
-place_of-set key q (x ∷ xs) zero item d is = ap (λ (k : ℕ). cond (nat_eq k q) (Some 0) (option_map (λ p. p + 1) (place_of key q xs))) is
-place_of-set key q (x ∷ xs) (suc place) item d is = ap (λ (o : Option ℕ). cond (nat_eq (key x) q) (Some 0) (option_map (λ p. p + 1) o)) (place_of-set key q xs place item d is)
+place_of-set key q (x ∷ xs) zero item d is = rw is refl
+place_of-set key q (x ∷ xs) (suc place) item d is = rw (place_of-set key q xs place item d is) refl
 
 map_set : {T : Type 0} (key : T → ℕ) (items : List T) (place : ℕ) (item d : T) → key item ≡ key (get_or items place d) → map key (set items place item) ≡ map key items
 map_set key [] place item d is = refl
-map_set key (x ∷ xs) zero item d is = ap (λ (k : ℕ). k ∷ map key xs) is
-map_set key (x ∷ xs) (suc place) item d is = ap (λ (l : List ℕ). key x ∷ l) (map_set key xs place item d is)
+map_set key (x ∷ xs) zero item d is = rw is refl
+map_set key (x ∷ xs) (suc place) item d is = rw (map_set key xs place item d is) refl
 
 pub index_set : {T : Type 0} (key : T → ℕ) (items : List T) (places : ℕ → Option ℕ) (place : ℕ) (item d : T) → IsIndex key items places → key item ≡ key (get_or items place d) → IsIndex key (set items place item) places
 index_set key items places place item d index is = record {
@@ -252,8 +250,8 @@ index_set key items places place item d index is = record {
 
 pub map-longer : (items : List StoredInventory) (place : ℕ) (item d : StoredInventory) (bytes : List ℕ) → inventory_of item ≡ record { id = (get_or items place d).id; bytes = (get_or items place d).bytes.items ++ bytes } → map inventory_of (set items place item) ≡ longer_at place bytes (map inventory_of items)
 map-longer [] place item d bytes is = refl
-map-longer (x ∷ xs) zero item d bytes is = ap (λ (i : Inventory). i ∷ map inventory_of xs) is
-map-longer (x ∷ xs) (suc place) item d bytes is = ap (λ (l : List Inventory). inventory_of x ∷ l) (map-longer xs place item d bytes is)
+map-longer (x ∷ xs) zero item d bytes is = rw is refl
+map-longer (x ∷ xs) (suc place) item d bytes is = rw (map-longer xs place item d bytes is) refl
 
 pub eq_of_cmp : (a b : ℕ) → is_eq (nat_cmp a b) ≡ nat_eq a b
 eq_of_cmp a b = grind (arith, nat_tests)

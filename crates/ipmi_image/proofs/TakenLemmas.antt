@@ -1,20 +1,18 @@
 -- The lines of a rewritten image are taken one after the other, and give its store.
-use Rattle.std.proofs.Common.{◌≡◌, ◌≢◌, ℕ, ◌+◌, ◌<◌, Bool, true, false, cond, not, nat_eq, nat_lt, ◌&&◌, ◌||◌, Option, None, Some, Result, Ok, Err, List, [], ◌∷◌, ◌++◌, length, map, refl, sym, ap, subst, ◌∙◌, append_assoc, append-nil, arith}
+use Rattle.std.proofs.Common.{◌≡◌, ◌≢◌, ℕ, ◌+◌, ◌<◌, Bool, true, false, cond, not, nat_eq, ◌&&◌, ◌||◌, Option, None, Some, Result, Ok, Err, List, [], ◌∷◌, ◌++◌, length, map, refl, sym, ap, subst, ◌∙◌, append_assoc, append-nil, arith}
 use Rattle.std.specs.Option.{unwrap_or}
-use Rattle.std.specs.List.{cons_option}
 use Rattle.std.proofs.lemmas.Bool.{eqb-true, eq-eqb, ne_eqb}
 use Rattle.std.proofs.lemmas.Bool.Decides.{nat_tests}
 use Rattle.std.proofs.lemmas.List.Elements.{filter_map-append}
 use Rattle.ipmi_bus.specs.declared.controller.Shelf.{Shelf}
 use Rattle.ipmi_bus.specs.declared.controller.Shelf.TheVariants.{Sdr, Sel}
-use Rattle.ipmi_bus.specs.Shelf.{Row, IsRow, AllRows, LacksId, DistinctIds, IsShelf, id_in, largest_len}
+use Rattle.ipmi_bus.specs.Shelf.{Row, IsRow, AllRows, LacksId, DistinctIds, IsShelf, id_in}
 use Rattle.ipmi_bus.specs.Walk.{has_id}
 use Rattle.ipmi_image.specs.declared.line.LineFault.{LineFault}
-use Rattle.ipmi_image.specs.declared.line.LineFault.TheVariants as fault
 use Rattle.ipmi_image.specs.declared.image.ImageFault.TheVariants as image_fault
 use Rattle.std.proofs.lemmas.List.{length-append}
 use Rattle.ipmi_image.specs.Line.{SavedRow, Line, a_row, line_of}
-use Rattle.ipmi_image.specs.Image.{row_on, rows_on, first_id, chained, store_of_lines, is_empty, is_no_record, is_no_id, row_fault, fault_in, unless_fault, is_end, ends_here, store_behind}
+use Rattle.ipmi_image.specs.Image.{row_on, rows_on, first_id, chained, store_of_lines, is_empty, is_no_record, is_no_id, row_fault, fault_in, unless_fault, is_end, ends_here, store_after}
 use Rattle.ipmi_image.specs.Rewritten.{first_row_id}
 use Rattle.ipmi_image.proofs.ReadLemmas.{after_line}
 use Rattle.ipmi_image.proofs.ParseLemmas.{saved_row}
@@ -33,20 +31,20 @@ Taken before [] = Unit {0}
 Taken before (line ∷ lines) = (fault_in (store_of_lines before) line ≡ None) × Taken (before ++ line ∷ []) lines
 
 one_taken : (before : List Line) (text : List ℕ) (rest : List (List ℕ)) (line : Line) → 0 < length rest → line_of true text ≡ Ok line → is_end line ≡ false → fault_in (store_of_lines before) line ≡ None
-    → store_behind true before (text ∷ rest) ≡ store_behind true (before ++ line ∷ []) rest
-unfolding store_behind
+    → store_after true before (text ∷ rest) ≡ store_after true (before ++ line ∷ []) rest
+unfolding store_after
 one_taken before text [] line some says last fine = absurd (omega (arith, some))
 one_taken before text (following ∷ rest) line some says last fine =
     ap (λ (r : Result Line LineFault). after_line true before (following ∷ rest) (elim r [ Ok line ↦ unless_fault (fault_in (store_of_lines before) line) line | Err fault ↦ Err fault ])) says
     ∙ ap (λ (o : Option LineFault). after_line true before (following ∷ rest) (unless_fault o line)) fine
-    ∙ ap (λ (b : Bool). cond (not b) (store_behind true (before ++ line ∷ []) (following ∷ rest)) (cond (ends_here (following ∷ rest)) (Ok (store_of_lines before)) (Err (image_fault.AfterEnd (length before + 3))))) last
+    ∙ ap (λ (b : Bool). cond (not b) (store_after true (before ++ line ∷ []) (following ∷ rest)) (cond (ends_here (following ∷ rest)) (Ok (store_of_lines before)) (Err (image_fault.AfterEnd (length before + 3))))) last
 
-pub all_taken : (before : List Line) (texts rest : List (List ℕ)) (lines : List Line) → 0 < length rest → Says texts lines → Taken before lines → store_behind true before (texts ++ rest) ≡ store_behind true (before ++ lines) rest
-all_taken before [] rest [] some says taken = ap (λ (l : List Line). store_behind true l rest) (sym (append-nil before))
+pub all_taken : (before : List Line) (texts rest : List (List ℕ)) (lines : List Line) → 0 < length rest → Says texts lines → Taken before lines → store_after true before (texts ++ rest) ≡ store_after true (before ++ lines) rest
+all_taken before [] rest [] some says taken = ap (λ (l : List Line). store_after true l rest) (sym (append-nil before))
 all_taken before (text ∷ texts) rest (line ∷ lines) some says taken =
     one_taken before text (texts ++ rest) line (let len = length-append texts rest in omega (arith, some, len)) says.0 says.1 taken.0
     ∙ all_taken (before ++ line ∷ []) texts rest lines some says.2 taken.1
-    ∙ ap (λ (l : List Line). store_behind true l rest) (append_assoc before (line ∷ []) lines)
+    ∙ ap (λ (l : List Line). store_after true l rest) (append_assoc before (line ∷ []) lines)
 all_taken before _ rest _ some says taken = absurd says
 
 -- ---- rows
@@ -62,10 +60,10 @@ saved-first (row ∷ rows) = refl
 -- with their next ids they are the rows again
 pub chained-saved : (rows : List Row) → chained (saved_rows rows) ≡ rows
 chained-saved [] = refl
-chained-saved (row ∷ rows) = ap (λ (r : Row). r ∷ chained (saved_rows rows)) (by (nat_eq row.next (first_row_id rows)) refl) ∙ ap (λ (l : List Row). row ∷ l) (chained-saved rows)
+chained-saved (row ∷ rows) = rw (by (nat_eq row.next (first_row_id rows)) refl, chained-saved rows) refl
   where
     by : (t : Bool) → nat_eq row.next (first_row_id rows) ≡ t → ◌≡◌ {A = Row} (record { id = row.id; next = unwrap_or (cond t None (Some row.next)) (first_id (saved_rows rows)); bytes = row.bytes }) row
-    by true e = ap (λ (n : ℕ). let r : Row = record { id = row.id; next = n; bytes = row.bytes } in r) (saved-first rows ∙ sym (eqb-true row.next (first_row_id rows) e))
+    by true e = rw (saved-first rows ∙ sym (eqb-true row.next (first_row_id rows) e)) refl
     by false e = refl
 
 -- the same ids in the same order
@@ -81,7 +79,7 @@ same-more _ _ s row same e = absurd same
 
 same-has : (saved : List SavedRow) (rows : List Row) (n : ℕ) → SameIds saved rows → has_id (chained saved) n ≡ has_id rows n
 same-has [] [] n same = refl
-same-has (t ∷ saved) (r ∷ rows) n same = ap (λ (i : ℕ). nat_eq n i || has_id (chained saved) n) same.0 ∙ ap (λ (b : Bool). nat_eq n r.id || b) (same-has saved rows n same.1)
+same-has (t ∷ saved) (r ∷ rows) n same = rw (same.0, same-has saved rows n same.1) refl
 same-has _ _ n same = absurd same
 
 same-empty : (saved : List SavedRow) (rows : List Row) → SameIds saved rows → is_empty (chained saved) ≡ is_empty rows
@@ -101,7 +99,7 @@ lacks_middle n (r ∷ before) rows row lacks = lacks_middle n before rows row la
 middle_fresh : (before rows : List Row) (row : Row) → DistinctIds (before ++ row ∷ rows) → has_id before row.id ≡ false
 middle_fresh [] rows row distinct = refl
 middle_fresh (r ∷ before) rows row distinct =
-    ap (λ (b : Bool). b || has_id before row.id) (ne_eqb row.id r.id (λ e. lacks_middle r.id before rows row distinct.0 e)) ∙ middle_fresh before rows row distinct.1
+    rw (ne_eqb row.id r.id (λ e. lacks_middle r.id before rows row distinct.0 e)) (middle_fresh before rows row distinct.1)
 
 middle_id : (shelf : Shelf) (before rows : List Row) (row : Row) → IsShelf shelf (before ++ row ∷ rows) → is_no_id before row.id ≡ false
 middle_id shelf before rows row is = by before is
@@ -110,7 +108,7 @@ middle_id shelf before rows row is = by before is
     below rows' ok = ne_eqb row.id 65535 (λ e. let lt = ok.id in omega (arith, lt, e))
 
     by : (before : List Row) → IsShelf shelf (before ++ row ∷ rows) → is_no_id before row.id ≡ false
-    by [] is = ap (λ (b : Bool). (nat_eq row.id 0 && false) || b) (below [] is.all.0) ∙ first (nat_eq row.id 0)
+    by [] is = rw (below [] is.all.0) (first (nat_eq row.id 0))
       where
         first : (b : Bool) → ((b && false) || false) ≡ false
         first true = refl
@@ -124,22 +122,17 @@ middle_first shelf (r ∷ before) rows row is = refl
 
 whole_record : (shelf : Shelf) (row : Row) → IsRow shelf row → is_no_record shelf row.bytes ≡ false
 whole_record shelf row ok =
-    ap (λ (b : Bool). not b || nat_lt (largest_len shelf) (length row.bytes)) (eq-eqb _ _ ok.whole)
-    ∙ (let fits = ok.fits in grind (arith, nat_tests))
+    rw (eq-eqb _ _ ok.whole) (let fits = ok.fits in grind (arith, nat_tests))
 
 -- a row in the middle has no fault after those before it
 row_fits : (shelf : Shelf) (before rows : List Row) (row : Row) (saved : List SavedRow) (s : SavedRow) → s.id ≡ row.id → s.bytes ≡ row.bytes → SameIds saved before → IsShelf shelf (before ++ row ∷ rows) → row_fault shelf (chained saved) s ≡ None
 row_fits shelf before rows row saved s same_id same_bytes same is =
-    let one : is_no_id (chained saved) s.id ≡ false = ap (is_no_id (chained saved)) same_id ∙ ap (λ (b : Bool). (nat_eq row.id 0 && not b) || nat_eq row.id 65535) (same-empty saved before same) ∙ middle_id shelf before rows row is in
+    let one : is_no_id (chained saved) s.id ≡ false = ap (is_no_id (chained saved)) same_id ∙ rw (same-empty saved before same) (middle_id shelf before rows row is) in
     let two : has_id (chained saved) s.id ≡ false = ap (has_id (chained saved)) same_id ∙ same-has saved before row.id same ∙ middle_fresh before rows row is.distinct in
     let three : is_no_record shelf s.bytes ≡ false = ap (is_no_record shelf) same_bytes ∙ whole_record shelf row (middle_row shelf before rows row is.all) in
     let four : (is_empty (chained saved) && not (nat_eq (id_in s.bytes) s.id)) ≡ false =
-    ap (λ (b : Bool). b && not (nat_eq (id_in s.bytes) s.id)) (same-empty saved before same) ∙ ap (λ (n : ℕ). is_empty before && not (nat_eq (id_in s.bytes) n)) same_id
-    ∙ ap (λ (l : List ℕ). is_empty before && not (nat_eq (id_in l) row.id)) same_bytes ∙ middle_first shelf before rows row is in
-    ap (λ (b : Bool). cond b (Some fault.Id) (cond (has_id (chained saved) s.id) (Some fault.Twice) (cond (is_no_record shelf s.bytes) (Some fault.Length) (cond (is_empty (chained saved) && not (nat_eq (id_in s.bytes) s.id)) (Some fault.FirstId) None)))) one
-    ∙ ap (λ (b : Bool). cond b (Some fault.Twice) (cond (is_no_record shelf s.bytes) (Some fault.Length) (cond (is_empty (chained saved) && not (nat_eq (id_in s.bytes) s.id)) (Some fault.FirstId) None))) two
-    ∙ ap (λ (b : Bool). cond b (Some fault.Length) (cond (is_empty (chained saved) && not (nat_eq (id_in s.bytes) s.id)) (Some fault.FirstId) None)) three
-    ∙ ap (λ (b : Bool). cond b (Some fault.FirstId) None) four
+    rw (same-empty saved before same, same_id, same_bytes) (middle_first shelf before rows row is) in
+    rw (one, two, three, four) refl
 
 abbrev pub row_lines : Shelf → List Row → List Line
 row_lines shelf rows = map (a_row shelf) (saved_rows rows)
@@ -157,7 +150,7 @@ rows_taken : (shelf : Shelf) (before rows : List Row) (lines : List Line) → Sa
 rows_taken shelf before [] lines same is = tt
 rows_taken shelf before (row ∷ rows) lines same is =
     let s = saved_row (first_row_id rows) row in
-    let next : rows_on shelf (lines ++ a_row shelf s ∷ []) ≡ rows_on shelf lines ++ s ∷ [] = filter_map-append (row_on shelf) lines (a_row shelf s ∷ []) ∙ ap (λ (o : Option SavedRow). rows_on shelf lines ++ cons_option o []) (on_shelf shelf s) in (
+    let next : rows_on shelf (lines ++ a_row shelf s ∷ []) ≡ rows_on shelf lines ++ s ∷ [] = filter_map-append (row_on shelf) lines (a_row shelf s ∷ []) ∙ rw (on_shelf shelf s) refl in (
       fault_of_row shelf lines s ∙ row_fits shelf before rows row (rows_on shelf lines) s refl refl same is,
       rows_taken shelf (before ++ row ∷ []) rows (lines ++ a_row shelf s ∷ [])
           (subst (λ (l : List SavedRow). SameIds l (before ++ row ∷ [])) (sym next) (same-more (rows_on shelf lines) before s row same refl))
@@ -170,4 +163,4 @@ shelf_taken shelf rows lines none is = rows_taken shelf [] rows lines (subst (λ
 -- what they are of the lines' rows
 pub rows_of_lines : (shelf : Shelf) (rows : List Row) → rows_on shelf (row_lines shelf rows) ≡ saved_rows rows
 rows_of_lines shelf [] = refl
-rows_of_lines shelf (row ∷ rows) = ap (λ (o : Option SavedRow). cons_option o (rows_on shelf (row_lines shelf rows))) (on_shelf shelf (saved_row (first_row_id rows) row)) ∙ ap (λ (l : List SavedRow). saved_row (first_row_id rows) row ∷ l) (rows_of_lines shelf rows)
+rows_of_lines shelf (row ∷ rows) = rw (on_shelf shelf (saved_row (first_row_id rows) row), rows_of_lines shelf rows) refl

@@ -26,7 +26,7 @@ pieces_none separator bytes none = pieces_one separator bytes (λ k d lt. ne_eqb
 pub pieces_at : (separator : ℕ) (bytes : List ℕ) (k : ℕ) → k < length bytes → get_or bytes k 0 ≡ separator → ((j : ℕ) → j < k → get_or bytes j 0 ≢ separator)
     → pieces separator bytes ≡ take k bytes ∷ pieces separator (drop (k + 1) bytes)
 pieces_at separator bytes k lt here none =
-    let whole : take k bytes ++ separator ∷ drop (k + 1) bytes ≡ bytes = ap (λ (b : ℕ). take k bytes ++ b ∷ drop (k + 1) bytes) (sym here) ∙ ap (λ (l : List ℕ). take k bytes ++ l) (sym (drop_more bytes k 0 lt)) ∙ take-append-drop k bytes in
+    let whole : take k bytes ++ separator ∷ drop (k + 1) bytes ≡ bytes = rw (sym here, sym (drop_more bytes k 0 lt)) (take-append-drop k bytes) in
     ap (pieces separator) (sym whole) ∙ pieces_more separator (take k bytes) (drop (k + 1) bytes) (λ j d below.
     let len = length-take-le k bytes (omega (arith, lt)) in
     let lower : j < k = omega (arith, len, below) in

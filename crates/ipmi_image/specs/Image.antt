@@ -147,8 +147,8 @@ unless_fault None line = Ok line
 unless_fault (Some fault) line = Err fault
 
 -- what the line says after these lines
-abbrev pub line_behind : Bool → List Line → List ℕ → Result Line LineFault
-line_behind dashes before text = elim (line_of dashes text) [ Ok line ↦ unless_fault (fault_in (store_of_lines before) line) line | Err fault ↦ Err fault ]
+abbrev pub line_judged : Bool → List Line → List ℕ → Result Line LineFault
+line_judged dashes before text = elim (line_of dashes text) [ Ok line ↦ unless_fault (fault_in (store_of_lines before) line) line | Err fault ↦ Err fault ]
 
 -- ---- all lines
 
@@ -173,16 +173,16 @@ ends_here ([] ∷ []) = true
 ends_here more = false
 
 -- the store of the lines before and of these up to `end`, the last one; of the pieces of a text the last is no whole line
-unfoldable pub store_behind : Bool → List Line → List (List ℕ) → Result Store ImageFault
-store_behind dashes before (text ∷ (following ∷ rest)) =
-    elim (line_behind dashes before text) [
+unfoldable pub store_after : Bool → List Line → List (List ℕ) → Result Store ImageFault
+store_after dashes before (text ∷ (following ∷ rest)) =
+    elim (line_judged dashes before text) [
       | Ok line ↦
-          if not (is_end line) then store_behind dashes (before ++ line ∷ []) (following ∷ rest)
+          if not (is_end line) then store_after dashes (before ++ line ∷ []) (following ∷ rest)
           else if ends_here (following ∷ rest) then Ok (store_of_lines before)
           else Err (image_fault.AfterEnd (length before + 3))
       | Err fault ↦ Err (at_line (length before + 2) fault)
     ]
-store_behind dashes before rest = Err image_fault.NoEnd
+store_after dashes before rest = Err image_fault.NoEnd
 
 -- the first line says the version, and whether it takes dashes
 abbrev pub dashes_in : List ℕ → Option Bool
@@ -193,7 +193,7 @@ dashes_in first =
 
 abbrev pub store_of_pieces : List (List ℕ) → Result Store ImageFault
 store_of_pieces (first ∷ (following ∷ rest)) =
-    elim (dashes_in first) [ Some dashes ↦ store_behind dashes [] (following ∷ rest) | None ↦ Err image_fault.Header ]
+    elim (dashes_in first) [ Some dashes ↦ store_after dashes [] (following ∷ rest) | None ↦ Err image_fault.Header ]
 store_of_pieces rest = Err image_fault.Header
 
 -- the store that the bytes of an image give, or its first fault

@@ -117,6 +117,7 @@ fn inventory_len(inventories: &Table<StoredInventory>, id: u8) -> usize
 }
 
 /// Why the bytes may not be those of the inventory, or more of it.
+#[tactic(auto, using(crate::proofs::StoreLemmas::inventory_fits))]
 fn inventory_fault(inventories: &Table<StoredInventory>, id: u8, bytes: &[u8]) -> Option<LineFault>
     requires { AreInventories (map table.inventory_of inventories.now) }
     ensures { result ≡ inventory_fault id (inventory_in (map table.inventory_of inventories.now) id)
@@ -162,6 +163,7 @@ fn put_inventory(
 }
 
 /// Whether the sensor has a reading already.
+#[tactic(auto, using(crate::proofs::TableLemmas::reading_place))]
 fn has_reading(sensors: &Table<StoredSensor>, lun: u8, number: u8) -> bool
     requires { AreReadings (map sensor_of sensors.now) }
     ensures { result ≡ is_some (reading_in (map sensor_of sensors.now) lun number) }

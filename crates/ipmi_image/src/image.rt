@@ -3,7 +3,7 @@ ghost use Rattle.std.specs.Prelude.{◌≡◌, ◌⊎◌, [], ◌≤◌, All, If
 ghost use Rattle.std.specs.Option.{option_map};
 ghost use Rattle.ipmi_bus.specs.Store.{IsStore, rows_of, inventory_of, reading_of, info_of};
 ghost use Rattle.ipmi_image.specs.Text.{pieces};
-ghost use Rattle.ipmi_image.specs.Image.{chained, at_line, dashes_in, store_behind, store_of_image};
+ghost use Rattle.ipmi_image.specs.Image.{chained, at_line, dashes_in, store_after, store_of_image};
 ghost use Rattle.ipmi_image.specs.Rewritten.{IsSaved};
 ghost use Rattle.ipmi_image.specs.Stored.{store_of};
 
@@ -91,9 +91,9 @@ fn read_version(line: &[u8]) -> Option<bool>
 /// What the lines after the first one say, up to `end`, the last one.
 fn read_lines(alloc: Global, dashes: bool, text: &[u8]) -> Result<Contents, ImageFault>
     ensures ok { IfOk result (λ contents. IsStore (store_of contents) ×
-        (store_behind dashes [] (pieces 10 text.now) ≡ Ok (store_of contents))) }
+        (store_after dashes [] (pieces 10 text.now) ≡ Ok (store_of contents))) }
     ensures err { IfErr result (λ e. (e ≡ ImageFault.Memory) ⊎
-        (store_behind dashes [] (pieces 10 text.now) ≡ Err e)) }
+        (store_after dashes [] (pieces 10 text.now) ≡ Err e)) }
 {
     let mut contents = Contents::new(alloc);
     let mut number = 2;

@@ -101,9 +101,10 @@ impl<T: Keyed + Drop> Table<T> {
         self.places.get(&key).copied().map(usize::from)
     }
 
-    /// Whether the item at the place has this key. Where it says so, that is the item's place.
+    /// Whether the item at the place has this key. It says so exactly where that is the item's place.
     fn is_at(&self, place: usize, key: u16) -> bool
-        ensures { IsTrue result → place_of T.key key self.now ≡ Some place }
+        ensures yes { IsTrue result → place_of T.key key self.now ≡ Some place }
+        ensures no { place_of T.key key self.now ≡ Some place → IsTrue result }
     {
         match self.items.get(place) {
             Some(item) => item.key() == key,

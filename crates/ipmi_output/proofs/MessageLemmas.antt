@@ -1,13 +1,17 @@
 -- What a message sink took once parts were written to it one after another.
-use Rattle.std.proofs.Common.{◌≡◌, ◌∙◌, ℕ, ◌<◌, ◌==◌, Bool, false, if◌then◌else◌, zero, suc, List, [], ◌++◌, ◌+◌, Option, None, Some, Ok, Err, Result, IsErr, Bor, get_or, length, length-append, take, drop, refl, sym, ap, subst, append_assoc, arith}
-use Rattle.std.proofs.Math.Seq.{drop-cons, take-append-add}
-use Rattle.std.proofs.lemmas.List.{append-nil, take-append-drop, take-append-le}
+use Rattle.std.proofs.Common.{◌≡◌, ◌∙◌, ℕ, ◌<◌, ◌==◌, false, if◌then◌else◌, zero, suc, List, [], ◌++◌, ◌+◌, ◌-◌, Option, None, Some, Ok, Err, Result, IsErr, Bor, get_or, length, length-append, take, drop, refl, sym, ap, subst, append_assoc, arith}
+use Rattle.std.proofs.Math.Seq.{drop-cons, take-add, take-append-add}
+use Rattle.std.proofs.lemmas.List.{append-nil, take-append-drop, take-append-le, take_rest}
 use Rattle.std.proofs.lemmas.Bool.{false≢true}
 use Rattle.std.proofs.lemmas.List.Concat.{flat_map-append}
 use Rattle.std.specs.Io.KnownBytes.{Appends, Keeps}
 use Rattle.std.specs.Option.{option_map}
 use Rattle.ipmi_output.specs.Received.{Received, ReceivesAll, ReceivesPart, WritesAll, ReceivesText, Whole, CutShort}
 use Rattle.ipmi_output.specs.Message.{joined_parts}
+
+-- the first i bytes and the next n of them
+pub take-next : (i n : ℕ) (bytes : List ℕ) → take i bytes ++ take n (take (length bytes - i) (drop i bytes)) ≡ take (i + n) bytes
+take-next i n bytes = rw (take_rest bytes i) (sym (take-add i n bytes))
 
 -- nothing was written yet
 pub Appends-none : (old : Option (List ℕ)) → Appends old old []
@@ -19,7 +23,7 @@ pub Appends-both : (old mid new : Option (List ℕ)) (xs ys : List ℕ) → Appe
 Appends-both None mid new xs ys first second = tt
 Appends-both (Some o) None new xs ys first second = absurd first
 Appends-both (Some o) (Some m) None xs ys first second = absurd second
-Appends-both (Some o) (Some m) (Some n) xs ys first second = second ∙ ap (λ (t : List ℕ). t ++ ys) first ∙ append_assoc o xs ys
+Appends-both (Some o) (Some m) (Some n) xs ys first second = second ∙ rw first (append_assoc o xs ys)
 
 -- a call that failed changed nothing
 pub Appends-kept : (old mid new : Option (List ℕ)) (xs : List ℕ) → Appends old mid xs → Keeps mid new → Appends old new xs
@@ -32,10 +36,6 @@ Appends-kept (Some o) (Some m) (Some n) xs so_far kept = kept ∙ so_far
 pub Appends-same : (old new : Option (List ℕ)) (xs ys : List ℕ) → xs ≡ ys → Appends old new xs → Appends old new ys
 Appends-same old new xs ys same all = subst (λ (t : List ℕ). Appends old new t) same all
 
--- nothing was written yet
-pub ReceivesAll-none : (old : Received) → ReceivesAll old old []
-ReceivesAll-none old = (Appends-none old.taken, refl)
-
 positive : (n : ℕ) → (suc n == 0) ≡ false
 positive n = search arith
 
@@ -43,11 +43,11 @@ positive n = search arith
 pub faults-kept : (faults : Option ℕ) (n : ℕ) → (n ≡ 0 → ⊥) → option_map (λ k. k + (if n == 0 then 1 else 0)) faults ≡ faults
 faults-kept None n some = refl
 faults-kept (Some k) zero some = absurd (some refl)
-faults-kept (Some k) (suc n) some = let same : k + 0 ≡ k = omega arith in ap (λ (b : Bool). Some (k + (if b then 1 else 0))) (positive n) ∙ ap Some same
+faults-kept (Some k) (suc n) some = let same : k + 0 ≡ k = omega arith in rw (positive n) (ap Some same)
 
 -- and one that took none was a fault
 pub faults-raised : (faults : Option ℕ) (n : ℕ) → n ≡ 0 → option_map (λ k. k + (if n == 0 then 1 else 0)) faults ≡ option_map (λ k. k + 1) faults
-faults-raised faults n none = ap (λ (m : ℕ). option_map (λ k. k + (if m == 0 then 1 else 0)) faults) none
+faults-raised faults n none = rw none refl
 
 -- some bytes were taken, and then more
 pub ReceivesAll-both : (old mid new : Received) (xs ys : List ℕ) → ReceivesAll old mid xs → ReceivesAll mid new ys → ReceivesAll old new (xs ++ ys)
@@ -63,14 +63,14 @@ ReceivesPart-before old new xs ys part =
     (part.0, omega (arith, within, whole), Appends-same old.taken new.taken _ _ same part.2, part.3)
 
 -- all of the first bytes, and then a part of those after them
-pub ReceivesPart-behind : (old mid new : Received) (xs ys : List ℕ) → ReceivesAll old mid xs → ReceivesPart mid new ys → ReceivesPart old new (xs ++ ys)
-ReceivesPart-behind old mid new xs ys first part =
+pub ReceivesPart-after : (old mid new : Received) (xs ys : List ℕ) → ReceivesAll old mid xs → ReceivesPart mid new ys → ReceivesPart old new (xs ++ ys)
+ReceivesPart-after old mid new xs ys first part =
     let within = part.1 in
     let whole : length (xs ++ ys) ≡ length xs + length ys = length-append xs ys in (
       length xs + part.0,
       omega (arith, within, whole),
       Appends-same old.taken new.taken _ _ (sym (take-append-add xs ys part.0)) (Appends-both old.taken mid.taken new.taken xs (take part.0 ys) first.0 part.2),
-      part.3 ∙ ap (λ (f : Option ℕ). option_map (λ n. n + 1) f) first.1,
+      part.3 ∙ rw first.1 refl,
     )
 
 -- the parts before part i, that part, and those after it
@@ -86,7 +86,7 @@ pub ReceivesPart-in_part : (old mid new : Received) (parts : List (Bor (List ℕ
     → ReceivesAll old mid (joined_parts (take i parts)) → ReceivesPart mid new (get_or parts i d).now → ReceivesPart old new (joined_parts parts)
 ReceivesPart-in_part old mid new parts i d within first part =
     subst (λ (t : List ℕ). ReceivesPart old new t) (joined_parts-split parts i d within)
-    (ReceivesPart-behind old mid new _ _ first (ReceivesPart-before mid new _ (joined_parts (drop (suc i) parts)) part))
+    (ReceivesPart-after old mid new _ _ first (ReceivesPart-before mid new _ (joined_parts (drop (suc i) parts)) part))
 
 -- a failure with a part of the bytes written
 pub WritesAll-failed : {T E : Type 0} (old new : Received) (r : Result T E) (bytes : List ℕ) → IsErr r → ReceivesPart old new bytes → WritesAll old new r bytes
@@ -94,9 +94,9 @@ WritesAll-failed old new (Ok v) bytes failed part = absurd (false≢true failed)
 WritesAll-failed old new (Err e) bytes failed part = part
 
 -- some bytes, and then what a call writes of those after them
-pub WritesAll-behind : {T E : Type 0} (old mid new : Received) (r : Result T E) (xs ys : List ℕ) → ReceivesAll old mid xs → WritesAll mid new r ys → WritesAll old new r (xs ++ ys)
-WritesAll-behind old mid new (Ok v) xs ys first all = ReceivesAll-both old mid new xs ys first all
-WritesAll-behind old mid new (Err e) xs ys first part = ReceivesPart-behind old mid new xs ys first part
+pub WritesAll-after : {T E : Type 0} (old mid new : Received) (r : Result T E) (xs ys : List ℕ) → ReceivesAll old mid xs → WritesAll mid new r ys → WritesAll old new r (xs ++ ys)
+WritesAll-after old mid new (Ok v) xs ys first all = ReceivesAll-both old mid new xs ys first all
+WritesAll-after old mid new (Err e) xs ys first part = ReceivesPart-after old mid new xs ys first part
 
 -- in either case the text was written
 pub ReceivesText-any : {T E : Type 0} (old new : Received) (r : Result T E) (bytes : List ℕ) → WritesAll old new r bytes → ReceivesText old new bytes

@@ -1,5 +1,5 @@
 -- Columns that are appended to a line.
-use Rattle.std.proofs.Common.{◌≡◌, ◌∙◌, ℕ, ℤ, Option, Some, List, ◌++◌, append_assoc, ap, subst, refl}
+use Rattle.std.proofs.Common.{◌≡◌, ◌∙◌, ℕ, ℤ, Option, Some, List, ◌++◌, append_assoc, subst, refl}
 use Rattle.ipmi_text.specs.Appended.{Appends}
 use Rattle.ipmi_text.specs.Decimal.{IsDecimalOf}
 use Rattle.ipmi_text.specs.ReadingValue.{reading_value}
@@ -15,6 +15,5 @@ quantity_appended bytes unit old number new raw value value_is h unit_is text_is
     record {
       part = part;
       is_text = subst (λ (v : Option ℤ). IsValueText v (unit_text_in bytes) raw part) value_is (record { number = h.part; is_decimal = h.is_text; text_is = refl });
-      text_is = text_is ∙ ap (λ (l : List ℕ). number ++ after_space l) unit_is ∙ ap (λ (l : List ℕ). l ++ after_space (unit_text_in bytes)) h.text_is
-          ∙ append_assoc old h.part (after_space (unit_text_in bytes));
+      text_is = text_is ∙ rw (unit_is, h.text_is) (append_assoc old h.part (after_space (unit_text_in bytes)));
     }

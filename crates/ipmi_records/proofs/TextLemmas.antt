@@ -1,8 +1,6 @@
 -- Lines and blocks out of the parts that the code puts together.
-use Rattle.std.proofs.Common.{◌≡◌, ◌∙◌, ℕ, List, [], ◌∷◌, ◌++◌, Bool, true, Option, codes, ap, sym, subst, refl, append_assoc, append-nil}
-use Rattle.std.proofs.Common.{◌-◌, drop, length, replicate}
+use Rattle.std.proofs.Common.{◌≡◌, ◌∙◌, ℕ, List, [], ◌∷◌, ◌++◌, Bool, true, Option, ◌-◌, codes, drop, length, replicate, sym, subst, refl, append_assoc, append-nil}
 use Rattle.std.specs.Fmt.{char_count, decimal}
-use Rattle.std.specs.List.{concat}
 use Rattle.ipmi_text.specs.Appended.{Appends}
 use Rattle.ipmi_text.specs.Hex.{hex_byte}
 use Rattle.ipmi_text.specs.FieldText.{binary_text}
@@ -18,34 +16,11 @@ use Rattle.ipmi_text.specs.Lines.{labelled}
 use Rattle.ipmi_records.specs.Columns.{IsRawText, IsReadingColumn, status_of}
 use Rattle.ipmi_records.specs.Info.{AreTimeLines, IsInfoBlock, count_lines, free_space, info_version, last_addition, last_erase, record_count, support_lines}
 use Rattle.ipmi_records.specs.Sdr.{locator_of, sensor_of}
-use Rattle.ipmi_records.specs.SdrText.{AreReadingLines, AreThresholdTexts, AreValueLines, IsExtendedLine, IsSdrBlock, IsSdrLine, IsThresholdText, all_thresholds, entity_column, entity_text, extended_text, head_lines, line_text, locator_lines, number_text, printed_name, sensor_columns, sensor_lines, subject_lines, threshold_name}
+use Rattle.ipmi_records.specs.SdrText.{AreReadingLines, AreThresholdTexts, AreValueLines, IsExtendedLine, IsSdrBlock, IsSdrLine, IsThresholdText, all_thresholds, entity_column, entity_text, head_lines, locator_lines, number_text, printed_name, sensor_columns, sensor_lines, subject_lines, threshold_name}
 use Rattle.ipmi_records.proofs.PaddingLemmas.{padded_after}
 use Rattle.ipmi_records.specs.Sel.{entry_type, event_data, generator, is_deasserted, manufacturer, oem_data, revision, sensor_number, sensor_type, time_stamp}
 use Rattle.ipmi_records.specs.SelText.{AreEventLines, AreOemLines, AreOriginLines, event_body_lines, IsEventLine, IsOemLine, direction_text, manufacturer_text, sensor_text, words_of_event}
 use Rattle.ipmi_records.specs.Sensor.{is_readable, threshold_in}
-
--- a line before other lines
-line_before : (label text rest : List ℕ) → label ++ (codes ": " ++ (text ++ (codes "\n" ++ rest))) ≡ labelled label text ++ rest
-line_before label text rest = simp append_assoc refl
-
--- labels and texts, one after the other
-abbrev flat : List (List ℕ × List ℕ) → List ℕ
-flat [] = []
-flat (pair ∷ pairs) = pair.0 ++ (codes ": " ++ (pair.1 ++ (codes "\n" ++ flat pairs)))
-
-abbrev lines_of : List (List ℕ × List ℕ) → List (List ℕ)
-lines_of [] = []
-lines_of (pair ∷ pairs) = labelled pair.0 pair.1 ∷ lines_of pairs
-
--- are lines
-lines_joined : (pairs : List (List ℕ × List ℕ)) → flat pairs ≡ concat (lines_of pairs)
-lines_joined [] = refl
-lines_joined (pair ∷ pairs) = line_before pair.0 pair.1 (flat pairs) ∙ ap (λ (l : List ℕ). labelled pair.0 pair.1 ++ l) (lines_joined pairs)
-
--- a text that was appended between two others
-between : (front part back first second third : List ℕ) → first ≡ front → second ≡ first ++ part → third ≡ second ++ back → third ≡ front ++ (part ++ back)
-between front part back first second third first_is second_is third_is =
-    third_is ∙ ap (λ (t : List ℕ). t ++ back) (second_is ∙ ap (λ (t : List ℕ). t ++ part) first_is) ∙ append_assoc front part back
 
 pub reading_lines_made : (view : SdrView) (reading : Option Reading) (status empty first second text : List ℕ) → empty ≡ [] → first ≡ empty ++ codes "Reading: "
     → Appends (IsReadingColumn view reading) first second → status ≡ status_of view reading → text ≡ second ++ (codes "\nStatus: " ++ (status ++ codes "\n"))
@@ -54,8 +29,7 @@ reading_lines_made view reading status empty first second text empty_is first_is
     record {
       column = h.part;
       is_column = h.is_text;
-      text_is = between (codes "Reading: ") h.part (codes "\nStatus: " ++ (status ++ codes "\n")) first second text (first_is ∙ ap (λ (t : List ℕ). t ++ codes "Reading: ") empty_is) h.text_is text_is
-          ∙ line_before (codes "Reading") h.part (labelled (codes "Status") status) ∙ ap (λ (s : List ℕ). labelled (codes "Reading") h.part ++ labelled (codes "Status") s) status_is;
+      text_is = text_is ∙ rw (h.text_is, first_is, empty_is, status_is) (simp append_assoc refl);
     }
 
 pub key_lines_joined : (owner lun number : List ℕ)
@@ -66,9 +40,8 @@ key_lines_joined owner lun number = simp append_assoc refl
 pub subject_lines_made : (sensor : Sensor) (kind text : List ℕ) → kind ≡ sensor_type_text_of sensor.sensor_type
     → text ≡ codes "Entity: " ++ (entity_text sensor.entity ++ (codes "\nKind: " ++ (kind ++ (codes "\nEvent type: " ++ (byte_h sensor.event_type ++ codes "\n")))))
     → text ≡ subject_lines sensor
-subject_lines_made sensor kind text kind_is text_is = text_is
-    ∙ lines_joined ((codes "Entity", entity_text sensor.entity) ∷ (codes "Kind", kind) ∷ (codes "Event type", byte_h sensor.event_type) ∷ [])
-    ∙ ap (λ (l : List ℕ). labelled (codes "Entity") (entity_text sensor.entity) ++ (labelled (codes "Kind") l ++ labelled (codes "Event type") (byte_h sensor.event_type))) kind_is
+subject_lines_made sensor kind text kind_is text_is =
+    text_is ∙ rw kind_is (simp append_assoc refl)
 
 pub threshold_made : (bytes : List ℕ) (threshold : Threshold) (readable : Bool) (raw : ℕ) (name empty first second text : List ℕ) → readable ≡ is_readable threshold bytes → readable ≡ true
     → raw ≡ threshold_in threshold bytes → name ≡ threshold_name threshold → empty ≡ [] → first ≡ empty ++ (name ++ codes ": ") → Appends (IsRawText bytes raw) first second
@@ -77,8 +50,7 @@ threshold_made bytes threshold readable raw name empty first second text readabl
     subst (λ (b : Bool). IsThresholdText b bytes threshold text) (sym so ∙ readable_is) (record {
       value = h.part;
       is_value = subst (λ (n : ℕ). IsRawText bytes n h.part) raw_is h.is_text;
-      text_is = between (name ++ codes ": ") h.part (codes "\n") first second text (first_is ∙ ap (λ (t : List ℕ). t ++ (name ++ codes ": ")) empty_is) h.text_is text_is
-          ∙ append_assoc name (codes ": ") (h.part ++ codes "\n") ∙ ap (λ (l : List ℕ). labelled l h.part) name_is;
+      text_is = text_is ∙ rw (h.text_is, first_is, empty_is, name_is) (simp append_assoc refl);
     })
 
 one_threshold_more : (bytes : List ℕ) (threshold : Threshold) (thresholds : List Threshold) (line more : List ℕ) → IsThresholdText (is_readable threshold bytes) bytes threshold line
@@ -100,7 +72,7 @@ all_thresholds_made bytes a b c d e f text is_a is_b is_c is_d is_e is_f text_is
     let third = one_threshold_more bytes UpperNonCritical (LowerNonRecoverable ∷ LowerCritical ∷ LowerNonCritical ∷ []) c (d ++ (e ++ (f ++ []))) is_c fourth in
     let second = one_threshold_more bytes UpperCritical (UpperNonCritical ∷ LowerNonRecoverable ∷ LowerCritical ∷ LowerNonCritical ∷ []) b (c ++ (d ++ (e ++ (f ++ [])))) is_b third in
     let first = one_threshold_more bytes UpperNonRecoverable (UpperCritical ∷ UpperNonCritical ∷ LowerNonRecoverable ∷ LowerCritical ∷ LowerNonCritical ∷ []) a (b ++ (c ++ (d ++ (e ++ (f ++ []))))) is_a second in
-    subst (AreThresholdTexts bytes all_thresholds) (ap (λ (l : List ℕ). a ++ (b ++ (c ++ (d ++ (e ++ l))))) (append-nil f) ∙ sym text_is) first
+    subst (AreThresholdTexts bytes all_thresholds) (simp append-nil refl ∙ sym text_is) first
 
 pub block_made : (id : ℕ) (view : SdrView) (reading : Option Reading) (head sensor locator values text : List ℕ) → head ≡ head_lines id view → sensor ≡ sensor_lines (sensor_of view)
     → locator ≡ locator_lines (locator_of view) → AreValueLines view reading values → text ≡ head ++ (sensor ++ (locator ++ (values ++ codes "\n"))) → IsSdrBlock id view reading text
@@ -108,44 +80,29 @@ block_made id view reading head sensor locator values text head_is sensor_is loc
     record {
       values = values;
       are_values = are_values;
-      text_is = text_is ∙ ap (λ (l : List ℕ). l ++ (sensor ++ (locator ++ (values ++ codes "\n")))) head_is
-          ∙ ap (λ (l : List ℕ). head_lines id view ++ (l ++ (locator ++ (values ++ codes "\n")))) sensor_is
-          ∙ ap (λ (l : List ℕ). head_lines id view ++ (sensor_lines (sensor_of view) ++ (l ++ (values ++ codes "\n")))) locator_is;
+      text_is = text_is ∙ rw (head_is, sensor_is, locator_is) refl;
     }
 
 pub line_made : (view : SdrView) (reading : Option Reading) (start : ℕ) (status empty named opened read filled text : List ℕ) → empty ≡ [] → named ≡ empty ++ padded_to 16 (printed_name view)
     → opened ≡ named ++ codes " | " → start ≡ length opened → Appends (IsReadingColumn view reading) opened read
     → filled ≡ read ++ replicate (17 - char_count (drop start read)) 32 → status ≡ status_of view reading → text ≡ filled ++ (codes " | " ++ (status ++ codes "\n")) → IsSdrLine view reading text
 line_made view reading start status empty named opened read filled text empty_is named_is opened_is start_is h filled_is status_is text_is =
-    let name = padded_to 16 (printed_name view) in
-    let named_so : named ≡ name = named_is ∙ ap (λ (t : List ℕ). t ++ name) empty_is in
-    let opened_so : opened ≡ name ++ codes " | " = opened_is ∙ ap (λ (t : List ℕ). t ++ codes " | ") named_so in
-    let filled_so : filled ≡ opened ++ padded_to 17 h.part = padded_after 17 start opened h.part read filled h.text_is start_is filled_is in
+    let filled_so : filled ≡ opened ++ padded_to 17 h.part =
+    padded_after 17 start opened h.part read filled h.text_is start_is filled_is in
     record {
       column = h.part;
       is_column = h.is_text;
-      text_is = between (name ++ codes " | ") (padded_to 17 h.part) (codes " | " ++ (status ++ codes "\n")) opened filled text opened_so filled_so text_is
-          ∙ append_assoc name (codes " | ") (padded_to 17 h.part ++ (codes " | " ++ (status ++ codes "\n"))) ∙ ap (line_text (printed_name view) h.part) status_is;
+      text_is = text_is ∙ rw (filled_so, opened_is, named_is, empty_is, status_is) (simp append_assoc refl);
     }
 
 pub extended_line_made : (view : SdrView) (reading : Option Reading) (status empty named opened read text : List ℕ) → empty ≡ [] → named ≡ empty ++ padded_to 16 (printed_name view)
     → opened ≡ named ++ sensor_columns view status → status ≡ status_of view reading → Appends (IsReadingColumn view reading) opened read → text ≡ read ++ codes "\n" → IsExtendedLine view reading text
 extended_line_made view reading status empty named opened read text empty_is named_is opened_is status_is h text_is =
-    let name = padded_to 16 (printed_name view) in
-    let named_so : named ≡ name = named_is ∙ ap (λ (t : List ℕ). t ++ name) empty_is in
-    let opened_so : opened ≡ name ++ sensor_columns view status = opened_is ∙ ap (λ (t : List ℕ). t ++ sensor_columns view status) named_so in
     record {
       column = h.part;
       is_column = h.is_text;
-      text_is = between (name ++ sensor_columns view status) h.part (codes "\n") opened read text opened_so h.text_is text_is
-          ∙ columns_joined name (number_text (sensor_of view)) (padded_to 3 status) (padded_to 5 (entity_column (sensor_of view) (locator_of view))) h.part
-          ∙ ap (λ (s : List ℕ). extended_text view s h.part) status_is;
+      text_is = text_is ∙ rw (h.text_is, opened_is, named_is, empty_is, status_is) (simp append_assoc refl);
     }
-  where
-    columns_joined : (name number status entity column : List ℕ)
-        → (name ++ (codes " | " ++ (number ++ (codes " | " ++ (status ++ (codes " | " ++ (entity ++ codes " | "))))))) ++ (column ++ codes "\n")
-        ≡ name ++ (codes " | " ++ (number ++ (codes " | " ++ (status ++ (codes " | " ++ (entity ++ (codes " | " ++ (column ++ codes "\n"))))))))
-    columns_joined name number status entity column = simp append_assoc refl
 
 pub sensor_columns_made : (view : SdrView) (number status entity old first second third fourth text : List ℕ) → number ≡ number_text (sensor_of view)
     → entity ≡ entity_column (sensor_of view) (locator_of view)
@@ -159,8 +116,7 @@ sensor_columns_made view number status entity old first second third fourth text
 pub sensor_text_made : (bytes kind text : List ℕ) (type number : ℕ) → kind ≡ sensor_type_text_of type → type ≡ sensor_type bytes → number ≡ sensor_number bytes
     → text ≡ kind ++ (codes " #0x" ++ hex_byte number) → text ≡ sensor_text bytes
 sensor_text_made bytes kind text type number kind_is type_is number_is text_is =
-    text_is ∙ ap (λ (l : List ℕ). l ++ (codes " #0x" ++ hex_byte number)) (kind_is ∙ ap sensor_type_text_of type_is)
-    ∙ ap (λ (n : ℕ). sensor_type_text_of (sensor_type bytes) ++ (codes " #0x" ++ hex_byte n)) number_is
+    text_is ∙ rw (kind_is, type_is, number_is) refl
 
 pub event_line_made : (id stamp : ℕ) (bytes time sensor words direction text : List ℕ) → stamp ≡ time_stamp bytes → IsUtcTextOf stamp time → sensor ≡ sensor_text bytes
     → words ≡ words_of_event bytes → direction ≡ direction_text (is_deasserted bytes)
@@ -169,10 +125,7 @@ event_line_made id stamp bytes time sensor words direction text stamp_is is_time
     record {
       time = time;
       is_time = subst (λ (s : ℕ). IsUtcTextOf s time) stamp_is is_time;
-      text_is = text_is
-          ∙ ap (λ (l : List ℕ). hex_word id ++ (codes " | " ++ (time ++ (codes " | " ++ (l ++ (codes " | " ++ (words ++ (codes " | " ++ (direction ++ codes "\n"))))))))) sensor_is
-          ∙ ap (λ (l : List ℕ). hex_word id ++ (codes " | " ++ (time ++ (codes " | " ++ (sensor_text bytes ++ (codes " | " ++ (l ++ (codes " | " ++ (direction ++ codes "\n"))))))))) words_is
-          ∙ ap (λ (l : List ℕ). hex_word id ++ (codes " | " ++ (time ++ (codes " | " ++ (sensor_text bytes ++ (codes " | " ++ (words_of_event bytes ++ (codes " | " ++ (l ++ codes "\n"))))))))) direction_is;
+      text_is = text_is ∙ rw (sensor_is, words_is, direction_is) refl;
     }
 
 pub oem_line_made : (id stamp type : ℕ) (bytes time number content text : List ℕ) → stamp ≡ time_stamp bytes → IsUtcTextOf stamp time → type ≡ entry_type bytes
@@ -187,27 +140,18 @@ origin_lines_made stamp maker rev bytes time text stamp_is is_time maker_is rev_
     record {
       time = time;
       is_time = subst (λ (s : ℕ). IsUtcTextOf s time) stamp_is is_time;
-      text_is = text_is ∙ lines_joined ((codes "Time", time) ∷ (codes "Generator", word_h maker) ∷ (codes "Revision", byte_h rev) ∷ [])
-          ∙ ap (λ (n : ℕ). labelled (codes "Time") time ++ (labelled (codes "Generator") (word_h n) ++ labelled (codes "Revision") (byte_h rev))) maker_is
-          ∙ ap (λ (n : ℕ). labelled (codes "Time") time ++ (labelled (codes "Generator") (word_h (generator bytes)) ++ labelled (codes "Revision") (byte_h n))) rev_is;
+      text_is = text_is ∙ rw (maker_is, rev_is) (simp append_assoc refl);
     }
 
 pub event_body_made : (bytes sensor words direction content text : List ℕ) → sensor ≡ sensor_text bytes → words ≡ words_of_event bytes → direction ≡ direction_text (is_deasserted bytes)
     → content ≡ binary_text (event_data bytes)
     → text ≡ codes "Sensor: " ++ (sensor ++ (codes "\nEvent: " ++ (words ++ (codes "\nDirection: " ++ (direction ++ (codes "\nData: " ++ (content ++ codes "\n"))))))) → text ≡ event_body_lines bytes
-event_body_made bytes sensor words direction content text sensor_is words_is direction_is content_is text_is = text_is
-    ∙ lines_joined ((codes "Sensor", sensor) ∷ (codes "Event", words) ∷ (codes "Direction", direction) ∷ (codes "Data", content) ∷ [])
-    ∙ ap (λ (l : List ℕ). parts l words direction content) sensor_is
-    ∙ ap (λ (l : List ℕ). parts (sensor_text bytes) l direction content) words_is
-    ∙ ap (λ (l : List ℕ). parts (sensor_text bytes) (words_of_event bytes) l content) direction_is
-    ∙ ap (parts (sensor_text bytes) (words_of_event bytes) (direction_text (is_deasserted bytes))) content_is
-  where
-    parts : List ℕ → List ℕ → List ℕ → List ℕ → List ℕ
-    parts s w d b = concat (labelled (codes "Sensor") s ∷ labelled (codes "Event") w ∷ labelled (codes "Direction") d ∷ labelled (codes "Data") b ∷ [])
+event_body_made bytes sensor words direction content text sensor_is words_is direction_is content_is text_is =
+    text_is ∙ rw (sensor_is, words_is, direction_is, content_is) (simp append_assoc refl)
 
 pub event_lines_made : (bytes origin body text : List ℕ) → AreOriginLines bytes origin → body ≡ event_body_lines bytes → text ≡ origin ++ body → AreEventLines bytes text
 event_lines_made bytes origin body text are_origin body_is text_is =
-    record { origin = origin; are_origin = are_origin; text_is = text_is ∙ ap (λ (l : List ℕ). origin ++ l) body_is }
+    record { origin = origin; are_origin = are_origin; text_is = text_is ∙ rw body_is refl }
 
 pub oem_lines_made : (stamp : ℕ) (bytes time number content text : List ℕ) → stamp ≡ time_stamp bytes → IsUtcTextOf stamp time → number ≡ manufacturer_text (manufacturer bytes) → content ≡ binary_text (oem_data bytes)
     → text ≡ codes "Time: " ++ (time ++ (codes "\nManufacturer: " ++ (number ++ (codes "\nData: " ++ (content ++ codes "\n"))))) → AreOemLines bytes text
@@ -215,23 +159,15 @@ oem_lines_made stamp bytes time number content text stamp_is is_time number_is c
     record {
       time = time;
       is_time = subst (λ (s : ℕ). IsUtcTextOf s time) stamp_is is_time;
-      text_is = text_is ∙ lines_joined ((codes "Time", time) ∷ (codes "Manufacturer", number) ∷ (codes "Data", content) ∷ [])
-          ∙ ap (λ (l : List ℕ). concat (labelled (codes "Time") time ∷ labelled (codes "Manufacturer") l ∷ labelled (codes "Data") content ∷ [])) number_is
-          ∙ ap (λ (l : List ℕ). concat (labelled (codes "Time") time ∷ labelled (codes "Manufacturer") (manufacturer_text (manufacturer bytes)) ∷ labelled (codes "Data") l ∷ [])) content_is;
+      text_is = text_is ∙ rw (number_is, content_is) (simp append_assoc refl);
     }
 
 -- ---- infos
 
 pub count_lines_made : (version records free : ℕ) (bytes text : List ℕ) → version ≡ info_version bytes → records ≡ record_count bytes → free ≡ free_space bytes
     → text ≡ codes "Version: 0x" ++ (hex_byte version ++ (codes "\nRecords: " ++ (decimal records ++ (codes "\nFree Space: " ++ (decimal free ++ codes "\n"))))) → text ≡ count_lines bytes
-count_lines_made version records free bytes text version_is records_is free_is text_is = text_is
-    ∙ lines_joined ((codes "Version", codes "0x" ++ hex_byte version) ∷ (codes "Records", decimal records) ∷ (codes "Free Space", decimal free) ∷ [])
-    ∙ ap (λ (n : ℕ). parts n records free) version_is
-    ∙ ap (λ (n : ℕ). parts (info_version bytes) n free) records_is
-    ∙ ap (parts (info_version bytes) (record_count bytes)) free_is
-  where
-    parts : ℕ → ℕ → ℕ → List ℕ
-    parts v r f = concat (labelled (codes "Version") (codes "0x" ++ hex_byte v) ∷ labelled (codes "Records") (decimal r) ∷ labelled (codes "Free Space") (decimal f) ∷ [])
+count_lines_made version records free bytes text version_is records_is free_is text_is =
+    text_is ∙ rw (version_is, records_is, free_is) (simp append_assoc refl)
 
 pub time_lines_made : (added erased : ℕ) (bytes addition erase text : List ℕ) → added ≡ last_addition bytes → IsUtcTextOf added addition → erased ≡ last_erase bytes → IsUtcTextOf erased erase
     → text ≡ codes "Last Addition: " ++ (addition ++ (codes "\nLast Erase: " ++ (erase ++ codes "\n"))) → AreTimeLines bytes text
@@ -241,9 +177,9 @@ time_lines_made added erased bytes addition erase text added_is is_addition eras
       erase = erase;
       is_addition = subst (λ (s : ℕ). IsUtcTextOf s addition) added_is is_addition;
       is_erase = subst (λ (s : ℕ). IsUtcTextOf s erase) erased_is is_erase;
-      text_is = text_is ∙ lines_joined ((codes "Last Addition", addition) ∷ (codes "Last Erase", erase) ∷ []);
+      text_is = text_is ∙ simp append_assoc refl;
     }
 
 pub info_made : (bytes counts times last text : List ℕ) → counts ≡ count_lines bytes → AreTimeLines bytes times → last ≡ support_lines bytes → text ≡ counts ++ (times ++ last) → IsInfoBlock bytes text
 info_made bytes counts times last text counts_are are_times last_is text_is =
-    record { times = times; are_times = are_times; text_is = text_is ∙ ap (λ (l : List ℕ). l ++ (times ++ last)) counts_are ∙ ap (λ (l : List ℕ). count_lines bytes ++ (times ++ l)) last_is }
+    record { times = times; are_times = are_times; text_is = text_is ∙ rw (counts_are, last_is) refl }

@@ -1,11 +1,9 @@
 -- A record, an entry and an info have at most one text.
-use Rattle.std.proofs.Common.{◌≡◌, ◌∙◌, ℕ, Bool, true, false, Option, None, Some, ℤ, List, [], ◌∷◌, ◌++◌, length, slice_index, ◌<◌, inl, inr, ap, sym, codes, arith}
+use Rattle.std.proofs.Common.{◌≡◌, ◌∙◌, ℕ, Bool, true, false, Option, None, Some, ℤ, List, [], ◌∷◌, length, slice_index, ◌<◌, inl, inr, sym, arith}
 use Rattle.std.proofs.lemmas.Bool.{cases_lt}
 use Rattle.std.proofs.lemmas.List.{get_or_past}
-use Rattle.std.specs.List.{concat}
 use Rattle.byteorder.specs.Numbers.{little_from-lt}
 use Rattle.ipmi_text.specs.Bytes.{AreBytes}
-use Rattle.ipmi_text.specs.FieldText.{binary_text}
 use Rattle.ipmi_text.specs.ReadingValue.{reading_value}
 use Rattle.ipmi_text.specs.Times.{IsUtcTextOf}
 use Rattle.ipmi_text.specs.declared.reading.Reading.{Reading}
@@ -17,15 +15,11 @@ use Rattle.ipmi_records.specs.declared.sdr.SdrView.TheVariants as record_view
 use Rattle.ipmi_records.specs.declared.sel.SelView.{SelView}
 use Rattle.ipmi_records.specs.declared.sel.SelView.TheVariants as entry_view
 use Rattle.ipmi_records.specs.declared.sensor.Threshold.{Threshold}
-use Rattle.ipmi_records.specs.Bytes.{byte_h, columns_line, hex_word, word_h}
-use Rattle.ipmi_text.specs.Lines.{labelled}
-use Rattle.ipmi_text.specs.Units.{after_space}
-use Rattle.ipmi_records.specs.Columns.{IsAnalogColumn, IsFullColumn, IsRawText, IsReadingColumn, IsValueText, has_analog, shown_of, status_of, unit_text_in}
-use Rattle.ipmi_records.specs.Info.{AreTimeLines, IsInfoBlock, count_lines, last_addition, last_erase, support_lines}
-use Rattle.ipmi_records.specs.Sdr.{locator_of, sensor_of}
-use Rattle.ipmi_records.specs.SdrText.{AreReadingLines, AreThresholdTexts, AreValueLines, IsExtendedLine, IsSdrBlock, IsSdrLine, IsThresholdText, extended_text, head_lines, line_text, locator_lines, printed_name, sensor_lines, threshold_name, thresholds_of}
-use Rattle.ipmi_records.specs.Sel.{entry_bytes, entry_type, generator, is_deasserted, manufacturer, oem_data, revision, time_stamp}
-use Rattle.ipmi_records.specs.SelText.{AreFieldLines, AreOriginLines, IsSelBlock, IsSelLine, direction_text, event_body_lines, manufacturer_text, oem_text, sensor_text, words_of_event}
+use Rattle.ipmi_records.specs.Columns.{IsAnalogColumn, IsFullColumn, IsRawText, IsReadingColumn, IsValueText, has_analog, shown_of, unit_text_in}
+use Rattle.ipmi_records.specs.Info.{AreTimeLines, IsInfoBlock, last_addition, last_erase}
+use Rattle.ipmi_records.specs.SdrText.{AreReadingLines, AreThresholdTexts, AreValueLines, IsExtendedLine, IsSdrBlock, IsSdrLine, IsThresholdText, thresholds_of}
+use Rattle.ipmi_records.specs.Sel.{entry_bytes, time_stamp}
+use Rattle.ipmi_records.specs.SelText.{AreFieldLines, AreOriginLines, IsSelBlock, IsSelLine}
 use Rattle.ipmi_records.specs.Sensor.{factors_in, full_sensor, is_readable, threshold_in}
 
 module _ (one_text : DecimalIsUnique) (one_utc_text : UtcTextIsUnique) where
@@ -34,7 +28,7 @@ module _ (one_text : DecimalIsUnique) (one_utc_text : UtcTextIsUnique) where
   one_value : (value : Option ℤ) (unit : List ℕ) (raw : ℕ) (text other : List ℕ) → IsValueText value unit raw text → IsValueText value unit raw other → text ≡ other
   one_value None unit raw text other h k = h ∙ sym k
   one_value (Some value) unit raw text other h k =
-      h.text_is ∙ ap (λ (n : List ℕ). n ++ after_space unit) (one_text value h.number k.number h.is_decimal k.is_decimal) ∙ sym k.text_is
+      h.text_is ∙ rw (one_text value h.number k.number h.is_decimal k.is_decimal) (sym k.text_is)
 
   one_raw : (bytes : List ℕ) (raw : ℕ) (text other : List ℕ) → IsRawText bytes raw text → IsRawText bytes raw other → text ≡ other
   one_raw bytes raw text other h k = one_value (reading_value (factors_in bytes) raw) (unit_text_in bytes) raw text other h k
@@ -59,35 +53,29 @@ module _ (one_text : DecimalIsUnique) (one_utc_text : UtcTextIsUnique) where
 
   pub one_sdr_line : (view : SdrView) (reading : Option Reading) (text other : List ℕ) → IsSdrLine view reading text → IsSdrLine view reading other → text ≡ other
   one_sdr_line view reading text other h k =
-      h.text_is ∙ ap (λ (c : List ℕ). line_text (printed_name view) c (status_of view reading)) (one_column view reading h.column k.column h.is_column k.is_column) ∙ sym k.text_is
+      h.text_is ∙ rw (one_column view reading h.column k.column h.is_column k.is_column) (sym k.text_is)
 
   pub one_extended_line : (view : SdrView) (reading : Option Reading) (text other : List ℕ) → IsExtendedLine view reading text → IsExtendedLine view reading other → text ≡ other
   one_extended_line view reading text other h k =
-      h.text_is ∙ ap (extended_text view (status_of view reading)) (one_column view reading h.column k.column h.is_column k.is_column) ∙ sym k.text_is
+      h.text_is ∙ rw (one_column view reading h.column k.column h.is_column k.is_column) (sym k.text_is)
 
   one_pair : (view : SdrView) (reading : Option Reading) (text other : List ℕ) → AreReadingLines view reading text → AreReadingLines view reading other → text ≡ other
   one_pair view reading text other h k =
-      h.text_is ∙ ap (λ (c : List ℕ). labelled (codes "Reading") c ++ labelled (codes "Status") (status_of view reading)) (one_column view reading h.column k.column h.is_column k.is_column) ∙ sym k.text_is
+      h.text_is ∙ rw (one_column view reading h.column k.column h.is_column k.is_column) (sym k.text_is)
 
   one_threshold : (readable : Bool) (bytes : List ℕ) (threshold : Threshold) (text other : List ℕ) → IsThresholdText readable bytes threshold text → IsThresholdText readable bytes threshold other → text ≡ other
   one_threshold false bytes threshold text other h k = h ∙ sym k
   one_threshold true bytes threshold text other h k =
-      h.text_is ∙ ap (labelled (threshold_name threshold)) (one_raw bytes (threshold_in threshold bytes) h.value k.value h.is_value k.is_value) ∙ sym k.text_is
+      h.text_is ∙ rw (one_raw bytes (threshold_in threshold bytes) h.value k.value h.is_value k.is_value) (sym k.text_is)
 
   one_list : (bytes : List ℕ) (thresholds : List Threshold) (text other : List ℕ) → AreThresholdTexts bytes thresholds text → AreThresholdTexts bytes thresholds other → text ≡ other
   one_list bytes [] text other h k = h ∙ sym k
   one_list bytes (threshold ∷ thresholds) text other h k =
-      h.2.1.1
-      ∙ ap (λ (l : List ℕ). l ++ h.1) (one_threshold (is_readable threshold bytes) bytes threshold h.0 k.0 h.2.0 k.2.0)
-      ∙ ap (λ (l : List ℕ). k.0 ++ l) (one_list bytes thresholds h.1 k.1 h.2.1.0 k.2.1.0)
-      ∙ sym k.2.1.1
+      h.2.1.1 ∙ rw (one_threshold (is_readable threshold bytes) bytes threshold h.0 k.0 h.2.0 k.2.0, one_list bytes thresholds h.1 k.1 h.2.1.0 k.2.1.0) (sym k.2.1.1)
 
   one_values : (view : SdrView) (reading : Option Reading) (text other : List ℕ) → AreValueLines view reading text → AreValueLines view reading other → text ≡ other
   one_values (record_view.Full bytes) reading text other h k =
-      h.text_is
-      ∙ ap (λ (l : List ℕ). l ++ h.thresholds) (one_pair (record_view.Full bytes) reading h.columns k.columns h.are_columns k.are_columns)
-      ∙ ap (λ (l : List ℕ). k.columns ++ l) (one_list bytes (thresholds_of (full_sensor bytes)) h.thresholds k.thresholds h.are_thresholds k.are_thresholds)
-      ∙ sym k.text_is
+      h.text_is ∙ rw (one_pair (record_view.Full bytes) reading h.columns k.columns h.are_columns k.are_columns, one_list bytes (thresholds_of (full_sensor bytes)) h.thresholds k.thresholds h.are_thresholds k.are_thresholds) (sym k.text_is)
   one_values (record_view.Compact bytes) reading text other h k = one_pair (record_view.Compact bytes) reading text other h k
   one_values (record_view.EventOnly bytes) reading text other h k = h ∙ sym k
   one_values (record_view.Generic bytes) reading text other h k = h ∙ sym k
@@ -97,13 +85,11 @@ module _ (one_text : DecimalIsUnique) (one_utc_text : UtcTextIsUnique) where
 
   pub one_sdr_block : (id : ℕ) (view : SdrView) (reading : Option Reading) (text other : List ℕ) → IsSdrBlock id view reading text → IsSdrBlock id view reading other → text ≡ other
   one_sdr_block id view reading text other h k =
-      h.text_is
-      ∙ ap (λ (l : List ℕ). concat (head_lines id view ∷ sensor_lines (sensor_of view) ∷ locator_lines (locator_of view) ∷ l ∷ codes "\n" ∷ [])) (one_values view reading h.values k.values h.are_values k.are_values)
-      ∙ sym k.text_is
+      h.text_is ∙ rw (one_values view reading h.values k.values h.are_values k.are_values) (sym k.text_is)
 
   -- ---- the event log
 
-  -- what stands at a place is a byte; past the end it is 0
+  -- what is at a place is a byte; past the end it is 0
   below_256 : (bytes : List ℕ) → AreBytes bytes → (k : ℕ) → slice_index bytes k < 256
   below_256 bytes are k = elim (cases_lt k (length bytes)) [
     | inl within ↦ are k 0 within
@@ -117,37 +103,27 @@ module _ (one_text : DecimalIsUnique) (one_utc_text : UtcTextIsUnique) where
 
   pub one_sel_line : (id : ℕ) (view : SelView) (text other : List ℕ) → AreBytes (entry_bytes view) → IsSelLine id view text → IsSelLine id view other → text ≡ other
   one_sel_line id (entry_view.Event bytes) text other are h k =
-      h.text_is
-      ∙ ap (λ (t : List ℕ). columns_line (hex_word id ∷ t ∷ sensor_text bytes ∷ words_of_event bytes ∷ direction_text (is_deasserted bytes) ∷ [])) (one_time bytes h.time k.time are h.is_time k.is_time)
-      ∙ sym k.text_is
+      h.text_is ∙ rw (one_time bytes h.time k.time are h.is_time k.is_time) (sym k.text_is)
   one_sel_line id (entry_view.OemTimed bytes) text other are h k =
-      h.text_is
-      ∙ ap (λ (t : List ℕ). columns_line (hex_word id ∷ t ∷ oem_text (entry_type bytes) ∷ manufacturer_text (manufacturer bytes) ∷ binary_text (oem_data bytes) ∷ [])) (one_time bytes h.time k.time are h.is_time k.is_time)
-      ∙ sym k.text_is
+      h.text_is ∙ rw (one_time bytes h.time k.time are h.is_time k.is_time) (sym k.text_is)
   one_sel_line id (entry_view.OemPlain bytes) text other are h k = h ∙ sym k
   one_sel_line id (entry_view.Other bytes) text other are h k = h ∙ sym k
 
   one_origin : (bytes text other : List ℕ) → AreBytes bytes → AreOriginLines bytes text → AreOriginLines bytes other → text ≡ other
   one_origin bytes text other are h k =
-      h.text_is
-      ∙ ap (λ (t : List ℕ). concat (labelled (codes "Time") t ∷ labelled (codes "Generator") (word_h (generator bytes)) ∷ labelled (codes "Revision") (byte_h (revision bytes)) ∷ [])) (one_time bytes h.time k.time are h.is_time k.is_time)
-      ∙ sym k.text_is
+      h.text_is ∙ rw (one_time bytes h.time k.time are h.is_time k.is_time) (sym k.text_is)
 
   one_fields : (view : SelView) (text other : List ℕ) → AreBytes (entry_bytes view) → AreFieldLines view text → AreFieldLines view other → text ≡ other
   one_fields (entry_view.Event bytes) text other are h k =
-      h.text_is ∙ ap (λ (l : List ℕ). l ++ event_body_lines bytes) (one_origin bytes h.origin k.origin are h.are_origin k.are_origin) ∙ sym k.text_is
+      h.text_is ∙ rw (one_origin bytes h.origin k.origin are h.are_origin k.are_origin) (sym k.text_is)
   one_fields (entry_view.OemTimed bytes) text other are h k =
-      h.text_is
-      ∙ ap (λ (t : List ℕ). concat (labelled (codes "Time") t ∷ labelled (codes "Manufacturer") (manufacturer_text (manufacturer bytes)) ∷ labelled (codes "Data") (binary_text (oem_data bytes)) ∷ [])) (one_time bytes h.time k.time are h.is_time k.is_time)
-      ∙ sym k.text_is
+      h.text_is ∙ rw (one_time bytes h.time k.time are h.is_time k.is_time) (sym k.text_is)
   one_fields (entry_view.OemPlain bytes) text other are h k = h ∙ sym k
   one_fields (entry_view.Other bytes) text other are h k = h ∙ sym k
 
   pub one_sel_block : (id : ℕ) (view : SelView) (text other : List ℕ) → AreBytes (entry_bytes view) → IsSelBlock id view text → IsSelBlock id view other → text ≡ other
   one_sel_block id view text other are h k =
-      h.text_is
-      ∙ ap (λ (l : List ℕ). concat (labelled (codes "Record") (word_h id) ∷ labelled (codes "Type") (byte_h (entry_type (entry_bytes view))) ∷ l ∷ codes "\n" ∷ [])) (one_fields view h.fields k.fields are h.are_fields k.are_fields)
-      ∙ sym k.text_is
+      h.text_is ∙ rw (one_fields view h.fields k.fields are h.are_fields k.are_fields) (sym k.text_is)
 
   -- ---- infos
 
@@ -155,11 +131,8 @@ module _ (one_text : DecimalIsUnique) (one_utc_text : UtcTextIsUnique) where
   one_times bytes text other are h k =
       let addition_bound = little_from-lt 5 4 bytes (below_256 bytes are) in
       let erase_bound = little_from-lt 9 4 bytes (below_256 bytes are) in
-      h.text_is
-      ∙ ap (λ (t : List ℕ). concat (labelled (codes "Last Addition") t ∷ labelled (codes "Last Erase") h.erase ∷ [])) (one_utc_text (last_addition bytes) h.addition k.addition (omega (arith, addition_bound)) h.is_addition k.is_addition)
-      ∙ ap (λ (t : List ℕ). concat (labelled (codes "Last Addition") k.addition ∷ labelled (codes "Last Erase") t ∷ [])) (one_utc_text (last_erase bytes) h.erase k.erase (omega (arith, erase_bound)) h.is_erase k.is_erase)
-      ∙ sym k.text_is
+      h.text_is ∙ rw (one_utc_text (last_addition bytes) h.addition k.addition (omega (arith, addition_bound)) h.is_addition k.is_addition, one_utc_text (last_erase bytes) h.erase k.erase (omega (arith, erase_bound)) h.is_erase k.is_erase) (sym k.text_is)
 
   pub one_info_block : (bytes text other : List ℕ) → AreBytes bytes → IsInfoBlock bytes text → IsInfoBlock bytes other → text ≡ other
   one_info_block bytes text other are h k =
-      h.text_is ∙ ap (λ (t : List ℕ). count_lines bytes ++ (t ++ support_lines bytes)) (one_times bytes h.times k.times are h.are_times k.are_times) ∙ sym k.text_is
+      h.text_is ∙ rw (one_times bytes h.times k.times are h.are_times k.are_times) (sym k.text_is)

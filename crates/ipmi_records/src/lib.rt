@@ -1,6 +1,7 @@
 //! Sensor data records and entries of the event log: views of their bytes, and their texts (IPMI v2.0, sections 32 and 43).
 #![tactic(auto)]
 
+mod at_least;
 mod block;
 mod column;
 mod digits;
@@ -15,6 +16,7 @@ mod sdr;
 mod sel;
 mod sensor;
 
+pub use at_least::AtLeast;
 pub use block::sdr_block;
 pub use id_string::IdString;
 pub use info::info_block;
@@ -22,7 +24,7 @@ pub use line::{sdr_eline, sdr_fault_line, sdr_line};
 pub use locator::{ControllerLocator, FruLocator, GenericLocator, Locator};
 pub use log::{sel_block, sel_line};
 pub use sdr::{OtherRecord, SdrFault, SdrView};
-pub use sel::{EventEntry, OemPlainEntry, OemTimedEntry, OtherEntry, SelView};
+pub use sel::{Entry, EventEntry, OemPlainEntry, OemTimedEntry, OtherEntry, SelView};
 pub use sensor::{
     CompactSensor, Entity, EventOnlySensor, FullSensor, Sensor, SensorUnits, Threshold,
 };

@@ -3,14 +3,14 @@ ghost use Rattle.std.specs.Prelude.{◌≡◌, ◌≤◌, length};
 ghost use Rattle.ipmi_records.specs.Sdr.{fru_in, id_field_at, id_field_of, locator_id_place};
 ghost use Rattle.ipmi_records.specs.Sensor.{access_lun, fru_id, is_logical, locator_in};
 
+use crate::at_least::AtLeast;
 use crate::digits::has_bit;
 use crate::id_string::IdString;
 use crate::sdr::OWN_ADDRESS;
 use crate::sensor::Entity;
-use std::marker::Model;
 
-/// The byte of a locator's ID string type/length, counted from 1.
-const ID_PLACE: usize = 16;
+/// The byte of a locator's ID string type/length, counted from 1. Each locator has it.
+pub(crate) const LOCATOR_ID_PLACE: usize = 16;
 
 /// What all three kinds of locators tell of their device.
 #[derive(Clone, Copy, Debug, PartialEq, Eq)]
@@ -33,38 +33,9 @@ fn locator_in(bytes: &[u8]) -> Locator
 }
 
 /// A generic device locator (section 43.7).
-#[derive(Clone, Debug, Drop)]
-pub struct GenericLocator<'a> {
-    bytes: &'a [u8],
-}
-
-impl<'a> Model for GenericLocator<'a> {
-    ghost use Rattle.std.specs.Prelude.{◌≤◌, List, ℕ, length};
-
-    ghost Value = { List ℕ };
-
-    ghost view = { λ v. v.bytes.now };
-
-    ghost invariant = { λ v. 16 ≤ length v.bytes.now };
-}
+pub type GenericLocator<'a> = AtLeast<'a, 0x10, LOCATOR_ID_PLACE>;
 
 impl<'a> GenericLocator<'a> {
-    /// The view of a record that is long enough.
-    pub(crate) fn new(bytes: &'a [u8]) -> GenericLocator<'a>
-        requires { 16 ≤ length bytes.now }
-        ensures { result ≡ bytes.now }
-    {
-        GenericLocator { bytes }
-    }
-
-    /// The bytes of the record.
-    pub(crate) fn bytes(&self) -> &'a [u8]
-        ensures value { result.now ≡ self.now }
-        ensures room { 16 ≤ length result.now }
-    {
-        self.bytes
-    }
-
     /// The device.
     pub fn locator(&self) -> Locator
         ensures { result ≡ locator_in self.now }
@@ -76,43 +47,14 @@ impl<'a> GenericLocator<'a> {
     pub fn id_string(&self) -> IdString<'a>
         ensures { id_field_of result ≡ id_field_at locator_id_place self.now }
     {
-        IdString::at(self.bytes, ID_PLACE)
+        IdString::at(self.bytes, LOCATOR_ID_PLACE)
     }
 }
 
 /// A FRU device locator (section 43.8).
-#[derive(Clone, Debug, Drop)]
-pub struct FruLocator<'a> {
-    bytes: &'a [u8],
-}
-
-impl<'a> Model for FruLocator<'a> {
-    ghost use Rattle.std.specs.Prelude.{◌≤◌, List, ℕ, length};
-
-    ghost Value = { List ℕ };
-
-    ghost view = { λ v. v.bytes.now };
-
-    ghost invariant = { λ v. 16 ≤ length v.bytes.now };
-}
+pub type FruLocator<'a> = AtLeast<'a, 0x11, LOCATOR_ID_PLACE>;
 
 impl<'a> FruLocator<'a> {
-    /// The view of a record that is long enough.
-    pub(crate) fn new(bytes: &'a [u8]) -> FruLocator<'a>
-        requires { 16 ≤ length bytes.now }
-        ensures { result ≡ bytes.now }
-    {
-        FruLocator { bytes }
-    }
-
-    /// The bytes of the record.
-    pub(crate) fn bytes(&self) -> &'a [u8]
-        ensures value { result.now ≡ self.now }
-        ensures room { 16 ≤ length result.now }
-    {
-        self.bytes
-    }
-
     /// The device.
     pub fn locator(&self) -> Locator
         ensures { result ≡ locator_in self.now }
@@ -156,43 +98,14 @@ impl<'a> FruLocator<'a> {
     pub fn id_string(&self) -> IdString<'a>
         ensures { id_field_of result ≡ id_field_at locator_id_place self.now }
     {
-        IdString::at(self.bytes, ID_PLACE)
+        IdString::at(self.bytes, LOCATOR_ID_PLACE)
     }
 }
 
 /// A management controller device locator (section 43.9).
-#[derive(Clone, Debug, Drop)]
-pub struct ControllerLocator<'a> {
-    bytes: &'a [u8],
-}
-
-impl<'a> Model for ControllerLocator<'a> {
-    ghost use Rattle.std.specs.Prelude.{◌≤◌, List, ℕ, length};
-
-    ghost Value = { List ℕ };
-
-    ghost view = { λ v. v.bytes.now };
-
-    ghost invariant = { λ v. 16 ≤ length v.bytes.now };
-}
+pub type ControllerLocator<'a> = AtLeast<'a, 0x12, LOCATOR_ID_PLACE>;
 
 impl<'a> ControllerLocator<'a> {
-    /// The view of a record that is long enough.
-    pub(crate) fn new(bytes: &'a [u8]) -> ControllerLocator<'a>
-        requires { 16 ≤ length bytes.now }
-        ensures { result ≡ bytes.now }
-    {
-        ControllerLocator { bytes }
-    }
-
-    /// The bytes of the record.
-    pub(crate) fn bytes(&self) -> &'a [u8]
-        ensures value { result.now ≡ self.now }
-        ensures room { 16 ≤ length result.now }
-    {
-        self.bytes
-    }
-
     /// The controller.
     pub fn locator(&self) -> Locator
         ensures { result ≡ locator_in self.now }
@@ -204,6 +117,6 @@ impl<'a> ControllerLocator<'a> {
     pub fn id_string(&self) -> IdString<'a>
         ensures { id_field_of result ≡ id_field_at locator_id_place self.now }
     {
-        IdString::at(self.bytes, ID_PLACE)
+        IdString::at(self.bytes, LOCATOR_ID_PLACE)
     }
 }

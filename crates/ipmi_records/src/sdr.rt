@@ -2,13 +2,16 @@
 ghost use Rattle.std.specs.Prelude.{◌≡◌, ◌≤◌, IfOk, length, option_map, string_bytes};
 ghost use Rattle.ipmi_records.specs.Sdr.{body_len, fru_of, id_field_of, id_string_of, key_of, least_len, locator_of, name_of, reading_of, record_bytes, record_id, record_type, record_version, sdr_view_by_type, sdr_view_of, sensor_of};
 
+use crate::at_least::AtLeast;
 use crate::id_string::IdString;
-use crate::locator::{ControllerLocator, FruLocator, GenericLocator, Locator};
-use crate::sensor::{CompactSensor, EventOnlySensor, FullSensor, Sensor};
+use crate::locator::{ControllerLocator, FruLocator, GenericLocator, LOCATOR_ID_PLACE, Locator};
+use crate::sensor::{
+    COMPACT_ID_PLACE, CompactSensor, EVENT_ONLY_ID_PLACE, EventOnlySensor, FULL_ID_PLACE,
+    FullSensor, Sensor,
+};
 use byteorder::{ByteOrder, LittleEndian};
 use ipmi_text::sdr_text;
 use std::alloc::{AllocError, Global};
-use std::marker::Model;
 use thiserror::Error;
 
 /// The address of the controller that holds the records.
@@ -32,38 +35,7 @@ pub enum SdrFault {
 }
 
 /// A record of a type that has no view of its own.
-#[derive(Clone, Debug, Drop)]
-pub struct OtherRecord<'a> {
-    bytes: &'a [u8],
-}
-
-impl<'a> Model for OtherRecord<'a> {
-    ghost use Rattle.std.specs.Prelude.{◌≤◌, List, ℕ, length};
-
-    ghost Value = { List ℕ };
-
-    ghost view = { λ v. v.bytes.now };
-
-    ghost invariant = { λ v. 5 ≤ length v.bytes.now };
-}
-
-impl<'a> OtherRecord<'a> {
-    /// The view of a record that is long enough.
-    fn new(bytes: &'a [u8]) -> OtherRecord<'a>
-        requires { 5 ≤ length bytes.now }
-        ensures { result ≡ bytes.now }
-    {
-        OtherRecord { bytes }
-    }
-
-    /// The bytes of the record.
-    pub(crate) fn bytes(&self) -> &'a [u8]
-        ensures value { result.now ≡ self.now }
-        ensures room { 5 ≤ length result.now }
-    {
-        self.bytes
-    }
-}
+pub type OtherRecord<'a> = AtLeast<'a, 0x00, HEADER>;
 
 /// A sensor data record, by its type.
 #[derive(Clone, Debug, Drop)]
@@ -89,10 +61,10 @@ fn least_len(kind: u8) -> usize
     ensures { result ≡ least_len kind }
 {
     match kind {
-        0x01 => 48,
-        0x02 => 32,
-        0x03 => 17,
-        0x10 | 0x11 | 0x12 => 16,
+        0x01 => FULL_ID_PLACE,
+        0x02 => COMPACT_ID_PLACE,
+        0x03 => EVENT_ONLY_ID_PLACE,
+        0x10 | 0x11 | 0x12 => LOCATOR_ID_PLACE,
         _ => HEADER,
     }
 }

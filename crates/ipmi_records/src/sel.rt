@@ -6,6 +6,40 @@ use crate::digits::has_bit;
 use byteorder::{ByteOrder, LittleEndian};
 use std::marker::Model;
 
+/// The 16 bytes of an entry of the event log. `TYPE` is the first entry type of its kind.
+#[derive(Clone, Debug, Drop)]
+pub struct Entry<'a, const TYPE: u8> {
+    bytes: &'a [u8],
+}
+
+impl<'a, const TYPE: u8> Model for Entry<'a, TYPE> {
+    ghost use Rattle.std.specs.Prelude.{◌≡◌, List, ℕ, length};
+
+    ghost Value = { List ℕ };
+
+    ghost view = { λ v. v.bytes.now };
+
+    ghost invariant = { λ v. length v.bytes.now ≡ 16 };
+}
+
+impl<'a, const TYPE: u8> Entry<'a, TYPE> {
+    /// The entry that 16 bytes are.
+    fn new(bytes: &'a [u8]) -> Entry<'a, TYPE>
+        requires { length bytes.now ≡ 16 }
+        ensures { result ≡ bytes.now }
+    {
+        Entry { bytes }
+    }
+
+    /// The bytes of the entry.
+    pub(crate) fn bytes(&self) -> &'a [u8]
+        ensures value { result.now ≡ self.now }
+        ensures len { length result.now ≡ 16 }
+    {
+        self.bytes
+    }
+}
+
 /// When an entry came, in seconds.
 fn time_stamp(bytes: &[u8]) -> u32
     requires { 7 ≤ length bytes.now }
@@ -23,30 +57,9 @@ fn plain_data(bytes: &[u8]) -> &[u8]
 }
 
 /// An event (section 32.1).
-#[derive(Clone, Debug, Drop)]
-pub struct EventEntry<'a> {
-    bytes: &'a [u8],
-}
-
-impl<'a> Model for EventEntry<'a> {
-    ghost use Rattle.std.specs.Prelude.{◌≡◌, List, ℕ, length};
-
-    ghost Value = { List ℕ };
-
-    ghost view = { λ v. v.bytes.now };
-
-    ghost invariant = { λ v. length v.bytes.now ≡ 16 };
-}
+pub type EventEntry<'a> = Entry<'a, 0x02>;
 
 impl<'a> EventEntry<'a> {
-    /// The bytes of the entry.
-    pub(crate) fn bytes(&self) -> &'a [u8]
-        ensures value { result.now ≡ self.now }
-        ensures len { length result.now ≡ 16 }
-    {
-        self.bytes
-    }
-
     /// When it came, in seconds.
     pub fn time_stamp(&self) -> u32
         ensures { result ≡ time_stamp self.now }
@@ -106,30 +119,9 @@ impl<'a> EventEntry<'a> {
 }
 
 /// An OEM record with a time stamp (section 32.2).
-#[derive(Clone, Debug, Drop)]
-pub struct OemTimedEntry<'a> {
-    bytes: &'a [u8],
-}
-
-impl<'a> Model for OemTimedEntry<'a> {
-    ghost use Rattle.std.specs.Prelude.{◌≡◌, List, ℕ, length};
-
-    ghost Value = { List ℕ };
-
-    ghost view = { λ v. v.bytes.now };
-
-    ghost invariant = { λ v. length v.bytes.now ≡ 16 };
-}
+pub type OemTimedEntry<'a> = Entry<'a, 0xc0>;
 
 impl<'a> OemTimedEntry<'a> {
-    /// The bytes of the entry.
-    pub(crate) fn bytes(&self) -> &'a [u8]
-        ensures value { result.now ≡ self.now }
-        ensures len { length result.now ≡ 16 }
-    {
-        self.bytes
-    }
-
     /// When it came, in seconds.
     pub fn time_stamp(&self) -> u32
         ensures { result ≡ time_stamp self.now }
@@ -153,30 +145,9 @@ impl<'a> OemTimedEntry<'a> {
 }
 
 /// An OEM record without a time stamp (section 32.3).
-#[derive(Clone, Debug, Drop)]
-pub struct OemPlainEntry<'a> {
-    bytes: &'a [u8],
-}
-
-impl<'a> Model for OemPlainEntry<'a> {
-    ghost use Rattle.std.specs.Prelude.{◌≡◌, List, ℕ, length};
-
-    ghost Value = { List ℕ };
-
-    ghost view = { λ v. v.bytes.now };
-
-    ghost invariant = { λ v. length v.bytes.now ≡ 16 };
-}
+pub type OemPlainEntry<'a> = Entry<'a, 0xe0>;
 
 impl<'a> OemPlainEntry<'a> {
-    /// The bytes of the entry.
-    pub(crate) fn bytes(&self) -> &'a [u8]
-        ensures value { result.now ≡ self.now }
-        ensures len { length result.now ≡ 16 }
-    {
-        self.bytes
-    }
-
     /// The thirteen bytes that the manufacturer gives a meaning.
     pub fn data_bytes(&self) -> &'a [u8]
         ensures { result.now ≡ plain_data self.now }
@@ -186,30 +157,9 @@ impl<'a> OemPlainEntry<'a> {
 }
 
 /// An entry of another type.
-#[derive(Clone, Debug, Drop)]
-pub struct OtherEntry<'a> {
-    bytes: &'a [u8],
-}
-
-impl<'a> Model for OtherEntry<'a> {
-    ghost use Rattle.std.specs.Prelude.{◌≡◌, List, ℕ, length};
-
-    ghost Value = { List ℕ };
-
-    ghost view = { λ v. v.bytes.now };
-
-    ghost invariant = { λ v. length v.bytes.now ≡ 16 };
-}
+pub type OtherEntry<'a> = Entry<'a, 0x00>;
 
 impl<'a> OtherEntry<'a> {
-    /// The bytes of the entry.
-    pub(crate) fn bytes(&self) -> &'a [u8]
-        ensures value { result.now ≡ self.now }
-        ensures len { length result.now ≡ 16 }
-    {
-        self.bytes
-    }
-
     /// All bytes after the type.
     pub fn data_bytes(&self) -> &'a [u8]
         ensures { result.now ≡ plain_data self.now }
@@ -238,10 +188,10 @@ impl<'a> SelView<'a> {
     {
         let bytes = bytes.as_slice();
         match bytes[2] {
-            0x02 => SelView::Event(EventEntry { bytes }),
-            0xc0..=0xdf => SelView::OemTimed(OemTimedEntry { bytes }),
-            0xe0..=0xff => SelView::OemPlain(OemPlainEntry { bytes }),
-            _ => SelView::Other(OtherEntry { bytes }),
+            0x02 => SelView::Event(EventEntry::new(bytes)),
+            0xc0..=0xdf => SelView::OemTimed(OemTimedEntry::new(bytes)),
+            0xe0..=0xff => SelView::OemPlain(OemPlainEntry::new(bytes)),
+            _ => SelView::Other(OtherEntry::new(bytes)),
         }
     }
 

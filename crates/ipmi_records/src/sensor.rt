@@ -5,11 +5,20 @@ ghost use Rattle.ipmi_records.specs.Bytes.{signed};
 ghost use Rattle.ipmi_records.specs.Sdr.{compact_id_place, event_only_id_place, full_id_place, id_field_at, id_field_of};
 ghost use Rattle.ipmi_records.specs.Sensor.{analog_format, compact_sensor, entity_in, event_only_sensor, exponent_k1, exponent_k2, factor_b, factor_m, factors_in, full_sensor, is_readable, linearization, sensor_by, threshold_bit, threshold_in, threshold_place, units_in};
 
+use crate::at_least::AtLeast;
 use crate::digits::has_bit;
 use crate::id_string::IdString;
 use ipmi_text::Factors;
 use std::fmt;
-use std::marker::Model;
+
+/// The byte of a full record's ID string type/length, counted from 1. Each full record has it.
+pub(crate) const FULL_ID_PLACE: usize = 48;
+
+/// That of a compact record.
+pub(crate) const COMPACT_ID_PLACE: usize = 32;
+
+/// That of an event-only record.
+pub(crate) const EVENT_ONLY_ID_PLACE: usize = 17;
 
 /// An entity that a sensor or a device belongs to (section 43.14), printed as `id.instance`.
 #[derive(Clone, Copy, Debug, PartialEq, Eq)]
@@ -165,38 +174,9 @@ fn signed(half: u16, bits: u16) -> i16
 }
 
 /// A full sensor record (section 43.1).
-#[derive(Clone, Debug, Drop)]
-pub struct FullSensor<'a> {
-    bytes: &'a [u8],
-}
-
-impl<'a> Model for FullSensor<'a> {
-    ghost use Rattle.std.specs.Prelude.{◌≤◌, List, ℕ, length};
-
-    ghost Value = { List ℕ };
-
-    ghost view = { λ v. v.bytes.now };
-
-    ghost invariant = { λ v. 48 ≤ length v.bytes.now };
-}
+pub type FullSensor<'a> = AtLeast<'a, 0x01, FULL_ID_PLACE>;
 
 impl<'a> FullSensor<'a> {
-    /// The view of a record that is long enough.
-    pub(crate) fn new(bytes: &'a [u8]) -> FullSensor<'a>
-        requires { 48 ≤ length bytes.now }
-        ensures { result ≡ bytes.now }
-    {
-        FullSensor { bytes }
-    }
-
-    /// The bytes of the record.
-    pub(crate) fn bytes(&self) -> &'a [u8]
-        ensures value { result.now ≡ self.now }
-        ensures room { 48 ≤ length result.now }
-    {
-        self.bytes
-    }
-
     /// The sensor.
     pub fn sensor(&self) -> Sensor
         ensures { result ≡ full_sensor self.now }
@@ -298,43 +278,14 @@ impl<'a> FullSensor<'a> {
     pub fn id_string(&self) -> IdString<'a>
         ensures { id_field_of result ≡ id_field_at full_id_place self.now }
     {
-        IdString::at(self.bytes, 48)
+        IdString::at(self.bytes, FULL_ID_PLACE)
     }
 }
 
 /// A compact sensor record (section 43.2).
-#[derive(Clone, Debug, Drop)]
-pub struct CompactSensor<'a> {
-    bytes: &'a [u8],
-}
-
-impl<'a> Model for CompactSensor<'a> {
-    ghost use Rattle.std.specs.Prelude.{◌≤◌, List, ℕ, length};
-
-    ghost Value = { List ℕ };
-
-    ghost view = { λ v. v.bytes.now };
-
-    ghost invariant = { λ v. 32 ≤ length v.bytes.now };
-}
+pub type CompactSensor<'a> = AtLeast<'a, 0x02, COMPACT_ID_PLACE>;
 
 impl<'a> CompactSensor<'a> {
-    /// The view of a record that is long enough.
-    pub(crate) fn new(bytes: &'a [u8]) -> CompactSensor<'a>
-        requires { 32 ≤ length bytes.now }
-        ensures { result ≡ bytes.now }
-    {
-        CompactSensor { bytes }
-    }
-
-    /// The bytes of the record.
-    pub(crate) fn bytes(&self) -> &'a [u8]
-        ensures value { result.now ≡ self.now }
-        ensures room { 32 ≤ length result.now }
-    {
-        self.bytes
-    }
-
     /// The sensor; of several that share the record, the first.
     pub fn sensor(&self) -> Sensor
         ensures { result ≡ compact_sensor self.now }
@@ -353,43 +304,14 @@ impl<'a> CompactSensor<'a> {
     pub fn id_string(&self) -> IdString<'a>
         ensures { id_field_of result ≡ id_field_at compact_id_place self.now }
     {
-        IdString::at(self.bytes, 32)
+        IdString::at(self.bytes, COMPACT_ID_PLACE)
     }
 }
 
 /// An event-only record (section 43.3), whose sensor has no reading.
-#[derive(Clone, Debug, Drop)]
-pub struct EventOnlySensor<'a> {
-    bytes: &'a [u8],
-}
-
-impl<'a> Model for EventOnlySensor<'a> {
-    ghost use Rattle.std.specs.Prelude.{◌≤◌, List, ℕ, length};
-
-    ghost Value = { List ℕ };
-
-    ghost view = { λ v. v.bytes.now };
-
-    ghost invariant = { λ v. 17 ≤ length v.bytes.now };
-}
+pub type EventOnlySensor<'a> = AtLeast<'a, 0x03, EVENT_ONLY_ID_PLACE>;
 
 impl<'a> EventOnlySensor<'a> {
-    /// The view of a record that is long enough.
-    pub(crate) fn new(bytes: &'a [u8]) -> EventOnlySensor<'a>
-        requires { 17 ≤ length bytes.now }
-        ensures { result ≡ bytes.now }
-    {
-        EventOnlySensor { bytes }
-    }
-
-    /// The bytes of the record.
-    pub(crate) fn bytes(&self) -> &'a [u8]
-        ensures value { result.now ≡ self.now }
-        ensures room { 17 ≤ length result.now }
-    {
-        self.bytes
-    }
-
     /// The sensor; of several that share the record, the first.
     pub fn sensor(&self) -> Sensor
         ensures { result ≡ event_only_sensor self.now }
@@ -401,6 +323,6 @@ impl<'a> EventOnlySensor<'a> {
     pub fn id_string(&self) -> IdString<'a>
         ensures { id_field_of result ≡ id_field_at event_only_id_place self.now }
     {
-        IdString::at(self.bytes, 17)
+        IdString::at(self.bytes, EVENT_ONLY_ID_PLACE)
     }
 }

@@ -1,5 +1,5 @@
 -- A value has one decimal, and a decimal one value.
-use Rattle.std.proofs.Common.{◌≡◌, ◌≢◌, ◌∙◌, ℕ, zero, suc, ◌+◌, ◌-◌, ◌*◌, ◌/◌, ◌^◌, ◌<◌, ◌≤◌, ℤ, pos, negsuc, List, [], ◌∷◌, ◌++◌, length, get_or, take, replicate, ap, sym, subst, refl, arith, inl, inr, length-append}
+use Rattle.std.proofs.Common.{◌≡◌, ◌≢◌, ◌∙◌, ℕ, zero, suc, ◌+◌, ◌-◌, ◌*◌, ◌^◌, ◌<◌, ◌≤◌, ℤ, pos, negsuc, List, [], ◌∷◌, ◌++◌, length, get_or, replicate, ap, sym, subst, refl, arith, inl, inr, length-append}
 use Rattle.std.proofs.Math.Nat.{pow-suc, pow-le-pow_right}
 use Rattle.std.proofs.Math.Seq.{take-append_seam}
 use Rattle.std.proofs.lemmas.Bool.{cases_lt}
@@ -9,13 +9,13 @@ use Rattle.std.proofs.lemmas.List.{get_or_append_left, get_or-append_right, get_
 use Rattle.std.proofs.lemmas.Nat.{div-mul-add}
 use Rattle.std.specs.Char.{digit_value}
 use Rattle.std.specs.Str.Parse.{AllDigits, digits_value, digits_value_after}
-use Rattle.ipmi_text.specs.Decimal.{IsDecimalOf, IsFraction, IsWhole, after_point, filled, sign_of}
+use Rattle.ipmi_text.specs.Decimal.{IsDecimalOf, IsFraction, IsWhole, after_point, filled}
 
 expanded : (n first p v : ℕ) → (n * 10 + first) * p + v ≡ n * (p * 10) + ((0 * 10 + first) * p + v)
 expanded n first p v = omega arith
 
-alone_is : (first p v : ℕ) → (0 * 10 + first) * p + v ≡ first * p + v
-alone_is first p v = omega arith
+value_from_zero : (first p v : ℕ) → (0 * 10 + first) * p + v ≡ first * p + v
+value_from_zero first p v = omega arith
 
 one_or_more : (d p v : ℕ) → 1 ≤ d → p ≤ d * p + v
 one_or_more zero p v h = absurd (omega arith)
@@ -29,17 +29,17 @@ value_after n (d ∷ ds) =
     let p = 10 ^ length ds in
     let first = digit_value d in
     let here : digits_value_after 10 (n * 10 + first) ds ≡ (n * 10 + first) * p + v = value_after (n * 10 + first) ds in
-    let alone : digits_value_after 10 (0 * 10 + first) ds ≡ (0 * 10 + first) * p + v = value_after (0 * 10 + first) ds in
+    let from_zero : digits_value_after 10 (0 * 10 + first) ds ≡ (0 * 10 + first) * p + v = value_after (0 * 10 + first) ds in
     let power : 10 ^ suc (length ds) ≡ p * 10 = pow-suc 10 (length ds) in
-    rw power (here ∙ expanded n first p v ∙ ap (λ x. n * (p * 10) + x) (sym alone))
+    rw power (here ∙ expanded n first p v ∙ rw (sym from_zero) refl)
 
 pub value-cons : (d : ℕ) (ds : List ℕ) → digits_value 10 (d ∷ ds) ≡ digit_value d * 10 ^ length ds + digits_value 10 ds
-value-cons d ds = value_after (0 * 10 + digit_value d) ds ∙ alone_is (digit_value d) (10 ^ length ds) (digits_value 10 ds)
+value-cons d ds = value_after (0 * 10 + digit_value d) ds ∙ value_from_zero (digit_value d) (10 ^ length ds) (digits_value 10 ds)
 
 same_quotient : (a b p r s : ℕ) → a * p + r ≡ b * p + s → r < p → s < p → (a ≡ b) × (r ≡ s)
 same_quotient a b p r s e h k =
-    let quotients : a ≡ b = sym (div-mul-add a p r h) ∙ ap (λ x. x / p) e ∙ div-mul-add b p s k in
-    (quotients, let same : b * p + r ≡ b * p + s = sym (ap (λ x. x * p + r) quotients) ∙ e in omega arith)
+    let quotients : a ≡ b = sym (div-mul-add a p r h) ∙ rw e (div-mul-add b p s k) in
+    (quotients, let same : b * p + r ≡ b * p + s = sym (rw quotients refl) ∙ e in omega arith)
 
 is_digit : (c : ℕ) → digit_value c < 10 → c ≡ 48 + digit_value c
 is_digit c h = grind (arith, nat_tests)
@@ -52,10 +52,10 @@ same_digits (x ∷ xs) [] l h k e = absurd (omega arith)
 same_digits (x ∷ xs) (y ∷ ys) l h k e =
     let long : length xs ≡ length ys = omega arith in
     let split : digit_value x * 10 ^ length xs + digits_value 10 xs ≡ digit_value y * 10 ^ length xs + digits_value 10 ys
-    = sym (value-cons x xs) ∙ e ∙ value-cons y ys ∙ ap (λ n. digit_value y * 10 ^ n + digits_value 10 ys) (sym long) in
+    = sym (value-cons x xs) ∙ e ∙ value-cons y ys ∙ rw (sym long) refl in
     let small_y : digits_value 10 ys < 10 ^ length xs = rw long (digits_value-lt 10 ys k.1) in
     let parts = same_quotient (digit_value x) (digit_value y) (10 ^ length xs) (digits_value 10 xs) (digits_value 10 ys) split (digits_value-lt 10 xs h.1) small_y in
-    let first : x ≡ y = is_digit x h.0 ∙ ap (λ d. 48 + d) parts.0 ∙ sym (is_digit y k.0) in
+    let first : x ≡ y = is_digit x h.0 ∙ rw parts.0 (sym (is_digit y k.0)) in
     let rest : xs ≡ ys = same_digits xs ys long h.1 k.1 parts.1 in
     cc
 
@@ -108,7 +108,7 @@ no_longer xs ys h k e = elim (cases_lt (length xs) (length ys)) [
       let short : length ys ≤ 16 = k.short in
       let in_xs : get_or (filled xs) last 0 ≡ 48 = get_or-append_right xs (replicate (16 - length xs) 48) (length xs) last 0 refl (omega arith) ∙ get_or-replicate (16 - length xs) (last - length xs) 48 0 (omega arith) in
       let in_ys : get_or (filled ys) last 0 ≡ get_or ys last 0 = get_or_append_left ys (replicate (16 - length ys) 48) 0 last (omega arith) in
-      absurd (k.last (sym in_ys ∙ ap (λ ds. get_or ds last 0) (sym e) ∙ in_xs))
+      absurd (k.last (sym in_ys ∙ rw (sym e) in_xs))
   | inr above ↦ above
 ]
 
@@ -118,21 +118,18 @@ same_fraction xs ys h k e =
     let one : length ys ≤ length xs = no_longer xs ys h k all_same in
     let other : length xs ≤ length ys = no_longer ys xs k h (sym all_same) in
     let long : length xs ≡ length ys = omega arith in
-    sym (take-append_seam xs (replicate (16 - length xs) 48)) ∙ ap (λ ds. take (length xs) ds) all_same ∙ ap (λ n. take n (filled ys)) long ∙ take-append_seam ys (replicate (16 - length ys) 48)
+    sym (take-append_seam xs (replicate (16 - length xs) 48)) ∙ rw (all_same, long) (take-append_seam ys (replicate (16 - length ys) 48))
 
 pub one_text : (value : ℤ) (text other : List ℕ) → IsDecimalOf value text → IsDecimalOf value other → text ≡ other
 one_text value text other h k =
     let parts = same_quotient (digits_value 10 h.whole) (digits_value 10 k.whole) (10 ^ 16) (digits_value 10 (filled h.fraction)) (digits_value 10 (filled k.fraction)) (h.size_is ∙ sym k.size_is) (filled_below h.fraction h.is_fraction) (filled_below k.fraction k.is_fraction) in
     let whole_same : h.whole ≡ k.whole = same_whole h.whole k.whole h.is_whole k.is_whole parts.0 in
     let fraction_same : h.fraction ≡ k.fraction = same_fraction h.fraction k.fraction h.is_fraction k.is_fraction parts.1 in
-    h.text_is ∙ ap (λ ds. sign_of value ++ (ds ++ after_point h.fraction)) whole_same ∙ ap (λ ds. sign_of value ++ (k.whole ++ after_point ds)) fraction_same ∙ sym k.text_is
+    h.text_is ∙ rw (whole_same, fraction_same) (sym k.text_is)
 
 -- a digit is no point and no sign
-not_point : (d : ℕ) → digit_value d < 10 → d ≡ 46 → ⊥
-not_point d h e = let there : digit_value d ≡ 36 = rw e refl in omega arith
-
-not_sign : (d : ℕ) → digit_value d < 10 → d ≡ 45 → ⊥
-not_sign d h e = let there : digit_value d ≡ 36 = rw e refl in omega arith
+not_mark : (d mark : ℕ) → digit_value mark ≡ 36 → digit_value d < 10 → d ≡ mark → ⊥
+not_mark d mark none h e = let there : digit_value d ≡ 36 = rw e none in omega arith
 
 same_after : (xs ys : List ℕ) → after_point xs ≡ after_point ys → xs ≡ ys
 same_after [] [] e = refl
@@ -140,12 +137,12 @@ same_after [] (y ∷ ys) e = cc
 same_after (x ∷ xs) [] e = cc
 same_after (x ∷ xs) (y ∷ ys) e = cc
 
--- what stands after a point begins with no digit
+-- what comes after a point begins with no digit
 no_digit_after : (d : ℕ) (ds fraction : List ℕ) → digit_value d < 10 → d ∷ ds ≡ after_point fraction → ⊥
 no_digit_after d ds [] h e = cc
-no_digit_after d ds (f ∷ fs) h e = let first : d ≡ 46 = cc in not_point d h first
+no_digit_after d ds (f ∷ fs) h e = let first : d ≡ 46 = cc in not_mark d 46 refl h first
 
--- digits and what stands after them are told apart by the point
+-- digits and what comes after them are told apart by the point
 same_parts : (xs ys f g : List ℕ) → AllDigits 10 xs → AllDigits 10 ys → xs ++ after_point f ≡ ys ++ after_point g → (xs ≡ ys) × (f ≡ g)
 same_parts [] [] f g h k e = (refl, same_after f g e)
 same_parts [] (y ∷ ys) f g h k e = absurd (no_digit_after y (ys ++ after_point g) f k.0 (sym e))
@@ -161,12 +158,12 @@ same_size : (xs ys f g : List ℕ) (m n : ℕ) → AllDigits 10 xs → AllDigits
     → digits_value 10 xs * 10 ^ 16 + digits_value 10 (filled f) ≡ m → digits_value 10 ys * 10 ^ 16 + digits_value 10 (filled g) ≡ n → m ≡ n
 same_size xs ys f g m n h k e i j =
     let parts = same_parts xs ys f g h k e in
-    sym i ∙ ap (λ ds. digits_value 10 ds * 10 ^ 16 + digits_value 10 (filled f)) parts.0 ∙ ap (λ ds. digits_value 10 ys * 10 ^ 16 + digits_value 10 (filled ds)) parts.1 ∙ j
+    sym i ∙ rw (parts.0, parts.1) j
 
 -- a number below 0 has a sign, and another none
 signs_differ : (xs after rest : List ℕ) → IsWhole xs → xs ++ after ≡ 45 ∷ rest → ⊥
 signs_differ [] after rest h e = let some : 0 < length {A = ℕ} [] = h.numeral.0 in omega arith
-signs_differ (x ∷ xs) after rest h e = let first : x ≡ 45 = cc in not_sign x h.numeral.1.0 first
+signs_differ (x ∷ xs) after rest h e = let first : x ≡ 45 = cc in not_mark x 45 refl h.numeral.1.0 first
 
 pub one_value : (value other : ℤ) (text : List ℕ) → IsDecimalOf value text → IsDecimalOf other text → value ≡ other
 one_value (pos m) (pos n) text h k =

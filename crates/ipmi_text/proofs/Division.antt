@@ -36,12 +36,12 @@ room k place rest short place_is below some = elim (cases_lt k 16) [
   | inl h ↦ h
   | inr h ↦
       let none : 16 - k ≡ 0 = omega arith in
-      let one : place ≡ 1 = place_is ∙ ap (λ x. 10 ^ x) none in
+      let one : place ≡ 1 = place_is ∙ rw none refl in
       absurd (some (omega arith))
 ]
 
 next_place : (k place : ℕ) → k < 16 → place ≡ 10 ^ (16 - k) → place ≡ 10 ^ (15 - k) * 10
-next_place k place h p = let e : 16 - k ≡ suc (15 - k) = omega arith in p ∙ ap (λ x. 10 ^ x) e ∙ pow-suc 10 (15 - k)
+next_place k place h p = let e : 16 - k ≡ suc (15 - k) = omega arith in p ∙ rw e (pow-suc 10 (15 - k))
 
 tenth : (place x : ℕ) → place ≡ x * 10 → place / 10 ≡ x
 tenth place x h = omega arith
@@ -51,14 +51,14 @@ quotient q rest h small = (div-lt_iff_lt-mul h).1 (omega arith)
 
 regroup : (n v place q rest d r : ℕ) → n ≡ v * place + rest → place ≡ q * 10 → q * d + r ≡ rest → n ≡ (v * 10 + d) * q + r
 regroup n v place q rest d r a b c =
-    let e : n ≡ v * (q * 10) + (q * d + r) = a ∙ ap (λ x. v * x + rest) b ∙ ap (λ x. v * (q * 10) + x) (sym c) in
+    let e : n ≡ v * (q * 10) + (q * d + r) = a ∙ rw (b, sym c) refl in
     e ∙ omega arith
 
 last_digit : (q rest : ℕ) → 0 < q → rest ≢ 0 → rest % q ≡ 0 → 48 + rest / q ≢ 48
 last_digit q rest h some none e =
     let zero_digit : rest / q ≡ 0 = omega arith in
     let all : q * (rest / q) + rest % q ≡ rest = omega arith in
-    some (sym all ∙ ap (λ x. q * x + rest % q) zero_digit ∙ omega arith)
+    some (sym all ∙ rw zero_digit (omega arith))
 
 -- the next digit is one, below a place that is not 0
 pub next_digit : (n : ℕ) (ds : List ℕ) (place rest : ℕ) → IsDivided n ds place rest → rest ≢ 0 → (0 < place / 10) × (rest / (place / 10) < 10)
@@ -83,7 +83,7 @@ one_more n ds place rest h some =
     let d = rest / q in
     let small : d < 10 = quotient q rest q_pos (omega arith) in
     let long : length (ds ++ (48 + d) ∷ []) ≡ k + 1 = length-append ds ((48 + d) ∷ []) in
-    let value_is : digits_value 10 (ds ++ (48 + d) ∷ []) ≡ digits_value 10 ds * 10 + d = digits_value_push 10 ds (48 + d) ∙ ap (λ x. digits_value 10 ds * 10 + x) (digit_of d small) in
+    let value_is : digits_value 10 (ds ++ (48 + d) ∷ []) ≡ digits_value 10 ds * 10 + d = digits_value_push 10 ds (48 + d) ∙ rw (digit_of d small) refl in
     let whole : q * d + rest % q ≡ rest = omega arith in
     let left : 16 - (k + 1) ≡ 15 - k = omega arith in
     let end : k + 1 - 1 ≡ k = omega arith in
@@ -104,12 +104,12 @@ zeros (suc k) ds =
     let v = digits_value 10 ds in
     let one : digits_value 10 (ds ++ 48 ∷ []) ≡ v * 10 = digits_value_push 10 ds 48 ∙ omega arith in
     let p : 10 ^ suc k ≡ 10 ^ k * 10 = pow-suc 10 k in
-    ap (digits_value 10) e ∙ zeros k (ds ++ 48 ∷ []) ∙ ap (λ x. x * 10 ^ k) one ∙ sym (ap (λ x. v * x) p ∙ omega arith)
+    ap (digits_value 10) e ∙ zeros k (ds ++ 48 ∷ []) ∙ rw one (sym (rw p (omega arith)))
 
 pub at_end : (n : ℕ) (ds : List ℕ) (place rest : ℕ) → IsDivided n ds place rest → rest ≡ 0 → IsFraction ds × (digits_value 10 (filled ds) ≡ n)
 at_end n ds place rest h none = (
   record { all_digits = h.digits; short = h.short; last = h.last none },
-  zeros (16 - length ds) ds ∙ ap (λ x. digits_value 10 ds * x) (sym h.place_is) ∙ omega (arith, h.sum),
+  zeros (16 - length ds) ds ∙ rw (sym h.place_is) (omega (arith, h.sum)),
 )
 
 -- no leading zero but in `0` itself
@@ -132,7 +132,7 @@ pub after_some : (ds : List ℕ) → length ds ≢ 0 → after_point ds ≡ 46 �
 after_some [] h = absurd (h refl)
 after_some (d ∷ ds) h = refl
 
--- a point and the first digits of the fraction n stand after old, and rest is left of it
+-- a point and the first digits of the fraction n come after old, and rest is left of it
 pub record HasWritten (n : ℕ) (old new : List ℕ) (place rest : ℕ) : Type 0 where
   pub digits : List ℕ
   pub divided : IsDivided n digits place rest
@@ -150,7 +150,7 @@ pub one_more_written : (n : ℕ) (old new next : List ℕ) (place rest : ℕ) �
 one_more_written n old new next place rest h some e = record {
   digits = h.digits ++ (48 + rest / (place / 10)) ∷ [];
   divided = one_more n h.digits place rest h.divided some;
-  text_is = e ∙ ap (λ t. t ++ (48 + rest / (place / 10)) ∷ []) h.text_is ∙ append_assoc old (46 ∷ h.digits) ((48 + rest / (place / 10)) ∷ []);
+  text_is = e ∙ rw h.text_is (append_assoc old (46 ∷ h.digits) ((48 + rest / (place / 10)) ∷ []));
 }
 
 zero_filled : (ds : List ℕ) → length ds ≡ 0 → digits_value 10 (filled ds) ≡ 0
@@ -166,7 +166,7 @@ all_written n old new place rest h none some =
       digits = h.digits;
       is_fraction = done.0;
       value_is = done.1;
-      text_is = h.text_is ∙ ap (λ t. old ++ t) (sym (after_some h.digits digits_there));
+      text_is = h.text_is ∙ rw (sym (after_some h.digits digits_there)) refl;
     }
 
 pub none_appended : (n : ℕ) (old new : List ℕ) → n ≡ 0 → new ≡ old → AppendsFraction n old new
@@ -188,7 +188,7 @@ made v start text small start_is h =
       fraction = h.digits;
       is_whole = whole_of (n / 10 ^ 16) whole_small;
       is_fraction = h.is_fraction;
-      text_is = h.text_is ∙ ap (λ t. t ++ after_point h.digits) start_is ∙ append_assoc (sign_of v) (decimal (n / 10 ^ 16)) (after_point h.digits);
+      text_is = h.text_is ∙ rw start_is (append_assoc (sign_of v) (decimal (n / 10 ^ 16)) (after_point h.digits));
       size_is = rw ((decimal_is_IsNumeral_wide (n / 10 ^ 16) whole_small).1, h.value_is) (omega arith);
     }
 
@@ -202,8 +202,8 @@ appended v old start text small start_is h =
     record {
       part = front ++ after_point h.digits;
       is_text = made v front (front ++ after_point h.digits) small refl fraction;
-      text_is = h.text_is ∙ ap (λ t. t ++ after_point h.digits) start_is ∙ append_assoc old front (after_point h.digits);
+      text_is = h.text_is ∙ rw start_is (append_assoc old front (after_point h.digits));
     }
 
-pub alone : (v : ℤ) (old text : List ℕ) → old ≡ [] → Appends (IsDecimalOf v) old text → IsDecimalOf v text
-alone v old text none h = subst (IsDecimalOf v) (sym (h.text_is ∙ ap (λ t. t ++ h.part) none)) h.is_text
+pub only_part : (v : ℤ) (old text : List ℕ) → old ≡ [] → Appends (IsDecimalOf v) old text → IsDecimalOf v text
+only_part v old text none h = subst (IsDecimalOf v) (sym (h.text_is ∙ rw none refl)) h.is_text

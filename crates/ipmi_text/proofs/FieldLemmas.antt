@@ -1,8 +1,8 @@
 -- Texts of fields, a step at a time.
-use Rattle.std.proofs.Common.{◌≡◌, ◌≢◌, ◌∙◌, ℕ, zero, suc, ◌+◌, ◌*◌, ◌/◌, ◌%◌, ◌^◌, ◌<◌, ◌≤◌, ◌==◌, true, false, List, [], ◌∷◌, ◌++◌, length, get_or, slice_index, take, drop, map, encode_utf8, ap, sym, refl, arith, append-nil, length-drop, codes, ◌-◌, Bool, nat_le, nat_lt, ◌&&◌, add-one, append_assoc}
+use Rattle.std.proofs.Common.{◌≡◌, ◌≢◌, ◌∙◌, ℕ, zero, suc, ◌+◌, ◌*◌, ◌/◌, ◌%◌, ◌^◌, ◌<◌, ◌≤◌, ◌==◌, true, false, List, [], ◌∷◌, ◌++◌, length, get_or, slice_index, take, drop, map, encode_utf8, ap, sym, refl, arith, append-nil, codes, Bool, nat_le, nat_lt, ◌&&◌, add-one, append_assoc}
 use Rattle.std.proofs.Math.Nat.{div-div-eq-div-mul}
 use Rattle.std.proofs.Math.ListN.{drop_of_length-le}
-use Rattle.std.proofs.Math.Seq.{drop-cons, take-length}
+use Rattle.std.proofs.Math.Seq.{drop-cons}
 use Rattle.std.proofs.lemmas.List.{take_all, take_more}
 use Rattle.std.proofs.lemmas.Str.{encode_ascii}
 use Rattle.std.proofs.lemmas.Nat.{pow-add}
@@ -25,7 +25,7 @@ low_digit v n (suc (suc (suc (suc i)))) h = absurd (omega arith)
 high_digit : (v n i : ℕ) → v < 16777216 → (v + 16777216 * n) / 64 ^ (4 + i) ≡ n / 64 ^ i
 high_digit v n i h =
     let front : (v + 16777216 * n) / 16777216 ≡ n = omega arith in
-    ap (λ x. (v + 16777216 * n) / x) (pow-add 64 4 i) ∙ sym (div-div-eq-div-mul (v + 16777216 * n) 16777216 (64 ^ i)) ∙ ap (λ x. x / 64 ^ i) front
+    rw (pow-add 64 4 i) (sym (div-div-eq-div-mul (v + 16777216 * n) 16777216 (64 ^ i)) ∙ rw front refl)
 
 map-range-shifted : (f g : ℕ → ℕ) (a b n : ℕ) → ((i : ℕ) → i < n → f (a + i) ≡ g (b + i)) → map f (range_with_len a n) ≡ map g (range_with_len b n)
 map-range-shifted f g a b zero h = refl
@@ -39,11 +39,11 @@ map-range-shifted f g a b (suc n) h =
     ap f a_next ∙ h (i + 1) (omega arith) ∙ ap g b_next) in
     cc
 
--- the first three bytes stand for themselves
-six_bit_whole : (a b c : ℕ) (rest : List ℕ) → a < 256 → b < 256 → c < 256
+-- the first three bytes make four characters by themselves
+six_bit_text-whole : (a b c : ℕ) (rest : List ℕ) → a < 256 → b < 256 → c < 256
     → six_bit_text (a ∷ b ∷ c ∷ rest) ≡ six_bit_text (a ∷ b ∷ c ∷ []) ++ six_bit_text rest
 unfolding six_bit_text
-six_bit_whole a b c rest a_byte b_byte c_byte =
+six_bit_text-whole a b c rest a_byte b_byte c_byte =
     let m = 8 * length rest / 6 in
     let v = number_of (a ∷ b ∷ c ∷ []) in
     let n = number_of rest in
@@ -63,20 +63,20 @@ six_bit_whole a b c rest a_byte b_byte c_byte =
     ap (λ k. map (six_bit_character (a ∷ b ∷ c ∷ rest)) (range_with_len 0 k)) count ∙ (cc)
 
 -- the next bytes of a text, three or as many as are left
-pub six_bit_step : (rest : List ℕ) (whole : ℕ) → ((i : ℕ) → get_or rest i 0 < 256) → (length rest ≤ 3 → whole ≡ length rest) → (3 ≤ length rest → whole ≡ 3)
+pub six_bit_text-step : (rest : List ℕ) (whole : ℕ) → ((i : ℕ) → get_or rest i 0 < 256) → (length rest ≤ 3 → whole ≡ length rest) → (3 ≤ length rest → whole ≡ 3)
     → six_bit_text (take whole rest) ++ six_bit_text (drop whole rest) ≡ six_bit_text rest
 unfolding six_bit_text
-six_bit_step [] whole bytes short long = let e : whole ≡ 0 = short (omega arith) in rw e refl
-six_bit_step (a ∷ []) whole bytes short long = let e : whole ≡ 1 = short (omega arith) in rw (e, append-nil) refl
-six_bit_step (a ∷ b ∷ []) whole bytes short long = let e : whole ≡ 2 = short (omega arith) in rw (e, append-nil) refl
-six_bit_step (a ∷ b ∷ c ∷ rest) whole bytes short long =
+six_bit_text-step [] whole bytes short long = let e : whole ≡ 0 = short (omega arith) in rw e refl
+six_bit_text-step (a ∷ []) whole bytes short long = let e : whole ≡ 1 = short (omega arith) in rw (e, append-nil) refl
+six_bit_text-step (a ∷ b ∷ []) whole bytes short long = let e : whole ≡ 2 = short (omega arith) in rw (e, append-nil) refl
+six_bit_text-step (a ∷ b ∷ c ∷ rest) whole bytes short long =
     let e : whole ≡ 3 = long (omega arith) in
-    rw e (sym (six_bit_whole a b c rest (bytes 0) (bytes 1) (bytes 2)))
+    rw e (sym (six_bit_text-whole a b c rest (bytes 0) (bytes 1) (bytes 2)))
 
-pub six_bit_none : (rest : List ℕ) → length rest ≡ 0 → six_bit_text rest ≡ []
+pub six_bit_text-none : (rest : List ℕ) → length rest ≡ 0 → six_bit_text rest ≡ []
 unfolding six_bit_text
-six_bit_none [] h = refl
-six_bit_none (b ∷ bs) h = absurd (omega arith)
+six_bit_text-none [] h = refl
+six_bit_text-none (b ∷ bs) h = absurd (omega arith)
 
 -- at most three bytes as one number
 number_of-short : (bs : List ℕ) → length bs ≤ 3 → slice_index bs 0 + slice_index bs 1 * 256 + slice_index bs 2 * 65536 ≡ number_of bs
@@ -97,16 +97,10 @@ shift_is (suc (suc (suc (suc i)))) h = absurd (omega arith)
 pub shifted_character : (bs : List ℕ) (i n : ℕ) → length bs ≤ 3 → i < 4 → n ≡ slice_index bs 0 + slice_index bs 1 * 256 + slice_index bs 2 * 65536
     → n / 2 ^ (6 * i) % 64 + 0x20 ≡ six_bit_character bs i
 shifted_character bs i n short small e =
-    ap (λ x. x / 2 ^ (6 * i) % 64 + 0x20) (e ∙ number_of-short bs short) ∙ ap (λ x. number_of bs / x % 64 + 0x20) (shift_is i small)
+    rw (e ∙ number_of-short bs short, shift_is i small) refl
 
-pub bcd_plus_step : (b : ℕ) (bs : List ℕ) → bcd_plus_text (b ∷ bs) ≡ bcd_plus_character (b / 16) ∷ bcd_plus_character (b % 16) ∷ bcd_plus_text bs
-bcd_plus_step b bs = refl
-
-pub latin1_end : (bs : List ℕ) → latin1_text (0 ∷ bs) ≡ []
-latin1_end bs = refl
-
-pub latin1_step : (b : ℕ) (bs : List ℕ) → b ≢ 0 → latin1_text (b ∷ bs) ≡ encode_utf8 (latin1_character b) ++ latin1_text bs
-latin1_step b bs h =
+pub latin1_text-step : (b : ℕ) (bs : List ℕ) → b ≢ 0 → latin1_text (b ∷ bs) ≡ encode_utf8 (latin1_character b) ++ latin1_text bs
+latin1_text-step b bs h =
     let test : (b == 0) ≡ false = grind (arith, nat_tests) in
     let one_more : 1 + position_or_len (λ b. b == 0) bs ≡ suc (position_or_len (λ b. b == 0) bs) = omega arith in
     rw (test, one_more) refl
@@ -117,21 +111,18 @@ plain_character b low high =
     let below : nat_le b 0x7e ≡ true = grind (arith, nat_tests) in
     rw (above, below) refl
 
-plain_step : (b : ℕ) (bs : List ℕ) → 0x20 ≤ b → b ≤ 0x7e → latin1_text (b ∷ bs) ≡ b ∷ latin1_text bs
-plain_step b bs low high =
+latin1_text-plain : (b : ℕ) (bs : List ℕ) → 0x20 ≤ b → b ≤ 0x7e → latin1_text (b ∷ bs) ≡ b ∷ latin1_text bs
+latin1_text-plain b bs low high =
     let some : b ≢ 0 = λ e. absurd (omega (arith, e)) in
-    latin1_step b bs some ∙ ap (λ (x : ℕ). encode_utf8 x ++ latin1_text bs) (plain_character b low high) ∙ ap (λ (t : List ℕ). t ++ latin1_text bs) (encode_ascii b (omega arith))
+    latin1_text-step b bs some ∙ rw (plain_character b low high, encode_ascii b (omega arith)) refl
 
 -- bytes that are printed as themselves, one after another
 pub plain_so_far : (bs : List ℕ) (i : ℕ) → i < length bs → 0x20 ≤ get_or bs i 0 → get_or bs i 0 ≤ 0x7e
     → take i bs ++ latin1_text (drop i bs) ≡ latin1_text bs → take (i + 1) bs ++ latin1_text (drop (i + 1) bs) ≡ latin1_text bs
 plain_so_far bs i within low high so_far =
     let b = get_or bs i 0 in
-    let here : latin1_text (drop i bs) ≡ b ∷ latin1_text (drop (suc i) bs) = ap latin1_text (drop-cons bs i 0 within) ∙ plain_step b (drop (suc i) bs) low high in
-    ap (λ (t : List ℕ). t ++ latin1_text (drop (i + 1) bs)) (take_more bs i 0 within)
-    ∙ append_assoc (take i bs) (b ∷ []) (latin1_text (drop (i + 1) bs))
-    ∙ ap (λ (k : ℕ). take i bs ++ b ∷ latin1_text (drop k bs)) (add-one i)
-    ∙ ap (λ (t : List ℕ). take i bs ++ t) (sym here) ∙ so_far
+    let here : latin1_text (drop i bs) ≡ b ∷ latin1_text (drop (suc i) bs) = ap latin1_text (drop-cons bs i 0 within) ∙ latin1_text-plain b (drop (suc i) bs) low high in
+    rw (take_more bs i 0 within) (append_assoc (take i bs) (b ∷ []) (latin1_text (drop (i + 1) bs)) ∙ rw (add-one i, sym here) so_far)
 
 pub all_plain : (bs : List ℕ) (i : ℕ) → length bs ≤ i → take i bs ++ latin1_text (drop i bs) ≡ latin1_text bs → bs ≡ latin1_text bs
 all_plain bs i past so_far =
@@ -179,10 +170,6 @@ six_bits n = omega arith
 pub IsAscii-six_bit : (bs : List ℕ) → IsAscii (six_bit_text bs)
 unfolding six_bit_text
 IsAscii-six_bit bs = IsAscii-map (six_bit_character bs) (λ i. six_bits (number_of bs / 64 ^ i)) (range_with_len 0 (8 * length bs / 6))
-
--- a slice up to its end, as the code writes it
-pub up_to_end : (rest : List ℕ) (whole : ℕ) → take (length rest - whole) (drop whole rest) ≡ drop whole rest
-up_to_end rest whole = rw (← length-drop whole rest) (take-length (drop whole rest))
 
 pub no_byte_left : (rest : List ℕ) → (length rest == 0) ≡ true → length rest ≡ 0
 no_byte_left rest h = grind (arith, nat_tests)

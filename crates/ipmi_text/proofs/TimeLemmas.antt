@@ -1,5 +1,5 @@
 -- The two digits of a number, and texts of points in time.
-use Rattle.std.proofs.Common.{◌≡◌, ◌∙◌, ℕ, List, ◌<◌, ◌≤◌, sym, ◌/◌, ◌%◌, ◌+◌, false, [], ◌∷◌, ◌++◌, ap, refl, arith, inl, inr}
+use Rattle.std.proofs.Common.{◌≡◌, ◌∙◌, ℕ, List, ◌<◌, ◌≤◌, sym, ◌/◌, ◌%◌, ◌+◌, false, [], ◌∷◌, refl, arith, inl, inr}
 use Rattle.std.specs.Fmt.{digit_glyph}
 use Rattle.std.proofs.lemmas.Bool.{cases_lt}
 use Rattle.std.proofs.lemmas.Bool.Decides.{nat_tests}
@@ -25,7 +25,7 @@ date_text_same a b e = let parts = epoch_day_injective a b e in rw (parts.0, par
 -- a day number and a time of day have one text
 one_moment : (day : ℕ) (time text other : List ℕ) → IsMoment day time text → IsMoment day time other → text ≡ other
 one_moment day time text other h k =
-    h.text_is ∙ ap (λ d. d ++ (32 ∷ time)) (date_text_same h.date k.date (h.day_is ∙ sym k.day_is)) ∙ sym k.text_is
+    h.text_is ∙ rw (date_text_same h.date k.date (h.day_is ∙ sym k.day_is)) (sym k.text_is)
 
 pub one_utc_text : (seconds : ℕ) (text other : List ℕ) → seconds ≤ 0xffff_ffff → IsUtcTextOf seconds text → IsUtcTextOf seconds other → text ≡ other
 one_utc_text seconds text other bound h k = elim (cases_lt 0x2000_0000 seconds) [

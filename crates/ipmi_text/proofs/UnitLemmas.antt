@@ -59,16 +59,16 @@ nothing_joined (x ∷ xs) (y ∷ ys) [] = refl
 nothing_joined (x ∷ xs) (y ∷ ys) (z ∷ zs) = refl
 
 -- a name that is all there is
-alone : (name : List ℕ) → name ≡ join_with_byte 32 (filter is_not_empty ([] ∷ (name ++ []) ∷ [] ∷ []))
-alone [] = refl
-alone (c ∷ name) = rw append-nil refl
+only_name : (name : List ℕ) → name ≡ join_with_byte 32 (filter is_not_empty ([] ∷ (name ++ []) ∷ [] ∷ []))
+only_name [] = refl
+only_name (c ∷ name) = rw append-nil refl
 
 plain_units : (units1 base modifier : ℕ) (name : List ℕ) → units1 % 64 ≡ 0 → Some name ≡ slice_get units base → name ≡ unit_text_of units1 base modifier
 plain_units units1 base modifier name none name_is =
     let no_percent : units1 % 2 ≡ 0 = omega arith in
     let no_modifier : units1 / 2 % 4 ≡ 0 = omega arith in
     let no_rate : units1 / 8 % 8 ≡ 0 = omega arith in
-    rw (no_percent, no_modifier, no_rate, ← name_is) (alone name)
+    rw (no_percent, no_modifier, no_rate, ← name_is) (only_name name)
 
 -- of a unit with a name, nothing else is printed
 pub plain_units_named : {X : Type 0} (text : X → List ℕ) (name : Option X) (units1 base modifier : ℕ) → units1 % 64 ≡ 0 → option_map text name ≡ slice_get units base

@@ -524,7 +524,7 @@ fn there_and_back(rt: &impl Abort, alloc: Global, before: u32, between: u32) -> 
     letters
 }
 
-/// Asserts that each piece of an output, which ends so, stands in a text.
+/// Asserts that each piece of an output, which ends so, is in a text.
 fn are_within(rt: &impl Abort, out: &str, end: &str, texts: &str, case: &str) {
     for piece in out.split_terminator(end) {
         assert!(rt; texts.find(piece).is_some(), "{case}: {piece}");

@@ -119,7 +119,7 @@ FRU (EF): elsewhere, not read
 
 ";
 
-// At another address, behind another LUN, or not logical. No call asks for such a device.
+// At another address, at another LUN, or not logical. No call asks for such a device.
 #[test]
 fn a_device_that_is_elsewhere_is_named(rt: HostRuntime) {
     all_print(&rt, rt.alloc(), ELSEWHERE);

@@ -15,8 +15,7 @@ use Rattle.ipmi_commands.proofs.last.list_last.Goals as goal
 pub returns-then-not-is_done-clause-calls : goal.returns-then-not-is_done-clause-calls
 returns-then-not-is_done-clause-calls g c =
     let most = ap (λ (t : Task). most_calls t c.args.cmd.now.tries) c.requires.task in
-    let walk = ap (λ (t : Task). most_on_walk t c.args.cmd.now.tries) c.requires.task in
-    let first = c.list_span-counted.ensures.calls in omega (arith, most, walk, first)
+    omega (arith, most, ap (λ (t : Task). most_on_walk t c.args.cmd.now.tries) c.requires.task, c.list_span-counted.ensures.calls)
 
 pub returns-then-not-is_done-clause-honest : goal.returns-then-not-is_done-clause-honest
 returns-then-not-is_done-clause-honest g c = λ h.
@@ -33,8 +32,7 @@ returns-then-not-is_done-clause-honest g c = λ h.
 pub returns-then-counted-eq0-clause-calls : goal.returns-then-counted-eq0-clause-calls
 returns-then-counted-eq0-clause-calls g c =
     let most = ap (λ (t : Task). most_calls t c.args.cmd.now.tries) c.requires.task in
-    let walk = ap (λ (t : Task). most_on_walk t c.args.cmd.now.tries) c.requires.task in
-    let first = c.list_span-counted.ensures.calls in omega (arith, most, walk, first)
+    omega (arith, most, ap (λ (t : Task). most_on_walk t c.args.cmd.now.tries) c.requires.task, c.list_span-counted.ensures.calls)
 
 pub returns-then-counted-eq0-clause-honest : goal.returns-then-counted-eq0-clause-honest
 returns-then-counted-eq0-clause-honest g c = λ h.
@@ -56,8 +54,7 @@ pub returns-clause-calls : goal.returns-clause-calls
 returns-clause-calls g c =
     let most = ap (λ (t : Task). most_calls t c.args.cmd.now.tries) c.requires.task in
     let walk = ap (λ (t : Task). most_on_walk t c.args.cmd.now.tries) c.requires.task in
-    let first = c.list_span-counted.ensures.calls in
-    let second = c.list_span-listed.ensures.calls in omega (arith, most, walk, first, second)
+    omega (arith, most, walk, c.list_span-counted.ensures.calls, c.list_span-listed.ensures.calls)
 
 pub returns-clause-honest : goal.returns-clause-honest
 returns-clause-honest g c = λ h.

@@ -9,9 +9,7 @@ use Rattle.ipmi_commands.proofs.perform.print_info.Goals as goal
 
 pub returns-clause-calls : goal.returns-clause-calls
 returns-clause-calls g c =
-    let most = ap (λ (t : Task). most_calls t c.args.cmd.now.tries) c.requires in
-    let asked = c.info_piece-found.ensures.calls in
-    let tries = c.tries.ensures in omega (arith, most, asked, tries)
+    omega (arith, ap (λ (t : Task). most_calls t c.args.cmd.now.tries) c.requires, c.info_piece-found.ensures.calls, c.tries.ensures)
 
 pub returns-clause-honest : goal.returns-clause-honest
 returns-clause-honest g c = λ h.

@@ -14,8 +14,7 @@ use Rattle.ipmi_commands.proofs.perform.print_inventories.Goals as goal
 
 pub returns-then-not-is_done-clause-calls : goal.returns-then-not-is_done-clause-calls
 returns-then-not-is_done-clause-calls g c =
-    let most = ap (λ (t : Task). most_calls t c.args.cmd.now.tries) c.requires in
-    let asked = c.inventory_piece-found.ensures.calls in omega (arith, most, asked)
+    omega (arith, ap (λ (t : Task). most_calls t c.args.cmd.now.tries) c.requires, c.inventory_piece-found.ensures.calls)
 
 pub returns-then-not-is_done-clause-honest : goal.returns-then-not-is_done-clause-honest
 returns-then-not-is_done-clause-honest g c = λ h.
@@ -30,16 +29,13 @@ returns-then-not-is_done-clause-honest g c = λ h.
 pub returns-clause-faults : goal.returns-clause-faults
 returns-clause-faults g c =
     let first = done c.write_found-first.result (sym c.is_done.ensures ∙ c.if-not-is_done.false) in
-    let none = ap faults_of first in
-    let before = c.write_found-first.ensures.faults in
-    let after = c.list_page-page.ensures.faults in omega (arith, none, before, after)
+    omega (arith, ap faults_of first, c.write_found-first.ensures.faults, c.list_page-page.ensures.faults)
 
 pub returns-clause-calls : goal.returns-clause-calls
 returns-clause-calls g c =
     let most = ap (λ (t : Task). most_calls t c.args.cmd.now.tries) c.requires in
     let walk = ap (λ (t : Task). most_on_walk t c.args.cmd.now.tries) c.requires in
-    let asked = c.inventory_piece-found.ensures.calls in
-    let page = c.list_page-page.ensures.calls in omega (arith, most, walk, asked, page)
+    omega (arith, most, walk, c.inventory_piece-found.ensures.calls, c.list_page-page.ensures.calls)
 
 pub returns-clause-honest : goal.returns-clause-honest
 returns-clause-honest g c = λ h.

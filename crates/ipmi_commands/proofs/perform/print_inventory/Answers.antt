@@ -10,8 +10,7 @@ use Rattle.ipmi_commands.proofs.perform.print_inventory.Goals as goal
 
 pub returns-clause-calls : goal.returns-clause-calls
 returns-clause-calls g c =
-    let most = ap (λ (t : Task). most_calls t c.args.cmd.now.tries) c.requires in
-    let asked = c.inventory_piece-found.ensures.calls in omega (arith, most, asked)
+    omega (arith, ap (λ (t : Task). most_calls t c.args.cmd.now.tries) c.requires, c.inventory_piece-found.ensures.calls)
 
 pub returns-clause-honest : goal.returns-clause-honest
 returns-clause-honest g c = λ h.

@@ -1,4 +1,4 @@
-use Rattle.std.proofs.Common.{◌≡◌, ◌++◌, ◌∙◌, sym, ap, subst, refl, rules, [], string_bytes, append_assoc, append-nil}
+use Rattle.std.proofs.Common.{◌≡◌, ◌++◌, ◌∙◌, sym, subst, refl, rules, [], string_bytes, append_assoc, append-nil}
 use Rattle.ipmi_fru.specs.Multirecord.{items_left}
 use Rattle.ipmi_fru.specs.Print.{AreItemTexts}
 use Rattle.ipmi_fru.proofs.record_text.records_text.Goals as goal
@@ -9,7 +9,7 @@ records-preserved c more texts =
     let so_far = string_bytes c.records.text in
     let with_line : string_bytes c.push_str.new.self ≡ so_far ++ line = search rules in
     subst (AreItemTexts (items_left c.args.records))
-    (sym (append_assoc so_far line more) ∙ ap (λ text. text ++ more) (sym with_line))
+    (sym (append_assoc so_far line more) ∙ rw (sym with_line) refl)
     (c.records.invariant (line ++ more)
     (subst (λ items. AreItemTexts items (line ++ more)) (sym c.in-Some.ensures.steps) (line, more, (c.in_ok-item_text.ensures, (texts, refl)))))
 

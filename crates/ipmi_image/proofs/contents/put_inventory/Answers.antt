@@ -13,7 +13,7 @@ abbrev key : StoredInventory → ℕ
 key inventory = inventory.id
 
 pub append-requires : goal.append-requires
-append-requires c = place_below key c.args.id c.args.inventories.now c.in-Some-place.place (ap (λ (k : ℕ). place_of key k c.args.inventories.now) (sym c.from.ensures) ∙ sym c.in-Some-place.ensures)
+append-requires c = place_below key c.args.id c.args.inventories.now c.in-Some-place.place (rw (sym c.from.ensures) (sym c.in-Some-place.ensures))
 
 pub returns-in_ok-append-in-Some-place-clause-keeps : goal.returns-in_ok-append-in-Some-place-clause-keeps
 returns-in_ok-append-in-Some-place-clause-keeps c =
@@ -30,7 +30,7 @@ pub returns-in_ok-append-in-Some-place-clause-ok : goal.returns-in_ok-append-in-
 returns-in_ok-append-in-Some-place-clause-ok c =
     let items = c.args.inventories.now in
     let bytes = c.args.bytes.now in
-    let at : place_of key c.args.id items ≡ Some c.in-Some-place.place = ap (λ (k : ℕ). place_of key k items) (sym c.from.ensures) ∙ sym c.in-Some-place.ensures in (
+    let at : place_of key c.args.id items ≡ Some c.in-Some-place.place = rw (sym c.from.ensures) (sym c.in-Some-place.ensures) in (
       sym c.in_default.ensures,
       c.in_ok-append-in-Some-place.ensures.ok ∙ sym (with_bytes-found items c.args.id c.in-Some-place.place bytes at),
     )
@@ -50,7 +50,7 @@ pub returns-in_ok-push-in-None-clause-ok : goal.returns-in_ok-push-in-None-claus
 returns-in_ok-push-in-None-clause-ok c =
     let items = c.args.inventories.now in
     let bytes = c.args.bytes.now in
-    let none : place_of key c.args.id items ≡ None = ap (λ (k : ℕ). place_of key k items) (sym c.from.ensures) ∙ sym c.in-None.ensures in (
+    let none : place_of key c.args.id items ≡ None = rw (sym c.from.ensures) (sym c.in-None.ensures) in (
       sym c.in_default.ensures,
-      ap (map inventory_of) (was_put _ c.in_ok-push-in-None.field-0 _ c.in_ok-push-in-None.ensures.ok none) ∙ map-append inventory_of items _ ∙ ap (λ (l : List ℕ). let i : Inventory = record { id = c.args.id; bytes = l } in map inventory_of items ++ i ∷ []) (c.in_ok-bytes-in-None.ensures.items_if_clones_equal (λ x y e. e)) ∙ sym (with_bytes-new items c.args.id bytes none),
+      ap (map inventory_of) (was_put _ c.in_ok-push-in-None.field-0 _ c.in_ok-push-in-None.ensures.ok none) ∙ map-append inventory_of items _ ∙ rw (c.in_ok-bytes-in-None.ensures.items_if_clones_equal (λ x y e. e)) (sym (with_bytes-new items c.args.id bytes none)),
     )

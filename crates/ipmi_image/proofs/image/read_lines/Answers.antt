@@ -1,66 +1,49 @@
-use Rattle.std.proofs.Common.{◌≡◌, ◌+◌, ◌++◌, ◌∷◌, Bool, false, cond, not, ℕ, [], None, Some, Ok, Err, length, refl, sym, ap, ◌∙◌, inl, inr, arith}
+use Rattle.std.proofs.Common.{◌≡◌, ◌+◌, ◌++◌, ◌∷◌, false, [], None, Some, Ok, length, refl, sym, ap, ◌∙◌, inl, inr, arith}
 use Rattle.std.proofs.lemmas.List.{length-append}
-use Rattle.ipmi_bus.specs.Store.{Store}
-use Rattle.ipmi_image.specs.declared.image.ImageFault.{ImageFault}
-use Rattle.ipmi_image.specs.declared.image.ImageFault.TheVariants as fault
 use Rattle.ipmi_image.specs.Text.{pieces}
 use Rattle.ipmi_image.specs.Line.{the_end}
-use Rattle.ipmi_image.specs.Image.{store_of_lines, at_line, is_end, ends_here, store_behind}
+use Rattle.ipmi_image.specs.Image.{at_line, is_end, store_after}
 use Rattle.ipmi_image.specs.Stored.{said}
-use Rattle.ipmi_image.proofs.ReadLemmas.{ends_here-pieces, unended, after_line, one_line, line_err, line_found, end_is}
+use Rattle.ipmi_image.proofs.ReadLemmas.{ends_here-pieces, unended, lines_after, line_err, line_found, end_is}
 use Rattle.ipmi_image.proofs.StoreLemmas.{store_is}
 use Rattle.ipmi_image.proofs.image.read_lines.Goals as goal
 
 pub returns-in_default-clause-err : goal.returns-in_default-clause-err
 returns-in_default-clause-err c =
     let lines = c.lines.invariant.1 in
-    inr (sym lines.3 ∙ ap (store_behind c.args.dashes lines.0) c.in_default.ensures.cut ∙ unended c.args.dashes lines.0 _)
+    inr (sym lines.3 ∙ ap (store_after c.args.dashes lines.0) c.in_default.ensures.cut ∙ unended c.args.dashes lines.0 _)
 
 pub returns-in-Err-clause-err : goal.returns-in-Err-clause-err
 returns-in-Err-clause-err c =
     let lines = c.lines.invariant.1 in
-    let rest = pieces 10 c.in-Some.after.now in
     elim c.in-Err.ensures [
       | inl memory ↦ inl (c.at.ensures ∙ ap (at_line c.lines.number) memory)
       | inr is ↦ inr (
-          sym lines.3 ∙ ap (store_behind c.args.dashes lines.0) c.in-Some.ensures.cut ∙ one_line c.args.dashes lines.0 c.in-Some.line.now c.in-Some.after.now
-          ∙ ap (after_line c.args.dashes lines.0 rest) (line_err c.args.dashes lines.0 c.in-Some.line.now c.in-Err.fault is)
-          ∙ ap (λ (n : ℕ). Err (at_line n c.in-Err.fault)) lines.2 ∙ ap (λ (e : ImageFault). Err e) (sym c.at.ensures))
+          lines_after _ _ _ _ _ _ _ c.in-Some.ensures.cut (line_err c.args.dashes lines.0 c.in-Some.line.now c.in-Err.fault is) lines.3 ∙ rw (lines.2, sym c.at.ensures) refl)
     ]
 
 pub returns-then-is_empty-clause-ok : goal.returns-then-is_empty-clause-ok
 returns-then-is_empty-clause-ok c =
     let lines = c.lines.invariant.1 in
-    let rest = pieces 10 c.in-Some.after.now in
     let last : said c.read_line.new.bytes.items c.in-Ok.line ≡ the_end = end_is _ (sym (c.is_end.ensures _) ∙ c.if-is_end.true) in (
       c.lines.invariant.0,
-      sym lines.3 ∙ ap (store_behind c.args.dashes lines.0) c.in-Some.ensures.cut ∙ one_line c.args.dashes lines.0 c.in-Some.line.now c.in-Some.after.now
-          ∙ ap (after_line c.args.dashes lines.0 rest) (line_found c.args.dashes lines.0 c.in-Some.line.now the_end None (c.in-Ok.ensures ∙ ap Ok last) refl)
-          ∙ ap (λ (b : Bool). cond b (Ok (store_of_lines lines.0)) (Err (fault.AfterEnd (length lines.0 + 3)))) (ends_here-pieces c.in-Some.after.now ∙ sym c.is_empty.ensures ∙ c.if-is_empty.true)
-          ∙ ap (λ (s : Store). Ok s) (sym (store_is c.lines.contents lines.0 lines.1)),
+      lines_after _ _ _ _ _ _ _ c.in-Some.ensures.cut (line_found c.args.dashes lines.0 c.in-Some.line.now the_end None (c.in-Ok.ensures ∙ ap Ok last) refl) lines.3 ∙ rw (ends_here-pieces c.in-Some.after.now ∙ sym c.is_empty.ensures ∙ c.if-is_empty.true, sym (store_is c.lines.contents lines.0 lines.1)) refl,
     )
 
 pub returns-then-is_end-clause-err : goal.returns-then-is_end-clause-err
 returns-then-is_end-clause-err c =
     let lines = c.lines.invariant.1 in
-    let rest = pieces 10 c.in-Some.after.now in
     let last : said c.read_line.new.bytes.items c.in-Ok.line ≡ the_end = end_is _ (sym (c.is_end.ensures _) ∙ c.if-is_end.true) in
     let number : length lines.0 + 3 ≡ c.lines.number + 1 = let is = lines.2 in omega (arith, is) in
-    inr (sym lines.3 ∙ ap (store_behind c.args.dashes lines.0) c.in-Some.ensures.cut ∙ one_line c.args.dashes lines.0 c.in-Some.line.now c.in-Some.after.now
-    ∙ ap (after_line c.args.dashes lines.0 rest) (line_found c.args.dashes lines.0 c.in-Some.line.now the_end None (c.in-Ok.ensures ∙ ap Ok last) refl)
-    ∙ ap (λ (b : Bool). cond b (Ok (store_of_lines lines.0)) (Err (fault.AfterEnd (length lines.0 + 3)))) (ends_here-pieces c.in-Some.after.now ∙ sym c.is_empty.ensures ∙ c.if-is_empty.false)
-    ∙ ap (λ (n : ℕ). Err (fault.AfterEnd n)) number)
+    inr (lines_after _ _ _ _ _ _ _ c.in-Some.ensures.cut (line_found c.args.dashes lines.0 c.in-Some.line.now the_end None (c.in-Ok.ensures ∙ ap Ok last) refl) lines.3 ∙ rw (ends_here-pieces c.in-Some.after.now ∙ sym c.is_empty.ensures ∙ c.if-is_empty.false, number) refl)
 
 pub returns-in-Err-put-clause-err : goal.returns-in-Err-put-clause-err
 returns-in-Err-put-clause-err c =
     let lines = c.lines.invariant.1 in
-    let rest = pieces 10 c.in-Some.after.now in
     elim (c.in-Err-put.ensures.lines lines.0 lines.1) [
       | inl memory ↦ inl (c.at-in-Err-put.ensures ∙ ap (at_line c.lines.number) memory)
       | inr is ↦ inr (
-          sym lines.3 ∙ ap (store_behind c.args.dashes lines.0) c.in-Some.ensures.cut ∙ one_line c.args.dashes lines.0 c.in-Some.line.now c.in-Some.after.now
-          ∙ ap (after_line c.args.dashes lines.0 rest) (line_found c.args.dashes lines.0 c.in-Some.line.now (said c.deref.result.now c.in-Ok.line) (Some c.in-Err-put.fault) (c.in-Ok.ensures ∙ ap (λ l. Ok (said l c.in-Ok.line)) (sym c.deref.ensures.value)) is)
-          ∙ ap (λ (n : ℕ). Err (at_line n c.in-Err-put.fault)) lines.2 ∙ ap (λ (e : ImageFault). Err e) (sym c.at-in-Err-put.ensures))
+          lines_after _ _ _ _ _ _ _ c.in-Some.ensures.cut (line_found c.args.dashes lines.0 c.in-Some.line.now (said c.deref.result.now c.in-Ok.line) (Some c.in-Err-put.fault) (c.in-Ok.ensures ∙ rw (sym c.deref.ensures.value) refl) is) lines.3 ∙ rw (lines.2, sym c.at-in-Err-put.ensures) refl)
     ]
 
 pub lines-preserved : goal.lines-preserved
@@ -79,10 +62,7 @@ lines-preserved c =
         lines.0 ++ line ∷ [],
         put.1,
         omega (arith, long, number),
-        sym (ap (store_behind c.args.dashes lines.0) c.in-Some.ensures.cut ∙ one_line c.args.dashes lines.0 c.in-Some.line.now c.in-Some.after.now
-            ∙ ap (after_line c.args.dashes lines.0 rest) (line_found c.args.dashes lines.0 c.in-Some.line.now line None (c.in-Ok.ensures ∙ ap (λ l. Ok (said l c.in-Ok.line)) (sym c.deref.ensures.value)) put.0)
-            ∙ ap (λ (b : Bool). cond (not b) (store_behind c.args.dashes (lines.0 ++ line ∷ []) rest) (cond (ends_here rest) (Ok (store_of_lines lines.0)) (Err (fault.AfterEnd (length lines.0 + 3))))) more)
-            ∙ lines.3,
+        sym (lines_after _ _ _ _ _ _ _ c.in-Some.ensures.cut (line_found c.args.dashes lines.0 c.in-Some.line.now line None (c.in-Ok.ensures ∙ rw (sym c.deref.ensures.value) refl) put.0) lines.3 ∙ rw more refl),
       ),
       omega (arith, shorter, bound),
     )

@@ -2,7 +2,7 @@ use Rattle.std.proofs.Common.{◌≡◌, ◌+◌, ◌≤◌, [], List, length}
 use Rattle.ipmi_bus.specs.Store.{IsStore}
 use Rattle.ipmi_image.specs.Text.{pieces}
 use Rattle.ipmi_image.specs.Line.{Line}
-use Rattle.ipmi_image.specs.Image.{store_behind}
+use Rattle.ipmi_image.specs.Image.{store_after}
 use Rattle.ipmi_image.specs.Stored.{store_of, HoldsLines}
 use Rattle.ipmi_image.proofs.image.read_lines.Given as goal
 
@@ -11,7 +11,7 @@ abbrev pub invariant-lines : goal.invariant-lines
 invariant-lines l =
     IsStore (store_of l.contents)
     × ((before : List Line) × HoldsLines l.contents before × (length before + 2 ≡ l.number)
-    × (store_behind l.dashes before (pieces 10 l.rest) ≡ store_behind l.dashes [] (pieces 10 l.text)))
+    × (store_after l.dashes before (pieces 10 l.rest) ≡ store_after l.dashes [] (pieces 10 l.text)))
     × (l.number + length l.rest ≤ length l.text + 2)
 
 abbrev pub decreases-lines : goal.decreases-lines

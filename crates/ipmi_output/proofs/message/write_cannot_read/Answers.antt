@@ -1,7 +1,7 @@
 -- A part of the name, or of what comes before it, is a part of the line.
 use Rattle.std.proofs.Common.{◌++◌, codes}
 use Rattle.ipmi_output.specs.Message.{escaped_name}
-use Rattle.ipmi_output.proofs.MessageLemmas.{ReceivesAll-both, ReceivesPart-before, ReceivesPart-behind, WritesAll-behind, WritesAll-failed}
+use Rattle.ipmi_output.proofs.MessageLemmas.{ReceivesAll-both, ReceivesPart-before, ReceivesPart-after, WritesAll-after, WritesAll-failed}
 use Rattle.ipmi_output.proofs.message.write_cannot_read.Goals as goal
 
 pub returns-in_err-offer_all : goal.returns-in_err-offer_all
@@ -12,9 +12,9 @@ returns-in_err-offer_all g c =
 pub returns-in_err-write_escaped : goal.returns-in_err-write_escaped
 returns-in_err-write_escaped g c =
     WritesAll-failed _ _ c.from_residual-in_err-write_escaped.result _ c.from_residual-in_err-write_escaped.ensures.0
-    (ReceivesPart-before _ _ _ (codes "\n") (ReceivesPart-behind _ _ _ _ _ c.in_ok-offer_all.ensures c.in_err-write_escaped.ensures))
+    (ReceivesPart-before _ _ _ (codes "\n") (ReceivesPart-after _ _ _ _ _ c.in_ok-offer_all.ensures c.in_err-write_escaped.ensures))
 
 pub returns : goal.returns
 returns g c =
-    WritesAll-behind _ (g.E.MessageSink.received c.write_escaped.new.err) _ c.offer_all-2.result (codes "cannot read " ++ escaped_name c.args.name.now) (codes "\n")
+    WritesAll-after _ (g.E.MessageSink.received c.write_escaped.new.err) _ c.offer_all-2.result (codes "cannot read " ++ escaped_name c.args.name.now) (codes "\n")
     (ReceivesAll-both _ _ _ _ _ c.in_ok-offer_all.ensures c.in_ok-write_escaped.ensures) c.offer_all-2.ensures

@@ -8,7 +8,7 @@ use Rattle.std.specs.Char.{is_ascii_control}
 use Rattle.ipmi_records.specs.Bytes.{upper_byte}
 use Rattle.ipmi_output.specs.Message.{escaped_byte, escaped_name}
 use Rattle.ipmi_output.specs.Received.{Received, ReceivesPart, WritesAll}
-use Rattle.ipmi_output.proofs.MessageLemmas.{ReceivesAll-both, ReceivesPart-before, ReceivesPart-behind, WritesAll-behind, WritesAll-failed}
+use Rattle.ipmi_output.proofs.MessageLemmas.{ReceivesAll-both, ReceivesPart-before, ReceivesPart-after, WritesAll-after, WritesAll-failed}
 use Rattle.ipmi_output.proofs.message.write_escaped.Goals as goal
 use Rattle.ipmi_output.proofs.message.write_escaped.Goals.{then-is_ascii_control+in_ok-write_before_control, else-is_ascii_control}
 
@@ -16,7 +16,7 @@ use Rattle.ipmi_output.proofs.message.write_escaped.Goals.{then-is_ascii_control
 first_and_next : (name : List ℕ) (at d : ℕ) → at < length name → take (at + 1) name ≡ take at name ++ (get_or name at d ∷ [])
 first_and_next name at d within =
     let next : at + 1 ≡ suc at = omega arith in
-    ap (λ (n : ℕ). take n name) next ∙ take-suc name at d within
+    rw next (take-suc name at d within)
 
 escaped_next : (name : List ℕ) (at d : ℕ) → at < length name → escaped_name (take (at + 1) name) ≡ escaped_name (take at name) ++ escaped_byte (get_or name at d)
 escaped_next name at d within =
@@ -35,12 +35,8 @@ waits text name begun at d before within plain so_far =
     let byte : List ℕ = get_or name at d ∷ [] in
     let long : length (take at name) ≡ at = length-take-le at name (omega (arith, within)) in
     let dropped : drop begun (take (at + 1) name) ≡ drop begun (take at name) ++ byte =
-    ap (λ (t : List ℕ). drop begun t) (first_and_next name at d within) ∙ drop-append-le begun (take at name) byte (omega (arith, before, long)) in
-    ap (λ (t : List ℕ). text ++ t) dropped
-    ∙ sym (append_assoc text (drop begun (take at name)) byte)
-    ∙ ap (λ (t : List ℕ). t ++ byte) so_far
-    ∙ ap (λ (t : List ℕ). escaped_name (take at name) ++ t) (sym (escaped_by (get_or name at d) false plain))
-    ∙ sym (escaped_next name at d within)
+    rw (first_and_next name at d within) (drop-append-le begun (take at name) byte (omega (arith, before, long))) in
+    rw dropped (sym (append_assoc text (drop begun (take at name)) byte) ∙ rw (so_far, sym (escaped_by (get_or name at d) false plain)) (sym (escaped_next name at d within)))
 
 -- a control byte is taken, after the bytes that waited
 taken : (text name : List ℕ) (begun at d : ℕ) → begun ≤ at → at < length name → is_ascii_control (get_or name at d) ≡ true
@@ -62,7 +58,7 @@ none_waits : (printed name : List ℕ) (n : ℕ) → n ≤ length name → print
 none_waits printed name n within so_far =
     let long : length (take n name) ≡ n = length-take-le n name within in
     let none : drop n (take n name) ≡ [] = drop_of_length-le (take n name) (omega (arith, long)) in
-    ap (λ (t : List ℕ). printed ++ t) none ∙ append-nil printed ∙ so_far
+    rw none (append-nil printed ∙ so_far)
 
 -- at the end those that wait are the last
 last : (text name : List ℕ) (begun at : ℕ) → at ≡ length name → text ++ drop begun (take at name) ≡ escaped_name (take at name)
@@ -85,7 +81,7 @@ returns-in_err-write_before_control g c =
     let so_far = c.loop-at.invariant in
     let printed = taken so_far.2 c.args.name.now c.loop-at.begun c.loop-at.at _ so_far.0 c.loop-at-test.true (sym c.is_ascii_control.ensures.value ∙ c.if-is_ascii_control.true) so_far.4 in
     WritesAll-failed _ _ c.from_residual.result _ c.from_residual.ensures.0
-    (part_of_name c.args.name.now (c.loop-at.at + 1) _ _ _ printed (ReceivesPart-behind _ _ _ _ _ so_far.3 c.in_err-write_before_control.ensures))
+    (part_of_name c.args.name.now (c.loop-at.at + 1) _ _ _ printed (ReceivesPart-after _ _ _ _ _ so_far.3 c.in_err-write_before_control.ensures))
 
 pub loop-at-preserved : goal.loop-at-preserved
 loop-at-preserved g c =
@@ -118,4 +114,4 @@ returns g c =
     let all : c.loop-at.at ≡ length name = omega (arith, so_far.1, c.loop-at-test.false) in
     subst (λ (t : List ℕ). WritesAll (g.E.MessageSink.received c.args.err.now) (g.E.MessageSink.received c.offer_all.new.err) c.offer_all.result t)
     (last so_far.2 name c.loop-at.begun c.loop-at.at all so_far.4)
-    (WritesAll-behind _ _ _ c.offer_all.result _ _ so_far.3 c.offer_all.ensures)
+    (WritesAll-after _ _ _ c.offer_all.result _ _ so_far.3 c.offer_all.ensures)

@@ -1,18 +1,11 @@
 -- The bytes before `done` and those taken then are the bytes before the new `done`.
-use Rattle.std.proofs.Common.{ℕ, arith, Option, List, [], ◌++◌, ◌+◌, ◌-◌, ◌<◌, ◌≡◌, append-nil, length, take, drop, ap, ◌∙◌, sym}
-use Rattle.std.proofs.Math.Seq.{take-add}
-use Rattle.std.proofs.lemmas.List.{take_rest}
+use Rattle.std.proofs.Common.{ℕ, arith, Option, List, [], ◌+◌, ◌-◌, ◌<◌, ◌≡◌, append-nil, length, take, drop, ap, ◌∙◌}
 use Rattle.std.proofs.lemmas.Grind.{common_steps}
 use Rattle.std.specs.Io.KnownBytes.{Appends}
 use Rattle.std.specs.Option.{option_map}
 use Rattle.ipmi_output.specs.Received.{Received, ReceivesAll, ReceivesPart}
-use Rattle.ipmi_output.proofs.MessageLemmas.{Appends-none, Appends-both, Appends-kept, Appends-same, WritesAll-failed, faults-kept, faults-raised}
+use Rattle.ipmi_output.proofs.MessageLemmas.{Appends-none, Appends-both, Appends-kept, Appends-same, WritesAll-failed, faults-kept, faults-raised, take-next}
 use Rattle.ipmi_output.proofs.message_sink.offer_all.Goals as goal
-
--- the first i bytes and the next n of them
-next_taken : (i n : ℕ) (bytes : List ℕ) → take i bytes ++ take n (take (length bytes - i) (drop i bytes)) ≡ take (i + n) bytes
-next_taken i n bytes =
-    ap (λ (rest : List ℕ). take i bytes ++ take n rest) (take_rest bytes i) ∙ sym (take-add i n bytes)
 
 -- the part before `done`, where the next call took none
 cut : (done : ℕ) (bytes : List ℕ) (old mid new : Received) → done < length bytes → ReceivesAll old mid (take done bytes) → Appends mid.taken new.taken [] → new.faults ≡ option_map (λ n. n + 1) mid.faults → ReceivesPart old new bytes
@@ -27,7 +20,7 @@ pub loop-done-preserved : goal.loop-done-preserved
 loop-done-preserved g c = (
   grind (arith, common_steps),
   (
-    Appends-same _ _ _ _ (next_taken c.loop-done.done c.in_ok-taken.taken c.args.bytes.now)
+    Appends-same _ _ _ _ (take-next c.loop-done.done c.in_ok-taken.taken c.args.bytes.now)
         (Appends-both _ _ _ _ _ c.loop-done.invariant.1.0 c.in_ok-taken.ensures.received.0),
     c.in_ok-taken.ensures.received.1 ∙ faults-kept _ c.in_ok-taken.taken c.if-taken-eq0.false ∙ c.loop-done.invariant.1.1,
   ),

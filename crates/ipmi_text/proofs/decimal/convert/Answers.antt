@@ -6,10 +6,10 @@ use Rattle.ipmi_text.proofs.decimal.convert.Goals as goal
 use Rattle.ipmi_text.proofs.decimal.convert.Goals.{After-raw_number}
 
 m_fits : (c : After-raw_number) → FitsSigned w16 c.f.inside.m
-m_fits c = let i = c.f.invariant.m.0 in let j = c.f.invariant.m.1 in omega (arith, ints)
+m_fits c = omega (arith, ints, c.f.invariant.m.0, c.f.invariant.m.1)
 
 m_fits_32 : (c : After-raw_number) → FitsSigned w32 c.f.inside.m
-m_fits_32 c = let i = c.f.invariant.m.0 in let j = c.f.invariant.m.1 in omega (arith, ints)
+m_fits_32 c = omega (arith, ints, c.f.invariant.m.0, c.f.invariant.m.1)
 
 raw_fits : (c : After-raw_number) → FitsSigned w32 c.raw_number.result
 raw_fits c = fits_signed_from_abs w32 c.raw_number.result (omega (arith, c.raw_number.ensures.size))
@@ -33,28 +33,13 @@ scaled-slope-requires-clause-number c =
     simp to_z-of_z (abs_product c.f.inside.m c.raw_number.result 512 256 (abs_twos_complement 512 c.f.inside.m c.f.invariant.m) c.raw_number.ensures.size)
 
 pub overflow_add-f-inside : goal.overflow_add-f-inside
-overflow_add-f-inside c =
-    let i = c.f.invariant.k1.0 in
-    let j = c.f.invariant.k1.1 in
-    let k = c.f.invariant.k2.0 in
-    let l = c.f.invariant.k2.1 in
-    omega (arith, ints)
+overflow_add-f-inside c = omega (arith, ints, c.f.invariant.k1.0, c.f.invariant.k1.1, c.f.invariant.k2.0, c.f.invariant.k2.1)
 
 pub scaled-offset-requires-clause-low : goal.scaled-offset-requires-clause-low
-scaled-offset-requires-clause-low c =
-    let i = c.f.invariant.k1.0 in
-    let j = c.f.invariant.k1.1 in
-    let k = c.f.invariant.k2.0 in
-    let l = c.f.invariant.k2.1 in
-    omega (arith, ints)
+scaled-offset-requires-clause-low c = omega (arith, ints, c.f.invariant.k1.0, c.f.invariant.k1.1, c.f.invariant.k2.0, c.f.invariant.k2.1)
 
 pub scaled-offset-requires-clause-high : goal.scaled-offset-requires-clause-high
-scaled-offset-requires-clause-high c =
-    let i = c.f.invariant.k1.0 in
-    let j = c.f.invariant.k1.1 in
-    let k = c.f.invariant.k2.0 in
-    let l = c.f.invariant.k2.1 in
-    omega (arith, ints)
+scaled-offset-requires-clause-high c = omega (arith, ints, c.f.invariant.k1.0, c.f.invariant.k1.1, c.f.invariant.k2.0, c.f.invariant.k2.1)
 
 pub overflow_add-result : goal.overflow_add-result
 overflow_add-result c =

@@ -32,8 +32,7 @@ returns-in-Ok-true-clause-leaves g c =
         fits =
             let len = c.hand_out.ensures.len in
             let have = leaves.1 in
-            let largest = ap largest_len c.read.ensures.request.shelf in
-            omega (arith, largest, length-take c.hand_out.result.len c.hand_out.new.self.retrieval.buffer);
+            omega (arith, ap largest_len c.read.ensures.request.shelf, length-take c.hand_out.result.len c.hand_out.new.self.retrieval.buffer);
       },
     )
 
@@ -55,12 +54,12 @@ returns-in-Ok-true-clause-honest g c = λ h.
       calls = λ same.
           let bound = read.calls same in
           let asked = asked_is c.args.self.now.place c.in-Asks.id asks.1 in
-          let part : c.hand_out.new.self.retrieval.part ≡ c.read.new.self.part = ap (λ (x : Retrieval). x.part) c.hand_out.ensures.retrieval in
+          let part : c.hand_out.new.self.retrieval.part ≡ c.read.new.self.part = rw c.hand_out.ensures.retrieval refl in
           calls_moved (g.C.Controller.seen c.read.new.ctl).calls (g.C.Controller.seen c.args.ctl.now).calls c.args.self.now.retrieval.tries c.read.new.self.part c.hand_out.new.self.retrieval.part c.args.self.now.retrieval.part
           (λ (n : ℕ). len_of (look (rows_of c.args.self.now.retrieval.shelf (g.C.Controller.seen c.args.ctl.now).store) n)) c.in-Asks.id _ asked part bound;
       plain = λ p holds.
           let after = read.plain p (record { held = holds.held }) in
-          record { holds = record { held = λ n e. ap (λ (x : Retrieval). current x.shelf (g.C.Controller.seen c.read.new.ctl)) c.hand_out.ensures.retrieval ∙ after.holds.held n (sym (ap (λ (x : Retrieval). x.reservation) c.hand_out.ensures.retrieval) ∙ e) }; fine = tt };
+          record { holds = record { held = λ n e. ap (λ (x : Retrieval). current x.shelf (g.C.Controller.seen c.read.new.ctl)) c.hand_out.ensures.retrieval ∙ after.holds.held n (sym (rw c.hand_out.ensures.retrieval refl) ∙ e) }; fine = tt };
     }
 
 pub returns-then-eq-clause-room : goal.returns-then-eq-clause-room

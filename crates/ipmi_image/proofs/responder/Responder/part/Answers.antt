@@ -1,4 +1,4 @@
-use Rattle.std.proofs.Common.{rules, ◌≡◌, ◌+◌, nat_eq, true, false, ap, sym, ◌∙◌, arith, Some, length, refl}
+use Rattle.std.proofs.Common.{rules, ◌≡◌, ◌+◌, nat_eq, true, false, sym, ◌∙◌, arith, Some, length, refl}
 use Rattle.std.proofs.lemmas.Bool.{eq-eqb, ne_eqb}
 use Rattle.std.proofs.lemmas.Option.{none-some}
 use Rattle.ipmi_bus.specs.Shelf.{look}
@@ -10,7 +10,7 @@ use Rattle.ipmi_image.proofs.responder.Responder.part.Goals as goal
 pub returns-then-not-is_reserved-clause-answers : goal.returns-then-not-is_reserved-clause-answers
 returns-then-not-is_reserved-clause-answers c = λ plain h.
     let other = c.if-not-is_reserved.ensures in
-    let found : look (rows_of c.args.shelf c.args.self.now.image) c.args.id ≡ Some (row_found c.in-Some.row) = ap (λ l. look l c.args.id) (sym c.rows.ensures) ∙ sym c.in-Some.ensures in
+    let found : look (rows_of c.args.shelf c.args.self.now.image) c.args.id ≡ Some (row_found c.in-Some.row) = rw (sym c.rows.ensures) (sym c.in-Some.ensures) in
     record {
       change = search rules;
       gives = search rules;
@@ -24,7 +24,7 @@ returns-then-not-is_reserved-clause-answers c = λ plain h.
 
 pub returns-then-from-row-clause-answers : goal.returns-then-from-row-clause-answers
 returns-then-from-row-clause-answers c = λ plain h.
-    let found : look (rows_of c.args.shelf c.args.self.now.image) c.args.id ≡ Some (row_found c.in-Some.row) = ap (λ l. look l c.args.id) (sym c.rows.ensures) ∙ sym c.in-Some.ensures in
+    let found : look (rows_of c.args.shelf c.args.self.now.image) c.args.id ≡ Some (row_found c.in-Some.row) = rw (sym c.rows.ensures) (sym c.in-Some.ensures) in
     let flag : nat_eq (c.args.offset + c.in-Some-copy_piece.got) (length c.in-Some.row.bytes.now) ≡ true =
     let is = c.if-from-row.true in let one = c.from-2.ensures in let two = c.from-3.ensures in eq-eqb _ _ (omega (arith, is, one, two)) in
     record {
@@ -46,7 +46,7 @@ returns-then-from-row-clause-answers c = λ plain h.
 
 pub returns-else-from-row-clause-answers : goal.returns-else-from-row-clause-answers
 returns-else-from-row-clause-answers c = λ plain h.
-    let found : look (rows_of c.args.shelf c.args.self.now.image) c.args.id ≡ Some (row_found c.in-Some.row) = ap (λ l. look l c.args.id) (sym c.rows.ensures) ∙ sym c.in-Some.ensures in
+    let found : look (rows_of c.args.shelf c.args.self.now.image) c.args.id ≡ Some (row_found c.in-Some.row) = rw (sym c.rows.ensures) (sym c.in-Some.ensures) in
     let flag : nat_eq (c.args.offset + c.in-Some-copy_piece.got) (length c.in-Some.row.bytes.now) ≡ false =
     let one = c.from-2.ensures in let two = c.from-3.ensures in ne_eqb _ _ (λ e. c.if-from-row.false (let is : c.args.offset + c.in-Some-copy_piece.got ≡ length c.in-Some.row.bytes.now = e in omega (arith, is, one, two))) in
     record {

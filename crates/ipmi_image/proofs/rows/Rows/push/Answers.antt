@@ -34,4 +34,4 @@ returns-in-Ok-true c =
 pub returns-in-Ok-false : goal.returns-in-Ok-false
 returns-in-Ok-false c =
     let put = rw c.in-Ok-false.field-0-test at c.in-Ok-false.ensures.ok in
-    ap (λ l. is_some (place_of id_of c.args.row.now.id l)) (sym c.self.view_is) ∙ ap is_some (place_in c.self.inside.bytes.items c.args.row.now.id c.self.inside.heads) ∙ put.0
+    rw (sym c.self.view_is) (ap is_some (place_in c.self.inside.bytes.items c.args.row.now.id c.self.inside.heads) ∙ put.0)

@@ -23,12 +23,3 @@ pub returns-in-None-clause-leaves : goal.returns-in-None-clause-leaves
 returns-in-None-clause-leaves c =
     let none = no_mood c.args.self.now c.in-None.ensures.cases.0 in
     rw none refl
-
-pub returns-in-Some-clause-used : goal.returns-in-Some-clause-used
-returns-in-Some-clause-used c = ap (drop 1) (sym c.in-Some.ensures.cases.0)
-
-pub returns-in-Some-clause-exact : goal.returns-in-Some-clause-exact
-returns-in-Some-clause-exact c = rw c.in-Some.ensures.cases.0 c.mood_turn.ensures.exact
-
-pub returns-in-Some-clause-leaves : goal.returns-in-Some-clause-leaves
-returns-in-Some-clause-leaves c = rw c.in-Some.ensures.cases.0 c.mood_turn.ensures.leaves

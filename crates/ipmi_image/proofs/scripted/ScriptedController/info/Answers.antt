@@ -1,11 +1,9 @@
 use Rattle.std.proofs.Common.{true, false, refl}
 use Rattle.ipmi_bus.specs.Store.{info_of}
-use Rattle.ipmi_image.proofs.ScriptLemmas.{same_after, after_value}
+use Rattle.ipmi_image.proofs.ScriptLemmas.{after_value}
 use Rattle.ipmi_image.proofs.scripted.ScriptedController.info.Goals as goal
 
 pub returns-in-Answers-clause-honest : goal.returns-in-Answers-clause-honest
 returns-in-Answers-clause-honest c = λ honest.
     let first = c.in-Answers.ensures.turns honest in
-    let then = first.change.stays.honest in
-    let same = same_after c.turn.new.self.responder c.info.new.self (λ plainly. (c.info.ensures.answers true plainly).change) then in
-    after_value _ _ _ honest refl first same (info_of c.args.shelf) c.info.result (c.info.ensures.answers false then)
+    after_value _ c.turn.new.self.responder c.info.new.self honest refl first (λ plainly. (c.info.ensures.answers true plainly).change) (info_of c.args.shelf) c.info.result (c.info.ensures.answers false first.change.stays.honest)

@@ -1,0 +1,38 @@
+//! The bytes of a record, of which there are as many as its fields need.
+ghost use Rattle.std.specs.Prelude.{◌≡◌, ◌≤◌, length};
+
+use std::marker::Model;
+
+/// The bytes of a sensor data record, at least `LEN`. `TYPE` is the first record type of its kind.
+#[derive(Clone, Debug, Drop)]
+pub struct AtLeast<'a, const TYPE: u8, const LEN: usize> {
+    pub(crate) bytes: &'a [u8],
+}
+
+impl<'a, const TYPE: u8, const LEN: usize> Model for AtLeast<'a, TYPE, LEN> {
+    ghost use Rattle.std.specs.Prelude.{◌≤◌, List, ℕ, length};
+
+    ghost Value = { List ℕ };
+
+    ghost view = { λ v. v.bytes.now };
+
+    ghost invariant = { λ v. LEN ≤ length v.bytes.now };
+}
+
+impl<'a, const TYPE: u8, const LEN: usize> AtLeast<'a, TYPE, LEN> {
+    /// The view of a record that is long enough.
+    pub(crate) fn new(bytes: &'a [u8]) -> AtLeast<'a, TYPE, LEN>
+        requires { LEN ≤ length bytes.now }
+        ensures { result ≡ bytes.now }
+    {
+        AtLeast { bytes }
+    }
+
+    /// The bytes of the record.
+    pub(crate) fn bytes(&self) -> &'a [u8]
+        ensures value { result.now ≡ self.now }
+        ensures room { LEN ≤ length result.now }
+    {
+        self.bytes
+    }
+}
