@@ -17,8 +17,8 @@ use Rattle.ipmi_bus.specs.Seen.{Seen, KeepsStore, MayLoseReservation, IsTroubled
 use Rattle.ipmi_bus.specs.Retrieval.{IsOpen, HasRead, IsReading, HoldsCurrent, GoesOn, HasGivenUp, CallAnswers, CallIsHonest, after_trouble, CountsTrouble, IsRefusedBy, ReserveFails}
 
 -- where a reservation is current, it was so before, and the store is the same
-pub store_kept : (shelf : Shelf) (s s' : Seen) (n : ℕ) → MayLoseReservation shelf s s' → KeepsStore s s' → current shelf s' ≡ Some n → s'.store ≡ s.store
-store_kept shelf s s' n keeps store now = elim (cases_lt s.stores_added s'.stores_added) [
+pub store-kept : (shelf : Shelf) (s s' : Seen) (n : ℕ) → MayLoseReservation shelf s s' → KeepsStore s s' → current shelf s' ≡ Some n → s'.store ≡ s.store
+store-kept shelf s s' n keeps store now = elim (cases_lt s.stores_added s'.stores_added) [
   | inl more ↦ let gone = keeps.none_over_change more in cc (gone, now)
   | inr le ↦ store.stays (omega (arith, store.grows))
 ]
@@ -42,7 +42,7 @@ reading_kept r s s' keeps store reserved reading = record {
     at (Some n) is h some now =
         let held : current r.shelf s' ≡ Some n = now ∙ is in
         let before = reading.piece some (keeps.none_given n held ∙ sym is) in
-        (before.0, read_moved r s s' before.0 (store_kept r.shelf s s' n keeps store held) before.1)
+        (before.0, read_moved r s s' before.0 (store-kept r.shelf s s' n keeps store held) before.1)
 
 -- the count of troubles is no part of what was read
 reading_counted : (r : Retrieval) (s : Seen) (n : ℕ) → IsReading r s → IsReading (record r { troubles = n }) s
@@ -58,9 +58,9 @@ after_reading : (is_cancelled : Bool) (r : Retrieval) (s s' : Seen) → MayLoseR
 after_reading true r s s' keeps store reserved reading = reading_dropped _ s' refl
 after_reading false r s s' keeps store reserved reading = reading_counted r s' _ (reading_kept r s s' keeps store reserved reading)
 
-after_counts : (is_cancelled : Bool) (r : Retrieval) → (after_trouble is_cancelled r).troubles ≡ r.troubles + 1
-after_counts true r = refl
-after_counts false r = refl
+troubles-after_trouble : (is_cancelled : Bool) (r : Retrieval) → (after_trouble is_cancelled r).troubles ≡ r.troubles + 1
+troubles-after_trouble true r = refl
+troubles-after_trouble false r = refl
 
 after_have : (is_cancelled : Bool) (r : Retrieval) → (after_trouble is_cancelled r).have ≤ r.have
 after_have true r = omega arith
@@ -71,9 +71,9 @@ trouble_answers : (is_cancelled : Bool) (old new : Retrieval) (s s' : Seen) (res
 trouble_answers is_cancelled old new s s' (Ok turn) open_ reading stays keeps troubled counts =
     let goes : GoesOn old (after_trouble is_cancelled old) s s' = record {
       reading = after_reading is_cancelled old s s' keeps stays.store open_.reserved reading;
-      troubles = omega (arith, after_counts is_cancelled old, troubled.troubles);
-      fresh_troubles = omega (arith, after_counts is_cancelled old, troubled.fresh_troubles);
-      grows = omega (arith, after_counts is_cancelled old);
+      troubles = omega (arith, troubles-after_trouble is_cancelled old, troubled.troubles);
+      fresh_troubles = omega (arith, troubles-after_trouble is_cancelled old, troubled.fresh_troubles);
+      grows = omega (arith, troubles-after_trouble is_cancelled old);
       refusals = troubled.refusals;
       last_code = troubled.last_code;
       within = omega (arith, after_have is_cancelled old);

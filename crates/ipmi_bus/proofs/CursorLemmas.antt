@@ -22,7 +22,7 @@ use Rattle.ipmi_bus.specs.Since.{begun}
 use Rattle.ipmi_bus.specs.Handed.{handed_row, handed_id, IsAsked, IsUnseen, LeavesRoom}
 use Rattle.ipmi_bus.specs.Step.{asked_at, HasIdAsked}
 use Rattle.ipmi_bus.proofs.ShelfLemmas.{found_row}
-use Rattle.ipmi_bus.proofs.PartLemmas.{byte_read}
+use Rattle.ipmi_bus.proofs.PartLemmas.{get_or-read}
 
 -- rows with equal parts are equal
 same_row : (a b : Row) → a.id ≡ b.id → a.next ≡ b.next → a.bytes ≡ b.bytes → a ≡ b
@@ -34,25 +34,25 @@ begins : (rows : List Row) (row : Row) → BeginsWithId rows → first_row rows 
 begins [] row ok found = cc found
 begins (r ∷ rows) row ok found = let e : r ≡ row = cc found in subst (λ (x : Row). get_or x.bytes 0 0 + 256 * get_or x.bytes 1 0 ≡ x.id) e ok
 
-pub id_is : (shelf : Shelf) (rows : List Row) (place : Place) (asked have : ℕ) (buffer : List ℕ) (row : Row) → IsShelf shelf rows → IsAsked place asked → look rows asked ≡ Some row → 5 ≤ have
+pub handed_id-row : (shelf : Shelf) (rows : List Row) (place : Place) (asked have : ℕ) (buffer : List ℕ) (row : Row) → IsShelf shelf rows → IsAsked place asked → look rows asked ≡ Some row → 5 ≤ have
     → take have buffer ≡ take have row.bytes → handed_id place asked buffer ≡ row.id
-id_is shelf rows First asked have buffer row ok asks found some same =
+handed_id-row shelf rows First asked have buffer row ok asks found some same =
     let first : first_row rows ≡ Some row = subst (λ (n : ℕ). look rows n ≡ Some row) asks found in
-    let low = byte_read have 0 buffer row.bytes (omega arith) same in
-    let high = byte_read have 1 buffer row.bytes (omega arith) same in
+    let low = get_or-read have 0 buffer row.bytes (omega arith) same in
+    let high = get_or-read have 1 buffer row.bytes (omega arith) same in
     let id = begins rows row ok.first first in omega arith
-id_is shelf rows (Id n) asked have buffer row ok asks found some same =
+handed_id-row shelf rows (Id n) asked have buffer row ok asks found some same =
     let not_first : nat_eq asked 0 ≡ false = ne_eqb asked 0 (λ e. asks.1 (sym asks.0 ∙ e)) in
     let by_id : row_with_id asked rows ≡ Some row = sym (rw not_first refl) ∙ found in
     sym (found_row shelf rows asked row ok.all by_id).1
-id_is shelf rows End asked have buffer row ok asks found some same = absurd asks
+handed_id-row shelf rows End asked have buffer row ok asks found some same = absurd asks
 
 -- the row that is handed out is the one that was read
-pub handed_is : (place : Place) (asked : ℕ) (r : Retrieval) (s : Seen) (row : Row) → IsHonest s → IsAsked place asked → r.id ≡ asked → HasRead r s row → r.have ≡ length row.bytes → 5 ≤ r.have
+pub look-handed : (place : Place) (asked : ℕ) (r : Retrieval) (s : Seen) (row : Row) → IsHonest s → IsAsked place asked → r.id ≡ asked → HasRead r s row → r.have ≡ length row.bytes → 5 ≤ r.have
     → look (rows_of r.shelf s.store) asked ≡ Some (record { id = handed_id place asked r.buffer; next = r.next; bytes = take r.have r.buffer })
-handed_is place asked r s row honest asks is read whole some =
+look-handed place asked r s row honest asks is read whole some =
     let found : look (rows_of r.shelf s.store) asked ≡ Some row = subst (λ (n : ℕ). look (rows_of r.shelf s.store) n ≡ Some row) is read.found in
-    let id = id_is r.shelf (rows_of r.shelf s.store) place asked r.have r.buffer row (store_shelf r.shelf s.store honest.store) asks found some read.bytes in
+    let id = handed_id-row r.shelf (rows_of r.shelf s.store) place asked r.have r.buffer row (store_shelf r.shelf s.store honest.store) asks found some read.bytes in
     let bytes : take r.have r.buffer ≡ row.bytes = read.bytes ∙ rw whole (take_all _ row.bytes (omega arith)) in
     found ∙ ap Some (sym (same_row (record { id = handed_id place asked r.buffer; next = r.next; bytes = take r.have r.buffer }) row id read.next bytes))
 
@@ -67,17 +67,17 @@ not_end (Id n) asked asks is = cc is
 not_end End asked asks is = asks
 
 -- what is handed out was not handed out before
-pub unseen : (place : Place) (ids : set.FinSet nat_cmp) (asked : ℕ) (buffer : List ℕ) → (place ≡ First → ids ≡ set.empty) → IsAsked place asked → IsUnseen place ids asked → set.contains ids (handed_id place asked buffer) ≡ false
-unseen First ids asked buffer first asks new = rw (first refl) (contains-empty nat_cmp _)
-unseen (Id n) ids asked buffer first asks new = new
-unseen End ids asked buffer first asks new = absurd asks
+pub contains-handed_id : (place : Place) (ids : set.FinSet nat_cmp) (asked : ℕ) (buffer : List ℕ) → (place ≡ First → ids ≡ set.empty) → IsAsked place asked → IsUnseen place ids asked → set.contains ids (handed_id place asked buffer) ≡ false
+contains-handed_id First ids asked buffer first asks new = rw (first refl) (contains-empty nat_cmp _)
+contains-handed_id (Id n) ids asked buffer first asks new = new
+contains-handed_id End ids asked buffer first asks new = absurd asks
 
 -- the row as it is handed out
-pub hands_row : (old : Progress) (r : Retrieval) (new : Progress) (handed : Handed) (asked : ℕ) (s : Seen) → IsHonest s → IsAsked old.place asked → SameRequest (begun old.retrieval asked) r → (row : Row) → HasRead r s row
+pub look-asked_row : (old : Progress) (r : Retrieval) (new : Progress) (handed : Handed) (asked : ℕ) (s : Seen) → IsHonest s → IsAsked old.place asked → SameRequest (begun old.retrieval asked) r → (row : Row) → HasRead r s row
     → r.have ≡ length row.bytes → 5 ≤ r.have → handed.id ≡ handed_id old.place asked r.buffer → handed.next ≡ r.next → handed.len ≡ r.have → new.retrieval ≡ r
     → look (rows_of old.retrieval.shelf s.store) (asked_at old.place) ≡ Some (handed_row new handed)
-hands_row old r new handed asked s honest asks request row read whole some id next len retrieval =
-    let found = handed_is old.place asked r s row honest asks request.id read whole some in
+look-asked_row old r new handed asked s honest asks request row read whole some id next len retrieval =
+    let found = look-handed old.place asked r s row honest asks request.id read whole some in
     let bytes : take r.have r.buffer ≡ take handed.len new.retrieval.buffer = rw (sym len, sym retrieval) refl in
     let shown = same_row (record { id = handed_id old.place asked r.buffer; next = r.next; bytes = take r.have r.buffer }) (handed_row new handed) (sym id) (sym next) bytes in
     rw (sym request.shelf) (ap (look (rows_of r.shelf s.store)) (sym (asked_is old.place asked asks)) ∙ found ∙ ap Some shown)
@@ -96,10 +96,10 @@ has_id_asked (Id n) asked len next buffer some asks = asks.0
 has_id_asked End asked len next buffer some asks = absurd asks
 
 -- and is as long as its bytes say
-pub taken_whole : (shelf : Shelf) (have : ℕ) (buffer : List ℕ) → 5 ≤ have → have ≤ length buffer → have ≡ wanted_len shelf have buffer → length (take have buffer) ≡ whole_len shelf (take have buffer)
-taken_whole Sdr have buffer some fits whole =
+pub length-take-whole : (shelf : Shelf) (have : ℕ) (buffer : List ℕ) → 5 ≤ have → have ≤ length buffer → have ≡ wanted_len shelf have buffer → length (take have buffer) ≡ whole_len shelf (take have buffer)
+length-take-whole Sdr have buffer some fits whole =
     let len = length-take have buffer in let byte = get_or-take have buffer 4 0 (omega arith) in grind (arith, nat_tests)
-taken_whole Sel have buffer some fits whole = omega (arith, length-take have buffer)
+length-take-whole Sel have buffer some fits whole = omega (arith, length-take have buffer)
 
 pub largest_fits : (shelf : Shelf) → largest_len shelf ≤ 256
 largest_fits Sdr = omega arith
@@ -114,7 +114,7 @@ handed_whole shelf old r new handed place asked asks same some whole id len is r
     let shown : handed_row new handed ≡ record { id = handed_id place asked r.buffer; next = handed.next; bytes = take r.have r.buffer } =
     same_row (handed_row new handed) (record { id = handed_id place asked r.buffer; next = handed.next; bytes = take r.have r.buffer }) id refl bytes in
     let fits : r.have ≤ length r.buffer = subst (λ (x : Retrieval). r.have ≤ length x.buffer) is room in
-    let long = taken_whole r.shelf r.have r.buffer some fits whole in (
+    let long = length-take-whole r.shelf r.have r.buffer some fits whole in (
       subst (HasIdAsked place) (sym shown) (has_id_asked place asked r.have handed.next r.buffer some asks),
       ap (λ (l : List ℕ). length l) bytes ∙ long ∙ rw same (sym (ap (whole_len shelf) bytes)),
     )

@@ -87,8 +87,8 @@ ids_in-zeros zeros all =
     none q b e = grind (arith, nat_tests, e)
 
 -- each element of a list of zeros is zero, also past its end
-pub zero_at : (zeros : List ℕ) (n i : ℕ) → zeros ≡ replicate n 0 → get_or zeros i 0 ≡ 0
-zero_at zeros n i e = elim (cases_lt i n) [
+pub get_or-zeros : (zeros : List ℕ) (n i : ℕ) → zeros ≡ replicate n 0 → get_or zeros i 0 ≡ 0
+get_or-zeros zeros n i e = elim (cases_lt i n) [
   | inl lt ↦ ap (λ xs. get_or xs i 0) e ∙ get_or-replicate n i 0 0 lt
   | inr le ↦ get_or_past zeros i 0 (omega (arith, ap length e, length-replicate {A = ℕ}))
 ]

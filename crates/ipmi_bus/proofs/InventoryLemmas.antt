@@ -19,7 +19,7 @@ use Rattle.ipmi_bus.specs.FruRetrieval.{IsOpen, SameInventory, CountsTrouble, Ma
 use Rattle.ipmi_bus.specs.Readers.{IsRefusedInventory, IsRefusedOverChange, InventoryCounts, InventoryIs, inventory_len}
 use Rattle.ipmi_bus.specs.Tries.{WithinTries, IsRefusedWith}
 use Rattle.ipmi_bus.specs.Bounds.{digits, fru_call_bound}
-use Rattle.ipmi_bus.proofs.PartLemmas.{with_piece, smaller_some}
+use Rattle.ipmi_bus.proofs.PartLemmas.{take-with_piece, smaller_some}
 
 -- with the bytes that came in
 abbrev taken : FruRetrieval → FruRetrieval → ℕ → FruRetrieval
@@ -57,7 +57,7 @@ module _ (old r : FruRetrieval) (s s' s'' : Seen) (asked got : ℕ) (len : lengt
         found = before.found;
         size = before.size ∙ sym len;
         bytes = ap (take (old.have + got)) refl
-            ∙ with_piece old.have got asked old.bytes.items r.bytes.items before.whole piece.fits front before.bytes
+            ∙ take-with_piece old.have got asked old.bytes.items r.bytes.items before.whole piece.fits front before.bytes
             (piece.bytes ∙ ap (λ (l : List ℕ). take got (drop old.have l)) (whole_is same));
       }
 
@@ -96,11 +96,11 @@ module _ (old r : FruRetrieval) (s s' s'' : Seen) (asked got : ℕ) (len : lengt
   part_answers new (Err ended) is takes = absurd (omega (arith, takes.0, gave.gives.2.piece.some))
 
 -- CBh says that nothing is there, and no refusal does
-cbh : (code : ℕ) → class_of code ≡ NotPresent → nat_eq code 0xCB ≡ true
-cbh code is = grind (arith, nat_tests)
+nat_eq-cbh : (code : ℕ) → class_of code ≡ NotPresent → nat_eq code 0xCB ≡ true
+nat_eq-cbh code is = grind (arith, nat_tests)
 
-not_cbh : (code : ℕ) → class_of code ≡ Refusal → nat_eq code 0xCB ≡ false
-not_cbh code is = ne_eqb _ _ (λ (e : code ≡ 0xCB). let other = sym (ap class_of e) ∙ is in cc other)
+nat_eq-not_cbh : (code : ℕ) → class_of code ≡ Refusal → nat_eq code 0xCB ≡ false
+nat_eq-not_cbh code is = ne_eqb _ _ (λ (e : code ≡ 0xCB). let other = sym (ap class_of e) ∙ is in cc other)
 
 -- a call for a part that an honest controller failed
 module _ (old r : FruRetrieval) (s s' s'' : Seen) (asked : ℕ) (code : Code) (into : List ℕ) (is : r ≡ record old { bytes = r.bytes }) (items : r.bytes.items ≡ old.bytes.items) (open_ : IsOpen old) (since : FruSince old s s')
@@ -197,8 +197,8 @@ module _ (old r : FruRetrieval) (s s' s'' : Seen) (asked : ℕ) (code : Code) (i
       } in
       record {
         stays = stays;
-        counts = subst (λ (b : Bool). IsRefusedOverChange b old.id old.tries code.0 s s'') (sym (cbh code.0 class)) (within, none);
-        is = λ same. subst (λ (b : Bool). IsRefusedInventory b old.id old.tries code.0 s s'') (sym (cbh code.0 class)) (within, ap (inventory_of old.id) (sym (stays.store.stays same)) ∙ none);
+        counts = subst (λ (b : Bool). IsRefusedOverChange b old.id old.tries code.0 s s'') (sym (nat_eq-cbh code.0 class)) (within, none);
+        is = λ same. subst (λ (b : Bool). IsRefusedInventory b old.id old.tries code.0 s s'') (sym (nat_eq-cbh code.0 class)) (within, ap (inventory_of old.id) (sym (stays.store.stays same)) ∙ none);
         plain = λ p. absurd (not_plain p);
       }
 
@@ -212,8 +212,8 @@ module _ (old r : FruRetrieval) (s s' s'' : Seen) (asked : ℕ) (code : Code) (i
       } in
       record {
         stays = stays;
-        counts = subst (λ (b : Bool). IsRefusedOverChange b old.id old.tries code.0 s s'') (sym (not_cbh code.0 class)) with_code;
-        is = λ same. subst (λ (b : Bool). IsRefusedInventory b old.id old.tries code.0 s s'') (sym (not_cbh code.0 class)) with_code;
+        counts = subst (λ (b : Bool). IsRefusedOverChange b old.id old.tries code.0 s s'') (sym (nat_eq-not_cbh code.0 class)) with_code;
+        is = λ same. subst (λ (b : Bool). IsRefusedInventory b old.id old.tries code.0 s s'') (sym (nat_eq-not_cbh code.0 class)) with_code;
         plain = λ p. absurd (not_plain p);
       }
 

@@ -24,17 +24,17 @@ use Rattle.ipmi_bus.specs.Calls.{smaller_part}
 use Rattle.ipmi_bus.specs.Code.{class_of}
 use Rattle.ipmi_bus.specs.Retrieval.{IsOpen, HasRead, IsReading, HoldsCurrent, IsCalm, GoesOn, HasWhole, CallAnswers, CallIsPlain, CallIsHonest, TakesPart, MakesSmaller, PartFails, wanted_len, after_part, request_of}
 use Rattle.ipmi_bus.proofs.ShelfLemmas.{look_row}
-use Rattle.ipmi_bus.proofs.CallLemmas.{store_kept, read_moved, reading_kept, honest_trouble, honest_refusal}
+use Rattle.ipmi_bus.proofs.CallLemmas.{store-kept, read_moved, reading_kept, honest_trouble, honest_refusal}
 
 -- the byte at a place that is read
-pub byte_read : (have i : ℕ) (buffer bytes : List ℕ) → i < have → take have buffer ≡ take have bytes → get_or buffer i 0 ≡ get_or bytes i 0
-byte_read have i buffer bytes lt same = sym (get_or-take have buffer i 0 lt) ∙ rw same (get_or-take have bytes i 0 lt)
+pub get_or-read : (have i : ℕ) (buffer bytes : List ℕ) → i < have → take have buffer ≡ take have bytes → get_or buffer i 0 ≡ get_or bytes i 0
+get_or-read have i buffer bytes lt same = sym (get_or-take have buffer i 0 lt) ∙ rw same (get_or-take have bytes i 0 lt)
 
 -- no more is wanted than the row has
 pub wanted_within : (shelf : Shelf) (have : ℕ) (buffer : List ℕ) (row : Row) → IsRow shelf row → take have buffer ≡ take have row.bytes → wanted_len shelf have buffer ≤ length row.bytes
 wanted_within Sdr have buffer row ok same = elim (cases_lt have 5) [
   | inl lt ↦ let whole = ok.whole in grind (arith, nat_tests)
-  | inr le ↦ let whole = ok.whole in let b = byte_read have 4 buffer row.bytes (omega arith) same in grind (arith, nat_tests)
+  | inr le ↦ let whole = ok.whole in let b = get_or-read have 4 buffer row.bytes (omega arith) same in grind (arith, nat_tests)
 ]
 wanted_within Sel have buffer row ok same = omega (arith, ok.whole)
 
@@ -42,18 +42,18 @@ wanted_within Sel have buffer row ok same = omega (arith, ok.whole)
 pub wanted_whole : (shelf : Shelf) (have : ℕ) (buffer : List ℕ) (row : Row) → IsRow shelf row → take have buffer ≡ take have row.bytes → have ≡ wanted_len shelf have buffer → have ≡ length row.bytes
 wanted_whole Sdr have buffer row ok same is = elim (cases_lt have 5) [
   | inl lt ↦ let short : wanted_len Sdr have buffer ≡ 5 = grind (arith, nat_tests) in absurd (omega arith)
-  | inr le ↦ let whole = ok.whole in let b = byte_read have 4 buffer row.bytes (omega arith) same in grind (arith, nat_tests)
+  | inr le ↦ let whole = ok.whole in let b = get_or-read have 4 buffer row.bytes (omega arith) same in grind (arith, nat_tests)
 ]
 wanted_whole Sel have buffer row ok same is = omega (arith, ok.whole)
 
 -- what was read before, in the store that the answer came from
-before_piece : (old : Retrieval) (s s' : Seen) (n : ℕ) (row : Row) → IsReading old s → MayLoseReservation old.shelf s s' → KeepsStore s s' → old.reservation ≡ Some n
+take-before_piece : (old : Retrieval) (s s' : Seen) (n : ℕ) (row : Row) → IsReading old s → MayLoseReservation old.shelf s s' → KeepsStore s s' → old.reservation ≡ Some n
     → (0 < old.have → current old.shelf s' ≡ Some n) → look (rows_of old.shelf s'.store) old.id ≡ Some row → take old.have old.buffer ≡ take old.have row.bytes
-before_piece old s s' n row reading keeps store held reserved found = elim (cases_lt 0 old.have) [
+take-before_piece old s s' n row reading keeps store held reserved found = elim (cases_lt 0 old.have) [
   | inl some ↦
       let now = reserved some in
       let before = reading.piece some (keeps.none_given n now ∙ sym held) in
-      let same = store_kept old.shelf s s' n keeps store now in
+      let same = store-kept old.shelf s s' n keeps store now in
       let here = read_moved old s s' before.0 same before.1 in
       let e : before.0 ≡ row = let f = here.found in cc (f, found) in
       here.bytes ∙ rw e refl
@@ -61,9 +61,9 @@ before_piece old s s' n row reading keeps store held reserved found = elim (case
 ]
 
 -- and with the piece
-pub with_piece : (have got asked : ℕ) (before after bytes : List ℕ) → got ≤ asked → take have after ≡ take have before → take have before ≡ take have bytes
+pub take-with_piece : (have got asked : ℕ) (before after bytes : List ℕ) → got ≤ asked → take have after ≡ take have before → take have before ≡ take have bytes
     → take got (slice_range after have (have + asked)) ≡ take got (drop have bytes) → take (have + got) after ≡ take (have + got) bytes
-with_piece have got asked before after bytes fits front same piece =
+take-with_piece have got asked before after bytes fits front same piece =
     let range : slice_range after have (have + asked) ≡ take asked (drop have after) = ap (λ (k : ℕ). take k (drop have after)) {y = asked} (omega arith) in
     let inner : take got (drop have after) ≡ take got (drop have bytes) = sym (take-take got asked (drop have after) fits) ∙ sym (ap (take got) range) ∙ piece in
     take-add have got after ∙ rw (front ∙ same, inner) (sym (take-add have got bytes))
@@ -74,7 +74,7 @@ read_piece : (old : Retrieval) (buffer : List ℕ) (s s' : Seen) (n asked : ℕ)
 read_piece old buffer s s' n asked part row reading keeps store held front gives = record {
   found = gives.found;
   within = gives.piece.within;
-  bytes = with_piece old.have part.got asked old.buffer buffer row.bytes gives.piece.fits front (before_piece old s s' n row reading keeps store held gives.reserved gives.found) gives.piece.bytes;
+  bytes = take-with_piece old.have part.got asked old.buffer buffer row.bytes gives.piece.fits front (take-before_piece old s s' n row reading keeps store held gives.reserved gives.found) gives.piece.bytes;
   next = gives.next;
 }
 
@@ -118,7 +118,7 @@ module _ (old : Retrieval) (buffer : List ℕ) (s s' : Seen) (n asked : ℕ) (pa
   piece_answers new (Err (Malformed id)) takes =
       let five : old.have + part.got ≡ 5 = ap (λ (r : Retrieval). r.have) (sym takes.1) ∙ takes.4 in
       let whole : length row.bytes ≡ 5 + get_or row.bytes 4 0 = subst (λ (shelf : Shelf). length row.bytes ≡ whole_len shelf row.bytes) takes.3 ok.whole in
-      let byte = byte_read (old.have + part.got) 4 buffer row.bytes (omega arith) read.bytes in
+      let byte = get_or-read (old.have + part.got) 4 buffer row.bytes (omega arith) read.bytes in
       let largest : largest_len old.shelf ≡ 256 = ap largest_len takes.3 in
       absurd (omega (arith, takes.5, ok.fits, largest))
   piece_answers new _ takes = absurd takes
@@ -139,12 +139,12 @@ module _ (old : Retrieval) (buffer : List ℕ) (s s' : Seen) (n asked : ℕ) (pa
   piece_plain new (Err ended) takes now held = absurd (no_err new ended takes)
 
 -- a part that is taken leaves the reservation
-takes_held : (part : Part) (old new : Retrieval) (result : Result Outcome Ended) → TakesPart part old new result → new.reservation ≡ old.reservation
-takes_held part old new (Ok Again) takes = rw takes.1 refl
-takes_held part old new (Ok Whole) takes = rw takes.1 refl
-takes_held part old new (Err (Stalled id)) takes = rw takes.2 refl
-takes_held part old new (Err (Malformed id)) takes = rw takes.1 refl
-takes_held part old new _ takes = absurd takes
+reservation-held : (part : Part) (old new : Retrieval) (result : Result Outcome Ended) → TakesPart part old new result → new.reservation ≡ old.reservation
+reservation-held part old new (Ok Again) takes = rw takes.1 refl
+reservation-held part old new (Ok Whole) takes = rw takes.1 refl
+reservation-held part old new (Err (Stalled id)) takes = rw takes.2 refl
+reservation-held part old new (Err (Malformed id)) takes = rw takes.1 refl
+reservation-held part old new _ takes = absurd takes
 
 -- a part that an honest controller gave
 pub honest_part : (old r new : Retrieval) (s s' : Seen) (n asked : ℕ) (part : Part) (result : Result Outcome Ended) → r ≡ record old { buffer = r.buffer } → take old.have r.buffer ≡ take old.have old.buffer
@@ -159,7 +159,7 @@ honest_part old r new s s' n asked part result is front reading held parts takes
     record {
       stays = parts.change.stays;
       answers = piece_answers old r.buffer s s' n asked part row ok read gives new result takes';
-      keeps = λ some same. record { held = takes_held part _ new result takes'; none_given = parts.keeps.none_given };
+      keeps = λ some same. record { held = reservation-held part _ new result takes'; none_given = parts.keeps.none_given };
       plain = λ plain holds. piece_plain old r.buffer s s' n asked part row ok read gives new result takes' (parts.keeps.plain plain ∙ holds.held n held) held;
     }
 

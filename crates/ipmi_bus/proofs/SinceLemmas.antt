@@ -51,8 +51,8 @@ since_begun r id s some fits open_ = record {
 }
 
 -- the length of the row stays while the store does
-row_len_same : (a b : Retrieval) (s s' : Seen) → b.shelf ≡ a.shelf → b.id ≡ a.id → s'.store ≡ s.store → row_len b s' ≡ row_len a s
-row_len_same a b s s' shelf id store =
+row_len-same : (a b : Retrieval) (s s' : Seen) → b.shelf ≡ a.shelf → b.id ≡ a.id → s'.store ≡ s.store → row_len b s' ≡ row_len a s
+row_len-same a b s s' shelf id store =
     rw (shelf, id, store) refl
 
 module _ (start now new : Retrieval) (s s' s'' : Seen) (since : Since start now s s') (request : SameRequest now new) (counted : s''.calls ≡ s'.calls + 1) where
@@ -65,7 +65,7 @@ module _ (start now new : Retrieval) (s s' s'' : Seen) (since : Since start now 
       let first : s'.stores_added ≡ s.stores_added = omega (arith, so_far.stays.store.grows, turn.stays.store.grows) in
       let second : s''.stores_added ≡ s'.stores_added = omega (arith, so_far.stays.store.grows, turn.stays.store.grows) in
       let store = turn.stays.store.stays second ∙ so_far.stays.store.stays first in
-      let len = row_len_same start new s s'' (request.shelf ∙ since.request.shelf) (request.id ∙ since.request.id) store in
+      let len = row_len-same start new s s'' (request.shelf ∙ since.request.shelf) (request.id ∙ since.request.id) store in
       omega (arith, len, so_far.within first, turn.answers.within)
 
   calls_more : (so_far : HonestSince start now s s') → CallIsHonest now new s' s'' (Ok Again) → CallLeaves now new (Ok Again) → s''.stores_added ≡ s.stores_added → s''.calls + calls_left (row_len start s) new ≤ s.calls + calls_left (row_len start s) start

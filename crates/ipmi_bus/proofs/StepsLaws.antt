@@ -13,13 +13,13 @@ use Rattle.ipmi_bus.specs.Seen.{Seen, IsHonest}
 use Rattle.ipmi_bus.specs.CursorState.{CursorState}
 use Rattle.ipmi_bus.specs.Standing.{StandsAt, WalkStep}
 use Rattle.ipmi_bus.specs.Steps.{Stepped, AreSteps, cursor_after, seen_after, with_handed, handed_out, HandsOutPrefix}
-use Rattle.ipmi_bus.proofs.WalkLemmas.{walk_tail, row_at_id}
+use Rattle.ipmi_bus.proofs.WalkLemmas.{walk_tail, row_at-id}
 
 -- ---- the rest of a walk
 
 pub rest_walk : (shelf : Shelf) (rows : List Row) (start : Place) (before : List Row) (row : Row) (after : List Row) → IsShelf shelf rows → IsWalk rows start (before ++ row ∷ after) → EndsBy rows start (before ++ row ∷ after) Done
     → row.id ≢ 0 → IsWalk rows (Id row.id) (row ∷ after) × EndsBy rows (Id row.id) (row ∷ after) Done
-rest_walk shelf rows start [] row after ok w ends ne = (record { of_shelf = w.of_shelf; distinct = w.distinct; first = row_at_id rows row.id ne ∙ w.of_shelf.0; links = w.links }, ends)
+rest_walk shelf rows start [] row after ok w ends ne = (record { of_shelf = w.of_shelf; distinct = w.distinct; first = row_at-id rows row.id ne ∙ w.of_shelf.0; links = w.links }, ends)
 rest_walk shelf rows start (d ∷ []) row after ok w ends ne = rest_walk shelf rows (place_after d.next) [] row after ok (walk_tail shelf rows start d (row ∷ after) ok w) ends ne
 rest_walk shelf rows start (d ∷ (e ∷ before)) row after ok w ends ne = rest_walk shelf rows (place_after d.next) (e ∷ before) row after ok (walk_tail shelf rows start d ((e ∷ before) ++ row ∷ after) ok w) ends ne
 
@@ -34,8 +34,8 @@ grows c s (step ∷ more) honest steps =
     omega (arith, between.store.grows, stays.store.grows, grows step.cursor step.seen more stays.honest steps.2)
 
 -- the next row, and the first ones of those after it
-first_more : (walk : List Row) (k m : ℕ) (row : Row) → first_row (drop k walk) ≡ Some row → row ∷ take m (drop (k + 1) walk) ≡ take (m + 1) (drop k walk)
-first_more walk k m row next =
+cons-take-drop : (walk : List Row) (k m : ℕ) (row : Row) → first_row (drop k walk) ≡ Some row → row ∷ take m (drop (k + 1) walk) ≡ take (m + 1) (drop k walk)
+cons-take-drop walk k m row next =
     let rest = split (drop k walk) next in
     rw (sym (drop-drop 1 k walk)) (sym (rw (add-one m) (ap (take (suc m)) rest)))
   where
@@ -55,7 +55,7 @@ module _ (rows : List Row) (start : Place) (walk : List Row) (end : WalkEnd) (w 
   one_more k c c' last (Ok (Some row)) handed step go =
       let more = go (k + 1) step.1 in record {
         count = more.count + 1;
-        handed_are = rw more.handed_are (first_more walk k more.count row step.0);
+        handed_are = rw more.handed_are (cons-take-drop walk k more.count row step.0);
         stands = subst (λ (n : ℕ). StandsAt rows start walk n last) {x = k + 1 + more.count} (omega arith) more.stands;
       }
   one_more k c c' last (Ok None) handed step go = go k step.2

@@ -15,7 +15,7 @@ use Rattle.ipmi_bus.specs.Shelf.{Row, IsShelf, look, row_with_id, first_row}
 use Rattle.ipmi_bus.specs.Walk.{row_at, Links, AllOf, IsWalk, place_after, place_after_rows, has_id, WalkEnd, Done, CycleAt, MissingAt, EndsBy, EndsAfter, last_next, HasWalk}
 use Rattle.ipmi_bus.specs.Step.{asked_at, cycle_at}
 use Rattle.ipmi_bus.proofs.ShelfLemmas.{DistinctIds-snoc}
-use Rattle.ipmi_bus.proofs.WalkLemmas.{row_next, next_unseen, asks_look, no_cycle, EndFacts, end_facts, place_at_last, id_of, has_id-append}
+use Rattle.ipmi_bus.proofs.WalkLemmas.{row_at-next, has_id-next, look-asked_at, cycle_at-none, EndFacts, end_facts, place_after_rows-last, id_of, has_id-append}
 
 -- the ids of a walk, as a set
 abbrev ids_of : List Row → set.FinSet nat_cmp
@@ -32,7 +32,7 @@ no_more shelf rows start done end row ok ends found fresh =
     by_end end (end_facts rows start done (place_after_rows start done) (ids_of done) end ends refl (contains-ids_of done))
   where
     none : cycle_at (place_after_rows start done) (ids_of done) ≡ None
-    none = no_cycle shelf rows (place_after_rows start done) (ids_of done) done row ok (contains-ids_of done) fresh found
+    none = cycle_at-none shelf rows (place_after_rows start done) (ids_of done) done row ok (contains-ids_of done) fresh found
 
     at_end : place_after_rows start done ≡ End → ⊥
     at_end is = let h = sym (ap (λ (p : Place). row_at p rows) is) ∙ found in cc h
@@ -43,17 +43,17 @@ no_more shelf rows start done end row ok ends found fresh =
     by_end : (e : WalkEnd) → EndFacts rows start (place_after_rows start done) (ids_of done) e → ⊥
     by_end Done facts = elim facts [ inl is ↦ at_end is | inr h ↦ at_first h.0 h.2 ]
     by_end (CycleAt n) facts = let h = sym facts ∙ none in cc h
-    by_end (MissingAt n) facts = let h = sym (ap (λ (p : Place). look rows (asked_at p)) facts.0) ∙ asks_look (place_after_rows start done) rows row found in cc (h, facts.2)
+    by_end (MissingAt n) facts = let h = sym (ap (λ (p : Place). look rows (asked_at p)) facts.0) ∙ look-asked_at (place_after_rows start done) rows row found in cc (h, facts.2)
 
 -- two walks with an end that begin alike are one
 same_rest : (shelf : Shelf) (rows : List Row) (start : Place) (done a b : List Row) (e f : WalkEnd) → IsShelf shelf rows → IsWalk rows start (done ++ a) → EndsBy rows start (done ++ a) e → IsWalk rows start (done ++ b) → EndsBy rows start (done ++ b) f → a ≡ b
 same_rest shelf rows start done [] [] e f ok w ends w' ends' = refl
 same_rest shelf rows start done [] (s ∷ b) e f ok w ends w' ends' =
-    absurd (no_more shelf rows start done e s ok (subst (λ (l : List Row). EndsBy rows start l e) (append-nil done) ends) (row_next shelf rows start done s b ok w') (next_unseen done s b w'.distinct))
+    absurd (no_more shelf rows start done e s ok (subst (λ (l : List Row). EndsBy rows start l e) (append-nil done) ends) (row_at-next shelf rows start done s b ok w') (has_id-next done s b w'.distinct))
 same_rest shelf rows start done (r ∷ a) [] e f ok w ends w' ends' =
-    absurd (no_more shelf rows start done f r ok (subst (λ (l : List Row). EndsBy rows start l f) (append-nil done) ends') (row_next shelf rows start done r a ok w) (next_unseen done r a w.distinct))
+    absurd (no_more shelf rows start done f r ok (subst (λ (l : List Row). EndsBy rows start l f) (append-nil done) ends') (row_at-next shelf rows start done r a ok w) (has_id-next done r a w.distinct))
 same_rest shelf rows start done (r ∷ a) (s ∷ b) e f ok w ends w' ends' =
-    let same : r ≡ s = let h = sym (row_next shelf rows start done r a ok w) ∙ row_next shelf rows start done s b ok w' in cc h in
+    let same : r ≡ s = let h = sym (row_at-next shelf rows start done r a ok w) ∙ row_at-next shelf rows start done s b ok w' in cc h in
     let left : (done ++ r ∷ []) ++ a ≡ done ++ r ∷ a = append_assoc done (r ∷ []) a in
     let right : (done ++ r ∷ []) ++ b ≡ done ++ s ∷ b = append_assoc done (r ∷ []) b ∙ ap (λ (x : Row). done ++ x ∷ b) same in
     let rest = same_rest shelf rows start (done ++ r ∷ []) a b e f ok (subst (IsWalk rows start) (sym left) w) (subst (λ (l : List Row). EndsBy rows start l e) (sym left) ends)
@@ -140,7 +140,7 @@ found_at shelf First (x ∷ rows) row ok found =
     (elim (nat_eq row.id 0) as (λ b. cond b (Some x) (row_with_id row.id (x ∷ rows)) ≡ Some row) [ true ↦ found | false ↦ here ], here)
 found_at shelf (Id n) rows row ok found =
     let is = id_of shelf rows n row ok found in
-    let looks = asks_look (Id n) rows row found in
+    let looks = look-asked_at (Id n) rows row found in
     let finds : row_with_id n rows ≡ Some row = sym (ap (λ (b : Bool). cond b (first_row rows) (row_with_id n rows)) is.0) ∙ looks in
     (ap (look rows) is.1 ∙ looks, ap (λ (m : ℕ). row_with_id m rows) is.1 ∙ finds)
 found_at shelf End rows row ok found = cc found
@@ -202,7 +202,7 @@ ends_here shelf rows (Id n) [] ok none = by (nat_eq n 0) refl (look rows n) refl
 ends_here shelf rows End [] ok none = (Done, tt)
 ends_here shelf rows start (d ∷ walk) ok none =
     let next = last_next d.next walk in
-    let place = place_at_last d.next walk in
+    let place = place_after_rows-last d.next walk in
     end_after rows (d ∷ walk) next (λ fresh. by fresh (row_at (place_after next) rows) refl place)
   where
     by : has_id (d ∷ walk) (last_next d.next walk) ≡ false → (o : Option Row) → row_at (place_after (last_next d.next walk)) rows ≡ o → place_after_rows (place_after d.next) walk ≡ place_after (last_next d.next walk)

@@ -23,12 +23,12 @@ use Rattle.ipmi_bus.proofs.ShelfLemmas.{look_row, found_row}
 use Rattle.ipmi_bus.specs.Store.{store_shelf, Store, rows_of}
 use Rattle.ipmi_bus.specs.Seen.{Seen, IsHonest}
 
-place_of : (next : ℕ) → next ≢ 65535 → place_after next ≡ Id next
-place_of next ne = rw (ne_eqb next 65535 ne) refl
+place_after-id : (next : ℕ) → next ≢ 65535 → place_after next ≡ Id next
+place_after-id next ne = rw (ne_eqb next 65535 ne) refl
 
 -- the row at an id that is not 0000h
-pub row_at_id : (rows : List Row) (n : ℕ) → n ≢ 0 → row_at (Id n) rows ≡ look rows n
-row_at_id rows n ne = rw (ne_eqb n 0 ne) refl
+pub row_at-id : (rows : List Row) (n : ℕ) → n ≢ 0 → row_at (Id n) rows ≡ look rows n
+row_at-id rows n ne = rw (ne_eqb n 0 ne) refl
 
 -- what follows a walk's first row is a walk from the place after it
 pub walk_tail : (shelf : Shelf) (rows : List Row) (start : Place) (row : Row) (walk : List Row) → IsShelf shelf rows → IsWalk rows start (row ∷ walk) → IsWalk rows (place_after row.next) walk
@@ -36,35 +36,35 @@ walk_tail shelf rows start row [] ok w = record { of_shelf = w.of_shelf.1; disti
 walk_tail shelf rows start row (after ∷ walk) ok w =
     let found = w.of_shelf.1.0 in
     let not_end : after.id ≢ 65535 = λ (e : after.id ≡ 65535). absurd (omega (arith, (look_row shelf rows after.id after ok found).id)) in
-    let place : place_after row.next ≡ Id after.id = ap place_after w.links.0 ∙ place_of after.id not_end in
+    let place : place_after row.next ≡ Id after.id = ap place_after w.links.0 ∙ place_after-id after.id not_end in
     record {
       of_shelf = w.of_shelf.1;
       distinct = w.distinct.1;
-      first = rw place (row_at_id rows after.id w.links.1 ∙ found);
+      first = rw place (row_at-id rows after.id w.links.1 ∙ found);
       links = w.links.2;
     }
 
 -- the row after the first rows of a walk is the one at the place where they end
-pub row_next : (shelf : Shelf) (rows : List Row) (start : Place) (done : List Row) (row : Row) (walk : List Row) → IsShelf shelf rows → IsWalk rows start (done ++ row ∷ walk) → row_at (place_after_rows start done) rows ≡ Some row
-row_next shelf rows start [] row walk ok w = w.first
-row_next shelf rows start (d ∷ done) row walk ok w = row_next shelf rows (place_after d.next) done row walk ok (walk_tail shelf rows start d (done ++ row ∷ walk) ok w)
+pub row_at-next : (shelf : Shelf) (rows : List Row) (start : Place) (done : List Row) (row : Row) (walk : List Row) → IsShelf shelf rows → IsWalk rows start (done ++ row ∷ walk) → row_at (place_after_rows start done) rows ≡ Some row
+row_at-next shelf rows start [] row walk ok w = w.first
+row_at-next shelf rows start (d ∷ done) row walk ok w = row_at-next shelf rows (place_after d.next) done row walk ok (walk_tail shelf rows start d (done ++ row ∷ walk) ok w)
 
 lacks_here : (n : ℕ) (done : List Row) (row : Row) (walk : List Row) → LacksId n (done ++ row ∷ walk) → row.id ≢ n
 lacks_here n [] row walk lacks = lacks.0
 lacks_here n (d ∷ done) row walk lacks = lacks_here n done row walk lacks.1
 
 -- and its id is not among theirs
-pub next_unseen : (done : List Row) (row : Row) (walk : List Row) → DistinctIds (done ++ row ∷ walk) → has_id done row.id ≡ false
-next_unseen [] row walk distinct = refl
-next_unseen (d ∷ done) row walk distinct =
+pub has_id-next : (done : List Row) (row : Row) (walk : List Row) → DistinctIds (done ++ row ∷ walk) → has_id done row.id ≡ false
+has_id-next [] row walk distinct = refl
+has_id-next (d ∷ done) row walk distinct =
     let apart : nat_eq row.id d.id ≡ false = ne_eqb row.id d.id (lacks_here d.id done row walk distinct.0) in
-    rw apart (next_unseen done row walk distinct.1)
+    rw apart (has_id-next done row walk distinct.1)
 
 -- the id asked for at a place that has a row
-pub asks_look : (place : Place) (rows : List Row) (row : Row) → row_at place rows ≡ Some row → look rows (asked_at place) ≡ Some row
-asks_look First rows row found = found
-asks_look (Id n) rows row found = (elim (nat_eq n 0) as (λ b. cond b None (look rows n) ≡ Some row → look rows n ≡ Some row) [ true ↦ λ h. cc h | false ↦ λ h. h ]) found
-asks_look End rows row found = cc found
+pub look-asked_at : (place : Place) (rows : List Row) (row : Row) → row_at place rows ≡ Some row → look rows (asked_at place) ≡ Some row
+look-asked_at First rows row found = found
+look-asked_at (Id n) rows row found = (elim (nat_eq n 0) as (λ b. cond b None (look rows n) ≡ Some row → look rows n ≡ Some row) [ true ↦ λ h. cc h | false ↦ λ h. h ]) found
+look-asked_at End rows row found = cc found
 
 -- it is the row's
 pub id_of : (shelf : Shelf) (rows : List Row) (n : ℕ) (row : Row) → IsShelf shelf rows → row_at (Id n) rows ≡ Some row → (nat_eq n 0 ≡ false) × (row.id ≡ n)
@@ -74,14 +74,14 @@ id_of shelf rows n row ok found = by_zero (nat_eq n 0) refl found
     by_zero true is h = cc h
     by_zero false is h = (is, (found_row shelf rows n row ok.all h).1)
 
-pub no_cycle : (shelf : Shelf) (rows : List Row) (place : Place) (ids : set.FinSet nat_cmp) (done : List Row) (row : Row) → IsShelf shelf rows → ((n : ℕ) → set.contains ids n ≡ has_id done n) → has_id done row.id ≡ false
+pub cycle_at-none : (shelf : Shelf) (rows : List Row) (place : Place) (ids : set.FinSet nat_cmp) (done : List Row) (row : Row) → IsShelf shelf rows → ((n : ℕ) → set.contains ids n ≡ has_id done n) → has_id done row.id ≡ false
     → row_at place rows ≡ Some row → cycle_at place ids ≡ None
-no_cycle shelf rows First ids done row ok same fresh found = refl
-no_cycle shelf rows (Id n) ids done row ok same fresh found =
+cycle_at-none shelf rows First ids done row ok same fresh found = refl
+cycle_at-none shelf rows (Id n) ids done row ok same fresh found =
     let is = id_of shelf rows n row ok found in
     let out : set.contains ids n ≡ false = same n ∙ ap (has_id done) (sym is.1) ∙ fresh in
     rw (is.0, out) refl
-no_cycle shelf rows End ids done row ok same fresh found = refl
+cycle_at-none shelf rows End ids done row ok same fresh found = refl
 
 place_after_rows-append : (start : Place) (done : List Row) (row : Row) → place_after_rows start (done ++ row ∷ []) ≡ place_after row.next
 place_after_rows-append start [] row = refl
@@ -98,18 +98,18 @@ EndFacts rows start place ids Done = (place ≡ End) ⊎ ((place ≡ First) × (
 EndFacts rows start place ids (CycleAt n) = cycle_at place ids ≡ Some n
 EndFacts rows start place ids (MissingAt n) = (place ≡ Id n) × (cycle_at place ids ≡ None) × (look rows n ≡ None)
 
-pub place_at_last : (next : ℕ) (walk : List Row) → place_after_rows (place_after next) walk ≡ place_after (last_next next walk)
-place_at_last next [] = refl
-place_at_last next (row ∷ walk) = place_at_last row.next walk
+pub place_after_rows-last : (next : ℕ) (walk : List Row) → place_after_rows (place_after next) walk ≡ place_after (last_next next walk)
+place_after_rows-last next [] = refl
+place_after_rows-last next (row ∷ walk) = place_after_rows-last row.next walk
 
 after_facts : (rows : List Row) (start place : Place) (ids : set.FinSet nat_cmp) (walk : List Row) (next : ℕ) (end : WalkEnd) → EndsAfter rows walk next end → place ≡ place_after next → ((n : ℕ) → set.contains ids n ≡ has_id walk n)
     → EndFacts rows start place ids end
 after_facts rows start place ids walk next Done ends p same = inl (p ∙ ap place_after ends)
 after_facts rows start place ids walk next (CycleAt n) ends p same =
-    let at : place ≡ Id next = p ∙ place_of next ends.1 in
+    let at : place ≡ Id next = p ∙ place_after-id next ends.1 in
     rw (at, same next, ends.2) (ap Some (sym ends.0))
 after_facts rows start place ids walk next (MissingAt n) ends p same =
-    let at : place ≡ Id next = p ∙ place_of next ends.1 in (
+    let at : place ≡ Id next = p ∙ place_after-id next ends.1 in (
       at ∙ ap Id (sym ends.0),
       ap (λ (q : Place). cycle_at q ids) at ∙ rw (same next ∙ ends.3, ne_eqb next 0 ends.2) refl,
       ap (look rows) ends.0 ∙ ends.4,
@@ -117,7 +117,7 @@ after_facts rows start place ids walk next (MissingAt n) ends p same =
 
 pub end_facts : (rows : List Row) (start : Place) (walk : List Row) (place : Place) (ids : set.FinSet nat_cmp) (end : WalkEnd) → EndsBy rows start walk end → place ≡ place_after_rows start walk → ((n : ℕ) → set.contains ids n ≡ has_id walk n)
     → EndFacts rows start place ids end
-end_facts rows start (row ∷ walk) place ids end ends p same = after_facts rows start place ids (row ∷ walk) (last_next row.next walk) end ends (p ∙ place_at_last row.next walk) same
+end_facts rows start (row ∷ walk) place ids end ends p same = after_facts rows start place ids (row ∷ walk) (last_next row.next walk) end ends (p ∙ place_after_rows-last row.next walk) same
 end_facts rows First [] place ids Done ends p same = inr (p, refl, ends)
 end_facts rows First [] place ids _ ends p same = absurd ends
 end_facts rows (Id id) [] place ids Done ends p same = absurd ends
@@ -172,7 +172,7 @@ module _ (shelf : Shelf) (rows : List Row) (start : Place) (walk : List Row) (k 
 
     at_row : row_at c.place rows ≡ Some row
     at_row = elim stands.place [
-      | inl p ↦ ap (λ (q : Place). row_at q rows) p ∙ row_next shelf rows start (take k walk) row rest ok w'
+      | inl p ↦ ap (λ (q : Place). row_at q rows) p ∙ row_at-next shelf rows start (take k walk) row rest ok w'
       | inr e ↦ absurd (not_empty walk w split e.1 e.2)
     ]
       where
@@ -181,13 +181,13 @@ module _ (shelf : Shelf) (rows : List Row) (start : Place) (walk : List Row) (k 
         not_empty (x ∷ l) w some first none = let h = sym (ap (λ (q : Place). row_at q rows) first) ∙ w.first in cc (h, none)
 
     unseen : has_id (take k walk) row.id ≡ false
-    unseen = next_unseen (take k walk) row rest w'.distinct
+    unseen = has_id-next (take k walk) row rest w'.distinct
 
     none : cycle_at c.place c.ids ≡ None
-    none = no_cycle shelf rows c.place c.ids (take k walk) row ok stands.ids unseen at_row
+    none = cycle_at-none shelf rows c.place c.ids (take k walk) row ok stands.ids unseen at_row
 
     found : look rows (asked_at c.place) ≡ Some row
-    found = asks_look c.place rows row at_row
+    found = look-asked_at c.place rows row at_row
 
     more : take (k + 1) walk ≡ take k walk ++ row ∷ []
     more = take-add k 1 walk ∙ rw split refl

@@ -9,42 +9,42 @@ use Rattle.clap.proofs.OnLiterals.{clap_on_literals}
 use Rattle.clap.specs.declared.error.kind.ErrorKind.{ErrorKind}
 use Rattle.ipmi_command_line.specs.Arguments.{command_line, free_words, is_empty, is_taken, rows_of_words}
 
-pub simple : is_simple command_line ≡ true
+pub is_simple-command_line : is_simple command_line ≡ true
 unfolding clap_on_literals
-simple = refl
+is_simple-command_line = refl
 
-pub free : is_simple_and_free command_line ≡ true
+pub is_simple_and_free-command_line : is_simple_and_free command_line ≡ true
 unfolding clap_on_literals
-free = refl
+is_simple_and_free-command_line = refl
 
-pub same_words : (ws : List Text) → map (λ w. w) ws ≡ ws
-same_words [] = refl
-same_words (w ∷ ws) = ap (λ vs. w ∷ vs) (same_words ws)
+pub map-same : (ws : List Text) → map (λ w. w) ws ≡ ws
+map-same [] = refl
+map-same (w ∷ ws) = ap (λ vs. w ∷ vs) (map-same ws)
 
-pub taken : (a : App) (ws words : List Text) → a ≡ command_line → ws ≡ words → fault_of a ws ≡ [] → is_taken words ≡ true
+pub is_taken-ok : (a : App) (ws words : List Text) → a ≡ command_line → ws ≡ words → fault_of a ws ≡ [] → is_taken words ≡ true
 unfolding is_taken
-taken a ws words p q h = ap is_empty (sym (ap₂ fault_of p q) ∙ h)
+is_taken-ok a ws words p q h = ap is_empty (sym (ap₂ fault_of p q) ∙ h)
 
-some_kind : (k : ErrorKind) (ks : Kinds) → IsAmong k ks → is_empty ks ≡ false
-some_kind k [] h = elim h [ ]
-some_kind k (x ∷ xs) h = refl
+is_empty-kinds : (k : ErrorKind) (ks : Kinds) → IsAmong k ks → is_empty ks ≡ false
+is_empty-kinds k [] h = elim h [ ]
+is_empty-kinds k (x ∷ xs) h = refl
 
-pub refused : (a : App) (ws words : List Text) (k : ErrorKind) → a ≡ command_line → ws ≡ words → IsAmong k (fault_of a ws) → is_taken words ≡ false
+pub is_taken-err : (a : App) (ws words : List Text) (k : ErrorKind) → a ≡ command_line → ws ≡ words → IsAmong k (fault_of a ws) → is_taken words ≡ false
 unfolding is_taken
-refused a ws words k p q h = ap is_empty (sym (ap₂ fault_of p q)) ∙ some_kind k (fault_of a ws) h
+is_taken-err a ws words k p q h = ap is_empty (sym (ap₂ fault_of p q)) ∙ is_empty-kinds k (fault_of a ws) h
 
 pub rows : (a : App) (ws words : List Text) (rs : List Row) → a ≡ command_line → ws ≡ words → rs ≡ matches_of a ws → rs ≡ rows_of_words words
 unfolding rows_of_words
 rows a ws words rs p q h = h ∙ ap₂ matches_of p q
 
 -- the words, or none where there are none
-words_or_none : (r : Option (Bor (List (Bor Text)))) (d : Bor (List (Bor Text))) → d.now ≡ [] → map (λ v. v.now) ((unwrap_or r d).now) ≡ unwrap_or (option_map (λ s. map (λ v. v.now) s.now) r) []
-words_or_none None d h = ap (map (λ (v : Bor Text). v.now)) h
-words_or_none (Some s) d h = refl
+map-unwrap_or : (r : Option (Bor (List (Bor Text)))) (d : Bor (List (Bor Text))) → d.now ≡ [] → map (λ v. v.now) ((unwrap_or r d).now) ≡ unwrap_or (option_map (λ s. map (λ v. v.now) s.now) r) []
+map-unwrap_or None d h = ap (map (λ (v : Bor Text). v.now)) h
+map-unwrap_or (Some s) d h = refl
 
 -- `get_strs("words").unwrap_or(&[])`, which is `u`, is the words that belong to no option
-pub free_words_are : (f : Found) (r : Option (Bor (List (Bor Text)))) (d u : Bor (List (Bor Text))) → d.now ≡ [] → u ≡ unwrap_or r d
+pub map-free_words : (f : Found) (r : Option (Bor (List (Bor Text)))) (d u : Bor (List (Bor Text))) → d.now ≡ [] → u ≡ unwrap_or r d
     → option_map (λ s. map (λ v. v.now) s.now) r ≡ option_map raw_values (matched_of f (codes "words")) → map (λ v. v.now) u.now ≡ free_words (rows_of f)
-free_words_are f r d u none by given =
-    ap (map (λ (v : Bor Text). v.now)) (ap (λ (s : Bor (List (Bor Text))). s.now) by) ∙ words_or_none r d none
+map-free_words f r d u none by given =
+    ap (map (λ (v : Bor Text). v.now)) (ap (λ (s : Bor (List (Bor Text))). s.now) by) ∙ map-unwrap_or r d none
     ∙ ap (λ (w : Option (List Text)). unwrap_or w []) (given ∙ raw_values-rows f (codes "words"))

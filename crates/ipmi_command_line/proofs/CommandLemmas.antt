@@ -10,13 +10,13 @@ use Rattle.ipmi_command_line.specs.declared.command.Task.{Task}
 use Rattle.ipmi_command_line.specs.declared.command.UsageFault.{UsageFault}
 use Rattle.ipmi_command_line.specs.declared.command.UsageFault.TheVariants as fault
 
-pub meaning_taken : (words : List Text) (rows : List Row) → is_taken words ≡ true → rows ≡ rows_of_words words → meaning_of words ≡ command_of_matches rows
+pub meaning_of-taken : (words : List Text) (rows : List Row) → is_taken words ≡ true → rows ≡ rows_of_words words → meaning_of words ≡ command_of_matches rows
 unfolding meaning_of
-meaning_taken words rows t r = rw (t, ← r) refl
+meaning_of-taken words rows t r = rw (t, ← r) refl
 
-pub meaning_refused : (words : List Text) → is_taken words ≡ false → meaning_of words ≡ Err fault.Line
+pub meaning_of-refused : (words : List Text) → is_taken words ≡ false → meaning_of words ≡ Err fault.Line
 unfolding meaning_of
-meaning_refused words h = rw h refl
+meaning_of-refused words h = rw h refl
 
 -- the table has no row of five words or more
 pub too_many : (words : List (Bor Text)) → 5 ≤ length words → None ≡ task_of (map (λ word. word.now) words)
@@ -28,8 +28,8 @@ too_many (a ∷ b ∷ c ∷ d ∷ []) h = absurd (omega arith)
 too_many (a ∷ b ∷ c ∷ d ∷ e ∷ words) h = refl
 
 -- the command of these words, by the task that they name
-pub of_words : (rows : List Row) (words : List Text) (task : Option Task) → words ≡ free_words rows → task ≡ task_of words → command_of_matches rows ≡ command_of_task rows task
-of_words rows words task w t = ap (command_of_task rows) (ap task_of (sym w) ∙ sym t)
+pub command_of_matches-words : (rows : List Row) (words : List Text) (task : Option Task) → words ≡ free_words rows → task ≡ task_of words → command_of_matches rows ≡ command_of_task rows task
+command_of_matches-words rows words task w t = ap (command_of_task rows) (ap task_of (sym w) ∙ sym t)
 
 -- `Ok` and `Err` as they are of one meaning, so of the other
 pub of_meaning : (r : Result CommandState UsageFault) (m n : Result CommandState UsageFault) → m ≡ n → MatchResult r (λ c. n ≡ Ok c) (λ e. (e ≡ fault.Memory) ⊎ (n ≡ Err e))

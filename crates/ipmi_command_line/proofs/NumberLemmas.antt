@@ -18,11 +18,11 @@ own : IsNumeralModel (λ ds. list_all is_ascii_digit ds ≡ true) (digits_value 
 own = numerals_by_value _ tells
 
 -- a number past the type is past the range
-pub too_large : (low high n : ℕ) → high < n → within low high (Some n) ≡ None
-too_large low high n h = grind (arith, nat_tests)
+pub within-too_large : (low high n : ℕ) → high < n → within low high (Some n) ≡ None
+within-too_large low high n h = grind (arith, nat_tests)
 
-pub in_range : (low high n : ℕ) → low ≤ n → n ≤ high → within low high (Some n) ≡ Some n
-in_range low high n a b = grind (arith, nat_tests)
+pub within-in_range : (low high n : ℕ) → low ≤ n → n ≤ high → within low high (Some n) ≡ Some n
+within-in_range low high n a b = grind (arith, nat_tests)
 
 pub decimal_unread : {E : Type 0} (e : E) (bs : List ℕ) (low high : ℕ) → high < 2 ^ 16 → (length bs == 0) ≡ false → has_leading_zero bs ≡ false → list_all is_ascii_digit bs ≡ true
     → ParsesUnsigned 16 10 bs (Err e) → None ≡ within low high (decimal_of bs)
@@ -31,7 +31,7 @@ decimal_unread e bs low high small some spare ds h =
     let read : decimal_of bs ≡ Some (digits_value 10 bs) = rw (some, spare, ds) refl in
     sym (ap (within low high) read ∙ elim (cases_lt (digits_value 10 bs) (2 ^ 16)) [
       | inl lt ↦ absurd (out (grind (arith, nat_tests), lt))
-      | inr ge ↦ too_large low high (digits_value 10 bs) (omega arith)
+      | inr ge ↦ within-too_large low high (digits_value 10 bs) (omega arith)
     ])
 
 hex_digit : (c : ℕ) → is_ascii_hexdigit c ≡ true → digit_value c < 16

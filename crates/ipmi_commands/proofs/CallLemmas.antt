@@ -38,15 +38,15 @@ IsBelow (Some n) count = count < n
 -- ---- over any controller
 
 -- each record that is handed out is one id more
-pub one_id_more : (now next : CursorState) (row : Row) → HandsOut now next row → set.len next.ids ≡ set.len now.ids + 1
-one_id_more now next row hands =
+pub len-next_ids : (now next : CursorState) (row : Row) → HandsOut now next row → set.len next.ids ≡ set.len now.ids + 1
+len-next_ids now next row hands =
     rw hands.ids (len-insert nat_cmp_total now.ids row.id ∙ rw hands.unseen refl)
 
 is_place : (next : ℕ) → next < 65536 → IsPlace (place_after next)
 is_place next fits = (elim (next == 65535) as (λ b. (next == 65535) ≡ b → IsPlace (cond b End (Id next))) [ true ↦ λ e. tt | false ↦ λ e. search arith ]) refl
 
-one_bound_more : (rows bound : ℕ) → (rows + 1) * bound ≡ rows * bound + bound
-one_bound_more rows bound = omega arith
+mul-one_more : (rows bound : ℕ) → (rows + 1) * bound ≡ rows * bound + bound
+mul-one_more rows bound = omega arith
 
 -- no more records are asked for than there are ids
 at_most_all : (rows bound : ℕ) → rows ≤ 65536 → rows * bound ≤ 65536 * bound
@@ -88,12 +88,12 @@ module _ (tries later each count : ℕ) (shelf : Shelf) (begun now next : Cursor
   pub called_more : (last : Seen) (row : Row) → IsStep now next s' s'' (Ok (Some row)) → last.calls ≤ s''.calls + later → HasCalled each (count + 1) begun next s last
   called_more last row step asked =
       let hands = step.leaves.1 in
-      let more = one_id_more now next row hands in
+      let more = len-next_ids now next row hands in
       let within = called.within in
       let most = hands.at_most in
       let calls = called.calls in
       let stepped = at_bound step.calls in
-      let one = one_bound_more count each in
+      let one = mul-one_more count each in
       record {
         within = omega (arith, more, within);
         most = omega (arith, more, within, most);
@@ -120,7 +120,7 @@ module _ (tries later each count : ℕ) (shelf : Shelf) (begun now next : Cursor
       asked room =
           let within = called.within in
           let all = at_most_all (count + 1) each (omega (arith, room, within)) in
-          omega (arith, all, one_bound_more count each, called.calls, at_bound step.calls, digits_some next.part step.same.part_not_zero, each_is)
+          omega (arith, all, mul-one_more count each, called.calls, at_bound step.calls, digits_some next.part step.same.part_not_zero, each_is)
 
   pub called_done : IsStep now next s' s'' (Ok None) → ListingCalls each begun next s s''
   called_done step = called_ended (Ok None) step tt
@@ -143,9 +143,9 @@ take-first_rows (Some n) k walk within = fewer n k walk within
     fewer (suc n) (suc k) (first ∷ walk) le = rw (fewer n k walk (omega (arith, le))) refl
 
 -- and so is the next one
-pub next-first_rows : (most : Option ℕ) (k : ℕ) (walk : List Row) → IsBelow most k → first_row (drop k (first_rows most walk)) ≡ first_row (drop k walk)
-next-first_rows None k walk below = refl
-next-first_rows (Some n) k walk below = fewer n k walk below
+pub first_row-first_rows : (most : Option ℕ) (k : ℕ) (walk : List Row) → IsBelow most k → first_row (drop k (first_rows most walk)) ≡ first_row (drop k walk)
+first_row-first_rows None k walk below = refl
+first_row-first_rows (Some n) k walk below = fewer n k walk below
   where
     fewer : (n k : ℕ) (walk : List Row) → k < n → first_row (drop k (take n walk)) ≡ first_row (drop k walk)
     fewer n k [] below = rw (take-nil n) refl
@@ -182,7 +182,7 @@ module _ (t : Task) (store : Store) (tries : ℕ) where
       let split = calls_split k (first_rows most walk) in
       let done = ap (calls_for t store tries) (take-first_rows most k walk (below_within most k below)) in
       let next = next_calls (drop k (first_rows most walk)) in
-      omega (arith, split, done, next, ap (λ (o : Option Row). step_call_bound tries (len_of o)) (next-first_rows most k walk below))
+      omega (arith, split, done, next, ap (λ (o : Option Row). step_call_bound tries (len_of o)) (first_row-first_rows most k walk below))
 
   -- with one row more
   pub calls_more : (walk : List Row) (k : ℕ) (row : Row) → first_row (drop k walk) ≡ Some row → calls_for t store tries (take (k + 1) walk) ≡ calls_for t store tries (take k walk) + (step_call_bound tries (length row.bytes) + calls_at_spots tries store (spots_after t row))

@@ -158,9 +158,9 @@ not_first n [] at = (elim (n == 0xFFFF) as (λ b. cond b End (Id n) ≡ First �
 not_first n (row ∷ rows) at = not_first row.next rows at
 
 -- the id that is asked for after rows whose last has a next one
-asked_next : (n : ℕ) (rows : List Row) → last_next n rows ≢ 0xFFFF → asked_at (place_after_rows (place_after n) rows) ≡ last_next n rows
-asked_next n [] more = ap asked_at (ap (λ (b : Bool). cond b End (Id n)) (ne_eqb n 0xFFFF more))
-asked_next n (row ∷ rows) more = asked_next row.next rows more
+asked_at-next : (n : ℕ) (rows : List Row) → last_next n rows ≢ 0xFFFF → asked_at (place_after_rows (place_after n) rows) ≡ last_next n rows
+asked_at-next n [] more = ap asked_at (ap (λ (b : Bool). cond b End (Id n)) (ne_eqb n 0xFFFF more))
+asked_at-next n (row ∷ rows) more = asked_at-next row.next rows more
 
 -- what is asked for at the end of a walk is a spot of its end
 pub end_spot : (rows : List Row) (start : Place) (walk : List Row) (end : WalkEnd) → EndsBy rows start walk end → MayFail end (place_after_rows start walk) → IsAmong (end_spots start walk end) (AtRecord (asked_at (place_after_rows start walk)))
@@ -172,7 +172,7 @@ end_spot rows start walk (CycleAt n) ends may = absurd may
 end_spot rows First [] (MissingAt n) ends may = absurd ends
 end_spot rows (Id id) [] (MissingAt n) ends may = inl (ap AtRecord (sym ends.0))
 end_spot rows End [] (MissingAt n) ends may = absurd ends
-end_spot rows start (row ∷ walk) (MissingAt n) ends may = inl (ap AtRecord (asked_next row.next walk ends.1 ∙ sym ends.0))
+end_spot rows start (row ∷ walk) (MissingAt n) ends may = inl (ap AtRecord (asked_at-next row.next walk ends.1 ∙ sym ends.0))
 
 -- the end of more rows is that of the last of them
 end_spots-moved : (place : Place) (rest : List Row) (end : WalkEnd) → place ≢ First → end_spots place rest end ≡ end_spots End rest end

@@ -80,9 +80,9 @@ no_text t store item text passed is = subst (λ (x : plan.Subject). IsItemText t
 -- ---- plans whose first items are passed
 
 -- what comes first has these spots
-first_there : (spots : List Spot) (items : List Item) (ends : List Spot) → spots_at (with_first_spots spots items) (end_spots_of_last spots items ends) ≡ spots
-first_there spots [] ends = refl
-first_there spots (item ∷ items) ends = refl
+spots_at-first : (spots : List Spot) (items : List Item) (ends : List Spot) → spots_at (with_first_spots spots items) (end_spots_of_last spots items ends) ≡ spots
+spots_at-first spots [] ends = refl
+spots_at-first spots (item ∷ items) ends = refl
 
 module _ (t : Task) (store : Store) (spots at_end : List Spot) (e : RunEnd) (shown : List Item) (there : (spot : Spot) → IsAmong (spots_at shown at_end) spot → IsAmong spots spot) where
   -- with these spots at what comes first
@@ -115,7 +115,7 @@ module _ (t : Task) (store : Store) (spots at_end : List Spot) (e : RunEnd) (sho
     rest' = widened.items;
     items_are = refl;
     are = are;
-    among = λ spot among. subst (λ (l : List Spot). IsAmong l spot) (sym (first_there spots shown at_end)) (there spot (subst (λ (l : List Item). IsAmong (spots_at l at_end) spot) (sym is) among));
+    among = λ spot among. subst (λ (l : List Spot). IsAmong l spot) (sym (spots_at-first spots shown at_end)) (there spot (subst (λ (l : List Item). IsAmong (spots_at l at_end) spot) (sym is) among));
     next = λ item more e some. (record { subject = item.subject; spots = spots }, more, ap (with_first_spots spots) (is ∙ e), refl);
   }
   first_of [] all (d ∷ done) rest text is are = by_shown shown is
@@ -134,7 +134,7 @@ module _ (t : Task) (store : Store) (spots at_end : List Spot) (e : RunEnd) (sho
     rest' = widened.items;
     items_are = refl;
     are = are;
-    among = λ spot among. subst (λ (l : List Spot). IsAmong l spot) (sym (first_there spots shown at_end)) (all.1 spot (subst (λ (l : List Item). IsAmong (spots_at l at_end) spot) (sym is) among));
+    among = λ spot among. subst (λ (l : List Spot). IsAmong l spot) (sym (spots_at-first spots shown at_end)) (all.1 spot (subst (λ (l : List Item). IsAmong (spots_at l at_end) spot) (sym is) among));
     next = λ item more e some. let h = is ∙ e in let same : p ≡ item = cc h in absurd (some (subst (λ (x : Item). x.subject ≡ Passed) same all.0));
   }
   first_of (p ∷ passed) all (d ∷ done) rest text is are =
@@ -267,7 +267,7 @@ module _ (n : ℕ) (store : Store) where
       p = last_plan n t start walk end
 
       there : (spot : Spot) → IsAmong (spots_of_walk start walk end) spot → IsAmong (spots_at p.items p.end_spots) spot
-      there spot among = subst (λ (l : List Spot). IsAmong l spot) (sym (first_there (spots_of_walk start walk end) (last_items n t start walk end) (end_spots start walk end))) among
+      there spot among = subst (λ (l : List Spot). IsAmong l spot) (sym (spots_at-first (spots_of_walk start walk end) (last_items n t start walk end) (end_spots start walk end))) among
 
       by_end : (e : RunEnd) (end' : WalkEnd) → (plan.Finished e ≡ plan.Finished (WalkEnds Done) → ⊥) → new ≡ old → e ≡ run_end t [] end' → IsAllowed t store (last_plan n t start walk end') old new (plan.Finished e)
       by_end e Done never same is = absurd (never (ap plan.Finished is))
@@ -304,10 +304,10 @@ module _ (n : ℕ) (store : Store) where
   )
   empty_leaves start (row ∷ walk) old new none same = cc none
 
-second_bound : (bound k : ℕ) (walk : List Row) → k < length walk → second_walk_bound bound (drop k walk) ≡ bound
-second_bound bound k [] within = absurd (omega (arith, within))
-second_bound bound zero (row ∷ walk) within = refl
-second_bound bound (suc k) (row ∷ walk) within = second_bound bound k walk (omega (arith, within))
+second_walk_bound-drop : (bound k : ℕ) (walk : List Row) → k < length walk → second_walk_bound bound (drop k walk) ≡ bound
+second_walk_bound-drop bound k [] within = absurd (omega (arith, within))
+second_walk_bound-drop bound zero (row ∷ walk) within = refl
+second_walk_bound-drop bound (suc k) (row ∷ walk) within = second_walk_bound-drop bound k walk (omega (arith, within))
 
 module _ (n : ℕ) (start : Place) (tries : ℕ) where
   abbrev of_last : Request
@@ -392,7 +392,7 @@ module _ (n : ℕ) (start : Place) (tries : ℕ) where
             let at = at_end (first_same same) walk end w ends in
             let long = as_many (first_same same) walk end w ends in
             let fewer : length walk - n < length walk = omega (arith, long, some, more) in
-            let twice = second_bound (walk_call_bound of_last.task s.store tries walk) (length walk - n) walk fewer in
+            let twice = second_walk_bound-drop (walk_call_bound of_last.task s.store tries walk) (length walk - n) walk fewer in
             let first = (lists.along (first_same same) walk end w ends).calls in
             let later = (along_second same walk end w ends).calls in
             subst (λ (e : WalkEnd). s''.calls ≤ s.calls + run_call_bound of_last.task s.store tries walk e) (sym at.0) (omega (arith, first, later, twice));

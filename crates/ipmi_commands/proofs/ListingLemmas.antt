@@ -28,9 +28,9 @@ use Rattle.ipmi_commands.specs.Listing.{IsWithin, is_reached, passing, shown_row
 use Rattle.ipmi_commands.specs.Plan.{first_rows, first_end, Plan, Item, IsItemText, Spot, AtRecord, RunEnd, WalkEnds, run_end, done_end, Printed, Outcome, IsAllowed, CountsSo, HasFreshTroubles, IsFine, IsAmong, StopsAt, spots_at, spots_after, request}
 use Rattle.ipmi_command_line.specs.Task.{shelf_of}
 use Rattle.ipmi_commands.specs.Plan as plan
-use Rattle.ipmi_commands.proofs.CallLemmas.{IsBelow, digits_some, one_id_more, calls_upto, calls_within, calls_more, take-first_rows, next-first_rows, one_within, below_within}
+use Rattle.ipmi_commands.proofs.CallLemmas.{IsBelow, digits_some, len-next_ids, calls_upto, calls_within, calls_more, take-first_rows, first_row-first_rows, one_within, below_within}
 use Rattle.ipmi_commands.proofs.ItemLemmas.{span_items-append, span_items-cons, span_items-nil, printed_more, end_spot}
-use Rattle.ipmi_commands.proofs.NameLemmas.{Wrote, done_by, done_is, end_is}
+use Rattle.ipmi_commands.proofs.NameLemmas.{Wrote, done_by, done_by-wrote, end_is}
 
 -- ---- limits
 
@@ -101,9 +101,9 @@ on_walk : (rows : List Row) (start now there : Place) → (now ≡ there) ⊎ ((
 on_walk rows start now there (inl same) not_end = same
 on_walk rows start now there (inr at_end) not_end = absurd (not_end at_end.0)
 
-kept_current : (shelf : Shelf) (s s' : Seen) → KeepsReservations s s' → current shelf s' ≡ current shelf s
-kept_current Sdr s s' keeps = keeps.sdr
-kept_current Sel s s' keeps = keeps.sel
+current-kept : (shelf : Shelf) (s s' : Seen) → KeepsReservations s s' → current shelf s' ≡ current shelf s
+current-kept Sdr s s' keeps = keeps.sdr
+current-kept Sel s s' keeps = keeps.sel
 
 -- no row is left where no more are wanted
 none_left : (most : Option ℕ) (k : ℕ) (walk : List Row) → IsBelow most k → drop k (first_rows most walk) ≡ [] → length walk ≤ k
@@ -128,9 +128,9 @@ next_split n t start most k walk row below within next = by_rest (drop k (first_
     place = place_after_rows start (take k walk)
 
     by_rest : (l : List Row) → drop k (first_rows most walk) ≡ l → (rest : List Item) × (span_items n t start (first_rows most walk) ≡ span_items n t start (take k walk) ++ (item_in (passing n k) t (place_after_rows start (take k walk)) row ∷ rest))
-    by_rest [] is = let h = sym (next-first_rows most k walk below ∙ next) ∙ ap first_row is in cc h
+    by_rest [] is = let h = sym (first_row-first_rows most k walk below ∙ next) ∙ ap first_row is in cc h
     by_rest (first ∷ l) is =
-        let h = sym (ap first_row is) ∙ next-first_rows most k walk below ∙ next in
+        let h = sym (ap first_row is) ∙ first_row-first_rows most k walk below ∙ next in
         let same : first ≡ row = cc h in (
           span_items (passing (passing n k) 1) t (place_after first.next) l,
           span_items-wanted n t start most k walk below within ∙ rw (is, span_items-cons (passing n k) t place first l, same) refl,
@@ -217,7 +217,7 @@ module _ (t : Task) (tries : ℕ) (span : Span) (count : ℕ) (begun now : Curso
         record {
           leaves = (
             subst (λ (l : List Row). Printed t s.store (span_items span.skip t start l) old new) (sym first) listed.printed,
-            done_is t wrote s.store span.skip start (take count walk) old new listed.printed has_written
+            done_by-wrote t wrote s.store span.skip start (take count walk) old new listed.printed has_written
                 ∙ ap (λ (l : List Row). done_end t (shown_rows span.skip l)) (sym first)
                 ∙ ap (run_end t (shown_rows span.skip (first_rows span.most walk))) (sym done),
           );
@@ -340,7 +340,7 @@ module _ (t : Task) (tries : ℕ) (span : Span) (count : ℕ) (begun now : Curso
     listing_done step =
         let counted = unrefused_more now.tries s s' s'' lists.unrefused (step.honest lists.stays.honest).answers.0 in
         at_end next s'' (Ok None) step below (plan.Finished (done_by t wrote)) (stop_at_end t wrote) (end_is t wrote) counted.refusals counted.troubles Done (done_by t wrote) refl
-        (λ store start walk printed. done_is t wrote store span.skip start (take count walk) old new printed has_written)
+        (λ store start walk printed. done_by-wrote t wrote store span.skip start (take count walk) old new printed has_written)
         (λ same start walk end w ends listed. along next s'' (Ok None) step same start walk end w ends listed)
 
     -- the cursor gave no record, for this reason
@@ -544,9 +544,9 @@ module _ (t : Task) (tries : ℕ) (span : Span) (count : ℕ) (begun next : Curs
           };
       plain = λ p holds.
           let held = taken.plain p holds in
-          record { held = λ n is. kept_current next.shelf s' s'' (finds.asks.plain (taken.stays.plain p)) ∙ held.held n is };
+          record { held = λ n is. current-kept next.shelf s' s'' (finds.asks.plain (taken.stays.plain p)) ∙ held.held n is };
     }
 
 -- each record that is handed out leaves fewer ids
 pub fewer_ids : (now next : CursorState) (row : Row) → HandsOut now next row → 65536 - set.len next.ids < 65536 - set.len now.ids
-fewer_ids now next row hands = let more = one_id_more now next row hands in let most = hands.at_most in omega (arith, more, most)
+fewer_ids now next row hands = let more = len-next_ids now next row hands in let most = hands.at_most in omega (arith, more, most)

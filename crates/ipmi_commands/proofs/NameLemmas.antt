@@ -102,8 +102,8 @@ module _ (name : List ℕ) (store : Store) where
   some_text (Some (suc n)) start (row ∷ rows) text has are = let some = some_text (Some n) (place_after row.next) rows are.rest has are.is_rest in joined_some text are.first are.rest are.joined (omega (arith, some))
 
 -- what was written tells how the listing of the rows ends
-pub done_is : (t : Task) (wrote : Bool) (store : Store) (skip : Option ℕ) (start : Place) (rows : List Row) (old new : List ℕ) → Printed t store (span_items skip t start rows) old new → Wrote wrote old new → done_by t wrote ≡ done_end t (shown_rows skip rows)
-done_is (task.Get name) true store skip start rows old new printed wrote = by_case (some_has_name name (shown_rows skip rows)) refl
+pub done_by-wrote : (t : Task) (wrote : Bool) (store : Store) (skip : Option ℕ) (start : Place) (rows : List Row) (old new : List ℕ) → Printed t store (span_items skip t start rows) old new → Wrote wrote old new → done_by t wrote ≡ done_end t (shown_rows skip rows)
+done_by-wrote (task.Get name) true store skip start rows old new printed wrote = by_case (some_has_name name (shown_rows skip rows)) refl
   where
     by_case : (b : Bool) → some_has_name name (shown_rows skip rows) ≡ b → WalkEnds Done ≡ cond (some_has_name name (shown_rows skip rows)) (WalkEnds Done) NoName
     by_case true has = sym (ap (λ (b : Bool). cond b (WalkEnds Done) NoName) has)
@@ -111,7 +111,7 @@ done_is (task.Get name) true store skip start rows old new printed wrote = by_ca
         let empty = none_text name store skip start rows printed.text none printed.are in
         let same : new ≡ old = printed.new_is ∙ ap (λ (l : List ℕ). old ++ l) empty ∙ append-nil old in
         let long = ap (λ (l : List ℕ). length l) same in absurd (omega (arith, long, wrote))
-done_is (task.Get name) false store skip start rows old new printed wrote = by_case (some_has_name name (shown_rows skip rows)) refl
+done_by-wrote (task.Get name) false store skip start rows old new printed wrote = by_case (some_has_name name (shown_rows skip rows)) refl
   where
     by_case : (b : Bool) → some_has_name name (shown_rows skip rows) ≡ b → NoName ≡ cond (some_has_name name (shown_rows skip rows)) (WalkEnds Done) NoName
     by_case true has =
@@ -120,4 +120,4 @@ done_is (task.Get name) false store skip start rows old new printed wrote = by_c
         let both = length-append old printed.text in
         let same = ap (λ (l : List ℕ). length l) wrote in absurd (omega (arith, some, long, both, same))
     by_case false none = sym (ap (λ (b : Bool). cond b (WalkEnds Done) NoName) none)
-done_is _ wrote store skip start rows old new printed has_written = refl
+done_by-wrote _ wrote store skip start rows old new printed has_written = refl

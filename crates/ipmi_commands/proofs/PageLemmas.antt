@@ -41,9 +41,9 @@ take-none [] = refl
 take-none (row ∷ walk) = refl
 
 -- what a listing of no rows ends by
-done_of_none : (t : Task) → done_by t false ≡ done_end t []
-done_of_none (task.Get name) = refl
-done_of_none _ = refl
+done_by-none : (t : Task) → done_by t false ≡ done_end t []
+done_by-none (task.Get name) = refl
+done_by-none _ = refl
 
 -- a page that asks for nothing
 quiet_page : (r : Request) (most : Option ℕ) (next : Place) (s : Seen) (text : List ℕ) (outcome : Outcome) (result : Stop) → IsHonest s → IsOutcome result outcome → CountsSo r.tries s s outcome → IsFine outcome
@@ -65,7 +65,7 @@ page_of_none t start tries s text honest = quiet_page (request t start tries) (S
     (λ walk end w ends. record {
       leaves = (
         subst (λ (l : List Row). Printed t s.store (row_items t start l) text text) (sym (take-none walk)) (none_printed t s.store text),
-        done_of_none t ∙ ap (done_end t) (sym (take-none walk)) ∙ ap (run_end t (take 0 walk)) (sym (first_end-none 0 walk end (omega arith))),
+        done_by-none t ∙ ap (done_end t) (sym (take-none walk)) ∙ ap (run_end t (take 0 walk)) (sym (first_end-none 0 walk end (omega arith))),
       );
       calls = omega arith;
       goes_on = λ done. inl (ap (place_after_rows start) (sym (take-none walk)));
@@ -118,7 +118,7 @@ first_end-done (Some n) = elim (nat_le n 0) as (λ b. cond b Done Done ≡ Done)
 -- a page at the end
 page_at_end : (t : Task) (most : Option ℕ) (tries : ℕ) (s : Seen) (text : List ℕ) → IsHonest s → IsPage (request t End tries) most End (change s s text text) (stop_at_end t false)
 page_at_end t most tries s text honest = page_of_no_rows t most End tries s text Done (done_by t false) (stop_at_end t false) honest (λ rows. refl) done_there (end_is t false)
-    (done_of_none t ∙ ap (done_end t) (sym (first_rows-nil most)) ∙ ap (run_end t (first_rows most [])) (sym (first_end-done most))) (λ done rows. inl (ap (place_after_rows End) (sym (first_rows-nil most))))
+    (done_by-none t ∙ ap (done_end t) (sym (first_rows-nil most)) ∙ ap (run_end t (first_rows most [])) (sym (first_end-done most))) (λ done rows. inl (ap (place_after_rows End) (sym (first_rows-nil most))))
 
 -- a page at the id 0000h
 page_at_zero : (t : Task) (most : Option ℕ) (tries : ℕ) (s : Seen) (text : List ℕ) → (most ≡ Some 0 → ⊥) → IsHonest s → IsPage (request t (Id 0) tries) most (Id 0) (change s s text text) (stop.Ended (Cycle 0))
@@ -146,22 +146,22 @@ page_without_memory t most place tries s text honest = quiet_page (request t pla
 
 -- ---- a page by a cursor
 
-pub start_of_place : (t : Task) (place : Place) (from : Option ℕ) → start_at t place ≡ Ok from → start_of from ≡ place
-start_of_place t First from at = let is : None ≡ from = cc at in ap start_of (sym is)
-start_of_place t (Id n) from at = (elim (n == 0) as (λ b. cond b (Err (stop.Ended (Cycle 0))) (Ok (Some n)) ≡ Ok from → start_of from ≡ Id n) [
+pub start_of-place : (t : Task) (place : Place) (from : Option ℕ) → start_at t place ≡ Ok from → start_of from ≡ place
+start_of-place t First from at = let is : None ≡ from = cc at in ap start_of (sym is)
+start_of-place t (Id n) from at = (elim (n == 0) as (λ b. cond b (Err (stop.Ended (Cycle 0))) (Ok (Some n)) ≡ Ok from → start_of from ≡ Id n) [
   | true ↦ λ h. cc h
   | false ↦ λ h. let is : Some n ≡ from = cc h in ap start_of (sym is)
 ]) at
-start_of_place t End from at = cc at
+start_of-place t End from at = cc at
 
 goes_on_there : (rows : List Row) (start : Place) (most : Option ℕ) (walk : List Row) (now : CursorState) → StandsAt rows start walk (length (first_rows most walk)) now → take (length (first_rows most walk)) walk ≡ first_rows most walk
     → GoesOn rows start (first_rows most walk) now.place
 goes_on_there rows start most walk now stands first = elim stands.place [ inl at ↦ inl (at ∙ ap (place_after_rows start) first) | inr empty ↦ inr empty ]
 
 -- the first rows are as many as there are of them
-pub first_taken : (most : Option ℕ) (walk : List Row) → take (length (first_rows most walk)) walk ≡ first_rows most walk
-first_taken None walk = take_all (length walk) walk (omega arith)
-first_taken (Some n) walk = rw (length-take n walk) (take_min n walk)
+pub take-length-first_rows : (most : Option ℕ) (walk : List Row) → take (length (first_rows most walk)) walk ≡ first_rows most walk
+take-length-first_rows None walk = take_all (length walk) walk (omega arith)
+take-length-first_rows (Some n) walk = rw (length-take n walk) (take_min n walk)
 
 pub page_by_cursor : (t : Task) (most : Option ℕ) (place : Place) (tries : ℕ) (begun now : CursorState) (s s' : Seen) (text text' : List ℕ) (result : Listed) → (most ≡ Some 0 → ⊥) → begun.reservation ≡ None → 0 < begun.part
     → ((rows walk : List Row) → StandsAt rows place walk 0 begun) → IsListing t tries (up_to most) (course begun now s s' text text') result → IsPage (request t place tries) most now.place (change s s' text text') result.stop
@@ -179,7 +179,7 @@ page_by_cursor t most place tries begun now s s' text text' result some none par
       record {
         leaves = along.leaves;
         calls = omega (arith, calls, eight);
-        goes_on = λ done. goes_on_there (rows_of (shelf_of t) s.store) place most walk now (along.goes_on done) (first_taken most walk);
+        goes_on = λ done. goes_on_there (rows_of (shelf_of t) s.store) place most walk now (along.goes_on done) (take-length-first_rows most walk);
       };
   plain = λ p. listing.plain p (record { held = λ n held. let h = sym none ∙ held in cc h });
 }

@@ -25,10 +25,10 @@ use Rattle.ipmi_commands.proofs.PageLemmas.{calls_of_page, no_walk}
 use Rattle.ipmi_commands.proofs.ItemLemmas.{row_items-append, end_spots-joined, after_items, leaves_joined}
 
 -- a listing ends as its walk does
-run_plain : (t : Task) → is_listing t ≡ true → (rows : List Row) (end : WalkEnd) → run_end t rows end ≡ WalkEnds end
-run_plain (task.Get name) listing rows end = cc listing
-run_plain _ listing rows Done = refl
-run_plain _ listing rows _ = refl
+run_end-plain : (t : Task) → is_listing t ≡ true → (rows : List Row) (end : WalkEnd) → run_end t rows end ≡ WalkEnds end
+run_end-plain (task.Get name) listing rows end = cc listing
+run_end-plain _ listing rows Done = refl
+run_end-plain _ listing rows _ = refl
 
 module _ (walk_tail : TailIsWalk) where
   -- ---- the rest of a walk
@@ -93,7 +93,7 @@ module _ (walk_tail : TailIsWalk) where
       }
 
       inside : (o : Outcome) → (o ≡ plan.Finished (WalkEnds Done) → ⊥) → IsAllowed t store (first_plan (Some size) t start walk end) old new o → IsAllowed t store (first_plan None t start walk end) old new o
-      inside (plan.Finished e) never allowed = absurd (never (ap plan.Finished (allowed.1 ∙ rw fits (run_plain t listing (take size walk) Done))))
+      inside (plan.Finished e) never allowed = absurd (never (ap plan.Finished (allowed.1 ∙ rw fits (run_end-plain t listing (take size walk) Done))))
       inside (plan.GaveUp spot) never allowed = stops_wide spot allowed
       inside (plan.Refused spot code) never allowed = stops_wide spot allowed
       inside plan.OutOfMemory never allowed = record { done = allowed.done; rest = allowed.rest ++ left; items_are = more_items allowed.done allowed.rest allowed.items_are; printed = allowed.printed }
@@ -177,7 +177,7 @@ module _ (walk_tail : TailIsWalk) where
           let of_items : List Item → Plan = λ l. record { items = l; end = run_end t left end; end_spots = end_spots (place_after_rows start done) left end } in
           let of_end : RunEnd → Plan = λ e. record { items = row_items t start (done ++ left); end = e; end_spots = end_spots (place_after_rows start done) left end } in
           let of_spots : List Spot → Plan = λ l. record { items = row_items t start (done ++ left); end = run_end t (done ++ left) end; end_spots = l } in
-          ap of_items (sym (row_items-append t start done left)) ∙ ap of_end (run_plain t listing left end ∙ sym (run_plain t listing (done ++ left) end)) ∙ ap of_spots (end_spots-joined start done left end) ∙ rw (sym split) refl
+          ap of_items (sym (row_items-append t start done left)) ∙ ap of_end (run_end-plain t listing left end ∙ sym (run_end-plain t listing (done ++ left) end)) ∙ ap of_spots (end_spots-joined start done left end) ∙ rw (sym split) refl
 
       on_walk : next ≡ place_after_rows start done → IsAllowed t store (first_plan None t start walk end) old new outcome
       on_walk at =

@@ -40,35 +40,35 @@ take-append xs ys n is = take-append-le n xs ys (omega (arith, is)) ∙ take_all
 drop-append : (xs ys : List ℕ) (n : ℕ) → length xs ≡ n → drop n (xs ++ ys) ≡ ys
 drop-append xs ys n is = drop-append-le n xs ys (omega (arith, is)) ∙ rw (drop_all n xs (omega (arith, is))) refl
 
-field_again : (byte : ℕ) (field : AreaField) (rest : List ℕ) → field.code ≡ byte / 64 → length field.bytes ≡ byte % 64 → field_in byte (field.bytes ++ rest) ≡ field
-field_again byte field rest code_is length_is =
+field_in-again : (byte : ℕ) (field : AreaField) (rest : List ℕ) → field.code ≡ byte / 64 → length field.bytes ≡ byte % 64 → field_in byte (field.bytes ++ rest) ≡ field
+field_in-again byte field rest code_is length_is =
     rw (take-append field.bytes rest (byte % 64) length_is, sym code_is) refl
 
-one_spelt : (n byte : ℕ) (field : AreaField) (rest : List ℕ) (fields : List AreaField) → byte ≢ 0xc1 → field.code ≡ byte / 64 → length field.bytes ≡ byte % 64 → fields_from n rest ≡ Some fields
+fields_from-one : (n byte : ℕ) (field : AreaField) (rest : List ℕ) (fields : List AreaField) → byte ≢ 0xc1 → field.code ≡ byte / 64 → length field.bytes ≡ byte % 64 → fields_from n rest ≡ Some fields
     → fields_from (suc n) (byte ∷ (field.bytes ++ rest)) ≡ Some (field ∷ fields)
-one_spelt n byte field rest fields no_end code_is length_is more =
+fields_from-one n byte field rest fields no_end code_is length_is more =
     let bytes = field.bytes ++ rest in
     let found : Option (List AreaField) = option_map (λ fields. field_in byte bytes ∷ fields) (fields_from n (drop (byte % 64) bytes)) in
-    rw (ne_eqb byte 0xc1 no_end, within, drop-append field.bytes rest (byte % 64) length_is) (ap (option_map (λ fields. field_in byte bytes ∷ fields)) more ∙ rw (field_again byte field rest code_is length_is) refl)
+    rw (ne_eqb byte 0xc1 no_end, within, drop-append field.bytes rest (byte % 64) length_is) (ap (option_map (λ fields. field_in byte bytes ∷ fields)) more ∙ rw (field_in-again byte field rest code_is length_is) refl)
   where
     within : nat_lt (length (field.bytes ++ rest)) (byte % 64) ≡ false
     within = let len = length-append field.bytes rest in grind (arith, nat_tests)
 
-spelt : (n : ℕ) (bytes : List ℕ) (fields : List AreaField) → length bytes ≤ n → Spells bytes fields → fields_from n bytes ≡ Some fields
-spelt n [] [] fits spells = refl
-spelt zero (byte ∷ bytes) fields fits spells = absurd (omega (arith, fits))
-spelt (suc n) (byte ∷ bytes) [] fits spells = rw (eq-eqb byte 0xc1 spells) refl
-spelt n [] (field ∷ fields) fits spells = let b = spells.1.0 in cc b.bytes_are
-spelt (suc n) (byte ∷ bytes) (field ∷ fields) fits spells =
+fields_from-spelt : (n : ℕ) (bytes : List ℕ) (fields : List AreaField) → length bytes ≤ n → Spells bytes fields → fields_from n bytes ≡ Some fields
+fields_from-spelt n [] [] fits spells = refl
+fields_from-spelt zero (byte ∷ bytes) fields fits spells = absurd (omega (arith, fits))
+fields_from-spelt (suc n) (byte ∷ bytes) [] fits spells = rw (eq-eqb byte 0xc1 spells) refl
+fields_from-spelt n [] (field ∷ fields) fits spells = let b = spells.1.0 in cc b.bytes_are
+fields_from-spelt (suc n) (byte ∷ bytes) (field ∷ fields) fits spells =
     let rest = spells.0 in
     let b = spells.1.0 in
     let joined = length-append field.bytes rest in
     let len : length (byte ∷ bytes) ≡ length (b.type_length ∷ (field.bytes ++ rest)) = ap length b.bytes_are in
-    ap (fields_from (suc n)) b.bytes_are ∙ one_spelt n b.type_length field rest fields b.is_no_end b.code_is b.length_is (spelt n rest fields (omega (arith, fits, joined, len)) spells.1.1)
+    ap (fields_from (suc n)) b.bytes_are ∙ fields_from-one n b.type_length field rest fields b.is_no_end b.code_is b.length_is (fields_from-spelt n rest fields (omega (arith, fits, joined, len)) spells.1.1)
 
 -- what is spelt is found
-pub are_found : (bytes : List ℕ) (fields : List AreaField) → Spells bytes fields → fields_in bytes ≡ Some fields
-are_found bytes fields spells = spelt (length bytes) bytes fields (omega arith) spells
+pub fields_in-found : (bytes : List ℕ) (fields : List AreaField) → Spells bytes fields → fields_in bytes ≡ Some fields
+fields_in-found bytes fields spells = fields_from-spelt (length bytes) bytes fields (omega arith) spells
 
 found : (n : ℕ) (bytes : List ℕ) (fields : List AreaField) → fields_from n bytes ≡ Some fields → Spells bytes fields
 found n [] fields e = let is : [] ≡ fields = cc e in subst (Spells []) is tt
@@ -110,4 +110,4 @@ are_spelt bytes fields is = found (length bytes) bytes fields is
 
 -- nothing is spelt where nothing is found
 pub none_spelt : (bytes : List ℕ) → is_some (fields_in bytes) ≡ false → (fields : List AreaField) → Spells bytes fields → ⊥
-none_spelt bytes none fields spells = true≢false (sym (ap is_some (are_found bytes fields spells)) ∙ none)
+none_spelt bytes none fields spells = true≢false (sym (ap is_some (fields_in-found bytes fields spells)) ∙ none)

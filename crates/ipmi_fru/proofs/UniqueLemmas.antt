@@ -4,23 +4,23 @@ use Rattle.std.proofs.lemmas.List.{length-drop}
 use Rattle.ipmi_fru.specs.declared.multirecord.MultiFault.{MultiFault}
 use Rattle.ipmi_fru.specs.Field.{AreaField, Spells}
 use Rattle.ipmi_fru.specs.Multirecord.{MultiRecord, RecordsEnd, ContinuesBy, IsRecordList, SameList, record_in, after_record, items_of, items_by, items_from}
-use Rattle.ipmi_fru.proofs.FieldLemmas.{are_found}
+use Rattle.ipmi_fru.proofs.FieldLemmas.{fields_in-found}
 use Rattle.ipmi_fru.proofs.RecordLemmas.{enough_bytes}
 
 pub one_list_of_fields : (bytes : List ℕ) (a b : List AreaField) → Spells bytes a → Spells bytes b → a ≡ b
-one_list_of_fields bytes a b x y = let same : Some a ≡ Some b = sym (are_found bytes a x) ∙ are_found bytes b y in cc same
+one_list_of_fields bytes a b x y = let same : Some a ≡ Some b = sym (fields_in-found bytes a x) ∙ fields_in-found bytes b y in cc same
 
-items_listed : (n : ℕ) (bytes : List ℕ) (records : List MultiRecord) (end : RecordsEnd) → length bytes < n → IsRecordList bytes records end → items_from n bytes ≡ items_of records end
-items_listed zero bytes records end lt is = absurd (omega (arith, lt))
-items_listed (suc n) bytes [] None lt is = absurd is
-items_listed (suc n) bytes [] (Some f) lt is = ap (λ (o : Option MultiFault). items_by o (record_in bytes) (items_from n (after_record bytes))) is
-items_listed (suc n) bytes (r ∷ records) end lt is =
+items_from-listed : (n : ℕ) (bytes : List ℕ) (records : List MultiRecord) (end : RecordsEnd) → length bytes < n → IsRecordList bytes records end → items_from n bytes ≡ items_of records end
+items_from-listed zero bytes records end lt is = absurd (omega (arith, lt))
+items_from-listed (suc n) bytes [] None lt is = absurd is
+items_from-listed (suc n) bytes [] (Some f) lt is = ap (λ (o : Option MultiFault). items_by o (record_in bytes) (items_from n (after_record bytes))) is
+items_from-listed (suc n) bytes (r ∷ records) end lt is =
     let left = length-drop (5 + slice_index bytes 2) bytes in
     let some = enough_bytes bytes is.0 in
     let fewer : length (after_record bytes) < n = omega (arith, left, some, lt) in
     ap (λ (o : Option MultiFault). items_by o (record_in bytes) (items_from n (after_record bytes))) is.0
     ∙ ap (λ (r : MultiRecord). items_by None r (items_from n (after_record bytes))) (sym is.1.0)
-    ∙ by (λ more. items_listed n (after_record bytes) records end fewer more) r.last is.1.1
+    ∙ by (λ more. items_from-listed n (after_record bytes) records end fewer more) r.last is.1.1
   where
     by : (IsRecordList (after_record bytes) records end → items_from n (after_record bytes) ≡ items_of records end) → (last : Bool) → ContinuesBy last records end (IsRecordList (after_record bytes) records end)
         → ◌≡◌ {A = List (Result MultiRecord MultiFault)} (Ok r ∷ cond last [] (items_from n (after_record bytes))) (Ok r ∷ items_of records end)
@@ -43,4 +43,4 @@ items_tell (r ∷ a) (s ∷ b) e f is =
     record { records = ap (λ (r : MultiRecord). r ∷ a) first ∙ ap (λ (l : List MultiRecord). s ∷ l) more.records; ends = more.ends }
 
 pub one_list_of_records : (bytes : List ℕ) (a b : List MultiRecord) (e f : RecordsEnd) → IsRecordList bytes a e → IsRecordList bytes b f → SameList a b e f
-one_list_of_records bytes a b e f x y = items_tell a b e f (sym (items_listed (suc (length bytes)) bytes a e (omega arith) x) ∙ items_listed (suc (length bytes)) bytes b f (omega arith) y)
+one_list_of_records bytes a b e f x y = items_tell a b e f (sym (items_from-listed (suc (length bytes)) bytes a e (omega arith) x) ∙ items_from-listed (suc (length bytes)) bytes b f (omega arith) y)

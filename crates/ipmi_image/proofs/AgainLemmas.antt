@@ -17,13 +17,13 @@ use Rattle.ipmi_image.specs.Text.{pieces}
 use Rattle.ipmi_image.specs.Line.{SavedRow, Line, a_row, an_inventory, a_reading, an_info, the_end, row_line, info_line_of, line_of_fields, line_of}
 use Rattle.ipmi_image.specs.Image.{row_on, rows_on, chained, inventories_of, sensor_on, info_on, first_of, info_fault, fault_in, unless_fault, is_end, store_of_lines, store_after, store_of_pieces, store_of_image}
 use Rattle.ipmi_image.specs.Rewritten.{hex_of, first_row_id, next_field, row_fields, rows_lines, first_parts, part_fields, inventory_lines, reading_fields, info_lines, line_text, lines_text, lines_of, image_text_of, IsSaved}
-use Rattle.ipmi_image.proofs.TextLemmas.{Lacks, pieces_one, pieces_more}
+use Rattle.ipmi_image.proofs.TextLemmas.{Lacks, pieces-one, pieces-more}
 use Rattle.ipmi_image.proofs.ReadLemmas.{after_line}
-use Rattle.ipmi_image.proofs.ParseLemmas.{IsField, AreFields, a_word, a_hex, one_are, two_are, no_feed, line_again, saved_row, row_again, part_again, bytes_of_reading, reading_again, info_again}
-use Rattle.ipmi_image.proofs.RewriteLemmas.{of_lun, digit_of, lines_text-append, text_is}
+use Rattle.ipmi_image.proofs.ParseLemmas.{IsField, AreFields, a_word, a_hex, one_are, two_are, no_feed, line_of-fields, saved_row, row_line-again, inventory_line-again, bytes_of_reading, reading_line-again, info_line_of-again}
+use Rattle.ipmi_image.proofs.RewriteLemmas.{of_lun, drop_hex_of_lun, lines_text-append, lines_text-lines_of}
 use Rattle.ipmi_image.proofs.StoreLemmas.{same_store}
-use Rattle.ipmi_image.proofs.TakenLemmas.{Says, Taken, all_taken, saved_rows, chained-saved, row_lines, shelf_taken, rows_of_lines}
-use Rattle.ipmi_image.proofs.GivenLemmas.{Taken-append, said_inventory, Given, inventories_given, said_reading, readings_given, AreSilent, silent, silent_map, silent_inventories, filter_map-silent, AreOthers, others_map, same_inventories}
+use Rattle.ipmi_image.proofs.TakenLemmas.{Says, Taken, store_after-all, saved_rows, chained-saved, row_lines, shelf_taken, rows_on-row_lines}
+use Rattle.ipmi_image.proofs.GivenLemmas.{Taken-append, said_inventory, Given, inventories_given, said_reading, readings_given, AreSilent, filter_map-none_said, silent_map, silent_inventories, filter_map-silent, AreOthers, others_map, inventories_of-more}
 
 -- ---- fields that are lines
 
@@ -50,17 +50,17 @@ all_say (fields ∷ texts) (line ∷ lines) s = let one = s.0 in (one.says, one.
 all_say _ _ s = absurd s
 
 -- such lines are cut where they were put together
-cut_again : (texts : List (List (List ℕ))) (lines : List Line) (rest : List ℕ) → SaysLines texts lines → pieces 10 (lines_text texts ++ rest) ≡ map (join_with_byte 32) texts ++ pieces 10 rest
-cut_again [] [] rest s = refl
-cut_again (fields ∷ texts) (line ∷ lines) rest s =
+pieces-lines_text : (texts : List (List (List ℕ))) (lines : List Line) (rest : List ℕ) → SaysLines texts lines → pieces 10 (lines_text texts ++ rest) ≡ map (join_with_byte 32) texts ++ pieces 10 rest
+pieces-lines_text [] [] rest s = refl
+pieces-lines_text (fields ∷ texts) (line ∷ lines) rest s =
     let first = join_with_byte 32 fields in
     let one = s.0 in
     ap (pieces 10) (append_assoc (line_text fields) (lines_text texts) rest ∙ append_assoc first (10 ∷ []) (lines_text texts ++ rest))
-    ∙ pieces_more 10 first (lines_text texts ++ rest) one.none ∙ rw (cut_again texts lines rest s.1) refl
-cut_again _ _ rest s = absurd s
+    ∙ pieces-more 10 first (lines_text texts ++ rest) one.none ∙ rw (pieces-lines_text texts lines rest s.1) refl
+pieces-lines_text _ _ rest s = absurd s
 
 says_fields : (first : List ℕ) (fields : List (List ℕ)) (line : Line) → AreFields (first ∷ fields) → line_of_fields true (first ∷ fields) ≡ Ok line → is_end line ≡ false → SaysLine (first ∷ fields) line
-says_fields first fields line are says more = record { none = no_feed first fields are; says = line_again first fields are ∙ says; more = more }
+says_fields first fields line are says more = record { none = no_feed first fields are; says = line_of-fields first fields are ∙ says; more = more }
 
 -- ---- rows
 
@@ -87,7 +87,7 @@ row_says : (shelf : Shelf) (following : ℕ) (row : Row) → IsRow shelf row →
 row_says shelf following row ok =
     says_fields (word_of shelf) (hex_of 2 row.id ∷ next_field following row.next ∷ encode_lower row.bytes ∷ []) (a_row shelf (saved_row following row))
     (a_shelf shelf, (a_hex (big_bytes 2 row.id) (two_are row.id), (a_next following row.next, (a_hex row.bytes ok.bytes, tt))))
-    (by shelf ∙ row_again shelf following row (let lt = ok.id in omega (arith, lt)) ok.next (row_some shelf row ok) ok.bytes)
+    (by shelf ∙ row_line-again shelf following row (let lt = ok.id in omega (arith, lt)) ok.next (row_some shelf row ok) ok.bytes)
     refl
   where
     by : (s : Shelf) → line_of_fields true (row_fields (word_of s) following row) ≡ row_line true s (hex_of 2 row.id) (next_field following row.next) (encode_lower row.bytes)
@@ -109,7 +109,7 @@ parts_say id (suc n) rest le count all =
     let back : AreBytes (drop 64 rest) = λ k d lt. subst (λ (b : ℕ). b < 256) (sym (get_or-drop 64 rest k d)) (all (64 + k) d (omega (arith, left, lt))) in (
       says_fields (codes "fru") (hex_of 1 id ∷ encode_lower (take 64 rest) ∷ []) (an_inventory id (take 64 rest))
           (a_word (codes "fru") refl refl, (a_hex (big_bytes 1 id) (one_are id), (a_hex (take 64 rest) front, tt)))
-          (part_again id (take 64 rest) (omega (arith, le)) (omega (arith, len, count)) front)
+          (inventory_line-again id (take 64 rest) (omega (arith, le)) (omega (arith, len, count)) front)
           refl,
       parts_say id n (drop 64 rest) le (omega (arith, left, count)) back,
     )
@@ -133,14 +133,14 @@ reading_bytes sensor ok =
     All-cons (λ (b : ℕ). b < 256) r.raw (r.flags ∷ r.status ∷ r.more ∷ []) ok.raw flags
 
 a_lun : (lun : ℕ) → lun ≤ 3 → IsField (drop 1 (hex_of 1 lun))
-a_lun lun le = rw (digit_of lun le) (of_lun (λ lun. IsField ((48 + lun) ∷ [])) (a_word (codes "0") refl refl) (a_word (codes "1") refl refl) (a_word (codes "2") refl refl) (a_word (codes "3") refl refl) lun le)
+a_lun lun le = rw (drop_hex_of_lun lun le) (of_lun (λ lun. IsField ((48 + lun) ∷ [])) (a_word (codes "0") refl refl) (a_word (codes "1") refl refl) (a_word (codes "2") refl refl) (a_word (codes "3") refl refl) lun le)
 
 reading_says : (sensor : SensorReading) → IsSensorReading sensor → sensor.lun ≤ 3 → SaysLine (reading_fields sensor) (said_reading sensor)
 reading_says sensor ok le =
     let bytes = reading_bytes sensor ok in
     says_fields (codes "reading") (drop 1 (hex_of 1 sensor.lun) ∷ hex_of 1 sensor.number ∷ encode_lower (bytes_of_reading sensor) ∷ []) (said_reading sensor)
     (a_word (codes "reading") refl refl, (a_lun sensor.lun le, (a_hex (big_bytes 1 sensor.number) (one_are sensor.number), (a_hex (bytes_of_reading sensor) bytes, tt))))
-    (reading_again sensor le ok.number bytes)
+    (reading_line-again sensor le ok.number bytes)
     refl
 
 readings_say : (readings : List SensorReading) → All IsSensorReading readings → All (λ s. s.lun ≤ 3) readings → SaysLines (map reading_fields readings) (map said_reading readings)
@@ -158,7 +158,7 @@ info_says : (shelf : Shelf) (bytes : List ℕ) → IsInfo bytes → SaysLine (co
 info_says shelf bytes ok =
     says_fields (codes "info") (word_of shelf ∷ encode_lower bytes ∷ []) (an_info shelf bytes)
     (a_word (codes "info") refl refl, (a_shelf shelf, (a_hex bytes ok.all, tt)))
-    (by shelf ∙ info_again shelf bytes (let len = ok.len in omega (arith, len)) ok.all)
+    (by shelf ∙ info_line_of-again shelf bytes (let len = ok.len in omega (arith, len)) ok.all)
     refl
   where
     by : (s : Shelf) → line_of_fields true (codes "info" ∷ word_of s ∷ encode_lower bytes ∷ []) ≡ info_line_of (Some s) (encode_lower bytes)
@@ -169,20 +169,20 @@ infos_say : (shelf : Shelf) (info : Option (List ℕ)) → IfSome info IsInfo �
 infos_say shelf None ok = tt
 infos_say shelf (Some bytes) ok = (info_says shelf bytes ok, tt)
 
-fault_of_info : (shelf : Shelf) (lines : List Line) (bytes : List ℕ) → fault_in (store_of_lines lines) (an_info shelf bytes) ≡ info_fault (first_of (filter_map (info_on shelf) lines)) bytes
-fault_of_info Sdr lines bytes = refl
-fault_of_info Sel lines bytes = refl
+fault_in-info : (shelf : Shelf) (lines : List Line) (bytes : List ℕ) → fault_in (store_of_lines lines) (an_info shelf bytes) ≡ info_fault (first_of (filter_map (info_on shelf) lines)) bytes
+fault_in-info Sdr lines bytes = refl
+fault_in-info Sel lines bytes = refl
 
 info_taken : (shelf : Shelf) (info : Option (List ℕ)) (lines : List Line) → IfSome info IsInfo → filter_map (info_on shelf) lines ≡ [] → Taken lines (said_info shelf info)
 info_taken shelf None lines ok none = tt
 info_taken shelf (Some bytes) lines ok none =
-    (fault_of_info shelf lines bytes ∙ rw (none, eq-eqb _ _ ok.len) refl, tt)
+    (fault_in-info shelf lines bytes ∙ rw (none, eq-eqb _ _ ok.len) refl, tt)
 
-info_first : (shelf : Shelf) (info : Option (List ℕ)) → first_of (filter_map (info_on shelf) (said_info shelf info)) ≡ info
-info_first Sdr None = refl
-info_first Sel None = refl
-info_first Sdr (Some bytes) = refl
-info_first Sel (Some bytes) = refl
+first_of-said_info : (shelf : Shelf) (info : Option (List ℕ)) → first_of (filter_map (info_on shelf) (said_info shelf info)) ≡ info
+first_of-said_info Sdr None = refl
+first_of-said_info Sel None = refl
+first_of-said_info Sdr (Some bytes) = refl
+first_of-said_info Sel (Some bytes) = refl
 
 silent_info : {Y : Type 0} (h : Line → Option Y) (shelf : Shelf) (info : Option (List ℕ)) → ((bytes : List ℕ) → h (an_info shelf bytes) ≡ None) → AreSilent h (said_info shelf info)
 silent_info h shelf None none = tt
@@ -245,25 +245,25 @@ module _ (store : Store) (is : IsStore store) (saved : IsSaved store) where
       ∙ filter_map-silent h to_sel fru_lines (silent_inventories h store.inventories a)
 
   no_rows_yet : {Y : Type 0} (h : Line → Option Y) → ((shelf : Shelf) (s : SavedRow) → h (a_row shelf s) ≡ None) → filter_map h to_sel ≡ []
-  no_rows_yet h none = filter_map-silent h sdr_lines sel_lines (rows_silent h Sel store.sel (none Sel)) ∙ silent h sdr_lines (rows_silent h Sdr store.sdr (none Sdr))
+  no_rows_yet h none = filter_map-silent h sdr_lines sel_lines (rows_silent h Sel store.sel (none Sel)) ∙ filter_map-none_said h sdr_lines (rows_silent h Sdr store.sdr (none Sdr))
 
   sdr_rows : rows_on Sdr all_lines ≡ saved_rows store.sdr
   sdr_rows =
       before_infos (row_on Sdr) (λ shelf bytes. refl) ∙ before_inventories (row_on Sdr) (λ id bytes. refl) (λ lun number bytes. refl)
-      ∙ filter_map-silent (row_on Sdr) sdr_lines sel_lines (rows_silent (row_on Sdr) Sel store.sel (λ s. refl)) ∙ rows_of_lines Sdr store.sdr
+      ∙ filter_map-silent (row_on Sdr) sdr_lines sel_lines (rows_silent (row_on Sdr) Sel store.sel (λ s. refl)) ∙ rows_on-row_lines Sdr store.sdr
 
   no_sel_rows : rows_on Sel sdr_lines ≡ []
-  no_sel_rows = silent (row_on Sel) sdr_lines (rows_silent (row_on Sel) Sdr store.sdr (λ s. refl))
+  no_sel_rows = filter_map-none_said (row_on Sel) sdr_lines (rows_silent (row_on Sel) Sdr store.sdr (λ s. refl))
 
   sel_rows : rows_on Sel all_lines ≡ saved_rows store.sel
   sel_rows =
       before_infos (row_on Sel) (λ shelf bytes. refl) ∙ before_inventories (row_on Sel) (λ id bytes. refl) (λ lun number bytes. refl)
-      ∙ filter_map-append (row_on Sel) sdr_lines sel_lines ∙ rw no_sel_rows (rows_of_lines Sel store.sel)
+      ∙ filter_map-append (row_on Sel) sdr_lines sel_lines ∙ rw no_sel_rows (rows_on-row_lines Sel store.sel)
 
   no_inventory : inventories_of to_sel ≡ []
   no_inventory =
-      same_inventories sdr_lines sel_lines (others_map (a_row Sel) (saved_rows store.sel) (λ s inventories. refl))
-      ∙ same_inventories [] sdr_lines (others_map (a_row Sdr) (saved_rows store.sdr) (λ s inventories. refl))
+      inventories_of-more sdr_lines sel_lines (others_map (a_row Sel) (saved_rows store.sel) (λ s inventories. refl))
+      ∙ inventories_of-more [] sdr_lines (others_map (a_row Sdr) (saved_rows store.sdr) (λ s inventories. refl))
 
   given : Given inventories_of to_sel fru_lines store.inventories
   given = inventories_given [] store.inventories to_sel no_inventory is.inventories saved.some is.distinct_inventories
@@ -290,21 +290,21 @@ module _ (store : Store) (is : IsStore store) (saved : IsSaved store) where
       Taken-more to_sdr_info (said_info Sel store.sel_info) info (info_taken Sel store.sel_info to_sdr_info is.sel_info no_sel_info)
 
   inventories_of-readings : (lines : List Line) → inventories_of (lines ++ sensor_lines) ≡ inventories_of lines
-  inventories_of-readings lines = same_inventories lines sensor_lines (others_map said_reading store.readings (λ s inventories. refl))
+  inventories_of-readings lines = inventories_of-more lines sensor_lines (others_map said_reading store.readings (λ s inventories. refl))
 
   store_again : store_of_lines all_lines ≡ store
   store_again = same_store (store_of_lines all_lines) store
       (ap chained sdr_rows ∙ chained-saved store.sdr)
       (ap chained sel_rows ∙ chained-saved store.sel)
-      (same_inventories to_sdr_info (said_info Sel store.sel_info) (others_info Sel store.sel_info)
-      ∙ same_inventories to_sensors (said_info Sdr store.sdr_info) (others_info Sdr store.sdr_info)
+      (inventories_of-more to_sdr_info (said_info Sel store.sel_info) (others_info Sel store.sel_info)
+      ∙ inventories_of-more to_sensors (said_info Sdr store.sdr_info) (others_info Sdr store.sdr_info)
       ∙ inventories_of-readings to_fru ∙ given.gives)
       (before_infos sensor_on (λ shelf bytes. refl) ∙ given_readings.gives)
       (ap first_of (filter_map-silent (info_on Sdr) to_sdr_info (said_info Sel store.sel_info) (silent_info (info_on Sdr) Sel store.sel_info (λ bytes. refl))
       ∙ filter_map-append (info_on Sdr) to_sensors (said_info Sdr store.sdr_info) ∙ rw (no_info Sdr) refl)
-      ∙ info_first Sdr store.sdr_info)
+      ∙ first_of-said_info Sdr store.sdr_info)
       (ap first_of (filter_map-append (info_on Sel) to_sdr_info (said_info Sel store.sel_info) ∙ rw no_sel_info refl)
-      ∙ info_first Sel store.sel_info)
+      ∙ first_of-said_info Sel store.sel_info)
 
   abbrev all_fields : List (List (List ℕ))
   all_fields = ((((rows_lines (codes "sdr") store.sdr ++ rows_lines (codes "sel") store.sel) ++ flat_map inventory_lines store.inventories) ++ map reading_fields store.readings)
@@ -328,7 +328,7 @@ module _ (store : Store) (is : IsStore store) (saved : IsSaved store) where
   lines_are = simp append_assoc refl
 
   end_is : line_of true (codes "end") ≡ Ok the_end
-  end_is = line_again (codes "end") [] (a_word (codes "end") refl refl, tt)
+  end_is = line_of-fields (codes "end") [] (a_word (codes "end") refl refl, tt)
 
   ended : store_after true all_lines (codes "end" ∷ ([] ∷ [])) ≡ Ok store
   unfolding store_after
@@ -345,13 +345,13 @@ module _ (store : Store) (is : IsStore store) (saved : IsSaved store) where
   end_cut : pieces 10 (lines_text end_fields) ≡ codes "end" ∷ ([] ∷ [])
   end_cut =
       let word : IsField (codes "end") = a_word (codes "end") refl refl in
-      pieces_more 10 (codes "end") [] word.feed ∙ rw (pieces_one 10 [] (λ k d lt. absurd (omega (arith, lt)))) refl
+      pieces-more 10 (codes "end") [] word.feed ∙ rw (pieces-one 10 [] (λ k d lt. absurd (omega (arith, lt)))) refl
 
   text_cut : pieces 10 (image_text_of store) ≡ codes "ipmi-image 2" ∷ (map (join_with_byte 32) all_fields ++ (codes "end" ∷ ([] ∷ [])))
   text_cut =
-      ap (pieces 10) (sym (text_is store) ∙ ap lines_text lines_are ∙ ap (λ (l : List ℕ). line_text header ++ l) (lines_text-append all_fields end_fields))
-      ∙ pieces_more 10 (codes "ipmi-image 2") (lines_text all_fields ++ lines_text end_fields) header_lacks
-      ∙ ap (λ (l : List (List ℕ)). codes "ipmi-image 2" ∷ l) (cut_again all_fields all_lines (lines_text end_fields) lines_say ∙ ap (λ (l : List (List ℕ)). map (join_with_byte 32) all_fields ++ l) end_cut)
+      ap (pieces 10) (sym (lines_text-lines_of store) ∙ ap lines_text lines_are ∙ ap (λ (l : List ℕ). line_text header ++ l) (lines_text-append all_fields end_fields))
+      ∙ pieces-more 10 (codes "ipmi-image 2") (lines_text all_fields ++ lines_text end_fields) header_lacks
+      ∙ ap (λ (l : List (List ℕ)). codes "ipmi-image 2" ∷ l) (pieces-lines_text all_fields all_lines (lines_text end_fields) lines_say ∙ ap (λ (l : List (List ℕ)). map (join_with_byte 32) all_fields ++ l) end_cut)
 
   pub image_again : store_of_image (image_text_of store) ≡ Ok store
   image_again =
@@ -359,5 +359,5 @@ module _ (store : Store) (is : IsStore store) (saved : IsSaved store) where
       let some = length-append texts (codes "end" ∷ ([] ∷ [])) in
       ap store_of_pieces text_cut
       ∙ after_header (texts ++ (codes "end" ∷ ([] ∷ []))) (omega (arith, some))
-      ∙ all_taken [] texts (codes "end" ∷ ([] ∷ [])) all_lines (omega arith) (all_say all_fields all_lines lines_say) lines_taken
+      ∙ store_after-all [] texts (codes "end" ∷ ([] ∷ [])) all_lines (omega arith) (all_say all_fields all_lines lines_say) lines_taken
       ∙ ended

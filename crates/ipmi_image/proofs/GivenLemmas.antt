@@ -40,16 +40,16 @@ abbrev so_far : ℕ → Option (List ℕ) → List Inventory
 so_far id None = []
 so_far id (Some bytes) = record { id = id; bytes = bytes } ∷ []
 
-with_so_far : (id : ℕ) (part : List ℕ) (h : Option (List ℕ)) → with_bytes id part (so_far id h) ≡ so_far id (Some (unwrap_or h [] ++ part))
-with_so_far id part None = refl
-with_so_far id part (Some bytes) = rw (eq-eqb id id refl) refl
+with_bytes-so_far : (id : ℕ) (part : List ℕ) (h : Option (List ℕ)) → with_bytes id part (so_far id h) ≡ so_far id (Some (unwrap_or h [] ++ part))
+with_bytes-so_far id part None = refl
+with_bytes-so_far id part (Some bytes) = rw (eq-eqb id id refl) refl
 
-in_so_far : (id : ℕ) (h : Option (List ℕ)) → inventory_in (so_far id h) id ≡ h
-in_so_far id None = refl
-in_so_far id (Some bytes) = rw (eq-eqb id id refl) refl
+inventory_in-so_far : (id : ℕ) (h : Option (List ℕ)) → inventory_in (so_far id h) id ≡ h
+inventory_in-so_far id None = refl
+inventory_in-so_far id (Some bytes) = rw (eq-eqb id id refl) refl
 
-no_fault : (id : ℕ) (already : Option (List ℕ)) (part : List ℕ) → id ≤ 254 → length (unwrap_or already []) + length part ≤ 65535 → inventory_fault id already part ≡ None
-no_fault id already part le fits =
+inventory_fault-none : (id : ℕ) (already : Option (List ℕ)) (part : List ℕ) → id ≤ 254 → length (unwrap_or already []) + length part ≤ 65535 → inventory_fault id already part ≡ None
+inventory_fault-none id already part le fits =
     let ne = ne_eqb id 255 (λ e. absurd (omega (arith, le, e))) in rw (ne, below) refl
   where
     below : nat_lt 65535 (length (unwrap_or already []) + length part) ≡ false
@@ -59,11 +59,11 @@ module _ (front : List Inventory) (id : ℕ) (lacks : Lacking id front) (le : id
   -- one more part
   part_next : (lines : List Line) (h : Option (List ℕ)) (part : List ℕ) → inventories_of lines ≡ front ++ so_far id h → inventories_of (lines ++ an_inventory id part ∷ []) ≡ front ++ so_far id (Some (unwrap_or h [] ++ part))
   part_next lines h part is =
-      fold-append with_inventory_line [] lines (an_inventory id part ∷ []) ∙ ap (with_bytes id part) is ∙ with_bytes-append id part front (so_far id h) lacks ∙ rw (with_so_far id part h) refl
+      fold-append with_inventory_line [] lines (an_inventory id part ∷ []) ∙ ap (with_bytes id part) is ∙ with_bytes-append id part front (so_far id h) lacks ∙ rw (with_bytes-so_far id part h) refl
 
   part_fits : (lines : List Line) (h : Option (List ℕ)) (part : List ℕ) → inventories_of lines ≡ front ++ so_far id h → length (unwrap_or h []) + length part ≤ 65535 → fault_in (store_of_lines lines) (an_inventory id part) ≡ None
   part_fits lines h part is fits =
-      ap (λ (l : List Inventory). inventory_fault id (inventory_in l id) part) is ∙ rw (inventory_in-append id front (so_far id h) lacks ∙ in_so_far id h) (no_fault id h part le fits)
+      ap (λ (l : List Inventory). inventory_fault id (inventory_in l id) part) is ∙ rw (inventory_in-append id front (so_far id h) lacks ∙ inventory_in-so_far id h) (inventory_fault-none id h part le fits)
 
   parts_taken : (n : ℕ) (h : Option (List ℕ)) (rest : List ℕ) (lines : List Line) → n ≡ (length rest + 63) / 64 → length (unwrap_or h []) + length rest ≤ 65535 → inventories_of lines ≡ front ++ so_far id h
       → Taken lines (map (an_inventory id) (first_parts n rest))
@@ -99,20 +99,20 @@ module _ (front : List Inventory) (id : ℕ) (lacks : Lacking id front) (le : id
 
 -- ---- what stands in the middle of a list
 
-at_middle : {T : Type 0} (front rest : List T) (x d : T) → get_or (front ++ x ∷ rest) (length front + 0) d ≡ x
-at_middle front rest x d = get_or-append-add front (x ∷ rest) 0 d
+get_or-middle : {T : Type 0} (front rest : List T) (x d : T) → get_or (front ++ x ∷ rest) (length front + 0) d ≡ x
+get_or-middle front rest x d = get_or-append-add front (x ∷ rest) 0 d
 
 in_middle : {T : Type 0} (front rest : List T) (x : T) → length front + 0 < length (front ++ x ∷ rest)
 in_middle front rest x = let len = length-append front (x ∷ rest) in omega (arith, len)
 
 all_middle : {T : Type 0} (P : T → Type 0) (front rest : List T) (x : T) → All P (front ++ x ∷ rest) → P x
-all_middle P front rest x all = subst P (at_middle front rest x x) (all (length front + 0) x (in_middle front rest x))
+all_middle P front rest x all = subst P (get_or-middle front rest x x) (all (length front + 0) x (in_middle front rest x))
 
 pairs_middle : {T : Type 0} (R : T → T → Type 0) (front rest : List T) (x : T) → AllPairs R (front ++ x ∷ rest) → All (λ a. R a x) front
 pairs_middle R front rest x pairs = λ k d lt.
     let p = pairs k (length front + 0) d (omega (arith, lt)) (in_middle front rest x) in
     let left = subst (λ a. R a (get_or (front ++ x ∷ rest) (length front + 0) d)) (get_or_append_left front (x ∷ rest) d k lt) p in
-    subst (λ b. R (get_or front k d) b) (at_middle front rest x d) left
+    subst (λ b. R (get_or front k d) b) (get_or-middle front rest x d) left
 
 -- ---- all inventories
 
@@ -142,9 +142,9 @@ inventories_given front (x ∷ rest) lines is all some pairs =
 
 -- ---- readings
 
-reading_absent : (front : List SensorReading) (x : SensorReading) → All (λ a. OtherSensor a x) front → reading_in front x.lun x.number ≡ None
-reading_absent [] x others = refl
-reading_absent (a ∷ front) x others = rw (by (nat_eq a.lun x.lun) refl (nat_eq a.number x.number) refl) (reading_absent front x (λ k d lt. others (suc k) d (omega (arith, lt))))
+reading_in-absent : (front : List SensorReading) (x : SensorReading) → All (λ a. OtherSensor a x) front → reading_in front x.lun x.number ≡ None
+reading_in-absent [] x others = refl
+reading_in-absent (a ∷ front) x others = rw (by (nat_eq a.lun x.lun) refl (nat_eq a.number x.number) refl) (reading_in-absent front x (λ k d lt. others (suc k) d (omega (arith, lt))))
   where
     by : (s : Bool) → nat_eq a.lun x.lun ≡ s → (t : Bool) → nat_eq a.number x.number ≡ t → (s && t) ≡ false
     by true e true f = absurd (others 0 a (omega arith) (eqb-true _ _ e) (eqb-true _ _ f))
@@ -154,8 +154,8 @@ reading_absent (a ∷ front) x others = rw (by (nat_eq a.lun x.lun) refl (nat_eq
 abbrev pub said_reading : SensorReading → Line
 said_reading sensor = a_reading sensor.lun sensor.number (bytes_of_reading sensor)
 
-reading_fits : (lines : List Line) (front : List SensorReading) (x : SensorReading) → filter_map sensor_on lines ≡ front → x.lun ≤ 3 → reading_in front x.lun x.number ≡ None → fault_in (store_of_lines lines) (said_reading x) ≡ None
-reading_fits lines front x is le absent = rw (is, below, absent) refl
+fault_in-reading : (lines : List Line) (front : List SensorReading) (x : SensorReading) → filter_map sensor_on lines ≡ front → x.lun ≤ 3 → reading_in front x.lun x.number ≡ None → fault_in (store_of_lines lines) (said_reading x) ≡ None
+fault_in-reading lines front x is le absent = rw (is, below, absent) refl
   where
     below : nat_lt 3 x.lun ≡ false
     below = grind (arith, nat_tests)
@@ -167,7 +167,7 @@ readings_given front (x ∷ rest) lines is all pairs =
     let next : filter_map sensor_on (lines ++ said_reading x ∷ []) ≡ front ++ x ∷ [] = filter_map-append sensor_on lines (said_reading x ∷ []) ∙ rw is refl in
     let more = readings_given (front ++ x ∷ []) rest (lines ++ said_reading x ∷ []) next (subst (All (λ (s : SensorReading). s.lun ≤ 3)) (sym joined) all) (subst (AllPairs OtherSensor) (sym joined) pairs) in
     record {
-      taken = (reading_fits lines front x is (all_middle (λ (s : SensorReading). s.lun ≤ 3) front rest x all) (reading_absent front x (pairs_middle OtherSensor front rest x pairs)), more.taken);
+      taken = (fault_in-reading lines front x is (all_middle (λ (s : SensorReading). s.lun ≤ 3) front rest x all) (reading_in-absent front x (pairs_middle OtherSensor front rest x pairs)), more.taken);
       gives = ap (filter_map sensor_on) (sym (append_assoc lines (said_reading x ∷ []) (map said_reading rest))) ∙ more.gives ∙ joined;
     }
 
@@ -177,9 +177,9 @@ abbrev pub AreSilent : {Y : Type 0} → (Line → Option Y) → List Line → Ty
 AreSilent h [] = Unit {0}
 AreSilent h (line ∷ lines) = (h line ≡ None) × AreSilent h lines
 
-pub silent : {Y : Type 0} (h : Line → Option Y) (lines : List Line) → AreSilent h lines → filter_map h lines ≡ []
-silent h [] are = refl
-silent {Y} h (line ∷ lines) are = rw are.0 (silent h lines are.1)
+pub filter_map-none_said : {Y : Type 0} (h : Line → Option Y) (lines : List Line) → AreSilent h lines → filter_map h lines ≡ []
+filter_map-none_said h [] are = refl
+filter_map-none_said {Y} h (line ∷ lines) are = rw are.0 (filter_map-none_said h lines are.1)
 
 pub silent_append : {Y : Type 0} (h : Line → Option Y) (a b : List Line) → AreSilent h a → AreSilent h b → AreSilent h (a ++ b)
 silent_append h [] b x y = y
@@ -194,7 +194,7 @@ silent_inventories h [] none = tt
 silent_inventories h (x ∷ xs) none = silent_append h (said_inventory x) (flat_map said_inventory xs) (silent_map h (an_inventory x.id) (parts_of x.bytes) (none x.id)) (silent_inventories h xs none)
 
 pub filter_map-silent : {Y : Type 0} (h : Line → Option Y) (lines more : List Line) → AreSilent h more → filter_map h (lines ++ more) ≡ filter_map h lines
-filter_map-silent {Y} h lines more are = filter_map-append h lines more ∙ rw (silent h more are) (append-nil _)
+filter_map-silent {Y} h lines more are = filter_map-append h lines more ∙ rw (filter_map-none_said h more are) (append-nil _)
 
 -- lines of which none is of an inventory
 abbrev pub AreOthers : List Line → Type 0
@@ -205,7 +205,7 @@ pub others_map : {X : Type 0} (f : X → Line) (xs : List X) → ((x : X) (inven
 others_map f [] none = tt
 others_map f (x ∷ xs) none = (none x, others_map f xs none)
 
-pub same_inventories : (lines more : List Line) → AreOthers more → inventories_of (lines ++ more) ≡ inventories_of lines
-same_inventories lines [] are = ap inventories_of (append-nil lines)
-same_inventories lines (line ∷ more) are =
-    ap inventories_of (sym (append_assoc lines (line ∷ []) more)) ∙ same_inventories (lines ++ line ∷ []) more are.1 ∙ fold-append with_inventory_line [] lines (line ∷ []) ∙ are.0 (inventories_of lines)
+pub inventories_of-more : (lines more : List Line) → AreOthers more → inventories_of (lines ++ more) ≡ inventories_of lines
+inventories_of-more lines [] are = ap inventories_of (append-nil lines)
+inventories_of-more lines (line ∷ more) are =
+    ap inventories_of (sym (append_assoc lines (line ∷ []) more)) ∙ inventories_of-more (lines ++ line ∷ []) more are.1 ∙ fold-append with_inventory_line [] lines (line ∷ []) ∙ are.0 (inventories_of lines)

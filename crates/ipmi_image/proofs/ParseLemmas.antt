@@ -16,8 +16,8 @@ use Rattle.ipmi_bus.specs.Store.{SensorReading}
 use Rattle.ipmi_image.specs.Text.{pieces}
 use Rattle.ipmi_image.specs.Line.{SavedRow, a_row, an_inventory, a_reading, an_info, info_line_of, is_some_text, bytes_in, number_in, digit_in, next_in, is_dash, row_line, inventory_line, reading_line, line_of_fields, line_of}
 use Rattle.ipmi_image.specs.Rewritten.{hex_of, next_field}
-use Rattle.ipmi_image.proofs.RewriteLemmas.{of_lun, digit_of}
-use Rattle.ipmi_image.proofs.TextLemmas.{Lacks, pieces_one, pieces_more}
+use Rattle.ipmi_image.proofs.RewriteLemmas.{of_lun, drop_hex_of_lun}
+use Rattle.ipmi_image.proofs.TextLemmas.{Lacks, pieces-one, pieces-more}
 
 -- ---- fields
 
@@ -67,36 +67,36 @@ two_are x = All-cons (λ (b : ℕ). b < 256) (x / 256 % 256) (x % 256 ∷ []) (o
 
 -- ---- lines of fields
 
-pub fields_again : (first : List ℕ) (fields : List (List ℕ)) → AreFields (first ∷ fields) → pieces 32 (join_with_byte 32 (first ∷ fields)) ≡ first ∷ fields
-fields_again first [] are = pieces_one 32 first are.0.space
-fields_again first (second ∷ fields) are = pieces_more 32 first (join_with_byte 32 (second ∷ fields)) are.0.space ∙ rw (fields_again second fields are.1) refl
+pub pieces-fields : (first : List ℕ) (fields : List (List ℕ)) → AreFields (first ∷ fields) → pieces 32 (join_with_byte 32 (first ∷ fields)) ≡ first ∷ fields
+pieces-fields first [] are = pieces-one 32 first are.0.space
+pieces-fields first (second ∷ fields) are = pieces-more 32 first (join_with_byte 32 (second ∷ fields)) are.0.space ∙ rw (pieces-fields second fields are.1) refl
 
 pub no_feed : (first : List ℕ) (fields : List (List ℕ)) → AreFields (first ∷ fields) → Lacks 10 (join_with_byte 32 (first ∷ fields))
 no_feed first [] are = are.0.feed
 no_feed first (second ∷ fields) are = All-append (λ (b : ℕ). nat_eq b 10 ≡ false) first _ are.0.feed (All-cons (λ (b : ℕ). nat_eq b 10 ≡ false) 32 _ refl (no_feed second fields are.1))
 
-pub line_again : (first : List ℕ) (fields : List (List ℕ)) → AreFields (first ∷ fields) → line_of true (join_with_byte 32 (first ∷ fields)) ≡ line_of_fields true (first ∷ fields)
+pub line_of-fields : (first : List ℕ) (fields : List (List ℕ)) → AreFields (first ∷ fields) → line_of true (join_with_byte 32 (first ∷ fields)) ≡ line_of_fields true (first ∷ fields)
 unfolding line_of
-line_again first fields are = ap (line_of_fields true) (fields_again first fields are)
+line_of-fields first fields are = ap (line_of_fields true) (pieces-fields first fields are)
 
 -- ---- numbers and bytes
 
-pub bytes_again : (bytes : List ℕ) → AreBytes bytes → bytes_in (encode_lower bytes) ≡ Some bytes
-bytes_again bytes all = ap result_ok (decode_of-encode_lower bytes (are_bytes bytes all))
+pub bytes_in-encode_lower : (bytes : List ℕ) → AreBytes bytes → bytes_in (encode_lower bytes) ≡ Some bytes
+bytes_in-encode_lower bytes all = ap result_ok (decode_of-encode_lower bytes (are_bytes bytes all))
 
-pub word_again : (x : ℕ) → x < 65536 → number_in 2 (hex_of 2 x) ≡ Some x
-word_again x lt = ap (option_map (big_number 2)) (bytes_again (big_bytes 2 x) (two_are x)) ∙ ap Some (omega (arith, lt))
+pub number_in-word : (x : ℕ) → x < 65536 → number_in 2 (hex_of 2 x) ≡ Some x
+number_in-word x lt = ap (option_map (big_number 2)) (bytes_in-encode_lower (big_bytes 2 x) (two_are x)) ∙ ap Some (omega (arith, lt))
 
-pub byte_again : (x : ℕ) → x < 256 → number_in 1 (hex_of 1 x) ≡ Some x
-byte_again x lt = ap (option_map (big_number 1)) (bytes_again (big_bytes 1 x) (one_are x)) ∙ ap Some (omega (arith, lt))
+pub number_in-byte : (x : ℕ) → x < 256 → number_in 1 (hex_of 1 x) ≡ Some x
+number_in-byte x lt = ap (option_map (big_number 1)) (bytes_in-encode_lower (big_bytes 1 x) (one_are x)) ∙ ap Some (omega (arith, lt))
 
-pub len_again : (n x : ℕ) → length (hex_of n x) ≡ 2 * length (big_bytes n x)
-len_again n x = length-encode_with lower_digits (big_bytes n x)
+pub length-hex_of : (n x : ℕ) → length (hex_of n x) ≡ 2 * length (big_bytes n x)
+length-hex_of n x = length-encode_with lower_digits (big_bytes n x)
 
-pub some_again : (bytes : List ℕ) → 0 < length bytes → is_some_text (encode_lower bytes) ≡ true
+pub is_some_text-encode_lower : (bytes : List ℕ) → 0 < length bytes → is_some_text (encode_lower bytes) ≡ true
 unfolding encode_with
-some_again [] some = absurd (omega (arith, some))
-some_again (b ∷ bytes) some = refl
+is_some_text-encode_lower [] some = absurd (omega (arith, some))
+is_some_text-encode_lower (b ∷ bytes) some = refl
 
 -- ---- each kind of line
 
@@ -104,51 +104,51 @@ some_again (b ∷ bytes) some = refl
 abbrev pub saved_row : ℕ → Row → SavedRow
 saved_row following row = record { id = row.id; next = if row.next == following then None else Some row.next; bytes = row.bytes }
 
-not_a_dash : (x : ℕ) → is_dash (hex_of 2 x) ≡ false
+is_dash-hex_of : (x : ℕ) → is_dash (hex_of 2 x) ≡ false
 unfolding encode_with
-not_a_dash x = by (nat_eq (slice_index lower_digits (x / 256 % 256 / 16)) 45)
+is_dash-hex_of x = by (nat_eq (slice_index lower_digits (x / 256 % 256 / 16)) 45)
   where
     by : (t : Bool) → (t && false) ≡ false
     by true = refl
     by false = refl
 
-len_two : (x : ℕ) → nat_eq (length (hex_of 2 x)) 4 ≡ true
-len_two x = eq-eqb _ 4 (len_again 2 x)
+length-hex_of_word : (x : ℕ) → nat_eq (length (hex_of 2 x)) 4 ≡ true
+length-hex_of_word x = eq-eqb _ 4 (length-hex_of 2 x)
 
-len_one : (x : ℕ) → nat_eq (length (hex_of 1 x)) 2 ≡ true
-len_one x = eq-eqb _ 2 (len_again 1 x)
+length-hex_of_byte : (x : ℕ) → nat_eq (length (hex_of 1 x)) 2 ≡ true
+length-hex_of_byte x = eq-eqb _ 2 (length-hex_of 1 x)
 
-row_is : (shelf : Shelf) (id next hex : List ℕ) (i : ℕ) (n : Option ℕ) (b : List ℕ) → nat_eq (length id) 4 ≡ true → (nat_eq (length next) 4 || (true && is_dash next)) ≡ true → is_some_text hex ≡ true
+row_line-read : (shelf : Shelf) (id next hex : List ℕ) (i : ℕ) (n : Option ℕ) (b : List ℕ) → nat_eq (length id) 4 ≡ true → (nat_eq (length next) 4 || (true && is_dash next)) ≡ true → is_some_text hex ≡ true
     → number_in 2 id ≡ Some i → next_in next ≡ Some n → bytes_in hex ≡ Some b → row_line true shelf id next hex ≡ Ok (a_row shelf (record { id = i; next = n; bytes = b }))
-row_is shelf id next hex i n b len dash some id_is next_is bytes_is = rw (len, dash, some, id_is, next_is, bytes_is) refl
+row_line-read shelf id next hex i n b len dash some id_is next_is bytes_is = rw (len, dash, some, id_is, next_is, bytes_is) refl
 
-pub row_again : (shelf : Shelf) (following : ℕ) (row : Row) → row.id < 65536 → row.next < 65536 → 0 < length row.bytes → AreBytes row.bytes
+pub row_line-again : (shelf : Shelf) (following : ℕ) (row : Row) → row.id < 65536 → row.next < 65536 → 0 < length row.bytes → AreBytes row.bytes
     → row_line true shelf (hex_of 2 row.id) (next_field following row.next) (encode_lower row.bytes) ≡ Ok (a_row shelf (saved_row following row))
-row_again shelf following row id next some bytes = by (nat_eq row.next following)
+row_line-again shelf following row id next some bytes = by (nat_eq row.next following)
   where
     by : (t : Bool) → row_line true shelf (hex_of 2 row.id) (cond t (codes "-") (hex_of 2 row.next)) (encode_lower row.bytes) ≡ Ok (a_row shelf (record { id = row.id; next = cond t None (Some row.next); bytes = row.bytes }))
-    by true = row_is shelf (hex_of 2 row.id) (codes "-") (encode_lower row.bytes) row.id None row.bytes (len_two row.id) refl (some_again row.bytes some) (word_again row.id id) refl (bytes_again row.bytes bytes)
-    by false = row_is shelf (hex_of 2 row.id) (hex_of 2 row.next) (encode_lower row.bytes) row.id (Some row.next) row.bytes (len_two row.id)
-        (rw (len_two row.next) refl) (some_again row.bytes some) (word_again row.id id)
-        (rw (not_a_dash row.next) (ap (option_map (λ id. Some id)) (word_again row.next next)))
-        (bytes_again row.bytes bytes)
+    by true = row_line-read shelf (hex_of 2 row.id) (codes "-") (encode_lower row.bytes) row.id None row.bytes (length-hex_of_word row.id) refl (is_some_text-encode_lower row.bytes some) (number_in-word row.id id) refl (bytes_in-encode_lower row.bytes bytes)
+    by false = row_line-read shelf (hex_of 2 row.id) (hex_of 2 row.next) (encode_lower row.bytes) row.id (Some row.next) row.bytes (length-hex_of_word row.id)
+        (rw (length-hex_of_word row.next) refl) (is_some_text-encode_lower row.bytes some) (number_in-word row.id id)
+        (rw (is_dash-hex_of row.next) (ap (option_map (λ id. Some id)) (number_in-word row.next next)))
+        (bytes_in-encode_lower row.bytes bytes)
 
-pub part_again : (id : ℕ) (part : List ℕ) → id < 256 → 0 < length part → AreBytes part → inventory_line (hex_of 1 id) (encode_lower part) ≡ Ok (an_inventory id part)
-part_again id part lt some bytes = rw (len_one id, some_again part some, byte_again id lt, bytes_again part bytes) refl
+pub inventory_line-again : (id : ℕ) (part : List ℕ) → id < 256 → 0 < length part → AreBytes part → inventory_line (hex_of 1 id) (encode_lower part) ≡ Ok (an_inventory id part)
+inventory_line-again id part lt some bytes = rw (length-hex_of_byte id, is_some_text-encode_lower part some, number_in-byte id lt, bytes_in-encode_lower part bytes) refl
 
 -- the four bytes of a reading
 abbrev pub bytes_of_reading : SensorReading → List ℕ
 bytes_of_reading sensor = sensor.reading.raw ∷ sensor.reading.flags ∷ sensor.reading.status ∷ sensor.reading.more ∷ []
 
-lun_again : (lun : ℕ) → lun ≤ 3 → digit_in (drop 1 (hex_of 1 lun)) ≡ Some lun
+digit_in-lun : (lun : ℕ) → lun ≤ 3 → digit_in (drop 1 (hex_of 1 lun)) ≡ Some lun
 unfolding decode_pairs encode_with
-lun_again = of_lun (λ lun. digit_in (drop 1 (hex_of 1 lun)) ≡ Some lun) refl refl refl refl
+digit_in-lun = of_lun (λ lun. digit_in (drop 1 (hex_of 1 lun)) ≡ Some lun) refl refl refl refl
 
-pub reading_again : (sensor : SensorReading) → sensor.lun ≤ 3 → sensor.number < 256 → AreBytes (bytes_of_reading sensor)
+pub reading_line-again : (sensor : SensorReading) → sensor.lun ≤ 3 → sensor.number < 256 → AreBytes (bytes_of_reading sensor)
     → reading_line (drop 1 (hex_of 1 sensor.lun)) (hex_of 1 sensor.number) (encode_lower (bytes_of_reading sensor)) ≡ Ok (a_reading sensor.lun sensor.number (bytes_of_reading sensor))
-reading_again sensor le lt bytes =
-    let len : nat_eq (length (drop 1 (hex_of 1 sensor.lun))) 1 ≡ true = rw (digit_of sensor.lun le) refl in
-    rw (len, len_one sensor.number, some_again (bytes_of_reading sensor) (omega arith), lun_again sensor.lun le, byte_again sensor.number lt, bytes_again (bytes_of_reading sensor) bytes) refl
+reading_line-again sensor le lt bytes =
+    let len : nat_eq (length (drop 1 (hex_of 1 sensor.lun))) 1 ≡ true = rw (drop_hex_of_lun sensor.lun le) refl in
+    rw (len, length-hex_of_byte sensor.number, is_some_text-encode_lower (bytes_of_reading sensor) (omega arith), digit_in-lun sensor.lun le, number_in-byte sensor.number lt, bytes_in-encode_lower (bytes_of_reading sensor) bytes) refl
 
-pub info_again : (shelf : Shelf) (bytes : List ℕ) → 0 < length bytes → AreBytes bytes → info_line_of (Some shelf) (encode_lower bytes) ≡ Ok (an_info shelf bytes)
-info_again shelf bytes some all = rw (some_again bytes some, bytes_again bytes all) refl
+pub info_line_of-again : (shelf : Shelf) (bytes : List ℕ) → 0 < length bytes → AreBytes bytes → info_line_of (Some shelf) (encode_lower bytes) ≡ Ok (an_info shelf bytes)
+info_line_of-again shelf bytes some all = rw (is_some_text-encode_lower bytes some, bytes_in-encode_lower bytes all) refl

@@ -27,18 +27,18 @@ ends_here-pieces (b ∷ bytes) = by (nat_eq b 10) (pieces 10 bytes) (length-piec
     by false (piece ∷ rest) some = refl
 
 -- a text that does not end by a line feed has no `end`
-pub unended : (dashes : Bool) (before : List Line) (text : List ℕ) → store_after dashes before (text ∷ []) ≡ Err image_fault.NoEnd
+pub store_after-unended : (dashes : Bool) (before : List Line) (text : List ℕ) → store_after dashes before (text ∷ []) ≡ Err image_fault.NoEnd
 unfolding store_after
-unended dashes before text = refl
+store_after-unended dashes before text = refl
 
 -- what a line makes of those after it
 abbrev pub after_line : Bool → List Line → List (List ℕ) → Result Line LineFault → Result Store ImageFault
 after_line dashes before rest (Ok line) = cond (not (is_end line)) (store_after dashes (before ++ line ∷ []) rest) (cond (ends_here rest) (Ok (store_of_lines before)) (Err (image_fault.AfterEnd (length before + 3))))
 after_line dashes before rest (Err fault) = Err (at_line (length before + 2) fault)
 
-pub one_line : (dashes : Bool) (before : List Line) (text after : List ℕ) → store_after dashes before (text ∷ pieces 10 after) ≡ after_line dashes before (pieces 10 after) (line_judged dashes before text)
+pub store_after-line : (dashes : Bool) (before : List Line) (text after : List ℕ) → store_after dashes before (text ∷ pieces 10 after) ≡ after_line dashes before (pieces 10 after) (line_judged dashes before text)
 unfolding store_after
-one_line dashes before text after = by (pieces 10 after) (length-pieces 10 after) (line_judged dashes before text) refl
+store_after-line dashes before text after = by (pieces 10 after) (length-pieces 10 after) (line_judged dashes before text) refl
   where
     by : (l : List (List ℕ)) → 0 < length l → (r : Result Line LineFault) → line_judged dashes before text ≡ r → store_after dashes before (text ∷ l) ≡ after_line dashes before l r
     by [] some r e = absurd (omega (arith, some))
@@ -47,7 +47,7 @@ one_line dashes before text after = by (pieces 10 after) (length-pieces 10 after
 -- lines whose first is cut off give what it makes of the others
 pub lines_after : (dashes : Bool) (before : List Line) (all text after : List ℕ) (r : Result Line LineFault) (given : Result Store ImageFault) → pieces 10 all ≡ text ∷ pieces 10 after → line_judged dashes before text ≡ r
     → store_after dashes before (pieces 10 all) ≡ given → given ≡ after_line dashes before (pieces 10 after) r
-lines_after dashes before all text after r given cut line was = sym was ∙ ap (store_after dashes before) cut ∙ one_line dashes before text after ∙ ap (after_line dashes before (pieces 10 after)) line
+lines_after dashes before all text after r given cut line was = sym was ∙ ap (store_after dashes before) cut ∙ store_after-line dashes before text after ∙ ap (after_line dashes before (pieces 10 after)) line
 
 module _ (dashes : Bool) (before : List Line) (text : List ℕ) where
   pub line_err : (fault : LineFault) → line_of dashes text ≡ Err fault → line_judged dashes before text ≡ Err fault
@@ -64,8 +64,8 @@ end_is (an_info shelf bytes) e = cc e
 end_is the_end e = refl
 
 -- the lines after the first one give the store
-pub image_is : (bytes first rest : List ℕ) (dashes : Bool) → pieces 10 bytes ≡ first ∷ pieces 10 rest → Some dashes ≡ dashes_in first → store_of_image bytes ≡ store_after dashes [] (pieces 10 rest)
-image_is bytes first rest dashes cut is = ap store_of_pieces cut ∙ by (pieces 10 rest) (length-pieces 10 rest)
+pub store_of_image-lines : (bytes first rest : List ℕ) (dashes : Bool) → pieces 10 bytes ≡ first ∷ pieces 10 rest → Some dashes ≡ dashes_in first → store_of_image bytes ≡ store_after dashes [] (pieces 10 rest)
+store_of_image-lines bytes first rest dashes cut is = ap store_of_pieces cut ∙ by (pieces 10 rest) (length-pieces 10 rest)
   where
     by : (l : List (List ℕ)) → 0 < length l → store_of_pieces (first ∷ l) ≡ store_after dashes [] l
     by [] some = absurd (omega (arith, some))

@@ -13,11 +13,11 @@ use Rattle.ipmi_image.specs.Table.{place_of}
 use Rattle.ipmi_image.specs.Image.{chained}
 use Rattle.ipmi_image.specs.Rows.{id_of}
 use Rattle.ipmi_image.specs.Responder.{first_place, place_asked, of_shelf, seen_as}
-use Rattle.ipmi_image.proofs.RowsLemmas.{drop_past}
-use Rattle.ipmi_image.proofs.TableLemmas.{row_at, row_found, row_missing, place_below}
+use Rattle.ipmi_image.proofs.RowsLemmas.{drop-past}
+use Rattle.ipmi_image.proofs.TableLemmas.{row_at, row_with_id-found, row_with_id-missing, place_below}
 
-pub asked_none : (rows : List SavedRow) (id : ℕ) → place_asked id rows ≡ None → look (chained rows) id ≡ None
-asked_none rows id none = by (nat_eq id 0) none
+pub look-none : (rows : List SavedRow) (id : ℕ) → place_asked id rows ≡ None → look (chained rows) id ≡ None
+look-none rows id none = by (nat_eq id 0) none
   where
     first : (rows : List SavedRow) → first_place rows ≡ None → first_row (chained rows) ≡ None
     first [] e = refl
@@ -25,7 +25,7 @@ asked_none rows id none = by (nat_eq id 0) none
 
     by : (b : Bool) → cond b (first_place rows) (place_of id_of id rows) ≡ None → cond b (first_row (chained rows)) (row_with_id id (chained rows)) ≡ None
     by true e = first rows e
-    by false e = row_missing rows id e
+    by false e = row_with_id-missing rows id e
 
 asked_below : (rows : List SavedRow) (id place : ℕ) → place_asked id rows ≡ Some place → place < length rows
 asked_below rows id place at = by (nat_eq id 0) at
@@ -38,8 +38,8 @@ asked_below rows id place at = by (nat_eq id 0) at
     by true e = first rows e
     by false e = place_below id_of id rows place e
 
-pub asked_found : (rows : List SavedRow) (id place : ℕ) (row : SavedRow) → place_asked id rows ≡ Some place → slice_get rows place ≡ Some row → look (chained rows) id ≡ Some (row_at rows place row)
-asked_found rows id place row at is = by (nat_eq id 0) at
+pub look-found : (rows : List SavedRow) (id place : ℕ) (row : SavedRow) → place_asked id rows ≡ Some place → slice_get rows place ≡ Some row → look (chained rows) id ≡ Some (row_at rows place row)
+look-found rows id place row at is = by (nat_eq id 0) at
   where
     first : (rows : List SavedRow) → first_place rows ≡ Some place → slice_get rows place ≡ Some row → first_row (chained rows) ≡ Some (row_at rows place row)
     first [] e s = absurd (none-some place e)
@@ -50,12 +50,12 @@ asked_found rows id place row at is = by (nat_eq id 0) at
 
     by : (b : Bool) → cond b (first_place rows) (place_of id_of id rows) ≡ Some place → cond b (first_row (chained rows)) (row_with_id id (chained rows)) ≡ Some (row_at rows place row)
     by true e = first rows e is
-    by false e = row_found rows id place row e is
+    by false e = row_with_id-found rows id place row e is
 
 -- a place that is asked for is one of the list
 pub asked_there : (rows : List SavedRow) (id place : ℕ) → place_asked id rows ≡ Some place → slice_get rows place ≡ None → ⊥
-asked_there rows id place at past = let lt = asked_below rows id place at in let len = ap length (drop_past rows place past) in let is = length-drop place rows in omega (arith, lt, len, is)
+asked_there rows id place at past = let lt = asked_below rows id place at in let len = ap length (drop-past rows place past) in let is = length-drop place rows in omega (arith, lt, len, is)
 
-pub current_is : (shelf : Shelf) (plain : Bool) (r : Responder) → current shelf (seen_as plain r) ≡ of_shelf shelf r.sdr_reservation r.sel_reservation
-current_is Sdr plain r = refl
-current_is Sel plain r = refl
+pub current-seen_as : (shelf : Shelf) (plain : Bool) (r : Responder) → current shelf (seen_as plain r) ≡ of_shelf shelf r.sdr_reservation r.sel_reservation
+current-seen_as Sdr plain r = refl
+current-seen_as Sel plain r = refl

@@ -10,7 +10,7 @@ use Rattle.ipmi_image.specs.Line.{SavedRow}
 use Rattle.ipmi_image.specs.Image.{chained, first_id, row_before}
 use Rattle.ipmi_image.specs.Table.{inventory_of}
 use Rattle.ipmi_image.specs.Rewritten.{hex_of, parts_of, part_fields, first_row_id, row_fields, rows_lines, inventory_lines, line_text, lines_text, lines_of, image_text_of}
-use Rattle.ipmi_image.proofs.RowsLemmas.{drop_found, drop_past}
+use Rattle.ipmi_image.proofs.RowsLemmas.{drop-found, drop-past}
 
 pub on_ok : {A E : Type 0} (r : Result A E) {P Q : Type 0} → OnOk r P → (P → Q) → OnOk r Q
 on_ok (Ok x) p f = f p
@@ -27,46 +27,46 @@ of_lun P a b c d (suc (suc zero)) h = c
 of_lun P a b c d (suc (suc (suc zero))) h = d
 of_lun P a b c d (suc (suc (suc (suc n)))) h = absurd (omega (arith, h))
 
-pub digit_of : (lun : ℕ) → lun ≤ 3 → drop 1 (hex_of 1 lun) ≡ (48 + lun) ∷ []
+pub drop_hex_of_lun : (lun : ℕ) → lun ≤ 3 → drop 1 (hex_of 1 lun) ≡ (48 + lun) ∷ []
 unfolding encode_with
-digit_of = of_lun (λ lun. drop 1 (hex_of 1 lun) ≡ (48 + lun) ∷ []) refl refl refl refl
+drop_hex_of_lun = of_lun (λ lun. drop 1 (hex_of 1 lun) ≡ (48 + lun) ∷ []) refl refl refl refl
 
 pub lines_text-append : (a b : List (List (List ℕ))) → lines_text (a ++ b) ≡ lines_text a ++ lines_text b
 lines_text-append [] b = refl
 lines_text-append (x ∷ a) b = rw (lines_text-append a b) (sym (append_assoc (line_text x) (lines_text a) (lines_text b)))
 
 -- the first part, and the parts of what is left
-pub parts-more : (bytes : List ℕ) → 0 < length bytes → parts_of bytes ≡ take 64 bytes ∷ parts_of (drop 64 bytes)
-parts-more bytes some = rw count refl
+pub parts_of-more : (bytes : List ℕ) → 0 < length bytes → parts_of bytes ≡ take 64 bytes ∷ parts_of (drop 64 bytes)
+parts_of-more bytes some = rw count refl
   where
     count : (length bytes + 63) / 64 ≡ suc ((length (drop 64 bytes) + 63) / 64)
     count = let len = length-drop 64 bytes in rw len (omega (arith, some))
 
-pub part_put : (id : ℕ) (self new target rest part after : List ℕ) → 0 < length rest → part ≡ take 64 rest → after ≡ drop 64 rest → new ≡ self ++ line_text (part_fields id part)
+pub append-part : (id : ℕ) (self new target rest part after : List ℕ) → 0 < length rest → part ≡ take 64 rest → after ≡ drop 64 rest → new ≡ self ++ line_text (part_fields id part)
     → self ++ lines_text (map (part_fields id) (parts_of rest)) ≡ target → new ++ lines_text (map (part_fields id) (parts_of after)) ≡ target
-part_put id self new target rest part after some is_part is_after next was =
-    let left = rw (parts-more rest some) at was in
+append-part id self new target rest part after some is_part is_after next was =
+    let left = rw (parts_of-more rest some) at was in
     rw (next, is_part, is_after, append_assoc self) left
 
-pub inventory_put : (self new target : List ℕ) (items : List StoredInventory) (place : ℕ) (item : StoredInventory) → place < length items → item ≡ get_or items place item → new ≡ self ++ lines_text (inventory_lines (inventory_of item))
+pub append-inventory : (self new target : List ℕ) (items : List StoredInventory) (place : ℕ) (item : StoredInventory) → place < length items → item ≡ get_or items place item → new ≡ self ++ lines_text (inventory_lines (inventory_of item))
     → self ++ lines_text (flat_map inventory_lines (map inventory_of (drop place items))) ≡ target → new ++ lines_text (flat_map inventory_lines (map inventory_of (drop (place + 1) items))) ≡ target
-inventory_put self new target items place item lt is next was =
+append-inventory self new target items place item lt is next was =
     let left = rw (drop_more items place item lt, ← is, lines_text-append) at was in
     rw (next, append_assoc self) left
 
-first_chained : (rows : List SavedRow) → first_row_id (chained rows) ≡ first_id rows
-first_chained [] = refl
-first_chained (row ∷ rows) = refl
+first_row_id-chained : (rows : List SavedRow) → first_row_id (chained rows) ≡ first_id rows
+first_row_id-chained [] = refl
+first_row_id-chained (row ∷ rows) = refl
 
-pub row_put : (self new target word : List ℕ) (rows : List SavedRow) (place : ℕ) (row : SavedRow) → slice_get rows place ≡ Some row
+pub append-row_line : (self new target word : List ℕ) (rows : List SavedRow) (place : ℕ) (row : SavedRow) → slice_get rows place ≡ Some row
     → new ≡ self ++ line_text (row_fields word (first_id (drop (place + 1) rows)) (row_before (drop (place + 1) rows) row))
     → self ++ lines_text (rows_lines word (chained (drop place rows))) ≡ target → new ++ lines_text (rows_lines word (chained (drop (place + 1) rows))) ≡ target
-row_put self new target word rows place row at next was =
-    let left = rw (drop_found rows place row at, first_chained (drop (place + 1) rows)) at was in
+append-row_line self new target word rows place row at next was =
+    let left = rw (drop-found rows place row at, first_row_id-chained (drop (place + 1) rows)) at was in
     rw (next, append_assoc self) left
 
 pub rows_done : (self target word : List ℕ) (rows : List SavedRow) (place : ℕ) → slice_get rows place ≡ None → self ++ lines_text (rows_lines word (chained (drop place rows))) ≡ target → self ≡ target
-rows_done self target word rows place past was = rw (drop_past rows place past, append-nil) at was
+rows_done self target word rows place past was = rw (drop-past rows place past, append-nil) at was
 
 abbrev Lines : Type 0
 Lines = List (List (List ℕ))
@@ -84,6 +84,6 @@ image_joined t t1 t2 t3 t4 a b c e1 e2 e3 e4 =
     e4 ∙ ap (λ (l : List ℕ). l ++ lines_text c) (e3 ∙ ap (λ (l : List ℕ). l ++ lines_text b) (e2 ∙ ap (λ (l : List ℕ). l ++ lines_text a) e1))
     ∙ simp (lines_text-append, append_assoc) refl
 
-pub text_is : (store : Store) → lines_text (lines_of store) ≡ image_text_of store
+pub lines_text-lines_of : (store : Store) → lines_text (lines_of store) ≡ image_text_of store
 unfolding image_text_of
-text_is store = refl
+lines_text-lines_of store = refl

@@ -13,33 +13,33 @@ use Rattle.ipmi_image.specs.Rows.{id_of, row_in}
 abbrev pub head_id : RowHead → ℕ
 head_id head = head.id
 
-pub place_in : (bytes : List ℕ) (id : ℕ) (heads : List RowHead) → place_of id_of id (map (row_in bytes) heads) ≡ place_of head_id id heads
-place_in bytes id [] = refl
-place_in bytes id (head ∷ heads) = rw (place_in bytes id heads) refl
+pub place_of-row_in : (bytes : List ℕ) (id : ℕ) (heads : List RowHead) → place_of id_of id (map (row_in bytes) heads) ≡ place_of head_id id heads
+place_of-row_in bytes id [] = refl
+place_of-row_in bytes id (head ∷ heads) = rw (place_of-row_in bytes id heads) refl
 
 -- the id of the row at a place
-pub first_id_at : (bytes : List ℕ) (heads : List RowHead) (place : ℕ) (d : RowHead) → place < length heads → first_id (drop place (map (row_in bytes) heads)) ≡ (get_or heads place d).id
-first_id_at bytes [] place d lt = absurd (omega (arith, lt))
-first_id_at bytes (x ∷ heads) zero d lt = refl
-first_id_at bytes (x ∷ heads) (suc place) d lt = first_id_at bytes heads place d (omega (arith, lt))
+pub first_id-at : (bytes : List ℕ) (heads : List RowHead) (place : ℕ) (d : RowHead) → place < length heads → first_id (drop place (map (row_in bytes) heads)) ≡ (get_or heads place d).id
+first_id-at bytes [] place d lt = absurd (omega (arith, lt))
+first_id-at bytes (x ∷ heads) zero d lt = refl
+first_id-at bytes (x ∷ heads) (suc place) d lt = first_id-at bytes heads place d (omega (arith, lt))
 
-pub first_id_past : (bytes : List ℕ) (heads : List RowHead) (place : ℕ) → length heads ≤ place → first_id (drop place (map (row_in bytes) heads)) ≡ 65535
-first_id_past bytes [] zero le = refl
-first_id_past bytes [] (suc place) le = refl
-first_id_past bytes (x ∷ heads) zero le = absurd (omega (arith, le))
-first_id_past bytes (x ∷ heads) (suc place) le = first_id_past bytes heads place (omega (arith, le))
+pub first_id-past : (bytes : List ℕ) (heads : List RowHead) (place : ℕ) → length heads ≤ place → first_id (drop place (map (row_in bytes) heads)) ≡ 65535
+first_id-past bytes [] zero le = refl
+first_id-past bytes [] (suc place) le = refl
+first_id-past bytes (x ∷ heads) zero le = absurd (omega (arith, le))
+first_id-past bytes (x ∷ heads) (suc place) le = first_id-past bytes heads place (omega (arith, le))
 
 -- a row that is there, and those after it
-pub drop_found : (rows : List SavedRow) (place : ℕ) (row : SavedRow) → slice_get rows place ≡ Some row → drop place rows ≡ row ∷ drop (place + 1) rows
-drop_found [] place row at = absurd (none-some row at)
-drop_found (x ∷ rows) zero row at = ap (λ (r : SavedRow). r ∷ rows) (same_Some x row at)
-drop_found (x ∷ rows) (suc place) row at = let next : suc (place + 1) ≡ suc place + 1 = omega arith in drop_found rows place row at ∙ ap (λ (n : ℕ). row ∷ drop n (x ∷ rows)) next
+pub drop-found : (rows : List SavedRow) (place : ℕ) (row : SavedRow) → slice_get rows place ≡ Some row → drop place rows ≡ row ∷ drop (place + 1) rows
+drop-found [] place row at = absurd (none-some row at)
+drop-found (x ∷ rows) zero row at = ap (λ (r : SavedRow). r ∷ rows) (same_Some x row at)
+drop-found (x ∷ rows) (suc place) row at = let next : suc (place + 1) ≡ suc place + 1 = omega arith in drop-found rows place row at ∙ ap (λ (n : ℕ). row ∷ drop n (x ∷ rows)) next
 
-pub drop_past : (rows : List SavedRow) (place : ℕ) → slice_get rows place ≡ None → drop place rows ≡ []
-drop_past [] zero past = refl
-drop_past [] (suc place) past = refl
-drop_past (x ∷ rows) zero past = absurd (none-some x (sym past))
-drop_past (x ∷ rows) (suc place) past = drop_past rows place past
+pub drop-past : (rows : List SavedRow) (place : ℕ) → slice_get rows place ≡ None → drop place rows ≡ []
+drop-past [] zero past = refl
+drop-past [] (suc place) past = refl
+drop-past (x ∷ rows) zero past = absurd (none-some x (sym past))
+drop-past (x ∷ rows) (suc place) past = drop-past rows place past
 
 pub found_below : (rows : List SavedRow) (place : ℕ) (row : SavedRow) → slice_get rows place ≡ Some row → place < length rows
 found_below [] place row at = absurd (none-some row at)

@@ -25,7 +25,7 @@ use Rattle.ipmi_image.specs.declared.stored.StoredSensor.{StoredSensor}
 use Rattle.ipmi_image.specs.Stored.{sensor_of}
 use Rattle.ipmi_image.specs.Rewritten.{IsSaved}
 use Rattle.ipmi_image.proofs.ReadLemmas.{after_line}
-use Rattle.ipmi_image.proofs.StoreLemmas.{readings-same, reading_fine}
+use Rattle.ipmi_image.proofs.StoreLemmas.{filter_map-no_reading, reading_fine}
 
 -- ---- a line of an inventory has bytes
 
@@ -129,7 +129,7 @@ module _ (before : List Line) (saved : IsSaved (store_of_lines before)) where
   same_inventories line same = subst (λ (l : List Inventory). All (λ i. 0 < length i.bytes) l) (sym (fold-append with_inventory_line [] before (line ∷ []) ∙ same)) saved.some
 
   same_readings : (line : Line) → sensor_on line ≡ None → All (λ s. s.lun ≤ 3) (filter_map sensor_on (before ++ line ∷ []))
-  same_readings line none = subst (λ (l : List SensorReading). All (λ s. s.lun ≤ 3) l) (sym (readings-same before line none)) saved.luns
+  same_readings line none = subst (λ (l : List SensorReading). All (λ s. s.lun ≤ 3) l) (sym (filter_map-no_reading before line none)) saved.luns
 
   pub saved_more : (line : Line) → SaysSome (Ok line) → fault_in (store_of_lines before) line ≡ None → IsSaved (store_of_lines (before ++ line ∷ []))
   saved_more (a_row shelf row) some fine = record { some = same_inventories (a_row shelf row) refl; luns = same_readings (a_row shelf row) refl }

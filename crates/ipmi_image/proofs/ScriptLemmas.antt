@@ -31,8 +31,8 @@ fails_else P P' Q Q' NotPresent code s s' p q h = (q h.0, h.1)
 fails_else P P' Q Q' Refusal code s s' p q h = h
 
 -- it answers over the store as it is, as one that never changes
-same_after : (r r' : Responder) → (IsHonest (seen_as true r) → IsChange (seen_as true r) (seen_as true r')) → IsHonest (seen_as false r) → (seen_as false r').stores_added ≡ (seen_as false r).stores_added
-same_after r r' change honest = let plainly : IsHonest (seen_as true r) = record { said = honest.said; store = honest.store } in (change plainly).stays.plain_store refl
+stores_added-after : (r r' : Responder) → (IsHonest (seen_as true r) → IsChange (seen_as true r) (seen_as true r')) → IsHonest (seen_as false r) → (seen_as false r').stores_added ≡ (seen_as false r).stores_added
+stores_added-after r r' change honest = let plainly : IsHonest (seen_as true r) = record { said = honest.said; store = honest.store } in (change plainly).stays.plain_store refl
 
 module _ (old : Seen) (r r' : Responder) (honest : IsHonest old) (plain : old.plain ≡ false) (first : Prepares old (seen_as false r))
     (plainly : IsHonest (seen_as true r) → IsChange (seen_as true r) (seen_as true r')) where
@@ -43,7 +43,7 @@ module _ (old : Seen) (r r' : Responder) (honest : IsHonest old) (plain : old.pl
   new = seen_as false r'
 
   same : new.stores_added ≡ mid.stores_added
-  same = same_after r r' plainly first.change.stays.honest
+  same = stores_added-after r r' plainly first.change.stays.honest
 
   quiet_on : IsQuiet mid new → IsQuiet old new
   quiet_on q = record { troubles = q.troubles ∙ first.quiet.troubles; fresh_troubles = q.fresh_troubles ∙ first.quiet.fresh_troubles; refusals = q.refusals ∙ first.quiet.refusals; last_code = q.last_code ∙ first.quiet.last_code }

@@ -27,17 +27,17 @@ use Rattle.ipmi_image.proofs.TableLemmas.{place_some, place_none}
 
 -- ---- inventories
 
-longer_len : (place : ℕ) (bytes : List ℕ) (xs : List Inventory) → length (longer_at place bytes xs) ≡ length xs
-longer_len place bytes [] = refl
-longer_len zero bytes (x ∷ xs) = refl
-longer_len (suc place) bytes (x ∷ xs) = ap suc (longer_len place bytes xs)
+length-longer_at : (place : ℕ) (bytes : List ℕ) (xs : List Inventory) → length (longer_at place bytes xs) ≡ length xs
+length-longer_at place bytes [] = refl
+length-longer_at zero bytes (x ∷ xs) = refl
+length-longer_at (suc place) bytes (x ∷ xs) = ap suc (length-longer_at place bytes xs)
 
-longer_id : (place : ℕ) (bytes : List ℕ) (xs : List Inventory) (k : ℕ) (d : Inventory) → (get_or (longer_at place bytes xs) k d).id ≡ (get_or xs k d).id
-longer_id place bytes [] k d = refl
-longer_id zero bytes (x ∷ xs) zero d = refl
-longer_id zero bytes (x ∷ xs) (suc k) d = refl
-longer_id (suc place) bytes (x ∷ xs) zero d = refl
-longer_id (suc place) bytes (x ∷ xs) (suc k) d = longer_id place bytes xs k d
+id-longer_at : (place : ℕ) (bytes : List ℕ) (xs : List Inventory) (k : ℕ) (d : Inventory) → (get_or (longer_at place bytes xs) k d).id ≡ (get_or xs k d).id
+id-longer_at place bytes [] k d = refl
+id-longer_at zero bytes (x ∷ xs) zero d = refl
+id-longer_at zero bytes (x ∷ xs) (suc k) d = refl
+id-longer_at (suc place) bytes (x ∷ xs) zero d = refl
+id-longer_at (suc place) bytes (x ∷ xs) (suc k) d = id-longer_at place bytes xs k d
 
 longer_all : (P : Inventory → Type 0) (place : ℕ) (bytes : List ℕ) (xs : List Inventory) → ((x : Inventory) → slice_get xs place ≡ Some x → P x → P (record { id = x.id; bytes = x.bytes ++ bytes })) → All P xs → All P (longer_at place bytes xs)
 longer_all P place bytes [] h all = all
@@ -47,7 +47,7 @@ longer_all P (suc place) bytes (x ∷ xs) h all = All-cons P x _ (all 0 x (omega
 pub AreInventories-longer : (place : ℕ) (bytes : List ℕ) (xs : List Inventory) → ((x : Inventory) → slice_get xs place ≡ Some x → IsInventory x → IsInventory (record { id = x.id; bytes = x.bytes ++ bytes })) → AreInventories xs → AreInventories (longer_at place bytes xs)
 AreInventories-longer place bytes xs h are = record {
   all = longer_all IsInventory place bytes xs h are.all;
-  distinct = λ i j d lt below e. are.distinct i j d lt (subst (λ (n : ℕ). j < n) (longer_len place bytes xs) below) (sym (longer_id place bytes xs i d) ∙ e ∙ longer_id place bytes xs j d);
+  distinct = λ i j d lt below e. are.distinct i j d lt (subst (λ (n : ℕ). j < n) (length-longer_at place bytes xs) below) (sym (id-longer_at place bytes xs i d) ∙ e ∙ id-longer_at place bytes xs j d);
 }
 
 -- ---- one more line
@@ -64,8 +64,8 @@ filter_map-after {Y} h before line = filter_map-append h before (line ∷ []) �
     by None = append-nil _
     by (Some y) = refl
 
-pub readings-same : (before : List Line) (line : Line) → sensor_on line ≡ None → filter_map sensor_on (before ++ line ∷ []) ≡ filter_map sensor_on before
-readings-same before line none = filter_map-after sensor_on before line ∙ ap (said_after (filter_map sensor_on before)) none
+pub filter_map-no_reading : (before : List Line) (line : Line) → sensor_on line ≡ None → filter_map sensor_on (before ++ line ∷ []) ≡ filter_map sensor_on before
+filter_map-no_reading before line none = filter_map-after sensor_on before line ∙ ap (said_after (filter_map sensor_on before)) none
 
 -- the first info is all there is before the second
 abbrev info_after : Option (List ℕ) → Option (List ℕ) → Option (List ℕ)
@@ -86,12 +86,12 @@ same_store a b e1 e2 e3 e4 e5 e6 =
     let same : made a ≡ made b = cc in same
 
 -- what is kept is what the lines say
-pub store_is : (contents : Contents) (lines : List Line) → HoldsLines contents lines → store_of contents ≡ store_of_lines lines
-store_is contents lines holds = same_store (store_of contents) (store_of_lines lines) (ap chained holds.sdr) (ap chained holds.sel) holds.inventories holds.readings holds.sdr_info holds.sel_info
+pub store_of-lines : (contents : Contents) (lines : List Line) → HoldsLines contents lines → store_of contents ≡ store_of_lines lines
+store_of-lines contents lines holds = same_store (store_of contents) (store_of_lines lines) (ap chained holds.sdr) (ap chained holds.sel) holds.inventories holds.readings holds.sdr_info holds.sel_info
 
 module _ (old : Contents) (before : List Line) (holds : HoldsLines old before) where
   pub fault_is : (line : Line) → fault_in (store_of_lines before) line ≡ fault_in (store_of old) line
-  fault_is line = rw (sym (store_is old before holds)) refl
+  fault_is line = rw (sym (store_of-lines old before holds)) refl
 
   -- each part of the new contents is the old one's with what the line says of it
   holds-after : (new : Contents) (line : Line) → new.sdr ≡ said_after old.sdr (row_on Sdr line) → new.sel ≡ said_after old.sel (row_on Sel line)
@@ -137,18 +137,18 @@ inventory_fits (x ∷ xs) id all = by (inventory_fits xs id (λ k d lt. all (suc
     by rest true = (all 0 x (omega arith)).fits
     by rest false = rest
 
-pub inventory_found : (items : List StoredInventory) (id place : ℕ) (x : Inventory) → place_of (λ (i : StoredInventory). i.id) id items ≡ Some place → slice_get (map inventory_of items) place ≡ Some x → inventory_in (map inventory_of items) id ≡ Some x.bytes
-inventory_found [] id place x at is = absurd (none-some place at)
-inventory_found (y ∷ ys) id place x at is = elim (place_some (λ (i : StoredInventory). i.id) id y ys place at) [
+pub inventory_in-found : (items : List StoredInventory) (id place : ℕ) (x : Inventory) → place_of (λ (i : StoredInventory). i.id) id items ≡ Some place → slice_get (map inventory_of items) place ≡ Some x → inventory_in (map inventory_of items) id ≡ Some x.bytes
+inventory_in-found [] id place x at is = absurd (none-some place at)
+inventory_in-found (y ∷ ys) id place x at is = elim (place_some (λ (i : StoredInventory). i.id) id y ys place at) [
   | inl first ↦ rw first.0 (ap (λ (i : Inventory). Some i.bytes) (same_Some (inventory_of y) x (rw first.1 at is)))
-  | inr later ↦ rw later.0 (inventory_found ys id later.1 x later.2 (rw later.3 at is))
+  | inr later ↦ rw later.0 (inventory_in-found ys id later.1 x later.2 (rw later.3 at is))
 ]
 
 -- with more bytes they are still inventories of a store
 pub AreInventories-more : (items : List StoredInventory) (id place : ℕ) (bytes : List ℕ) → place_of (λ (i : StoredInventory). i.id) id items ≡ Some place → length (unwrap_or (inventory_in (map inventory_of items) id) []) + length bytes ≤ 65535 → AreBytes bytes → AreInventories (map inventory_of items) → AreInventories (longer_at place bytes (map inventory_of items))
 AreInventories-more items id place bytes at fits all are = AreInventories-longer place bytes (map inventory_of items) (λ x found is. record {
   id = is.id;
-  fits = let b = inventory_found items id place x at found in let len = length-append x.bytes bytes in
+  fits = let b = inventory_in-found items id place x at found in let len = length-append x.bytes bytes in
       let is_len : length (unwrap_or (inventory_in (map inventory_of items) id) []) ≡ length x.bytes = ap (λ (o : Option (List ℕ)). length (unwrap_or o [])) b in
       omega (arith, fits, len, is_len);
   bytes = All-append (λ (n : ℕ). n < 256) x.bytes bytes is.bytes all;

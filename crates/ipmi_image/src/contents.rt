@@ -71,7 +71,7 @@ fn bytes_fault(shelf: Shelf, rows: &Rows, row: &StoredRow) -> Option<LineFault>
 }
 
 /// Puts the record after these.
-#[tactic(auto, using(crate::proofs::TableLemmas::has_id_place))]
+#[tactic(auto, using(crate::proofs::TableLemmas::has_id_chained))]
 fn put_row(
     shelf: Shelf,
     rows: &mut Rows,
@@ -163,7 +163,7 @@ fn put_inventory(
 }
 
 /// Whether the sensor has a reading already.
-#[tactic(auto, using(crate::proofs::TableLemmas::reading_place))]
+#[tactic(auto, using(crate::proofs::TableLemmas::is_some_reading_in))]
 fn has_reading(sensors: &Table<StoredSensor>, lun: u8, number: u8) -> bool
     requires { AreReadings (map sensor_of sensors.now) }
     ensures { result ≡ is_some (reading_in (map sensor_of sensors.now) lun number) }

@@ -182,7 +182,7 @@ impl Image {
     }
 
     /// The bytes of the inventory with this id.
-    #[tactic(auto, using(crate::proofs::TableLemmas::inventory_find))]
+    #[tactic(auto, using(crate::proofs::TableLemmas::inventory_in_find))]
     pub(crate) fn inventory(&self, id: u8) -> Option<&[u8]>
         ensures bytes { option_map (λ bytes. bytes.now) result ≡ inventory_of id self.now }
         ensures fits { IfSome result (λ bytes. length bytes.now ≤ 65535) }
@@ -192,7 +192,7 @@ impl Image {
     }
 
     /// The reading of the sensor with this number at this LUN.
-    #[tactic(auto, using(crate::proofs::TableLemmas::sensor_find))]
+    #[tactic(auto, using(crate::proofs::TableLemmas::reading_in_find))]
     pub(crate) fn reading(&self, lun: u8, number: u8) -> Option<Reading>
         ensures { result ≡ reading_of lun number self.now }
     {

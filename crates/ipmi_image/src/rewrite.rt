@@ -152,7 +152,7 @@ impl Text {
     }
 
     /// Appends the one digit of a LUN.
-    #[tactic(auto, using(crate::proofs::RewriteLemmas::digit_of))]
+    #[tactic(auto, using(crate::proofs::RewriteLemmas::drop_hex_of_lun))]
     fn push_lun(&mut self, lun: u8) -> Result<(), AllocError>
         requires { lun ≤ 3 }
         ensures { OnOk result

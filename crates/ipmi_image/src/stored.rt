@@ -131,7 +131,7 @@ impl<T: Keyed + Drop> Table<T> {
     }
 
     /// The item with this key.
-    #[tactic(auto, using(crate::proofs::TableLemmas::found_at))]
+    #[tactic(auto, using(crate::proofs::TableLemmas::slice_get_place_of))]
     pub(crate) fn get(&self, key: u16) -> Option<&T>
         ensures { option_map (λ item. item.now) result ≡ find (λ item. T.key item == key) self.now }
     {

@@ -36,18 +36,18 @@ Appends-kept (Some o) (Some m) (Some n) xs so_far kept = kept ∙ so_far
 pub Appends-same : (old new : Option (List ℕ)) (xs ys : List ℕ) → xs ≡ ys → Appends old new xs → Appends old new ys
 Appends-same old new xs ys same all = subst (λ (t : List ℕ). Appends old new t) same all
 
-positive : (n : ℕ) → (suc n == 0) ≡ false
-positive n = search arith
+suc-eq-zero : (n : ℕ) → (suc n == 0) ≡ false
+suc-eq-zero n = search arith
 
 -- a call that took some bytes was no fault
-pub faults-kept : (faults : Option ℕ) (n : ℕ) → (n ≡ 0 → ⊥) → option_map (λ k. k + (if n == 0 then 1 else 0)) faults ≡ faults
-faults-kept None n some = refl
-faults-kept (Some k) zero some = absurd (some refl)
-faults-kept (Some k) (suc n) some = let same : k + 0 ≡ k = omega arith in rw (positive n) (ap Some same)
+pub option_map-kept : (faults : Option ℕ) (n : ℕ) → (n ≡ 0 → ⊥) → option_map (λ k. k + (if n == 0 then 1 else 0)) faults ≡ faults
+option_map-kept None n some = refl
+option_map-kept (Some k) zero some = absurd (some refl)
+option_map-kept (Some k) (suc n) some = let same : k + 0 ≡ k = omega arith in rw (suc-eq-zero n) (ap Some same)
 
 -- and one that took none was a fault
-pub faults-raised : (faults : Option ℕ) (n : ℕ) → n ≡ 0 → option_map (λ k. k + (if n == 0 then 1 else 0)) faults ≡ option_map (λ k. k + 1) faults
-faults-raised faults n none = rw none refl
+pub option_map-raised : (faults : Option ℕ) (n : ℕ) → n ≡ 0 → option_map (λ k. k + (if n == 0 then 1 else 0)) faults ≡ option_map (λ k. k + 1) faults
+option_map-raised faults n none = rw none refl
 
 -- some bytes were taken, and then more
 pub ReceivesAll-both : (old mid new : Received) (xs ys : List ℕ) → ReceivesAll old mid xs → ReceivesAll mid new ys → ReceivesAll old new (xs ++ ys)

@@ -4,17 +4,17 @@ use Rattle.std.proofs.Math.Seq.{drop-append_seam, drop-cons}
 use Rattle.std.specs.Fmt.{char_count, is_char_start}
 use Rattle.ipmi_records.specs.Bytes.{padded_to}
 
-pub no_characters : char_count [] ≡ 0
+pub char_count-nil : char_count [] ≡ 0
 unfolding char_count
-no_characters = refl
+char_count-nil = refl
 
 char_count-cons : (b : ℕ) (bs : List ℕ) → char_count (b ∷ bs) ≡ (if is_char_start b then 1 else 0) + char_count bs
 unfolding char_count
 char_count-cons b bs = refl
 
 -- the characters from byte i on, by whether one begins there
-pub characters_from : (bs : List ℕ) (i : ℕ) → i < length bs → char_count (drop i bs) ≡ (if is_char_start (get_or bs i 0) then 1 else 0) + char_count (drop (suc i) bs)
-characters_from bs i within = ap char_count (drop-cons bs i 0 within) ∙ char_count-cons (get_or bs i 0) (drop (suc i) bs)
+pub char_count-drop : (bs : List ℕ) (i : ℕ) → i < length bs → char_count (drop i bs) ≡ (if is_char_start (get_or bs i 0) then 1 else 0) + char_count (drop (suc i) bs)
+char_count-drop bs i within = ap char_count (drop-cons bs i 0 within) ∙ char_count-cons (get_or bs i 0) (drop (suc i) bs)
 
 -- a column that was appended, and the spaces after it
 pub padded_after : (width start : ℕ) (before column old new : List ℕ) → old ≡ before ++ column → start ≡ length before

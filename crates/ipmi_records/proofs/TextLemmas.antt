@@ -32,10 +32,10 @@ reading_lines_made view reading status empty first second text empty_is first_is
       text_is = text_is ∙ rw (h.text_is, first_is, empty_is, status_is) (simp append_assoc refl);
     }
 
-pub key_lines_joined : (owner lun number : List ℕ)
+pub append-key_lines : (owner lun number : List ℕ)
     → codes "Owner: " ++ (owner ++ (codes " LUN " ++ (lun ++ (codes "\nSensor: " ++ (number ++ codes "\n")))))
     ≡ labelled (codes "Owner") (owner ++ (codes " LUN " ++ lun)) ++ labelled (codes "Sensor") number
-key_lines_joined owner lun number = simp append_assoc refl
+append-key_lines owner lun number = simp append_assoc refl
 
 pub subject_lines_made : (sensor : Sensor) (kind text : List ℕ) → kind ≡ sensor_type_text_of sensor.sensor_type
     → text ≡ codes "Entity: " ++ (entity_text sensor.entity ++ (codes "\nKind: " ++ (kind ++ (codes "\nEvent type: " ++ (byte_h sensor.event_type ++ codes "\n")))))

@@ -22,19 +22,19 @@ one_or_more zero p v h = absurd (omega arith)
 one_or_more (suc d) p v h = omega arith
 
 -- the first digits count for a power of ten more than the rest
-value_after : (n : ℕ) (ds : List ℕ) → digits_value_after 10 n ds ≡ n * 10 ^ length ds + digits_value 10 ds
-value_after n [] = omega arith
-value_after n (d ∷ ds) =
+digits_value_after-value : (n : ℕ) (ds : List ℕ) → digits_value_after 10 n ds ≡ n * 10 ^ length ds + digits_value 10 ds
+digits_value_after-value n [] = omega arith
+digits_value_after-value n (d ∷ ds) =
     let v = digits_value 10 ds in
     let p = 10 ^ length ds in
     let first = digit_value d in
-    let here : digits_value_after 10 (n * 10 + first) ds ≡ (n * 10 + first) * p + v = value_after (n * 10 + first) ds in
-    let from_zero : digits_value_after 10 (0 * 10 + first) ds ≡ (0 * 10 + first) * p + v = value_after (0 * 10 + first) ds in
+    let here : digits_value_after 10 (n * 10 + first) ds ≡ (n * 10 + first) * p + v = digits_value_after-value (n * 10 + first) ds in
+    let from_zero : digits_value_after 10 (0 * 10 + first) ds ≡ (0 * 10 + first) * p + v = digits_value_after-value (0 * 10 + first) ds in
     let power : 10 ^ suc (length ds) ≡ p * 10 = pow-suc 10 (length ds) in
     rw power (here ∙ expanded n first p v ∙ rw (sym from_zero) refl)
 
-pub value-cons : (d : ℕ) (ds : List ℕ) → digits_value 10 (d ∷ ds) ≡ digit_value d * 10 ^ length ds + digits_value 10 ds
-value-cons d ds = value_after (0 * 10 + digit_value d) ds ∙ value_from_zero (digit_value d) (10 ^ length ds) (digits_value 10 ds)
+pub digits_value-cons : (d : ℕ) (ds : List ℕ) → digits_value 10 (d ∷ ds) ≡ digit_value d * 10 ^ length ds + digits_value 10 ds
+digits_value-cons d ds = digits_value_after-value (0 * 10 + digit_value d) ds ∙ value_from_zero (digit_value d) (10 ^ length ds) (digits_value 10 ds)
 
 same_quotient : (a b p r s : ℕ) → a * p + r ≡ b * p + s → r < p → s < p → (a ≡ b) × (r ≡ s)
 same_quotient a b p r s e h k =
@@ -52,7 +52,7 @@ same_digits (x ∷ xs) [] l h k e = absurd (omega arith)
 same_digits (x ∷ xs) (y ∷ ys) l h k e =
     let long : length xs ≡ length ys = omega arith in
     let split : digit_value x * 10 ^ length xs + digits_value 10 xs ≡ digit_value y * 10 ^ length xs + digits_value 10 ys
-    = sym (value-cons x xs) ∙ e ∙ value-cons y ys ∙ rw (sym long) refl in
+    = sym (digits_value-cons x xs) ∙ e ∙ digits_value-cons y ys ∙ rw (sym long) refl in
     let small_y : digits_value 10 ys < 10 ^ length xs = rw long (digits_value-lt 10 ys k.1) in
     let parts = same_quotient (digit_value x) (digit_value y) (10 ^ length xs) (digits_value 10 xs) (digits_value 10 ys) split (digits_value-lt 10 xs h.1) small_y in
     let first : x ≡ y = is_digit x h.0 ∙ rw parts.0 (sym (is_digit y k.0)) in
@@ -68,7 +68,7 @@ longer xs (y ∷ ys) h k l =
     let first : 1 ≤ digit_value y = let d = is_digit y k.numeral.1.0 in grind arith in
     let low : digits_value 10 xs < 10 ^ length xs = digits_value-lt 10 xs h.numeral.1 in
     let power : 10 ^ length xs ≤ 10 ^ length ys = pow-le-pow_right (omega arith) (omega arith) in
-    let value = value-cons y ys in
+    let value = digits_value-cons y ys in
     let enough : 10 ^ length ys ≤ digit_value y * 10 ^ length ys + digits_value 10 ys = one_or_more (digit_value y) (10 ^ length ys) (digits_value 10 ys) first in
     rw value (omega arith)
 

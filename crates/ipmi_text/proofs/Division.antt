@@ -27,8 +27,8 @@ pub pow_pos_10 : (m : ℕ) → 0 < 10 ^ m
 pow_pos_10 zero = omega arith
 pow_pos_10 (suc m) = let h = pow_pos_10 m in rw pow-suc (omega arith)
 
-pub digit_of : (d : ℕ) → d < 10 → digit_value (48 + d) ≡ d
-digit_of d h = grind (arith, nat_tests)
+pub digit_value-digit : (d : ℕ) → d < 10 → digit_value (48 + d) ≡ d
+digit_value-digit d h = grind (arith, nat_tests)
 
 -- a place is left where something is
 room : (k place rest : ℕ) → k ≤ 16 → place ≡ 10 ^ (16 - k) → rest < place → rest ≢ 0 → k < 16
@@ -83,12 +83,12 @@ one_more n ds place rest h some =
     let d = rest / q in
     let small : d < 10 = quotient q rest q_pos (omega arith) in
     let long : length (ds ++ (48 + d) ∷ []) ≡ k + 1 = length-append ds ((48 + d) ∷ []) in
-    let value_is : digits_value 10 (ds ++ (48 + d) ∷ []) ≡ digits_value 10 ds * 10 + d = digits_value_push 10 ds (48 + d) ∙ rw (digit_of d small) refl in
+    let value_is : digits_value 10 (ds ++ (48 + d) ∷ []) ≡ digits_value 10 ds * 10 + d = digits_value_push 10 ds (48 + d) ∙ rw (digit_value-digit d small) refl in
     let whole : q * d + rest % q ≡ rest = omega arith in
     let left : 16 - (k + 1) ≡ 15 - k = omega arith in
     let end : k + 1 - 1 ≡ k = omega arith in
     record {
-      digits = digits_push 10 ds (48 + d) h.digits (rw (digit_of d small) small);
+      digits = digits_push 10 ds (48 + d) h.digits (rw (digit_value-digit d small) small);
       short = rw long (omega arith);
       place_is = rw (long, left) q_is;
       below = omega arith;
@@ -96,20 +96,20 @@ one_more n ds place rest h some =
       last = λ none. rw (long, end, get_or_push ds (48 + d) 0 k refl) (last_digit q rest q_pos some none);
     }
 
-zeros : (k : ℕ) (ds : List ℕ) → digits_value 10 (ds ++ replicate k 48) ≡ digits_value 10 ds * 10 ^ k
-zeros zero ds = rw append-nil (omega arith)
-zeros (suc k) ds =
+digits_value-zeros : (k : ℕ) (ds : List ℕ) → digits_value 10 (ds ++ replicate k 48) ≡ digits_value 10 ds * 10 ^ k
+digits_value-zeros zero ds = rw append-nil (omega arith)
+digits_value-zeros (suc k) ds =
     let zs : List ℕ = replicate k 48 in
     let e : ds ++ (48 ∷ zs) ≡ (ds ++ 48 ∷ []) ++ zs = sym (append_assoc ds (48 ∷ []) zs) in
     let v = digits_value 10 ds in
     let one : digits_value 10 (ds ++ 48 ∷ []) ≡ v * 10 = digits_value_push 10 ds 48 ∙ omega arith in
     let p : 10 ^ suc k ≡ 10 ^ k * 10 = pow-suc 10 k in
-    ap (digits_value 10) e ∙ zeros k (ds ++ 48 ∷ []) ∙ rw one (sym (rw p (omega arith)))
+    ap (digits_value 10) e ∙ digits_value-zeros k (ds ++ 48 ∷ []) ∙ rw one (sym (rw p (omega arith)))
 
 pub at_end : (n : ℕ) (ds : List ℕ) (place rest : ℕ) → IsDivided n ds place rest → rest ≡ 0 → IsFraction ds × (digits_value 10 (filled ds) ≡ n)
 at_end n ds place rest h none = (
   record { all_digits = h.digits; short = h.short; last = h.last none },
-  zeros (16 - length ds) ds ∙ rw (sym h.place_is) (omega (arith, h.sum)),
+  digits_value-zeros (16 - length ds) ds ∙ rw (sym h.place_is) (omega (arith, h.sum)),
 )
 
 -- no leading zero but in `0` itself
@@ -128,9 +128,9 @@ whole_of n small = record {
   ];
 }
 
-pub after_some : (ds : List ℕ) → length ds ≢ 0 → after_point ds ≡ 46 ∷ ds
-after_some [] h = absurd (h refl)
-after_some (d ∷ ds) h = refl
+pub after_point-some : (ds : List ℕ) → length ds ≢ 0 → after_point ds ≡ 46 ∷ ds
+after_point-some [] h = absurd (h refl)
+after_point-some (d ∷ ds) h = refl
 
 -- a point and the first digits of the fraction n come after old, and rest is left of it
 pub record HasWritten (n : ℕ) (old new : List ℕ) (place rest : ℕ) : Type 0 where
@@ -153,20 +153,20 @@ one_more_written n old new next place rest h some e = record {
   text_is = e ∙ rw h.text_is (append_assoc old (46 ∷ h.digits) ((48 + rest / (place / 10)) ∷ []));
 }
 
-zero_filled : (ds : List ℕ) → length ds ≡ 0 → digits_value 10 (filled ds) ≡ 0
-zero_filled [] h = refl
-zero_filled (d ∷ ds) h = absurd (omega arith)
+digits_value-filled : (ds : List ℕ) → length ds ≡ 0 → digits_value 10 (filled ds) ≡ 0
+digits_value-filled [] h = refl
+digits_value-filled (d ∷ ds) h = absurd (omega arith)
 
 -- the whole fraction is written, where it is not 0
 pub all_written : (n : ℕ) (old new : List ℕ) (place rest : ℕ) → HasWritten n old new place rest → rest ≡ 0 → n ≢ 0 → AppendsFraction n old new
 all_written n old new place rest h none some =
     let done = at_end n h.digits place rest h.divided none in
-    let digits_there : length h.digits ≢ 0 = λ e. some (sym done.1 ∙ zero_filled h.digits e) in
+    let digits_there : length h.digits ≢ 0 = λ e. some (sym done.1 ∙ digits_value-filled h.digits e) in
     record {
       digits = h.digits;
       is_fraction = done.0;
       value_is = done.1;
-      text_is = h.text_is ∙ rw (sym (after_some h.digits digits_there)) refl;
+      text_is = h.text_is ∙ rw (sym (after_point-some h.digits digits_there)) refl;
     }
 
 pub none_appended : (n : ℕ) (old new : List ℕ) → n ≡ 0 → new ≡ old → AppendsFraction n old new

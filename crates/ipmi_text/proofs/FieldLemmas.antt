@@ -105,8 +105,8 @@ latin1_text-step b bs h =
     let one_more : 1 + position_or_len (λ b. b == 0) bs ≡ suc (position_or_len (λ b. b == 0) bs) = omega arith in
     rw (test, one_more) refl
 
-plain_character : (b : ℕ) → 0x20 ≤ b → b ≤ 0x7e → latin1_character b ≡ b
-plain_character b low high =
+latin1_character-plain : (b : ℕ) → 0x20 ≤ b → b ≤ 0x7e → latin1_character b ≡ b
+latin1_character-plain b low high =
     let above : nat_le 0x20 b ≡ true = grind (arith, nat_tests) in
     let below : nat_le b 0x7e ≡ true = grind (arith, nat_tests) in
     rw (above, below) refl
@@ -114,12 +114,12 @@ plain_character b low high =
 latin1_text-plain : (b : ℕ) (bs : List ℕ) → 0x20 ≤ b → b ≤ 0x7e → latin1_text (b ∷ bs) ≡ b ∷ latin1_text bs
 latin1_text-plain b bs low high =
     let some : b ≢ 0 = λ e. absurd (omega (arith, e)) in
-    latin1_text-step b bs some ∙ rw (plain_character b low high, encode_ascii b (omega arith)) refl
+    latin1_text-step b bs some ∙ rw (latin1_character-plain b low high, encode_ascii b (omega arith)) refl
 
 -- bytes that are printed as themselves, one after another
-pub plain_so_far : (bs : List ℕ) (i : ℕ) → i < length bs → 0x20 ≤ get_or bs i 0 → get_or bs i 0 ≤ 0x7e
+pub append-latin1_text : (bs : List ℕ) (i : ℕ) → i < length bs → 0x20 ≤ get_or bs i 0 → get_or bs i 0 ≤ 0x7e
     → take i bs ++ latin1_text (drop i bs) ≡ latin1_text bs → take (i + 1) bs ++ latin1_text (drop (i + 1) bs) ≡ latin1_text bs
-plain_so_far bs i within low high so_far =
+append-latin1_text bs i within low high so_far =
     let b = get_or bs i 0 in
     let here : latin1_text (drop i bs) ≡ b ∷ latin1_text (drop (suc i) bs) = ap latin1_text (drop-cons bs i 0 within) ∙ latin1_text-plain b (drop (suc i) bs) low high in
     rw (take_more bs i 0 within) (append_assoc (take i bs) (b ∷ []) (latin1_text (drop (i + 1) bs)) ∙ rw (add-one i, sym here) so_far)
@@ -171,5 +171,5 @@ pub IsAscii-six_bit : (bs : List ℕ) → IsAscii (six_bit_text bs)
 unfolding six_bit_text
 IsAscii-six_bit bs = IsAscii-map (six_bit_character bs) (λ i. six_bits (number_of bs / 64 ^ i)) (range_with_len 0 (8 * length bs / 6))
 
-pub no_byte_left : (rest : List ℕ) → (length rest == 0) ≡ true → length rest ≡ 0
-no_byte_left rest h = grind (arith, nat_tests)
+pub length-no_byte : (rest : List ℕ) → (length rest == 0) ≡ true → length rest ≡ 0
+length-no_byte rest h = grind (arith, nat_tests)

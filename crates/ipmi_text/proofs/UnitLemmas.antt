@@ -6,12 +6,12 @@ use Rattle.std.proofs.lemmas.Bool.{cases_lt}
 use Rattle.std.proofs.lemmas.Bool.Decides.{nat_tests}
 use Rattle.ipmi_text.specs.Units.{after_space, is_not_empty, modifier_part, unit_name_or_code, unit_text_of, units}
 
-suc_is_not_zero : (n : ℕ) → (suc n == 0) ≡ false
-suc_is_not_zero n = grind (arith, nat_tests)
+suc-eq-zero : (n : ℕ) → (suc n == 0) ≡ false
+suc-eq-zero n = grind (arith, nat_tests)
 
-pub not_empty_is : (xs : List ℕ) → not (length xs == 0) ≡ is_not_empty xs
-not_empty_is [] = refl
-not_empty_is (x ∷ xs) = ap not (suc_is_not_zero (length xs))
+pub not-length-zero : (xs : List ℕ) → not (length xs == 0) ≡ is_not_empty xs
+not-length-zero [] = refl
+not-length-zero (x ∷ xs) = ap not (suc-eq-zero (length xs))
 
 pub not_not : (b : Bool) → not (not b) ≡ b
 not_not true = refl
@@ -29,34 +29,34 @@ is_not_empty-modified units1 base modifier low high = elim (cases_lt (units1 / 2
 ]
 
 -- the parts with a space between each two that are there
-joined_parts : (p u r : List ℕ)
+append-parts : (p u r : List ℕ)
     → p ++ ((if is_not_empty p && is_not_empty u then codes " " else []) ++ (u ++ ((if (is_not_empty p || is_not_empty u) && is_not_empty r then codes " " else []) ++ r)))
     ≡ join_with_byte 32 (filter is_not_empty (p ∷ u ∷ r ∷ []))
-joined_parts [] [] [] = refl
-joined_parts [] [] (z ∷ zs) = refl
-joined_parts [] (y ∷ ys) [] = rw append-nil refl
-joined_parts [] (y ∷ ys) (z ∷ zs) = refl
-joined_parts (x ∷ xs) [] [] = rw append-nil refl
-joined_parts (x ∷ xs) [] (z ∷ zs) = refl
-joined_parts (x ∷ xs) (y ∷ ys) [] = rw append-nil refl
-joined_parts (x ∷ xs) (y ∷ ys) (z ∷ zs) = refl
+append-parts [] [] [] = refl
+append-parts [] [] (z ∷ zs) = refl
+append-parts [] (y ∷ ys) [] = rw append-nil refl
+append-parts [] (y ∷ ys) (z ∷ zs) = refl
+append-parts (x ∷ xs) [] [] = rw append-nil refl
+append-parts (x ∷ xs) [] (z ∷ zs) = refl
+append-parts (x ∷ xs) (y ∷ ys) [] = rw append-nil refl
+append-parts (x ∷ xs) (y ∷ ys) (z ∷ zs) = refl
 
-pub spaced : (p u r f s : List ℕ)
+pub append-spaced : (p u r f s : List ℕ)
     → f ≡ (if is_not_empty p && is_not_empty u then codes " " else [])
     → s ≡ (if (is_not_empty p || is_not_empty u) && is_not_empty r then codes " " else [])
     → p ++ (f ++ (u ++ (s ++ r))) ≡ join_with_byte 32 (filter is_not_empty (p ∷ u ∷ r ∷ []))
-spaced p u r f s first second = rw (first, second) (joined_parts p u r)
+append-spaced p u r f s first second = rw (first, second) (append-parts p u r)
 
 -- they are nothing only where each is
-pub nothing_joined : (p u r : List ℕ) → (not (is_not_empty p) && not (is_not_empty u)) && not (is_not_empty r) ≡ not (is_not_empty (join_with_byte 32 (filter is_not_empty (p ∷ u ∷ r ∷ []))))
-nothing_joined [] [] [] = refl
-nothing_joined [] [] (z ∷ zs) = refl
-nothing_joined [] (y ∷ ys) [] = refl
-nothing_joined [] (y ∷ ys) (z ∷ zs) = refl
-nothing_joined (x ∷ xs) [] [] = refl
-nothing_joined (x ∷ xs) [] (z ∷ zs) = refl
-nothing_joined (x ∷ xs) (y ∷ ys) [] = refl
-nothing_joined (x ∷ xs) (y ∷ ys) (z ∷ zs) = refl
+pub not-joined : (p u r : List ℕ) → (not (is_not_empty p) && not (is_not_empty u)) && not (is_not_empty r) ≡ not (is_not_empty (join_with_byte 32 (filter is_not_empty (p ∷ u ∷ r ∷ []))))
+not-joined [] [] [] = refl
+not-joined [] [] (z ∷ zs) = refl
+not-joined [] (y ∷ ys) [] = refl
+not-joined [] (y ∷ ys) (z ∷ zs) = refl
+not-joined (x ∷ xs) [] [] = refl
+not-joined (x ∷ xs) [] (z ∷ zs) = refl
+not-joined (x ∷ xs) (y ∷ ys) [] = refl
+not-joined (x ∷ xs) (y ∷ ys) (z ∷ zs) = refl
 
 -- a name that is all there is
 only_name : (name : List ℕ) → name ≡ join_with_byte 32 (filter is_not_empty ([] ∷ (name ++ []) ∷ [] ∷ []))
@@ -76,10 +76,10 @@ pub plain_units_named : {X : Type 0} (text : X → List ℕ) (name : Option X) (
 plain_units_named text None units1 base modifier none name_is = tt
 plain_units_named text (Some x) units1 base modifier none name_is = plain_units units1 base modifier (text x) none name_is
 
-pub space_before : (text : List ℕ) → (length text == 0) ≡ false → after_space text ≡ 32 ∷ text
-space_before [] some = cc
-space_before (c ∷ text) some = refl
+pub after_space_some : (text : List ℕ) → (length text == 0) ≡ false → after_space text ≡ 32 ∷ text
+after_space_some [] some = cc
+after_space_some (c ∷ text) some = refl
 
-pub nothing_before : (text : List ℕ) → (length text == 0) ≡ true → after_space text ≡ []
-nothing_before [] none = refl
-nothing_before (c ∷ text) none = absurd (let some = suc_is_not_zero (length text) in cc)
+pub after_space_none : (text : List ℕ) → (length text == 0) ≡ true → after_space text ≡ []
+after_space_none [] none = refl
+after_space_none (c ∷ text) none = absurd (let some = suc-eq-zero (length text) in cc)

@@ -17,7 +17,7 @@ impl fmt::Display for TwoDigits {
 
     ghost output = { λ number. Some (two_digits number.value) };
 
-    #[tactic(auto, using(crate::proofs::TimeLemmas::two_glyphs))]
+    #[tactic(auto, using(crate::proofs::TimeLemmas::digit_glyph_two))]
     fn fmt<W: fmt::Write>(&self, f: &mut fmt::Formatter<W>) -> fmt::Result {
         f.write_str(hex_digit((self.value / 10) as u8))?;
         f.write_str(hex_digit((self.value % 10) as u8))

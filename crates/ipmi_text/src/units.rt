@@ -217,7 +217,7 @@ fn gap_before(units: Units) -> &'static str
 }
 
 /// Appends a space and a text, and nothing where that is empty.
-#[tactic(auto, using(crate::proofs::UnitLemmas::space_before, crate::proofs::UnitLemmas::nothing_before))]
+#[tactic(auto, using(crate::proofs::UnitLemmas::after_space_some, crate::proofs::UnitLemmas::after_space_none))]
 fn push_after_space(text: &mut String, part: &str) -> Result<(), AllocError>
     ensures { OnOk result
         (string_bytes text.new ≡ string_bytes text.old ++ after_space part.now) }

@@ -7,7 +7,7 @@ use Rattle.ipmi_bus.specs.declared.step.Place.{Place}
 use Rattle.ipmi_bus.specs.Shelf.{Row}
 use Rattle.ipmi_bus.specs.Standing.{StandsAt}
 use Rattle.ipmi_commands.specs.Pages.{IsPage, start_at}
-use Rattle.ipmi_commands.proofs.PageLemmas.{some_wanted, none_wanted, start_of_place, page_of_none, page_without, page_without_memory, page_by_cursor}
+use Rattle.ipmi_commands.proofs.PageLemmas.{some_wanted, none_wanted, start_of-place, page_of_none, page_without, page_without_memory, page_by_cursor}
 use Rattle.ipmi_commands.proofs.pages.list_page.Goals as goal
 use Rattle.ipmi_commands.specs.Plan.{request, change}
 
@@ -15,7 +15,7 @@ pub returns-clause-honest : goal.returns-clause-honest
 returns-clause-honest g c = λ h.
     let begun = c.in-Ok-start_cursor.cursor in
     let fresh = c.in-Ok-start_cursor.ensures.fresh in
-    let at = start_of_place c.args.cmd.now.task c.args.place c.in-Ok.from (sym (c.start_at.ensures.value ∙ ap (λ (t : Task). start_at t c.args.place) c.task-task.ensures.value) ∙ c.in-Ok.is) in
+    let at = start_of-place c.args.cmd.now.task c.args.place c.in-Ok.from (sym (c.start_at.ensures.value ∙ ap (λ (t : Task). start_at t c.args.place) c.task-task.ensures.value) ∙ c.in-Ok.is) in
     subst
     (λ (p : Place). IsPage (request c.args.cmd.now.task c.args.place c.args.cmd.now.tries) c.args.most p (change (g.C.Controller.seen c.args.ctl.now) (g.C.Controller.seen c.list_records-listed.new.ctl) (g.O.Sink.taken c.args.out.now) (g.O.Sink.taken c.list_records-listed.new.out)) c.list_records-listed.result.stop)
     (sym c.resume_at.ensures)

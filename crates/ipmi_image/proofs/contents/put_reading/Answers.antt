@@ -4,7 +4,7 @@ use Rattle.std.proofs.lemmas.List.{map-append}
 use Rattle.ipmi_bus.specs.Store.{SensorReading, IsSensorReading, reading_in}
 use Rattle.ipmi_image.specs.Image.{reading_of_bytes}
 use Rattle.ipmi_image.specs.Stored.{sensor_of, AreReadings}
-use Rattle.ipmi_image.proofs.TableLemmas.{reading_place, none_found, was_put}
+use Rattle.ipmi_image.proofs.TableLemmas.{is_some_reading_in, none_found, was_put}
 use Rattle.ipmi_image.proofs.StoreLemmas.{reading_fine, AreReadings-new}
 use Rattle.ipmi_image.proofs.contents.put_reading.Goals as goal
 
@@ -26,12 +26,12 @@ returns-clause-keeps c =
       status = omega (arith, c.type_inv.bytes 2);
       more = omega (arith, c.type_inv.bytes 3);
     } in
-    let put = was_put _ c.in_ok-push.field-0 _ c.in_ok-push.ensures.ok (none_found _ (sym (reading_place c.args.sensors.now c.args.lun c.args.number c.requires.all (omega (arith, c.ranges.number))) ∙ ap is_some fine.0)) in
+    let put = was_put _ c.in_ok-push.field-0 _ c.in_ok-push.ensures.ok (none_found _ (sym (is_some_reading_in c.args.sensors.now c.args.lun c.args.number c.requires.all (omega (arith, c.ranges.number))) ∙ ap is_some fine.0)) in
     let has : map sensor_of c.push.new.self ≡ map sensor_of c.args.sensors.now ++ new ∷ [] = ap (map sensor_of) put ∙ map-append sensor_of c.args.sensors.now _ in
     subst AreReadings (sym has) (AreReadings-new (map sensor_of c.args.sensors.now) new fine.0 is c.requires)
 
 pub returns-clause-ok : goal.returns-clause-ok
 returns-clause-ok c =
     let fine = reading_fine c.args.lun (reading_in (map sensor_of c.args.sensors.now) c.args.lun c.args.number) c.args.bytes.now (sym c.in_default.ensures) in
-    let put = was_put _ c.in_ok-push.field-0 _ c.in_ok-push.ensures.ok (none_found _ (sym (reading_place c.args.sensors.now c.args.lun c.args.number c.requires.all (omega (arith, c.ranges.number))) ∙ ap is_some fine.0)) in
+    let put = was_put _ c.in_ok-push.field-0 _ c.in_ok-push.ensures.ok (none_found _ (sym (is_some_reading_in c.args.sensors.now c.args.lun c.args.number c.requires.all (omega (arith, c.ranges.number))) ∙ ap is_some fine.0)) in
     (sym c.in_default.ensures, ap (map sensor_of) put ∙ map-append sensor_of c.args.sensors.now _)

@@ -5,7 +5,7 @@ use Rattle.ipmi_bus.specs.Shelf.{IsShelf}
 use Rattle.ipmi_bus.specs.Walk.{has_id}
 use Rattle.ipmi_image.specs.Line.{SavedRow}
 use Rattle.ipmi_image.specs.Image.{chained, row_fault}
-use Rattle.ipmi_image.proofs.TableLemmas.{has_id_place}
+use Rattle.ipmi_image.proofs.TableLemmas.{has_id_chained}
 use Rattle.ipmi_image.proofs.ShelfLemmas.{new_row_fault, row_twice, shelf_with}
 use Rattle.ipmi_image.proofs.StoreLemmas.{are_bytes}
 use Rattle.ipmi_image.proofs.contents.put_row.Goals as goal
@@ -14,7 +14,7 @@ pub returns-then-branch-clause-keeps : goal.returns-then-branch-clause-keeps
 returns-then-branch-clause-keeps c =
     let row : SavedRow = record { id = c.args.id; next = c.args.next; bytes = c.args.bytes.now } in
     let put = rw c.if-branch.true at c.in_ok-push.ensures in
-    let new : has_id (chained c.args.rows.now) c.args.id ≡ false = has_id_place c.args.rows.now c.args.id ∙ ap is_some put.0 in
+    let new : has_id (chained c.args.rows.now) c.args.id ≡ false = has_id_chained c.args.rows.now c.args.id ∙ ap is_some put.0 in
     let fine : row_fault c.args.shelf (chained c.args.rows.now) row ≡ None =
     new_row_fault c.args.shelf (chained c.args.rows.now) row (sym c.is_no_id.ensures ∙ c.if-is_no_id.false) new ∙ sym c.in_default.ensures in
     let id : c.args.id < 65536 = omega (arith, c.ranges.id) in
@@ -27,7 +27,7 @@ pub returns-then-branch-clause-ok : goal.returns-then-branch-clause-ok
 returns-then-branch-clause-ok c =
     let row : SavedRow = record { id = c.args.id; next = c.args.next; bytes = c.args.bytes.now } in
     let put = rw c.if-branch.true at c.in_ok-push.ensures in
-    let new : has_id (chained c.args.rows.now) c.args.id ≡ false = has_id_place c.args.rows.now c.args.id ∙ ap is_some put.0 in (
+    let new : has_id (chained c.args.rows.now) c.args.id ≡ false = has_id_chained c.args.rows.now c.args.id ∙ ap is_some put.0 in (
       new_row_fault c.args.shelf (chained c.args.rows.now) row (sym c.is_no_id.ensures ∙ c.if-is_no_id.false) new ∙ sym c.in_default.ensures,
       put.1,
     )
@@ -36,4 +36,4 @@ pub returns-else-branch-clause-err : goal.returns-else-branch-clause-err
 returns-else-branch-clause-err c =
     let row : SavedRow = record { id = c.args.id; next = c.args.next; bytes = c.args.bytes.now } in
     let there = rw c.if-branch.false at c.in_ok-push.ensures in
-    inr (row_twice c.args.shelf (chained c.args.rows.now) row (sym c.is_no_id.ensures ∙ c.if-is_no_id.false) (has_id_place c.args.rows.now c.args.id ∙ there))
+    inr (row_twice c.args.shelf (chained c.args.rows.now) row (sym c.is_no_id.ensures ∙ c.if-is_no_id.false) (has_id_chained c.args.rows.now c.args.id ∙ there))

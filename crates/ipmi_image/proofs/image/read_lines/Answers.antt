@@ -4,14 +4,14 @@ use Rattle.ipmi_image.specs.Text.{pieces}
 use Rattle.ipmi_image.specs.Line.{the_end}
 use Rattle.ipmi_image.specs.Image.{at_line, is_end, store_after}
 use Rattle.ipmi_image.specs.Stored.{said}
-use Rattle.ipmi_image.proofs.ReadLemmas.{ends_here-pieces, unended, lines_after, line_err, line_found, end_is}
-use Rattle.ipmi_image.proofs.StoreLemmas.{store_is}
+use Rattle.ipmi_image.proofs.ReadLemmas.{ends_here-pieces, store_after-unended, lines_after, line_err, line_found, end_is}
+use Rattle.ipmi_image.proofs.StoreLemmas.{store_of-lines}
 use Rattle.ipmi_image.proofs.image.read_lines.Goals as goal
 
 pub returns-in_default-clause-err : goal.returns-in_default-clause-err
 returns-in_default-clause-err c =
     let lines = c.lines.invariant.1 in
-    inr (sym lines.3 ∙ ap (store_after c.args.dashes lines.0) c.in_default.ensures.cut ∙ unended c.args.dashes lines.0 _)
+    inr (sym lines.3 ∙ ap (store_after c.args.dashes lines.0) c.in_default.ensures.cut ∙ store_after-unended c.args.dashes lines.0 _)
 
 pub returns-in-Err-clause-err : goal.returns-in-Err-clause-err
 returns-in-Err-clause-err c =
@@ -27,7 +27,7 @@ returns-then-is_empty-clause-ok c =
     let lines = c.lines.invariant.1 in
     let last : said c.read_line.new.bytes.items c.in-Ok.line ≡ the_end = end_is _ (sym (c.is_end.ensures _) ∙ c.if-is_end.true) in (
       c.lines.invariant.0,
-      lines_after _ _ _ _ _ _ _ c.in-Some.ensures.cut (line_found c.args.dashes lines.0 c.in-Some.line.now the_end None (c.in-Ok.ensures ∙ ap Ok last) refl) lines.3 ∙ rw (ends_here-pieces c.in-Some.after.now ∙ sym c.is_empty.ensures ∙ c.if-is_empty.true, sym (store_is c.lines.contents lines.0 lines.1)) refl,
+      lines_after _ _ _ _ _ _ _ c.in-Some.ensures.cut (line_found c.args.dashes lines.0 c.in-Some.line.now the_end None (c.in-Ok.ensures ∙ ap Ok last) refl) lines.3 ∙ rw (ends_here-pieces c.in-Some.after.now ∙ sym c.is_empty.ensures ∙ c.if-is_empty.true, sym (store_of-lines c.lines.contents lines.0 lines.1)) refl,
     )
 
 pub returns-then-is_end-clause-err : goal.returns-then-is_end-clause-err

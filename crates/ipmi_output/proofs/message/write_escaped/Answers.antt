@@ -13,20 +13,20 @@ use Rattle.ipmi_output.proofs.message.write_escaped.Goals as goal
 use Rattle.ipmi_output.proofs.message.write_escaped.Goals.{then-is_ascii_control+in_ok-write_before_control, else-is_ascii_control}
 
 -- the first bytes, and the one after them
-first_and_next : (name : List ℕ) (at d : ℕ) → at < length name → take (at + 1) name ≡ take at name ++ (get_or name at d ∷ [])
-first_and_next name at d within =
+take-next_byte : (name : List ℕ) (at d : ℕ) → at < length name → take (at + 1) name ≡ take at name ++ (get_or name at d ∷ [])
+take-next_byte name at d within =
     let next : at + 1 ≡ suc at = omega arith in
     rw next (take-suc name at d within)
 
-escaped_next : (name : List ℕ) (at d : ℕ) → at < length name → escaped_name (take (at + 1) name) ≡ escaped_name (take at name) ++ escaped_byte (get_or name at d)
-escaped_next name at d within =
-    ap (λ (t : List ℕ). escaped_name t) (first_and_next name at d within)
+escaped_name-next : (name : List ℕ) (at d : ℕ) → at < length name → escaped_name (take (at + 1) name) ≡ escaped_name (take at name) ++ escaped_byte (get_or name at d)
+escaped_name-next name at d within =
+    ap (λ (t : List ℕ). escaped_name t) (take-next_byte name at d within)
     ∙ flat_map-append escaped_byte (take at name) (get_or name at d ∷ [])
     ∙ ap (λ (t : List ℕ). escaped_name (take at name) ++ t) (append-nil (escaped_byte (get_or name at d)))
 
 -- by whether it is a control byte
-escaped_by : (b : ℕ) (control : Bool) → is_ascii_control b ≡ control → escaped_byte b ≡ if control then codes "\\x" ++ upper_byte b else b ∷ []
-escaped_by b control is = ap (λ (t : Bool). if t then codes "\\x" ++ upper_byte b else b ∷ []) is
+escaped_byte-control : (b : ℕ) (control : Bool) → is_ascii_control b ≡ control → escaped_byte b ≡ if control then codes "\\x" ++ upper_byte b else b ∷ []
+escaped_byte-control b control is = ap (λ (t : Bool). if t then codes "\\x" ++ upper_byte b else b ∷ []) is
 
 -- a byte that is no control byte waits
 waits : (text name : List ℕ) (begun at d : ℕ) → begun ≤ at → at < length name → is_ascii_control (get_or name at d) ≡ false
@@ -35,8 +35,8 @@ waits text name begun at d before within plain so_far =
     let byte : List ℕ = get_or name at d ∷ [] in
     let long : length (take at name) ≡ at = length-take-le at name (omega (arith, within)) in
     let dropped : drop begun (take (at + 1) name) ≡ drop begun (take at name) ++ byte =
-    rw (first_and_next name at d within) (drop-append-le begun (take at name) byte (omega (arith, before, long))) in
-    rw dropped (sym (append_assoc text (drop begun (take at name)) byte) ∙ rw (so_far, sym (escaped_by (get_or name at d) false plain)) (sym (escaped_next name at d within)))
+    rw (take-next_byte name at d within) (drop-append-le begun (take at name) byte (omega (arith, before, long))) in
+    rw dropped (sym (append_assoc text (drop begun (take at name)) byte) ∙ rw (so_far, sym (escaped_byte-control (get_or name at d) false plain)) (sym (escaped_name-next name at d within)))
 
 -- a control byte is taken, after the bytes that waited
 taken : (text name : List ℕ) (begun at d : ℕ) → begun ≤ at → at < length name → is_ascii_control (get_or name at d) ≡ true
@@ -50,8 +50,8 @@ taken text name begun at d before within control so_far =
     ap (λ (t : List ℕ). text ++ (t ++ escape)) waited
     ∙ sym (append_assoc text (drop begun (take at name)) escape)
     ∙ ap (λ (t : List ℕ). t ++ escape) so_far
-    ∙ ap (λ (t : List ℕ). escaped_name (take at name) ++ t) (sym (escaped_by (get_or name at d) true control))
-    ∙ sym (escaped_next name at d within)
+    ∙ ap (λ (t : List ℕ). escaped_name (take at name) ++ t) (sym (escaped_byte-control (get_or name at d) true control))
+    ∙ sym (escaped_name-next name at d within)
 
 -- and then none waits
 none_waits : (printed name : List ℕ) (n : ℕ) → n ≤ length name → printed ≡ escaped_name (take n name) → printed ++ drop n (take n name) ≡ escaped_name (take n name)

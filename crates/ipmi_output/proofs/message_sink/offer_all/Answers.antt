@@ -4,7 +4,7 @@ use Rattle.std.proofs.lemmas.Grind.{common_steps}
 use Rattle.std.specs.Io.KnownBytes.{Appends}
 use Rattle.std.specs.Option.{option_map}
 use Rattle.ipmi_output.specs.Received.{Received, ReceivesAll, ReceivesPart}
-use Rattle.ipmi_output.proofs.MessageLemmas.{Appends-none, Appends-both, Appends-kept, Appends-same, WritesAll-failed, faults-kept, faults-raised, take-next}
+use Rattle.ipmi_output.proofs.MessageLemmas.{Appends-none, Appends-both, Appends-kept, Appends-same, WritesAll-failed, option_map-kept, option_map-raised, take-next}
 use Rattle.ipmi_output.proofs.message_sink.offer_all.Goals as goal
 
 -- the part before `done`, where the next call took none
@@ -22,7 +22,7 @@ loop-done-preserved g c = (
   (
     Appends-same _ _ _ _ (take-next c.loop-done.done c.in_ok-taken.taken c.args.bytes.now)
         (Appends-both _ _ _ _ _ c.loop-done.invariant.1.0 c.in_ok-taken.ensures.received.0),
-    c.in_ok-taken.ensures.received.1 ∙ faults-kept _ c.in_ok-taken.taken c.if-taken-eq0.false ∙ c.loop-done.invariant.1.1,
+    c.in_ok-taken.ensures.received.1 ∙ option_map-kept _ c.in_ok-taken.taken c.if-taken-eq0.false ∙ c.loop-done.invariant.1.1,
   ),
 )
 
@@ -36,4 +36,4 @@ returns-then-taken-eq0 g c =
     let none = c.if-taken-eq0.true in
     cut c.loop-done.done c.args.bytes.now _ _ _ c.loop-done-test.true c.loop-done.invariant.1
     (Appends-same _ _ _ _ (ap (λ (n : ℕ). take n (take (length c.args.bytes.now - c.loop-done.done) (drop c.loop-done.done c.args.bytes.now))) none) c.in_ok-taken.ensures.received.0)
-    (c.in_ok-taken.ensures.received.1 ∙ faults-raised _ c.in_ok-taken.taken none)
+    (c.in_ok-taken.ensures.received.1 ∙ option_map-raised _ c.in_ok-taken.taken none)

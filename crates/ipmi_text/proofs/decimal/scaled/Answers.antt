@@ -12,11 +12,11 @@ pow-requires c =
     let small : 10 ^ unsigned_abs c.args.exponent ≤ 10 ^ 30 = ten_le _ (abs_exponent _ c.requires.low c.requires.high) in
     simp to_z-of_z (fits_signed_from_abs w128 (pos (10 ^ unsigned_abs c.args.exponent)) (omega arith))
 
-power_is : (c : After-pow) → c.pow.result ≡ ten_to c.args.exponent
-power_is c = let fits : FitsSigned w32 c.args.exponent = c.ranges.exponent in simp to_z-of_z at c.pow.ensures
+pow-ten_to : (c : After-pow) → c.pow.result ≡ ten_to c.args.exponent
+pow-ten_to c = let fits : FitsSigned w32 c.args.exponent = c.ranges.exponent in simp to_z-of_z at c.pow.ensures
 
 power_le : (c : After-pow) → unsigned_abs c.pow.result ≤ 10 ^ 30
-power_le c = rw (power_is c) (ten_le _ (abs_exponent _ c.requires.low c.requires.high))
+power_le c = rw (pow-ten_to c) (ten_le _ (abs_exponent _ c.requires.low c.requires.high))
 
 product_fits : (c : After-pow) → FitsSigned w128 (c.args.number *ℤ c.pow.result)
 product_fits c = fits_signed_mul w128 c.args.number c.pow.result (2 ^ 17) (10 ^ 30) c.requires.number (power_le c) (omega arith)
@@ -34,7 +34,7 @@ returns-clause-value c =
     let number_wide : FitsSigned w128 c.args.number = omega (arith, ints) in
     let power : FitsSigned w128 c.pow.result = fits_signed_from_abs w128 c.pow.result (omega (arith, power_le c)) in
     let product : FitsSigned w128 (c.args.number *ℤ c.pow.result) = product_fits c in
-    simp to_z-of_z (ap (λ z. c.args.number *ℤ z) (power_is c))
+    simp to_z-of_z (ap (λ z. c.args.number *ℤ z) (pow-ten_to c))
 
 pub returns-clause-size : goal.returns-clause-size
 returns-clause-size c =

@@ -1,7 +1,7 @@
 use Rattle.std.proofs.Common.{◌≡◌, ◌∙◌, ◌+◌, ◌≤◌, ◌++◌, [], sym, append_assoc, append-nil, arith, length, drop, take, string_bytes}
 use Rattle.std.proofs.lemmas.List.{get_or-drop, take_rest}
 use Rattle.ipmi_text.specs.FieldText.{six_bit_text}
-use Rattle.ipmi_text.proofs.FieldLemmas.{no_byte_left, six_bit_text-none, six_bit_text-step}
+use Rattle.ipmi_text.proofs.FieldLemmas.{length-no_byte, six_bit_text-none, six_bit_text-step}
 use Rattle.ipmi_text.proofs.field_text.six_bit_text.Goals as goal
 
 pub loop-rest-preserved : goal.loop-rest-preserved
@@ -19,5 +19,5 @@ loop-rest-preserved c =
 
 pub returns : goal.returns
 returns c =
-    let none : six_bit_text c.loop-rest.rest.now ≡ [] = six_bit_text-none c.loop-rest.rest.now (no_byte_left c.loop-rest.rest.now (sym c.is_empty.ensures ∙ c.loop-rest-test.false)) in
+    let none : six_bit_text c.loop-rest.rest.now ≡ [] = six_bit_text-none c.loop-rest.rest.now (length-no_byte c.loop-rest.rest.now (sym c.is_empty.ensures ∙ c.loop-rest-test.false)) in
     sym (append-nil (string_bytes c.loop-rest.text)) ∙ rw (sym none) c.loop-rest.invariant.text

@@ -9,7 +9,7 @@ use Rattle.ipmi_bus.specs.Step.{NoneAt}
 use Rattle.ipmi_bus.specs.Seen.{current}
 use Rattle.ipmi_bus.specs.Shelf.{look, len_of, largest_len}
 use Rattle.ipmi_bus.specs.Store.{rows_of}
-use Rattle.ipmi_bus.proofs.CursorLemmas.{room_to_ask, hands_row, handed_whole, largest_fits, unseen, not_end, asked_is, calls_moved}
+use Rattle.ipmi_bus.proofs.CursorLemmas.{room_to_ask, look-asked_row, handed_whole, largest_fits, contains-handed_id, not_end, asked_is, calls_moved}
 use Rattle.ipmi_bus.proofs.cursor.Progress.advance.Goals as goal
 
 pub returns-in-Ok-true-clause-leaves : goal.returns-in-Ok-true-clause-leaves
@@ -23,7 +23,7 @@ returns-in-Ok-true-clause-leaves g c =
       record {
         place = c.hand_out.ensures.place;
         ids = c.hand_out.ensures.ids;
-        unseen = ap (set.contains old.ids) c.hand_out.ensures.id ∙ unseen old.place old.ids c.in-Asks.id c.read.new.self.buffer c.requires.first asks.1 asks.2;
+        unseen = ap (set.contains old.ids) c.hand_out.ensures.id ∙ contains-handed_id old.place old.ids c.in-Asks.id c.read.new.self.buffer c.requires.first asks.1 asks.2;
         not_at_end = not_end c.args.self.now.place c.in-Asks.id asks.1;
         at_most = c.hand_out.ensures.at_most;
         next = c.hand_out.ensures.next_fits;
@@ -48,7 +48,7 @@ returns-in-Ok-true-clause-honest g c = λ h.
       stays = read.stays;
       answers = (
         reads.within,
-        hands_row c.args.self.now c.read.new.self c.hand_out.new.self c.hand_out.result c.in-Asks.id _ read.stays.honest asks.1 c.read.ensures.request row reads.read reads.whole leaves.0
+        look-asked_row c.args.self.now c.read.new.self c.hand_out.new.self c.hand_out.result c.in-Asks.id _ read.stays.honest asks.1 c.read.ensures.request row reads.read reads.whole leaves.0
             c.hand_out.ensures.id c.hand_out.ensures.next c.hand_out.ensures.len c.hand_out.ensures.retrieval,
       );
       calls = λ same.

@@ -3,7 +3,7 @@ use Rattle.std.specs.Option.{option_map}
 use Rattle.ipmi_bus.specs.Store.{inventory_of, inventory_in}
 use Rattle.ipmi_image.specs.Table as table
 use Rattle.ipmi_image.specs.declared.stored.StoredInventory.{StoredInventory}
-use Rattle.ipmi_image.proofs.TableLemmas.{inventory_find}
+use Rattle.ipmi_image.proofs.TableLemmas.{inventory_in_find}
 use Rattle.ipmi_image.proofs.StoreLemmas.{inventory_fits}
 use Rattle.ipmi_image.proofs.image.Image.inventory.Goals as goal
 
@@ -12,7 +12,7 @@ returns-clause-bytes c =
     let found = rw c.from.ensures at c.in_ok-inventory.ensures in
     ap Some c.as_slice.ensures.value
     ∙ ap (option_map (λ (i : StoredInventory). i.bytes.items)) found
-    ∙ sym (inventory_find c.self.inside.contents.inventories c.args.id)
+    ∙ sym (inventory_in_find c.self.inside.contents.inventories c.args.id)
     ∙ ap (inventory_of c.args.id) c.self.view_is
 
 pub returns-clause-fits : goal.returns-clause-fits
@@ -20,5 +20,5 @@ returns-clause-fits c =
     let found = rw c.from.ensures at c.in_ok-inventory.ensures in
     let bytes = c.as_slice.ensures.value in
     let is : inventory_in (map table.inventory_of c.self.inside.contents.inventories) c.args.id ≡ Some c.as_slice.result.now =
-    inventory_find c.self.inside.contents.inventories c.args.id ∙ ap (option_map (λ (i : StoredInventory). i.bytes.items)) (sym found) ∙ ap Some (sym bytes) in
+    inventory_in_find c.self.inside.contents.inventories c.args.id ∙ ap (option_map (λ (i : StoredInventory). i.bytes.items)) (sym found) ∙ ap Some (sym bytes) in
     rw is at (inventory_fits (map table.inventory_of c.self.inside.contents.inventories) c.args.id c.self.invariant.0.inventories)

@@ -4,7 +4,7 @@ use Rattle.std.proofs.lemmas.Option.{none-some}
 use Rattle.ipmi_bus.specs.Shelf.{look}
 use Rattle.ipmi_bus.specs.Store.{rows_of}
 use Rattle.ipmi_image.specs.Responder.{row_found}
-use Rattle.ipmi_image.proofs.RespondLemmas.{current_is}
+use Rattle.ipmi_image.proofs.RespondLemmas.{current-seen_as}
 use Rattle.ipmi_image.proofs.responder.Responder.part.Goals as goal
 
 pub returns-then-not-is_reserved-clause-answers : goal.returns-then-not-is_reserved-clause-answers
@@ -17,7 +17,7 @@ returns-then-not-is_reserved-clause-answers c = λ plain h.
       keeps = search rules;
       beside = search rules;
       plain = λ p. record {
-        found = λ r e lt reserved. absurd (other.1 (sym (current_is c.args.shelf plain c.args.self.now) ∙ reserved other.0));
+        found = λ r e lt reserved. absurd (other.1 (sym (current-seen_as c.args.shelf plain c.args.self.now) ∙ reserved other.0));
         absent = λ e. absurd (none-some _ (sym e ∙ found));
       };
     }
@@ -35,7 +35,7 @@ returns-then-from-row-clause-answers c = λ plain h.
           found = found;
           piece = search rules;
           next = refl;
-          reserved = λ some. current_is c.args.shelf plain (record c.args.self.now { tally = c.count-then-from-row.new.self }) ∙ c.if-not-is_reserved.ensures some;
+          reserved = λ some. current-seen_as c.args.shelf plain (record c.args.self.now { tally = c.count-then-from-row.new.self }) ∙ c.if-not-is_reserved.ensures some;
           counts = rw flag (search rules);
         },
       );
@@ -57,7 +57,7 @@ returns-else-from-row-clause-answers c = λ plain h.
           found = found;
           piece = search rules;
           next = refl;
-          reserved = λ some. current_is c.args.shelf plain (record c.args.self.now { tally = c.count.new.self }) ∙ c.if-not-is_reserved.ensures some;
+          reserved = λ some. current-seen_as c.args.shelf plain (record c.args.self.now { tally = c.count.new.self }) ∙ c.if-not-is_reserved.ensures some;
           counts = rw flag (search rules);
         },
       );

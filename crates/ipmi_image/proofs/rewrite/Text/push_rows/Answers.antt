@@ -1,7 +1,7 @@
 use Rattle.std.proofs.Common.{sym, arith}
 use Rattle.ipmi_image.specs.Rows.{row_of}
 use Rattle.ipmi_image.proofs.RowsLemmas.{found_below}
-use Rattle.ipmi_image.proofs.RewriteLemmas.{row_put, rows_done}
+use Rattle.ipmi_image.proofs.RewriteLemmas.{append-row_line, rows_done}
 use Rattle.ipmi_image.proofs.rewrite.Text.push_rows.Goals as goal
 
 pub overflow_add-place : goal.overflow_add-place
@@ -16,7 +16,7 @@ rows-preserved c =
     let next = rw c.id_at.ensures at c.in_ok-push_row.ensures in
     let lt = found_below c.args.rows.now c.rows.place (row_of c.in-Some.row) at in (
       omega (arith, lt),
-      row_put c.rows.self.bytes.items c.push_row.new.self.bytes.items _ c.args.word.now c.args.rows.now c.rows.place (row_of c.in-Some.row) at next c.rows.invariant.1,
+      append-row_line c.rows.self.bytes.items c.push_row.new.self.bytes.items _ c.args.word.now c.args.rows.now c.rows.place (row_of c.in-Some.row) at next c.rows.invariant.1,
     )
 
 pub returns : goal.returns

@@ -2,9 +2,9 @@ use Rattle.std.proofs.Common.{ap, sym, ◌∙◌}
 use Rattle.std.specs.Option.{is_some}
 use Rattle.ipmi_image.specs.Rows.{id_of}
 use Rattle.ipmi_image.specs.Table.{place_of}
-use Rattle.ipmi_image.proofs.RowsLemmas.{place_in}
+use Rattle.ipmi_image.proofs.RowsLemmas.{place_of-row_in}
 use Rattle.ipmi_image.proofs.rows.Rows.has_id.Goals as goal
 
 pub returns : goal.returns
 returns c =
-    c.is_some.ensures ∙ ap is_some (c.place.ensures ∙ sym (place_in c.self.inside.bytes.items c.args.id c.self.inside.heads) ∙ ap (place_of id_of c.args.id) c.self.view_is)
+    c.is_some.ensures ∙ ap is_some (c.place.ensures ∙ sym (place_of-row_in c.self.inside.bytes.items c.args.id c.self.inside.heads) ∙ ap (place_of id_of c.args.id) c.self.view_is)

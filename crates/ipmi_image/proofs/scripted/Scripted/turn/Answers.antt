@@ -6,20 +6,20 @@ use Rattle.ipmi_image.proofs.ScriptLemmas.{nothing_left}
 use Rattle.ipmi_image.proofs.scripted.Scripted.turn.Goals as goal
 
 -- where none is counted, none is left
-no_mood : (s : Scripted) → into_iter_len s.moods ≡ 0 → moods_left s ≡ []
-no_mood s none = nothing_left _ (sym (into_iter_deque s.moods).ok.0 ∙ none)
+moods_left-none : (s : Scripted) → into_iter_len s.moods ≡ 0 → moods_left s ≡ []
+moods_left-none s none = nothing_left _ (sym (into_iter_deque s.moods).ok.0 ∙ none)
 
 pub returns-in-None-clause-used : goal.returns-in-None-clause-used
 returns-in-None-clause-used c =
-    let none = no_mood c.args.self.now c.in-None.ensures.cases.0 in
+    let none = moods_left-none c.args.self.now c.in-None.ensures.cases.0 in
     sym c.in-None.ensures.items ∙ none ∙ ap (drop 1) (sym none)
 
 pub returns-in-None-clause-exact : goal.returns-in-None-clause-exact
 returns-in-None-clause-exact c =
-    let none = no_mood c.args.self.now c.in-None.ensures.cases.0 in
+    let none = moods_left-none c.args.self.now c.in-None.ensures.cases.0 in
     ap (next_turn c.args.asked) (sym none)
 
 pub returns-in-None-clause-leaves : goal.returns-in-None-clause-leaves
 returns-in-None-clause-leaves c =
-    let none = no_mood c.args.self.now c.in-None.ensures.cases.0 in
+    let none = moods_left-none c.args.self.now c.in-None.ensures.cases.0 in
     rw none refl

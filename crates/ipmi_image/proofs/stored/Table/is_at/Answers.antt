@@ -1,7 +1,7 @@
 use Rattle.std.proofs.Common.{ap, sym, ◌∙◌, arith}
 use Rattle.std.proofs.lemmas.Bool.{eqb-true, eq-eqb}
 use Rattle.ipmi_image.specs.Table.{place_of}
-use Rattle.ipmi_image.proofs.TableLemmas.{place_at, place_below, key-place_of}
+use Rattle.ipmi_image.proofs.TableLemmas.{place_of-at, place_below, key-place_of}
 use Rattle.ipmi_image.proofs.stored.Table.is_at.Goals as goal
 
 pub returns-in-Some-clause-yes : goal.returns-in-Some-clause-yes
@@ -10,7 +10,7 @@ returns-in-Some-clause-yes g c = λ same.
     let item = c.in-Some.item.now in
     let at = rw c.deref.ensures.value at c.in-Some.ensures.lookup.3 in
     ap (place_of key c.args.key) (sym c.self.view_is)
-    ∙ place_at key c.args.key c.self.inside.items.items c.args.place item c.self.invariant.distinct at.0 (ap key (sym (at.1 item)) ∙ sym c.key.ensures ∙ eqb-true _ _ same)
+    ∙ place_of-at key c.args.key c.self.inside.items.items c.args.place item c.self.invariant.distinct at.0 (ap key (sym (at.1 item)) ∙ sym c.key.ensures ∙ eqb-true _ _ same)
 
 pub returns-in-Some-clause-no : goal.returns-in-Some-clause-no
 returns-in-Some-clause-no g c = λ found.
