@@ -15,12 +15,6 @@ use Rattle.ipmi_bus.specs.Retrieval.{row_len, IsOpen, SameRequest, IsReading, Is
 use Rattle.ipmi_bus.specs.Since.{begun, HonestSince, Since, ReadAnswers, ReadIsPlain, ReadIsHonest, EndsRead, IsEnded}
 use Rattle.ipmi_bus.specs.Tries.{WithinTries}
 
-pub store_trans : (a b c : Seen) → KeepsStore a b → KeepsStore b c → KeepsStore a c
-store_trans a b c p q = record {
-  grows = omega (arith, p.grows, q.grows);
-  stays = λ e. q.stays (omega (arith, p.grows, q.grows, e)) ∙ p.stays (omega (arith, p.grows, q.grows, e));
-}
-
 same_request_trans : (a b c : Retrieval) → SameRequest a b → SameRequest b c → SameRequest a c
 same_request_trans a b c p q = record { shelf = q.shelf ∙ p.shelf; tries = q.tries ∙ p.tries; id = q.id ∙ p.id; part = omega (arith, p.part, q.part); some = q.some }
 
@@ -28,26 +22,6 @@ pub keeps_trans : (a b c : Retrieval) (s s' s'' : Seen) → b.shelf ≡ a.shelf 
 keeps_trans a b c s s' s'' shelf p q = record {
   held = q.held ∙ p.held;
   none_given = λ n now. p.none_given n (subst (λ (x : Shelf). current x s'' ≡ Some n → current x s' ≡ Some n) shelf (q.none_given n) now);
-}
-
--- a record of which nothing is read
-pub since_begun : (r : Retrieval) (id : ℕ) (s : Seen) → 0 < r.part → r.part < 255 → IsOpen (begun r id) → Since (begun r id) (begun r id) s s
-since_begun r id s some fits open_ = record {
-  is_open = open_;
-  request = record { shelf = refl; tries = refl; id = refl; part = omega arith; some = some };
-  calls = omega arith;
-  honest = λ h. record {
-    stays = stays_refl s h;
-    reading = record { piece = λ none now. absurd (omega arith) };
-    keeps = λ some same. record { held = refl; none_given = λ n now. now };
-    troubles = omega arith;
-    fresh_troubles = omega arith;
-    refusals = refl;
-    last_code = refl;
-    plain = λ p holds. record { holds = holds; none = refl };
-    within = λ e. omega arith;
-    calls = λ e. omega arith;
-  };
 }
 
 -- the length of the row stays while the store does
@@ -136,9 +110,6 @@ module _ (old : Retrieval) (id : ℕ) (now new : Retrieval) (s s' s'' : Seen) (s
 
       chain : (a b c : ℕ) → 1 + digits now.part ≤ a → s'.calls + a ≤ s.calls + b → digits new.part ≡ digits now.part → b ≤ c + digits old.part → s''.calls + digits new.part ≤ s.calls + c + digits old.part
       chain a b c p q d m = omega (arith, counted)
-
-  pub calls_bound : new.part ≡ now.part → s''.calls + digits new.part ≤ s.calls + step_call_bound old.tries (largest_len old.shelf) + digits old.part
-  calls_bound same = bounded (largest_len old.shelf) since.calls same
 
   -- and the same by the row's length, where the store stays
   row_bound : StaysHonest s' s'' → HonestSince (begun old id) now s s' → new.part ≡ now.part → s''.stores_added ≡ s.stores_added → s''.calls + digits new.part ≤ s.calls + step_call_bound old.tries (row_len (begun old id) s) + digits old.part

@@ -21,9 +21,6 @@ own = numerals_by_value _ tells
 pub within-too_large : (low high n : ℕ) → high < n → within low high (Some n) ≡ None
 within-too_large low high n h = grind (arith, nat_tests)
 
-pub within-in_range : (low high n : ℕ) → low ≤ n → n ≤ high → within low high (Some n) ≡ Some n
-within-in_range low high n a b = grind (arith, nat_tests)
-
 pub decimal_unread : {E : Type 0} (e : E) (bs : List ℕ) (low high : ℕ) → high < 2 ^ 16 → (length bs == 0) ≡ false → has_leading_zero bs ≡ false → list_all is_ascii_digit bs ≡ true
     → ParsesUnsigned 16 10 bs (Err e) → None ≡ within low high (decimal_of bs)
 decimal_unread e bs low high small some spare ds h =

@@ -17,12 +17,6 @@ items_from-enough (suc n) (suc m) (byte ∷ bytes) a b =
     ap (items_by (record_fault (byte ∷ bytes)) (record_in (byte ∷ bytes))) (items_from-enough n m (after_record (byte ∷ bytes)) (omega (arith, left, a)) (omega (arith, left, b)))
 
 module _ (bytes : List ℕ) where
-  pub items_in-last : record_fault bytes ≡ None → (r : MultiRecord) → r ≡ record_in bytes → r.last ≡ true → items_in bytes ≡ Ok r ∷ []
-  items_in-last fine r is last =
-      ap (λ (o : Option MultiFault). items_by o (record_in bytes) (items_from (length bytes) (after_record bytes))) fine
-      ∙ ap (λ (r : MultiRecord). items_by None r (items_from (length bytes) (after_record bytes))) (sym is)
-      ∙ ap (λ (b : Bool). Ok r ∷ cond b [] (items_from (length bytes) (after_record bytes))) last
-
   pub items_in-more : record_fault bytes ≡ None → (r : MultiRecord) (rest : List ℕ) → r ≡ record_in bytes → rest ≡ after_record bytes → r.last ≡ false → length rest < length bytes → items_in bytes ≡ Ok r ∷ items_in rest
   items_in-more fine r rest is rest_is last shorter =
       let more = items_from (length bytes) (after_record bytes) in

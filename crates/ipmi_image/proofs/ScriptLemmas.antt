@@ -22,14 +22,6 @@ pub nothing_left : {X : Type 0} (xs : List X) → length xs ≡ 0 → xs ≡ []
 nothing_left [] none = refl
 nothing_left (x ∷ xs) none = absurd (omega (arith, none))
 
--- another condition of the same failure
-fails_else : (P P' Q Q' : Type 0) (class : CodeClass) (code : ℕ) (s s' : Seen) → (P → P') → (Q → Q') → FailsWith P Q class code s s' → FailsWith P' Q' class code s s'
-fails_else P P' Q Q' Cancelled code s s' p q h = h
-fails_else P P' Q Q' Busy code s s' p q h = h
-fails_else P P' Q Q' SmallerPart code s s' p q h = (p h.0, h.1)
-fails_else P P' Q Q' NotPresent code s s' p q h = (q h.0, h.1)
-fails_else P P' Q Q' Refusal code s s' p q h = h
-
 -- it answers over the store as it is, as one that never changes
 stores_added-after : (r r' : Responder) → (IsHonest (seen_as true r) → IsChange (seen_as true r) (seen_as true r')) → IsHonest (seen_as false r) → (seen_as false r').stores_added ≡ (seen_as false r).stores_added
 stores_added-after r r' change honest = let plainly : IsHonest (seen_as true r) = record { said = honest.said; store = honest.store } in (change plainly).stays.plain_store refl

@@ -113,11 +113,6 @@ sensor_columns_made view number status entity old first second third fourth text
 
 -- ---- the event log
 
-pub sensor_text_made : (bytes kind text : List ℕ) (type number : ℕ) → kind ≡ sensor_type_text_of type → type ≡ sensor_type bytes → number ≡ sensor_number bytes
-    → text ≡ kind ++ (codes " #0x" ++ hex_byte number) → text ≡ sensor_text bytes
-sensor_text_made bytes kind text type number kind_is type_is number_is text_is =
-    text_is ∙ rw (kind_is, type_is, number_is) refl
-
 pub event_line_made : (id stamp : ℕ) (bytes time sensor words direction text : List ℕ) → stamp ≡ time_stamp bytes → IsUtcTextOf stamp time → sensor ≡ sensor_text bytes
     → words ≡ words_of_event bytes → direction ≡ direction_text (is_deasserted bytes)
     → text ≡ hex_word id ++ (codes " | " ++ (time ++ (codes " | " ++ (sensor ++ (codes " | " ++ (words ++ (codes " | " ++ (direction ++ codes "\n")))))))) → IsEventLine id bytes text

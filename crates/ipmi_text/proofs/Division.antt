@@ -138,13 +138,6 @@ pub record HasWritten (n : ℕ) (old new : List ℕ) (place rest : ℕ) : Type 0
   pub divided : IsDivided n digits place rest
   pub text_is : new ≡ old ++ 46 ∷ digits
 
-pub none_written : (n : ℕ) (old new : List ℕ) → n < 10 ^ 16 → n ≢ 0 → new ≡ old ++ 46 ∷ [] → HasWritten n old new (10 ^ 16) n
-none_written n old new small some e = record {
-  digits = [];
-  divided = record { digits = tt; short = omega arith; place_is = refl; below = small; sum = omega arith; last = λ none. absurd (some none) };
-  text_is = e;
-}
-
 pub one_more_written : (n : ℕ) (old new next : List ℕ) (place rest : ℕ) → HasWritten n old new place rest → rest ≢ 0
     → next ≡ new ++ (48 + rest / (place / 10)) ∷ [] → HasWritten n old next (place / 10) (rest % (place / 10))
 one_more_written n old new next place rest h some e = record {
@@ -168,14 +161,6 @@ all_written n old new place rest h none some =
       value_is = done.1;
       text_is = h.text_is ∙ rw (sym (after_point-some h.digits digits_there)) refl;
     }
-
-pub none_appended : (n : ℕ) (old new : List ℕ) → n ≡ 0 → new ≡ old → AppendsFraction n old new
-none_appended n old new none same = record {
-  digits = [];
-  is_fraction = record { all_digits = tt; short = omega arith; last = λ e. absurd (omega (arith, e)) };
-  value_is = rw none refl;
-  text_is = same ∙ sym (append-nil old);
-}
 
 -- a sign, the whole digits and the fraction make the decimal
 pub made : (v : ℤ) (start text : List ℕ) → unsigned_abs v < 10 ^ 64 → start ≡ sign_of v ++ decimal (unsigned_abs v / 10 ^ 16)

@@ -2,7 +2,7 @@
 ghost use Rattle.std.specs.Prelude.{◌≡◌, IfOk, option_map, string_bytes};
 ghost use Rattle.ipmi_text.specs.Chassis.{chassis_name, chassis_text_of};
 
-use crate::names::{HexByte, entry};
+use crate::names::{HexByte, entry_from_one};
 use std::alloc::{AllocError, Global};
 
 /// The names, from type 01h on (Platform Management FRU Information Storage Definition v1.0,
@@ -37,11 +37,7 @@ const CHASSIS_TYPES: [&str; 23] = [
 fn chassis_name(code: u8) -> Option<&'static str>
     ensures { option_map (λ s. s.now) result ≡ chassis_name code }
 {
-    if code == 0 {
-        None
-    } else {
-        entry(CHASSIS_TYPES.as_slice(), code as usize - 1)
-    }
+    entry_from_one(CHASSIS_TYPES.as_slice(), code)
 }
 
 /// The name of a chassis type (Platform Management FRU Information Storage Definition v1.0,

@@ -1,5 +1,5 @@
 //! A name out of a table, and the two hex digits of a byte.
-ghost use Rattle.std.specs.Prelude.{◌≡◌, ◌<◌, ◌∷◌, [], false, map, option_map, slice_get};
+ghost use Rattle.std.specs.Prelude.{◌≡◌, ◌<◌, ◌-◌, ◌==◌, ◌∷◌, [], None, false, map, option_map, slice_get, if◌then◌else◌};
 ghost use Rattle.std.specs.Fmt.{digit_glyph};
 
 use std::fmt;
@@ -14,6 +14,14 @@ pub(crate) fn entry(table: &[&'static str], at: usize) -> Option<&'static str>
     ensures { option_map (λ s. s.now) result ≡ slice_get (map (λ s. s.now) table.now) at }
 {
     table.get(at).copied()
+}
+
+/// The name of a code, in a table that begins with the name of code 1.
+pub(crate) fn entry_from_one(table: &[&'static str], code: u8) -> Option<&'static str>
+    ensures { option_map (λ s. s.now) result ≡
+        (if code == 0 then None else slice_get (map (λ s. s.now) table.now) (code - 1)) }
+{
+    entry(table, (code as usize).checked_sub(1)?)
 }
 
 /// The lower-case hex digit of a number below 16.

@@ -2,7 +2,7 @@
 ghost use Rattle.std.specs.Prelude.{◌≡◌, IfOk, option_map, string_bytes};
 ghost use Rattle.ipmi_text.specs.SensorTypes.{sensor_type_name, sensor_type_text_of};
 
-use crate::names::{HexByte, entry};
+use crate::names::{HexByte, entry_from_one};
 use crate::room::text_with_room;
 use std::alloc::{AllocError, Global};
 use std::fmt;
@@ -62,11 +62,7 @@ const SENSOR_TYPES: [&str; 44] = [
 fn sensor_type_name(code: u8) -> Option<&'static str>
     ensures { option_map (λ s. s.now) result ≡ sensor_type_name code }
 {
-    if code == 0 {
-        None
-    } else {
-        entry(SENSOR_TYPES.as_slice(), code as usize - 1)
-    }
+    entry_from_one(SENSOR_TYPES.as_slice(), code)
 }
 
 /// A sensor type, printed as its name (IPMI v2.0, table 42-3), or as `sensor type 0xNN` where it has none.
