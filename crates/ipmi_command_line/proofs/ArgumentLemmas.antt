@@ -17,10 +17,6 @@ pub is_simple_and_free-command_line : is_simple_and_free command_line ≡ true
 unfolding clap_on_literals
 is_simple_and_free-command_line = refl
 
-pub map-same : (ws : List Text) → map (λ w. w) ws ≡ ws
-map-same [] = refl
-map-same (w ∷ ws) = ap (λ vs. w ∷ vs) (map-same ws)
-
 pub is_taken-ok : (a : App) (ws words : List Text) → a ≡ command_line → ws ≡ words → fault_of a ws ≡ [] → is_taken words ≡ true
 unfolding is_taken
 is_taken-ok a ws words p q h = ap is_empty (sym (ap₂ fault_of p q) ∙ h)

@@ -5,7 +5,7 @@ use Rattle.std.specs.Char.{digit_value, is_ascii_digit, is_ascii_hexdigit}
 use Rattle.std.specs.List.{list_all}
 use Rattle.std.specs.Str.Parse.{AllDigits, ParsesUnsigned, digits_value}
 use Rattle.std.proofs.Math.Nat.{pow-le-pow_right}
-use Rattle.std.proofs.lemmas.Bool.{cases_lt}
+use Rattle.std.proofs.lemmas.Bool.{cases_lt, and_parts}
 use Rattle.std.proofs.lemmas.Bool.Decides.{nat_tests}
 use Rattle.std.proofs.lemmas.Int.Digits.{digits_value-lt}
 use Rattle.std.proofs.lemmas.Str.Parse.{IsDigitsTest, IsNumeralModel, numerals_by_value, parse_digits, without_leading_plus_none}
@@ -34,13 +34,9 @@ decimal_unread e bs low high small some spare ds h =
 hex_digit : (c : ℕ) → is_ascii_hexdigit c ≡ true → digit_value c < 16
 hex_digit c h = grind (arith, nat_tests)
 
-both : (a b : Bool) → (a && b) ≡ true → (a ≡ true) × (b ≡ true)
-both true b h = (refl, h)
-both false b h = cc
-
 all_hex : (bs : List ℕ) → list_all is_ascii_hexdigit bs ≡ true → AllDigits 16 bs
 all_hex [] h = tt
-all_hex (c ∷ cs) h = let p = both (is_ascii_hexdigit c) (list_all is_ascii_hexdigit cs) h in (hex_digit c p.0, all_hex cs p.1)
+all_hex (c ∷ cs) h = let p = and_parts (is_ascii_hexdigit c) (list_all is_ascii_hexdigit cs) h in (hex_digit c p.0, all_hex cs p.1)
 
 not_plus : (c : ℕ) → is_ascii_hexdigit c ≡ true → c ≢ 43
 not_plus c h = grind (arith, nat_tests)
@@ -52,7 +48,7 @@ below_four n len four h = let most : 16 ^ len ≤ 16 ^ 4 = pow-le-pow_right {n =
 pub hex_read : {E : Type 0} (e : E) (bs : List ℕ) → 0 < length bs → length bs ≤ 4 → list_all is_ascii_hexdigit bs ≡ true → ParsesUnsigned 16 16 bs (Err e) → ⊥
 hex_read e [] some four ds h = absurd (omega arith)
 hex_read e (c ∷ cs) some four ds h =
-    let no_plus : c ≢ 43 = not_plus c (both (is_ascii_hexdigit c) (list_all is_ascii_hexdigit cs) ds).0 in
+    let no_plus : c ≢ 43 = not_plus c (and_parts (is_ascii_hexdigit c) (list_all is_ascii_hexdigit cs) ds).0 in
     let same = without_leading_plus_none (c ∷ cs) no_plus in
     let hex = all_hex (c ∷ cs) ds in
     let below : digits_value 16 (c ∷ cs) < 16 ^ length (c ∷ cs) = digits_value-lt 16 (c ∷ cs) hex in

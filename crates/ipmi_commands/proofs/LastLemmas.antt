@@ -397,7 +397,3 @@ module _ (n : ℕ) (start : Place) (tries : ℕ) where
             let later = (along_second same walk end w ends).calls in
             subst (λ (e : WalkEnd). s''.calls ≤ s.calls + run_call_bound of_last.task s.store tries walk e) (sym at.0) (omega (arith, first, later, twice));
       }
-
-pub positive : (n : ℕ) → n ≢ 0 → 0 < n
-positive zero some = absurd (some refl)
-positive (suc n) some = omega arith

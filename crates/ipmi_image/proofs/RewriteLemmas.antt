@@ -12,10 +12,6 @@ use Rattle.ipmi_image.specs.Table.{inventory_of}
 use Rattle.ipmi_image.specs.Rewritten.{hex_of, parts_of, part_fields, first_row_id, row_fields, rows_lines, inventory_lines, line_text, lines_text, lines_of, image_text_of}
 use Rattle.ipmi_image.proofs.RowsLemmas.{drop-found, drop-past}
 
-pub on_ok : {A E : Type 0} (r : Result A E) {P Q : Type 0} → OnOk r P → (P → Q) → OnOk r Q
-on_ok (Ok x) p f = f p
-on_ok (Err e) p f = p
-
 pub row_joined : (o a b c d : List ℕ) → (o ++ (a ++ 32 ∷ (b ++ 32 ∷ []))) ++ (c ++ 32 ∷ (d ++ 10 ∷ [])) ≡ o ++ ((a ++ 32 ∷ (b ++ 32 ∷ (c ++ 32 ∷ d))) ++ 10 ∷ [])
 row_joined o a b c d = simp append_assoc refl
 

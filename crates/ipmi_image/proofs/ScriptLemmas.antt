@@ -18,10 +18,6 @@ use Rattle.ipmi_image.specs.Controllers.{Prepares}
 use Rattle.ipmi_image.specs.declared.responder.Responder.{Responder}
 use Rattle.ipmi_image.specs.Responder.{seen_as}
 
-pub nothing_left : {X : Type 0} (xs : List X) → length xs ≡ 0 → xs ≡ []
-nothing_left [] none = refl
-nothing_left (x ∷ xs) none = absurd (omega (arith, none))
-
 -- it answers over the store as it is, as one that never changes
 stores_added-after : (r r' : Responder) → (IsHonest (seen_as true r) → IsChange (seen_as true r) (seen_as true r')) → IsHonest (seen_as false r) → (seen_as false r').stores_added ≡ (seen_as false r).stores_added
 stores_added-after r r' change honest = let plainly : IsHonest (seen_as true r) = record { said = honest.said; store = honest.store } in (change plainly).stays.plain_store refl

@@ -12,6 +12,7 @@ use Rattle.std.proofs.lemmas.Map.Keys.{IsDistinct-push, IsDistinct-tail, apart_f
 use Rattle.std.proofs.lemmas.Map.Steps.{length-le_from_distinct_below}
 use Rattle.std.proofs.lemmas.Bool.{eqb-true, eqb-false, eq-eqb, ne_eqb}
 use Rattle.std.proofs.lemmas.Bool.Decides.{nat_tests}
+use Rattle.std.proofs.Math.Seq.{map-set_same}
 use Rattle.ipmi_bus.specs.Shelf.{Row, row_with_id}
 use Rattle.ipmi_bus.specs.Store.{IsSensorReading, inventory_in, reading_in}
 use Rattle.ipmi_bus.specs.Walk.{has_id}
@@ -236,15 +237,10 @@ place_of-set key q [] place item d is = refl
 place_of-set key q (x ∷ xs) zero item d is = rw is refl
 place_of-set key q (x ∷ xs) (suc place) item d is = rw (place_of-set key q xs place item d is) refl
 
-map-set_key : {T : Type 0} (key : T → ℕ) (items : List T) (place : ℕ) (item d : T) → key item ≡ key (get_or items place d) → map key (set items place item) ≡ map key items
-map-set_key key [] place item d is = refl
-map-set_key key (x ∷ xs) zero item d is = rw is refl
-map-set_key key (x ∷ xs) (suc place) item d is = rw (map-set_key key xs place item d is) refl
-
 pub index_set : {T : Type 0} (key : T → ℕ) (items : List T) (places : ℕ → Option ℕ) (place : ℕ) (item d : T) → IsIndex key items places → key item ≡ key (get_or items place d) → IsIndex key (set items place item) places
 index_set key items places place item d index is = record {
   found = λ q. index.found q ∙ sym (place_of-set key q items place item d is);
-  distinct = subst (IsDistinct nat_eq) (sym (map-set_key key items place item d is)) index.distinct;
+  distinct = subst (IsDistinct nat_eq) (sym (map-set_same key items place item d is)) index.distinct;
   below = λ q at found. index.below q at (sym (place_of-set key q items place item d is) ∙ found);
 }
 

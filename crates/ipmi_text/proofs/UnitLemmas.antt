@@ -13,10 +13,6 @@ pub not-length-zero : (xs : List ℕ) → not (length xs == 0) ≡ is_not_empty 
 not-length-zero [] = refl
 not-length-zero (x ∷ xs) = ap not (suc-eq-zero (length xs))
 
-pub not_not : (b : Bool) → not (not b) ≡ b
-not_not true = refl
-not_not false = refl
-
 is_not_empty-append : (xs : List ℕ) (y : ℕ) (ys : List ℕ) → is_not_empty (xs ++ y ∷ ys) ≡ true
 is_not_empty-append [] y ys = refl
 is_not_empty-append (x ∷ xs) y ys = refl

@@ -8,7 +8,7 @@ use Rattle.ipmi_commands.specs.Last.{ListsSpan}
 use Rattle.ipmi_commands.specs.Listing.{most_calls, most_on_walk}
 use Rattle.ipmi_commands.specs.Plan.{request, change}
 use Rattle.ipmi_commands.specs.Run.{Performs}
-use Rattle.ipmi_commands.proofs.LastLemmas.{count_stops, none_counted, second_performs, positive}
+use Rattle.ipmi_commands.proofs.LastLemmas.{count_stops, none_counted, second_performs}
 use Rattle.ipmi_commands.proofs.PageLemmas.{done}
 use Rattle.ipmi_commands.proofs.last.list_last.Goals as goal
 
@@ -77,4 +77,4 @@ returns-clause-honest g c = λ h.
     subst
     (λ (t : Task). Performs (request t start cmd.tries) (change s s'' old new) c.list_span-listed.result.stop)
     (sym c.requires.task)
-    (second_performs c.args.wanted start cmd.tries s s' old mid counted lists is_done s'' new c.list_span-listed.result c.requires.some (positive counted.count c.if-counted-eq0.false) second)
+    (second_performs c.args.wanted start cmd.tries s s' old mid counted lists is_done s'' new c.list_span-listed.result c.requires.some (let some = c.if-counted-eq0.false in omega (arith, some)) second)

@@ -2,7 +2,7 @@
 use Rattle.std.proofs.Common.{ℕ, arith, Bool, true, false, if◌then◌else◌, List, [], ◌∷◌, ◌++◌, ◌+◌, ◌-◌, ◌<◌, ◌≤◌, ◌≡◌, suc, append-nil, append_assoc, codes, get_or, length, take, drop, ap, ◌∙◌, sym, subst}
 use Rattle.std.proofs.Math.ListN.{drop_of_length-le}
 use Rattle.std.proofs.Math.Seq.{take-length, take-suc}
-use Rattle.std.proofs.lemmas.List.{drop-append-le, drop-take, length-take-le, take_rest, take-append-drop}
+use Rattle.std.proofs.lemmas.List.{drop-append-le, drop-take, length-take-le, take_rest, take-append-drop, take_more}
 use Rattle.std.proofs.lemmas.List.Concat.{flat_map-append}
 use Rattle.std.specs.Char.{is_ascii_control}
 use Rattle.ipmi_records.specs.Bytes.{upper_byte}
@@ -13,14 +13,9 @@ use Rattle.ipmi_output.proofs.message.write_escaped.Goals as goal
 use Rattle.ipmi_output.proofs.message.write_escaped.Goals.{then-is_ascii_control+in_ok-write_before_control, else-is_ascii_control}
 
 -- the first bytes, and the one after them
-take-next_byte : (name : List ℕ) (at d : ℕ) → at < length name → take (at + 1) name ≡ take at name ++ (get_or name at d ∷ [])
-take-next_byte name at d within =
-    let next : at + 1 ≡ suc at = omega arith in
-    rw next (take-suc name at d within)
-
 escaped_name-next : (name : List ℕ) (at d : ℕ) → at < length name → escaped_name (take (at + 1) name) ≡ escaped_name (take at name) ++ escaped_byte (get_or name at d)
 escaped_name-next name at d within =
-    ap (λ (t : List ℕ). escaped_name t) (take-next_byte name at d within)
+    ap (λ (t : List ℕ). escaped_name t) (take_more name at d within)
     ∙ flat_map-append escaped_byte (take at name) (get_or name at d ∷ [])
     ∙ ap (λ (t : List ℕ). escaped_name (take at name) ++ t) (append-nil (escaped_byte (get_or name at d)))
 
@@ -35,7 +30,7 @@ waits text name begun at d before within plain so_far =
     let byte : List ℕ = get_or name at d ∷ [] in
     let long : length (take at name) ≡ at = length-take-le at name (omega (arith, within)) in
     let dropped : drop begun (take (at + 1) name) ≡ drop begun (take at name) ++ byte =
-    rw (take-next_byte name at d within) (drop-append-le begun (take at name) byte (omega (arith, before, long))) in
+    rw (take_more name at d within) (drop-append-le begun (take at name) byte (omega (arith, before, long))) in
     rw dropped (sym (append_assoc text (drop begun (take at name)) byte) ∙ rw (so_far, sym (escaped_byte-control (get_or name at d) false plain)) (sym (escaped_name-next name at d within)))
 
 -- a control byte is taken, after the bytes that waited

@@ -1,13 +1,13 @@
 use Rattle.std.proofs.Common.{◌≡◌, [], ap, refl, sym, ◌∙◌, drop}
 use Rattle.std.specs.Vec.Iter.{into_iter_deque, into_iter_len}
+use Rattle.std.proofs.lemmas.List.{nil_from_length}
 use Rattle.ipmi_image.specs.declared.scripted.Scripted.{Scripted}
 use Rattle.ipmi_image.specs.Controllers.{moods_left, next_turn}
-use Rattle.ipmi_image.proofs.ScriptLemmas.{nothing_left}
 use Rattle.ipmi_image.proofs.scripted.Scripted.turn.Goals as goal
 
 -- where none is counted, none is left
 moods_left-none : (s : Scripted) → into_iter_len s.moods ≡ 0 → moods_left s ≡ []
-moods_left-none s none = nothing_left _ (sym (into_iter_deque s.moods).ok.0 ∙ none)
+moods_left-none s none = nil_from_length _ (sym (into_iter_deque s.moods).ok.0 ∙ none)
 
 pub returns-in-None-clause-used : goal.returns-in-None-clause-used
 returns-in-None-clause-used c =
