@@ -1,7 +1,7 @@
--- The texts of type/length fields (Platform Management FRU Information Storage Definition v1.0,
--- section 13; IPMI v2.0, section 43.15). The project's own, where those leave it open: the high nibble
--- first, a name for each nibble above Ch, whole characters only, hex for languages other than English,
--- `.` for what does not print, and at most 16 bytes of an ID string.
+-- The texts of type/length fields (Platform Management FRU Information Storage Definition v1.0, section 13; IPMI v2.0,
+-- section 43.15). Where those leave a choice open, these are the project's own: the high nibble first, a name for each
+-- nibble above Ch, whole characters only, hex for languages other than English, `.` for what does not print, and at
+-- most 16 bytes of an ID string.
 use Rattle.std.specs.Prelude.{ℕ, ◌+◌, ◌*◌, ◌/◌, ◌%◌, ◌^◌, ◌==◌, ◌&&◌, ◌||◌, min, nat_le, Bool, if◌then◌else◌, List, [], ◌∷◌, length, map, take, slice_index, encode_utf8_all, codes}
 use Rattle.std.specs.List.{before_first, range_with_len}
 use Rattle.hex.specs.Hex.{encode_lower}
@@ -35,8 +35,8 @@ six_bit_character bytes i = number_of bytes / 64 ^ i % 64 + 0x20
 unfoldable pub six_bit_text : List ℕ → List ℕ
 six_bit_text bytes = map (six_bit_character bytes) (range_with_len 0 (8 * length bytes / 6))
 
--- the character that a byte of 8-bit ASCII and Latin-1 prints as: 20h to 7Eh and A0h to FFh as
--- themselves, else `.`
+-- the character that a byte of 8-bit ASCII and Latin-1 prints as: 20h to 7Eh and A0h to FFh as themselves, all others
+-- as `.`
 abbrev pub latin1_character : ℕ → ℕ
 latin1_character b = if (nat_le 0x20 b && nat_le b 0x7e) || nat_le 0xa0 b then b else 46
 
@@ -71,7 +71,7 @@ bytes_wanted tl =
     else if id_kind tl == 2 then (6 * id_count tl + 7) / 8
     else id_count tl
 
--- the bytes that are used: those wanted, of which 16 at most, as far as they are there
+-- the bytes that are used: as many as are wanted, at most 16, and no more than there are
 abbrev pub bytes_used : ℕ → List ℕ → List ℕ
 bytes_used tl rest = take (min (bytes_wanted tl) 16) rest
 

@@ -70,7 +70,7 @@ impl Factors {
     }
 }
 
-/// Whether a number is one of 2's complement, of which there are `half` below 0.
+/// Whether a number is at least -`half` and below `half`, the range of 2's complement.
 fn is_twos_complement(number: i16, half: u16) -> bool
     ensures { IsTrue result ↔ IsTwosComplement half number }
 {
@@ -123,14 +123,14 @@ pub fn convert(f: &Factors, raw: u8) -> Option<Fixed>
     Some(Fixed(slope + offset))
 }
 
-/// A minus sign below zero, and else nothing.
+/// A minus sign for a value below zero, otherwise nothing.
 fn sign(value: i128) -> &'static str
     ensures { result.now ≡ sign_of value }
 {
     if value < 0 { "-" } else { "" }
 }
 
-/// Appends a point and the digits of a fraction, with no zero at their end. Nothing for 0.
+/// Appends a point and the digits of a fraction, without zeros at the end. Appends nothing for 0.
 fn push_fraction(text: &mut String, fraction: u64) -> Result<(), AllocError>
     requires { fraction < 10 ^ 16 }
     ensures { OnOk result
@@ -150,7 +150,7 @@ fn push_fraction(text: &mut String, fraction: u64) -> Result<(), AllocError>
     Ok(())
 }
 
-/// The whole ones in a size, and the units that are left.
+/// How many whole ones a size in units has, and the units that are left.
 fn parts(size: u128) -> (u128, u64)
     ensures whole { result.0 ≡ size / 10 ^ 16 }
     ensures rest { result.1 ≡ size % 10 ^ 16 }
@@ -164,8 +164,8 @@ fn parts(size: u128) -> (u128, u64)
     }
 }
 
-/// Appends the shortest exact decimal of a value. Contracts say what its sign and digits are, and the module
-/// `laws` that there is no other.
+/// Appends the shortest exact decimal of a value. The contract says what its sign and digits are,
+/// and the module `laws` that there is no other.
 pub fn push_fixed(text: &mut String, value: Fixed) -> Result<(), AllocError>
     ensures { OnOk result
         (Appends (IsDecimalOf value.0) (string_bytes text.old) (string_bytes text.new)) }
