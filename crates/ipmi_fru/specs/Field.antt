@@ -32,7 +32,7 @@ Spells bytes (field ∷ fields) = (rest : List ℕ) × (BeginsWithField bytes fi
 abbrev pub field_in : ℕ → List ℕ → AreaField
 field_in type_length bytes = record { code = type_length / 64; bytes = take (type_length % 64) bytes }
 
--- the fields that bytes spell, at most n, or none where they spell no list
+-- the fields that bytes spell, at most n of them, or None where the bytes spell no list of fields
 abbrev pub fields_from : ℕ → List ℕ → Option (List AreaField)
 fields_from n [] = Some []
 fields_from zero (byte ∷ bytes) = None
@@ -41,7 +41,7 @@ fields_from (suc n) (byte ∷ bytes) =
     else if nat_lt (length bytes) (byte % 64) then None
     else option_map (λ fields. field_in byte bytes ∷ fields) (fields_from n (drop (byte % 64) bytes))
 
--- with as many steps as there are bytes
+-- the fields that bytes spell: there are no more of them than bytes
 abbrev pub fields_in : List ℕ → Option (List AreaField)
 fields_in bytes = fields_from (length bytes) bytes
 
@@ -51,7 +51,7 @@ fields_in bytes = fields_from (length bytes) bytes
 abbrev pub field_of : Field → AreaField
 field_of f = record { code = f.code; bytes = f.bytes.now }
 
--- the bytes that spell these fields, or none, begin so
+-- what comes first in the bytes: no field, one that runs past their end, or one before the fields of the rest
 abbrev pub Begins : List ℕ → Beginning → Type 0
 Begins bytes beginning.End = fields_in bytes ≡ Some []
 Begins bytes beginning.PastEnd = fields_in bytes ≡ None

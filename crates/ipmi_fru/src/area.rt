@@ -25,7 +25,7 @@ pub(crate) enum AreaKind {
 }
 
 impl AreaKind {
-    /// Where the header has the area's offset.
+    /// Which byte of the header is the area's offset, counted from 0.
     pub(crate) fn place(self) -> usize
         ensures place { result ≡ place_of self }
         ensures below { result ≤ 4 }
@@ -159,7 +159,6 @@ impl<'a> AreaView<'a> {
         Ok(AreaView { kind, bytes: area })
     }
 
-    /// The kind of the area.
     pub(crate) fn kind(&self) -> AreaKind
         ensures { result ≡ self.now.kind }
     {
@@ -174,7 +173,7 @@ impl<'a> AreaView<'a> {
         self.bytes[2]
     }
 
-    /// When a board was made, in minutes since 1996.
+    /// When a board was made, in minutes from 1996-01-01 00:00; 0 is no date.
     pub(crate) fn minutes(&self) -> u32
         requires { self.now.kind ≡ Board }
         ensures number { result ≡ little_from 3 3 self.now.bytes }
@@ -210,7 +209,8 @@ impl<'a> AreaView<'a> {
         Fields::new(field_part(self.kind, self.bytes))
     }
 
-    /// The field of this place, from 0 on; none past the last one. It goes past all fields before it: to list them, `fields`.
+    /// The field at this place, counted from 0; none past the last one. Each call goes over the
+    /// fields before it, so use `fields` to list them.
     pub fn field(&self, place: usize) -> Option<Field<'a>>
         ensures field { option_map field_of result ≡ slice_get self.now.fields place }
         ensures code { IfSome result (λ field. field.code < 4) }

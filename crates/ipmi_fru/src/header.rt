@@ -10,13 +10,13 @@ use crate::multirecord::Records;
 use std::marker::Model;
 use thiserror::Error;
 
-/// The bytes of a header.
+/// How many bytes a header has.
 const HEADER: usize = 8;
 
 /// Bits 3:0 of the first byte of a header or an area: its format version.
 const VERSION: u8 = 0x0F;
 
-/// The place of the offset of the multirecord area.
+/// Which byte of the header is the offset of the multirecord area, counted from 0.
 const RECORDS: usize = 5;
 
 /// Why bytes are no inventory. The first one that applies, in this order, is the answer.
@@ -46,7 +46,8 @@ impl FruFault {
     }
 }
 
-/// The bytes that so many units are, in which a header counts offsets and an area its length.
+/// How many bytes so many units of eight are. Offsets in a header and the length of an area are in
+/// such units.
 pub(crate) fn bytes_of(units: u8) -> usize
     ensures { result ≡ 8 * units }
 {
@@ -97,7 +98,8 @@ impl<'a> Model for FruView<'a> {
 }
 
 impl<'a> FruView<'a> {
-    /// The inventory that bytes are, or the first fault of its header. Its pad byte counts only in the sum.
+    /// Reads bytes as an inventory; Err names the first fault of the header. The header's pad byte
+    /// is only summed. Areas and records are not looked at before they are asked for.
     pub fn read(bytes: &'a [u8]) -> Result<FruView<'a>, FruFault>
         ensures ok { IfOk result (λ view. (header_fault bytes.now ≡ None) × (view ≡ bytes.now)) }
         ensures err { IfErr result (λ fault. header_fault bytes.now ≡ Some fault) }
@@ -114,7 +116,8 @@ impl<'a> FruView<'a> {
         Ok(FruView { bytes })
     }
 
-    /// Where the area of this place in the header begins.
+    /// Where the area begins whose offset is at this place in the header; none where the offset is
+    /// 0.
     fn offset(&self, place: usize) -> Option<usize>
         requires { place ≤ 5 }
         ensures offset { result ≡ offset_of place self.now }
@@ -155,7 +158,7 @@ impl<'a> FruView<'a> {
         self.area(AreaKind::Product)
     }
 
-    /// The bytes from an offset on; none where they end before.
+    /// The bytes from an offset on, or no bytes where the inventory ends before it.
     fn bytes_from(&self, offset: usize) -> &'a [u8]
         ensures { result.now ≡ drop offset self.now }
     {

@@ -5,13 +5,13 @@ ghost use Rattle.ipmi_fru.specs.Multirecord.{record_in, record_fault, multi_faul
 use crate::header::{is_zero_sum, sum_of};
 use thiserror::Error;
 
-/// The bytes of a record's header.
+/// How many bytes a record's header has.
 const HEADER: usize = 5;
 
 /// Bits 3:0 of a record's second byte: the version of its format.
 const VERSION: u8 = 0x0F;
 
-/// Bit 7 of it: the record is the last one.
+/// Bit 7 of a record's second byte: the record is the last one.
 const LAST: u8 = 0x80;
 
 /// Why a record can't be read. The first one that applies is the answer: Outside for the header, HeaderSum, Outside for the
@@ -47,11 +47,11 @@ impl MultiFault {
 pub struct MultiView<'a> {
     /// The type of the record.
     pub kind: u8,
-    /// The version of its format, bits 3:0 of the second byte, which is not checked.
+    /// The version of the record's format, bits 3:0 of its second byte. It is not checked.
     pub version: u8,
     /// Whether it is marked as the last one.
     pub last: bool,
-    /// The data.
+    /// The data, without the record's header.
     pub bytes: &'a [u8],
 }
 
@@ -86,14 +86,15 @@ fn read_record(bytes: &[u8]) -> Result<(MultiView<'_>, &[u8]), MultiFault>
     Ok((view, &bytes[end..]))
 }
 
-/// The records of the multirecord area, in their order; after a fault there is none.
+/// An iterator over the records of the multirecord area, in their order. It ends after the record
+/// that is marked as the last, or after the first fault.
 #[derive(Clone, Debug, Drop)]
 pub struct Records<'a> {
     left: Option<&'a [u8]>,
 }
 
 impl<'a> Records<'a> {
-    /// The records from these bytes on; without any there is no record.
+    /// The records that these bytes begin with; none for None.
     pub(crate) fn new(left: Option<&'a [u8]>) -> Records<'a>
         ensures { items_left result ≡ items_after left.entry }
     {

@@ -30,7 +30,7 @@ const DC_LOAD: u8 = 2;
 /// The type of a management access record.
 const MANAGEMENT_ACCESS: u8 = 3;
 
-/// The least number of data bytes of a DC output and of a DC load.
+/// The fewest data bytes that a DC output or a DC load has.
 const DC_LEN: usize = 13;
 
 /// Bit 7 of the first data byte of a DC output: it is a standby one.
@@ -101,7 +101,6 @@ struct DcWords {
     before_high: &'static str,
 }
 
-/// What the line of an output and that of a load say beside their numbers.
 fn words_of(kind: DcKind) -> DcWords
     ensures start { result.start.now ≡ dc_start kind }
     ensures low { result.before_low.now ≡ before_low kind }
@@ -128,7 +127,8 @@ fn number_of(byte: u8) -> u8
     byte & 0x0F
 }
 
-/// Whether an output is a standby one, by the byte of its number.
+/// ` standby` for a standby output, otherwise nothing. `byte` is the one that has the output's
+/// number.
 fn standby_text(kind: DcKind, byte: u8) -> &'static str
     ensures { result.now ≡ standby_text kind byte }
 {
