@@ -60,7 +60,7 @@ fn head_lines(alloc: Global, id: u16, view: &SdrView) -> Result<String, AllocErr
     )
 }
 
-/// Where a sensor is asked for.
+/// The lines of the owner, LUN and number by which a sensor is asked for its reading.
 fn key_lines(alloc: Global, sensor: &Sensor) -> Result<String, AllocError>
     ensures { IfOk result (λ text. string_bytes text ≡ key_lines sensor.now) }
 {
@@ -116,7 +116,7 @@ fn locator_lines(alloc: Global, locator: Option<Locator>) -> Result<String, Allo
     )
 }
 
-/// The two columns of a line, a line for each.
+/// The reading column and the status, each on a line of its own.
 fn reading_lines(
     alloc: Global,
     view: &SdrView,
