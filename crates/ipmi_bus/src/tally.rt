@@ -33,7 +33,7 @@ impl Model for Tally {
 impl Tally {
     ghost use Rattle.ipmi_bus.specs.Events.{counts_after, zero_counts};
 
-    /// Nothing was counted yet.
+    /// A tally in which every count is 0.
     pub fn new() -> Tally
         ensures { result.counts ≡ zero_counts }
     {
