@@ -9,7 +9,7 @@ use std::marker::Model;
 
 /// What is found by a number of its own.
 pub(crate) trait Keyed {
-    /// The number.
+    /// The number, as contracts see it.
     ghost key: { Self → ℕ };
 
     /// The number that it is found by.
