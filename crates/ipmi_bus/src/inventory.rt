@@ -217,8 +217,8 @@ fn read_size<C: Controller>(ctl: &mut C, id: u8, tries: u8) -> Result<Size, FruE
     }
 }
 
-/// Reads the inventory of the FRU device with this id (IPMI v2.0, section 34), in parts of at most
-/// `part` bytes. It may meet `tries` troubles. `FruEnded` says why there are no bytes.
+/// The bytes of the inventory of the FRU device with this id (IPMI v2.0, section 34). It is asked for in parts of at
+/// most `part` bytes, and may meet `tries` troubles; `FruEnded` says why there is none.
 pub fn read_fru<C: Controller>(
     alloc: Global,
     ctl: &mut C,

@@ -61,8 +61,8 @@ pub fn read_reading<C: Controller>(
     }
 }
 
-/// The 14 bytes of the shelf's info, None where the controller has none. The call is made again
-/// after a trouble, up to `tries` times. An `Ended` names the id 0000h.
+/// The 14 bytes of the shelf's info, None where there is none. The call is made again after a trouble, up to `tries`
+/// times. An `Ended` carries 0000h.
 pub fn read_info<C: Controller>(
     ctl: &mut C,
     shelf: Shelf,

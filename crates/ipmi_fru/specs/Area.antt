@@ -78,7 +78,7 @@ IsAreaFault kind offset bytes f = (area_fault offset bytes ≡ Some f) ⊎ (HasF
 abbrev pub area_in : AreaKind → List ℕ → Area
 area_in kind bytes = record { kind = kind; bytes = bytes; fields = unwrap_or (fields_in (field_bytes kind bytes)) [] }
 
--- the area has at least a head and a checksum, and fields are found in it
+-- it has at least a head and a checksum, and fields are found in it
 pub record HasFields (kind : AreaKind) (bytes : List ℕ) : Type 0 where
   pub room : 2 + head_len kind < length bytes
   pub found : IsTrue (is_some (fields_in (field_bytes kind bytes)))

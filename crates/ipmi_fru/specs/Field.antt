@@ -32,7 +32,7 @@ Spells bytes (field ∷ fields) = (rest : List ℕ) × (BeginsWithField bytes fi
 abbrev pub field_in : ℕ → List ℕ → AreaField
 field_in type_length bytes = record { code = type_length / 64; bytes = take (type_length % 64) bytes }
 
--- the fields that bytes spell, at most n of them, or None where the bytes spell no list of fields
+-- the fields that bytes spell, at most n, or none where they spell no list
 abbrev pub fields_from : ℕ → List ℕ → Option (List AreaField)
 fields_from n [] = Some []
 fields_from zero (byte ∷ bytes) = None
@@ -41,7 +41,7 @@ fields_from (suc n) (byte ∷ bytes) =
     else if nat_lt (length bytes) (byte % 64) then None
     else option_map (λ fields. field_in byte bytes ∷ fields) (fields_from n (drop (byte % 64) bytes))
 
--- the fields that bytes spell: there are no more of them than bytes
+-- with as many steps as there are bytes
 abbrev pub fields_in : List ℕ → Option (List AreaField)
 fields_in bytes = fields_from (length bytes) bytes
 

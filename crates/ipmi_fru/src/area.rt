@@ -25,7 +25,7 @@ pub(crate) enum AreaKind {
 }
 
 impl AreaKind {
-    /// Which byte of the header is the area's offset, counted from 0.
+    /// Where the header has the area's offset.
     pub(crate) fn place(self) -> usize
         ensures place { result ≡ place_of self }
         ensures below { result ≤ 4 }
@@ -173,7 +173,7 @@ impl<'a> AreaView<'a> {
         self.bytes[2]
     }
 
-    /// When a board was made, in minutes from 1996-01-01 00:00; 0 is no date.
+    /// When a board was made, in minutes since 1996.
     pub(crate) fn minutes(&self) -> u32
         requires { self.now.kind ≡ Board }
         ensures number { result ≡ little_from 3 3 self.now.bytes }

@@ -67,7 +67,7 @@ fn push_line(text: &mut String, label: &str, value: &str) -> Result<(), AllocErr
     text.push('\n')
 }
 
-/// Appends the line of a field, or nothing where the field has no text.
+/// Appends the line of a field; none where it has no text.
 fn push_field(
     text: &mut String,
     alloc: Global,

@@ -10,13 +10,13 @@ use crate::multirecord::Records;
 use std::marker::Model;
 use thiserror::Error;
 
-/// How many bytes a header has.
+/// The bytes of a header.
 const HEADER: usize = 8;
 
 /// Bits 3:0 of the first byte of a header or an area: its format version.
 const VERSION: u8 = 0x0F;
 
-/// Which byte of the header is the offset of the multirecord area, counted from 0.
+/// The place of the offset of the multirecord area.
 const RECORDS: usize = 5;
 
 /// Why bytes are no inventory. The first one that applies, in this order, is the answer.
@@ -158,7 +158,7 @@ impl<'a> FruView<'a> {
         self.area(AreaKind::Product)
     }
 
-    /// The bytes from an offset on, or no bytes where the inventory ends before it.
+    /// The bytes from an offset on; none where they end before.
     fn bytes_from(&self, offset: usize) -> &'a [u8]
         ensures { result.now ≡ drop offset self.now }
     {

@@ -5,7 +5,7 @@ ghost use Rattle.ipmi_fru.specs.Multirecord.{record_in, record_fault, multi_faul
 use crate::header::{is_zero_sum, sum_of};
 use thiserror::Error;
 
-/// How many bytes a record's header has.
+/// The bytes of a record's header.
 const HEADER: usize = 5;
 
 /// Bits 3:0 of a record's second byte: the version of its format.
@@ -47,7 +47,7 @@ impl MultiFault {
 pub struct MultiView<'a> {
     /// The type of the record.
     pub kind: u8,
-    /// The version of the record's format, bits 3:0 of its second byte. It is not checked.
+    /// The version of its format, bits 3:0 of the second byte, which is not checked.
     pub version: u8,
     /// Whether it is marked as the last one.
     pub last: bool,

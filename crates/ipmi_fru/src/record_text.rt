@@ -30,7 +30,7 @@ const DC_LOAD: u8 = 2;
 /// The type of a management access record.
 const MANAGEMENT_ACCESS: u8 = 3;
 
-/// The fewest data bytes that a DC output or a DC load has.
+/// The least number of data bytes of a DC output and of a DC load.
 const DC_LEN: usize = 13;
 
 /// Bit 7 of the first data byte of a DC output: it is a standby one.

@@ -24,8 +24,7 @@ pub enum Mood {
     Busy,
     /// It answers CAh where more than one byte was asked for, otherwise plainly.
     TooLong,
-    /// It answers this code. Where the code is 00h, or not of the class `Refusal`, it answers
-    /// plainly.
+    /// It answers this code, but plainly where the code is 00h or no refusal.
     Refuse(Code),
     /// Its store becomes this image's, it forgets both reservations, and then it answers plainly.
     Change(Image),

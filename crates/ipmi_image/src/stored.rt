@@ -9,7 +9,7 @@ use std::marker::Model;
 
 /// What is found by a number of its own.
 pub(crate) trait Keyed {
-    /// The number, as contracts see it.
+    /// The number.
     ghost key: { Self → ℕ };
 
     /// The number that it is found by.

@@ -60,7 +60,7 @@ fn head_lines(alloc: Global, id: u16, view: &SdrView) -> Result<String, AllocErr
     )
 }
 
-/// The lines of the owner, LUN and number by which a sensor is asked for its reading.
+/// Where a sensor is asked for.
 fn key_lines(alloc: Global, sensor: &Sensor) -> Result<String, AllocError>
     ensures { IfOk result (λ text. string_bytes text ≡ key_lines sensor.now) }
 {

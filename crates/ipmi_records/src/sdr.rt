@@ -86,8 +86,7 @@ impl<'a> SdrView<'a> {
         }
     }
 
-    /// Reads bytes as a whole record, or gives the first fault that they have. The version byte is
-    /// not checked.
+    /// The record that bytes are, or the first fault that they have. The version byte is not checked.
     pub fn read(bytes: &'a [u8]) -> Result<SdrView<'a>, SdrFault>
         ensures { result ≡ sdr_view_of bytes.now }
     {

@@ -130,7 +130,7 @@ fn sign(value: i128) -> &'static str
     if value < 0 { "-" } else { "" }
 }
 
-/// Appends a point and the digits of a fraction, without zeros at the end. Appends nothing for 0.
+/// Appends a point and the digits of a fraction, with no zero at their end. Nothing for 0.
 fn push_fraction(text: &mut String, fraction: u64) -> Result<(), AllocError>
     requires { fraction < 10 ^ 16 }
     ensures { OnOk result
@@ -164,8 +164,8 @@ fn parts(size: u128) -> (u128, u64)
     }
 }
 
-/// Appends the shortest exact decimal of a value. The contract says what its sign and digits are,
-/// and the module `laws` that there is no other.
+/// Appends the shortest exact decimal of a value. Contracts say what its sign and digits are, and the module
+/// `laws` that there is no other.
 pub fn push_fixed(text: &mut String, value: Fixed) -> Result<(), AllocError>
     ensures { OnOk result
         (Appends (IsDecimalOf value.0) (string_bytes text.old) (string_bytes text.new)) }

@@ -4,7 +4,7 @@ ghost use Rattle.std.specs.Prelude.{◌≡◌, IfOk, IfSome, string_bytes};
 use std::alloc::{AllocError, Global};
 use std::fmt::Display;
 
-/// The text of a value. It is allocated with room for `room` bytes, and grows only past them.
+/// The text of a value. It begins with room for so many bytes, and grows only past them.
 pub fn text_with_room<D: Display + Drop>(
     alloc: Global,
     room: usize,

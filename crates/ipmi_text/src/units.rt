@@ -158,7 +158,7 @@ pub struct Units {
 }
 
 impl Units {
-    /// The text of the units where it is the name of the base unit and no more.
+    /// What they print as, where that is the name of the base unit and no more.
     fn plain_name(self) -> Option<&'static str>
         ensures { IfSome result (λ name. name.now ≡ unit_text_of self.units1 self.base
             self.modifier) }
