@@ -26,7 +26,7 @@ pub(crate) enum Stop {
 }
 
 impl Stop {
-    /// Whether nothing is left to list, so that a page after this one may begin.
+    /// Whether the listing did all that was asked of it, so that a page after this one may begin.
     pub(crate) fn is_done(self) -> bool
         ensures { result ≡ is_done self }
     {
