@@ -54,7 +54,7 @@ abbrev pub CountsTrouble : FruRetrieval → FruRetrieval → Result (Unit {0}) F
 CountsTrouble old new (Ok u) = (new ≡ record old { troubles = old.troubles + 1 }) × (old.troubles < old.tries)
 CountsTrouble old new (Err ended) = (ended ≡ GaveUp) × (new ≡ old) × (old.troubles ≡ old.tries)
 
--- a smaller part is to be asked for; after a request for one byte there is none, and the reading ends
+-- a smaller part is to be asked for; a part of less than one byte can't be
 abbrev pub MakesSmaller : ℕ → FruRetrieval → FruRetrieval → Result (Unit {0}) FruEnded → Type 0
 MakesSmaller asked old new (Ok u) =
     (smaller_part asked ≡ Some new.part) × (new ≡ record old { part = new.part })

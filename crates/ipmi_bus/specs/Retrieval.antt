@@ -127,7 +127,7 @@ pub record CallIsHonest (old new : Retrieval) (s s' : Seen) (result : Result Out
   pub keeps : IsSome old.reservation → s'.troubles ≡ s.troubles → KeepsHeld old new s s'
   pub plain : IsTrue s.plain → HoldsCurrent old s → CallIsPlain old new s' result
 
--- the retrieval after one more trouble; one that cancels the reservation also drops the bytes that are there
+-- the retrieval after one more trouble; where that cancelled the reservation, without it and without the bytes so far
 abbrev pub after_trouble : Bool → Retrieval → Retrieval
 after_trouble true r = record r { troubles = r.troubles + 1; reservation = None; have = 0 }
 after_trouble false r = record r { troubles = r.troubles + 1 }
@@ -162,7 +162,7 @@ TakesReservation (Err code) old new result = ReserveFails (class_of code.0) code
 abbrev pub IsReserveAnswered : Retrieval → Retrieval → Result Outcome Ended → Type 0
 IsReserveAnswered old new result = (answer : Result ℕ Code) × TakesReservation answer old new result
 
--- a smaller part is to be asked for; after a request for one byte there is none, and the reading ends
+-- a smaller part is to be asked for; a part of less than one byte can't be
 abbrev pub MakesSmaller : ℕ → Retrieval → Retrieval → Result Outcome Ended → Type 0
 MakesSmaller asked old new result = MatchResult result
     (λ turn. (turn ≡ Again) × (smaller_part asked ≡ Some new.part)

@@ -33,7 +33,7 @@ impl Model for Tally {
 impl Tally {
     ghost use Rattle.ipmi_bus.specs.Events.{counts_after, zero_counts};
 
-    /// A tally in which every count is 0.
+    /// Nothing was counted yet.
     pub fn new() -> Tally
         ensures { result.counts ≡ zero_counts }
     {

@@ -354,8 +354,7 @@ pub record HasFirstItems (t : Task) (store : Store) (plan : Plan) (old new : Lis
   pub items_are : plan.items ≡ done ++ rest
   pub printed : Printed t store done old new
 
--- texts of the first items were printed, and then the first bytes, perhaps none or all, of a text of the next item,
--- which is not empty
+-- texts of the first items were printed, and of a text of the next one, which is not empty, the first bytes, perhaps none or all
 pub record HasCutItem (t : Task) (store : Store) (plan : Plan) (old new : List ℕ) : Type 0 where
   pub done : List Item
   pub item : Item

@@ -144,7 +144,7 @@ impl Model for Image {
 }
 
 impl Image {
-    /// Reads an image of version 1 or 2. The fault is that of the first faulty line, or `Memory`.
+    /// Reads an image of version 1 or 2. Err is the first fault in the text, or `Memory`.
     pub fn read(alloc: Global, bytes: &[u8]) -> Result<Image, ImageFault>
         ensures store { IfOk result (λ image. IsStore image) }
         ensures ok { IfOk result (λ image. store_of_image bytes.now ≡ Ok image) }

@@ -132,8 +132,8 @@ impl Threshold {
     }
 }
 
-/// What a record tells of its sensor. The caller gives the two types, which each kind of record has
-/// at a place of its own.
+/// What a record tells of its sensor. The caller gives the two types, as their places depend on the
+/// kind of the record.
 fn sensor_in(bytes: &[u8], sensor_type: u8, event_type: u8) -> Sensor
     requires { 10 ≤ length bytes.now }
     ensures { result ≡ sensor_by sensor_type event_type bytes.now }

@@ -1,7 +1,7 @@
--- The texts of type/length fields (Platform Management FRU Information Storage Definition v1.0, section 13; IPMI v2.0,
--- section 43.15). Where those leave a choice open, these are the project's own: the high nibble first, a name for each
--- nibble above Ch, whole characters only, hex for languages other than English, `.` for what does not print, and at
--- most 16 bytes of an ID string.
+-- The texts of type/length fields (Platform Management FRU Information Storage Definition v1.0,
+-- section 13; IPMI v2.0, section 43.15). The project's own, where those leave it open: the high nibble
+-- first, a name for each nibble above Ch, whole characters only, hex for languages other than English,
+-- `.` for what does not print, and at most 16 bytes of an ID string.
 use Rattle.std.specs.Prelude.{ℕ, ◌+◌, ◌*◌, ◌/◌, ◌%◌, ◌^◌, ◌==◌, ◌&&◌, ◌||◌, min, nat_le, Bool, if◌then◌else◌, List, [], ◌∷◌, length, map, take, slice_index, encode_utf8_all, codes}
 use Rattle.std.specs.List.{before_first, range_with_len}
 use Rattle.hex.specs.Hex.{encode_lower}

@@ -150,7 +150,7 @@ fn push_fraction(text: &mut String, fraction: u64) -> Result<(), AllocError>
     Ok(())
 }
 
-/// How many whole ones a size in units has, and the units that are left.
+/// The whole ones in a size, and the units that are left.
 fn parts(size: u128) -> (u128, u64)
     ensures whole { result.0 ≡ size / 10 ^ 16 }
     ensures rest { result.1 ≡ size % 10 ^ 16 }
