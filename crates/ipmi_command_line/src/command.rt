@@ -282,7 +282,7 @@ impl Command {
         self.part
     }
 
-    /// How many troubles a step may meet, `--tries`.
+    /// How many troubles each record, reading, info or inventory may meet, `--tries`.
     pub fn tries(&self) -> u8
         ensures { result ≡ self.now.tries }
     {
