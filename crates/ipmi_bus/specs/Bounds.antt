@@ -10,10 +10,10 @@ step_call_bound tries len = (tries + 1) * (len + 2)
 abbrev pub fru_call_bound : ℕ → ℕ → ℕ
 fru_call_bound tries len = len + tries + 8
 
--- 1 where the number reaches this power of two, else 0
+-- 1 where the number reaches this power of two, otherwise 0
 abbrev pub reaches : ℕ → ℕ → ℕ
 reaches power n = if nat_le power n then 1 else 0
 
--- The binary digits of a part size. A fall of the part size, to half or less, takes one at least.
+-- How many binary digits a part size has. Whenever the part size falls, to half or less, it has at least one fewer.
 abbrev pub digits : ℕ → ℕ
 digits n = reaches 1 n + reaches 2 n + reaches 4 n + reaches 8 n + reaches 16 n + reaches 32 n + reaches 64 n + reaches 128 n

@@ -93,7 +93,7 @@ pub record IsAnswered (old new : FruRetrieval) (result : Result (Unit {0}) FruEn
   pub bytes : filled ≡ record old { bytes = filled.bytes }
   pub takes : TakesAnswer answer (request_len old) filled new result
 
--- the reading ended so, as its last request was answered
+-- the answer to the last request ended the reading so
 pub record EndsBy (new : FruRetrieval) (ended : FruEnded) : Type 0 where
   pub last : FruRetrieval
   pub answered : IsAnswered last new (Err ended)

@@ -66,7 +66,7 @@ StepKeeps old new s s' result =
     ((n : ℕ) → current old.shelf s' ≡ Some n → current old.shelf s ≡ Some n)
     × (IsOk result → new.reservation ≡ old.reservation)
 
--- so it is where one is held and no trouble comes
+-- the step keeps the reservation where one is held and no trouble comes
 abbrev pub KeepsReservation : CursorState → CursorState → Seen → Seen
     → Result (Option Row) Ended → Type 0
 KeepsReservation old new s s' result =

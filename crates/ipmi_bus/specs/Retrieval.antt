@@ -127,7 +127,7 @@ pub record CallIsHonest (old new : Retrieval) (s s' : Seen) (result : Result Out
   pub keeps : IsSome old.reservation → s'.troubles ≡ s.troubles → KeepsHeld old new s s'
   pub plain : IsTrue s.plain → HoldsCurrent old s → CallIsPlain old new s' result
 
--- after a trouble, of which one more may come
+-- the retrieval after one more trouble; where that cancelled the reservation, without it and without the bytes so far
 abbrev pub after_trouble : Bool → Retrieval → Retrieval
 after_trouble true r = record r { troubles = r.troubles + 1; reservation = None; have = 0 }
 after_trouble false r = record r { troubles = r.troubles + 1 }

@@ -75,7 +75,7 @@ pub record StaysHonest (old new : Seen) : Type 0 where
   pub store : KeepsStore old new
   pub plain_store : IsTrue old.plain → new.stores_added ≡ old.stores_added
 
--- so it does where nothing is asked of it, and over two stretches where it does over each
+-- this holds over no call at all, and over two stretches of calls where it holds over each
 pub stays_refl : (s : Seen) → IsHonest s → StaysHonest s s
 stays_refl s honest = record {
   honest = honest;

@@ -78,14 +78,14 @@ EndsRead (Ok Whole) result = result ≡ Ok true
 EndsRead (Ok Absent) result = result ≡ Ok false
 EndsRead (Err ended) result = result ≡ Err ended
 
--- the reading ended as its last call was answered
+-- the answer to the last call ended the reading so
 pub record IsEnded (new : Retrieval) (result : Result Bool Ended) : Type 0 where
   pub last : Retrieval
   pub outcome : Result Outcome Ended
   pub answered : CallIsAnswered last.reservation last new outcome
   pub ends : EndsRead outcome result
 
--- what comes of it over any controller
+-- what a reading leaves over any controller
 abbrev pub ReadLeaves : ℕ → Retrieval → Result Bool Ended → Type 0
 ReadLeaves id new (Ok true) = (5 ≤ new.have) × (new.have ≤ largest_len new.shelf) × (new.have ≡ wanted_len new.shelf new.have new.buffer)
 ReadLeaves id new (Ok false) = Unit {0}

@@ -12,7 +12,8 @@ pub(crate) fn asked_len(part: u8, missing: usize) -> usize
     usize::from(part).min(missing)
 }
 
-/// The part size after a code that asks for a smaller part than these bytes.
+/// The part size after a request for `asked` bytes that was too long: half of them. None where it
+/// was for one byte.
 pub(crate) fn smaller_part(asked: usize) -> Option<u8>
     requires { asked < 255 }
     ensures { result ≡ smaller_part asked }

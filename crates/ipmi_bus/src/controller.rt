@@ -95,8 +95,9 @@ pub trait Controller {
         ensures honest { IsHonest (seen self.old) →
             SizeAnswers id result (seen self.old) (seen self.new) };
 
-    /// Read FRU Data (IPMI v2.0, section 34.2): bytes of the inventory of the FRU device with this id, from the
-    /// offset on, as many as `into` has, 1 to 254. At Ok so many first bytes of `into` are the data.
+    /// Read FRU Data (IPMI v2.0, section 34.2): bytes of the inventory of the FRU device with this
+    /// id, from the offset on, as many as `into` has, 1 to 254. Ok says how many bytes came: they
+    /// are the first of `into`.
     fn fru_part(&mut self, id: u8, offset: u16, into: &mut [u8]) -> Result<u8, Code>
         requires some { 0 < length into.old }
         requires fits { length into.old < 255 }

@@ -18,7 +18,8 @@ use byteorder::{ByteOrder, LittleEndian};
 use std::alloc::{AllocError, Global};
 use std::marker::Model;
 
-/// A record in the buffer that is to be handed out. A `Record` would lend the buffer, of which `advance` has to speak.
+/// A record in the buffer that is to be handed out. It is not a `Record`, as that would borrow the
+/// buffer, of which the contract of `advance` has to speak.
 #[derive(Clone, Copy)]
 pub(crate) struct Handed {
     pub(crate) id: u16,
@@ -34,7 +35,7 @@ pub(crate) struct Progress {
     pub(crate) ids: IdTable,
 }
 
-/// What is to be done.
+/// What a step does: nothing at the end, or it reports a cycle, or it asks for a record.
 #[derive(Clone, Copy)]
 pub(crate) enum Next {
     End,
@@ -60,7 +61,7 @@ impl Progress {
         }
     }
 
-    /// Goes on to the row that is whole in the buffer.
+    /// Hands out the record that is whole in the buffer, and moves to the place after it.
     fn hand_out(&mut self, asked: u16) -> Handed
         requires within { self.old.retrieval.have ≤ 256 }
         requires some { 5 ≤ self.old.retrieval.have }
@@ -220,8 +221,9 @@ impl Cursor {
         self.progress.place
     }
 
-    /// Hands out the next record, lent out of the cursor until the next step. After an `Err` the cursor is
-    /// where it was and holds no reservation, so that a later step tries again.
+    /// Hands out the next record, lent out of the cursor until the next step; None means that there
+    /// are no more. After an `Err` the cursor is where it was and holds no reservation, so that a
+    /// later step tries again.
     #[tactic(auto, using(crate::proofs::WalkLemmas::follows_walks, crate::proofs::WalkLemmas::asks_along))]
     pub fn step<C: Controller>(&mut self, ctl: &mut C) -> Result<Option<Record<'_>>, Ended>
         ensures* after { sem 𝓛 (CursorRests self.entry

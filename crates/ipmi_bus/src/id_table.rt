@@ -37,7 +37,7 @@ impl IdTable {
         })
     }
 
-    /// Whether the id is among them.
+    /// Whether the table has the id.
     pub(crate) fn contains(&self, id: u16) -> bool
         ensures is { result ≡ set.contains self.now id }
         ensures room { result ≡ false → set.len self.now < 65536 }
@@ -45,7 +45,7 @@ impl IdTable {
         (self.bytes[usize::from(id / 8)] >> (id % 8)) & 1 == 1
     }
 
-    /// Puts the id among them.
+    /// Adds the id to the table.
     pub(crate) fn insert(&mut self, id: u16)
         ensures added { self.new ≡ set.insert self.old id }
         ensures at_most { set.len self.new ≤ 65536 }

@@ -19,7 +19,8 @@ pub enum FruEnded {
     /// No memory was left for the inventory.
     #[error("out of memory")]
     Memory,
-    /// The controller refused with this code; CBh, from an honest one: there is no such inventory.
+    /// The controller refused with this code. From an honest controller CBh means that it has no
+    /// such inventory.
     #[error("refused with code {code:02X}h", code = .0.0)]
     Refused(Code),
     /// More troubles came than the tries allow.
@@ -55,7 +56,7 @@ struct FruRetrieval {
     troubles: u16,
     /// How many bytes of it are there.
     have: usize,
-    /// As many bytes as it has, the first ones read.
+    /// As many bytes as the inventory has, of which the first `have` are read.
     bytes: Vec<u8>,
 }
 
@@ -99,7 +100,8 @@ impl FruRetrieval {
         Ok(())
     }
 
-    /// Does what is to be done after a failing call for so many bytes.
+    /// After a failed call for `asked` bytes: counts a trouble, makes the parts smaller, or ends
+    /// the reading.
     fn fail_part(&mut self, code: Code, asked: usize) -> Result<(), FruEnded>
         requires is_open { IsOpen self.old }
         requires asked { asked ≤ self.old.part }

@@ -33,8 +33,9 @@ fn after_value_failure(code: Code, id: u16, troubles: u16, tries: u8) -> Result<
     }
 }
 
-/// The reading of the sensor with this number at this LUN, None where there is none. The call is made again after a
-/// trouble, up to `tries` times. An `Ended` carries `id`.
+/// The reading of the sensor with this number at this LUN, None where the controller has none. The
+/// call is made again after a trouble, up to `tries` times. An `Ended` names `id`, which the caller
+/// chooses: the controller never sees it.
 pub fn read_reading<C: Controller>(
     ctl: &mut C,
     id: u16,

@@ -101,7 +101,7 @@ impl Retrieval {
         }
     }
 
-    /// Takes the bytes that came in.
+    /// Counts the bytes that came into the buffer, and judges a header once it is there.
     fn take_part(&mut self, part: Part) -> Result<Outcome, Ended>
         requires is_open { IsOpen self.old }
         requires fits { self.old.have + part.got ≤ wanted_len self.old.shelf self.old.have
@@ -149,7 +149,8 @@ impl Retrieval {
         ctl.part(self.shelf, reservation, self.id, have as u8, into)
     }
 
-    /// Does what is to be done after a failing call for so many bytes.
+    /// After a failed call for `asked` bytes: counts a trouble, makes the parts smaller, or ends
+    /// the reading.
     fn fail_part(&mut self, code: Code, asked: usize) -> Result<Outcome, Ended>
         requires is_open { IsOpen self.old }
         requires asked { asked ≤ self.old.part }

@@ -48,12 +48,12 @@ pub record IsCommand (task : Task) (from : Option ℕ) (part : ℕ) : Type 0 whe
 
 -- ---- the options
 
--- where there is no `--from`, no id; where it is none from 0001 to FFFE, nothing
+-- without `--from` Some None; where its text is no id from 0001 to FFFE, None
 abbrev pub start_of_text : Option (List ℕ) → Option (Option ℕ)
 start_of_text None = Some None
 start_of_text (Some text) = option_map (λ id. Some id) (within 1 65534 (four_hex_of text))
 
--- the number of an option, in decimal, or what stands for it where there is no such option; nothing out of its range
+-- the number of an option, in decimal, or its default where the option is not given; None out of its range
 abbrev pub number_or : ℕ → ℕ → ℕ → Option (List ℕ) → Option ℕ
 number_or default low high None = Some default
 number_or default low high (Some text) = within low high (decimal_of text)

@@ -1,4 +1,5 @@
--- The table of commands: what is to be done by the words of a command line, by how many they are, a line for each row.
+-- The table of commands: the task that the words of a command line name. There is a function for each number of words,
+-- and in it a line for each command.
 use Rattle.std.specs.Prelude.{ℕ, Bool, ◌&&◌, List, [], ◌∷◌, zero, suc, Option, Some, None, option_map, codes, if◌then◌else◌}
 use Rattle.std.specs.Str.{bytes_eq}
 use Rattle.ipmi_bus.specs.declared.controller.Shelf.TheVariants as shelf

@@ -81,7 +81,7 @@ pub enum Task {
     SelList(Count),
     /// `sel get`: the block of the entry with this id, 1 to 65534.
     SelGet(u16),
-    /// `image rewrite`.
+    /// `image rewrite`: the image in its one spelling.
     Rewrite,
 }
 
@@ -143,7 +143,7 @@ impl Task {
         }
     }
 
-    /// The name that it asks for; nothing where it asks for none.
+    /// The name that `sdr get` asks for; empty for every other task.
     pub fn name(&self) -> &str
         ensures { result.now ≡ name_of self.now }
     {
@@ -160,7 +160,7 @@ impl Task {
         }
     }
 
-    /// Whether an id to start from goes with the task.
+    /// Whether the task may be given an id to start from, `--from`.
     pub fn takes_from(&self) -> bool
         ensures { result ≡ takes_from self.now }
     {
@@ -195,10 +195,12 @@ pub enum UsageFault {
     /// The options and words cannot be told apart.
     #[error("the command line cannot be read")]
     Line,
-    /// The words name no command, or a number among them is none or out of its range.
+    /// The words name no command, or what should be a number among them is none, or is out of
+    /// range.
     #[error("no such command")]
     Command,
-    /// An option's value is none or out of its range, or the option does not go with the command.
+    /// The value of an option is malformed or out of range, or the command does not take the
+    /// option.
     #[error("an option that does not fit")]
     Option,
 }
@@ -211,7 +213,8 @@ impl From<AllocError> for UsageFault {
     }
 }
 
-/// What a command line asks for. Its numbers are in their ranges, and a start goes with its task.
+/// What a command line asks for. Its numbers are in their ranges, and it has an id to start from
+/// only where its task takes one.
 #[derive(Debug, Drop)]
 pub struct Command {
     task: Task,
@@ -232,7 +235,8 @@ impl Model for Command {
 }
 
 impl Command {
-    /// A command of numbers in their ranges.
+    /// A command. The numbers have to be in their ranges, and the task has to take `from`, if there
+    /// is one.
     pub fn new(task: Task, from: Option<u16>, part: u8, tries: u8, image: Option<Word>) -> Command
         requires { IsCommand task from part }
         ensures { result ≡ record {
@@ -278,7 +282,7 @@ impl Command {
         self.part
     }
 
-    /// How many troubles a step may meet, `--tries`.
+    /// How many troubles each record, reading, info or inventory may meet, `--tries`.
     pub fn tries(&self) -> u8
         ensures { result ≡ self.now.tries }
     {
@@ -292,7 +296,7 @@ impl Command {
         self.task.is_listing()
     }
 
-    /// The file that the image is in, `--image`; without it, it is standard input.
+    /// The file that the image is in, `--image`; None for standard input.
     pub fn image(&self) -> Option<&Word>
         ensures { option_map (λ w. w.now) result ≡ self.now.image }
     {
@@ -307,7 +311,8 @@ fn is_stray(task: &Task, from: Option<u16>) -> bool
     from.is_some() && !task.takes_from()
 }
 
-/// The id to start from, if there is one: four hex digits, neither `0000` nor `FFFF`. Nothing where it is none.
+/// The id that the text of `--from` names: four hex digits, neither `0000` nor `FFFF`. It is
+/// Some(None) without the option, and None where the text is no such id.
 fn start_of_text(text: Option<&str>) -> Option<Option<u16>>
     ensures value { result ≡ start_of_text (option_map (λ t. t.now) text.entry) }
     ensures range { IfSome result (λ from. IfSome from (λ id. (1 ≤ id) × (id ≤ 65534))) }
@@ -379,7 +384,8 @@ fn command_of_matches(alloc: Global, matches: &ArgMatches<'_>) -> Result<Command
     }
 }
 
-/// The command that the words mean, memory aside. The first of them is the program's name.
+/// The command that the words mean, or why they mean none; `Memory` may come in place of either.
+/// The first word is the program's name.
 pub fn command_of(alloc: Global, words: &Words) -> Result<Command, UsageFault>
     requires { 0 < length words.now }
     ensures { MatchResult result (λ c. meaning_of words.now ≡ Ok c)

@@ -153,7 +153,8 @@ fn task_of_four(a: &str, b: &str, c: &str, d: &str) -> Option<Task>
     }
 }
 
-/// What is to be done by the words after the program's name and without the options.
+/// The task that the words name, without the program's name and the options; None where they name
+/// none. Without any words it is `sdr hex`.
 pub(crate) fn task_of(alloc: Global, words: &[&str]) -> Result<Option<Task>, AllocError>
     ensures value { IfOk result (λ task. task ≡ task_of (map (λ word. word.now) words.now)) }
     ensures range { IfOk result (λ task. IfSome task IsTask) }

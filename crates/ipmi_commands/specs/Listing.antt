@@ -87,7 +87,7 @@ span_plan span t start walk end = record {
   end_spots = end_spots start walk (first_end span.most walk end);
 }
 
--- that of the first rows
+-- the plan of a listing of the first rows
 abbrev pub first_plan : Option ℕ → Task → Place → List Row → WalkEnd → Plan
 first_plan most t start walk end = span_plan (up_to most) t start walk end
 
@@ -119,14 +119,14 @@ abbrev pub is_done : Stop → Bool
 is_done stop.Done = true
 is_done _ = false
 
--- so a listing stops there, by whether it wrote anything: only a command that asks for a name may find none
+-- how a listing stops at its end: done, unless the command asks for a name and nothing was written
 abbrev pub stop_at_end : Task → Bool → Stop
 stop_at_end (task.Get name) false = stop.NoName
 stop_at_end _ wrote = stop.Done
 
 -- ---- calls
 
--- those for what is asked for besides records: for a reading, at its record, or for an inventory
+-- the most calls for what is asked for besides records: a reading, at the spot of its record, or an inventory
 abbrev pub calls_at : ℕ → Store → Spot → ℕ
 calls_at tries store (AtRecord n) = tries + 1
 calls_at tries store (AtInventory id) = fru_call_bound tries (inventory_len id store)
@@ -135,7 +135,7 @@ abbrev pub calls_at_spots : ℕ → Store → List Spot → ℕ
 calls_at_spots tries store [] = 0
 calls_at_spots tries store (spot ∷ spots) = calls_at tries store spot + calls_at_spots tries store spots
 
--- as many as the bound of a step for each row, and of what is asked for because of it
+-- for each row the bound of a step, and the most calls for what is asked for because of the row
 abbrev pub calls_for : Task → Store → ℕ → List Row → ℕ
 calls_for t store tries [] = 0
 calls_for t store tries (row ∷ rows) = step_call_bound tries (length row.bytes) + calls_at_spots tries store (spots_after t row) + calls_for t store tries rows

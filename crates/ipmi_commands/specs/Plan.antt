@@ -84,11 +84,11 @@ abbrev pub reading_spots : ℕ → Result SdrView SdrFault → List Spot
 reading_spots id (Ok view) = if is_some (sdr.reading_of view) then AtRecord id ∷ [] else []
 reading_spots id (Err fault) = []
 
--- that of a record of the kind
+-- the same for a record of the kind; for any other nothing is asked for
 abbrev pub listed_spots : Kind → Row → List Spot
 listed_spots kind row = if row_is_of_kind kind row then reading_spots row.id (sdr.sdr_view_of row.bytes) else []
 
--- that of a record with the name
+-- the same for a record with the name
 abbrev pub named_spots : List ℕ → ℕ → Result SdrView SdrFault → List Spot
 named_spots name id (Ok view) = if is_name name (sdr.name_of view) then reading_spots id (Ok view) else []
 named_spots name id (Err fault) = []
@@ -176,7 +176,8 @@ pub record Item : Type 0 where
   pub subject : Subject
   pub spots : List Spot
 
--- what a command is to print. It says of what the texts are and not what they are, so that it is a function
+-- what a command is to print. It names the subject of each text and not the text: texts are said by relations, and a
+-- plan is a function
 pub record Plan : Type 0 where
   pub items : List Item
   pub end : RunEnd

@@ -16,9 +16,9 @@ use std::alloc::Global;
 /// Which of the records along a walk are listed.
 #[derive(Clone, Copy)]
 pub(crate) struct Span {
-    /// How many are passed first, of which nothing is printed; all of them, where there is no number.
+    /// How many records are passed first, with nothing printed for them; None passes all.
     pub(crate) skip: Option<u32>,
-    /// After how many, those passed among them, the listing is done, where there is a limit.
+    /// After how many records, the passed ones included, the listing is done; None is no limit.
     pub(crate) most: Option<u32>,
 }
 

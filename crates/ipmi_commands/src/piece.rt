@@ -79,7 +79,7 @@ fn is_of_kind(kind: Kind, record_type: u8) -> bool
     }
 }
 
-/// The reading of a record, where it has one, under the record's id.
+/// Asks for the reading that goes with a record, if there is one. An `Ended` names the record's id.
 fn reading_for<C: Controller>(
     ctl: &mut C,
     id: u16,
@@ -185,7 +185,7 @@ pub(crate) enum Piece {
 }
 
 impl Piece {
-    /// Its bytes, where this is the line that was written.
+    /// The bytes of the piece. `line` is the line that was written for it.
     pub(crate) fn bytes<'a>(&'a self, line: &'a Line) -> &'a [u8]
         ensures { result.now ≡ bytes_of line.now self.now }
     {
@@ -237,7 +237,8 @@ fn record_piece<C: Controller>(
     }
 }
 
-/// The same where so many records are still to be passed, or all of them: nothing is printed of those.
+/// What the command prints for the record, or nothing where it is still to be passed: `passing`
+/// says how many are, and None that all are.
 pub(crate) fn piece_in<C: Controller>(
     alloc: Global,
     ctl: &mut C,

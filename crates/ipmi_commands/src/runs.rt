@@ -110,9 +110,9 @@ fn report_image<E: MessageSink>(fault: ImageFault, err: &mut E) -> u8
     image_status(fault)
 }
 
-/// Does what the command asks for over the controller, and gives the exit status: 0 where all was printed, 1 where
-/// it ended by name, 2 for `image rewrite`, which only `answer` can do, 4 for a write fault, 5 where memory ran out.
-/// Messages go to any writer.
+/// Does what the command asks for over the controller, and gives the exit status: 0 where all was
+/// printed, 1 where a message says what is missing or why it stopped, 2 for `image rewrite`, which
+/// only `answer` can do, 4 for a write fault, 5 where memory ran out. Messages go to any writer.
 pub fn run<C: Controller, O: Sink, E: Write>(
     alloc: Global,
     ctl: &mut C,
@@ -128,8 +128,8 @@ pub fn run<C: Controller, O: Sink, E: Write>(
     run_to_message_sink(alloc, ctl, cmd, out, err)
 }
 
-/// As `run`, with messages to a [`MessageSink`]: of one whose faults are counted it is known that a message was taken
-/// whole where there was none.
+/// As `run`, with messages to a [`MessageSink`]. Where that counts its faults, and counts none, the
+/// message was taken whole.
 pub fn run_to_message_sink<C: Controller, O: Sink, E: MessageSink>(
     alloc: Global,
     ctl: &mut C,

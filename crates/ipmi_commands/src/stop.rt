@@ -11,7 +11,7 @@ use std::alloc::AllocError;
 pub(crate) enum Stop {
     /// After the last record, or after as many as were wanted.
     Done,
-    /// The cursor gave no record, for this reason.
+    /// A record, a reading or an info was not read, for this reason.
     Ended(Ended),
     /// No record has the name that was asked for.
     NoName,
@@ -19,14 +19,14 @@ pub(crate) enum Stop {
     NoInfo,
     /// The inventory of the FRU device with this id was not read, for this reason.
     Inventory(u8, FruEnded),
-    /// No memory was left for a line.
+    /// No memory was left.
     Memory,
     /// The output took no more.
     WriteFault,
 }
 
 impl Stop {
-    /// Whether nothing is left to list, so that a page after this one may begin.
+    /// Whether the listing did all that was asked of it, so that a page after this one may begin.
     pub(crate) fn is_done(self) -> bool
         ensures { result ≡ is_done self }
     {

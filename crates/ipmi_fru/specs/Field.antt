@@ -51,7 +51,7 @@ fields_in bytes = fields_from (length bytes) bytes
 abbrev pub field_of : Field → AreaField
 field_of f = record { code = f.code; bytes = f.bytes.now }
 
--- the bytes that spell these fields, or none, begin so
+-- what comes first in the bytes: no field, one that runs past their end, or one before the fields of the rest
 abbrev pub Begins : List ℕ → Beginning → Type 0
 Begins bytes beginning.End = fields_in bytes ≡ Some []
 Begins bytes beginning.PastEnd = fields_in bytes ≡ None

@@ -85,12 +85,12 @@ abbrev pub items_by : Option MultiFault → MultiRecord → List (Result MultiRe
 items_by (Some f) r more = Err f ∷ []
 items_by None r more = Ok r ∷ (if r.last then [] else more)
 
--- with at most n of them
+-- the records that bytes begin with and their fault, at most n items
 abbrev pub items_from : ℕ → List ℕ → List (Result MultiRecord MultiFault)
 items_from zero bytes = []
 items_from (suc n) bytes = items_by (record_fault bytes) (record_in bytes) (items_from n (after_record bytes))
 
--- no more of them than bytes and one
+-- all of them: at most one more than there are bytes
 abbrev pub items_in : List ℕ → List (Result MultiRecord MultiFault)
 items_in bytes = items_from (suc (length bytes)) bytes
 

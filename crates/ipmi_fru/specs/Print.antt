@@ -85,7 +85,7 @@ pub record IsAreaText (area : Area) (text : List ℕ) : Type 0 where
   pub is_lead : IsLead area.kind area.bytes lead
   pub text_is : text ≡ lead ++ field_lines (language_of area.kind area.bytes) (labels_of area.kind) (extra_label area.kind) area.fields
 
--- what is printed of what an inventory has of a kind: nothing where it has none, the lines of the area, or its fault
+-- what is printed for an area of a kind: nothing where the inventory has none, the lines of the area, or its fault
 abbrev pub IsTextFound : AreaKind → Option (Result Area AreaFault) → List ℕ → Type 0
 IsTextFound kind None text = text ≡ []
 IsTextFound kind (Some (Ok area)) text = IsAreaText area text

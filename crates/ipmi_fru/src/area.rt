@@ -159,7 +159,6 @@ impl<'a> AreaView<'a> {
         Ok(AreaView { kind, bytes: area })
     }
 
-    /// The kind of the area.
     pub(crate) fn kind(&self) -> AreaKind
         ensures { result ≡ self.now.kind }
     {
@@ -210,7 +209,8 @@ impl<'a> AreaView<'a> {
         Fields::new(field_part(self.kind, self.bytes))
     }
 
-    /// The field of this place, from 0 on; none past the last one. It goes past all fields before it: to list them, `fields`.
+    /// The field at this place, counted from 0; none past the last one. Each call goes over the
+    /// fields before it, so use `fields` to list them.
     pub fn field(&self, place: usize) -> Option<Field<'a>>
         ensures field { option_map field_of result ≡ slice_get self.now.fields place }
         ensures code { IfSome result (λ field. field.code < 4) }

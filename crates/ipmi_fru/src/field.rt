@@ -7,12 +7,12 @@ use std::marker::Model;
 /// The byte that comes after the last field.
 const NO_MORE_FIELDS: u8 = 0xC1;
 
-/// A field of an area, as its type/length byte and its data are.
+/// A field of an area: what its type/length byte says, and its data.
 #[derive(Clone, Copy, Debug, PartialEq, Eq)]
 pub struct Field<'a> {
     /// Bits 7:6 of the type/length byte: 0 binary, 1 BCD plus, 2 6-bit ASCII, 3 by the language.
     pub code: u8,
-    /// The data.
+    /// The data, as many bytes as bits 5:0 of the type/length byte say.
     pub bytes: &'a [u8],
     // What `fru_text` asks of a code.
     pub ghost two_bits: { code < 4 },
@@ -32,12 +32,12 @@ fn len_of(type_length: u8) -> usize
     usize::from(type_length & 0x3F)
 }
 
-/// What bytes begin with where fields are.
+/// What comes first in bytes that are to be read as fields.
 #[derive(Clone, Copy)]
 enum Beginning<'a> {
     /// No more fields.
     End,
-    /// A field that is longer than they are.
+    /// A field that is longer than the bytes that are left.
     PastEnd,
     /// A field, and what is after it.
     Field(Field<'a>, &'a [u8]),
@@ -65,7 +65,8 @@ impl<'a> Beginning<'a> {
     }
 }
 
-/// The fields of an area, in their order, seen as the list of those that are left.
+/// An iterator over the fields of an area, in their order. Contracts see it as the list of the
+/// fields that are left.
 #[derive(Clone, Debug, Drop)]
 pub struct Fields<'a> {
     left: &'a [u8],

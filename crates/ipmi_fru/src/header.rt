@@ -46,7 +46,8 @@ impl FruFault {
     }
 }
 
-/// The bytes that so many units are, in which a header counts offsets and an area its length.
+/// How many bytes so many units of eight are. Offsets in a header and the length of an area are in
+/// such units.
 pub(crate) fn bytes_of(units: u8) -> usize
     ensures { result ≡ 8 * units }
 {
@@ -97,7 +98,8 @@ impl<'a> Model for FruView<'a> {
 }
 
 impl<'a> FruView<'a> {
-    /// The inventory that bytes are, or the first fault of its header. Its pad byte counts only in the sum.
+    /// Reads bytes as an inventory; Err names the first fault of the header. The header's pad byte
+    /// is only summed. Areas and records are not looked at before they are asked for.
     pub fn read(bytes: &'a [u8]) -> Result<FruView<'a>, FruFault>
         ensures ok { IfOk result (λ view. (header_fault bytes.now ≡ None) × (view ≡ bytes.now)) }
         ensures err { IfErr result (λ fault. header_fault bytes.now ≡ Some fault) }
@@ -114,7 +116,8 @@ impl<'a> FruView<'a> {
         Ok(FruView { bytes })
     }
 
-    /// Where the area of this place in the header begins.
+    /// Where the area begins whose offset is at this place in the header; none where the offset is
+    /// 0.
     fn offset(&self, place: usize) -> Option<usize>
         requires { place ≤ 5 }
         ensures offset { result ≡ offset_of place self.now }

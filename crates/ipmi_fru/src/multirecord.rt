@@ -11,7 +11,7 @@ const HEADER: usize = 5;
 /// Bits 3:0 of a record's second byte: the version of its format.
 const VERSION: u8 = 0x0F;
 
-/// Bit 7 of it: the record is the last one.
+/// Bit 7 of a record's second byte: the record is the last one.
 const LAST: u8 = 0x80;
 
 /// Why a record can't be read. The first one that applies is the answer: Outside for the header, HeaderSum, Outside for the
@@ -51,7 +51,7 @@ pub struct MultiView<'a> {
     pub version: u8,
     /// Whether it is marked as the last one.
     pub last: bool,
-    /// The data.
+    /// The data, without the record's header.
     pub bytes: &'a [u8],
 }
 
@@ -86,14 +86,15 @@ fn read_record(bytes: &[u8]) -> Result<(MultiView<'_>, &[u8]), MultiFault>
     Ok((view, &bytes[end..]))
 }
 
-/// The records of the multirecord area, in their order; after a fault there is none.
+/// An iterator over the records of the multirecord area, in their order. It ends after the record
+/// that is marked as the last, or after the first fault.
 #[derive(Clone, Debug, Drop)]
 pub struct Records<'a> {
     left: Option<&'a [u8]>,
 }
 
 impl<'a> Records<'a> {
-    /// The records from these bytes on; without any there is no record.
+    /// The records that these bytes begin with; none for None.
     pub(crate) fn new(left: Option<&'a [u8]>) -> Records<'a>
         ensures { items_left result ≡ items_after left.entry }
     {

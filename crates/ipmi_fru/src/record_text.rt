@@ -101,7 +101,6 @@ struct DcWords {
     before_high: &'static str,
 }
 
-/// What the line of an output and that of a load say beside their numbers.
 fn words_of(kind: DcKind) -> DcWords
     ensures start { result.start.now ≡ dc_start kind }
     ensures low { result.before_low.now ≡ before_low kind }
@@ -128,7 +127,8 @@ fn number_of(byte: u8) -> u8
     byte & 0x0F
 }
 
-/// Whether an output is a standby one, by the byte of its number.
+/// ` standby` for a standby output, otherwise nothing. `byte` is the one that has the output's
+/// number.
 fn standby_text(kind: DcKind, byte: u8) -> &'static str
     ensures { result.now ≡ standby_text kind byte }
 {

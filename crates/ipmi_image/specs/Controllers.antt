@@ -18,11 +18,11 @@ use Rattle.ipmi_image.specs.declared.scripted.Turn.{Turn}
 use Rattle.ipmi_image.specs.declared.scripted.Turn.TheVariants as turn
 use Rattle.ipmi_image.specs.Responder.{cancelled, with_reservation, seen_as}
 
--- plain
+-- a controller over an image is honest, and plain
 abbrev pub seen_of : ImageController → Seen
 seen_of c = seen_as true c.responder
 
--- honest, and not plain
+-- a scripted controller is honest, and not plain
 abbrev pub script_seen : Scripted → Seen
 script_seen s = seen_as false s.responder
 
@@ -89,7 +89,7 @@ after_mood (mood.Change image) r =
     record r { image = image; sdr_reservation = None; sel_reservation = None }
 after_mood other r = r
 
--- the same of the mood that comes next, and of none that is left
+-- what the next mood makes of a call; where no mood is left, the call is answered plainly
 abbrev pub next_turn : ℕ → List Mood → Turn
 next_turn asked [] = turn.Answers 254
 next_turn asked (next ∷ moods) = mood_turn asked next

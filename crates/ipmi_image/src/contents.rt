@@ -39,7 +39,7 @@ fn is_whole(shelf: Shelf, bytes: &[u8]) -> bool
     }
 }
 
-/// Whether no record after these has this id.
+/// Whether a record after these may not have this id: FFFFh, or 0000h where it is not the first.
 #[tactic(auto, using(crate::proofs::TableLemmas::is_empty_chained))]
 fn is_no_id(rows: &Rows, id: u16) -> bool
     ensures { result ≡ is_no_id (chained rows.now) id }
@@ -56,7 +56,7 @@ fn begins_with_another(rows: &Rows, row: &StoredRow) -> bool
     rows.is_empty() && LittleEndian::read_u16(row.bytes) != row.id
 }
 
-/// Why the bytes may not be those of the record after these.
+/// Why the bytes of the record do not fit: their number, or the id that they begin with.
 fn bytes_fault(shelf: Shelf, rows: &Rows, row: &StoredRow) -> Option<LineFault>
     ensures { result ≡ first_fault ((is_no_record shelf row.now.bytes.now, LineFault.Length) ∷
         (begins_with_another (chained rows.now) (row_of row.now), LineFault.FirstId) ∷ []) }
@@ -70,7 +70,7 @@ fn bytes_fault(shelf: Shelf, rows: &Rows, row: &StoredRow) -> Option<LineFault>
     None
 }
 
-/// Puts the record after these.
+/// Puts a record after those of its shelf, or says why it may not come there.
 #[tactic(auto, using(crate::proofs::TableLemmas::has_id_chained))]
 fn put_row(
     shelf: Shelf,
@@ -226,7 +226,7 @@ fn put_reading(
     Ok(())
 }
 
-/// Takes the info of a shelf.
+/// Keeps the info of a shelf, or says why it may not come.
 fn put_info(info: &mut Option<[u8; 14]>, bytes: &[u8]) -> Result<(), LineFault>
     ensures keeps { OnOk result (IfSome info.new IsInfo) }
     ensures ok { OnOk result ((info_fault info.old bytes.now ≡ None)

@@ -12,10 +12,12 @@ use crate::responder::{Responder, WHOLE};
 use ipmi_bus::{Code, Controller, FruSize, Part, Shelf};
 use ipmi_text::Reading;
 
-/// A controller over an image. It gives parts as long as asked or as the record has, and numbers its reservations
-/// 1, 2, .. over both shelves, after FFFFh again 1. It answers C5h to a request for a part past the first byte under
-/// another reservation than the last one given for the shelf, else C9h at or past the end, and CBh to each request
-/// for what the image does not have.
+/// A controller over an image. A part has as many bytes as were asked for, or as are left. The
+/// reservations of both shelves are numbered together: 1, 2, and so on, and 1 again after FFFFh.
+///
+/// The first of these codes that applies is the answer: CBh for what the image does not have; C5h
+/// for a part past the first byte under another reservation than the last one given for the shelf;
+/// C9h for an offset at or past the end.
 #[derive(Drop)]
 pub struct ImageController {
     responder: Responder,

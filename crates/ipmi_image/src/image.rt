@@ -75,7 +75,8 @@ impl LineFault {
     }
 }
 
-/// Whether the image's rows may have a dash for their next id, as its first line says.
+/// Whether the image's rows may have a dash for their next id, by the image's first line. None
+/// where that is not the first line of an image.
 fn read_version(line: &[u8]) -> Option<bool>
     ensures { result ≡ dashes_in line.now }
 {
@@ -143,7 +144,7 @@ impl Model for Image {
 }
 
 impl Image {
-    /// Reads an image of version 1 or 2.
+    /// Reads an image of version 1 or 2. Err is the first fault in the text, or `Memory`.
     pub fn read(alloc: Global, bytes: &[u8]) -> Result<Image, ImageFault>
         ensures store { IfOk result (λ image. IsStore image) }
         ensures ok { IfOk result (λ image. store_of_image bytes.now ≡ Ok image) }

@@ -32,10 +32,11 @@ impl From<AllocError> for LineFault {
     }
 }
 
-/// What a line says by itself of the bytes that its last field has.
+/// What a line says, without the bytes of its last field, which are kept apart.
 #[derive(Clone, Copy, Debug)]
 pub(crate) enum Line {
-    /// A record of a shelf. Without a next id it has the following one's.
+    /// A record of a shelf. Where `next` is None, its next id is that of the following record, or
+    /// FFFFh for the last one.
     Row {
         shelf: Shelf,
         id: u16,

@@ -154,7 +154,7 @@ impl Responder {
         code
     }
 
-    /// Gives the next number, after FFFFh again 1.
+    /// Gives the next reservation number. 1 comes again after FFFFh.
     pub(crate) fn reserve(&mut self, shelf: Shelf) -> u16
         ensures counted { self.new.tally.counts.calls ≡ self.old.tally.counts.calls + 1 }
         ensures answers { (plain : Bool) → IsHonest (seen_as plain self.old) →

@@ -9,7 +9,8 @@ use crate::stored::{Keyed, Table};
 use std::alloc::{AllocError, Global};
 use std::marker::Model;
 
-/// A record of a shelf. Without a next id it has the following one's.
+/// A record of a shelf. Where `next` is None, its next id is that of the following record, or
+/// FFFFh for the last one.
 #[derive(Clone, Copy, Debug)]
 pub(crate) struct StoredRow<'a> {
     pub(crate) id: u16,

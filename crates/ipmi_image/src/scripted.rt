@@ -22,7 +22,7 @@ pub enum Mood {
     Cancel,
     /// It answers C0h.
     Busy,
-    /// It answers CAh where more than one byte was asked for, else plainly.
+    /// It answers CAh where more than one byte was asked for, otherwise plainly.
     TooLong,
     /// It answers this code, but plainly where the code is 00h or no refusal.
     Refuse(Code),
@@ -95,7 +95,7 @@ impl Scripted {
         }
     }
 
-    /// Uses up a mood on a call for so many bytes; a call for none of its own counts as one for one byte.
+    /// Uses up a mood on a call for `asked` bytes. Calls that name no number of bytes are given 1.
     fn turn(&mut self, asked: usize) -> Turn
         ensures counts { TurnCounts result (script_seen self.old) (script_seen self.new) }
         ensures turns { IsHonest (script_seen self.old) →

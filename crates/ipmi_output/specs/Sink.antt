@@ -11,6 +11,6 @@ abbrev pub faults_by : {E : Type 0} → Result ℕ E → ℕ
 faults_by (Ok n) = if n == 0 then 1 else 0
 faults_by (Err e) = 1
 
--- a first part of the bytes was appended, and no more
+-- some first bytes were appended, perhaps none or all, and nothing else
 abbrev pub TakesPart : List ℕ → List ℕ → List ℕ → Type 0
 TakesPart old new bytes = (k : ℕ) × (new ≡ old ++ take k bytes)

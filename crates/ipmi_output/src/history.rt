@@ -1,4 +1,4 @@
-//! What a sink has taken, as only contracts see it: it takes no bytes and no time.
+//! What a sink has taken. Only contracts see it, so it costs no memory and no time.
 ghost use Rattle.std.specs.Prelude.{◌≡◌, ℕ, List};
 ghost use Rattle.std.specs.Borrow.{ftrue};
 

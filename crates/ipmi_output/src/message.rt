@@ -22,7 +22,7 @@ pub enum Message<'a> {
     CannotRead(&'a str),
     /// The input is no image.
     Image(ImageFault),
-    /// A listing ended by this name.
+    /// A record, a reading or an info was not read, for this reason.
     Ended(Ended),
     /// The inventory of the FRU device with this id was not read, for this reason.
     Inventory(u8, FruEnded),
@@ -36,8 +36,8 @@ pub enum Message<'a> {
     OutOfMemory,
 }
 
-/// Says the message, as a line. Where standard error does not take it all, nothing else changes: there is nowhere left
-/// to tell it.
+/// Writes the message as a line. A sink that does not take all of it is no error here, as there is
+/// nowhere left to tell it.
 pub fn say<E: MessageSink>(err: &mut E, message: Message<'_>)
     ensures { ReceivesText (E.received err.old) (E.received err.new)
         (line_text (message_text message.entry)) }

@@ -66,7 +66,8 @@ impl<W: Write> Sink for Written<W> {
 }
 
 impl<W: Write> Written<W> {
-    /// The writer, with what it has already got; no fault came yet.
+    /// A sink over the writer. What the writer holds already counts as taken, and no fault is
+    /// counted yet.
     pub fn new(writer: W) -> Written<W>
         ensures taken { ⟦<Written<W> as Sink>⟧.taken result ≡ unwrap_or (W.contents writer) [] }
         ensures faults { ⟦<Written<W> as Sink>⟧.faults result ≡ 0 }
@@ -79,7 +80,8 @@ impl<W: Write> Written<W> {
         }
     }
 
-    /// The writer again. Where it tells its bytes, as a `Vec<u8>` does, it has got those taken.
+    /// Gives back the writer. Where contracts see what a writer holds, as of a `Vec<u8>`, it holds
+    /// the bytes taken.
     pub fn into_inner(self) -> W
         ensures { ((w : W) → IsSome (W.contents w)) →
             W.contents result ≡ Some (⟦<Written<W> as Sink>⟧.taken self) }

@@ -60,7 +60,7 @@ abbrev pub IsAnalogColumn : Bool → List ℕ → Reading → List ℕ → Type 
 IsAnalogColumn false bytes reading text = text ≡ states_text reading
 IsAnalogColumn true bytes reading text = IsRawText bytes reading.raw text
 
--- of a full record: the states where the analog format is 3, else the value
+-- of a full record: the states where the analog format is 3, otherwise the value
 abbrev pub has_analog : List ℕ → Bool
 has_analog bytes = not (analog_format bytes == 3)
 

@@ -22,7 +22,7 @@ use Rattle.ipmi_records.specs.Columns.{IsRawText, IsReadingColumn, has_threshold
 
 -- ---- lines
 
--- what stands for a name; a record of another type has none
+-- the name as it is printed; nothing for a record of another type, which has none
 abbrev pub printed_name : SdrView → List ℕ
 printed_name view = unwrap_or (name_of view) []
 

@@ -15,8 +15,8 @@ entity_in id instance = record { id = id; instance = instance % 128 }
 
 -- ---- full, compact and event-only records (tables 43-1 to 43-3)
 
--- byte 6 is the owner, bits 1:0 of byte 7 the LUN there, byte 8 the sensor's number, and bytes 9 and 10 its entity; where the
--- sensor type and the event/reading type stand goes by the kind of the record
+-- byte 6 is the owner, bits 1:0 of byte 7 the LUN there, byte 8 the sensor's number, and bytes 9 and 10 its entity;
+-- which bytes are the sensor type and the event/reading type depends on the kind of the record
 abbrev pub sensor_by : ℕ → ℕ → List ℕ → Sensor
 sensor_by sensor_type event_type bytes = record {
   owner = byte_at 6 bytes;

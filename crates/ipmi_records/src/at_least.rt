@@ -3,7 +3,8 @@ ghost use Rattle.std.specs.Prelude.{◌≡◌, ◌≤◌, length};
 
 use std::marker::Model;
 
-/// The bytes of a sensor data record, at least `LEN`. `TYPE` is the first record type of its kind.
+/// The bytes of a sensor data record, at least `LEN` of them. `TYPE` tells the kinds of records
+/// apart: it is the lowest record type of the kind.
 #[derive(Clone, Debug, Drop)]
 pub struct AtLeast<'a, const TYPE: u8, const LEN: usize> {
     pub(crate) bytes: &'a [u8],

@@ -116,7 +116,7 @@ fn locator_lines(alloc: Global, locator: Option<Locator>) -> Result<String, Allo
     )
 }
 
-/// The two columns of a line, a line for each.
+/// The reading column and the status, each on a line of its own.
 fn reading_lines(
     alloc: Global,
     view: &SdrView,

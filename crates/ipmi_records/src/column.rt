@@ -14,7 +14,7 @@ use std::fmt;
 /// What a sensor that could be read shows.
 #[derive(Clone, Copy)]
 pub(crate) enum Shown {
-    /// Nothing here: it is another controller's.
+    /// Nothing: the sensor belongs to another controller, which is not asked.
     OtherOwner,
     /// No reading.
     NoReading,
@@ -66,7 +66,7 @@ fn units_of(full: &FullSensor) -> Units
     }
 }
 
-/// Appends what a raw byte of a full record's sensor means.
+/// Appends the value of a raw byte with its units, or `raw 0xNN` where the record gives it none.
 pub(crate) fn push_raw(text: &mut String, full: &FullSensor, raw: u8) -> Result<(), AllocError>
     ensures { OnOk result
         (Appends (IsRawText full.now raw) (string_bytes text.old) (string_bytes text.new)) }

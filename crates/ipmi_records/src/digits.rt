@@ -72,7 +72,7 @@ impl fmt::Display for WordH {
     }
 }
 
-/// A bit of a byte.
+/// Whether a bit of a byte is set. Bit 0 is the lowest.
 pub(crate) fn has_bit(byte: u8, bit: u32) -> bool
     requires { bit < 8 }
     ensures { result ≡ has_bit bit byte }

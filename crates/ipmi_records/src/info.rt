@@ -85,7 +85,8 @@ fn support_lines(alloc: Global, bytes: &[u8; 14]) -> Result<String, AllocError>
     )
 }
 
-/// The block of the answer of Get SDR Repository Info or of Get SEL Info (IPMI v2.0, sections 33.9 and 31.2): seven lines.
+/// The block of an info, seven lines. `bytes` are the answer of Get SDR Repository Info or Get SEL
+/// Info (IPMI v2.0, sections 33.9 and 31.2) after its completion code.
 pub fn info_block(alloc: Global, bytes: &[u8; 14]) -> Result<String, AllocError>
     ensures { IfOk result (λ text. IsInfoBlock bytes.now (string_bytes text)) }
 {

@@ -37,8 +37,9 @@ fn push_name_column(alloc: Global, line: &mut String, view: &SdrView) -> Result<
     pad(line, start, 16)
 }
 
-/// The line of a record: its name in 16 characters, its reading column in 17, and its status. The reading is what Get Sensor Reading
-/// answered where `reading_of` asks for one, and is not looked at elsewhere.
+/// The line of a record: its name in 16 characters, its reading column in 17, and its status.
+/// `reading` is the answer of Get Sensor Reading for the sensor that `SdrView::reading_of` names.
+/// Where it names none, `reading` is not looked at.
 pub fn sdr_line(
     alloc: Global,
     view: &SdrView,
@@ -164,7 +165,7 @@ fn fault_text(fault: SdrFault) -> &'static str
     }
 }
 
-/// The line of a record that has a fault.
+/// The line of a record that `SdrView::read` refused: its id, and the fault.
 pub fn sdr_fault_line(alloc: Global, id: u16, fault: SdrFault) -> Result<String, AllocError>
     ensures { IfOk result (λ text. string_bytes text ≡ fault_line id fault) }
 {

@@ -36,7 +36,7 @@ fn locator_in(bytes: &[u8]) -> Locator
 pub type GenericLocator<'a> = AtLeast<'a, 0x10, LOCATOR_ID_PLACE>;
 
 impl<'a> GenericLocator<'a> {
-    /// The device.
+    /// What the record tells of its device.
     pub fn locator(&self) -> Locator
         ensures { result ≡ locator_in self.now }
     {
@@ -55,7 +55,7 @@ impl<'a> GenericLocator<'a> {
 pub type FruLocator<'a> = AtLeast<'a, 0x11, LOCATOR_ID_PLACE>;
 
 impl<'a> FruLocator<'a> {
-    /// The device.
+    /// What the record tells of its device.
     pub fn locator(&self) -> Locator
         ensures { result ≡ locator_in self.now }
     {
@@ -106,7 +106,7 @@ impl<'a> FruLocator<'a> {
 pub type ControllerLocator<'a> = AtLeast<'a, 0x12, LOCATOR_ID_PLACE>;
 
 impl<'a> ControllerLocator<'a> {
-    /// The controller.
+    /// What the record tells of its controller.
     pub fn locator(&self) -> Locator
         ensures { result ≡ locator_in self.now }
     {

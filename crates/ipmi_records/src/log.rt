@@ -117,7 +117,8 @@ fn oem_line(alloc: Global, id: u16, entry: &OemTimedEntry) -> Result<String, All
     )
 }
 
-/// The line of an entry under its id.
+/// The line of an entry: its id in hex, its time where it has one, and what it says, in columns
+/// joined by ` | `.
 pub fn sel_line(alloc: Global, id: u16, view: &SelView) -> Result<String, AllocError>
     ensures { IfOk result (λ text. IsSelLine id view.now (string_bytes text)) }
 {

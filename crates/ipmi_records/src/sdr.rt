@@ -147,7 +147,7 @@ impl<'a> SdrView<'a> {
         self.bytes()[4]
     }
 
-    /// What the record tells of its sensor, where it is of one.
+    /// What the record tells of its sensor. None for a record that is not a sensor's.
     pub fn sensor(&self) -> Option<Sensor>
         ensures { result ≡ sensor_of self.now }
     {
@@ -162,7 +162,7 @@ impl<'a> SdrView<'a> {
         }
     }
 
-    /// What the record tells of its device, where it is of one.
+    /// What the record tells of its device. None for a record that is not a locator.
     pub fn locator(&self) -> Option<Locator>
         ensures { result ≡ locator_of self.now }
     {
@@ -203,8 +203,9 @@ impl<'a> SdrView<'a> {
         }
     }
 
-    /// The LUN and the number of the sensor whose reading the controller itself gives: that of a full or a compact record whose
-    /// owner it is.
+    /// The LUN and the number by which to ask the controller for a reading. Only a full or a
+    /// compact record has them, and only where the controller that holds the record owns the sensor
+    /// (20h).
     pub fn reading_of(&self) -> Option<(u8, u8)>
         ensures { result ≡ reading_of self.now }
     {
@@ -219,7 +220,9 @@ impl<'a> SdrView<'a> {
         }
     }
 
-    /// The FRU device whose inventory the controller itself gives: that of a FRU locator that is logical, at its address, at LUN 0.
+    /// The FRU device id by which to ask the controller for an inventory. Only a FRU locator has
+    /// it, and only where its device is logical, at the controller's own address (20h) and at LUN
+    /// 0.
     pub fn fru_of(&self) -> Option<u8>
         ensures { result ≡ fru_of self.now }
     {

@@ -60,7 +60,7 @@ fn plain_data(bytes: &[u8]) -> &[u8]
 pub type EventEntry<'a> = Entry<'a, 0x02>;
 
 impl<'a> EventEntry<'a> {
-    /// When it came, in seconds.
+    /// The time stamp in seconds, as `ipmi_text::UtcTime::of` reads it.
     pub fn time_stamp(&self) -> u32
         ensures { result ≡ time_stamp self.now }
     {
@@ -95,7 +95,7 @@ impl<'a> EventEntry<'a> {
         self.bytes[11]
     }
 
-    /// Whether the event goes, and does not come.
+    /// Whether this is a deassertion: what the event tells of has ended, and not begun.
     pub fn is_deasserted(&self) -> bool
         ensures { result ≡ is_deasserted self.now }
     {
@@ -109,7 +109,7 @@ impl<'a> EventEntry<'a> {
         self.bytes[12] % 128
     }
 
-    /// The data of the event.
+    /// The three bytes of event data. Bits 3:0 of the first are the offset.
     pub fn data_bytes(&self) -> &'a [u8]
         ensures value { result.now ≡ event_data self.now }
         ensures len { length result.now ≡ 3 }
@@ -122,7 +122,7 @@ impl<'a> EventEntry<'a> {
 pub type OemTimedEntry<'a> = Entry<'a, 0xc0>;
 
 impl<'a> OemTimedEntry<'a> {
-    /// When it came, in seconds.
+    /// The time stamp in seconds, as `ipmi_text::UtcTime::of` reads it.
     pub fn time_stamp(&self) -> u32
         ensures { result ≡ time_stamp self.now }
     {
@@ -182,7 +182,7 @@ pub enum SelView<'a> {
 }
 
 impl<'a> SelView<'a> {
-    /// The entry that bytes are.
+    /// Reads 16 bytes as an entry. Every type of entry has a variant, so there is no fault.
     pub fn read(bytes: &'a [u8; 16]) -> SelView<'a>
         ensures { result ≡ sel_view_of bytes.now }
     {

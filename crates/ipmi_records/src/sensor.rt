@@ -30,7 +30,7 @@ pub struct Entity {
 }
 
 impl Entity {
-    /// The entity of an id and the byte of its instance, whose bit 7 says something else.
+    /// The entity of an id and an instance byte. Bit 7 of that byte is no part of the instance.
     pub(crate) fn new(id: u8, instance: u8) -> Entity
         ensures { result ≡ entity_in id instance }
     {
@@ -132,7 +132,8 @@ impl Threshold {
     }
 }
 
-/// What a record tells of its sensor, whose sensor type and event/reading type are elsewhere in each kind.
+/// What a record tells of its sensor. The caller gives the two types, as their places depend on the
+/// kind of the record.
 fn sensor_in(bytes: &[u8], sensor_type: u8, event_type: u8) -> Sensor
     requires { 10 ≤ length bytes.now }
     ensures { result ≡ sensor_by sensor_type event_type bytes.now }
@@ -177,7 +178,7 @@ fn signed(half: u16, bits: u16) -> i16
 pub type FullSensor<'a> = AtLeast<'a, 0x01, FULL_ID_PLACE>;
 
 impl<'a> FullSensor<'a> {
-    /// The sensor.
+    /// What the record tells of its sensor.
     pub fn sensor(&self) -> Sensor
         ensures { result ≡ full_sensor self.now }
     {

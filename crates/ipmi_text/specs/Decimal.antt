@@ -37,7 +37,8 @@ pub record IsDecimalOf (value : ℤ) (text : List ℕ) : Type 0 where
   pub text_is : text ≡ sign_of value ++ (whole ++ after_point fraction)
   pub size_is : digits_value 10 whole * 10 ^ 16 + digits_value 10 (filled fraction) ≡ unsigned_abs value
 
--- old with the digits of a fraction of so many units after it, and a point before them if there are any
+-- new is old, followed by a point and the digits of a fraction of so many units, or by nothing where there are no
+-- digits
 pub record AppendsFraction (units : ℕ) (old new : List ℕ) : Type 0 where
   pub digits : List ℕ
   pub is_fraction : IsFraction digits

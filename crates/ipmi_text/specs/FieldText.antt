@@ -35,8 +35,8 @@ six_bit_character bytes i = number_of bytes / 64 ^ i % 64 + 0x20
 unfoldable pub six_bit_text : List ℕ → List ℕ
 six_bit_text bytes = map (six_bit_character bytes) (range_with_len 0 (8 * length bytes / 6))
 
--- the character that a byte of 8-bit ASCII and Latin-1 prints as: 20h to 7Eh and A0h to FFh as
--- themselves, else `.`
+-- the character that a byte of 8-bit ASCII and Latin-1 prints as: 20h to 7Eh and A0h to FFh as themselves, all others
+-- as `.`
 abbrev pub latin1_character : ℕ → ℕ
 latin1_character b = if (nat_le 0x20 b && nat_le b 0x7e) || nat_le 0xa0 b then b else 46
 
@@ -71,7 +71,7 @@ bytes_wanted tl =
     else if id_kind tl == 2 then (6 * id_count tl + 7) / 8
     else id_count tl
 
--- the bytes that are used: those wanted, of which 16 at most, as far as they are there
+-- the bytes that are used: as many as are wanted, at most 16, and no more than there are
 abbrev pub bytes_used : ℕ → List ℕ → List ℕ
 bytes_used tl rest = take (min (bytes_wanted tl) 16) rest
 

@@ -77,7 +77,7 @@ unit_text_of units1 base modifier =
     join_with_byte 32 (filter is_not_empty
     (percent_part units1 ∷ (unit_name_or_code base ++ modifier_part units1 modifier) ∷ rate_part units1 ∷ []))
 
--- nothing for an empty text, else a space and the text
+-- nothing for an empty text, otherwise a space and the text
 abbrev pub after_space : List ℕ → List ℕ
 after_space [] = []
 after_space (c ∷ text) = 32 ∷ c ∷ text

@@ -70,7 +70,7 @@ impl Factors {
     }
 }
 
-/// Whether a number is one of 2's complement, of which there are `half` below 0.
+/// Whether a number is at least -`half` and below `half`, the range of 2's complement.
 fn is_twos_complement(number: i16, half: u16) -> bool
     ensures { IsTrue result ↔ IsTwosComplement half number }
 {
@@ -123,7 +123,7 @@ pub fn convert(f: &Factors, raw: u8) -> Option<Fixed>
     Some(Fixed(slope + offset))
 }
 
-/// A minus sign below zero, and else nothing.
+/// A minus sign for a value below zero, otherwise nothing.
 fn sign(value: i128) -> &'static str
     ensures { result.now ≡ sign_of value }
 {

@@ -10,7 +10,7 @@ use std::fmt;
 /// The room for the words of any event.
 const ROOM: usize = 40;
 
-/// The offsets of a threshold event, from 0 on (IPMI v2.0, table 42-2).
+/// The words of a threshold event, by its offset, from 0 on (IPMI v2.0, table 42-2).
 const THRESHOLD_EVENTS: [&str; 12] = [
     "Lower Non-critical going low",
     "Lower Non-critical going high",

@@ -137,8 +137,9 @@ fn is_english(language: u8) -> bool
 }
 
 /// The text of a field of a FRU area (Platform Management FRU Information Storage Definition v1.0,
-/// section 13), by bits 7:6 of its type/length byte: hex (0), BCD plus (1), 6-bit ASCII (2), and 8-bit
-/// ASCII and Latin-1 where the area's language is English, else hex (3).
+/// section 13). `code`, bits 7:6 of its type/length byte, says how the bytes are read: as hex (0),
+/// BCD plus (1), 6-bit ASCII (2), or, for 3, as 8-bit ASCII and Latin-1 where the area's language
+/// is English and otherwise as hex.
 pub fn fru_text(alloc: Global, code: u8, language: u8, bytes: &[u8]) -> Result<String, AllocError>
     requires { code < 4 }
     ensures { IfOk result (λ text. string_bytes text ≡ fru_text_of code language bytes.now) }
@@ -151,8 +152,8 @@ pub fn fru_text(alloc: Global, code: u8, language: u8, bytes: &[u8]) -> Result<S
     }
 }
 
-/// The bytes of an ID string: those that its type/length byte asks for, of which 16 at most, as far
-/// as they are there.
+/// The bytes of an ID string: as many as its type/length byte asks for, at most 16, and no more
+/// than there are.
 fn bytes_used(tl: u8, rest: &[u8]) -> &[u8]
     ensures { result.now ≡ bytes_used tl rest.now }
 {
@@ -175,10 +176,10 @@ fn first_characters(text: String, count: usize) -> String
     text
 }
 
-/// The text of a sensor data record's ID string (IPMI v2.0, section 43.15), by its type/length byte and
-/// all bytes after it: hex for Unicode (type 0), BCD plus (1), 6-bit ASCII (2), and 8-bit ASCII and
-/// Latin-1 (3). Bits 4:0 of the type/length byte count the characters (for type 0, the bytes), of which
-/// as many are printed as are in the next 16 bytes at most.
+/// The text of a sensor data record's ID string (IPMI v2.0, section 43.15), by its type/length byte
+/// and all bytes after it: hex for Unicode (type 0), BCD plus (1), 6-bit ASCII (2), and 8-bit ASCII
+/// and Latin-1 (3). Bits 4:0 of the type/length byte count the characters (for type 0, the bytes).
+/// Only those in the first 16 bytes of `rest` are printed.
 pub fn sdr_text(alloc: Global, tl: u8, rest: &[u8]) -> Result<String, AllocError>
     ensures { IfOk result (λ text. string_bytes text ≡ sdr_text_of tl rest.now) }
 {
@@ -192,7 +193,7 @@ pub fn sdr_text(alloc: Global, tl: u8, rest: &[u8]) -> Result<String, AllocError
     }
 }
 
-/// Appends the text of a sensor data record's ID string, which `sdr_text` tells of.
+/// Appends the text of a sensor data record's ID string, as `sdr_text` gives it.
 pub fn push_sdr_text(
     alloc: Global,
     text: &mut String,

@@ -59,7 +59,7 @@ pub enum UtcTime {
 }
 
 impl UtcTime {
-    /// What so many seconds stand for.
+    /// The meaning of a time stamp of so many seconds.
     pub fn of(seconds: u32) -> UtcTime
         ensures { IsUtcTextOf seconds (utc_time_text result) }
     {
@@ -127,7 +127,7 @@ fn text_to_minute(alloc: Global, minutes: u32) -> Result<String, AllocError>
 }
 
 /// The text of a time stamp of the event log, in seconds (IPMI v2.0, section 37): `unspecified` for
-/// FFFFFFFFh, `+N s` up to 20000000h, which count from the start of the controller's clock, and else
+/// FFFFFFFFh; `+N s` up to 20000000h, counted from the start of the controller's clock; otherwise
 /// `YYYY-MM-DD HH:MM:SS` in UTC.
 pub fn utc_text(alloc: Global, seconds: u32) -> Result<String, AllocError>
     ensures { IfOk result (λ text. IsUtcTextOf seconds (string_bytes text)) }
@@ -135,9 +135,9 @@ pub fn utc_text(alloc: Global, seconds: u32) -> Result<String, AllocError>
     text_with_room(alloc, ROOM, UtcTime::of(seconds))
 }
 
-/// The text of a board's manufacturing date, in minutes from 1996-01-01 00:00 (Platform Management FRU
-/// Information Storage Definition v1.0, section 11): `unspecified` for 0, and else `YYYY-MM-DD HH:MM`
-/// in UTC.
+/// The text of a board's manufacturing date, in minutes from 1996-01-01 00:00 (Platform Management
+/// FRU Information Storage Definition v1.0, section 11): `unspecified` for 0, otherwise `YYYY-MM-DD
+/// HH:MM` in UTC.
 pub fn minutes_text(alloc: Global, minutes: u32) -> Result<String, AllocError>
     requires { minutes ≤ 0xff_ffff }
     ensures { IfOk result (λ text. IsMinutesTextOf minutes (string_bytes text)) }

@@ -19,8 +19,8 @@ pub(crate) enum InputFault {
     Unreadable,
 }
 
-/// The words of the command line, the program's name first; `ipmitool` stands for it where there is no word at all.
-/// A word that is no text is a fault of the line.
+/// The words of the command line, the program's name first. Without any word that name is
+/// `ipmitool`. A word that is no text is `UsageFault::Line`.
 pub(crate) fn words_of<R: Env + AllocGlobal>(rt: &R) -> Result<Words, UsageFault>
     ensures { IfOk result (λ words. 0 < length words) }
 {

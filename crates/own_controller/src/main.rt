@@ -1,6 +1,7 @@
-//! A controller of one's own, which is no image: two records, the reading of the first one and an inventory in memory. It gives
-//! at most eight bytes at a time, and each third call finds it busy. Its sensors are listed by the library's calls, and the
-//! serial number of its board is read.
+//! A program over a controller of its own, which has two records, the reading of the first one and
+//! an inventory, all in memory and without an image. The controller gives at most eight bytes at a
+//! time, and is busy at every third call. The program lists the records and reads the serial number
+//! of the board, both by calls of the libraries.
 #![tactic(auto)]
 
 ghost use Rattle.std.specs.Prelude.{◌≡◌, ◌+◌, ◌≤◌, IfOk, OnErr, length, drop};
