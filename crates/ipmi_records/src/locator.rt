@@ -15,7 +15,8 @@ pub(crate) const LOCATOR_ID_PLACE: usize = 16;
 /// What all three kinds of locators tell of their device.
 #[derive(Clone, Copy, Debug, PartialEq, Eq)]
 pub struct Locator {
-    /// The address of the device, or of the controller that it is behind.
+    /// Of a management controller its slave address. Of another device that of the controller by
+    /// which it is reached, or 0 where the device is on the bus itself.
     pub address: u8,
     /// What the device belongs to.
     pub entity: Entity,
