@@ -1,5 +1,5 @@
 -- The reading of a record, call after call.
-use Rattle.std.proofs.Common.{◌≡◌, ℕ, ◌+◌, ◌*◌, ◌<◌, ◌≤◌, Bool, true, false, Option, None, Some, Result, Ok, Err, refl, sym, ap, subst, ◌∙◌, arith, ◌-◌}
+use Rattle.std.proofs.Common.{◌≡◌, ℕ, ◌+◌, ◌*◌, ◌≤◌, Bool, true, false, Option, None, Some, Result, Ok, Err, refl, sym, ap, subst, ◌∙◌, arith, ◌-◌}
 use Rattle.std.specs.Prelude.{IsSome}
 use Rattle.ipmi_bus.specs.Bounds.{digits, step_call_bound}
 use Rattle.ipmi_bus.specs.declared.controller.Shelf.{Shelf}
@@ -10,8 +10,8 @@ use Rattle.ipmi_bus.specs.declared.retrieval.Outcome.TheVariants.{Again, Whole, 
 use Rattle.ipmi_bus.specs.declared.retrieval.Retrieval.{Retrieval}
 use Rattle.ipmi_bus.specs.Shelf.{look, largest_len}
 use Rattle.ipmi_bus.specs.Store.{rows_of}
-use Rattle.ipmi_bus.specs.Seen.{stays_refl, stays_trans, Seen, IsHonest, KeepsStore, StaysHonest, current}
-use Rattle.ipmi_bus.specs.Retrieval.{row_len, IsOpen, SameRequest, IsReading, IsCalm, KeepsHeld, CallAnswers, CallIsPlain, CallIsHonest, CallIsAnswered, CallLeaves, calls_left, unreserved}
+use Rattle.ipmi_bus.specs.Seen.{stays_trans, Seen, IsHonest, StaysHonest, current}
+use Rattle.ipmi_bus.specs.Retrieval.{row_len, SameRequest, IsReading, IsCalm, KeepsHeld, CallAnswers, CallIsPlain, CallIsHonest, CallIsAnswered, CallLeaves, calls_left, unreserved}
 use Rattle.ipmi_bus.specs.Since.{begun, HonestSince, Since, ReadAnswers, ReadIsPlain, ReadIsHonest, EndsRead, IsEnded}
 use Rattle.ipmi_bus.specs.Tries.{WithinTries}
 

@@ -18,7 +18,7 @@ use Rattle.ipmi_records.specs.Info.{AreTimeLines, IsInfoBlock, count_lines, free
 use Rattle.ipmi_records.specs.Sdr.{locator_of, sensor_of}
 use Rattle.ipmi_records.specs.SdrText.{AreReadingLines, AreThresholdTexts, AreValueLines, IsExtendedLine, IsSdrBlock, IsSdrLine, IsThresholdText, all_thresholds, entity_column, entity_text, head_lines, locator_lines, number_text, printed_name, sensor_columns, sensor_lines, subject_lines, threshold_name}
 use Rattle.ipmi_records.proofs.PaddingLemmas.{padded_after}
-use Rattle.ipmi_records.specs.Sel.{entry_type, event_data, generator, is_deasserted, manufacturer, oem_data, revision, sensor_number, sensor_type, time_stamp}
+use Rattle.ipmi_records.specs.Sel.{entry_type, event_data, generator, is_deasserted, manufacturer, oem_data, revision, sensor_type, time_stamp}
 use Rattle.ipmi_records.specs.SelText.{AreEventLines, AreOemLines, AreOriginLines, event_body_lines, IsEventLine, IsOemLine, direction_text, manufacturer_text, sensor_text, words_of_event}
 use Rattle.ipmi_records.specs.Sensor.{is_readable, threshold_in}
 
