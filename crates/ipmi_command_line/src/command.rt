@@ -170,7 +170,8 @@ impl Task {
         }
     }
 
-    /// Whether it lists all records of a shelf, so that it can be done in pages.
+    /// Whether it is a listing of a shelf that no count and no name limits, so that it can be done
+    /// in pages.
     pub fn is_listing(&self) -> bool
         ensures { result ≡ is_listing self.now }
     {
@@ -289,7 +290,8 @@ impl Command {
         self.tries
     }
 
-    /// Whether it lists all records of a shelf, so that it can be done in pages.
+    /// Whether it is a listing of a shelf that no count and no name limits, so that it can be done
+    /// in pages.
     pub fn is_listing(&self) -> bool
         ensures { result ≡ is_listing self.now.task }
     {
