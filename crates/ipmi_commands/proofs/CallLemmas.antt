@@ -189,7 +189,7 @@ module _ (t : Task) (store : Store) (tries : ℕ) where
   calls_more walk k row next =
       omega (arith, calls_for-append (take k walk) (row ∷ []), ap (calls_for t store tries) (take-next walk k row next))
 
-  -- those of one row more, where it is wanted
+  -- those of one row more, where the command asks for it
   pub calls_within : (most : Option ℕ) (k : ℕ) (walk : List Row) → IsBelow most k → calls_for t store tries (take (k + 1) walk) ≤ calls_for t store tries (first_rows most walk)
   calls_within most k walk below =
       let split = calls_split (k + 1) (first_rows most walk) in
