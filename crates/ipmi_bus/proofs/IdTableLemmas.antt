@@ -1,15 +1,13 @@
 -- What a table of bits contains.
-use Rattle.std.proofs.Common.{◌≡◌, ◌≢◌, ℕ, zero, suc, ◌+◌, ◌≤◌, ◌*◌, ◌/◌, ◌%◌, ◌<◌, ◌^◌, Bool, true, false, cond, eqb, ◌&&◌, ◌||◌, nat_lt, nat_eq, List, get_or, set as put, length, replicate, refl, sym, ap, ◌∙◌, inl, inr, rules, arith}
-use Rattle.std.specs.Ordering.{nat_cmp}
+use Rattle.std.proofs.Common.{◌≡◌, ◌≢◌, ℕ, zero, suc, ◌+◌, ◌≤◌, ◌*◌, ◌/◌, ◌%◌, ◌<◌, ◌^◌, Bool, true, false, cond, eqb, ◌&&◌, ◌||◌, nat_lt, nat_eq, List, get_or, set as put, length, replicate, refl, sym, ap, ◌∙◌, inl, inr, rules, arith, nat_cmp, bit_or, eq-eqb, get_or-set_same, get_or-set_other}
 use Rattle.std.specs.Cmp.{nat_cmp_total, unsigned_tied}
 use Rattle.std.specs.Int.{bit_at}
-use Rattle.std.specs.Int.RustNames.{bit_or}
 use Rattle.std.specs.FinSet as set
 use Rattle.std.specs.FinSet.{members, nat_cmp-IsAntisymmetric, contains-insert, contains-empty, len-insert, len-empty}
 use Rattle.std.proofs.lemmas.Nat.Bits.{bit_at_set_same, bit_at_set_other, bit_at-zero}
-use Rattle.std.proofs.lemmas.Bool.{cases_eq, cases_lt, eq-eqb}
+use Rattle.std.proofs.lemmas.Bool.{cases_eq, cases_lt}
 use Rattle.std.proofs.lemmas.Bool.Decides.{nat_tests}
-use Rattle.std.proofs.lemmas.List.{get_or-set_same, get_or-set_other, get_or-replicate, get_or_past, length-replicate}
+use Rattle.std.proofs.lemmas.List.{get_or-replicate, get_or_past, length-replicate}
 use mir.Syntax.{w8}
 use mir.Val.{bits}
 use Rattle.ipmi_bus.specs.IdTable.{has_bit, ids_below, ids_in}

@@ -1,9 +1,7 @@
 -- A part of an inventory, as an honest controller gave it.
-use Rattle.std.proofs.Common.{◌≡◌, ℕ, ◌+◌, ◌<◌, ◌≤◌, Bool, true, false, nat_eq, Option, None, Some, Result, Ok, Err, List, [], length, take, drop, slice_range, refl, sym, ap, subst, ◌∙◌, arith}
-use Rattle.std.specs.Prelude.{unwrap_or, IsTrue, IsSome}
+use Rattle.std.proofs.Common.{◌≡◌, ℕ, ◌+◌, ◌<◌, ◌≤◌, Bool, true, false, nat_eq, Option, None, Some, Result, Ok, Err, List, [], length, take, drop, slice_range, refl, sym, ap, subst, ◌∙◌, arith, unwrap_or, IsTrue, IsSome, ne_eqb}
 use Rattle.std.proofs.lemmas.Bool.Decides.{nat_tests}
 use Rattle.std.proofs.Math.Seq.{take-length}
-use Rattle.std.proofs.lemmas.Bool.{ne_eqb}
 use Rattle.ipmi_bus.specs.declared.code.Code.{Code}
 use Rattle.ipmi_bus.specs.declared.code.CodeClass.{CodeClass}
 use Rattle.ipmi_bus.specs.declared.code.CodeClass.TheVariants.{Cancelled, Busy, SmallerPart, NotPresent, Refusal}

@@ -1,6 +1,6 @@
 -- Rows of a well-formed shelf.
-use Rattle.std.proofs.Common.{◌≡◌, ◌≢◌, ℕ, Bool, true, false, cond, nat_eq, ◌==◌, Some, List, [], ◌∷◌, ◌++◌, refl, subst}
-use Rattle.std.proofs.lemmas.Bool.{eqb-true, eqb-false, or_parts}
+use Rattle.std.proofs.Common.{◌≡◌, ◌≢◌, ℕ, Bool, true, false, cond, nat_eq, ◌==◌, Some, List, [], ◌∷◌, ◌++◌, refl, subst, eqb-true}
+use Rattle.std.proofs.lemmas.Bool.{eqb-false, or_parts}
 use Rattle.ipmi_bus.specs.declared.controller.Shelf.{Shelf}
 use Rattle.ipmi_bus.specs.Shelf.{Row, IsRow, IsShelf, AllRows, DistinctIds, LacksId, id_in, look, row_with_id, first_row}
 use Rattle.ipmi_bus.specs.Walk.{has_id}

@@ -1,9 +1,7 @@
 -- Walks, row after row.
-use Rattle.std.proofs.Common.{◌≡◌, ◌≢◌, ℕ, ◌+◌, ◌≤◌, Bool, true, false, cond, nat_eq, ◌||◌, Option, None, Some, IsSome, Result, Ok, Err, List, [], ◌∷◌, ◌++◌, length, take, drop, refl, sym, ap, subst, ◌∙◌, inl, inr, rules, arith}
-use Rattle.std.specs.Prelude.{◌⊎◌}
+use Rattle.std.proofs.Common.{◌≡◌, ◌≢◌, ℕ, ◌+◌, ◌≤◌, Bool, true, false, cond, nat_eq, ◌||◌, Option, None, Some, IsSome, Result, Ok, Err, List, [], ◌∷◌, ◌++◌, length, take, drop, refl, sym, ap, subst, ◌∙◌, inl, inr, rules, arith, ◌⊎◌, ne_eqb, eq-eqb, nat_cmp, take_all, take-append-drop, length-drop, take-add}
 use Rattle.std.specs.FinSet as set
 use Rattle.std.proofs.Math.Bool.{or-false, or_assoc, or_comm}
-use Rattle.std.proofs.lemmas.Bool.{ne_eqb, eq-eqb}
 use Rattle.ipmi_bus.specs.declared.controller.Shelf.{Shelf}
 use Rattle.ipmi_bus.specs.declared.step.Place.{Place}
 use Rattle.ipmi_bus.specs.declared.step.Place.TheVariants.{First, Id, End}
@@ -16,9 +14,7 @@ use Rattle.ipmi_bus.specs.Step.{asked_at, cycle_at, AsksAlong, AsksNothing, Stay
 use Rattle.ipmi_bus.specs.Standing.{StandsAt, WalkStep, MayFail, FollowsWalks}
 use Rattle.std.specs.FinSet.{contains-insert, contains-empty}
 use Rattle.std.specs.Cmp.{nat_cmp_total, unsigned_tied}
-use Rattle.std.specs.Ordering.{nat_cmp}
-use Rattle.std.proofs.lemmas.List.{take_all, take-append-drop, length-drop}
-use Rattle.std.proofs.Math.Seq.{drop-nil, take-add}
+use Rattle.std.proofs.Math.Seq.{drop-nil}
 use Rattle.ipmi_bus.proofs.ShelfLemmas.{look_row, found_row}
 use Rattle.ipmi_bus.specs.Store.{store_shelf, Store, rows_of}
 use Rattle.ipmi_bus.specs.Seen.{Seen, IsHonest}

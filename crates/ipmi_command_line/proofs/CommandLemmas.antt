@@ -1,7 +1,5 @@
 -- What the words of a command line mean, from what `clap` made of them.
-use Rattle.std.proofs.Common.{◌≡◌, ◌∙◌, ◌≤◌, ◌⊎◌, true, false, List, [], ◌∷◌, ap, arith, length, map, refl, sym}
-use Rattle.std.specs.Prelude.{Option, None, Result, Ok, Err, MatchResult}
-use Rattle.std.specs.Borrow.{Bor}
+use Rattle.std.proofs.Common.{◌≡◌, ◌∙◌, ◌≤◌, ◌⊎◌, true, false, List, [], ◌∷◌, ap, arith, length, map, refl, sym, Option, None, Result, Ok, Err, MatchResult, Bor}
 use Rattle.clap.specs.Words.{Row, Text}
 use Rattle.ipmi_command_line.specs.Arguments.{free_words, is_taken, rows_of_words}
 use Rattle.ipmi_command_line.specs.Command.{CommandState, command_of_matches, command_of_task, meaning_of}

@@ -1,6 +1,5 @@
 -- What `parse` reads of a number on a command line.
-use Rattle.std.proofs.Common.{◌≡◌, ◌≢◌, ◌∙◌, ℕ, ◌<◌, ◌≤◌, ◌^◌, true, false, List, [], ◌∷◌, length, ap, sym, refl, rules, arith, inl, inr}
-use Rattle.std.specs.Prelude.{Some, None, Err, ◌==◌}
+use Rattle.std.proofs.Common.{◌≡◌, ◌≢◌, ◌∙◌, ℕ, ◌<◌, ◌≤◌, ◌^◌, true, false, List, [], ◌∷◌, length, ap, sym, refl, rules, arith, inl, inr, Some, None, Err, ◌==◌}
 use Rattle.std.specs.Char.{digit_value, is_ascii_digit, is_ascii_hexdigit}
 use Rattle.std.specs.List.{list_all}
 use Rattle.std.specs.Str.Parse.{AllDigits, ParsesUnsigned, digits_value}

@@ -1,7 +1,6 @@
 -- The table of commands: the task that the words of a command line name. There is a function for each number of words,
 -- and in it a line for each command.
-use Rattle.std.specs.Prelude.{ℕ, Bool, ◌&&◌, List, [], ◌∷◌, zero, suc, Option, Some, None, option_map, codes, if◌then◌else◌}
-use Rattle.std.specs.Str.{bytes_eq}
+use Rattle.std.specs.Prelude.{ℕ, Bool, ◌&&◌, List, [], ◌∷◌, zero, suc, Option, Some, None, option_map, codes, if◌then◌else◌, bytes_eq}
 use Rattle.ipmi_bus.specs.declared.controller.Shelf.TheVariants as shelf
 use Rattle.ipmi_command_line.specs.declared.command.Count.{Count}
 use Rattle.ipmi_command_line.specs.declared.command.Count.TheVariants as count

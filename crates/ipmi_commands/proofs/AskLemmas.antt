@@ -1,6 +1,5 @@
 -- What the reading that is asked for on account of a record leaves.
-use Rattle.std.proofs.Common.{◌≡◌, inl, ℕ, ◌+◌, ◌≤◌, ◌==◌, Bool, true, false, codes, Option, None, Some, Result, Ok, Err, String, Global, List, [], ◌∷◌, refl, sym, ap, subst, ◌∙◌, arith}
-use Rattle.std.specs.Result.{IsErrAnd}
+use Rattle.std.proofs.Common.{◌≡◌, inl, ℕ, ◌+◌, ◌≤◌, ◌==◌, Bool, true, false, codes, Option, None, Some, Result, Ok, Err, String, Global, List, [], ◌∷◌, refl, sym, ap, subst, ◌∙◌, arith, IsErrAnd}
 use Rattle.ipmi_text.specs.declared.reading.Reading.{Reading}
 use Rattle.ipmi_bus.specs.declared.step.Ended.{Ended}
 use Rattle.ipmi_bus.specs.declared.step.Ended.TheVariants.{Refused, GaveUp}

@@ -1,6 +1,5 @@
 -- An area and its fields, or its fault.
-use Rattle.std.proofs.Common.{◌≡◌, ℕ, true, false, inr, Option, None, Some, List, [], refl, sym, ap, subst, ◌∙◌}
-use Rattle.std.specs.Option.{unwrap_or, is_some}
+use Rattle.std.proofs.Common.{◌≡◌, ℕ, true, false, inr, Option, None, Some, List, [], refl, sym, ap, subst, ◌∙◌, unwrap_or, is_some}
 use Rattle.ipmi_fru.specs.declared.area.AreaKind.{AreaKind}
 use Rattle.ipmi_fru.specs.declared.area.AreaFault.TheVariants as fault
 use Rattle.ipmi_fru.specs.Field.{AreaField, Spells, fields_in}

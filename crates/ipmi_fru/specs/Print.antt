@@ -2,8 +2,7 @@
 -- and the names of faults are the project's own, and so is that volts are in two's complement and that the standard's marks for
 -- what is not specified are printed as numbers; record types are the standard's (Platform Management FRU Information Storage
 -- Definition v1.0, sections 16 and 18).
-use Rattle.std.specs.Prelude.{◌≡◌, ℕ, ◌%◌, ◌^◌, ◌==◌, ◌&&◌, nat_le, if◌then◌else◌, pos, ◌*ℤ◌, Option, Some, None, Result, Ok, Err, List, [], ◌∷◌, ◌++◌, length, drop, take, slice_index, codes}
-use Rattle.std.specs.Fmt.{decimal}
+use Rattle.std.specs.Prelude.{◌≡◌, ℕ, ◌%◌, ◌^◌, ◌==◌, ◌&&◌, nat_le, if◌then◌else◌, pos, ◌*ℤ◌, Option, Some, None, Result, Ok, Err, List, [], ◌∷◌, ◌++◌, length, drop, take, slice_index, codes, decimal}
 use Rattle.byteorder.specs.Endian.{little_from, twos_complement}
 use Rattle.ipmi_text.specs.FieldText.{binary_text, latin1_text, fru_text_of}
 use Rattle.ipmi_text.specs.Chassis.{chassis_text_of}

@@ -1,6 +1,5 @@
 //! The chassis, board and product areas of an inventory.
-ghost use Rattle.std.specs.Prelude.{◌≡◌, ◌+◌, ◌<◌, ◌≤◌, IfSome, IfOk, IfErr, Some, None, slice_get, length, slice_index};
-ghost use Rattle.std.specs.Option.{option_map};
+ghost use Rattle.std.specs.Prelude.{◌≡◌, ◌+◌, ◌<◌, ◌≤◌, IfSome, IfOk, IfErr, Some, None, slice_get, length, slice_index, option_map};
 ghost use Rattle.byteorder.specs.Endian.{little_from};
 ghost use Rattle.ipmi_fru.specs.Print.{language_of};
 ghost use Rattle.ipmi_fru.specs.declared.area.AreaKind.TheVariants.{Board, Chassis};

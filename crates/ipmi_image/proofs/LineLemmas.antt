@@ -1,6 +1,5 @@
 -- Lines by the number of their fields and by their first words.
-use Rattle.std.proofs.Common.{◌≡◌, ℕ, ◌<◌, Bool, true, false, cond, Result, Err, List, [], ◌∷◌, length, refl, sym, ap, ◌∙◌, arith, codes}
-use Rattle.std.specs.Str.{bytes_eq}
+use Rattle.std.proofs.Common.{◌≡◌, ℕ, ◌<◌, Bool, true, false, cond, Result, Err, List, [], ◌∷◌, length, refl, sym, ap, ◌∙◌, arith, codes, bytes_eq}
 use Rattle.std.specs.Cmp.Lexicographic.{bytes_decides}
 use Rattle.ipmi_bus.specs.declared.controller.Shelf.TheVariants.{Sdr, Sel}
 use Rattle.ipmi_image.specs.declared.line.LineFault.{LineFault}

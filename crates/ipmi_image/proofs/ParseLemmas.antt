@@ -1,10 +1,7 @@
 -- The lines of a rewritten image, read again.
-use Rattle.std.proofs.Common.{◌≡◌, ℕ, zero, suc, ◌*◌, ◌/◌, ◌%◌, ◌<◌, ◌≤◌, Bool, true, false, cond, not, nat_eq, ◌==◌, ◌&&◌, ◌||◌, Option, None, Some, Ok, List, [], ◌∷◌, length, get_or, slice_index, drop, refl, sym, ap, ◌∙◌, arith, codes}
-use Rattle.std.specs.Option.{option_map}
+use Rattle.std.proofs.Common.{◌≡◌, ℕ, zero, suc, ◌*◌, ◌/◌, ◌%◌, ◌<◌, ◌≤◌, Bool, true, false, cond, not, nat_eq, ◌==◌, ◌&&◌, ◌||◌, Option, None, Some, Ok, List, [], ◌∷◌, length, get_or, slice_index, drop, refl, sym, ap, ◌∙◌, arith, codes, option_map, if◌then◌else◌, ne_eqb, eq-eqb, true≢false}
 use Rattle.std.specs.Result.{result_ok}
 use Rattle.std.specs.List.{list_all, join_with_byte}
-use Rattle.std.specs.Bool.{if◌then◌else◌}
-use Rattle.std.proofs.lemmas.Bool.{ne_eqb, eq-eqb, true≢false}
 use Rattle.std.proofs.lemmas.List.Elements.{All-cons, All-append}
 use Rattle.byteorder.specs.Endian.{big_number, big_bytes}
 use Rattle.hex.specs.Hex.{IsBytes, encode_lower, encode_with, decode_pairs, is_hex_digit, lower_digits}

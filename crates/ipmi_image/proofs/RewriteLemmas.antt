@@ -1,7 +1,6 @@
 -- Texts put together piece by piece.
-use Rattle.std.proofs.Common.{◌≡◌, ℕ, zero, suc, ◌+◌, ◌/◌, ◌≤◌, ◌<◌, List, [], ◌∷◌, ◌++◌, length, take, drop, get_or, map, refl, sym, ap, ◌∙◌, append_assoc, append-nil, Some, None, arith, codes}
-use Rattle.std.specs.List.{flat_map, slice_get}
-use Rattle.std.proofs.lemmas.List.{length-drop, drop_more}
+use Rattle.std.proofs.Common.{◌≡◌, ℕ, zero, suc, ◌+◌, ◌/◌, ◌≤◌, ◌<◌, List, [], ◌∷◌, ◌++◌, length, take, drop, get_or, map, refl, sym, ap, ◌∙◌, append_assoc, append-nil, Some, None, arith, codes, flat_map, slice_get, length-drop}
+use Rattle.std.proofs.lemmas.List.{drop_more}
 use Rattle.hex.specs.Hex.{encode_with}
 use Rattle.ipmi_bus.specs.Store.{Store}
 use Rattle.ipmi_image.specs.declared.stored.StoredInventory.{StoredInventory}

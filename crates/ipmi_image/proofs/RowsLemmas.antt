@@ -1,8 +1,7 @@
 -- The records of a shelf over the bytes of all of them.
-use Rattle.std.proofs.Common.{◌≡◌, ℕ, zero, suc, ◌+◌, ◌<◌, ◌≤◌, Option, None, Some, List, [], ◌∷◌, ◌++◌, length, take, drop, get_or, map, refl, sym, ap, ◌∙◌, arith}
-use Rattle.std.specs.List.{All, slice_get}
+use Rattle.std.proofs.Common.{◌≡◌, ℕ, zero, suc, ◌+◌, ◌<◌, ◌≤◌, Option, None, Some, List, [], ◌∷◌, ◌++◌, length, take, drop, get_or, map, refl, sym, ap, ◌∙◌, arith, All, slice_get, length-drop}
 use Rattle.std.proofs.lemmas.Option.{none-some, same_Some}
-use Rattle.std.proofs.lemmas.List.{length-drop, map-append, take-append-le, drop-append-le}
+use Rattle.std.proofs.lemmas.List.{map-append, take-append-le, drop-append-le}
 use Rattle.std.proofs.Math.Seq.{take-length, drop-append_seam}
 use Rattle.ipmi_image.specs.declared.rows.RowHead.{RowHead}
 use Rattle.ipmi_image.specs.Line.{SavedRow}

@@ -1,11 +1,8 @@
 -- What the stores that images give have beside what every store has.
-use Rattle.std.proofs.Common.{◌≡◌, ℕ, ◌+◌, ◌<◌, ◌≤◌, Bool, true, false, cond, not, nat_eq, ◌==◌, ◌&&◌, ◌||◌, Option, None, Some, Result, Ok, Err, suc, List, [], ◌∷◌, ◌++◌, length, map, refl, sym, subst, ◌∙◌, arith, codes}
-use Rattle.std.specs.Option.{ok_or, option_map, option_and_then}
+use Rattle.std.proofs.Common.{◌≡◌, ℕ, ◌+◌, ◌<◌, ◌≤◌, Bool, true, false, cond, not, nat_eq, ◌==◌, ◌&&◌, ◌||◌, Option, None, Some, Result, Ok, Err, suc, List, [], ◌∷◌, ◌++◌, length, map, refl, sym, subst, ◌∙◌, arith, codes, ok_or, option_map, option_and_then, All, filter_map, length-append, bytes_eq}
 use Rattle.std.specs.Result.{result_ok}
-use Rattle.std.specs.List.{All, filter_map}
-use Rattle.std.proofs.lemmas.List.{length-append, length-map}
+use Rattle.std.proofs.lemmas.List.{length-map}
 use Rattle.std.proofs.Math.ListN.{get_or-map}
-use Rattle.std.specs.Str.{bytes_eq}
 use Rattle.std.proofs.lemmas.List.Elements.{All-cons, All-append, filter_map-append}
 use Rattle.std.proofs.lemmas.List.Sums.{fold-append}
 use Rattle.hex.specs.declared.error.FromHexError.{FromHexError}

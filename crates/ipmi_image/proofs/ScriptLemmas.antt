@@ -1,7 +1,5 @@
 -- An answer after what a mood did, and an answer that a mood made.
-use Rattle.std.proofs.Common.{◌≡◌, ℕ, Bool, true, false, Option, None, Some, Result, Ok, Err, List, refl, sym, ◌∙◌, arith}
-use Rattle.std.specs.Bool.{IsTrue}
-use Rattle.std.proofs.lemmas.Bool.{true≢false}
+use Rattle.std.proofs.Common.{◌≡◌, ℕ, Bool, true, false, Option, None, Some, Result, Ok, Err, List, refl, sym, ◌∙◌, arith, IsTrue, true≢false}
 use Rattle.std.proofs.lemmas.Option.{none-some}
 use Rattle.ipmi_bus.specs.declared.controller.Shelf.{Shelf}
 use Rattle.ipmi_bus.specs.declared.controller.Shelf.TheVariants.{Sdr, Sel}

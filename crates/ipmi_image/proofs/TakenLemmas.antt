@@ -1,7 +1,5 @@
 -- The lines of a rewritten image are taken one after the other, and give its store.
-use Rattle.std.proofs.Common.{◌≡◌, ◌≢◌, ℕ, ◌+◌, ◌<◌, Bool, true, false, cond, not, nat_eq, ◌&&◌, ◌||◌, Option, None, Some, Result, Ok, Err, List, [], ◌∷◌, ◌++◌, length, map, refl, sym, ap, subst, ◌∙◌, append_assoc, append-nil, arith}
-use Rattle.std.specs.Option.{unwrap_or}
-use Rattle.std.proofs.lemmas.Bool.{eqb-true, eq-eqb, ne_eqb}
+use Rattle.std.proofs.Common.{◌≡◌, ◌≢◌, ℕ, ◌+◌, ◌<◌, Bool, true, false, cond, not, nat_eq, ◌&&◌, ◌||◌, Option, None, Some, Result, Ok, Err, List, [], ◌∷◌, ◌++◌, length, map, refl, sym, ap, subst, ◌∙◌, append_assoc, append-nil, arith, unwrap_or, eqb-true, eq-eqb, ne_eqb, length-append}
 use Rattle.std.proofs.lemmas.Bool.Decides.{nat_tests}
 use Rattle.std.proofs.lemmas.List.Elements.{filter_map-append}
 use Rattle.ipmi_bus.specs.declared.controller.Shelf.{Shelf}
@@ -10,7 +8,6 @@ use Rattle.ipmi_bus.specs.Shelf.{Row, IsRow, AllRows, LacksId, DistinctIds, IsSh
 use Rattle.ipmi_bus.specs.Walk.{has_id}
 use Rattle.ipmi_image.specs.declared.line.LineFault.{LineFault}
 use Rattle.ipmi_image.specs.declared.image.ImageFault.TheVariants as image_fault
-use Rattle.std.proofs.lemmas.List.{length-append}
 use Rattle.ipmi_image.specs.Line.{SavedRow, Line, a_row, line_of}
 use Rattle.ipmi_image.specs.Image.{row_on, rows_on, first_id, chained, store_of_lines, is_empty, is_no_record, is_no_id, row_fault, fault_in, unless_fault, is_end, ends_here, store_after}
 use Rattle.ipmi_image.specs.Rewritten.{first_row_id}

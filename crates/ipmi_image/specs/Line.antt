@@ -1,7 +1,6 @@
 -- What a line of an image says by itself, or the fault that keeps it from saying anything.
-use Rattle.std.specs.Prelude.{ℕ, ◌==◌, ◌&&◌, ◌||◌, Bool, true, false, if◌then◌else◌, Option, Some, None, Result, Ok, Err, ok_or, option_map, option_and_then, List, [], ◌∷◌, length, codes}
+use Rattle.std.specs.Prelude.{ℕ, ◌==◌, ◌&&◌, ◌||◌, Bool, true, false, if◌then◌else◌, Option, Some, None, Result, Ok, Err, ok_or, option_map, option_and_then, List, [], ◌∷◌, length, codes, bytes_eq}
 use Rattle.std.specs.Result.{result_ok}
-use Rattle.std.specs.Str.{bytes_eq}
 use Rattle.byteorder.specs.Endian.{big_number}
 use Rattle.hex.specs.Hex.{decode_of}
 use Rattle.ipmi_bus.specs.declared.controller.Shelf.{Shelf}

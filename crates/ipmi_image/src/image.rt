@@ -1,6 +1,5 @@
 //! A saved image of a management controller, read from its text.
-ghost use Rattle.std.specs.Prelude.{◌≡◌, ◌⊎◌, [], ◌≤◌, All, IfOk, IfErr, IfSome, Ok, Err, length};
-ghost use Rattle.std.specs.Option.{option_map};
+ghost use Rattle.std.specs.Prelude.{◌≡◌, ◌⊎◌, [], ◌≤◌, All, IfOk, IfErr, IfSome, Ok, Err, length, option_map};
 ghost use Rattle.ipmi_bus.specs.Store.{IsStore, rows_of, inventory_of, reading_of, info_of};
 ghost use Rattle.ipmi_image.specs.Text.{pieces};
 ghost use Rattle.ipmi_image.specs.Image.{chained, at_line, dashes_in, store_after, store_of_image};

@@ -1,6 +1,5 @@
 //! What an image answers to a controller's calls.
-ghost use Rattle.std.specs.Prelude.{◌≡◌, ◌+◌, ◌<◌, ◌≤◌, ◌≢◌, Bool, MatchBool, IfOk, OnErr, Ok, Some, None, length, map, drop};
-ghost use Rattle.std.specs.Option.{option_map, unwrap_or};
+ghost use Rattle.std.specs.Prelude.{◌≡◌, ◌+◌, ◌<◌, ◌≤◌, ◌≢◌, Bool, MatchBool, IfOk, OnErr, Ok, Some, None, length, map, drop, option_map, unwrap_or};
 ghost use Rattle.ipmi_bus.specs.Shelf.{look};
 ghost use Rattle.ipmi_bus.specs.Code.{class_of};
 ghost use Rattle.ipmi_bus.specs.Store.{IsStore, rows_of, info_of, reading_of, inventory_of};

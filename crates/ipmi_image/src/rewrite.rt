@@ -1,6 +1,5 @@
 //! The one text of version 2 that an image has.
-ghost use Rattle.std.specs.Prelude.{◌≡◌, ◌++◌, ◌∷◌, [], ◌≤◌, OnOk, IfOk, Ok, All, map, flat_map, drop, codes};
-ghost use Rattle.std.specs.Option.{unwrap_or};
+ghost use Rattle.std.specs.Prelude.{◌≡◌, ◌++◌, ◌∷◌, [], ◌≤◌, OnOk, IfOk, Ok, All, map, flat_map, drop, codes, unwrap_or};
 ghost use Rattle.hex.specs.Hex.{encode_lower};
 ghost use Rattle.ipmi_image.specs.Image.{chained, store_of_image};
 ghost use Rattle.ipmi_image.specs.Stored.{sensor_of, store_of};

@@ -1,11 +1,10 @@
 -- What a message sink took once parts were written to it one after another.
-use Rattle.std.proofs.Common.{◌≡◌, ◌∙◌, ℕ, ◌<◌, ◌==◌, false, if◌then◌else◌, zero, suc, List, [], ◌++◌, ◌+◌, ◌-◌, Option, None, Some, Ok, Err, Result, IsErr, Bor, get_or, length, length-append, take, drop, refl, sym, ap, subst, append_assoc, arith}
-use Rattle.std.proofs.Math.Seq.{drop-cons, take-add, take-append-add}
-use Rattle.std.proofs.lemmas.List.{append-nil, take-append-drop, take-append-le, take_rest}
+use Rattle.std.proofs.Common.{◌≡◌, ◌∙◌, ℕ, ◌<◌, ◌==◌, false, if◌then◌else◌, zero, suc, List, [], ◌++◌, ◌+◌, ◌-◌, Option, None, Some, Ok, Err, Result, IsErr, Bor, get_or, length, length-append, take, drop, refl, sym, ap, subst, append_assoc, arith, drop-cons, take-add, append-nil, take-append-drop, option_map}
+use Rattle.std.proofs.Math.Seq.{take-append-add}
+use Rattle.std.proofs.lemmas.List.{take-append-le, take_rest}
 use Rattle.std.proofs.lemmas.Bool.{false≢true}
 use Rattle.std.proofs.lemmas.List.Concat.{flat_map-append}
 use Rattle.std.specs.Io.KnownBytes.{Appends, Keeps}
-use Rattle.std.specs.Option.{option_map}
 use Rattle.ipmi_output.specs.Received.{Received, ReceivesAll, ReceivesPart, WritesAll, ReceivesText, Whole, CutShort}
 use Rattle.ipmi_output.specs.Message.{joined_parts}
 

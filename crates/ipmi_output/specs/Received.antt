@@ -1,7 +1,6 @@
 -- What a message sink took of a text, and how many of its calls were faults.
-use Rattle.std.specs.Prelude.{ℕ, ◌≡◌, ◌<◌, ◌+◌, List, Option, None, Result, MatchResult, length, take}
+use Rattle.std.specs.Prelude.{ℕ, ◌≡◌, ◌<◌, ◌+◌, List, Option, None, Result, MatchResult, length, take, option_map}
 use Rattle.std.specs.Io.KnownBytes.{Appends, WriteAppends}
-use Rattle.std.specs.Option.{option_map}
 use Rattle.ipmi_output.specs.Sink.{faults_by}
 
 -- the bytes taken so far, and how many calls took none or failed, where these are known

@@ -1,7 +1,7 @@
 //! What the program says on standard error. Each message is one line, written part by part and not made as a whole text
 //! first: so none of them takes memory, and the want of memory can be told as well.
-ghost use Rattle.std.specs.Prelude.{◌≡◌, ◌<◌, ◌++◌, codes, true};
-ghost use Rattle.std.specs.Fmt.{decimal, digit_glyph};
+ghost use Rattle.std.specs.Prelude.{◌≡◌, ◌<◌, ◌++◌, codes, true, decimal};
+ghost use Rattle.std.specs.Fmt.{digit_glyph};
 ghost use Rattle.ipmi_records.specs.Bytes.{byte_h, upper_byte, word_h};
 ghost use Rattle.ipmi_output.specs.Received.{ReceivesText, WritesAll};
 ghost use Rattle.ipmi_output.specs.Message.{ended_text, escaped_name, image_fault_text, inventory_text, joined_parts, line_fault_text, line_text, message_text};

@@ -1,6 +1,5 @@
 -- The factors of a full record, out of its fields.
-use Rattle.std.proofs.Common.{◌≡◌, ◌∙◌, ℕ, ℤ, List, Option, Some, refl}
-use Rattle.std.specs.Prelude.{IfSome}
+use Rattle.std.proofs.Common.{◌≡◌, ◌∙◌, ℕ, ℤ, List, Option, Some, refl, IfSome}
 use Rattle.ipmi_text.specs.ReadingValue.{SensorFactors}
 use Rattle.ipmi_records.specs.Sensor.{analog_format, exponent_k1, exponent_k2, factor_b, factor_m, factors_in, linearization}
 

@@ -1,6 +1,6 @@
 -- Lines and blocks out of the parts that the code puts together.
-use Rattle.std.proofs.Common.{◌≡◌, ◌∙◌, ℕ, List, [], ◌∷◌, ◌++◌, Bool, true, Option, ◌-◌, codes, drop, length, replicate, sym, subst, refl, append_assoc, append-nil}
-use Rattle.std.specs.Fmt.{char_count, decimal}
+use Rattle.std.proofs.Common.{◌≡◌, ◌∙◌, ℕ, List, [], ◌∷◌, ◌++◌, Bool, true, Option, ◌-◌, codes, drop, length, replicate, sym, subst, refl, append_assoc, append-nil, decimal}
+use Rattle.std.specs.Fmt.{char_count}
 use Rattle.ipmi_text.specs.Appended.{Appends}
 use Rattle.ipmi_text.specs.Hex.{hex_byte}
 use Rattle.ipmi_text.specs.FieldText.{binary_text}

@@ -1,7 +1,6 @@
 -- The answers of Get SDR Repository Info and Get SEL Info (IPMI v2.0, sections 33.9 and 31.2), after their completion code: 14
 -- bytes, alike in both; and their text (the project's own).
-use Rattle.std.specs.Prelude.{◌≡◌, ℕ, Bool, if◌then◌else◌, List, [], ◌∷◌, ◌++◌, codes}
-use Rattle.std.specs.Fmt.{decimal}
+use Rattle.std.specs.Prelude.{◌≡◌, ℕ, Bool, if◌then◌else◌, List, [], ◌∷◌, ◌++◌, codes, decimal}
 use Rattle.std.specs.List.{concat}
 use Rattle.ipmi_text.specs.Hex.{hex_byte}
 use Rattle.ipmi_text.specs.Times.{IsUtcTextOf}

@@ -1,7 +1,6 @@
 -- The texts of sensor data records (the project's own): the line, the extended line, the block, and the line of a record that has
 -- no view.
-use Rattle.std.specs.Prelude.{◌≡◌, ℕ, Option, Some, None, unwrap_or, Bool, true, false, if◌then◌else◌, List, [], ◌∷◌, ◌++◌, codes}
-use Rattle.std.specs.Fmt.{decimal}
+use Rattle.std.specs.Prelude.{◌≡◌, ℕ, Option, Some, None, unwrap_or, Bool, true, false, if◌then◌else◌, List, [], ◌∷◌, ◌++◌, codes, decimal}
 use Rattle.std.specs.List.{concat}
 use Rattle.ipmi_text.specs.SensorTypes.{sensor_type_text_of}
 use Rattle.ipmi_text.specs.declared.reading.Reading.{Reading}

@@ -1,15 +1,12 @@
 -- The long division that makes the digits of a fraction.
-use Rattle.std.proofs.Common.{◌≡◌, ◌≢◌, ℕ, suc, ◌+◌, ◌-◌, ◌*◌, ◌/◌, ◌%◌, ◌^◌, ◌<◌, ◌≤◌, List, [], ◌∷◌, ◌++◌, length, get_or, slice_index, replicate, arith, refl, zero, ap, sym, subst, ◌∙◌, append_assoc, append-nil, inl, inr}
+use Rattle.std.proofs.Common.{◌≡◌, ◌≢◌, ℕ, suc, ◌+◌, ◌-◌, ◌*◌, ◌/◌, ◌%◌, ◌^◌, ◌<◌, ◌≤◌, List, [], ◌∷◌, ◌++◌, length, get_or, slice_index, replicate, arith, refl, zero, ap, sym, subst, ◌∙◌, append_assoc, append-nil, inl, inr, length-append, pow-suc, div-lt_iff_lt-mul, decimal, ℤ, unsigned_abs}
 use Rattle.std.proofs.lemmas.Bool.{cases_lt}
 use Rattle.std.specs.Char.{digit_value}
 use Rattle.std.specs.Str.Parse.{AllDigits, digits_value}
 use Rattle.std.proofs.lemmas.Int.Digits.{digits_value_push, digits_push}
-use Rattle.std.proofs.lemmas.List.{get_or_push, length-append}
+use Rattle.std.proofs.lemmas.List.{get_or_push}
 use Rattle.std.proofs.lemmas.Bool.Decides.{nat_tests}
-use Rattle.std.proofs.Math.Nat.{pow-suc, div-lt_iff_lt-mul}
 use Rattle.std.proofs.Math.ListN.{get_or-append}
-use Rattle.std.specs.Fmt.{decimal}
-use Rattle.std.specs.Prelude.{ℤ, unsigned_abs}
 use Rattle.std.proofs.lemmas.Fmt.{decimal_by_steps_wide, decimal_digit, decimal_is_IsNumeral_wide}
 use Rattle.ipmi_text.specs.Appended.{Appends}
 use Rattle.ipmi_text.specs.Decimal.{AppendsFraction, IsDecimalOf, IsFraction, IsWhole, after_point, filled, sign_of}

@@ -1,14 +1,10 @@
 -- Texts of fields, a step at a time.
-use Rattle.std.proofs.Common.{◌≡◌, ◌≢◌, ◌∙◌, ℕ, zero, suc, ◌+◌, ◌*◌, ◌/◌, ◌%◌, ◌^◌, ◌<◌, ◌≤◌, ◌==◌, true, false, List, [], ◌∷◌, ◌++◌, length, get_or, slice_index, take, drop, map, encode_utf8, ap, sym, refl, arith, append-nil, codes, Bool, nat_le, nat_lt, ◌&&◌, add-one, append_assoc}
+use Rattle.std.proofs.Common.{◌≡◌, ◌≢◌, ◌∙◌, ℕ, zero, suc, ◌+◌, ◌*◌, ◌/◌, ◌%◌, ◌^◌, ◌<◌, ◌≤◌, ◌==◌, true, false, List, [], ◌∷◌, ◌++◌, length, get_or, slice_index, take, drop, map, encode_utf8, ap, sym, refl, arith, append-nil, codes, Bool, nat_le, nat_lt, ◌&&◌, add-one, append_assoc, drop_of_length-le, drop-cons, take_all, pow-add, IsAscii}
 use Rattle.std.proofs.Math.Nat.{div-div-eq-div-mul}
-use Rattle.std.proofs.Math.ListN.{drop_of_length-le}
-use Rattle.std.proofs.Math.Seq.{drop-cons}
-use Rattle.std.proofs.lemmas.List.{take_all, take_more}
+use Rattle.std.proofs.lemmas.List.{take_more}
 use Rattle.std.proofs.lemmas.Str.{encode_ascii}
-use Rattle.std.proofs.lemmas.Nat.{pow-add}
 use Rattle.std.proofs.lemmas.Bool.Decides.{nat_tests}
 use Rattle.std.specs.List.{position_or_len, range_with_len}
-use Rattle.std.specs.Str.{IsAscii}
 use Rattle.ipmi_text.specs.FieldText.{bcd_plus_character, bcd_plus_text, latin1_character, latin1_text, nibbles, number_of, six_bit_character, six_bit_text}
 
 -- three bytes are the low part of the number

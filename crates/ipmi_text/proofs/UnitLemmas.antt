@@ -1,6 +1,5 @@
 -- The parts of a unit's text, and the spaces between them.
-use Rattle.std.proofs.Common.{◌≡◌, ℕ, ◌≤◌, ◌<◌, ◌/◌, ◌%◌, suc, List, [], ◌∷◌, ◌++◌, length, ◌==◌, not, ◌&&◌, ◌||◌, true, false, if◌then◌else◌, codes, refl, ap, append-nil, arith, inl, inr}
-use Rattle.std.specs.Prelude.{IfSome, None, Option, Some, filter, option_map, slice_get}
+use Rattle.std.proofs.Common.{◌≡◌, ℕ, ◌≤◌, ◌<◌, ◌/◌, ◌%◌, suc, List, [], ◌∷◌, ◌++◌, length, ◌==◌, not, ◌&&◌, ◌||◌, true, false, if◌then◌else◌, codes, refl, ap, append-nil, arith, inl, inr, IfSome, None, Option, Some, filter, option_map, slice_get}
 use Rattle.std.specs.List.{join_with_byte}
 use Rattle.std.proofs.lemmas.Bool.{cases_lt}
 use Rattle.std.proofs.lemmas.Bool.Decides.{nat_tests}

@@ -1,6 +1,5 @@
 -- The texts of points in time, all in UTC.
-use Rattle.std.specs.Prelude.{◌≡◌, ℕ, ◌+◌, ◌<◌, ◌≤◌, ◌/◌, ◌%◌, List, ◌++◌, pos, codes}
-use Rattle.std.specs.Fmt.{decimal}
+use Rattle.std.specs.Prelude.{◌≡◌, ℕ, ◌+◌, ◌<◌, ◌≤◌, ◌/◌, ◌%◌, List, ◌++◌, pos, codes, decimal}
 use Rattle.jiff.specs.Words.{date_text, epoch_day}
 use Rattle.jiff.specs.declared.civil.Date.{Date}
 use Rattle.ipmi_text.specs.TwoDigits.{two_digits}

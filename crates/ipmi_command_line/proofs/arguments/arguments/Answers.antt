@@ -1,5 +1,4 @@
-use Rattle.std.proofs.Common.{◌∙◌, ap, inl, inr, refl}
-use Rattle.std.proofs.lemmas.List.{map-id}
+use Rattle.std.proofs.Common.{◌∙◌, ap, inl, inr, refl, map-id}
 use Rattle.clap.specs.Words.{is_simple, is_simple_and_free}
 use Rattle.ipmi_command_line.proofs.ArgumentLemmas.{is_simple_and_free-command_line, is_taken-err, rows, is_simple-command_line, is_taken-ok}
 use Rattle.ipmi_command_line.proofs.arguments.arguments.Goals as goal

@@ -1,5 +1,4 @@
-use Rattle.std.proofs.Common.{◌∙◌, ap, inl, inr, sym}
-use Rattle.std.specs.Prelude.{Err, Result}
+use Rattle.std.proofs.Common.{◌∙◌, ap, inl, inr, sym, Err, Result}
 use Rattle.clap.specs.Words.{found_of, rows_of}
 use Rattle.ipmi_command_line.specs.Command.{CommandState}
 use Rattle.ipmi_command_line.specs.declared.command.UsageFault.{UsageFault}

@@ -1,5 +1,4 @@
-use Rattle.std.proofs.Common.{◌≡◌, ◌++◌, ◌∷◌, [], ap, sym, subst, ◌∙◌, arith, map}
-use Rattle.std.specs.Option.{is_some}
+use Rattle.std.proofs.Common.{◌≡◌, ◌++◌, ◌∷◌, [], ap, sym, subst, ◌∙◌, arith, map, is_some}
 use Rattle.std.proofs.lemmas.List.{map-append}
 use Rattle.ipmi_bus.specs.Store.{SensorReading, IsSensorReading, reading_in}
 use Rattle.ipmi_image.specs.Image.{reading_of_bytes}

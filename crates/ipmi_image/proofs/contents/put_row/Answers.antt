@@ -1,5 +1,4 @@
-use Rattle.std.proofs.Common.{rules, ◌≡◌, ◌<◌, ap, sym, subst, ◌∙◌, List, [], ◌∷◌, ◌++◌, arith, false, None, inr}
-use Rattle.std.specs.Option.{unwrap_or, is_some}
+use Rattle.std.proofs.Common.{rules, ◌≡◌, ◌<◌, ap, sym, subst, ◌∙◌, List, [], ◌∷◌, ◌++◌, arith, false, None, inr, unwrap_or, is_some}
 use Rattle.ipmi_text.specs.Bytes.{AreBytes}
 use Rattle.ipmi_bus.specs.Shelf.{IsShelf}
 use Rattle.ipmi_bus.specs.Walk.{has_id}

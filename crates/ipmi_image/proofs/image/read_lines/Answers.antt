@@ -1,5 +1,4 @@
-use Rattle.std.proofs.Common.{◌≡◌, ◌+◌, ◌++◌, ◌∷◌, false, [], None, Some, Ok, length, refl, sym, ap, ◌∙◌, inl, inr, arith}
-use Rattle.std.proofs.lemmas.List.{length-append}
+use Rattle.std.proofs.Common.{◌≡◌, ◌+◌, ◌++◌, ◌∷◌, false, [], None, Some, Ok, length, refl, sym, ap, ◌∙◌, inl, inr, arith, length-append}
 use Rattle.ipmi_image.specs.Text.{pieces}
 use Rattle.ipmi_image.specs.Line.{the_end}
 use Rattle.ipmi_image.specs.Image.{at_line, is_end, store_after}

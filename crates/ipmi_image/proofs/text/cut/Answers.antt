@@ -1,7 +1,5 @@
-use Rattle.std.proofs.Common.{◌≡◌, ◌+◌, ◌-◌, List, ℕ, ◌∷◌, arith, ap, sym, ◌∙◌, take, drop, length}
+use Rattle.std.proofs.Common.{◌≡◌, ◌+◌, ◌-◌, List, ℕ, ◌∷◌, arith, ap, sym, ◌∙◌, take, drop, length, length-drop, eqb-true, eq-eqb}
 use Rattle.std.proofs.Math.Seq.{take-length}
-use Rattle.std.proofs.lemmas.List.{length-drop}
-use Rattle.std.proofs.lemmas.Bool.{eqb-true, eq-eqb}
 use Rattle.ipmi_image.specs.Text.{pieces}
 use Rattle.ipmi_image.proofs.TextLemmas.{pieces-none, pieces-at}
 use Rattle.ipmi_image.proofs.text.cut.Goals as goal

@@ -1,8 +1,7 @@
 -- One byte more is taken, escaped, after the bytes that wait for it; or it waits with them, as it is no control byte.
-use Rattle.std.proofs.Common.{ℕ, arith, Bool, true, false, if◌then◌else◌, List, [], ◌∷◌, ◌++◌, ◌+◌, ◌-◌, ◌<◌, ◌≤◌, ◌≡◌, append-nil, append_assoc, codes, get_or, length, take, drop, ap, ◌∙◌, sym, subst}
-use Rattle.std.proofs.Math.ListN.{drop_of_length-le}
+use Rattle.std.proofs.Common.{ℕ, arith, Bool, true, false, if◌then◌else◌, List, [], ◌∷◌, ◌++◌, ◌+◌, ◌-◌, ◌<◌, ◌≤◌, ◌≡◌, append-nil, append_assoc, codes, get_or, length, take, drop, ap, ◌∙◌, sym, subst, drop_of_length-le, length-take-le, take-append-drop}
 use Rattle.std.proofs.Math.Seq.{take-length}
-use Rattle.std.proofs.lemmas.List.{drop-append-le, drop-take, length-take-le, take_rest, take-append-drop, take_more}
+use Rattle.std.proofs.lemmas.List.{drop-append-le, drop-take, take_rest, take_more}
 use Rattle.std.proofs.lemmas.List.Concat.{flat_map-append}
 use Rattle.std.specs.Char.{is_ascii_control}
 use Rattle.ipmi_records.specs.Bytes.{upper_byte}

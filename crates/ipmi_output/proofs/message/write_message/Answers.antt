@@ -1,5 +1,5 @@
 -- The name comes last, with nothing after it.
-use Rattle.std.proofs.lemmas.List.{append-nil}
+use Rattle.std.proofs.Common.{append-nil}
 use Rattle.ipmi_output.proofs.message.write_message.Goals as goal
 
 pub returns-in-CannotRead : goal.returns-in-CannotRead

@@ -1,5 +1,5 @@
 -- The digits come last, with nothing after them.
-use Rattle.std.proofs.lemmas.List.{append-nil}
+use Rattle.std.proofs.Common.{append-nil}
 use Rattle.ipmi_output.proofs.message.write_refused_inventory.Goals as goal
 
 pub returns : goal.returns

@@ -1,8 +1,7 @@
 -- The bytes before `done` and those taken then are the bytes before the new `done`.
-use Rattle.std.proofs.Common.{ℕ, arith, Option, List, [], ◌+◌, ◌-◌, ◌<◌, ◌≡◌, append-nil, length, take, drop, ap, ◌∙◌}
+use Rattle.std.proofs.Common.{ℕ, arith, Option, List, [], ◌+◌, ◌-◌, ◌<◌, ◌≡◌, append-nil, length, take, drop, ap, ◌∙◌, option_map}
 use Rattle.std.proofs.lemmas.Grind.{common_steps}
 use Rattle.std.specs.Io.KnownBytes.{Appends}
-use Rattle.std.specs.Option.{option_map}
 use Rattle.ipmi_output.specs.Received.{Received, ReceivesAll, ReceivesPart}
 use Rattle.ipmi_output.proofs.MessageLemmas.{Appends-none, Appends-both, Appends-kept, Appends-same, WritesAll-failed, option_map-kept, option_map-raised, take-next}
 use Rattle.ipmi_output.proofs.message_sink.offer_all.Goals as goal

@@ -1,5 +1,4 @@
-use Rattle.std.proofs.Common.{◌≡◌, ◌∙◌, ◌+◌, ◌≤◌, true, false, suc, add-one, ap, arith, drop, get_or, length, refl, sym}
-use Rattle.std.proofs.Math.ListN.{drop_of_length-le}
+use Rattle.std.proofs.Common.{◌≡◌, ◌∙◌, ◌+◌, ◌≤◌, true, false, suc, add-one, ap, arith, drop, get_or, length, refl, sym, drop_of_length-le}
 use Rattle.std.specs.Fmt.{char_count, is_char_start}
 use Rattle.ipmi_records.proofs.PaddingLemmas.{char_count-drop, char_count-nil}
 use Rattle.ipmi_records.proofs.padding.character_count.Goals.{then-is_char_start, else-is_char_start}

@@ -1,6 +1,6 @@
-use Rattle.std.proofs.Common.{◌*ℤ◌, ◌+ℤ◌, pos, arith, FitsSigned, w8, w16, w32}
+use Rattle.std.proofs.Common.{◌*ℤ◌, ◌+ℤ◌, pos, arith, FitsSigned, w8, w16, w32, to_z-of_z}
 use Rattle.std.specs.Int.{w128}
-use Rattle.std.proofs.lemmas.Int.{fits_signed_from_abs, fits_signed_mul, ints, to_z-of_z}
+use Rattle.std.proofs.lemmas.Int.{fits_signed_from_abs, fits_signed_mul, ints}
 use Rattle.ipmi_text.proofs.ReadingLemmas.{abs_product, abs_twos_complement, sum_fits, value_is}
 use Rattle.ipmi_text.proofs.decimal.convert.Goals as goal
 use Rattle.ipmi_text.proofs.decimal.convert.Goals.{After-raw_number}

@@ -1,6 +1,4 @@
-use Rattle.std.proofs.Common.{rules, ◌≡◌, ◌∙◌, ◌<◌, ◌%◌, ◌/◌, ◌^◌, ◌++◌, ℕ, ap, arith, string_bytes}
-use Rattle.std.specs.Fmt.{decimal}
-use Rattle.std.specs.Prelude.{unsigned_abs}
+use Rattle.std.proofs.Common.{rules, ◌≡◌, ◌∙◌, ◌<◌, ◌%◌, ◌/◌, ◌^◌, ◌++◌, ℕ, ap, arith, string_bytes, decimal, unsigned_abs}
 use Rattle.std.proofs.lemmas.Result.{IfOk-weaker}
 use Rattle.ipmi_text.specs.Decimal.{sign_of}
 use Rattle.ipmi_text.proofs.Division.{appended}

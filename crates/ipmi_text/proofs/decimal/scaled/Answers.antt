@@ -1,6 +1,6 @@
-use Rattle.std.proofs.Common.{◌≡◌, ◌≤◌, ◌^◌, ◌*ℤ◌, pos, ap, arith, FitsSigned, unsigned_abs, w32}
+use Rattle.std.proofs.Common.{◌≡◌, ◌≤◌, ◌^◌, ◌*ℤ◌, pos, ap, arith, FitsSigned, unsigned_abs, w32, to_z-of_z}
 use Rattle.std.specs.Int.{w128}
-use Rattle.std.proofs.lemmas.Int.{fits_signed_from_abs, fits_signed_mul, ints, to_z-of_z}
+use Rattle.std.proofs.lemmas.Int.{fits_signed_from_abs, fits_signed_mul, ints}
 use Rattle.ipmi_text.specs.ReadingValue.{ten_to}
 use Rattle.ipmi_text.proofs.ReadingLemmas.{abs_exponent, abs_product, ten_le}
 use Rattle.ipmi_text.proofs.decimal.scaled.Goals as goal

@@ -1,5 +1,4 @@
-use Rattle.std.proofs.Common.{◌≡◌, ◌∙◌, ◌+◌, ◌++◌, ◌∷◌, suc, ap, add-one, append_assoc, arith, drop, encode_utf8, get_or, string_bytes}
-use Rattle.std.proofs.Math.Seq.{drop-cons}
+use Rattle.std.proofs.Common.{◌≡◌, ◌∙◌, ◌+◌, ◌++◌, ◌∷◌, suc, ap, add-one, append_assoc, arith, drop, encode_utf8, get_or, string_bytes, drop-cons}
 use Rattle.std.proofs.lemmas.Grind.{common_steps}
 use Rattle.ipmi_text.specs.FieldText.{latin1_character, latin1_text}
 use Rattle.ipmi_text.proofs.FieldLemmas.{latin1_text-step}

@@ -1,5 +1,5 @@
-use Rattle.std.proofs.Common.{◌≡◌, ◌∙◌, ◌+◌, ◌≤◌, ◌++◌, [], sym, append_assoc, append-nil, arith, length, drop, take, string_bytes}
-use Rattle.std.proofs.lemmas.List.{get_or-drop, take_rest}
+use Rattle.std.proofs.Common.{◌≡◌, ◌∙◌, ◌+◌, ◌≤◌, ◌++◌, [], sym, append_assoc, append-nil, arith, length, drop, take, string_bytes, get_or-drop}
+use Rattle.std.proofs.lemmas.List.{take_rest}
 use Rattle.ipmi_text.specs.FieldText.{six_bit_text}
 use Rattle.ipmi_text.proofs.FieldLemmas.{length-no_byte, six_bit_text-none, six_bit_text-step}
 use Rattle.ipmi_text.proofs.field_text.six_bit_text.Goals as goal

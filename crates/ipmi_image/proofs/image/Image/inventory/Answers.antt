@@ -1,5 +1,4 @@
-use Rattle.std.proofs.Common.{◌≡◌, ap, sym, ◌∙◌, Some, map}
-use Rattle.std.specs.Option.{option_map}
+use Rattle.std.proofs.Common.{◌≡◌, ap, sym, ◌∙◌, Some, map, option_map}
 use Rattle.ipmi_bus.specs.Store.{inventory_of, inventory_in}
 use Rattle.ipmi_image.specs.Table as table
 use Rattle.ipmi_image.specs.declared.stored.StoredInventory.{StoredInventory}

@@ -1,5 +1,4 @@
-use Rattle.std.proofs.Common.{ap, sym, ◌∙◌, arith}
-use Rattle.std.specs.Option.{option_map}
+use Rattle.std.proofs.Common.{ap, sym, ◌∙◌, arith, option_map}
 use Rattle.ipmi_bus.specs.Store.{reading_of}
 use Rattle.ipmi_image.specs.declared.stored.StoredSensor.{StoredSensor}
 use Rattle.ipmi_image.proofs.TableLemmas.{reading_in_find}

@@ -1,5 +1,4 @@
-use Rattle.std.proofs.Common.{rules, ◌≡◌, ◌+◌, nat_eq, true, false, sym, ◌∙◌, arith, Some, length, refl}
-use Rattle.std.proofs.lemmas.Bool.{eq-eqb, ne_eqb}
+use Rattle.std.proofs.Common.{rules, ◌≡◌, ◌+◌, nat_eq, true, false, sym, ◌∙◌, arith, Some, length, refl, eq-eqb, ne_eqb}
 use Rattle.std.proofs.lemmas.Option.{none-some}
 use Rattle.ipmi_bus.specs.Shelf.{look}
 use Rattle.ipmi_bus.specs.Store.{rows_of}

@@ -1,5 +1,4 @@
-use Rattle.std.proofs.Common.{◌≡◌, ◌++◌, drop, map}
-use Rattle.std.specs.Prelude.{flat_map}
+use Rattle.std.proofs.Common.{◌≡◌, ◌++◌, drop, map, flat_map}
 use Rattle.ipmi_image.specs.Table.{inventory_of}
 use Rattle.ipmi_image.specs.Rewritten.{inventory_lines, lines_text}
 use Rattle.ipmi_image.proofs.rewrite.Text.push_inventories.Given as goal

@@ -1,5 +1,4 @@
-use Rattle.std.proofs.Common.{ap, sym, ◌∙◌}
-use Rattle.std.specs.Option.{is_some}
+use Rattle.std.proofs.Common.{ap, sym, ◌∙◌, is_some}
 use Rattle.ipmi_image.specs.Rows.{id_of}
 use Rattle.ipmi_image.specs.Table.{place_of}
 use Rattle.ipmi_image.proofs.RowsLemmas.{place_of-row_in}

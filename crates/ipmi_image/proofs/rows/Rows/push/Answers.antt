@@ -1,5 +1,4 @@
-use Rattle.std.proofs.Common.{◌≡◌, ◌++◌, ◌∷◌, [], ap, sym, ◌∙◌, arith, length, List, map}
-use Rattle.std.specs.Option.{is_some}
+use Rattle.std.proofs.Common.{◌≡◌, ◌++◌, ◌∷◌, [], ap, sym, ◌∙◌, arith, length, List, map, is_some}
 use Rattle.ipmi_image.specs.Table.{place_of}
 use Rattle.ipmi_image.specs.Rows.{id_of, row_in, row_of}
 use Rattle.ipmi_image.specs.Line.{SavedRow}

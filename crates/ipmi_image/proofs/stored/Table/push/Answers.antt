@@ -1,5 +1,4 @@
-use Rattle.std.proofs.Common.{ap, sym, ◌∙◌, Some, cond, length, arith, ◌≤◌}
-use Rattle.std.specs.Ordering.{is_eq, nat_cmp}
+use Rattle.std.proofs.Common.{ap, sym, ◌∙◌, Some, cond, length, arith, ◌≤◌, is_eq, nat_cmp}
 use Rattle.std.specs.BTreeMap.{get}
 use Rattle.ipmi_image.proofs.TableLemmas.{index_push, index_len, is_eq-nat_cmp}
 use Rattle.ipmi_image.proofs.stored.Table.push.Goals as goal

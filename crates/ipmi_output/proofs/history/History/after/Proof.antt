@@ -4,7 +4,7 @@ use mathlib.Core.List.{[], ◌∷◌}
 use mir.Syntax.{named}
 use mir.Val.{vptr, vstruct, vnil}
 use base.Fml.{ftrue}
-use Rattle.std.specs.Prelude.{◌+◌, ◌++◌, if◌then◌else◌}
+use Rattle.std.proofs.Common.{◌+◌, ◌++◌, if◌then◌else◌}
 use Rattle.std.proofs.raw_atomic.Walks.{proved}
 use types.Kit.{‵, raw, ◌⊛◌, ◌$◌, ◌∵◌, !, qed, move, drop, split, suffices, done}
 use types.Run.{no_more, returns, enter}

@@ -1,5 +1,5 @@
-use Rattle.std.proofs.Common.{FitsSigned, w8, w16, arith}
-use Rattle.std.proofs.lemmas.Int.{ints, to_z-of_z}
+use Rattle.std.proofs.Common.{FitsSigned, w8, w16, arith, to_z-of_z}
+use Rattle.std.proofs.lemmas.Int.{ints}
 use Rattle.ipmi_records.proofs.FactorLemmas.{factors_made}
 use Rattle.ipmi_records.proofs.sensor.FullSensor.factors.Goals as goal
 
