@@ -6,7 +6,6 @@ use Rattle.ipmi_bus.specs.declared.step.Place.TheVariants.{First, Id, End}
 use Rattle.ipmi_bus.specs.declared.step.Ended.{Ended}
 use Rattle.ipmi_bus.specs.declared.cursor.Handed.{Handed}
 use Rattle.ipmi_bus.specs.declared.cursor.Next.{Next}
-use Rattle.ipmi_bus.specs.declared.cursor.Next.TheVariants as next
 use Rattle.ipmi_bus.specs.declared.cursor.Progress.{Progress}
 use Rattle.ipmi_bus.specs.Shelf.{Row, id_in}
 use Rattle.ipmi_bus.specs.Seen.{Seen, current}
@@ -55,9 +54,9 @@ LeavesRoom (Id n) ids = set.len ids < 65536
 LeavesRoom End ids = Unit {0}
 
 abbrev pub IsNext : Place → set.FinSet nat_cmp → Next → Type 0
-IsNext place ids next.End = place ≡ End
-IsNext place ids (next.Cycle n) = cycle_at place ids ≡ Some n
-IsNext place ids (next.Asks asked) = (cycle_at place ids ≡ None) × IsAsked place asked × IsUnseen place ids asked × LeavesRoom place ids
+IsNext place ids Next.End = place ≡ End
+IsNext place ids (Next.Cycle n) = cycle_at place ids ≡ Some n
+IsNext place ids (Next.Asks asked) = (cycle_at place ids ≡ None) × IsAsked place asked × IsUnseen place ids asked × LeavesRoom place ids
 
 -- no reservation became current, and the one that is held is kept, unless the step fails
 abbrev pub StepKeeps : CursorState → CursorState → Seen → Seen → Result (Option Row) Ended

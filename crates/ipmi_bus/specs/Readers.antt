@@ -5,7 +5,6 @@ use Rattle.ipmi_bus.specs.declared.controller.Shelf.TheVariants.{Sdr, Sel}
 use Rattle.ipmi_bus.specs.declared.step.Ended.{Ended}
 use Rattle.ipmi_bus.specs.declared.step.Ended.TheVariants.{Cycle, Missing, Refused, GaveUp, Stalled, Malformed}
 use Rattle.ipmi_bus.specs.declared.inventory.FruEnded.{FruEnded}
-use Rattle.ipmi_bus.specs.declared.inventory.FruEnded.TheVariants as fru
 use Rattle.ipmi_bus.specs.Store.{Store, inventory_of}
 use Rattle.ipmi_bus.specs.Seen.{Seen, StaysHonest, current}
 use Rattle.ipmi_bus.specs.Bounds.{fru_call_bound}
@@ -54,11 +53,11 @@ IsRefusedInventory false id tries code s s' = IsRefusedWith tries code s s'
 -- what the reading gives while no store is added: the inventory's bytes, or why there are none; memory can fail only where there is such an inventory
 abbrev pub InventoryIs : ℕ → ℕ → Seen → Seen → Result (List ℕ) FruEnded → Type 0
 InventoryIs id tries s s' (Ok bytes) = WithinTries tries s s' × (inventory_of id s.store ≡ Some bytes)
-InventoryIs id tries s s' (Err fru.Memory) = WithinTries tries s s' × IsSome (inventory_of id s.store)
-InventoryIs id tries s s' (Err (fru.Refused code)) = IsRefusedInventory (code.0 == 0xCB) id tries code.0 s s'
-InventoryIs id tries s s' (Err fru.GaveUp) = GivesUp tries s s'
-InventoryIs id tries s s' (Err fru.Stalled) = ⊥
-InventoryIs id tries s s' (Err fru.Words) = ⊥
+InventoryIs id tries s s' (Err FruEnded.Memory) = WithinTries tries s s' × IsSome (inventory_of id s.store)
+InventoryIs id tries s s' (Err (FruEnded.Refused code)) = IsRefusedInventory (code.0 == 0xCB) id tries code.0 s s'
+InventoryIs id tries s s' (Err FruEnded.GaveUp) = GivesUp tries s s'
+InventoryIs id tries s s' (Err FruEnded.Stalled) = ⊥
+InventoryIs id tries s s' (Err FruEnded.Words) = ⊥
 
 -- CBh is no refusal that is counted, and comes only where the store has no such inventory when the call returns
 abbrev pub IsRefusedOverChange : Bool → ℕ → ℕ → ℕ → Seen → Seen → Type 0
@@ -69,20 +68,20 @@ IsRefusedOverChange false id tries code s s' = IsRefusedWith tries code s s'
 -- when the call returns
 abbrev pub InventoryCounts : ℕ → ℕ → Seen → Seen → Result (List ℕ) FruEnded → Type 0
 InventoryCounts id tries s s' (Ok bytes) = WithinTries tries s s' × IsSome (inventory_of id s'.store)
-InventoryCounts id tries s s' (Err fru.Memory) = WithinTries tries s s' × IsSome (inventory_of id s'.store)
-InventoryCounts id tries s s' (Err (fru.Refused code)) = IsRefusedOverChange (code.0 == 0xCB) id tries code.0 s s'
-InventoryCounts id tries s s' (Err fru.GaveUp) = GivesUpOverChange tries s s'
-InventoryCounts id tries s s' (Err fru.Stalled) = ⊥
-InventoryCounts id tries s s' (Err fru.Words) = ⊥
+InventoryCounts id tries s s' (Err FruEnded.Memory) = WithinTries tries s s' × IsSome (inventory_of id s'.store)
+InventoryCounts id tries s s' (Err (FruEnded.Refused code)) = IsRefusedOverChange (code.0 == 0xCB) id tries code.0 s s'
+InventoryCounts id tries s s' (Err FruEnded.GaveUp) = GivesUpOverChange tries s s'
+InventoryCounts id tries s s' (Err FruEnded.Stalled) = ⊥
+InventoryCounts id tries s s' (Err FruEnded.Words) = ⊥
 
 -- over a plain controller nothing but an inventory that is not there is refused, and nothing is given up
 abbrev pub PlainMayAnswer : Result (List ℕ) FruEnded → Type 0
 PlainMayAnswer (Ok bytes) = Unit {0}
-PlainMayAnswer (Err fru.Memory) = Unit {0}
-PlainMayAnswer (Err (fru.Refused code)) = code.0 ≡ 0xCB
-PlainMayAnswer (Err fru.GaveUp) = ⊥
-PlainMayAnswer (Err fru.Stalled) = ⊥
-PlainMayAnswer (Err fru.Words) = ⊥
+PlainMayAnswer (Err FruEnded.Memory) = Unit {0}
+PlainMayAnswer (Err (FruEnded.Refused code)) = code.0 ≡ 0xCB
+PlainMayAnswer (Err FruEnded.GaveUp) = ⊥
+PlainMayAnswer (Err FruEnded.Stalled) = ⊥
+PlainMayAnswer (Err FruEnded.Words) = ⊥
 
 -- how many bytes the inventory has, 0 where there is none
 abbrev pub inventory_len : ℕ → Store → ℕ

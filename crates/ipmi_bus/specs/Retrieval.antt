@@ -2,7 +2,6 @@
 use Rattle.std.specs.Prelude.{◌≡◌, ℕ, max, ◌+◌, ◌-◌, ◌*◌, ◌<◌, ◌≤◌, Bool, true, false, IsTrue, MatchResult, nat_lt, if◌then◌else◌, Option, None, Some, IsSome, Result, Ok, Err, List, length, take, slice_index}
 use Rattle.ipmi_bus.specs.declared.code.Code.{Code}
 use Rattle.ipmi_bus.specs.declared.code.CodeClass.{CodeClass}
-use Rattle.ipmi_bus.specs.declared.code.CodeClass.TheVariants as class
 use Rattle.ipmi_bus.specs.declared.controller.Shelf.{Shelf}
 use Rattle.ipmi_bus.specs.declared.controller.Shelf.TheVariants.{Sdr, Sel}
 use Rattle.ipmi_bus.specs.declared.controller.Part.{Part}
@@ -145,11 +144,11 @@ IsRefusedBy code old new result = (result ≡ Err (Refused old.id code)) × (new
 -- a failing call for a reservation, by the class of its code: CBh and a smaller part are refusals
 abbrev pub ReserveFails : CodeClass → Code → Retrieval → Retrieval → Result Outcome Ended
     → Type 0
-ReserveFails class.Cancelled code old new result = CountsTrouble false old new result
-ReserveFails class.Busy code old new result = CountsTrouble false old new result
-ReserveFails class.SmallerPart code old new result = IsRefusedBy code old new result
-ReserveFails class.NotPresent code old new result = IsRefusedBy code old new result
-ReserveFails class.Refusal code old new result = IsRefusedBy code old new result
+ReserveFails CodeClass.Cancelled code old new result = CountsTrouble false old new result
+ReserveFails CodeClass.Busy code old new result = CountsTrouble false old new result
+ReserveFails CodeClass.SmallerPart code old new result = IsRefusedBy code old new result
+ReserveFails CodeClass.NotPresent code old new result = IsRefusedBy code old new result
+ReserveFails CodeClass.Refusal code old new result = IsRefusedBy code old new result
 
 -- what the answer to a call for a reservation leaves
 abbrev pub TakesReservation : Result ℕ Code → Retrieval → Retrieval → Result Outcome Ended
@@ -172,11 +171,11 @@ MakesSmaller asked old new result = MatchResult result
 -- a failing call for a part of so many bytes, by the class of its code
 abbrev pub PartFails : CodeClass → Code → ℕ → Retrieval → Retrieval → Result Outcome Ended
     → Type 0
-PartFails class.Cancelled code asked old new result = CountsTrouble true old new result
-PartFails class.Busy code asked old new result = CountsTrouble false old new result
-PartFails class.SmallerPart code asked old new result = MakesSmaller asked old new result
-PartFails class.NotPresent code asked old new result = (result ≡ Ok Absent) × (new ≡ old)
-PartFails class.Refusal code asked old new result = IsRefusedBy code old new result
+PartFails CodeClass.Cancelled code asked old new result = CountsTrouble true old new result
+PartFails CodeClass.Busy code asked old new result = CountsTrouble false old new result
+PartFails CodeClass.SmallerPart code asked old new result = MakesSmaller asked old new result
+PartFails CodeClass.NotPresent code asked old new result = (result ≡ Ok Absent) × (new ≡ old)
+PartFails CodeClass.Refusal code asked old new result = IsRefusedBy code old new result
 
 -- a request for the bytes after those that are there
 abbrev pub request_of : Retrieval → ℕ → ℕ → Asked

@@ -35,9 +35,8 @@ pub enum FruEnded {
 }
 
 impl From<AllocError> for FruEnded {
-    ghost use Rattle.ipmi_bus.specs.declared.inventory.FruEnded.TheVariants as ended;
 
-    ghost from_gives = { λ _ e. e ≡ ended.Memory };
+    ghost from_gives = { λ _ e. e ≡ FruEnded.Memory };
 
     fn from(_error: AllocError) -> FruEnded {
         FruEnded::Memory

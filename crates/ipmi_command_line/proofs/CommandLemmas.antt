@@ -6,13 +6,12 @@ use Rattle.ipmi_command_line.specs.Command.{CommandState, command_of_matches, co
 use Rattle.ipmi_command_line.specs.Table.{task_of}
 use Rattle.ipmi_command_line.specs.declared.command.Task.{Task}
 use Rattle.ipmi_command_line.specs.declared.command.UsageFault.{UsageFault}
-use Rattle.ipmi_command_line.specs.declared.command.UsageFault.TheVariants as fault
 
 pub meaning_of-taken : (words : List Text) (rows : List Row) → is_taken words ≡ true → rows ≡ rows_of_words words → meaning_of words ≡ command_of_matches rows
 unfolding meaning_of
 meaning_of-taken words rows t r = rw (t, ← r) refl
 
-pub meaning_of-refused : (words : List Text) → is_taken words ≡ false → meaning_of words ≡ Err fault.Line
+pub meaning_of-refused : (words : List Text) → is_taken words ≡ false → meaning_of words ≡ Err UsageFault.Line
 unfolding meaning_of
 meaning_of-refused words h = rw h refl
 
@@ -30,6 +29,6 @@ pub command_of_matches-words : (rows : List Row) (words : List Text) (task : Opt
 command_of_matches-words rows words task w t = ap (command_of_task rows) (ap task_of (sym w) ∙ sym t)
 
 -- `Ok` and `Err` as they are of one meaning, so of the other
-pub of_meaning : (r : Result CommandState UsageFault) (m n : Result CommandState UsageFault) → m ≡ n → MatchResult r (λ c. n ≡ Ok c) (λ e. (e ≡ fault.Memory) ⊎ (n ≡ Err e))
-    → MatchResult r (λ c. m ≡ Ok c) (λ e. (e ≡ fault.Memory) ⊎ (m ≡ Err e))
+pub of_meaning : (r : Result CommandState UsageFault) (m n : Result CommandState UsageFault) → m ≡ n → MatchResult r (λ c. n ≡ Ok c) (λ e. (e ≡ UsageFault.Memory) ⊎ (n ≡ Err e))
+    → MatchResult r (λ c. m ≡ Ok c) (λ e. (e ≡ UsageFault.Memory) ⊎ (m ≡ Err e))
 of_meaning r m n p h = rw p h

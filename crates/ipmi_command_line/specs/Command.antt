@@ -2,11 +2,8 @@
 use Rattle.std.specs.Prelude.{◌≤◌, ℕ, Bool, ◌&&◌, not, List, Option, Some, None, option_map, is_some, Result, Ok, Err, ⊤, codes, IfSome, OnSome, IsTrue, if◌then◌else◌}
 use Rattle.clap.specs.Words.{Row, first_of}
 use Rattle.ipmi_command_line.specs.declared.command.Count.{Count}
-use Rattle.ipmi_command_line.specs.declared.command.Count.TheVariants as count
 use Rattle.ipmi_command_line.specs.declared.command.Task.{Task}
-use Rattle.ipmi_command_line.specs.declared.command.Task.TheVariants as task
 use Rattle.ipmi_command_line.specs.declared.command.UsageFault.{UsageFault}
-use Rattle.ipmi_command_line.specs.declared.command.UsageFault.TheVariants as fault
 use Rattle.ipmi_command_line.specs.Arguments.{free_words, is_taken, rows_of_words}
 use Rattle.ipmi_command_line.specs.Number.{decimal_of, four_hex_of, within}
 use Rattle.ipmi_command_line.specs.Table.{task_of}
@@ -23,20 +20,20 @@ pub record CommandState : Type 0 where
 -- ---- the ranges
 
 abbrev pub IsCount : Count → Type 0
-IsCount count.All = ⊤
-IsCount (count.First n) = 1 ≤ n
-IsCount (count.Last n) = 1 ≤ n
+IsCount Count.All = ⊤
+IsCount (Count.First n) = 1 ≤ n
+IsCount (Count.Last n) = 1 ≤ n
 
 abbrev pub IsTask : Task → Type 0
-IsTask (task.Fru id) = IfSome id (λ n. n ≤ 254)
-IsTask task.Hex = ⊤
-IsTask (task.List kind) = ⊤
-IsTask (task.Elist kind) = ⊤
-IsTask (task.Get name) = ⊤
-IsTask (task.Info shelf) = ⊤
-IsTask (task.SelList entries) = IsCount entries
-IsTask (task.SelGet id) = (1 ≤ id) × (id ≤ 65534)
-IsTask task.Rewrite = ⊤
+IsTask (Task.Fru id) = IfSome id (λ n. n ≤ 254)
+IsTask Task.Hex = ⊤
+IsTask (Task.List kind) = ⊤
+IsTask (Task.Elist kind) = ⊤
+IsTask (Task.Get name) = ⊤
+IsTask (Task.Info shelf) = ⊤
+IsTask (Task.SelList entries) = IsCount entries
+IsTask (Task.SelGet id) = (1 ≤ id) × (id ≤ 65534)
+IsTask Task.Rewrite = ⊤
 
 pub record IsCommand (task : Task) (from : Option ℕ) (part : ℕ) : Type 0 where
   pub in_range : IsTask task
@@ -70,17 +67,17 @@ is_stray task from = is_some from && not (takes_from task)
 
 -- a task with its options, `--from` before `--part` before `--tries`
 abbrev pub with_options : Option (List ℕ) → Task → Option (Option ℕ) → Option ℕ → Option ℕ → Result CommandState UsageFault
-with_options image task None part tries = Err fault.Option
-with_options image task (Some from) None tries = Err fault.Option
-with_options image task (Some from) (Some part) None = Err fault.Option
+with_options image task None part tries = Err UsageFault.Option
+with_options image task (Some from) None tries = Err UsageFault.Option
+with_options image task (Some from) (Some part) None = Err UsageFault.Option
 with_options image task (Some from) (Some part) (Some tries) =
-    if is_stray task from then Err fault.Option
+    if is_stray task from then Err UsageFault.Option
     else Ok (record { task = task; from = from; part = part; tries = tries; image = image })
 
 -- ---- the command
 
 abbrev pub command_of_task : List Row → Option Task → Result CommandState UsageFault
-command_of_task rows None = Err fault.Command
+command_of_task rows None = Err UsageFault.Command
 command_of_task rows (Some task) = with_options (first_of (codes "image") rows) task
     (start_of_text (first_of (codes "from") rows)) (part_of (first_of (codes "part") rows)) (tries_of (first_of (codes "tries") rows))
 
@@ -90,4 +87,4 @@ command_of_matches rows = command_of_task rows (task_of (free_words rows))
 
 -- what the words mean, the first of which is the program's name
 unfoldable pub meaning_of : List (List ℕ) → Result CommandState UsageFault
-meaning_of words = if is_taken words then command_of_matches (rows_of_words words) else Err fault.Line
+meaning_of words = if is_taken words then command_of_matches (rows_of_words words) else Err UsageFault.Line

@@ -1,13 +1,10 @@
 -- The table of commands: the task that the words of a command line name. There is a function for each number of words,
 -- and in it a line for each command.
 use Rattle.std.specs.Prelude.{ℕ, Bool, ◌&&◌, List, [], ◌∷◌, zero, suc, Option, Some, None, option_map, codes, if◌then◌else◌, bytes_eq}
-use Rattle.ipmi_bus.specs.declared.controller.Shelf.TheVariants as shelf
+use Rattle.ipmi_bus.specs.declared.controller.Shelf.{Shelf}
 use Rattle.ipmi_command_line.specs.declared.command.Count.{Count}
-use Rattle.ipmi_command_line.specs.declared.command.Count.TheVariants as count
 use Rattle.ipmi_command_line.specs.declared.command.Kind.{Kind}
-use Rattle.ipmi_command_line.specs.declared.command.Kind.TheVariants as kind
 use Rattle.ipmi_command_line.specs.declared.command.Task.{Task}
-use Rattle.ipmi_command_line.specs.declared.command.Task.TheVariants as task
 use Rattle.ipmi_command_line.specs.Number.{number_of, within}
 
 -- the first words of a line are these two
@@ -19,62 +16,62 @@ are a b first second = bytes_eq a first && bytes_eq b second
 -- a kind of sensor data record
 abbrev pub kind_of : List ℕ → Option Kind
 kind_of word =
-    if bytes_eq word (codes "all") then Some kind.All
-    else (if bytes_eq word (codes "full") then Some kind.Full
-    else (if bytes_eq word (codes "compact") then Some kind.Compact
-    else (if bytes_eq word (codes "event") then Some kind.Event
-    else (if bytes_eq word (codes "generic") then Some kind.Generic
-    else (if bytes_eq word (codes "mclocator") then Some kind.Mc
-    else (if bytes_eq word (codes "fru") then Some kind.Fru
+    if bytes_eq word (codes "all") then Some Kind.All
+    else (if bytes_eq word (codes "full") then Some Kind.Full
+    else (if bytes_eq word (codes "compact") then Some Kind.Compact
+    else (if bytes_eq word (codes "event") then Some Kind.Event
+    else (if bytes_eq word (codes "generic") then Some Kind.Generic
+    else (if bytes_eq word (codes "mclocator") then Some Kind.Mc
+    else (if bytes_eq word (codes "fru") then Some Kind.Fru
     else None))))))
 
 -- the oldest entries of the event log, so many; 0 stands for all of them
 abbrev pub oldest : ℕ → Count
-oldest zero = count.All
-oldest (suc n) = count.First (suc n)
+oldest zero = Count.All
+oldest (suc n) = Count.First (suc n)
 
 -- the newest ones
 abbrev pub newest : ℕ → Count
-newest zero = count.All
-newest (suc n) = count.Last (suc n)
+newest zero = Count.All
+newest (suc n) = Count.Last (suc n)
 
 abbrev pub inventory_of : List ℕ → Option Task
-inventory_of word = option_map (λ id. task.Fru (Some id)) (within 0 254 (number_of word))
+inventory_of word = option_map (λ id. Task.Fru (Some id)) (within 0 254 (number_of word))
 
 abbrev pub list_of : List ℕ → Option Task
-list_of word = option_map (λ kind. task.List kind) (kind_of word)
+list_of word = option_map (λ kind. Task.List kind) (kind_of word)
 
 abbrev pub elist_of : List ℕ → Option Task
-elist_of word = option_map (λ kind. task.Elist kind) (kind_of word)
+elist_of word = option_map (λ kind. Task.Elist kind) (kind_of word)
 
 abbrev pub oldest_of : List ℕ → Option Task
-oldest_of word = option_map (λ n. task.SelList (oldest n)) (within 0 65535 (number_of word))
+oldest_of word = option_map (λ n. Task.SelList (oldest n)) (within 0 65535 (number_of word))
 
 abbrev pub newest_of : List ℕ → Option Task
-newest_of word = option_map (λ n. task.SelList (newest n)) (within 0 65535 (number_of word))
+newest_of word = option_map (λ n. Task.SelList (newest n)) (within 0 65535 (number_of word))
 
 abbrev pub entry_of : List ℕ → Option Task
-entry_of word = option_map (λ id. task.SelGet id) (within 1 65534 (number_of word))
+entry_of word = option_map (λ id. Task.SelGet id) (within 1 65534 (number_of word))
 
 -- ---- the rows
 
 abbrev pub task_of_one : List ℕ → Option Task
 task_of_one a =
-    if bytes_eq a (codes "fru") then Some (task.Fru None)
-    else (if bytes_eq a (codes "sdr") then Some (task.List kind.Sensors)
-    else (if bytes_eq a (codes "sel") then Some (task.Info shelf.Sel)
+    if bytes_eq a (codes "fru") then Some (Task.Fru None)
+    else (if bytes_eq a (codes "sdr") then Some (Task.List Kind.Sensors)
+    else (if bytes_eq a (codes "sel") then Some (Task.Info Shelf.Sel)
     else None))
 
 abbrev pub task_of_two : List ℕ → List ℕ → Option Task
 task_of_two a b =
-    if are a b (codes "fru") (codes "print") then Some (task.Fru None)
-    else (if are a b (codes "sdr") (codes "list") then Some (task.List kind.Sensors)
-    else (if are a b (codes "sdr") (codes "elist") then Some (task.Elist kind.Sensors)
-    else (if are a b (codes "sdr") (codes "hex") then Some task.Hex
-    else (if are a b (codes "sdr") (codes "info") then Some (task.Info shelf.Sdr)
-    else (if are a b (codes "sel") (codes "info") then Some (task.Info shelf.Sel)
-    else (if are a b (codes "sel") (codes "list") then Some (task.SelList count.All)
-    else (if are a b (codes "image") (codes "rewrite") then Some task.Rewrite
+    if are a b (codes "fru") (codes "print") then Some (Task.Fru None)
+    else (if are a b (codes "sdr") (codes "list") then Some (Task.List Kind.Sensors)
+    else (if are a b (codes "sdr") (codes "elist") then Some (Task.Elist Kind.Sensors)
+    else (if are a b (codes "sdr") (codes "hex") then Some Task.Hex
+    else (if are a b (codes "sdr") (codes "info") then Some (Task.Info Shelf.Sdr)
+    else (if are a b (codes "sel") (codes "info") then Some (Task.Info Shelf.Sel)
+    else (if are a b (codes "sel") (codes "list") then Some (Task.SelList Count.All)
+    else (if are a b (codes "image") (codes "rewrite") then Some Task.Rewrite
     else None)))))))
 
 abbrev pub task_of_three : List ℕ → List ℕ → List ℕ → Option Task
@@ -82,7 +79,7 @@ task_of_three a b c =
     if are a b (codes "fru") (codes "print") then inventory_of c
     else (if are a b (codes "sdr") (codes "list") then list_of c
     else (if are a b (codes "sdr") (codes "elist") then elist_of c
-    else (if are a b (codes "sdr") (codes "get") then Some (task.Get c)
+    else (if are a b (codes "sdr") (codes "get") then Some (Task.Get c)
     else (if are a b (codes "sel") (codes "list") then oldest_of c
     else (if are a b (codes "sel") (codes "get") then entry_of c
     else None)))))
@@ -95,7 +92,7 @@ task_of_four a b c d =
 
 -- no words are `sdr hex`, and more than four are nothing
 abbrev pub task_of : List (List ℕ) → Option Task
-task_of [] = Some task.Hex
+task_of [] = Some Task.Hex
 task_of (a ∷ []) = task_of_one a
 task_of (a ∷ b ∷ []) = task_of_two a b
 task_of (a ∷ b ∷ c ∷ []) = task_of_three a b c

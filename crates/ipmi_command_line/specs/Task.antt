@@ -6,9 +6,7 @@ use Rattle.ipmi_bus.specs.declared.step.Place.{Place}
 use Rattle.ipmi_bus.specs.declared.step.Place.TheVariants.{Id}
 use Rattle.ipmi_bus.specs.CursorState.{start_of}
 use Rattle.ipmi_command_line.specs.declared.command.Count.{Count}
-use Rattle.ipmi_command_line.specs.declared.command.Count.TheVariants as count
 use Rattle.ipmi_command_line.specs.declared.command.Task.{Task}
-use Rattle.ipmi_command_line.specs.declared.command.Task.TheVariants as task
 
 -- the shelf whose records a task is about, the id that it begins at by itself, how many of them it asks for, whether it takes an
 -- id to start from, and whether it lists all of them, so that it can be done in pages
@@ -24,20 +22,20 @@ scope shelf own_start count takes_from is_listing =
     record { shelf = shelf; own_start = own_start; count = count; takes_from = takes_from; is_listing = is_listing }
 
 abbrev pub is_all : Count → Bool
-is_all count.All = true
+is_all Count.All = true
 is_all _ = false
 
 -- the table
 abbrev pub scope_of : Task → Scope
-scope_of task.Hex = scope Sdr None count.All true true
-scope_of (task.List kind) = scope Sdr None count.All true true
-scope_of (task.Elist kind) = scope Sdr None count.All true true
-scope_of (task.Get name) = scope Sdr None count.All true false
-scope_of (task.SelList entries) = scope Sel None entries true (is_all entries)
-scope_of (task.SelGet id) = scope Sel (Some id) (count.First 1) false false
-scope_of (task.Info shelf) = scope shelf None count.All false false
-scope_of (task.Fru id) = scope Sdr None count.All false false
-scope_of task.Rewrite = scope Sdr None count.All false false
+scope_of Task.Hex = scope Sdr None Count.All true true
+scope_of (Task.List kind) = scope Sdr None Count.All true true
+scope_of (Task.Elist kind) = scope Sdr None Count.All true true
+scope_of (Task.Get name) = scope Sdr None Count.All true false
+scope_of (Task.SelList entries) = scope Sel None entries true (is_all entries)
+scope_of (Task.SelGet id) = scope Sel (Some id) (Count.First 1) false false
+scope_of (Task.Info shelf) = scope shelf None Count.All false false
+scope_of (Task.Fru id) = scope Sdr None Count.All false false
+scope_of Task.Rewrite = scope Sdr None Count.All false false
 
 -- ---- its columns
 
@@ -63,12 +61,12 @@ start_by t from = start_at_own (scope_of t).own_start from
 
 -- the name that is asked for; none of a task that asks for no name
 abbrev pub name_of : Task → List ℕ
-name_of (task.Get name) = name
+name_of (Task.Get name) = name
 name_of _ = []
 
 -- after how many records a listing stops; that of the last ones has no such limit
 abbrev pub limit_of : Count → Option ℕ
-limit_of (count.First n) = Some n
+limit_of (Count.First n) = Some n
 limit_of _ = None
 
 abbrev pub most_of : Task → Option ℕ

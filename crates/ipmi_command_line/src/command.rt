@@ -3,7 +3,6 @@ ghost use Rattle.std.specs.Prelude.{◌≡◌, ◌≤◌, ◌<◌, ◌⊎◌, Er
 ghost use Rattle.clap.specs.Words.{found_of, rows_of};
 ghost use Rattle.ipmi_command_line.specs.Command.{IsCommand, IsTask, command_of_matches, command_of_task, is_stray, meaning_of, number_or, start_of_text};
 ghost use Rattle.ipmi_command_line.specs.Task.{count_of, is_listing, limit_of, name_of, shelf_of, start_by, takes_from};
-ghost use Rattle.ipmi_command_line.specs.declared.command.UsageFault.TheVariants as fault;
 
 use crate::arguments::{arguments, value};
 use crate::number::{decimal, four_hex};
@@ -207,7 +206,7 @@ pub enum UsageFault {
 }
 
 impl From<AllocError> for UsageFault {
-    ghost from_gives = { λ _ e. e ≡ fault.Memory };
+    ghost from_gives = { λ _ e. e ≡ UsageFault.Memory };
 
     fn from(_error: AllocError) -> UsageFault {
         UsageFault::Memory

@@ -4,7 +4,6 @@ use Rattle.ipmi_text.specs.declared.reading.Reading.{Reading}
 use Rattle.ipmi_bus.specs.declared.step.Ended.{Ended}
 use Rattle.ipmi_bus.specs.declared.step.Ended.TheVariants.{Refused, GaveUp}
 use Rattle.ipmi_bus.specs.declared.inventory.FruEnded.{FruEnded}
-use Rattle.ipmi_bus.specs.declared.inventory.FruEnded.TheVariants as fru
 use Rattle.ipmi_bus.specs.declared.controller.Shelf.{Shelf}
 use Rattle.ipmi_bus.specs.Readers.{EndsUnder, ReadsValue, ValueIs, ReadsInventory, InventoryCounts, InventoryIs, IsRefusedInventory, IsRefusedOverChange}
 use Rattle.ipmi_fru.specs.Print.{IsFruText}
@@ -15,7 +14,6 @@ use Rattle.ipmi_records.specs.declared.sdr.SdrView.{SdrView}
 use Rattle.ipmi_records.specs.Sdr as sdr
 use Rattle.ipmi_command_line.specs.declared.command.Kind.{Kind}
 use Rattle.ipmi_commands.specs.declared.stop.Stop.{Stop}
-use Rattle.ipmi_commands.specs.declared.stop.Stop.TheVariants as stop
 use Rattle.ipmi_commands.specs.Asking.{is_absent, EndsAmong, ReadsFor}
 use Rattle.ipmi_commands.specs.Listing.{AsksAt, FindsBy, FindsNone, FindsText, FindsInfo, MayStopAt}
 use Rattle.ipmi_commands.specs.Pieces.{IsDevicePiece, IsInventoryText, is_name, reading_for, row_is_of_kind}
@@ -30,14 +28,14 @@ passed_up bytes IsText spots tries s s' (Err e) st is none = subst (λ (x : Stop
 
 -- ---- no memory is left
 
-no_memory : (spots : List Spot) (tries : ℕ) (s s' : Seen) → AsksAt spots tries s s' → s'.refusals ≡ s.refusals → FindsNone spots tries s s' stop.Memory
+no_memory : (spots : List Spot) (tries : ℕ) (s s' : Seen) → AsksAt spots tries s s' → s'.refusals ≡ s.refusals → FindsNone spots tries s s' Stop.Memory
 no_memory spots tries s s' asks refusals = record { asks = asks; outcome = plan.OutOfMemory; outcome_is = refl; counts = refusals; there = tt; plain = λ p. tt }
 
 -- nothing was asked for
 asks_nothing : (spots : List Spot) (tries : ℕ) (s : Seen) → IsHonest s → AsksAt spots tries s s
 asks_nothing spots tries s honest = record { stays = stays_refl s honest; grows = omega arith; calls = λ same. omega arith; plain = λ p. record { sdr = refl; sel = refl } }
 
-pub out_of_memory : (spots : List Spot) (tries : ℕ) (s : Seen) → IsHonest s → FindsNone spots tries s s stop.Memory
+pub out_of_memory : (spots : List Spot) (tries : ℕ) (s : Seen) → IsHonest s → FindsNone spots tries s s Stop.Memory
 out_of_memory spots tries s honest = no_memory spots tries s s (asks_nothing spots tries s honest) refl
 
 -- ---- the reading of a record
@@ -50,7 +48,7 @@ value_grows value tries s s' (Err _) is = absurd is
 
 -- it is given up or refused at one of the spots
 fails_at_value : {V : Type 0} (value : Store → Option V) (spots : List Spot) (tries : ℕ) (s s' : Seen) (ended : Ended) → AsksAt spots tries s s' → ReadsValue value tries s s' (Err ended)
-    → EndsAmong {V = Option V} spots (Err ended) → FindsNone spots tries s s' (stop.Ended ended)
+    → EndsAmong {V = Option V} spots (Err ended) → FindsNone spots tries s s' (Stop.Ended ended)
 fails_at_value value spots tries s s' (GaveUp n) asks r there =
     let troubles = r.is.troubles in
     let fresh = r.is.fresh_troubles in
@@ -81,10 +79,10 @@ module _ (id tries : ℕ) (view : SdrView) (s s' : Seen) where
     plain = λ p. (r.reads.plain p).1;
   }
 
-  pub out_after_reading : (reading : Option Reading) → ReadsFor id view tries s s' (Ok reading) → FindsNone (reading_spots id (Ok view)) tries s s' stop.Memory
+  pub out_after_reading : (reading : Option Reading) → ReadsFor id view tries s s' (Ok reading) → FindsNone (reading_spots id (Ok view)) tries s s' Stop.Memory
   out_after_reading reading r = no_memory _ tries s s' (asks_reading (Ok reading) r) r.reads.is.0.refusals
 
-  pub fails_at_reading : (ended : Ended) → ReadsFor id view tries s s' (Err ended) → FindsNone (reading_spots id (Ok view)) tries s s' (stop.Ended ended)
+  pub fails_at_reading : (ended : Ended) → ReadsFor id view tries s s' (Err ended) → FindsNone (reading_spots id (Ok view)) tries s s' (Stop.Ended ended)
   fails_at_reading ended r = fails_at_value (λ store. reading_for store view) _ tries s s' ended (asks_reading (Err ended) r) r.reads r.there
 
 -- ---- the info of a shelf
@@ -92,7 +90,7 @@ module _ (id tries : ℕ) (view : SdrView) (s s' : Seen) where
 module _ (shelf : Shelf) (tries : ℕ) (s s' : Seen) where
   -- no text was found, but not for want of an info
   none_of_info : (st : Stop) → FindsNone (AtRecord 0 ∷ []) tries s s' st → FindsInfo shelf tries s s' (Err st)
-  none_of_info stop.NoInfo none = absurd (subst (MayStopAt (AtRecord 0 ∷ [])) none.outcome_is none.there)
+  none_of_info Stop.NoInfo none = absurd (subst (MayStopAt (AtRecord 0 ∷ [])) none.outcome_is none.there)
   none_of_info _ none = none
 
   pub info_passed_up : (result : Result (String Global) Stop) (st : Stop) → IsErrAnd result (λ e. e ≡ st) → FindsNone (AtRecord 0 ∷ []) tries s s' st → FindsInfo shelf tries s s' result
@@ -108,7 +106,7 @@ module _ (shelf : Shelf) (tries : ℕ) (s s' : Seen) where
       plain = λ p. (r.plain p).1;
     }
 
-    pub out_after_info : (info : Option (List ℕ)) → ReadsValue (info_of shelf) tries s s' (Ok info) → FindsNone (AtRecord 0 ∷ []) tries s s' stop.Memory
+    pub out_after_info : (info : Option (List ℕ)) → ReadsValue (info_of shelf) tries s s' (Ok info) → FindsNone (AtRecord 0 ∷ []) tries s s' Stop.Memory
     out_after_info info r = no_memory _ tries s s' (asks_info (Ok info) r) r.is.0.refusals
 
     -- its spot is that of the record 0000h
@@ -117,7 +115,7 @@ module _ (shelf : Shelf) (tries : ℕ) (s s' : Seen) where
     at_info (Refused n code) under = inl (ap AtRecord under)
     at_info _ under = absurd under
 
-    pub fails_at_info : (ended : Ended) → ReadsValue (info_of shelf) tries s s' (Err ended) → EndsUnder {V = Option (List ℕ)} 0 (Err ended) → FindsNone (AtRecord 0 ∷ []) tries s s' (stop.Ended ended)
+    pub fails_at_info : (ended : Ended) → ReadsValue (info_of shelf) tries s s' (Err ended) → EndsUnder {V = Option (List ℕ)} 0 (Err ended) → FindsNone (AtRecord 0 ∷ []) tries s s' (Stop.Ended ended)
     fails_at_info ended r under = fails_at_value (info_of shelf) _ tries s s' ended (asks_info (Err ended) r) r (at_info ended under)
 
 -- ---- an inventory
@@ -129,9 +127,9 @@ module _ (id tries : ℕ) (s s' : Seen) where
 
   inventory_grows : (result : Result (List ℕ) FruEnded) → InventoryCounts id tries s s' result → s.troubles ≤ s'.troubles
   inventory_grows (Ok bytes) counts = counts.0.grows
-  inventory_grows (Err fru.Memory) counts = counts.0.grows
-  inventory_grows (Err (fru.Refused code)) counts = refused_grows (code.0 == 0xCB) code.0 counts
-  inventory_grows (Err fru.GaveUp) counts = omega (arith, counts.troubles)
+  inventory_grows (Err FruEnded.Memory) counts = counts.0.grows
+  inventory_grows (Err (FruEnded.Refused code)) counts = refused_grows (code.0 == 0xCB) code.0 counts
+  inventory_grows (Err FruEnded.GaveUp) counts = omega (arith, counts.troubles)
   inventory_grows (Err _) counts = absurd counts
 
   asks_inventory : (result : Result (List ℕ) FruEnded) → ReadsInventory id tries s s' result → AsksAt (AtInventory id ∷ []) tries s s'
@@ -150,16 +148,16 @@ module _ (id tries : ℕ) (s s' : Seen) where
     is = λ same. subst (λ (o : Option (List ℕ)). IsInventoryText o text) (sym (r.is same).1) is;
   }
 
-  pub out_after_bytes : (bytes : List ℕ) → ReadsInventory id tries s s' (Ok bytes) → FindsNone (AtInventory id ∷ []) tries s s' stop.Memory
+  pub out_after_bytes : (bytes : List ℕ) → ReadsInventory id tries s s' (Ok bytes) → FindsNone (AtInventory id ∷ []) tries s s' Stop.Memory
   out_after_bytes bytes r = no_memory _ tries s s' (asks_inventory (Ok bytes) r) r.counts.0.refusals
 
   -- there is none
   absent_counts : (ended : FruEnded) → is_absent ended ≡ true → InventoryCounts id tries s s' (Err ended) → s'.refusals ≡ s.refusals
-  absent_counts (fru.Refused code) absent counts = (subst (λ (b : Bool). IsRefusedOverChange b id tries code.0 s s') absent counts).0.refusals
+  absent_counts (FruEnded.Refused code) absent counts = (subst (λ (b : Bool). IsRefusedOverChange b id tries code.0 s s') absent counts).0.refusals
   absent_counts _ absent counts = cc absent
 
   absent_is : (ended : FruEnded) → is_absent ended ≡ true → InventoryIs id tries s s' (Err ended) → inventory_of id s.store ≡ None
-  absent_is (fru.Refused code) absent is = (subst (λ (b : Bool). IsRefusedInventory b id tries code.0 s s') absent is).1
+  absent_is (FruEnded.Refused code) absent is = (subst (λ (b : Bool). IsRefusedInventory b id tries code.0 s s') absent is).1
   absent_is _ absent is = cc absent
 
   pub inventory_absent : (ended : FruEnded) (text : List ℕ) → is_absent ended ≡ true → ReadsInventory id tries s s' (Err ended) → text ≡ codes "not present\n" → FindsText (λ (store : Store) (t : List ℕ). IsInventoryText (inventory_of id store) t) (AtInventory id ∷ []) tries s s' text
@@ -169,26 +167,26 @@ module _ (id tries : ℕ) (s s' : Seen) where
     is = λ same. subst (λ (o : Option (List ℕ)). IsInventoryText o text) (sym (absent_is ended absent (r.is same))) is;
   }
 
-  pub out_after_absence : (ended : FruEnded) → is_absent ended ≡ true → ReadsInventory id tries s s' (Err ended) → FindsNone (AtInventory id ∷ []) tries s s' stop.Memory
+  pub out_after_absence : (ended : FruEnded) → is_absent ended ≡ true → ReadsInventory id tries s s' (Err ended) → FindsNone (AtInventory id ∷ []) tries s s' Stop.Memory
   out_after_absence ended absent r = no_memory _ tries s s' (asks_inventory (Err ended) r) (absent_counts ended absent r.counts)
 
   -- or it was not read
-  pub fails_at_inventory : (ended : FruEnded) → is_absent ended ≡ false → ReadsInventory id tries s s' (Err ended) → FindsNone (AtInventory id ∷ []) tries s s' (stop.Inventory id ended)
-  fails_at_inventory fru.Memory present r = record { asks = asks_inventory (Err fru.Memory) r; outcome = plan.OutOfMemory; outcome_is = refl; counts = r.counts.0.refusals; there = tt; plain = λ p. tt }
-  fails_at_inventory (fru.Refused code) present r =
+  pub fails_at_inventory : (ended : FruEnded) → is_absent ended ≡ false → ReadsInventory id tries s s' (Err ended) → FindsNone (AtInventory id ∷ []) tries s s' (Stop.Inventory id ended)
+  fails_at_inventory FruEnded.Memory present r = record { asks = asks_inventory (Err FruEnded.Memory) r; outcome = plan.OutOfMemory; outcome_is = refl; counts = r.counts.0.refusals; there = tt; plain = λ p. tt }
+  fails_at_inventory (FruEnded.Refused code) present r =
       let counts = subst (λ (b : Bool). IsRefusedOverChange b id tries code.0 s s') present r.counts in
       record {
-        asks = asks_inventory (Err (fru.Refused code)) r;
+        asks = asks_inventory (Err (FruEnded.Refused code)) r;
         outcome = plan.Refused (AtInventory id) code.0;
         outcome_is = refl;
         counts = (counts.refusals, counts.last_code);
         there = inl refl;
         plain = λ p. let h = sym (ap (λ (n : ℕ). n == 0xCB) (r.plain p).0) ∙ present in cc h;
       }
-  fails_at_inventory fru.GaveUp present r =
+  fails_at_inventory FruEnded.GaveUp present r =
       let troubles = r.counts.troubles in
       record {
-        asks = asks_inventory (Err fru.GaveUp) r;
+        asks = asks_inventory (Err FruEnded.GaveUp) r;
         outcome = plan.GaveUp (AtInventory id);
         outcome_is = refl;
         counts = (r.counts.refusals, omega (arith, troubles), (r.counts.some_fresh, λ same. omega (arith, (r.is same).fresh_troubles)));
@@ -198,7 +196,7 @@ module _ (id tries : ℕ) (s s' : Seen) where
   fails_at_inventory _ present r = absurd r.counts
 
 -- a text was found, and no memory is left for what is made of it
-pub out_after_text : (IsText : Store → List ℕ → Type 0) (spots : List Spot) (tries : ℕ) (s s' : Seen) (text : List ℕ) → FindsText IsText spots tries s s' text → FindsNone spots tries s s' stop.Memory
+pub out_after_text : (IsText : Store → List ℕ → Type 0) (spots : List Spot) (tries : ℕ) (s s' : Seen) (text : List ℕ) → FindsText IsText spots tries s s' text → FindsNone spots tries s s' Stop.Memory
 out_after_text IsText spots tries s s' text finds = no_memory spots tries s s' finds.asks finds.refusals
 
 -- ---- a locator

@@ -9,14 +9,12 @@ use Rattle.ipmi_bus.specs.Standing.{StandsAt}
 use Rattle.ipmi_bus.specs.Step.{asked_at}
 use Rattle.ipmi_bus.specs.Store.{Store, rows_of}
 use Rattle.ipmi_bus.specs.Walk.{IsWalk, EndsBy, WalkEnd, Done, place_after, place_after_rows}
-use Rattle.ipmi_command_line.specs.declared.command.Count.TheVariants as count
+use Rattle.ipmi_command_line.specs.declared.command.Count.{Count}
 use Rattle.ipmi_command_line.specs.declared.command.Task.{Task}
-use Rattle.ipmi_command_line.specs.declared.command.Task.TheVariants as task
 use Rattle.ipmi_command_line.specs.Task.{shelf_of}
 use Rattle.ipmi_commands.specs.declared.listing.Listed.{Listed}
 use Rattle.ipmi_commands.specs.declared.listing.Span.{Span}
 use Rattle.ipmi_commands.specs.declared.stop.Stop.{Stop}
-use Rattle.ipmi_commands.specs.declared.stop.Stop.TheVariants as stop
 use Rattle.ipmi_commands.specs.Last.{ListsSpan, SpanAlong}
 use Rattle.ipmi_commands.specs.Listing.{course, item_in, span_items, span_plan, IsListing, IsOutcome, walk_call_bound, run_call_bound, second_walk_bound}
 use Rattle.ipmi_commands.specs.Plan.{Request, request, Change, change, OnWalk, Plan, Item, Passed, Spot, AtRecord, RunEnd, WalkEnds, row_items, run_end, spots_along, spots_of_walk, end_spots, spots_at, last_items, last_plan, with_first_spots, end_spots_of_last, IsItemText, AreTexts, Printed, Outcome, IsAllowed, IsAmong, StopsAt, CountsSo}
@@ -47,7 +45,7 @@ span_by_cursor r span begun now s s' old new result none part stands listing = r
 }
 
 -- for whose cursor no memory was left
-pub span_without_memory : (r : Request) (span : Span) (s : Seen) (text : List ℕ) → IsHonest s → ListsSpan r span (change s s text text) (record { stop = stop.Memory; count = 0 })
+pub span_without_memory : (r : Request) (span : Span) (s : Seen) (text : List ℕ) → IsHonest s → ListsSpan r span (change s s text text) (record { stop = Stop.Memory; count = 0 })
 span_without_memory r span s text honest = record {
   outcome = plan.OutOfMemory;
   outcome_is = refl;
@@ -187,7 +185,7 @@ module _ (t : Task) (store : Store) (spots at_end : List Spot) (e : RunEnd) (sho
 
 module _ (n : ℕ) (store : Store) where
   abbrev t : Task
-  t = task.SelList (count.Last n)
+  t = Task.SelList (Count.Last n)
 
   -- the rows before the last ones are passed, at ids of the walk
   first_passed : (k : ℕ) (start : Place) (rows : List Row) (ends : List Spot) → AllPassed (IsAmong (spots_along start rows ++ ends)) (span_items None t start (take k rows))
@@ -311,7 +309,7 @@ second_walk_bound-drop bound (suc k) (row ∷ walk) within = second_walk_bound-d
 
 module _ (n : ℕ) (start : Place) (tries : ℕ) where
   abbrev of_last : Request
-  of_last = request (task.SelList (count.Last n)) start tries
+  of_last = request (Task.SelList (Count.Last n)) start tries
 
   abbrev all_counted : Span
   all_counted = record { skip = None; most = None }
@@ -328,7 +326,7 @@ module _ (n : ℕ) (start : Place) (tries : ℕ) where
     calls = λ same walk end w ends. omega (arith, (lists.along same walk end w ends).calls);
   }
 
-  module _ (s s' : Seen) (old mid : List ℕ) (counted : Listed) (lists : ListsSpan of_last all_counted (change s s' old mid) counted) (done : counted.stop ≡ stop.Done) where
+  module _ (s s' : Seen) (old mid : List ℕ) (counted : Listed) (lists : ListsSpan of_last all_counted (change s s' old mid) counted) (done : counted.stop ≡ Stop.Done) where
     finished : lists.outcome ≡ plan.Finished (WalkEnds Done)
     finished = subst (λ (x : Stop). IsOutcome x lists.outcome) done lists.outcome_is
 
@@ -342,10 +340,10 @@ module _ (n : ℕ) (start : Place) (tries : ℕ) where
       plain = lists.plain;
       allowed = λ same walk end w ends.
           let along = lists.along same walk end w ends in
-          let at = first_done n s.store start walk end old mid (subst (λ (o : Outcome). IsAllowed (task.SelList (count.Last n)) s.store (span_plan all_counted (task.SelList (count.Last n)) start walk end) old mid o) finished along.leaves) in
+          let at = first_done n s.store start walk end old mid (subst (λ (o : Outcome). IsAllowed (Task.SelList (Count.Last n)) s.store (span_plan all_counted (Task.SelList (Count.Last n)) start walk end) old mid o) finished along.leaves) in
           let long : length walk ≡ 0 = sym (along.count done) ∙ none in
-          subst (λ (o : Outcome). IsAllowed (task.SelList (count.Last n)) s.store (last_plan n (task.SelList (count.Last n)) start walk end) old mid o) (sym finished)
-          (subst (λ (e : WalkEnd). IsAllowed (task.SelList (count.Last n)) s.store (last_plan n (task.SelList (count.Last n)) start walk e) old mid (plan.Finished (WalkEnds Done))) (sym at.0)
+          subst (λ (o : Outcome). IsAllowed (Task.SelList (Count.Last n)) s.store (last_plan n (Task.SelList (Count.Last n)) start walk end) old mid o) (sym finished)
+          (subst (λ (e : WalkEnd). IsAllowed (Task.SelList (Count.Last n)) s.store (last_plan n (Task.SelList (Count.Last n)) start walk e) old mid (plan.Finished (WalkEnds Done))) (sym at.0)
           (empty_leaves n s.store start walk old mid long at.1));
       calls = λ same walk end w ends. omega (arith, (lists.along same walk end w ends).calls);
     }

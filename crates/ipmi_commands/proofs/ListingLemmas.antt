@@ -18,10 +18,9 @@ use Rattle.ipmi_bus.specs.Standing.{StandsAt, WalkStep, MayFail}
 use Rattle.ipmi_bus.specs.Step.{IsStep, StepLeaves, FailsAt, AsksNothing, CursorHoldsCurrent, asked_at, HandsOut}
 use Rattle.ipmi_bus.specs.Tries.{WithinTries}
 use Rattle.ipmi_command_line.specs.declared.command.Task.{Task}
-use Rattle.ipmi_bus.specs.declared.inventory.FruEnded.TheVariants as fru
+use Rattle.ipmi_bus.specs.declared.inventory.FruEnded.{FruEnded}
 use Rattle.ipmi_commands.specs.Pages.{IsStopped}
 use Rattle.ipmi_commands.specs.declared.stop.Stop.{Stop}
-use Rattle.ipmi_commands.specs.declared.stop.Stop.TheVariants as stop
 use Rattle.ipmi_commands.specs.declared.listing.Span.{Span}
 use Rattle.ipmi_commands.specs.Listing.{IsWithin, is_reached, passing, shown_rows, span_items, span_plan, item_in, subject_in, spots_in, stop_at_end, IsOutcome, IsUnrefused, calls_for, calls_at_spots, FindsText, FindsNone, MayStopAt, HasListed, ListsHonest, IsListing, course}
 use Rattle.ipmi_commands.specs.Plan.{first_rows, first_end, Plan, Item, IsItemText, Spot, AtRecord, RunEnd, WalkEnds, run_end, done_end, Printed, Outcome, IsAllowed, CountsSo, HasFreshTroubles, IsFine, IsAmong, StopsAt, spots_at, spots_after, request}
@@ -63,11 +62,11 @@ first_end-none count walk end within = let e : nat_le count (length walk) ≡ tr
 
 -- one that is not done did not stop by that
 pub stopped_otherwise : (result : Stop) (outcome : Outcome) → IsStopped result → IsOutcome result outcome → outcome ≡ plan.Finished (WalkEnds Done) → ⊥
-stopped_otherwise stop.Done outcome stopped is done = cc stopped
-stopped_otherwise (stop.Inventory id fru.Stalled) outcome stopped is done = is
-stopped_otherwise (stop.Inventory id fru.Words) outcome stopped is done = is
-stopped_otherwise (stop.Ended (Stalled n)) outcome stopped is done = is
-stopped_otherwise (stop.Ended (Malformed n)) outcome stopped is done = is
+stopped_otherwise Stop.Done outcome stopped is done = cc stopped
+stopped_otherwise (Stop.Inventory id FruEnded.Stalled) outcome stopped is done = is
+stopped_otherwise (Stop.Inventory id FruEnded.Words) outcome stopped is done = is
+stopped_otherwise (Stop.Ended (Stalled n)) outcome stopped is done = is
+stopped_otherwise (Stop.Ended (Malformed n)) outcome stopped is done = is
 stopped_otherwise _ outcome stopped is done = let h = sym is ∙ done in cc h
 
 -- ---- what was counted
@@ -307,7 +306,7 @@ module _ (t : Task) (tries : ℕ) (span : Span) (count : ℕ) (begun now : Curso
       }
 
       -- nothing came for the id that is asked for
-      failed : (n : ℕ) → ((store : Store) (p : Plan) → StopsAt (AtRecord n) t store p old new → IsAllowed t store p old new outcome) → FailsAt n now next → (st ≡ stop.Done → ⊥) → (IsTrue s.plain → CursorHoldsCurrent begun s → IsFine outcome)
+      failed : (n : ℕ) → ((store : Store) (p : Plan) → StopsAt (AtRecord n) t store p old new → IsAllowed t store p old new outcome) → FailsAt n now next → (st ≡ Stop.Done → ⊥) → (IsTrue s.plain → CursorHoldsCurrent begun s → IsFine outcome)
           → ((same : s''.stores_added ≡ s.stores_added) (start : Place) (walk : List Row) (end : WalkEnd) → IsWalk (rows_of (shelf_of t) s.store) start walk → EndsBy (rows_of (shelf_of t) s.store) start walk end
           → (listed : HasListed (request t start tries) s.store walk span count (course begun now s s' old new)) → count ≡ length walk → MayFail end now.place)
           → IsListing t tries span (course begun next s s'' old new) (record { stop = st; count = count })
@@ -343,22 +342,22 @@ module _ (t : Task) (tries : ℕ) (span : Span) (count : ℕ) (begun now : Curso
         (λ same start walk end w ends listed. along next s'' (Ok None) step same start walk end w ends listed)
 
     -- the cursor gave no record, for this reason
-    pub listing_ended : (ended : Ended) → IsStep now next s' s'' (Err ended) → IsListing t tries span (course begun next s s'' old new) (record { stop = stop.Ended ended; count = count })
+    pub listing_ended : (ended : Ended) → IsStep now next s' s'' (Err ended) → IsListing t tries span (course begun next s s'' old new) (record { stop = Stop.Ended ended; count = count })
     listing_ended (Cycle n) step =
         let still = (step.honest lists.stays.honest).answers in
         let counted = subst (λ (x : Seen). IsUnrefused s x) (sym still) lists.unrefused in
-        at_end next s'' (Err (Cycle n)) step below (plan.Finished (WalkEnds (CycleAt n))) (stop.Ended (Cycle n)) refl counted.refusals counted.troubles (CycleAt n) (WalkEnds (CycleAt n)) refl (λ store start walk printed. refl)
+        at_end next s'' (Err (Cycle n)) step below (plan.Finished (WalkEnds (CycleAt n))) (Stop.Ended (Cycle n)) refl counted.refusals counted.troubles (CycleAt n) (WalkEnds (CycleAt n)) refl (λ store start walk printed. refl)
         (λ same start walk end w ends listed. along next s'' (Err (Cycle n)) step same start walk end w ends listed)
     listing_ended (Missing n) step =
         let counted = unrefused_more now.tries s s' s'' lists.unrefused (step.honest lists.stays.honest).answers.0 in
-        at_end next s'' (Err (Missing n)) step below (plan.Finished (WalkEnds (MissingAt n))) (stop.Ended (Missing n)) refl counted.refusals counted.troubles (MissingAt n) (WalkEnds (MissingAt n)) refl (λ store start walk printed. refl)
+        at_end next s'' (Err (Missing n)) step below (plan.Finished (WalkEnds (MissingAt n))) (Stop.Ended (Missing n)) refl counted.refusals counted.troubles (MissingAt n) (WalkEnds (MissingAt n)) refl (λ store start walk printed. refl)
         (λ same start walk end w ends listed. along next s'' (Err (Missing n)) step same start walk end w ends listed)
     listing_ended (GaveUp n) step =
         let answer = (step.honest lists.stays.honest).answers in
         let grows = lists.unrefused.troubles in
         let troubles = answer.troubles in
         let fresh = answer.fresh_troubles in
-        failed next s'' (Err (GaveUp n)) step below (plan.GaveUp (AtRecord n)) (stop.Ended (GaveUp n)) refl
+        failed next s'' (Err (GaveUp n)) step below (plan.GaveUp (AtRecord n)) (Stop.Ended (GaveUp n)) refl
         (answer.refusals ∙ lists.unrefused.refusals, omega (arith, grows, troubles, same_tries), omega (arith, fresh, same_tries)) (omega (arith, grows, troubles)) n (λ store p at. at) step.leaves.1 (λ e. cc e)
         (λ p holds. ((step.honest lists.stays.honest).plain (lists.stays.plain p) (lists.plain p holds)).fine)
         (λ same start walk end w ends listed. (along next s'' (Err (GaveUp n)) step same start walk end w ends listed).1)
@@ -366,7 +365,7 @@ module _ (t : Task) (tries : ℕ) (span : Span) (count : ℕ) (begun now : Curso
         let answer = (step.honest lists.stays.honest).answers in
         let grows = lists.unrefused.troubles in
         let troubles = answer.grows in
-        failed next s'' (Err (Refused n code)) step below (plan.Refused (AtRecord n) code.0) (stop.Ended (Refused n code)) refl
+        failed next s'' (Err (Refused n code)) step below (plan.Refused (AtRecord n) code.0) (Stop.Ended (Refused n code)) refl
         (answer.refusals ∙ rw lists.unrefused.refusals refl, answer.last_code) (omega (arith, grows, troubles)) n (λ store p at. at) step.leaves.1 (λ e. cc e)
         (λ p holds. ((step.honest lists.stays.honest).plain (lists.stays.plain p) (lists.plain p holds)).fine)
         (λ same start walk end w ends listed. (along next s'' (Err (Refused n code)) step same start walk end w ends listed).1)
@@ -460,7 +459,7 @@ module _ (t : Task) (tries : ℕ) (span : Span) (count : ℕ) (begun next : Curs
       by_case plan.OutOfMemory may = let split = next_split span.skip t start span.most count walk row taken.below there.within there.next_row in record { done = done; rest = item ∷ split.0; items_are = split.1; printed = there.printed }
       by_case plan.WriteFault may = absurd may
 
-  never_done : (result : Stop) (outcome : Outcome) → IsOutcome result outcome → MayStopAt spots outcome → result ≡ stop.Done → ⊥
+  never_done : (result : Stop) (outcome : Outcome) → IsOutcome result outcome → MayStopAt spots outcome → result ≡ Stop.Done → ⊥
   never_done result outcome is may done = subst (MayStopAt spots) (subst (λ (x : Stop). IsOutcome x outcome) done is) may
 
   -- the piece was not found
@@ -494,7 +493,7 @@ module _ (t : Task) (tries : ℕ) (span : Span) (count : ℕ) (begun next : Curs
     counted = let low = taken.unrefused.troubles in let high = finds.asks.grows in record { refusals = finds.refusals ∙ taken.unrefused.refusals; troubles = omega (arith, low, high) }
 
     -- the piece was written in part
-    pub listing_cut : (n : ℕ) (text : List ℕ) → 0 < length piece_text → text ≡ new ++ take n piece_text → IsListing t tries span (course begun next s s'' old text) (record { stop = stop.WriteFault; count = count })
+    pub listing_cut : (n : ℕ) (text : List ℕ) → 0 < length piece_text → text ≡ new ++ take n piece_text → IsListing t tries span (course begun next s s'' old text) (record { stop = Stop.WriteFault; count = count })
     listing_cut n text some wrote = record {
       outcome = plan.WriteFault;
       outcome_is = refl;

@@ -11,7 +11,6 @@ use Rattle.ipmi_records.specs.Sdr.{sdr_view_of, name_of}
 use Rattle.ipmi_records.specs.SdrText.{IsSdrBlock}
 use Rattle.ipmi_text.specs.declared.reading.Reading.{Reading}
 use Rattle.ipmi_command_line.specs.declared.command.Task.{Task}
-use Rattle.ipmi_command_line.specs.declared.command.Task.TheVariants as task
 use Rattle.ipmi_commands.specs.Listing.{shown_rows, span_items, stop_at_end, IsOutcome}
 use Rattle.ipmi_commands.specs.Pieces.{IfChosen, IsBlockOfName, is_name, reading_for}
 use Rattle.ipmi_commands.specs.Plan.{AreTexts, Printed, RunEnd, WalkEnds, NoName, Finished, done_end, view_has_name, some_has_name}
@@ -37,12 +36,12 @@ wrote_more false old new more (b ∷ text) has is = subst (λ (some : Bool). Wro
 -- ---- the end that is told from it
 
 abbrev pub done_by : Task → Bool → RunEnd
-done_by (task.Get name) false = NoName
+done_by (Task.Get name) false = NoName
 done_by _ wrote = WalkEnds Done
 
 pub end_is : (t : Task) (wrote : Bool) → IsOutcome (stop_at_end t wrote) (Finished (done_by t wrote))
-end_is (task.Get name) true = refl
-end_is (task.Get name) false = refl
+end_is (Task.Get name) true = refl
+end_is (Task.Get name) false = refl
 end_is _ wrote = refl
 
 -- ---- texts of records with a name
@@ -72,7 +71,7 @@ module _ (name : List ℕ) (store : Store) where
   some_of id (Err fault) text has is = cc has
 
   -- where none has it, nothing is printed
-  none_text : (skip : Option ℕ) (start : Place) (rows : List Row) (text : List ℕ) → some_has_name name (shown_rows skip rows) ≡ false → AreTexts (task.Get name) store (span_items skip (task.Get name) start rows) text → text ≡ []
+  none_text : (skip : Option ℕ) (start : Place) (rows : List Row) (text : List ℕ) → some_has_name name (shown_rows skip rows) ≡ false → AreTexts (Task.Get name) store (span_items skip (Task.Get name) start rows) text → text ≡ []
   none_text None start [] text lack are = are
   none_text None start (row ∷ rows) text lack are = are.joined ∙ rw are.is_first (none_text None (place_after row.next) rows are.rest lack are.is_rest)
   none_text (Some zero) start [] text lack are = are
@@ -91,7 +90,7 @@ module _ (name : List ℕ) (store : Store) where
   either_some false b text first rest has joined one other = let some = other has in joined_some text first rest joined (omega (arith, some))
 
   -- where one has it, something is
-  some_text : (skip : Option ℕ) (start : Place) (rows : List Row) (text : List ℕ) → some_has_name name (shown_rows skip rows) ≡ true → AreTexts (task.Get name) store (span_items skip (task.Get name) start rows) text → 0 < length text
+  some_text : (skip : Option ℕ) (start : Place) (rows : List Row) (text : List ℕ) → some_has_name name (shown_rows skip rows) ≡ true → AreTexts (Task.Get name) store (span_items skip (Task.Get name) start rows) text → 0 < length text
   some_text None start rows text has are = cc has
   some_text (Some zero) start [] text has are = cc has
   some_text (Some zero) start (row ∷ rows) text has are =
@@ -102,7 +101,7 @@ module _ (name : List ℕ) (store : Store) where
 
 -- what was written tells how the listing of the rows ends
 pub done_by-wrote : (t : Task) (wrote : Bool) (store : Store) (skip : Option ℕ) (start : Place) (rows : List Row) (old new : List ℕ) → Printed t store (span_items skip t start rows) old new → Wrote wrote old new → done_by t wrote ≡ done_end t (shown_rows skip rows)
-done_by-wrote (task.Get name) true store skip start rows old new printed wrote = by_case (some_has_name name (shown_rows skip rows)) refl
+done_by-wrote (Task.Get name) true store skip start rows old new printed wrote = by_case (some_has_name name (shown_rows skip rows)) refl
   where
     by_case : (b : Bool) → some_has_name name (shown_rows skip rows) ≡ b → WalkEnds Done ≡ cond (some_has_name name (shown_rows skip rows)) (WalkEnds Done) NoName
     by_case true has = sym (ap (λ (b : Bool). cond b (WalkEnds Done) NoName) has)
@@ -110,7 +109,7 @@ done_by-wrote (task.Get name) true store skip start rows old new printed wrote =
         let empty = none_text name store skip start rows printed.text none printed.are in
         let same : new ≡ old = printed.new_is ∙ ap (λ (l : List ℕ). old ++ l) empty ∙ append-nil old in
         let long = ap (λ (l : List ℕ). length l) same in absurd (omega (arith, long, wrote))
-done_by-wrote (task.Get name) false store skip start rows old new printed wrote = by_case (some_has_name name (shown_rows skip rows)) refl
+done_by-wrote (Task.Get name) false store skip start rows old new printed wrote = by_case (some_has_name name (shown_rows skip rows)) refl
   where
     by_case : (b : Bool) → some_has_name name (shown_rows skip rows) ≡ b → NoName ≡ cond (some_has_name name (shown_rows skip rows)) (WalkEnds Done) NoName
     by_case true has =

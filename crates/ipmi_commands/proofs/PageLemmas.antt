@@ -13,9 +13,7 @@ use Rattle.ipmi_bus.specs.CursorState.{CursorState, start_of}
 use Rattle.ipmi_bus.specs.Standing.{StandsAt}
 use Rattle.ipmi_command_line.specs.declared.command.Task.{Task}
 use Rattle.ipmi_commands.specs.declared.stop.Stop.{Stop}
-use Rattle.ipmi_commands.specs.declared.stop.Stop.TheVariants as stop
 use Rattle.ipmi_commands.specs.declared.listing.Listed.{Listed}
-use Rattle.ipmi_command_line.specs.declared.command.Task.TheVariants as task
 use Rattle.ipmi_commands.specs.Listing.{is_done, is_reached, stop_at_end, up_to, most_for_one, most_on_walk, IsOutcome, IsListing, ListingCalls, course}
 use Rattle.ipmi_commands.specs.Plan.{Request, OnWalk, Outcome, CountsSo, IsFine, RunEnd, first_rows, first_end, WalkEnds, row_items, run_end, done_end, Printed, request, change}
 use Rattle.ipmi_commands.specs.Pages.{start_at, GoesOn, PageAlong, IsPage, IsStopped, ArePages, pages_made}
@@ -42,7 +40,7 @@ take-none (row ∷ walk) = refl
 
 -- what a listing of no rows ends by
 done_by-none : (t : Task) → done_by t false ≡ done_end t []
-done_by-none (task.Get name) = refl
+done_by-none (Task.Get name) = refl
 done_by-none _ = refl
 
 -- a page that asks for nothing
@@ -101,7 +99,7 @@ none_wanted (Some n) none = let zero_ : n ≡ 0 = search arith in ap Some zero_
 -- a page at a place from which no walk goes, and which has only this end
 page_of_no_rows : (t : Task) (most : Option ℕ) (start : Place) (tries : ℕ) (s : Seen) (text : List ℕ) (only : WalkEnd) (run : RunEnd) (result : Stop) → IsHonest s → ((rows : List Row) → row_at start rows ≡ None)
     → ((rows : List Row) (end : WalkEnd) → EndsBy rows start [] end → end ≡ only) → IsOutcome result (plan.Finished run) → run ≡ run_end t (first_rows most []) (first_end most [] only)
-    → (result ≡ stop.Done → (rows : List Row) → GoesOn rows start (first_rows most []) start) → IsPage (request t start tries) most start (change s s text text) result
+    → (result ≡ Stop.Done → (rows : List Row) → GoesOn rows start (first_rows most []) start) → IsPage (request t start tries) most start (change s s text text) result
 page_of_no_rows t most start tries s text only run result honest no_row one_end is ends_so goes_on = quiet_page (request t start tries) most start s text (plan.Finished run) result honest is refl tt
     (λ walk end w ends.
     let rows = rows_of (shelf_of t) s.store in
@@ -121,8 +119,8 @@ page_at_end t most tries s text honest = page_of_no_rows t most End tries s text
     (done_by-none t ∙ ap (done_end t) (sym (first_rows-nil most)) ∙ ap (run_end t (first_rows most [])) (sym (first_end-done most))) (λ done rows. inl (ap (place_after_rows End) (sym (first_rows-nil most))))
 
 -- a page at the id 0000h
-page_at_zero : (t : Task) (most : Option ℕ) (tries : ℕ) (s : Seen) (text : List ℕ) → (most ≡ Some 0 → ⊥) → IsHonest s → IsPage (request t (Id 0) tries) most (Id 0) (change s s text text) (stop.Ended (Cycle 0))
-page_at_zero t most tries s text some honest = page_of_no_rows t most (Id 0) tries s text (CycleAt 0) (WalkEnds (CycleAt 0)) (stop.Ended (Cycle 0)) honest (λ rows. refl) cycle_there refl
+page_at_zero : (t : Task) (most : Option ℕ) (tries : ℕ) (s : Seen) (text : List ℕ) → (most ≡ Some 0 → ⊥) → IsHonest s → IsPage (request t (Id 0) tries) most (Id 0) (change s s text text) (Stop.Ended (Cycle 0))
+page_at_zero t most tries s text some honest = page_of_no_rows t most (Id 0) tries s text (CycleAt 0) (WalkEnds (CycleAt 0)) (Stop.Ended (Cycle 0)) honest (λ rows. refl) cycle_there refl
     (ap (run_end t (first_rows most [])) (sym (first_end-nil most (CycleAt 0) some))) (λ done rows. cc done)
 
 -- a page where no cursor is needed
@@ -132,23 +130,23 @@ page_without t most (Id n) tries s text st some at honest = by_case (n == 0) ref
   where
     by_case : (b : Bool) → (n == 0) ≡ b → IsPage (request t (Id n) tries) most (Id n) (change s s text text) st
     by_case true e =
-        let h = sym (ap (λ (b : Bool). cond b (Err (stop.Ended (Cycle 0))) (Ok (Some n))) e) ∙ at in
-        let is : stop.Ended (Cycle 0) ≡ st = cc h in
+        let h = sym (ap (λ (b : Bool). cond b (Err (Stop.Ended (Cycle 0))) (Ok (Some n))) e) ∙ at in
+        let is : Stop.Ended (Cycle 0) ≡ st = cc h in
         let none : n ≡ 0 = search arith in
-        subst (λ (x : Stop). IsPage (request t (Id n) tries) most (Id n) (change s s text text) x) is (subst (λ (m : ℕ). IsPage (request t (Id m) tries) most (Id m) (change s s text text) (stop.Ended (Cycle 0))) (sym none) (page_at_zero t most tries s text some honest))
-    by_case false e = let h = sym (ap (λ (b : Bool). cond b (Err (stop.Ended (Cycle 0))) (Ok (Some n))) e) ∙ at in cc h
+        subst (λ (x : Stop). IsPage (request t (Id n) tries) most (Id n) (change s s text text) x) is (subst (λ (m : ℕ). IsPage (request t (Id m) tries) most (Id m) (change s s text text) (Stop.Ended (Cycle 0))) (sym none) (page_at_zero t most tries s text some honest))
+    by_case false e = let h = sym (ap (λ (b : Bool). cond b (Err (Stop.Ended (Cycle 0))) (Ok (Some n))) e) ∙ at in cc h
 page_without t most End tries s text st some at honest = let is : stop_at_end t false ≡ st = cc at in subst (λ (x : Stop). IsPage (request t End tries) most End (change s s text text) x) is (page_at_end t most tries s text honest)
 
 -- a page for whose cursor no memory was left
-pub page_without_memory : (t : Task) (most : Option ℕ) (place : Place) (tries : ℕ) (s : Seen) (text : List ℕ) → IsHonest s → IsPage (request t place tries) most place (change s s text text) stop.Memory
-page_without_memory t most place tries s text honest = quiet_page (request t place tries) most place s text plan.OutOfMemory stop.Memory honest refl refl tt
+pub page_without_memory : (t : Task) (most : Option ℕ) (place : Place) (tries : ℕ) (s : Seen) (text : List ℕ) → IsHonest s → IsPage (request t place tries) most place (change s s text text) Stop.Memory
+page_without_memory t most place tries s text honest = quiet_page (request t place tries) most place s text plan.OutOfMemory Stop.Memory honest refl refl tt
     (λ walk end w ends. record { leaves = record { done = []; rest = row_items t place (first_rows most walk); items_are = refl; printed = none_printed t s.store text }; calls = omega arith; goes_on = λ done. cc done })
 
 -- ---- a page by a cursor
 
 pub start_of-place : (t : Task) (place : Place) (from : Option ℕ) → start_at t place ≡ Ok from → start_of from ≡ place
 start_of-place t First from at = let is : None ≡ from = cc at in ap start_of (sym is)
-start_of-place t (Id n) from at = (elim (n == 0) as (λ b. cond b (Err (stop.Ended (Cycle 0))) (Ok (Some n)) ≡ Ok from → start_of from ≡ Id n) [
+start_of-place t (Id n) from at = (elim (n == 0) as (λ b. cond b (Err (Stop.Ended (Cycle 0))) (Ok (Some n)) ≡ Ok from → start_of from ≡ Id n) [
   | true ↦ λ h. cc h
   | false ↦ λ h. let is : Some n ≡ from = cc h in ap start_of (sym is)
 ]) at
@@ -198,15 +196,15 @@ module _ (t : Task) (all : List ℕ) (k : ℕ) (start now next : Place) (tries :
   leads_here : LeadsTo t all (get_or all k 0 ∷ drop (k + 1) all) start now tries s s' old text
   leads_here = subst (λ (l : List ℕ). LeadsTo t all l start now tries s s' old text) (at_drop_more (λ (l : List ℕ). l) all k 0 there) leads
 
-  pub page_leads : IsPage (request t now tries) (Some (get_or all k 0)) next (change s' s'' text text') stop.Done → LeadsTo t all (drop (k + 1) all) start next tries s s'' old text'
+  pub page_leads : IsPage (request t now tries) (Some (get_or all k 0)) next (change s' s'' text text') Stop.Done → LeadsTo t all (drop (k + 1) all) start next tries s s'' old text'
   page_leads page = λ last new result rest. leads_here last new result (inr (record { next = next; seen = s''; text = text'; page = page; rest = rest }))
 
   pub last_leads : (result : Stop) → IsPage (request t now tries) (Some (get_or all k 0)) next (change s' s'' text text') result → IsStopped result → ArePages (request t start tries) all (change s s'' old text') result
   last_leads result page stopped = leads_here s'' text' result (inl (record { next = next; page = page }, stopped))
 
 -- a listing that is done is done after its last record
-pub done : (result : Stop) → is_done result ≡ true → result ≡ stop.Done
-done stop.Done is = refl
+pub done : (result : Stop) → is_done result ≡ true → result ≡ Stop.Done
+done Stop.Done is = refl
 done _ is = cc is
 
 -- the calls of a page, none where it wants no record, and of those after it

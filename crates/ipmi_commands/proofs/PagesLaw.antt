@@ -15,7 +15,6 @@ use Rattle.ipmi_commands.specs.declared.stop.Stop.{Stop}
 use Rattle.ipmi_commands.specs.Listing.{calls_for, first_plan, IsOutcome}
 use Rattle.ipmi_commands.specs.Plan.{first_end, Plan, Item, Spot, RunEnd, WalkEnds, run_end, row_items, Printed, Outcome, IsAllowed, CountsSo, IsFine, IsAmong, StopsAt, spots_at, end_spots, request, change}
 use Rattle.ipmi_commands.specs.Pages.{GoesOn, IsStopped, ArePages, pages_made, IsOpen}
-use Rattle.ipmi_command_line.specs.declared.command.Task.TheVariants as task
 use Rattle.ipmi_command_line.specs.Task.{is_listing, shelf_of}
 use Rattle.ipmi_commands.specs.Plan as plan
 use Rattle.ipmi_commands.proofs.CallLemmas.{calls_split}
@@ -25,7 +24,7 @@ use Rattle.ipmi_commands.proofs.ItemLemmas.{row_items-append, end_spots-joined, 
 
 -- a listing ends as its walk does
 run_end-plain : (t : Task) → is_listing t ≡ true → (rows : List Row) (end : WalkEnd) → run_end t rows end ≡ WalkEnds end
-run_end-plain (task.Get name) listing rows end = cc listing
+run_end-plain (Task.Get name) listing rows end = cc listing
 run_end-plain _ listing rows Done = refl
 run_end-plain _ listing rows _ = refl
 

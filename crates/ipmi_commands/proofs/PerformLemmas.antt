@@ -7,9 +7,7 @@ use Rattle.ipmi_bus.specs.Shelf.{Row}
 use Rattle.ipmi_bus.specs.Store.{Store, info_of}
 use Rattle.ipmi_bus.specs.Walk.{WalkEnd, Done}
 use Rattle.ipmi_command_line.specs.declared.command.Task.{Task}
-use Rattle.ipmi_command_line.specs.declared.command.Task.TheVariants as task
 use Rattle.ipmi_commands.specs.declared.stop.Stop.{Stop}
-use Rattle.ipmi_commands.specs.declared.stop.Stop.TheVariants as stop
 use Rattle.ipmi_commands.specs.Listing.{is_done, first_plan, AsksAt, IsOutcome, Finds, FindsInfo, IsBlockOfInfo, MayStopAt, calls_at_spots, run_call_bound}
 use Rattle.ipmi_commands.specs.Pages.{IsPage, PageAlong}
 use Rattle.ipmi_output.specs.Sink.{TakesPart}
@@ -54,13 +52,13 @@ pub record TextStops (t : Task) (item : Item) (tries : ℕ) (c : Change) (result
       → IsAllowed t c.seen.store (record { items = item ∷ more; end = e; end_spots = at_end }) c.old c.new outcome
 
 module _ (t : Task) (item : Item) (tries : ℕ) (c : Change) where
-  pub text_written : (found : Result (String Global) Stop) → FindsItem t item tries c.seen c.seen' found → WritesFound found c.old c.new stop.Done → (found ≡ Err stop.Done → ⊥) → TextWritten t item tries c
+  pub text_written : (found : Result (String Global) Stop) → FindsItem t item tries c.seen c.seen' found → WritesFound found c.old c.new Stop.Done → (found ≡ Err Stop.Done → ⊥) → TextWritten t item tries c
   text_written (Ok text) finds writes never = record { asks = finds.asks; refusals = finds.refusals; printed = λ same. one_printed t c.seen.store item (string_bytes text) c.old c.new (finds.is same) writes }
   text_written (Err e) finds writes never = absurd (never (ap Err (sym writes.0)))
 
   pub text_stops : (found : Result (String Global) Stop) (result : Stop) → FindsItem t item tries c.seen c.seen' found → WritesFound found c.old c.new result → is_done result ≡ false → TextStops t item tries c result
-  text_stops (Ok text) stop.Done finds writes stopped = cc stopped
-  text_stops (Ok text) stop.WriteFault finds writes stopped = record {
+  text_stops (Ok text) Stop.Done finds writes stopped = cc stopped
+  text_stops (Ok text) Stop.WriteFault finds writes stopped = record {
     asks = finds.asks;
     outcome = plan.WriteFault;
     outcome_is = refl;
@@ -79,10 +77,10 @@ module _ (t : Task) (item : Item) (tries : ℕ) (c : Change) where
   }
 
 -- a piece that is not found does not end by Done
-pub never_found : (t : Task) (item : Item) (tries : ℕ) (s s' : Seen) (found : Result (String Global) Stop) → FindsItem t item tries s s' found → found ≡ Err stop.Done → ⊥
+pub never_found : (t : Task) (item : Item) (tries : ℕ) (s s' : Seen) (found : Result (String Global) Stop) → FindsItem t item tries s s' found → found ≡ Err Stop.Done → ⊥
 never_found t item tries s s' (Ok text) finds is = cc is
 never_found t item tries s s' (Err e) finds is =
-    let done : e ≡ stop.Done = cc is in
+    let done : e ≡ Stop.Done = cc is in
     let ended = subst (λ (x : Stop). IsOutcome x finds.outcome) done finds.outcome_is in
     subst (MayStopAt item.spots) ended finds.there
 
@@ -124,33 +122,33 @@ one_text_performs r item c found result plan_is bound_is finds writes = by_case 
 
 module _ (shelf : Shelf) (start : Place) (tries : ℕ) (c : Change) where
   info_asked : (result : Stop) (outcome : Outcome) → AsksAt (AtRecord 0 ∷ []) tries c.seen c.seen' → IsOutcome result outcome → CountsSo tries c.seen c.seen' outcome → (IsTrue c.seen.plain → IsFine outcome)
-      → (c.seen'.stores_added ≡ c.seen.stores_added → IsAllowed (task.Info shelf) c.seen.store (info_plan (info_of shelf c.seen.store)) c.old c.new outcome) → Performs (request (task.Info shelf) start tries) c result
-  info_asked result outcome asks is counts plain allowed = asked_performs (request (task.Info shelf) start tries) (AtRecord 0 ∷ []) c result outcome (λ walk end. omega arith) asks is counts plain (λ same walk end. allowed same)
+      → (c.seen'.stores_added ≡ c.seen.stores_added → IsAllowed (Task.Info shelf) c.seen.store (info_plan (info_of shelf c.seen.store)) c.old c.new outcome) → Performs (request (Task.Info shelf) start tries) c result
+  info_asked result outcome asks is counts plain allowed = asked_performs (request (Task.Info shelf) start tries) (AtRecord 0 ∷ []) c result outcome (λ walk end. omega arith) asks is counts plain (λ same walk end. allowed same)
 
-  info_printed : (o : Option (List ℕ)) (text : List ℕ) → IsBlockOfInfo o text → c.new ≡ c.old ++ text → IsAllowed (task.Info shelf) c.seen.store (info_plan o) c.old c.new (plan.Finished (WalkEnds Done))
+  info_printed : (o : Option (List ℕ)) (text : List ℕ) → IsBlockOfInfo o text → c.new ≡ c.old ++ text → IsAllowed (Task.Info shelf) c.seen.store (info_plan o) c.old c.new (plan.Finished (WalkEnds Done))
   info_printed None text is wrote = absurd is
-  info_printed (Some info) text is wrote = (one_printed (task.Info shelf) c.seen.store (record { subject = OfInfo info; spots = AtRecord 0 ∷ [] }) text c.old c.new is wrote, refl)
+  info_printed (Some info) text is wrote = (one_printed (Task.Info shelf) c.seen.store (record { subject = OfInfo info; spots = AtRecord 0 ∷ [] }) text c.old c.new is wrote, refl)
 
-  info_cut : (o : Option (List ℕ)) (text : List ℕ) → IsBlockOfInfo o text → 0 < length text → TakesPart c.old c.new text → IsAllowed (task.Info shelf) c.seen.store (info_plan o) c.old c.new plan.WriteFault
+  info_cut : (o : Option (List ℕ)) (text : List ℕ) → IsBlockOfInfo o text → 0 < length text → TakesPart c.old c.new text → IsAllowed (Task.Info shelf) c.seen.store (info_plan o) c.old c.new plan.WriteFault
   info_cut None text is some part = absurd is
-  info_cut (Some info) text is some part = first_cut (task.Info shelf) c.seen.store (info_plan (Some info)) (record { subject = OfInfo info; spots = AtRecord 0 ∷ [] }) [] text c.old c.new refl is some part
+  info_cut (Some info) text is some part = first_cut (Task.Info shelf) c.seen.store (info_plan (Some info)) (record { subject = OfInfo info; spots = AtRecord 0 ∷ [] }) [] text c.old c.new refl is some part
 
-  info_stops : (o : Option (List ℕ)) (outcome : Outcome) → c.new ≡ c.old → MayStopAt (AtRecord 0 ∷ []) outcome → IsAllowed (task.Info shelf) c.seen.store (info_plan o) c.old c.new outcome
-  info_stops None outcome same may = stops_first (task.Info shelf) c.seen.store (info_plan None) c.old c.new outcome same may
-  info_stops (Some info) outcome same may = stops_first (task.Info shelf) c.seen.store (info_plan (Some info)) c.old c.new outcome same may
+  info_stops : (o : Option (List ℕ)) (outcome : Outcome) → c.new ≡ c.old → MayStopAt (AtRecord 0 ∷ []) outcome → IsAllowed (Task.Info shelf) c.seen.store (info_plan o) c.old c.new outcome
+  info_stops None outcome same may = stops_first (Task.Info shelf) c.seen.store (info_plan None) c.old c.new outcome same may
+  info_stops (Some info) outcome same may = stops_first (Task.Info shelf) c.seen.store (info_plan (Some info)) c.old c.new outcome same may
 
-  info_lacks : (o : Option (List ℕ)) → o ≡ None → c.new ≡ c.old → IsAllowed (task.Info shelf) c.seen.store (info_plan o) c.old c.new (plan.Finished plan.NoInfo)
+  info_lacks : (o : Option (List ℕ)) → o ≡ None → c.new ≡ c.old → IsAllowed (Task.Info shelf) c.seen.store (info_plan o) c.old c.new (plan.Finished plan.NoInfo)
   info_lacks o none same =
-      let printed : IsAllowed (task.Info shelf) c.seen.store (info_plan None) c.old c.new (plan.Finished plan.NoInfo) = (same_printed (task.Info shelf) c.seen.store c.old c.new same, refl) in
-      subst (λ (x : Option (List ℕ)). IsAllowed (task.Info shelf) c.seen.store (info_plan x) c.old c.new (plan.Finished plan.NoInfo)) (sym none) printed
+      let printed : IsAllowed (Task.Info shelf) c.seen.store (info_plan None) c.old c.new (plan.Finished plan.NoInfo) = (same_printed (Task.Info shelf) c.seen.store c.old c.new same, refl) in
+      subst (λ (x : Option (List ℕ)). IsAllowed (Task.Info shelf) c.seen.store (info_plan x) c.old c.new (plan.Finished plan.NoInfo)) (sym none) printed
 
-  pub info_performs : (found : Result (String Global) Stop) (result : Stop) → FindsInfo shelf tries c.seen c.seen' found → WritesFound found c.old c.new result → Performs (request (task.Info shelf) start tries) c result
-  info_performs (Ok text) stop.Done finds writes =
-      info_asked stop.Done (plan.Finished (WalkEnds Done)) finds.asks refl finds.refusals (λ p. tt) (λ same. info_printed (info_of shelf c.seen.store) (string_bytes text) (finds.is same) writes)
-  info_performs (Ok text) stop.WriteFault finds writes =
-      info_asked stop.WriteFault plan.WriteFault finds.asks refl finds.refusals (λ p. tt) (λ same. info_cut (info_of shelf c.seen.store) (string_bytes text) (finds.is same) writes.0 writes.1)
+  pub info_performs : (found : Result (String Global) Stop) (result : Stop) → FindsInfo shelf tries c.seen c.seen' found → WritesFound found c.old c.new result → Performs (request (Task.Info shelf) start tries) c result
+  info_performs (Ok text) Stop.Done finds writes =
+      info_asked Stop.Done (plan.Finished (WalkEnds Done)) finds.asks refl finds.refusals (λ p. tt) (λ same. info_printed (info_of shelf c.seen.store) (string_bytes text) (finds.is same) writes)
+  info_performs (Ok text) Stop.WriteFault finds writes =
+      info_asked Stop.WriteFault plan.WriteFault finds.asks refl finds.refusals (λ p. tt) (λ same. info_cut (info_of shelf c.seen.store) (string_bytes text) (finds.is same) writes.0 writes.1)
   info_performs (Ok text) _ finds writes = absurd writes
-  info_performs (Err stop.NoInfo) result lacks writes =
+  info_performs (Err Stop.NoInfo) result lacks writes =
       info_asked result (plan.Finished plan.NoInfo) lacks.asks (subst (λ (x : Stop). IsOutcome x (plan.Finished plan.NoInfo)) (sym writes.0) refl) lacks.refusals (λ p. tt)
       (λ same. info_lacks (info_of shelf c.seen.store) (lacks.is same) writes.1)
   info_performs (Err e) result none writes =
@@ -161,24 +159,24 @@ module _ (shelf : Shelf) (start : Place) (tries : ℕ) (c : Change) where
 
 module _ (start : Place) (tries : ℕ) where
   abbrev of_all : Request
-  of_all = request (task.Fru None) start tries
+  of_all = request (Task.Fru None) start tries
 
   -- it stopped at that of device 0
-  pub first_performs : (c : Change) (result : Stop) → TextStops (task.Fru None) (inventory_item 0) tries c result → Performs of_all c result
+  pub first_performs : (c : Change) (result : Stop) → TextStops (Task.Fru None) (inventory_item 0) tries c result → Performs of_all c result
   first_performs c result stops = asked_performs of_all (AtInventory 0 ∷ []) c result stops.outcome (λ walk end. omega arith) stops.asks stops.outcome_is stops.counts stops.plain
-      (λ same walk end. stops.allowed (row_items (task.Fru None) start walk) (WalkEnds end) (end_spots start walk end) same)
+      (λ same walk end. stops.allowed (row_items (Task.Fru None) start walk) (WalkEnds end) (end_spots start walk end) same)
 
-  ends_as : (rows : List Row) (end : WalkEnd) → run_end (task.Fru None) rows end ≡ WalkEnds end
+  ends_as : (rows : List Row) (end : WalkEnd) → run_end (Task.Fru None) rows end ≡ WalkEnds end
   ends_as rows Done = refl
   ends_as rows _ = refl
 
-  after_first : (store : Store) (walk : List Row) (end : WalkEnd) → after_items (inventory_item 0 ∷ []) (first_plan None (task.Fru None) start walk end) ≡ plan_of (task.Fru None) store start walk end
+  after_first : (store : Store) (walk : List Row) (end : WalkEnd) → after_items (inventory_item 0 ∷ []) (first_plan None (Task.Fru None) start walk end) ≡ plan_of (Task.Fru None) store start walk end
   after_first store walk end =
-      let of_end : RunEnd → Plan = λ e. record { items = inventory_item 0 ∷ row_items (task.Fru None) start walk; end = e; end_spots = end_spots start walk end } in
+      let of_end : RunEnd → Plan = λ e. record { items = inventory_item 0 ∷ row_items (Task.Fru None) start walk; end = e; end_spots = end_spots start walk end } in
       ap of_end (ends_as walk end)
 
   -- after it the locators are gone along
-  pub rest_performs : (s s' s'' : Seen) (old text new : List ℕ) (next : Place) (result : Stop) → TextWritten (task.Fru None) (inventory_item 0) tries (change s s' old text) → IsPage of_all None next (change s' s'' text new) result → Performs of_all (change s s'' old new) result
+  pub rest_performs : (s s' s'' : Seen) (old text new : List ℕ) (next : Place) (result : Stop) → TextWritten (Task.Fru None) (inventory_item 0) tries (change s s' old text) → IsPage of_all None next (change s' s'' text new) result → Performs of_all (change s s'' old new) result
   rest_performs s s' s'' old text new next result written page =
       let low = written.asks.stays.store.grows in
       let high = page.stays.store.grows in
@@ -193,8 +191,8 @@ module _ (start : Place) (tries : ℕ) where
             let second : s''.stores_added ≡ s'.stores_added = omega (arith, same, low, high) in
             let store = written.asks.stays.store.stays first in
             let along = subst (λ (x : Store). OnWalk of_all x (λ walk end. PageAlong of_all x None walk end next (change s' s'' text new) page.outcome result)) store (page.along second) walk end w ends in
-            subst (λ (p : Plan). IsAllowed (task.Fru None) s.store p old new page.outcome) (after_first s.store walk end)
-            (leaves_joined (task.Fru None) s.store (inventory_item 0 ∷ []) (first_plan None (task.Fru None) start walk end) old text (written.printed first) new page.outcome along.leaves);
+            subst (λ (p : Plan). IsAllowed (Task.Fru None) s.store p old new page.outcome) (after_first s.store walk end)
+            (leaves_joined (Task.Fru None) s.store (inventory_item 0 ∷ []) (first_plan None (Task.Fru None) start walk end) old text (written.printed first) new page.outcome along.leaves);
         calls = λ same walk end w ends.
             let first : s'.stores_added ≡ s.stores_added = omega (arith, same, low, high) in
             let second : s''.stores_added ≡ s'.stores_added = omega (arith, same, low, high) in

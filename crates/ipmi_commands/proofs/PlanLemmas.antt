@@ -1,20 +1,17 @@
 -- A listing as a run by its plan.
 use Rattle.std.proofs.Common.{◌≡◌, ◌⊎◌, inl, inr, ℕ, ◌+◌, ◌≤◌, Bool, true, false, IsTrue, Option, None, Result, Ok, Err, List, [], refl, sym, ap, subst, ◌∙◌}
 use Rattle.ipmi_bus.specs.declared.step.Place.{Place}
-use Rattle.ipmi_bus.specs.declared.inventory.FruEnded.TheVariants as fru
+use Rattle.ipmi_bus.specs.declared.inventory.FruEnded.{FruEnded}
 use Rattle.ipmi_bus.specs.declared.step.Ended.TheVariants.{Stalled, Malformed}
 use Rattle.ipmi_bus.specs.Shelf.{Row}
 use Rattle.ipmi_bus.specs.Store.{Store}
 use Rattle.ipmi_bus.specs.Walk.{TailIsWalk, WalkEnd, Done}
 use Rattle.ipmi_bus.specs.Seen.{Seen, IsHonest, StaysHonest}
 use Rattle.ipmi_image.specs.declared.image.ImageFault.{ImageFault}
-use Rattle.ipmi_image.specs.declared.image.ImageFault.TheVariants as image_fault
 use Rattle.ipmi_image.specs.Rewritten.{image_text_of}
-use Rattle.ipmi_command_line.specs.declared.command.Count.TheVariants as count
+use Rattle.ipmi_command_line.specs.declared.command.Count.{Count}
 use Rattle.ipmi_command_line.specs.declared.command.Task.{Task}
-use Rattle.ipmi_command_line.specs.declared.command.Task.TheVariants as task
 use Rattle.ipmi_commands.specs.declared.stop.Stop.{Stop}
-use Rattle.ipmi_commands.specs.declared.stop.Stop.TheVariants as stop
 use Rattle.ipmi_output.specs.declared.message.Message.TheVariants.{Image, OutOfMemory}
 use Rattle.ipmi_command_line.specs.Task.{is_listing, most_of}
 use Rattle.ipmi_commands.specs.Listing.{first_plan, IsOutcome, walk_call_bound, most_on_walk, run_call_bound, most_calls}
@@ -35,18 +32,18 @@ pub record GoesOnce (t : Task) : Type 0 where
   pub most_is : (tries : ℕ) → most_calls t tries ≡ most_on_walk t tries
 
 pub goes_once : (t : Task) → lists_once t ≡ true → GoesOnce t
-goes_once (task.Fru id) lists = cc lists
-goes_once (task.Info shelf) lists = cc lists
-goes_once (task.SelList (count.Last n)) lists = cc lists
-goes_once task.Rewrite lists = cc lists
+goes_once (Task.Fru id) lists = cc lists
+goes_once (Task.Info shelf) lists = cc lists
+goes_once (Task.SelList (Count.Last n)) lists = cc lists
+goes_once Task.Rewrite lists = cc lists
 goes_once _ lists = record { plan_is = λ store start walk end. refl; bound_is = λ store tries walk end. refl; most_is = λ tries. refl }
 
 -- a listing goes once, and has no limit
 pub listed_whole : (t : Task) → is_listing t ≡ true → (lists_once t ≡ true) × (most_of t ≡ None)
-listed_whole task.Hex listing = (refl, refl)
-listed_whole (task.List kind) listing = (refl, refl)
-listed_whole (task.Elist kind) listing = (refl, refl)
-listed_whole (task.SelList count.All) listing = (refl, refl)
+listed_whole Task.Hex listing = (refl, refl)
+listed_whole (Task.List kind) listing = (refl, refl)
+listed_whole (Task.Elist kind) listing = (refl, refl)
+listed_whole (Task.SelList Count.All) listing = (refl, refl)
 listed_whole _ listing = cc listing
 
 -- ---- outcomes
@@ -57,10 +54,10 @@ module _ (t : Task) where
   said_of outcome = (status_of outcome, outcome_text t outcome)
 
   stop_said : (st : Stop) (outcome : Outcome) → IsOutcome st outcome → ◌≡◌ {A = ℕ × List ℕ} (stop_status st, stop_text t st) (said_of outcome)
-  stop_said (stop.Ended (Stalled n)) outcome is = absurd is
-  stop_said (stop.Ended (Malformed n)) outcome is = absurd is
-  stop_said (stop.Inventory id fru.Stalled) outcome is = absurd is
-  stop_said (stop.Inventory id fru.Words) outcome is = absurd is
+  stop_said (Stop.Ended (Stalled n)) outcome is = absurd is
+  stop_said (Stop.Ended (Malformed n)) outcome is = absurd is
+  stop_said (Stop.Inventory id FruEnded.Stalled) outcome is = absurd is
+  stop_said (Stop.Inventory id FruEnded.Words) outcome is = absurd is
   stop_said _ outcome is = ap said_of (sym is)
 
   status_same : (st : Stop) (outcome : Outcome) → IsOutcome st outcome → stop_status st ≡ status_of outcome
@@ -126,28 +123,28 @@ module _ (r : Request) (s s' : Seen) (e : Effect) (st : Stop) (message : Receive
 
 -- ---- an image written again
 
-pub rewriting : (store : Store) (e : Effect) (st : Stop) → WritesImage (image_text_of store) e.old e.new st → ReceivesText e.said e.said' (stop_text task.Rewrite st) → IsRewriting store e (stop_status st)
-rewriting store e stop.Done writes message = record {
+pub rewriting : (store : Store) (e : Effect) (st : Stop) → WritesImage (image_text_of store) e.old e.new st → ReceivesText e.said e.said' (stop_text Task.Rewrite st) → IsRewriting store e (stop_status st)
+rewriting store e Stop.Done writes message = record {
   outcome = plan.Finished (WalkEnds Done);
   status_is = refl;
   message = message;
-  allowed = (one_printed task.Rewrite store (record { subject = OfImage; spots = [] }) (image_text_of store) e.old e.new refl writes, refl);
+  allowed = (one_printed Task.Rewrite store (record { subject = OfImage; spots = [] }) (image_text_of store) e.old e.new refl writes, refl);
   unwritten = λ out. cc out;
   fine = tt;
 }
-rewriting store e stop.Memory writes message = record {
+rewriting store e Stop.Memory writes message = record {
   outcome = plan.OutOfMemory;
   status_is = refl;
   message = message;
-  allowed = record { done = []; rest = rewrite_plan.items; items_are = refl; printed = subst (λ (l : List ℕ). Printed task.Rewrite store [] e.old l) (sym writes) (none_printed task.Rewrite store e.old) };
+  allowed = record { done = []; rest = rewrite_plan.items; items_are = refl; printed = subst (λ (l : List ℕ). Printed Task.Rewrite store [] e.old l) (sym writes) (none_printed Task.Rewrite store e.old) };
   unwritten = λ out. writes;
   fine = tt;
 }
-rewriting store e stop.WriteFault writes message = record {
+rewriting store e Stop.WriteFault writes message = record {
   outcome = plan.WriteFault;
   status_is = refl;
   message = message;
-  allowed = first_cut task.Rewrite store rewrite_plan (record { subject = OfImage; spots = [] }) [] (image_text_of store) e.old e.new refl refl writes.0 writes.1;
+  allowed = first_cut Task.Rewrite store rewrite_plan (record { subject = OfImage; spots = [] }) [] (image_text_of store) e.old e.new refl refl writes.0 writes.1;
   unwritten = λ out. cc out;
   fine = tt;
 }
@@ -161,7 +158,7 @@ unread true r (Ok store) old said said' status says = record {
   outcome = plan.OutOfMemory;
   status_is = says.0;
   message = says.1;
-  allowed = record { done = []; rest = rewrite_plan.items; items_are = refl; printed = none_printed task.Rewrite store old };
+  allowed = record { done = []; rest = rewrite_plan.items; items_are = refl; printed = none_printed Task.Rewrite store old };
   unwritten = λ out. refl;
   fine = tt;
 }
@@ -177,7 +174,7 @@ unread false r (Err fault) old said said' status says = (refl, inr says)
 
 -- the fault of the image, or want of memory
 pub not_answered : (rewrite : Bool) (r : Request) (fault : ImageFault) (read : Result Store ImageFault) (old : List ℕ) (said said' : Received) (status : ℕ)
-    → (fault ≡ image_fault.Memory) ⊎ (read ≡ Err fault) → Says said said' status (Image fault) (fault_status fault) → AnswersTask rewrite r read (effect old old said said') status
+    → (fault ≡ ImageFault.Memory) ⊎ (read ≡ Err fault) → Says said said' status (Image fault) (fault_status fault) → AnswersTask rewrite r read (effect old old said said') status
 not_answered rewrite r fault read old said said' status (inl memory) says =
     unread rewrite r read old said said' status (subst (λ (f : ImageFault). Says said said' status (Image f) (fault_status f)) memory says)
 not_answered rewrite r fault read old said said' status (inr is) says = subst (λ (x : Result Store ImageFault). AnswersTask rewrite r x (effect old old said said') status) (sym is) (failed rewrite)

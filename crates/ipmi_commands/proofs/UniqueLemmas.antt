@@ -11,7 +11,6 @@ use Rattle.ipmi_bus.specs.Walk.{AllOf, WalkExists, WalkEnd, Done, place_after, p
 use Rattle.ipmi_fru.specs.Print.{IsFruText}
 use Rattle.ipmi_records.specs.declared.sdr.SdrFault.{SdrFault}
 use Rattle.ipmi_records.specs.declared.sdr.SdrView.{SdrView}
-use Rattle.ipmi_records.specs.declared.sdr.SdrView.TheVariants as view_of
 use Rattle.ipmi_records.specs.declared.sel.SelView.TheVariants.{Event, OemTimed, OemPlain, Other}
 use Rattle.ipmi_records.specs.Info.{IsInfoBlock}
 use Rattle.ipmi_records.specs.Sdr.{fru_of, name_of, sdr_view_of}
@@ -19,12 +18,10 @@ use Rattle.ipmi_records.specs.SdrText.{IsSdrBlock}
 use Rattle.ipmi_records.specs.Sel.{entry_bytes, sel_view_of}
 use Rattle.ipmi_records.specs.Laws.{SdrLineIsUnique, ExtendedLineIsUnique, SelLineIsUnique, SelBlockIsUnique}
 use Rattle.ipmi_command_line.specs.declared.command.Kind.{Kind}
-use Rattle.ipmi_command_line.specs.declared.command.Count.TheVariants as count
+use Rattle.ipmi_command_line.specs.declared.command.Count.{Count}
 use Rattle.ipmi_command_line.specs.declared.command.Task.{Task}
-use Rattle.ipmi_command_line.specs.declared.command.Task.TheVariants as task
 use Rattle.ipmi_command_line.specs.Task.{most_of, shelf_of}
 use Rattle.ipmi_commands.specs.declared.piece.Form.{Form}
-use Rattle.ipmi_commands.specs.declared.piece.Form.TheVariants as form
 use Rattle.ipmi_commands.specs.Pieces.{IfChosen, IsBlockOfName, IsDevicePiece, IsInventoryPiece, IsInventoryText, IsLineOf, IsListed, IsListedOfKind, IsLocatorPiece, is_name, name_of_locator, reading_for, row_is_of_kind}
 use Rattle.ipmi_commands.specs.Plan.{Request, Subject, OfRow, OfInventory, OfInfo, Item, Spot, IsOfBytes, AreOfBytes, RunEnd, Finished, IsRowPiece, IsItemText, AreTexts, first_rows, last_rows, last_items, row_items, spots_of_walk, with_first_spots, info_plan, listing_plan, plan_of}
 use Rattle.ipmi_commands.specs.Run.{AllowsAll}
@@ -45,8 +42,8 @@ module _ (one_sdr_line : SdrLineIsUnique) (one_extended_line : ExtendedLineIsUni
   one_chosen false IsText one a b x y = x ∙ sym y
 
   one_line : (form : Form) (view : SdrView) (reading : Option Reading) (a b : List ℕ) → IsLineOf form view reading a → IsLineOf form view reading b → a ≡ b
-  one_line form.Short view reading a b x y = one_sdr_line view reading a b x y
-  one_line form.Extended view reading a b x y = one_extended_line view reading a b x y
+  one_line Form.Short view reading a b x y = one_sdr_line view reading a b x y
+  one_line Form.Extended view reading a b x y = one_extended_line view reading a b x y
 
   one_listed : (form : Form) (store : Store) (id : ℕ) (view : Result SdrView SdrFault) (a b : List ℕ) → IsListed form store id view a → IsListed form store id view b → a ≡ b
   one_listed form store id (Ok view) a b x y = one_line form view (reading_for store view) a b x y
@@ -82,16 +79,16 @@ module _ (one_sdr_line : SdrLineIsUnique) (one_extended_line : ExtendedLineIsUni
   one_device store view (Some id) a b x y = one_chosen (not (id == 0)) (λ l. IsInventoryPiece store id (name_of_locator view) l) (one_inventory store id (name_of_locator view)) a b x y
 
   one_locator : (store : Store) (view : Result SdrView SdrFault) (a b : List ℕ) → IsLocatorPiece store view a → IsLocatorPiece store view b → a ≡ b
-  one_locator store (Ok (view_of.Fru bytes)) a b x y = one_device store (view_of.Fru bytes) (fru_of (view_of.Fru bytes)) a b x y
+  one_locator store (Ok (SdrView.Fru bytes)) a b x y = one_device store (SdrView.Fru bytes) (fru_of (SdrView.Fru bytes)) a b x y
   one_locator store _ a b x y = x ∙ sym y
 
   one_piece : (t : Task) (store : Store) (row : Row) (a b : List ℕ) → AreBytes row.bytes → IsRowPiece t store row a → IsRowPiece t store row b → a ≡ b
-  one_piece (task.List kind) store row a b are x y = one_of_kind form.Short kind store row a b x y
-  one_piece (task.Elist kind) store row a b are x y = one_of_kind form.Extended kind store row a b x y
-  one_piece (task.Get name) store row a b are x y = one_block_of_name name store row.id (sdr_view_of row.bytes) a b x y
-  one_piece (task.SelList entries) store row a b are x y = one_sel_line row.id (sel_view_of row.bytes) a b (entry_are_bytes row.bytes are) x y
-  one_piece (task.SelGet id) store row a b are x y = one_sel_block row.id (sel_view_of row.bytes) a b (entry_are_bytes row.bytes are) x y
-  one_piece (task.Fru id) store row a b are x y = one_locator store (sdr_view_of row.bytes) a b x y
+  one_piece (Task.List kind) store row a b are x y = one_of_kind Form.Short kind store row a b x y
+  one_piece (Task.Elist kind) store row a b are x y = one_of_kind Form.Extended kind store row a b x y
+  one_piece (Task.Get name) store row a b are x y = one_block_of_name name store row.id (sdr_view_of row.bytes) a b x y
+  one_piece (Task.SelList entries) store row a b are x y = one_sel_line row.id (sel_view_of row.bytes) a b (entry_are_bytes row.bytes are) x y
+  one_piece (Task.SelGet id) store row a b are x y = one_sel_block row.id (sel_view_of row.bytes) a b (entry_are_bytes row.bytes are) x y
+  one_piece (Task.Fru id) store row a b are x y = one_locator store (sdr_view_of row.bytes) a b x y
   one_piece _ store row a b are x y = x ∙ sym y
 
   one_item : (t : Task) (store : Store) (subject : Subject) (a b : List ℕ) → IsOfBytes subject → IsItemText t store subject a → IsItemText t store subject b → a ≡ b
@@ -153,13 +150,13 @@ module _ (look_row : FoundIsRow) (store : Store) (ok : IsStore store) (start : P
 
   -- what a task is to print is of bytes
   plan_bytes : (t : Task) → AllOf (rows_of (shelf_of t) store) walk → AreOfBytes (plan_of t store start walk end).items
-  plan_bytes (task.Fru None) all = (tt, rows_are_bytes look_row (task.Fru None) Sdr store.sdr start walk ok.sdr all)
-  plan_bytes (task.Fru (Some id)) all = (tt, tt)
-  plan_bytes (task.Info shelf) all = info_bytes (info_of shelf store) (info_of_store shelf store ok)
-  plan_bytes (task.SelList (count.Last n)) all =
-      first_kept (spots_of_walk start walk end) (last_items n (task.SelList (count.Last n)) start walk end)
-      (rows_are_bytes look_row (task.SelList (count.Last n)) Sel store.sel (place_after_rows start (take (length walk - n) walk)) (last_rows n walk end) ok.sel (last_of_shelf n store.sel walk end all))
-  plan_bytes task.Rewrite all = (tt, tt)
+  plan_bytes (Task.Fru None) all = (tt, rows_are_bytes look_row (Task.Fru None) Sdr store.sdr start walk ok.sdr all)
+  plan_bytes (Task.Fru (Some id)) all = (tt, tt)
+  plan_bytes (Task.Info shelf) all = info_bytes (info_of shelf store) (info_of_store shelf store ok)
+  plan_bytes (Task.SelList (Count.Last n)) all =
+      first_kept (spots_of_walk start walk end) (last_items n (Task.SelList (Count.Last n)) start walk end)
+      (rows_are_bytes look_row (Task.SelList (Count.Last n)) Sel store.sel (place_after_rows start (take (length walk - n) walk)) (last_rows n walk end) ok.sel (last_of_shelf n store.sel walk end all))
+  plan_bytes Task.Rewrite all = (tt, tt)
   plan_bytes t all = listed t all
 
 pub one_output : TextIsOne → WalkExists → FoundIsRow → (r : Request) (store : Store) (old a b : List ℕ) (e f : RunEnd) → IsStore store → AllowsAll r store old a (Finished e) → AllowsAll r store old b (Finished f) → (a ≡ b) × (e ≡ f)

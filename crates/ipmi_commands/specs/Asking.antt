@@ -1,7 +1,6 @@
 -- What the reading that is asked for because of a record leaves, and the reading of an inventory.
 use Rattle.std.specs.Prelude.{ℕ, ◌+◌, ◌≤◌, ◌==◌, Bool, false, Option, Result, Ok, Err, List}
 use Rattle.ipmi_bus.specs.declared.inventory.FruEnded.{FruEnded}
-use Rattle.ipmi_bus.specs.declared.inventory.FruEnded.TheVariants as fru
 use Rattle.ipmi_text.specs.declared.reading.Reading.{Reading}
 use Rattle.ipmi_bus.specs.declared.step.Ended.{Ended}
 use Rattle.ipmi_bus.specs.declared.step.Ended.TheVariants.{Cycle, Missing, Refused, GaveUp, Stalled, Malformed}
@@ -30,5 +29,5 @@ pub record ReadsFor (id : ℕ) (view : SdrView) (tries : ℕ) (s s' : Seen) (res
 
 -- the controller has no such inventory
 abbrev pub is_absent : FruEnded → Bool
-is_absent (fru.Refused code) = code.0 == 0xCB
+is_absent (FruEnded.Refused code) = code.0 == 0xCB
 is_absent _ = false

@@ -6,7 +6,7 @@ use Rattle.ipmi_bus.specs.Store.{Store}
 use Rattle.ipmi_bus.specs.Walk.{WalkEnd}
 use Rattle.ipmi_commands.specs.declared.listing.Listed.{Listed}
 use Rattle.ipmi_commands.specs.declared.listing.Span.{Span}
-use Rattle.ipmi_commands.specs.declared.stop.Stop.TheVariants as stop
+use Rattle.ipmi_commands.specs.declared.stop.Stop.{Stop}
 use Rattle.ipmi_commands.specs.Listing.{span_plan, IsOutcome, walk_call_bound}
 use Rattle.ipmi_commands.specs.Plan.{first_rows, Request, Change, OnWalk, Outcome, IsAllowed, CountsSo, IsFine}
 
@@ -14,7 +14,7 @@ use Rattle.ipmi_commands.specs.Plan.{first_rows, Request, Change, OnWalk, Outcom
 pub record SpanAlong (r : Request) (store : Store) (span : Span) (walk : List Row) (end : WalkEnd) (c : Change) (outcome : Outcome) (result : Listed) : Type 0 where
   pub leaves : IsAllowed r.task store (span_plan span r.task r.start walk end) c.old c.new outcome
   pub calls : c.seen'.calls ≤ c.seen.calls + walk_call_bound r.task store r.tries (first_rows span.most walk)
-  pub count : result.stop ≡ stop.Done → result.count ≡ length (first_rows span.most walk)
+  pub count : result.stop ≡ Stop.Done → result.count ≡ length (first_rows span.most walk)
 
 -- over an honest controller
 pub record ListsSpan (r : Request) (span : Span) (c : Change) (result : Listed) : Type 0 where

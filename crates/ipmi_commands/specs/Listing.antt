@@ -6,7 +6,7 @@ use Rattle.arrayvec.specs.ArrayVec.{ArrayVec}
 use Rattle.ipmi_bus.specs.Bounds.{step_call_bound, fru_call_bound, digits}
 use Rattle.ipmi_bus.specs.declared.step.Place.{Place}
 use Rattle.ipmi_bus.specs.declared.step.Place.TheVariants.{First, Id, End}
-use Rattle.ipmi_bus.specs.declared.inventory.FruEnded.TheVariants as fru
+use Rattle.ipmi_bus.specs.declared.inventory.FruEnded.{FruEnded}
 use Rattle.ipmi_bus.specs.declared.step.Ended.TheVariants.{Cycle, Missing, Refused, GaveUp, Stalled, Malformed}
 use Rattle.ipmi_bus.specs.Readers.{inventory_len, KeepsReservations}
 use Rattle.ipmi_bus.specs.Shelf.{Row, largest_len}
@@ -18,13 +18,10 @@ use Rattle.ipmi_bus.specs.Seen.{Seen, StaysHonest}
 use Rattle.ipmi_bus.specs.CursorState.{CursorState}
 use Rattle.ipmi_bus.specs.Standing.{StandsAt}
 use Rattle.ipmi_bus.specs.Step.{CursorHoldsCurrent, asked_at}
-use Rattle.ipmi_command_line.specs.declared.command.Count.TheVariants as count
+use Rattle.ipmi_command_line.specs.declared.command.Count.{Count}
 use Rattle.ipmi_command_line.specs.declared.command.Task.{Task}
-use Rattle.ipmi_command_line.specs.declared.command.Task.TheVariants as task
 use Rattle.ipmi_commands.specs.declared.piece.Piece.{Piece}
-use Rattle.ipmi_commands.specs.declared.piece.Piece.TheVariants as piece
 use Rattle.ipmi_commands.specs.declared.stop.Stop.{Stop}
-use Rattle.ipmi_commands.specs.declared.stop.Stop.TheVariants as stop
 use Rattle.ipmi_commands.specs.declared.listing.Listed.{Listed}
 use Rattle.ipmi_commands.specs.declared.listing.Span.{Span}
 use Rattle.ipmi_commands.specs.Plan.{IsRowPiece, most_after, first_rows, first_end, last_rows, Request, request, Plan, Item, IsItemText, Subject, OfRow, Passed, Spot, AtRecord, AtInventory, WalkEnds, row_items, run_end, Printed, Outcome, IsAllowed, CountsSo, IsFine, IsAmong, end_spots, spots_after}
@@ -93,36 +90,36 @@ first_plan most t start walk end = span_plan (up_to most) t start walk end
 
 -- how it stopped, as the outcome of a run
 abbrev pub IsOutcome : Stop → Outcome → Type 0
-IsOutcome stop.Done outcome = outcome ≡ plan.Finished (WalkEnds Done)
-IsOutcome (stop.Ended (Cycle n)) outcome = outcome ≡ plan.Finished (WalkEnds (CycleAt n))
-IsOutcome (stop.Ended (Missing n)) outcome = outcome ≡ plan.Finished (WalkEnds (MissingAt n))
-IsOutcome (stop.Ended (GaveUp n)) outcome = outcome ≡ plan.GaveUp (AtRecord n)
-IsOutcome (stop.Ended (Refused n code)) outcome = outcome ≡ plan.Refused (AtRecord n) code.0
-IsOutcome (stop.Ended (Stalled n)) outcome = ⊥
-IsOutcome (stop.Ended (Malformed n)) outcome = ⊥
-IsOutcome stop.NoName outcome = outcome ≡ plan.Finished plan.NoName
-IsOutcome stop.NoInfo outcome = outcome ≡ plan.Finished plan.NoInfo
-IsOutcome (stop.Inventory id fru.GaveUp) outcome = outcome ≡ plan.GaveUp (AtInventory id)
-IsOutcome (stop.Inventory id (fru.Refused code)) outcome = outcome ≡ plan.Refused (AtInventory id) code.0
-IsOutcome (stop.Inventory id fru.Memory) outcome = outcome ≡ plan.OutOfMemory
-IsOutcome (stop.Inventory id _) outcome = ⊥
-IsOutcome stop.Memory outcome = outcome ≡ plan.OutOfMemory
-IsOutcome stop.WriteFault outcome = outcome ≡ plan.WriteFault
+IsOutcome Stop.Done outcome = outcome ≡ plan.Finished (WalkEnds Done)
+IsOutcome (Stop.Ended (Cycle n)) outcome = outcome ≡ plan.Finished (WalkEnds (CycleAt n))
+IsOutcome (Stop.Ended (Missing n)) outcome = outcome ≡ plan.Finished (WalkEnds (MissingAt n))
+IsOutcome (Stop.Ended (GaveUp n)) outcome = outcome ≡ plan.GaveUp (AtRecord n)
+IsOutcome (Stop.Ended (Refused n code)) outcome = outcome ≡ plan.Refused (AtRecord n) code.0
+IsOutcome (Stop.Ended (Stalled n)) outcome = ⊥
+IsOutcome (Stop.Ended (Malformed n)) outcome = ⊥
+IsOutcome Stop.NoName outcome = outcome ≡ plan.Finished plan.NoName
+IsOutcome Stop.NoInfo outcome = outcome ≡ plan.Finished plan.NoInfo
+IsOutcome (Stop.Inventory id FruEnded.GaveUp) outcome = outcome ≡ plan.GaveUp (AtInventory id)
+IsOutcome (Stop.Inventory id (FruEnded.Refused code)) outcome = outcome ≡ plan.Refused (AtInventory id) code.0
+IsOutcome (Stop.Inventory id FruEnded.Memory) outcome = outcome ≡ plan.OutOfMemory
+IsOutcome (Stop.Inventory id _) outcome = ⊥
+IsOutcome Stop.Memory outcome = outcome ≡ plan.OutOfMemory
+IsOutcome Stop.WriteFault outcome = outcome ≡ plan.WriteFault
 
 -- a write fault is one fault of the output, and nothing else is
 abbrev pub faults_of : Stop → ℕ
-faults_of stop.WriteFault = 1
+faults_of Stop.WriteFault = 1
 faults_of _ = 0
 
 -- after the last record, or after as many as were wanted
 abbrev pub is_done : Stop → Bool
-is_done stop.Done = true
+is_done Stop.Done = true
 is_done _ = false
 
 -- how a listing stops at its end: done, unless the command asks for a name and nothing was written
 abbrev pub stop_at_end : Task → Bool → Stop
-stop_at_end (task.Get name) false = stop.NoName
-stop_at_end _ wrote = stop.Done
+stop_at_end (Task.Get name) false = Stop.NoName
+stop_at_end _ wrote = Stop.Done
 
 -- ---- calls
 
@@ -162,22 +159,22 @@ second_walk_bound bound _ = bound
 
 -- an info and one inventory need no walk, and all inventories begin with that of device 0
 abbrev pub run_call_bound : Task → Store → ℕ → List Row → WalkEnd → ℕ
-run_call_bound (task.SelList (count.Last n)) store tries walk end =
-    walk_call_bound (task.SelList (count.Last n)) store tries walk
-    + second_walk_bound (walk_call_bound (task.SelList (count.Last n)) store tries walk) (last_rows n walk end)
-run_call_bound (task.Info shelf) store tries walk end = tries + 1
-run_call_bound (task.Fru (Some id)) store tries walk end = calls_at tries store (AtInventory id)
-run_call_bound (task.Fru None) store tries walk end = calls_at tries store (AtInventory 0) + walk_call_bound (task.Fru None) store tries walk
-run_call_bound task.Rewrite store tries walk end = 0
+run_call_bound (Task.SelList (Count.Last n)) store tries walk end =
+    walk_call_bound (Task.SelList (Count.Last n)) store tries walk
+    + second_walk_bound (walk_call_bound (Task.SelList (Count.Last n)) store tries walk) (last_rows n walk end)
+run_call_bound (Task.Info shelf) store tries walk end = tries + 1
+run_call_bound (Task.Fru (Some id)) store tries walk end = calls_at tries store (AtInventory id)
+run_call_bound (Task.Fru None) store tries walk end = calls_at tries store (AtInventory 0) + walk_call_bound (Task.Fru None) store tries walk
+run_call_bound Task.Rewrite store tries walk end = 0
 run_call_bound t store tries walk end = walk_call_bound t store tries (first_rows (most_of t) walk)
 
 -- the same over any controller, where an inventory has at most 65,535 bytes
 abbrev pub most_calls : Task → ℕ → ℕ
-most_calls (task.SelList (count.Last n)) tries = most_on_walk (task.SelList (count.Last n)) tries + most_on_walk (task.SelList (count.Last n)) tries
-most_calls (task.Info shelf) tries = tries + 1
-most_calls (task.Fru (Some id)) tries = fru_call_bound tries 65535
-most_calls (task.Fru None) tries = fru_call_bound tries 65535 + most_on_walk (task.Fru None) tries
-most_calls task.Rewrite tries = 0
+most_calls (Task.SelList (Count.Last n)) tries = most_on_walk (Task.SelList (Count.Last n)) tries + most_on_walk (Task.SelList (Count.Last n)) tries
+most_calls (Task.Info shelf) tries = tries + 1
+most_calls (Task.Fru (Some id)) tries = fru_call_bound tries 65535
+most_calls (Task.Fru None) tries = fru_call_bound tries 65535 + most_on_walk (Task.Fru None) tries
+most_calls Task.Rewrite tries = 0
 most_calls t tries = most_on_walk t tries
 
 -- ---- the text of a record
@@ -221,8 +218,8 @@ Finds IsText spots tries s s' result = FindsBy string_bytes IsText spots tries s
 
 -- the bytes of a piece, where this is the line that was written
 abbrev pub bytes_of : ArrayVec ℕ → Piece → List ℕ
-bytes_of line piece.Line = line.items
-bytes_of line (piece.Text text) = string_bytes text
+bytes_of line Piece.Line = line.items
+bytes_of line (Piece.Text text) = string_bytes text
 
 -- what the task prints for a row
 abbrev pub FindsPiece : Task → ℕ → Row → Seen → Seen → ArrayVec ℕ → Result Piece Stop → Type 0
@@ -244,7 +241,7 @@ pub record LacksInfo (shelf : Shelf) (tries : ℕ) (s s' : Seen) : Type 0 where
   pub is : s'.stores_added ≡ s.stores_added → info_of shelf s.store ≡ None
 
 abbrev pub FindsInfo : Shelf → ℕ → Seen → Seen → Result (String Global) Stop → Type 0
-FindsInfo shelf tries s s' (Err stop.NoInfo) = LacksInfo shelf tries s s'
+FindsInfo shelf tries s s' (Err Stop.NoInfo) = LacksInfo shelf tries s s'
 FindsInfo shelf tries s s' result = Finds (λ store text. IsBlockOfInfo (info_of shelf store) text) (AtRecord 0 ∷ []) tries s s' result
 
 -- ---- a listing by a cursor
@@ -312,8 +309,8 @@ pub record ListsAlong (r : Request) (store : Store) (walk : List Row) (end : Wal
   pub leaves : IsAllowed r.task store (span_plan span r.task r.start walk end) c.old c.new outcome
   pub calls : 0 < c.begun.part
       → c.seen'.calls + 1 ≤ c.seen.calls + calls_for r.task store r.tries (first_rows span.most walk) + step_call_bound r.tries 0 + digits c.begun.part
-  pub goes_on : result.stop ≡ stop.Done → StandsAt (rows_of (shelf_of r.task) store) r.start walk (length (first_rows span.most walk)) c.now
-  pub count : result.stop ≡ stop.Done → result.count ≡ length (first_rows span.most walk)
+  pub goes_on : result.stop ≡ Stop.Done → StandsAt (rows_of (shelf_of r.task) store) r.start walk (length (first_rows span.most walk)) c.now
+  pub count : result.stop ≡ Stop.Done → result.count ≡ length (first_rows span.most walk)
 
 -- a whole listing, over an honest controller
 pub record IsListing (t : Task) (tries : ℕ) (span : Span) (c : Course) (result : Listed) : Type 0 where

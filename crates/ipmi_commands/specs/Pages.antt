@@ -11,7 +11,6 @@ use Rattle.ipmi_bus.specs.CursorState.{CursorState, start_of}
 use Rattle.ipmi_bus.specs.Seen.{Seen, StaysHonest}
 use Rattle.ipmi_command_line.specs.Command.{CommandState}
 use Rattle.ipmi_commands.specs.declared.stop.Stop.{Stop}
-use Rattle.ipmi_commands.specs.declared.stop.Stop.TheVariants as stop
 use Rattle.ipmi_command_line.specs.declared.command.Task.{Task}
 use Rattle.ipmi_commands.specs.Listing.{is_done, stop_at_end, first_plan, IsOutcome, walk_call_bound}
 use Rattle.ipmi_commands.specs.Plan.{first_rows, Request, request, Change, change, OnWalk, Outcome, IsAllowed, CountsSo, IsFine}
@@ -20,7 +19,7 @@ use Rattle.ipmi_command_line.specs.Task.{shelf_of}
 -- the id that a cursor starts from; after the last record, and at the id 0000h, no cursor is needed
 abbrev pub start_at : Task → Place → Result (Option ℕ) Stop
 start_at t First = Ok None
-start_at t (Id n) = if n == 0 then Err (stop.Ended (Cycle 0)) else Ok (Some n)
+start_at t (Id n) = if n == 0 then Err (Stop.Ended (Cycle 0)) else Ok (Some n)
 start_at t End = Err (stop_at_end t false)
 
 -- the cursor of a listing as it starts, from the id or from the first record: it has the command's part size and tries
@@ -44,7 +43,7 @@ GoesOn rows start used next = (next ≡ place_after_rows start used) ⊎ ((next 
 pub record PageAlong (r : Request) (store : Store) (most : Option ℕ) (walk : List Row) (end : WalkEnd) (next : Place) (c : Change) (outcome : Outcome) (result : Stop) : Type 0 where
   pub leaves : IsAllowed r.task store (first_plan most r.task r.start walk end) c.old c.new outcome
   pub calls : c.seen'.calls ≤ c.seen.calls + walk_call_bound r.task store r.tries (first_rows most walk)
-  pub goes_on : result ≡ stop.Done → GoesOn (rows_of (shelf_of r.task) store) r.start (first_rows most walk) next
+  pub goes_on : result ≡ Stop.Done → GoesOn (rows_of (shelf_of r.task) store) r.start (first_rows most walk) next
 
 -- of so many records at most, over an honest controller
 pub record IsPage (r : Request) (most : Option ℕ) (next : Place) (c : Change) (result : Stop) : Type 0 where
@@ -73,7 +72,7 @@ pub record PageThen (r : Request) (size : ℕ) (s : Seen) (old : List ℕ) (Rest
   pub next : Place
   pub seen : Seen
   pub text : List ℕ
-  pub page : IsPage r (Some size) next (change s seen old text) stop.Done
+  pub page : IsPage r (Some size) next (change s seen old text) Stop.Done
   pub rest : Rest next seen text
 
 -- pages of these sizes, and then one without a limit; a page that ends by name, or for want of memory or by a write fault, ends all

@@ -6,13 +6,10 @@ use Rattle.ipmi_bus.specs.Store.{Store, inventory_of, reading_of}
 use Rattle.ipmi_fru.specs.Print.{IsFruText}
 use Rattle.ipmi_records.specs.declared.sdr.SdrFault.{SdrFault}
 use Rattle.ipmi_records.specs.declared.sdr.SdrView.{SdrView}
-use Rattle.ipmi_records.specs.declared.sdr.SdrView.TheVariants as view_of
 use Rattle.ipmi_records.specs.Sdr as sdr
 use Rattle.ipmi_records.specs.SdrText.{IsSdrLine, IsExtendedLine, IsSdrBlock, fault_line, printed_name}
 use Rattle.ipmi_command_line.specs.declared.command.Kind.{Kind}
-use Rattle.ipmi_command_line.specs.declared.command.Kind.TheVariants as kind
 use Rattle.ipmi_commands.specs.declared.piece.Form.{Form}
-use Rattle.ipmi_commands.specs.declared.piece.Form.TheVariants as form
 
 -- ---- what is chosen
 
@@ -23,14 +20,14 @@ IfChosen false IsText text = text ≡ []
 
 -- a record is of a kind by its type byte, also where it has a fault
 abbrev pub is_of_kind : Kind → ℕ → Bool
-is_of_kind kind.Sensors type = (type == 0x01) || (type == 0x02)
-is_of_kind kind.All type = true
-is_of_kind kind.Full type = type == 0x01
-is_of_kind kind.Compact type = type == 0x02
-is_of_kind kind.Event type = type == 0x03
-is_of_kind kind.Generic type = type == 0x10
-is_of_kind kind.Mc type = type == 0x12
-is_of_kind kind.Fru type = type == 0x11
+is_of_kind Kind.Sensors type = (type == 0x01) || (type == 0x02)
+is_of_kind Kind.All type = true
+is_of_kind Kind.Full type = type == 0x01
+is_of_kind Kind.Compact type = type == 0x02
+is_of_kind Kind.Event type = type == 0x03
+is_of_kind Kind.Generic type = type == 0x10
+is_of_kind Kind.Mc type = type == 0x12
+is_of_kind Kind.Fru type = type == 0x11
 
 abbrev pub row_is_of_kind : Kind → Row → Bool
 row_is_of_kind kind row = is_of_kind kind (sdr.record_type row.bytes)
@@ -52,8 +49,8 @@ reading_for store view = reading_by store (sdr.reading_of view)
 
 -- the line of a record with its reading, in one of its two forms
 abbrev pub IsLineOf : Form → SdrView → Option Reading → List ℕ → Type 0
-IsLineOf form.Short view reading text = IsSdrLine view reading text
-IsLineOf form.Extended view reading text = IsExtendedLine view reading text
+IsLineOf Form.Short view reading text = IsSdrLine view reading text
+IsLineOf Form.Extended view reading text = IsExtendedLine view reading text
 
 -- that line, or in both forms the line of the record's fault
 abbrev pub IsListed : Form → Store → ℕ → Result SdrView SdrFault → List ℕ → Type 0
@@ -92,5 +89,5 @@ IsDevicePiece store view (Some id) text = IfChosen (not (id == 0)) (λ t. IsInve
 
 -- only of a FRU device locator
 abbrev pub IsLocatorPiece : Store → Result SdrView SdrFault → List ℕ → Type 0
-IsLocatorPiece store (Ok (view_of.Fru bytes)) text = IsDevicePiece store (view_of.Fru bytes) (sdr.fru_of (view_of.Fru bytes)) text
+IsLocatorPiece store (Ok (SdrView.Fru bytes)) text = IsDevicePiece store (SdrView.Fru bytes) (sdr.fru_of (SdrView.Fru bytes)) text
 IsLocatorPiece store _ text = text ≡ []

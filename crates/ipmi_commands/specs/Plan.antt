@@ -15,15 +15,13 @@ use Rattle.ipmi_records.specs.Sdr as sdr
 use Rattle.ipmi_records.specs.Sel.{sel_view_of}
 use Rattle.ipmi_records.specs.SelText.{IsSelLine, IsSelBlock}
 use Rattle.ipmi_commands.specs.Line.{line_of}
-use Rattle.ipmi_commands.specs.declared.piece.Form.TheVariants as form
+use Rattle.ipmi_commands.specs.declared.piece.Form.{Form}
 use Rattle.ipmi_bus.specs.Bounds.{fru_call_bound}
 use Rattle.ipmi_records.specs.declared.sdr.SdrFault.{SdrFault}
 use Rattle.ipmi_records.specs.declared.sdr.SdrView.{SdrView}
 use Rattle.ipmi_command_line.specs.declared.command.Count.{Count}
-use Rattle.ipmi_command_line.specs.declared.command.Count.TheVariants as count
 use Rattle.ipmi_command_line.specs.declared.command.Kind.{Kind}
 use Rattle.ipmi_command_line.specs.declared.command.Task.{Task}
-use Rattle.ipmi_command_line.specs.declared.command.Task.TheVariants as task
 use Rattle.ipmi_command_line.specs.Task.{most_of, shelf_of}
 use Rattle.ipmi_commands.specs.Pieces.{IsListedOfKind, IsBlockOfName, IsLocatorPiece, IsInventoryPiece, row_is_of_kind, is_name}
 
@@ -115,15 +113,15 @@ abbrev pub printing : (Store → Row → List ℕ → Type 0) → (Row → List 
 printing IsText spots most = record { IsText = IsText; spots = spots; most = most }
 
 abbrev pub printing_of : Task → Printing
-printing_of task.Hex = printing (λ store row text. text ≡ line_of row) (λ row. []) (λ tries. 0)
-printing_of (task.List kind) = printing (λ store row text. IsListedOfKind form.Short kind store row text) (listed_spots kind) (λ tries. tries + 1)
-printing_of (task.Elist kind) = printing (λ store row text. IsListedOfKind form.Extended kind store row text) (listed_spots kind) (λ tries. tries + 1)
-printing_of (task.Get name) =
+printing_of Task.Hex = printing (λ store row text. text ≡ line_of row) (λ row. []) (λ tries. 0)
+printing_of (Task.List kind) = printing (λ store row text. IsListedOfKind Form.Short kind store row text) (listed_spots kind) (λ tries. tries + 1)
+printing_of (Task.Elist kind) = printing (λ store row text. IsListedOfKind Form.Extended kind store row text) (listed_spots kind) (λ tries. tries + 1)
+printing_of (Task.Get name) =
     printing (λ store row text. IsBlockOfName name store row.id (sdr.sdr_view_of row.bytes) text)
     (λ row. named_spots name row.id (sdr.sdr_view_of row.bytes)) (λ tries. tries + 1)
-printing_of (task.SelList entries) = printing (λ store row text. IsSelLine row.id (sel_view_of row.bytes) text) (λ row. []) (λ tries. 0)
-printing_of (task.SelGet id) = printing (λ store row text. IsSelBlock row.id (sel_view_of row.bytes) text) (λ row. []) (λ tries. 0)
-printing_of (task.Fru id) =
+printing_of (Task.SelList entries) = printing (λ store row text. IsSelLine row.id (sel_view_of row.bytes) text) (λ row. []) (λ tries. 0)
+printing_of (Task.SelGet id) = printing (λ store row text. IsSelBlock row.id (sel_view_of row.bytes) text) (λ row. []) (λ tries. 0)
+printing_of (Task.Fru id) =
     printing (λ store row text. IsLocatorPiece store (sdr.sdr_view_of row.bytes) text)
     (λ row. locator_spots (sdr.sdr_view_of row.bytes)) (λ tries. fru_call_bound tries 65535)
 printing_of _ = printing (λ store row text. text ≡ []) (λ row. []) (λ tries. 0)
@@ -203,7 +201,7 @@ some_has_name name (row ∷ rows) = view_has_name name (sdr.sdr_view_of row.byte
 
 -- how a listing of these rows ends: a finished walk on which no record has the name ends by that
 abbrev pub done_end : Task → List Row → RunEnd
-done_end (task.Get name) rows = if some_has_name name rows then WalkEnds Done else NoName
+done_end (Task.Get name) rows = if some_has_name name rows then WalkEnds Done else NoName
 done_end _ rows = WalkEnds Done
 
 abbrev pub run_end : Task → List Row → WalkEnd → RunEnd
@@ -250,7 +248,7 @@ inventory_item id = record { subject = OfInventory id; spots = AtInventory id �
 -- of all inventories: that of device 0, and then the locators
 abbrev pub inventories_plan : Place → List Row → WalkEnd → Plan
 inventories_plan start walk end = record {
-  items = inventory_item 0 ∷ row_items (task.Fru None) start walk;
+  items = inventory_item 0 ∷ row_items (Task.Fru None) start walk;
   end = WalkEnds end;
   end_spots = end_spots start walk end;
 }
@@ -269,16 +267,16 @@ abbrev pub rewrite_plan : Plan
 rewrite_plan = record { items = record { subject = OfImage; spots = [] } ∷ []; end = WalkEnds Done; end_spots = [] }
 
 abbrev pub counted_plan : Count → Task → Place → List Row → WalkEnd → Plan
-counted_plan (count.Last n) t start walk end = last_plan n t start walk end
+counted_plan (Count.Last n) t start walk end = last_plan n t start walk end
 counted_plan _ t start walk end = listing_plan t start walk end
 
 -- what a task is to print over a store, with the walk from its start and how that ends
 abbrev pub plan_of : Task → Store → Place → List Row → WalkEnd → Plan
-plan_of (task.Fru None) store start walk end = inventories_plan start walk end
-plan_of (task.Fru (Some id)) store start walk end = inventory_plan id
-plan_of (task.Info shelf) store start walk end = info_plan (info_of shelf store)
-plan_of (task.SelList entries) store start walk end = counted_plan entries (task.SelList entries) start walk end
-plan_of task.Rewrite store start walk end = rewrite_plan
+plan_of (Task.Fru None) store start walk end = inventories_plan start walk end
+plan_of (Task.Fru (Some id)) store start walk end = inventory_plan id
+plan_of (Task.Info shelf) store start walk end = info_plan (info_of shelf store)
+plan_of (Task.SelList entries) store start walk end = counted_plan entries (Task.SelList entries) start walk end
+plan_of Task.Rewrite store start walk end = rewrite_plan
 plan_of t store start walk end = listing_plan t start walk end
 
 -- ---- texts

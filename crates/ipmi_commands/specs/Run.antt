@@ -1,21 +1,17 @@
 -- What a run of a command leaves, and its exit status.
 use Rattle.std.specs.Prelude.{◌≡◌, ◌⊎◌, ℕ, ◌+◌, ◌*◌, ◌<◌, ◌≤◌, Bool, true, false, IsTrue, Result, Ok, Err, String, string_bytes, List, [], ◌++◌, length}
 use Rattle.std.specs.declared.alloc.Global.{Global}
-use Rattle.ipmi_bus.specs.declared.inventory.FruEnded.TheVariants as fru
+use Rattle.ipmi_bus.specs.declared.inventory.FruEnded.{FruEnded}
 use Rattle.ipmi_bus.specs.declared.step.Ended.TheVariants.{Cycle, Missing, GaveUp}
 use Rattle.ipmi_bus.specs.Bounds.{step_call_bound}
 use Rattle.ipmi_bus.specs.Store.{Store}
 use Rattle.ipmi_bus.specs.Walk as walk_end
 use Rattle.ipmi_bus.specs.Seen.{Seen, IsHonest, StaysHonest}
 use Rattle.ipmi_image.specs.declared.image.ImageFault.{ImageFault}
-use Rattle.ipmi_image.specs.declared.image.ImageFault.TheVariants as image_fault
-use Rattle.ipmi_command_line.specs.declared.command.Count.TheVariants as count
+use Rattle.ipmi_command_line.specs.declared.command.Count.{Count}
 use Rattle.ipmi_command_line.specs.declared.command.Task.{Task}
-use Rattle.ipmi_command_line.specs.declared.command.Task.TheVariants as task
 use Rattle.ipmi_command_line.specs.declared.command.UsageFault.{UsageFault}
-use Rattle.ipmi_command_line.specs.declared.command.UsageFault.TheVariants as fault
 use Rattle.ipmi_commands.specs.declared.stop.Stop.{Stop}
-use Rattle.ipmi_commands.specs.declared.stop.Stop.TheVariants as stop
 use Rattle.ipmi_output.specs.declared.message.Message.{Message}
 use Rattle.ipmi_output.specs.declared.message.Message.TheVariants.{Usage, Image, WriteFault, OutOfMemory}
 use Rattle.ipmi_command_line.specs.Command.{CommandState}
@@ -30,28 +26,28 @@ use Rattle.ipmi_commands.specs.Plan as plan
 
 -- the task that writes an image again is answered, and not run
 abbrev pub is_rewrite : Task → Bool
-is_rewrite task.Rewrite = true
+is_rewrite Task.Rewrite = true
 is_rewrite _ = false
 
 -- the tasks that go along one walk, and ask for nothing before it
 abbrev pub lists_once : Task → Bool
-lists_once task.Hex = true
-lists_once (task.List kind) = true
-lists_once (task.Elist kind) = true
-lists_once (task.Get name) = true
-lists_once (task.SelList count.All) = true
-lists_once (task.SelList (count.First n)) = true
-lists_once (task.SelGet id) = true
+lists_once Task.Hex = true
+lists_once (Task.List kind) = true
+lists_once (Task.Elist kind) = true
+lists_once (Task.Get name) = true
+lists_once (Task.SelList Count.All) = true
+lists_once (Task.SelList (Count.First n)) = true
+lists_once (Task.SelGet id) = true
 lists_once _ = false
 
 -- ---- over a controller
 
 -- the exit status by how a listing stopped, and by the outcome of a run
 abbrev pub stop_status : Stop → ℕ
-stop_status stop.Done = 0
-stop_status stop.Memory = 5
-stop_status (stop.Inventory id fru.Memory) = 5
-stop_status stop.WriteFault = 4
+stop_status Stop.Done = 0
+stop_status Stop.Memory = 5
+stop_status (Stop.Inventory id FruEnded.Memory) = 5
+stop_status Stop.WriteFault = 4
 stop_status _ = 1
 
 abbrev pub status_of : Outcome → ℕ
@@ -62,8 +58,8 @@ status_of _ = 1
 
 -- a text that is written, by how that stopped
 abbrev pub WritesText : List ℕ → List ℕ → List ℕ → Stop → Type 0
-WritesText text old new stop.Done = new ≡ old ++ text
-WritesText text old new stop.WriteFault = (0 < length text) × TakesPart old new text
+WritesText text old new Stop.Done = new ≡ old ++ text
+WritesText text old new Stop.WriteFault = (0 < length text) × TakesPart old new text
 WritesText text old new _ = ⊥
 
 -- a text that was found, or nothing where it was not, for that reason
@@ -73,13 +69,13 @@ WritesFound (Err e) old new result = (result ≡ e) × (new ≡ old)
 
 -- what is said of how a listing of a task stopped: a line, or nothing where it is done
 abbrev pub stop_text : Task → Stop → List ℕ
-stop_text t stop.Done = []
-stop_text t (stop.Ended e) = line_text (ended_text e)
-stop_text t (stop.Inventory id e) = line_text (inventory_text id e)
-stop_text t stop.NoName = line_text (no_name_text (name_of t))
-stop_text t stop.NoInfo = line_text no_info_text
-stop_text t stop.Memory = line_text (message_text OutOfMemory)
-stop_text t stop.WriteFault = line_text (message_text WriteFault)
+stop_text t Stop.Done = []
+stop_text t (Stop.Ended e) = line_text (ended_text e)
+stop_text t (Stop.Inventory id e) = line_text (inventory_text id e)
+stop_text t Stop.NoName = line_text (no_name_text (name_of t))
+stop_text t Stop.NoInfo = line_text no_info_text
+stop_text t Stop.Memory = line_text (message_text OutOfMemory)
+stop_text t Stop.WriteFault = line_text (message_text WriteFault)
 
 -- what is said of an outcome
 abbrev pub outcome_text : Task → Outcome → List ℕ
@@ -89,7 +85,7 @@ outcome_text t (plan.Finished (plan.WalkEnds (walk_end.MissingAt n))) = line_tex
 outcome_text t (plan.Finished plan.NoName) = line_text (no_name_text (name_of t))
 outcome_text t (plan.Finished plan.NoInfo) = line_text no_info_text
 outcome_text t (plan.GaveUp (plan.AtRecord n)) = line_text (ended_text (GaveUp n))
-outcome_text t (plan.GaveUp (plan.AtInventory id)) = line_text (inventory_text id fru.GaveUp)
+outcome_text t (plan.GaveUp (plan.AtInventory id)) = line_text (inventory_text id FruEnded.GaveUp)
 outcome_text t (plan.Refused (plan.AtRecord n) code) = line_text (refused_text n code)
 outcome_text t (plan.Refused (plan.AtInventory id) code) = line_text (refused_inventory_text id code)
 outcome_text t plan.OutOfMemory = line_text (message_text OutOfMemory)
@@ -207,7 +203,7 @@ pub record IsRunOverStore (r : Request) (store : Store) (e : Effect) (status : �
 
 -- of bytes that are no image: the fault, or want of memory, which may come before it
 abbrev pub fault_status : ImageFault → ℕ
-fault_status image_fault.Memory = 5
+fault_status ImageFault.Memory = 5
 fault_status _ = 3
 
 abbrev pub FailsToRead : ImageFault → Effect → ℕ → Type 0
@@ -216,15 +212,15 @@ FailsToRead fault e status =
 
 -- the text of an image, by how writing it stopped
 abbrev pub WritesImage : List ℕ → List ℕ → List ℕ → Stop → Type 0
-WritesImage text old new stop.Memory = new ≡ old
+WritesImage text old new Stop.Memory = new ≡ old
 WritesImage text old new result = WritesText text old new result
 
 -- an image written again; nothing of it where memory runs out
 pub record IsRewriting (store : Store) (e : Effect) (status : ℕ) : Type 0 where
   pub outcome : Outcome
   pub status_is : status ≡ status_of outcome
-  pub message : ReceivesText e.said e.said' (outcome_text task.Rewrite outcome)
-  pub allowed : IsAllowed task.Rewrite store rewrite_plan e.old e.new outcome
+  pub message : ReceivesText e.said e.said' (outcome_text Task.Rewrite outcome)
+  pub allowed : IsAllowed Task.Rewrite store rewrite_plan e.old e.new outcome
   pub unwritten : outcome ≡ plan.OutOfMemory → e.new ≡ e.old
   pub fine : IsFine outcome
 
@@ -248,5 +244,5 @@ AnswersCommand command image e status = AnswersTask (is_rewrite command.task) (r
 -- the answer to a command line over an image, by what the image gives
 abbrev pub AnswersLine : Result CommandState UsageFault → Result Store ImageFault → Effect → ℕ → Type 0
 AnswersLine (Ok command) image e status = AnswersCommand command image e status
-AnswersLine (Err fault.Memory) image e status = OnlySays e status OutOfMemory 5
+AnswersLine (Err UsageFault.Memory) image e status = OnlySays e status OutOfMemory 5
 AnswersLine (Err _) image e status = OnlySays e status Usage 2

@@ -3,8 +3,8 @@ ghost use Rattle.std.specs.Prelude.{◌≡◌, ◌+◌, ◌-◌, ◌≤◌};
 ghost use Rattle.ipmi_bus.specs.CursorState.{start_of};
 ghost use Rattle.ipmi_bus.specs.Seen.{IsHonest};
 ghost use Rattle.ipmi_command_line.specs.Task.{start_by};
-ghost use Rattle.ipmi_command_line.specs.declared.command.Count.TheVariants as count;
-ghost use Rattle.ipmi_command_line.specs.declared.command.Task.TheVariants as task;
+ghost use Rattle.ipmi_command_line.specs.declared.command.Count.{Count};
+ghost use Rattle.ipmi_command_line.specs.declared.command.Task.{Task};
 ghost use Rattle.ipmi_commands.specs.Last.{ListsSpan};
 ghost use Rattle.ipmi_commands.specs.Listing.{faults_of, most_calls, most_on_walk};
 ghost use Rattle.ipmi_commands.specs.Plan.{change};
@@ -58,7 +58,7 @@ pub(crate) fn list_last<C: Controller, O: Sink>(
     wanted: u16,
     out: &mut O,
 ) -> Stop
-    requires task { cmd.now.task ≡ task.SelList (count.Last wanted) }
+    requires task { cmd.now.task ≡ Task.SelList (Count.Last wanted) }
     requires some { 1 ≤ wanted }
     ensures faults { O.faults out.new ≡ O.faults out.old + faults_of result }
     ensures calls { (C.seen ctl.new).calls ≤ (C.seen ctl.old).calls + most_calls cmd.now.task

@@ -3,7 +3,7 @@ ghost use Rattle.std.specs.Prelude.{◌≡◌, ◌≢◌, ◌+◌, ◌==◌, ◌
 ghost use Rattle.ipmi_bus.specs.Seen.{IsHonest};
 ghost use Rattle.ipmi_commands.specs.Listing.{course, faults_of, is_reached, most_for_one, passing, stop_at_end, IsListing, ListingCalls};
 ghost use Rattle.ipmi_command_line.specs.Task.{shelf_of};
-ghost use Rattle.ipmi_command_line.specs.declared.command.Task.TheVariants as task;
+ghost use Rattle.ipmi_command_line.specs.declared.command.Task.{Task};
 
 use crate::line::Line;
 use crate::piece::piece_in;
@@ -87,7 +87,7 @@ pub(crate) fn list_records<C: Controller, O: Sink>(
     requires shelf { cursor.old.shelf ≡ shelf_of cmd.now.task }
     requires tries { cursor.old.tries ≡ cmd.now.tries }
     ensures faults { O.faults out.new ≡ O.faults out.old + faults_of result.stop }
-    ensures no_memory { cmd.now.task ≡ task.Hex → result.stop ≢ Stop.Memory }
+    ensures no_memory { cmd.now.task ≡ Task.Hex → result.stop ≢ Stop.Memory }
     ensures calls { ListingCalls (most_for_one cmd.now.task cmd.now.tries) cursor.old cursor.new
         (C.seen ctl.old) (C.seen ctl.new) }
     ensures honest { IsHonest (C.seen ctl.old) →

@@ -1,7 +1,7 @@
 //! Does what a command's task asks for, over any controller.
 ghost use Rattle.std.specs.Prelude.{◌≡◌, ◌+◌, ◌≤◌, true, false, IfErr, None, Some};
 ghost use Rattle.ipmi_bus.specs.Seen.{IsHonest};
-ghost use Rattle.ipmi_command_line.specs.declared.command.Task.TheVariants as task;
+ghost use Rattle.ipmi_command_line.specs.declared.command.Task.{Task};
 ghost use Rattle.ipmi_commands.specs.Listing.{faults_of, most_calls};
 ghost use Rattle.ipmi_commands.specs.Plan.{change};
 ghost use Rattle.ipmi_commands.specs.Run.{is_rewrite, lists_once, request_of, Performs, WritesFound, WritesText};
@@ -47,7 +47,7 @@ fn print_info<C: Controller, O: Sink>(
     shelf: Shelf,
     out: &mut O,
 ) -> Stop
-    requires { cmd.now.task ≡ task.Info shelf }
+    requires { cmd.now.task ≡ Task.Info shelf }
     ensures faults { O.faults out.new ≡ O.faults out.old + faults_of result }
     ensures calls { (C.seen ctl.new).calls ≤ (C.seen ctl.old).calls + most_calls cmd.now.task
         cmd.now.tries }
@@ -66,7 +66,7 @@ fn print_inventory<C: Controller, O: Sink>(
     id: u8,
     out: &mut O,
 ) -> Stop
-    requires { cmd.now.task ≡ task.Fru (Some id) }
+    requires { cmd.now.task ≡ Task.Fru (Some id) }
     ensures faults { O.faults out.new ≡ O.faults out.old + faults_of result }
     ensures calls { (C.seen ctl.new).calls ≤ (C.seen ctl.old).calls + most_calls cmd.now.task
         cmd.now.tries }
@@ -84,7 +84,7 @@ fn print_inventories<C: Controller, O: Sink>(
     cmd: &Command,
     out: &mut O,
 ) -> Stop
-    requires { cmd.now.task ≡ task.Fru None }
+    requires { cmd.now.task ≡ Task.Fru None }
     ensures faults { O.faults out.new ≡ O.faults out.old + faults_of result }
     ensures calls { (C.seen ctl.new).calls ≤ (C.seen ctl.old).calls + most_calls cmd.now.task
         cmd.now.tries }

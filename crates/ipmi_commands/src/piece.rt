@@ -3,7 +3,7 @@ ghost use Rattle.std.specs.Prelude.{◌≡◌, ◌+◌, ◌≤◌, IfOk, IfErr, 
 ghost use Rattle.ipmi_bus.specs.Lent.{row_of_record};
 ghost use Rattle.ipmi_bus.specs.Seen.{IsHonest};
 ghost use Rattle.ipmi_bus.specs.Shelf.{largest_len, whole_len};
-ghost use Rattle.ipmi_command_line.specs.declared.command.Task.TheVariants as task;
+ghost use Rattle.ipmi_command_line.specs.declared.command.Task.{Task};
 ghost use Rattle.ipmi_records.specs.Sdr.{name_of, sdr_view_of};
 ghost use Rattle.ipmi_records.specs.Sel.{sel_view_of};
 ghost use Rattle.ipmi_records.specs.SelText.{IsSelBlock, IsSelLine};
@@ -210,7 +210,7 @@ fn record_piece<C: Controller>(
     ensures calls { (C.seen ctl.new).calls ≤ (C.seen ctl.old).calls + most_after cmd.now.task
         cmd.now.tries }
     ensures unwritten { IfErr result (λ stop. faults_of stop ≡ 0) }
-    ensures no_memory { cmd.now.task ≡ task.Hex → IsOk result }
+    ensures no_memory { cmd.now.task ≡ Task.Hex → IsOk result }
     ensures honest { IsHonest (C.seen ctl.old) →
         FindsPiece cmd.now.task cmd.now.tries (row_of_record lent.now) (C.seen ctl.old)
         (C.seen ctl.new) line.new result }
@@ -253,7 +253,7 @@ pub(crate) fn piece_in<C: Controller>(
     ensures calls { (C.seen ctl.new).calls ≤ (C.seen ctl.old).calls + most_after cmd.now.task
         cmd.now.tries }
     ensures unwritten { IfErr result (λ stop. faults_of stop ≡ 0) }
-    ensures no_memory { cmd.now.task ≡ task.Hex → IsOk result }
+    ensures no_memory { cmd.now.task ≡ Task.Hex → IsOk result }
     ensures honest { IsHonest (C.seen ctl.old) →
         FindsIn passing cmd.now.task cmd.now.tries (row_of_record lent.now) (C.seen ctl.old)
         (C.seen ctl.new) line.new result }

@@ -8,7 +8,7 @@ ghost use Rattle.ipmi_commands.specs.Listing.{faults_of, most_calls};
 ghost use Rattle.ipmi_output.specs.Received.{ReceivesText, of_writer};
 ghost use Rattle.ipmi_commands.specs.Pages.{pages_made};
 ghost use Rattle.ipmi_commands.specs.Run.{stop_status, stop_text, fault_status, is_rewrite, effect, request_of, EndsSo, IsPagedRun, Runs, Says, WritesImage, AnswersCommand, AnswersRewrite, AnswersLine};
-ghost use Rattle.ipmi_output.specs.declared.message.Message.TheVariants as message;
+ghost use Rattle.ipmi_output.specs.declared.message.Message.{Message};
 
 use crate::pages::list_pages;
 use crate::perform::{perform, write_text};
@@ -76,7 +76,7 @@ fn report<E: MessageSink>(task: &Task, stop: Stop, err: &mut E) -> u8
 
 /// Says how the program is called, and gives the exit status of that.
 fn report_usage<E: MessageSink>(err: &mut E) -> u8
-    ensures { Says (E.received err.old) (E.received err.new) result message.Usage 2 }
+    ensures { Says (E.received err.old) (E.received err.new) result Message.Usage 2 }
 {
     say(err, Message::Usage);
     2
@@ -103,7 +103,7 @@ fn image_status(fault: ImageFault) -> u8
 
 /// Says why the image is not read, and gives the exit status of that.
 fn report_image<E: MessageSink>(fault: ImageFault, err: &mut E) -> u8
-    ensures { Says (E.received err.old) (E.received err.new) result (message.Image fault)
+    ensures { Says (E.received err.old) (E.received err.new) result (Message.Image fault)
         (fault_status fault) }
 {
     say(err, Message::Image(fault));

@@ -1,7 +1,6 @@
 //! How a listing stops.
 ghost use Rattle.std.specs.Prelude.{◌≡◌};
 ghost use Rattle.ipmi_commands.specs.Listing.{is_done};
-ghost use Rattle.ipmi_commands.specs.declared.stop.Stop.TheVariants as stop;
 
 use ipmi_bus::{Ended, FruEnded};
 use std::alloc::AllocError;
@@ -35,7 +34,7 @@ impl Stop {
 }
 
 impl From<AllocError> for Stop {
-    ghost from_gives = { λ _ e. e ≡ stop.Memory };
+    ghost from_gives = { λ _ e. e ≡ Stop.Memory };
 
     fn from(_error: AllocError) -> Stop {
         Stop::Memory
@@ -43,7 +42,7 @@ impl From<AllocError> for Stop {
 }
 
 impl From<Ended> for Stop {
-    ghost from_gives = { λ ended e. e ≡ stop.Ended ended };
+    ghost from_gives = { λ ended e. e ≡ Stop.Ended ended };
 
     fn from(ended: Ended) -> Stop {
         Stop::Ended(ended)

@@ -1,7 +1,7 @@
 -- An area and its fields, or its fault.
 use Rattle.std.proofs.Common.{◌≡◌, ℕ, true, false, inr, Option, None, Some, List, [], refl, sym, ap, subst, ◌∙◌, unwrap_or, is_some}
 use Rattle.ipmi_fru.specs.declared.area.AreaKind.{AreaKind}
-use Rattle.ipmi_fru.specs.declared.area.AreaFault.TheVariants as fault
+use Rattle.ipmi_fru.specs.declared.area.AreaFault.{AreaFault}
 use Rattle.ipmi_fru.specs.Field.{AreaField, Spells, fields_in}
 use Rattle.ipmi_fru.specs.Area.{IsArea, IsAreaFault, area_at, area_fault, area_in, field_bytes}
 use Rattle.ipmi_fru.proofs.FieldLemmas.{are_spelt, none_spelt}
@@ -11,7 +11,7 @@ spelt_there bytes None is some = cc some
 spelt_there bytes (Some fields) is some = are_spelt bytes fields is
 
 module _ (kind : AreaKind) (offset : ℕ) (bytes area part : List ℕ) (fine : area_fault offset bytes ≡ None) (area_is : area ≡ area_at offset bytes) (part_is : part ≡ field_bytes kind area) where
-  pub past_end : is_some (fields_in part) ≡ false → IsAreaFault kind offset bytes fault.FieldPastEnd
+  pub past_end : is_some (fields_in part) ≡ false → IsAreaFault kind offset bytes AreaFault.FieldPastEnd
   past_end none = inr (
     record {
       fine = fine;

@@ -2,7 +2,6 @@
 use Rattle.std.proofs.Common.{◌≡◌, ℕ, zero, suc, ◌+◌, ◌<◌, ◌≤◌, Bool, true, false, cond, not, nat_lt, Option, None, Some, Result, Ok, List, [], ◌∷◌, length, drop, take, slice_index, refl, sym, ap, subst, ◌∙◌, arith, length-drop}
 use Rattle.std.proofs.lemmas.Bool.Decides.{nat_tests}
 use Rattle.ipmi_fru.specs.declared.multirecord.MultiFault.{MultiFault}
-use Rattle.ipmi_fru.specs.declared.multirecord.MultiFault.TheVariants as fault
 use Rattle.ipmi_fru.specs.Header.{is_zero_sum, offset_of, records_place}
 use Rattle.ipmi_fru.specs.Multirecord.{MultiRecord, RecordsEnd, ContinuesBy, IsRecordList, AreRecordsAt, HasItems, items_of, data_in, record_in, record_fault, after_record, items_by, items_from, items_in}
 
@@ -38,7 +37,7 @@ pub enough_bytes : (bytes : List ℕ) → record_fault bytes ≡ None → 5 ≤ 
 enough_bytes bytes fine = by (nat_lt (length bytes) 5) refl fine
   where
     by : (t : Bool) → nat_lt (length bytes) 5 ≡ t
-        → cond t (Some fault.Outside) (cond (not (is_zero_sum (take 5 bytes))) (Some fault.HeaderSum) (cond (nat_lt (length bytes) (5 + slice_index bytes 2)) (Some fault.Outside) (cond (not (is_zero_sum (slice_index bytes 3 ∷ data_in bytes))) (Some fault.DataSum) None))) ≡ None
+        → cond t (Some MultiFault.Outside) (cond (not (is_zero_sum (take 5 bytes))) (Some MultiFault.HeaderSum) (cond (nat_lt (length bytes) (5 + slice_index bytes 2)) (Some MultiFault.Outside) (cond (not (is_zero_sum (slice_index bytes 3 ∷ data_in bytes))) (Some MultiFault.DataSum) None))) ≡ None
         → 5 ≤ length bytes
     by true is e = cc e
     by false is e = grind (arith, nat_tests)

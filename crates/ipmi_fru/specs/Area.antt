@@ -3,7 +3,6 @@ use Rattle.std.specs.Prelude.{◌≡◌, ℕ, ◌<◌, ◌+◌, ◌-◌, ◌*◌
 use Rattle.ipmi_fru.specs.declared.area.AreaKind.{AreaKind}
 use Rattle.ipmi_fru.specs.declared.area.AreaKind.TheVariants.{Chassis, Board, Product}
 use Rattle.ipmi_fru.specs.declared.area.AreaFault.{AreaFault}
-use Rattle.ipmi_fru.specs.declared.area.AreaFault.TheVariants as fault
 use Rattle.ipmi_fru.specs.Header.{is_zero_sum, version_in, offset_of}
 use Rattle.ipmi_fru.specs.Field.{AreaField, Spells, fields_in}
 
@@ -35,20 +34,20 @@ field_bytes kind area = drop (2 + head_len kind) (take (length area - 1) area)
 -- why the bytes from an offset on are no area, whatever its fields are
 abbrev pub area_fault : ℕ → List ℕ → Option AreaFault
 area_fault offset bytes =
-    if nat_lt (length bytes) (offset + 2) then Some fault.Outside
-    else if not (version_in (slice_index bytes offset) == 1) then Some fault.Version
-    else if slice_index bytes (offset + 1) == 0 then Some fault.Length
-    else if nat_lt (length bytes) (offset + 8 * slice_index bytes (offset + 1)) then Some fault.Outside
-    else if not (is_zero_sum (area_at offset bytes)) then Some fault.Sum
+    if nat_lt (length bytes) (offset + 2) then Some AreaFault.Outside
+    else if not (version_in (slice_index bytes offset) == 1) then Some AreaFault.Version
+    else if slice_index bytes (offset + 1) == 0 then Some AreaFault.Length
+    else if nat_lt (length bytes) (offset + 8 * slice_index bytes (offset + 1)) then Some AreaFault.Outside
+    else if not (is_zero_sum (area_at offset bytes)) then Some AreaFault.Sum
     else None
 
 -- the name of a fault, which is the project's own, as those of the other faults are
 abbrev pub area_fault_name : AreaFault → List ℕ
-area_fault_name fault.Outside = codes "outside"
-area_fault_name fault.Version = codes "version"
-area_fault_name fault.Length = codes "length"
-area_fault_name fault.Sum = codes "checksum"
-area_fault_name fault.FieldPastEnd = codes "field past end"
+area_fault_name AreaFault.Outside = codes "outside"
+area_fault_name AreaFault.Version = codes "version"
+area_fault_name AreaFault.Length = codes "length"
+area_fault_name AreaFault.Sum = codes "checksum"
+area_fault_name AreaFault.FieldPastEnd = codes "field past end"
 
 -- an area as it is seen: its kind, its bytes and its fields
 pub record Area : Type 0 where
@@ -70,7 +69,7 @@ pub record HasFieldPastEnd (kind : AreaKind) (offset : ℕ) (bytes : List ℕ) :
 
 -- why there is no area at the offset
 abbrev pub IsAreaFault : AreaKind → ℕ → List ℕ → AreaFault → Type 0
-IsAreaFault kind offset bytes f = (area_fault offset bytes ≡ Some f) ⊎ (HasFieldPastEnd kind offset bytes × (f ≡ fault.FieldPastEnd))
+IsAreaFault kind offset bytes f = (area_fault offset bytes ≡ Some f) ⊎ (HasFieldPastEnd kind offset bytes × (f ≡ AreaFault.FieldPastEnd))
 
 -- ---- how the fields are found
 

@@ -3,7 +3,6 @@
 use Rattle.std.specs.Prelude.{◌≡◌, ◌≢◌, ℕ, zero, suc, ◌<◌, ◌/◌, ◌%◌, ◌==◌, nat_lt, if◌then◌else◌, Option, Some, None, option_map, List, [], ◌∷◌, ◌++◌, length, take, drop}
 use Rattle.ipmi_fru.specs.declared.field.Field.{Field}
 use Rattle.ipmi_fru.specs.declared.field.Beginning.{Beginning}
-use Rattle.ipmi_fru.specs.declared.field.Beginning.TheVariants as beginning
 
 -- bits 7:6 of its type/length byte, and its data
 pub record AreaField : Type 0 where
@@ -53,6 +52,6 @@ field_of f = record { code = f.code; bytes = f.bytes.now }
 
 -- what comes first in the bytes: no field, one that runs past their end, or one before the fields of the rest
 abbrev pub Begins : List ℕ → Beginning → Type 0
-Begins bytes beginning.End = fields_in bytes ≡ Some []
-Begins bytes beginning.PastEnd = fields_in bytes ≡ None
-Begins bytes (beginning.Field f rest) = (fields_in bytes ≡ option_map (λ fields. field_of f ∷ fields) (fields_in rest.now)) × (length rest.now < length bytes)
+Begins bytes Beginning.End = fields_in bytes ≡ Some []
+Begins bytes Beginning.PastEnd = fields_in bytes ≡ None
+Begins bytes (Beginning.Field f rest) = (fields_in bytes ≡ option_map (λ fields. field_of f ∷ fields) (fields_in rest.now)) × (length rest.now < length bytes)

@@ -1,7 +1,6 @@
 -- The zero checksum, and the common header (Platform Management FRU Information Storage Definition v1.0, section 8).
 use Rattle.std.specs.Prelude.{ℕ, ◌*◌, ◌%◌, ◌==◌, nat_lt, not, Bool, if◌then◌else◌, Option, Some, None, List, length, take, slice_index, sum, codes}
 use Rattle.ipmi_fru.specs.declared.header.FruFault.{FruFault}
-use Rattle.ipmi_fru.specs.declared.header.FruFault.TheVariants as fault
 
 -- the sum of the bytes is a multiple of 256
 abbrev pub is_zero_sum : List ℕ → Bool
@@ -14,16 +13,16 @@ version_in byte = byte % 16
 -- why bytes are no inventory: too few for a header, another version, a header that does not sum to zero, in this order
 abbrev pub header_fault : List ℕ → Option FruFault
 header_fault bytes =
-    if nat_lt (length bytes) 8 then Some fault.Short
-    else if not (version_in (slice_index bytes 0) == 1) then Some fault.HeaderVersion
-    else if not (is_zero_sum (take 8 bytes)) then Some fault.HeaderSum
+    if nat_lt (length bytes) 8 then Some FruFault.Short
+    else if not (version_in (slice_index bytes 0) == 1) then Some FruFault.HeaderVersion
+    else if not (is_zero_sum (take 8 bytes)) then Some FruFault.HeaderSum
     else None
 
 -- the name of a fault
 abbrev pub fru_fault_name : FruFault → List ℕ
-fru_fault_name fault.Short = codes "header short"
-fru_fault_name fault.HeaderVersion = codes "header version"
-fru_fault_name fault.HeaderSum = codes "header checksum"
+fru_fault_name FruFault.Short = codes "header short"
+fru_fault_name FruFault.HeaderVersion = codes "header version"
+fru_fault_name FruFault.HeaderSum = codes "header checksum"
 
 -- The header's bytes: version, the offsets of internal use, chassis, board, product and records, pad, checksum.
 -- the place of the offset of the records

@@ -1,7 +1,6 @@
 -- The multirecord area (Platform Management FRU Information Storage Definition v1.0, section 16).
 use Rattle.std.specs.Prelude.{◌≡◌, ℕ, zero, suc, ◌+◌, ◌%◌, nat_le, nat_lt, not, Bool, true, false, if◌then◌else◌, Option, Some, None, Result, Ok, Err, List, [], ◌∷◌, length, take, drop, slice_index, codes}
 use Rattle.ipmi_fru.specs.declared.multirecord.MultiFault.{MultiFault}
-use Rattle.ipmi_fru.specs.declared.multirecord.MultiFault.TheVariants as fault
 use Rattle.ipmi_fru.specs.declared.multirecord.MultiView.{MultiView}
 use Rattle.ipmi_fru.specs.declared.multirecord.Records.{Records}
 use Rattle.std.specs.Borrow.{Bor}
@@ -34,17 +33,17 @@ record_in bytes = record {
 -- why bytes do not begin with a record; the fourth byte is the checksum of the data
 abbrev pub record_fault : List ℕ → Option MultiFault
 record_fault bytes =
-    if nat_lt (length bytes) 5 then Some fault.Outside
-    else if not (is_zero_sum (take 5 bytes)) then Some fault.HeaderSum
-    else if nat_lt (length bytes) (5 + slice_index bytes 2) then Some fault.Outside
-    else if not (is_zero_sum (slice_index bytes 3 ∷ data_in bytes)) then Some fault.DataSum
+    if nat_lt (length bytes) 5 then Some MultiFault.Outside
+    else if not (is_zero_sum (take 5 bytes)) then Some MultiFault.HeaderSum
+    else if nat_lt (length bytes) (5 + slice_index bytes 2) then Some MultiFault.Outside
+    else if not (is_zero_sum (slice_index bytes 3 ∷ data_in bytes)) then Some MultiFault.DataSum
     else None
 
 -- the name of a fault
 abbrev pub multi_fault_name : MultiFault → List ℕ
-multi_fault_name fault.Outside = codes "outside"
-multi_fault_name fault.HeaderSum = codes "header checksum"
-multi_fault_name fault.DataSum = codes "data checksum"
+multi_fault_name MultiFault.Outside = codes "outside"
+multi_fault_name MultiFault.HeaderSum = codes "header checksum"
+multi_fault_name MultiFault.DataSum = codes "data checksum"
 
 -- how a list of records ends: with the last record, or with the first fault
 abbrev pub RecordsEnd : Type 0

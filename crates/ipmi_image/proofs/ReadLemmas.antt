@@ -5,7 +5,6 @@ use Rattle.std.proofs.lemmas.Bool.Decides.{nat_tests}
 use Rattle.ipmi_bus.specs.Store.{Store}
 use Rattle.ipmi_image.specs.declared.line.LineFault.{LineFault}
 use Rattle.ipmi_image.specs.declared.image.ImageFault.{ImageFault}
-use Rattle.ipmi_image.specs.declared.image.ImageFault.TheVariants as image_fault
 use Rattle.ipmi_image.specs.Text.{pieces}
 use Rattle.ipmi_image.specs.Line.{Line, a_row, an_inventory, a_reading, an_info, the_end, line_of}
 use Rattle.ipmi_image.specs.Image.{store_of_lines, fault_in, unless_fault, line_judged, at_line, is_end, ends_here, store_after, dashes_in, store_of_pieces, store_of_image}
@@ -27,13 +26,13 @@ ends_here-pieces (b ∷ bytes) = by (nat_eq b 10) (pieces 10 bytes) (length-piec
     by false (piece ∷ rest) some = refl
 
 -- a text that does not end by a line feed has no `end`
-pub store_after-unended : (dashes : Bool) (before : List Line) (text : List ℕ) → store_after dashes before (text ∷ []) ≡ Err image_fault.NoEnd
+pub store_after-unended : (dashes : Bool) (before : List Line) (text : List ℕ) → store_after dashes before (text ∷ []) ≡ Err ImageFault.NoEnd
 unfolding store_after
 store_after-unended dashes before text = refl
 
 -- what a line makes of those after it
 abbrev pub after_line : Bool → List Line → List (List ℕ) → Result Line LineFault → Result Store ImageFault
-after_line dashes before rest (Ok line) = cond (not (is_end line)) (store_after dashes (before ++ line ∷ []) rest) (cond (ends_here rest) (Ok (store_of_lines before)) (Err (image_fault.AfterEnd (length before + 3))))
+after_line dashes before rest (Ok line) = cond (not (is_end line)) (store_after dashes (before ++ line ∷ []) rest) (cond (ends_here rest) (Ok (store_of_lines before)) (Err (ImageFault.AfterEnd (length before + 3))))
 after_line dashes before rest (Err fault) = Err (at_line (length before + 2) fault)
 
 pub store_after-line : (dashes : Bool) (before : List Line) (text after : List ℕ) → store_after dashes before (text ∷ pieces 10 after) ≡ after_line dashes before (pieces 10 after) (line_judged dashes before text)
@@ -69,4 +68,4 @@ store_of_image-lines bytes first rest dashes cut is = ap store_of_pieces cut ∙
   where
     by : (l : List (List ℕ)) → 0 < length l → store_of_pieces (first ∷ l) ≡ store_after dashes [] l
     by [] some = absurd (omega (arith, some))
-    by (following ∷ more) some = ap (λ (o : Option Bool). elim o [ Some dashes ↦ store_after dashes [] (following ∷ more) | None ↦ Err image_fault.Header ]) (sym is)
+    by (following ∷ more) some = ap (λ (o : Option Bool). elim o [ Some dashes ↦ store_after dashes [] (following ∷ more) | None ↦ Err ImageFault.Header ]) (sym is)

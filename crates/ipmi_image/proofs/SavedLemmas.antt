@@ -12,9 +12,7 @@ use Rattle.ipmi_bus.specs.declared.controller.Shelf.{Shelf}
 use Rattle.ipmi_bus.specs.declared.controller.Shelf.TheVariants.{Sdr, Sel}
 use Rattle.ipmi_bus.specs.Store.{Store, Inventory, SensorReading}
 use Rattle.ipmi_image.specs.declared.line.LineFault.{LineFault}
-use Rattle.ipmi_image.specs.declared.line.LineFault.TheVariants as fault
 use Rattle.ipmi_image.specs.declared.image.ImageFault.{ImageFault}
-use Rattle.ipmi_image.specs.declared.image.ImageFault.TheVariants as image_fault
 use Rattle.ipmi_image.specs.Text.{pieces}
 use Rattle.ipmi_image.specs.Line.{Line, a_row, an_inventory, a_reading, an_info, the_end, is_some_text, bytes_in, number_in, digit_in, next_in, is_dash, shelf_in, with_two, with_three, row_line, inventory_line, reading_line, info_line, info_line_of, end_line, line_of_fields, line_of}
 use Rattle.ipmi_image.specs.Image.{with_bytes, with_inventory_line, inventories_of, sensor_on, store_of_lines, fault_in, unless_fault, is_end, ends_here, store_after, dashes_in, store_of_pieces, store_of_image}
@@ -31,16 +29,16 @@ abbrev SaysSome : Result Line LineFault → Type 0
 SaysSome (Ok (an_inventory id bytes)) = 0 < length bytes
 SaysSome line = Unit {0}
 
-or_none : (b : Bool) (x : Result Line LineFault) → SaysSome x → SaysSome (cond b x (Err fault.Line))
+or_none : (b : Bool) (x : Result Line LineFault) → SaysSome x → SaysSome (cond b x (Err LineFault.Line))
 or_none true x p = p
 or_none false x p = tt
 
 -- nor does what is put together of parts that may be missing, but for the line itself
-some_then : {X : Type 0} (f : X → Option Line) (o : Option X) → ((x : X) → SaysSome (ok_or (f x) fault.Hex)) → SaysSome (ok_or (option_and_then f o) fault.Hex)
+some_then : {X : Type 0} (f : X → Option Line) (o : Option X) → ((x : X) → SaysSome (ok_or (f x) LineFault.Hex)) → SaysSome (ok_or (option_and_then f o) LineFault.Hex)
 some_then f None says = tt
 some_then f (Some x) says = says x
 
-some_map : {X : Type 0} (f : X → Line) (o : Option X) → ((x : X) → SaysSome (Ok (f x))) → SaysSome (ok_or (option_map f o) fault.Hex)
+some_map : {X : Type 0} (f : X → Line) (o : Option X) → ((x : X) → SaysSome (Ok (f x))) → SaysSome (ok_or (option_map f o) LineFault.Hex)
 some_map f None says = tt
 some_map f (Some x) says = says x
 
@@ -55,12 +53,12 @@ rows_some dashes shelf id next hex = or_none ((length id == 4) && (((length next
 inventories_some : (id hex : List ℕ) → SaysSome (inventory_line id hex)
 inventories_some id hex = outer (nat_eq (length id) 2) (is_some_text hex) refl
   where
-    inner : is_some_text hex ≡ true → (i : Option ℕ) (d : Result (List ℕ) FromHexError) → decode_of hex ≡ d → SaysSome (ok_or (option_and_then (λ i. option_map (λ b. an_inventory i b) (result_ok d)) i) fault.Hex)
+    inner : is_some_text hex ≡ true → (i : Option ℕ) (d : Result (List ℕ) FromHexError) → decode_of hex ≡ d → SaysSome (ok_or (option_and_then (λ i. option_map (λ b. an_inventory i b) (result_ok d)) i) LineFault.Hex)
     inner some None d e = tt
     inner some (Some i) (Ok bytes) e = bytes_some hex bytes some e
     inner some (Some i) (Err x) e = tt
 
-    outer : (a s : Bool) → is_some_text hex ≡ s → SaysSome (cond (a && s) (ok_or (option_and_then (λ i. option_map (λ b. an_inventory i b) (bytes_in hex)) (number_in 1 id)) fault.Hex) (Err fault.Line))
+    outer : (a s : Bool) → is_some_text hex ≡ s → SaysSome (cond (a && s) (ok_or (option_and_then (λ i. option_map (λ b. an_inventory i b) (bytes_in hex)) (number_in 1 id)) LineFault.Hex) (Err LineFault.Line))
     outer true true e = inner e (number_in 1 id) (decode_of hex) refl
     outer true false e = tt
     outer false true e = tt
@@ -98,7 +96,7 @@ fields_some : (dashes : Bool) (fields : List (List ℕ)) → SaysSome (line_of_f
 fields_some dashes [] = tt
 fields_some dashes (word ∷ fields) = by (bytes_eq word (codes "sdr")) (bytes_eq word (codes "sel")) (bytes_eq word (codes "fru")) (bytes_eq word (codes "reading")) (bytes_eq word (codes "info")) (bytes_eq word (codes "end"))
   where
-    by : (a b c d e f : Bool) → SaysSome (cond a (with_three (row_line dashes Sdr) fields) (cond b (with_three (row_line dashes Sel) fields) (cond c (with_two inventory_line fields) (cond d (with_three reading_line fields) (cond e (with_two info_line fields) (cond f (end_line fields) (Err fault.Line)))))))
+    by : (a b c d e f : Bool) → SaysSome (cond a (with_three (row_line dashes Sdr) fields) (cond b (with_three (row_line dashes Sel) fields) (cond c (with_two inventory_line fields) (cond d (with_three reading_line fields) (cond e (with_two info_line fields) (cond f (end_line fields) (Err LineFault.Line)))))))
     by true b c d e f = three (row_line dashes Sdr) (λ x y z. rows_some dashes Sdr x y z) fields
     by false true c d e f = three (row_line dashes Sel) (λ x y z. rows_some dashes Sel x y z) fields
     by false false true d e f = two inventory_line (λ x y. inventories_some x y) fields
@@ -153,13 +151,13 @@ saved_after dashes before [] store saved e = cc e
 saved_after dashes before (text ∷ []) store saved e = cc e
 saved_after dashes before (text ∷ (following ∷ rest)) store saved e = by (λ line s more. saved_after dashes (before ++ line ∷ []) (following ∷ rest) store s more) (line_of dashes text) refl e
   where
-    at_end : (t : Bool) → cond t (Ok (store_of_lines before)) (Err (image_fault.AfterEnd (length before + 3))) ≡ Ok store → IsSaved store
+    at_end : (t : Bool) → cond t (Ok (store_of_lines before)) (Err (ImageFault.AfterEnd (length before + 3))) ≡ Ok store → IsSaved store
     at_end true e = let is : store_of_lines before ≡ store = cc e in subst IsSaved is saved
     at_end false e = cc e
 
     taken : ((line : Line) → IsSaved (store_of_lines (before ++ line ∷ [])) → store_after dashes (before ++ line ∷ []) (following ∷ rest) ≡ Ok store → IsSaved store)
         → (line : Line) → IsSaved (store_of_lines (before ++ line ∷ [])) → (last : Bool)
-        → cond (not last) (store_after dashes (before ++ line ∷ []) (following ∷ rest)) (cond (ends_here (following ∷ rest)) (Ok (store_of_lines before)) (Err (image_fault.AfterEnd (length before + 3)))) ≡ Ok store → IsSaved store
+        → cond (not last) (store_after dashes (before ++ line ∷ []) (following ∷ rest)) (cond (ends_here (following ∷ rest)) (Ok (store_of_lines before)) (Err (ImageFault.AfterEnd (length before + 3)))) ≡ Ok store → IsSaved store
     taken ih line s true e = at_end (ends_here (following ∷ rest)) e
     taken ih line s false e = ih line s e
 
@@ -179,7 +177,7 @@ nothing = record { some = λ k d lt. absurd (omega (arith, lt)); luns = λ k d l
 pub saved_of_image : (bytes : List ℕ) (store : Store) → store_of_image bytes ≡ Ok store → IsSaved store
 saved_of_image bytes store e = by (pieces 10 bytes) e
   where
-    versions : (first following : List ℕ) (rest : List (List ℕ)) (o : Option Bool) → ◌≡◌ {A = Result Store ImageFault} (elim o [ Some dashes ↦ store_after dashes [] (following ∷ rest) | None ↦ Err image_fault.Header ]) (Ok store) → IsSaved store
+    versions : (first following : List ℕ) (rest : List (List ℕ)) (o : Option Bool) → ◌≡◌ {A = Result Store ImageFault} (elim o [ Some dashes ↦ store_after dashes [] (following ∷ rest) | None ↦ Err ImageFault.Header ]) (Ok store) → IsSaved store
     versions first following rest (Some dashes) e = saved_after dashes [] (following ∷ rest) store nothing e
     versions first following rest None e = cc e
 

@@ -9,7 +9,7 @@ use Rattle.ipmi_bus.specs.Shelf.{Row, whole_len, largest_len, id_in, IsRow, AllR
 use Rattle.ipmi_bus.proofs.ShelfLemmas.{IsShelf-first, IsShelf-snoc}
 use Rattle.ipmi_image.specs.Line.{SavedRow}
 use Rattle.ipmi_bus.specs.Walk.{has_id}
-use Rattle.ipmi_image.specs.declared.line.LineFault.TheVariants as fault
+use Rattle.ipmi_image.specs.declared.line.LineFault.{LineFault}
 use Rattle.ipmi_image.specs.Image.{chained, row_before, is_empty, is_no_record, is_no_id, begins_with_another, first_fault, row_fault}
 
 -- a row stays one with another next id
@@ -53,10 +53,10 @@ shelf-snoc shelf rows row old is new = record {
 -- ---- a row whose id was looked for last
 
 module _ (shelf : Shelf) (rows : List Row) (row : SavedRow) (is_id : is_no_id rows row.id ≡ false) where
-  pub new_row_fault : has_id rows row.id ≡ false → row_fault shelf rows row ≡ first_fault ((is_no_record shelf row.bytes, fault.Length) ∷ (begins_with_another rows row, fault.FirstId) ∷ [])
+  pub new_row_fault : has_id rows row.id ≡ false → row_fault shelf rows row ≡ first_fault ((is_no_record shelf row.bytes, LineFault.Length) ∷ (begins_with_another rows row, LineFault.FirstId) ∷ [])
   new_row_fault new = rw (is_id, new) refl
 
-  pub row_twice : has_id rows row.id ≡ true → row_fault shelf rows row ≡ Some fault.Twice
+  pub row_twice : has_id rows row.id ≡ true → row_fault shelf rows row ≡ Some LineFault.Twice
   row_twice old = rw (is_id, old) refl
 
 -- ---- a row without a fault
@@ -67,7 +67,7 @@ module _ (shelf : Shelf) (rows : List Row) (row : SavedRow) (fine : row_fault sh
   fine_parts = by (is_no_id rows row.id) refl (has_id rows row.id) refl (is_no_record shelf row.bytes) refl (begins_with_another rows row) refl fine
     where
       by : (a : Bool) → is_no_id rows row.id ≡ a → (b : Bool) → has_id rows row.id ≡ b → (c : Bool) → is_no_record shelf row.bytes ≡ c → (d : Bool) → begins_with_another rows row ≡ d
-          → cond a (Some fault.Id) (cond b (Some fault.Twice) (cond c (Some fault.Length) (cond d (Some fault.FirstId) None))) ≡ None
+          → cond a (Some LineFault.Id) (cond b (Some LineFault.Twice) (cond c (Some LineFault.Length) (cond d (Some LineFault.FirstId) None))) ≡ None
           → (is_no_id rows row.id ≡ false) × (has_id rows row.id ≡ false) × (is_no_record shelf row.bytes ≡ false) × (begins_with_another rows row ≡ false)
       by true ea b eb c ec d ed f = absurd (none-some _ (sym f))
       by false ea true eb c ec d ed f = absurd (none-some _ (sym f))

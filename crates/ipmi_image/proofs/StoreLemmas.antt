@@ -4,7 +4,6 @@ use Rattle.std.specs.List.{cons_option}
 use Rattle.std.proofs.lemmas.Option.{none-some, same_Some}
 use Rattle.ipmi_text.specs.declared.reading.Reading.{Reading}
 use Rattle.ipmi_image.specs.declared.line.LineFault.{LineFault}
-use Rattle.ipmi_image.specs.declared.line.LineFault.TheVariants as fault
 use Rattle.std.proofs.lemmas.Bool.{eqb-false}
 use Rattle.std.proofs.lemmas.Bool.Decides.{nat_tests}
 use Rattle.std.proofs.lemmas.List.{get_or_default}
@@ -168,7 +167,7 @@ AreInventories-new items id bytes none lt ne fits all are = record {
 pub inventory_fine : (id : ℕ) (already : Option (List ℕ)) (bytes : List ℕ) → inventory_fault id already bytes ≡ None → (id ≢ 255) × (length (unwrap_or already []) + length bytes ≤ 65535)
 inventory_fine id already bytes fine = by (nat_eq id 255) refl (nat_lt 65535 (length (unwrap_or already []) + length bytes)) refl fine
   where
-    by : (a : Bool) → nat_eq id 255 ≡ a → (b : Bool) → nat_lt 65535 (length (unwrap_or already []) + length bytes) ≡ b → cond a (Some fault.Id) (cond b (Some fault.TooMany) None) ≡ None → (id ≢ 255) × (length (unwrap_or already []) + length bytes ≤ 65535)
+    by : (a : Bool) → nat_eq id 255 ≡ a → (b : Bool) → nat_lt 65535 (length (unwrap_or already []) + length bytes) ≡ b → cond a (Some LineFault.Id) (cond b (Some LineFault.TooMany) None) ≡ None → (id ≢ 255) × (length (unwrap_or already []) + length bytes ≤ 65535)
     by true ea b eb f = absurd (none-some _ (sym f))
     by false ea true eb f = absurd (none-some _ (sym f))
     by false ea false eb f = (eqb-false id 255 ea, grind (arith, nat_tests))
@@ -176,7 +175,7 @@ inventory_fine id already bytes fine = by (nat_eq id 255) refl (nat_lt 65535 (le
 pub reading_fine : (lun : ℕ) (already : Option Reading) (bytes : List ℕ) → reading_fault lun already bytes ≡ None → (already ≡ None) × (lun ≤ 3)
 reading_fine lun already bytes fine = by (nat_lt 3 lun) refl already (not (nat_eq (length bytes) 4)) fine
   where
-    by : (a : Bool) → nat_lt 3 lun ≡ a → (o : Option Reading) (b : Bool) → cond a (Some fault.Id) (cond (is_some o) (Some fault.Twice) (cond b (Some fault.Length) None)) ≡ None → (o ≡ None) × (lun ≤ 3)
+    by : (a : Bool) → nat_lt 3 lun ≡ a → (o : Option Reading) (b : Bool) → cond a (Some LineFault.Id) (cond (is_some o) (Some LineFault.Twice) (cond b (Some LineFault.Length) None)) ≡ None → (o ≡ None) × (lun ≤ 3)
     by true e o b f = absurd (none-some _ (sym f))
     by false e (Some r) b f = absurd (none-some _ (sym f))
     by false e None b f = (refl, grind (arith, nat_tests))
@@ -205,10 +204,10 @@ pub are_bytes : (bytes : List ℕ) → ((k : ℕ) → get_or bytes k 0 < 256) �
 are_bytes bytes below k d lt = subst (λ (n : ℕ). n < 256) (get_or_default bytes k 0 d lt) (below k)
 
 pub put_is : (new : Contents) (before : List Line) (line : Line) (f : Option LineFault) (P : Type 0) (r : Result (Unit {0}) LineFault) → fault_in (store_of_lines before) line ≡ f
-    → OnOk r ((f ≡ None) × P) → ((f ≡ None) → P → HoldsLines new (before ++ line ∷ [])) → IfErr r (λ e. (e ≡ fault.Memory) ⊎ (f ≡ Some e)) → IsPut new before line r
+    → OnOk r ((f ≡ None) × P) → ((f ≡ None) → P → HoldsLines new (before ++ line ∷ [])) → IfErr r (λ e. (e ≡ LineFault.Memory) ⊎ (f ≡ Some e)) → IsPut new before line r
 put_is new before line f P (Ok u) e ok to err = (e ∙ ok.0, to ok.0 ok.1)
 put_is new before line f P (Err x) e ok to err = elim err [ inl memory ↦ inl memory | inr is ↦ inr (e ∙ is) ]
 
-pub or_memory : (f : Option LineFault) (r : Result (Unit {0}) LineFault) → IfErr r (λ e. f ≡ Some e) → IfErr r (λ e. (e ≡ fault.Memory) ⊎ (f ≡ Some e))
+pub or_memory : (f : Option LineFault) (r : Result (Unit {0}) LineFault) → IfErr r (λ e. f ≡ Some e) → IfErr r (λ e. (e ≡ LineFault.Memory) ⊎ (f ≡ Some e))
 or_memory f (Ok u) h = h
 or_memory f (Err x) h = inr h

@@ -7,7 +7,7 @@ use Rattle.ipmi_bus.specs.declared.controller.Shelf.TheVariants.{Sdr, Sel}
 use Rattle.ipmi_bus.specs.Shelf.{Row, IsRow, AllRows, LacksId, DistinctIds, IsShelf, id_in}
 use Rattle.ipmi_bus.specs.Walk.{has_id}
 use Rattle.ipmi_image.specs.declared.line.LineFault.{LineFault}
-use Rattle.ipmi_image.specs.declared.image.ImageFault.TheVariants as image_fault
+use Rattle.ipmi_image.specs.declared.image.ImageFault.{ImageFault}
 use Rattle.ipmi_image.specs.Line.{SavedRow, Line, a_row, line_of}
 use Rattle.ipmi_image.specs.Image.{row_on, rows_on, first_id, chained, store_of_lines, is_empty, is_no_record, is_no_id, row_fault, fault_in, unless_fault, is_end, ends_here, store_after}
 use Rattle.ipmi_image.specs.Rewritten.{first_row_id}
@@ -34,7 +34,7 @@ store_after-one before text [] line some says last fine = absurd (omega (arith, 
 store_after-one before text (following ∷ rest) line some says last fine =
     ap (λ (r : Result Line LineFault). after_line true before (following ∷ rest) (elim r [ Ok line ↦ unless_fault (fault_in (store_of_lines before) line) line | Err fault ↦ Err fault ])) says
     ∙ ap (λ (o : Option LineFault). after_line true before (following ∷ rest) (unless_fault o line)) fine
-    ∙ ap (λ (b : Bool). cond (not b) (store_after true (before ++ line ∷ []) (following ∷ rest)) (cond (ends_here (following ∷ rest)) (Ok (store_of_lines before)) (Err (image_fault.AfterEnd (length before + 3))))) last
+    ∙ ap (λ (b : Bool). cond (not b) (store_after true (before ++ line ∷ []) (following ∷ rest)) (cond (ends_here (following ∷ rest)) (Ok (store_of_lines before)) (Err (ImageFault.AfterEnd (length before + 3))))) last
 
 pub store_after-all : (before : List Line) (texts rest : List (List ℕ)) (lines : List Line) → 0 < length rest → Says texts lines → Taken before lines → store_after true before (texts ++ rest) ≡ store_after true (before ++ lines) rest
 store_after-all before [] rest [] some says taken = ap (λ (l : List Line). store_after true l rest) (sym (append-nil before))

@@ -12,10 +12,8 @@ use Rattle.ipmi_bus.specs.Answers.{FailsWith}
 use Rattle.ipmi_image.specs.declared.controller.ImageController.{ImageController}
 use Rattle.ipmi_image.specs.declared.responder.Responder.{Responder}
 use Rattle.ipmi_image.specs.declared.scripted.Mood.{Mood}
-use Rattle.ipmi_image.specs.declared.scripted.Mood.TheVariants as mood
 use Rattle.ipmi_image.specs.declared.scripted.Scripted.{Scripted}
 use Rattle.ipmi_image.specs.declared.scripted.Turn.{Turn}
-use Rattle.ipmi_image.specs.declared.scripted.Turn.TheVariants as turn
 use Rattle.ipmi_image.specs.Responder.{cancelled, with_reservation, seen_as}
 
 -- a controller over an image is honest, and plain
@@ -53,13 +51,13 @@ pub record Fails (asked code : ℕ) (old new : Seen) : Type 0 where
 
 -- the calls that a mood has counted
 abbrev pub TurnCounts : Turn → Seen → Seen → Type 0
-TurnCounts (turn.Answers most) old new = (0 < most) × (new.calls ≡ old.calls)
-TurnCounts (turn.Failed code) old new = new.calls ≡ old.calls + 1
+TurnCounts (Turn.Answers most) old new = (0 < most) × (new.calls ≡ old.calls)
+TurnCounts (Turn.Failed code) old new = new.calls ≡ old.calls + 1
 
 -- what a mood makes of a call: the answer is still to come, with so many bytes at most, or it has failed
 abbrev pub Turns : ℕ → Turn → Seen → Seen → Type 0
-Turns asked (turn.Answers most) old new = Prepares old new
-Turns asked (turn.Failed code) old new = Fails asked code.0 old new
+Turns asked (Turn.Answers most) old new = Prepares old new
+Turns asked (Turn.Failed code) old new = Fails asked code.0 old new
 
 -- ---- what each mood makes of a call
 
@@ -73,25 +71,25 @@ is_refusal code = not (code == 0) && is_refusal_class (class_of code)
 
 -- what a mood makes of a call for so many bytes
 abbrev pub mood_turn : ℕ → Mood → Turn
-mood_turn asked (mood.Grant most) = turn.Answers (max most 1)
-mood_turn asked mood.Cancel = turn.Failed cancelled
-mood_turn asked mood.Busy = turn.Failed (record { 0 = 0xC0 })
-mood_turn asked mood.TooLong =
-    if nat_lt 1 asked then turn.Failed (record { 0 = 0xCA }) else turn.Answers 254
-mood_turn asked (mood.Refuse code) =
-    if is_refusal code.0 then turn.Failed code else turn.Answers 254
-mood_turn asked (mood.Change image) = turn.Answers 254
+mood_turn asked (Mood.Grant most) = Turn.Answers (max most 1)
+mood_turn asked Mood.Cancel = Turn.Failed cancelled
+mood_turn asked Mood.Busy = Turn.Failed (record { 0 = 0xC0 })
+mood_turn asked Mood.TooLong =
+    if nat_lt 1 asked then Turn.Failed (record { 0 = 0xCA }) else Turn.Answers 254
+mood_turn asked (Mood.Refuse code) =
+    if is_refusal code.0 then Turn.Failed code else Turn.Answers 254
+mood_turn asked (Mood.Change image) = Turn.Answers 254
 
 -- the image with its reservations as a mood leaves them, before what the call counts
 abbrev pub after_mood : Mood → Responder → Responder
-after_mood mood.Cancel r = record r { sdr_reservation = None; sel_reservation = None }
-after_mood (mood.Change image) r =
+after_mood Mood.Cancel r = record r { sdr_reservation = None; sel_reservation = None }
+after_mood (Mood.Change image) r =
     record r { image = image; sdr_reservation = None; sel_reservation = None }
 after_mood other r = r
 
 -- what the next mood makes of a call; where no mood is left, the call is answered plainly
 abbrev pub next_turn : ℕ → List Mood → Turn
-next_turn asked [] = turn.Answers 254
+next_turn asked [] = Turn.Answers 254
 next_turn asked (next ∷ moods) = mood_turn asked next
 
 abbrev pub after_next : List Mood → Responder → Responder
@@ -105,8 +103,8 @@ seen_after_mood s = seen_as false (after_next (moods_left s) s.responder)
 
 -- the plain answer, of so many bytes at most, or the code that the call fails with
 abbrev pub after_turn : {V : Type 0} → Turn → (ℕ → Result V Code) → Result V Code
-after_turn (turn.Answers most) plain = plain most
-after_turn (turn.Failed code) plain = Err code
+after_turn (Turn.Answers most) plain = plain most
+after_turn (Turn.Failed code) plain = Err code
 
 -- the answer to a call for so many bytes
 abbrev pub script_answer : {V : Type 0} → ℕ → Scripted → (ℕ → Result V Code) → Result V Code

@@ -7,9 +7,7 @@ use Rattle.ipmi_bus.specs.Shelf.{Row, whole_len, largest_len, id_in}
 use Rattle.ipmi_bus.specs.Store.{Store, Inventory, SensorReading, rows_of, info_of, inventory_of, reading_of}
 use Rattle.ipmi_bus.specs.Walk.{has_id}
 use Rattle.ipmi_image.specs.declared.line.LineFault.{LineFault}
-use Rattle.ipmi_image.specs.declared.line.LineFault.TheVariants as fault
 use Rattle.ipmi_image.specs.declared.image.ImageFault.{ImageFault}
-use Rattle.ipmi_image.specs.declared.image.ImageFault.TheVariants as image_fault
 use Rattle.ipmi_image.specs.Text.{pieces}
 use Rattle.ipmi_image.specs.Line.{SavedRow, Line, a_row, an_inventory, a_reading, an_info, the_end, line_of}
 
@@ -105,32 +103,32 @@ begins_with_another rows row = is_empty rows && not (id_in row.bytes == row.id)
 -- a row after these: its id, an id that one of them has, its length, and the first bytes of the first one, in this order
 abbrev pub row_fault : Shelf → List Row → SavedRow → Option LineFault
 row_fault shelf rows row = first_fault (
-    (is_no_id rows row.id, fault.Id)
-    ∷ (has_id rows row.id, fault.Twice)
-    ∷ (is_no_record shelf row.bytes, fault.Length)
-    ∷ (begins_with_another rows row, fault.FirstId)
+    (is_no_id rows row.id, LineFault.Id)
+    ∷ (has_id rows row.id, LineFault.Twice)
+    ∷ (is_no_record shelf row.bytes, LineFault.Length)
+    ∷ (begins_with_another rows row, LineFault.FirstId)
     ∷ [])
 
 -- bytes of an inventory, which may have some already: FFh is no FRU device, and it has at most 65,535 bytes
 abbrev pub inventory_fault : ℕ → Option (List ℕ) → List ℕ → Option LineFault
 inventory_fault id already bytes = first_fault (
-    (id == 255, fault.Id)
-    ∷ (nat_lt 65535 (length (unwrap_or already []) + length bytes), fault.TooMany)
+    (id == 255, LineFault.Id)
+    ∷ (nat_lt 65535 (length (unwrap_or already []) + length bytes), LineFault.TooMany)
     ∷ [])
 
 -- the reading of a sensor, which may be given already: its LUN, that it is given, its length, in this order
 abbrev pub reading_fault : ℕ → Option Reading → List ℕ → Option LineFault
 reading_fault lun already bytes = first_fault (
-    (nat_lt 3 lun, fault.Id)
-    ∷ (is_some already, fault.Twice)
-    ∷ (not (length bytes == 4), fault.Length)
+    (nat_lt 3 lun, LineFault.Id)
+    ∷ (is_some already, LineFault.Twice)
+    ∷ (not (length bytes == 4), LineFault.Length)
     ∷ [])
 
 -- an info, which may be given already: that it is given, its length
 abbrev pub info_fault : Option (List ℕ) → List ℕ → Option LineFault
 info_fault already bytes = first_fault (
-    (is_some already, fault.Twice)
-    ∷ (not (length bytes == 14), fault.Length)
+    (is_some already, LineFault.Twice)
+    ∷ (not (length bytes == 14), LineFault.Length)
     ∷ [])
 
 -- why the line may not come after others that make this store
@@ -153,14 +151,14 @@ line_judged dashes before text = elim (line_of dashes text) [ Ok line ↦ unless
 
 -- a line's fault, with the line's number from 1 on; want of memory has none
 abbrev pub at_line : ℕ → LineFault → ImageFault
-at_line n fault.Memory = image_fault.Memory
-at_line n fault.Line = image_fault.Line n
-at_line n fault.Hex = image_fault.Hex n
-at_line n fault.Id = image_fault.Id n
-at_line n fault.Twice = image_fault.Twice n
-at_line n fault.Length = image_fault.Length n
-at_line n fault.FirstId = image_fault.FirstId n
-at_line n fault.TooMany = image_fault.TooMany n
+at_line n LineFault.Memory = ImageFault.Memory
+at_line n LineFault.Line = ImageFault.Line n
+at_line n LineFault.Hex = ImageFault.Hex n
+at_line n LineFault.Id = ImageFault.Id n
+at_line n LineFault.Twice = ImageFault.Twice n
+at_line n LineFault.Length = ImageFault.Length n
+at_line n LineFault.FirstId = ImageFault.FirstId n
+at_line n LineFault.TooMany = ImageFault.TooMany n
 
 abbrev pub is_end : Line → Bool
 is_end the_end = true
@@ -178,10 +176,10 @@ store_after dashes before (text ∷ (following ∷ rest)) =
       | Ok line ↦
           if not (is_end line) then store_after dashes (before ++ line ∷ []) (following ∷ rest)
           else if ends_here (following ∷ rest) then Ok (store_of_lines before)
-          else Err (image_fault.AfterEnd (length before + 3))
+          else Err (ImageFault.AfterEnd (length before + 3))
       | Err fault ↦ Err (at_line (length before + 2) fault)
     ]
-store_after dashes before rest = Err image_fault.NoEnd
+store_after dashes before rest = Err ImageFault.NoEnd
 
 -- the first line says the version, and whether it takes dashes
 abbrev pub dashes_in : List ℕ → Option Bool
@@ -192,8 +190,8 @@ dashes_in first =
 
 abbrev pub store_of_pieces : List (List ℕ) → Result Store ImageFault
 store_of_pieces (first ∷ (following ∷ rest)) =
-    elim (dashes_in first) [ Some dashes ↦ store_after dashes [] (following ∷ rest) | None ↦ Err image_fault.Header ]
-store_of_pieces rest = Err image_fault.Header
+    elim (dashes_in first) [ Some dashes ↦ store_after dashes [] (following ∷ rest) | None ↦ Err ImageFault.Header ]
+store_of_pieces rest = Err ImageFault.Header
 
 -- the store that the bytes of an image give, or its first fault
 abbrev pub store_of_image : List ℕ → Result Store ImageFault

@@ -6,7 +6,6 @@ use Rattle.hex.specs.Hex.{decode_of}
 use Rattle.ipmi_bus.specs.declared.controller.Shelf.{Shelf}
 use Rattle.ipmi_bus.specs.declared.controller.Shelf.TheVariants.{Sdr, Sel}
 use Rattle.ipmi_image.specs.declared.line.LineFault.{LineFault}
-use Rattle.ipmi_image.specs.declared.line.LineFault.TheVariants as fault
 use Rattle.ipmi_image.specs.Text.{pieces}
 
 -- a row as its line has it: no next id stands for the id of the following row, or for FFFFh where none follows
@@ -60,37 +59,37 @@ shelf_in word =
 -- the line of two fields, or of three
 abbrev pub with_two : (List ℕ → List ℕ → Result Line LineFault) → List (List ℕ) → Result Line LineFault
 with_two line (first ∷ second ∷ []) = line first second
-with_two line fields = Err fault.Line
+with_two line fields = Err LineFault.Line
 
 abbrev pub with_three : (List ℕ → List ℕ → List ℕ → Result Line LineFault) → List (List ℕ) → Result Line LineFault
 with_three line (first ∷ second ∷ third ∷ []) = line first second third
-with_three line fields = Err fault.Line
+with_three line fields = Err LineFault.Line
 
 -- `sdr ID NEXT HEX` and `sel ID NEXT HEX`; NEXT may be a dash where dashes are taken
 abbrev pub row_line : Bool → Shelf → List ℕ → List ℕ → List ℕ → Result Line LineFault
 row_line dashes shelf id next hex =
     if (length id == 4) && (((length next == 4) || (dashes && is_dash next)) && is_some_text hex)
-    then ok_or (option_and_then (λ i. option_and_then (λ n. option_map (λ b. a_row shelf (record { id = i; next = n; bytes = b })) (bytes_in hex)) (next_in next)) (number_in 2 id)) fault.Hex
-    else Err fault.Line
+    then ok_or (option_and_then (λ i. option_and_then (λ n. option_map (λ b. a_row shelf (record { id = i; next = n; bytes = b })) (bytes_in hex)) (next_in next)) (number_in 2 id)) LineFault.Hex
+    else Err LineFault.Line
 
 -- `fru ID HEX`
 abbrev pub inventory_line : List ℕ → List ℕ → Result Line LineFault
 inventory_line id hex =
     if (length id == 2) && is_some_text hex
-    then ok_or (option_and_then (λ i. option_map (λ b. an_inventory i b) (bytes_in hex)) (number_in 1 id)) fault.Hex
-    else Err fault.Line
+    then ok_or (option_and_then (λ i. option_map (λ b. an_inventory i b) (bytes_in hex)) (number_in 1 id)) LineFault.Hex
+    else Err LineFault.Line
 
 -- `reading LUN NUM HEX8`
 abbrev pub reading_line : List ℕ → List ℕ → List ℕ → Result Line LineFault
 reading_line lun number hex =
     if (length lun == 1) && ((length number == 2) && is_some_text hex)
-    then ok_or (option_and_then (λ l. option_and_then (λ n. option_map (λ b. a_reading l n b) (bytes_in hex)) (number_in 1 number)) (digit_in lun)) fault.Hex
-    else Err fault.Line
+    then ok_or (option_and_then (λ l. option_and_then (λ n. option_map (λ b. a_reading l n b) (bytes_in hex)) (number_in 1 number)) (digit_in lun)) LineFault.Hex
+    else Err LineFault.Line
 
 -- `info sdr HEX28` and `info sel HEX28`
 abbrev pub info_line_of : Option Shelf → List ℕ → Result Line LineFault
-info_line_of (Some shelf) hex = if is_some_text hex then ok_or (option_map (λ b. an_info shelf b) (bytes_in hex)) fault.Hex else Err fault.Line
-info_line_of None hex = Err fault.Line
+info_line_of (Some shelf) hex = if is_some_text hex then ok_or (option_map (λ b. an_info shelf b) (bytes_in hex)) LineFault.Hex else Err LineFault.Line
+info_line_of None hex = Err LineFault.Line
 
 abbrev pub info_line : List ℕ → List ℕ → Result Line LineFault
 info_line word hex = info_line_of (shelf_in word) hex
@@ -98,10 +97,10 @@ info_line word hex = info_line_of (shelf_in word) hex
 -- `end`
 abbrev pub end_line : List (List ℕ) → Result Line LineFault
 end_line [] = Ok the_end
-end_line (field ∷ fields) = Err fault.Line
+end_line (field ∷ fields) = Err LineFault.Line
 
 abbrev pub line_of_fields : Bool → List (List ℕ) → Result Line LineFault
-line_of_fields dashes [] = Err fault.Line
+line_of_fields dashes [] = Err LineFault.Line
 line_of_fields dashes (word ∷ fields) =
     if bytes_eq word (codes "sdr") then with_three (row_line dashes Sdr) fields
     else if bytes_eq word (codes "sel") then with_three (row_line dashes Sel) fields
@@ -109,7 +108,7 @@ line_of_fields dashes (word ∷ fields) =
     else if bytes_eq word (codes "reading") then with_three reading_line fields
     else if bytes_eq word (codes "info") then with_two info_line fields
     else if bytes_eq word (codes "end") then end_line fields
-    else Err fault.Line
+    else Err LineFault.Line
 
 -- single spaces separate the fields
 unfoldable pub line_of : Bool → List ℕ → Result Line LineFault

@@ -3,10 +3,8 @@ use Rattle.std.specs.Prelude.{ℕ, ◌≡◌, ◌≢◌, ◌⊎◌, ◌++◌, �
 use Rattle.ipmi_bus.specs.declared.controller.Shelf.TheVariants.{Sdr, Sel}
 use Rattle.ipmi_bus.specs.Store.{Store, Inventory, SensorReading, IsInventory, IsSensorReading, OtherSensor}
 use Rattle.ipmi_image.specs.declared.contents.Contents.{Contents}
-use Rattle.ipmi_image.specs.declared.line.Line.{Line as line}
-use Rattle.ipmi_image.specs.declared.line.Line.TheVariants as of
+use Rattle.ipmi_image.specs.declared.line.Line.{Line as line, Line}
 use Rattle.ipmi_image.specs.declared.line.LineFault.{LineFault}
-use Rattle.ipmi_image.specs.declared.line.LineFault.TheVariants as fault
 use Rattle.ipmi_image.specs.declared.stored.StoredSensor.{StoredSensor}
 use Rattle.ipmi_image.specs.Table.{inventory_of}
 use Rattle.ipmi_image.specs.Line.{Line, a_row, an_inventory, a_reading, an_info, the_end}
@@ -17,15 +15,15 @@ sensor_of sensor = record { lun = sensor.lun; number = sensor.number; reading = 
 
 -- what a line that was read says of these bytes
 abbrev pub said : List ℕ → line → Line
-said bytes (of.Row shelf id next) = a_row shelf (record { id = id; next = next; bytes = bytes })
-said bytes (of.Inventory id) = an_inventory id bytes
-said bytes (of.Reading lun number) = a_reading lun number bytes
-said bytes (of.Info shelf) = an_info shelf bytes
-said bytes of.End = the_end
+said bytes (Line.Row shelf id next) = a_row shelf (record { id = id; next = next; bytes = bytes })
+said bytes (Line.Inventory id) = an_inventory id bytes
+said bytes (Line.Reading lun number) = a_reading lun number bytes
+said bytes (Line.Info shelf) = an_info shelf bytes
+said bytes Line.End = the_end
 
 -- the line with these bytes or its fault was found, or no memory was left for it
 abbrev pub IsRead : Result Line LineFault → List ℕ → Result line LineFault → Type 0
-IsRead wanted bytes result = MatchResult result (λ l. wanted ≡ Ok (said bytes l)) (λ e. (e ≡ fault.Memory) ⊎ (wanted ≡ Err e))
+IsRead wanted bytes result = MatchResult result (λ l. wanted ≡ Ok (said bytes l)) (λ e. (e ≡ LineFault.Memory) ⊎ (wanted ≡ Err e))
 
 -- what the contents of an image are
 abbrev pub store_of : Contents → Store
@@ -60,4 +58,4 @@ pub record HoldsLines (contents : Contents) (lines : List Line) : Type 0 where
 abbrev pub IsPut : Contents → List Line → Line → Result (Unit {0}) LineFault → Type 0
 IsPut new before line result = MatchResult result
     (λ done. (fault_in (store_of_lines before) line ≡ None) × HoldsLines new (before ++ line ∷ []))
-    (λ e. (e ≡ fault.Memory) ⊎ (fault_in (store_of_lines before) line ≡ Some e))
+    (λ e. (e ≡ LineFault.Memory) ⊎ (fault_in (store_of_lines before) line ≡ Some e))

@@ -23,9 +23,8 @@ pub(crate) enum LineFault {
 }
 
 impl From<AllocError> for LineFault {
-    ghost use Rattle.ipmi_image.specs.declared.line.LineFault.TheVariants as fault;
 
-    ghost from_gives = { λ _ e. e ≡ fault.Memory };
+    ghost from_gives = { λ _ e. e ≡ LineFault.Memory };
 
     fn from(_error: AllocError) -> LineFault {
         LineFault::Memory

@@ -3,14 +3,10 @@ use Rattle.std.specs.Prelude.{ℕ, List, [], ◌∷◌, ◌++◌, flat_map, code
 use Rattle.std.specs.Char.{is_ascii_control}
 use Rattle.std.specs.Borrow.{Bor}
 use Rattle.ipmi_bus.specs.declared.inventory.FruEnded.{FruEnded}
-use Rattle.ipmi_bus.specs.declared.inventory.FruEnded.TheVariants as fru
 use Rattle.ipmi_bus.specs.declared.step.Ended.{Ended}
-use Rattle.ipmi_bus.specs.declared.step.Ended.TheVariants as ended
 use Rattle.ipmi_image.specs.declared.image.ImageFault.{ImageFault}
-use Rattle.ipmi_image.specs.declared.image.ImageFault.TheVariants as fault
 use Rattle.ipmi_records.specs.Bytes.{byte_h, upper_byte, word_h}
 use Rattle.ipmi_output.specs.declared.message.Message.{Message}
-use Rattle.ipmi_output.specs.declared.message.Message.TheVariants as message
 
 -- how the program is called
 abbrev pub usage_text : List ℕ
@@ -22,12 +18,12 @@ refused_text id code = codes "record " ++ (word_h id ++ (codes " refused with co
 
 -- why a listing ended, with the record's id
 abbrev pub ended_text : Ended → List ℕ
-ended_text (ended.Cycle id) = codes "cycle at " ++ word_h id
-ended_text (ended.Missing id) = codes "record " ++ (word_h id ++ codes " not present")
-ended_text (ended.Refused id code) = refused_text id code.0
-ended_text (ended.GaveUp id) = codes "gave up at " ++ word_h id
-ended_text (ended.Stalled id) = codes "stalled at " ++ word_h id
-ended_text (ended.Malformed id) = codes "malformed record " ++ word_h id
+ended_text (Ended.Cycle id) = codes "cycle at " ++ word_h id
+ended_text (Ended.Missing id) = codes "record " ++ (word_h id ++ codes " not present")
+ended_text (Ended.Refused id code) = refused_text id code.0
+ended_text (Ended.GaveUp id) = codes "gave up at " ++ word_h id
+ended_text (Ended.Stalled id) = codes "stalled at " ++ word_h id
+ended_text (Ended.Malformed id) = codes "malformed record " ++ word_h id
 
 -- that an inventory was refused, with this code
 abbrev pub refused_inventory_text : ℕ → ℕ → List ℕ
@@ -35,11 +31,11 @@ refused_inventory_text id code = codes "fru " ++ (decimal id ++ (codes " refused
 
 -- why an inventory was not read, with the id of its FRU device
 abbrev pub inventory_text : ℕ → FruEnded → List ℕ
-inventory_text id (fru.Refused code) = refused_inventory_text id code.0
-inventory_text id fru.GaveUp = codes "fru " ++ (decimal id ++ codes " gave up")
-inventory_text id fru.Stalled = codes "fru " ++ (decimal id ++ codes " stalled")
-inventory_text id fru.Words = codes "fru " ++ (decimal id ++ codes " uses words")
-inventory_text id fru.Memory = codes "out of memory"
+inventory_text id (FruEnded.Refused code) = refused_inventory_text id code.0
+inventory_text id FruEnded.GaveUp = codes "fru " ++ (decimal id ++ codes " gave up")
+inventory_text id FruEnded.Stalled = codes "fru " ++ (decimal id ++ codes " stalled")
+inventory_text id FruEnded.Words = codes "fru " ++ (decimal id ++ codes " uses words")
+inventory_text id FruEnded.Memory = codes "out of memory"
 
 -- a byte of a file's name as it is printed: a control byte, below 20h or 7Fh, as `\x` and two upper-case hex digits, any other as
 -- it is, a backslash too
@@ -64,28 +60,28 @@ line_fault_text line what = codes "image line " ++ (decimal line ++ (codes ": " 
 
 -- why the input is no image
 abbrev pub image_fault_text : ImageFault → List ℕ
-image_fault_text fault.Memory = codes "out of memory"
-image_fault_text fault.Header = codes "image: header"
-image_fault_text (fault.Line line) = line_fault_text line (codes "not a line")
-image_fault_text (fault.Hex line) = line_fault_text line (codes "hex")
-image_fault_text (fault.Id line) = line_fault_text line (codes "id")
-image_fault_text (fault.Twice line) = line_fault_text line (codes "twice")
-image_fault_text (fault.Length line) = line_fault_text line (codes "length")
-image_fault_text (fault.FirstId line) = line_fault_text line (codes "first id")
-image_fault_text fault.NoEnd = codes "image: no end"
-image_fault_text (fault.AfterEnd line) = line_fault_text line (codes "after end")
-image_fault_text (fault.TooMany line) = line_fault_text line (codes "too many bytes")
+image_fault_text ImageFault.Memory = codes "out of memory"
+image_fault_text ImageFault.Header = codes "image: header"
+image_fault_text (ImageFault.Line line) = line_fault_text line (codes "not a line")
+image_fault_text (ImageFault.Hex line) = line_fault_text line (codes "hex")
+image_fault_text (ImageFault.Id line) = line_fault_text line (codes "id")
+image_fault_text (ImageFault.Twice line) = line_fault_text line (codes "twice")
+image_fault_text (ImageFault.Length line) = line_fault_text line (codes "length")
+image_fault_text (ImageFault.FirstId line) = line_fault_text line (codes "first id")
+image_fault_text ImageFault.NoEnd = codes "image: no end"
+image_fault_text (ImageFault.AfterEnd line) = line_fault_text line (codes "after end")
+image_fault_text (ImageFault.TooMany line) = line_fault_text line (codes "too many bytes")
 
 abbrev pub message_text : Message → List ℕ
-message_text message.Usage = usage_text
-message_text (message.CannotRead name) = codes "cannot read " ++ escaped_name name.now
-message_text (message.Image fault) = image_fault_text fault
-message_text (message.Ended ended) = ended_text ended
-message_text (message.Inventory id ended) = inventory_text id ended
-message_text (message.NoName name) = no_name_text name.now
-message_text message.NoInfo = no_info_text
-message_text message.WriteFault = codes "write fault"
-message_text message.OutOfMemory = codes "out of memory"
+message_text Message.Usage = usage_text
+message_text (Message.CannotRead name) = codes "cannot read " ++ escaped_name name.now
+message_text (Message.Image fault) = image_fault_text fault
+message_text (Message.Ended ended) = ended_text ended
+message_text (Message.Inventory id ended) = inventory_text id ended
+message_text (Message.NoName name) = no_name_text name.now
+message_text Message.NoInfo = no_info_text
+message_text Message.WriteFault = codes "write fault"
+message_text Message.OutOfMemory = codes "out of memory"
 
 -- a text as a line
 abbrev pub line_text : List ℕ → List ℕ

@@ -9,11 +9,8 @@ use Rattle.ipmi_text.specs.Times.{IsUtcTextOf}
 use Rattle.ipmi_text.specs.declared.reading.Reading.{Reading}
 use Rattle.ipmi_text.specs.Laws.{DecimalIsUnique, UtcTextIsUnique}
 use Rattle.ipmi_records.specs.declared.column.Shown.{Shown}
-use Rattle.ipmi_records.specs.declared.column.Shown.TheVariants as shown
 use Rattle.ipmi_records.specs.declared.sdr.SdrView.{SdrView}
-use Rattle.ipmi_records.specs.declared.sdr.SdrView.TheVariants as record_view
 use Rattle.ipmi_records.specs.declared.sel.SelView.{SelView}
-use Rattle.ipmi_records.specs.declared.sel.SelView.TheVariants as entry_view
 use Rattle.ipmi_records.specs.declared.sensor.Threshold.{Threshold}
 use Rattle.ipmi_records.specs.Columns.{IsAnalogColumn, IsFullColumn, IsRawText, IsReadingColumn, IsValueText, has_analog, shown_of, unit_text_in}
 use Rattle.ipmi_records.specs.Info.{AreTimeLines, IsInfoBlock, last_addition, last_erase}
@@ -38,18 +35,18 @@ module _ (one_text : DecimalIsUnique) (one_utc_text : UtcTextIsUnique) where
   one_analog true bytes reading text other h k = one_raw bytes reading.raw text other h k
 
   one_full : (bytes : List ℕ) (s : Shown) (text other : List ℕ) → IsFullColumn bytes s text → IsFullColumn bytes s other → text ≡ other
-  one_full bytes shown.OtherOwner text other h k = h ∙ sym k
-  one_full bytes shown.NoReading text other h k = h ∙ sym k
-  one_full bytes (shown.Value reading) text other h k = one_analog (has_analog bytes) bytes reading text other h k
+  one_full bytes Shown.OtherOwner text other h k = h ∙ sym k
+  one_full bytes Shown.NoReading text other h k = h ∙ sym k
+  one_full bytes (Shown.Value reading) text other h k = one_analog (has_analog bytes) bytes reading text other h k
 
   one_column : (view : SdrView) (reading : Option Reading) (text other : List ℕ) → IsReadingColumn view reading text → IsReadingColumn view reading other → text ≡ other
-  one_column (record_view.Full bytes) reading text other h k = one_full bytes (shown_of (full_sensor bytes) reading) text other h k
-  one_column (record_view.Compact bytes) reading text other h k = h ∙ sym k
-  one_column (record_view.EventOnly bytes) reading text other h k = h ∙ sym k
-  one_column (record_view.Generic bytes) reading text other h k = h ∙ sym k
-  one_column (record_view.Fru bytes) reading text other h k = h ∙ sym k
-  one_column (record_view.Controller bytes) reading text other h k = h ∙ sym k
-  one_column (record_view.Other bytes) reading text other h k = h ∙ sym k
+  one_column (SdrView.Full bytes) reading text other h k = one_full bytes (shown_of (full_sensor bytes) reading) text other h k
+  one_column (SdrView.Compact bytes) reading text other h k = h ∙ sym k
+  one_column (SdrView.EventOnly bytes) reading text other h k = h ∙ sym k
+  one_column (SdrView.Generic bytes) reading text other h k = h ∙ sym k
+  one_column (SdrView.Fru bytes) reading text other h k = h ∙ sym k
+  one_column (SdrView.Controller bytes) reading text other h k = h ∙ sym k
+  one_column (SdrView.Other bytes) reading text other h k = h ∙ sym k
 
   pub one_sdr_line : (view : SdrView) (reading : Option Reading) (text other : List ℕ) → IsSdrLine view reading text → IsSdrLine view reading other → text ≡ other
   one_sdr_line view reading text other h k =
@@ -74,14 +71,14 @@ module _ (one_text : DecimalIsUnique) (one_utc_text : UtcTextIsUnique) where
       h.2.1.1 ∙ rw (one_threshold (is_readable threshold bytes) bytes threshold h.0 k.0 h.2.0 k.2.0, one_list bytes thresholds h.1 k.1 h.2.1.0 k.2.1.0) (sym k.2.1.1)
 
   one_values : (view : SdrView) (reading : Option Reading) (text other : List ℕ) → AreValueLines view reading text → AreValueLines view reading other → text ≡ other
-  one_values (record_view.Full bytes) reading text other h k =
-      h.text_is ∙ rw (one_pair (record_view.Full bytes) reading h.columns k.columns h.are_columns k.are_columns, one_list bytes (thresholds_of (full_sensor bytes)) h.thresholds k.thresholds h.are_thresholds k.are_thresholds) (sym k.text_is)
-  one_values (record_view.Compact bytes) reading text other h k = one_pair (record_view.Compact bytes) reading text other h k
-  one_values (record_view.EventOnly bytes) reading text other h k = h ∙ sym k
-  one_values (record_view.Generic bytes) reading text other h k = h ∙ sym k
-  one_values (record_view.Fru bytes) reading text other h k = h ∙ sym k
-  one_values (record_view.Controller bytes) reading text other h k = h ∙ sym k
-  one_values (record_view.Other bytes) reading text other h k = h ∙ sym k
+  one_values (SdrView.Full bytes) reading text other h k =
+      h.text_is ∙ rw (one_pair (SdrView.Full bytes) reading h.columns k.columns h.are_columns k.are_columns, one_list bytes (thresholds_of (full_sensor bytes)) h.thresholds k.thresholds h.are_thresholds k.are_thresholds) (sym k.text_is)
+  one_values (SdrView.Compact bytes) reading text other h k = one_pair (SdrView.Compact bytes) reading text other h k
+  one_values (SdrView.EventOnly bytes) reading text other h k = h ∙ sym k
+  one_values (SdrView.Generic bytes) reading text other h k = h ∙ sym k
+  one_values (SdrView.Fru bytes) reading text other h k = h ∙ sym k
+  one_values (SdrView.Controller bytes) reading text other h k = h ∙ sym k
+  one_values (SdrView.Other bytes) reading text other h k = h ∙ sym k
 
   pub one_sdr_block : (id : ℕ) (view : SdrView) (reading : Option Reading) (text other : List ℕ) → IsSdrBlock id view reading text → IsSdrBlock id view reading other → text ≡ other
   one_sdr_block id view reading text other h k =
@@ -102,24 +99,24 @@ module _ (one_text : DecimalIsUnique) (one_utc_text : UtcTextIsUnique) where
       one_utc_text (time_stamp bytes) text other (omega (arith, bound)) h k
 
   pub one_sel_line : (id : ℕ) (view : SelView) (text other : List ℕ) → AreBytes (entry_bytes view) → IsSelLine id view text → IsSelLine id view other → text ≡ other
-  one_sel_line id (entry_view.Event bytes) text other are h k =
+  one_sel_line id (SelView.Event bytes) text other are h k =
       h.text_is ∙ rw (one_time bytes h.time k.time are h.is_time k.is_time) (sym k.text_is)
-  one_sel_line id (entry_view.OemTimed bytes) text other are h k =
+  one_sel_line id (SelView.OemTimed bytes) text other are h k =
       h.text_is ∙ rw (one_time bytes h.time k.time are h.is_time k.is_time) (sym k.text_is)
-  one_sel_line id (entry_view.OemPlain bytes) text other are h k = h ∙ sym k
-  one_sel_line id (entry_view.Other bytes) text other are h k = h ∙ sym k
+  one_sel_line id (SelView.OemPlain bytes) text other are h k = h ∙ sym k
+  one_sel_line id (SelView.Other bytes) text other are h k = h ∙ sym k
 
   one_origin : (bytes text other : List ℕ) → AreBytes bytes → AreOriginLines bytes text → AreOriginLines bytes other → text ≡ other
   one_origin bytes text other are h k =
       h.text_is ∙ rw (one_time bytes h.time k.time are h.is_time k.is_time) (sym k.text_is)
 
   one_fields : (view : SelView) (text other : List ℕ) → AreBytes (entry_bytes view) → AreFieldLines view text → AreFieldLines view other → text ≡ other
-  one_fields (entry_view.Event bytes) text other are h k =
+  one_fields (SelView.Event bytes) text other are h k =
       h.text_is ∙ rw (one_origin bytes h.origin k.origin are h.are_origin k.are_origin) (sym k.text_is)
-  one_fields (entry_view.OemTimed bytes) text other are h k =
+  one_fields (SelView.OemTimed bytes) text other are h k =
       h.text_is ∙ rw (one_time bytes h.time k.time are h.is_time k.is_time) (sym k.text_is)
-  one_fields (entry_view.OemPlain bytes) text other are h k = h ∙ sym k
-  one_fields (entry_view.Other bytes) text other are h k = h ∙ sym k
+  one_fields (SelView.OemPlain bytes) text other are h k = h ∙ sym k
+  one_fields (SelView.Other bytes) text other are h k = h ∙ sym k
 
   pub one_sel_block : (id : ℕ) (view : SelView) (text other : List ℕ) → AreBytes (entry_bytes view) → IsSelBlock id view text → IsSelBlock id view other → text ≡ other
   one_sel_block id view text other are h k =

@@ -7,7 +7,6 @@ use Rattle.ipmi_text.specs.ReadingValue.{reading_value}
 use Rattle.ipmi_text.specs.Units.{after_space, unit_text_of}
 use Rattle.ipmi_text.specs.declared.reading.Reading.{Reading}
 use Rattle.ipmi_records.specs.declared.column.Shown.{Shown}
-use Rattle.ipmi_records.specs.declared.column.Shown.TheVariants as shown
 use Rattle.ipmi_records.specs.declared.sdr.SdrView.{SdrView}
 use Rattle.ipmi_records.specs.declared.sdr.SdrView.TheVariants.{Full, Compact, EventOnly, Generic, Fru, Controller, Other}
 use Rattle.ipmi_records.specs.declared.sensor.Sensor.{Sensor}
@@ -22,12 +21,12 @@ abbrev pub is_there : Reading → Bool
 is_there reading = has_bit 6 reading.flags && not (has_bit 5 reading.flags)
 
 abbrev pub shown_reading : Option Reading → Shown
-shown_reading None = shown.NoReading
-shown_reading (Some reading) = if is_there reading then shown.Value reading else shown.NoReading
+shown_reading None = Shown.NoReading
+shown_reading (Some reading) = if is_there reading then Shown.Value reading else Shown.NoReading
 
 -- the first that holds: the sensor is another controller's, it has no reading, it has one
 abbrev pub shown_of : Sensor → Option Reading → Shown
-shown_of sensor reading = if sensor.owner == own_address then shown_reading reading else shown.OtherOwner
+shown_of sensor reading = if sensor.owner == own_address then shown_reading reading else Shown.OtherOwner
 
 -- ---- values
 
@@ -64,15 +63,15 @@ abbrev pub has_analog : List ℕ → Bool
 has_analog bytes = not (analog_format bytes == 3)
 
 abbrev pub IsFullColumn : List ℕ → Shown → List ℕ → Type 0
-IsFullColumn bytes shown.OtherOwner text = text ≡ codes "other owner"
-IsFullColumn bytes shown.NoReading text = text ≡ codes "no reading"
-IsFullColumn bytes (shown.Value reading) text = IsAnalogColumn (has_analog bytes) bytes reading text
+IsFullColumn bytes Shown.OtherOwner text = text ≡ codes "other owner"
+IsFullColumn bytes Shown.NoReading text = text ≡ codes "no reading"
+IsFullColumn bytes (Shown.Value reading) text = IsAnalogColumn (has_analog bytes) bytes reading text
 
 -- of a compact record: always the states
 abbrev pub compact_column : Shown → List ℕ
-compact_column shown.OtherOwner = codes "other owner"
-compact_column shown.NoReading = codes "no reading"
-compact_column (shown.Value reading) = states_text reading
+compact_column Shown.OtherOwner = codes "other owner"
+compact_column Shown.NoReading = codes "no reading"
+compact_column (Shown.Value reading) = states_text reading
 
 -- of a FRU locator: the device, or that its inventory is not read
 abbrev pub fru_column : Option ℕ → List ℕ
@@ -107,9 +106,9 @@ abbrev pub has_thresholds : Sensor → Bool
 has_thresholds sensor = sensor.event_type == 0x01
 
 abbrev pub sensor_status : Sensor → Shown → List ℕ
-sensor_status sensor shown.OtherOwner = codes "na"
-sensor_status sensor shown.NoReading = codes "ns"
-sensor_status sensor (shown.Value reading) = if has_thresholds sensor then threshold_status reading.status else codes "ok"
+sensor_status sensor Shown.OtherOwner = codes "na"
+sensor_status sensor Shown.NoReading = codes "ns"
+sensor_status sensor (Shown.Value reading) = if has_thresholds sensor then threshold_status reading.status else codes "ok"
 
 abbrev pub status_of : SdrView → Option Reading → List ℕ
 status_of (Full bytes) reading = sensor_status (full_sensor bytes) (shown_of (full_sensor bytes) reading)

@@ -1,7 +1,6 @@
 use Rattle.std.proofs.Common.{ℕ, Some, None, ap, sym, subst, ◌∙◌, arith}
 use Rattle.ipmi_command_line.specs.declared.command.Task.{Task}
-use Rattle.ipmi_command_line.specs.declared.command.Task.TheVariants as task
-use Rattle.ipmi_command_line.specs.declared.command.Count.TheVariants as count
+use Rattle.ipmi_command_line.specs.declared.command.Count.{Count}
 use Rattle.ipmi_command_line.specs.Task.{start_by}
 use Rattle.ipmi_commands.specs.declared.listing.Span.{Span}
 use Rattle.ipmi_commands.specs.Last.{ListsSpan}
@@ -71,7 +70,7 @@ returns-clause-honest g c = λ h.
     let lists = subst (λ (t : Task). ListsSpan (request t start cmd.tries) all (change s s' old mid) counted) c.requires.task (c.list_span-counted.ensures.honest h) in
     let is_done = done counted.stop (sym c.is_done.ensures ∙ c.if-not-is_done.false) in
     let second =
-    subst (λ (k : ℕ). ListsSpan (request (task.SelList (count.Last c.args.wanted)) start cmd.tries) (record { skip = Some k; most = None }) (change s' s'' mid new) c.list_span-listed.result) c.before_last-skip.ensures
+    subst (λ (k : ℕ). ListsSpan (request (Task.SelList (Count.Last c.args.wanted)) start cmd.tries) (record { skip = Some k; most = None }) (change s' s'' mid new) c.list_span-listed.result) c.before_last-skip.ensures
     (subst (λ (t : Task). ListsSpan (request t start cmd.tries) (record { skip = Some c.before_last-skip.result; most = None }) (change s' s'' mid new) c.list_span-listed.result) c.requires.task
     (c.list_span-listed.ensures.honest lists.stays.honest)) in
     subst

@@ -1,7 +1,6 @@
 use Rattle.std.proofs.Common.{None, ap, sym, subst, ◌∙◌, arith}
 use Rattle.ipmi_bus.specs.declared.step.Place.{Place}
 use Rattle.ipmi_command_line.specs.declared.command.Task.{Task}
-use Rattle.ipmi_command_line.specs.declared.command.Task.TheVariants as task
 use Rattle.ipmi_command_line.specs.Task.{start_by}
 use Rattle.ipmi_commands.specs.declared.stop.Stop.{Stop}
 use Rattle.ipmi_commands.specs.Listing.{faults_of, most_calls, most_on_walk}
@@ -24,7 +23,7 @@ returns-then-not-is_done-clause-honest g c = λ h.
     (λ (t : Task). Performs (request t (start_by cmd.task cmd.from) cmd.tries) to c.write_found-first.result)
     (sym c.requires)
     (first_performs (start_by cmd.task cmd.from) cmd.tries to c.write_found-first.result
-    (text_stops (task.Fru None) (inventory_item 0) cmd.tries to c.inventory_piece-found.result c.write_found-first.result (c.inventory_piece-found.ensures.honest h) c.write_found-first.ensures.text (sym c.is_done.ensures ∙ c.if-not-is_done.true)))
+    (text_stops (Task.Fru None) (inventory_item 0) cmd.tries to c.inventory_piece-found.result c.write_found-first.result (c.inventory_piece-found.ensures.honest h) c.write_found-first.ensures.text (sym c.is_done.ensures ∙ c.if-not-is_done.true)))
 
 pub returns-clause-faults : goal.returns-clause-faults
 returns-clause-faults g c =
@@ -49,8 +48,8 @@ returns-clause-honest g c = λ h.
     let first = done c.write_found-first.result (sym c.is_done.ensures ∙ c.if-not-is_done.false) in
     let finds = c.inventory_piece-found.ensures.honest h in
     let written =
-    text_written (task.Fru None) (inventory_item 0) cmd.tries (change s s' old text) c.inventory_piece-found.result finds (subst (λ (x : Stop). WritesFound c.inventory_piece-found.result old text x) first c.write_found-first.ensures.text)
-    (never_found (task.Fru None) (inventory_item 0) cmd.tries s s' c.inventory_piece-found.result finds) in
+    text_written (Task.Fru None) (inventory_item 0) cmd.tries (change s s' old text) c.inventory_piece-found.result finds (subst (λ (x : Stop). WritesFound c.inventory_piece-found.result old text x) first c.write_found-first.ensures.text)
+    (never_found (Task.Fru None) (inventory_item 0) cmd.tries s s' c.inventory_piece-found.result finds) in
     let page =
     subst (λ (t : Task). IsPage (request t (start_by cmd.task cmd.from) cmd.tries) None c.list_page-page.result.resume_at (change s' s'' text new) c.list_page-page.result.stop) c.requires
     (subst (λ (p : Place). IsPage (request cmd.task p cmd.tries) None c.list_page-page.result.resume_at (change s' s'' text new) c.list_page-page.result.stop) c.first_place.ensures.value

@@ -1,6 +1,5 @@
 use Rattle.std.proofs.Common.{Some, ap, refl, sym, subst, arith}
 use Rattle.ipmi_command_line.specs.declared.command.Task.{Task}
-use Rattle.ipmi_command_line.specs.declared.command.Task.TheVariants as task
 use Rattle.ipmi_command_line.specs.Task.{start_by}
 use Rattle.ipmi_commands.specs.Listing.{most_calls}
 use Rattle.ipmi_commands.specs.Plan.{inventory_item, request, change}
@@ -18,5 +17,5 @@ returns-clause-honest g c = λ h.
     subst
     (λ (t : Task). Performs (request t (start_by cmd.task cmd.from) cmd.tries) (change (g.C.Controller.seen c.args.ctl.now) (g.C.Controller.seen c.inventory_piece-found.new.ctl) (g.O.Sink.taken c.args.out.now) (g.O.Sink.taken c.write_found.new.out)) c.write_found.result)
     (sym c.requires)
-    (one_text_performs (request (task.Fru (Some c.args.id)) (start_by cmd.task cmd.from) cmd.tries) (inventory_item c.args.id) _ c.inventory_piece-found.result c.write_found.result (λ store walk end. refl) (λ store walk end. omega arith)
+    (one_text_performs (request (Task.Fru (Some c.args.id)) (start_by cmd.task cmd.from) cmd.tries) (inventory_item c.args.id) _ c.inventory_piece-found.result c.write_found.result (λ store walk end. refl) (λ store walk end. omega arith)
     (c.inventory_piece-found.ensures.honest h) c.write_found.ensures.text)

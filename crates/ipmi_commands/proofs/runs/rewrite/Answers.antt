@@ -3,7 +3,7 @@ use Rattle.ipmi_bus.specs.Store.{Store}
 use Rattle.ipmi_image.specs.declared.image.ImageFault.{ImageFault}
 use Rattle.ipmi_commands.specs.Run.{IsRewriting, AnswersRewrite, effect}
 use Rattle.ipmi_bus.specs.declared.step.Place.TheVariants.{First}
-use Rattle.ipmi_command_line.specs.declared.command.Task.TheVariants as task
+use Rattle.ipmi_command_line.specs.declared.command.Task.{Task}
 use Rattle.ipmi_commands.specs.Plan.{request}
 use Rattle.ipmi_commands.proofs.PlanLemmas.{rewriting, not_answered}
 use Rattle.ipmi_commands.proofs.runs.rewrite.Goals as goal
@@ -20,4 +20,4 @@ returns-in-Ok-clause-answers g c =
     (rewriting c.in-Ok.image out c.write_image-stop.result c.write_image-stop.ensures.text c.report.ensures.message))
 
 pub returns-in-Err-clause-answers : goal.returns-in-Err-clause-answers
-returns-in-Err-clause-answers g c = not_answered true (request task.Rewrite First 0) c.in-Err.fault _ _ _ _ _ c.in-Err.ensures.err c.report_image.ensures
+returns-in-Err-clause-answers g c = not_answered true (request Task.Rewrite First 0) c.in-Err.fault _ _ _ _ _ c.in-Err.ensures.err c.report_image.ensures
