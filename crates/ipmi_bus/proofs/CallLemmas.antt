@@ -1,19 +1,9 @@
 -- What the answers of an honest controller leave of a record that is being read.
 use Rattle.std.proofs.Common.{◌≡◌, ℕ, ◌+◌, ◌<◌, Bool, true, false, Option, None, Some, Result, Ok, Err, refl, sym, subst, ◌∙◌, inl, inr, arith, ◌≤◌, IsTrue, IsSome}
 use Rattle.std.proofs.lemmas.Bool.{cases_lt}
-use Rattle.ipmi_bus.specs.declared.code.Code.{Code}
-use Rattle.ipmi_bus.specs.declared.code.CodeClass.{CodeClass}
-use Rattle.ipmi_bus.specs.declared.code.CodeClass.TheVariants.{Cancelled, Busy, SmallerPart, NotPresent, Refusal}
-use Rattle.ipmi_bus.specs.declared.controller.Shelf.{Shelf}
-use Rattle.ipmi_bus.specs.declared.step.Ended.{Ended}
+use Rattle.ipmi_bus.specs.Prelude.{Code, CodeClass, Cancelled, Busy, SmallerPart, NotPresent, Refusal, Shelf, Ended, Outcome, Retrieval, Row, class_of, FailsWith, ReserveAnswers, Seen, KeepsStore, MayLoseReservation, IsTroubled, IsRefused, current, StaysHonest, IsReading, HoldsCurrent, GoesOn, HasGivenUp, CallAnswers, CallIsHonest, after_trouble, IsRefusedBy, ReserveFails}
 use Rattle.ipmi_bus.specs.declared.step.Ended.TheVariants.{Refused}
-use Rattle.ipmi_bus.specs.declared.retrieval.Outcome.{Outcome}
-use Rattle.ipmi_bus.specs.declared.retrieval.Retrieval.{Retrieval}
-use Rattle.ipmi_bus.specs.Shelf.{Row}
-use Rattle.ipmi_bus.specs.Code.{class_of}
-use Rattle.ipmi_bus.specs.Answers.{FailsWith, ReserveAnswers}
-use Rattle.ipmi_bus.specs.Seen.{Seen, KeepsStore, MayLoseReservation, IsTroubled, IsRefused, current, StaysHonest}
-use Rattle.ipmi_bus.specs.Retrieval.{IsOpen, HasRead, IsReading, HoldsCurrent, GoesOn, HasGivenUp, CallAnswers, CallIsHonest, after_trouble, CountsTrouble, IsRefusedBy, ReserveFails}
+use Rattle.ipmi_bus.specs.Retrieval.{IsOpen, HasRead, CountsTrouble}
 
 -- where a reservation is current, it was so before, and the store is the same
 pub store-kept : (shelf : Shelf) (s s' : Seen) (n : ℕ) → MayLoseReservation shelf s s' → KeepsStore s s' → current shelf s' ≡ Some n → s'.store ≡ s.store

@@ -3,21 +3,8 @@ use Rattle.std.proofs.Common.{◌≡◌, ℕ, ◌+◌, ◌*◌, ◌<◌, ◌≤�
 use Rattle.std.specs.FinSet as set
 use Rattle.std.specs.FinSet.{contains-empty, len-empty}
 use Rattle.std.proofs.lemmas.Bool.Decides.{nat_tests}
-use Rattle.ipmi_bus.specs.Bounds.{digits}
-use Rattle.ipmi_bus.specs.declared.controller.Shelf.{Shelf}
-use Rattle.ipmi_bus.specs.declared.controller.Shelf.TheVariants.{Sdr, Sel}
-use Rattle.ipmi_bus.specs.declared.step.Place.{Place}
-use Rattle.ipmi_bus.specs.declared.step.Place.TheVariants.{First, Id, End}
-use Rattle.ipmi_bus.specs.declared.retrieval.Retrieval.{Retrieval}
-use Rattle.ipmi_bus.specs.declared.cursor.Handed.{Handed}
-use Rattle.ipmi_bus.specs.declared.cursor.Progress.{Progress}
-use Rattle.ipmi_bus.specs.Shelf.{Row, IsShelf, BeginsWithId, whole_len, largest_len, look, row_with_id, first_row}
-use Rattle.ipmi_bus.specs.Store.{rows_of, store_shelf}
-use Rattle.ipmi_bus.specs.Seen.{Seen, IsHonest}
-use Rattle.ipmi_bus.specs.Retrieval.{HasRead, SameRequest, wanted_len}
-use Rattle.ipmi_bus.specs.Since.{begun}
-use Rattle.ipmi_bus.specs.Handed.{handed_row, handed_id, IsAsked, IsUnseen, LeavesRoom}
-use Rattle.ipmi_bus.specs.Step.{asked_at, HasIdAsked}
+use Rattle.ipmi_bus.specs.Prelude.{digits, Shelf, Sdr, Sel, Place, First, Id, End, Retrieval, Handed, Progress, Row, IsShelf, BeginsWithId, whole_len, largest_len, look, row_with_id, first_row, rows_of, store_shelf, Seen, IsHonest, SameRequest, wanted_len, begun, handed_row, handed_id, IsAsked, IsUnseen, LeavesRoom, asked_at, HasIdAsked}
+use Rattle.ipmi_bus.specs.Retrieval.{HasRead}
 use Rattle.ipmi_bus.proofs.ShelfLemmas.{found_row}
 use Rattle.ipmi_bus.proofs.PartLemmas.{get_or-read}
 

@@ -10,7 +10,7 @@ use Rattle.std.proofs.lemmas.Bool.Decides.{nat_tests}
 use Rattle.std.proofs.lemmas.List.{get_or-replicate, get_or_past, length-replicate}
 use mir.Syntax.{w8}
 use mir.Val.{bits}
-use Rattle.ipmi_bus.specs.IdTable.{has_bit, ids_below, ids_in}
+use Rattle.ipmi_bus.specs.Prelude.{has_bit, ids_below, ids_in}
 
 step : (s : set.FinSet nat_cmp) (b p : Bool) (k q : ℕ) → (q ≡ k → p ≡ b) → set.contains s q ≡ (nat_lt q k && p) → set.contains (cond b (set.insert s k) s) q ≡ (nat_lt q (suc k) && p)
 step s true p k q same ih = grind (members, rules)

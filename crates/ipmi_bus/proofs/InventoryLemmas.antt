@@ -2,21 +2,9 @@
 use Rattle.std.proofs.Common.{◌≡◌, ℕ, ◌+◌, ◌<◌, ◌≤◌, Bool, true, false, nat_eq, Option, None, Some, Result, Ok, Err, List, [], length, take, drop, slice_range, refl, sym, ap, subst, ◌∙◌, arith, unwrap_or, IsTrue, IsSome, ne_eqb}
 use Rattle.std.proofs.lemmas.Bool.Decides.{nat_tests}
 use Rattle.std.proofs.Math.Seq.{take-length}
-use Rattle.ipmi_bus.specs.declared.code.Code.{Code}
-use Rattle.ipmi_bus.specs.declared.code.CodeClass.{CodeClass}
-use Rattle.ipmi_bus.specs.declared.code.CodeClass.TheVariants.{Cancelled, Busy, SmallerPart, NotPresent, Refusal}
-use Rattle.ipmi_bus.specs.declared.inventory.FruEnded.{FruEnded}
+use Rattle.ipmi_bus.specs.Prelude.{Code, CodeClass, Cancelled, Busy, SmallerPart, NotPresent, Refusal, FruEnded, Size, FruRetrieval, inventory_of, class_of, Seen, IsQuiet, IsTroubled, IsFinished, IsRefused, StaysHonest, stays_trans, CountsPiece, FailsWith, BytesAnswers, BytesIsPlain, SameInventory, FruSince, FruEnds, FruNext, HasSize, IsRefusedInventory, IsRefusedOverChange, InventoryCounts, InventoryIs, inventory_len, WithinTries, IsRefusedWith, digits, fru_call_bound}
 use Rattle.ipmi_bus.specs.declared.inventory.FruEnded.TheVariants.{Refused, GaveUp}
-use Rattle.ipmi_bus.specs.declared.inventory.Size.{Size}
-use Rattle.ipmi_bus.specs.declared.inventory.FruRetrieval.{FruRetrieval}
-use Rattle.ipmi_bus.specs.Store.{inventory_of}
-use Rattle.ipmi_bus.specs.Code.{class_of}
-use Rattle.ipmi_bus.specs.Seen.{Seen, IsQuiet, IsTroubled, IsFinished, IsRefused, StaysHonest, stays_trans}
-use Rattle.ipmi_bus.specs.Answers.{CountsPiece, FailsWith, BytesAnswers, BytesIsPlain}
-use Rattle.ipmi_bus.specs.FruRetrieval.{IsOpen, SameInventory, CountsTrouble, MakesSmaller, PartFails, TakesPart, HasRead, FruSince, FruEnds, FruNext, HasSize, calls_left}
-use Rattle.ipmi_bus.specs.Readers.{IsRefusedInventory, IsRefusedOverChange, InventoryCounts, InventoryIs, inventory_len}
-use Rattle.ipmi_bus.specs.Tries.{WithinTries, IsRefusedWith}
-use Rattle.ipmi_bus.specs.Bounds.{digits, fru_call_bound}
+use Rattle.ipmi_bus.specs.FruRetrieval.{IsOpen, CountsTrouble, MakesSmaller, PartFails, TakesPart, HasRead, calls_left}
 use Rattle.ipmi_bus.proofs.PartLemmas.{take-with_piece, smaller_some}
 
 -- with the bytes that came in

@@ -2,24 +2,8 @@
 use Rattle.std.proofs.Common.{◌≡◌, ℕ, ◌+◌, ◌<◌, ◌≤◌, Bool, true, false, nat_eq, Option, None, Some, Result, Ok, Err, List, length, take, drop, get_or, slice_range, refl, sym, ap, subst, ◌∙◌, inl, inr, arith, IsOk, IsTrue, ◌⊎◌, ne_eqb, get_or-take, take-take, take-add}
 use Rattle.std.proofs.lemmas.Bool.{cases_lt}
 use Rattle.std.proofs.lemmas.Bool.Decides.{nat_tests}
-use Rattle.ipmi_bus.specs.declared.controller.Shelf.{Shelf}
-use Rattle.ipmi_bus.specs.declared.controller.Shelf.TheVariants.{Sdr, Sel}
-use Rattle.ipmi_bus.specs.declared.code.Code.{Code}
-use Rattle.ipmi_bus.specs.declared.code.CodeClass.{CodeClass}
-use Rattle.ipmi_bus.specs.declared.code.CodeClass.TheVariants.{Cancelled, Busy, SmallerPart, NotPresent, Refusal}
-use Rattle.ipmi_bus.specs.declared.controller.Part.{Part}
-use Rattle.ipmi_bus.specs.declared.step.Ended.{Ended}
-use Rattle.ipmi_bus.specs.declared.step.Ended.TheVariants.{Stalled, Malformed}
-use Rattle.ipmi_bus.specs.declared.retrieval.Outcome.{Outcome}
-use Rattle.ipmi_bus.specs.declared.retrieval.Outcome.TheVariants.{Again, Whole, Absent}
-use Rattle.ipmi_bus.specs.declared.retrieval.Retrieval.{Retrieval}
-use Rattle.ipmi_bus.specs.Shelf.{Row, IsRow, look, whole_len, len_of, largest_len}
-use Rattle.ipmi_bus.specs.Store.{rows_of, store_shelf}
-use Rattle.ipmi_bus.specs.Seen.{Seen, IsHonest, KeepsStore, MayLoseReservation, IsQuiet, IsFinished, current}
-use Rattle.ipmi_bus.specs.Answers.{CountsPiece, FailsWith, GivesPiece, PartIsPlain, PartAnswers}
-use Rattle.ipmi_bus.specs.Calls.{smaller_part}
-use Rattle.ipmi_bus.specs.Code.{class_of}
-use Rattle.ipmi_bus.specs.Retrieval.{IsOpen, HasRead, IsReading, HoldsCurrent, IsCalm, GoesOn, HasWhole, CallAnswers, CallIsPlain, CallIsHonest, TakesPart, MakesSmaller, PartFails, wanted_len, after_part, request_of}
+use Rattle.ipmi_bus.specs.Prelude.{Shelf, Sdr, Sel, Code, CodeClass, Cancelled, Busy, SmallerPart, NotPresent, Refusal, Part, Ended, Stalled, Malformed, Outcome, Again, Whole, Absent, Retrieval, Row, IsRow, look, whole_len, len_of, largest_len, rows_of, store_shelf, Seen, IsHonest, KeepsStore, MayLoseReservation, IsQuiet, IsFinished, current, CountsPiece, FailsWith, GivesPiece, PartIsPlain, PartAnswers, smaller_part, class_of, IsReading, HoldsCurrent, IsCalm, GoesOn, HasWhole, CallAnswers, CallIsPlain, CallIsHonest, wanted_len, after_part, request_of}
+use Rattle.ipmi_bus.specs.Retrieval.{IsOpen, HasRead, TakesPart, MakesSmaller, PartFails}
 use Rattle.ipmi_bus.proofs.ShelfLemmas.{look_row}
 use Rattle.ipmi_bus.proofs.CallLemmas.{store-kept, read_moved, reading_kept, honest_trouble, honest_refusal}
 

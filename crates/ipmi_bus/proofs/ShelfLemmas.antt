@@ -1,9 +1,7 @@
 -- Rows of a well-formed shelf.
 use Rattle.std.proofs.Common.{◌≡◌, ◌≢◌, ℕ, Bool, true, false, cond, nat_eq, ◌==◌, Some, List, [], ◌∷◌, ◌++◌, refl, subst, eqb-true}
 use Rattle.std.proofs.lemmas.Bool.{eqb-false, or_parts}
-use Rattle.ipmi_bus.specs.declared.controller.Shelf.{Shelf}
-use Rattle.ipmi_bus.specs.Shelf.{Row, IsRow, IsShelf, AllRows, DistinctIds, LacksId, id_in, look, row_with_id, first_row}
-use Rattle.ipmi_bus.specs.Walk.{has_id}
+use Rattle.ipmi_bus.specs.Prelude.{Shelf, Row, IsRow, IsShelf, AllRows, DistinctIds, LacksId, id_in, look, row_with_id, first_row, has_id}
 
 -- a row that is found is well formed, and has the id
 pub found_row : (shelf : Shelf) (rows : List Row) (n : ℕ) (row : Row) → AllRows shelf rows → row_with_id n rows ≡ Some row → IsRow shelf row × (row.id ≡ n)

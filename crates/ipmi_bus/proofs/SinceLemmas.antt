@@ -1,18 +1,8 @@
 -- The reading of a record, call after call.
 use Rattle.std.proofs.Common.{◌≡◌, ℕ, ◌+◌, ◌*◌, ◌≤◌, Bool, true, false, Option, None, Some, Result, Ok, Err, refl, sym, ap, subst, ◌∙◌, arith, ◌-◌, IsSome}
-use Rattle.ipmi_bus.specs.Bounds.{digits, step_call_bound}
-use Rattle.ipmi_bus.specs.declared.controller.Shelf.{Shelf}
-use Rattle.ipmi_bus.specs.declared.step.Ended.{Ended}
-use Rattle.ipmi_bus.specs.declared.step.Ended.TheVariants.{Refused, GaveUp, Stalled, Malformed}
-use Rattle.ipmi_bus.specs.declared.retrieval.Outcome.{Outcome}
-use Rattle.ipmi_bus.specs.declared.retrieval.Outcome.TheVariants.{Again, Whole, Absent}
-use Rattle.ipmi_bus.specs.declared.retrieval.Retrieval.{Retrieval}
-use Rattle.ipmi_bus.specs.Shelf.{look, largest_len}
-use Rattle.ipmi_bus.specs.Store.{rows_of}
-use Rattle.ipmi_bus.specs.Seen.{stays_trans, Seen, IsHonest, StaysHonest, current}
-use Rattle.ipmi_bus.specs.Retrieval.{row_len, SameRequest, IsReading, IsCalm, KeepsHeld, CallAnswers, CallIsPlain, CallIsHonest, CallIsAnswered, CallLeaves, calls_left, unreserved}
-use Rattle.ipmi_bus.specs.Since.{begun, HonestSince, Since, ReadAnswers, ReadIsPlain, ReadIsHonest, EndsRead, IsEnded}
-use Rattle.ipmi_bus.specs.Tries.{WithinTries}
+use Rattle.ipmi_bus.specs.Prelude.{digits, step_call_bound, Shelf, Ended, Stalled, Malformed, Outcome, Again, Whole, Absent, Retrieval, look, largest_len, rows_of, stays_trans, Seen, IsHonest, StaysHonest, current, row_len, SameRequest, IsReading, IsCalm, KeepsHeld, CallAnswers, CallIsPlain, CallIsHonest, CallIsAnswered, CallLeaves, unreserved, begun, HonestSince, Since, ReadAnswers, ReadIsPlain, ReadIsHonest, EndsRead, IsEnded, WithinTries}
+use Rattle.ipmi_bus.specs.declared.step.Ended.TheVariants.{Refused, GaveUp}
+use Rattle.ipmi_bus.specs.Retrieval.{calls_left}
 
 same_request_trans : (a b c : Retrieval) → SameRequest a b → SameRequest b c → SameRequest a c
 same_request_trans a b c p q = record { shelf = q.shelf ∙ p.shelf; tries = q.tries ∙ p.tries; id = q.id ∙ p.id; part = omega (arith, p.part, q.part); some = q.some }

@@ -5,12 +5,7 @@ use Rattle.std.specs.FinSet.{contains-insert, contains-empty}
 use Rattle.std.specs.Cmp.{nat_cmp_total, unsigned_tied}
 use Rattle.std.proofs.Math.Bool.{or-false}
 use Rattle.std.proofs.lemmas.Bool.{cases_eq, eqb-false}
-use Rattle.ipmi_bus.specs.declared.controller.Shelf.{Shelf}
-use Rattle.ipmi_bus.specs.declared.step.Place.{Place}
-use Rattle.ipmi_bus.specs.declared.step.Place.TheVariants.{First, Id, End}
-use Rattle.ipmi_bus.specs.Shelf.{Row, IsShelf, look, row_with_id, first_row}
-use Rattle.ipmi_bus.specs.Walk.{row_at, Links, AllOf, IsWalk, place_after, place_after_rows, has_id, WalkEnd, Done, CycleAt, MissingAt, EndsBy, EndsAfter, last_next, HasWalk}
-use Rattle.ipmi_bus.specs.Step.{asked_at, cycle_at}
+use Rattle.ipmi_bus.specs.Prelude.{Shelf, Place, First, Id, End, Row, IsShelf, look, row_with_id, first_row, row_at, Links, AllOf, IsWalk, place_after, place_after_rows, has_id, WalkEnd, Done, CycleAt, MissingAt, EndsBy, EndsAfter, last_next, HasWalk, asked_at, cycle_at}
 use Rattle.ipmi_bus.proofs.ShelfLemmas.{DistinctIds-snoc}
 use Rattle.ipmi_bus.proofs.WalkLemmas.{row_at-next, has_id-next, look-asked_at, cycle_at-none, EndFacts, end_facts, place_after_rows-last, id_of, has_id-append}
 

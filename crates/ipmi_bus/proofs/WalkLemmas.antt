@@ -2,22 +2,12 @@
 use Rattle.std.proofs.Common.{◌≡◌, ◌≢◌, ℕ, ◌+◌, ◌≤◌, Bool, true, false, cond, nat_eq, ◌||◌, Option, None, Some, IsSome, Result, Ok, Err, List, [], ◌∷◌, ◌++◌, length, take, drop, refl, sym, ap, subst, ◌∙◌, inl, inr, rules, arith, ◌⊎◌, ne_eqb, eq-eqb, nat_cmp, take_all, take-append-drop, length-drop, take-add}
 use Rattle.std.specs.FinSet as set
 use Rattle.std.proofs.Math.Bool.{or-false, or_assoc, or_comm}
-use Rattle.ipmi_bus.specs.declared.controller.Shelf.{Shelf}
-use Rattle.ipmi_bus.specs.declared.step.Place.{Place}
-use Rattle.ipmi_bus.specs.declared.step.Place.TheVariants.{First, Id, End}
-use Rattle.ipmi_bus.specs.Shelf.{Row, IsShelf, look, len_of, row_with_id, first_row, DistinctIds, LacksId}
-use Rattle.ipmi_bus.specs.Walk.{row_at, IsWalk, place_after, place_after_rows, has_id, WalkEnd, Done, CycleAt, MissingAt, EndsBy, EndsAfter, EndsEmpty, last_next}
-use Rattle.ipmi_bus.specs.declared.step.Ended.{Ended}
-use Rattle.ipmi_bus.specs.declared.step.Ended.TheVariants.{Cycle, Missing, Refused, GaveUp, Stalled, Malformed}
-use Rattle.ipmi_bus.specs.CursorState.{CursorState}
-use Rattle.ipmi_bus.specs.Step.{asked_at, cycle_at, AsksAlong, AsksNothing, StaysThere, StepLeaves, StepAnswers, StepIsHonest, NoneAt}
-use Rattle.ipmi_bus.specs.Standing.{StandsAt, WalkStep, MayFail, FollowsWalks}
+use Rattle.ipmi_bus.specs.Prelude.{Shelf, Place, First, Id, End, Row, IsShelf, look, len_of, row_with_id, first_row, DistinctIds, LacksId, row_at, IsWalk, place_after, place_after_rows, has_id, WalkEnd, Done, CycleAt, MissingAt, EndsBy, EndsAfter, EndsEmpty, last_next, Ended, Cycle, Missing, Stalled, Malformed, CursorState, asked_at, cycle_at, AsksAlong, AsksNothing, StaysThere, StepLeaves, StepAnswers, StepIsHonest, NoneAt, StandsAt, WalkStep, MayFail, FollowsWalks, store_shelf, Store, rows_of, Seen, IsHonest}
+use Rattle.ipmi_bus.specs.declared.step.Ended.TheVariants.{Refused, GaveUp}
 use Rattle.std.specs.FinSet.{contains-insert, contains-empty}
 use Rattle.std.specs.Cmp.{nat_cmp_total, unsigned_tied}
 use Rattle.std.proofs.Math.Seq.{drop-nil}
 use Rattle.ipmi_bus.proofs.ShelfLemmas.{look_row, found_row}
-use Rattle.ipmi_bus.specs.Store.{store_shelf, Store, rows_of}
-use Rattle.ipmi_bus.specs.Seen.{Seen, IsHonest}
 
 place_after-id : (next : ℕ) → next ≢ 65535 → place_after next ≡ Id next
 place_after-id next ne = rw (ne_eqb next 65535 ne) refl

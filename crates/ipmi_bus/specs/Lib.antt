@@ -10,6 +10,7 @@ pub mod FruRetrieval
 pub mod Handed
 pub mod IdTable
 pub mod Lent
+pub mod Prelude
 pub mod Readers
 pub mod Retrieval
 pub mod Seen

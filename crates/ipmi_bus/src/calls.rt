@@ -1,7 +1,6 @@
 //! How many bytes a call asks for, and what is to be done after one that failed.
 ghost use Rattle.std.specs.Prelude.{◌≡◌, ◌<◌};
-ghost use Rattle.ipmi_bus.specs.Code.{class_of};
-ghost use Rattle.ipmi_bus.specs.Calls.{asked_len, smaller_part, FailureIs};
+ghost use Rattle.ipmi_bus.specs.Prelude.{class_of, asked_len, smaller_part, FailureIs};
 
 use crate::code::{Code, CodeClass};
 

@@ -1,8 +1,6 @@
 //! A management controller as a retrieval asks it, with all that is promised of its answers.
 ghost use Rattle.std.specs.Prelude.{◌≡◌, ◌+◌, ◌<◌, ◌≤◌, IfOk, OnErr, length, drop};
-ghost use Rattle.ipmi_bus.specs.Seen.{Seen, IsHonest};
-ghost use Rattle.ipmi_bus.specs.Store.{info_of, reading_of};
-ghost use Rattle.ipmi_bus.specs.Answers.{ReserveAnswers, PartAnswers, ValueAnswers, SizeAnswers, BytesAnswers};
+ghost use Rattle.ipmi_bus.specs.Prelude.{Seen, IsHonest, info_of, reading_of, ReserveAnswers, PartAnswers, ValueAnswers, SizeAnswers, BytesAnswers};
 
 use crate::code::Code;
 use ipmi_text::Reading;

@@ -3,12 +3,7 @@ ghost use Rattle.std.specs.Prelude.{◌≡◌, ◌<◌, ◌≤◌, Ok, Err, Some
 ghost use Rattle.std.specs.FinSet as set;
 ghost use Rattle.std.specs.Option.{ForSome};
 ghost use Rattle.std.specs.Borrow.{sem};
-ghost use Rattle.ipmi_bus.specs.Seen.{IsHonest, StaysHonest};
-ghost use Rattle.ipmi_bus.specs.Shelf.{Row, whole_len, largest_len};
-ghost use Rattle.ipmi_bus.specs.Walk.{place_after};
-ghost use Rattle.ipmi_bus.specs.Step.{KeepsSettings, StepLeaves, StepCalls, StepIsHonest, StepAnswers, AsksNothing, HasRoom};
-ghost use Rattle.ipmi_bus.specs.Standing.{StandsAt};
-ghost use Rattle.ipmi_bus.specs.Handed.{state_of, IsCursor, handed_result, handed_id, IsNext, KeepsReservation};
+ghost use Rattle.ipmi_bus.specs.Prelude.{IsHonest, StaysHonest, Row, whole_len, largest_len, place_after, KeepsSettings, StepLeaves, StepCalls, StepIsHonest, StepAnswers, AsksNothing, HasRoom, StandsAt, state_of, IsCursor, handed_result, handed_id, IsNext, KeepsReservation};
 
 use crate::controller::{Controller, Shelf};
 use crate::id_table::IdTable;

@@ -1,11 +1,6 @@
 //! Reads a FRU inventory in parts.
 ghost use Rattle.std.specs.Prelude.{◌≡◌, ◌+◌, ◌<◌, ◌≤◌, Ok, Err, IfOk, OnErr, OnOk, IfErr, length, take, slice_range, vec_len};
-ghost use Rattle.ipmi_bus.specs.Seen.{Seen, IsHonest, StaysHonest};
-ghost use Rattle.ipmi_bus.specs.Answers.{BytesAnswers};
-ghost use Rattle.ipmi_bus.specs.Readers.{ReadsInventory, as_inventory};
-ghost use Rattle.ipmi_bus.specs.Code.{class_of};
-ghost use Rattle.ipmi_bus.specs.FruRetrieval.{SizeFails, TakesSize, IsSizeAnswered, SizeNext};
-ghost use Rattle.ipmi_bus.specs.Bounds.{fru_call_bound};
+ghost use Rattle.ipmi_bus.specs.Prelude.{Seen, IsHonest, StaysHonest, BytesAnswers, ReadsInventory, as_inventory, class_of, SizeFails, TakesSize, IsSizeAnswered, SizeNext, fru_call_bound};
 
 use crate::calls::{Failure, after_failure, asked_len, smaller_part};
 use crate::code::Code;

@@ -1,7 +1,5 @@
 //! Laws of walks and of steps along them, each the contract of a function that does nothing.
-ghost use Rattle.ipmi_bus.specs.Shelf.{FoundIsRow};
-ghost use Rattle.ipmi_bus.specs.Walk.{WalkExists, WalkIsUnique, RestIsWalk, TailIsWalk};
-ghost use Rattle.ipmi_bus.specs.Steps.{StepsFollowWalk};
+ghost use Rattle.ipmi_bus.specs.Prelude.{FoundIsRow, WalkExists, WalkIsUnique, RestIsWalk, TailIsWalk, StepsFollowWalk};
 
 /// From each place of a shelf exactly one walk has an end.
 pub fn one_walk_has_an_end()

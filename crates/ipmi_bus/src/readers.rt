@@ -1,10 +1,6 @@
 //! Reads single values: sensor readings and repository infos.
 ghost use Rattle.std.specs.Prelude.{◌≡◌, ◌+◌, ◌≤◌};
-ghost use Rattle.ipmi_bus.specs.Seen.{IsHonest};
-ghost use Rattle.ipmi_bus.specs.Store.{info_of, reading_of};
-ghost use Rattle.ipmi_bus.specs.Code.{class_of};
-ghost use Rattle.ipmi_bus.specs.Readers.{EndsUnder, ReadsValue};
-ghost use Rattle.ipmi_bus.specs.Failures.{ValueFailureIs};
+ghost use Rattle.ipmi_bus.specs.Prelude.{IsHonest, info_of, reading_of, class_of, EndsUnder, ReadsValue, ValueFailureIs};
 
 use crate::calls::{Failure, after_failure};
 use crate::code::Code;

@@ -1,9 +1,6 @@
 //! Reads one record in parts (IPMI v2.0, section 33.12): of a sensor data record the header first, then the rest.
 ghost use Rattle.std.specs.Prelude.{◌≡◌, ◌+◌, ◌*◌, ◌<◌, ◌≤◌, None, Some, Ok, OnOk, OnErr, IfOk, IsOk, length, take, slice_range};
-ghost use Rattle.ipmi_bus.specs.Seen.{IsHonest};
-ghost use Rattle.ipmi_bus.specs.Answers.{PartAnswers};
-ghost use Rattle.ipmi_bus.specs.Shelf.{largest_len};
-ghost use Rattle.ipmi_bus.specs.Bounds.{digits, step_call_bound};
+ghost use Rattle.ipmi_bus.specs.Prelude.{IsHonest, PartAnswers, largest_len, digits, step_call_bound};
 
 use crate::calls::{Failure, after_failure, asked_len, smaller_part};
 use crate::code::Code;

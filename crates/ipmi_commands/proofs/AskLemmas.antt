@@ -1,23 +1,8 @@
 -- What the reading that is asked for on account of a record leaves.
 use Rattle.std.proofs.Common.{◌≡◌, inl, ℕ, ◌+◌, ◌≤◌, ◌==◌, Bool, true, false, codes, Option, None, Some, Result, Ok, Err, String, Global, List, [], ◌∷◌, refl, sym, ap, subst, ◌∙◌, arith, IsErrAnd}
-use Rattle.ipmi_text.specs.declared.reading.Reading.{Reading}
-use Rattle.ipmi_bus.specs.declared.step.Ended.{Ended}
-use Rattle.ipmi_bus.specs.declared.step.Ended.TheVariants.{Refused, GaveUp}
-use Rattle.ipmi_bus.specs.declared.inventory.FruEnded.{FruEnded}
-use Rattle.ipmi_bus.specs.declared.controller.Shelf.{Shelf}
-use Rattle.ipmi_bus.specs.Readers.{EndsUnder, ReadsValue, ValueIs, ReadsInventory, InventoryCounts, InventoryIs, IsRefusedInventory, IsRefusedOverChange}
-use Rattle.ipmi_fru.specs.Print.{IsFruText}
-use Rattle.ipmi_bus.specs.Seen.{Seen, IsHonest, stays_refl}
-use Rattle.ipmi_bus.specs.Shelf.{Row}
-use Rattle.ipmi_bus.specs.Store.{Store, info_of, inventory_of}
-use Rattle.ipmi_records.specs.declared.sdr.SdrView.{SdrView}
+use Rattle.ipmi_commands.specs.Below.{Reading, Ended, Refused, GaveUp, FruEnded, Shelf, EndsUnder, ReadsValue, ValueIs, ReadsInventory, InventoryCounts, InventoryIs, IsRefusedInventory, IsRefusedOverChange, IsFruText, Seen, IsHonest, stays_refl, Row, Store, info_of, inventory_of, SdrView, Kind}
 use Rattle.ipmi_records.specs.Sdr as sdr
-use Rattle.ipmi_command_line.specs.declared.command.Kind.{Kind}
-use Rattle.ipmi_commands.specs.declared.stop.Stop.{Stop}
-use Rattle.ipmi_commands.specs.Asking.{is_absent, EndsAmong, ReadsFor}
-use Rattle.ipmi_commands.specs.Listing.{AsksAt, FindsBy, FindsNone, FindsText, FindsInfo, MayStopAt}
-use Rattle.ipmi_commands.specs.Pieces.{IsDevicePiece, IsInventoryText, is_name, reading_for, row_is_of_kind}
-use Rattle.ipmi_commands.specs.Plan.{Spot, AtRecord, AtInventory, device_spots, named_spots, reading_spots, listed_spots}
+use Rattle.ipmi_commands.specs.Prelude.{Stop, is_absent, EndsAmong, ReadsFor, AsksAt, FindsBy, FindsNone, FindsText, FindsInfo, MayStopAt, IsDevicePiece, IsInventoryText, is_name, reading_for, row_is_of_kind, Spot, AtRecord, AtInventory, device_spots, named_spots, reading_spots, listed_spots}
 use Rattle.ipmi_commands.specs.Plan as plan
 
 -- the stop is passed up

@@ -5,20 +5,8 @@ use Rattle.std.specs.FinSet.{len-insert}
 use Rattle.std.specs.Cmp.{nat_cmp_total}
 use Rattle.std.proofs.lemmas.Nat.{mul-le}
 use Rattle.std.proofs.Math.Seq.{take-nil}
-use Rattle.ipmi_bus.specs.Bounds.{step_call_bound, digits, reaches}
-use Rattle.ipmi_bus.specs.declared.controller.Shelf.{Shelf}
-use Rattle.ipmi_bus.specs.declared.step.Place.TheVariants.{Id, End}
-use Rattle.ipmi_bus.specs.declared.step.Ended.{Ended}
-use Rattle.ipmi_bus.specs.declared.step.Ended.TheVariants.{Cycle, Missing}
-use Rattle.ipmi_bus.specs.Shelf.{Row, first_row, len_of, largest_len}
-use Rattle.ipmi_bus.specs.Walk.{place_after}
-use Rattle.ipmi_bus.specs.Seen.{Seen}
-use Rattle.ipmi_bus.specs.CursorState.{CursorState}
-use Rattle.ipmi_bus.specs.Step.{IsStep, StepLeaves, StepCalls, HandsOut, AsksNothing}
-use Rattle.ipmi_bus.specs.Store.{Store}
-use Rattle.ipmi_command_line.specs.declared.command.Task.{Task}
-use Rattle.ipmi_commands.specs.Listing.{IsWithin, calls_for, calls_at_spots, IsPlace, HasCalled, ListingCalls}
-use Rattle.ipmi_commands.specs.Plan.{first_rows, spots_after}
+use Rattle.ipmi_commands.specs.Below.{step_call_bound, digits, reaches, Shelf, Id, End, Ended, Cycle, Missing, Row, first_row, len_of, largest_len, place_after, Seen, CursorState, IsStep, StepLeaves, StepCalls, HandsOut, AsksNothing, Store, Task}
+use Rattle.ipmi_commands.specs.Prelude.{IsWithin, calls_for, calls_at_spots, IsPlace, HasCalled, ListingCalls, first_rows, spots_after}
 use Rattle.ipmi_commands.proofs.ItemLemmas.{take-next}
 
 -- ---- digits

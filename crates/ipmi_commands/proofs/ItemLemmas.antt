@@ -1,17 +1,8 @@
 -- The items of a plan, one for each row, their texts, and the spots at which a run may stop.
 use Rattle.std.proofs.Common.{◌≡◌, ◌≢◌, inl, ℕ, zero, suc, ◌+◌, ◌-◌, ◌<◌, ◌≤◌, ◌==◌, Bool, true, false, cond, Option, None, Some, List, [], ◌∷◌, ◌++◌, length, take, drop, refl, sym, ap, subst, ◌∙◌, append_assoc, append-nil, arith, ne_eqb, length-take-le}
-use Rattle.ipmi_bus.specs.declared.step.Place.{Place}
-use Rattle.ipmi_bus.specs.declared.step.Place.TheVariants.{First, Id, End}
-use Rattle.ipmi_bus.specs.Shelf.{Row, first_row}
-use Rattle.ipmi_bus.specs.Store.{Store}
-use Rattle.ipmi_bus.specs.Walk.{WalkEnd, Done, CycleAt, MissingAt, EndsBy, place_after, place_after_rows, last_next}
-use Rattle.ipmi_bus.specs.Standing.{MayFail}
-use Rattle.ipmi_bus.specs.Step.{asked_at}
-use Rattle.ipmi_command_line.specs.declared.command.Task.{Task}
-use Rattle.ipmi_commands.specs.Listing.{passing, span_items, item_in, subject_in}
-use Rattle.ipmi_commands.specs.Plan.{Plan, Item, Spot, AtRecord, row_item, row_items, IsItemText, AreTexts, Printed, Outcome, IsAllowed, StopsAt, IsAmong, end_spots}
+use Rattle.ipmi_commands.specs.Below.{Place, First, Id, End, Row, first_row, Store, WalkEnd, Done, CycleAt, MissingAt, EndsBy, place_after, place_after_rows, last_next, MayFail, asked_at, Task, TakesPart}
+use Rattle.ipmi_commands.specs.Prelude.{passing, span_items, item_in, subject_in, Plan, Item, Spot, AtRecord, row_item, row_items, IsItemText, AreTexts, Printed, Outcome, IsAllowed, StopsAt, IsAmong, end_spots}
 use Rattle.ipmi_commands.specs.Plan as plan
-use Rattle.ipmi_output.specs.Sink.{TakesPart}
 
 -- ---- items and rows
 

@@ -1,26 +1,9 @@
 -- The last entries of a shelf: a walk that counts them, and a second one that passes those before them.
 use Rattle.std.proofs.Common.{◌≡◌, inl, inr, ℕ, zero, suc, ◌+◌, ◌-◌, ◌<◌, ◌≤◌, None, Some, List, [], ◌∷◌, ◌++◌, length, take, drop, refl, sym, ap, subst, ◌∙◌, append-nil, arith}
 use Rattle.std.proofs.Math.Seq.{drop-nil}
-use Rattle.ipmi_bus.specs.CursorState.{CursorState}
-use Rattle.ipmi_bus.specs.declared.step.Place.{Place}
-use Rattle.ipmi_bus.specs.Seen.{Seen, IsHonest, stays_refl, stays_trans}
-use Rattle.ipmi_bus.specs.Shelf.{Row}
-use Rattle.ipmi_bus.specs.Standing.{StandsAt}
-use Rattle.ipmi_bus.specs.Step.{asked_at}
-use Rattle.ipmi_bus.specs.Store.{Store, rows_of}
-use Rattle.ipmi_bus.specs.Walk.{IsWalk, EndsBy, WalkEnd, Done, place_after, place_after_rows}
-use Rattle.ipmi_command_line.specs.declared.command.Count.{Count}
-use Rattle.ipmi_command_line.specs.declared.command.Task.{Task}
-use Rattle.ipmi_command_line.specs.Task.{shelf_of}
-use Rattle.ipmi_commands.specs.declared.listing.Listed.{Listed}
-use Rattle.ipmi_commands.specs.declared.listing.Span.{Span}
-use Rattle.ipmi_commands.specs.declared.stop.Stop.{Stop}
-use Rattle.ipmi_commands.specs.Last.{ListsSpan, SpanAlong}
-use Rattle.ipmi_commands.specs.Listing.{course, item_in, span_items, span_plan, IsListing, IsOutcome, walk_call_bound, run_call_bound, second_walk_bound}
-use Rattle.ipmi_commands.specs.Plan.{Request, request, Change, change, OnWalk, Plan, Item, Passed, Spot, AtRecord, RunEnd, WalkEnds, row_items, run_end, spots_along, spots_of_walk, end_spots, spots_at, last_items, last_plan, with_first_spots, end_spots_of_last, IsItemText, AreTexts, Printed, Outcome, IsAllowed, IsAmong, StopsAt, CountsSo}
+use Rattle.ipmi_commands.specs.Below.{CursorState, Place, Seen, IsHonest, stays_refl, stays_trans, Row, StandsAt, asked_at, Store, rows_of, IsWalk, EndsBy, WalkEnd, Done, place_after, place_after_rows, Count, Task, shelf_of}
+use Rattle.ipmi_commands.specs.Prelude.{Listed, Span, Stop, ListsSpan, SpanAlong, course, item_in, span_items, span_plan, IsListing, IsOutcome, walk_call_bound, run_call_bound, second_walk_bound, Request, request, Change, change, OnWalk, Plan, Item, Passed, Spot, AtRecord, RunEnd, WalkEnds, row_items, run_end, spots_along, spots_of_walk, end_spots, spots_at, last_items, last_plan, with_first_spots, end_spots_of_last, IsItemText, AreTexts, Printed, Outcome, IsAllowed, IsAmong, StopsAt, CountsSo, Performs, IsStopped}
 use Rattle.ipmi_commands.specs.Plan as plan
-use Rattle.ipmi_commands.specs.Run.{Performs}
-use Rattle.ipmi_commands.specs.Pages.{IsStopped}
 use Rattle.ipmi_bus.proofs.InventoryLemmas.{digits_most}
 use Rattle.ipmi_commands.proofs.ItemLemmas.{none_printed}
 use Rattle.ipmi_commands.proofs.ListingLemmas.{counts_since, stopped_otherwise}

@@ -1,19 +1,9 @@
 -- Whether a record of a name was found, by whether anything was written.
 use Rattle.std.proofs.Common.{◌≡◌, ℕ, zero, suc, ◌+◌, ◌<◌, ◌==◌, ◌||◌, not, Bool, true, false, cond, Option, None, Some, Result, Ok, Err, List, [], ◌∷◌, ◌++◌, length, refl, sym, ap, subst, ◌∙◌, append-nil, arith, length-append}
 use Rattle.std.proofs.lemmas.Bool.{or_parts}
-use Rattle.ipmi_bus.specs.declared.step.Place.{Place}
-use Rattle.ipmi_bus.specs.Shelf.{Row}
-use Rattle.ipmi_bus.specs.Store.{Store}
-use Rattle.ipmi_bus.specs.Walk.{Done, place_after}
-use Rattle.ipmi_records.specs.declared.sdr.SdrFault.{SdrFault}
-use Rattle.ipmi_records.specs.declared.sdr.SdrView.{SdrView}
-use Rattle.ipmi_records.specs.Sdr.{sdr_view_of, name_of}
-use Rattle.ipmi_records.specs.SdrText.{IsSdrBlock}
-use Rattle.ipmi_text.specs.declared.reading.Reading.{Reading}
-use Rattle.ipmi_command_line.specs.declared.command.Task.{Task}
-use Rattle.ipmi_commands.specs.Listing.{shown_rows, span_items, stop_at_end, IsOutcome}
-use Rattle.ipmi_commands.specs.Pieces.{IfChosen, IsBlockOfName, is_name, reading_for}
-use Rattle.ipmi_commands.specs.Plan.{AreTexts, Printed, RunEnd, WalkEnds, NoName, Finished, done_end, view_has_name, some_has_name}
+use Rattle.ipmi_commands.specs.Below.{Place, Row, Store, Done, place_after, SdrFault, SdrView, sdr_view_of, IsSdrBlock, Reading, Task}
+use Rattle.ipmi_records.specs.Sdr.{name_of}
+use Rattle.ipmi_commands.specs.Prelude.{shown_rows, span_items, stop_at_end, IsOutcome, IfChosen, IsBlockOfName, is_name, reading_for, AreTexts, Printed, RunEnd, WalkEnds, NoName, Finished, done_end, view_has_name, some_has_name}
 
 -- ---- whether anything was written
 

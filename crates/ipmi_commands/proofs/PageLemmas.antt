@@ -2,22 +2,8 @@
 use Rattle.std.proofs.Common.{◌≡◌, inl, inr, ℕ, zero, suc, ◌+◌, ◌*◌, ◌<◌, ◌≤◌, ◌==◌, nat_le, Bool, true, false, cond, Option, None, Some, Ok, Err, List, [], ◌∷◌, length, take, drop, get_or, refl, sym, ap, subst, ◌∙◌, arith, take_all, length-take}
 use Rattle.std.proofs.Math.Seq.{take-nil}
 use Rattle.std.proofs.lemmas.List.{take_min, at_drop_more}
-use Rattle.ipmi_bus.specs.declared.step.Place.{Place}
-use Rattle.ipmi_bus.specs.declared.step.Place.TheVariants.{First, Id, End}
-use Rattle.ipmi_bus.specs.declared.step.Ended.TheVariants.{Cycle}
-use Rattle.ipmi_bus.specs.Shelf.{Row}
-use Rattle.ipmi_bus.specs.Store.{Store, rows_of}
-use Rattle.ipmi_bus.specs.Walk.{row_at, IsWalk, WalkEnd, Done, CycleAt, MissingAt, EndsBy, place_after_rows}
-use Rattle.ipmi_bus.specs.Seen.{Seen, IsHonest, stays_refl}
-use Rattle.ipmi_bus.specs.CursorState.{CursorState, start_of}
-use Rattle.ipmi_bus.specs.Standing.{StandsAt}
-use Rattle.ipmi_command_line.specs.declared.command.Task.{Task}
-use Rattle.ipmi_commands.specs.declared.stop.Stop.{Stop}
-use Rattle.ipmi_commands.specs.declared.listing.Listed.{Listed}
-use Rattle.ipmi_commands.specs.Listing.{is_done, is_reached, stop_at_end, up_to, most_for_one, most_on_walk, IsOutcome, IsListing, ListingCalls, course}
-use Rattle.ipmi_commands.specs.Plan.{Request, OnWalk, Outcome, CountsSo, IsFine, RunEnd, first_rows, first_end, WalkEnds, row_items, run_end, done_end, Printed, request, change}
-use Rattle.ipmi_commands.specs.Pages.{start_at, GoesOn, PageAlong, IsPage, IsStopped, ArePages, pages_made}
-use Rattle.ipmi_command_line.specs.Task.{shelf_of}
+use Rattle.ipmi_commands.specs.Below.{Place, First, Id, End, Cycle, Row, Store, rows_of, row_at, IsWalk, WalkEnd, Done, CycleAt, MissingAt, EndsBy, place_after_rows, Seen, IsHonest, stays_refl, CursorState, start_of, StandsAt, Task, shelf_of}
+use Rattle.ipmi_commands.specs.Prelude.{Stop, Listed, is_done, is_reached, stop_at_end, up_to, most_for_one, most_on_walk, IsOutcome, IsListing, ListingCalls, course, Request, OnWalk, Outcome, CountsSo, IsFine, RunEnd, first_rows, first_end, WalkEnds, row_items, run_end, done_end, Printed, request, change, start_at, GoesOn, PageAlong, IsPage, IsStopped, ArePages, pages_made}
 use Rattle.ipmi_commands.specs.Plan as plan
 use Rattle.ipmi_bus.proofs.InventoryLemmas.{digits_most}
 use Rattle.ipmi_commands.proofs.ItemLemmas.{none_printed}

@@ -2,20 +2,8 @@
 use Rattle.std.proofs.Common.{◌≡◌, inl, inr, ℕ, ◌+◌, ◌*◌, ◌<◌, ◌≤◌, ◌==◌, nat_le, Bool, true, false, cond, IsTrue, None, Some, List, [], ◌∷◌, ◌++◌, length, take, drop, refl, sym, ap, subst, ◌∙◌, append_assoc, append-nil, arith, ne_eqb, take_all, take-append-drop}
 use Rattle.std.proofs.lemmas.Bool.{or_parts}
 use Rattle.std.proofs.Math.Seq.{take-nil, drop-nil}
-use Rattle.ipmi_bus.specs.Bounds.{step_call_bound}
-use Rattle.ipmi_bus.specs.declared.controller.Shelf.{Shelf}
-use Rattle.ipmi_bus.specs.declared.step.Place.{Place}
-use Rattle.ipmi_bus.specs.declared.step.Place.TheVariants.{First, Id, End}
-use Rattle.ipmi_bus.specs.Shelf.{Row, IsShelf, first_row}
-use Rattle.ipmi_bus.specs.Store.{Store, rows_of, store_shelf}
-use Rattle.ipmi_bus.specs.Walk.{row_at, IsWalk, TailIsWalk, WalkEnd, Done, CycleAt, MissingAt, EndsBy, EndsAfter, EndsEmpty, last_next, has_id, place_after, place_after_rows}
-use Rattle.ipmi_bus.specs.Seen.{Seen, IsHonest, StaysHonest, stays_trans}
-use Rattle.ipmi_command_line.specs.declared.command.Task.{Task}
-use Rattle.ipmi_commands.specs.declared.stop.Stop.{Stop}
-use Rattle.ipmi_commands.specs.Listing.{calls_for, first_plan, IsOutcome}
-use Rattle.ipmi_commands.specs.Plan.{first_end, Plan, Item, Spot, RunEnd, WalkEnds, run_end, row_items, Printed, Outcome, IsAllowed, CountsSo, IsFine, IsAmong, StopsAt, spots_at, end_spots, request, change}
-use Rattle.ipmi_commands.specs.Pages.{GoesOn, IsStopped, ArePages, pages_made, IsOpen}
-use Rattle.ipmi_command_line.specs.Task.{is_listing, shelf_of}
+use Rattle.ipmi_commands.specs.Below.{step_call_bound, Shelf, Place, First, Id, End, Row, IsShelf, first_row, Store, rows_of, store_shelf, row_at, IsWalk, TailIsWalk, WalkEnd, Done, CycleAt, MissingAt, EndsBy, EndsAfter, EndsEmpty, last_next, has_id, place_after, place_after_rows, Seen, IsHonest, StaysHonest, stays_trans, Task, is_listing, shelf_of}
+use Rattle.ipmi_commands.specs.Prelude.{Stop, calls_for, first_plan, IsOutcome, first_end, Plan, Item, Spot, RunEnd, WalkEnds, run_end, row_items, Printed, Outcome, IsAllowed, CountsSo, IsFine, IsAmong, StopsAt, spots_at, end_spots, request, change, GoesOn, IsStopped, ArePages, pages_made, IsOpen}
 use Rattle.ipmi_commands.specs.Plan as plan
 use Rattle.ipmi_commands.proofs.CallLemmas.{calls_split}
 use Rattle.ipmi_commands.proofs.ListingLemmas.{counts_since, stopped_otherwise}

@@ -1,19 +1,8 @@
 -- A task of one text, and all inventories: a text and then a listing.
 use Rattle.std.proofs.Common.{◌≡◌, ℕ, ◌<◌, ◌≤◌, IsTrue, Bool, true, false, Option, None, Some, Result, Ok, Err, String, string_bytes, Global, List, [], ◌∷◌, ◌++◌, length, refl, sym, ap, subst, arith}
-use Rattle.ipmi_bus.specs.declared.controller.Shelf.{Shelf}
-use Rattle.ipmi_bus.specs.declared.step.Place.{Place}
-use Rattle.ipmi_bus.specs.Seen.{Seen, stays_trans}
-use Rattle.ipmi_bus.specs.Shelf.{Row}
-use Rattle.ipmi_bus.specs.Store.{Store, info_of}
-use Rattle.ipmi_bus.specs.Walk.{WalkEnd, Done}
-use Rattle.ipmi_command_line.specs.declared.command.Task.{Task}
-use Rattle.ipmi_commands.specs.declared.stop.Stop.{Stop}
-use Rattle.ipmi_commands.specs.Listing.{is_done, first_plan, AsksAt, IsOutcome, Finds, FindsInfo, IsBlockOfInfo, MayStopAt, calls_at_spots, run_call_bound}
-use Rattle.ipmi_commands.specs.Pages.{IsPage, PageAlong}
-use Rattle.ipmi_output.specs.Sink.{TakesPart}
-use Rattle.ipmi_commands.specs.Plan.{Request, request, Change, change, OnWalk, Plan, Item, OfInfo, Spot, AtRecord, AtInventory, RunEnd, WalkEnds, run_end, row_items, end_spots, IsItemText, Printed, Outcome, IsAllowed, CountsSo, IsFine, spots_at, inventory_item, info_plan, plan_of}
+use Rattle.ipmi_commands.specs.Below.{Shelf, Place, Seen, stays_trans, Row, Store, info_of, WalkEnd, Done, Task, TakesPart}
+use Rattle.ipmi_commands.specs.Prelude.{Stop, is_done, first_plan, AsksAt, IsOutcome, Finds, FindsInfo, IsBlockOfInfo, MayStopAt, calls_at_spots, run_call_bound, IsPage, PageAlong, Request, request, Change, change, OnWalk, Plan, Item, OfInfo, Spot, AtRecord, AtInventory, RunEnd, WalkEnds, run_end, row_items, end_spots, IsItemText, Printed, Outcome, IsAllowed, CountsSo, IsFine, spots_at, inventory_item, info_plan, plan_of, Performs, WritesFound}
 use Rattle.ipmi_commands.specs.Plan as plan
-use Rattle.ipmi_commands.specs.Run.{Performs, WritesFound}
 use Rattle.ipmi_commands.proofs.ItemLemmas.{none_printed, one_printed, first_cut, after_items, leaves_joined}
 use Rattle.ipmi_commands.proofs.ListingLemmas.{counts_since}
 use Rattle.ipmi_commands.proofs.PageLemmas.{done}

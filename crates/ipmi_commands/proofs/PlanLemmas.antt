@@ -1,27 +1,10 @@
 -- A listing as a run by its plan.
 use Rattle.std.proofs.Common.{◌≡◌, ◌⊎◌, inl, inr, ℕ, ◌+◌, ◌≤◌, Bool, true, false, IsTrue, Option, None, Result, Ok, Err, List, [], refl, sym, ap, subst, ◌∙◌}
-use Rattle.ipmi_bus.specs.declared.step.Place.{Place}
-use Rattle.ipmi_bus.specs.declared.inventory.FruEnded.{FruEnded}
-use Rattle.ipmi_bus.specs.declared.step.Ended.TheVariants.{Stalled, Malformed}
-use Rattle.ipmi_bus.specs.Shelf.{Row}
-use Rattle.ipmi_bus.specs.Store.{Store}
-use Rattle.ipmi_bus.specs.Walk.{TailIsWalk, WalkEnd, Done}
-use Rattle.ipmi_bus.specs.Seen.{Seen, IsHonest, StaysHonest}
-use Rattle.ipmi_image.specs.declared.image.ImageFault.{ImageFault}
-use Rattle.ipmi_image.specs.Rewritten.{image_text_of}
-use Rattle.ipmi_command_line.specs.declared.command.Count.{Count}
-use Rattle.ipmi_command_line.specs.declared.command.Task.{Task}
-use Rattle.ipmi_commands.specs.declared.stop.Stop.{Stop}
-use Rattle.ipmi_output.specs.declared.message.Message.TheVariants.{Image, OutOfMemory}
-use Rattle.ipmi_command_line.specs.Task.{is_listing, most_of}
-use Rattle.ipmi_commands.specs.Listing.{first_plan, IsOutcome, walk_call_bound, most_on_walk, run_call_bound, most_calls}
-use Rattle.ipmi_commands.specs.Plan.{first_rows, Plan, WalkEnds, OfImage, Printed, plan_of, rewrite_plan, Outcome, IsAllowed, CountsSo, IsFine, Request, Change, request, change}
+use Rattle.ipmi_commands.specs.Below.{Place, FruEnded, Stalled, Malformed, Row, Store, TailIsWalk, WalkEnd, Done, Seen, IsHonest, StaysHonest, ImageFault, image_text_of, Count, Task, Image, OutOfMemory, is_listing, most_of, Received, ReceivesText}
+use Rattle.ipmi_commands.specs.Prelude.{Stop, first_plan, IsOutcome, walk_call_bound, most_on_walk, run_call_bound, most_calls, first_rows, Plan, WalkEnds, OfImage, Printed, plan_of, rewrite_plan, Outcome, IsAllowed, CountsSo, IsFine, Request, Change, request, change, IsPage, ArePages, Effect, effect, HasEnded, IsRun, IsPagedRun, status_of, stop_status, stop_text, outcome_text, lists_once, Performs, fault_status, WritesImage, IsRewriting, Says, AnswersTask}
 use Rattle.ipmi_commands.specs.Plan as plan
-use Rattle.ipmi_output.specs.Received.{Received, ReceivesText}
-use Rattle.ipmi_commands.specs.Pages.{IsPage, ArePages}
 use Rattle.ipmi_commands.proofs.ItemLemmas.{none_printed, one_printed, first_cut}
 use Rattle.ipmi_commands.proofs.PagesLaw.{pages_are_one}
-use Rattle.ipmi_commands.specs.Run.{Effect, effect, HasEnded, IsRun, IsPagedRun, status_of, stop_status, stop_text, outcome_text, lists_once, Performs, fault_status, WritesImage, IsRewriting, Says, AnswersTask}
 
 -- ---- a task that lists the first rows of its shelf
 

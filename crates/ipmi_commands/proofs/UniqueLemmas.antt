@@ -1,30 +1,8 @@
 -- What is printed has one text, and so has a finished run.
 use Rattle.std.proofs.Common.{◌≡◌, ℕ, zero, suc, ◌-◌, ◌==◌, not, Bool, true, false, cond, Option, None, Some, IfSome, Result, Ok, Err, List, [], ◌∷◌, length, take, drop, refl, sym, subst, ◌∙◌}
-use Rattle.ipmi_bus.specs.declared.controller.Shelf.{Shelf}
-use Rattle.ipmi_bus.specs.declared.controller.Shelf.TheVariants.{Sdr, Sel}
-use Rattle.ipmi_bus.specs.declared.step.Place.{Place}
-use Rattle.ipmi_bus.specs.Shelf.{Row, IsShelf, FoundIsRow}
-use Rattle.ipmi_text.specs.Bytes.{AreBytes}
-use Rattle.ipmi_text.specs.declared.reading.Reading.{Reading}
-use Rattle.ipmi_bus.specs.Store.{Store, IsStore, IsInfo, info_of, inventory_of, rows_of, store_shelf}
-use Rattle.ipmi_bus.specs.Walk.{AllOf, WalkExists, WalkEnd, Done, place_after, place_after_rows}
-use Rattle.ipmi_fru.specs.Print.{IsFruText}
-use Rattle.ipmi_records.specs.declared.sdr.SdrFault.{SdrFault}
-use Rattle.ipmi_records.specs.declared.sdr.SdrView.{SdrView}
-use Rattle.ipmi_records.specs.declared.sel.SelView.TheVariants.{Event, OemTimed, OemPlain, Other}
-use Rattle.ipmi_records.specs.Info.{IsInfoBlock}
-use Rattle.ipmi_records.specs.Sdr.{fru_of, name_of, sdr_view_of}
-use Rattle.ipmi_records.specs.SdrText.{IsSdrBlock}
-use Rattle.ipmi_records.specs.Sel.{entry_bytes, sel_view_of}
-use Rattle.ipmi_records.specs.Laws.{SdrLineIsUnique, ExtendedLineIsUnique, SelLineIsUnique, SelBlockIsUnique}
-use Rattle.ipmi_command_line.specs.declared.command.Kind.{Kind}
-use Rattle.ipmi_command_line.specs.declared.command.Count.{Count}
-use Rattle.ipmi_command_line.specs.declared.command.Task.{Task}
-use Rattle.ipmi_command_line.specs.Task.{most_of, shelf_of}
-use Rattle.ipmi_commands.specs.declared.piece.Form.{Form}
-use Rattle.ipmi_commands.specs.Pieces.{IfChosen, IsBlockOfName, IsDevicePiece, IsInventoryPiece, IsInventoryText, IsLineOf, IsListed, IsListedOfKind, IsLocatorPiece, is_name, name_of_locator, reading_for, row_is_of_kind}
-use Rattle.ipmi_commands.specs.Plan.{Request, Subject, OfRow, OfInventory, OfInfo, Item, Spot, IsOfBytes, AreOfBytes, RunEnd, Finished, IsRowPiece, IsItemText, AreTexts, first_rows, last_rows, last_items, row_items, spots_of_walk, with_first_spots, info_plan, listing_plan, plan_of}
-use Rattle.ipmi_commands.specs.Run.{AllowsAll}
+use Rattle.ipmi_commands.specs.Below.{Shelf, Sdr, Sel, Place, Row, IsShelf, FoundIsRow, AreBytes, Reading, Store, IsStore, IsInfo, info_of, inventory_of, rows_of, store_shelf, AllOf, WalkExists, WalkEnd, Done, place_after, place_after_rows, IsFruText, SdrFault, SdrView, Event, OemTimed, OemPlain, Other, IsInfoBlock, fru_of, sdr_view_of, IsSdrBlock, entry_bytes, sel_view_of, SdrLineIsUnique, ExtendedLineIsUnique, SelLineIsUnique, SelBlockIsUnique, Kind, Count, Task, most_of, shelf_of}
+use Rattle.ipmi_records.specs.Sdr.{name_of}
+use Rattle.ipmi_commands.specs.Prelude.{Form, IfChosen, IsBlockOfName, IsDevicePiece, IsInventoryPiece, IsInventoryText, IsLineOf, IsListed, IsListedOfKind, IsLocatorPiece, is_name, name_of_locator, reading_for, row_is_of_kind, Request, Subject, OfRow, OfInventory, OfInfo, Item, Spot, IsOfBytes, AreOfBytes, RunEnd, Finished, IsRowPiece, IsItemText, AreTexts, first_rows, last_rows, last_items, row_items, spots_of_walk, with_first_spots, info_plan, listing_plan, plan_of, AllowsAll}
 
 -- what the laws of blocks and of inventories say
 abbrev SdrBlockIsUnique : Type 0

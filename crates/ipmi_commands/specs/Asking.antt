@@ -1,12 +1,6 @@
 -- What the reading that is asked for because of a record leaves, and the reading of an inventory.
 use Rattle.std.specs.Prelude.{ℕ, ◌+◌, ◌≤◌, ◌==◌, Bool, false, Option, Result, Ok, Err, List}
-use Rattle.ipmi_bus.specs.declared.inventory.FruEnded.{FruEnded}
-use Rattle.ipmi_text.specs.declared.reading.Reading.{Reading}
-use Rattle.ipmi_bus.specs.declared.step.Ended.{Ended}
-use Rattle.ipmi_bus.specs.declared.step.Ended.TheVariants.{Cycle, Missing, Refused, GaveUp, Stalled, Malformed}
-use Rattle.ipmi_bus.specs.Readers.{ReadsValue}
-use Rattle.ipmi_bus.specs.Seen.{Seen}
-use Rattle.ipmi_records.specs.declared.sdr.SdrView.{SdrView}
+use Rattle.ipmi_commands.specs.Below.{FruEnded, Reading, Ended, Cycle, Missing, Refused, GaveUp, Stalled, Malformed, ReadsValue, Seen, SdrView}
 use Rattle.ipmi_commands.specs.Listing.{calls_at_spots}
 use Rattle.ipmi_commands.specs.Pieces.{reading_for}
 use Rattle.ipmi_commands.specs.Plan.{Spot, AtRecord, IsAmong, reading_spots}

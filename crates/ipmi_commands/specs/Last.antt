@@ -1,9 +1,6 @@
 -- What a listing of the records in a span leaves, by a cursor of its own.
 use Rattle.std.specs.Prelude.{◌≡◌, ◌+◌, ◌≤◌, IsTrue, List, length}
-use Rattle.ipmi_bus.specs.Seen.{StaysHonest}
-use Rattle.ipmi_bus.specs.Shelf.{Row}
-use Rattle.ipmi_bus.specs.Store.{Store}
-use Rattle.ipmi_bus.specs.Walk.{WalkEnd}
+use Rattle.ipmi_commands.specs.Below.{StaysHonest, Row, Store, WalkEnd}
 use Rattle.ipmi_commands.specs.declared.listing.Listed.{Listed}
 use Rattle.ipmi_commands.specs.declared.listing.Span.{Span}
 use Rattle.ipmi_commands.specs.declared.stop.Stop.{Stop}

@@ -1,8 +1,10 @@
 pub mod Asking
+pub mod Below
 pub mod Last
 pub mod Line
 pub mod Listing
 pub mod Pages
 pub mod Pieces
 pub mod Plan
+pub mod Prelude
 pub mod Run

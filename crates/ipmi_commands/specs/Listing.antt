@@ -3,29 +3,12 @@ use Rattle.std.specs.Prelude.{◌≡◌, Bool, true, false, ℕ, zero, suc, ◌+
 use Rattle.std.specs.FinSet as set
 use Rattle.std.specs.declared.alloc.Global.{Global}
 use Rattle.arrayvec.specs.ArrayVec.{ArrayVec}
-use Rattle.ipmi_bus.specs.Bounds.{step_call_bound, fru_call_bound, digits}
-use Rattle.ipmi_bus.specs.declared.step.Place.{Place}
-use Rattle.ipmi_bus.specs.declared.step.Place.TheVariants.{First, Id, End}
-use Rattle.ipmi_bus.specs.declared.inventory.FruEnded.{FruEnded}
-use Rattle.ipmi_bus.specs.declared.step.Ended.TheVariants.{Cycle, Missing, Refused, GaveUp, Stalled, Malformed}
-use Rattle.ipmi_bus.specs.Readers.{inventory_len, KeepsReservations}
-use Rattle.ipmi_bus.specs.Shelf.{Row, largest_len}
-use Rattle.ipmi_bus.specs.declared.controller.Shelf.{Shelf}
-use Rattle.ipmi_bus.specs.Store.{Store, info_of, rows_of}
-use Rattle.ipmi_bus.specs.Walk.{IsWalk, WalkEnd, Done, CycleAt, MissingAt, EndsBy, place_after}
-use Rattle.ipmi_records.specs.Info.{IsInfoBlock}
-use Rattle.ipmi_bus.specs.Seen.{Seen, StaysHonest}
-use Rattle.ipmi_bus.specs.CursorState.{CursorState}
-use Rattle.ipmi_bus.specs.Standing.{StandsAt}
-use Rattle.ipmi_bus.specs.Step.{CursorHoldsCurrent, asked_at}
-use Rattle.ipmi_command_line.specs.declared.command.Count.{Count}
-use Rattle.ipmi_command_line.specs.declared.command.Task.{Task}
+use Rattle.ipmi_commands.specs.Below.{step_call_bound, fru_call_bound, digits, Place, First, Id, End, FruEnded, Cycle, Missing, Refused, GaveUp, Stalled, Malformed, inventory_len, KeepsReservations, Row, largest_len, Shelf, Store, info_of, rows_of, IsWalk, WalkEnd, Done, CycleAt, MissingAt, EndsBy, place_after, IsInfoBlock, Seen, StaysHonest, CursorState, StandsAt, CursorHoldsCurrent, asked_at, Count, Task, most_of, shelf_of}
 use Rattle.ipmi_commands.specs.declared.piece.Piece.{Piece}
 use Rattle.ipmi_commands.specs.declared.stop.Stop.{Stop}
 use Rattle.ipmi_commands.specs.declared.listing.Listed.{Listed}
 use Rattle.ipmi_commands.specs.declared.listing.Span.{Span}
 use Rattle.ipmi_commands.specs.Plan.{IsRowPiece, most_after, first_rows, first_end, last_rows, Request, request, Plan, Item, IsItemText, Subject, OfRow, Passed, Spot, AtRecord, AtInventory, WalkEnds, row_items, run_end, Printed, Outcome, IsAllowed, CountsSo, IsFine, IsAmong, end_spots, spots_after}
-use Rattle.ipmi_command_line.specs.Task.{most_of, shelf_of}
 use Rattle.ipmi_commands.specs.Plan as plan
 
 -- ---- how far a listing goes

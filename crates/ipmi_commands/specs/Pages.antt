@@ -1,20 +1,10 @@
 -- A listing in pages: each page has a cursor of its own, from where the page before it stopped.
 use Rattle.std.specs.Prelude.{◌≡◌, ℕ, ◌+◌, ◌≤◌, ◌==◌, if◌then◌else◌, ◌⊎◌, false, IsTrue, Option, None, Some, Result, Ok, Err, List, [], ◌∷◌}
-use Rattle.ipmi_bus.specs.declared.step.Place.{Place}
-use Rattle.ipmi_bus.specs.declared.step.Place.TheVariants.{First, Id, End}
-use Rattle.ipmi_bus.specs.declared.step.Ended.TheVariants.{Cycle}
-use Rattle.ipmi_bus.specs.Shelf.{Row, first_row}
-use Rattle.ipmi_bus.specs.Store.{Store, rows_of}
-use Rattle.ipmi_bus.specs.Walk.{WalkEnd, Done, CycleAt, MissingAt, place_after_rows}
+use Rattle.ipmi_commands.specs.Below.{Place, First, Id, End, Cycle, Row, first_row, Store, rows_of, WalkEnd, Done, CycleAt, MissingAt, place_after_rows, CursorState, start_of, Seen, StaysHonest, CommandState, Task, shelf_of}
 use Rattle.std.specs.FinSet as set
-use Rattle.ipmi_bus.specs.CursorState.{CursorState, start_of}
-use Rattle.ipmi_bus.specs.Seen.{Seen, StaysHonest}
-use Rattle.ipmi_command_line.specs.Command.{CommandState}
 use Rattle.ipmi_commands.specs.declared.stop.Stop.{Stop}
-use Rattle.ipmi_command_line.specs.declared.command.Task.{Task}
 use Rattle.ipmi_commands.specs.Listing.{is_done, stop_at_end, first_plan, IsOutcome, walk_call_bound}
 use Rattle.ipmi_commands.specs.Plan.{first_rows, Request, request, Change, change, OnWalk, Outcome, IsAllowed, CountsSo, IsFine}
-use Rattle.ipmi_command_line.specs.Task.{shelf_of}
 
 -- the id that a cursor starts from; after the last record, and at the id 0000h, no cursor is needed
 abbrev pub start_at : Task → Place → Result (Option ℕ) Stop

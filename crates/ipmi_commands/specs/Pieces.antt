@@ -1,14 +1,7 @@
 -- What a command prints for a row and for an inventory, put together from the texts of the crates below.
 use Rattle.std.specs.Prelude.{◌≡◌, ℕ, ◌==◌, ◌||◌, not, Bool, true, false, Option, Some, None, Result, Ok, Err, List, [], ◌++◌, codes, decimal, bytes_eq}
-use Rattle.ipmi_text.specs.declared.reading.Reading.{Reading}
-use Rattle.ipmi_bus.specs.Shelf.{Row}
-use Rattle.ipmi_bus.specs.Store.{Store, inventory_of, reading_of}
-use Rattle.ipmi_fru.specs.Print.{IsFruText}
-use Rattle.ipmi_records.specs.declared.sdr.SdrFault.{SdrFault}
-use Rattle.ipmi_records.specs.declared.sdr.SdrView.{SdrView}
+use Rattle.ipmi_commands.specs.Below.{Reading, Row, Store, inventory_of, reading_of, IsFruText, SdrFault, SdrView, IsSdrLine, IsExtendedLine, IsSdrBlock, fault_line, printed_name, Kind}
 use Rattle.ipmi_records.specs.Sdr as sdr
-use Rattle.ipmi_records.specs.SdrText.{IsSdrLine, IsExtendedLine, IsSdrBlock, fault_line, printed_name}
-use Rattle.ipmi_command_line.specs.declared.command.Kind.{Kind}
 use Rattle.ipmi_commands.specs.declared.piece.Form.{Form}
 
 -- ---- what is chosen

@@ -1,28 +1,10 @@
 -- What a command is to print over a store: its items in order, its end, and the spots at which a run may give up or be refused.
 -- Everywhere `old` and `new` are what the output holds before and after.
 use Rattle.std.specs.Prelude.{◌≡◌, ℕ, ◌-◌, ◌==◌, nat_le, ◌||◌, ◌+◌, ◌<◌, Bool, false, if◌then◌else◌, Option, Some, None, is_some, Result, Ok, Err, List, [], ◌∷◌, ◌++◌, length, take, drop, ◌⊎◌}
-use Rattle.ipmi_bus.specs.declared.step.Place.{Place}
-use Rattle.ipmi_bus.specs.declared.step.Place.TheVariants.{First, Id, End}
-use Rattle.ipmi_bus.specs.Shelf.{Row}
-use Rattle.ipmi_text.specs.Bytes.{AreBytes}
-use Rattle.ipmi_bus.specs.Step.{asked_at}
-use Rattle.ipmi_bus.specs.Store.{Store, info_of, rows_of}
-use Rattle.ipmi_bus.specs.Walk.{IsWalk, EndsBy, WalkEnd, Done, CycleAt, MissingAt, place_after, place_after_rows}
-use Rattle.ipmi_bus.specs.Seen.{Seen}
-use Rattle.ipmi_image.specs.Rewritten.{image_text_of}
-use Rattle.ipmi_records.specs.Info.{IsInfoBlock}
+use Rattle.ipmi_commands.specs.Below.{Place, First, Id, End, Row, AreBytes, asked_at, Store, info_of, rows_of, IsWalk, EndsBy, WalkEnd, Done, CycleAt, MissingAt, place_after, place_after_rows, Seen, image_text_of, IsInfoBlock, sel_view_of, IsSelLine, IsSelBlock, fru_call_bound, SdrFault, SdrView, Count, Kind, Task, most_of, shelf_of}
 use Rattle.ipmi_records.specs.Sdr as sdr
-use Rattle.ipmi_records.specs.Sel.{sel_view_of}
-use Rattle.ipmi_records.specs.SelText.{IsSelLine, IsSelBlock}
 use Rattle.ipmi_commands.specs.Line.{line_of}
 use Rattle.ipmi_commands.specs.declared.piece.Form.{Form}
-use Rattle.ipmi_bus.specs.Bounds.{fru_call_bound}
-use Rattle.ipmi_records.specs.declared.sdr.SdrFault.{SdrFault}
-use Rattle.ipmi_records.specs.declared.sdr.SdrView.{SdrView}
-use Rattle.ipmi_command_line.specs.declared.command.Count.{Count}
-use Rattle.ipmi_command_line.specs.declared.command.Kind.{Kind}
-use Rattle.ipmi_command_line.specs.declared.command.Task.{Task}
-use Rattle.ipmi_command_line.specs.Task.{most_of, shelf_of}
 use Rattle.ipmi_commands.specs.Pieces.{IsListedOfKind, IsBlockOfName, IsLocatorPiece, IsInventoryPiece, row_is_of_kind, is_name}
 
 -- ---- what is asked for, and what it changes

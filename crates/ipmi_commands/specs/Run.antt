@@ -1,27 +1,14 @@
 -- What a run of a command leaves, and its exit status.
 use Rattle.std.specs.Prelude.{◌≡◌, ◌⊎◌, ℕ, ◌+◌, ◌*◌, ◌<◌, ◌≤◌, Bool, true, false, IsTrue, Result, Ok, Err, String, string_bytes, List, [], ◌++◌, length}
 use Rattle.std.specs.declared.alloc.Global.{Global}
-use Rattle.ipmi_bus.specs.declared.inventory.FruEnded.{FruEnded}
-use Rattle.ipmi_bus.specs.declared.step.Ended.TheVariants.{Cycle, Missing, GaveUp}
-use Rattle.ipmi_bus.specs.Bounds.{step_call_bound}
-use Rattle.ipmi_bus.specs.Store.{Store}
+use Rattle.ipmi_commands.specs.Below.{FruEnded, Cycle, Missing, GaveUp, step_call_bound, Store, Seen, IsHonest, StaysHonest, ImageFault, Count, Task, UsageFault, Message, Usage, Image, WriteFault, OutOfMemory, CommandState, ended_text, refused_text, inventory_text, refused_inventory_text, no_name_text, no_info_text, message_text, Received, ReceivesText, TakesPart, start_by}
 use Rattle.ipmi_bus.specs.Walk as walk_end
-use Rattle.ipmi_bus.specs.Seen.{Seen, IsHonest, StaysHonest}
-use Rattle.ipmi_image.specs.declared.image.ImageFault.{ImageFault}
-use Rattle.ipmi_command_line.specs.declared.command.Count.{Count}
-use Rattle.ipmi_command_line.specs.declared.command.Task.{Task}
-use Rattle.ipmi_command_line.specs.declared.command.UsageFault.{UsageFault}
 use Rattle.ipmi_commands.specs.declared.stop.Stop.{Stop}
-use Rattle.ipmi_output.specs.declared.message.Message.{Message}
-use Rattle.ipmi_output.specs.declared.message.Message.TheVariants.{Usage, Image, WriteFault, OutOfMemory}
-use Rattle.ipmi_command_line.specs.Command.{CommandState}
 use Rattle.ipmi_commands.specs.Listing.{IsOutcome, calls_for, run_call_bound, most_calls}
-use Rattle.ipmi_output.specs.Message.{ended_text, refused_text, inventory_text, refused_inventory_text, no_name_text, no_info_text, message_text, line_text}
-use Rattle.ipmi_output.specs.Received.{Received, ReceivesText}
+use Rattle.ipmi_output.specs.Message.{line_text}
 use Rattle.ipmi_commands.specs.Pages.{ArePages, pages_made, IsOpen}
-use Rattle.ipmi_output.specs.Sink.{TakesPart}
 use Rattle.ipmi_commands.specs.Plan.{Request, request, Change, change, OnWalk, plan_of, rewrite_plan, Outcome, IsAllowed, CountsSo, IsFine}
-use Rattle.ipmi_command_line.specs.Task.{name_of, start_by}
+use Rattle.ipmi_command_line.specs.Task.{name_of}
 use Rattle.ipmi_commands.specs.Plan as plan
 
 -- the task that writes an image again is answered, and not run

@@ -1,7 +1,7 @@
 //! Prints the info of a shelf.
 ghost use Rattle.std.specs.Prelude.{◌≡◌, ◌+◌, ◌≤◌, IfErr};
-ghost use Rattle.ipmi_bus.specs.Seen.{IsHonest};
-ghost use Rattle.ipmi_commands.specs.Listing.{faults_of, FindsInfo};
+ghost use Rattle.ipmi_commands.specs.Below.{IsHonest};
+ghost use Rattle.ipmi_commands.specs.Prelude.{faults_of, FindsInfo};
 
 use crate::stop::Stop;
 use ipmi_bus::{Controller, Shelf, read_info};

@@ -1,15 +1,7 @@
 //! Prints the inventories of FRU devices.
 ghost use Rattle.std.specs.Prelude.{◌≡◌, ℕ, ◌+◌, ◌≤◌, ◌∷◌, [], None, Err, IfErr, IfOk, string_bytes};
-ghost use Rattle.ipmi_bus.specs.Bounds.{fru_call_bound};
-ghost use Rattle.ipmi_bus.specs.Lent.{row_of_record};
-ghost use Rattle.ipmi_bus.specs.Readers.{ReadsInventory};
-ghost use Rattle.ipmi_bus.specs.Seen.{Seen, IsHonest};
-ghost use Rattle.ipmi_bus.specs.Store.{Store, inventory_of};
-ghost use Rattle.ipmi_records.specs.Sdr.{fru_of, sdr_view_of};
-ghost use Rattle.ipmi_commands.specs.Asking.{is_absent};
-ghost use Rattle.ipmi_commands.specs.Listing.{faults_of, Finds};
-ghost use Rattle.ipmi_commands.specs.Pieces.{IsDevicePiece, IsInventoryPiece, IsInventoryText, IsLocatorPiece, name_of_locator};
-ghost use Rattle.ipmi_commands.specs.Plan.{AtInventory, device_spots, locator_spots};
+ghost use Rattle.ipmi_commands.specs.Below.{fru_call_bound, row_of_record, ReadsInventory, Seen, IsHonest, Store, inventory_of, fru_of, sdr_view_of};
+ghost use Rattle.ipmi_commands.specs.Prelude.{is_absent, faults_of, Finds, IsDevicePiece, IsInventoryPiece, IsInventoryText, IsLocatorPiece, name_of_locator, AtInventory, device_spots, locator_spots};
 
 use crate::stop::Stop;
 use ipmi_bus::{Code, Controller, FruEnded, Record, read_fru};

@@ -1,14 +1,7 @@
 //! Lists the last entries of a shelf, on a second walk after one that counts them.
 ghost use Rattle.std.specs.Prelude.{◌≡◌, ◌+◌, ◌-◌, ◌≤◌};
-ghost use Rattle.ipmi_bus.specs.CursorState.{start_of};
-ghost use Rattle.ipmi_bus.specs.Seen.{IsHonest};
-ghost use Rattle.ipmi_command_line.specs.Task.{start_by};
-ghost use Rattle.ipmi_command_line.specs.declared.command.Count.{Count};
-ghost use Rattle.ipmi_command_line.specs.declared.command.Task.{Task};
-ghost use Rattle.ipmi_commands.specs.Last.{ListsSpan};
-ghost use Rattle.ipmi_commands.specs.Listing.{faults_of, most_calls, most_on_walk};
-ghost use Rattle.ipmi_commands.specs.Plan.{change};
-ghost use Rattle.ipmi_commands.specs.Run.{request_of, Performs};
+ghost use Rattle.ipmi_commands.specs.Below.{start_of, IsHonest, start_by, Count, Task};
+ghost use Rattle.ipmi_commands.specs.Prelude.{ListsSpan, faults_of, most_calls, most_on_walk, change, request_of, Performs};
 
 use crate::listing::{Listed, Span, list_records};
 use crate::pages::start_cursor;

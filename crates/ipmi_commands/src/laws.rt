@@ -1,9 +1,7 @@
 //! What follows from the definitions of plans by themselves, each the contract of a function that does nothing.
 ghost use Rattle.std.specs.Prelude.{◌≡◌, ℕ, List};
-ghost use Rattle.ipmi_bus.specs.Store.{Store, IsStore};
-ghost use Rattle.ipmi_command_line.specs.declared.command.Task.{Task};
-ghost use Rattle.ipmi_commands.specs.Plan.{Item, AreOfBytes, Request, RunEnd, Finished, AreTexts};
-ghost use Rattle.ipmi_commands.specs.Run.{AllowsAll};
+ghost use Rattle.ipmi_commands.specs.Below.{Store, IsStore, Task};
+ghost use Rattle.ipmi_commands.specs.Prelude.{Item, AreOfBytes, Request, RunEnd, Finished, AreTexts, AllowsAll};
 
 /// The texts that a task prints for items are one text.
 pub fn items_have_one_text()

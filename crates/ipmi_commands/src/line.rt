@@ -1,9 +1,8 @@
 //! The line of a record as `sdr hex` prints it: its line in an image, in lower case.
 ghost use Rattle.std.specs.Prelude.{◌≡◌, ◌+◌, ◌*◌, ◌++◌, ◌≤◌, ◌∷◌, [], length};
 ghost use Rattle.hex.specs.Hex.{encode_lower};
-ghost use Rattle.ipmi_bus.specs.Lent.{row_of_record};
-ghost use Rattle.ipmi_image.specs.Rewritten.{hex_of};
-ghost use Rattle.ipmi_commands.specs.Line.{line_of};
+ghost use Rattle.ipmi_commands.specs.Below.{row_of_record, hex_of};
+ghost use Rattle.ipmi_commands.specs.Prelude.{line_of};
 
 use arrayvec::ArrayVec;
 use ipmi_bus::Record;

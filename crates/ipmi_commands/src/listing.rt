@@ -1,9 +1,7 @@
 //! Writes what a command prints for each record that a cursor hands out.
 ghost use Rattle.std.specs.Prelude.{◌≡◌, ◌≢◌, ◌+◌, ◌==◌, ◌||◌, not, length};
-ghost use Rattle.ipmi_bus.specs.Seen.{IsHonest};
-ghost use Rattle.ipmi_commands.specs.Listing.{course, faults_of, is_reached, most_for_one, passing, stop_at_end, IsListing, ListingCalls};
-ghost use Rattle.ipmi_command_line.specs.Task.{shelf_of};
-ghost use Rattle.ipmi_command_line.specs.declared.command.Task.{Task};
+ghost use Rattle.ipmi_commands.specs.Below.{IsHonest, shelf_of, Task};
+ghost use Rattle.ipmi_commands.specs.Prelude.{course, faults_of, is_reached, most_for_one, passing, stop_at_end, IsListing, ListingCalls};
 
 use crate::line::Line;
 use crate::piece::piece_in;

@@ -1,14 +1,8 @@
 //! Lists records in pages, each with a cursor of its own.
 ghost use Rattle.std.specs.Prelude.{◌≡◌, ◌+◌, ◌*◌, ◌<◌, ◌≤◌, List, Some, IfOk, IfErr};
 ghost use Rattle.std.specs.Option.{ForSome};
-ghost use Rattle.ipmi_bus.specs.CursorState.{start_of};
-ghost use Rattle.ipmi_bus.specs.Seen.{IsHonest};
-ghost use Rattle.ipmi_bus.specs.Shelf.{Row};
-ghost use Rattle.ipmi_bus.specs.Standing.{StandsAt};
-ghost use Rattle.ipmi_commands.specs.Listing.{faults_of, most_on_walk, IsPlace};
-ghost use Rattle.ipmi_command_line.specs.Task.{start_by};
-ghost use Rattle.ipmi_commands.specs.Pages.{listing_cursor, start_at, pages_made, IsPage, ArePages};
-ghost use Rattle.ipmi_commands.specs.Plan.{request, change};
+ghost use Rattle.ipmi_commands.specs.Below.{start_of, IsHonest, Row, StandsAt, start_by};
+ghost use Rattle.ipmi_commands.specs.Prelude.{faults_of, most_on_walk, IsPlace, listing_cursor, start_at, pages_made, IsPage, ArePages, request, change};
 
 use crate::listing::{Span, is_reached, list_records, stop_at_end};
 use crate::stop::Stop;

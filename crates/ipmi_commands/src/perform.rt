@@ -1,10 +1,7 @@
 //! Does what a command's task asks for, over any controller.
 ghost use Rattle.std.specs.Prelude.{◌≡◌, ◌+◌, ◌≤◌, true, false, IfErr, None, Some};
-ghost use Rattle.ipmi_bus.specs.Seen.{IsHonest};
-ghost use Rattle.ipmi_command_line.specs.declared.command.Task.{Task};
-ghost use Rattle.ipmi_commands.specs.Listing.{faults_of, most_calls};
-ghost use Rattle.ipmi_commands.specs.Plan.{change};
-ghost use Rattle.ipmi_commands.specs.Run.{is_rewrite, lists_once, request_of, Performs, WritesFound, WritesText};
+ghost use Rattle.ipmi_commands.specs.Below.{IsHonest, Task};
+ghost use Rattle.ipmi_commands.specs.Prelude.{faults_of, most_calls, change, is_rewrite, lists_once, request_of, Performs, WritesFound, WritesText};
 
 use crate::info::info_piece;
 use crate::inventory::inventory_piece;

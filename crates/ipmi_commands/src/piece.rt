@@ -1,17 +1,8 @@
 //! What a command prints for a record. Where the text needs a reading, it is asked for here, while the record is lent.
 ghost use Rattle.std.specs.Prelude.{◌≡◌, ◌+◌, ◌≤◌, IfOk, IfErr, IsOk, length, string_bytes};
-ghost use Rattle.ipmi_bus.specs.Lent.{row_of_record};
-ghost use Rattle.ipmi_bus.specs.Seen.{IsHonest};
-ghost use Rattle.ipmi_bus.specs.Shelf.{largest_len, whole_len};
-ghost use Rattle.ipmi_command_line.specs.declared.command.Task.{Task};
-ghost use Rattle.ipmi_records.specs.Sdr.{name_of, sdr_view_of};
-ghost use Rattle.ipmi_records.specs.Sel.{sel_view_of};
-ghost use Rattle.ipmi_records.specs.SelText.{IsSelBlock, IsSelLine};
-ghost use Rattle.ipmi_commands.specs.Asking.{ReadsFor};
-ghost use Rattle.ipmi_commands.specs.Listing.{bytes_of, faults_of, Finds, FindsIn, FindsPiece};
-ghost use Rattle.ipmi_commands.specs.Pieces.{is_name, is_of_kind, IsBlockOfName, IsLineOf, IsListedOfKind};
-ghost use Rattle.ipmi_commands.specs.Plan.{listed_spots, most_after, named_spots};
-ghost use Rattle.ipmi_command_line.specs.Task.{shelf_of};
+ghost use Rattle.ipmi_commands.specs.Below.{row_of_record, IsHonest, largest_len, whole_len, Task, sdr_view_of, sel_view_of, IsSelBlock, IsSelLine, shelf_of};
+ghost use Rattle.ipmi_records.specs.Sdr.{name_of};
+ghost use Rattle.ipmi_commands.specs.Prelude.{ReadsFor, bytes_of, faults_of, Finds, FindsIn, FindsPiece, is_name, is_of_kind, IsBlockOfName, IsLineOf, IsListedOfKind, listed_spots, most_after, named_spots};
 
 use crate::inventory::locator_piece;
 use crate::line::{Line, record_line};

@@ -1,14 +1,7 @@
 //! Runs a command over a controller, or answers it over a saved image.
 ghost use Rattle.std.specs.Prelude.{◌≡◌, ◌+◌, ◌*◌, ◌≤◌, ◌==◌, if◌then◌else◌, true, false};
-ghost use Rattle.ipmi_bus.specs.Seen.{IsHonest};
-ghost use Rattle.ipmi_image.specs.Image.{store_of_image};
-ghost use Rattle.ipmi_image.specs.Rewritten.{image_text_of};
-ghost use Rattle.ipmi_command_line.specs.Task.{is_listing};
-ghost use Rattle.ipmi_commands.specs.Listing.{faults_of, most_calls};
-ghost use Rattle.ipmi_output.specs.Received.{ReceivesText, of_writer};
-ghost use Rattle.ipmi_commands.specs.Pages.{pages_made};
-ghost use Rattle.ipmi_commands.specs.Run.{stop_status, stop_text, fault_status, is_rewrite, effect, request_of, EndsSo, IsPagedRun, Runs, Says, WritesImage, AnswersCommand, AnswersRewrite, AnswersLine};
-ghost use Rattle.ipmi_output.specs.declared.message.Message.{Message};
+ghost use Rattle.ipmi_commands.specs.Below.{IsHonest, store_of_image, image_text_of, is_listing, ReceivesText, of_writer, Message};
+ghost use Rattle.ipmi_commands.specs.Prelude.{faults_of, most_calls, pages_made, stop_status, stop_text, fault_status, is_rewrite, effect, request_of, EndsSo, IsPagedRun, Runs, Says, WritesImage, AnswersCommand, AnswersRewrite, AnswersLine};
 
 use crate::pages::list_pages;
 use crate::perform::{perform, write_text};

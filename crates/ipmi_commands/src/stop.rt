@@ -1,6 +1,6 @@
 //! How a listing stops.
 ghost use Rattle.std.specs.Prelude.{◌≡◌};
-ghost use Rattle.ipmi_commands.specs.Listing.{is_done};
+ghost use Rattle.ipmi_commands.specs.Prelude.{is_done};
 
 use ipmi_bus::{Ended, FruEnded};
 use std::alloc::AllocError;

@@ -1,9 +1,6 @@
 -- An area and its fields, or its fault.
 use Rattle.std.proofs.Common.{◌≡◌, ℕ, true, false, inr, Option, None, Some, List, [], refl, sym, ap, subst, ◌∙◌, unwrap_or, is_some}
-use Rattle.ipmi_fru.specs.declared.area.AreaKind.{AreaKind}
-use Rattle.ipmi_fru.specs.declared.area.AreaFault.{AreaFault}
-use Rattle.ipmi_fru.specs.Field.{AreaField, Spells, fields_in}
-use Rattle.ipmi_fru.specs.Area.{IsArea, IsAreaFault, area_at, area_fault, area_in, field_bytes}
+use Rattle.ipmi_fru.specs.Prelude.{AreaKind, AreaFault, AreaField, Spells, fields_in, IsArea, IsAreaFault, area_at, area_fault, area_in, field_bytes}
 use Rattle.ipmi_fru.proofs.FieldLemmas.{are_spelt, none_spelt}
 
 spelt_there : (bytes : List ℕ) (found : Option (List AreaField)) → fields_in bytes ≡ found → is_some found ≡ true → Spells bytes (unwrap_or found [])

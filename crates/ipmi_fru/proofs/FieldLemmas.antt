@@ -3,7 +3,7 @@ use Rattle.std.proofs.Common.{◌≡◌, ◌≢◌, ℕ, zero, suc, ◌/◌, ◌
 use Rattle.std.proofs.lemmas.Bool.{eqb-false}
 use Rattle.std.proofs.lemmas.Bool.Decides.{nat_tests}
 use Rattle.std.proofs.lemmas.List.{take-append-le, drop-append-le, drop_all}
-use Rattle.ipmi_fru.specs.Field.{AreaField, Spells, field_in, fields_from, fields_in}
+use Rattle.ipmi_fru.specs.Prelude.{AreaField, Spells, field_in, fields_from, fields_in}
 
 -- more steps than there are bytes change nothing
 pub fields_from-enough : (n m : ℕ) (bytes : List ℕ) → length bytes ≤ n → length bytes ≤ m → fields_from n bytes ≡ fields_from m bytes

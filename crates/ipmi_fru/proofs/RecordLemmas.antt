@@ -1,9 +1,7 @@
 -- The records of the multirecord area, one after the other.
 use Rattle.std.proofs.Common.{◌≡◌, ℕ, zero, suc, ◌+◌, ◌<◌, ◌≤◌, Bool, true, false, cond, not, nat_lt, Option, None, Some, Result, Ok, List, [], ◌∷◌, length, drop, take, slice_index, refl, sym, ap, subst, ◌∙◌, arith, length-drop}
 use Rattle.std.proofs.lemmas.Bool.Decides.{nat_tests}
-use Rattle.ipmi_fru.specs.declared.multirecord.MultiFault.{MultiFault}
-use Rattle.ipmi_fru.specs.Header.{is_zero_sum, offset_of, records_place}
-use Rattle.ipmi_fru.specs.Multirecord.{MultiRecord, RecordsEnd, ContinuesBy, IsRecordList, AreRecordsAt, HasItems, items_of, data_in, record_in, record_fault, after_record, items_by, items_from, items_in}
+use Rattle.ipmi_fru.specs.Prelude.{MultiFault, is_zero_sum, offset_of, records_place, MultiRecord, RecordsEnd, ContinuesBy, IsRecordList, AreRecordsAt, HasItems, items_of, data_in, record_in, record_fault, after_record, items_by, items_from, items_in}
 
 -- more steps than there are bytes change nothing
 pub items_from-enough : (n m : ℕ) (bytes : List ℕ) → length bytes < n → length bytes < m → items_from n bytes ≡ items_from m bytes

@@ -1,18 +1,7 @@
 -- An inventory has at most one text.
 use Rattle.std.proofs.Common.{◌≡◌, ◌∙◌, inl, inr, ℕ, Option, None, Some, Result, Ok, Err, List, [], ◌∷◌, refl, ap, sym, subst, codes}
 use Rattle.ipmi_text.specs.Laws.{DecimalIsUnique, MinutesTextIsUnique}
-use Rattle.ipmi_fru.specs.declared.area.AreaKind.{AreaKind}
-use Rattle.ipmi_fru.specs.declared.area.AreaKind.TheVariants.{Chassis, Board, Product}
-use Rattle.ipmi_fru.specs.declared.area.AreaFault.{AreaFault}
-use Rattle.ipmi_fru.specs.declared.header.FruFault.{FruFault}
-use Rattle.ipmi_fru.specs.declared.multirecord.MultiFault.{MultiFault}
-use Rattle.ipmi_fru.specs.declared.record_text.RecordForm.{RecordForm}
-use Rattle.ipmi_fru.specs.declared.record_text.RecordForm.TheVariants.{Dc, Access, Other}
-use Rattle.ipmi_fru.specs.Header.{header_fault, offset_of, records_place}
-use Rattle.ipmi_fru.specs.Field.{Spells}
-use Rattle.ipmi_fru.specs.Area.{Area, IsArea, IsAreaFault, IsFound, field_bytes, place_of}
-use Rattle.ipmi_fru.specs.Multirecord.{MultiRecord, RecordsEnd, AreRecordsAt, SameList, items_of}
-use Rattle.ipmi_fru.specs.Print.{IsLead, IsTextFound, IsTextOfArea, IsVoltsAt, IsTextInForm, IsItemText, AreItemTexts, IsTextOfRecords, IsTextByFault, IsFruText, form_of}
+use Rattle.ipmi_fru.specs.Prelude.{AreaKind, Chassis, Board, Product, AreaFault, FruFault, MultiFault, RecordForm, Dc, Access, Other, header_fault, offset_of, records_place, Spells, Area, IsArea, IsAreaFault, IsFound, field_bytes, place_of, MultiRecord, RecordsEnd, AreRecordsAt, SameList, items_of, IsLead, IsTextFound, IsTextOfArea, IsVoltsAt, IsTextInForm, IsItemText, AreItemTexts, IsTextOfRecords, IsTextByFault, IsFruText, form_of}
 use Rattle.ipmi_text.specs.Lines.{labelled}
 use Rattle.ipmi_fru.proofs.UniqueLemmas.{one_list_of_fields, one_list_of_records}
 

@@ -1,8 +1,6 @@
 -- Bytes spell one list of fields, and are one list of records.
 use Rattle.std.proofs.Common.{◌≡◌, ℕ, zero, suc, ◌+◌, ◌<◌, Bool, true, false, cond, Option, None, Some, Result, Ok, List, [], ◌∷◌, length, slice_index, refl, sym, ap, ◌∙◌, arith, length-drop}
-use Rattle.ipmi_fru.specs.declared.multirecord.MultiFault.{MultiFault}
-use Rattle.ipmi_fru.specs.Field.{AreaField, Spells}
-use Rattle.ipmi_fru.specs.Multirecord.{MultiRecord, RecordsEnd, ContinuesBy, IsRecordList, SameList, record_in, after_record, items_of, items_by, items_from}
+use Rattle.ipmi_fru.specs.Prelude.{MultiFault, AreaField, Spells, MultiRecord, RecordsEnd, ContinuesBy, IsRecordList, SameList, record_in, after_record, items_of, items_by, items_from}
 use Rattle.ipmi_fru.proofs.FieldLemmas.{fields_in-found}
 use Rattle.ipmi_fru.proofs.RecordLemmas.{enough_bytes}
 

@@ -2,4 +2,5 @@ pub mod Area
 pub mod Field
 pub mod Header
 pub mod Multirecord
+pub mod Prelude
 pub mod Print

@@ -1,10 +1,7 @@
 //! The chassis, board and product areas of an inventory.
 ghost use Rattle.std.specs.Prelude.{◌≡◌, ◌+◌, ◌<◌, ◌≤◌, IfSome, IfOk, IfErr, Some, None, slice_get, length, slice_index, option_map};
 ghost use Rattle.byteorder.specs.Endian.{little_from};
-ghost use Rattle.ipmi_fru.specs.Print.{language_of};
-ghost use Rattle.ipmi_fru.specs.declared.area.AreaKind.TheVariants.{Board, Chassis};
-ghost use Rattle.ipmi_fru.specs.Field.{field_of};
-ghost use Rattle.ipmi_fru.specs.Area.{Area, area_fault_name, place_of, head_len, area_at, head_of, field_bytes, area_fault, IsArea, IsAreaFault};
+ghost use Rattle.ipmi_fru.specs.Prelude.{language_of, Board, Chassis, field_of, Area, area_fault_name, place_of, head_len, area_at, head_of, field_bytes, area_fault, IsArea, IsAreaFault};
 
 use crate::field::{Field, Fields};
 use crate::header::{bytes_of, has_version_1, is_zero_sum};

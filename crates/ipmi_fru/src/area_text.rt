@@ -2,7 +2,7 @@
 ghost use Rattle.std.specs.Prelude.{◌≡◌, ◌++◌, OnOk, IfOk, map, string_bytes};
 ghost use Rattle.ipmi_text.specs.FieldText.{fru_text_of};
 ghost use Rattle.ipmi_text.specs.Lines.{labelled};
-ghost use Rattle.ipmi_fru.specs.Print.{area_name, labels_of, extra_label, field_line, field_lines, language_of, IsLead, IsAreaText, IsTextFound};
+ghost use Rattle.ipmi_fru.specs.Prelude.{area_name, labels_of, extra_label, field_line, field_lines, language_of, IsLead, IsAreaText, IsTextFound};
 
 use crate::area::{AreaFault, AreaKind, AreaView};
 use crate::field::Field;

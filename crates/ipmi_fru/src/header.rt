@@ -1,9 +1,6 @@
 //! The common header of an inventory, which says where its areas begin.
 ghost use Rattle.std.specs.Prelude.{◌≡◌, ◌%◌, ◌≤◌, ◌*◌, ◌==◌, IfOk, IfErr, IfSome, Some, None, drop, sum};
-ghost use Rattle.ipmi_fru.specs.Header.{is_zero_sum, version_in, header_fault, fru_fault_name, offset_of};
-ghost use Rattle.ipmi_fru.specs.declared.area.AreaKind.TheVariants.{Chassis, Board, Product};
-ghost use Rattle.ipmi_fru.specs.Area.{IsFound};
-ghost use Rattle.ipmi_fru.specs.Multirecord.{HasItems, items_left};
+ghost use Rattle.ipmi_fru.specs.Prelude.{is_zero_sum, version_in, header_fault, fru_fault_name, offset_of, Chassis, Board, Product, IsFound, HasItems, items_left};
 
 use crate::area::{AreaFault, AreaKind, AreaView};
 use crate::multirecord::Records;

@@ -1,8 +1,6 @@
 //! Laws of fields, records and texts, each the contract of a function that does nothing.
 ghost use Rattle.std.specs.Prelude.{◌≡◌, ℕ, List};
-ghost use Rattle.ipmi_fru.specs.Field.{AreaField, Spells};
-ghost use Rattle.ipmi_fru.specs.Multirecord.{MultiRecord, RecordsEnd, IsRecordList, SameList};
-ghost use Rattle.ipmi_fru.specs.Print.{IsFruText};
+ghost use Rattle.ipmi_fru.specs.Prelude.{AreaField, Spells, MultiRecord, RecordsEnd, IsRecordList, SameList, IsFruText};
 
 /// Bytes spell at most one list of fields.
 pub fn one_list_of_fields()

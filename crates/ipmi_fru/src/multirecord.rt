@@ -1,6 +1,6 @@
 //! The multirecord area of an inventory: records one after the other, up to one that is marked as the last.
 ghost use Rattle.std.specs.Prelude.{◌≡◌, ◌<◌, IfOk, IfErr, Some, None, length};
-ghost use Rattle.ipmi_fru.specs.Multirecord.{record_in, record_fault, multi_fault_name, after_record, record_of, items_after, items_left};
+ghost use Rattle.ipmi_fru.specs.Prelude.{record_in, record_fault, multi_fault_name, after_record, record_of, items_after, items_left};
 
 use crate::header::{is_zero_sum, sum_of};
 use thiserror::Error;

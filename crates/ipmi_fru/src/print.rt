@@ -1,6 +1,6 @@
 //! The text of an inventory, line by line.
 ghost use Rattle.std.specs.Prelude.{IfOk, string_bytes};
-ghost use Rattle.ipmi_fru.specs.Print.{IsFruText};
+ghost use Rattle.ipmi_fru.specs.Prelude.{IsFruText};
 
 use crate::area::AreaKind;
 use crate::area_text::found_text;

@@ -1,8 +1,7 @@
 //! The lines of multirecords.
 ghost use Rattle.std.specs.Prelude.{◌≡◌, ◌%◌, ◌≤◌, ◌+◌, IfOk, length, string_bytes};
 ghost use Rattle.byteorder.specs.Endian.{twos_complement};
-ghost use Rattle.ipmi_fru.specs.Multirecord.{item_of, items_left, record_of};
-ghost use Rattle.ipmi_fru.specs.Print.{number_at, IsVoltsAt, current_text, dc_start, before_low, before_high, standby_text, IsDcText, access_text, access_line, other_line, form_of, IsRecordText, IsItemText, AreItemTexts};
+ghost use Rattle.ipmi_fru.specs.Prelude.{item_of, items_left, record_of, number_at, IsVoltsAt, current_text, dc_start, before_low, before_high, standby_text, IsDcText, access_text, access_line, other_line, form_of, IsRecordText, IsItemText, AreItemTexts};
 
 use crate::multirecord::{MultiFault, MultiView, Records};
 use byteorder::{ByteOrder, LittleEndian};

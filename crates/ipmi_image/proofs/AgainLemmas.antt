@@ -4,16 +4,8 @@ use Rattle.std.specs.List.{join_with_byte}
 use Rattle.std.proofs.lemmas.List.Elements.{All-cons, filter_map-append}
 use Rattle.byteorder.specs.Endian.{big_bytes}
 use Rattle.hex.specs.Hex.{encode_lower}
-use Rattle.ipmi_bus.specs.declared.controller.Shelf.{Shelf}
-use Rattle.ipmi_bus.specs.declared.controller.Shelf.TheVariants.{Sdr, Sel}
-use Rattle.ipmi_text.specs.Bytes.{AreBytes}
-use Rattle.ipmi_bus.specs.Shelf.{Row, IsRow, AllRows}
-use Rattle.ipmi_bus.specs.Store.{Store, Inventory, SensorReading, IsInventory, IsInfo, IsSensorReading, IsStore}
-use Rattle.ipmi_image.specs.declared.line.LineFault.{LineFault}
-use Rattle.ipmi_image.specs.Text.{pieces}
-use Rattle.ipmi_image.specs.Line.{SavedRow, Line, a_row, an_inventory, a_reading, an_info, the_end, row_line, info_line_of, line_of_fields, line_of}
-use Rattle.ipmi_image.specs.Image.{row_on, rows_on, chained, inventories_of, sensor_on, info_on, first_of, info_fault, fault_in, unless_fault, is_end, store_of_lines, store_after, store_of_pieces, store_of_image}
-use Rattle.ipmi_image.specs.Rewritten.{hex_of, first_row_id, next_field, row_fields, rows_lines, first_parts, part_fields, inventory_lines, reading_fields, info_lines, line_text, lines_text, lines_of, image_text_of, IsSaved}
+use Rattle.ipmi_image.specs.Below.{Shelf, Sdr, Sel, AreBytes, Row, IsRow, AllRows, Store, Inventory, SensorReading, IsInventory, IsInfo, IsSensorReading, IsStore}
+use Rattle.ipmi_image.specs.Prelude.{LineFault, pieces, SavedRow, Line, a_row, an_inventory, a_reading, an_info, the_end, row_line, info_line_of, line_of_fields, line_of, row_on, rows_on, chained, inventories_of, sensor_on, info_on, first_of, info_fault, fault_in, unless_fault, is_end, store_of_lines, store_after, store_of_pieces, store_of_image, hex_of, first_row_id, next_field, row_fields, rows_lines, first_parts, part_fields, inventory_lines, reading_fields, info_lines, line_text, lines_text, lines_of, image_text_of, IsSaved}
 use Rattle.ipmi_image.proofs.TextLemmas.{Lacks, pieces-one, pieces-more}
 use Rattle.ipmi_image.proofs.ReadLemmas.{after_line}
 use Rattle.ipmi_image.proofs.ParseLemmas.{IsField, AreFields, a_word, a_hex, one_are, two_are, no_feed, line_of-fields, saved_row, row_line-again, inventory_line-again, bytes_of_reading, reading_line-again, info_line_of-again}

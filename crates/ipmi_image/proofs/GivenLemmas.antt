@@ -4,10 +4,8 @@ use Rattle.std.proofs.lemmas.Bool.Decides.{nat_tests}
 use Rattle.std.proofs.lemmas.List.{get_or_append_left}
 use Rattle.std.proofs.lemmas.List.Elements.{filter_map-append}
 use Rattle.std.proofs.lemmas.List.Sums.{fold-append}
-use Rattle.ipmi_bus.specs.Store.{Inventory, SensorReading, IsInventory, OtherSensor, inventory_in, reading_in}
-use Rattle.ipmi_image.specs.Line.{Line, an_inventory, a_reading}
-use Rattle.ipmi_image.specs.Image.{with_bytes, with_inventory_line, inventories_of, sensor_on, inventory_fault, fault_in, store_of_lines}
-use Rattle.ipmi_image.specs.Rewritten.{first_parts, parts_of}
+use Rattle.ipmi_image.specs.Below.{Inventory, SensorReading, IsInventory, OtherSensor, inventory_in, reading_in}
+use Rattle.ipmi_image.specs.Prelude.{Line, an_inventory, a_reading, with_bytes, with_inventory_line, inventories_of, sensor_on, inventory_fault, fault_in, store_of_lines, first_parts, parts_of}
 use Rattle.ipmi_image.proofs.ParseLemmas.{bytes_of_reading}
 use Rattle.ipmi_image.proofs.TakenLemmas.{Taken}
 

@@ -1,10 +1,8 @@
 -- Lines by the number of their fields and by their first words.
 use Rattle.std.proofs.Common.{◌≡◌, ℕ, ◌<◌, Bool, true, false, cond, Result, Err, List, [], ◌∷◌, length, refl, sym, ap, ◌∙◌, arith, codes, bytes_eq}
 use Rattle.std.specs.Cmp.Lexicographic.{bytes_decides}
-use Rattle.ipmi_bus.specs.declared.controller.Shelf.TheVariants.{Sdr, Sel}
-use Rattle.ipmi_image.specs.declared.line.LineFault.{LineFault}
-use Rattle.ipmi_image.specs.Text.{pieces}
-use Rattle.ipmi_image.specs.Line.{Line, with_two, with_three, row_line, inventory_line, reading_line, info_line, end_line, line_of_fields, line_of}
+use Rattle.ipmi_image.specs.Below.{Sdr, Sel}
+use Rattle.ipmi_image.specs.Prelude.{LineFault, pieces, Line, with_two, with_three, row_line, inventory_line, reading_line, info_line, end_line, line_of_fields, line_of}
 use Rattle.ipmi_image.proofs.TextLemmas.{length-pieces}
 
 pub with_two-more : (line : List ℕ → List ℕ → Result Line LineFault) (a b rest : List ℕ) → with_two line (a ∷ b ∷ pieces 32 rest) ≡ Err LineFault.Line

@@ -6,13 +6,8 @@ use Rattle.std.proofs.lemmas.List.Elements.{All-cons, All-append}
 use Rattle.byteorder.specs.Endian.{big_number, big_bytes}
 use Rattle.hex.specs.Hex.{IsBytes, encode_lower, encode_with, decode_pairs, is_hex_digit, lower_digits}
 use Rattle.hex.proofs.HexLemmas.{decode_of-ok, decode_of-encode_lower, length-encode_with}
-use Rattle.ipmi_bus.specs.declared.controller.Shelf.{Shelf}
-use Rattle.ipmi_text.specs.Bytes.{AreBytes}
-use Rattle.ipmi_bus.specs.Shelf.{Row}
-use Rattle.ipmi_bus.specs.Store.{SensorReading}
-use Rattle.ipmi_image.specs.Text.{pieces}
-use Rattle.ipmi_image.specs.Line.{SavedRow, a_row, an_inventory, a_reading, an_info, info_line_of, is_some_text, bytes_in, number_in, digit_in, next_in, is_dash, row_line, inventory_line, reading_line, line_of_fields, line_of}
-use Rattle.ipmi_image.specs.Rewritten.{hex_of, next_field}
+use Rattle.ipmi_image.specs.Below.{Shelf, AreBytes, Row, SensorReading}
+use Rattle.ipmi_image.specs.Prelude.{pieces, SavedRow, a_row, an_inventory, a_reading, an_info, info_line_of, is_some_text, bytes_in, number_in, digit_in, next_in, is_dash, row_line, inventory_line, reading_line, line_of_fields, line_of, hex_of, next_field}
 use Rattle.ipmi_image.proofs.RewriteLemmas.{of_lun, drop_hex_of_lun}
 use Rattle.ipmi_image.proofs.TextLemmas.{Lacks, pieces-one, pieces-more}
 

@@ -2,12 +2,8 @@
 use Rattle.std.proofs.Common.{◌≡◌, ℕ, suc, ◌+◌, ◌<◌, Bool, true, false, cond, not, nat_eq, ◌==◌, Option, None, Some, Result, Ok, Err, List, [], ◌∷◌, ◌++◌, length, refl, sym, ap, ◌∙◌, arith}
 use Rattle.std.specs.List.{onto_first}
 use Rattle.std.proofs.lemmas.Bool.Decides.{nat_tests}
-use Rattle.ipmi_bus.specs.Store.{Store}
-use Rattle.ipmi_image.specs.declared.line.LineFault.{LineFault}
-use Rattle.ipmi_image.specs.declared.image.ImageFault.{ImageFault}
-use Rattle.ipmi_image.specs.Text.{pieces}
-use Rattle.ipmi_image.specs.Line.{Line, a_row, an_inventory, a_reading, an_info, the_end, line_of}
-use Rattle.ipmi_image.specs.Image.{store_of_lines, fault_in, unless_fault, line_judged, at_line, is_end, ends_here, store_after, dashes_in, store_of_pieces, store_of_image}
+use Rattle.ipmi_image.specs.Below.{Store}
+use Rattle.ipmi_image.specs.Prelude.{LineFault, ImageFault, pieces, Line, a_row, an_inventory, a_reading, an_info, the_end, line_of, store_of_lines, fault_in, unless_fault, line_judged, at_line, is_end, ends_here, store_after, dashes_in, store_of_pieces, store_of_image}
 use Rattle.ipmi_image.proofs.TextLemmas.{length-pieces}
 
 -- nothing comes after the last line feed exactly where no byte does

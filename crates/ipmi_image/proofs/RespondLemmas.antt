@@ -1,16 +1,8 @@
 -- The row that an id asks for.
 use Rattle.std.proofs.Common.{◌≡◌, ℕ, ◌<◌, Bool, true, false, cond, nat_eq, None, Some, List, [], ◌∷◌, length, refl, sym, ap, ◌∙◌, arith, slice_get, length-drop}
 use Rattle.std.proofs.lemmas.Option.{none-some, same_Some}
-use Rattle.ipmi_bus.specs.declared.controller.Shelf.{Shelf}
-use Rattle.ipmi_bus.specs.declared.controller.Shelf.TheVariants.{Sdr, Sel}
-use Rattle.ipmi_bus.specs.Seen.{current}
-use Rattle.ipmi_bus.specs.Shelf.{look, first_row, row_with_id}
-use Rattle.ipmi_image.specs.declared.responder.Responder.{Responder}
-use Rattle.ipmi_image.specs.Line.{SavedRow}
-use Rattle.ipmi_image.specs.Table.{place_of}
-use Rattle.ipmi_image.specs.Image.{chained}
-use Rattle.ipmi_image.specs.Rows.{id_of}
-use Rattle.ipmi_image.specs.Responder.{first_place, place_asked, of_shelf, seen_as}
+use Rattle.ipmi_image.specs.Below.{Shelf, Sdr, Sel, current, look, first_row, row_with_id}
+use Rattle.ipmi_image.specs.Prelude.{Responder, SavedRow, place_of, chained, id_of, first_place, place_asked, of_shelf, seen_as}
 use Rattle.ipmi_image.proofs.RowsLemmas.{drop-past}
 use Rattle.ipmi_image.proofs.TableLemmas.{row_at, row_with_id-found, row_with_id-missing, place_below}
 

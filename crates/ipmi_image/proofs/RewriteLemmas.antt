@@ -2,12 +2,8 @@
 use Rattle.std.proofs.Common.{◌≡◌, ℕ, zero, suc, ◌+◌, ◌/◌, ◌≤◌, ◌<◌, List, [], ◌∷◌, ◌++◌, length, take, drop, get_or, map, refl, sym, ap, ◌∙◌, append_assoc, append-nil, Some, None, arith, codes, flat_map, slice_get, length-drop}
 use Rattle.std.proofs.lemmas.List.{drop_more}
 use Rattle.hex.specs.Hex.{encode_with}
-use Rattle.ipmi_bus.specs.Store.{Store}
-use Rattle.ipmi_image.specs.declared.stored.StoredInventory.{StoredInventory}
-use Rattle.ipmi_image.specs.Line.{SavedRow}
-use Rattle.ipmi_image.specs.Image.{chained, first_id, row_before}
-use Rattle.ipmi_image.specs.Table.{inventory_of}
-use Rattle.ipmi_image.specs.Rewritten.{hex_of, parts_of, part_fields, first_row_id, row_fields, rows_lines, inventory_lines, line_text, lines_text, lines_of, image_text_of}
+use Rattle.ipmi_image.specs.Below.{Store}
+use Rattle.ipmi_image.specs.Prelude.{StoredInventory, SavedRow, chained, first_id, row_before, inventory_of, hex_of, parts_of, part_fields, first_row_id, row_fields, rows_lines, inventory_lines, line_text, lines_text, lines_of, image_text_of}
 use Rattle.ipmi_image.proofs.RowsLemmas.{drop-found, drop-past}
 
 pub row_joined : (o a b c d : List ℕ) → (o ++ (a ++ 32 ∷ (b ++ 32 ∷ []))) ++ (c ++ 32 ∷ (d ++ 10 ∷ [])) ≡ o ++ ((a ++ 32 ∷ (b ++ 32 ∷ (c ++ 32 ∷ d))) ++ 10 ∷ [])

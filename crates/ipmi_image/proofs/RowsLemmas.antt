@@ -3,11 +3,7 @@ use Rattle.std.proofs.Common.{◌≡◌, ℕ, zero, suc, ◌+◌, ◌<◌, ◌�
 use Rattle.std.proofs.lemmas.Option.{none-some, same_Some}
 use Rattle.std.proofs.lemmas.List.{map-append, take-append-le, drop-append-le}
 use Rattle.std.proofs.Math.Seq.{take-length, drop-append_seam}
-use Rattle.ipmi_image.specs.declared.rows.RowHead.{RowHead}
-use Rattle.ipmi_image.specs.Line.{SavedRow}
-use Rattle.ipmi_image.specs.Image.{first_id}
-use Rattle.ipmi_image.specs.Table.{place_of}
-use Rattle.ipmi_image.specs.Rows.{id_of, row_in}
+use Rattle.ipmi_image.specs.Prelude.{RowHead, SavedRow, first_id, place_of, id_of, row_in}
 
 abbrev pub head_id : RowHead → ℕ
 head_id head = head.id

@@ -8,17 +8,8 @@ use Rattle.std.proofs.lemmas.List.Sums.{fold-append}
 use Rattle.hex.specs.declared.error.FromHexError.{FromHexError}
 use Rattle.hex.specs.Hex.{decode_of}
 use Rattle.hex.proofs.HexLemmas.{decode_of-ok}
-use Rattle.ipmi_bus.specs.declared.controller.Shelf.{Shelf}
-use Rattle.ipmi_bus.specs.declared.controller.Shelf.TheVariants.{Sdr, Sel}
-use Rattle.ipmi_bus.specs.Store.{Store, Inventory, SensorReading}
-use Rattle.ipmi_image.specs.declared.line.LineFault.{LineFault}
-use Rattle.ipmi_image.specs.declared.image.ImageFault.{ImageFault}
-use Rattle.ipmi_image.specs.Text.{pieces}
-use Rattle.ipmi_image.specs.Line.{Line, a_row, an_inventory, a_reading, an_info, the_end, is_some_text, bytes_in, number_in, digit_in, next_in, is_dash, shelf_in, with_two, with_three, row_line, inventory_line, reading_line, info_line, info_line_of, end_line, line_of_fields, line_of}
-use Rattle.ipmi_image.specs.Image.{with_bytes, with_inventory_line, inventories_of, sensor_on, store_of_lines, fault_in, unless_fault, is_end, ends_here, store_after, dashes_in, store_of_pieces, store_of_image}
-use Rattle.ipmi_image.specs.declared.stored.StoredSensor.{StoredSensor}
-use Rattle.ipmi_image.specs.Stored.{sensor_of}
-use Rattle.ipmi_image.specs.Rewritten.{IsSaved}
+use Rattle.ipmi_image.specs.Below.{Shelf, Sdr, Sel, Store, Inventory, SensorReading}
+use Rattle.ipmi_image.specs.Prelude.{LineFault, ImageFault, pieces, Line, a_row, an_inventory, a_reading, an_info, the_end, is_some_text, bytes_in, number_in, digit_in, next_in, is_dash, shelf_in, with_two, with_three, row_line, inventory_line, reading_line, info_line, info_line_of, end_line, line_of_fields, line_of, with_bytes, with_inventory_line, inventories_of, sensor_on, store_of_lines, fault_in, unless_fault, is_end, ends_here, store_after, dashes_in, store_of_pieces, store_of_image, StoredSensor, sensor_of, IsSaved}
 use Rattle.ipmi_image.proofs.ReadLemmas.{after_line}
 use Rattle.ipmi_image.proofs.StoreLemmas.{filter_map-no_reading, reading_fine}
 

@@ -1,20 +1,8 @@
 -- An answer after what a mood did, and an answer that a mood made.
 use Rattle.std.proofs.Common.{◌≡◌, ℕ, Bool, true, false, Option, None, Some, Result, Ok, Err, List, refl, sym, ◌∙◌, arith, IsTrue, true≢false}
 use Rattle.std.proofs.lemmas.Option.{none-some}
-use Rattle.ipmi_bus.specs.declared.controller.Shelf.{Shelf}
-use Rattle.ipmi_bus.specs.declared.controller.Shelf.TheVariants.{Sdr, Sel}
-use Rattle.ipmi_bus.specs.declared.controller.Part.{Part}
-use Rattle.ipmi_bus.specs.declared.controller.FruSize.{FruSize}
-use Rattle.ipmi_bus.specs.declared.code.Code.{Code}
-use Rattle.ipmi_bus.specs.declared.code.CodeClass.{CodeClass}
-use Rattle.ipmi_bus.specs.declared.code.CodeClass.TheVariants.{Cancelled, Busy, SmallerPart, NotPresent, Refusal}
-use Rattle.ipmi_bus.specs.Code.{class_of}
-use Rattle.ipmi_bus.specs.Store.{Store}
-use Rattle.ipmi_bus.specs.Seen.{Seen, IsHonest, IsQuiet, IsFinished, IsChange, MayLoseReservation, current}
-use Rattle.ipmi_bus.specs.Answers.{Asked, other, FailsWith, CountsPiece, ReserveGives, ReserveAnswers, PartGives, PartAnswers, ValueGives, ValueAnswers, SizeGives, SizeAnswers, BytesGives, BytesAnswers}
-use Rattle.ipmi_image.specs.Controllers.{Prepares}
-use Rattle.ipmi_image.specs.declared.responder.Responder.{Responder}
-use Rattle.ipmi_image.specs.Responder.{seen_as}
+use Rattle.ipmi_image.specs.Below.{Shelf, Sdr, Sel, Part, FruSize, Code, CodeClass, Cancelled, Busy, SmallerPart, NotPresent, Refusal, class_of, Store, Seen, IsHonest, IsQuiet, IsFinished, IsChange, MayLoseReservation, current, Asked, other, FailsWith, CountsPiece, ReserveGives, ReserveAnswers, PartGives, PartAnswers, ValueGives, ValueAnswers, SizeGives, SizeAnswers, BytesGives, BytesAnswers}
+use Rattle.ipmi_image.specs.Prelude.{Prepares, Responder, seen_as}
 
 -- it answers over the store as it is, as one that never changes
 stores_added-after : (r r' : Responder) → (IsHonest (seen_as true r) → IsChange (seen_as true r) (seen_as true r')) → IsHonest (seen_as false r) → (seen_as false r').stores_added ≡ (seen_as false r).stores_added

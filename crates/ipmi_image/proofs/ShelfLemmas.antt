@@ -3,14 +3,9 @@ use Rattle.std.proofs.Common.{◌≡◌, ℕ, ◌<◌, Bool, true, false, cond, 
 use Rattle.std.proofs.lemmas.Bool.{eqb-false, not-false, or_parts}
 use Rattle.std.proofs.lemmas.Bool.Decides.{nat_tests}
 use Rattle.std.proofs.lemmas.Option.{none-some}
-use Rattle.ipmi_bus.specs.declared.controller.Shelf.{Shelf}
-use Rattle.ipmi_text.specs.Bytes.{AreBytes}
-use Rattle.ipmi_bus.specs.Shelf.{Row, whole_len, largest_len, id_in, IsRow, AllRows, LacksId, DistinctIds, BeginsWithId, LaterHaveIds, IsShelf}
+use Rattle.ipmi_image.specs.Below.{Shelf, AreBytes, Row, whole_len, largest_len, id_in, IsRow, AllRows, LacksId, DistinctIds, BeginsWithId, LaterHaveIds, IsShelf, has_id}
 use Rattle.ipmi_bus.proofs.ShelfLemmas.{IsShelf-first, IsShelf-snoc}
-use Rattle.ipmi_image.specs.Line.{SavedRow}
-use Rattle.ipmi_bus.specs.Walk.{has_id}
-use Rattle.ipmi_image.specs.declared.line.LineFault.{LineFault}
-use Rattle.ipmi_image.specs.Image.{chained, row_before, is_empty, is_no_record, is_no_id, begins_with_another, first_fault, row_fault}
+use Rattle.ipmi_image.specs.Prelude.{SavedRow, LineFault, chained, row_before, is_empty, is_no_record, is_no_id, begins_with_another, first_fault, row_fault}
 
 -- a row stays one with another next id
 other_next : (shelf : Shelf) (row : SavedRow) (following : List SavedRow) (last : SavedRow) → last.id < 65535 → IsRow shelf (row_before [] row) → IsRow shelf (row_before (last ∷ following) row)

@@ -2,24 +2,14 @@
 use Rattle.std.proofs.Common.{◌≡◌, ◌≢◌, ℕ, zero, suc, ◌+◌, ◌<◌, ◌≤◌, Bool, true, false, cond, not, nat_lt, ◌&&◌, ◌⊎◌, inl, inr, Result, Ok, Err, Option, None, Some, List, [], ◌∷◌, ◌++◌, length, get_or, map, refl, sym, ap, subst, ◌∙◌, append-nil, arith, nat_eq, slice_get, All, filter_map, unwrap_or, is_some, OnOk, IfErr, eq-eqb, true≢false, length-append}
 use Rattle.std.specs.List.{cons_option}
 use Rattle.std.proofs.lemmas.Option.{none-some, same_Some}
-use Rattle.ipmi_text.specs.declared.reading.Reading.{Reading}
-use Rattle.ipmi_image.specs.declared.line.LineFault.{LineFault}
+use Rattle.ipmi_image.specs.Below.{Reading, Sdr, Sel, AreBytes, Store, Inventory, SensorReading, IsInventory, IsSensorReading, OtherSensor, inventory_in, reading_in}
+use Rattle.ipmi_image.specs.Prelude.{LineFault, Contents, StoredInventory, StoredSensor, SavedRow, Line, a_row, an_inventory, a_reading, an_info, the_end, place_of, inventory_of, longer_at, row_on, chained, with_bytes, with_inventory_line, reading_of_bytes, sensor_on, info_on, first_of, store_of_lines, inventory_fault, reading_fault, info_fault, fault_in, sensor_of, store_of, HoldsLines, IsPut, AreInventories, AreReadings}
 use Rattle.std.proofs.lemmas.Bool.{eqb-false}
 use Rattle.std.proofs.lemmas.Bool.Decides.{nat_tests}
 use Rattle.std.proofs.lemmas.List.{get_or_default}
 use Rattle.std.proofs.lemmas.List.Quantifiers.{all_pairs_push}
 use Rattle.std.proofs.lemmas.List.Elements.{All-cons, All-append, filter_map-append}
 use Rattle.std.proofs.lemmas.List.Sums.{fold-append}
-use Rattle.ipmi_bus.specs.declared.controller.Shelf.TheVariants.{Sdr, Sel}
-use Rattle.ipmi_text.specs.Bytes.{AreBytes}
-use Rattle.ipmi_bus.specs.Store.{Store, Inventory, SensorReading, IsInventory, IsSensorReading, OtherSensor, inventory_in, reading_in}
-use Rattle.ipmi_image.specs.declared.contents.Contents.{Contents}
-use Rattle.ipmi_image.specs.declared.stored.StoredInventory.{StoredInventory}
-use Rattle.ipmi_image.specs.declared.stored.StoredSensor.{StoredSensor}
-use Rattle.ipmi_image.specs.Line.{SavedRow, Line, a_row, an_inventory, a_reading, an_info, the_end}
-use Rattle.ipmi_image.specs.Table.{place_of, inventory_of, longer_at}
-use Rattle.ipmi_image.specs.Image.{row_on, chained, with_bytes, with_inventory_line, reading_of_bytes, sensor_on, info_on, first_of, store_of_lines, inventory_fault, reading_fault, info_fault, fault_in}
-use Rattle.ipmi_image.specs.Stored.{sensor_of, store_of, HoldsLines, IsPut, AreInventories, AreReadings}
 use Rattle.ipmi_image.proofs.TableLemmas.{place_some, place_none}
 
 -- ---- inventories

@@ -11,16 +11,8 @@ use Rattle.std.proofs.lemmas.Map.Steps.{length-le_from_distinct_below}
 use Rattle.std.proofs.lemmas.Bool.{eqb-false}
 use Rattle.std.proofs.lemmas.Bool.Decides.{nat_tests}
 use Rattle.std.proofs.Math.Seq.{map-set_same}
-use Rattle.ipmi_bus.specs.Shelf.{Row, row_with_id}
-use Rattle.ipmi_bus.specs.Store.{IsSensorReading, inventory_in, reading_in}
-use Rattle.ipmi_bus.specs.Walk.{has_id}
-use Rattle.ipmi_image.specs.Line.{SavedRow}
-use Rattle.ipmi_image.specs.declared.stored.StoredInventory.{StoredInventory}
-use Rattle.ipmi_image.specs.declared.stored.StoredSensor.{StoredSensor}
-use Rattle.ipmi_image.specs.Rows.{id_of}
-use Rattle.ipmi_image.specs.Table.{place_of, IsIndex, sensor_key, inventory_of, longer_at}
-use Rattle.ipmi_image.specs.Image.{chained, row_before, is_empty, with_bytes}
-use Rattle.ipmi_image.specs.Stored.{sensor_of}
+use Rattle.ipmi_image.specs.Below.{Row, row_with_id, IsSensorReading, inventory_in, reading_in, has_id}
+use Rattle.ipmi_image.specs.Prelude.{SavedRow, StoredInventory, StoredSensor, id_of, place_of, IsIndex, sensor_key, inventory_of, longer_at, chained, row_before, is_empty, with_bytes, sensor_of}
 
 nat_eq_comm : (a b : ℕ) → nat_eq a b ≡ nat_eq b a
 nat_eq_comm a b = grind (arith, nat_tests)

@@ -2,15 +2,8 @@
 use Rattle.std.proofs.Common.{◌≡◌, ◌≢◌, ℕ, ◌+◌, ◌<◌, Bool, true, false, cond, not, nat_eq, ◌&&◌, ◌||◌, Option, None, Some, Result, Ok, Err, List, [], ◌∷◌, ◌++◌, length, map, refl, sym, ap, subst, ◌∙◌, append_assoc, append-nil, arith, unwrap_or, eqb-true, eq-eqb, ne_eqb, length-append}
 use Rattle.std.proofs.lemmas.Bool.Decides.{nat_tests}
 use Rattle.std.proofs.lemmas.List.Elements.{filter_map-append}
-use Rattle.ipmi_bus.specs.declared.controller.Shelf.{Shelf}
-use Rattle.ipmi_bus.specs.declared.controller.Shelf.TheVariants.{Sdr, Sel}
-use Rattle.ipmi_bus.specs.Shelf.{Row, IsRow, AllRows, LacksId, DistinctIds, IsShelf, id_in}
-use Rattle.ipmi_bus.specs.Walk.{has_id}
-use Rattle.ipmi_image.specs.declared.line.LineFault.{LineFault}
-use Rattle.ipmi_image.specs.declared.image.ImageFault.{ImageFault}
-use Rattle.ipmi_image.specs.Line.{SavedRow, Line, a_row, line_of}
-use Rattle.ipmi_image.specs.Image.{row_on, rows_on, first_id, chained, store_of_lines, is_empty, is_no_record, is_no_id, row_fault, fault_in, unless_fault, is_end, ends_here, store_after}
-use Rattle.ipmi_image.specs.Rewritten.{first_row_id}
+use Rattle.ipmi_image.specs.Below.{Shelf, Sdr, Sel, Row, IsRow, AllRows, LacksId, DistinctIds, IsShelf, id_in, has_id}
+use Rattle.ipmi_image.specs.Prelude.{LineFault, ImageFault, SavedRow, Line, a_row, line_of, row_on, rows_on, first_id, chained, store_of_lines, is_empty, is_no_record, is_no_id, row_fault, fault_in, unless_fault, is_end, ends_here, store_after, first_row_id}
 use Rattle.ipmi_image.proofs.ReadLemmas.{after_line}
 use Rattle.ipmi_image.proofs.ParseLemmas.{saved_row}
 

@@ -2,7 +2,7 @@
 use Rattle.std.proofs.Common.{◌≡◌, ◌≢◌, ℕ, ◌+◌, ◌<◌, false, nat_eq, List, [], ◌∷◌, ◌++◌, length, take, drop, get_or, refl, sym, ap, ◌∙◌, arith, All, ne_eqb, eq-eqb, take-append-drop, length-take-le, get_or-take}
 use Rattle.std.proofs.lemmas.List.{drop_more, get_or_default}
 use Rattle.std.proofs.lemmas.List.Splits.{slice_split_none, slice_split_at, length-slice_split}
-use Rattle.ipmi_image.specs.Text.{pieces}
+use Rattle.ipmi_image.specs.Prelude.{pieces}
 
 -- no byte is the separator
 abbrev pub Lacks : ℕ → List ℕ → Type 0

@@ -1,11 +1,6 @@
 -- The text of an image: its lines, the first fault among them, and the store that they make.
 use Rattle.std.specs.Prelude.{ℕ, ◌+◌, ◌==◌, nat_lt, not, ◌&&◌, ◌||◌, Bool, true, false, if◌then◌else◌, is_some, Option, Some, None, unwrap_or, Result, Ok, Err, List, [], ◌∷◌, ◌++◌, length, slice_index, filter_map, fold, codes, bytes_eq}
-use Rattle.ipmi_text.specs.declared.reading.Reading.{Reading}
-use Rattle.ipmi_bus.specs.declared.controller.Shelf.{Shelf}
-use Rattle.ipmi_bus.specs.declared.controller.Shelf.TheVariants.{Sdr, Sel}
-use Rattle.ipmi_bus.specs.Shelf.{Row, whole_len, largest_len, id_in}
-use Rattle.ipmi_bus.specs.Store.{Store, Inventory, SensorReading, rows_of, info_of, inventory_of, reading_of}
-use Rattle.ipmi_bus.specs.Walk.{has_id}
+use Rattle.ipmi_image.specs.Below.{Reading, Shelf, Sdr, Sel, Row, whole_len, largest_len, id_in, Store, Inventory, SensorReading, rows_of, info_of, inventory_of, reading_of, has_id}
 use Rattle.ipmi_image.specs.declared.line.LineFault.{LineFault}
 use Rattle.ipmi_image.specs.declared.image.ImageFault.{ImageFault}
 use Rattle.ipmi_image.specs.Text.{pieces}

@@ -1,6 +1,8 @@
+pub mod Below
 pub mod Controllers
 pub mod Image
 pub mod Line
+pub mod Prelude
 pub mod Responder
 pub mod Rewritten
 pub mod Rows

@@ -1,13 +1,6 @@
 -- What contracts see of an image that answers calls.
 use Rattle.std.specs.Prelude.{◌≡◌, ℕ, ◌+◌, ◌-◌, ◌≤◌, ◌==◌, nat_lt, nat_le, min, if◌then◌else◌, Bool, true, false, ◌&&◌, not, Option, None, Some, Result, Ok, Err, List, [], ◌∷◌, length, drop}
-use Rattle.ipmi_bus.specs.declared.code.Code.{Code}
-use Rattle.ipmi_bus.specs.declared.controller.FruSize.{FruSize}
-use Rattle.ipmi_bus.specs.declared.controller.Part.{Part}
-use Rattle.ipmi_bus.specs.declared.controller.Shelf.{Shelf}
-use Rattle.ipmi_bus.specs.declared.controller.Shelf.TheVariants.{Sdr, Sel}
-use Rattle.ipmi_bus.specs.Shelf.{Row}
-use Rattle.ipmi_bus.specs.Seen.{Seen}
-use Rattle.ipmi_bus.specs.Answers.{Asked, IsPiece, not_present}
+use Rattle.ipmi_image.specs.Below.{Code, FruSize, Part, Shelf, Sdr, Sel, Row, Seen, Asked, IsPiece, not_present}
 use Rattle.ipmi_image.specs.declared.responder.FoundRow.{FoundRow}
 use Rattle.ipmi_image.specs.declared.responder.Responder.{Responder}
 use Rattle.ipmi_image.specs.Line.{SavedRow}

@@ -3,8 +3,7 @@ use Rattle.std.specs.Prelude.{◌≡◌, ℕ, zero, suc, ◌+◌, ◌/◌, ◌==
 use Rattle.std.specs.List.{concat, join_with_byte}
 use Rattle.byteorder.specs.Endian.{big_bytes}
 use Rattle.hex.specs.Hex.{encode_lower}
-use Rattle.ipmi_bus.specs.Shelf.{Row}
-use Rattle.ipmi_bus.specs.Store.{Store, Inventory, SensorReading, IsStore}
+use Rattle.ipmi_image.specs.Below.{Row, Store, Inventory, SensorReading, IsStore}
 use Rattle.ipmi_image.specs.Image.{store_of_image}
 
 -- a number in the hex digits of n bytes, the highest first

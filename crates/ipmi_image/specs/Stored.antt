@@ -1,7 +1,6 @@
 -- What an image keeps, as contracts see it.
 use Rattle.std.specs.Prelude.{ℕ, ◌≡◌, ◌≢◌, ◌⊎◌, ◌++◌, ◌∷◌, [], Some, None, Result, Ok, Err, MatchResult, List, map, filter_map, All, AllPairs}
-use Rattle.ipmi_bus.specs.declared.controller.Shelf.TheVariants.{Sdr, Sel}
-use Rattle.ipmi_bus.specs.Store.{Store, Inventory, SensorReading, IsInventory, IsSensorReading, OtherSensor}
+use Rattle.ipmi_image.specs.Below.{Sdr, Sel, Store, Inventory, SensorReading, IsInventory, IsSensorReading, OtherSensor}
 use Rattle.ipmi_image.specs.declared.contents.Contents.{Contents}
 use Rattle.ipmi_image.specs.declared.line.Line.{Line as line, Line}
 use Rattle.ipmi_image.specs.declared.line.LineFault.{LineFault}

@@ -1,7 +1,7 @@
 -- Items in their order, found by keys.
 use Rattle.std.specs.Prelude.{◌≡◌, ℕ, zero, suc, ◌+◌, ◌*◌, ◌<◌, ◌==◌, ◌++◌, nat_eq, if◌then◌else◌, Option, Some, None, option_map, List, [], ◌∷◌, map}
 use Rattle.std.specs.List.{IsDistinct}
-use Rattle.ipmi_bus.specs.Store.{Inventory}
+use Rattle.ipmi_image.specs.Below.{Inventory}
 use Rattle.ipmi_image.specs.declared.stored.StoredInventory.{StoredInventory}
 
 -- the place of the first item with this key

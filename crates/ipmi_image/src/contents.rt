@@ -1,12 +1,9 @@
 //! What the lines of an image say, one after the other.
 ghost use Rattle.std.specs.Prelude.{◌≡◌, ◌⊎◌, ◌++◌, ◌∷◌, [], ◌≤◌, List, not, IsTrue, IfErr, IfSome, OnOk, Some, None, unwrap_or, is_some, length, map};
-ghost use Rattle.ipmi_bus.specs.Shelf.{IsShelf};
-ghost use Rattle.ipmi_bus.specs.Store.{IsStore, IsInfo, inventory_in, reading_in};
+ghost use Rattle.ipmi_image.specs.Below.{IsShelf, IsStore, IsInfo, inventory_in, reading_in};
 ghost use Rattle.ipmi_image.specs.Line as lines;
-ghost use Rattle.ipmi_image.specs.Image.{chained, is_no_record, is_no_id, begins_with_another, first_fault, row_fault, inventory_fault, reading_fault, info_fault, reading_of_bytes, with_bytes};
+ghost use Rattle.ipmi_image.specs.Prelude.{chained, is_no_record, is_no_id, begins_with_another, first_fault, row_fault, inventory_fault, reading_fault, info_fault, reading_of_bytes, with_bytes, row_of, sensor_of, said, store_of, AreInventories, AreReadings, HoldsLines, IsPut};
 ghost use Rattle.ipmi_image.specs.Table as table;
-ghost use Rattle.ipmi_image.specs.Rows.{row_of};
-ghost use Rattle.ipmi_image.specs.Stored.{sensor_of, said, store_of, AreInventories, AreReadings, HoldsLines, IsPut};
 
 use crate::line::{Line, LineFault};
 use crate::rows::{Rows, StoredRow};

@@ -1,11 +1,7 @@
 //! A management controller that answers from an image.
 ghost use Rattle.std.specs.Prelude.{◌≡◌, ◌+◌, ◌<◌, ◌≤◌, IfOk, OnErr, Ok, None, length, drop};
-ghost use Rattle.ipmi_bus.specs.Shelf.{look};
-ghost use Rattle.ipmi_bus.specs.Store.{rows_of, info_of, reading_of, inventory_of};
-ghost use Rattle.ipmi_bus.specs.Seen.{IsHonest, IsPlain, current};
-ghost use Rattle.ipmi_bus.specs.Answers.{ReserveAnswers, PartAnswers, ValueAnswers, SizeAnswers, BytesAnswers};
-ghost use Rattle.ipmi_image.specs.Responder.{number_after, part_asked, part_answer, fru_answer, value_answer, size_answer};
-ghost use Rattle.ipmi_image.specs.Controllers.{seen_of, last_number};
+ghost use Rattle.ipmi_image.specs.Below.{look, rows_of, info_of, reading_of, inventory_of, IsHonest, IsPlain, current, ReserveAnswers, PartAnswers, ValueAnswers, SizeAnswers, BytesAnswers};
+ghost use Rattle.ipmi_image.specs.Prelude.{number_after, part_asked, part_answer, fru_answer, value_answer, size_answer, seen_of, last_number};
 
 use crate::image::Image;
 use crate::responder::{Responder, WHOLE};

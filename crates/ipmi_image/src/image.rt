@@ -1,10 +1,7 @@
 //! A saved image of a management controller, read from its text.
 ghost use Rattle.std.specs.Prelude.{◌≡◌, ◌⊎◌, [], ◌≤◌, All, IfOk, IfErr, IfSome, Ok, Err, length, option_map};
-ghost use Rattle.ipmi_bus.specs.Store.{IsStore, rows_of, inventory_of, reading_of, info_of};
-ghost use Rattle.ipmi_image.specs.Text.{pieces};
-ghost use Rattle.ipmi_image.specs.Image.{chained, at_line, dashes_in, store_after, store_of_image};
-ghost use Rattle.ipmi_image.specs.Rewritten.{IsSaved};
-ghost use Rattle.ipmi_image.specs.Stored.{store_of};
+ghost use Rattle.ipmi_image.specs.Below.{IsStore, rows_of, inventory_of, reading_of, info_of};
+ghost use Rattle.ipmi_image.specs.Prelude.{pieces, chained, at_line, dashes_in, store_after, store_of_image, IsSaved, store_of};
 
 use crate::contents::Contents;
 use crate::line::{LineFault, read_line};

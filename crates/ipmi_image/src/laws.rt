@@ -1,5 +1,5 @@
 //! The law of images written again, the contract of a function that does nothing.
-ghost use Rattle.ipmi_image.specs.Rewritten.{RewritingKeepsStores};
+ghost use Rattle.ipmi_image.specs.Prelude.{RewritingKeepsStores};
 
 /// The text of a store that an image gives is read as that store. So what was rewritten is rewritten as itself.
 pub fn rewriting_keeps_stores()

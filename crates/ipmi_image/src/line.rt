@@ -1,9 +1,6 @@
 //! What one line of an image says.
 ghost use Rattle.std.specs.Prelude.{◌≡◌, ℕ, List, ◌==◌, ◌&&◌, ◌||◌, ◌⊎◌, [], ◌∷◌, MatchOption, MatchResult, IsTrue, Some, None, Ok, Err, length};
-ghost use Rattle.ipmi_image.specs.Text.{pieces};
-ghost use Rattle.ipmi_image.specs.Line.{is_dash, next_in, shelf_in, with_two, with_three, row_line, inventory_line, reading_line, info_line, line_of};
-ghost use Rattle.ipmi_image.specs.Image.{is_end};
-ghost use Rattle.ipmi_image.specs.Stored.{said, IsRead};
+ghost use Rattle.ipmi_image.specs.Prelude.{pieces, is_dash, next_in, shelf_in, with_two, with_three, row_line, inventory_line, reading_line, info_line, line_of, is_end, said, IsRead};
 
 use crate::text::{cut, read_bytes, read_digit, read_u8, read_u16};
 use ipmi_bus::Shelf;

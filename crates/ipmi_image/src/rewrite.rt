@@ -1,10 +1,8 @@
 //! The one text of version 2 that an image has.
 ghost use Rattle.std.specs.Prelude.{◌≡◌, ◌++◌, ◌∷◌, [], ◌≤◌, OnOk, IfOk, Ok, All, map, flat_map, drop, codes, unwrap_or};
 ghost use Rattle.hex.specs.Hex.{encode_lower};
-ghost use Rattle.ipmi_image.specs.Image.{chained, store_of_image};
-ghost use Rattle.ipmi_image.specs.Stored.{sensor_of, store_of};
+ghost use Rattle.ipmi_image.specs.Prelude.{chained, store_of_image, sensor_of, store_of, hex_of, next_field, row_fields, rows_lines, part_fields, inventory_lines, reading_fields, info_lines, other_lines, line_text, lines_text, image_text_of};
 ghost use Rattle.ipmi_image.specs.Table as table;
-ghost use Rattle.ipmi_image.specs.Rewritten.{hex_of, next_field, row_fields, rows_lines, part_fields, inventory_lines, reading_fields, info_lines, other_lines, line_text, lines_text, image_text_of};
 
 use crate::contents::Contents;
 use crate::image::Image;

@@ -1,8 +1,6 @@
 //! The records of a shelf, with their bytes one after the other.
 ghost use Rattle.std.specs.Prelude.{◌≡◌, ◌≤◌, ◌<◌, ◌==◌, ◌^◌, ◌++◌, ◌∷◌, [], MatchBool, IfOk, IfSome, None, true, is_some, option_map, length, drop, slice_get};
-ghost use Rattle.ipmi_image.specs.Image.{first_id};
-ghost use Rattle.ipmi_image.specs.Table.{place_of};
-ghost use Rattle.ipmi_image.specs.Rows.{id_of, row_of};
+ghost use Rattle.ipmi_image.specs.Prelude.{first_id, place_of, id_of, row_of};
 
 use crate::stored::{Keyed, Table};
 use std::alloc::{AllocError, Global};

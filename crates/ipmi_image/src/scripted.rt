@@ -1,11 +1,7 @@
 //! A management controller that follows a script.
 ghost use Rattle.std.specs.Prelude.{◌≡◌, ◌+◌, ◌<◌, ◌≤◌, false, IfOk, OnErr, Ok, None, length, drop};
-ghost use Rattle.ipmi_bus.specs.Shelf.{look};
-ghost use Rattle.ipmi_bus.specs.Store.{rows_of, info_of, reading_of, inventory_of};
-ghost use Rattle.ipmi_bus.specs.Seen.{IsHonest, current};
-ghost use Rattle.ipmi_bus.specs.Answers.{ReserveAnswers, PartAnswers, ValueAnswers, SizeAnswers, BytesAnswers};
-ghost use Rattle.ipmi_image.specs.Responder.{seen_as, number_after, part_asked, part_answer, fru_answer, value_answer, size_answer};
-ghost use Rattle.ipmi_image.specs.Controllers.{script_seen, script_last_number, moods_left, seen_after_mood, script_answer, StaysAfterMood, ReservesAfterMood, TurnCounts, Turns, mood_turn, after_mood, next_turn};
+ghost use Rattle.ipmi_image.specs.Below.{look, rows_of, info_of, reading_of, inventory_of, IsHonest, current, ReserveAnswers, PartAnswers, ValueAnswers, SizeAnswers, BytesAnswers};
+ghost use Rattle.ipmi_image.specs.Prelude.{seen_as, number_after, part_asked, part_answer, fru_answer, value_answer, size_answer, script_seen, script_last_number, moods_left, seen_after_mood, script_answer, StaysAfterMood, ReservesAfterMood, TurnCounts, Turns, mood_turn, after_mood, next_turn};
 
 use crate::image::Image;
 use crate::responder::{Responder, WHOLE};

@@ -1,6 +1,6 @@
 //! What an image keeps, in the order of its lines, and an index to find it by.
 ghost use Rattle.std.specs.Prelude.{◌≡◌, ℕ, ◌==◌, ◌<◌, ◌≤◌, ◌++◌, ◌∷◌, [], List, None, Some, true, MatchBool, IsTrue, IfOk, OnErr, OnOk, is_some, map, option_map, find, length};
-ghost use Rattle.ipmi_image.specs.Table.{place_of, sensor_key, inventory_of, longer_at};
+ghost use Rattle.ipmi_image.specs.Prelude.{place_of, sensor_key, inventory_of, longer_at};
 
 use ipmi_text::Reading;
 use std::alloc::{AllocError, Global};

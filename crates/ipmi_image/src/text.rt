@@ -1,7 +1,6 @@
 //! Lines of a text and fields of a line, over the borrowed bytes, and numbers in hex.
 ghost use Rattle.std.specs.Prelude.{◌≡◌, ◌⊎◌, [], ◌∷◌, ◌<◌, MatchOption, MatchResult, IfSome, Some, None, length};
-ghost use Rattle.ipmi_image.specs.Text.{pieces};
-ghost use Rattle.ipmi_image.specs.Line.{bytes_in, number_in, digit_in};
+ghost use Rattle.ipmi_image.specs.Prelude.{pieces, bytes_in, number_in, digit_in};
 
 use crate::line::LineFault;
 use byteorder::{BigEndian, ByteOrder};

@@ -1,11 +1,7 @@
 -- Columns that are appended to a line.
 use Rattle.std.proofs.Common.{◌≡◌, ◌∙◌, ℕ, ℤ, Option, Some, List, ◌++◌, append_assoc, subst, refl}
-use Rattle.ipmi_text.specs.Appended.{Appends}
-use Rattle.ipmi_text.specs.Decimal.{IsDecimalOf}
-use Rattle.ipmi_text.specs.ReadingValue.{reading_value}
-use Rattle.ipmi_text.specs.Units.{after_space}
-use Rattle.ipmi_records.specs.Columns.{IsRawText, IsValueText, unit_text_in}
-use Rattle.ipmi_records.specs.Sensor.{factors_in}
+use Rattle.ipmi_records.specs.Below.{Appends, IsDecimalOf, reading_value, after_space}
+use Rattle.ipmi_records.specs.Prelude.{IsRawText, IsValueText, unit_text_in, factors_in}
 
 -- a number and its unit
 pub quantity_appended : (bytes unit old number new : List ℕ) (raw : ℕ) (value : ℤ) → Some value ≡ reading_value (factors_in bytes) raw → Appends (IsDecimalOf value) old number

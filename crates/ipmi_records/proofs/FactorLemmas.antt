@@ -1,7 +1,7 @@
 -- The factors of a full record, out of its fields.
 use Rattle.std.proofs.Common.{◌≡◌, ◌∙◌, ℕ, ℤ, List, Option, Some, refl, IfSome}
-use Rattle.ipmi_text.specs.ReadingValue.{SensorFactors}
-use Rattle.ipmi_records.specs.Sensor.{analog_format, exponent_k1, exponent_k2, factor_b, factor_m, factors_in, linearization}
+use Rattle.ipmi_records.specs.Below.{SensorFactors}
+use Rattle.ipmi_records.specs.Prelude.{analog_format, exponent_k1, exponent_k2, factor_b, factor_m, factors_in, linearization}
 
 at_some : (o : Option SensorFactors) (f g : SensorFactors) → o ≡ Some f → IfSome o (λ x. x ≡ g) → f ≡ g
 at_some o f g is h = rw is at h

@@ -2,7 +2,7 @@
 use Rattle.std.proofs.Common.{◌≡◌, ◌∙◌, ℕ, suc, ◌+◌, ◌-◌, ◌<◌, if◌then◌else◌, List, [], ◌∷◌, ◌++◌, length, get_or, drop, replicate, append_assoc, ap, refl, drop-cons}
 use Rattle.std.proofs.Math.Seq.{drop-append_seam}
 use Rattle.std.specs.Fmt.{char_count, is_char_start}
-use Rattle.ipmi_records.specs.Bytes.{padded_to}
+use Rattle.ipmi_records.specs.Prelude.{padded_to}
 
 pub char_count-nil : char_count [] ≡ 0
 unfolding char_count

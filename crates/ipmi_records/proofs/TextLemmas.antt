@@ -1,26 +1,9 @@
 -- Lines and blocks out of the parts that the code puts together.
 use Rattle.std.proofs.Common.{◌≡◌, ◌∙◌, ℕ, List, [], ◌∷◌, ◌++◌, Bool, true, Option, ◌-◌, codes, drop, length, replicate, sym, subst, refl, append_assoc, append-nil, decimal}
 use Rattle.std.specs.Fmt.{char_count}
-use Rattle.ipmi_text.specs.Appended.{Appends}
-use Rattle.ipmi_text.specs.Hex.{hex_byte}
-use Rattle.ipmi_text.specs.FieldText.{binary_text}
-use Rattle.ipmi_text.specs.Times.{IsUtcTextOf}
-use Rattle.ipmi_text.specs.SensorTypes.{sensor_type_text_of}
-use Rattle.ipmi_text.specs.declared.reading.Reading.{Reading}
-use Rattle.ipmi_records.specs.declared.sdr.SdrView.{SdrView}
-use Rattle.ipmi_records.specs.declared.sensor.Sensor.{Sensor}
-use Rattle.ipmi_records.specs.declared.sensor.Threshold.{Threshold}
-use Rattle.ipmi_records.specs.declared.sensor.Threshold.TheVariants.{UpperNonRecoverable, UpperCritical, UpperNonCritical, LowerNonRecoverable, LowerCritical, LowerNonCritical}
-use Rattle.ipmi_records.specs.Bytes.{byte_h, hex_word, padded_to, word_h}
-use Rattle.ipmi_text.specs.Lines.{labelled}
-use Rattle.ipmi_records.specs.Columns.{IsRawText, IsReadingColumn, status_of}
-use Rattle.ipmi_records.specs.Info.{AreTimeLines, IsInfoBlock, count_lines, free_space, info_version, last_addition, last_erase, record_count, support_lines}
-use Rattle.ipmi_records.specs.Sdr.{locator_of, sensor_of}
-use Rattle.ipmi_records.specs.SdrText.{AreReadingLines, AreThresholdTexts, AreValueLines, IsExtendedLine, IsSdrBlock, IsSdrLine, IsThresholdText, all_thresholds, entity_column, entity_text, head_lines, locator_lines, number_text, printed_name, sensor_columns, sensor_lines, subject_lines, threshold_name}
+use Rattle.ipmi_records.specs.Below.{Appends, hex_byte, binary_text, IsUtcTextOf, sensor_type_text_of, Reading, labelled}
+use Rattle.ipmi_records.specs.Prelude.{SdrView, Sensor, Threshold, UpperNonRecoverable, UpperCritical, UpperNonCritical, LowerNonRecoverable, LowerCritical, LowerNonCritical, byte_h, hex_word, padded_to, word_h, IsRawText, IsReadingColumn, status_of, AreTimeLines, IsInfoBlock, count_lines, free_space, info_version, last_addition, last_erase, record_count, support_lines, locator_of, sensor_of, AreReadingLines, AreThresholdTexts, AreValueLines, IsExtendedLine, IsSdrBlock, IsSdrLine, IsThresholdText, all_thresholds, entity_column, entity_text, head_lines, locator_lines, number_text, printed_name, sensor_columns, sensor_lines, subject_lines, threshold_name, entry_type, event_data, generator, is_deasserted, manufacturer, oem_data, revision, sensor_type, time_stamp, AreEventLines, AreOemLines, AreOriginLines, event_body_lines, IsEventLine, IsOemLine, direction_text, manufacturer_text, sensor_text, words_of_event, is_readable, threshold_in}
 use Rattle.ipmi_records.proofs.PaddingLemmas.{padded_after}
-use Rattle.ipmi_records.specs.Sel.{entry_type, event_data, generator, is_deasserted, manufacturer, oem_data, revision, sensor_type, time_stamp}
-use Rattle.ipmi_records.specs.SelText.{AreEventLines, AreOemLines, AreOriginLines, event_body_lines, IsEventLine, IsOemLine, direction_text, manufacturer_text, sensor_text, words_of_event}
-use Rattle.ipmi_records.specs.Sensor.{is_readable, threshold_in}
 
 pub reading_lines_made : (view : SdrView) (reading : Option Reading) (status empty first second text : List ℕ) → empty ≡ [] → first ≡ empty ++ codes "Reading: "
     → Appends (IsReadingColumn view reading) first second → status ≡ status_of view reading → text ≡ second ++ (codes "\nStatus: " ++ (status ++ codes "\n"))

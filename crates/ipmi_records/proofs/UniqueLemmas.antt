@@ -3,21 +3,8 @@ use Rattle.std.proofs.Common.{◌≡◌, ◌∙◌, ℕ, Bool, true, false, Opti
 use Rattle.std.proofs.lemmas.Bool.{cases_lt}
 use Rattle.std.proofs.lemmas.List.{get_or_past}
 use Rattle.byteorder.specs.Numbers.{little_from-lt}
-use Rattle.ipmi_text.specs.Bytes.{AreBytes}
-use Rattle.ipmi_text.specs.ReadingValue.{reading_value}
-use Rattle.ipmi_text.specs.Times.{IsUtcTextOf}
-use Rattle.ipmi_text.specs.declared.reading.Reading.{Reading}
-use Rattle.ipmi_text.specs.Laws.{DecimalIsUnique, UtcTextIsUnique}
-use Rattle.ipmi_records.specs.declared.column.Shown.{Shown}
-use Rattle.ipmi_records.specs.declared.sdr.SdrView.{SdrView}
-use Rattle.ipmi_records.specs.declared.sel.SelView.{SelView}
-use Rattle.ipmi_records.specs.declared.sensor.Threshold.{Threshold}
-use Rattle.ipmi_records.specs.Columns.{IsAnalogColumn, IsFullColumn, IsRawText, IsReadingColumn, IsValueText, has_analog, shown_of, unit_text_in}
-use Rattle.ipmi_records.specs.Info.{AreTimeLines, IsInfoBlock, last_addition, last_erase}
-use Rattle.ipmi_records.specs.SdrText.{AreReadingLines, AreThresholdTexts, AreValueLines, IsExtendedLine, IsSdrBlock, IsSdrLine, IsThresholdText, thresholds_of}
-use Rattle.ipmi_records.specs.Sel.{entry_bytes, time_stamp}
-use Rattle.ipmi_records.specs.SelText.{AreFieldLines, AreOriginLines, IsSelBlock, IsSelLine}
-use Rattle.ipmi_records.specs.Sensor.{factors_in, full_sensor, is_readable, threshold_in}
+use Rattle.ipmi_records.specs.Below.{AreBytes, reading_value, IsUtcTextOf, Reading, DecimalIsUnique, UtcTextIsUnique}
+use Rattle.ipmi_records.specs.Prelude.{Shown, SdrView, SelView, Threshold, IsAnalogColumn, IsFullColumn, IsRawText, IsReadingColumn, IsValueText, has_analog, shown_of, unit_text_in, AreTimeLines, IsInfoBlock, last_addition, last_erase, AreReadingLines, AreThresholdTexts, AreValueLines, IsExtendedLine, IsSdrBlock, IsSdrLine, IsThresholdText, thresholds_of, entry_bytes, time_stamp, AreFieldLines, AreOriginLines, IsSelBlock, IsSelLine, factors_in, full_sensor, is_readable, threshold_in}
 
 module _ (one_text : DecimalIsUnique) (one_utc_text : UtcTextIsUnique) where
   -- ---- sensor data records

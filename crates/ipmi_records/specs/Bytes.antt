@@ -3,7 +3,7 @@
 use Rattle.std.specs.Prelude.{ℕ, ◌-◌, ◌*◌, ◌/◌, ◌%◌, ◌^◌, ◌==◌, nat_lt, Bool, true, if◌then◌else◌, ℤ, pos, ◌-ℤ◌, List, [], ◌∷◌, ◌++◌, slice_index, replicate, codes}
 use Rattle.std.specs.Fmt.{char_count, digit_glyph}
 use Rattle.byteorder.specs.Endian.{little_from}
-use Rattle.ipmi_text.specs.Hex.{hex_byte}
+use Rattle.ipmi_records.specs.Below.{hex_byte}
 
 -- byte n
 abbrev pub byte_at : ℕ → List ℕ → ℕ

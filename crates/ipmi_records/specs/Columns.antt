@@ -1,11 +1,7 @@
 -- The reading column and the status of a line (the project's own). Readings are as Get Sensor Reading answers (IPMI v2.0, section
 -- 35.14).
 use Rattle.std.specs.Prelude.{◌≡◌, ℕ, ◌+◌, ◌*◌, ◌%◌, ◌==◌, ◌&&◌, ◌||◌, not, Bool, true, false, if◌then◌else◌, ℤ, Option, Some, None, List, ◌++◌, codes, decimal}
-use Rattle.ipmi_text.specs.Decimal.{IsDecimalOf}
-use Rattle.ipmi_text.specs.Hex.{hex_byte}
-use Rattle.ipmi_text.specs.ReadingValue.{reading_value}
-use Rattle.ipmi_text.specs.Units.{after_space, unit_text_of}
-use Rattle.ipmi_text.specs.declared.reading.Reading.{Reading}
+use Rattle.ipmi_records.specs.Below.{IsDecimalOf, hex_byte, reading_value, after_space, unit_text_of, Reading}
 use Rattle.ipmi_records.specs.declared.column.Shown.{Shown}
 use Rattle.ipmi_records.specs.declared.sdr.SdrView.{SdrView}
 use Rattle.ipmi_records.specs.declared.sdr.SdrView.TheVariants.{Full, Compact, EventOnly, Generic, Fru, Controller, Other}

@@ -2,10 +2,8 @@
 -- bytes, alike in both; and their text (the project's own).
 use Rattle.std.specs.Prelude.{◌≡◌, ℕ, Bool, if◌then◌else◌, List, [], ◌∷◌, ◌++◌, codes, decimal}
 use Rattle.std.specs.List.{concat}
-use Rattle.ipmi_text.specs.Hex.{hex_byte}
-use Rattle.ipmi_text.specs.Times.{IsUtcTextOf}
+use Rattle.ipmi_records.specs.Below.{hex_byte, IsUtcTextOf, labelled}
 use Rattle.ipmi_records.specs.Bytes.{byte_at, has_bit, number_at}
-use Rattle.ipmi_text.specs.Lines.{labelled}
 
 abbrev pub info_version : List ℕ → ℕ
 info_version bytes = byte_at 1 bytes

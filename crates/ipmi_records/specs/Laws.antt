@@ -1,7 +1,6 @@
 -- What the laws of lines and blocks say, so that a law above them can start from it.
 use Rattle.std.specs.Prelude.{◌≡◌, ℕ, List, Option}
-use Rattle.ipmi_text.specs.Bytes.{AreBytes}
-use Rattle.ipmi_text.specs.declared.reading.Reading.{Reading}
+use Rattle.ipmi_records.specs.Below.{AreBytes, Reading}
 use Rattle.ipmi_records.specs.declared.sdr.SdrView.{SdrView}
 use Rattle.ipmi_records.specs.declared.sel.SelView.{SelView}
 use Rattle.ipmi_records.specs.SdrText.{IsExtendedLine, IsSdrLine}

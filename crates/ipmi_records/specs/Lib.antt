@@ -1,7 +1,9 @@
+pub mod Below
 pub mod Bytes
 pub mod Columns
 pub mod Info
 pub mod Laws
+pub mod Prelude
 pub mod Sdr
 pub mod SdrText
 pub mod Sel

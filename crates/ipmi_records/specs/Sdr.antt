@@ -1,6 +1,6 @@
 -- Sensor data records as views (IPMI v2.0, section 43).
 use Rattle.std.specs.Prelude.{ℕ, ◌+◌, ◌==◌, ◌&&◌, nat_lt, not, if◌then◌else◌, Option, Some, None, option_map, Result, Ok, Err, List, length, drop}
-use Rattle.ipmi_text.specs.FieldText.{sdr_text_of}
+use Rattle.ipmi_records.specs.Below.{sdr_text_of}
 use Rattle.ipmi_records.specs.declared.sdr.SdrFault.{SdrFault}
 use Rattle.ipmi_records.specs.declared.sdr.SdrFault.TheVariants.{Short, Length, BodyShort}
 use Rattle.ipmi_records.specs.declared.sdr.SdrView.{SdrView}

@@ -2,8 +2,7 @@
 -- no view.
 use Rattle.std.specs.Prelude.{◌≡◌, ℕ, Option, Some, None, unwrap_or, Bool, true, false, if◌then◌else◌, List, [], ◌∷◌, ◌++◌, codes, decimal}
 use Rattle.std.specs.List.{concat}
-use Rattle.ipmi_text.specs.SensorTypes.{sensor_type_text_of}
-use Rattle.ipmi_text.specs.declared.reading.Reading.{Reading}
+use Rattle.ipmi_records.specs.Below.{sensor_type_text_of, Reading, labelled}
 use Rattle.ipmi_records.specs.declared.sdr.SdrFault.{SdrFault}
 use Rattle.ipmi_records.specs.declared.sdr.SdrFault.TheVariants.{Short, Length, BodyShort}
 use Rattle.ipmi_records.specs.declared.sdr.SdrView.{SdrView}
@@ -14,7 +13,6 @@ use Rattle.ipmi_records.specs.declared.sensor.Threshold.{Threshold}
 use Rattle.ipmi_records.specs.declared.sensor.Threshold.TheVariants.{UpperNonRecoverable, UpperCritical, UpperNonCritical, LowerNonRecoverable, LowerCritical, LowerNonCritical}
 use Rattle.ipmi_records.specs.declared.locator.Locator.{Locator}
 use Rattle.ipmi_records.specs.Bytes.{columns_line, padded_to, byte_h, word_h}
-use Rattle.ipmi_text.specs.Lines.{labelled}
 use Rattle.ipmi_records.specs.Sdr.{locator_of, name_of, record_type, sensor_of}
 use Rattle.ipmi_records.specs.Sensor.{full_sensor, is_readable, threshold_in}
 use Rattle.ipmi_records.specs.Columns.{IsRawText, IsReadingColumn, has_thresholds, status_of, type_text}

@@ -1,6 +1,6 @@
 -- Where the fields of sensors and device locators are in a sensor data record (IPMI v2.0, section 43).
 use Rattle.std.specs.Prelude.{ℕ, ◌+◌, ◌*◌, ◌/◌, ◌%◌, Bool, ℤ, List}
-use Rattle.ipmi_text.specs.ReadingValue.{SensorFactors}
+use Rattle.ipmi_records.specs.Below.{SensorFactors}
 use Rattle.ipmi_records.specs.declared.sensor.Entity.{Entity}
 use Rattle.ipmi_records.specs.declared.sensor.Sensor.{Sensor}
 use Rattle.ipmi_records.specs.declared.sensor.SensorUnits.{SensorUnits}

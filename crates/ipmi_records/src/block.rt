@@ -1,8 +1,6 @@
 //! The block of a sensor data record.
 ghost use Rattle.std.specs.Prelude.{◌≡◌, IfOk, string_bytes};
-ghost use Rattle.ipmi_records.specs.Sdr.{name_of};
-ghost use Rattle.ipmi_records.specs.Sensor.{is_readable};
-ghost use Rattle.ipmi_records.specs.SdrText.{AreReadingLines, AreThresholdTexts, AreValueLines, IsSdrBlock, IsThresholdText, all_thresholds, head_lines, key_lines, kind_text, locator_lines, name_line, sensor_lines, subject_lines, threshold_name, thresholds_of};
+ghost use Rattle.ipmi_records.specs.Prelude.{name_of, is_readable, AreReadingLines, AreThresholdTexts, AreValueLines, IsSdrBlock, IsThresholdText, all_thresholds, head_lines, key_lines, kind_text, locator_lines, name_line, sensor_lines, subject_lines, threshold_name, thresholds_of};
 
 use crate::column::{RecordType, has_thresholds, push_raw, push_reading, status_of};
 use crate::digits::{ByteH, WordH};

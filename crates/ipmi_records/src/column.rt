@@ -1,8 +1,7 @@
 //! The reading column and the status of a record.
 ghost use Rattle.std.specs.Prelude.{◌≡◌, ◌++◌, OnOk, string_bytes};
-ghost use Rattle.ipmi_text.specs.Appended.{Appends};
-ghost use Rattle.ipmi_text.specs.Units.{unit_text_of};
-ghost use Rattle.ipmi_records.specs.Columns.{IsAnalogColumn, IsFullColumn, IsRawText, IsReadingColumn, compact_column, fru_column, has_analog, has_thresholds, is_there, sensor_status, shown_of, shown_reading, states_text, status_of, threshold_status, unit_text_in};
+ghost use Rattle.ipmi_records.specs.Below.{Appends, unit_text_of};
+ghost use Rattle.ipmi_records.specs.Prelude.{IsAnalogColumn, IsFullColumn, IsRawText, IsReadingColumn, compact_column, fru_column, has_analog, has_thresholds, is_there, sensor_status, shown_of, shown_reading, states_text, status_of, threshold_status, unit_text_in};
 
 use crate::digits::{ByteH, HexWord, has_bit};
 use crate::sdr::{OWN_ADDRESS, SdrView};

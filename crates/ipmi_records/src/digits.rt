@@ -1,6 +1,6 @@
 //! Hex digits of a fixed number, and single bits.
 ghost use Rattle.std.specs.Prelude.{◌≡◌, ◌<◌};
-ghost use Rattle.ipmi_records.specs.Bytes.{has_bit};
+ghost use Rattle.ipmi_records.specs.Prelude.{has_bit};
 
 use ipmi_text::HexByte;
 use std::fmt;

@@ -1,6 +1,6 @@
 //! The ID string of a record.
 ghost use Rattle.std.specs.Prelude.{◌≡◌, ◌<◌, ◌≤◌, length};
-ghost use Rattle.ipmi_records.specs.Sdr.{id_field_at, id_field_of};
+ghost use Rattle.ipmi_records.specs.Prelude.{id_field_at, id_field_of};
 
 /// The ID string of a record, as its type/length byte and the bytes after it are (IPMI v2.0, section 43.15).
 #[derive(Clone, Copy, Debug, PartialEq, Eq)]

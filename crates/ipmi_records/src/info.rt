@@ -1,6 +1,6 @@
 //! The block of what a repository or a log tells of itself.
 ghost use Rattle.std.specs.Prelude.{◌≡◌, IfOk, string_bytes};
-ghost use Rattle.ipmi_records.specs.Info.{AreTimeLines, IsInfoBlock, count_lines, free_space, has_overflow, last_addition, last_erase, overflow_text, record_count, support_lines};
+ghost use Rattle.ipmi_records.specs.Prelude.{AreTimeLines, IsInfoBlock, count_lines, free_space, has_overflow, last_addition, last_erase, overflow_text, record_count, support_lines};
 
 use crate::digits::has_bit;
 use byteorder::{ByteOrder, LittleEndian};

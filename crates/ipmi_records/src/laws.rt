@@ -1,11 +1,7 @@
 //! What follows from the definitions of lines and blocks by themselves, whatever wrote them.
 ghost use Rattle.std.specs.Prelude.{◌≡◌, ℕ, List, Option};
-ghost use Rattle.ipmi_text.specs.Bytes.{AreBytes};
-ghost use Rattle.ipmi_text.specs.declared.reading.Reading.{Reading};
-ghost use Rattle.ipmi_records.specs.declared.sdr.SdrView.{SdrView};
-ghost use Rattle.ipmi_records.specs.Info.{IsInfoBlock};
-ghost use Rattle.ipmi_records.specs.Laws.{ExtendedLineIsUnique, SdrLineIsUnique, SelBlockIsUnique, SelLineIsUnique};
-ghost use Rattle.ipmi_records.specs.SdrText.{IsSdrBlock};
+ghost use Rattle.ipmi_records.specs.Below.{AreBytes, Reading};
+ghost use Rattle.ipmi_records.specs.Prelude.{SdrView, IsInfoBlock, ExtendedLineIsUnique, SdrLineIsUnique, SelBlockIsUnique, SelLineIsUnique, IsSdrBlock};
 
 /// A record has at most one line under a reading, so what `sdr_line` gives is the only one.
 pub fn one_sdr_line()

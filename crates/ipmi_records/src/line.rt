@@ -1,7 +1,6 @@
 //! The lines of sensor data records.
 ghost use Rattle.std.specs.Prelude.{◌≡◌, ◌++◌, IfOk, OnOk, string_bytes};
-ghost use Rattle.ipmi_records.specs.Bytes.{padded_to};
-ghost use Rattle.ipmi_records.specs.SdrText.{IsExtendedLine, IsSdrLine, entity_column, entity_or_dash, fault_line, fault_text, printed_name, sensor_columns};
+ghost use Rattle.ipmi_records.specs.Prelude.{padded_to, IsExtendedLine, IsSdrLine, entity_column, entity_or_dash, fault_line, fault_text, printed_name, sensor_columns};
 
 use crate::column::{push_reading, status_of};
 use crate::digits::{ByteH, WordH};

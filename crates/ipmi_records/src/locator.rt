@@ -1,7 +1,6 @@
 //! The records of devices, and where their fields are (IPMI v2.0, sections 43.7 to 43.9).
 ghost use Rattle.std.specs.Prelude.{◌≡◌, ◌≤◌, length};
-ghost use Rattle.ipmi_records.specs.Sdr.{fru_in, id_field_at, id_field_of, locator_id_place};
-ghost use Rattle.ipmi_records.specs.Sensor.{access_lun, fru_id, is_logical, locator_in};
+ghost use Rattle.ipmi_records.specs.Prelude.{fru_in, id_field_at, id_field_of, locator_id_place, access_lun, fru_id, is_logical, locator_in};
 
 use crate::at_least::AtLeast;
 use crate::digits::has_bit;

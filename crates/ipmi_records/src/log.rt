@@ -1,8 +1,7 @@
 //! The lines and blocks of the event log's entries.
 ghost use Rattle.std.specs.Prelude.{◌≡◌, IfOk, string_bytes};
-ghost use Rattle.ipmi_text.specs.Events.{event_text_of};
-ghost use Rattle.ipmi_records.specs.Sel.{is_deasserted};
-ghost use Rattle.ipmi_records.specs.SelText.{AreEventLines, AreFieldLines, AreOemLines, AreOriginLines, IsEventLine, IsOemLine, IsSelBlock, IsSelLine, direction_text, event_body_lines, numbered_sensor, plain_line, sensor_text, words_of_event};
+ghost use Rattle.ipmi_records.specs.Below.{event_text_of};
+ghost use Rattle.ipmi_records.specs.Prelude.{is_deasserted, AreEventLines, AreFieldLines, AreOemLines, AreOriginLines, IsEventLine, IsOemLine, IsSelBlock, IsSelLine, direction_text, event_body_lines, numbered_sensor, plain_line, sensor_text, words_of_event};
 
 use crate::column::RecordType;
 use crate::digits::{ByteH, HexWord, WordH};

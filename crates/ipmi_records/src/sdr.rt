@@ -1,6 +1,6 @@
 //! Sensor data records as views that borrow their bytes (IPMI v2.0, section 43).
 ghost use Rattle.std.specs.Prelude.{◌≡◌, ◌≤◌, IfOk, length, option_map, string_bytes};
-ghost use Rattle.ipmi_records.specs.Sdr.{body_len, fru_of, id_field_of, id_string_of, key_of, least_len, locator_of, name_of, reading_of, record_bytes, record_id, record_type, record_version, sdr_view_by_type, sdr_view_of, sensor_of};
+ghost use Rattle.ipmi_records.specs.Prelude.{body_len, fru_of, id_field_of, id_string_of, key_of, least_len, locator_of, name_of, reading_of, record_bytes, record_id, record_type, record_version, sdr_view_by_type, sdr_view_of, sensor_of};
 
 use crate::at_least::AtLeast;
 use crate::id_string::IdString;

@@ -1,6 +1,6 @@
 use Rattle.std.proofs.Common.{refl, rules, ◌≡◌, length}
 use Rattle.std.proofs.lemmas.Result.{err_from_is_err_and}
-use Rattle.ipmi_bus.specs.declared.inventory.FruRetrieval.{FruRetrieval}
+use Rattle.ipmi_bus.specs.Prelude.{FruRetrieval}
 use Rattle.ipmi_bus.proofs.InventoryLemmas.{since_size, bound_is, inventory_counted, inventory_read}
 use Rattle.ipmi_bus.proofs.inventory.read_fru.Goals as goal
 

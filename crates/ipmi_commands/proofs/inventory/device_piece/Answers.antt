@@ -1,5 +1,5 @@
 use Rattle.std.proofs.Common.{◌∙◌, sym}
-use Rattle.ipmi_records.specs.Sdr.{fru_of}
+use Rattle.ipmi_commands.specs.Below.{fru_of}
 use Rattle.ipmi_commands.proofs.AskLemmas.{passed_up, out_of_memory, found_elsewhere}
 use Rattle.ipmi_commands.proofs.inventory.device_piece.Goals as goal
 

@@ -1,5 +1,5 @@
 use Rattle.std.proofs.Common.{◌≡◌, ℕ, List, string_bytes, subst}
-use Rattle.ipmi_fru.specs.Print.{IsFruText}
+use Rattle.ipmi_commands.specs.Below.{IsFruText}
 use Rattle.ipmi_commands.proofs.AskLemmas.{passed_up, out_after_bytes, inventory_read}
 use Rattle.ipmi_commands.proofs.inventory.inventory_text.Goals as goal
 

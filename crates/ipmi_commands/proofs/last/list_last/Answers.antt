@@ -1,12 +1,6 @@
 use Rattle.std.proofs.Common.{ℕ, Some, None, ap, sym, subst, ◌∙◌, arith}
-use Rattle.ipmi_command_line.specs.declared.command.Task.{Task}
-use Rattle.ipmi_command_line.specs.declared.command.Count.{Count}
-use Rattle.ipmi_command_line.specs.Task.{start_by}
-use Rattle.ipmi_commands.specs.declared.listing.Span.{Span}
-use Rattle.ipmi_commands.specs.Last.{ListsSpan}
-use Rattle.ipmi_commands.specs.Listing.{most_calls, most_on_walk}
-use Rattle.ipmi_commands.specs.Plan.{request, change}
-use Rattle.ipmi_commands.specs.Run.{Performs}
+use Rattle.ipmi_commands.specs.Below.{Task, Count, start_by}
+use Rattle.ipmi_commands.specs.Prelude.{Span, ListsSpan, most_calls, most_on_walk, request, change, Performs}
 use Rattle.ipmi_commands.proofs.LastLemmas.{count_stops, none_counted, second_performs}
 use Rattle.ipmi_commands.proofs.PageLemmas.{done}
 use Rattle.ipmi_commands.proofs.last.list_last.Goals as goal

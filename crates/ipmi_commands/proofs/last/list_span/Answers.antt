@@ -1,9 +1,6 @@
 use Rattle.std.proofs.Common.{List, ap, sym, subst}
-use Rattle.ipmi_bus.specs.CursorState.{CursorState}
-use Rattle.ipmi_bus.specs.declared.step.Place.{Place}
-use Rattle.ipmi_bus.specs.Shelf.{Row}
-use Rattle.ipmi_bus.specs.Standing.{StandsAt}
-use Rattle.ipmi_commands.specs.Run.{request_of}
+use Rattle.ipmi_commands.specs.Below.{CursorState, Place, Row, StandsAt}
+use Rattle.ipmi_commands.specs.Prelude.{request_of}
 use Rattle.ipmi_commands.proofs.LastLemmas.{span_by_cursor, span_without_memory}
 use Rattle.ipmi_commands.proofs.PageLemmas.{page_calls}
 use Rattle.ipmi_commands.proofs.last.list_span.Goals as goal

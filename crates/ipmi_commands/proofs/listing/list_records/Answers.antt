@@ -1,10 +1,6 @@
 use Rattle.std.proofs.Common.{◌++◌, Bool, List, ℕ, take, Ok, ◌∙◌, ap, refl, sym, subst}
-use Rattle.ipmi_bus.specs.Lent.{row_of_record}
-use Rattle.ipmi_command_line.specs.declared.command.Task.{Task}
-use Rattle.ipmi_commands.specs.declared.stop.Stop.{Stop}
-use Rattle.ipmi_commands.specs.Listing.{course, most_for_one, stop_at_end, IsListing}
-use Rattle.ipmi_commands.specs.Plan.{most_after}
-use Rattle.ipmi_command_line.specs.Task.{shelf_of}
+use Rattle.ipmi_commands.specs.Below.{row_of_record, Task, shelf_of}
+use Rattle.ipmi_commands.specs.Prelude.{Stop, course, most_for_one, stop_at_end, IsListing, most_after}
 use Rattle.ipmi_commands.proofs.CallLemmas.{called_more, called_stopped, called_done, called_failed}
 use Rattle.ipmi_commands.proofs.ListingLemmas.{listing_full, listing_done, listing_ended, listing_taken, listing_none, listing_cut, listing_more, within_more, fewer_ids}
 use Rattle.ipmi_commands.proofs.NameLemmas.{Wrote, wrote_more}

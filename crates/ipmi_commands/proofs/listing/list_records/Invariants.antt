@@ -1,8 +1,7 @@
 use Rattle.std.proofs.Common.{◌≡◌, ◌-◌}
 use Rattle.std.specs.FinSet as set
-use Rattle.ipmi_bus.specs.Seen.{IsHonest}
-use Rattle.ipmi_commands.specs.Listing.{course, HasCalled, IsWithin, ListsHonest, most_for_one}
-use Rattle.ipmi_command_line.specs.Task.{shelf_of}
+use Rattle.ipmi_commands.specs.Below.{IsHonest, shelf_of}
+use Rattle.ipmi_commands.specs.Prelude.{course, HasCalled, IsWithin, ListsHonest, most_for_one}
 use Rattle.ipmi_commands.proofs.NameLemmas.{Wrote}
 use Rattle.ipmi_commands.proofs.listing.list_records.Given as goal
 

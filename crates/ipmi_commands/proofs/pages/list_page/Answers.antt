@@ -1,15 +1,8 @@
 use Rattle.std.proofs.Common.{List, ℕ, Option, false, ap, sym, ◌∙◌, subst}
-use Rattle.ipmi_command_line.specs.declared.command.Task.{Task}
-use Rattle.ipmi_commands.specs.declared.stop.Stop.{Stop}
-use Rattle.ipmi_commands.specs.Listing.{stop_at_end}
-use Rattle.ipmi_bus.specs.CursorState.{CursorState}
-use Rattle.ipmi_bus.specs.declared.step.Place.{Place}
-use Rattle.ipmi_bus.specs.Shelf.{Row}
-use Rattle.ipmi_bus.specs.Standing.{StandsAt}
-use Rattle.ipmi_commands.specs.Pages.{IsPage, start_at}
+use Rattle.ipmi_commands.specs.Below.{Task, CursorState, Place, Row, StandsAt}
+use Rattle.ipmi_commands.specs.Prelude.{Stop, stop_at_end, IsPage, start_at, request, change}
 use Rattle.ipmi_commands.proofs.PageLemmas.{some_wanted, none_wanted, start_of-place, page_of_none, page_without, page_without_memory, page_by_cursor}
 use Rattle.ipmi_commands.proofs.pages.list_page.Goals as goal
-use Rattle.ipmi_commands.specs.Plan.{request, change}
 
 pub returns-clause-honest : goal.returns-clause-honest
 returns-clause-honest g c = λ h.

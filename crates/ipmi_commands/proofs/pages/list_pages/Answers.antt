@@ -1,9 +1,6 @@
 use Rattle.std.proofs.Common.{ℕ, arith, sym, ap, ◌∙◌, subst, drop, get_or, ◌+◌, Some}
-use Rattle.ipmi_commands.specs.declared.stop.Stop.{Stop}
-use Rattle.ipmi_commands.specs.Listing.{faults_of, most_on_walk}
-use Rattle.ipmi_commands.specs.Pages.{IsPage, pages_made}
-use Rattle.ipmi_command_line.specs.Task.{start_by}
-use Rattle.ipmi_commands.specs.Plan.{request, change}
+use Rattle.ipmi_commands.specs.Prelude.{Stop, faults_of, most_on_walk, IsPage, pages_made, request, change}
+use Rattle.ipmi_commands.specs.Below.{start_by}
 use Rattle.ipmi_commands.proofs.PageLemmas.{page_leads, last_leads, done, calls_after_page, calls_of_all}
 use Rattle.ipmi_commands.proofs.pages.list_pages.Goals as goal
 

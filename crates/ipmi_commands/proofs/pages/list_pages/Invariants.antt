@@ -1,8 +1,6 @@
 use Rattle.std.proofs.Common.{◌≡◌, ◌+◌, ◌*◌, ◌≤◌, drop}
-use Rattle.ipmi_bus.specs.Seen.{IsHonest}
-use Rattle.ipmi_commands.specs.Listing.{most_on_walk, IsPlace}
-use Rattle.ipmi_commands.specs.Pages.{pages_made}
-use Rattle.ipmi_command_line.specs.Task.{start_by}
+use Rattle.ipmi_commands.specs.Below.{IsHonest, start_by}
+use Rattle.ipmi_commands.specs.Prelude.{most_on_walk, IsPlace, pages_made}
 use Rattle.ipmi_commands.proofs.PageLemmas.{LeadsTo}
 use Rattle.ipmi_commands.proofs.pages.list_pages.Given as goal
 

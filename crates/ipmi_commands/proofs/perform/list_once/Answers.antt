@@ -1,9 +1,6 @@
 use Rattle.std.proofs.Common.{◌≡◌, ℕ, ◌+◌, ◌≤◌, Option, sym, subst}
-use Rattle.ipmi_bus.specs.declared.step.Place.{Place}
-use Rattle.ipmi_command_line.specs.Task.{most_of, start_by}
-use Rattle.ipmi_commands.specs.Pages.{IsPage}
-use Rattle.ipmi_commands.specs.Plan.{request, change}
-use Rattle.ipmi_commands.specs.Run.{request_of}
+use Rattle.ipmi_commands.specs.Below.{Place, most_of, start_by}
+use Rattle.ipmi_commands.specs.Prelude.{IsPage, request, change, request_of}
 use Rattle.ipmi_commands.proofs.PlanLemmas.{goes_once, listing_performs}
 use Rattle.ipmi_commands.proofs.perform.list_once.Goals as goal
 

@@ -1,9 +1,6 @@
 use Rattle.std.proofs.Common.{ap, sym, subst, arith}
-use Rattle.ipmi_command_line.specs.declared.command.Task.{Task}
-use Rattle.ipmi_command_line.specs.Task.{start_by}
-use Rattle.ipmi_commands.specs.Listing.{most_calls}
-use Rattle.ipmi_commands.specs.Plan.{request, change}
-use Rattle.ipmi_commands.specs.Run.{Performs}
+use Rattle.ipmi_commands.specs.Below.{Task, start_by}
+use Rattle.ipmi_commands.specs.Prelude.{most_calls, request, change, Performs}
 use Rattle.ipmi_commands.proofs.PerformLemmas.{info_performs}
 use Rattle.ipmi_commands.proofs.perform.print_info.Goals as goal
 

@@ -1,12 +1,6 @@
 use Rattle.std.proofs.Common.{None, ap, sym, subst, ◌∙◌, arith}
-use Rattle.ipmi_bus.specs.declared.step.Place.{Place}
-use Rattle.ipmi_command_line.specs.declared.command.Task.{Task}
-use Rattle.ipmi_command_line.specs.Task.{start_by}
-use Rattle.ipmi_commands.specs.declared.stop.Stop.{Stop}
-use Rattle.ipmi_commands.specs.Listing.{faults_of, most_calls, most_on_walk}
-use Rattle.ipmi_commands.specs.Pages.{IsPage}
-use Rattle.ipmi_commands.specs.Plan.{inventory_item, request, change}
-use Rattle.ipmi_commands.specs.Run.{Performs, WritesFound}
+use Rattle.ipmi_commands.specs.Below.{Place, Task, start_by}
+use Rattle.ipmi_commands.specs.Prelude.{Stop, faults_of, most_calls, most_on_walk, IsPage, inventory_item, request, change, Performs, WritesFound}
 use Rattle.ipmi_commands.proofs.PageLemmas.{done}
 use Rattle.ipmi_commands.proofs.PerformLemmas.{text_stops, text_written, never_found, first_performs, rest_performs}
 use Rattle.ipmi_commands.proofs.perform.print_inventories.Goals as goal

@@ -1,9 +1,6 @@
 use Rattle.std.proofs.Common.{Some, ap, refl, sym, subst, arith}
-use Rattle.ipmi_command_line.specs.declared.command.Task.{Task}
-use Rattle.ipmi_command_line.specs.Task.{start_by}
-use Rattle.ipmi_commands.specs.Listing.{most_calls}
-use Rattle.ipmi_commands.specs.Plan.{inventory_item, request, change}
-use Rattle.ipmi_commands.specs.Run.{Performs}
+use Rattle.ipmi_commands.specs.Below.{Task, start_by}
+use Rattle.ipmi_commands.specs.Prelude.{most_calls, inventory_item, request, change, Performs}
 use Rattle.ipmi_commands.proofs.PerformLemmas.{one_text_performs}
 use Rattle.ipmi_commands.proofs.perform.print_inventory.Goals as goal
 

@@ -1,5 +1,5 @@
 use Rattle.std.proofs.Common.{◌∙◌, sym}
-use Rattle.ipmi_bus.specs.Lent.{row_of_record}
+use Rattle.ipmi_commands.specs.Below.{row_of_record}
 use Rattle.ipmi_commands.proofs.AskLemmas.{passed_up, out_of_memory, out_after_reading, fails_at_reading, at_listed}
 use Rattle.ipmi_commands.proofs.piece.listed_line.Goals as goal
 

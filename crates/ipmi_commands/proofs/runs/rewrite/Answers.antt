@@ -1,10 +1,6 @@
 use Rattle.std.proofs.Common.{ℕ, true, sym, subst, Result}
-use Rattle.ipmi_bus.specs.Store.{Store}
-use Rattle.ipmi_image.specs.declared.image.ImageFault.{ImageFault}
-use Rattle.ipmi_commands.specs.Run.{IsRewriting, AnswersRewrite, effect}
-use Rattle.ipmi_bus.specs.declared.step.Place.TheVariants.{First}
-use Rattle.ipmi_command_line.specs.declared.command.Task.{Task}
-use Rattle.ipmi_commands.specs.Plan.{request}
+use Rattle.ipmi_commands.specs.Below.{Store, ImageFault, First, Task}
+use Rattle.ipmi_commands.specs.Prelude.{IsRewriting, AnswersRewrite, effect, request}
 use Rattle.ipmi_commands.proofs.PlanLemmas.{rewriting, not_answered}
 use Rattle.ipmi_commands.proofs.runs.rewrite.Goals as goal
 

@@ -1,8 +1,6 @@
 use Rattle.std.proofs.Common.{ℕ, ◌+◌, ◌*◌, ◌≤◌, sym, subst}
-use Rattle.ipmi_command_line.specs.declared.command.Task.{Task}
-use Rattle.ipmi_commands.specs.Pages.{pages_made}
-use Rattle.ipmi_commands.specs.Run.{IsPagedRun, effect, request_of, stop_text}
-use Rattle.ipmi_output.specs.Received.{ReceivesText}
+use Rattle.ipmi_commands.specs.Below.{Task, ReceivesText}
+use Rattle.ipmi_commands.specs.Prelude.{pages_made, IsPagedRun, effect, request_of, stop_text}
 use Rattle.ipmi_commands.proofs.PlanLemmas.{goes_once, listed_whole, run_in_pages}
 use Rattle.ipmi_commands.proofs.runs.run_pages.Goals as goal
 

@@ -1,7 +1,6 @@
 use Rattle.std.proofs.Common.{◌≡◌, ℕ, false, sym, subst, ◌∙◌}
-use Rattle.ipmi_command_line.specs.declared.command.Task.{Task}
-use Rattle.ipmi_commands.specs.Run.{IsRun, effect, is_rewrite, request_of, stop_text}
-use Rattle.ipmi_output.specs.Received.{ReceivesText}
+use Rattle.ipmi_commands.specs.Below.{Task, ReceivesText}
+use Rattle.ipmi_commands.specs.Prelude.{IsRun, effect, is_rewrite, request_of, stop_text}
 use Rattle.ipmi_commands.proofs.PlanLemmas.{run_of}
 use Rattle.ipmi_commands.proofs.runs.run_to_message_sink.Goals as goal
 

@@ -1,5 +1,5 @@
 use Rattle.std.proofs.Common.{◌≡◌, ◌++◌, map, string_bytes}
-use Rattle.ipmi_fru.specs.Print.{field_lines}
+use Rattle.ipmi_fru.specs.Prelude.{field_lines}
 use Rattle.ipmi_fru.proofs.area_text.push_fields.Given as goal
 
 -- the lines so far, with those of the fields that are left after them

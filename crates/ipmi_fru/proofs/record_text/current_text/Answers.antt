@@ -1,5 +1,5 @@
 use Rattle.std.proofs.Common.{◌≡◌, refl}
-use Rattle.ipmi_fru.specs.Print.{current_text}
+use Rattle.ipmi_fru.specs.Prelude.{current_text}
 use Rattle.ipmi_fru.proofs.PrintLemmas.{said}
 use Rattle.ipmi_fru.proofs.record_text.current_text.Goals as goal
 

@@ -1,5 +1,5 @@
 use Rattle.std.proofs.Common.{refl, string_bytes}
-use Rattle.ipmi_fru.specs.Print.{IsDcText}
+use Rattle.ipmi_fru.specs.Prelude.{IsDcText}
 use Rattle.ipmi_fru.proofs.PrintLemmas.{said}
 use Rattle.ipmi_fru.proofs.record_text.dc_text.Goals as goal
 

@@ -1,6 +1,5 @@
 use Rattle.std.proofs.Common.{◌≡◌, ◌++◌, ◌∙◌, sym, subst, refl, rules, [], string_bytes, append_assoc, append-nil}
-use Rattle.ipmi_fru.specs.Multirecord.{items_left}
-use Rattle.ipmi_fru.specs.Print.{AreItemTexts}
+use Rattle.ipmi_fru.specs.Prelude.{items_left, AreItemTexts}
 use Rattle.ipmi_fru.proofs.record_text.records_text.Goals as goal
 
 pub records-preserved : goal.records-preserved

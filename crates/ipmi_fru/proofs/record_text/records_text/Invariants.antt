@@ -1,6 +1,5 @@
 use Rattle.std.proofs.Common.{◌++◌, List, ℕ, string_bytes}
-use Rattle.ipmi_fru.specs.Multirecord.{items_left}
-use Rattle.ipmi_fru.specs.Print.{AreItemTexts}
+use Rattle.ipmi_fru.specs.Prelude.{items_left, AreItemTexts}
 use Rattle.ipmi_fru.proofs.record_text.records_text.Given as goal
 
 -- the lines so far, with those of what is left after them

@@ -1,10 +1,7 @@
 use Rattle.std.proofs.Common.{◌≡◌, ◌≤◌, ◌++◌, ◌∷◌, [], ap, sym, subst, ◌∙◌, arith, List, ℕ, None, Some, map, length}
 use Rattle.std.proofs.lemmas.List.{map-append}
-use Rattle.ipmi_text.specs.Bytes.{AreBytes}
-use Rattle.ipmi_bus.specs.Store.{Inventory, inventory_in}
-use Rattle.ipmi_image.specs.declared.stored.StoredInventory.{StoredInventory}
-use Rattle.ipmi_image.specs.Table.{place_of, inventory_of, longer_at}
-use Rattle.ipmi_image.specs.Stored.{AreInventories}
+use Rattle.ipmi_image.specs.Below.{AreBytes, Inventory, inventory_in}
+use Rattle.ipmi_image.specs.Prelude.{StoredInventory, place_of, inventory_of, longer_at, AreInventories}
 use Rattle.ipmi_image.proofs.TableLemmas.{place_below, was_put, with_bytes-found, with_bytes-new}
 use Rattle.ipmi_image.proofs.StoreLemmas.{are_bytes, inventory_fine, AreInventories-more, AreInventories-new}
 use Rattle.ipmi_image.proofs.contents.put_inventory.Goals as goal

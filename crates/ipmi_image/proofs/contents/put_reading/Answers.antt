@@ -1,8 +1,7 @@
 use Rattle.std.proofs.Common.{◌≡◌, ◌++◌, ◌∷◌, [], ap, sym, subst, ◌∙◌, arith, map, is_some}
 use Rattle.std.proofs.lemmas.List.{map-append}
-use Rattle.ipmi_bus.specs.Store.{SensorReading, IsSensorReading, reading_in}
-use Rattle.ipmi_image.specs.Image.{reading_of_bytes}
-use Rattle.ipmi_image.specs.Stored.{sensor_of, AreReadings}
+use Rattle.ipmi_image.specs.Below.{SensorReading, IsSensorReading, reading_in}
+use Rattle.ipmi_image.specs.Prelude.{reading_of_bytes, sensor_of, AreReadings}
 use Rattle.ipmi_image.proofs.TableLemmas.{is_some_reading_in, none_found, was_put}
 use Rattle.ipmi_image.proofs.StoreLemmas.{reading_fine, AreReadings-new}
 use Rattle.ipmi_image.proofs.contents.put_reading.Goals as goal

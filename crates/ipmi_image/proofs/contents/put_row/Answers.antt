@@ -1,9 +1,6 @@
 use Rattle.std.proofs.Common.{rules, ◌≡◌, ◌<◌, ap, sym, subst, ◌∙◌, List, [], ◌∷◌, ◌++◌, arith, false, None, inr, unwrap_or, is_some}
-use Rattle.ipmi_text.specs.Bytes.{AreBytes}
-use Rattle.ipmi_bus.specs.Shelf.{IsShelf}
-use Rattle.ipmi_bus.specs.Walk.{has_id}
-use Rattle.ipmi_image.specs.Line.{SavedRow}
-use Rattle.ipmi_image.specs.Image.{chained, row_fault}
+use Rattle.ipmi_image.specs.Below.{AreBytes, IsShelf, has_id}
+use Rattle.ipmi_image.specs.Prelude.{SavedRow, chained, row_fault}
 use Rattle.ipmi_image.proofs.TableLemmas.{has_id_chained}
 use Rattle.ipmi_image.proofs.ShelfLemmas.{new_row_fault, row_twice, shelf_with}
 use Rattle.ipmi_image.proofs.StoreLemmas.{are_bytes}

@@ -1,8 +1,5 @@
 use Rattle.std.proofs.Common.{◌≡◌, ◌+◌, ◌++◌, ◌∷◌, false, [], None, Some, Ok, length, refl, sym, ap, ◌∙◌, inl, inr, arith, length-append}
-use Rattle.ipmi_image.specs.Text.{pieces}
-use Rattle.ipmi_image.specs.Line.{the_end}
-use Rattle.ipmi_image.specs.Image.{at_line, is_end, store_after}
-use Rattle.ipmi_image.specs.Stored.{said}
+use Rattle.ipmi_image.specs.Prelude.{pieces, the_end, at_line, is_end, store_after, said}
 use Rattle.ipmi_image.proofs.ReadLemmas.{ends_here-pieces, store_after-unended, lines_after, line_err, line_found, end_is}
 use Rattle.ipmi_image.proofs.StoreLemmas.{store_of-lines}
 use Rattle.ipmi_image.proofs.image.read_lines.Goals as goal

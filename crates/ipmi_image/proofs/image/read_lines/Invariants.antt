@@ -1,9 +1,6 @@
 use Rattle.std.proofs.Common.{◌≡◌, ◌+◌, ◌≤◌, [], List, length}
-use Rattle.ipmi_bus.specs.Store.{IsStore}
-use Rattle.ipmi_image.specs.Text.{pieces}
-use Rattle.ipmi_image.specs.Line.{Line}
-use Rattle.ipmi_image.specs.Image.{store_after}
-use Rattle.ipmi_image.specs.Stored.{store_of, HoldsLines}
+use Rattle.ipmi_image.specs.Below.{IsStore}
+use Rattle.ipmi_image.specs.Prelude.{pieces, Line, store_after, store_of, HoldsLines}
 use Rattle.ipmi_image.proofs.image.read_lines.Given as goal
 
 -- the contents are what the lines before say, and the lines that are left give the same after them as all did

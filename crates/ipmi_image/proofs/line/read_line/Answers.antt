@@ -1,6 +1,5 @@
 use Rattle.std.proofs.Common.{[], subst, sym, inr, codes}
-use Rattle.ipmi_image.specs.Text.{pieces}
-use Rattle.ipmi_image.specs.Stored.{IsRead}
+use Rattle.ipmi_image.specs.Prelude.{pieces, IsRead}
 use Rattle.ipmi_image.proofs.LineLemmas.{is_word, bytes_eq-other, line_of-known, line_of-one_word, line_of-other_word}
 use Rattle.ipmi_image.proofs.line.read_line.Goals as goal
 

@@ -1,6 +1,5 @@
 use Rattle.std.proofs.Common.{ap, ◌∙◌}
-use Rattle.ipmi_image.specs.Text.{pieces}
-use Rattle.ipmi_image.specs.Line.{with_three}
+use Rattle.ipmi_image.specs.Prelude.{pieces, with_three}
 use Rattle.ipmi_image.proofs.LineLemmas.{with_three-two}
 use Rattle.ipmi_image.proofs.line.three.Goals as goal
 

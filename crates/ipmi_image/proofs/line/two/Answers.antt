@@ -1,5 +1,5 @@
 use Rattle.std.proofs.Common.{◌∷◌, ap, ◌∙◌}
-use Rattle.ipmi_image.specs.Line.{with_two}
+use Rattle.ipmi_image.specs.Prelude.{with_two}
 use Rattle.ipmi_image.proofs.LineLemmas.{with_two-more}
 use Rattle.ipmi_image.proofs.line.two.Goals as goal
 

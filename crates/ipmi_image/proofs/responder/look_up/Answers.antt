@@ -1,6 +1,6 @@
 use Rattle.std.proofs.Common.{ap, sym, ◌∙◌, Some, ℕ}
-use Rattle.ipmi_bus.specs.Shelf.{Row}
-use Rattle.ipmi_image.specs.Rows.{row_of}
+use Rattle.ipmi_image.specs.Below.{Row}
+use Rattle.ipmi_image.specs.Prelude.{row_of}
 use Rattle.ipmi_image.proofs.RespondLemmas.{look-none, look-found, asked_there}
 use Rattle.ipmi_image.proofs.responder.look_up.Goals as goal
 

@@ -1,5 +1,5 @@
 use Rattle.std.proofs.Common.{rules, ◌∙◌, ap}
-use Rattle.ipmi_image.specs.Image.{store_of_image}
+use Rattle.ipmi_image.specs.Prelude.{store_of_image}
 use Rattle.ipmi_image.proofs.AgainLemmas.{image_again}
 use Rattle.ipmi_image.proofs.rewrite.image_text.Goals as goal
 

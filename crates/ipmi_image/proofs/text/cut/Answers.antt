@@ -1,6 +1,6 @@
 use Rattle.std.proofs.Common.{◌≡◌, ◌+◌, ◌-◌, List, ℕ, ◌∷◌, arith, ap, sym, ◌∙◌, take, drop, length, length-drop, eqb-true, eq-eqb}
 use Rattle.std.proofs.Math.Seq.{take-length}
-use Rattle.ipmi_image.specs.Text.{pieces}
+use Rattle.ipmi_image.specs.Prelude.{pieces}
 use Rattle.ipmi_image.proofs.TextLemmas.{pieces-none, pieces-at}
 use Rattle.ipmi_image.proofs.text.cut.Goals as goal
 

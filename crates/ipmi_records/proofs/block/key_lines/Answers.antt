@@ -1,6 +1,6 @@
 use Rattle.std.proofs.Common.{◌∙◌, decimal}
 use Rattle.std.proofs.lemmas.Result.{IfOk-weaker}
-use Rattle.ipmi_records.specs.Bytes.{byte_h}
+use Rattle.ipmi_records.specs.Prelude.{byte_h}
 use Rattle.ipmi_records.proofs.TextLemmas.{append-key_lines}
 use Rattle.ipmi_records.proofs.block.key_lines.Goals as goal
 

@@ -1,6 +1,6 @@
 use Rattle.std.proofs.Common.{◌∙◌, ap, string_bytes}
 use Rattle.std.proofs.lemmas.Result.{IfOk-weaker}
-use Rattle.ipmi_records.specs.SdrText.{locator_lines, sensor_lines}
+use Rattle.ipmi_records.specs.Prelude.{locator_lines, sensor_lines}
 use Rattle.ipmi_records.proofs.TextLemmas.{block_made}
 use Rattle.ipmi_records.proofs.block.sdr_block.Goals as goal
 

@@ -1,8 +1,7 @@
 use Rattle.std.proofs.Common.{rules, ◌≡◌, Some, string_bytes}
 use Rattle.std.proofs.lemmas.Result.{IfOk-weaker}
-use Rattle.ipmi_text.specs.ReadingValue.{reading_value}
-use Rattle.ipmi_text.specs.Units.{unit_text_of}
-use Rattle.ipmi_records.specs.Sensor.{factors_in}
+use Rattle.ipmi_records.specs.Below.{reading_value, unit_text_of}
+use Rattle.ipmi_records.specs.Prelude.{factors_in}
 use Rattle.ipmi_records.proofs.ColumnLemmas.{quantity_appended}
 use Rattle.ipmi_records.proofs.column.push_raw.Goals as goal
 

@@ -1,6 +1,6 @@
 use Rattle.std.proofs.Common.{ap, length, string_bytes}
 use Rattle.std.proofs.lemmas.Result.{IfOk-weaker}
-use Rattle.ipmi_records.specs.SdrText.{entity_or_dash}
+use Rattle.ipmi_records.specs.Prelude.{entity_or_dash}
 use Rattle.ipmi_records.proofs.PaddingLemmas.{padded_after}
 use Rattle.ipmi_records.proofs.line.push_entity_column.Goals as goal
 

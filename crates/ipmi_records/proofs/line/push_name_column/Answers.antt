@@ -1,6 +1,6 @@
 use Rattle.std.proofs.Common.{ap, length, string_bytes}
 use Rattle.std.proofs.lemmas.Result.{IfOk-weaker}
-use Rattle.ipmi_records.specs.SdrText.{printed_name}
+use Rattle.ipmi_records.specs.Prelude.{printed_name}
 use Rattle.ipmi_records.proofs.PaddingLemmas.{padded_after}
 use Rattle.ipmi_records.proofs.line.push_name_column.Goals as goal
 

@@ -1,7 +1,5 @@
 use Rattle.std.proofs.Common.{◌∙◌, Option, ap, string_bytes}
-use Rattle.ipmi_records.specs.declared.sensor.Sensor.{Sensor}
-use Rattle.ipmi_records.specs.Sdr.{sensor_of}
-use Rattle.ipmi_records.specs.SdrText.{entity_column, entity_or_dash, number_text}
+use Rattle.ipmi_records.specs.Prelude.{Sensor, sensor_of, entity_column, entity_or_dash, number_text}
 use Rattle.ipmi_records.proofs.TextLemmas.{sensor_columns_made}
 use Rattle.ipmi_records.proofs.line.push_sensor_columns.Goals as goal
 

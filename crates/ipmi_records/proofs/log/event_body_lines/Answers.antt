@@ -1,6 +1,6 @@
 use Rattle.std.proofs.Common.{◌∙◌, ap, string_bytes}
 use Rattle.std.proofs.lemmas.Result.{IfOk-weaker}
-use Rattle.ipmi_text.specs.FieldText.{binary_text}
+use Rattle.ipmi_records.specs.Below.{binary_text}
 use Rattle.ipmi_records.proofs.TextLemmas.{event_body_made}
 use Rattle.ipmi_records.proofs.log.event_body_lines.Goals as goal
 

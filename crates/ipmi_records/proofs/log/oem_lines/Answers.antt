@@ -1,7 +1,7 @@
 use Rattle.std.proofs.Common.{◌∙◌, ap, string_bytes}
 use Rattle.std.proofs.lemmas.Result.{IfOk-weaker}
-use Rattle.ipmi_text.specs.FieldText.{binary_text}
-use Rattle.ipmi_records.specs.SelText.{manufacturer_text}
+use Rattle.ipmi_records.specs.Below.{binary_text}
+use Rattle.ipmi_records.specs.Prelude.{manufacturer_text}
 use Rattle.ipmi_records.proofs.TextLemmas.{oem_lines_made}
 use Rattle.ipmi_records.proofs.log.oem_lines.Goals as goal
 

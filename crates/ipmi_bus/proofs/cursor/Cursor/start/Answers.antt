@@ -1,5 +1,5 @@
 use Rattle.std.proofs.Common.{◌≡◌, sym, ap, ◌∙◌}
-use Rattle.ipmi_bus.specs.CursorState.{start_of}
+use Rattle.ipmi_bus.specs.Prelude.{start_of}
 use Rattle.ipmi_bus.proofs.WalkLemmas.{stands_at_start}
 use Rattle.ipmi_bus.proofs.cursor.Cursor.start.Goals as goal
 use Rattle.ipmi_bus.proofs.cursor.Cursor.start.Goals.{in-None, in-Some}

@@ -1,13 +1,6 @@
 use Rattle.std.proofs.Common.{◌≡◌, None, refl, sym, ap, subst, ◌∙◌, arith, rules, ℕ, inr, length-take}
 use Rattle.std.specs.FinSet as set
-use Rattle.ipmi_bus.specs.declared.retrieval.Retrieval.{Retrieval}
-use Rattle.ipmi_bus.specs.declared.step.Place.{Place}
-use Rattle.ipmi_bus.specs.declared.step.Place.TheVariants.{First}
-use Rattle.ipmi_bus.specs.Handed.{IsAsked}
-use Rattle.ipmi_bus.specs.Step.{NoneAt}
-use Rattle.ipmi_bus.specs.Seen.{current}
-use Rattle.ipmi_bus.specs.Shelf.{look, len_of, largest_len}
-use Rattle.ipmi_bus.specs.Store.{rows_of}
+use Rattle.ipmi_bus.specs.Prelude.{Retrieval, Place, First, IsAsked, NoneAt, current, look, len_of, largest_len, rows_of}
 use Rattle.ipmi_bus.proofs.CursorLemmas.{room_to_ask, look-asked_row, handed_whole, largest_fits, contains-handed_id, not_end, asked_is, calls_moved}
 use Rattle.ipmi_bus.proofs.cursor.Progress.advance.Goals as goal
 

@@ -3,7 +3,7 @@ use Rattle.std.proofs.lemmas.Grind.{get_or_default_zero}
 use Rattle.std.proofs.lemmas.Nat.Bits.{shr_and_one}
 use Rattle.std.specs.Int.{bit_at}
 use Rattle.std.specs.FinSet as set
-use Rattle.ipmi_bus.specs.IdTable.{has_bit}
+use Rattle.ipmi_bus.specs.Prelude.{has_bit}
 use Rattle.ipmi_bus.proofs.IdTableLemmas.{contains-ids_in, room_left}
 use Rattle.ipmi_bus.proofs.id_table.IdTable.contains.Goals as goal
 

@@ -1,7 +1,7 @@
 use Rattle.std.proofs.Common.{◌≡◌, ◌*◌, ◌/◌, ◌%◌, ◌^◌, get_or, set as put, length, ap, ◌∙◌, rules, arith, bit_or}
 use Rattle.std.proofs.lemmas.Grind.{get_or_default_zero}
 use Rattle.std.specs.FinSet as set
-use Rattle.ipmi_bus.specs.IdTable.{ids_in}
+use Rattle.ipmi_bus.specs.Prelude.{ids_in}
 use Rattle.ipmi_bus.proofs.IdTableLemmas.{ids_in-put, len-ids_in}
 use Rattle.ipmi_bus.proofs.id_table.IdTable.insert.Goals as goal
 

@@ -1,7 +1,5 @@
 use Rattle.std.proofs.Common.{Result, subst, arith}
-use Rattle.ipmi_bus.specs.declared.inventory.FruEnded.{FruEnded}
-use Rattle.ipmi_bus.specs.FruRetrieval.{IsAnswered}
-use Rattle.ipmi_bus.specs.Seen.{stays_trans}
+use Rattle.ipmi_bus.specs.Prelude.{FruEnded, IsAnswered, stays_trans}
 use Rattle.ipmi_bus.proofs.InventoryLemmas.{same_trans, ends_moved}
 use Rattle.ipmi_bus.proofs.inventory.FruRetrieval.read_all.Goals as goal
 

@@ -1,6 +1,6 @@
 use Rattle.std.proofs.Common.{◌+◌, ◌≤◌}
-use Rattle.ipmi_bus.specs.Seen.{Seen, IsHonest, StaysHonest}
-use Rattle.ipmi_bus.specs.FruRetrieval.{SameInventory, FruSince, calls_left}
+use Rattle.ipmi_bus.specs.Prelude.{Seen, IsHonest, StaysHonest, SameInventory, FruSince}
+use Rattle.ipmi_bus.specs.FruRetrieval.{calls_left}
 use Rattle.ipmi_bus.proofs.inventory.FruRetrieval.read_all.Given as goal
 
 abbrev pub invariant-parts : goal.invariant-parts

@@ -1,7 +1,5 @@
 use Rattle.std.proofs.Common.{◌≡◌, ℕ, ◌-◌, Ok, Err, ap, subst, ◌∙◌}
-use Rattle.ipmi_bus.specs.declared.retrieval.Retrieval.{Retrieval}
-use Rattle.ipmi_bus.specs.Calls.{asked_len}
-use Rattle.ipmi_bus.specs.Code.{class_of}
+use Rattle.ipmi_bus.specs.Prelude.{Retrieval, asked_len, class_of}
 use Rattle.ipmi_bus.specs.Retrieval.{request_len, PartFails}
 use Rattle.ipmi_bus.proofs.PartLemmas.{honest_part, part_failed}
 use Rattle.ipmi_bus.proofs.retrieval.Retrieval.ask_part.Goals as goal

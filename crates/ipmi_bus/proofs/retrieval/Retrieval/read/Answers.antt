@@ -1,5 +1,5 @@
 use Rattle.std.proofs.Common.{Ok, Err, refl, ap, ◌∙◌}
-use Rattle.ipmi_bus.specs.declared.retrieval.Outcome.TheVariants.{Whole, Absent}
+use Rattle.ipmi_bus.specs.Prelude.{Whole, Absent}
 use Rattle.ipmi_bus.proofs.SinceLemmas.{since_more, ends_as, ends_err, ended_as}
 use Rattle.ipmi_bus.proofs.retrieval.Retrieval.read.Goals as goal
 

@@ -1,6 +1,5 @@
-use Rattle.ipmi_bus.specs.Shelf.{largest_len}
+use Rattle.ipmi_bus.specs.Prelude.{largest_len, Since, begun}
 use Rattle.ipmi_bus.specs.Retrieval.{calls_left}
-use Rattle.ipmi_bus.specs.Since.{Since, begun}
 use Rattle.ipmi_bus.proofs.retrieval.Retrieval.read.Given as goal
 
 abbrev pub invariant-reading : goal.invariant-reading

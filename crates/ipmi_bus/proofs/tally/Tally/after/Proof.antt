@@ -16,7 +16,7 @@ use denote.Shadow.{pure_i}
 use denote.Signature.{plain, types_at}
 use denote.Triple.Entry.{alive}
 use denote.Triple.Walked.{says, stay_none_ref, Stays, walk_of, ends_at, Goes-none_ref}
-use Rattle.ipmi_bus.specs.Events.{counts_after}
+use Rattle.ipmi_bus.specs.Prelude.{counts_after}
 use Rattle.ipmi_bus.specs.contracts.tally.Event as event
 use Rattle.ipmi_bus.specs.contracts.tally.Tally as tally
 use Rattle.ipmi_bus.specs.contracts.tally.Tally.after as f

@@ -13,7 +13,7 @@ use denote.Shadow.{pure_i}
 use denote.Signature.{types_at}
 use denote.Triple.Entry.{alive}
 use denote.Triple.Walked.{says, Stays, walk_of, ends_at}
-use Rattle.ipmi_bus.specs.Events.{zero_counts}
+use Rattle.ipmi_bus.specs.Prelude.{zero_counts}
 use Rattle.ipmi_bus.specs.contracts.tally.Tally as tally
 use Rattle.ipmi_bus.specs.contracts.tally.Tally.new as f
 use Rattle.ipmi_bus.proofs.tally.Tally.new.Statement.{statement}

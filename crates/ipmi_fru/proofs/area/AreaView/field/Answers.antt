@@ -1,5 +1,5 @@
 use Rattle.std.proofs.lemmas.Iterator.Consumers.{YieldsList-from_first, nth_from_yields_List}
-use Rattle.ipmi_fru.specs.Field.{field_of}
+use Rattle.ipmi_fru.specs.Prelude.{field_of}
 use Rattle.ipmi_fru.proofs.area.AreaView.field.Goals as goal
 
 pub returns-clause-field : goal.returns-clause-field

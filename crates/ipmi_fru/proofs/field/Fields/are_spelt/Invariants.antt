@@ -1,5 +1,5 @@
 use Rattle.std.proofs.Common.{◌≡◌, is_some, length}
-use Rattle.ipmi_fru.specs.Field.{fields_in}
+use Rattle.ipmi_fru.specs.Prelude.{fields_in}
 use Rattle.ipmi_fru.proofs.field.Fields.are_spelt.Given as goal
 
 abbrev pub invariant-fields : goal.invariant-fields

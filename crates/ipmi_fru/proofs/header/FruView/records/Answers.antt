@@ -1,5 +1,5 @@
 use Rattle.std.proofs.Common.{rules}
-use Rattle.ipmi_fru.specs.Multirecord.{items_left}
+use Rattle.ipmi_fru.specs.Prelude.{items_left}
 use Rattle.ipmi_fru.proofs.RecordLemmas.{some_items, no_items}
 use Rattle.ipmi_fru.proofs.header.FruView.records.Goals as goal
 

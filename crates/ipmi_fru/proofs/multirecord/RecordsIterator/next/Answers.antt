@@ -1,5 +1,5 @@
 use Rattle.std.proofs.Common.{rules, ◌∙◌, ap, Some, length, arith}
-use Rattle.ipmi_fru.specs.Multirecord.{record_of, items_after}
+use Rattle.ipmi_fru.specs.Prelude.{record_of, items_after}
 use Rattle.ipmi_fru.proofs.RecordLemmas.{items_in-more}
 use Rattle.ipmi_fru.proofs.multirecord.RecordsIterator.next.Goals as goal
 

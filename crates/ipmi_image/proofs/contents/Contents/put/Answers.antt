@@ -1,11 +1,6 @@
 use Rattle.std.proofs.Common.{◌≡◌, ◌++◌, ◌∷◌, [], refl, sym, subst, Some, Option, List, ℕ, map}
-use Rattle.ipmi_bus.specs.declared.controller.Shelf.TheVariants.{Sdr, Sel}
-use Rattle.ipmi_bus.specs.Store.{SensorReading, inventory_in, reading_in}
-use Rattle.ipmi_image.specs.declared.contents.Contents.{Contents}
-use Rattle.ipmi_image.specs.Line.{SavedRow, a_row, an_inventory, a_reading, an_info}
-use Rattle.ipmi_image.specs.Table.{inventory_of}
-use Rattle.ipmi_image.specs.Image.{chained, with_bytes, row_fault, inventory_fault, reading_fault, info_fault, reading_of_bytes}
-use Rattle.ipmi_image.specs.Stored.{sensor_of, HoldsLines}
+use Rattle.ipmi_image.specs.Below.{Sdr, Sel, SensorReading, inventory_in, reading_in}
+use Rattle.ipmi_image.specs.Prelude.{Contents, SavedRow, a_row, an_inventory, a_reading, an_info, inventory_of, chained, with_bytes, row_fault, inventory_fault, reading_fault, info_fault, reading_of_bytes, sensor_of, HoldsLines}
 use Rattle.ipmi_image.proofs.StoreLemmas.{fault_is, sdr-put, sel-put, bytes-put, sensor-put, sdr_info-put, sel_info-put, end-put, info_fine, put_is, or_memory}
 use Rattle.ipmi_image.proofs.contents.Contents.put.Goals as goal
 

@@ -1,6 +1,5 @@
 use Rattle.std.proofs.Common.{subst}
-use Rattle.ipmi_image.specs.Stored.{store_of}
-use Rattle.ipmi_image.specs.Rewritten.{IsSaved}
+use Rattle.ipmi_image.specs.Prelude.{store_of, IsSaved}
 use Rattle.ipmi_image.proofs.SavedLemmas.{saved_of_image, stored_luns}
 use Rattle.ipmi_image.proofs.image.Image.contents.Goals as goal
 

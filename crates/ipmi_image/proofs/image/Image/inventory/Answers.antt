@@ -1,7 +1,7 @@
 use Rattle.std.proofs.Common.{◌≡◌, ap, sym, ◌∙◌, Some, map, option_map}
-use Rattle.ipmi_bus.specs.Store.{inventory_of, inventory_in}
+use Rattle.ipmi_image.specs.Below.{inventory_of, inventory_in}
 use Rattle.ipmi_image.specs.Table as table
-use Rattle.ipmi_image.specs.declared.stored.StoredInventory.{StoredInventory}
+use Rattle.ipmi_image.specs.Prelude.{StoredInventory}
 use Rattle.ipmi_image.proofs.TableLemmas.{inventory_in_find}
 use Rattle.ipmi_image.proofs.StoreLemmas.{inventory_fits}
 use Rattle.ipmi_image.proofs.image.Image.inventory.Goals as goal

@@ -1,6 +1,6 @@
 use Rattle.std.proofs.Common.{ap, sym, ◌∙◌, arith, option_map}
-use Rattle.ipmi_bus.specs.Store.{reading_of}
-use Rattle.ipmi_image.specs.declared.stored.StoredSensor.{StoredSensor}
+use Rattle.ipmi_image.specs.Below.{reading_of}
+use Rattle.ipmi_image.specs.Prelude.{StoredSensor}
 use Rattle.ipmi_image.proofs.TableLemmas.{reading_in_find}
 use Rattle.ipmi_image.proofs.image.Image.reading.Goals as goal
 

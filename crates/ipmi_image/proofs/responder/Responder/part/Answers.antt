@@ -1,8 +1,7 @@
 use Rattle.std.proofs.Common.{rules, ◌≡◌, ◌+◌, nat_eq, true, false, sym, ◌∙◌, arith, Some, length, refl, eq-eqb, ne_eqb}
 use Rattle.std.proofs.lemmas.Option.{none-some}
-use Rattle.ipmi_bus.specs.Shelf.{look}
-use Rattle.ipmi_bus.specs.Store.{rows_of}
-use Rattle.ipmi_image.specs.Responder.{row_found}
+use Rattle.ipmi_image.specs.Below.{look, rows_of}
+use Rattle.ipmi_image.specs.Prelude.{row_found}
 use Rattle.ipmi_image.proofs.RespondLemmas.{current-seen_as}
 use Rattle.ipmi_image.proofs.responder.Responder.part.Goals as goal
 

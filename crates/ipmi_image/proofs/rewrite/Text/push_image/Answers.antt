@@ -1,6 +1,6 @@
 use Rattle.std.proofs.Common.{◌++◌, ap, ◌∙◌, List, ℕ}
 use Rattle.std.proofs.lemmas.Result.{on_ok_weaker}
-use Rattle.ipmi_image.specs.Stored.{store_of}
+use Rattle.ipmi_image.specs.Prelude.{store_of}
 use Rattle.ipmi_image.proofs.RewriteLemmas.{image_joined, lines_text-lines_of}
 use Rattle.ipmi_image.proofs.rewrite.Text.push_image.Goals as goal
 

@@ -1,6 +1,5 @@
 use Rattle.std.proofs.Common.{◌≡◌, ◌++◌, drop, map, flat_map}
-use Rattle.ipmi_image.specs.Table.{inventory_of}
-use Rattle.ipmi_image.specs.Rewritten.{inventory_lines, lines_text}
+use Rattle.ipmi_image.specs.Prelude.{inventory_of, inventory_lines, lines_text}
 use Rattle.ipmi_image.proofs.rewrite.Text.push_inventories.Given as goal
 
 -- with the lines of the inventories that are left the text is what it is to be

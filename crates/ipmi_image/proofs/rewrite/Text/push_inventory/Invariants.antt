@@ -1,5 +1,5 @@
 use Rattle.std.proofs.Common.{◌≡◌, ◌++◌, length, map}
-use Rattle.ipmi_image.specs.Rewritten.{part_fields, parts_of, lines_text}
+use Rattle.ipmi_image.specs.Prelude.{part_fields, parts_of, lines_text}
 use Rattle.ipmi_image.proofs.rewrite.Text.push_inventory.Given as goal
 
 -- with the lines of the bytes that are left the text is what it is to be

@@ -1,6 +1,5 @@
 use Rattle.std.proofs.Common.{◌≡◌, ◌++◌, drop, map}
-use Rattle.ipmi_image.specs.Stored.{sensor_of}
-use Rattle.ipmi_image.specs.Rewritten.{reading_fields, lines_text}
+use Rattle.ipmi_image.specs.Prelude.{sensor_of, reading_fields, lines_text}
 use Rattle.ipmi_image.proofs.rewrite.Text.push_readings.Given as goal
 
 -- with the lines of the readings that are left the text is what it is to be

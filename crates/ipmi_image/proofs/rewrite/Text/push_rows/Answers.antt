@@ -1,5 +1,5 @@
 use Rattle.std.proofs.Common.{sym, arith}
-use Rattle.ipmi_image.specs.Rows.{row_of}
+use Rattle.ipmi_image.specs.Prelude.{row_of}
 use Rattle.ipmi_image.proofs.RowsLemmas.{found_below}
 use Rattle.ipmi_image.proofs.RewriteLemmas.{append-row_line, rows_done}
 use Rattle.ipmi_image.proofs.rewrite.Text.push_rows.Goals as goal

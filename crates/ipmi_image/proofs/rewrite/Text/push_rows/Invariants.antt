@@ -1,6 +1,5 @@
 use Rattle.std.proofs.Common.{◌≡◌, ◌++◌, ◌-◌, ◌≤◌, length, drop}
-use Rattle.ipmi_image.specs.Image.{chained}
-use Rattle.ipmi_image.specs.Rewritten.{rows_lines, lines_text}
+use Rattle.ipmi_image.specs.Prelude.{chained, rows_lines, lines_text}
 use Rattle.ipmi_image.proofs.rewrite.Text.push_rows.Given as goal
 
 -- with the lines of the rows that are left the text is what it is to be

@@ -1,6 +1,5 @@
 use Rattle.std.proofs.Common.{ap, sym, ◌∙◌, drop}
-use Rattle.ipmi_image.specs.Image.{first_id}
-use Rattle.ipmi_image.specs.declared.rows.RowHead.{RowHead}
+use Rattle.ipmi_image.specs.Prelude.{first_id, RowHead}
 use Rattle.ipmi_image.proofs.RowsLemmas.{first_id-at, first_id-past}
 use Rattle.ipmi_image.proofs.rows.Rows.id_at.Goals as goal
 

@@ -1,6 +1,5 @@
 use Rattle.std.proofs.Common.{ap, sym, ◌∙◌}
-use Rattle.ipmi_image.specs.Rows.{id_of}
-use Rattle.ipmi_image.specs.Table.{place_of}
+use Rattle.ipmi_image.specs.Prelude.{id_of, place_of}
 use Rattle.ipmi_image.proofs.RowsLemmas.{place_of-row_in}
 use Rattle.ipmi_image.proofs.rows.Rows.place_near.Goals as goal
 

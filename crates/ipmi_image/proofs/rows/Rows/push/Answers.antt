@@ -1,8 +1,5 @@
 use Rattle.std.proofs.Common.{◌≡◌, ◌++◌, ◌∷◌, [], ap, sym, ◌∙◌, arith, length, List, map, is_some}
-use Rattle.ipmi_image.specs.Table.{place_of}
-use Rattle.ipmi_image.specs.Rows.{id_of, row_in, row_of}
-use Rattle.ipmi_image.specs.Line.{SavedRow}
-use Rattle.ipmi_image.specs.declared.rows.RowHead.{RowHead}
+use Rattle.ipmi_image.specs.Prelude.{place_of, id_of, row_in, row_of, SavedRow, RowHead}
 use Rattle.ipmi_image.proofs.RowsLemmas.{place_of-row_in, rows_with}
 use Rattle.ipmi_image.proofs.rows.Rows.push.Goals as goal
 

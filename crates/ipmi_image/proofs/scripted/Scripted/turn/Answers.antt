@@ -1,8 +1,7 @@
 use Rattle.std.proofs.Common.{◌≡◌, [], ap, refl, sym, ◌∙◌, drop}
 use Rattle.std.specs.Vec.Iter.{into_iter_deque, into_iter_len}
 use Rattle.std.proofs.lemmas.List.{nil_from_length}
-use Rattle.ipmi_image.specs.declared.scripted.Scripted.{Scripted}
-use Rattle.ipmi_image.specs.Controllers.{moods_left, next_turn}
+use Rattle.ipmi_image.specs.Prelude.{Scripted, moods_left, next_turn}
 use Rattle.ipmi_image.proofs.scripted.Scripted.turn.Goals as goal
 
 -- where none is counted, none is left

@@ -1,5 +1,5 @@
 use Rattle.std.proofs.Common.{true, false, refl}
-use Rattle.ipmi_bus.specs.Store.{reading_of}
+use Rattle.ipmi_image.specs.Below.{reading_of}
 use Rattle.ipmi_image.proofs.ScriptLemmas.{after_value}
 use Rattle.ipmi_image.proofs.scripted.ScriptedController.reading.Goals as goal
 

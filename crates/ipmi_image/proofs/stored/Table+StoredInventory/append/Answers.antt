@@ -1,7 +1,6 @@
 use Rattle.std.proofs.Common.{◌≡◌, ap, ◌∙◌, ◌++◌, List, ℕ, get_or, map}
-use Rattle.ipmi_image.specs.Table.{inventory_of, longer_at}
-use Rattle.ipmi_bus.specs.Store.{Inventory}
-use Rattle.ipmi_image.specs.declared.stored.StoredInventory.{StoredInventory}
+use Rattle.ipmi_image.specs.Prelude.{inventory_of, longer_at, StoredInventory}
+use Rattle.ipmi_image.specs.Below.{Inventory}
 use Rattle.ipmi_image.proofs.TableLemmas.{index_set, map-longer}
 use Rattle.ipmi_image.proofs.stored.Table+StoredInventory.append.Goals as goal
 

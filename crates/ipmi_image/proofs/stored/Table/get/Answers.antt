@@ -1,5 +1,5 @@
 use Rattle.std.proofs.Common.{ap, sym, ◌∙◌, nat_eq, Some, find}
-use Rattle.ipmi_image.specs.Table.{place_of}
+use Rattle.ipmi_image.specs.Prelude.{place_of}
 use Rattle.ipmi_image.proofs.TableLemmas.{place_below, found_item}
 use Rattle.ipmi_image.proofs.stored.Table.get.Goals as goal
 

@@ -1,5 +1,5 @@
 use Rattle.std.proofs.Common.{ap, sym, ◌∙◌, arith, eqb-true, eq-eqb}
-use Rattle.ipmi_image.specs.Table.{place_of}
+use Rattle.ipmi_image.specs.Prelude.{place_of}
 use Rattle.ipmi_image.proofs.TableLemmas.{place_of-at, place_below, key-place_of}
 use Rattle.ipmi_image.proofs.stored.Table.is_at.Goals as goal
 

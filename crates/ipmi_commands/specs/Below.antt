@@ -1,0 +1,46 @@
+-- The words of the crates below that this crate cites, passed on from one place. Declares nothing.
+pub use Rattle.ipmi_text.specs.Bytes.{AreBytes}
+pub use Rattle.ipmi_text.specs.declared.reading.Reading.{Reading}
+pub use Rattle.ipmi_fru.specs.Print.{IsFruText}
+pub use Rattle.ipmi_records.specs.Info.{IsInfoBlock}
+pub use Rattle.ipmi_records.specs.Laws.{ExtendedLineIsUnique, SdrLineIsUnique, SelBlockIsUnique, SelLineIsUnique}
+pub use Rattle.ipmi_records.specs.Sdr.{fru_of, sdr_view_of}
+pub use Rattle.ipmi_records.specs.SdrText.{fault_line, IsExtendedLine, IsSdrBlock, IsSdrLine, printed_name}
+pub use Rattle.ipmi_records.specs.Sel.{entry_bytes, sel_view_of}
+pub use Rattle.ipmi_records.specs.SelText.{IsSelBlock, IsSelLine}
+pub use Rattle.ipmi_records.specs.declared.sdr.SdrFault.{SdrFault}
+pub use Rattle.ipmi_records.specs.declared.sdr.SdrView.{SdrView}
+pub use Rattle.ipmi_records.specs.declared.sel.SelView.TheVariants.{Event, OemPlain, OemTimed, Other}
+pub use Rattle.ipmi_bus.specs.Bounds.{digits, fru_call_bound, reaches, step_call_bound}
+pub use Rattle.ipmi_bus.specs.CursorState.{CursorState, start_of}
+pub use Rattle.ipmi_bus.specs.Lent.{row_of_record}
+pub use Rattle.ipmi_bus.specs.Readers.{EndsUnder, inventory_len, InventoryCounts, InventoryIs, IsRefusedInventory, IsRefusedOverChange, KeepsReservations, ReadsInventory, ReadsValue, ValueIs}
+pub use Rattle.ipmi_bus.specs.Seen.{current, IsHonest, Seen, stays_refl, stays_trans, StaysHonest}
+pub use Rattle.ipmi_bus.specs.Shelf.{first_row, FoundIsRow, IsShelf, largest_len, len_of, look, Row, whole_len}
+pub use Rattle.ipmi_bus.specs.Standing.{MayFail, StandsAt, WalkStep}
+pub use Rattle.ipmi_bus.specs.Step.{asked_at, AsksNothing, CursorHoldsCurrent, FailsAt, HandsOut, IsStep, StepCalls, StepLeaves}
+pub use Rattle.ipmi_bus.specs.Store.{info_of, inventory_of, IsInfo, IsStore, reading_of, rows_of, Store, store_shelf}
+pub use Rattle.ipmi_bus.specs.Tries.{WithinTries}
+pub use Rattle.ipmi_bus.specs.Walk.{AllOf, CycleAt, Done, EndsAfter, EndsBy, EndsEmpty, has_id, IsWalk, last_next, MissingAt, place_after, place_after_rows, row_at, TailIsWalk, WalkEnd, WalkExists}
+pub use Rattle.ipmi_bus.specs.declared.controller.Shelf.{Shelf}
+pub use Rattle.ipmi_bus.specs.declared.controller.Shelf.TheVariants.{Sdr, Sel}
+pub use Rattle.ipmi_bus.specs.declared.inventory.FruEnded.{FruEnded}
+pub use Rattle.ipmi_bus.specs.declared.step.Ended.{Ended}
+pub use Rattle.ipmi_bus.specs.declared.step.Ended.TheVariants.{Cycle, GaveUp, Malformed, Missing, Refused, Stalled}
+pub use Rattle.ipmi_bus.specs.declared.step.Place.{Place}
+pub use Rattle.ipmi_bus.specs.declared.step.Place.TheVariants.{End, First, Id}
+pub use Rattle.ipmi_image.specs.Image.{store_of_image}
+pub use Rattle.ipmi_image.specs.Rewritten.{hex_of}
+unfoldable pub use Rattle.ipmi_image.specs.Rewritten.{image_text_of}
+pub use Rattle.ipmi_image.specs.declared.image.ImageFault.{ImageFault}
+pub use Rattle.ipmi_command_line.specs.Command.{CommandState}
+pub use Rattle.ipmi_command_line.specs.Task.{is_listing, most_of, shelf_of, start_by}
+pub use Rattle.ipmi_command_line.specs.declared.command.Count.{Count}
+pub use Rattle.ipmi_command_line.specs.declared.command.Kind.{Kind}
+pub use Rattle.ipmi_command_line.specs.declared.command.Task.{Task}
+pub use Rattle.ipmi_command_line.specs.declared.command.UsageFault.{UsageFault}
+pub use Rattle.ipmi_output.specs.Message.{ended_text, inventory_text, message_text, no_info_text, no_name_text, refused_inventory_text, refused_text}
+pub use Rattle.ipmi_output.specs.Received.{of_writer, Received, ReceivesText}
+pub use Rattle.ipmi_output.specs.Sink.{TakesPart}
+pub use Rattle.ipmi_output.specs.declared.message.Message.{Message}
+pub use Rattle.ipmi_output.specs.declared.message.Message.TheVariants.{Image, OutOfMemory, Usage, WriteFault}

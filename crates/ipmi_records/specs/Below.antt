@@ -1,0 +1,14 @@
+-- The words of the crates below that this crate cites, passed on from one place. Declares nothing.
+pub use Rattle.ipmi_text.specs.Appended.{Appends}
+pub use Rattle.ipmi_text.specs.Bytes.{AreBytes}
+pub use Rattle.ipmi_text.specs.Decimal.{IsDecimalOf}
+pub use Rattle.ipmi_text.specs.Events.{event_text_of}
+pub use Rattle.ipmi_text.specs.FieldText.{binary_text, sdr_text_of}
+pub use Rattle.ipmi_text.specs.Hex.{hex_byte}
+pub use Rattle.ipmi_text.specs.Laws.{DecimalIsUnique, UtcTextIsUnique}
+pub use Rattle.ipmi_text.specs.Lines.{labelled}
+pub use Rattle.ipmi_text.specs.ReadingValue.{IsTwosComplement, reading_value, SensorFactors}
+pub use Rattle.ipmi_text.specs.SensorTypes.{sensor_type_text_of}
+pub use Rattle.ipmi_text.specs.Times.{IsUtcTextOf}
+pub use Rattle.ipmi_text.specs.Units.{after_space, unit_text_of}
+pub use Rattle.ipmi_text.specs.declared.reading.Reading.{Reading}
