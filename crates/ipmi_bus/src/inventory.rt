@@ -30,6 +30,7 @@ pub enum FruEnded {
 }
 
 impl From<AllocError> for FruEnded {
+    ghost use Rattle.ipmi_bus.specs.declared.inventory.FruEnded.{FruEnded};
 
     ghost from_gives = { λ _ e. e ≡ FruEnded.Memory };
 

@@ -206,6 +206,8 @@ pub enum UsageFault {
 }
 
 impl From<AllocError> for UsageFault {
+    ghost use Rattle.ipmi_command_line.specs.declared.command.UsageFault.{UsageFault};
+
     ghost from_gives = { λ _ e. e ≡ UsageFault.Memory };
 
     fn from(_error: AllocError) -> UsageFault {

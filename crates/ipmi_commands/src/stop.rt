@@ -1,4 +1,5 @@
 //! How a listing stops.
+ghost use Rattle.ipmi_commands.specs.declared.stop.Stop.{Stop};
 ghost use Rattle.std.specs.Prelude.{◌≡◌};
 ghost use Rattle.ipmi_commands.specs.Prelude.{is_done};
 

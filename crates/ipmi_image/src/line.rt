@@ -1,4 +1,5 @@
 //! What one line of an image says.
+ghost use Rattle.ipmi_image.specs.declared.line.LineFault.{LineFault};
 ghost use Rattle.std.specs.Prelude.{◌≡◌, ℕ, List, ◌==◌, ◌&&◌, ◌||◌, ◌⊎◌, [], ◌∷◌, MatchOption, MatchResult, IsTrue, Some, None, Ok, Err, length};
 ghost use Rattle.ipmi_image.specs.Prelude.{pieces, is_dash, next_in, shelf_in, with_two, with_three, row_line, inventory_line, reading_line, info_line, line_of, is_end, said, IsRead};
 
@@ -20,7 +21,6 @@ pub(crate) enum LineFault {
 }
 
 impl From<AllocError> for LineFault {
-
     ghost from_gives = { λ _ e. e ≡ LineFault.Memory };
 
     fn from(_error: AllocError) -> LineFault {
