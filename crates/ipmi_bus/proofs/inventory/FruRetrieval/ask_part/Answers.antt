@@ -25,5 +25,5 @@ returns-in-Ok-clause-honest g c =
 
 pub returns-in-Err-clause-honest : goal.returns-in-Err-clause-honest
 returns-in-Err-clause-honest g c =
-    λ s since. part_failed c.args.self.now c.request.new.self s _ _ c.asked_len-asked.result c.in-Err.code _ c.request.ensures.bytes c.in-Err.ensures.err c.requires since (c.in-Err.ensures.honest since.stays.honest)
-    c.fail_part.new.self c.fail_part.result c.fail_part.ensures.fails
+    λ s since. part_failed c.args.self.now c.request.new.self.bytes s _ _ c.asked_len-asked.result c.in-Err.code _ c.in-Err.ensures.err c.requires since (c.in-Err.ensures.honest since.stays.honest)
+    c.request.new.self c.fail_part.new.self c.fail_part.result c.request.ensures.bytes c.fail_part.ensures.fails
