@@ -46,12 +46,7 @@ module _ (start old : Retrieval) (s s' s'' : Seen) (same : SameRequest start old
       record { held = held ∙ before.held; none_given = λ n now. before.none_given n (given n now) }
 
   pub within_calm : IsOpen old → IsCalm s' s'' → WithinTries start.tries s s''
-  within_calm open_ calm = record {
-    grows = omega (arith, since.troubles, calm.troubles);
-    troubles = omega (arith, since.troubles, calm.troubles, open_.troubles, same.tries);
-    refusals = calm.refusals ∙ since.refusals;
-    last_code = calm.last_code ∙ since.last_code;
-  }
+  within_calm open_ calm = search arith
 
   -- a trouble that an honest controller answered
   pub trouble_answers : (is_cancelled : Bool) (new : Retrieval) (result : Result Outcome Ended) → IsOpen old → MayLoseReservation old.shelf s' s'' → IsTroubled s' s'' → CountsTrouble is_cancelled old new result
@@ -72,12 +67,7 @@ module _ (start old : Retrieval) (s s' s'' : Seen) (same : SameRequest start old
   trouble_answers is_cancelled new (Err ended) open_ keeps troubled counts not_plain =
       let given : ReadIsHonest start old s s'' (Err (Ended.GaveUp old.id)) = record {
         stays = all;
-        answers = record {
-          troubles = omega (arith, since.troubles, troubled.troubles, counts.2, same.tries);
-          fresh_troubles = omega (arith, since.fresh_troubles, troubled.fresh_troubles, counts.2, same.tries);
-          refusals = troubled.refusals ∙ since.refusals;
-          last_code = troubled.last_code ∙ since.last_code;
-        };
+        answers = search (arith, counts.2);
         keeps = λ some e. absurd (omega (arith, since.troubles, troubled.troubles));
         plain = λ p holds. absurd (not_plain p holds);
       } in
@@ -89,12 +79,7 @@ module _ (start old : Retrieval) (s s' s'' : Seen) (same : SameRequest start old
   refusal_answers new code result open_ keeps refused does not_plain =
       let base : ReadIsHonest start old s s'' (Err (Refused old.id code)) = record {
         stays = all;
-        answers = record {
-          grows = omega (arith, since.troubles, refused.troubles);
-          troubles = omega (arith, since.troubles, refused.troubles, open_.troubles, same.tries);
-          refusals = omega (arith, since.refusals, refused.refusals);
-          last_code = refused.last_code;
-        };
+        answers = search arith;
         keeps = held_on old keeps (omega (arith, refused.troubles)) refl;
         plain = λ p holds. absurd (not_plain p holds);
       } in

@@ -119,19 +119,8 @@ module _ (old : FruRetrieval) (bytes : Vec ℕ Global) (s s' s'' : Seen) (asked 
   given_up : IsTroubled s' s'' → old.troubles ≡ old.tries → FruEnds old.id old.tries s s'' FruEnded.GaveUp
   given_up troubled all = record {
     stays = stays;
-    counts = record {
-      troubles = omega (arith, since.troubles, troubled.troubles);
-      some_fresh = omega (arith, troubled.fresh_troubles);
-      fresh_troubles = omega (arith, since.fresh_most open_.more, troubled.fresh_troubles);
-      refusals = troubled.refusals ∙ since.refusals;
-      last_code = troubled.last_code ∙ since.last_code;
-    };
-    is = λ same. record {
-      troubles = omega (arith, since.troubles, troubled.troubles);
-      fresh_troubles = omega (arith, since.fresh (at_first same) open_.more, troubled.fresh_troubles);
-      refusals = troubled.refusals ∙ since.refusals;
-      last_code = troubled.last_code ∙ since.last_code;
-    };
+    counts = search (arith, since.fresh_most open_.more);
+    is = λ same. search (arith, since.fresh (at_first same) open_.more);
     plain = λ p. absurd (not_plain p);
   }
 
@@ -146,12 +135,7 @@ module _ (old : FruRetrieval) (bytes : Vec ℕ Global) (s s' s'' : Seen) (asked 
 
   absent : class_of code.0 ≡ NotPresent → inventory_of old.id s''.store ≡ None → IsFinished s' s'' → FruEnds old.id old.tries s s'' (FruEnded.Refused code)
   absent class none finished =
-      let within : WithinTries old.tries s s'' = record {
-        grows = omega (arith, since.troubles, finished.troubles);
-        troubles = omega (arith, since.troubles, finished.troubles, open_.begun.troubles);
-        refusals = finished.refusals ∙ since.refusals;
-        last_code = finished.last_code ∙ since.last_code;
-      } in
+      let within : WithinTries old.tries s s'' = search arith in
       record {
         stays = stays;
         counts = rw (nat_eq-cbh code.0 class) (within, none);
@@ -161,12 +145,7 @@ module _ (old : FruRetrieval) (bytes : Vec ℕ Global) (s s' s'' : Seen) (asked 
 
   refused : class_of code.0 ≡ Refusal → IsRefused code.0 s' s'' → FruEnds old.id old.tries s s'' (FruEnded.Refused code)
   refused class refuses =
-      let with_code : IsRefusedWith old.tries code.0 s s'' = record {
-        grows = omega (arith, since.troubles, refuses.troubles);
-        troubles = omega (arith, since.troubles, refuses.troubles, open_.begun.troubles);
-        refusals = omega (arith, since.refusals, refuses.refusals);
-        last_code = refuses.last_code;
-      } in
+      let with_code : IsRefusedWith old.tries code.0 s s'' = search arith in
       record {
         stays = stays;
         counts = rw (nat_eq-not_cbh code.0 class) with_code;
@@ -227,7 +206,7 @@ bound_is id tries size s s' s'' r has stays troubles tries_are none len few begu
 module _ (id tries : ℕ) (s s' : Seen) (r : FruRetrieval) (since : FruSince r s s') (id_is : r.id ≡ id) (tries_are : r.tries ≡ tries) (few : r.troubles ≤ r.tries) (all : r.have ≡ length r.bytes.items) where
   -- no more troubles came than the tries
   within_tries : WithinTries tries s s'
-  within_tries = record { grows = omega (arith, since.troubles); troubles = omega (arith, since.troubles, few, tries_are); refusals = since.refusals; last_code = since.last_code }
+  within_tries = search arith
 
   pub inventory_counted : InventoryCounts id tries s s' (Ok r.bytes.items)
   inventory_counted = (within_tries, subst (λ (n : ℕ). IsSome (inventory_of n s'.store)) id_is (since.found all))

@@ -133,16 +133,11 @@ longer shelf rows start (d ∷ done) row ok w found fresh = record {
 
 -- ---- where no row follows, the walk has an end
 
-end_after : (rows : List Row) (walk : List Row) (next : ℕ) → (has_id walk next ≡ false → row_at (place_after next) rows ≡ None) → (end : WalkEnd) × EndsAfter rows walk next end
-end_after rows walk next none = elim (cases_eq next 65535) [ inl e ↦ (Done, e) | inr ne ↦ by ne (nat_eq next 0) (has_id walk next) refl refl ]
-  where
-    by : next ≢ 65535 → (a b : Bool) → nat_eq next 0 ≡ a → has_id walk next ≡ b → (end : WalkEnd) × EndsAfter rows walk next end
-    by ne true b p q = (CycleAt next, (refl, ne, ap (λ (x : Bool). x || has_id walk next) p))
-    by ne false true p q = (CycleAt next, (refl, ne, ap (λ (x : Bool). x || has_id walk next) p ∙ q))
-    by ne false false p q =
-        let place : place_after next ≡ Id next = ap (λ (b : Bool). cond b End (Id next)) (ne_eqb next 65535 ne) in
-        let empty = sym (ap (λ (b : Bool). cond b None (look rows next)) p) ∙ (sym (ap (λ (x : Place). row_at x rows) place) ∙ none q) in
-        (MissingAt next, (refl, ne, eqb-false next 0 p, q, empty))
+abbrev the_end : List Row → ℕ → WalkEnd
+the_end walk next = cond (nat_eq next 65535) Done (cond (nat_eq next 0 || has_id walk next) (CycleAt next) (MissingAt next))
+
+end_after : (rows : List Row) (walk : List Row) (next : ℕ) → (has_id walk next ≡ false → row_at (place_after next) rows ≡ None) → EndsAfter rows walk next (the_end walk next)
+end_after rows walk next none = grind (arith, nat_tests)
 
 -- where the place has no row, or one that is in the walk already
 ends_here : (shelf : Shelf) (rows : List Row) (start : Place) (walk : List Row) → IsShelf shelf rows → ((row : Row) → row_at (place_after_rows start walk) rows ≡ Some row → has_id walk row.id ≡ true) → (end : WalkEnd) × EndsBy rows start walk end
@@ -161,7 +156,7 @@ ends_here shelf rows End [] ok none = (Done, tt)
 ends_here shelf rows start (d ∷ walk) ok none =
     let next = last_next d.next walk in
     let place = place_after_rows-last d.next walk in
-    end_after rows (d ∷ walk) next (λ fresh. by fresh (row_at (place_after next) rows) refl place)
+    (the_end (d ∷ walk) next, end_after rows (d ∷ walk) next (λ fresh. by fresh (row_at (place_after next) rows) refl place))
   where
     by : has_id (d ∷ walk) (last_next d.next walk) ≡ false → (o : Option Row) → row_at (place_after (last_next d.next walk)) rows ≡ o → place_after_rows (place_after d.next) walk ≡ place_after (last_next d.next walk)
         → row_at (place_after (last_next d.next walk)) rows ≡ None

@@ -10,11 +10,11 @@ pub use Rattle.ipmi_bus.specs.FruRetrieval.{FruEnds, FruNext, FruSince, HasSize,
 pub use Rattle.ipmi_bus.specs.Handed.{handed_id, handed_result, handed_row, IsAsked, IsCursor, IsNext, KeepsReservation, state_of, whole_row}
 pub use Rattle.ipmi_bus.specs.IdTable.{has_bit}
 unfoldable pub use Rattle.ipmi_bus.specs.IdTable.{ids_below, ids_in}
-pub use Rattle.ipmi_bus.specs.Readers.{as_inventory, EndsUnder, inventory_len, InventoryCounts, InventoryIs, IsRefusedInventory, IsRefusedOverChange, ReadsInventory, ReadsValue}
-pub use Rattle.ipmi_bus.specs.Retrieval.{after_part, after_trouble, CallIsAnswered, CallLeaves, HoldsCurrent, IsCalm, IsReading, IsRefusedBy, KeepsHeld, request_of, ReserveFails, row_len, SameRequest, unreserved, wanted_len}
+pub use Rattle.ipmi_bus.specs.Readers.{as_inventory, EndsUnder, inventory_len, InventoryCounts, InventoryIs, ReadsInventory, ReadsValue}
+pub use Rattle.ipmi_bus.specs.Retrieval.{after_part, after_trouble, CallLeaves, HoldsCurrent, IsCalm, IsReading, IsRefusedBy, KeepsHeld, request_of, ReserveFails, row_len, SameRequest, unreserved, wanted_len}
 pub use Rattle.ipmi_bus.specs.Seen.{current, IsFinished, IsHonest, IsQuiet, IsRefused, IsTroubled, KeepsStore, MayLoseReservation, Seen, stays_trans, StaysHonest}
 pub use Rattle.ipmi_bus.specs.Shelf.{AllRows, BeginsWithId, DistinctIds, first_row, FoundIsRow, id_in, IsRow, IsShelf, LacksId, largest_len, len_of, look, Row, row_with_id, whole_len}
-pub use Rattle.ipmi_bus.specs.Since.{begun, EndsRead, HonestSince, IsEnded, ReadCalls, ReadIsHonest, ReadNext, Since}
+pub use Rattle.ipmi_bus.specs.Since.{begun, HonestSince, ReadCalls, ReadIsHonest, ReadNext, Since}
 pub use Rattle.ipmi_bus.specs.Standing.{FollowsWalks, MayFail, StandsAt, WalkStep}
 pub use Rattle.ipmi_bus.specs.Step.{asked_at, AsksAlong, AsksNothing, cycle_at, HandsOut, HasIdAsked, HasRoom, IsStep, KeepsSettings, NoneAt, StaysThere, StepAnswers, StepCalls, StepIsHonest, StepLeaves}
 pub use Rattle.ipmi_bus.specs.Steps.{AreSteps, cursor_after, handed_out, HandsOutPrefix, seen_after, Stepped, StepsFollowWalk, with_handed}

@@ -11,12 +11,7 @@ pub returns-in-Err-clause-answered : goal.returns-in-Err-clause-answered
 returns-in-Err-clause-answered g c =
     let old = c.args.self.now in
     let len : c.asked_len-asked.result ≡ request_len old = c.asked_len-asked.ensures ∙ ap (λ (n : ℕ). asked_len old.part (n - old.have)) c.wanted.ensures in
-    record {
-      answer = Err c.in-Err.code;
-      filled = c.request.new.self;
-      buffer = c.request.ensures.buffer;
-      takes = subst (λ (n : ℕ). PartFails (class_of c.in-Err.code.0) c.in-Err.code n c.request.new.self c.fail_part.new.self c.fail_part.result) len c.fail_part.ensures.fails;
-    }
+    record { answer = Err c.in-Err.code; filled = c.request.new.self; buffer = c.request.ensures.buffer; takes = rw len at c.fail_part.ensures.fails }
 
 pub returns-in-Ok-clause-honest : goal.returns-in-Ok-clause-honest
 returns-in-Ok-clause-honest g c =

@@ -15,9 +15,6 @@ returns-in-Ok-Whole-clause-honest g c = λ h. (rw c.in-Ok-Whole.field-0-is at c.
 pub returns-in-Ok-Absent-clause-honest : goal.returns-in-Ok-Absent-clause-honest
 returns-in-Ok-Absent-clause-honest g c = λ h. (rw c.in-Ok-Absent.field-0-is at c.in-Ok-Absent.ensures.honest) _ _ c.reading.invariant.request (c.reading.invariant.honest h)
 
-pub returns-in-Err-clause-honest : goal.returns-in-Err-clause-honest
-returns-in-Err-clause-honest g c = λ h. c.in-Err.ensures.honest _ _ c.reading.invariant.request (c.reading.invariant.honest h)
-
 pub returns-in-Ok-Whole-clause-row_calls : goal.returns-in-Ok-Whole-clause-row_calls
 returns-in-Ok-Whole-clause-row_calls g c = row_bound c.args.self.now c.args.id c.reading.self c.make_call.new.self _ _ _ c.reading.invariant c.make_call.ensures.counted c.make_call.ensures.stays (rw c.in-Ok-Whole.field-0-is at c.in-Ok-Whole.ensures.leaves).0
 
