@@ -5,6 +5,7 @@ use Rattle.std.proofs.Math.Bool.{or-false, or_assoc, or_comm}
 use Rattle.ipmi_bus.specs.Prelude.{Shelf, Place, First, Id, End, Row, IsShelf, look, len_of, row_with_id, first_row, DistinctIds, LacksId, row_at, IsWalk, place_after, place_after_rows, has_id, WalkEnd, Done, CycleAt, MissingAt, EndsBy, EndsAfter, EndsEmpty, last_next, Ended, Cycle, Missing, CursorState, asked_at, cycle_at, AsksAlong, AsksNothing, StaysThere, StepLeaves, StepAnswers, StepIsHonest, NoneAt, StandsAt, WalkStep, MayFail, FollowsWalks, store_shelf, Store, rows_of, Seen, IsHonest, Refused, GaveUp}
 use Rattle.std.specs.FinSet.{contains-insert, contains-empty}
 use Rattle.std.specs.Cmp.{nat_cmp_total, unsigned_tied}
+use Rattle.std.proofs.lemmas.Bool.Decides.{nat_tests}
 use Rattle.std.proofs.Math.Seq.{drop-nil}
 use Rattle.ipmi_bus.proofs.ShelfLemmas.{look_row, found_row}
 
@@ -47,9 +48,7 @@ has_id-next (d ∷ done) row walk distinct =
 
 -- the id asked for at a place that has a row
 pub look-asked_at : (place : Place) (rows : List Row) (row : Row) → row_at place rows ≡ Some row → look rows (asked_at place) ≡ Some row
-look-asked_at First rows row found = found
-look-asked_at (Id n) rows row found = (elim (nat_eq n 0) as (λ b. cond b None (look rows n) ≡ Some row → look rows n ≡ Some row) [ true ↦ λ h. cc h | false ↦ λ h. h ]) found
-look-asked_at End rows row found = cc found
+look-asked_at place rows row found = grind (arith, nat_tests)
 
 -- it is the row's
 pub id_of : (shelf : Shelf) (rows : List Row) (n : ℕ) (row : Row) → IsShelf shelf rows → row_at (Id n) rows ≡ Some row → (nat_eq n 0 ≡ false) × (row.id ≡ n)
@@ -89,32 +88,15 @@ place_after_rows-last next (row ∷ walk) = place_after_rows-last row.next walk
 
 after_facts : (rows : List Row) (start place : Place) (ids : set.FinSet nat_cmp) (walk : List Row) (next : ℕ) (end : WalkEnd) → EndsAfter rows walk next end → place ≡ place_after next → ((n : ℕ) → set.contains ids n ≡ has_id walk n)
     → EndFacts rows start place ids end
-after_facts rows start place ids walk next Done ends p same = inl (p ∙ ap place_after ends)
-after_facts rows start place ids walk next (CycleAt n) ends p same =
-    let at : place ≡ Id next = p ∙ place_after-id next ends.1 in
-    rw (at, same next, ends.2) (ap Some (sym ends.0))
-after_facts rows start place ids walk next (MissingAt n) ends p same =
-    let at : place ≡ Id next = p ∙ place_after-id next ends.1 in (
-      at ∙ ap Id (sym ends.0),
-      ap (λ (q : Place). cycle_at q ids) at ∙ rw (same next ∙ ends.3, ne_eqb next 0 ends.2) refl,
-      ap (look rows) ends.0 ∙ ends.4,
-    )
+after_facts rows start place ids walk next end ends p same = grind (arith, nat_tests)
+
+empty_walk_facts : (rows : List Row) (start place : Place) (ids : set.FinSet nat_cmp) (end : WalkEnd) → EndsEmpty rows start end → place ≡ start → ((n : ℕ) → set.contains ids n ≡ false) → EndFacts rows start place ids end
+empty_walk_facts rows start place ids end ends p same = grind (arith, nat_tests)
 
 pub end_facts : (rows : List Row) (start : Place) (walk : List Row) (place : Place) (ids : set.FinSet nat_cmp) (end : WalkEnd) → EndsBy rows start walk end → place ≡ place_after_rows start walk → ((n : ℕ) → set.contains ids n ≡ has_id walk n)
     → EndFacts rows start place ids end
 end_facts rows start (row ∷ walk) place ids end ends p same = after_facts rows start place ids (row ∷ walk) (last_next row.next walk) end ends (p ∙ place_after_rows-last row.next walk) same
-end_facts rows First [] place ids Done ends p same = inr (p, refl, ends)
-end_facts rows First [] place ids _ ends p same = absurd ends
-end_facts rows (Id id) [] place ids Done ends p same = absurd ends
-end_facts rows (Id id) [] place ids (CycleAt n) ends p same =
-    rw (p, eq-eqb id 0 ends.1) (ap Some (sym ends.0))
-end_facts rows (Id id) [] place ids (MissingAt n) ends p same = (
-  p ∙ ap Id (sym ends.0),
-  ap (λ (q : Place). cycle_at q ids) p ∙ rw (ne_eqb id 0 ends.1, same id) refl,
-  ap (look rows) ends.0 ∙ ends.2,
-)
-end_facts rows End [] place ids Done ends p same = inl p
-end_facts rows End [] place ids _ ends p same = absurd ends
+end_facts rows start [] place ids end ends p same = empty_walk_facts rows start place ids end ends p same
 
 -- at the end of an empty shelf
 empty_facts : (rows : List Row) (start : Place) (walk : List Row) (place : Place) (ids : set.FinSet nat_cmp) (end : WalkEnd) → IsWalk rows start walk → EndsBy rows start walk end → place ≡ End → start ≡ First → first_row rows ≡ None

@@ -29,16 +29,3 @@ returns-in-Ok-true-clause-honest g c = λ h.
           let after = read.plain p (record { held = holds.held }) in
           record { holds = record { held = rw out.retrieval after.holds.held }; fine = tt };
     }
-
-pub returns-then-eq-clause-honest : goal.returns-then-eq-clause-honest
-returns-then-eq-clause-honest g c = λ h.
-    let asks = c.in-Asks.ensures in
-    let read = c.in-Ok-false.ensures.honest h in
-    let answers = rw c.in-Ok-false.field-0-test at read.answers in
-    let first : c.args.self.now.place ≡ First = search rules in
-    record {
-      stays = read.stays;
-      answers = (answers.within, rw first (rw (asks.id ∙ ap asked_at first) at answers.absent));
-      calls = λ same. rw (← asks.id) (c.in-Ok-false.ensures.row_calls h same);
-      plain = λ p holds. let after = read.plain p (record { held = holds.held }) in record { holds = record { held = after.holds.held }; fine = tt };
-    }

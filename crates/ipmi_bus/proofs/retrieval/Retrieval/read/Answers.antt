@@ -9,12 +9,6 @@ reading-preserved g c =
     let call = c.make_call.ensures in
     since_more _ _ _ _ _ _ since call.request call.counted (rw c.in-Ok-Again.field-0-is at c.in-Ok-Again.ensures.leaves) call.stays (λ h. (rw c.in-Ok-Again.field-0-is at c.in-Ok-Again.ensures.honest) _ _ since.request (since.honest h))
 
-pub returns-in-Ok-Whole-clause-honest : goal.returns-in-Ok-Whole-clause-honest
-returns-in-Ok-Whole-clause-honest g c = λ h. (rw c.in-Ok-Whole.field-0-is at c.in-Ok-Whole.ensures.honest) _ _ c.reading.invariant.request (c.reading.invariant.honest h)
-
-pub returns-in-Ok-Absent-clause-honest : goal.returns-in-Ok-Absent-clause-honest
-returns-in-Ok-Absent-clause-honest g c = λ h. (rw c.in-Ok-Absent.field-0-is at c.in-Ok-Absent.ensures.honest) _ _ c.reading.invariant.request (c.reading.invariant.honest h)
-
 pub returns-in-Ok-Whole-clause-row_calls : goal.returns-in-Ok-Whole-clause-row_calls
 returns-in-Ok-Whole-clause-row_calls g c = row_bound c.args.self.now c.args.id c.reading.self c.make_call.new.self _ _ _ c.reading.invariant c.make_call.ensures.counted c.make_call.ensures.stays (rw c.in-Ok-Whole.field-0-is at c.in-Ok-Whole.ensures.leaves).0
 
@@ -23,9 +17,6 @@ returns-in-Ok-Absent-clause-row_calls g c = row_bound c.args.self.now c.args.id 
 
 pub returns-in-Err-clause-row_calls : goal.returns-in-Err-clause-row_calls
 returns-in-Err-clause-row_calls g c = row_bound c.args.self.now c.args.id c.reading.self c.make_call.new.self _ _ _ c.reading.invariant c.make_call.ensures.counted c.make_call.ensures.stays c.in-Err.ensures.leaves.0
-
-pub returns-in-Err-clause-leaves : goal.returns-in-Err-clause-leaves
-returns-in-Err-clause-leaves g c = rw (← c.reading.invariant.request.id, c.make_call.ensures.request.shelf) c.in-Err.ensures.leaves.1
 
 pub returns-in-Ok-Whole-clause-ended : goal.returns-in-Ok-Whole-clause-ended
 returns-in-Ok-Whole-clause-ended g c = record { last = c.reading.self; outcome = Ok Whole; answered = rw c.in-Ok-Whole.field-0-is at c.in-Ok-Whole.ensures.answered; ends = refl }
