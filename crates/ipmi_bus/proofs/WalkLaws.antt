@@ -22,15 +22,9 @@ contains-ids_of (row ∷ rows) n = contains-insert nat_cmp_total (ids_of rows) r
 -- a walk that has an end has no row after it
 no_more : (shelf : Shelf) (rows : List Row) (start : Place) (done : List Row) (end : WalkEnd) (row : Row) → IsShelf shelf rows → EndsBy rows start done end → row_at (place_after_rows start done) rows ≡ Some row → has_id done row.id ≡ false → ⊥
 no_more shelf rows start done end row ok ends found fresh =
-    by_end end (end_facts rows start done (place_after_rows start done) (ids_of done) end ends refl (contains-ids_of done))
-  where
-    none : cycle_at (place_after_rows start done) (ids_of done) ≡ None
-    none = cycle_at-none shelf rows (place_after_rows start done) (ids_of done) done row ok (contains-ids_of done) fresh found
-
-    by_end : (e : WalkEnd) → EndFacts rows start (place_after_rows start done) (ids_of done) e → ⊥
-    by_end Done facts = elim facts [ inl is ↦ (let h = rw is at found in cc h) | inr is ↦ (let h = rw is.0 at found in let empty = is.2 in cc (h, empty)) ]
-    by_end (CycleAt n) facts = let h = sym facts ∙ none in cc h
-    by_end (MissingAt n) facts = let h = rw facts.0 at (look-asked_at (place_after_rows start done) rows row found) in cc (h, facts.2)
+    let facts = end_facts rows start done (place_after_rows start done) (ids_of done) end ends refl (contains-ids_of done) in
+    let none = cycle_at-none shelf rows (place_after_rows start done) (ids_of done) done row ok (contains-ids_of done) fresh found in
+    let looks = look-asked_at (place_after_rows start done) rows row found in grind (arith, nat_tests)
 
 -- two walks with an end that begin alike are one
 same_rest : (shelf : Shelf) (rows : List Row) (start : Place) (done a b : List Row) (e f : WalkEnd) → IsShelf shelf rows → IsWalk rows start (done ++ a) → EndsBy rows start (done ++ a) e → IsWalk rows start (done ++ b) → EndsBy rows start (done ++ b) f → a ≡ b
@@ -113,10 +107,7 @@ AllOf-snoc rows (d ∷ done) row all here = (all.0, AllOf-snoc rows done row all
 
 -- the place after a row leads to the next one by its id
 linked : (shelf : Shelf) (next : ℕ) (rows : List Row) (row : Row) → IsShelf shelf rows → row_at (place_after next) rows ≡ Some row → (next ≡ row.id) × (row.id ≢ 0)
-linked shelf next rows row ok found = (elim (nat_eq next 65535) as (λ b. row_at (cond b End (Id next)) rows ≡ Some row → (next ≡ row.id) × (row.id ≢ 0)) [
-  | true ↦ λ h. cc h
-  | false ↦ λ h. let is = id_of shelf rows next row ok h in (sym is.1, λ zero. eqb-false next 0 is.0 (sym is.1 ∙ zero))
-]) found
+linked shelf next rows row ok found = grind (arith, nat_tests, id_of shelf rows next row ok)
 
 Links-snoc : (shelf : Shelf) (rows : List Row) (d : Row) (done : List Row) (row : Row) → IsShelf shelf rows → Links (d ∷ done) → row_at (place_after_rows (place_after d.next) done) rows ≡ Some row → Links (d ∷ (done ++ row ∷ []))
 Links-snoc shelf rows d [] row ok links found = let l = linked shelf d.next rows row ok found in (l.0, l.1, tt)

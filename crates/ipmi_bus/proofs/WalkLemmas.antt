@@ -52,11 +52,7 @@ look-asked_at place rows row found = grind (arith, nat_tests)
 
 -- it is the row's
 pub id_of : (shelf : Shelf) (rows : List Row) (n : ℕ) (row : Row) → IsShelf shelf rows → row_at (Id n) rows ≡ Some row → (nat_eq n 0 ≡ false) × (row.id ≡ n)
-id_of shelf rows n row ok found = by_zero (nat_eq n 0) refl found
-  where
-    by_zero : (b : Bool) → nat_eq n 0 ≡ b → cond b None (cond b (first_row rows) (row_with_id n rows)) ≡ Some row → (nat_eq n 0 ≡ false) × (row.id ≡ n)
-    by_zero true is h = cc h
-    by_zero false is h = (is, (found_row shelf rows n row ok.all h).1)
+id_of shelf rows n row ok found = grind (arith, nat_tests, found_row shelf rows n row ok.all)
 
 pub cycle_at-none : (shelf : Shelf) (rows : List Row) (place : Place) (ids : set.FinSet nat_cmp) (done : List Row) (row : Row) → IsShelf shelf rows → ((n : ℕ) → set.contains ids n ≡ has_id done n) → has_id done row.id ≡ false
     → row_at place rows ≡ Some row → cycle_at place ids ≡ None
@@ -170,12 +166,7 @@ module _ (c new : CursorState) (seen : Seen) (start : Place) (walk : List Row) (
                 ∙ sym (has_id-append (take k walk) row n) ∙ ap (λ (l : List Row). has_id l n) (sym more);
           },
         )
-    inside s (Ok None) leaves answers = absurd (no_none c.place answers.1 found at_row)
-      where
-        no_none : (p : Place) → NoneAt p c.shelf seen → look rows (asked_at p) ≡ Some row → row_at p rows ≡ Some row → ⊥
-        no_none First none found at = cc (none, found)
-        no_none (Id n) none found at = none
-        no_none End none found at = cc at
+    inside s (Ok None) leaves answers = let there = found in let at = at_row in let nothing = answers.1 in grind arith
     inside s (Err (Cycle n)) leaves answers = let h = sym none ∙ leaves.0 in cc h
     inside s (Err (Missing n)) leaves answers = let h = rw leaves.2 at found in let absent = answers.1 in cc (h, absent)
     inside s (Err (GaveUp n)) leaves answers = (still leaves.1.stays, λ (e : k ≡ length walk). absurd (omega (arith, len, e)))
@@ -198,15 +189,11 @@ module _ (c new : CursorState) (seen : Seen) (start : Place) (walk : List Row) (
     ]
 
     may_fail : (e : WalkEnd) → EndFacts rows start c.place c.ids e → cycle_at c.place c.ids ≡ None → c.place ≢ End → MayFail e c.place
-    may_fail Done facts none open_ = elim facts [ inl p ↦ absurd (open_ p) | inr h ↦ h.0 ]
-    may_fail (CycleAt n) facts none open_ = let h = sym facts ∙ none in cc h
-    may_fail (MissingAt n) facts none open_ = tt
+    may_fail e facts none open_ = grind arith
 
     -- there is no row to ask for
     asks_at_end : (e : WalkEnd) → EndFacts rows start c.place c.ids e → AsksNothing c ⊎ (look rows (asked_at c.place) ≡ None)
-    asks_at_end Done known = elim known [ inl p ↦ inl (inl p) | inr h ↦ inr (rw h.0 h.2) ]
-    asks_at_end (CycleAt n) known = inl (inr (rw known refl))
-    asks_at_end (MissingAt n) known = inr (rw known.0 known.2)
+    asks_at_end e known = grind arith
 
     no_row : (e : WalkEnd) (row : Row) → EndFacts rows start c.place c.ids e → cycle_at c.place c.ids ≡ None → c.place ≢ End → look rows (asked_at c.place) ≡ Some row → ⊥
     no_row e row facts none open_ found = elim (asks_at_end e facts) [ inl asks ↦ (elim asks [ inl p ↦ open_ p | inr some ↦ cc (some, none) ]) | inr empty ↦ (let h = empty in cc (h, found)) ]
@@ -222,15 +209,11 @@ module _ (c new : CursorState) (seen : Seen) (start : Place) (walk : List Row) (
         ids = λ n. ap (λ (s : set.FinSet nat_cmp). set.contains s n) leaves.1.ids ∙ stands.ids n;
       },
     )
-    ending s (MissingAt n) facts (Ok None) leaves answers = absurd (subst (λ (p : Place). NoneAt p c.shelf seen) facts.0 answers.1)
-    ending s Done facts (Err (Cycle n)) leaves answers = absurd (elim facts [ inl p ↦ (let h = rw p at leaves.0 in cc h) | inr f ↦ (let h = rw f.0 at leaves.0 in cc h) ])
-    ending s (CycleAt m) facts (Err (Cycle n)) leaves answers = let h = sym facts ∙ leaves.0 in let e : m ≡ n = cc h in (at_end, ap CycleAt e, still leaves.1)
-    ending s (MissingAt m) facts (Err (Cycle n)) leaves answers = let h = sym facts.1 ∙ leaves.0 in cc h
-    ending s Done facts (Err (Missing n)) leaves answers = absurd (elim facts [ inl p ↦ (let h = sym p ∙ leaves.2 in cc h) | inr f ↦ (let h = sym f.0 ∙ leaves.2 in cc h) ])
-    ending s (MissingAt m) facts (Err (Missing n)) leaves answers = let h = sym facts.0 ∙ leaves.2 in let e : m ≡ n = cc h in (at_end, ap MissingAt e, still leaves.1)
+    ending s e facts (Ok None) leaves answers = let closed = leaves.0 in let nothing = answers.1 in grind arith
+    ending s e facts (Err (Cycle n)) leaves answers = (at_end, (let closed = leaves.0 in grind arith), still leaves.1)
+    ending s e facts (Err (Missing n)) leaves answers = (at_end, (let closed = leaves.0 in let at = leaves.2 in grind arith), still leaves.1)
     ending s e facts (Err (GaveUp n)) leaves answers = (still leaves.1.stays, λ _. may_fail e facts leaves.0 leaves.1.not_at_end)
     ending s e facts (Err (Refused n code)) leaves answers = (still leaves.1.stays, λ _. may_fail e facts leaves.0 leaves.1.not_at_end)
-    ending s (CycleAt m) facts _ leaves answers = let h = sym facts ∙ leaves.0 in cc h
     ending s e facts _ leaves answers = absurd answers
 
   -- a step on a walk that has an end
