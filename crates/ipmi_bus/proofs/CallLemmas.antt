@@ -6,10 +6,7 @@ use Rattle.ipmi_bus.specs.Retrieval.{IsOpen, HasRead, CountsTrouble}
 
 -- where a reservation is current, it was so before, and the store is the same
 pub store-kept : (shelf : Shelf) (s s' : Seen) (n : ℕ) → MayLoseReservation shelf s s' → KeepsStore s s' → current shelf s' ≡ Some n → s'.store ≡ s.store
-store-kept shelf s s' n keeps store now = elim (cases_lt s.stores_added s'.stores_added) [
-  | inl more ↦ let gone = keeps.none_over_change more in cc (gone, now)
-  | inr le ↦ store.stays (omega (arith, store.grows))
-]
+store-kept shelf s s' n keeps store now = grind arith
 
 -- a call that brought nothing leaves what was read, of which the part size and the count of troubles are no part
 pub reading_kept : (r : Retrieval) (s s' : Seen) (part troubles : ℕ) → MayLoseReservation r.shelf s s' → KeepsStore s s' → (0 < r.have → IsSome r.reservation) → IsReading r s → IsReading (record r { part = part; troubles = troubles }) s'
@@ -27,8 +24,7 @@ after_reading true r s s' keeps store reserved reading = record { piece = λ som
 after_reading false r s s' keeps store reserved reading = reading_kept r s s' r.part (r.troubles + 1) keeps store reserved reading
 
 after_have : (is_cancelled : Bool) (r : Retrieval) → (after_trouble is_cancelled r).have ≤ r.have
-after_have true r = omega arith
-after_have false r = omega arith
+after_have is_cancelled r = grind arith
 
 -- one call more
 module _ (start old : Retrieval) (s s' s'' : Seen) (same : SameRequest start old) (since : HonestSince start old s s') (stays : StaysHonest s' s'') where

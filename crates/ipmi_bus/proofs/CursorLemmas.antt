@@ -42,26 +42,18 @@ handed_row-whole p handed place asked r id next len is = rw (id, next, len, is) 
 
 -- what is handed out was not handed out before
 pub contains-handed_id : (place : Place) (ids : set.FinSet nat_cmp) (asked : ℕ) (buffer : List ℕ) → (place ≡ First → ids ≡ set.empty) → IsAsked place ids asked → set.contains ids (handed_id place asked buffer) ≡ false
-contains-handed_id First ids asked buffer first asks = rw (first refl) (contains-empty nat_cmp _)
-contains-handed_id (Id n) ids asked buffer first asks = rw asks.id (asked_unseen n ids asks.none).1
-contains-handed_id End ids asked buffer first asks = absurd (asks.not_at_end refl)
+contains-handed_id place ids asked buffer first asks = grind (arith, nat_tests, contains-empty nat_cmp)
 
 -- the row that is handed out has the id that was asked for
 has_id_asked : (place : Place) (ids : set.FinSet nat_cmp) (asked : ℕ) (r : Retrieval) → 5 ≤ r.have → IsAsked place ids asked → HasIdAsked place (whole_row place asked r)
-has_id_asked First ids asked r some asks =
-    let low = get_or-take r.have r.buffer 0 0 (omega arith) in let high = get_or-take r.have r.buffer 1 0 (omega arith) in omega (arith, low, high)
-has_id_asked (Id n) ids asked r some asks = asks.id
-has_id_asked End ids asked r some asks = absurd (asks.not_at_end refl)
+has_id_asked place ids asked r some asks = grind (arith, get_or-take)
 
 -- and is as long as its bytes say
 length-take-whole : (shelf : Shelf) (have : ℕ) (buffer : List ℕ) → 5 ≤ have → have ≤ length buffer → have ≡ wanted_len shelf have buffer → length (take have buffer) ≡ whole_len shelf (take have buffer)
-length-take-whole Sdr have buffer some fits whole =
-    let len = length-take have buffer in let byte = get_or-take have buffer 4 0 (omega arith) in grind (arith, nat_tests)
-length-take-whole Sel have buffer some fits whole = omega (arith, length-take have buffer)
+length-take-whole shelf have buffer some fits whole = grind (arith, nat_tests, length-take, get_or-take)
 
 largest_fits : (shelf : Shelf) → largest_len shelf ≤ 256
-largest_fits Sdr = omega arith
-largest_fits Sel = omega arith
+largest_fits shelf = grind arith
 
 -- the cursor hands out a whole row, which it had not handed out before
 pub hands_out : (old new : CursorState) (asked : ℕ) (r : Retrieval) (row : Row) → row ≡ whole_row old.place asked r → IsAsked old.place old.ids asked → (old.place ≡ First → old.ids ≡ set.empty) → new.place ≡ place_after row.next → new.ids ≡ set.insert old.ids row.id

@@ -13,19 +13,13 @@ get_or-read have i buffer bytes lt same = sym (get_or-take have buffer i 0 lt) �
 
 -- no more is wanted than the row has
 pub wanted_within : (shelf : Shelf) (have : ℕ) (buffer : List ℕ) (row : Row) → IsRow shelf row → take have buffer ≡ take have row.bytes → wanted_len shelf have buffer ≤ length row.bytes
-wanted_within Sdr have buffer row ok same = elim (cases_lt have 5) [
-  | inl lt ↦ let whole = ok.whole in grind (arith, nat_tests)
-  | inr le ↦ let whole = ok.whole in let b = get_or-read have 4 buffer row.bytes (omega arith) same in grind (arith, nat_tests)
-]
-wanted_within Sel have buffer row ok same = omega (arith, ok.whole)
+wanted_within shelf have buffer row ok same =
+    let whole = ok.whole in let byte = λ (lt : 4 < have). get_or-read have 4 buffer row.bytes lt same in grind (arith, nat_tests)
 
 -- what is as long as is wanted is whole
 pub wanted_whole : (shelf : Shelf) (have : ℕ) (buffer : List ℕ) (row : Row) → IsRow shelf row → take have buffer ≡ take have row.bytes → have ≡ wanted_len shelf have buffer → have ≡ length row.bytes
-wanted_whole Sdr have buffer row ok same is = elim (cases_lt have 5) [
-  | inl lt ↦ let short : wanted_len Sdr have buffer ≡ 5 = grind (arith, nat_tests) in absurd (omega arith)
-  | inr le ↦ let whole = ok.whole in let b = get_or-read have 4 buffer row.bytes (omega arith) same in grind (arith, nat_tests)
-]
-wanted_whole Sel have buffer row ok same is = omega (arith, ok.whole)
+wanted_whole shelf have buffer row ok same is =
+    let whole = ok.whole in let byte = λ (lt : 4 < have). get_or-read have 4 buffer row.bytes lt same in grind (arith, nat_tests)
 
 -- what was read before, while the reservation is current
 take-before : (r : Retrieval) (s : Seen) (row : Row) → IsReading r s → (0 < r.have → current r.shelf s ≡ r.reservation) → look (rows_of r.shelf s.store) r.id ≡ Some row → take r.have r.buffer ≡ take r.have row.bytes

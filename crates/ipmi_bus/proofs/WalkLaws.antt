@@ -89,16 +89,8 @@ left_over_lt (r ∷ rows) done row found fresh =
 
 -- a row at a place is a row of the shelf
 found_at : (shelf : Shelf) (place : Place) (rows : List Row) (row : Row) → IsShelf shelf rows → row_at place rows ≡ Some row → (look rows row.id ≡ Some row) × (row_with_id row.id rows ≡ Some row)
-found_at shelf First [] row ok found = cc found
-found_at shelf First (x ∷ rows) row ok found =
-    let same : x ≡ row = cc found in
-    let here : row_with_id row.id (x ∷ rows) ≡ Some row = ap (λ (b : Bool). cond b (Some x) (row_with_id row.id rows)) (eq-eqb x.id row.id (ap (λ (r : Row). r.id) same)) ∙ found in
-    (elim (nat_eq row.id 0) as (λ b. cond b (Some x) (row_with_id row.id (x ∷ rows)) ≡ Some row) [ true ↦ found | false ↦ here ], here)
-found_at shelf (Id n) rows row ok found =
-    let is = id_of shelf rows n row ok found in
-    let looks = look-asked_at (Id n) rows row found in
-    let finds : row_with_id n rows ≡ Some row = sym (ap (λ (b : Bool). cond b (first_row rows) (row_with_id n rows)) is.0) ∙ looks in
-    (ap (look rows) is.1 ∙ looks, ap (λ (m : ℕ). row_with_id m rows) is.1 ∙ finds)
+found_at shelf First rows row ok found = grind (arith, nat_tests)
+found_at shelf (Id n) rows row ok found = let is = id_of shelf rows n row ok found in grind (arith, nat_tests)
 found_at shelf End rows row ok found = cc found
 
 AllOf-snoc : (rows done : List Row) (row : Row) → AllOf rows done → look rows row.id ≡ Some row → AllOf rows (done ++ row ∷ [])

@@ -56,12 +56,11 @@ id_of shelf rows n row ok found = grind (arith, nat_tests, found_row shelf rows 
 
 pub cycle_at-none : (shelf : Shelf) (rows : List Row) (place : Place) (ids : set.FinSet nat_cmp) (done : List Row) (row : Row) → IsShelf shelf rows → ((n : ℕ) → set.contains ids n ≡ has_id done n) → has_id done row.id ≡ false
     → row_at place rows ≡ Some row → cycle_at place ids ≡ None
-cycle_at-none shelf rows First ids done row ok same fresh found = refl
 cycle_at-none shelf rows (Id n) ids done row ok same fresh found =
     let is = id_of shelf rows n row ok found in
     let out : set.contains ids n ≡ false = same n ∙ ap (has_id done) (sym is.1) ∙ fresh in
     rw (is.0, out) refl
-cycle_at-none shelf rows End ids done row ok same fresh found = refl
+cycle_at-none shelf rows _ ids done row ok same fresh found = refl
 
 place_after_rows-append : (start : Place) (done : List Row) (row : Row) → place_after_rows start (done ++ row ∷ []) ≡ place_after row.next
 place_after_rows-append start [] row = refl
@@ -98,9 +97,7 @@ end_facts rows start [] place ids end ends p same = empty_walk_facts rows start 
 empty_facts : (rows : List Row) (start : Place) (walk : List Row) (place : Place) (ids : set.FinSet nat_cmp) (end : WalkEnd) → IsWalk rows start walk → EndsBy rows start walk end → place ≡ End → start ≡ First → first_row rows ≡ None
     → EndFacts rows start place ids end
 empty_facts rows start (row ∷ walk) place ids end w ends p first none = let h = sym (ap (λ (q : Place). row_at q rows) first) ∙ w.first in cc (h, none)
-empty_facts rows start [] place ids Done w ends p first none = inl p
-empty_facts rows start [] place ids (CycleAt n) w ends p first none = absurd (subst (λ (q : Place). EndsEmpty rows q (CycleAt n)) first ends)
-empty_facts rows start [] place ids (MissingAt n) w ends p first none = absurd (subst (λ (q : Place). EndsEmpty rows q (MissingAt n)) first ends)
+empty_facts rows start [] place ids end w ends p first none = grind arith
 
 -- ---- the law
 
