@@ -37,7 +37,7 @@ module _ (start old : Retrieval) (s s' s'' : Seen) (same : SameRequest start old
   -- a reservation that is held on
   pub held_on : (new : Retrieval) → MayLoseReservation old.shelf s' s'' → s'.troubles ≤ s''.troubles → new.reservation ≡ old.reservation → IsSome start.reservation → s''.troubles ≡ s.troubles → KeepsHeld start new s s''
   held_on new keeps grows held some e =
-      let before = since.keeps some (omega (arith, since.troubles)) in
+      let before = since.keeps some (omega arith) in
       let given = rw same.shelf at keeps.none_given in
       record { held = held ∙ before.held; none_given = λ n now. before.none_given n (given n now) }
 
@@ -51,11 +51,9 @@ module _ (start old : Retrieval) (s s' s'' : Seen) (same : SameRequest start old
       let goes : HonestSince start (after_trouble is_cancelled old) s s'' = record {
         stays = all;
         reading = after_reading is_cancelled old s' s'' keeps stays.store open_.reserved since.reading;
-        keeps = λ some e. absurd (omega (arith, since.troubles, troubled.troubles));
-        troubles = omega (arith, since.troubles, troubled.troubles);
+        keeps = λ some e. absurd (omega arith);
+        met = search arith;
         fresh_troubles = omega (arith, since.fresh_troubles, troubled.fresh_troubles);
-        refusals = troubled.refusals ∙ since.refusals;
-        last_code = troubled.last_code ∙ since.last_code;
         plain = λ p holds. absurd (not_plain p holds);
         within = λ e. omega (arith, since.within (first e), after_have is_cancelled old);
       } in
@@ -64,7 +62,7 @@ module _ (start old : Retrieval) (s s' s'' : Seen) (same : SameRequest start old
       let given : ReadIsHonest start old s s'' (Err (Ended.GaveUp old.id)) = record {
         stays = all;
         answers = search (arith, counts.2);
-        keeps = λ some e. absurd (omega (arith, since.troubles, troubled.troubles));
+        keeps = λ some e. absurd (omega arith);
         plain = λ p holds. absurd (not_plain p holds);
       } in
       rw (counts.0, counts.1) given
@@ -89,10 +87,8 @@ module _ (start old : Retrieval) (s s' s'' : Seen) (same : SameRequest start old
         stays = all;
         reading = record { piece = λ some now. let held = open_.reserved some in cc (held, none) };
         keeps = λ some e. let held = (since.keeps some (omega (arith, quiet.troubles))).held in cc (held, none, some);
-        troubles = quiet.troubles ∙ since.troubles;
+        met = search arith;
         fresh_troubles = quiet.fresh_troubles ∙ since.fresh_troubles;
-        refusals = quiet.refusals ∙ since.refusals;
-        last_code = quiet.last_code ∙ since.last_code;
         plain = λ p holds. record { held = λ m e. answers.gives.1 ∙ e };
         within = λ e. since.within (first e);
       }

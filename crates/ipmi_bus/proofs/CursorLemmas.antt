@@ -10,8 +10,7 @@ use Rattle.ipmi_bus.proofs.WalkLemmas.{id_of}
 
 -- the id that is handed out is the row's
 begins : (rows : List Row) (row : Row) → BeginsWithId rows → first_row rows ≡ Some row → get_or row.bytes 0 0 + 256 * get_or row.bytes 1 0 ≡ row.id
-begins [] row ok found = cc found
-begins (r ∷ rows) row ok found = let e : r ≡ row = cc found in subst (λ (x : Row). get_or x.bytes 0 0 + 256 * get_or x.bytes 1 0 ≡ x.id) e ok
+begins rows row ok found = grind arith
 
 -- an id that is asked for after the start is not 0000h, and was not handed out
 asked_unseen : (n : ℕ) (ids : set.FinSet nat_cmp) → cycle_at (Id n) ids ≡ None → (nat_eq n 0 ≡ false) × (set.contains ids n ≡ false)

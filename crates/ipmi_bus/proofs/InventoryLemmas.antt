@@ -56,9 +56,7 @@ module _ (old r : FruRetrieval) (s s' s'' : Seen) (asked got : ℕ) (len : lengt
   part_taken = record {
     stays = all;
     read = read_more;
-    troubles = calm.troubles ∙ since.troubles;
-    refusals = calm.refusals ∙ since.refusals;
-    last_code = calm.last_code ∙ since.last_code;
+    met = search (arith, calm);
     fresh_most = λ left. fresh_most _ gave.gives.2.counts;
     found = λ all. subst IsSome (sym gave.gives.1) refl;
     fresh = fresh_more;
@@ -107,9 +105,7 @@ module _ (old : FruRetrieval) (bytes : Vec ℕ Global) (s s' s'' : Seen) (asked 
         stays = stays;
         read = λ same. let before = since.read (at_first same) in
             record { whole = before.whole; found = before.found; size = before.size ∙ sym len; bytes = ap (take old.have) items ∙ before.bytes };
-        troubles = omega (arith, since.troubles);
-        refusals = refusals ∙ since.refusals;
-        last_code = last_code ∙ since.last_code;
+        met = search arith;
         fresh_most = λ left. omega (arith, since.fresh_most open_.more);
         found = λ all. absurd (omega (arith, open_.more));
         fresh = λ same left. omega (arith, since.fresh (at_first same) open_.more);
@@ -168,39 +164,34 @@ same_trans a b c p q = record { id = q.id ∙ p.id; tries = q.tries ∙ p.tries;
 
 -- ---- the whole reading
 
--- the size was told, and no byte is there
-pub since_size : (id : ℕ) (size : Size) (s s' : Seen) (r : FruRetrieval) → HasSize id size s s' → r.id ≡ id → r.troubles ≡ size.troubles → r.have ≡ 0 → length r.bytes.items ≡ size.bytes → FruSince r s s'
-since_size id size s s' r has id_is troubles none len = record {
-  stays = has.stays;
-  read = λ same. record {
-    whole = has.found.0;
-    found = ap (inventory_of r.id) (sym (has.stays.store.stays same)) ∙ ap (λ (n : ℕ). inventory_of n s'.store) id_is ∙ has.found.1;
-    size = has.found.2 ∙ sym len;
-    bytes = ap (λ n. take n r.bytes.items) none ∙ sym (ap (λ n. take n has.found.0) none);
-  };
-  troubles = has.troubles_are ∙ ap (λ n. s.troubles + n) (sym troubles);
-  refusals = has.refusals;
-  last_code = has.last_code;
-  fresh_most = λ more. omega (arith, has.fresh_troubles (omega (arith, none, len)), troubles);
-  found = λ all. subst (λ (n : ℕ). IsSome (inventory_of n s'.store)) (sym id_is) (subst IsSome (sym has.found.1) refl);
-  fresh = λ same more. has.fresh_troubles (omega (arith, none, len)) ∙ ap (λ n. s.fresh_troubles + n) (sym troubles);
-  plain = λ p. (troubles ∙ (has.plain p).0, (has.plain p).1);
-}
-
--- the inventory is as long as was told
-len_is : (id : ℕ) (size : Size) (s s' : Seen) → HasSize id size s s' → s'.stores_added ≡ s.stores_added → size.bytes ≡ inventory_len id s.store
-len_is id size s s' has same =
-    sym has.found.2 ∙ ap (λ (o : Option (List ℕ)). length (unwrap_or o [])) (sym (ap (inventory_of id) (sym (has.stays.store.stays same)) ∙ has.found.1))
-
 -- a part size has at most eight digits
 pub digits_most : (n : ℕ) → digits n ≤ 8
 digits_most n = grind (arith, nat_tests)
 
-pub bound_is : (id tries : ℕ) (size : Size) (s s' s'' : Seen) (r : FruRetrieval) → HasSize id size s s' → StaysHonest s' s'' → r.troubles ≡ size.troubles → r.tries ≡ tries → r.have ≡ 0 → length r.bytes.items ≡ size.bytes → size.troubles ≤ tries
-    → s'.calls ≡ s.calls + size.troubles + 1 → s''.calls + 1 ≤ s'.calls + calls_left r → s''.stores_added ≡ s.stores_added → s''.calls ≤ s.calls + fru_call_bound tries (inventory_len id s.store)
-bound_is id tries size s s' s'' r has stays troubles tries_are none len few begun made same =
-    let first : s'.stores_added ≡ s.stores_added = omega (arith, has.stays.store.grows, stays.store.grows) in
-    omega (arith, len_is id size s s' has first, digits_most r.part, none)
+-- the size was told, and no byte is there
+module _ (id part tries : ℕ) (size : Size) (bytes : Vec ℕ Global) (s s' : Seen) (has : HasSize id size s s') (len : length bytes.items ≡ size.bytes) where
+  abbrev begun : FruRetrieval
+  begun = record { id = id; part = part; tries = tries; troubles = size.troubles; have = 0; bytes = bytes }
+
+  found_at_first : s'.stores_added ≡ s.stores_added → inventory_of id s.store ≡ Some has.found.0
+  found_at_first same = ap (inventory_of id) (sym (has.stays.store.stays same)) ∙ has.found.1
+
+  pub since_size : FruSince begun s s'
+  since_size = record {
+    stays = has.stays;
+    read = λ same. record { whole = has.found.0; found = found_at_first same; size = has.found.2 ∙ sym len; bytes = refl };
+    met = has.met;
+    fresh_most = λ more. omega (arith, has.fresh_troubles (omega (arith, len)));
+    found = λ all. subst IsSome (sym has.found.1) refl;
+    fresh = λ same more. has.fresh_troubles (omega (arith, len));
+    plain = has.plain;
+  }
+
+  pub bound_is : (s'' : Seen) → StaysHonest s' s'' → size.troubles ≤ tries → s'.calls ≡ s.calls + size.troubles + 1 → s''.calls + 1 ≤ s'.calls + calls_left begun → s''.stores_added ≡ s.stores_added
+      → s''.calls ≤ s.calls + fru_call_bound tries (inventory_len id s.store)
+  bound_is s'' stays few called made same =
+      let first = found_at_first (omega (arith, has.stays.store.grows, stays.store.grows)) in
+      omega (arith, has.found.2, ap (λ (o : Option (List ℕ)). length (unwrap_or o [])) first, digits_most part)
 
 -- all bytes are there
 module _ (id tries : ℕ) (s s' : Seen) (r : FruRetrieval) (since : FruSince r s s') (id_is : r.id ≡ id) (tries_are : r.tries ≡ tries) (few : r.troubles ≤ r.tries) (all : r.have ≡ length r.bytes.items) where

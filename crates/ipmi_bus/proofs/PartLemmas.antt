@@ -81,10 +81,8 @@ module _ (start old : Retrieval) (buffer : List ℕ) (s s' s'' : Seen) (n asked 
         stays = all;
         reading = record { piece = λ some now. (row, read) };
         keeps = keeps_held;
-        troubles = quiet.troubles ∙ since.troubles;
+        met = search arith;
         fresh_troubles = quiet.fresh_troubles ∙ since.fresh_troubles;
-        refusals = quiet.refusals ∙ since.refusals;
-        last_code = quiet.last_code ∙ since.last_code;
         plain = holds;
         within = λ e. let len = rw (same.shelf, same.id, all.store.stays e) at (ap len_of gives.found) in omega (arith, gives.piece.within, len);
       }
@@ -152,10 +150,8 @@ module _ (start old new : Retrieval) (s s' s'' : Seen) (n asked : ℕ) (code : C
     stays = over_all;
     reading = reading_kept old s' s'' part old.troubles parts.keeps stays.store open_.reserved since.reading;
     keeps = keeps_on (record old { part = part }) (omega (arith, quiet.troubles)) refl;
-    troubles = quiet.troubles ∙ since.troubles;
+    met = search arith;
     fresh_troubles = quiet.fresh_troubles ∙ since.fresh_troubles;
-    refusals = quiet.refusals ∙ since.refusals;
-    last_code = quiet.last_code ∙ since.last_code;
     plain = λ p h. absurd (not_plain p h);
     within = λ e. since.within (omega (arith, since.stays.store.grows, stays.store.grows));
   }

@@ -14,8 +14,7 @@ found_row shelf (r ∷ rows) n row all found = by_id (λ h. found_row shelf rows
     by_id later false is found = later found
 
 first_is_row : (shelf : Shelf) (rows : List Row) (row : Row) → AllRows shelf rows → first_row rows ≡ Some row → IsRow shelf row
-first_is_row shelf [] row all found = cc found
-first_is_row shelf (r ∷ rows) row all found = let e : r ≡ row = cc found in subst (IsRow shelf) e all.0
+first_is_row shelf rows row all found = grind arith
 
 pub look_row : (shelf : Shelf) (rows : List Row) (n : ℕ) (row : Row) → IsShelf shelf rows → look rows n ≡ Some row → IsRow shelf row
 look_row shelf rows n row ok found = grind (arith, nat_tests, first_is_row shelf rows row ok.all, found_row shelf rows n row ok.all)

@@ -122,32 +122,27 @@ the_end walk next = cond (nat_eq next 65535) Done (cond (nat_eq next 0 || has_id
 end_after : (rows : List Row) (walk : List Row) (next : ℕ) → (has_id walk next ≡ false → row_at (place_after next) rows ≡ None) → EndsAfter rows walk next (the_end walk next)
 end_after rows walk next none = grind (arith, nat_tests)
 
+empty_end : (rows : List Row) (n : ℕ) → (nat_eq n 0 ≡ false → look rows n ≡ None) → EndsEmpty rows (Id n) (cond (nat_eq n 0) (CycleAt n) (MissingAt n))
+empty_end rows n none = grind (arith, nat_tests)
+
+no_row : (o : Option Row) → ((row : Row) → o ≡ Some row → ⊥) → o ≡ None
+no_row None none = refl
+no_row (Some row) none = absurd (none row refl)
+
 -- where the place has no row, or one that is in the walk already
 ends_here : (shelf : Shelf) (rows : List Row) (start : Place) (walk : List Row) → IsShelf shelf rows → ((row : Row) → row_at (place_after_rows start walk) rows ≡ Some row → has_id walk row.id ≡ true) → (end : WalkEnd) × EndsBy rows start walk end
-ends_here shelf rows First [] ok none = by (first_row rows) refl
-  where
-    by : (o : Option Row) → first_row rows ≡ o → (end : WalkEnd) × EndsBy rows First [] end
-    by None is = (Done, is)
-    by (Some row) is = let h = none row is in cc h
-ends_here shelf rows (Id n) [] ok none = by (nat_eq n 0) refl (look rows n) refl
-  where
-    by : (b : Bool) → nat_eq n 0 ≡ b → (o : Option Row) → look rows n ≡ o → (end : WalkEnd) × EndsBy rows (Id n) [] end
-    by true p o is = (CycleAt n, (refl, eqb-true n 0 p))
-    by false p None is = (MissingAt n, (refl, eqb-false n 0 p, is))
-    by false p (Some row) is = let h = none row (ap (λ (b : Bool). cond b None (look rows n)) p ∙ is) in cc h
+ends_here shelf rows First [] ok none = (Done, no_row (first_row rows) (λ row is. let h = none row is in cc h))
+ends_here shelf rows (Id n) [] ok none = (cond (nat_eq n 0) (CycleAt n) (MissingAt n), empty_end rows n (λ p. no_row (look rows n) (λ row is. let h = none row (rw p (rw p at is)) in cc h)))
 ends_here shelf rows End [] ok none = (Done, tt)
 ends_here shelf rows start (d ∷ walk) ok none =
     let next = last_next d.next walk in
-    let place = place_after_rows-last d.next walk in
-    (the_end (d ∷ walk) next, end_after rows (d ∷ walk) next (λ fresh. by fresh (row_at (place_after next) rows) refl place))
-  where
-    by : has_id (d ∷ walk) (last_next d.next walk) ≡ false → (o : Option Row) → row_at (place_after (last_next d.next walk)) rows ≡ o → place_after_rows (place_after d.next) walk ≡ place_after (last_next d.next walk)
-        → row_at (place_after (last_next d.next walk)) rows ≡ None
-    by fresh None is place = is
-    by fresh (Some row) is place =
-        let stands = none row (ap (λ (p : Place). row_at p rows) place ∙ is) in
-        let id = linked shelf (last_next d.next walk) rows row ok is in
-        let h = sym (ap (has_id (d ∷ walk)) id.0 ∙ stands) ∙ fresh in cc h
+    (
+      the_end (d ∷ walk) next,
+      end_after rows (d ∷ walk) next (λ fresh. no_row (row_at (place_after next) rows) (λ row is.
+      let stands = none row (ap (λ (p : Place). row_at p rows) (place_after_rows-last d.next walk) ∙ is) in
+      let id = linked shelf next rows row ok is in
+      let h = sym (ap (has_id (d ∷ walk)) id.0 ∙ stands) ∙ fresh in cc h)),
+    )
 
 decide : (shelf : Shelf) (rows : List Row) (start : Place) (done : List Row) → IsShelf shelf rows → IsWalk rows start done
     → ((row : Row) → row_at (place_after_rows start done) rows ≡ Some row → has_id done row.id ≡ false → HasWalk rows start) → HasWalk rows start

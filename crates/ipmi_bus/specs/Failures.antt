@@ -15,13 +15,17 @@ ValueFailureIs Busy code id troubles tries result = ValueTroubleIs id troubles t
 ValueFailureIs NotPresent code id troubles tries result = result ≡ Ok ValueFailure.Absent
 ValueFailureIs _ code id troubles tries result = result ≡ Err (Refused id code)
 
+-- so many troubles came, and no refusal
+pub record HasMet (troubles : ℕ) (s s' : Seen) : Type 0 where
+  pub troubles_are : s'.troubles ≡ s.troubles + troubles
+  pub refusals : s'.refusals ≡ s.refusals
+  pub last_code : s'.last_code ≡ s.last_code
+
 -- so many troubles came since the first call, and nothing else
 pub record HasAsked (troubles : ℕ) (s s' : Seen) : Type 0 where
   pub stays : StaysHonest s s'
-  pub troubles_are : s'.troubles ≡ s.troubles + troubles
+  pub met : HasMet troubles s s'
   pub fresh_troubles : s'.fresh_troubles ≡ s.fresh_troubles + troubles
-  pub refusals : s'.refusals ≡ s.refusals
-  pub last_code : s'.last_code ≡ s.last_code
   pub plain : IsTrue s.plain → (troubles ≡ 0) × KeepsReservations s s'
 
 -- the same call was made so often, each time with a trouble

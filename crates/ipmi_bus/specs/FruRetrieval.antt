@@ -4,6 +4,7 @@ use Rattle.ipmi_bus.specs.Types.{Busy, Cancelled, Code, CodeClass, FruEnded, Fru
 use Rattle.ipmi_bus.specs.Store.{inventory_of}
 use Rattle.ipmi_bus.specs.Seen.{Seen, StaysHonest}
 use Rattle.ipmi_bus.specs.Readers.{KeepsReservations, InventoryCounts, InventoryIs, PlainMayAnswer}
+use Rattle.ipmi_bus.specs.Failures.{HasMet}
 use Rattle.ipmi_bus.specs.Bounds.{digits}
 use Rattle.ipmi_bus.specs.Calls.{asked_len, smaller_part}
 use Rattle.ipmi_bus.specs.Code.{class_of}
@@ -99,9 +100,7 @@ pub record HasRead (r : FruRetrieval) (s : Seen) : Type 0 where
 pub record FruSince (r : FruRetrieval) (s s' : Seen) : Type 0 where
   pub stays : StaysHonest s s'
   pub read : s'.stores_added ≡ s.stores_added → HasRead r s
-  pub troubles : s'.troubles ≡ s.troubles + r.troubles
-  pub refusals : s'.refusals ≡ s.refusals
-  pub last_code : s'.last_code ≡ s.last_code
+  pub met : HasMet r.troubles s s'
   pub fresh_most : r.have < length r.bytes.items → s'.fresh_troubles ≤ s.fresh_troubles + r.troubles
   pub found : r.have ≡ length r.bytes.items → IsSome (inventory_of r.id s'.store)
   pub fresh : s'.stores_added ≡ s.stores_added → r.have < length r.bytes.items → s'.fresh_troubles ≡ s.fresh_troubles + r.troubles
@@ -155,10 +154,8 @@ pub record IsSizeAnswered (tries : ℕ) (result : Result Size FruEnded) : Type 0
 pub record HasSize (id : ℕ) (size : Size) (s s' : Seen) : Type 0 where
   pub stays : StaysHonest s s'
   pub found : (bytes : List ℕ) × (inventory_of id s'.store ≡ Some bytes) × (length bytes ≡ size.bytes)
-  pub troubles_are : s'.troubles ≡ s.troubles + size.troubles
+  pub met : HasMet size.troubles s s'
   pub fresh_troubles : 0 < size.bytes → s'.fresh_troubles ≡ s.fresh_troubles + size.troubles
-  pub refusals : s'.refusals ≡ s.refusals
-  pub last_code : s'.last_code ≡ s.last_code
   pub plain : IsTrue s.plain → (size.troubles ≡ 0) × KeepsReservations s s'
 
 abbrev pub SizeNext : ℕ → ℕ → Seen → Seen → Result Size FruEnded → Type 0

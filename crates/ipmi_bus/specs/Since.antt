@@ -5,6 +5,7 @@ use Rattle.ipmi_bus.specs.Shelf.{Row, look, largest_len}
 use Rattle.ipmi_bus.specs.Store.{rows_of}
 use Rattle.ipmi_bus.specs.Seen.{Seen, IsHonest, StaysHonest}
 use Rattle.ipmi_bus.specs.Tries.{WithinTries, GivesUp, IsRefusedWith, NotGivenUpOrRefused}
+use Rattle.ipmi_bus.specs.Failures.{HasMet}
 use Rattle.ipmi_bus.specs.Bounds.{digits, step_call_bound}
 use Rattle.ipmi_bus.specs.Retrieval.{IsOpen, SameRequest, HasRead, IsReading, HoldsCurrent, KeepsHeld, CallIsAnswered, calls_left, row_len, wanted_len, NamesId}
 
@@ -16,10 +17,8 @@ pub record HonestSince (start now : Retrieval) (s s' : Seen) : Type 0 where
   pub stays : StaysHonest s s'
   pub reading : IsReading now s'
   pub keeps : IsSome start.reservation → s'.troubles ≡ s.troubles → KeepsHeld start now s s'
-  pub troubles : s'.troubles ≡ s.troubles + now.troubles
+  pub met : HasMet now.troubles s s'
   pub fresh_troubles : s'.fresh_troubles ≡ s.fresh_troubles + now.troubles
-  pub refusals : s'.refusals ≡ s.refusals
-  pub last_code : s'.last_code ≡ s.last_code
   pub plain : IsTrue s.plain → HoldsCurrent start s → HoldsCurrent now s'
   pub within : s'.stores_added ≡ s.stores_added → now.have ≤ row_len start s
 
