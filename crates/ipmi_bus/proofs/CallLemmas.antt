@@ -1,116 +1,107 @@
 -- What the answers of an honest controller leave of a record that is being read.
-use Rattle.std.proofs.Common.{◌≡◌, ℕ, ◌+◌, ◌<◌, Bool, true, false, Option, None, Some, Result, Ok, Err, refl, sym, subst, ◌∙◌, inl, inr, arith, ◌≤◌, IsTrue, IsSome}
+use Rattle.std.proofs.Common.{◌≡◌, ℕ, ◌+◌, ◌<◌, Bool, true, false, Option, None, Some, Result, Ok, Err, refl, sym, ap, ◌∙◌, inl, inr, arith, ◌≤◌, IsTrue, IsSome}
 use Rattle.std.proofs.lemmas.Bool.{cases_lt}
-use Rattle.ipmi_bus.specs.Prelude.{Code, CodeClass, Cancelled, Busy, SmallerPart, NotPresent, Refusal, Shelf, Ended, Outcome, Retrieval, Row, class_of, FailsWith, ReserveAnswers, Seen, KeepsStore, MayLoseReservation, IsTroubled, IsRefused, current, StaysHonest, IsReading, HoldsCurrent, GoesOn, HasGivenUp, CallAnswers, CallIsHonest, after_trouble, IsRefusedBy, ReserveFails}
-use Rattle.ipmi_bus.specs.declared.step.Ended.TheVariants.{Refused}
+use Rattle.ipmi_bus.specs.Prelude.{Code, CodeClass, Cancelled, Busy, Refusal, Refused, Shelf, Ended, Outcome, Retrieval, Row, Store, look, rows_of, class_of, FailsWith, ReserveAnswers, Seen, stays_trans, KeepsStore, MayLoseReservation, IsTroubled, IsRefused, current, StaysHonest, SameRequest, IsReading, HoldsCurrent, IsCalm, KeepsHeld, HonestSince, ReadIsHonest, ReadNext, WithinTries, after_trouble, IsRefusedBy, ReserveFails}
 use Rattle.ipmi_bus.specs.Retrieval.{IsOpen, HasRead, CountsTrouble}
 
 -- where a reservation is current, it was so before, and the store is the same
 pub store-kept : (shelf : Shelf) (s s' : Seen) (n : ℕ) → MayLoseReservation shelf s s' → KeepsStore s s' → current shelf s' ≡ Some n → s'.store ≡ s.store
-store-kept shelf s s' n keeps store now = elim (cases_lt s.stores_added s'.stores_added) [
-  | inl more ↦ let gone = keeps.none_over_change more in cc (gone, now)
-  | inr le ↦ store.stays (omega (arith, store.grows))
-]
+store-kept shelf s s' n keeps store now = grind arith
 
-pub read_moved : (r : Retrieval) (s s' : Seen) (row : Row) → s'.store ≡ s.store → HasRead r s row → HasRead r s' row
-read_moved r s s' row same read = record {
-  found = rw same read.found;
-  within = read.within;
-  bytes = read.bytes;
-  next = read.next;
-}
-
--- a call that brought nothing leaves what was read
-pub reading_kept : (r : Retrieval) (s s' : Seen) → MayLoseReservation r.shelf s s' → KeepsStore s s' → (0 < r.have → IsSome r.reservation) → IsReading r s → IsReading r s'
-reading_kept r s s' keeps store reserved reading = record {
-  piece = λ some now. at r.reservation refl (reserved some) some now;
-}
+-- a call that brought nothing leaves what was read, of which the part size and the count of troubles are no part
+pub reading_kept : (r : Retrieval) (s s' : Seen) (part troubles : ℕ) → MayLoseReservation r.shelf s s' → KeepsStore s s' → (0 < r.have → IsSome r.reservation) → IsReading r s → IsReading (record r { part = part; troubles = troubles }) s'
+reading_kept r s s' part troubles keeps store reserved reading = record { piece = λ some now. at r.reservation refl (reserved some) some now }
   where
-    at : (o : Option ℕ) → r.reservation ≡ o → IsSome o → 0 < r.have → current r.shelf s' ≡ r.reservation → (row : Row) × HasRead r s' row
+    at : (o : Option ℕ) → r.reservation ≡ o → IsSome o → 0 < r.have → current r.shelf s' ≡ r.reservation → (row : Row) × HasRead (record r { part = part; troubles = troubles }) s' row
     at None is h some now = cc h
     at (Some n) is h some now =
         let held : current r.shelf s' ≡ Some n = now ∙ is in
         let before = reading.piece some (keeps.none_given n held ∙ sym is) in
-        (before.0, read_moved r s s' before.0 (store-kept r.shelf s s' n keeps store held) before.1)
-
--- the count of troubles is no part of what was read
-reading_counted : (r : Retrieval) (s : Seen) (n : ℕ) → IsReading r s → IsReading (record r { troubles = n }) s
-reading_counted r s n reading = record {
-  piece = λ some now. let before = reading.piece some now in
-      (before.0, record { found = before.1.found; within = before.1.within; bytes = before.1.bytes; next = before.1.next });
-}
-
-reading_dropped : (r : Retrieval) (s : Seen) → r.have ≡ 0 → IsReading r s
-reading_dropped r s none = record { piece = λ some now. absurd (omega arith) }
+        (before.0, record { found = ap (λ (x : Store). look (rows_of r.shelf x) r.id) (store-kept r.shelf s s' n keeps store held) ∙ before.1.found; within = before.1.within; bytes = before.1.bytes; next = before.1.next })
 
 after_reading : (is_cancelled : Bool) (r : Retrieval) (s s' : Seen) → MayLoseReservation r.shelf s s' → KeepsStore s s' → (0 < r.have → IsSome r.reservation) → IsReading r s → IsReading (after_trouble is_cancelled r) s'
-after_reading true r s s' keeps store reserved reading = reading_dropped _ s' refl
-after_reading false r s s' keeps store reserved reading = reading_counted r s' _ (reading_kept r s s' keeps store reserved reading)
-
-troubles-after_trouble : (is_cancelled : Bool) (r : Retrieval) → (after_trouble is_cancelled r).troubles ≡ r.troubles + 1
-troubles-after_trouble true r = refl
-troubles-after_trouble false r = refl
+after_reading true r s s' keeps store reserved reading = record { piece = λ some now. absurd (omega arith) }
+after_reading false r s s' keeps store reserved reading = reading_kept r s s' r.part (r.troubles + 1) keeps store reserved reading
 
 after_have : (is_cancelled : Bool) (r : Retrieval) → (after_trouble is_cancelled r).have ≤ r.have
-after_have true r = omega arith
-after_have false r = omega arith
+after_have is_cancelled r = grind arith
 
-trouble_answers : (is_cancelled : Bool) (old new : Retrieval) (s s' : Seen) (result : Result Outcome Ended) → IsOpen old → IsReading old s → StaysHonest s s' → MayLoseReservation old.shelf s s' → IsTroubled s s'
-    → CountsTrouble is_cancelled old new result → CallAnswers old new s s' result
-trouble_answers is_cancelled old new s s' (Ok turn) open_ reading stays keeps troubled counts =
-    let goes : GoesOn old (after_trouble is_cancelled old) s s' = record {
-      reading = after_reading is_cancelled old s s' keeps stays.store open_.reserved reading;
-      troubles = omega (arith, troubles-after_trouble is_cancelled old, troubled.troubles);
-      fresh_troubles = omega (arith, troubles-after_trouble is_cancelled old, troubled.fresh_troubles);
-      grows = omega (arith, troubles-after_trouble is_cancelled old);
-      refusals = troubled.refusals;
-      last_code = troubled.last_code;
-      within = omega (arith, after_have is_cancelled old);
-    } in
-    subst (λ (t : Outcome). CallAnswers old new s s' (Ok t)) (sym counts.0) (subst (λ (r : Retrieval). GoesOn old r s s') (sym counts.1) goes)
-trouble_answers is_cancelled old new s s' (Err ended) open_ reading stays keeps troubled counts =
-    let given : HasGivenUp old old.id s s' = record {
-      id_is = refl;
-      troubles = omega (arith, troubled.troubles, counts.2);
-      fresh_troubles = omega (arith, troubled.fresh_troubles, counts.2);
-      refusals = troubled.refusals;
-      last_code = troubled.last_code;
-    } in
-    subst (λ (e : Ended). CallAnswers old new s s' (Err e)) (sym counts.0) given
+-- one call more
+module _ (start old : Retrieval) (s s' s'' : Seen) (same : SameRequest start old) (since : HonestSince start old s s') (stays : StaysHonest s' s'') where
+  all : StaysHonest s s''
+  all = stays_trans s s' s'' since.stays stays
 
--- a trouble that an honest controller answered
-pub honest_trouble : (is_cancelled : Bool) (old new : Retrieval) (s s' : Seen) (result : Result Outcome Ended) → IsOpen old → IsReading old s → StaysHonest s s' → MayLoseReservation old.shelf s s' → IsTroubled s s'
-    → CountsTrouble is_cancelled old new result → (IsTrue s.plain → HoldsCurrent old s → ⊥) → CallIsHonest old new s s' result
-honest_trouble is_cancelled old new s s' result open_ reading stays keeps troubled counts not_plain = record {
-  stays = stays;
-  answers = trouble_answers is_cancelled old new s s' result open_ reading stays keeps troubled counts;
-  keeps = λ some same. absurd (omega (arith, troubled.troubles));
-  plain = λ plain holds. absurd (not_plain plain holds);
-}
+  first : s''.stores_added ≡ s.stores_added → s'.stores_added ≡ s.stores_added
+  first e = omega (arith, since.stays.store.grows, stays.store.grows)
 
--- a call that an honest controller refused
-pub honest_refusal : (old new : Retrieval) (s s' : Seen) (code : Code) (result : Result Outcome Ended) → StaysHonest s s' → MayLoseReservation old.shelf s s' → IsRefused code.0 s s'
-    → IsRefusedBy code old new result → (IsTrue s.plain → HoldsCurrent old s → ⊥) → CallIsHonest old new s s' result
-honest_refusal old new s s' code result stays keeps refused does not_plain =
-    let base : CallIsHonest old old s s' (Err (Refused old.id code)) = record {
-      stays = stays;
-      answers = (refl, refused);
-      keeps = λ some same. record { held = refl; none_given = keeps.none_given };
-      plain = λ plain holds. absurd (not_plain plain holds);
-    } in
-    subst (λ (x : Result Outcome Ended). CallIsHonest old new s s' x) (sym does.0) (subst (λ (r : Retrieval). CallIsHonest old r s s' (Err (Refused old.id code))) (sym does.1) base)
+  -- a reservation that is held on
+  pub held_on : (new : Retrieval) → MayLoseReservation old.shelf s' s'' → s'.troubles ≤ s''.troubles → new.reservation ≡ old.reservation → IsSome start.reservation → s''.troubles ≡ s.troubles → KeepsHeld start new s s''
+  held_on new keeps grows held some e =
+      let before = since.keeps some (omega arith) in
+      let given = rw same.shelf at keeps.none_given in
+      record { held = held ∙ before.held; none_given = λ n now. before.none_given n (given n now) }
 
--- a call for a reservation that an honest controller failed
-pub reserve_failed : (old new : Retrieval) (s s' : Seen) (code : Code) (result : Result Outcome Ended) → IsOpen old → IsReading old s → ReserveAnswers old.shelf (Err code) s s'
-    → ReserveFails (class_of code.0) code old new result → CallIsHonest old new s s' result
-reserve_failed old new s s' code result open_ reading answers fails = by_class (class_of code.0) answers.gives.0 fails
-  where
-    not_plain : IsTrue s.plain → HoldsCurrent old s → ⊥
-    not_plain plain holds = cc (answers.plain plain)
+  pub within_calm : IsOpen old → IsCalm s' s'' → WithinTries start.tries s s''
+  within_calm open_ calm = search arith
 
-    by_class : (class : CodeClass) → FailsWith ⊥ ⊥ class code.0 s s' → ReserveFails class code old new result → CallIsHonest old new s s' result
-    by_class Cancelled troubled does = honest_trouble false old new s s' result open_ reading answers.change.stays answers.gives.1 troubled does not_plain
-    by_class Busy troubled does = honest_trouble false old new s s' result open_ reading answers.change.stays answers.gives.1 troubled does not_plain
-    by_class SmallerPart never does = absurd never.0
-    by_class NotPresent never does = absurd never.0
-    by_class Refusal refused does = honest_refusal old new s s' code result answers.change.stays answers.gives.1 refused does not_plain
+  -- a trouble that an honest controller answered
+  pub trouble_answers : (is_cancelled : Bool) (new : Retrieval) (result : Result Outcome Ended) → IsOpen old → MayLoseReservation old.shelf s' s'' → IsTroubled s' s'' → CountsTrouble is_cancelled old new result
+      → (IsTrue s.plain → HoldsCurrent start s → ⊥) → ReadNext start new s s'' result
+  trouble_answers is_cancelled new (Ok turn) open_ keeps troubled counts not_plain =
+      let goes : HonestSince start (after_trouble is_cancelled old) s s'' = record {
+        stays = all;
+        reading = after_reading is_cancelled old s' s'' keeps stays.store open_.reserved since.reading;
+        keeps = λ some e. absurd (omega arith);
+        met = search arith;
+        fresh_troubles = omega (arith, since.fresh_troubles, troubled.fresh_troubles);
+        plain = λ p holds. absurd (not_plain p holds);
+        within = λ e. omega (arith, since.within (first e), after_have is_cancelled old);
+      } in
+      rw (counts.0, counts.1) goes
+  trouble_answers is_cancelled new (Err ended) open_ keeps troubled counts not_plain =
+      let given : ReadIsHonest start old s s'' (Err (Ended.GaveUp old.id)) = record {
+        stays = all;
+        answers = search (arith, counts.2);
+        keeps = λ some e. absurd (omega arith);
+        plain = λ p holds. absurd (not_plain p holds);
+      } in
+      rw (counts.0, counts.1) given
+
+  -- a call that an honest controller refused
+  pub refusal_answers : (new : Retrieval) (code : Code) (result : Result Outcome Ended) → IsOpen old → MayLoseReservation old.shelf s' s'' → IsRefused code.0 s' s'' → IsRefusedBy code old new result
+      → (IsTrue s.plain → HoldsCurrent start s → ⊥) → ReadNext start new s s'' result
+  refusal_answers new code result open_ keeps refused does not_plain =
+      let base : ReadIsHonest start old s s'' (Err (Refused old.id code)) = record {
+        stays = all;
+        answers = search arith;
+        keeps = held_on old keeps (omega (arith, refused.troubles)) refl;
+        plain = λ p holds. absurd (not_plain p holds);
+      } in
+      rw (does.0, does.1) base
+
+  -- a reservation that an honest controller gave
+  pub reserve_given : (n : ℕ) → IsOpen old → old.reservation ≡ None → ReserveAnswers old.shelf (Ok n) s' s'' → HonestSince start (record old { reservation = Some n }) s s''
+  reserve_given n open_ none answers =
+      let quiet = answers.gives.0 in
+      record {
+        stays = all;
+        reading = record { piece = λ some now. let held = open_.reserved some in cc (held, none) };
+        keeps = λ some e. let held = (since.keeps some (omega (arith, quiet.troubles))).held in cc (held, none, some);
+        met = search arith;
+        fresh_troubles = quiet.fresh_troubles ∙ since.fresh_troubles;
+        plain = λ p holds. record { held = λ m e. answers.gives.1 ∙ e };
+        within = λ e. since.within (first e);
+      }
+
+  -- a call for a reservation that an honest controller failed
+  pub reserve_failed : (new : Retrieval) (code : Code) (result : Result Outcome Ended) → IsOpen old → ReserveAnswers old.shelf (Err code) s' s'' → ReserveFails (class_of code.0) code old new result → ReadNext start new s s'' result
+  reserve_failed new code result open_ answers fails = by_class (class_of code.0) answers.gives.0 fails
+    where
+      not_plain : IsTrue s.plain → HoldsCurrent start s → ⊥
+      not_plain p holds = cc (answers.plain (since.stays.plain p))
+
+      by_class : (class : CodeClass) → FailsWith ⊥ ⊥ class code.0 s' s'' → ReserveFails class code old new result → ReadNext start new s s'' result
+      by_class Cancelled troubled does = trouble_answers false new result open_ answers.gives.1 troubled does not_plain
+      by_class Busy troubled does = trouble_answers false new result open_ answers.gives.1 troubled does not_plain
+      by_class Refusal refused does = refusal_answers new code result open_ answers.gives.1 refused does not_plain
+      by_class _ never does = absurd never.0

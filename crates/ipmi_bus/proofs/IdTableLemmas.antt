@@ -25,18 +25,13 @@ pub contains-ids_in : (bytes : List ℕ) (q : ℕ) → set.contains (ids_in byte
 unfolding ids_in
 contains-ids_in bytes q = contains-ids_below bytes 65536 q
 
+len-put : (s : set.FinSet nat_cmp) (b : Bool) (k : ℕ) → set.len s ≤ k → set.len (cond b (set.insert s k) s) ≤ suc k
+len-put s b k le = grind (arith, len-insert nat_cmp_total s k)
+
 len-ids_below : (bytes : List ℕ) (k : ℕ) → set.len (ids_below bytes k) ≤ k
 unfolding ids_below
 len-ids_below bytes zero = omega (arith, len-empty nat_cmp)
-len-ids_below bytes (suc k) = by (has_bit bytes k) (len-ids_below bytes k)
-  where
-    put : (s : set.FinSet nat_cmp) (b : Bool) → set.contains s k ≡ b → set.len s ≤ k → set.len (set.insert s k) ≤ suc k
-    put s true is le = omega (arith, len-insert nat_cmp_total s k ∙ ap (λ (c : Bool). cond c (set.len s) (set.len s + 1)) is)
-    put s false is le = omega (arith, len-insert nat_cmp_total s k ∙ ap (λ (c : Bool). cond c (set.len s) (set.len s + 1)) is)
-
-    by : (b : Bool) → set.len (ids_below bytes k) ≤ k → set.len (cond b (set.insert (ids_below bytes k) k) (ids_below bytes k)) ≤ suc k
-    by true le = put (ids_below bytes k) (set.contains (ids_below bytes k) k) refl le
-    by false le = omega (arith, le)
+len-ids_below bytes (suc k) = len-put (ids_below bytes k) (has_bit bytes k) k (len-ids_below bytes k)
 
 -- a table has no more ids than bits
 pub len-ids_in : (bytes : List ℕ) → set.len (ids_in bytes) ≤ 65536
@@ -73,23 +68,23 @@ ids_in-put bytes n len fits =
     joined : (q : ℕ) (a b x y : Bool) → a ≡ (nat_lt q 65536 && x) → b ≡ (nat_lt q 65536 && y) → (q ≡ n → x ≡ true) → (q ≢ n → x ≡ y) → a ≡ (nat_eq q n || b)
     joined q a b x y p r same apart = elim (cases_eq q n) [ inl e ↦ grind (arith, nat_tests, same e) | inr ne ↦ grind (arith, nat_tests, apart ne) ]
 
+-- each element of a list of zeros is zero, also past its end
+get_or-zeros : (zeros : List ℕ) (n i : ℕ) → zeros ≡ replicate n 0 → get_or zeros i 0 ≡ 0
+get_or-zeros zeros n i e = elim (cases_lt i n) [
+  | inl lt ↦ rw e (get_or-replicate n i 0 0 lt)
+  | inr le ↦ get_or_past zeros i 0 (omega (arith, ap length e, length-replicate {A = ℕ}))
+]
+
 -- a table of zeros has no id
-pub ids_in-zeros : (zeros : List ℕ) → ((i : ℕ) → get_or zeros i 0 ≡ 0) → ids_in zeros ≡ set.empty
-ids_in-zeros zeros all =
+pub ids_in_zeros : (zeros : List ℕ) (n : ℕ) → zeros ≡ replicate n 0 → ids_in zeros ≡ set.empty
+ids_in_zeros zeros n is =
     set.same_set nat_cmp_total nat_cmp-IsAntisymmetric _ _ (λ q.
     contains-ids_in zeros q
-    ∙ none q (has_bit zeros q) (rw (all (q / 8), bit_at-zero (q % 8)) refl)
+    ∙ none q (has_bit zeros q) (rw (get_or-zeros zeros n (q / 8) is, bit_at-zero (q % 8)) refl)
     ∙ sym (contains-empty nat_cmp q))
   where
     none : (q : ℕ) (b : Bool) → b ≡ false → (nat_lt q 65536 && b) ≡ false
     none q b e = grind (arith, nat_tests, e)
-
--- each element of a list of zeros is zero, also past its end
-pub get_or-zeros : (zeros : List ℕ) (n i : ℕ) → zeros ≡ replicate n 0 → get_or zeros i 0 ≡ 0
-get_or-zeros zeros n i e = elim (cases_lt i n) [
-  | inl lt ↦ ap (λ xs. get_or xs i 0) e ∙ get_or-replicate n i 0 0 lt
-  | inr le ↦ get_or_past zeros i 0 (omega (arith, ap length e, length-replicate {A = ℕ}))
-]
 
 -- a table that lacks an id has fewer ids than bits
 pub room_left : (bytes : List ℕ) (n : ℕ) → length bytes ≡ 8192 → n < 65536 → set.contains (ids_in bytes) n ≡ false → set.len (ids_in bytes) < 65536

@@ -1,40 +1,35 @@
 -- A part of an inventory, as an honest controller gave it.
-use Rattle.std.proofs.Common.{◌≡◌, ℕ, ◌+◌, ◌<◌, ◌≤◌, Bool, true, false, nat_eq, Option, None, Some, Result, Ok, Err, List, [], length, take, drop, slice_range, refl, sym, ap, subst, ◌∙◌, arith, unwrap_or, IsTrue, IsSome, ne_eqb}
+use Rattle.std.proofs.Common.{◌≡◌, ℕ, ◌+◌, ◌<◌, ◌≤◌, Bool, true, false, nat_eq, Option, None, Some, Result, Ok, Err, List, [], length, take, drop, slice_range, refl, sym, ap, subst, ◌∙◌, arith, unwrap_or, IsTrue, IsSome, ne_eqb, Vec}
+use Rattle.std.specs.declared.alloc.Global.{Global}
 use Rattle.std.proofs.lemmas.Bool.Decides.{nat_tests}
 use Rattle.std.proofs.Math.Seq.{take-length}
-use Rattle.ipmi_bus.specs.Prelude.{Code, CodeClass, Cancelled, Busy, SmallerPart, NotPresent, Refusal, FruEnded, Size, FruRetrieval, inventory_of, class_of, Seen, IsQuiet, IsTroubled, IsFinished, IsRefused, StaysHonest, stays_trans, CountsPiece, FailsWith, BytesAnswers, BytesIsPlain, SameInventory, FruSince, FruEnds, FruNext, HasSize, IsRefusedInventory, IsRefusedOverChange, InventoryCounts, InventoryIs, inventory_len, WithinTries, IsRefusedWith, digits, fru_call_bound}
-use Rattle.ipmi_bus.specs.declared.inventory.FruEnded.TheVariants.{Refused, GaveUp}
+use Rattle.ipmi_bus.specs.Prelude.{Code, CodeClass, SmallerPart, NotPresent, Refusal, FruEnded, Size, FruRetrieval, inventory_of, class_of, Seen, IsQuiet, IsTroubled, IsFinished, IsRefused, StaysHonest, stays_trans, IsCalm, CountsPiece, FailsWith, BytesAnswers, BytesIsPlain, SameInventory, FruSince, FruEnds, FruNext, HasSize, InventoryCounts, InventoryIs, inventory_len, WithinTries, IsRefusedWith, digits, fru_call_bound}
 use Rattle.ipmi_bus.specs.FruRetrieval.{IsOpen, CountsTrouble, MakesSmaller, PartFails, TakesPart, HasRead, calls_left}
-use Rattle.ipmi_bus.proofs.PartLemmas.{take-with_piece, smaller_some}
-
--- with the bytes that came in
-abbrev taken : FruRetrieval → FruRetrieval → ℕ → FruRetrieval
-taken old r got = record old { bytes = r.bytes; have = old.have + got }
+use Rattle.ipmi_bus.proofs.PartLemmas.{take-with_piece, calm_piece, smaller_some}
 
 module _ (old r : FruRetrieval) (s s' s'' : Seen) (asked got : ℕ) (len : length r.bytes.items ≡ length old.bytes.items) (front : take old.have r.bytes.items ≡ take old.have old.bytes.items) (since : FruSince old s s') (more : old.have < length old.bytes.items)
     (gave : BytesAnswers old.id old.have asked (Ok got) (slice_range r.bytes.items old.have (old.have + asked)) s' s'') where
+  all : StaysHonest s s''
+  all = stays_trans s s' s'' since.stays gave.change.stays
+
   first : s''.stores_added ≡ s.stores_added → s'.stores_added ≡ s.stores_added
   first same = omega (arith, since.stays.store.grows, gave.change.stays.store.grows)
-
-  second : s''.stores_added ≡ s.stores_added → s''.stores_added ≡ s'.stores_added
-  second same = omega (arith, since.stays.store.grows, gave.change.stays.store.grows)
 
   -- the inventory is the one of which bytes were read before
   whole_is : (same : s''.stores_added ≡ s.stores_added) → gave.gives.0 ≡ (since.read (first same)).whole
   whole_is same =
-      let store : s''.store ≡ s.store = gave.change.stays.store.stays (second same) ∙ since.stays.store.stays (first same) in
-      let here = sym (ap (inventory_of old.id) store) ∙ gave.gives.1 in
+      let here = sym (ap (inventory_of old.id) (all.store.stays same)) ∙ gave.gives.1 in
       let before = (since.read (first same)).found in
       cc (here, before)
 
-  counted : (flag : Bool) → CountsPiece flag s' s'' → (s''.troubles ≡ s'.troubles) × (s''.refusals ≡ s'.refusals) × (s''.last_code ≡ s'.last_code)
-  counted true counts = (counts.troubles, counts.refusals, counts.last_code)
-  counted false counts = (counts.troubles, counts.refusals, counts.last_code)
+  calm : IsCalm s' s''
+  calm = calm_piece _ s' s'' gave.gives.2.counts
 
-  counts_now : (s''.troubles ≡ s'.troubles) × (s''.refusals ≡ s'.refusals) × (s''.last_code ≡ s'.last_code)
-  counts_now = counted _ gave.gives.2.counts
+  -- with the bytes that came in
+  abbrev taken : FruRetrieval
+  taken = record old { bytes = r.bytes; have = old.have + got }
 
-  read_more : s''.stores_added ≡ s.stores_added → HasRead (taken old r got) s
+  read_more : s''.stores_added ≡ s.stores_added → HasRead taken s
   read_more same =
       let before = since.read (first same) in
       let piece = gave.gives.2.piece in
@@ -42,9 +37,7 @@ module _ (old r : FruRetrieval) (s s' s'' : Seen) (asked got : ℕ) (len : lengt
         whole = before.whole;
         found = before.found;
         size = before.size ∙ sym len;
-        bytes = ap (take (old.have + got)) refl
-            ∙ take-with_piece old.have got asked old.bytes.items r.bytes.items before.whole piece.fits front before.bytes
-            (piece.bytes ∙ ap (λ (l : List ℕ). take got (drop old.have l)) (whole_is same));
+        bytes = take-with_piece old.have got asked old.bytes.items r.bytes.items before.whole piece.fits front before.bytes (piece.bytes ∙ ap (λ (l : List ℕ). take got (drop old.have l)) (whole_is same));
       }
 
   fresh_most : (flag : Bool) → CountsPiece flag s' s'' → s''.fresh_troubles ≤ s.fresh_troubles + old.troubles
@@ -53,20 +46,17 @@ module _ (old r : FruRetrieval) (s s' s'' : Seen) (asked got : ℕ) (len : lengt
 
   fresh_more : s''.stores_added ≡ s.stores_added → old.have + got < length r.bytes.items → s''.fresh_troubles ≡ s.fresh_troubles + old.troubles
   fresh_more same left =
-      let before = since.read (first same) in
-      let size = before.size in
+      let size = (since.read (first same)).size in
       let whole = ap (length {A = ℕ}) (whole_is same) in
       let flag : nat_eq (old.have + got) (length gave.gives.0) ≡ false = ne_eqb _ _ (λ (e : old.have + got ≡ length gave.gives.0). absurd (omega (arith, len))) in
       let quiet : IsQuiet s' s'' = subst (λ (b : Bool). CountsPiece b s' s'') flag gave.gives.2.counts in
       quiet.fresh_troubles ∙ since.fresh (first same) more
 
-  part_taken : FruSince (taken old r got) s s''
+  part_taken : FruSince taken s s''
   part_taken = record {
-    stays = stays_trans s s' s'' since.stays gave.change.stays;
+    stays = all;
     read = read_more;
-    troubles = counts_now.0 ∙ since.troubles;
-    refusals = counts_now.1 ∙ since.refusals;
-    last_code = counts_now.2 ∙ since.last_code;
+    met = search (arith, calm);
     fresh_most = λ left. fresh_most _ gave.gives.2.counts;
     found = λ all. subst IsSome (sym gave.gives.1) refl;
     fresh = fresh_more;
@@ -89,20 +79,8 @@ nat_eq-not_cbh : (code : ℕ) → class_of code ≡ Refusal → nat_eq code 0xCB
 nat_eq-not_cbh code is = ne_eqb _ _ (λ (e : code ≡ 0xCB). let other = sym (ap class_of e) ∙ is in cc other)
 
 -- a call for a part that an honest controller failed
-module _ (old r : FruRetrieval) (s s' s'' : Seen) (asked : ℕ) (code : Code) (into : List ℕ) (is : r ≡ record old { bytes = r.bytes }) (items : r.bytes.items ≡ old.bytes.items) (open_ : IsOpen old) (since : FruSince old s s')
+module _ (old : FruRetrieval) (bytes : Vec ℕ Global) (s s' s'' : Seen) (asked : ℕ) (code : Code) (into : List ℕ) (items : bytes.items ≡ old.bytes.items) (open_ : IsOpen old) (since : FruSince old s s')
     (gave : BytesAnswers old.id old.have asked (Err code) into s' s'') where
-  same_id : r.id ≡ old.id
-  same_id = rw is refl
-
-  same_have : r.have ≡ old.have
-  same_have = rw is refl
-
-  same_troubles : r.troubles ≡ old.troubles
-  same_troubles = rw is refl
-
-  same_tries : r.tries ≡ old.tries
-  same_tries = rw is refl
-
   stays : StaysHonest s s''
   stays = stays_trans s s' s'' since.stays gave.change.stays
 
@@ -119,148 +97,107 @@ module _ (old r : FruRetrieval) (s s' s'' : Seen) (asked : ℕ) (code : Code) (i
       cc (plain (omega (arith, open_.more, read.size)))
 
   -- the call is to be made again
-  since_failed : (new : FruRetrieval) (k : ℕ) → new.id ≡ old.id → new.have ≡ old.have → new.bytes.items ≡ old.bytes.items → new.troubles ≡ old.troubles + k → s''.troubles ≡ s'.troubles + k
-      → s''.fresh_troubles ≡ s'.fresh_troubles + k → s''.refusals ≡ s'.refusals → s''.last_code ≡ s'.last_code → FruSince new s s''
-  since_failed new k id have bytes troubles counted fresh refusals last_code =
-      let len : length new.bytes.items ≡ length old.bytes.items = ap (length {A = ℕ}) bytes in
+  since_failed : (part troubles k : ℕ) → troubles ≡ old.troubles + k → s''.troubles ≡ s'.troubles + k → s''.fresh_troubles ≡ s'.fresh_troubles + k → s''.refusals ≡ s'.refusals → s''.last_code ≡ s'.last_code
+      → FruSince (record old { bytes = bytes; part = part; troubles = troubles }) s s''
+  since_failed part troubles k now counted fresh refusals last_code =
+      let len = ap (length {A = ℕ}) items in
       record {
         stays = stays;
-        read = λ same.
-            let before = since.read (at_first same) in
-            record {
-              whole = before.whole;
-              found = ap (λ (n : ℕ). inventory_of n s.store) id ∙ before.found;
-              size = before.size ∙ sym len;
-              bytes = ap (λ (n : ℕ). take n new.bytes.items) have ∙ ap (take old.have) bytes ∙ before.bytes ∙ sym (ap (λ (n : ℕ). take n before.whole) have);
-            };
-        troubles = omega (arith, since.troubles);
-        refusals = refusals ∙ since.refusals;
-        last_code = last_code ∙ since.last_code;
+        read = λ same. let before = since.read (at_first same) in
+            record { whole = before.whole; found = before.found; size = before.size ∙ sym len; bytes = ap (take old.have) items ∙ before.bytes };
+        met = search arith;
         fresh_most = λ left. omega (arith, since.fresh_most open_.more);
         found = λ all. absurd (omega (arith, open_.more));
         fresh = λ same left. omega (arith, since.fresh (at_first same) open_.more);
         plain = λ p. absurd (not_plain p);
       }
 
-  given_up : IsTroubled s' s'' → old.troubles ≡ old.tries → FruEnds old.id old.tries s s'' GaveUp
+  given_up : IsTroubled s' s'' → old.troubles ≡ old.tries → FruEnds old.id old.tries s s'' FruEnded.GaveUp
   given_up troubled all = record {
     stays = stays;
-    counts = record {
-      troubles = omega (arith, since.troubles, troubled.troubles);
-      some_fresh = omega (arith, troubled.fresh_troubles);
-      fresh_troubles = omega (arith, since.fresh_most open_.more, troubled.fresh_troubles);
-      refusals = troubled.refusals ∙ since.refusals;
-      last_code = troubled.last_code ∙ since.last_code;
-    };
-    is = λ same. record {
-      troubles = omega (arith, since.troubles, troubled.troubles);
-      fresh_troubles = omega (arith, since.fresh (at_first same) open_.more, troubled.fresh_troubles);
-      refusals = troubled.refusals ∙ since.refusals;
-      last_code = troubled.last_code ∙ since.last_code;
-    };
+    counts = search (arith, since.fresh_most open_.more);
+    is = λ same. search (arith, since.fresh (at_first same) open_.more);
     plain = λ p. absurd (not_plain p);
   }
 
-  trouble_answers : (new : FruRetrieval) (result : Result (Unit {0}) FruEnded) → IsTroubled s' s'' → CountsTrouble r new result → FruNext old new s s'' result
-  trouble_answers new (Ok u) troubled counts =
-      subst (λ (x : FruRetrieval). FruSince x s s'') (sym counts.0)
-      (since_failed (record r { troubles = r.troubles + 1 }) 1 same_id same_have items (ap (λ (n : ℕ). n + 1) same_troubles) troubled.troubles troubled.fresh_troubles troubled.refusals troubled.last_code)
-  trouble_answers new (Err ended) troubled counts = subst (λ (e : FruEnded). FruEnds old.id old.tries s s'' e) (sym counts.0) (given_up troubled (sym same_troubles ∙ counts.2 ∙ same_tries))
+  trouble_answers : (new : FruRetrieval) (result : Result (Unit {0}) FruEnded) → IsTroubled s' s'' → CountsTrouble (record old { bytes = bytes }) new result → FruNext old new s s'' result
+  trouble_answers new (Ok u) troubled counts = rw counts.0 (since_failed old.part (old.troubles + 1) 1 refl troubled.troubles troubled.fresh_troubles troubled.refusals troubled.last_code)
+  trouble_answers new (Err ended) troubled counts = rw counts.0 (given_up troubled counts.2)
 
-  smaller_answers : (new : FruRetrieval) (result : Result (Unit {0}) FruEnded) → 1 < asked → IsQuiet s' s'' → MakesSmaller asked r new result → FruNext old new s s'' result
-  smaller_answers new (Ok u) more quiet does =
-      subst (λ (x : FruRetrieval). FruSince x s s'') (sym does.1)
-      (since_failed (record r { part = new.part }) 0 same_id same_have items (omega (arith, same_troubles)) (omega (arith, quiet.troubles)) (omega (arith, quiet.fresh_troubles)) quiet.refusals quiet.last_code)
+  smaller_answers : (new : FruRetrieval) (result : Result (Unit {0}) FruEnded) → 1 < asked → IsQuiet s' s'' → MakesSmaller asked (record old { bytes = bytes }) new result → FruNext old new s s'' result
+  smaller_answers new (Ok u) more quiet does = subst (λ (x : FruRetrieval). FruSince x s s'') (sym does.1)
+      (since_failed new.part old.troubles 0 (omega arith) (omega (arith, quiet.troubles)) (omega (arith, quiet.fresh_troubles)) quiet.refusals quiet.last_code)
   smaller_answers new (Err ended) more quiet does = absurd (smaller_some asked more does.1)
 
-  absent : class_of code.0 ≡ NotPresent → inventory_of old.id s''.store ≡ None → IsFinished s' s'' → FruEnds old.id old.tries s s'' (Refused code)
+  absent : class_of code.0 ≡ NotPresent → inventory_of old.id s''.store ≡ None → IsFinished s' s'' → FruEnds old.id old.tries s s'' (FruEnded.Refused code)
   absent class none finished =
-      let within : WithinTries old.tries s s'' = record {
-        grows = omega (arith, since.troubles, finished.troubles);
-        troubles = omega (arith, since.troubles, finished.troubles, open_.troubles);
-        refusals = finished.refusals ∙ since.refusals;
-        last_code = finished.last_code ∙ since.last_code;
-      } in
+      let within : WithinTries old.tries s s'' = search arith in
       record {
         stays = stays;
-        counts = subst (λ (b : Bool). IsRefusedOverChange b old.id old.tries code.0 s s'') (sym (nat_eq-cbh code.0 class)) (within, none);
-        is = λ same. subst (λ (b : Bool). IsRefusedInventory b old.id old.tries code.0 s s'') (sym (nat_eq-cbh code.0 class)) (within, ap (inventory_of old.id) (sym (stays.store.stays same)) ∙ none);
+        counts = rw (nat_eq-cbh code.0 class) (within, none);
+        is = λ same. rw (nat_eq-cbh code.0 class) (within, ap (inventory_of old.id) (sym (stays.store.stays same)) ∙ none);
         plain = λ p. absurd (not_plain p);
       }
 
-  refused : class_of code.0 ≡ Refusal → IsRefused code.0 s' s'' → FruEnds old.id old.tries s s'' (Refused code)
+  refused : class_of code.0 ≡ Refusal → IsRefused code.0 s' s'' → FruEnds old.id old.tries s s'' (FruEnded.Refused code)
   refused class refuses =
-      let with_code : IsRefusedWith old.tries code.0 s s'' = record {
-        grows = omega (arith, since.troubles, refuses.troubles);
-        troubles = omega (arith, since.troubles, refuses.troubles, open_.troubles);
-        refusals = omega (arith, since.refusals, refuses.refusals);
-        last_code = refuses.last_code;
-      } in
+      let with_code : IsRefusedWith old.tries code.0 s s'' = search arith in
       record {
         stays = stays;
-        counts = subst (λ (b : Bool). IsRefusedOverChange b old.id old.tries code.0 s s'') (sym (nat_eq-not_cbh code.0 class)) with_code;
-        is = λ same. subst (λ (b : Bool). IsRefusedInventory b old.id old.tries code.0 s s'') (sym (nat_eq-not_cbh code.0 class)) with_code;
+        counts = rw (nat_eq-not_cbh code.0 class) with_code;
+        is = λ same. rw (nat_eq-not_cbh code.0 class) with_code;
         plain = λ p. absurd (not_plain p);
       }
 
   part_by_class : (class : CodeClass) (new : FruRetrieval) (result : Result (Unit {0}) FruEnded) → class_of code.0 ≡ class → FailsWith (1 < asked) (inventory_of old.id s''.store ≡ None) class code.0 s' s''
-      → PartFails class code asked r new result → FruNext old new s s'' result
-  part_by_class Cancelled new result class troubled does = trouble_answers new result troubled does
-  part_by_class Busy new result class troubled does = trouble_answers new result troubled does
+      → PartFails class code asked (record old { bytes = bytes }) new result → FruNext old new s s'' result
   part_by_class SmallerPart new result class fails does = smaller_answers new result fails.0 fails.1 does
-  part_by_class NotPresent new result class fails does = subst (λ (x : Result (Unit {0}) FruEnded). FruNext old new s s'' x) (sym does.0) (absent class fails.0 fails.1)
-  part_by_class Refusal new result class refuses does = subst (λ (x : Result (Unit {0}) FruEnded). FruNext old new s s'' x) (sym does.0) (refused class refuses)
+  part_by_class NotPresent new result class fails does = rw does.0 (absent class fails.0 fails.1)
+  part_by_class Refusal new result class refuses does = rw does.0 (refused class refuses)
+  part_by_class _ new result class troubled does = trouble_answers new result troubled does
 
-  pub part_failed : (new : FruRetrieval) (result : Result (Unit {0}) FruEnded) → PartFails (class_of code.0) code asked r new result → FruNext old new s s'' result
-  part_failed new result fails = part_by_class (class_of code.0) new result refl gave.gives fails
+  pub part_failed : (r new : FruRetrieval) (result : Result (Unit {0}) FruEnded) → r ≡ record old { bytes = bytes } → PartFails (class_of code.0) code asked r new result → FruNext old new s s'' result
+  part_failed r new result is fails = part_by_class (class_of code.0) new result refl gave.gives (subst (λ (x : FruRetrieval). PartFails (class_of code.0) code asked x new result) is fails)
 
 pub same_trans : (a b c : FruRetrieval) → SameInventory a b → SameInventory b c → SameInventory a c
 same_trans a b c p q = record { id = q.id ∙ p.id; tries = q.tries ∙ p.tries; size = q.size ∙ p.size; some = q.some; fits = q.fits; have = q.have; troubles = q.troubles }
 
-pub ends_moved : (id id' tries tries' : ℕ) (s s' : Seen) (ended : FruEnded) → id ≡ id' → tries ≡ tries' → FruEnds id tries s s' ended → FruEnds id' tries' s s' ended
-ends_moved id id' tries tries' s s' ended same same' ends = subst (λ (n : ℕ). FruEnds id' n s s' ended) same' (subst (λ (n : ℕ). FruEnds n tries s s' ended) same ends)
-
 -- ---- the whole reading
-
--- the size was told, and no byte is there
-pub since_size : (id : ℕ) (size : Size) (s s' : Seen) (r : FruRetrieval) → HasSize id size s s' → r.id ≡ id → r.troubles ≡ size.troubles → r.have ≡ 0 → length r.bytes.items ≡ size.bytes → FruSince r s s'
-since_size id size s s' r has id_is troubles none len = record {
-  stays = has.stays;
-  read = λ same. record {
-    whole = has.found.0;
-    found = ap (inventory_of r.id) (sym (has.stays.store.stays same)) ∙ ap (λ (n : ℕ). inventory_of n s'.store) id_is ∙ has.found.1;
-    size = has.found.2 ∙ sym len;
-    bytes = ap (λ n. take n r.bytes.items) none ∙ sym (ap (λ n. take n has.found.0) none);
-  };
-  troubles = has.troubles_are ∙ ap (λ n. s.troubles + n) (sym troubles);
-  refusals = has.refusals;
-  last_code = has.last_code;
-  fresh_most = λ more. omega (arith, has.fresh_troubles (omega (arith, none, len)), troubles);
-  found = λ all. subst (λ (n : ℕ). IsSome (inventory_of n s'.store)) (sym id_is) (subst IsSome (sym has.found.1) refl);
-  fresh = λ same more. has.fresh_troubles (omega (arith, none, len)) ∙ ap (λ n. s.fresh_troubles + n) (sym troubles);
-  plain = λ p. (troubles ∙ (has.plain p).0, (has.plain p).1);
-}
-
--- the inventory is as long as was told
-len_is : (id : ℕ) (size : Size) (s s' : Seen) → HasSize id size s s' → s'.stores_added ≡ s.stores_added → size.bytes ≡ inventory_len id s.store
-len_is id size s s' has same =
-    sym has.found.2 ∙ ap (λ (o : Option (List ℕ)). length (unwrap_or o [])) (sym (ap (inventory_of id) (sym (has.stays.store.stays same)) ∙ has.found.1))
 
 -- a part size has at most eight digits
 pub digits_most : (n : ℕ) → digits n ≤ 8
 digits_most n = grind (arith, nat_tests)
 
-pub bound_is : (id tries : ℕ) (size : Size) (s s' s'' : Seen) (r : FruRetrieval) → HasSize id size s s' → StaysHonest s' s'' → r.troubles ≡ size.troubles → r.tries ≡ tries → r.have ≡ 0 → length r.bytes.items ≡ size.bytes → size.troubles ≤ tries
-    → s'.calls ≡ s.calls + size.troubles + 1 → s''.calls + 1 ≤ s'.calls + calls_left r → s''.stores_added ≡ s.stores_added → s''.calls ≤ s.calls + fru_call_bound tries (inventory_len id s.store)
-bound_is id tries size s s' s'' r has stays troubles tries_are none len few begun made same =
-    let first : s'.stores_added ≡ s.stores_added = omega (arith, has.stays.store.grows, stays.store.grows) in
-    omega (arith, len_is id size s s' has first, digits_most r.part, none)
+-- the size was told, and no byte is there
+module _ (id part tries : ℕ) (size : Size) (bytes : Vec ℕ Global) (s s' : Seen) (has : HasSize id size s s') (len : length bytes.items ≡ size.bytes) where
+  abbrev begun : FruRetrieval
+  begun = record { id = id; part = part; tries = tries; troubles = size.troubles; have = 0; bytes = bytes }
+
+  found_at_first : s'.stores_added ≡ s.stores_added → inventory_of id s.store ≡ Some has.found.0
+  found_at_first same = ap (inventory_of id) (sym (has.stays.store.stays same)) ∙ has.found.1
+
+  pub since_size : FruSince begun s s'
+  since_size = record {
+    stays = has.stays;
+    read = λ same. record { whole = has.found.0; found = found_at_first same; size = has.found.2 ∙ sym len; bytes = refl };
+    met = has.met;
+    fresh_most = λ more. omega (arith, has.fresh_troubles (omega (arith, len)));
+    found = λ all. subst IsSome (sym has.found.1) refl;
+    fresh = λ same more. has.fresh_troubles (omega (arith, len));
+    plain = has.plain;
+  }
+
+  pub bound_is : (s'' : Seen) → StaysHonest s' s'' → size.troubles ≤ tries → s'.calls ≡ s.calls + size.troubles + 1 → s''.calls + 1 ≤ s'.calls + calls_left begun → s''.stores_added ≡ s.stores_added
+      → s''.calls ≤ s.calls + fru_call_bound tries (inventory_len id s.store)
+  bound_is s'' stays few called made same =
+      let first = found_at_first (omega (arith, has.stays.store.grows, stays.store.grows)) in
+      omega (arith, has.found.2, ap (λ (o : Option (List ℕ)). length (unwrap_or o [])) first, digits_most part)
 
 -- all bytes are there
 module _ (id tries : ℕ) (s s' : Seen) (r : FruRetrieval) (since : FruSince r s s') (id_is : r.id ≡ id) (tries_are : r.tries ≡ tries) (few : r.troubles ≤ r.tries) (all : r.have ≡ length r.bytes.items) where
   -- no more troubles came than the tries
   within_tries : WithinTries tries s s'
-  within_tries = record { grows = omega (arith, since.troubles); troubles = omega (arith, since.troubles, few, tries_are); refusals = since.refusals; last_code = since.last_code }
+  within_tries = search arith
 
   pub inventory_counted : InventoryCounts id tries s s' (Ok r.bytes.items)
   inventory_counted = (within_tries, subst (λ (n : ℕ). IsSome (inventory_of n s'.store)) id_is (since.found all))

@@ -1,6 +1,7 @@
 -- Rows of a well-formed shelf.
-use Rattle.std.proofs.Common.{◌≡◌, ◌≢◌, ℕ, Bool, true, false, cond, nat_eq, ◌==◌, Some, List, [], ◌∷◌, ◌++◌, refl, subst, eqb-true}
+use Rattle.std.proofs.Common.{◌≡◌, ◌≢◌, ℕ, Bool, true, false, cond, nat_eq, ◌==◌, Some, List, [], ◌∷◌, ◌++◌, refl, subst, arith, eqb-true}
 use Rattle.std.proofs.lemmas.Bool.{eqb-false, or_parts}
+use Rattle.std.proofs.lemmas.Bool.Decides.{nat_tests}
 use Rattle.ipmi_bus.specs.Prelude.{Shelf, Row, IsRow, IsShelf, AllRows, DistinctIds, LacksId, id_in, look, row_with_id, first_row, has_id}
 
 -- a row that is found is well formed, and has the id
@@ -13,14 +14,10 @@ found_row shelf (r ∷ rows) n row all found = by_id (λ h. found_row shelf rows
     by_id later false is found = later found
 
 first_is_row : (shelf : Shelf) (rows : List Row) (row : Row) → AllRows shelf rows → first_row rows ≡ Some row → IsRow shelf row
-first_is_row shelf [] row all found = cc found
-first_is_row shelf (r ∷ rows) row all found = let e : r ≡ row = cc found in subst (IsRow shelf) e all.0
+first_is_row shelf rows row all found = grind arith
 
 pub look_row : (shelf : Shelf) (rows : List Row) (n : ℕ) (row : Row) → IsShelf shelf rows → look rows n ≡ Some row → IsRow shelf row
-look_row shelf rows n row ok found = (elim (n == 0) as (λ b. cond b (first_row rows) (row_with_id n rows) ≡ Some row → IsRow shelf row) [
-  | true ↦ λ h. first_is_row shelf rows row ok.all h
-  | false ↦ λ h. (found_row shelf rows n row ok.all h).0
-]) found
+look_row shelf rows n row ok found = grind (arith, nat_tests, first_is_row shelf rows row ok.all, found_row shelf rows n row ok.all)
 
 -- ---- a row after others
 

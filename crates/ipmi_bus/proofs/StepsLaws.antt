@@ -1,7 +1,6 @@
 -- The rest of a walk, and steps along one.
 use Rattle.std.proofs.Common.{◌≡◌, ◌≢◌, ℕ, suc, add-one, ◌+◌, ◌≤◌, Option, None, Some, Result, Ok, Err, List, [], ◌∷◌, ◌++◌, take, drop, refl, sym, ap, subst, ◌∙◌, arith, drop-drop}
-use Rattle.ipmi_bus.specs.Prelude.{Shelf, Place, Id, Ended, Cycle, Missing, Row, IsShelf, first_row, rows_of, IsWalk, WalkEnd, Done, EndsBy, place_after, Seen, IsHonest, CursorState, StandsAt, WalkStep, Stepped, AreSteps, cursor_after, seen_after, with_handed, handed_out, HandsOutPrefix}
-use Rattle.ipmi_bus.specs.declared.step.Ended.TheVariants.{Refused, GaveUp}
+use Rattle.ipmi_bus.specs.Prelude.{Shelf, Place, Id, Ended, Cycle, Missing, Row, IsShelf, first_row, rows_of, IsWalk, WalkEnd, Done, EndsBy, place_after, Seen, IsHonest, CursorState, StandsAt, WalkStep, Stepped, AreSteps, cursor_after, seen_after, with_handed, handed_out, HandsOutPrefix, Refused, GaveUp}
 use Rattle.ipmi_bus.proofs.WalkLemmas.{walk_tail, row_at-id}
 
 -- ---- the rest of a walk

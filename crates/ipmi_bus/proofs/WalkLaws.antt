@@ -1,11 +1,12 @@
 -- Exactly one walk from a place has an end.
-use Rattle.std.proofs.Common.{◌≡◌, ◌≢◌, ℕ, zero, suc, ◌+◌, ◌≤◌, Bool, true, false, cond, nat_eq, ◌==◌, ◌||◌, Option, None, Some, List, [], ◌∷◌, ◌++◌, refl, sym, ap, subst, ◌∙◌, inl, inr, append_assoc, rules, arith, nat_cmp, IsTrue, ne_eqb, eq-eqb, eqb-true, append-nil}
+use Rattle.std.proofs.Common.{◌≡◌, ◌≢◌, ℕ, zero, suc, ◌+◌, ◌≤◌, Bool, true, false, cond, nat_eq, ◌==◌, ◌||◌, Option, None, Some, List, [], ◌∷◌, ◌++◌, refl, sym, ap, subst, ◌∙◌, inl, inr, append_assoc, rules, arith, nat_cmp, ne_eqb, eq-eqb, eqb-true, append-nil}
 use Rattle.std.specs.FinSet as set
 use Rattle.std.specs.FinSet.{contains-insert, contains-empty}
 use Rattle.std.specs.Cmp.{nat_cmp_total, unsigned_tied}
 use Rattle.std.proofs.Math.Bool.{or-false}
 use Rattle.std.proofs.lemmas.Bool.{cases_eq, eqb-false}
-use Rattle.ipmi_bus.specs.Prelude.{Shelf, Place, First, Id, End, Row, IsShelf, look, row_with_id, first_row, row_at, Links, AllOf, IsWalk, place_after, place_after_rows, has_id, WalkEnd, Done, CycleAt, MissingAt, EndsBy, EndsAfter, last_next, HasWalk, asked_at, cycle_at}
+use Rattle.std.proofs.lemmas.Bool.Decides.{nat_tests}
+use Rattle.ipmi_bus.specs.Prelude.{Shelf, Place, First, Id, End, Row, IsShelf, look, row_with_id, first_row, row_at, Links, AllOf, IsWalk, place_after, place_after_rows, has_id, WalkEnd, Done, CycleAt, MissingAt, EndsBy, EndsAfter, EndsEmpty, last_next, HasWalk, cycle_at}
 use Rattle.ipmi_bus.proofs.ShelfLemmas.{DistinctIds-snoc}
 use Rattle.ipmi_bus.proofs.WalkLemmas.{row_at-next, has_id-next, look-asked_at, cycle_at-none, EndFacts, end_facts, place_after_rows-last, id_of, has_id-append}
 
@@ -21,21 +22,9 @@ contains-ids_of (row ∷ rows) n = contains-insert nat_cmp_total (ids_of rows) r
 -- a walk that has an end has no row after it
 no_more : (shelf : Shelf) (rows : List Row) (start : Place) (done : List Row) (end : WalkEnd) (row : Row) → IsShelf shelf rows → EndsBy rows start done end → row_at (place_after_rows start done) rows ≡ Some row → has_id done row.id ≡ false → ⊥
 no_more shelf rows start done end row ok ends found fresh =
-    by_end end (end_facts rows start done (place_after_rows start done) (ids_of done) end ends refl (contains-ids_of done))
-  where
-    none : cycle_at (place_after_rows start done) (ids_of done) ≡ None
-    none = cycle_at-none shelf rows (place_after_rows start done) (ids_of done) done row ok (contains-ids_of done) fresh found
-
-    at_end : place_after_rows start done ≡ End → ⊥
-    at_end is = let h = sym (ap (λ (p : Place). row_at p rows) is) ∙ found in cc h
-
-    at_first : place_after_rows start done ≡ First → first_row rows ≡ None → ⊥
-    at_first is empty = let h = sym (ap (λ (p : Place). row_at p rows) is) ∙ found in cc (h, empty)
-
-    by_end : (e : WalkEnd) → EndFacts rows start (place_after_rows start done) (ids_of done) e → ⊥
-    by_end Done facts = elim facts [ inl is ↦ at_end is | inr h ↦ at_first h.0 h.2 ]
-    by_end (CycleAt n) facts = let h = sym facts ∙ none in cc h
-    by_end (MissingAt n) facts = let h = sym (ap (λ (p : Place). look rows (asked_at p)) facts.0) ∙ look-asked_at (place_after_rows start done) rows row found in cc (h, facts.2)
+    let facts = end_facts rows start done (place_after_rows start done) (ids_of done) end ends refl (contains-ids_of done) in
+    let none = cycle_at-none shelf rows (place_after_rows start done) (ids_of done) done row ok (contains-ids_of done) fresh found in
+    let looks = look-asked_at (place_after_rows start done) rows row found in grind (arith, nat_tests)
 
 -- two walks with an end that begin alike are one
 same_rest : (shelf : Shelf) (rows : List Row) (start : Place) (done a b : List Row) (e f : WalkEnd) → IsShelf shelf rows → IsWalk rows start (done ++ a) → EndsBy rows start (done ++ a) e → IsWalk rows start (done ++ b) → EndsBy rows start (done ++ b) f → a ≡ b
@@ -53,35 +42,15 @@ same_rest shelf rows start done (r ∷ a) (s ∷ b) e f ok w ends w' ends' =
     ap (λ (x : Row). x ∷ a) same ∙ ap (λ (l : List Row). s ∷ l) rest
 
 -- a walk has one end
-same_end : (rows : List Row) (start : Place) (walk : List Row) (e f : WalkEnd) → EndsBy rows start walk e → EndsBy rows start walk f → e ≡ f
-same_end rows First [] Done Done ends ends' = refl
-same_end rows First [] Done _ ends ends' = absurd ends'
-same_end rows First [] _ f ends ends' = absurd ends
-same_end rows (Id id) [] Done f ends ends' = absurd ends
-same_end rows (Id id) [] (CycleAt m) Done ends ends' = absurd ends'
-same_end rows (Id id) [] (CycleAt m) (CycleAt n) ends ends' = ap CycleAt (ends.0 ∙ sym ends'.0)
-same_end rows (Id id) [] (CycleAt m) (MissingAt n) ends ends' = absurd (ends'.1 ends.1)
-same_end rows (Id id) [] (MissingAt m) Done ends ends' = absurd ends'
-same_end rows (Id id) [] (MissingAt m) (CycleAt n) ends ends' = absurd (ends.1 ends'.1)
-same_end rows (Id id) [] (MissingAt m) (MissingAt n) ends ends' = ap MissingAt (ends.0 ∙ sym ends'.0)
-same_end rows End [] Done Done ends ends' = refl
-same_end rows End [] Done _ ends ends' = absurd ends'
-same_end rows End [] _ f ends ends' = absurd ends
-same_end rows start (row ∷ walk) e f ends ends' = same_after (last_next row.next walk) e f ends ends'
-  where
-    not_both : (next : ℕ) → IsTrue ((next == 0) || has_id (row ∷ walk) next) → next ≢ 0 → has_id (row ∷ walk) next ≡ false → ⊥
-    not_both next cycle ne lacks =
-        let h = sym cycle ∙ (ap (λ (b : Bool). b || has_id (row ∷ walk) next) (ne_eqb next 0 ne) ∙ lacks) in cc h
+same_empty : (rows : List Row) (start : Place) (e f : WalkEnd) → EndsEmpty rows start e → EndsEmpty rows start f → e ≡ f
+same_empty rows start e f ends ends' = grind (arith, nat_tests)
 
-    same_after : (next : ℕ) (e f : WalkEnd) → EndsAfter rows (row ∷ walk) next e → EndsAfter rows (row ∷ walk) next f → e ≡ f
-    same_after next Done Done a b = refl
-    same_after next Done _ a b = absurd (b.1 a)
-    same_after next (CycleAt m) Done a b = absurd (a.1 b)
-    same_after next (CycleAt m) (CycleAt n) a b = ap CycleAt (a.0 ∙ sym b.0)
-    same_after next (CycleAt m) (MissingAt n) a b = absurd (not_both next a.2 b.2 b.3)
-    same_after next (MissingAt m) Done a b = absurd (a.1 b)
-    same_after next (MissingAt m) (CycleAt n) a b = absurd (not_both next b.2 a.2 a.3)
-    same_after next (MissingAt m) (MissingAt n) a b = ap MissingAt (a.0 ∙ sym b.0)
+same_after : (rows walk : List Row) (next : ℕ) (e f : WalkEnd) → EndsAfter rows walk next e → EndsAfter rows walk next f → e ≡ f
+same_after rows walk next e f ends ends' = grind (arith, nat_tests)
+
+same_end : (rows : List Row) (start : Place) (walk : List Row) (e f : WalkEnd) → EndsBy rows start walk e → EndsBy rows start walk f → e ≡ f
+same_end rows start [] e f ends ends' = same_empty rows start e f ends ends'
+same_end rows start (row ∷ walk) e f ends ends' = same_after rows (row ∷ walk) (last_next row.next walk) e f ends ends'
 
 pub same_walk : (shelf : Shelf) (rows : List Row) (start : Place) (a b : List Row) (e f : WalkEnd) → IsShelf shelf rows → IsWalk rows start a → EndsBy rows start a e → IsWalk rows start b → EndsBy rows start b f → (a ≡ b) × (e ≡ f)
 same_walk shelf rows start a b e f ok w ends w' ends' =
@@ -95,14 +64,12 @@ abbrev left_over : List Row → List Row → ℕ
 left_over [] done = 0
 left_over (row ∷ rows) done = cond (has_id done row.id) 0 1 + left_over rows done
 
+one_or_less : (a b c : Bool) (m n : ℕ) → c ≡ (a || b) → m ≤ n → cond c 0 1 + m ≤ cond a 0 1 + n
+one_or_less a b c m n e le = grind arith
+
 left_over_le : (rows done : List Row) (row : Row) → left_over rows (done ++ row ∷ []) ≤ left_over rows done
 left_over_le [] done row = omega arith
-left_over_le (r ∷ rows) done row = by (has_id done r.id) (nat_eq r.id row.id) _ (has_id-append done row r.id) (left_over_le rows done row)
-  where
-    by : (a b c : Bool) → c ≡ (a || b) → left_over rows (done ++ row ∷ []) ≤ left_over rows done → cond c 0 1 + left_over rows (done ++ row ∷ []) ≤ cond a 0 1 + left_over rows done
-    by true b c e ih = subst (λ (x : Bool). cond x 0 1 + left_over rows (done ++ row ∷ []) ≤ 0 + left_over rows done) (sym e) (omega (arith, ih))
-    by false true c e ih = subst (λ (x : Bool). cond x 0 1 + left_over rows (done ++ row ∷ []) ≤ 1 + left_over rows done) (sym e) (omega (arith, ih))
-    by false false c e ih = subst (λ (x : Bool). cond x 0 1 + left_over rows (done ++ row ∷ []) ≤ 1 + left_over rows done) (sym e) (omega (arith, ih))
+left_over_le (r ∷ rows) done row = one_or_less (has_id done r.id) (nat_eq r.id row.id) _ _ _ (has_id-append done row r.id) (left_over_le rows done row)
 
 left_over_lt : (rows done : List Row) (row : Row) → row_with_id row.id rows ≡ Some row → has_id done row.id ≡ false → left_over rows (done ++ row ∷ []) + 1 ≤ left_over rows done
 left_over_lt [] done row found fresh = cc found
@@ -112,29 +79,18 @@ left_over_lt (r ∷ rows) done row found fresh =
     by_id : (row_with_id row.id rows ≡ Some row → left_over rows (done ++ row ∷ []) + 1 ≤ left_over rows done) → (b : Bool) → nat_eq r.id row.id ≡ b → cond b (Some r) (row_with_id row.id rows) ≡ Some row
         → left_over (r ∷ rows) (done ++ row ∷ []) + 1 ≤ left_over (r ∷ rows) done
     by_id later true is h =
-        let same : r.id ≡ row.id = eqb-true r.id row.id is in
-        let old : has_id done r.id ≡ false = ap (has_id done) same ∙ fresh in
+        let old : has_id done r.id ≡ false = ap (has_id done) (eqb-true r.id row.id is) ∙ fresh in
         let new : has_id (done ++ row ∷ []) r.id ≡ true = has_id-append done row r.id ∙ rw old is in
-        let le = left_over_le rows done row in
-        subst (λ (x : Bool). (cond (has_id (done ++ row ∷ []) r.id) 0 1 + left_over rows (done ++ row ∷ [])) + 1 ≤ cond x 0 1 + left_over rows done) (sym old)
-        (subst (λ (x : Bool). (cond x 0 1 + left_over rows (done ++ row ∷ [])) + 1 ≤ 1 + left_over rows done) (sym new) (omega (arith, le)))
+        let le = left_over_le rows done row in rw (new, old) (omega (arith, le))
     by_id later false is h =
         let lt = later h in
         let same : has_id (done ++ row ∷ []) r.id ≡ has_id done r.id = has_id-append done row r.id ∙ rw is (or-false (has_id done r.id)) in
-        subst (λ (x : Bool). (cond x 0 1 + left_over rows (done ++ row ∷ [])) + 1 ≤ cond (has_id done r.id) 0 1 + left_over rows done) (sym same) (omega (arith, lt))
+        rw same (omega (arith, lt))
 
 -- a row at a place is a row of the shelf
 found_at : (shelf : Shelf) (place : Place) (rows : List Row) (row : Row) → IsShelf shelf rows → row_at place rows ≡ Some row → (look rows row.id ≡ Some row) × (row_with_id row.id rows ≡ Some row)
-found_at shelf First [] row ok found = cc found
-found_at shelf First (x ∷ rows) row ok found =
-    let same : x ≡ row = cc found in
-    let here : row_with_id row.id (x ∷ rows) ≡ Some row = ap (λ (b : Bool). cond b (Some x) (row_with_id row.id rows)) (eq-eqb x.id row.id (ap (λ (r : Row). r.id) same)) ∙ found in
-    (elim (nat_eq row.id 0) as (λ b. cond b (Some x) (row_with_id row.id (x ∷ rows)) ≡ Some row) [ true ↦ found | false ↦ here ], here)
-found_at shelf (Id n) rows row ok found =
-    let is = id_of shelf rows n row ok found in
-    let looks = look-asked_at (Id n) rows row found in
-    let finds : row_with_id n rows ≡ Some row = sym (ap (λ (b : Bool). cond b (first_row rows) (row_with_id n rows)) is.0) ∙ looks in
-    (ap (look rows) is.1 ∙ looks, ap (λ (m : ℕ). row_with_id m rows) is.1 ∙ finds)
+found_at shelf First rows row ok found = grind (arith, nat_tests)
+found_at shelf (Id n) rows row ok found = let is = id_of shelf rows n row ok found in grind (arith, nat_tests)
 found_at shelf End rows row ok found = cc found
 
 AllOf-snoc : (rows done : List Row) (row : Row) → AllOf rows done → look rows row.id ≡ Some row → AllOf rows (done ++ row ∷ [])
@@ -143,10 +99,7 @@ AllOf-snoc rows (d ∷ done) row all here = (all.0, AllOf-snoc rows done row all
 
 -- the place after a row leads to the next one by its id
 linked : (shelf : Shelf) (next : ℕ) (rows : List Row) (row : Row) → IsShelf shelf rows → row_at (place_after next) rows ≡ Some row → (next ≡ row.id) × (row.id ≢ 0)
-linked shelf next rows row ok found = (elim (nat_eq next 65535) as (λ b. row_at (cond b End (Id next)) rows ≡ Some row → (next ≡ row.id) × (row.id ≢ 0)) [
-  | true ↦ λ h. cc h
-  | false ↦ λ h. let is = id_of shelf rows next row ok h in (sym is.1, λ zero. eqb-false next 0 is.0 (sym is.1 ∙ zero))
-]) found
+linked shelf next rows row ok found = grind (arith, nat_tests, id_of shelf rows next row ok)
 
 Links-snoc : (shelf : Shelf) (rows : List Row) (d : Row) (done : List Row) (row : Row) → IsShelf shelf rows → Links (d ∷ done) → row_at (place_after_rows (place_after d.next) done) rows ≡ Some row → Links (d ∷ (done ++ row ∷ []))
 Links-snoc shelf rows d [] row ok links found = let l = linked shelf d.next rows row ok found in (l.0, l.1, tt)
@@ -163,51 +116,36 @@ longer shelf rows start (d ∷ done) row ok w found fresh = record {
 
 -- ---- where no row follows, the walk has an end
 
-HasEnd : List Row → Place → List Row → Type 0
-HasEnd rows start walk = (end : WalkEnd) × EndsBy rows start walk end
+abbrev the_end : List Row → ℕ → WalkEnd
+the_end walk next = cond (nat_eq next 65535) Done (cond (nat_eq next 0 || has_id walk next) (CycleAt next) (MissingAt next))
 
-end_after : (rows : List Row) (walk : List Row) (next : ℕ) → (has_id walk next ≡ false → row_at (place_after next) rows ≡ None) → (end : WalkEnd) × EndsAfter rows walk next end
-end_after rows walk next none = elim (cases_eq next 65535) [ inl e ↦ (Done, e) | inr ne ↦ by ne (nat_eq next 0) (has_id walk next) refl refl ]
-  where
-    by : next ≢ 65535 → (a b : Bool) → nat_eq next 0 ≡ a → has_id walk next ≡ b → (end : WalkEnd) × EndsAfter rows walk next end
-    by ne true b p q = (CycleAt next, (refl, ne, ap (λ (x : Bool). x || has_id walk next) p))
-    by ne false true p q = (CycleAt next, (refl, ne, ap (λ (x : Bool). x || has_id walk next) p ∙ q))
-    by ne false false p q =
-        let place : place_after next ≡ Id next = ap (λ (b : Bool). cond b End (Id next)) (ne_eqb next 65535 ne) in
-        let empty = sym (ap (λ (b : Bool). cond b None (look rows next)) p) ∙ (sym (ap (λ (x : Place). row_at x rows) place) ∙ none q) in
-        (MissingAt next, (refl, ne, eqb-false next 0 p, q, empty))
+end_after : (rows : List Row) (walk : List Row) (next : ℕ) → (has_id walk next ≡ false → row_at (place_after next) rows ≡ None) → EndsAfter rows walk next (the_end walk next)
+end_after rows walk next none = grind (arith, nat_tests)
+
+empty_end : (rows : List Row) (n : ℕ) → (nat_eq n 0 ≡ false → look rows n ≡ None) → EndsEmpty rows (Id n) (cond (nat_eq n 0) (CycleAt n) (MissingAt n))
+empty_end rows n none = grind (arith, nat_tests)
+
+no_row : (o : Option Row) → ((row : Row) → o ≡ Some row → ⊥) → o ≡ None
+no_row None none = refl
+no_row (Some row) none = absurd (none row refl)
 
 -- where the place has no row, or one that is in the walk already
-ends_here : (shelf : Shelf) (rows : List Row) (start : Place) (walk : List Row) → IsShelf shelf rows → ((row : Row) → row_at (place_after_rows start walk) rows ≡ Some row → has_id walk row.id ≡ true) → HasEnd rows start walk
-unfolding HasEnd
-ends_here shelf rows First [] ok none = by (first_row rows) refl
-  where
-    by : (o : Option Row) → first_row rows ≡ o → (end : WalkEnd) × EndsBy rows First [] end
-    by None is = (Done, is)
-    by (Some row) is = let h = none row is in cc h
-ends_here shelf rows (Id n) [] ok none = by (nat_eq n 0) refl (look rows n) refl
-  where
-    by : (b : Bool) → nat_eq n 0 ≡ b → (o : Option Row) → look rows n ≡ o → (end : WalkEnd) × EndsBy rows (Id n) [] end
-    by true p o is = (CycleAt n, (refl, eqb-true n 0 p))
-    by false p None is = (MissingAt n, (refl, eqb-false n 0 p, is))
-    by false p (Some row) is = let h = none row (ap (λ (b : Bool). cond b None (look rows n)) p ∙ is) in cc h
+ends_here : (shelf : Shelf) (rows : List Row) (start : Place) (walk : List Row) → IsShelf shelf rows → ((row : Row) → row_at (place_after_rows start walk) rows ≡ Some row → has_id walk row.id ≡ true) → (end : WalkEnd) × EndsBy rows start walk end
+ends_here shelf rows First [] ok none = (Done, no_row (first_row rows) (λ row is. let h = none row is in cc h))
+ends_here shelf rows (Id n) [] ok none = (cond (nat_eq n 0) (CycleAt n) (MissingAt n), empty_end rows n (λ p. no_row (look rows n) (λ row is. let h = none row (rw p (rw p at is)) in cc h)))
 ends_here shelf rows End [] ok none = (Done, tt)
 ends_here shelf rows start (d ∷ walk) ok none =
     let next = last_next d.next walk in
-    let place = place_after_rows-last d.next walk in
-    end_after rows (d ∷ walk) next (λ fresh. by fresh (row_at (place_after next) rows) refl place)
-  where
-    by : has_id (d ∷ walk) (last_next d.next walk) ≡ false → (o : Option Row) → row_at (place_after (last_next d.next walk)) rows ≡ o → place_after_rows (place_after d.next) walk ≡ place_after (last_next d.next walk)
-        → row_at (place_after (last_next d.next walk)) rows ≡ None
-    by fresh None is place = is
-    by fresh (Some row) is place =
-        let stands = none row (ap (λ (p : Place). row_at p rows) place ∙ is) in
-        let id = linked shelf (last_next d.next walk) rows row ok is in
-        let h = sym (ap (has_id (d ∷ walk)) id.0 ∙ stands) ∙ fresh in cc h
+    (
+      the_end (d ∷ walk) next,
+      end_after rows (d ∷ walk) next (λ fresh. no_row (row_at (place_after next) rows) (λ row is.
+      let stands = none row (ap (λ (p : Place). row_at p rows) (place_after_rows-last d.next walk) ∙ is) in
+      let id = linked shelf next rows row ok is in
+      let h = sym (ap (has_id (d ∷ walk)) id.0 ∙ stands) ∙ fresh in cc h)),
+    )
 
 decide : (shelf : Shelf) (rows : List Row) (start : Place) (done : List Row) → IsShelf shelf rows → IsWalk rows start done
     → ((row : Row) → row_at (place_after_rows start done) rows ≡ Some row → has_id done row.id ≡ false → HasWalk rows start) → HasWalk rows start
-unfolding HasEnd
 decide shelf rows start done ok w go = by (row_at (place_after_rows start done) rows) refl
   where
     ending : ((row : Row) → row_at (place_after_rows start done) rows ≡ Some row → has_id done row.id ≡ true) → HasWalk rows start

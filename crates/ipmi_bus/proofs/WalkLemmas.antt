@@ -1,11 +1,11 @@
 -- Walks, row after row.
-use Rattle.std.proofs.Common.{◌≡◌, ◌≢◌, ℕ, ◌+◌, ◌≤◌, Bool, true, false, cond, nat_eq, ◌||◌, Option, None, Some, IsSome, Result, Ok, Err, List, [], ◌∷◌, ◌++◌, length, take, drop, refl, sym, ap, subst, ◌∙◌, inl, inr, rules, arith, ◌⊎◌, ne_eqb, eq-eqb, nat_cmp, take_all, take-append-drop, length-drop, take-add}
+use Rattle.std.proofs.Common.{◌≡◌, ◌≢◌, ℕ, ◌+◌, ◌≤◌, Bool, true, false, cond, nat_eq, ◌||◌, Option, None, Some, Result, Ok, Err, List, [], ◌∷◌, ◌++◌, length, take, drop, refl, sym, ap, subst, ◌∙◌, inl, inr, rules, arith, ◌⊎◌, ne_eqb, eq-eqb, nat_cmp, take_all, take-append-drop, length-drop, take-add}
 use Rattle.std.specs.FinSet as set
 use Rattle.std.proofs.Math.Bool.{or-false, or_assoc, or_comm}
-use Rattle.ipmi_bus.specs.Prelude.{Shelf, Place, First, Id, End, Row, IsShelf, look, len_of, row_with_id, first_row, DistinctIds, LacksId, row_at, IsWalk, place_after, place_after_rows, has_id, WalkEnd, Done, CycleAt, MissingAt, EndsBy, EndsAfter, EndsEmpty, last_next, Ended, Cycle, Missing, Stalled, Malformed, CursorState, asked_at, cycle_at, AsksAlong, AsksNothing, StaysThere, StepLeaves, StepAnswers, StepIsHonest, NoneAt, StandsAt, WalkStep, MayFail, FollowsWalks, store_shelf, Store, rows_of, Seen, IsHonest}
-use Rattle.ipmi_bus.specs.declared.step.Ended.TheVariants.{Refused, GaveUp}
+use Rattle.ipmi_bus.specs.Prelude.{Shelf, Place, First, Id, End, Row, IsShelf, look, len_of, row_with_id, first_row, DistinctIds, LacksId, row_at, IsWalk, place_after, place_after_rows, has_id, WalkEnd, Done, CycleAt, MissingAt, EndsBy, EndsAfter, EndsEmpty, last_next, Ended, Cycle, Missing, CursorState, asked_at, cycle_at, AsksAlong, AsksNothing, StaysThere, StepLeaves, StepAnswers, StepIsHonest, NoneAt, StandsAt, WalkStep, MayFail, FollowsWalks, store_shelf, Store, rows_of, Seen, IsHonest, Refused, GaveUp}
 use Rattle.std.specs.FinSet.{contains-insert, contains-empty}
 use Rattle.std.specs.Cmp.{nat_cmp_total, unsigned_tied}
+use Rattle.std.proofs.lemmas.Bool.Decides.{nat_tests}
 use Rattle.std.proofs.Math.Seq.{drop-nil}
 use Rattle.ipmi_bus.proofs.ShelfLemmas.{look_row, found_row}
 
@@ -48,26 +48,19 @@ has_id-next (d ∷ done) row walk distinct =
 
 -- the id asked for at a place that has a row
 pub look-asked_at : (place : Place) (rows : List Row) (row : Row) → row_at place rows ≡ Some row → look rows (asked_at place) ≡ Some row
-look-asked_at First rows row found = found
-look-asked_at (Id n) rows row found = (elim (nat_eq n 0) as (λ b. cond b None (look rows n) ≡ Some row → look rows n ≡ Some row) [ true ↦ λ h. cc h | false ↦ λ h. h ]) found
-look-asked_at End rows row found = cc found
+look-asked_at place rows row found = grind (arith, nat_tests)
 
 -- it is the row's
 pub id_of : (shelf : Shelf) (rows : List Row) (n : ℕ) (row : Row) → IsShelf shelf rows → row_at (Id n) rows ≡ Some row → (nat_eq n 0 ≡ false) × (row.id ≡ n)
-id_of shelf rows n row ok found = by_zero (nat_eq n 0) refl found
-  where
-    by_zero : (b : Bool) → nat_eq n 0 ≡ b → cond b None (cond b (first_row rows) (row_with_id n rows)) ≡ Some row → (nat_eq n 0 ≡ false) × (row.id ≡ n)
-    by_zero true is h = cc h
-    by_zero false is h = (is, (found_row shelf rows n row ok.all h).1)
+id_of shelf rows n row ok found = grind (arith, nat_tests, found_row shelf rows n row ok.all)
 
 pub cycle_at-none : (shelf : Shelf) (rows : List Row) (place : Place) (ids : set.FinSet nat_cmp) (done : List Row) (row : Row) → IsShelf shelf rows → ((n : ℕ) → set.contains ids n ≡ has_id done n) → has_id done row.id ≡ false
     → row_at place rows ≡ Some row → cycle_at place ids ≡ None
-cycle_at-none shelf rows First ids done row ok same fresh found = refl
 cycle_at-none shelf rows (Id n) ids done row ok same fresh found =
     let is = id_of shelf rows n row ok found in
     let out : set.contains ids n ≡ false = same n ∙ ap (has_id done) (sym is.1) ∙ fresh in
     rw (is.0, out) refl
-cycle_at-none shelf rows End ids done row ok same fresh found = refl
+cycle_at-none shelf rows _ ids done row ok same fresh found = refl
 
 place_after_rows-append : (start : Place) (done : List Row) (row : Row) → place_after_rows start (done ++ row ∷ []) ≡ place_after row.next
 place_after_rows-append start [] row = refl
@@ -90,57 +83,29 @@ place_after_rows-last next (row ∷ walk) = place_after_rows-last row.next walk
 
 after_facts : (rows : List Row) (start place : Place) (ids : set.FinSet nat_cmp) (walk : List Row) (next : ℕ) (end : WalkEnd) → EndsAfter rows walk next end → place ≡ place_after next → ((n : ℕ) → set.contains ids n ≡ has_id walk n)
     → EndFacts rows start place ids end
-after_facts rows start place ids walk next Done ends p same = inl (p ∙ ap place_after ends)
-after_facts rows start place ids walk next (CycleAt n) ends p same =
-    let at : place ≡ Id next = p ∙ place_after-id next ends.1 in
-    rw (at, same next, ends.2) (ap Some (sym ends.0))
-after_facts rows start place ids walk next (MissingAt n) ends p same =
-    let at : place ≡ Id next = p ∙ place_after-id next ends.1 in (
-      at ∙ ap Id (sym ends.0),
-      ap (λ (q : Place). cycle_at q ids) at ∙ rw (same next ∙ ends.3, ne_eqb next 0 ends.2) refl,
-      ap (look rows) ends.0 ∙ ends.4,
-    )
+after_facts rows start place ids walk next end ends p same = grind (arith, nat_tests)
+
+empty_walk_facts : (rows : List Row) (start place : Place) (ids : set.FinSet nat_cmp) (end : WalkEnd) → EndsEmpty rows start end → place ≡ start → ((n : ℕ) → set.contains ids n ≡ false) → EndFacts rows start place ids end
+empty_walk_facts rows start place ids end ends p same = grind (arith, nat_tests)
 
 pub end_facts : (rows : List Row) (start : Place) (walk : List Row) (place : Place) (ids : set.FinSet nat_cmp) (end : WalkEnd) → EndsBy rows start walk end → place ≡ place_after_rows start walk → ((n : ℕ) → set.contains ids n ≡ has_id walk n)
     → EndFacts rows start place ids end
 end_facts rows start (row ∷ walk) place ids end ends p same = after_facts rows start place ids (row ∷ walk) (last_next row.next walk) end ends (p ∙ place_after_rows-last row.next walk) same
-end_facts rows First [] place ids Done ends p same = inr (p, refl, ends)
-end_facts rows First [] place ids _ ends p same = absurd ends
-end_facts rows (Id id) [] place ids Done ends p same = absurd ends
-end_facts rows (Id id) [] place ids (CycleAt n) ends p same =
-    rw (p, eq-eqb id 0 ends.1) (ap Some (sym ends.0))
-end_facts rows (Id id) [] place ids (MissingAt n) ends p same = (
-  p ∙ ap Id (sym ends.0),
-  ap (λ (q : Place). cycle_at q ids) p ∙ rw (ne_eqb id 0 ends.1, same id) refl,
-  ap (look rows) ends.0 ∙ ends.2,
-)
-end_facts rows End [] place ids Done ends p same = inl p
-end_facts rows End [] place ids _ ends p same = absurd ends
+end_facts rows start [] place ids end ends p same = empty_walk_facts rows start place ids end ends p same
 
 -- at the end of an empty shelf
 empty_facts : (rows : List Row) (start : Place) (walk : List Row) (place : Place) (ids : set.FinSet nat_cmp) (end : WalkEnd) → IsWalk rows start walk → EndsBy rows start walk end → place ≡ End → start ≡ First → first_row rows ≡ None
     → EndFacts rows start place ids end
 empty_facts rows start (row ∷ walk) place ids end w ends p first none = let h = sym (ap (λ (q : Place). row_at q rows) first) ∙ w.first in cc (h, none)
-empty_facts rows start [] place ids Done w ends p first none = inl p
-empty_facts rows start [] place ids (CycleAt n) w ends p first none = absurd (subst (λ (q : Place). EndsEmpty rows q (CycleAt n)) first ends)
-empty_facts rows start [] place ids (MissingAt n) w ends p first none = absurd (subst (λ (q : Place). EndsEmpty rows q (MissingAt n)) first ends)
+empty_facts rows start [] place ids end w ends p first none = grind arith
 
 -- ---- the law
 
--- what a step found in the rows
-abbrev pub Finds : List Row → Place → Result (Option Row) Ended → Type 0
-Finds rows place (Ok (Some row)) = look rows (asked_at place) ≡ Some row
-Finds rows First (Ok None) = look rows 0 ≡ None
-Finds rows (Id n) (Ok None) = ⊥
-Finds rows End (Ok None) = Unit {0}
-Finds rows place (Err (Cycle n)) = Unit {0}
-Finds rows place (Err (Missing n)) = look rows n ≡ None
-Finds rows place (Err (GaveUp n)) = Unit {0}
-Finds rows place (Err (Refused n code)) = Unit {0}
-Finds rows place (Err (Stalled n)) = ⊥
-Finds rows place (Err (Malformed n)) = ⊥
+-- on a walk along the rows that the controller has now
+module _ (c new : CursorState) (seen : Seen) (start : Place) (walk : List Row) (k : ℕ) (ok : IsShelf c.shelf (rows_of c.shelf seen.store)) (w : IsWalk (rows_of c.shelf seen.store) start walk) (stands : StandsAt (rows_of c.shelf seen.store) start walk k c) where
+  abbrev rows : List Row
+  rows = rows_of c.shelf seen.store
 
-module _ (shelf : Shelf) (rows : List Row) (start : Place) (walk : List Row) (k : ℕ) (ok : IsShelf shelf rows) (w : IsWalk rows start walk) (c new : CursorState) (stands : StandsAt rows start walk k c) where
   still : StaysThere c new → StandsAt rows start walk k new
   still same = record {
     within = stands.within;
@@ -158,7 +123,7 @@ module _ (shelf : Shelf) (rows : List Row) (start : Place) (walk : List Row) (k 
 
     at_row : row_at c.place rows ≡ Some row
     at_row = elim stands.place [
-      | inl p ↦ ap (λ (q : Place). row_at q rows) p ∙ row_at-next shelf rows start (take k walk) row rest ok w'
+      | inl p ↦ ap (λ (q : Place). row_at q rows) p ∙ row_at-next c.shelf rows start (take k walk) row rest ok w'
       | inr e ↦ absurd (not_empty walk w split e.1 e.2)
     ]
       where
@@ -170,7 +135,7 @@ module _ (shelf : Shelf) (rows : List Row) (start : Place) (walk : List Row) (k 
     unseen = has_id-next (take k walk) row rest w'.distinct
 
     none : cycle_at c.place c.ids ≡ None
-    none = cycle_at-none shelf rows c.place c.ids (take k walk) row ok stands.ids unseen at_row
+    none = cycle_at-none c.shelf rows c.place c.ids (take k walk) row ok stands.ids unseen at_row
 
     found : look rows (asked_at c.place) ≡ Some row
     found = look-asked_at c.place rows row at_row
@@ -181,9 +146,10 @@ module _ (shelf : Shelf) (rows : List Row) (start : Place) (walk : List Row) (k 
     len : k + 1 ≤ length walk
     len = omega (arith, length-drop k walk, ap (length {A = Row}) split)
 
-    inside : (result : Result (Option Row) Ended) → StepLeaves c new result → Finds rows c.place result → WalkStep rows start walk end k c new result
-    inside (Ok (Some r)) leaves finds =
-        let same : row ≡ r = cc (found, finds) in (
+    inside : (s : Seen) (result : Result (Option Row) Ended) → StepLeaves c new result → StepAnswers c s seen result → WalkStep rows start walk end k c new result
+    inside s (Ok (Some r)) leaves answers =
+        let found_r = answers.1 in
+        let same : row ≡ r = cc (found, found_r) in (
           ap first_row split ∙ ap Some same,
           record {
             within = len;
@@ -197,17 +163,12 @@ module _ (shelf : Shelf) (rows : List Row) (start : Place) (walk : List Row) (k 
                 ∙ sym (has_id-append (take k walk) row n) ∙ ap (λ (l : List Row). has_id l n) (sym more);
           },
         )
-    inside (Ok None) leaves finds = absurd (no_none c.place finds found at_row)
-      where
-        no_none : (p : Place) → Finds rows p (Ok None) → look rows (asked_at p) ≡ Some row → row_at p rows ≡ Some row → ⊥
-        no_none First finds found at = cc (finds, found)
-        no_none (Id n) finds found at = finds
-        no_none End finds found at = cc at
-    inside (Err (Cycle n)) leaves finds = let h = sym none ∙ leaves.0 in cc h
-    inside (Err (Missing n)) leaves finds = let h = sym (ap (λ (p : Place). look rows (asked_at p)) leaves.2) ∙ found in cc (h, finds)
-    inside (Err (GaveUp n)) leaves finds = (still leaves.1.stays, λ (e : k ≡ length walk). absurd (omega (arith, len, e)))
-    inside (Err (Refused n code)) leaves finds = (still leaves.1.stays, λ (e : k ≡ length walk). absurd (omega (arith, len, e)))
-    inside _ leaves finds = absurd finds
+    inside s (Ok None) leaves answers = let there = found in let at = at_row in let nothing = answers.1 in grind arith
+    inside s (Err (Cycle n)) leaves answers = let h = sym none ∙ leaves.0 in cc h
+    inside s (Err (Missing n)) leaves answers = let h = rw leaves.2 at found in let absent = answers.1 in cc (h, absent)
+    inside s (Err (GaveUp n)) leaves answers = (still leaves.1.stays, λ (e : k ≡ length walk). absurd (omega (arith, len, e)))
+    inside s (Err (Refused n code)) leaves answers = (still leaves.1.stays, λ (e : k ≡ length walk). absurd (omega (arith, len, e)))
+    inside s _ leaves answers = absurd answers
 
   -- at the walk's end
   module _ (split : drop k walk ≡ []) (end : WalkEnd) (ends : EndsBy rows start walk end) where
@@ -225,15 +186,18 @@ module _ (shelf : Shelf) (rows : List Row) (start : Place) (walk : List Row) (k 
     ]
 
     may_fail : (e : WalkEnd) → EndFacts rows start c.place c.ids e → cycle_at c.place c.ids ≡ None → c.place ≢ End → MayFail e c.place
-    may_fail Done facts none open_ = elim facts [ inl p ↦ absurd (open_ p) | inr h ↦ h.0 ]
-    may_fail (CycleAt n) facts none open_ = let h = sym facts ∙ none in cc h
-    may_fail (MissingAt n) facts none open_ = tt
+    may_fail e facts none open_ = grind arith
 
-    ending : (e : WalkEnd) → EndFacts rows start c.place c.ids e → (result : Result (Option Row) Ended) → StepLeaves c new result → Finds rows c.place result → WalkStep rows start walk e k c new result
-    ending Done facts (Ok (Some r)) leaves finds = absurd (elim facts [ inl p ↦ leaves.1.not_at_end p | inr h ↦ let found = sym (ap (λ (p : Place). look rows (asked_at p)) h.0) ∙ finds in cc (found, h.2) ])
-    ending (CycleAt n) facts (Ok (Some r)) leaves finds = let h = sym facts ∙ leaves.0 in cc h
-    ending (MissingAt n) facts (Ok (Some r)) leaves finds = let h = sym (ap (λ (p : Place). look rows (asked_at p)) facts.0) ∙ finds in cc (h, facts.2)
-    ending Done facts (Ok None) leaves finds = (
+    -- there is no row to ask for
+    asks_at_end : (e : WalkEnd) → EndFacts rows start c.place c.ids e → AsksNothing c ⊎ (look rows (asked_at c.place) ≡ None)
+    asks_at_end e known = grind arith
+
+    no_row : (e : WalkEnd) (row : Row) → EndFacts rows start c.place c.ids e → cycle_at c.place c.ids ≡ None → c.place ≢ End → look rows (asked_at c.place) ≡ Some row → ⊥
+    no_row e row facts none open_ found = elim (asks_at_end e facts) [ inl asks ↦ (elim asks [ inl p ↦ open_ p | inr some ↦ cc (some, none) ]) | inr empty ↦ (let h = empty in cc (h, found)) ]
+
+    ending : (s : Seen) (e : WalkEnd) → EndFacts rows start c.place c.ids e → (result : Result (Option Row) Ended) → StepLeaves c new result → StepAnswers c s seen result → WalkStep rows start walk e k c new result
+    ending s e facts (Ok (Some r)) leaves answers = absurd (no_row e r facts leaves.0 leaves.1.not_at_end answers.1)
+    ending s Done facts (Ok None) leaves answers = (
       at_end,
       refl,
       record {
@@ -242,65 +206,40 @@ module _ (shelf : Shelf) (rows : List Row) (start : Place) (walk : List Row) (k 
         ids = λ n. ap (λ (s : set.FinSet nat_cmp). set.contains s n) leaves.1.ids ∙ stands.ids n;
       },
     )
-    ending (CycleAt n) facts (Ok None) leaves finds = let h = sym facts ∙ leaves.0 in cc h
-    ending (MissingAt n) facts (Ok None) leaves finds = absurd (subst (λ (p : Place). Finds rows p (Ok None)) facts.0 finds)
-    ending Done facts (Err (Cycle n)) leaves finds = absurd (elim facts [ inl p ↦ (let h = sym (ap (λ (q : Place). cycle_at q c.ids) p) ∙ leaves.0 in cc h) | inr f ↦ (let h = sym (ap (λ (q : Place). cycle_at q c.ids) f.0) ∙ leaves.0 in cc h) ])
-    ending (CycleAt m) facts (Err (Cycle n)) leaves finds = let h = sym facts ∙ leaves.0 in let e : m ≡ n = cc h in (at_end, ap CycleAt e, still leaves.1)
-    ending (MissingAt m) facts (Err (Cycle n)) leaves finds = let h = sym facts.1 ∙ leaves.0 in cc h
-    ending Done facts (Err (Missing n)) leaves finds = absurd (elim facts [ inl p ↦ (let h = sym p ∙ leaves.2 in cc h) | inr f ↦ (let h = sym f.0 ∙ leaves.2 in cc h) ])
-    ending (CycleAt m) facts (Err (Missing n)) leaves finds = let h = sym facts ∙ leaves.0 in cc h
-    ending (MissingAt m) facts (Err (Missing n)) leaves finds = let h = sym facts.0 ∙ leaves.2 in let e : m ≡ n = cc h in (at_end, ap MissingAt e, still leaves.1)
-    ending e facts (Err (GaveUp n)) leaves finds = (still leaves.1.stays, λ _. may_fail e facts leaves.0 leaves.1.not_at_end)
-    ending e facts (Err (Refused n code)) leaves finds = (still leaves.1.stays, λ _. may_fail e facts leaves.0 leaves.1.not_at_end)
-    ending e facts _ leaves finds = absurd finds
+    ending s e facts (Ok None) leaves answers = let closed = leaves.0 in let nothing = answers.1 in grind arith
+    ending s e facts (Err (Cycle n)) leaves answers = (at_end, (let closed = leaves.0 in grind arith), still leaves.1)
+    ending s e facts (Err (Missing n)) leaves answers = (at_end, (let closed = leaves.0 in let at = leaves.2 in grind arith), still leaves.1)
+    ending s e facts (Err (GaveUp n)) leaves answers = (still leaves.1.stays, λ _. may_fail e facts leaves.0 leaves.1.not_at_end)
+    ending s e facts (Err (Refused n code)) leaves answers = (still leaves.1.stays, λ _. may_fail e facts leaves.0 leaves.1.not_at_end)
+    ending s e facts _ leaves answers = absurd answers
 
   -- a step on a walk that has an end
-  pub walk_law : (end : WalkEnd) → EndsBy rows start walk end → (result : Result (Option Row) Ended) → StepLeaves c new result → Finds rows c.place result → WalkStep rows start walk end k c new result
-  walk_law end ends result leaves finds = by_rest (drop k walk) refl
+  pub walk_law : (s : Seen) (end : WalkEnd) → EndsBy rows start walk end → (result : Result (Option Row) Ended) → StepLeaves c new result → StepAnswers c s seen result → WalkStep rows start walk end k c new result
+  walk_law s end ends result leaves answers = by_rest (drop k walk) refl
     where
       by_rest : (l : List Row) → drop k walk ≡ l → WalkStep rows start walk end k c new result
-      by_rest [] is = ending is end ends end (facts is end ends) result leaves finds
-      by_rest (row ∷ rest) is = inside row rest is end result leaves finds
+      by_rest [] is = ending is end ends s end (facts is end ends) result leaves answers
+      by_rest (row ∷ rest) is = inside row rest is end s result leaves answers
 
   -- a step on it asks for the next row, or at its end for none, or asks nothing
   pub asks_next : (end : WalkEnd) → EndsBy rows start walk end → AsksNothing c ⊎ (len_of (look rows (asked_at c.place)) ≡ len_of (first_row (drop k walk)))
   asks_next end ends = by_rest (drop k walk) refl
     where
-      asks_at_end : (e : WalkEnd) → EndFacts rows start c.place c.ids e → AsksNothing c ⊎ (len_of (look rows (asked_at c.place)) ≡ 0)
-      asks_at_end Done known = elim known [ inl p ↦ inl (inl p) | inr h ↦ inr (ap len_of (ap (λ (q : Place). look rows (asked_at q)) h.0 ∙ h.2)) ]
-      asks_at_end (CycleAt n) known = inl (inr (subst (λ (o : Option ℕ). IsSome o) (sym known) refl))
-      asks_at_end (MissingAt n) known = inr (ap len_of (ap (λ (q : Place). look rows (asked_at q)) known.0 ∙ known.2))
-
       by_rest : (l : List Row) → drop k walk ≡ l → AsksNothing c ⊎ (len_of (look rows (asked_at c.place)) ≡ len_of (first_row (drop k walk)))
-      by_rest [] is = elim (asks_at_end end (facts is end ends)) [ inl asks ↦ inl asks | inr nothing ↦ inr (nothing ∙ sym (rw is refl)) ]
+      by_rest [] is = elim (asks_at_end is end ends end (facts is end ends)) [ inl asks ↦ inl asks | inr nothing ↦ inr (ap len_of nothing ∙ sym (rw is refl)) ]
       by_rest (row ∷ rest) is = inr (ap len_of (found row rest is end) ∙ sym (rw is refl))
 
 -- ---- the law over an honest controller, which keeps its store
 
-finds_of : (c : CursorState) (s s' : Seen) (result : Result (Option Row) Ended) → StepAnswers c s s' result → Finds (rows_of c.shelf s'.store) c.place result
-finds_of c s s' (Ok (Some row)) answers = answers.1
-finds_of c s s' (Ok None) answers = none c.place answers.1
-  where
-    none : (p : Place) → NoneAt p c.shelf s' → Finds (rows_of c.shelf s'.store) p (Ok None)
-    none First h = h
-    none _ h = h
-finds_of c s s' (Err (Cycle n)) answers = tt
-finds_of c s s' (Err (Missing n)) answers = answers.1
-finds_of c s s' (Err (GaveUp n)) answers = tt
-finds_of c s s' (Err (Refused n code)) answers = tt
-finds_of c s s' _ answers = answers
-
 pub follows_walks : (c new : CursorState) (s s' : Seen) (result : Result (Option Row) Ended) → IsHonest s → StepLeaves c new result → StepIsHonest c new s s' result → FollowsWalks c new s s' result
 follows_walks c new s s' result honest leaves step = record {
-  follows = λ same start walk end k w ends stands.
-      let store = step.stays.store.stays same in
-      let rows = rows_of c.shelf s.store in
-      let finds : Finds rows c.place result = subst (λ (x : Store). Finds (rows_of c.shelf x) c.place result) store (finds_of c s s' result step.answers) in
-      walk_law c.shelf rows start walk k (store_shelf c.shelf s.store honest.store) w c new stands end ends result leaves finds;
+  follows = λ same start walk end k.
+      subst (λ (x : Store). IsWalk (rows_of c.shelf x) start walk → EndsBy (rows_of c.shelf x) start walk end → StandsAt (rows_of c.shelf x) start walk k c → WalkStep (rows_of c.shelf x) start walk end k c new result) (step.stays.store.stays same)
+      (λ w ends stands. walk_law c new s' start walk k (store_shelf c.shelf s'.store step.stays.honest.store) w stands s end ends result leaves step.answers);
 }
 
 pub asks_along : (c : CursorState) (s : Seen) → IsHonest s → AsksAlong c s
-asks_along c s honest start walk end k w ends stands = asks_next c.shelf (rows_of c.shelf s.store) start walk k (store_shelf c.shelf s.store honest.store) w c c stands end ends
+asks_along c s honest start walk end k w ends stands = asks_next c c s start walk k (store_shelf c.shelf s.store honest.store) w stands end ends
 
 -- a new cursor is at the start of each walk
 pub stands_at_start : (rows : List Row) (start : Place) (walk : List Row) (c : CursorState) → c.place ≡ start → c.ids ≡ set.empty → StandsAt rows start walk 0 c

@@ -1,12 +1,6 @@
 -- What an honest controller may answer to each call, and what a plain one has to.
 use Rattle.std.specs.Prelude.{◌≡◌, ℕ, ◌+◌, ◌<◌, ◌≤◌, ◌==◌, Bool, true, false, IsTrue, Option, None, Some, Result, Ok, Err, IsOk, List, length, take, drop}
-use Rattle.ipmi_bus.specs.declared.controller.Shelf.{Shelf}
-use Rattle.ipmi_bus.specs.declared.controller.Shelf.TheVariants.{Sdr, Sel}
-use Rattle.ipmi_bus.specs.declared.code.CodeClass.{CodeClass}
-use Rattle.ipmi_bus.specs.declared.code.CodeClass.TheVariants.{Cancelled, Busy, SmallerPart, NotPresent, Refusal}
-use Rattle.ipmi_bus.specs.declared.code.Code.{Code}
-use Rattle.ipmi_bus.specs.declared.controller.Part.{Part}
-use Rattle.ipmi_bus.specs.declared.controller.FruSize.{FruSize}
+use Rattle.ipmi_bus.specs.Types.{Busy, Cancelled, Code, CodeClass, FruSize, NotPresent, Part, Refusal, Sdr, Sel, Shelf, SmallerPart}
 use Rattle.ipmi_bus.specs.Shelf.{Row, look}
 use Rattle.ipmi_bus.specs.Store.{Store, rows_of, inventory_of}
 use Rattle.ipmi_bus.specs.Code.{class_of}

@@ -1,9 +1,6 @@
 -- How many bytes a call asks for, and what is to be done after one that failed.
 use Rattle.std.specs.Prelude.{◌≡◌, ℕ, min, ◌/◌, ◌<◌, ◌≤◌, ◌⊎◌, nat_lt, if◌then◌else◌, Option, None, Some}
-use Rattle.ipmi_bus.specs.declared.code.CodeClass.{CodeClass}
-use Rattle.ipmi_bus.specs.declared.code.CodeClass.TheVariants.{Cancelled, Busy, SmallerPart, NotPresent, Refusal}
-use Rattle.ipmi_bus.specs.declared.calls.Failure.{Failure}
-use Rattle.ipmi_bus.specs.declared.calls.Failure.TheVariants.{Again, Anew, Smaller, Absent, GiveUp, Refuse}
+use Rattle.ipmi_bus.specs.Types.{Busy, Cancelled, CodeClass, Failure, NotPresent, Refusal, SmallerPart}
 
 -- the smaller of the part size and what is missing
 abbrev pub asked_len : ℕ → ℕ → ℕ
@@ -15,9 +12,9 @@ smaller_part asked = if nat_lt 1 asked then Some (asked / 2) else None
 
 -- what is to be done after a failing call, by the class of its code and the troubles before it
 abbrev pub FailureIs : Failure → CodeClass → ℕ → ℕ → Type 0
-FailureIs Again class troubles tries = (class ≡ Busy) × (troubles < tries)
-FailureIs Anew class troubles tries = (class ≡ Cancelled) × (troubles < tries)
-FailureIs GiveUp class troubles tries = ((class ≡ Busy) ⊎ (class ≡ Cancelled)) × (tries ≤ troubles)
-FailureIs Smaller class troubles tries = class ≡ SmallerPart
-FailureIs Absent class troubles tries = class ≡ NotPresent
-FailureIs Refuse class troubles tries = class ≡ Refusal
+FailureIs Failure.Again class troubles tries = (class ≡ Busy) × (troubles < tries)
+FailureIs Failure.Anew class troubles tries = (class ≡ Cancelled) × (troubles < tries)
+FailureIs Failure.GiveUp class troubles tries = ((class ≡ Busy) ⊎ (class ≡ Cancelled)) × (tries ≤ troubles)
+FailureIs Failure.Smaller class troubles tries = class ≡ SmallerPart
+FailureIs Failure.Absent class troubles tries = class ≡ NotPresent
+FailureIs Failure.Refuse class troubles tries = class ≡ Refusal

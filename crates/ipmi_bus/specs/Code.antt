@@ -1,7 +1,6 @@
 -- Completion codes by what they mean for a retrieval.
 use Rattle.std.specs.Prelude.{ℕ, ◌==◌, ◌||◌, if◌then◌else◌}
-use Rattle.ipmi_bus.specs.declared.code.CodeClass.{CodeClass}
-use Rattle.ipmi_bus.specs.declared.code.CodeClass.TheVariants.{Cancelled, Busy, SmallerPart, NotPresent, Refusal}
+use Rattle.ipmi_bus.specs.Types.{Busy, Cancelled, CodeClass, NotPresent, Refusal, SmallerPart}
 
 abbrev pub class_of : ℕ → CodeClass
 class_of code =

@@ -2,9 +2,7 @@
 use Rattle.std.specs.Prelude.{ℕ, Option, None, Some}
 use Rattle.std.specs.Ordering.{nat_cmp}
 use Rattle.std.specs.FinSet as set
-use Rattle.ipmi_bus.specs.declared.controller.Shelf.{Shelf}
-use Rattle.ipmi_bus.specs.declared.step.Place.{Place}
-use Rattle.ipmi_bus.specs.declared.step.Place.TheVariants.{First, Id}
+use Rattle.ipmi_bus.specs.Types.{First, Id, Place, Shelf}
 
 -- its shelf, its place, its part size in bytes, its tries, the ids that it has handed out, and the reservation that it holds
 pub record CursorState : Type 0 where

@@ -1,34 +1,31 @@
 -- What is done after a failing call for a value, and what holds while it is made again.
 use Rattle.std.specs.Prelude.{◌≡◌, ℕ, ◌+◌, ◌<◌, ◌≤◌, IsTrue, Result, Ok, Err}
-use Rattle.ipmi_bus.specs.declared.code.Code.{Code}
-use Rattle.ipmi_bus.specs.declared.code.CodeClass.{CodeClass}
-use Rattle.ipmi_bus.specs.declared.code.CodeClass.TheVariants.{Cancelled, Busy, SmallerPart, NotPresent, Refusal}
-use Rattle.ipmi_bus.specs.declared.step.Ended.{Ended}
-use Rattle.ipmi_bus.specs.declared.step.Ended.TheVariants.{Refused, GaveUp}
-use Rattle.ipmi_bus.specs.declared.readers.ValueFailure.{ValueFailure}
-use Rattle.ipmi_bus.specs.declared.readers.ValueFailure.TheVariants.{Again, Absent}
+use Rattle.ipmi_bus.specs.Types.{Busy, Cancelled, Code, CodeClass, Ended, GaveUp, NotPresent, Refused, ValueFailure}
 use Rattle.ipmi_bus.specs.Seen.{Seen, IsHonest, StaysHonest}
 use Rattle.ipmi_bus.specs.Readers.{KeepsReservations}
 
 -- one trouble more, or it was one too many
 abbrev pub ValueTroubleIs : ℕ → ℕ → ℕ → Result ValueFailure Ended → Type 0
-ValueTroubleIs id troubles tries (Ok failure) = (failure ≡ Again) × (troubles < tries)
+ValueTroubleIs id troubles tries (Ok failure) = (failure ≡ ValueFailure.Again) × (troubles < tries)
 ValueTroubleIs id troubles tries (Err ended) = (ended ≡ GaveUp id) × (tries ≤ troubles)
 
 abbrev pub ValueFailureIs : CodeClass → Code → ℕ → ℕ → ℕ → Result ValueFailure Ended → Type 0
 ValueFailureIs Cancelled code id troubles tries result = ValueTroubleIs id troubles tries result
 ValueFailureIs Busy code id troubles tries result = ValueTroubleIs id troubles tries result
-ValueFailureIs SmallerPart code id troubles tries result = result ≡ Err (Refused id code)
-ValueFailureIs NotPresent code id troubles tries result = result ≡ Ok Absent
-ValueFailureIs Refusal code id troubles tries result = result ≡ Err (Refused id code)
+ValueFailureIs NotPresent code id troubles tries result = result ≡ Ok ValueFailure.Absent
+ValueFailureIs _ code id troubles tries result = result ≡ Err (Refused id code)
+
+-- so many troubles came, and no refusal
+pub record HasMet (troubles : ℕ) (s s' : Seen) : Type 0 where
+  pub troubles_are : s'.troubles ≡ s.troubles + troubles
+  pub refusals : s'.refusals ≡ s.refusals
+  pub last_code : s'.last_code ≡ s.last_code
 
 -- so many troubles came since the first call, and nothing else
 pub record HasAsked (troubles : ℕ) (s s' : Seen) : Type 0 where
   pub stays : StaysHonest s s'
-  pub troubles_are : s'.troubles ≡ s.troubles + troubles
+  pub met : HasMet troubles s s'
   pub fresh_troubles : s'.fresh_troubles ≡ s.fresh_troubles + troubles
-  pub refusals : s'.refusals ≡ s.refusals
-  pub last_code : s'.last_code ≡ s.last_code
   pub plain : IsTrue s.plain → (troubles ≡ 0) × KeepsReservations s s'
 
 -- the same call was made so often, each time with a trouble

@@ -1,16 +1,10 @@
 -- An inventory that is being read in parts: what is there so far, and what one call may leave of it.
 use Rattle.std.specs.Prelude.{◌≡◌, ℕ, ◌+◌, ◌-◌, ◌<◌, ◌≤◌, true, false, IsTrue, None, Some, IsSome, Result, Ok, Err, List, length, take}
-use Rattle.ipmi_bus.specs.declared.inventory.FruRetrieval.{FruRetrieval}
-use Rattle.ipmi_bus.specs.declared.inventory.Size.{Size}
-use Rattle.ipmi_bus.specs.declared.inventory.FruEnded.{FruEnded}
-use Rattle.ipmi_bus.specs.declared.inventory.FruEnded.TheVariants.{Refused, GaveUp, Stalled, Words}
-use Rattle.ipmi_bus.specs.declared.code.Code.{Code}
-use Rattle.ipmi_bus.specs.declared.code.CodeClass.{CodeClass}
-use Rattle.ipmi_bus.specs.declared.code.CodeClass.TheVariants.{Cancelled, Busy, SmallerPart, NotPresent, Refusal}
-use Rattle.ipmi_bus.specs.declared.controller.FruSize.{FruSize}
+use Rattle.ipmi_bus.specs.Types.{Busy, Cancelled, Code, CodeClass, FruEnded, FruRetrieval, FruSize, Size, SmallerPart}
 use Rattle.ipmi_bus.specs.Store.{inventory_of}
 use Rattle.ipmi_bus.specs.Seen.{Seen, StaysHonest}
 use Rattle.ipmi_bus.specs.Readers.{KeepsReservations, InventoryCounts, InventoryIs, PlainMayAnswer}
+use Rattle.ipmi_bus.specs.Failures.{HasMet}
 use Rattle.ipmi_bus.specs.Bounds.{digits}
 use Rattle.ipmi_bus.specs.Calls.{asked_len, smaller_part}
 use Rattle.ipmi_bus.specs.Code.{class_of}
@@ -25,11 +19,8 @@ pub record IsBegun (r : FruRetrieval) : Type 0 where
 
 -- and not all
 pub record IsOpen (r : FruRetrieval) : Type 0 where
-  pub part : 0 < r.part
-  pub part_fits : r.part < 255
+  pub begun : IsBegun r
   pub more : r.have < length r.bytes.items
-  pub fits : length r.bytes.items ≤ 65535
-  pub troubles : r.troubles ≤ r.tries
 
 -- how many bytes the next request asks for
 abbrev pub request_len : FruRetrieval → ℕ
@@ -52,19 +43,19 @@ calls_left r = (r.tries - r.troubles) + (length r.bytes.items - r.have) + digits
 -- one more trouble is counted, or it was one too many
 abbrev pub CountsTrouble : FruRetrieval → FruRetrieval → Result (Unit {0}) FruEnded → Type 0
 CountsTrouble old new (Ok u) = (new ≡ record old { troubles = old.troubles + 1 }) × (old.troubles < old.tries)
-CountsTrouble old new (Err ended) = (ended ≡ GaveUp) × (new ≡ old) × (old.troubles ≡ old.tries)
+CountsTrouble old new (Err ended) = (ended ≡ FruEnded.GaveUp) × (new ≡ old) × (old.troubles ≡ old.tries)
 
 -- a smaller part is to be asked for; a part of less than one byte can't be
 abbrev pub MakesSmaller : ℕ → FruRetrieval → FruRetrieval → Result (Unit {0}) FruEnded → Type 0
 MakesSmaller asked old new (Ok u) =
     (smaller_part asked ≡ Some new.part) × (new ≡ record old { part = new.part })
 MakesSmaller asked old new (Err ended) =
-    (ended ≡ Stalled) × (smaller_part asked ≡ None) × (new ≡ old)
+    (ended ≡ FruEnded.Stalled) × (smaller_part asked ≡ None) × (new ≡ old)
 
 -- refused with this code
 abbrev pub IsRefusedBy : Code → FruRetrieval → FruRetrieval → Result (Unit {0}) FruEnded
     → Type 0
-IsRefusedBy code old new result = (result ≡ Err (Refused code)) × (new ≡ old)
+IsRefusedBy code old new result = (result ≡ Err (FruEnded.Refused code)) × (new ≡ old)
 
 -- a failing call for a part of so many bytes, by the class of its code: CBh is a refusal
 abbrev pub PartFails : CodeClass → Code → ℕ → FruRetrieval → FruRetrieval
@@ -72,13 +63,12 @@ abbrev pub PartFails : CodeClass → Code → ℕ → FruRetrieval → FruRetrie
 PartFails Cancelled code asked old new result = CountsTrouble old new result
 PartFails Busy code asked old new result = CountsTrouble old new result
 PartFails SmallerPart code asked old new result = MakesSmaller asked old new result
-PartFails NotPresent code asked old new result = IsRefusedBy code old new result
-PartFails Refusal code asked old new result = IsRefusedBy code old new result
+PartFails _ code asked old new result = IsRefusedBy code old new result
 
 -- so many bytes came, or none
 abbrev pub TakesPart : ℕ → FruRetrieval → FruRetrieval → Result (Unit {0}) FruEnded → Type 0
 TakesPart got old new (Ok u) = (0 < got) × (new ≡ record old { have = old.have + got })
-TakesPart got old new (Err ended) = (got ≡ 0) × (ended ≡ Stalled) × (new ≡ old)
+TakesPart got old new (Err ended) = (got ≡ 0) × (ended ≡ FruEnded.Stalled) × (new ≡ old)
 
 -- what the answer to a request for so many bytes leaves, once its bytes are in their place
 abbrev pub TakesAnswer : Result ℕ Code → ℕ → FruRetrieval → FruRetrieval
@@ -110,9 +100,7 @@ pub record HasRead (r : FruRetrieval) (s : Seen) : Type 0 where
 pub record FruSince (r : FruRetrieval) (s s' : Seen) : Type 0 where
   pub stays : StaysHonest s s'
   pub read : s'.stores_added ≡ s.stores_added → HasRead r s
-  pub troubles : s'.troubles ≡ s.troubles + r.troubles
-  pub refusals : s'.refusals ≡ s.refusals
-  pub last_code : s'.last_code ≡ s.last_code
+  pub met : HasMet r.troubles s s'
   pub fresh_most : r.have < length r.bytes.items → s'.fresh_troubles ≤ s.fresh_troubles + r.troubles
   pub found : r.have ≡ length r.bytes.items → IsSome (inventory_of r.id s'.store)
   pub fresh : s'.stores_added ≡ s.stores_added → r.have < length r.bytes.items → s'.fresh_troubles ≡ s.fresh_troubles + r.troubles
@@ -135,21 +123,19 @@ FruNext old new s s' (Err ended) = FruEnds old.id old.tries s s' ended
 -- a trouble before the size was told: it is asked for again, or it was one too many
 abbrev pub SizeTroubleIs : ℕ → ℕ → Result (Unit {0}) FruEnded → Type 0
 SizeTroubleIs troubles tries (Ok u) = troubles < tries
-SizeTroubleIs troubles tries (Err ended) = (ended ≡ GaveUp) × (tries ≤ troubles)
+SizeTroubleIs troubles tries (Err ended) = (ended ≡ FruEnded.GaveUp) × (tries ≤ troubles)
 
 -- a failing call for the size, by the class of its code: CBh and a smaller part are refusals
 abbrev pub SizeFails : CodeClass → Code → ℕ → ℕ → Result (Unit {0}) FruEnded → Type 0
 SizeFails Cancelled code troubles tries result = SizeTroubleIs troubles tries result
 SizeFails Busy code troubles tries result = SizeTroubleIs troubles tries result
-SizeFails SmallerPart code troubles tries result = result ≡ Err (Refused code)
-SizeFails NotPresent code troubles tries result = result ≡ Err (Refused code)
-SizeFails Refusal code troubles tries result = result ≡ Err (Refused code)
+SizeFails _ code troubles tries result = result ≡ Err (FruEnded.Refused code)
 
 -- a size that was told, unless the device is accessed by words
 abbrev pub TakesSize : FruSize → ℕ → Result Size FruEnded → Type 0
 TakesSize told troubles (Ok size) =
     (told.words ≡ false) × (size ≡ record { bytes = told.size; troubles = troubles })
-TakesSize told troubles (Err ended) = (told.words ≡ true) × (ended ≡ Words)
+TakesSize told troubles (Err ended) = (told.words ≡ true) × (ended ≡ FruEnded.Words)
 
 -- what the last answer to a call for the size leaves
 abbrev pub TakesSizeAnswer : Result FruSize Code → ℕ → ℕ → Result Size FruEnded → Type 0
@@ -168,10 +154,8 @@ pub record IsSizeAnswered (tries : ℕ) (result : Result Size FruEnded) : Type 0
 pub record HasSize (id : ℕ) (size : Size) (s s' : Seen) : Type 0 where
   pub stays : StaysHonest s s'
   pub found : (bytes : List ℕ) × (inventory_of id s'.store ≡ Some bytes) × (length bytes ≡ size.bytes)
-  pub troubles_are : s'.troubles ≡ s.troubles + size.troubles
+  pub met : HasMet size.troubles s s'
   pub fresh_troubles : 0 < size.bytes → s'.fresh_troubles ≡ s.fresh_troubles + size.troubles
-  pub refusals : s'.refusals ≡ s.refusals
-  pub last_code : s'.last_code ≡ s.last_code
   pub plain : IsTrue s.plain → (size.troubles ≡ 0) × KeepsReservations s s'
 
 abbrev pub SizeNext : ℕ → ℕ → Seen → Seen → Result Size FruEnded → Type 0

@@ -1,16 +1,11 @@
 -- A cursor's fields as contracts see them, and what it hands out.
-use Rattle.std.specs.Prelude.{◌≡◌, ◌≢◌, ℕ, false, ◌<◌, List, Option, None, Some, IsSome, Result, Ok, Err, IsOk, take}
+use Rattle.std.specs.Prelude.{◌≡◌, ◌≢◌, ℕ, ◌<◌, List, Option, None, Some, IsSome, Result, Ok, Err, IsOk, take}
 use Rattle.std.specs.FinSet as set
-use Rattle.ipmi_bus.specs.declared.step.Place.{Place}
-use Rattle.ipmi_bus.specs.declared.step.Place.TheVariants.{First, Id, End}
-use Rattle.ipmi_bus.specs.declared.step.Ended.{Ended}
-use Rattle.ipmi_bus.specs.declared.cursor.Handed.{Handed}
-use Rattle.ipmi_bus.specs.declared.cursor.Next.{Next}
-use Rattle.ipmi_bus.specs.declared.cursor.Progress.{Progress}
+use Rattle.ipmi_bus.specs.Types.{End, Ended, First, Handed, Next, Place, Progress, Retrieval}
 use Rattle.ipmi_bus.specs.Shelf.{Row, id_in}
 use Rattle.ipmi_bus.specs.Seen.{Seen, current}
 use Rattle.ipmi_bus.specs.CursorState.{CursorState}
-use Rattle.ipmi_bus.specs.Step.{cycle_at}
+use Rattle.ipmi_bus.specs.Step.{asked_at, cycle_at}
 use Rattle.std.specs.Ordering.{nat_cmp}
 
 abbrev pub state_of : Progress → CursorState
@@ -33,30 +28,23 @@ handed_result p (Err ended) = Err ended
 -- the id of a record: at the start the one that its bytes begin with, low first
 abbrev pub handed_id : Place → ℕ → List ℕ → ℕ
 handed_id First asked buffer = id_in buffer
-handed_id (Id n) asked buffer = asked
-handed_id End asked buffer = asked
+handed_id _ asked buffer = asked
 
--- an id is asked for: 0000h at the start, and later one that was not handed out
-abbrev pub IsAsked : Place → ℕ → Type 0
-IsAsked First asked = asked ≡ 0
-IsAsked (Id n) asked = (asked ≡ n) × (n ≢ 0)
-IsAsked End asked = ⊥
+-- the row that is whole in the buffer, where this id was asked for
+abbrev pub whole_row : Place → ℕ → Retrieval → Row
+whole_row place asked r = record { id = handed_id place asked r.buffer; next = r.next; bytes = take r.have r.buffer }
 
-abbrev pub IsUnseen : Place → set.FinSet nat_cmp → ℕ → Type 0
-IsUnseen First ids asked = Unit {0}
-IsUnseen (Id n) ids asked = set.contains ids asked ≡ false
-IsUnseen End ids asked = Unit {0}
-
--- a set of ids that lacks one has room for it
-abbrev pub LeavesRoom : Place → set.FinSet nat_cmp → Type 0
-LeavesRoom First ids = Unit {0}
-LeavesRoom (Id n) ids = set.len ids < 65536
-LeavesRoom End ids = Unit {0}
+-- an id is asked for: 0000h at the start, and later one that was not handed out, for which there is room
+pub record IsAsked (place : Place) (ids : set.FinSet nat_cmp) (asked : ℕ) : Type 0 where
+  pub none : cycle_at place ids ≡ None
+  pub id : asked ≡ asked_at place
+  pub not_at_end : place ≢ End
+  pub room : set.len ids < 65536
 
 abbrev pub IsNext : Place → set.FinSet nat_cmp → Next → Type 0
 IsNext place ids Next.End = place ≡ End
 IsNext place ids (Next.Cycle n) = cycle_at place ids ≡ Some n
-IsNext place ids (Next.Asks asked) = (cycle_at place ids ≡ None) × IsAsked place asked × IsUnseen place ids asked × LeavesRoom place ids
+IsNext place ids (Next.Asks asked) = IsAsked place ids asked
 
 -- no reservation became current, and the one that is held is kept, unless the step fails
 abbrev pub StepKeeps : CursorState → CursorState → Seen → Seen → Result (Option Row) Ended

@@ -2,8 +2,7 @@
 use Rattle.std.specs.Prelude.{Option, None, Some, Result, Ok, Err}
 use Rattle.std.specs.Borrow.{Fml, MutBor}
 use Rattle.std.specs.Io.BufRead.{Rests}
-use Rattle.ipmi_bus.specs.declared.step.Ended.{Ended}
-use Rattle.ipmi_bus.specs.declared.step.Record.{Record}
+use Rattle.ipmi_bus.specs.Types.{Ended, Record}
 use Rattle.ipmi_bus.specs.contracts.cursor.Cursor.{the_row}
 use Rattle.ipmi_bus.specs.Shelf.{Row}
 use Rattle.ipmi_bus.specs.CursorState.{CursorState}

@@ -21,5 +21,6 @@ pub mod Step
 pub mod Steps
 pub mod Store
 pub mod Tries
+pub mod Types
 pub mod Unclaimed
 pub mod Walk

@@ -7,35 +7,18 @@ pub use Rattle.ipmi_bus.specs.CursorState.{CursorState, start_of}
 pub use Rattle.ipmi_bus.specs.Events.{counts_after, zero_counts}
 pub use Rattle.ipmi_bus.specs.Failures.{IsAsking, ValueFailureIs}
 pub use Rattle.ipmi_bus.specs.FruRetrieval.{FruEnds, FruNext, FruSince, HasSize, IsAnswered, IsSizeAnswered, SameInventory, SizeFails, SizeNext, TakesSize}
-pub use Rattle.ipmi_bus.specs.Handed.{handed_id, handed_result, handed_row, IsAsked, IsCursor, IsNext, IsUnseen, KeepsReservation, LeavesRoom, state_of}
+pub use Rattle.ipmi_bus.specs.Handed.{handed_id, handed_result, handed_row, IsAsked, IsCursor, IsNext, KeepsReservation, state_of, whole_row}
 pub use Rattle.ipmi_bus.specs.IdTable.{has_bit}
 unfoldable pub use Rattle.ipmi_bus.specs.IdTable.{ids_below, ids_in}
-pub use Rattle.ipmi_bus.specs.Readers.{as_inventory, EndsUnder, inventory_len, InventoryCounts, InventoryIs, IsRefusedInventory, IsRefusedOverChange, ReadsInventory, ReadsValue}
-pub use Rattle.ipmi_bus.specs.Retrieval.{after_part, after_trouble, CallAnswers, CallIsAnswered, CallIsHonest, CallIsPlain, CallLeaves, GoesOn, HasGivenUp, HasWhole, HoldsCurrent, IsCalm, IsReading, IsRefusedBy, KeepsHeld, request_of, ReserveFails, row_len, SameRequest, unreserved, wanted_len}
+pub use Rattle.ipmi_bus.specs.Readers.{as_inventory, EndsUnder, inventory_len, InventoryCounts, InventoryIs, ReadsInventory, ReadsValue}
+pub use Rattle.ipmi_bus.specs.Retrieval.{after_part, after_trouble, CallLeaves, HoldsCurrent, IsCalm, IsReading, IsRefusedBy, KeepsHeld, request_of, ReserveFails, row_len, SameRequest, unreserved, wanted_len}
 pub use Rattle.ipmi_bus.specs.Seen.{current, IsFinished, IsHonest, IsQuiet, IsRefused, IsTroubled, KeepsStore, MayLoseReservation, Seen, stays_trans, StaysHonest}
 pub use Rattle.ipmi_bus.specs.Shelf.{AllRows, BeginsWithId, DistinctIds, first_row, FoundIsRow, id_in, IsRow, IsShelf, LacksId, largest_len, len_of, look, Row, row_with_id, whole_len}
-pub use Rattle.ipmi_bus.specs.Since.{begun, EndsRead, HonestSince, IsEnded, ReadAnswers, ReadIsHonest, ReadIsPlain, Since}
+pub use Rattle.ipmi_bus.specs.Since.{begun, HonestSince, ReadCalls, ReadIsHonest, ReadNext, Since}
 pub use Rattle.ipmi_bus.specs.Standing.{FollowsWalks, MayFail, StandsAt, WalkStep}
-pub use Rattle.ipmi_bus.specs.Step.{asked_at, AsksAlong, AsksNothing, cycle_at, HasIdAsked, HasRoom, KeepsSettings, NoneAt, StaysThere, StepAnswers, StepCalls, StepIsHonest, StepLeaves}
+pub use Rattle.ipmi_bus.specs.Step.{asked_at, AsksAlong, AsksNothing, cycle_at, HandsOut, HasIdAsked, HasRoom, IsStep, KeepsSettings, NoneAt, StaysThere, StepAnswers, StepCalls, StepIsHonest, StepLeaves}
 pub use Rattle.ipmi_bus.specs.Steps.{AreSteps, cursor_after, handed_out, HandsOutPrefix, seen_after, Stepped, StepsFollowWalk, with_handed}
 pub use Rattle.ipmi_bus.specs.Store.{info_of, inventory_of, reading_of, rows_of, Store, store_shelf}
 pub use Rattle.ipmi_bus.specs.Tries.{IsRefusedWith, WithinTries}
+pub use Rattle.ipmi_bus.specs.Types.{Absent, Again, Busy, Cancelled, Code, CodeClass, Cycle, End, Ended, First, FruEnded, FruRetrieval, GaveUp, Handed, Id, Malformed, Missing, NotPresent, Outcome, Part, Place, Progress, Refusal, Refused, Retrieval, Sdr, Sel, Shelf, Size, SmallerPart, Stalled, Whole}
 pub use Rattle.ipmi_bus.specs.Walk.{AllOf, CycleAt, Done, EndsAfter, EndsBy, EndsEmpty, has_id, HasWalk, IsWalk, last_next, Links, MissingAt, place_after, place_after_rows, RestIsWalk, row_at, TailIsWalk, WalkEnd, WalkExists, WalkIsUnique}
-pub use Rattle.ipmi_bus.specs.declared.code.Code.{Code}
-pub use Rattle.ipmi_bus.specs.declared.code.CodeClass.{CodeClass}
-pub use Rattle.ipmi_bus.specs.declared.code.CodeClass.TheVariants.{Busy, Cancelled, NotPresent, Refusal, SmallerPart}
-pub use Rattle.ipmi_bus.specs.declared.controller.Part.{Part}
-pub use Rattle.ipmi_bus.specs.declared.controller.Shelf.{Shelf}
-pub use Rattle.ipmi_bus.specs.declared.controller.Shelf.TheVariants.{Sdr, Sel}
-pub use Rattle.ipmi_bus.specs.declared.cursor.Handed.{Handed}
-pub use Rattle.ipmi_bus.specs.declared.cursor.Progress.{Progress}
-pub use Rattle.ipmi_bus.specs.declared.inventory.FruEnded.{FruEnded}
-pub use Rattle.ipmi_bus.specs.declared.inventory.FruRetrieval.{FruRetrieval}
-pub use Rattle.ipmi_bus.specs.declared.inventory.Size.{Size}
-pub use Rattle.ipmi_bus.specs.declared.retrieval.Outcome.{Outcome}
-pub use Rattle.ipmi_bus.specs.declared.retrieval.Outcome.TheVariants.{Absent, Again, Whole}
-pub use Rattle.ipmi_bus.specs.declared.retrieval.Retrieval.{Retrieval}
-pub use Rattle.ipmi_bus.specs.declared.step.Ended.{Ended}
-pub use Rattle.ipmi_bus.specs.declared.step.Ended.TheVariants.{Cycle, Malformed, Missing, Stalled}
-pub use Rattle.ipmi_bus.specs.declared.step.Place.{Place}
-pub use Rattle.ipmi_bus.specs.declared.step.Place.TheVariants.{End, First, Id}

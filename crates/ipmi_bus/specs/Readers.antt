@@ -1,10 +1,7 @@
 -- What the readers of infos, sensor readings and inventories leave.
 use Rattle.std.specs.Prelude.{◌≡◌, ℕ, ◌+◌, ◌≤◌, ◌==◌, Bool, true, false, IsTrue, Option, None, Some, IsSome, unwrap_or, Result, Ok, Err, List, [], length, Vec}
 use Rattle.std.specs.declared.alloc.Global.{Global}
-use Rattle.ipmi_bus.specs.declared.controller.Shelf.TheVariants.{Sdr, Sel}
-use Rattle.ipmi_bus.specs.declared.step.Ended.{Ended}
-use Rattle.ipmi_bus.specs.declared.step.Ended.TheVariants.{Cycle, Missing, Refused, GaveUp, Stalled, Malformed}
-use Rattle.ipmi_bus.specs.declared.inventory.FruEnded.{FruEnded}
+use Rattle.ipmi_bus.specs.Types.{Ended, FruEnded, GaveUp, Refused, Sdr, Sel}
 use Rattle.ipmi_bus.specs.Store.{Store, inventory_of}
 use Rattle.ipmi_bus.specs.Seen.{Seen, StaysHonest, current}
 use Rattle.ipmi_bus.specs.Bounds.{fru_call_bound}
@@ -17,20 +14,14 @@ abbrev pub EndsUnder : {V : Type 0} → ℕ → Result V Ended → Type 0
 EndsUnder id (Ok o) = Unit {0}
 EndsUnder id (Err (GaveUp n)) = n ≡ id
 EndsUnder id (Err (Refused n code)) = n ≡ id
-EndsUnder id (Err (Cycle n)) = ⊥
-EndsUnder id (Err (Missing n)) = ⊥
-EndsUnder id (Err (Stalled n)) = ⊥
-EndsUnder id (Err (Malformed n)) = ⊥
+EndsUnder id _ = ⊥
 
 -- over an honest controller it is the value that the store has when the call returns, or none where that store has none
 abbrev pub ValueIs : {V : Type 0} → (Store → Option V) → ℕ → Seen → Seen → Result (Option V) Ended → Type 0
 ValueIs value tries s s' (Ok o) = WithinTries tries s s' × (o ≡ value s'.store)
 ValueIs value tries s s' (Err (GaveUp n)) = GivesUp tries s s'
 ValueIs value tries s s' (Err (Refused n code)) = IsRefusedWith tries code.0 s s'
-ValueIs value tries s s' (Err (Cycle n)) = ⊥
-ValueIs value tries s s' (Err (Missing n)) = ⊥
-ValueIs value tries s s' (Err (Stalled n)) = ⊥
-ValueIs value tries s s' (Err (Malformed n)) = ⊥
+ValueIs value tries s s' _ = ⊥
 
 -- the current reservations stay
 pub record KeepsReservations (s s' : Seen) : Type 0 where
@@ -56,8 +47,7 @@ InventoryIs id tries s s' (Ok bytes) = WithinTries tries s s' × (inventory_of i
 InventoryIs id tries s s' (Err FruEnded.Memory) = WithinTries tries s s' × IsSome (inventory_of id s.store)
 InventoryIs id tries s s' (Err (FruEnded.Refused code)) = IsRefusedInventory (code.0 == 0xCB) id tries code.0 s s'
 InventoryIs id tries s s' (Err FruEnded.GaveUp) = GivesUp tries s s'
-InventoryIs id tries s s' (Err FruEnded.Stalled) = ⊥
-InventoryIs id tries s s' (Err FruEnded.Words) = ⊥
+InventoryIs id tries s s' _ = ⊥
 
 -- CBh is no refusal that is counted, and comes only where the store has no such inventory when the call returns
 abbrev pub IsRefusedOverChange : Bool → ℕ → ℕ → ℕ → Seen → Seen → Type 0
@@ -71,17 +61,14 @@ InventoryCounts id tries s s' (Ok bytes) = WithinTries tries s s' × IsSome (inv
 InventoryCounts id tries s s' (Err FruEnded.Memory) = WithinTries tries s s' × IsSome (inventory_of id s'.store)
 InventoryCounts id tries s s' (Err (FruEnded.Refused code)) = IsRefusedOverChange (code.0 == 0xCB) id tries code.0 s s'
 InventoryCounts id tries s s' (Err FruEnded.GaveUp) = GivesUpOverChange tries s s'
-InventoryCounts id tries s s' (Err FruEnded.Stalled) = ⊥
-InventoryCounts id tries s s' (Err FruEnded.Words) = ⊥
+InventoryCounts id tries s s' _ = ⊥
 
 -- over a plain controller nothing but an inventory that is not there is refused, and nothing is given up
 abbrev pub PlainMayAnswer : Result (List ℕ) FruEnded → Type 0
 PlainMayAnswer (Ok bytes) = Unit {0}
 PlainMayAnswer (Err FruEnded.Memory) = Unit {0}
 PlainMayAnswer (Err (FruEnded.Refused code)) = code.0 ≡ 0xCB
-PlainMayAnswer (Err FruEnded.GaveUp) = ⊥
-PlainMayAnswer (Err FruEnded.Stalled) = ⊥
-PlainMayAnswer (Err FruEnded.Words) = ⊥
+PlainMayAnswer _ = ⊥
 
 -- how many bytes the inventory has, 0 where there is none
 abbrev pub inventory_len : ℕ → Store → ℕ

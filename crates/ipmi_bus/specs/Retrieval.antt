@@ -1,20 +1,10 @@
 -- A record that is being read in parts: what is there so far, and what one call may leave of it.
-use Rattle.std.specs.Prelude.{◌≡◌, ℕ, max, ◌+◌, ◌-◌, ◌*◌, ◌<◌, ◌≤◌, Bool, true, false, IsTrue, MatchResult, nat_lt, if◌then◌else◌, Option, None, Some, IsSome, Result, Ok, Err, List, length, take, slice_index}
-use Rattle.ipmi_bus.specs.declared.code.Code.{Code}
-use Rattle.ipmi_bus.specs.declared.code.CodeClass.{CodeClass}
-use Rattle.ipmi_bus.specs.declared.controller.Shelf.{Shelf}
-use Rattle.ipmi_bus.specs.declared.controller.Shelf.TheVariants.{Sdr, Sel}
-use Rattle.ipmi_bus.specs.declared.controller.Part.{Part}
-use Rattle.ipmi_bus.specs.declared.step.Ended.{Ended}
-use Rattle.ipmi_bus.specs.declared.step.Ended.TheVariants.{Cycle, Missing, Refused, GaveUp, Stalled, Malformed}
-use Rattle.ipmi_bus.specs.declared.retrieval.Outcome.{Outcome}
-use Rattle.ipmi_bus.specs.declared.retrieval.Outcome.TheVariants.{Again, Whole, Absent}
-use Rattle.ipmi_bus.specs.declared.retrieval.Retrieval.{Retrieval}
+use Rattle.std.specs.Prelude.{◌≡◌, ℕ, ◌+◌, ◌-◌, ◌*◌, ◌<◌, ◌≤◌, Bool, true, false, MatchResult, nat_lt, if◌then◌else◌, Option, None, Some, IsSome, Result, Ok, Err, List, length, take, slice_index}
+use Rattle.ipmi_bus.specs.Types.{Absent, Again, Busy, Cancelled, Code, CodeClass, Ended, GaveUp, Malformed, NotPresent, Outcome, Part, Refusal, Refused, Retrieval, Sdr, Sel, Shelf, SmallerPart, Stalled, Whole}
 use Rattle.ipmi_bus.specs.Shelf.{Row, look, len_of, largest_len}
 use Rattle.ipmi_bus.specs.Store.{rows_of}
-use Rattle.ipmi_bus.specs.Seen.{Seen, current, IsRefused, StaysHonest}
+use Rattle.ipmi_bus.specs.Seen.{Seen, current}
 use Rattle.ipmi_bus.specs.Answers.{Asked}
-use Rattle.ipmi_bus.specs.Tries.{NotGivenUpOrRefused}
 use Rattle.ipmi_bus.specs.Bounds.{digits}
 use Rattle.ipmi_bus.specs.Calls.{asked_len, smaller_part}
 use Rattle.ipmi_bus.specs.Code.{class_of}
@@ -75,61 +65,9 @@ pub record IsCalm (old new : Seen) : Type 0 where
 abbrev pub row_len : Retrieval → Seen → ℕ
 row_len r seen = len_of (look (rows_of r.shelf seen.store) r.id)
 
--- the troubles that came are those that the retrieval counted
-pub record GoesOn (old new : Retrieval) (s s' : Seen) : Type 0 where
-  pub reading : IsReading new s'
-  pub troubles : s'.troubles + old.troubles ≡ s.troubles + new.troubles
-  pub fresh_troubles : s'.fresh_troubles + old.troubles ≡ s.fresh_troubles + new.troubles
-  pub grows : old.troubles ≤ new.troubles
-  pub refusals : s'.refusals ≡ s.refusals
-  pub last_code : s'.last_code ≡ s.last_code
-  pub within : new.have ≤ max old.have (row_len new s')
-
-pub record HasWhole (new : Retrieval) (s s' : Seen) (row : Row) : Type 0 where
-  pub calm : IsCalm s s'
-  pub read : HasRead new s' row
-  pub whole : new.have ≡ length row.bytes
-
-pub record IsAbsent (new : Retrieval) (s s' : Seen) : Type 0 where
-  pub calm : IsCalm s s'
-  pub absent : look (rows_of new.shelf s'.store) new.id ≡ None
-
--- one trouble more than the tries
-pub record HasGivenUp (old : Retrieval) (id : ℕ) (s s' : Seen) : Type 0 where
-  pub id_is : id ≡ old.id
-  pub troubles : s'.troubles + old.troubles ≡ s.troubles + old.tries + 1
-  pub fresh_troubles : s'.fresh_troubles + old.troubles ≡ s.fresh_troubles + old.tries + 1
-  pub refusals : s'.refusals ≡ s.refusals
-  pub last_code : s'.last_code ≡ s.last_code
-
-abbrev pub CallAnswers : Retrieval → Retrieval → Seen → Seen → Result Outcome Ended → Type 0
-CallAnswers old new s s' (Ok Again) = GoesOn old new s s'
-CallAnswers old new s s' (Ok Whole) = (row : Row) × HasWhole new s s' row
-CallAnswers old new s s' (Ok Absent) = IsAbsent new s s'
-CallAnswers old new s s' (Err (GaveUp id)) = HasGivenUp old id s s'
-CallAnswers old new s s' (Err (Refused id code)) = (id ≡ old.id) × IsRefused code.0 s s'
-CallAnswers old new s s' (Err (Cycle id)) = ⊥
-CallAnswers old new s s' (Err (Missing id)) = ⊥
-CallAnswers old new s s' (Err (Stalled id)) = ⊥
-CallAnswers old new s s' (Err (Malformed id)) = ⊥
-
-pub record CallIsPlain (old new : Retrieval) (s' : Seen) (result : Result Outcome Ended) : Type 0 where
-  pub holds : HoldsCurrent new s'
-  pub fine : NotGivenUpOrRefused result
-  pub troubles : new.troubles ≡ old.troubles
-
--- A call of an honest controller. Where a reservation is held and no trouble comes, none is asked
--- for.
-pub record CallIsHonest (old new : Retrieval) (s s' : Seen) (result : Result Outcome Ended) : Type 0 where
-  pub stays : StaysHonest s s'
-  pub answers : CallAnswers old new s s' result
-  pub keeps : IsSome old.reservation → s'.troubles ≡ s.troubles → KeepsHeld old new s s'
-  pub plain : IsTrue s.plain → HoldsCurrent old s → CallIsPlain old new s' result
-
 -- the retrieval after one more trouble; where that cancelled the reservation, without it and without the bytes so far
 abbrev pub after_trouble : Bool → Retrieval → Retrieval
-after_trouble true r = record r { troubles = r.troubles + 1; reservation = None; have = 0 }
-after_trouble false r = record r { troubles = r.troubles + 1 }
+after_trouble is_cancelled r = record r { troubles = r.troubles + 1; reservation = if is_cancelled then None else r.reservation; have = if is_cancelled then 0 else r.have }
 
 -- the trouble is counted, or it was one too many
 abbrev pub CountsTrouble : Bool → Retrieval → Retrieval → Result Outcome Ended → Type 0
@@ -144,11 +82,9 @@ IsRefusedBy code old new result = (result ≡ Err (Refused old.id code)) × (new
 -- a failing call for a reservation, by the class of its code: CBh and a smaller part are refusals
 abbrev pub ReserveFails : CodeClass → Code → Retrieval → Retrieval → Result Outcome Ended
     → Type 0
-ReserveFails CodeClass.Cancelled code old new result = CountsTrouble false old new result
-ReserveFails CodeClass.Busy code old new result = CountsTrouble false old new result
-ReserveFails CodeClass.SmallerPart code old new result = IsRefusedBy code old new result
-ReserveFails CodeClass.NotPresent code old new result = IsRefusedBy code old new result
-ReserveFails CodeClass.Refusal code old new result = IsRefusedBy code old new result
+ReserveFails Cancelled code old new result = CountsTrouble false old new result
+ReserveFails Busy code old new result = CountsTrouble false old new result
+ReserveFails _ code old new result = IsRefusedBy code old new result
 
 -- what the answer to a call for a reservation leaves
 abbrev pub TakesReservation : Result ℕ Code → Retrieval → Retrieval → Result Outcome Ended
@@ -171,11 +107,11 @@ MakesSmaller asked old new result = MatchResult result
 -- a failing call for a part of so many bytes, by the class of its code
 abbrev pub PartFails : CodeClass → Code → ℕ → Retrieval → Retrieval → Result Outcome Ended
     → Type 0
-PartFails CodeClass.Cancelled code asked old new result = CountsTrouble true old new result
-PartFails CodeClass.Busy code asked old new result = CountsTrouble false old new result
-PartFails CodeClass.SmallerPart code asked old new result = MakesSmaller asked old new result
-PartFails CodeClass.NotPresent code asked old new result = (result ≡ Ok Absent) × (new ≡ old)
-PartFails CodeClass.Refusal code asked old new result = IsRefusedBy code old new result
+PartFails Cancelled code asked old new result = CountsTrouble true old new result
+PartFails Busy code asked old new result = CountsTrouble false old new result
+PartFails SmallerPart code asked old new result = MakesSmaller asked old new result
+PartFails NotPresent code asked old new result = (result ≡ Ok Absent) × (new ≡ old)
+PartFails Refusal code asked old new result = IsRefusedBy code old new result
 
 -- a request for the bytes after those that are there
 abbrev pub request_of : Retrieval → ℕ → ℕ → Asked
@@ -189,13 +125,9 @@ after_part part r = record r { have = r.have + part.got; next = part.next }
 abbrev pub TakesPart : Part → Retrieval → Retrieval → Result Outcome Ended → Type 0
 TakesPart part old new (Ok Again) = (0 < part.got) × (new ≡ after_part part old) × (new.have < wanted_len new.shelf new.have new.buffer) × (wanted_len new.shelf new.have new.buffer ≤ largest_len new.shelf)
 TakesPart part old new (Ok Whole) = (0 < part.got) × (new ≡ after_part part old) × (new.have ≡ wanted_len new.shelf new.have new.buffer) × (new.have ≤ largest_len new.shelf) × (5 ≤ new.have)
-TakesPart part old new (Ok Absent) = ⊥
 TakesPart part old new (Err (Stalled id)) = (part.got ≡ 0) × (id ≡ old.id) × (new ≡ old)
 TakesPart part old new (Err (Malformed id)) = (0 < part.got) × (new ≡ after_part part old) × (id ≡ old.id) × (old.shelf ≡ Sdr) × (new.have ≡ 5) × (0xFB < slice_index old.buffer 4)
-TakesPart part old new (Err (GaveUp id)) = ⊥
-TakesPart part old new (Err (Refused id code)) = ⊥
-TakesPart part old new (Err (Cycle id)) = ⊥
-TakesPart part old new (Err (Missing id)) = ⊥
+TakesPart part old new _ = ⊥
 
 -- what the answer to a request for so many bytes leaves, once its bytes are in the buffer
 abbrev pub TakesAnswer : Result Part Code → ℕ → Retrieval → Retrieval → Result Outcome Ended
@@ -224,14 +156,17 @@ unreserved (Some n) = 0
 abbrev pub calls_left : ℕ → Retrieval → ℕ
 calls_left len r = (r.tries - r.troubles) * (len + 2) + unreserved r.reservation + (len - r.have) + 1 + digits r.part
 
+-- what ends the reading of a record names its id
+abbrev pub NamesId : ℕ → Shelf → Ended → Type 0
+NamesId id shelf (GaveUp n) = n ≡ id
+NamesId id shelf (Refused n code) = n ≡ id
+NamesId id shelf (Stalled n) = n ≡ id
+NamesId id shelf (Malformed n) = (n ≡ id) × (shelf ≡ Sdr)
+NamesId id shelf _ = ⊥
+
 -- after a call there is less to do, or the record is whole, or an answer ends it
 abbrev pub CallLeaves : Retrieval → Retrieval → Result Outcome Ended → Type 0
 CallLeaves old new (Ok Again) = IsOpen new × ((len : ℕ) → new.have ≤ len → calls_left len new + 1 ≤ calls_left len old)
 CallLeaves old new (Ok Whole) = (new.part ≡ old.part) × (5 ≤ new.have) × (new.have ≤ largest_len new.shelf) × (new.have ≡ wanted_len new.shelf new.have new.buffer)
 CallLeaves old new (Ok Absent) = new.part ≡ old.part
-CallLeaves old new (Err (GaveUp id)) = (new.part ≡ old.part) × (id ≡ old.id)
-CallLeaves old new (Err (Refused id code)) = (new.part ≡ old.part) × (id ≡ old.id)
-CallLeaves old new (Err (Stalled id)) = (new.part ≡ old.part) × (id ≡ old.id)
-CallLeaves old new (Err (Malformed id)) = (new.part ≡ old.part) × (id ≡ old.id) × (old.shelf ≡ Sdr)
-CallLeaves old new (Err (Cycle id)) = ⊥
-CallLeaves old new (Err (Missing id)) = ⊥
+CallLeaves old new (Err ended) = (new.part ≡ old.part) × NamesId old.id old.shelf ended

@@ -1,8 +1,7 @@
 -- What contracts see of a management controller, and which controllers are honest and plain.
 use Rattle.std.proofs.Common.{◌∙◌, arith}
 use Rattle.std.specs.Prelude.{◌≡◌, ℕ, ◌+◌, ◌<◌, ◌≤◌, Bool, IsTrue, Option, None, Some, refl}
-use Rattle.ipmi_bus.specs.declared.controller.Shelf.{Shelf}
-use Rattle.ipmi_bus.specs.declared.controller.Shelf.TheVariants.{Sdr, Sel}
+use Rattle.ipmi_bus.specs.Types.{Sdr, Sel, Shelf}
 use Rattle.ipmi_bus.specs.Store.{Store, IsStore}
 
 -- The numbers have no greatest value. Fresh troubles are those since something was finished; the last code is that of the

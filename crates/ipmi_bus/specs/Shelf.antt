@@ -1,8 +1,7 @@
 -- The two repositories of records, SDR and SEL, as lists of rows.
 use Rattle.std.specs.Prelude.{◌≡◌, ◌≢◌, ℕ, ◌+◌, ◌*◌, ◌<◌, ◌≤◌, ◌==◌, if◌then◌else◌, Option, Some, None, List, [], ◌∷◌, length, slice_index}
 use Rattle.ipmi_text.specs.Bytes.{AreBytes}
-use Rattle.ipmi_bus.specs.declared.controller.Shelf.{Shelf}
-use Rattle.ipmi_bus.specs.declared.controller.Shelf.TheVariants.{Sdr, Sel}
+use Rattle.ipmi_bus.specs.Types.{Sdr, Sel, Shelf}
 
 -- a record of a shelf: its id, the id of the next one (FFFFh where there is no more), its bytes
 pub record Row : Type 0 where

@@ -1,75 +1,72 @@
 -- What holds since the reading of a record began, and when it ends.
 use Rattle.std.specs.Prelude.{◌≡◌, ℕ, ◌+◌, ◌≤◌, Bool, true, false, IsTrue, IsSome, None, Result, Ok, Err, length}
-use Rattle.ipmi_bus.specs.declared.step.Ended.{Ended}
-use Rattle.ipmi_bus.specs.declared.step.Ended.TheVariants.{Cycle, Missing, Refused, GaveUp, Stalled, Malformed}
-use Rattle.ipmi_bus.specs.declared.retrieval.Retrieval.{Retrieval}
-use Rattle.ipmi_bus.specs.declared.retrieval.Outcome.{Outcome}
-use Rattle.ipmi_bus.specs.declared.retrieval.Outcome.TheVariants.{Again, Whole, Absent}
-use Rattle.ipmi_bus.specs.declared.controller.Shelf.TheVariants.{Sdr}
+use Rattle.ipmi_bus.specs.Types.{Absent, Again, Ended, GaveUp, Outcome, Refused, Retrieval, Whole}
 use Rattle.ipmi_bus.specs.Shelf.{Row, look, largest_len}
 use Rattle.ipmi_bus.specs.Store.{rows_of}
 use Rattle.ipmi_bus.specs.Seen.{Seen, IsHonest, StaysHonest}
 use Rattle.ipmi_bus.specs.Tries.{WithinTries, GivesUp, IsRefusedWith, NotGivenUpOrRefused}
+use Rattle.ipmi_bus.specs.Failures.{HasMet}
 use Rattle.ipmi_bus.specs.Bounds.{digits, step_call_bound}
-use Rattle.ipmi_bus.specs.Retrieval.{IsOpen, SameRequest, HasRead, IsReading, HoldsCurrent, KeepsHeld, CallIsAnswered, calls_left, row_len, wanted_len}
+use Rattle.ipmi_bus.specs.Retrieval.{IsOpen, SameRequest, HasRead, IsReading, HoldsCurrent, KeepsHeld, CallIsAnswered, calls_left, row_len, wanted_len, NamesId}
 
 -- a retrieval at the start of a record
 abbrev pub begun : Retrieval → ℕ → Retrieval
 begun r id = record r { id = id; troubles = 0; have = 0 }
 
-pub record PlainSince (now : Retrieval) (s' : Seen) : Type 0 where
-  pub holds : HoldsCurrent now s'
-  pub none : now.troubles ≡ 0
-
 pub record HonestSince (start now : Retrieval) (s s' : Seen) : Type 0 where
   pub stays : StaysHonest s s'
   pub reading : IsReading now s'
   pub keeps : IsSome start.reservation → s'.troubles ≡ s.troubles → KeepsHeld start now s s'
-  pub troubles : s'.troubles ≡ s.troubles + now.troubles
+  pub met : HasMet now.troubles s s'
   pub fresh_troubles : s'.fresh_troubles ≡ s.fresh_troubles + now.troubles
-  pub refusals : s'.refusals ≡ s.refusals
-  pub last_code : s'.last_code ≡ s.last_code
-  pub plain : IsTrue s.plain → HoldsCurrent start s → PlainSince now s'
+  pub plain : IsTrue s.plain → HoldsCurrent start s → HoldsCurrent now s'
   pub within : s'.stores_added ≡ s.stores_added → now.have ≤ row_len start s
-  pub calls : s'.stores_added ≡ s.stores_added → s'.calls + calls_left (row_len start s) now ≤ s.calls + calls_left (row_len start s) start
 
 pub record Since (start now : Retrieval) (s s' : Seen) : Type 0 where
   pub is_open : IsOpen now
   pub request : SameRequest start now
   pub calls : s'.calls + calls_left (largest_len start.shelf) now ≤ s.calls + calls_left (largest_len start.shelf) start
   pub honest : IsHonest s → HonestSince start now s s'
+  pub row_calls : IsHonest s → s'.stores_added ≡ s.stores_added → s'.calls + calls_left (row_len start s) now ≤ s.calls + calls_left (row_len start s) start
 
 -- a whole row, of the store that the controller has now
-pub record ReadsRow (old new : Retrieval) (s s' : Seen) (row : Row) : Type 0 where
-  pub within : WithinTries old.tries s s'
+pub record ReadsRow (start new : Retrieval) (s s' : Seen) (row : Row) : Type 0 where
+  pub within : WithinTries start.tries s s'
   pub read : HasRead new s' row
   pub whole : new.have ≡ length row.bytes
 
-pub record ReadsNone (old : Retrieval) (id : ℕ) (s s' : Seen) : Type 0 where
-  pub within : WithinTries old.tries s s'
-  pub absent : look (rows_of old.shelf s'.store) id ≡ None
+pub record ReadsNone (start : Retrieval) (s s' : Seen) : Type 0 where
+  pub within : WithinTries start.tries s s'
+  pub absent : look (rows_of start.shelf s'.store) start.id ≡ None
 
-abbrev pub ReadAnswers : Retrieval → ℕ → Retrieval → Seen → Seen → Result Bool Ended → Type 0
-ReadAnswers old id new s s' (Ok true) = (row : Row) × ReadsRow old new s s' row
-ReadAnswers old id new s s' (Ok false) = ReadsNone old id s s'
-ReadAnswers old id new s s' (Err (GaveUp n)) = GivesUp old.tries s s'
-ReadAnswers old id new s s' (Err (Refused n code)) = IsRefusedWith old.tries code.0 s s'
-ReadAnswers old id new s s' (Err (Cycle n)) = ⊥
-ReadAnswers old id new s s' (Err (Missing n)) = ⊥
-ReadAnswers old id new s s' (Err (Stalled n)) = ⊥
-ReadAnswers old id new s s' (Err (Malformed n)) = ⊥
+abbrev pub ReadAnswers : Retrieval → Retrieval → Seen → Seen → Result Bool Ended → Type 0
+ReadAnswers start new s s' (Ok true) = (row : Row) × ReadsRow start new s s' row
+ReadAnswers start new s s' (Ok false) = ReadsNone start s s'
+ReadAnswers start new s s' (Err (GaveUp n)) = GivesUp start.tries s s'
+ReadAnswers start new s s' (Err (Refused n code)) = IsRefusedWith start.tries code.0 s s'
+ReadAnswers start new s s' _ = ⊥
 
 pub record ReadIsPlain (new : Retrieval) (s' : Seen) (result : Result Bool Ended) : Type 0 where
   pub holds : HoldsCurrent new s'
   pub fine : NotGivenUpOrRefused result
 
 -- over an honest controller: where a reservation is held and no trouble comes, none is asked for
-pub record ReadIsHonest (old : Retrieval) (id : ℕ) (new : Retrieval) (s s' : Seen) (result : Result Bool Ended) : Type 0 where
+pub record ReadIsHonest (start new : Retrieval) (s s' : Seen) (result : Result Bool Ended) : Type 0 where
   pub stays : StaysHonest s s'
-  pub answers : ReadAnswers old id new s s' result
-  pub keeps : IsSome old.reservation → s'.troubles ≡ s.troubles → KeepsHeld old new s s'
-  pub plain : IsTrue s.plain → HoldsCurrent old s → ReadIsPlain new s' result
-  pub calls : s'.stores_added ≡ s.stores_added → s'.calls + digits new.part ≤ s.calls + step_call_bound old.tries (row_len (begun old id) s) + digits old.part
+  pub answers : ReadAnswers start new s s' result
+  pub keeps : IsSome start.reservation → s'.troubles ≡ s.troubles → KeepsHeld start new s s'
+  pub plain : IsTrue s.plain → HoldsCurrent start s → ReadIsPlain new s' result
+
+-- what one more call leaves
+abbrev pub ReadNext : Retrieval → Retrieval → Seen → Seen → Result Outcome Ended → Type 0
+ReadNext start new s s' (Ok Again) = HonestSince start new s s'
+ReadNext start new s s' (Ok Whole) = ReadIsHonest start new s s' (Ok true)
+ReadNext start new s s' (Ok Absent) = ReadIsHonest start new s s' (Ok false)
+ReadNext start new s s' (Err ended) = ReadIsHonest start new s s' (Err ended)
+
+-- no more calls than the bound for a record of this length, but for those that made the part size fall
+abbrev pub ReadCalls : ℕ → Retrieval → Retrieval → Seen → Seen → Type 0
+ReadCalls len old new s s' = s'.calls + digits new.part ≤ s.calls + step_call_bound old.tries len + digits old.part
 
 -- what the last call left is what the reading gives
 abbrev pub EndsRead : Result Outcome Ended → Result Bool Ended → Type 0
@@ -89,9 +86,4 @@ pub record IsEnded (new : Retrieval) (result : Result Bool Ended) : Type 0 where
 abbrev pub ReadLeaves : ℕ → Retrieval → Result Bool Ended → Type 0
 ReadLeaves id new (Ok true) = (5 ≤ new.have) × (new.have ≤ largest_len new.shelf) × (new.have ≡ wanted_len new.shelf new.have new.buffer)
 ReadLeaves id new (Ok false) = Unit {0}
-ReadLeaves id new (Err (GaveUp n)) = n ≡ id
-ReadLeaves id new (Err (Refused n code)) = n ≡ id
-ReadLeaves id new (Err (Stalled n)) = n ≡ id
-ReadLeaves id new (Err (Malformed n)) = (n ≡ id) × (new.shelf ≡ Sdr)
-ReadLeaves id new (Err (Cycle n)) = ⊥
-ReadLeaves id new (Err (Missing n)) = ⊥
+ReadLeaves id new (Err ended) = NamesId id new.shelf ended

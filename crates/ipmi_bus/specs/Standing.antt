@@ -1,10 +1,7 @@
 -- Where a cursor is on a walk, and what a step does there.
 use Rattle.std.specs.Prelude.{◌≡◌, ℕ, ◌+◌, ◌≤◌, ◌⊎◌, Option, None, Some, Result, Ok, Err, List, length, take, drop}
 use Rattle.std.specs.FinSet as set
-use Rattle.ipmi_bus.specs.declared.step.Place.{Place}
-use Rattle.ipmi_bus.specs.declared.step.Place.TheVariants.{First, End}
-use Rattle.ipmi_bus.specs.declared.step.Ended.{Ended}
-use Rattle.ipmi_bus.specs.declared.step.Ended.TheVariants.{Cycle, Missing, Refused, GaveUp, Stalled, Malformed}
+use Rattle.ipmi_bus.specs.Types.{Cycle, End, Ended, First, GaveUp, Missing, Place, Refused}
 use Rattle.ipmi_bus.specs.Shelf.{Row, first_row}
 use Rattle.ipmi_bus.specs.Walk.{IsWalk, place_after_rows, has_id, WalkEnd, Done, CycleAt, MissingAt, EndsBy}
 use Rattle.ipmi_bus.specs.Store.{rows_of}
@@ -32,8 +29,7 @@ WalkStep rows start walk end k old new (Err (Cycle n)) = (k ≡ length walk) × 
 WalkStep rows start walk end k old new (Err (Missing n)) = (k ≡ length walk) × (end ≡ MissingAt n) × StandsAt rows start walk k new
 WalkStep rows start walk end k old new (Err (GaveUp n)) = StandsAt rows start walk k new × (k ≡ length walk → MayFail end old.place)
 WalkStep rows start walk end k old new (Err (Refused n code)) = StandsAt rows start walk k new × (k ≡ length walk → MayFail end old.place)
-WalkStep rows start walk end k old new (Err (Stalled n)) = ⊥
-WalkStep rows start walk end k old new (Err (Malformed n)) = ⊥
+WalkStep rows start walk end k old new _ = ⊥
 
 -- where no store is added, the step is one along each walk that has an end and on which the cursor is
 pub record FollowsWalks (old new : CursorState) (s s' : Seen) (result : Result (Option Row) Ended) : Type 0 where

@@ -2,12 +2,7 @@
 use Rattle.std.specs.Prelude.{◌≡◌, ◌≢◌, ℕ, ◌+◌, ◌<◌, ◌≤◌, ◌==◌, ◌||◌, false, IsTrue, if◌then◌else◌, Option, None, Some, IsSome, ◌⊎◌, Result, Ok, Err, List, length, drop}
 use Rattle.std.specs.FinSet as set
 use Rattle.std.specs.Ordering.{nat_cmp}
-use Rattle.ipmi_bus.specs.declared.controller.Shelf.{Shelf}
-use Rattle.ipmi_bus.specs.declared.controller.Shelf.TheVariants.{Sdr}
-use Rattle.ipmi_bus.specs.declared.step.Place.{Place}
-use Rattle.ipmi_bus.specs.declared.step.Place.TheVariants.{First, Id, End}
-use Rattle.ipmi_bus.specs.declared.step.Ended.{Ended}
-use Rattle.ipmi_bus.specs.declared.step.Ended.TheVariants.{Cycle, Missing, Refused, GaveUp, Stalled, Malformed}
+use Rattle.ipmi_bus.specs.Types.{Cycle, End, Ended, First, GaveUp, Id, Malformed, Missing, Place, Refused, Sdr, Shelf, Stalled}
 use Rattle.ipmi_bus.specs.Shelf.{Row, first_row, look, len_of, largest_len, whole_len, id_in}
 use Rattle.ipmi_bus.specs.Store.{rows_of}
 use Rattle.ipmi_bus.specs.Walk.{IsWalk, WalkEnd, EndsBy, place_after}
@@ -25,9 +20,8 @@ asked_at End = 0
 
 -- the id at which the chain closes, if it does: 0000h, or one that was handed out
 abbrev pub cycle_at : Place → set.FinSet nat_cmp → Option ℕ
-cycle_at First ids = None
 cycle_at (Id n) ids = if (n == 0) || set.contains ids n then Some n else None
-cycle_at End ids = None
+cycle_at _ ids = None
 
 -- ---- over any controller
 
@@ -121,8 +115,7 @@ StepAnswers old s s' (Err (Cycle n)) = s' ≡ s
 StepAnswers old s s' (Err (Missing n)) = WithinTries old.tries s s' × (look (rows_of old.shelf s'.store) n ≡ None)
 StepAnswers old s s' (Err (GaveUp n)) = GivesUp old.tries s s'
 StepAnswers old s s' (Err (Refused n code)) = IsRefusedWith old.tries code.0 s s'
-StepAnswers old s s' (Err (Stalled n)) = ⊥
-StepAnswers old s s' (Err (Malformed n)) = ⊥
+StepAnswers old s s' _ = ⊥
 
 -- a reservation that the cursor holds is current
 pub record CursorHoldsCurrent (c : CursorState) (seen : Seen) : Type 0 where

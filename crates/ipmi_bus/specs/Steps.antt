@@ -1,7 +1,6 @@
 -- Steps of a cursor, one after another.
-use Rattle.std.specs.Prelude.{◌≡◌, ℕ, Option, None, Some, Result, Ok, Err, List, [], ◌∷◌, take}
-use Rattle.ipmi_bus.specs.declared.step.Place.{Place}
-use Rattle.ipmi_bus.specs.declared.step.Ended.{Ended}
+use Rattle.std.specs.Prelude.{◌≡◌, ℕ, Option, Some, Result, Ok, List, [], ◌∷◌, take}
+use Rattle.ipmi_bus.specs.Types.{Ended, Place}
 use Rattle.ipmi_bus.specs.Shelf.{Row}
 use Rattle.ipmi_bus.specs.Store.{rows_of}
 use Rattle.ipmi_bus.specs.Walk.{IsWalk, WalkEnd, EndsBy}
@@ -33,8 +32,7 @@ seen_after s (step ∷ steps) = seen_after step.seen steps
 -- the row that an answer hands out comes before these
 abbrev pub with_handed : Result (Option Row) Ended → List Row → List Row
 with_handed (Ok (Some row)) rows = row ∷ rows
-with_handed (Ok None) rows = rows
-with_handed (Err ended) rows = rows
+with_handed _ rows = rows
 
 abbrev pub handed_out : List Stepped → List Row
 handed_out [] = []

@@ -1,8 +1,7 @@
 -- What a management controller holds: both shelves, FRU inventories, sensor readings and repository info.
 use Rattle.std.specs.Prelude.{◌≡◌, ◌≢◌, ℕ, ◌<◌, ◌≤◌, ◌==◌, ◌&&◌, if◌then◌else◌, Option, None, Some, IfSome, List, [], ◌∷◌, length, All, AllPairs}
 use Rattle.ipmi_text.specs.declared.reading.Reading.{Reading}
-use Rattle.ipmi_bus.specs.declared.controller.Shelf.{Shelf}
-use Rattle.ipmi_bus.specs.declared.controller.Shelf.TheVariants.{Sdr, Sel}
+use Rattle.ipmi_bus.specs.Types.{Sdr, Sel, Shelf}
 use Rattle.ipmi_text.specs.Bytes.{AreBytes}
 use Rattle.ipmi_bus.specs.Shelf.{Row, IsShelf}
 

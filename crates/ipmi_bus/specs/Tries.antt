@@ -1,7 +1,6 @@
 -- How many troubles and refusals a record, a reading, an info or an inventory met, by how its retrieval ended.
 use Rattle.std.specs.Prelude.{◌≡◌, ℕ, ◌+◌, ◌<◌, ◌≤◌, Result, Ok, Err}
-use Rattle.ipmi_bus.specs.declared.step.Ended.{Ended}
-use Rattle.ipmi_bus.specs.declared.step.Ended.TheVariants.{Cycle, Missing, Refused, GaveUp, Stalled, Malformed}
+use Rattle.ipmi_bus.specs.Types.{Ended, GaveUp, Refused}
 use Rattle.ipmi_bus.specs.Seen.{Seen}
 
 -- no more troubles than the tries, and no refusal
@@ -38,10 +37,7 @@ pub record IsRefusedWith (tries code : ℕ) (old new : Seen) : Type 0 where
 abbrev pub EndsFine : Ended → Type 0
 EndsFine (GaveUp id) = ⊥
 EndsFine (Refused id code) = ⊥
-EndsFine (Cycle id) = Unit {0}
-EndsFine (Missing id) = Unit {0}
-EndsFine (Stalled id) = Unit {0}
-EndsFine (Malformed id) = Unit {0}
+EndsFine _ = Unit {0}
 
 abbrev pub NotGivenUpOrRefused : {V : Type 0} → Result V Ended → Type 0
 NotGivenUpOrRefused (Ok v) = Unit {0}

@@ -1,8 +1,6 @@
 -- Walks along the next ids of a shelf, as lists of rows, and how a walk ends.
 use Rattle.std.specs.Prelude.{◌≡◌, ◌≢◌, ℕ, ◌==◌, if◌then◌else◌, Option, Some, None, IfSome, List, [], ◌∷◌, ◌++◌, Bool, false, ◌||◌, IsTrue}
-use Rattle.ipmi_bus.specs.declared.controller.Shelf.{Shelf}
-use Rattle.ipmi_bus.specs.declared.step.Place.{Place}
-use Rattle.ipmi_bus.specs.declared.step.Place.TheVariants.{First, Id, End}
+use Rattle.ipmi_bus.specs.Types.{End, First, Id, Place, Shelf}
 use Rattle.ipmi_bus.specs.Shelf.{Row, look, first_row, DistinctIds, IsShelf}
 
 -- the row that a walk from a place may begin with
@@ -60,14 +58,10 @@ EndsAfter rows walk next (MissingAt n) = (n ≡ next) × (next ≢ 0xFFFF) × (n
 -- the end of the empty walk
 abbrev pub EndsEmpty : List Row → Place → WalkEnd → Type 0
 EndsEmpty rows First Done = first_row rows ≡ None
-EndsEmpty rows First (CycleAt n) = ⊥
-EndsEmpty rows First (MissingAt n) = ⊥
-EndsEmpty rows (Id id) Done = ⊥
 EndsEmpty rows (Id id) (CycleAt n) = (n ≡ id) × (id ≡ 0)
 EndsEmpty rows (Id id) (MissingAt n) = (n ≡ id) × (id ≢ 0) × (look rows id ≡ None)
 EndsEmpty rows End Done = Unit {0}
-EndsEmpty rows End (CycleAt n) = ⊥
-EndsEmpty rows End (MissingAt n) = ⊥
+EndsEmpty rows _ _ = ⊥
 
 -- the next id of the last of these rows, or the one given where there are none
 abbrev pub last_next : ℕ → List Row → ℕ

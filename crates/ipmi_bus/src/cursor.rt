@@ -3,7 +3,7 @@ ghost use Rattle.std.specs.Prelude.{◌≡◌, ◌<◌, ◌≤◌, Ok, Err, Some
 ghost use Rattle.std.specs.FinSet as set;
 ghost use Rattle.std.specs.Option.{ForSome};
 ghost use Rattle.std.specs.Borrow.{sem};
-ghost use Rattle.ipmi_bus.specs.Prelude.{IsHonest, StaysHonest, Row, whole_len, largest_len, place_after, KeepsSettings, StepLeaves, StepCalls, StepIsHonest, StepAnswers, AsksNothing, HasRoom, StandsAt, state_of, IsCursor, handed_result, handed_id, IsNext, KeepsReservation};
+ghost use Rattle.ipmi_bus.specs.Prelude.{First, End, IsHonest, StaysHonest, Row, whole_len, largest_len, place_after, KeepsSettings, StepLeaves, StepCalls, StepIsHonest, StepAnswers, AsksNothing, HasRoom, StandsAt, IsStep, start_of, state_of, IsCursor, handed_result, handed_id, IsNext, KeepsReservation};
 
 use crate::controller::{Controller, Shelf};
 use crate::id_table::IdTable;
@@ -40,7 +40,9 @@ pub(crate) enum Next {
 
 impl Progress {
     /// What is to be asked for next.
+    #[tactic(auto, using(crate::proofs::CursorLemmas::empty_ids))]
     fn next(&self) -> Next
+        requires { self.now.place ≡ First → self.now.ids ≡ set.empty }
         ensures { IsNext self.now.place self.now.ids result }
     {
         match self.place {
@@ -140,7 +142,7 @@ pub struct Cursor {
 }
 
 impl Model for Cursor {
-    ghost use Rattle.ipmi_bus.specs.CursorState.{CursorState};
+    ghost use Rattle.ipmi_bus.specs.Prelude.{CursorState, IsCursor, state_of};
     ghost use Rattle.std.specs.Coded.{codes, coded_ℕ};
     ghost use Rattle.std.specs.FinSet as set;
     ghost use Rattle.std.specs.Ordering.{nat_cmp};
@@ -151,8 +153,6 @@ impl Model for Cursor {
 
     ghost coded = { Prim.hlevel (codes, set.code {R = nat_cmp} coded_ℕ, shelf.the_row.coded, place.the_row.coded) };
 
-    ghost use Rattle.ipmi_bus.specs.Handed.{state_of, IsCursor};
-
     ghost view = { λ c. state_of c.progress };
 
     ghost invariant = { λ c. IsCursor c.progress };
@@ -160,9 +160,6 @@ impl Model for Cursor {
 
 impl Cursor {
     ghost use Rattle.ipmi_bus.specs.Lent.{CursorRests, as_rows};
-    ghost use Rattle.ipmi_bus.specs.Step.{IsStep};
-    ghost use Rattle.ipmi_bus.specs.declared.step.Place.TheVariants.{End};
-    ghost use Rattle.ipmi_bus.specs.CursorState.{start_of};
 
     /// A cursor at the start of the shelf, or at the record with the id `from`. It asks for at most `part`
     /// bytes at once, and lets each record meet `tries` troubles. All the memory that it ever needs is taken here.

@@ -2,12 +2,14 @@
 ghost use Rattle.ipmi_bus.specs.Prelude.{FoundIsRow, WalkExists, WalkIsUnique, RestIsWalk, TailIsWalk, StepsFollowWalk};
 
 /// From each place of a shelf exactly one walk has an end.
+#[tactic(auto, using(crate::proofs::WalkLaws::same_walk))]
 pub fn one_walk_has_an_end()
     ensures exists { WalkExists }
     ensures unique { WalkIsUnique }
 {}
 
 /// The rest of a walk after its first row is a walk from the place after that.
+#[tactic(auto, using(crate::proofs::WalkLemmas::walk_tail))]
 pub fn the_tail_is_a_walk()
     ensures { TailIsWalk }
 {}
@@ -25,6 +27,7 @@ pub fn the_rest_is_a_walk()
 
 /// However often a cursor gives up or is refused, and whatever else is asked of the controller between its steps, they hand
 /// out the first rows of the walk from its start, in order, none left out and none twice.
+#[tactic(auto, using(crate::proofs::StepsLaws::steps_follow))]
 pub fn steps_follow_the_walk()
     ensures { StepsFollowWalk }
 {}

@@ -1,6 +1,6 @@
 //! Reads one record in parts (IPMI v2.0, section 33.12): of a sensor data record the header first, then the rest.
-ghost use Rattle.std.specs.Prelude.{◌≡◌, ◌+◌, ◌*◌, ◌<◌, ◌≤◌, None, Some, Ok, OnOk, OnErr, IfOk, IsOk, length, take, slice_range};
-ghost use Rattle.ipmi_bus.specs.Prelude.{IsHonest, PartAnswers, largest_len, digits, step_call_bound};
+ghost use Rattle.std.specs.Prelude.{◌≡◌, ◌+◌, ◌<◌, ◌≤◌, None, Some, Ok, OnOk, OnErr, IfOk, IsOk, length, take, slice_range};
+ghost use Rattle.ipmi_bus.specs.Prelude.{Retrieval, Seen, IsHonest, StaysHonest, PartAnswers, class_of, largest_len};
 
 use crate::calls::{Failure, after_failure, asked_len, smaller_part};
 use crate::code::Code;
@@ -39,9 +39,8 @@ pub(crate) struct Retrieval {
 }
 
 impl Retrieval {
-    ghost use Rattle.ipmi_bus.specs.Code.{class_of};
-    ghost use Rattle.ipmi_bus.specs.Retrieval.{IsOpen, SameRequest, IsReading, CallIsHonest, wanted_len, request_len, ReserveFails, IsReserveAnswered, PartFails, TakesPart, IsAnswered, CallIsAnswered, request_of, CallLeaves};
-    ghost use Rattle.ipmi_bus.specs.Since.{begun, IsEnded, ReadLeaves, ReadIsHonest};
+    ghost use Rattle.ipmi_bus.specs.Retrieval.{IsOpen, SameRequest, row_len, wanted_len, request_len, ReserveFails, IsReserveAnswered, PartFails, TakesPart, IsAnswered, CallIsAnswered, request_of, CallLeaves};
+    ghost use Rattle.ipmi_bus.specs.Since.{begun, HonestSince, IsEnded, ReadCalls, ReadIsHonest, ReadLeaves, ReadNext};
 
     /// How many bytes are asked for in all, as far as the bytes that are there tell.
     fn wanted(&self) -> usize
@@ -86,8 +85,10 @@ impl Retrieval {
         ensures request { SameRequest self.old self.new }
         ensures leaves { CallLeaves self.old self.new result }
         ensures answered { IsReserveAnswered self.old self.new result }
-        ensures honest { IsHonest (C.seen ctl.old) → IsReading self.old (C.seen ctl.old) →
-            CallIsHonest self.old self.new (C.seen ctl.old) (C.seen ctl.new) result }
+        ensures stays { IsHonest (C.seen ctl.old) → StaysHonest (C.seen ctl.old) (C.seen ctl.new) }
+        ensures honest { (start : Retrieval) (s : Seen) → SameRequest start self.old →
+            HonestSince start self.old s (C.seen ctl.old) →
+            ReadNext start self.new s (C.seen ctl.new) result }
     {
         match ctl.reserve(self.shelf) {
             Ok(reservation) => {
@@ -187,8 +188,10 @@ impl Retrieval {
         ensures request { SameRequest self.old self.new }
         ensures leaves { CallLeaves self.old self.new result }
         ensures answered { IsAnswered self.old self.new result }
-        ensures honest { IsHonest (C.seen ctl.old) → IsReading self.old (C.seen ctl.old) →
-            CallIsHonest self.old self.new (C.seen ctl.old) (C.seen ctl.new) result }
+        ensures stays { IsHonest (C.seen ctl.old) → StaysHonest (C.seen ctl.old) (C.seen ctl.new) }
+        ensures honest { (start : Retrieval) (s : Seen) → SameRequest start self.old →
+            HonestSince start self.old s (C.seen ctl.old) →
+            ReadNext start self.new s (C.seen ctl.new) result }
     {
         let asked = asked_len(self.part, self.wanted() - self.have);
         match self.request(ctl, reservation, asked) {
@@ -204,8 +207,10 @@ impl Retrieval {
         ensures request { SameRequest self.old self.new }
         ensures leaves { CallLeaves self.old self.new result }
         ensures answered { CallIsAnswered self.old.reservation self.old self.new result }
-        ensures honest { IsHonest (C.seen ctl.old) → IsReading self.old (C.seen ctl.old) →
-            CallIsHonest self.old self.new (C.seen ctl.old) (C.seen ctl.new) result }
+        ensures stays { IsHonest (C.seen ctl.old) → StaysHonest (C.seen ctl.old) (C.seen ctl.new) }
+        ensures honest { (start : Retrieval) (s : Seen) → SameRequest start self.old →
+            HonestSince start self.old s (C.seen ctl.old) →
+            ReadNext start self.new s (C.seen ctl.new) result }
     {
         match self.reservation {
             None => self.ask_reservation(ctl),
@@ -218,12 +223,16 @@ impl Retrieval {
         requires some { 0 < self.old.part }
         requires fits { self.old.part < 255 }
         ensures request { SameRequest (begun self.old id) self.new }
-        ensures calls { (C.seen ctl.new).calls + digits self.new.part ≤ (C.seen ctl.old).calls +
-            step_call_bound self.old.tries (largest_len self.old.shelf) + digits self.old.part }
+        ensures calls { ReadCalls (largest_len self.old.shelf) self.old self.new (C.seen ctl.old)
+            (C.seen ctl.new) }
+        ensures row_calls { IsHonest (C.seen ctl.old) →
+            (C.seen ctl.new).stores_added ≡ (C.seen ctl.old).stores_added →
+            ReadCalls (row_len (begun self.old id) (C.seen ctl.old)) self.old self.new
+            (C.seen ctl.old) (C.seen ctl.new) }
         ensures leaves { ReadLeaves id self.new result }
         ensures ended { IsEnded self.new result }
         ensures honest { IsHonest (C.seen ctl.old) →
-            ReadIsHonest self.old id self.new (C.seen ctl.old) (C.seen ctl.new) result }
+            ReadIsHonest (begun self.old id) self.new (C.seen ctl.old) (C.seen ctl.new) result }
     {
         self.id = id;
         self.troubles = 0;

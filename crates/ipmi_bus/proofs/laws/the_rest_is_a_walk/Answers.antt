@@ -2,4 +2,4 @@ use Rattle.ipmi_bus.proofs.StepsLaws.{rest_walk}
 use Rattle.ipmi_bus.proofs.laws.the_rest_is_a_walk.Goals as goal
 
 pub returns : goal.returns
-returns c = λ shelf rows start before row after ok w ends ne. rest_walk shelf rows start before row after ok w ends ne
+returns c = rest_walk

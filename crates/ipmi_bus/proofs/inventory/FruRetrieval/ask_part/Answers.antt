@@ -11,12 +11,7 @@ pub returns-in-Err-clause-answered : goal.returns-in-Err-clause-answered
 returns-in-Err-clause-answered g c =
     let old = c.args.self.now in
     let len : c.asked_len-asked.result ≡ request_len old = c.asked_len-asked.ensures ∙ ap (λ (n : ℕ). asked_len old.part (n - old.have)) (c.len.ensures ∙ old.bytes.ok.0) in
-    record {
-      answer = Err c.in-Err.code;
-      filled = c.request.new.self;
-      bytes = c.request.ensures.bytes;
-      takes = subst (λ (n : ℕ). PartFails (class_of c.in-Err.code.0) c.in-Err.code n c.request.new.self c.fail_part.new.self c.fail_part.result) len c.fail_part.ensures.fails;
-    }
+    record { answer = Err c.in-Err.code; filled = c.request.new.self; bytes = c.request.ensures.bytes; takes = rw len at c.fail_part.ensures.fails }
 
 pub returns-in-Ok-clause-honest : goal.returns-in-Ok-clause-honest
 returns-in-Ok-clause-honest g c =
@@ -25,5 +20,5 @@ returns-in-Ok-clause-honest g c =
 
 pub returns-in-Err-clause-honest : goal.returns-in-Err-clause-honest
 returns-in-Err-clause-honest g c =
-    λ s since. part_failed c.args.self.now c.request.new.self s _ _ c.asked_len-asked.result c.in-Err.code _ c.request.ensures.bytes c.in-Err.ensures.err c.requires since (c.in-Err.ensures.honest since.stays.honest)
-    c.fail_part.new.self c.fail_part.result c.fail_part.ensures.fails
+    λ s since. part_failed c.args.self.now c.request.new.self.bytes s _ _ c.asked_len-asked.result c.in-Err.code _ c.in-Err.ensures.err c.requires since (c.in-Err.ensures.honest since.stays.honest)
+    c.request.new.self c.fail_part.new.self c.fail_part.result c.request.ensures.bytes c.fail_part.ensures.fails

@@ -1,6 +1,6 @@
 use Rattle.std.proofs.Common.{Result, subst, arith}
 use Rattle.ipmi_bus.specs.Prelude.{FruEnded, IsAnswered, stays_trans}
-use Rattle.ipmi_bus.proofs.InventoryLemmas.{same_trans, ends_moved}
+use Rattle.ipmi_bus.proofs.InventoryLemmas.{same_trans}
 use Rattle.ipmi_bus.proofs.inventory.FruRetrieval.read_all.Goals as goal
 
 pub parts-preserved : goal.parts-preserved
@@ -14,7 +14,7 @@ parts-preserved g c = (
 pub returns-in-Err-clause-honest : goal.returns-in-Err-clause-honest
 returns-in-Err-clause-honest g c = λ s since.
     let same = c.parts.invariant.0 in
-    ends_moved _ _ _ _ s _ c.in-Err.ended same.id same.tries (c.in-Err.ensures.honest s (c.parts.invariant.3 s since))
+    rw (← same.id, ← same.tries) (c.in-Err.ensures.honest s (c.parts.invariant.3 s since))
 
 pub returns-in-Err-clause-ended : goal.returns-in-Err-clause-ended
 returns-in-Err-clause-ended g c = record { last = c.parts.self; answered = subst (λ (x : Result (Unit {0}) FruEnded). IsAnswered c.parts.self c.ask_part.new.self x) c.in-Err.is c.ask_part.ensures.answered }

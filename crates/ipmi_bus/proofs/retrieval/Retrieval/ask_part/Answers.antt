@@ -1,5 +1,5 @@
 use Rattle.std.proofs.Common.{◌≡◌, ℕ, ◌-◌, Ok, Err, ap, subst, ◌∙◌}
-use Rattle.ipmi_bus.specs.Prelude.{Retrieval, asked_len, class_of}
+use Rattle.ipmi_bus.specs.Prelude.{asked_len, class_of}
 use Rattle.ipmi_bus.specs.Retrieval.{request_len, PartFails}
 use Rattle.ipmi_bus.proofs.PartLemmas.{honest_part, part_failed}
 use Rattle.ipmi_bus.proofs.retrieval.Retrieval.ask_part.Goals as goal
@@ -11,20 +11,15 @@ pub returns-in-Err-clause-answered : goal.returns-in-Err-clause-answered
 returns-in-Err-clause-answered g c =
     let old = c.args.self.now in
     let len : c.asked_len-asked.result ≡ request_len old = c.asked_len-asked.ensures ∙ ap (λ (n : ℕ). asked_len old.part (n - old.have)) c.wanted.ensures in
-    record {
-      answer = Err c.in-Err.code;
-      filled = c.request.new.self;
-      buffer = c.request.ensures.buffer;
-      takes = subst (λ (n : ℕ). PartFails (class_of c.in-Err.code.0) c.in-Err.code n c.request.new.self c.fail_part.new.self c.fail_part.result) len c.fail_part.ensures.fails;
-    }
+    record { answer = Err c.in-Err.code; filled = c.request.new.self; buffer = c.request.ensures.buffer; takes = rw len at c.fail_part.ensures.fails }
 
 pub returns-in-Ok-clause-honest : goal.returns-in-Ok-clause-honest
 returns-in-Ok-clause-honest g c =
-    λ honest reading. honest_part c.args.self.now c.request.new.self c.take_part.new.self _ _ c.args.reservation c.asked_len-asked.result c.in-Ok.part c.take_part.result
-    c.request.ensures.buffer c.request.ensures.front reading c.requires.reserved (c.in-Ok.ensures.honest honest) c.take_part.ensures.takes
+    λ start s same since. honest_part start c.args.self.now c.request.new.self c.take_part.new.self s _ _ c.args.reservation c.asked_len-asked.result c.in-Ok.part c.take_part.result
+    same since c.requires.is_open c.request.ensures.buffer c.request.ensures.front c.requires.reserved (c.in-Ok.ensures.honest since.stays.honest) c.take_part.ensures.takes
 
 pub returns-in-Err-clause-honest : goal.returns-in-Err-clause-honest
 returns-in-Err-clause-honest g c =
-    let fails = subst (λ (r : Retrieval). PartFails (class_of c.in-Err.code.0) c.in-Err.code c.asked_len-asked.result r c.fail_part.new.self c.fail_part.result) c.in-Err.ensures.err c.fail_part.ensures.fails in
-    λ honest reading. part_failed c.args.self.now c.fail_part.new.self _ _ c.args.reservation c.asked_len-asked.result c.in-Err.code _ honest c.requires.is_open reading c.requires.reserved (c.in-Err.ensures.honest honest)
-    c.fail_part.result fails
+    let fails = rw c.in-Err.ensures.err at c.fail_part.ensures.fails in
+    λ start s same since. part_failed start c.args.self.now c.fail_part.new.self s _ _ c.args.reservation c.asked_len-asked.result c.in-Err.code _ same since c.requires.is_open c.requires.reserved
+    (c.in-Err.ensures.honest since.stays.honest) c.fail_part.result fails
