@@ -1,7 +1,7 @@
 -- The records of the multirecord area, one after the other.
-use Rattle.std.proofs.Common.{◌≡◌, ℕ, zero, suc, ◌+◌, ◌<◌, ◌≤◌, Bool, true, false, cond, Option, None, Some, Result, Ok, List, [], ◌∷◌, length, drop, slice_index, refl, sym, ap, subst, ◌∙◌, arith, length-drop}
+use Rattle.std.proofs.Common.{◌≡◌, ℕ, zero, suc, ◌+◌, ◌<◌, ◌≤◌, Bool, true, false, cond, Option, None, Some, Result, Ok, List, [], ◌∷◌, length, drop, slice_index, refl, sym, ap, ◌∙◌, arith, length-drop}
 use Rattle.std.proofs.lemmas.Bool.Decides.{nat_tests}
-use Rattle.ipmi_fru.specs.Prelude.{MultiFault, offset_of, records_place, MultiRecord, RecordsEnd, ContinuesBy, IsRecordList, HasItems, items_of, record_in, record_fault, after_record, items_by, items_from, items_in}
+use Rattle.ipmi_fru.specs.Prelude.{MultiFault, offset_of, records_place, MultiRecord, RecordsEnd, IsRecordList, HasItems, items_of, record_in, record_fault, after_record, items_by, items_from, items_in}
 
 -- more steps than there are bytes change nothing
 pub items_from-enough : (n m : ℕ) (bytes : List ℕ) → length bytes < n → length bytes < m → items_from n bytes ≡ items_from m bytes
@@ -13,8 +13,7 @@ items_from-enough (suc n) (suc m) (byte ∷ bytes) a b =
     ap (items_by _ _) (items_from-enough n m (after_record (byte ∷ bytes)) (omega (arith, left, a)) (omega (arith, left, b)))
 
 pub items_in-more : (bytes : List ℕ) → record_fault bytes ≡ None → (r : MultiRecord) (rest : List ℕ) → r ≡ record_in bytes → rest ≡ after_record bytes
-    → r.last ≡ false → length rest < length bytes
-    → items_in bytes ≡ Ok r ∷ items_in rest
+    → r.last ≡ false → length rest < length bytes → items_in bytes ≡ Ok r ∷ items_in rest
 items_in-more bytes fine r rest is rest_is last shorter =
     let not_last : (record_in bytes).last ≡ false = ap (λ (r : MultiRecord). r.last) (sym is) ∙ last in
     rw (fine, ← is, not_last, ← rest_is, items_from-enough (length bytes) (suc (length rest)) rest shorter (omega arith)) refl
@@ -39,22 +38,10 @@ listed (suc n) bytes lt = by (λ shorter. listed n (after_record bytes) shorter)
     r = record_in bytes
 
     last_or_more : (length (after_record bytes) < n → IsListed (after_record bytes) (items_from n (after_record bytes))) → record_fault bytes ≡ None → (last : Bool) → r.last ≡ last → IsListed bytes (Ok r ∷ cond last [] (items_from n (after_record bytes)))
-    last_or_more ih fine true is = record {
-      records = r ∷ [];
-      end = None;
-      is_list = (fine, (refl, subst (λ (b : Bool). ContinuesBy b [] None (IsRecordList (after_record bytes) [] None)) (sym is) (refl, refl)));
-      items_are = refl;
-    }
+    last_or_more ih fine true is = record { records = r ∷ []; end = None; is_list = (fine, (refl, rw is (refl, refl))); items_are = refl }
     last_or_more ih fine false is =
-        let left = length-drop (5 + slice_index bytes 2) bytes in
-        let some = enough_bytes bytes fine in
-        let more = ih (omega (arith, left, some, lt)) in
-        record {
-          records = r ∷ more.records;
-          end = more.end;
-          is_list = (fine, (refl, subst (λ (b : Bool). ContinuesBy b more.records more.end (IsRecordList (after_record bytes) more.records more.end)) (sym is) more.is_list));
-          items_are = rw more.items_are refl;
-        }
+        let more = ih (omega (arith, length-drop (5 + slice_index bytes 2) bytes, enough_bytes bytes fine, lt)) in
+        record { records = r ∷ more.records; end = more.end; is_list = (fine, (refl, rw is more.is_list)); items_are = rw more.items_are refl }
 
     by : (length (after_record bytes) < n → IsListed (after_record bytes) (items_from n (after_record bytes))) → (o : Option MultiFault) → record_fault bytes ≡ o → IsListed bytes (items_by o r (items_from n (after_record bytes)))
     by ih (Some f) is = record { records = []; end = Some f; is_list = is; items_are = refl }
