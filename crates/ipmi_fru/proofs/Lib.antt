@@ -2,5 +2,4 @@ pub mod AreaLemmas
 pub mod FieldLemmas
 pub mod RecordLemmas
 pub mod UniqueLemmas
-pub mod PrintLemmas
 pub mod TextLemmas

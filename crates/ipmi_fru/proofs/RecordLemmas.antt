@@ -1,7 +1,7 @@
 -- The records of the multirecord area, one after the other.
-use Rattle.std.proofs.Common.{◌≡◌, ℕ, zero, suc, ◌+◌, ◌<◌, ◌≤◌, Bool, true, false, cond, not, nat_lt, Option, None, Some, Result, Ok, List, [], ◌∷◌, length, drop, take, slice_index, refl, sym, ap, subst, ◌∙◌, arith, length-drop}
+use Rattle.std.proofs.Common.{◌≡◌, ℕ, zero, suc, ◌+◌, ◌<◌, ◌≤◌, Bool, true, false, cond, Option, None, Some, Result, Ok, List, [], ◌∷◌, length, drop, slice_index, refl, sym, ap, ◌∙◌, arith, length-drop}
 use Rattle.std.proofs.lemmas.Bool.Decides.{nat_tests}
-use Rattle.ipmi_fru.specs.Prelude.{MultiFault, is_zero_sum, offset_of, records_place, MultiRecord, RecordsEnd, ContinuesBy, IsRecordList, AreRecordsAt, HasItems, items_of, data_in, record_in, record_fault, after_record, items_by, items_from, items_in}
+use Rattle.ipmi_fru.specs.Prelude.{MultiFault, offset_of, records_place, MultiRecord, RecordsEnd, IsRecordList, HasItems, items_of, record_in, record_fault, after_record, items_by, items_from, items_in}
 
 -- more steps than there are bytes change nothing
 pub items_from-enough : (n m : ℕ) (bytes : List ℕ) → length bytes < n → length bytes < m → items_from n bytes ≡ items_from m bytes
@@ -10,17 +10,13 @@ items_from-enough (suc n) zero bytes a b = absurd (omega (arith, b))
 items_from-enough (suc n) (suc m) [] a b = refl
 items_from-enough (suc n) (suc m) (byte ∷ bytes) a b =
     let left = length-drop (5 + slice_index (byte ∷ bytes) 2) (byte ∷ bytes) in
-    ap (items_by (record_fault (byte ∷ bytes)) (record_in (byte ∷ bytes))) (items_from-enough n m (after_record (byte ∷ bytes)) (omega (arith, left, a)) (omega (arith, left, b)))
+    ap (items_by _ _) (items_from-enough n m (after_record (byte ∷ bytes)) (omega (arith, left, a)) (omega (arith, left, b)))
 
-module _ (bytes : List ℕ) where
-  pub items_in-more : record_fault bytes ≡ None → (r : MultiRecord) (rest : List ℕ) → r ≡ record_in bytes → rest ≡ after_record bytes → r.last ≡ false → length rest < length bytes → items_in bytes ≡ Ok r ∷ items_in rest
-  items_in-more fine r rest is rest_is last shorter =
-      let more = items_from (length bytes) (after_record bytes) in
-      ap (λ (o : Option MultiFault). items_by o (record_in bytes) more) fine
-      ∙ ap (λ (r : MultiRecord). items_by None r more) (sym is)
-      ∙ ap (λ (b : Bool). Ok r ∷ cond b [] more) last
-      ∙ ap (λ (l : List ℕ). Ok r ∷ items_from (length bytes) l) (sym rest_is)
-      ∙ ap (λ (l : List (Result MultiRecord MultiFault)). Ok r ∷ l) (items_from-enough (length bytes) (suc (length rest)) rest shorter (omega arith))
+pub items_in-more : (bytes : List ℕ) → record_fault bytes ≡ None → (r : MultiRecord) (rest : List ℕ) → r ≡ record_in bytes → rest ≡ after_record bytes
+    → r.last ≡ false → length rest < length bytes → items_in bytes ≡ Ok r ∷ items_in rest
+items_in-more bytes fine r rest is rest_is last shorter =
+    let not_last : (record_in bytes).last ≡ false = ap (λ (r : MultiRecord). r.last) (sym is) ∙ last in
+    rw (fine, ← is, not_last, ← rest_is, items_from-enough (length bytes) (suc (length rest)) rest shorter (omega arith)) refl
 
 -- ---- the items that are found are those of the one list of records
 
@@ -31,14 +27,8 @@ pub record IsListed (bytes : List ℕ) (items : List (Result MultiRecord MultiFa
   pub is_list : IsRecordList bytes records end
   pub items_are : items ≡ items_of records end
 
-pub enough_bytes : (bytes : List ℕ) → record_fault bytes ≡ None → 5 ≤ length bytes
-enough_bytes bytes fine = by (nat_lt (length bytes) 5) refl fine
-  where
-    by : (t : Bool) → nat_lt (length bytes) 5 ≡ t
-        → cond t (Some MultiFault.Outside) (cond (not (is_zero_sum (take 5 bytes))) (Some MultiFault.HeaderSum) (cond (nat_lt (length bytes) (5 + slice_index bytes 2)) (Some MultiFault.Outside) (cond (not (is_zero_sum (slice_index bytes 3 ∷ data_in bytes))) (Some MultiFault.DataSum) None))) ≡ None
-        → 5 ≤ length bytes
-    by true is e = cc e
-    by false is e = grind (arith, nat_tests)
+enough_bytes : (bytes : List ℕ) → record_fault bytes ≡ None → 5 ≤ length bytes
+enough_bytes bytes fine = grind (arith, nat_tests)
 
 listed : (n : ℕ) (bytes : List ℕ) → length bytes < n → IsListed bytes (items_from n bytes)
 listed zero bytes lt = absurd (omega (arith, lt))
@@ -48,40 +38,25 @@ listed (suc n) bytes lt = by (λ shorter. listed n (after_record bytes) shorter)
     r = record_in bytes
 
     last_or_more : (length (after_record bytes) < n → IsListed (after_record bytes) (items_from n (after_record bytes))) → record_fault bytes ≡ None → (last : Bool) → r.last ≡ last → IsListed bytes (Ok r ∷ cond last [] (items_from n (after_record bytes)))
-    last_or_more ih fine true is = record {
-      records = r ∷ [];
-      end = None;
-      is_list = (fine, (refl, subst (λ (b : Bool). ContinuesBy b [] None (IsRecordList (after_record bytes) [] None)) (sym is) (refl, refl)));
-      items_are = refl;
-    }
+    last_or_more ih fine true is = record { records = r ∷ []; end = None; is_list = (fine, (refl, rw is (refl, refl))); items_are = refl }
     last_or_more ih fine false is =
-        let left = length-drop (5 + slice_index bytes 2) bytes in
-        let some = enough_bytes bytes fine in
-        let more = ih (omega (arith, left, some, lt)) in
-        record {
-          records = r ∷ more.records;
-          end = more.end;
-          is_list = (fine, (refl, subst (λ (b : Bool). ContinuesBy b more.records more.end (IsRecordList (after_record bytes) more.records more.end)) (sym is) more.is_list));
-          items_are = rw more.items_are refl;
-        }
+        let more = ih (omega (arith, length-drop (5 + slice_index bytes 2) bytes, enough_bytes bytes fine, lt)) in
+        record { records = r ∷ more.records; end = more.end; is_list = (fine, (refl, rw is more.is_list)); items_are = rw more.items_are refl }
 
     by : (length (after_record bytes) < n → IsListed (after_record bytes) (items_from n (after_record bytes))) → (o : Option MultiFault) → record_fault bytes ≡ o → IsListed bytes (items_by o r (items_from n (after_record bytes)))
     by ih (Some f) is = record { records = []; end = Some f; is_list = is; items_are = refl }
     by ih None is = last_or_more ih is r.last refl
 
-pub all_listed : (bytes : List ℕ) → IsListed bytes (items_in bytes)
-all_listed bytes = listed (suc (length bytes)) bytes (omega arith)
-
 pub some_items : (bytes part : List ℕ) (items : List (Result MultiRecord MultiFault)) (offset : ℕ) → offset_of records_place bytes ≡ Some offset → part ≡ drop offset bytes → items ≡ items_in part → HasItems bytes items
 some_items bytes part items offset is part_is items_are =
-    let found = all_listed (drop offset bytes) in
+    let found = listed (suc (length part)) part (omega arith) in
     record {
       records = found.records;
       end = found.end;
-      are_records = subst (λ (o : Option ℕ). AreRecordsAt o bytes found.records found.end) (sym is) found.is_list;
-      items_are = items_are ∙ ap items_in part_is ∙ found.items_are;
+      are_records = rw (is, ← part_is) found.is_list;
+      items_are = items_are ∙ found.items_are;
     }
 
 pub no_items : (bytes : List ℕ) (items : List (Result MultiRecord MultiFault)) → offset_of records_place bytes ≡ None → items ≡ [] → HasItems bytes items
 no_items bytes items is items_are =
-    record { records = []; end = None; are_records = subst (λ (o : Option ℕ). AreRecordsAt o bytes [] None) (sym is) (refl, refl); items_are = items_are }
+    record { records = []; end = None; are_records = rw is (refl, refl); items_are = items_are }

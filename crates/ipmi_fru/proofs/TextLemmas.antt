@@ -1,7 +1,7 @@
 -- An inventory has at most one text.
 use Rattle.std.proofs.Common.{◌≡◌, ◌∙◌, inl, inr, ℕ, Option, None, Some, Result, Ok, Err, List, [], ◌∷◌, refl, ap, sym, subst, codes}
 use Rattle.ipmi_text.specs.Laws.{DecimalIsUnique, MinutesTextIsUnique}
-use Rattle.ipmi_fru.specs.Prelude.{AreaKind, Chassis, Board, Product, AreaFault, FruFault, MultiFault, RecordForm, Dc, Access, Other, header_fault, offset_of, records_place, Spells, Area, IsArea, IsAreaFault, IsFound, field_bytes, place_of, MultiRecord, RecordsEnd, AreRecordsAt, SameList, items_of, IsLead, IsTextFound, IsTextOfArea, IsVoltsAt, IsTextInForm, IsItemText, AreItemTexts, IsTextOfRecords, IsTextByFault, IsFruText, form_of}
+use Rattle.ipmi_fru.specs.Prelude.{AreaKind, Chassis, Board, Product, AreaFault, FruFault, MultiFault, RecordForm, Dc, Access, Other, header_fault, offset_of, records_place, Spells, Area, IsArea, IsAreaFault, IsFound, field_bytes, MultiRecord, RecordsEnd, AreRecordsAt, SameList, items_of, IsLead, IsTextFound, IsTextOfArea, IsTextInForm, IsItemText, AreItemTexts, IsTextOfRecords, IsTextByFault, IsFruText, form_of}
 use Rattle.ipmi_text.specs.Lines.{labelled}
 use Rattle.ipmi_fru.proofs.UniqueLemmas.{one_list_of_fields, one_list_of_records}
 
@@ -21,35 +21,34 @@ module _ (one_text : DecimalIsUnique) (one_minutes_text : MinutesTextIsUnique) w
 
   -- where there is an area there is no fault
   no_fault : (kind : AreaKind) (offset : ℕ) (bytes : List ℕ) (a : Area) (f : AreaFault) → IsArea kind offset bytes a → IsAreaFault kind offset bytes f → ⊥
-  no_fault kind offset bytes a f x (inl is) = let fine = x.fine in cc (fine, is)
+  no_fault kind offset bytes a f x (inl is) = cc (x.fine, is)
   no_fault kind offset bytes a f x (inr past) = past.0.no_list a.fields (subst (λ (l : List ℕ). Spells (field_bytes kind l) a.fields) x.bytes_are x.fields_are)
 
   one_fault : (kind : AreaKind) (offset : ℕ) (bytes : List ℕ) (f g : AreaFault) → IsAreaFault kind offset bytes f → IsAreaFault kind offset bytes g → f ≡ g
   one_fault kind offset bytes f g (inl is) (inl at) = cc (is, at)
-  one_fault kind offset bytes f g (inl is) (inr past) = let fine = past.0.fine in cc (is, fine)
-  one_fault kind offset bytes f g (inr past) (inl is) = let fine = past.0.fine in cc (is, fine)
+  one_fault kind offset bytes f g (inl is) (inr past) = cc (is, past.0.fine)
+  one_fault kind offset bytes f g (inr past) (inl is) = cc (is, past.0.fine)
   one_fault kind offset bytes f g (inr past) (inr other) = past.1 ∙ sym other.1
 
-  same_offset : (kind : AreaKind) (bytes : List ℕ) (m n : ℕ) → offset_of (place_of kind) bytes ≡ Some m → offset_of (place_of kind) bytes ≡ Some n → n ≡ m
-  same_offset kind bytes m n x y = cc (x, y)
+  -- what holds of the place of one holds of that of the other, which is the same
+  moved : {place : Option ℕ} (P : ℕ → Type 0) (m n : ℕ) → place ≡ Some m → place ≡ Some n → P n → P m
+  moved P m n x y holds = let same : n ≡ m = cc (x, y) in subst P same holds
 
   -- an inventory has one thing of a kind
   one_found : (kind : AreaKind) (bytes : List ℕ) (a b : Option (Result Area AreaFault)) → IsFound kind bytes a → IsFound kind bytes b → a ≡ b
   one_found kind bytes None None x y = refl
-  one_found kind bytes None (Some (Ok b)) x y = let is = y.1.0 in cc (x, is)
-  one_found kind bytes None (Some (Err g)) x y = let is = y.1.0 in cc (x, is)
-  one_found kind bytes (Some (Ok a)) None x y = let is = x.1.0 in cc (y, is)
-  one_found kind bytes (Some (Err f)) None x y = let is = x.1.0 in cc (y, is)
+  one_found kind bytes None (Some (Ok b)) x y = cc (x, y.1.0)
+  one_found kind bytes None (Some (Err g)) x y = cc (x, y.1.0)
+  one_found kind bytes (Some (Ok a)) None x y = cc (y, x.1.0)
+  one_found kind bytes (Some (Err f)) None x y = cc (y, x.1.0)
   one_found kind bytes (Some (Ok a)) (Some (Ok b)) x y =
-      let there : IsArea kind x.0 bytes b = subst (λ (n : ℕ). IsArea kind n bytes b) (same_offset kind bytes x.0 y.0 x.1.0 y.1.0) y.1.1 in
-      ap (λ (area : Area). Some (Ok area)) (one_area kind x.0 bytes a b x.1.1 there)
+      cc (one_area kind x.0 bytes a b x.1.1 (moved (λ n. IsArea kind n bytes b) x.0 y.0 x.1.0 y.1.0 y.1.1))
   one_found kind bytes (Some (Ok a)) (Some (Err g)) x y =
-      absurd (no_fault kind x.0 bytes a g x.1.1 (subst (λ (n : ℕ). IsAreaFault kind n bytes g) (same_offset kind bytes x.0 y.0 x.1.0 y.1.0) y.1.1))
+      absurd (no_fault kind x.0 bytes a g x.1.1 (moved (λ n. IsAreaFault kind n bytes g) x.0 y.0 x.1.0 y.1.0 y.1.1))
   one_found kind bytes (Some (Err f)) (Some (Ok b)) x y =
-      absurd (no_fault kind x.0 bytes b f (subst (λ (n : ℕ). IsArea kind n bytes b) (same_offset kind bytes x.0 y.0 x.1.0 y.1.0) y.1.1) x.1.1)
+      absurd (no_fault kind x.0 bytes b f (moved (λ n. IsArea kind n bytes b) x.0 y.0 x.1.0 y.1.0 y.1.1) x.1.1)
   one_found kind bytes (Some (Err f)) (Some (Err g)) x y =
-      let there : IsAreaFault kind x.0 bytes g = subst (λ (n : ℕ). IsAreaFault kind n bytes g) (same_offset kind bytes x.0 y.0 x.1.0 y.1.0) y.1.1 in
-      ap (λ (f : AreaFault). Some (Err f)) (one_fault kind x.0 bytes f g x.1.1 there)
+      cc (one_fault kind x.0 bytes f g x.1.1 (moved (λ n. IsAreaFault kind n bytes g) x.0 y.0 x.1.0 y.1.0 y.1.1))
 
   one_lead : (kind : AreaKind) (area text other : List ℕ) → IsLead kind area text → IsLead kind area other → text ≡ other
   one_lead Chassis area text other h k = h ∙ sym k
@@ -68,14 +67,11 @@ module _ (one_text : DecimalIsUnique) (one_minutes_text : MinutesTextIsUnique) w
 
   -- ---- records
 
-  one_volts : (place : ℕ) (bytes text other : List ℕ) → IsVoltsAt place bytes text → IsVoltsAt place bytes other → text ≡ other
-  one_volts place bytes text other h k = one_text _ text other h k
-
   one_form : (form : RecordForm) (r : MultiRecord) (text other : List ℕ) → IsTextInForm form r text → IsTextInForm form r other → text ≡ other
   one_form (Dc kind) r text other h k =
-      let nominal = one_volts 1 r.bytes h.nominal k.nominal h.volts.nominal_is k.volts.nominal_is in
-      let low = one_volts 3 r.bytes h.low k.low h.volts.low_is k.volts.low_is in
-      let high = one_volts 5 r.bytes h.high k.high h.volts.high_is k.volts.high_is in
+      let nominal = one_text _ h.nominal k.nominal h.nominal_is k.nominal_is in
+      let low = one_text _ h.low k.low h.low_is k.low_is in
+      let high = one_text _ h.high k.high h.high_is k.high_is in
       h.text_is ∙ rw (nominal, low, high) (sym k.text_is)
   one_form Access r text other h k = h ∙ sym k
   one_form Other r text other h k = h ∙ sym k
@@ -96,8 +92,7 @@ module _ (one_text : DecimalIsUnique) (one_minutes_text : MinutesTextIsUnique) w
   one_records_text : (bytes text other : List ℕ) → IsTextOfRecords bytes text → IsTextOfRecords bytes other → text ≡ other
   one_records_text bytes text other h k =
       let same = one_records_at (offset_of records_place bytes) bytes h.records k.records h.end k.end h.are_records k.are_records in
-      let items : items_of h.records h.end ≡ items_of k.records k.end = rw same.records (ap (items_of k.records) same.ends) in
-      one_list (items_of k.records k.end) text other (subst (λ (l : List (Result MultiRecord MultiFault)). AreItemTexts l text) items h.are_texts) k.are_texts
+      one_list (items_of k.records k.end) text other (rw (← same.records, ← same.ends) h.are_texts) k.are_texts
 
   -- ---- the inventory
 

@@ -57,8 +57,7 @@ extra_label kind = area_name kind ++ codes " Extra"
 -- the language of an area's texts: that of a chassis is English
 abbrev pub language_of : AreaKind → List ℕ → ℕ
 language_of Chassis area = 0
-language_of Board area = slice_index area 2
-language_of Product area = slice_index area 2
+language_of _ area = slice_index area 2
 
 -- no line where a field has no text
 abbrev pub field_line : List ℕ → List ℕ → List ℕ
@@ -105,21 +104,12 @@ number_at place bytes = little_from place 2 bytes
 abbrev pub IsVoltsAt : ℕ → List ℕ → List ℕ → Type 0
 IsVoltsAt place bytes text = IsDecimalOf (twos_complement 2 (number_at place bytes) *ℤ pos (10 ^ 14)) text
 
--- the voltages of data bytes 1 to 6: the nominal one, and two limits or deviations
-pub record AreVolts (bytes nominal low high : List ℕ) : Type 0 where
-  pub nominal_is : IsVoltsAt 1 bytes nominal
-  pub low_is : IsVoltsAt 3 bytes low
-  pub high_is : IsVoltsAt 5 bytes high
-
 -- what follows the voltages: the ripple in mV, and the least and the greatest current in mA
-abbrev pub current_line : ℕ → ℕ → ℕ → List ℕ
-current_line ripple least greatest =
-    codes "ripple " ++ (decimal ripple
-    ++ (codes " mV, current " ++ (decimal least
-    ++ (codes " to " ++ (decimal greatest ++ codes " mA\n")))))
-
 abbrev pub current_text : List ℕ → List ℕ
-current_text bytes = current_line (number_at 7 bytes) (number_at 9 bytes) (number_at 11 bytes)
+current_text bytes =
+    codes "ripple " ++ (decimal (number_at 7 bytes)
+    ++ (codes " mV, current " ++ (decimal (number_at 9 bytes)
+    ++ (codes " to " ++ (decimal (number_at 11 bytes) ++ codes " mA\n")))))
 
 -- how the line of an output and that of a load begin
 abbrev pub dc_start : DcKind → List ℕ
@@ -140,11 +130,14 @@ abbrev pub before_high : DcKind → List ℕ
 before_high Output = codes " V, positive deviation "
 before_high Load = codes " to "
 
+-- the voltages are in data bytes 1 to 6: the nominal one, and two limits or deviations
 pub record IsDcText (kind : DcKind) (bytes text : List ℕ) : Type 0 where
   pub nominal : List ℕ
   pub low : List ℕ
   pub high : List ℕ
-  pub volts : AreVolts bytes nominal low high
+  pub nominal_is : IsVoltsAt 1 bytes nominal
+  pub low_is : IsVoltsAt 3 bytes low
+  pub high_is : IsVoltsAt 5 bytes high
   pub text_is : text ≡ dc_start kind ++ (decimal (slice_index bytes 0 % 16) ++ (standby_text kind (slice_index bytes 0)
       ++ (codes ": nominal " ++ (nominal
       ++ (before_low kind ++ (low ++ (before_high kind ++ (high ++ (codes " V, " ++ current_text bytes)))))))))

@@ -3,11 +3,13 @@ ghost use Rattle.std.specs.Prelude.{◌≡◌, ℕ, List};
 ghost use Rattle.ipmi_fru.specs.Prelude.{AreaField, Spells, MultiRecord, RecordsEnd, IsRecordList, SameList, IsFruText};
 
 /// Bytes spell at most one list of fields.
+#[tactic(auto, using(crate::proofs::UniqueLemmas::one_list_of_fields))]
 pub fn one_list_of_fields()
     ensures { (bytes : List ℕ) (a b : List AreaField) → Spells bytes a → Spells bytes b → a ≡ b }
 {}
 
 /// Bytes are at most one list of records, with one end.
+#[tactic(auto, using(crate::proofs::UniqueLemmas::one_list_of_records))]
 pub fn one_list_of_records()
     ensures { (bytes : List ℕ) (a b : List MultiRecord) (e f : RecordsEnd) →
         IsRecordList bytes a e → IsRecordList bytes b f → SameList a b e f }

@@ -4,28 +4,21 @@ use Rattle.std.specs.Fmt.{digit_glyph}
 use Rattle.std.proofs.lemmas.Bool.{cases_lt}
 use Rattle.std.proofs.lemmas.Bool.Decides.{nat_tests}
 use Rattle.jiff.proofs.Family.{epoch_day_injective}
-use Rattle.jiff.specs.Words.{date_text, epoch_day}
-use Rattle.jiff.specs.declared.civil.Date.{Date}
 use Rattle.ipmi_text.specs.Times.{IsMinutesTextOf, IsMoment, IsUtcTextOf}
 use Rattle.ipmi_text.specs.TwoDigits.{two_digits}
 
 -- the two glyphs of a number below 100
 pub digit_glyph_two : (n : ℕ) → n < 100 → digit_glyph false (n / 10) ∷ digit_glyph false (n % 10) ∷ [] ≡ two_digits n
-digit_glyph_two n small =
-    let high : n / 10 < 10 = omega arith in
-    let low : n % 10 < 10 = omega arith in
-    rw (decimal_glyph (n / 10) high, decimal_glyph (n % 10) low) refl
+digit_glyph_two n small = rw (decimal_glyph (n / 10) (omega arith), decimal_glyph (n % 10) (omega arith)) refl
   where
     decimal_glyph : (d : ℕ) → d < 10 → digit_glyph false d ≡ 48 + d
     decimal_glyph d h = grind (arith, nat_tests)
 
-date_text-same : (a b : Date) → epoch_day a ≡ epoch_day b → date_text a ≡ date_text b
-date_text-same a b e = let parts = epoch_day_injective a b e in rw (parts.0, parts.1, parts.2) refl
-
 -- a day number and a time of day have one text
 one_moment : (day : ℕ) (time text other : List ℕ) → IsMoment day time text → IsMoment day time other → text ≡ other
 one_moment day time text other h k =
-    h.text_is ∙ rw (date_text-same h.date k.date (h.day_is ∙ sym k.day_is)) (sym k.text_is)
+    let same = epoch_day_injective h.date k.date (h.day_is ∙ sym k.day_is) in
+    h.text_is ∙ rw (same.0, same.1, same.2) (sym k.text_is)
 
 pub one_utc_text : (seconds : ℕ) (text other : List ℕ) → seconds ≤ 0xffff_ffff → IsUtcTextOf seconds text → IsUtcTextOf seconds other → text ≡ other
 one_utc_text seconds text other bound h k = elim (cases_lt 0x2000_0000 seconds) [

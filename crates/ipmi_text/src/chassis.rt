@@ -1,6 +1,6 @@
 //! The names of chassis types.
-ghost use Rattle.std.specs.Prelude.{◌≡◌, IfOk, option_map, string_bytes};
-ghost use Rattle.ipmi_text.specs.Chassis.{chassis_name, chassis_text_of};
+ghost use Rattle.std.specs.Prelude.{◌≡◌, IfOk, string_bytes};
+ghost use Rattle.ipmi_text.specs.Chassis.{chassis_text_of};
 
 use crate::names::{HexByte, entry_from_one};
 use std::alloc::{AllocError, Global};
@@ -33,19 +33,12 @@ const CHASSIS_TYPES: [&str; 23] = [
     "Rack Mount Chassis",
 ];
 
-/// The name of a chassis type, where it has one.
-fn chassis_name(code: u8) -> Option<&'static str>
-    ensures { option_map (λ s. s.now) result ≡ chassis_name code }
-{
-    entry_from_one(CHASSIS_TYPES.as_slice(), code)
-}
-
 /// The name of a chassis type (Platform Management FRU Information Storage Definition v1.0,
 /// section 10), or `type 0xNN` where it has none.
 pub fn chassis_text(alloc: Global, code: u8) -> Result<String, AllocError>
     ensures { IfOk result (λ text. string_bytes text ≡ chassis_text_of code) }
 {
-    match chassis_name(code) {
+    match entry_from_one(CHASSIS_TYPES.as_slice(), code) {
         Some(name) => String::from_str(alloc, name),
         None => {
             let code = HexByte(code);

@@ -1,6 +1,6 @@
 //! The texts of type/length fields.
 ghost use Rattle.std.specs.Prelude.{◌≡◌, ◌<◌, ◌≤◌, ◌++◌, ◌↔◌, IfOk, IfSome, IsAscii, IsTrue, OnOk, length, slice_index, string_bytes, take};
-ghost use Rattle.ipmi_text.specs.FieldText.{bcd_plus_character, bcd_plus_text, bytes_used, fru_text_of, is_english, latin1_character, latin1_text, sdr_text_of, six_bit_text};
+ghost use Rattle.ipmi_text.specs.FieldText.{bcd_plus_character, bcd_plus_text, bytes_used, fru_text_of, is_english, latin1_character, latin1_text, sdr_text_of, six_bit_character, six_bit_text};
 
 use std::alloc::{AllocError, Global};
 
@@ -42,29 +42,25 @@ fn byte_at(bytes: &[u8], at: usize) -> u32
     }
 }
 
-/// Appends the characters of at most three bytes, low first, in groups of six bits.
-fn push_six_bit(text: &mut String, bytes: &[u8]) -> Result<(), AllocError>
-    requires { length bytes.now ≤ 3 }
-    ensures { OnOk result
-        (string_bytes text.new ≡ string_bytes text.old ++ six_bit_text bytes.now) }
+/// A character of 6-bit ASCII, of which four fill three bytes, low first.
+fn six_bit_character(bytes: &[u8], i: usize) -> u8
+    ensures value { result ≡ six_bit_character bytes.now i }
+    ensures ascii { result < 128 }
 {
-    let number = byte_at(bytes, 0) + (byte_at(bytes, 1) << 8) + (byte_at(bytes, 2) << 16);
-    for i in 0..8 * bytes.len() / 6 {
-        text.push(((number >> (6 * i)) % 64 + 0x20) as u8 as char)?;
-    }
-    Ok(())
+    let at = i / 4 * 3;
+    let low = byte_at(bytes, at);
+    let number = low + (byte_at(bytes, at + 1) << 8) + (byte_at(bytes, at + 2) << 16);
+    ((number >> (i % 4 * 6)) % 64 + 0x20) as u8
 }
 
-/// 6-bit ASCII: four characters fill three bytes.
+/// 6-bit ASCII: six bits a character.
+#[tactic(auto, using(crate::proofs::FieldLemmas::six_bit_count))]
 fn six_bit_text(alloc: Global, bytes: &[u8]) -> Result<String, AllocError>
     ensures { IfOk result (λ text. string_bytes text ≡ six_bit_text bytes.now) }
 {
     let mut text = String::new(alloc);
-    let mut rest = bytes;
-    while !rest.is_empty() {
-        let whole = rest.len().min(3);
-        push_six_bit(&mut text, &rest[..whole])?;
-        rest = &rest[whole..];
+    for i in 0..bytes.len() + bytes.len() / 3 {
+        text.push(six_bit_character(bytes, i) as char)?;
     }
     Ok(text)
 }
@@ -180,6 +176,7 @@ fn first_characters(text: String, count: usize) -> String
 /// and all bytes after it: hex for Unicode (type 0), BCD plus (1), 6-bit ASCII (2), and 8-bit ASCII
 /// and Latin-1 (3). Bits 4:0 of the type/length byte count the characters (for type 0, the bytes).
 /// Only those in the first 16 bytes of `rest` are printed.
+#[tactic(auto, using(crate::proofs::FieldLemmas::IsAscii_bcd_plus, crate::proofs::FieldLemmas::IsAscii_six_bit))]
 pub fn sdr_text(alloc: Global, tl: u8, rest: &[u8]) -> Result<String, AllocError>
     ensures { IfOk result (λ text. string_bytes text ≡ sdr_text_of tl rest.now) }
 {

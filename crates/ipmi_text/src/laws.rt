@@ -15,11 +15,13 @@ pub fn one_value_of_a_decimal()
 {}
 
 /// A time stamp in seconds has at most one text, so what `utc_text` gives is the only one.
+#[tactic(auto, using(crate::proofs::TimeLemmas::one_utc_text))]
 pub fn one_utc_text()
     ensures { UtcTextIsUnique }
 {}
 
 /// A time stamp in minutes has at most one text, so what `minutes_text` gives is the only one.
+#[tactic(auto, using(crate::proofs::TimeLemmas::one_minutes_text))]
 pub fn one_minutes_text()
     ensures { MinutesTextIsUnique }
 {}

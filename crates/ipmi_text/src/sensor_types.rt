@@ -1,6 +1,6 @@
 //! The names of sensor types.
-ghost use Rattle.std.specs.Prelude.{◌≡◌, IfOk, option_map, string_bytes};
-ghost use Rattle.ipmi_text.specs.SensorTypes.{sensor_type_name, sensor_type_text_of};
+ghost use Rattle.std.specs.Prelude.{◌≡◌, IfOk, string_bytes};
+ghost use Rattle.ipmi_text.specs.SensorTypes.{sensor_type_text_of};
 
 use crate::names::{HexByte, entry_from_one};
 use crate::room::text_with_room;
@@ -58,13 +58,6 @@ const SENSOR_TYPES: [&str; 44] = [
     "FRU State",
 ];
 
-/// The name of a sensor type, where it has one.
-fn sensor_type_name(code: u8) -> Option<&'static str>
-    ensures { option_map (λ s. s.now) result ≡ sensor_type_name code }
-{
-    entry_from_one(SENSOR_TYPES.as_slice(), code)
-}
-
 /// A sensor type, printed as its name (IPMI v2.0, table 42-3), or as `sensor type 0xNN` where it has none.
 #[derive(Clone, Copy, Debug, PartialEq, Eq)]
 pub struct SensorType(pub u8);
@@ -76,7 +69,7 @@ impl fmt::Display for SensorType {
     ghost output = { λ kind. Some (sensor_type_text_of kind.0) };
 
     fn fmt<W: fmt::Write>(&self, f: &mut fmt::Formatter<W>) -> fmt::Result {
-        match sensor_type_name(self.0) {
+        match entry_from_one(SENSOR_TYPES.as_slice(), self.0) {
             Some(name) => f.write_str(name),
             None => {
                 let code = HexByte(self.0);

@@ -1,6 +1,6 @@
 //! The units of a sensor's readings.
-ghost use Rattle.std.specs.Prelude.{◌≡◌, [], ◌++◌, ◌&&◌, IfOk, IfSome, OnOk, codes, if◌then◌else◌, not, option_map, string_bytes};
-ghost use Rattle.ipmi_text.specs.Units.{after_space, is_not_empty, modifier_part, percent_part, rate_part, unit_name, unit_name_or_code, unit_text_of};
+ghost use Rattle.std.specs.Prelude.{◌≡◌, [], ◌++◌, ◌&&◌, IfOk, IfSome, OnOk, codes, if◌then◌else◌, string_bytes};
+ghost use Rattle.ipmi_text.specs.Units.{after_space, is_not_empty, modifier_part, percent_part, rate_part, unit_name_or_code, unit_text_of};
 
 use crate::names::{HexByte, entry};
 use crate::room::text_with_room;
@@ -44,11 +44,12 @@ const RATES: [&str; 8] = [
     "", "per us", "per ms", "per s", "per min", "per hour", "per day", "",
 ];
 
-/// The name of a unit, where it has one.
-fn unit_name(code: u8) -> Option<&'static str>
-    ensures { option_map (λ s. s.now) result ≡ unit_name code }
+/// Whether a text is not empty.
+#[tactic(auto, using(crate::proofs::UnitLemmas::not_length_zero))]
+fn is_there(text: &str) -> bool
+    ensures { result ≡ is_not_empty text.now }
 {
-    entry(UNITS.as_slice(), code as usize)
+    !text.is_empty()
 }
 
 /// A base or modifier unit, printed as its name, or as `unit 0xNN` where it has none.
@@ -56,12 +57,12 @@ fn unit_name(code: u8) -> Option<&'static str>
 struct UnitName(u8);
 
 impl UnitName {
-    fn is_empty(self) -> bool
-        ensures { result ≡ not (is_not_empty (unit_name_or_code self.0)) }
+    fn is_there(self) -> bool
+        ensures { result ≡ is_not_empty (unit_name_or_code self.0) }
     {
         match entry(UNITS.as_slice(), self.0 as usize) {
-            Some(name) => name.is_empty(),
-            None => false,
+            Some(name) => is_there(name),
+            None => true,
         }
     }
 }
@@ -85,20 +86,17 @@ impl fmt::Display for UnitName {
 
 /// A base unit and its modifier, which bits 2:1 of sensor units 1 join to it.
 #[derive(Clone, Copy, Debug)]
-struct BaseUnit {
-    units1: u8,
-    base: UnitName,
-    modifier: UnitName,
-}
+struct BaseUnit(Units);
 
 impl BaseUnit {
-    fn is_empty(self) -> bool
-        ensures { result ≡ not (is_not_empty (unit_name_or_code self.base.0 ++ modifier_part
-            self.units1 self.modifier.0)) }
+    #[tactic(auto, using(crate::proofs::UnitLemmas::is_not_empty_append))]
+    fn is_there(self) -> bool
+        ensures { result ≡ is_not_empty (unit_name_or_code self.0.base ++ modifier_part
+            self.0.units1 self.0.modifier) }
     {
-        match self.units1 / 2 % 4 {
-            1 | 2 => false,
-            _ => self.base.is_empty(),
+        match self.0.units1 / 2 % 4 {
+            1 | 2 => true,
+            _ => UnitName(self.0.base).is_there(),
         }
     }
 }
@@ -107,12 +105,12 @@ impl fmt::Display for BaseUnit {
     ghost use Rattle.std.specs.Prelude.{Some, ◌++◌};
     ghost use Rattle.ipmi_text.specs.Units.{modifier_part, unit_name_or_code};
 
-    ghost output = { λ unit. Some (unit_name_or_code unit.base.0 ++ modifier_part unit.units1 unit.modifier.0) };
+    ghost output = { λ unit. Some (unit_name_or_code unit.0.base ++ modifier_part unit.0.units1 unit.0.modifier) };
 
     fn fmt<W: fmt::Write>(&self, f: &mut fmt::Formatter<W>) -> fmt::Result {
-        let base = self.base;
-        let modifier = self.modifier;
-        match self.units1 / 2 % 4 {
+        let base = UnitName(self.0.base);
+        let modifier = UnitName(self.0.modifier);
+        match self.0.units1 / 2 % 4 {
             1 => write!(f, "{base}/{modifier}"),
             2 => write!(f, "{base}*{modifier}"),
             _ => write!(f, "{base}"),
@@ -159,30 +157,27 @@ pub struct Units {
 
 impl Units {
     /// What they print as, where that is the name of the base unit and no more.
+    #[tactic(auto, using(crate::proofs::UnitLemmas::plain_units))]
     fn plain_name(self) -> Option<&'static str>
         ensures { IfSome result (λ name. name.now ≡ unit_text_of self.units1 self.base
             self.modifier) }
     {
         if self.units1 % 64 == 0 {
-            unit_name(self.base)
+            entry(UNITS.as_slice(), self.base as usize)
         } else {
             None
         }
     }
 
-    /// Whether they print as nothing.
-    fn is_empty(self) -> bool
-        ensures { result ≡ not (is_not_empty (unit_text_of self.units1 self.base self.modifier)) }
+    /// Whether they print as something.
+    #[tactic(auto, using(crate::proofs::UnitLemmas::is_not_empty_joined))]
+    fn is_there(self) -> bool
+        ensures { result ≡ is_not_empty (unit_text_of self.units1 self.base self.modifier) }
     {
-        let unit = BaseUnit {
-            units1: self.units1,
-            base: UnitName(self.base),
-            modifier: UnitName(self.modifier),
-        };
-        let no_percent = percent_part(self.units1).is_empty();
-        let no_unit = unit.is_empty();
-        let no_rate = rate_part(self.units1).is_empty();
-        no_percent & no_unit & no_rate
+        let has_percent = is_there(percent_part(self.units1));
+        let has_unit = BaseUnit(self).is_there();
+        let has_rate = is_there(rate_part(self.units1));
+        has_percent | has_unit | has_rate
     }
 }
 
@@ -192,18 +187,15 @@ impl fmt::Display for Units {
 
     ghost output = { λ units. Some (unit_text_of units.units1 units.base units.modifier) };
 
+    #[tactic(auto, using(crate::proofs::UnitLemmas::append_spaced))]
     fn fmt<W: fmt::Write>(&self, f: &mut fmt::Formatter<W>) -> fmt::Result {
         let percent = percent_part(self.units1);
-        let unit = BaseUnit {
-            units1: self.units1,
-            base: UnitName(self.base),
-            modifier: UnitName(self.modifier),
-        };
+        let unit = BaseUnit(*self);
         let rate = rate_part(self.units1);
-        let has_percent = !percent.is_empty();
-        let has_unit = !unit.is_empty();
+        let has_percent = is_there(percent);
+        let has_unit = unit.is_there();
         let first = gap(has_percent, has_unit);
-        let second = gap(has_percent || has_unit, !rate.is_empty());
+        let second = gap(has_percent | has_unit, is_there(rate));
         write!(f, "{percent}{first}{unit}{second}{rate}")
     }
 }
@@ -213,16 +205,16 @@ fn gap_before(units: Units) -> &'static str
     ensures { result.now ++ unit_text_of units.units1 units.base units.modifier ≡ after_space
         (unit_text_of units.units1 units.base units.modifier) }
 {
-    if units.is_empty() { "" } else { " " }
+    if units.is_there() { " " } else { "" }
 }
 
 /// Appends a space and a text, and nothing where that is empty.
-#[tactic(auto, using(crate::proofs::UnitLemmas::after_space_some, crate::proofs::UnitLemmas::after_space_none))]
+#[tactic(auto, using(crate::proofs::UnitLemmas::after_space_is))]
 fn push_after_space(text: &mut String, part: &str) -> Result<(), AllocError>
     ensures { OnOk result
         (string_bytes text.new ≡ string_bytes text.old ++ after_space part.now) }
 {
-    if part.is_empty() {
+    if !is_there(part) {
         return Ok(());
     }
     text.push(' ')?;

@@ -18,19 +18,12 @@ product_fits : (c : After-raw_number) → FitsSigned w32 (c.f.inside.m *ℤ c.ra
 product_fits c = fits_signed_mul w32 c.f.inside.m c.raw_number.result 512 256 (abs_twos_complement 512 c.f.inside.m c.f.invariant.m) c.raw_number.ensures.size (omega arith)
 
 pub overflow_mul-f-inside : goal.overflow_mul-f-inside
-overflow_mul-f-inside c =
-    let m16 = m_fits c in
-    let m32 = m_fits_32 c in
-    let x32 = raw_fits c in
-    simp to_z-of_z (product_fits c)
+overflow_mul-f-inside c = simp (to_z-of_z (m_fits c), to_z-of_z (m_fits_32 c), to_z-of_z (raw_fits c)) (product_fits c)
 
 pub scaled-slope-requires-clause-number : goal.scaled-slope-requires-clause-number
 scaled-slope-requires-clause-number c =
-    let m16 = m_fits c in
-    let m32 = m_fits_32 c in
-    let x32 = raw_fits c in
-    let product = product_fits c in
-    simp to_z-of_z (abs_product c.f.inside.m c.raw_number.result 512 256 (abs_twos_complement 512 c.f.inside.m c.f.invariant.m) c.raw_number.ensures.size)
+    simp (to_z-of_z (m_fits c), to_z-of_z (m_fits_32 c), to_z-of_z (raw_fits c), to_z-of_z (product_fits c))
+    (abs_product c.f.inside.m c.raw_number.result 512 256 (abs_twos_complement 512 c.f.inside.m c.f.invariant.m) c.raw_number.ensures.size)
 
 pub overflow_add-f-inside : goal.overflow_add-f-inside
 overflow_add-f-inside c = omega (arith, ints, c.f.invariant.k1.0, c.f.invariant.k1.1, c.f.invariant.k2.0, c.f.invariant.k2.1)
@@ -49,12 +42,9 @@ overflow_add-result c =
 
 pub returns : goal.returns
 returns c =
-    let i = c.f.invariant.b.0 in
-    let j = c.f.invariant.b.1 in
-    let k = c.f.invariant.k1.0 in
-    let l = c.f.invariant.k1.1 in
-    let m = c.f.invariant.k2.0 in
-    let n = c.f.invariant.k2.1 in
+    let b = abs_twos_complement 512 c.f.inside.b c.f.invariant.b in
+    let k1 = abs_twos_complement 8 c.f.inside.k1 c.f.invariant.k1 in
+    let k2 = abs_twos_complement 8 c.f.inside.k2 c.f.invariant.k2 in
     let m16 : FitsSigned w16 c.f.inside.m = m_fits (goal.at.returns c).After-raw_number in
     let m32 : FitsSigned w32 c.f.inside.m = m_fits_32 (goal.at.returns c).After-raw_number in
     let x32 : FitsSigned w32 c.raw_number.result = raw_fits (goal.at.returns c).After-raw_number in

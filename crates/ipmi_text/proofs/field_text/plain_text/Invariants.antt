@@ -1,6 +1,5 @@
-use Rattle.std.proofs.Common.{◌≡◌, ◌++◌, drop, take}
-use Rattle.ipmi_text.specs.FieldText.{latin1_text}
+use Rattle.std.proofs.Common.{◌≤◌, ◌<◌, ℕ, get_or}
 use Rattle.ipmi_text.proofs.field_text.plain_text.Given as goal
 
 abbrev pub invariant-loop-byte : goal.invariant-loop-byte
-invariant-loop-byte l = take l.byte-index l.bytes ++ latin1_text (drop l.byte-index l.bytes) ≡ latin1_text l.bytes
+invariant-loop-byte l = (k : ℕ) → k < l.byte-index → (0x20 ≤ get_or l.bytes k 0) × (get_or l.bytes k 0 ≤ 0x7e)

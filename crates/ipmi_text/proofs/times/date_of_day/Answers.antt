@@ -1,4 +1,5 @@
-use Rattle.std.proofs.Common.{arith, rules, ◌≡◌, ◌∙◌, pos, w64, to_z, refl}
+use Rattle.std.proofs.Common.{arith, ◌≡◌, ◌∙◌, pos, w64, refl}
+use Rattle.std.proofs.lemmas.Int.{to_z_pos}
 use Rattle.std.proofs.lemmas.Result.{IfOk-at_ok}
 use Rattle.jiff.specs.Words.{epoch_day}
 use Rattle.jiff.specs.declared.civil.Date.{Date}
@@ -17,14 +18,12 @@ pub unwrap-requires : goal.unwrap-requires
 unwrap-requires c =
     let k = c.date.ensures in
     let zero_day = epoch_day-first c.date.result k.0 k.1 k.2 in
-    let number : to_z w64 c.args.day ≡ pos c.args.day = search rules in
-    let only = rw number at c.days.ensures in
+    let only = rw (to_z_pos w64 c.args.day (omega arith)) at c.days.ensures in
     c.checked_add.ensures.succeeds.1 ((can_add-days c.date.result (pos c.args.day) c.days.result only).1 (rw zero_day (omega (arith, signed_arith))))
 
 pub returns : goal.returns
 returns c =
     let k = c.date.ensures in
     let zero_day = epoch_day-first c.date.result k.0 k.1 k.2 in
-    let number : to_z w64 c.args.day ≡ pos c.args.day = search rules in
-    let only = rw number at c.days.ensures in
+    let only = rw (to_z_pos w64 c.args.day (omega arith)) at c.days.ensures in
     IfOk-at_ok _ c.unwrap.ensures c.checked_add.ensures.value ∙ date_add-days c.date.result (pos c.args.day) c.days.result only ∙ rw zero_day (omega (arith, signed_arith))
