@@ -2,7 +2,7 @@
 use Rattle.std.specs.Prelude.{ℕ, ◌≡◌, ◌≢◌, ◌⊎◌, ◌++◌, ◌∷◌, [], Some, None, Result, Ok, Err, MatchResult, List, map, filter_map, All, AllPairs}
 use Rattle.ipmi_image.specs.Below.{Sdr, Sel, Store, Inventory, SensorReading, IsInventory, IsSensorReading, OtherSensor}
 use Rattle.ipmi_image.specs.declared.contents.Contents.{Contents}
-use Rattle.ipmi_image.specs.declared.line.Line.{Line as line, Line}
+use Rattle.ipmi_image.specs.declared.line.Line.{Line as ReadLine}
 use Rattle.ipmi_image.specs.declared.line.LineFault.{LineFault}
 use Rattle.ipmi_image.specs.declared.stored.StoredSensor.{StoredSensor}
 use Rattle.ipmi_image.specs.Table.{inventory_of}
@@ -13,15 +13,15 @@ abbrev pub sensor_of : StoredSensor → SensorReading
 sensor_of sensor = record { lun = sensor.lun; number = sensor.number; reading = sensor.reading }
 
 -- what a line that was read says of these bytes
-abbrev pub said : List ℕ → line → Line
-said bytes (Line.Row shelf id next) = a_row shelf (record { id = id; next = next; bytes = bytes })
-said bytes (Line.Inventory id) = an_inventory id bytes
-said bytes (Line.Reading lun number) = a_reading lun number bytes
-said bytes (Line.Info shelf) = an_info shelf bytes
-said bytes Line.End = the_end
+abbrev pub said : List ℕ → ReadLine → Line
+said bytes (ReadLine.Row shelf id next) = a_row shelf (record { id = id; next = next; bytes = bytes })
+said bytes (ReadLine.Inventory id) = an_inventory id bytes
+said bytes (ReadLine.Reading lun number) = a_reading lun number bytes
+said bytes (ReadLine.Info shelf) = an_info shelf bytes
+said bytes ReadLine.End = the_end
 
 -- the line with these bytes or its fault was found, or no memory was left for it
-abbrev pub IsRead : Result Line LineFault → List ℕ → Result line LineFault → Type 0
+abbrev pub IsRead : Result Line LineFault → List ℕ → Result ReadLine LineFault → Type 0
 IsRead wanted bytes result = MatchResult result (λ l. wanted ≡ Ok (said bytes l)) (λ e. (e ≡ LineFault.Memory) ⊎ (wanted ≡ Err e))
 
 -- what the contents of an image are
