@@ -1,5 +1,4 @@
 pub mod AgainLemmas
-pub mod GivenLemmas
 pub mod LineLemmas
 pub mod ParseLemmas
 pub mod ReadLemmas

@@ -1,96 +1,88 @@
 -- The lines of a rewritten image, read again.
-use Rattle.std.proofs.Common.{◌≡◌, ℕ, zero, suc, ◌*◌, ◌/◌, ◌%◌, ◌<◌, ◌≤◌, Bool, true, false, cond, not, nat_eq, ◌==◌, ◌&&◌, ◌||◌, Option, None, Some, Ok, List, [], ◌∷◌, length, get_or, slice_index, drop, refl, sym, ap, ◌∙◌, arith, codes, option_map, if◌then◌else◌, ne_eqb, eq-eqb, true≢false}
+use Rattle.std.proofs.Common.{◌≡◌, ℕ, zero, suc, ◌*◌, ◌^◌, ◌/◌, ◌%◌, ◌<◌, ◌≤◌, Bool, true, false, cond, nat_eq, nat_lt, ◌==◌, ◌||◌, None, Some, Ok, List, [], ◌∷◌, length, slice_index, drop, refl, ap, ◌∙◌, append-nil, arith, codes, option_map, if◌then◌else◌}
 use Rattle.std.specs.Result.{result_ok}
-use Rattle.std.specs.List.{list_all, join_with_byte}
-use Rattle.std.proofs.lemmas.List.Elements.{All-cons, All-append}
+use Rattle.std.specs.List.{AllPass, list_all, join_with_byte}
+use Rattle.std.proofs.lemmas.Bool.Decides.{nat_tests}
+use Rattle.std.proofs.lemmas.List.Elements.{All-nil, All-cons, All-tail, All-append}
+use Rattle.std.proofs.lemmas.List.Sums.{AllPass-from_list_all}
 use Rattle.byteorder.specs.Endian.{big_number, big_bytes}
-use Rattle.hex.specs.Hex.{IsBytes, encode_lower, encode_with, decode_pairs, is_hex_digit, lower_digits}
-use Rattle.hex.proofs.HexLemmas.{decode_of-ok, decode_of-encode_lower, length-encode_with}
-use Rattle.ipmi_image.specs.Below.{Shelf, AreBytes, Row, SensorReading}
-use Rattle.ipmi_image.specs.Prelude.{pieces, SavedRow, a_row, an_inventory, a_reading, an_info, info_line_of, is_some_text, bytes_in, number_in, digit_in, next_in, is_dash, row_line, inventory_line, reading_line, line_of_fields, line_of, hex_of, next_field}
+use Rattle.byteorder.specs.Numbers.{length-bytes_high_first, big_number-reads_back}
+use Rattle.hex.specs.Hex.{IsBytes, encode_lower, encode_with, decode_pairs, lower_digits}
+use Rattle.hex.proofs.HexLemmas.{decode_of-encode_lower, length-encode_with}
+use Rattle.ipmi_image.specs.Below.{Shelf, Sdr, Sel, AreBytes, Row, whole_len, IsRow, SensorReading, IsInfo, IsSensorReading}
+use Rattle.ipmi_image.specs.Prelude.{pieces, SavedRow, a_row, an_inventory, a_reading, an_info, is_some_text, bytes_in, number_in, digit_in, next_in, is_dash, row_line, info_line_of, line_of_fields, line_of, hex_of, next_field, row_fields, part_fields, reading_fields}
 use Rattle.ipmi_image.proofs.RewriteLemmas.{of_lun, drop_hex_of_lun}
 use Rattle.ipmi_image.proofs.TextLemmas.{Lacks, pieces-one, pieces-more}
 
 -- ---- fields
 
--- neither a space nor a line feed
-pub record IsField (field : List ℕ) : Type 0 where
-  pub space : Lacks 32 field
-  pub feed : Lacks 10 field
+-- no byte is a space, a line feed or lower
+abbrev pub IsField : List ℕ → Type 0
+IsField field = AllPass (λ b. nat_lt 32 b) field
 
 abbrev pub AreFields : List (List ℕ) → Type 0
 AreFields [] = Unit {0}
 AreFields (field ∷ fields) = IsField field × AreFields fields
 
-lacks_by : (separator : ℕ) (bytes : List ℕ) → list_all (λ b. not (nat_eq b separator)) bytes ≡ true → Lacks separator bytes
-lacks_by separator [] e = λ k d lt. absurd (omega (arith, lt))
-lacks_by separator (b ∷ bytes) e = by (λ more. lacks_by separator bytes more) (nat_eq b separator) refl e
-  where
-    by : (list_all (λ b. not (nat_eq b separator)) bytes ≡ true → Lacks separator bytes) → (t : Bool) → nat_eq b separator ≡ t → (not t && list_all (λ b. not (nat_eq b separator)) bytes) ≡ true → Lacks separator (b ∷ bytes)
-    by ih true f e = cc e
-    by ih false f e = All-cons (λ (b : ℕ). nat_eq b separator ≡ false) b bytes f (ih e)
+lacks : (separator : ℕ) (field : List ℕ) → separator ≤ 32 → IsField field → Lacks separator field
+lacks separator field le is = λ k d lt. let above = is k d lt in grind (arith, nat_tests)
 
-pub a_word : (word : List ℕ) → list_all (λ b. not (nat_eq b 32)) word ≡ true → list_all (λ b. not (nat_eq b 10)) word ≡ true → IsField word
-a_word word a b = record { space = lacks_by 32 word a; feed = lacks_by 10 word b }
+pub a_word : (word : List ℕ) → list_all (λ b. nat_lt 32 b) word ≡ true → IsField word
+a_word word = AllPass-from_list_all (λ b. nat_lt 32 b) word
+
+pub a_hex : (bytes : List ℕ) → AreBytes bytes → IsField (encode_lower bytes)
+unfolding encode_with
+a_hex [] all = All-nil (λ b. nat_lt 32 b ≡ true)
+a_hex (b ∷ bytes) all =
+    let digits = a_word lower_digits refl in
+    let lt = all 0 b (omega arith) in
+    let cons = All-cons (λ (b : ℕ). nat_lt 32 b ≡ true) in
+    cons (slice_index lower_digits (b / 16)) (slice_index lower_digits (b % 16) ∷ encode_lower bytes) (digits (b / 16) 0 (omega (arith, lt))) (cons (slice_index lower_digits (b % 16)) (encode_lower bytes) (digits (b % 16) 0 (omega arith)) (a_hex bytes (All-tail (λ (b : ℕ). b < 256) b bytes all)))
+
+-- fields joined are one line, and are cut where they were joined
+pub joined : (first : List ℕ) (fields : List (List ℕ)) → AreFields (first ∷ fields) → Lacks 10 (join_with_byte 32 (first ∷ fields)) × (pieces 32 (join_with_byte 32 (first ∷ fields)) ≡ first ∷ fields)
+joined first [] are = (lacks 10 first (omega arith) are.0, pieces-one 32 first (lacks 32 first (omega arith) are.0))
+joined first (second ∷ fields) are =
+    let more = joined second fields are.1 in (
+      All-append (λ (b : ℕ). nat_eq b 10 ≡ false) first _ (lacks 10 first (omega arith) are.0) (All-cons (λ (b : ℕ). nat_eq b 10 ≡ false) 32 _ refl more.0),
+      pieces-more 32 first _ (lacks 32 first (omega arith) are.0) ∙ rw more.1 refl,
+    )
+
+pub line_of-fields : (first : List ℕ) (fields : List (List ℕ)) → AreFields (first ∷ fields) → line_of true (join_with_byte 32 (first ∷ fields)) ≡ line_of_fields true (first ∷ fields)
+unfolding line_of
+line_of-fields first fields are = ap (line_of_fields true) (joined first fields are).1
+
+-- ---- numbers and bytes
+
+pub bytes_are : (n x : ℕ) → AreBytes (big_bytes n x)
+bytes_are zero x = All-nil (λ (b : ℕ). b < 256)
+bytes_are (suc zero) x = All-cons (λ (b : ℕ). b < 256) (x % 256) [] (omega arith) (bytes_are zero x)
+bytes_are (suc (suc n)) x = All-cons (λ (b : ℕ). b < 256) (x / 256 ^ suc n % 256) (big_bytes (suc n) x) (omega arith) (bytes_are (suc n) x)
 
 are_bytes : (bytes : List ℕ) → AreBytes bytes → IsBytes bytes
 are_bytes [] all i = omega arith
 are_bytes (b ∷ bytes) all zero = all 0 b (omega arith)
-are_bytes (b ∷ bytes) all (suc i) = are_bytes bytes (λ k d lt. all (suc k) d (omega (arith, lt))) i
+are_bytes (b ∷ bytes) all (suc i) = are_bytes bytes (All-tail (λ (b : ℕ). b < 256) b bytes all) i
 
--- hex digits are no separators
-pub hex_lacks : (separator : ℕ) (bytes : List ℕ) → is_hex_digit separator ≡ false → AreBytes bytes → Lacks separator (encode_lower bytes)
-hex_lacks separator bytes none all = λ k d lt. ne_eqb _ separator (λ e.
-    let ok = decode_of-ok (encode_lower bytes) bytes (decode_of-encode_lower bytes (are_bytes bytes all)) in
-    let digit : is_hex_digit (get_or (encode_lower bytes) k d) ≡ true = ok.1 k d lt in
-    true≢false (sym digit ∙ ap is_hex_digit e ∙ none))
-
-pub a_hex : (bytes : List ℕ) → AreBytes bytes → IsField (encode_lower bytes)
-a_hex bytes all = record { space = hex_lacks 32 bytes refl all; feed = hex_lacks 10 bytes refl all }
-
-none_left : (d : ℕ) → AreBytes []
-none_left d = λ k d lt. absurd (omega (arith, lt))
-
-pub one_are : (x : ℕ) → AreBytes (big_bytes 1 x)
-one_are x = All-cons (λ (b : ℕ). b < 256) (x % 256) [] (omega arith) (none_left 0)
-
-pub two_are : (x : ℕ) → AreBytes (big_bytes 2 x)
-two_are x = All-cons (λ (b : ℕ). b < 256) (x / 256 % 256) (x % 256 ∷ []) (omega arith) (one_are x)
-
--- ---- lines of fields
-
-pub pieces-fields : (first : List ℕ) (fields : List (List ℕ)) → AreFields (first ∷ fields) → pieces 32 (join_with_byte 32 (first ∷ fields)) ≡ first ∷ fields
-pieces-fields first [] are = pieces-one 32 first are.0.space
-pieces-fields first (second ∷ fields) are = pieces-more 32 first (join_with_byte 32 (second ∷ fields)) are.0.space ∙ rw (pieces-fields second fields are.1) refl
-
-pub no_feed : (first : List ℕ) (fields : List (List ℕ)) → AreFields (first ∷ fields) → Lacks 10 (join_with_byte 32 (first ∷ fields))
-no_feed first [] are = are.0.feed
-no_feed first (second ∷ fields) are = All-append (λ (b : ℕ). nat_eq b 10 ≡ false) first _ are.0.feed (All-cons (λ (b : ℕ). nat_eq b 10 ≡ false) 32 _ refl (no_feed second fields are.1))
-
-pub line_of-fields : (first : List ℕ) (fields : List (List ℕ)) → AreFields (first ∷ fields) → line_of true (join_with_byte 32 (first ∷ fields)) ≡ line_of_fields true (first ∷ fields)
-unfolding line_of
-line_of-fields first fields are = ap (line_of_fields true) (pieces-fields first fields are)
-
--- ---- numbers and bytes
-
-pub bytes_in-encode_lower : (bytes : List ℕ) → AreBytes bytes → bytes_in (encode_lower bytes) ≡ Some bytes
+bytes_in-encode_lower : (bytes : List ℕ) → AreBytes bytes → bytes_in (encode_lower bytes) ≡ Some bytes
 bytes_in-encode_lower bytes all = ap result_ok (decode_of-encode_lower bytes (are_bytes bytes all))
 
-pub number_in-word : (x : ℕ) → x < 65536 → number_in 2 (hex_of 2 x) ≡ Some x
-number_in-word x lt = ap (option_map (big_number 2)) (bytes_in-encode_lower (big_bytes 2 x) (two_are x)) ∙ ap Some (omega (arith, lt))
+number_in-hex_of : (n x : ℕ) → x < 256 ^ n → number_in n (hex_of n x) ≡ Some x
+number_in-hex_of n x lt = ap (option_map (big_number n)) (bytes_in-encode_lower (big_bytes n x) (bytes_are n x)) ∙ ap Some (rw append-nil at (big_number-reads_back n x [] lt))
 
-pub number_in-byte : (x : ℕ) → x < 256 → number_in 1 (hex_of 1 x) ≡ Some x
-number_in-byte x lt = ap (option_map (big_number 1)) (bytes_in-encode_lower (big_bytes 1 x) (one_are x)) ∙ ap Some (omega (arith, lt))
+length-hex_of : (n x : ℕ) → length (hex_of n x) ≡ 2 * n
+length-hex_of n x = length-encode_with lower_digits (big_bytes n x) ∙ ap (λ (k : ℕ). 2 * k) (length-bytes_high_first n x)
 
-pub length-hex_of : (n x : ℕ) → length (hex_of n x) ≡ 2 * length (big_bytes n x)
-length-hex_of n x = length-encode_with lower_digits (big_bytes n x)
-
-pub is_some_text-encode_lower : (bytes : List ℕ) → 0 < length bytes → is_some_text (encode_lower bytes) ≡ true
+is_some_text-encode_lower : (bytes : List ℕ) → 0 < length bytes → is_some_text (encode_lower bytes) ≡ true
 unfolding encode_with
 is_some_text-encode_lower [] some = absurd (omega (arith, some))
 is_some_text-encode_lower (b ∷ bytes) some = refl
 
 -- ---- each kind of line
+
+abbrev pub word_of : Shelf → List ℕ
+word_of Sdr = codes "sdr"
+word_of Sel = codes "sel"
 
 -- the row as its line has it
 abbrev pub saved_row : ℕ → Row → SavedRow
@@ -98,49 +90,53 @@ saved_row following row = record { id = row.id; next = if row.next == following 
 
 is_dash-hex_of : (x : ℕ) → is_dash (hex_of 2 x) ≡ false
 unfolding encode_with
-is_dash-hex_of x = by (nat_eq (slice_index lower_digits (x / 256 % 256 / 16)) 45)
+is_dash-hex_of x = grind arith
+
+next_again : (following next : ℕ) → next < 65536 → (((length (next_field following next) == 4) || is_dash (next_field following next)) ≡ true) × (next_in (next_field following next) ≡ Some (if next == following then None else Some next))
+next_again following next lt = by (nat_eq next following)
   where
-    by : (t : Bool) → (t && false) ≡ false
-    by true = refl
-    by false = refl
+    by : (t : Bool) → (let field = cond t (codes "-") (hex_of 2 next) in ((length field == 4) || is_dash field) ≡ true) × (next_in (cond t (codes "-") (hex_of 2 next)) ≡ Some (cond t None (Some next)))
+    by true = (refl, refl)
+    by false = (rw (length-hex_of 2 next) refl, rw (is_dash-hex_of next) (ap (option_map (λ id. Some id)) (number_in-hex_of 2 next lt)))
 
-length-hex_of_word : (x : ℕ) → nat_eq (length (hex_of 2 x)) 4 ≡ true
-length-hex_of_word x = eq-eqb _ 4 (length-hex_of 2 x)
-
-length-hex_of_byte : (x : ℕ) → nat_eq (length (hex_of 1 x)) 2 ≡ true
-length-hex_of_byte x = eq-eqb _ 2 (length-hex_of 1 x)
-
-row_line-read : (shelf : Shelf) (id next hex : List ℕ) (i : ℕ) (n : Option ℕ) (b : List ℕ) → nat_eq (length id) 4 ≡ true → (nat_eq (length next) 4 || (true && is_dash next)) ≡ true → is_some_text hex ≡ true
-    → number_in 2 id ≡ Some i → next_in next ≡ Some n → bytes_in hex ≡ Some b → row_line true shelf id next hex ≡ Ok (a_row shelf (record { id = i; next = n; bytes = b }))
-row_line-read shelf id next hex i n b len dash some id_is next_is bytes_is = rw (len, dash, some, id_is, next_is, bytes_is) refl
-
-pub row_line-again : (shelf : Shelf) (following : ℕ) (row : Row) → row.id < 65536 → row.next < 65536 → 0 < length row.bytes → AreBytes row.bytes
-    → row_line true shelf (hex_of 2 row.id) (next_field following row.next) (encode_lower row.bytes) ≡ Ok (a_row shelf (saved_row following row))
-row_line-again shelf following row id next some bytes = by (nat_eq row.next following)
+-- a row has bytes
+pub row_again : (shelf : Shelf) (following : ℕ) (row : Row) → IsRow shelf row → line_of_fields true (row_fields (word_of shelf) following row) ≡ Ok (a_row shelf (saved_row following row))
+row_again shelf following row ok =
+    let whole = ok.whole in
+    let id = ok.id in
+    let next = next_again following row.next ok.next in
+    (by shelf).0 ∙ rw (number_in-hex_of 2 row.id (omega (arith, id)), next.1, bytes_in-encode_lower row.bytes ok.bytes, length-hex_of 2 row.id, next.0, is_some_text-encode_lower row.bytes (omega (arith, whole, (by shelf).1))) refl
   where
-    by : (t : Bool) → row_line true shelf (hex_of 2 row.id) (cond t (codes "-") (hex_of 2 row.next)) (encode_lower row.bytes) ≡ Ok (a_row shelf (record { id = row.id; next = cond t None (Some row.next); bytes = row.bytes }))
-    by true = row_line-read shelf (hex_of 2 row.id) (codes "-") (encode_lower row.bytes) row.id None row.bytes (length-hex_of_word row.id) refl (is_some_text-encode_lower row.bytes some) (number_in-word row.id id) refl (bytes_in-encode_lower row.bytes bytes)
-    by false = row_line-read shelf (hex_of 2 row.id) (hex_of 2 row.next) (encode_lower row.bytes) row.id (Some row.next) row.bytes (length-hex_of_word row.id)
-        (rw (length-hex_of_word row.next) refl) (is_some_text-encode_lower row.bytes some) (number_in-word row.id id)
-        (rw (is_dash-hex_of row.next) (ap (option_map (λ id. Some id)) (number_in-word row.next next)))
-        (bytes_in-encode_lower row.bytes bytes)
+    by : (s : Shelf) → (line_of_fields true (row_fields (word_of s) following row) ≡ row_line true s (hex_of 2 row.id) (next_field following row.next) (encode_lower row.bytes)) × (0 < whole_len s row.bytes)
+    by Sdr = (refl, omega arith)
+    by Sel = (refl, omega arith)
 
-pub inventory_line-again : (id : ℕ) (part : List ℕ) → id < 256 → 0 < length part → AreBytes part → inventory_line (hex_of 1 id) (encode_lower part) ≡ Ok (an_inventory id part)
-inventory_line-again id part lt some bytes = rw (length-hex_of_byte id, is_some_text-encode_lower part some, number_in-byte id lt, bytes_in-encode_lower part bytes) refl
+pub part_again : (id : ℕ) (part : List ℕ) → id ≤ 254 → 0 < length part → AreBytes part → line_of_fields true (part_fields id part) ≡ Ok (an_inventory id part)
+part_again id part le some bytes = rw (number_in-hex_of 1 id (omega (arith, le)), bytes_in-encode_lower part bytes, length-hex_of 1 id, is_some_text-encode_lower part some) refl
 
 -- the four bytes of a reading
 abbrev pub bytes_of_reading : SensorReading → List ℕ
 bytes_of_reading sensor = sensor.reading.raw ∷ sensor.reading.flags ∷ sensor.reading.status ∷ sensor.reading.more ∷ []
 
+pub reading_bytes : (sensor : SensorReading) → IsSensorReading sensor → AreBytes (bytes_of_reading sensor)
+reading_bytes sensor ok =
+    let cons = All-cons (λ (b : ℕ). b < 256) in
+    let r = sensor.reading in
+    cons r.raw (r.flags ∷ r.status ∷ r.more ∷ []) ok.raw (cons r.flags (r.status ∷ r.more ∷ []) ok.flags (cons r.status (r.more ∷ []) ok.status (cons r.more [] ok.more (All-nil (λ (b : ℕ). b < 256)))))
+
 digit_in-lun : (lun : ℕ) → lun ≤ 3 → digit_in (drop 1 (hex_of 1 lun)) ≡ Some lun
 unfolding decode_pairs encode_with
 digit_in-lun = of_lun (λ lun. digit_in (drop 1 (hex_of 1 lun)) ≡ Some lun) refl refl refl refl
 
-pub reading_line-again : (sensor : SensorReading) → sensor.lun ≤ 3 → sensor.number < 256 → AreBytes (bytes_of_reading sensor)
-    → reading_line (drop 1 (hex_of 1 sensor.lun)) (hex_of 1 sensor.number) (encode_lower (bytes_of_reading sensor)) ≡ Ok (a_reading sensor.lun sensor.number (bytes_of_reading sensor))
-reading_line-again sensor le lt bytes =
-    let len : nat_eq (length (drop 1 (hex_of 1 sensor.lun))) 1 ≡ true = rw (drop_hex_of_lun sensor.lun le) refl in
-    rw (len, length-hex_of_byte sensor.number, is_some_text-encode_lower (bytes_of_reading sensor) (omega arith), digit_in-lun sensor.lun le, number_in-byte sensor.number lt, bytes_in-encode_lower (bytes_of_reading sensor) bytes) refl
+pub reading_again : (sensor : SensorReading) → sensor.lun ≤ 3 → IsSensorReading sensor → line_of_fields true (reading_fields sensor) ≡ Ok (a_reading sensor.lun sensor.number (bytes_of_reading sensor))
+reading_again sensor le ok =
+    let bytes = bytes_of_reading sensor in
+    let len : length (drop 1 (hex_of 1 sensor.lun)) ≡ 1 = ap length (drop_hex_of_lun sensor.lun le) in
+    rw (digit_in-lun sensor.lun le, number_in-hex_of 1 sensor.number ok.number, bytes_in-encode_lower bytes (reading_bytes sensor ok), len, length-hex_of 1 sensor.number, is_some_text-encode_lower bytes (omega arith)) refl
 
-pub info_line_of-again : (shelf : Shelf) (bytes : List ℕ) → 0 < length bytes → AreBytes bytes → info_line_of (Some shelf) (encode_lower bytes) ≡ Ok (an_info shelf bytes)
-info_line_of-again shelf bytes some all = rw (is_some_text-encode_lower bytes some, bytes_in-encode_lower bytes all) refl
+pub info_again : (shelf : Shelf) (bytes : List ℕ) → IsInfo bytes → line_of_fields true (codes "info" ∷ word_of shelf ∷ encode_lower bytes ∷ []) ≡ Ok (an_info shelf bytes)
+info_again shelf bytes ok = let len = ok.len in by shelf ∙ rw (bytes_in-encode_lower bytes ok.all, is_some_text-encode_lower bytes (omega (arith, len))) refl
+  where
+    by : (s : Shelf) → line_of_fields true (codes "info" ∷ word_of s ∷ encode_lower bytes ∷ []) ≡ info_line_of (Some s) (encode_lower bytes)
+    by Sdr = refl
+    by Sel = refl

@@ -1,41 +1,66 @@
--- The lines of a rewritten image are taken one after the other, and give its store.
-use Rattle.std.proofs.Common.{◌≡◌, ◌≢◌, ℕ, ◌+◌, ◌<◌, Bool, true, false, cond, not, nat_eq, ◌&&◌, ◌||◌, Option, None, Some, Result, Ok, Err, List, [], ◌∷◌, ◌++◌, length, map, refl, sym, ap, subst, ◌∙◌, append_assoc, append-nil, arith, unwrap_or, eqb-true, eq-eqb, ne_eqb, length-append}
+-- The lines of a rewritten image are taken one after the other; the rows of a shelf.
+use Rattle.std.proofs.Common.{◌≡◌, ℕ, ◌+◌, Bool, true, false, cond, not, nat_eq, None, Some, Ok, List, [], ◌∷◌, ◌++◌, refl, sym, ap, subst, ◌∙◌, append_assoc, append-nil, arith, codes, fold, unwrap_or, filter_map, eqb-true, eq-eqb, ne_eqb}
+use Rattle.std.specs.List.{join_with_byte}
 use Rattle.std.proofs.lemmas.Bool.Decides.{nat_tests}
 use Rattle.std.proofs.lemmas.List.Elements.{filter_map-append}
-use Rattle.ipmi_image.specs.Below.{Shelf, Sdr, Sel, Row, IsRow, AllRows, LacksId, DistinctIds, IsShelf, id_in, has_id}
-use Rattle.ipmi_image.specs.Prelude.{LineFault, ImageFault, SavedRow, Line, a_row, line_of, row_on, rows_on, first_id, chained, store_of_lines, is_empty, is_no_record, is_no_id, row_fault, fault_in, unless_fault, is_end, ends_here, store_after, first_row_id}
-use Rattle.ipmi_image.proofs.ReadLemmas.{after_line}
-use Rattle.ipmi_image.proofs.ParseLemmas.{saved_row}
+use Rattle.std.proofs.lemmas.List.Sums.{fold-append}
+use Rattle.byteorder.specs.Endian.{big_bytes}
+use Rattle.hex.specs.Hex.{encode_lower}
+use Rattle.ipmi_image.specs.Below.{Shelf, Sdr, Sel, Row, AllRows, LacksId, DistinctIds, BeginsWithId, LaterHaveIds, IsShelf, Store, Inventory, SensorReading, has_id}
+use Rattle.ipmi_image.specs.Prelude.{pieces, SavedRow, Line, a_row, line_of_fields, rows_on, first_id, chained, with_inventory_line, sensor_on, info_on, first_of, is_no_record, is_no_id, begins_with_another, row_fault, fault_in, line_judged, is_end, store_after, hex_of, first_row_id, next_field, rows_lines, lines_text}
+use Rattle.ipmi_image.proofs.TextLemmas.{pieces-more}
+use Rattle.ipmi_image.proofs.ReadLemmas.{store_after-line, line_found}
+use Rattle.ipmi_image.proofs.ParseLemmas.{IsField, AreFields, a_word, a_hex, joined, line_of-fields, bytes_are, word_of, saved_row, row_again}
 
--- ---- lines that are taken
+-- ---- what is kept of lines
 
--- each text is that of its line, and no line is the last
-abbrev pub Says : List (List ℕ) → List Line → Type 0
-Says [] [] = Unit {0}
-Says (text ∷ texts) (line ∷ lines) = (line_of true text ≡ Ok line) × (is_end line ≡ false) × Says texts lines
-Says texts lines = ⊥
+-- all that they say, in their order, before the ids that dashes stand for
+pub record Kept : Type 0 where
+  pub sdr : List SavedRow
+  pub sel : List SavedRow
+  pub inventories : List Inventory
+  pub readings : List SensorReading
+  pub sdr_info : List (List ℕ)
+  pub sel_info : List (List ℕ)
 
--- none has a fault after those before it
-abbrev pub Taken : List Line → List Line → Type 0
-Taken before [] = Unit {0}
-Taken before (line ∷ lines) = (fault_in (store_of_lines before) line ≡ None) × Taken (before ++ line ∷ []) lines
+abbrev pub nothing : Kept
+nothing = record { sdr = []; sel = []; inventories = []; readings = []; sdr_info = []; sel_info = [] }
 
-store_after-one : (before : List Line) (text : List ℕ) (rest : List (List ℕ)) (line : Line) → 0 < length rest → line_of true text ≡ Ok line → is_end line ≡ false → fault_in (store_of_lines before) line ≡ None
-    → store_after true before (text ∷ rest) ≡ store_after true (before ++ line ∷ []) rest
-unfolding store_after
-store_after-one before text [] line some says last fine = absurd (omega (arith, some))
-store_after-one before text (following ∷ rest) line some says last fine =
-    ap (λ (r : Result Line LineFault). after_line true before (following ∷ rest) (elim r [ Ok line ↦ unless_fault (fault_in (store_of_lines before) line) line | Err fault ↦ Err fault ])) says
-    ∙ ap (λ (o : Option LineFault). after_line true before (following ∷ rest) (unless_fault o line)) fine
-    ∙ ap (λ (b : Bool). cond (not b) (store_after true (before ++ line ∷ []) (following ∷ rest)) (cond (ends_here (following ∷ rest)) (Ok (store_of_lines before)) (Err (ImageFault.AfterEnd (length before + 3))))) last
+-- and what more lines say
+abbrev pub kept_with : Kept → List Line → Kept
+kept_with kept lines = record {
+  sdr = kept.sdr ++ rows_on Sdr lines;
+  sel = kept.sel ++ rows_on Sel lines;
+  inventories = fold with_inventory_line kept.inventories lines;
+  readings = kept.readings ++ filter_map sensor_on lines;
+  sdr_info = kept.sdr_info ++ filter_map (info_on Sdr) lines;
+  sel_info = kept.sel_info ++ filter_map (info_on Sel) lines;
+}
 
-pub store_after-all : (before : List Line) (texts rest : List (List ℕ)) (lines : List Line) → 0 < length rest → Says texts lines → Taken before lines → store_after true before (texts ++ rest) ≡ store_after true (before ++ lines) rest
-store_after-all before [] rest [] some says taken = ap (λ (l : List Line). store_after true l rest) (sym (append-nil before))
-store_after-all before (text ∷ texts) rest (line ∷ lines) some says taken =
-    store_after-one before text (texts ++ rest) line (let len = length-append texts rest in omega (arith, some, len)) says.0 says.1 taken.0
-    ∙ store_after-all (before ++ line ∷ []) texts rest lines some says.2 taken.1
-    ∙ ap (λ (l : List Line). store_after true l rest) (append_assoc before (line ∷ []) lines)
-store_after-all before _ rest _ some says taken = absurd says
+abbrev pub store_kept : Kept → Store
+store_kept kept = record {
+  sdr = chained kept.sdr;
+  sel = chained kept.sel;
+  inventories = kept.inventories;
+  readings = kept.readings;
+  sdr_info = first_of kept.sdr_info;
+  sel_info = first_of kept.sel_info;
+}
+
+kept_with-one : (lines : List Line) (line : Line) → kept_with nothing (lines ++ line ∷ []) ≡ kept_with (kept_with nothing lines) (line ∷ [])
+kept_with-one lines line = simp (filter_map-append, fold-append)
+
+-- after lines of which this is kept, lines of these fields give the store
+abbrev pub Gives : Store → Kept → List (List (List ℕ)) → Type 0
+Gives store kept lines = (before : List Line) → kept_with nothing before ≡ kept → store_after true before (pieces 10 (lines_text lines)) ≡ Ok store
+
+pub line_gives : (store : Store) (kept : Kept) (first : List ℕ) (fields : List (List ℕ)) (line : Line) (rest : List (List (List ℕ))) → AreFields (first ∷ fields) → line_of_fields true (first ∷ fields) ≡ Ok line
+    → is_end line ≡ false → fault_in (store_kept kept) line ≡ None → Gives store (kept_with kept (line ∷ [])) rest → Gives store kept ((first ∷ fields) ∷ rest)
+line_gives store kept first fields line rest are says more fine give = λ before is.
+    let text = join_with_byte 32 (first ∷ fields) in
+    let found : line_judged true before text ≡ Ok line = line_found true before text line None (line_of-fields first fields are ∙ says) (ap (λ (k : Kept). fault_in (store_kept k) line) is ∙ fine) in
+    rw (append_assoc text (10 ∷ []) (lines_text rest), pieces-more 10 text (lines_text rest) (joined first fields are).0, store_after-line true before text (lines_text rest), found, more)
+    (give (before ++ line ∷ []) (kept_with-one before line ∙ ap (λ (k : Kept). kept_with k (line ∷ [])) is))
 
 -- ---- rows
 
@@ -56,101 +81,82 @@ chained-saved (row ∷ rows) = rw (by (nat_eq row.next (first_row_id rows)) refl
     by true e = rw (first_id-saved_rows rows ∙ sym (eqb-true row.next (first_row_id rows) e)) refl
     by false e = refl
 
--- the same ids in the same order
-abbrev SameIds : List SavedRow → List Row → Type 0
-SameIds [] [] = Unit {0}
-SameIds (s ∷ saved) (row ∷ rows) = (s.id ≡ row.id) × SameIds saved rows
-SameIds saved rows = ⊥
+-- none of these rows has the id of a saved one
+abbrev Others : List SavedRow → List Row → Type 0
+Others [] rows = Unit {0}
+Others (s ∷ saved) rows = LacksId s.id rows × Others saved rows
 
-same-more : (saved : List SavedRow) (rows : List Row) (s : SavedRow) (row : Row) → SameIds saved rows → s.id ≡ row.id → SameIds (saved ++ s ∷ []) (rows ++ row ∷ [])
-same-more [] [] s row same e = (e, tt)
-same-more (t ∷ saved) (r ∷ rows) s row same e = (same.0, same-more saved rows s row same.1 e)
-same-more _ _ s row same e = absurd same
+others_next : (saved : List SavedRow) (s : SavedRow) (row : Row) (rows : List Row) → Others saved (row ∷ rows) → LacksId s.id rows → (has_id (chained saved) row.id ≡ false) × Others (saved ++ s ∷ []) rows
+others_next [] s row rows others lacks = (refl, (lacks, tt))
+others_next (t ∷ saved) s row rows others lacks =
+    let more = others_next saved s row rows others.1 lacks in
+    (rw (ne_eqb row.id t.id others.0.0) more.0, (others.0.1, more.1))
 
-has_id-same : (saved : List SavedRow) (rows : List Row) (n : ℕ) → SameIds saved rows → has_id (chained saved) n ≡ has_id rows n
-has_id-same [] [] n same = refl
-has_id-same (t ∷ saved) (r ∷ rows) n same = rw (same.0, has_id-same saved rows n same.1) refl
-has_id-same _ _ n same = absurd same
+-- the first row of all begins with its id, and no other has the id 0000h
+abbrev FirstFits : List SavedRow → List Row → Type 0
+FirstFits [] rows = BeginsWithId rows × LaterHaveIds rows
+FirstFits (s ∷ saved) rows = LacksId 0 rows
 
-is_empty-same : (saved : List SavedRow) (rows : List Row) → SameIds saved rows → is_empty (chained saved) ≡ is_empty rows
-is_empty-same [] [] same = refl
-is_empty-same (t ∷ saved) (r ∷ rows) same = refl
-is_empty-same _ _ same = absurd same
+-- these rows may come after the saved ones
+record MayFollow (shelf : Shelf) (saved : List SavedRow) (rows : List Row) : Type 0 where
+  all : AllRows shelf rows
+  distinct : DistinctIds rows
+  others : Others saved rows
+  first : FirstFits saved rows
 
--- what a shelf says of a row in its middle
-middle_row : (shelf : Shelf) (before rows : List Row) (row : Row) → AllRows shelf (before ++ row ∷ rows) → IsRow shelf row
-middle_row shelf [] rows row all = all.0
-middle_row shelf (r ∷ before) rows row all = middle_row shelf before rows row all.1
-
-lacks_middle : (n : ℕ) (before rows : List Row) (row : Row) → LacksId n (before ++ row ∷ rows) → row.id ≢ n
-lacks_middle n [] rows row lacks = lacks.0
-lacks_middle n (r ∷ before) rows row lacks = lacks_middle n before rows row lacks.1
-
-has_id-middle : (before rows : List Row) (row : Row) → DistinctIds (before ++ row ∷ rows) → has_id before row.id ≡ false
-has_id-middle [] rows row distinct = refl
-has_id-middle (r ∷ before) rows row distinct =
-    rw (ne_eqb row.id r.id (λ e. lacks_middle r.id before rows row distinct.0 e)) (has_id-middle before rows row distinct.1)
-
-is_no_id-middle : (shelf : Shelf) (before rows : List Row) (row : Row) → IsShelf shelf (before ++ row ∷ rows) → is_no_id before row.id ≡ false
-is_no_id-middle shelf before rows row is = by before is
+-- the first of them has no fault, and the others may come after it
+row_follows : (shelf : Shelf) (saved : List SavedRow) (following : ℕ) (row : Row) (rows : List Row) → MayFollow shelf saved (row ∷ rows) → (row_fault shelf (chained saved) (saved_row following row) ≡ None) × MayFollow shelf (saved ++ saved_row following row ∷ []) rows
+row_follows shelf saved following row rows may =
+    let ok = may.all.0 in
+    let fits = ok.fits in
+    let others = others_next saved (saved_row following row) row rows may.others may.distinct.0 in
+    let whole : is_no_record shelf row.bytes ≡ false = rw (eq-eqb _ _ ok.whole) (grind (arith, nat_tests)) in
+    let first = by saved may.first in
+    (rw (first.0, others.0, whole, first.1) refl, record { all = may.all.1; distinct = may.distinct.1; others = others.1; first = first.2 })
   where
-    below : (rows' : List Row) → IsRow shelf row → nat_eq row.id 65535 ≡ false
-    below rows' ok = ne_eqb row.id 65535 (λ e. let lt = ok.id in omega (arith, lt, e))
+    below : nat_eq row.id 65535 ≡ false
+    below = let id = may.all.0.id in ne_eqb row.id 65535 (λ e. omega (arith, id, e))
 
-    by : (before : List Row) → IsShelf shelf (before ++ row ∷ rows) → is_no_id before row.id ≡ false
-    by [] is = rw (below [] is.all.0) (first (nat_eq row.id 0))
-      where
-        first : (b : Bool) → ((b && false) || false) ≡ false
-        first true = refl
-        first false = refl
-    by (r ∷ before) is =
-        ap (λ (b : Bool). (b && true) || nat_eq row.id 65535) (ne_eqb row.id 0 (λ e. lacks_middle 0 before rows row is.later e)) ∙ below [] (middle_row shelf (r ∷ before) rows row is.all)
+    by : (saved : List SavedRow) → FirstFits saved (row ∷ rows) → (is_no_id (chained saved) row.id ≡ false) × (begins_with_another (chained saved) (saved_row following row) ≡ false) × FirstFits (saved ++ saved_row following row ∷ []) rows
+    by [] fits = (grind (arith, below), ap not (eq-eqb _ _ fits.0), fits.1)
+    by (t ∷ saved) fits = (rw (ne_eqb row.id 0 fits.0) below, refl, fits.1)
 
-is_empty-middle : (shelf : Shelf) (before rows : List Row) (row : Row) → IsShelf shelf (before ++ row ∷ rows) → (is_empty before && not (nat_eq (id_in row.bytes) row.id)) ≡ false
-is_empty-middle shelf [] rows row is = ap not (eq-eqb _ _ is.first)
-is_empty-middle shelf (r ∷ before) rows row is = refl
+pub a_shelf : (shelf : Shelf) → IsField (word_of shelf)
+a_shelf Sdr = a_word (codes "sdr") refl
+a_shelf Sel = a_word (codes "sel") refl
 
-is_no_record-whole : (shelf : Shelf) (row : Row) → IsRow shelf row → is_no_record shelf row.bytes ≡ false
-is_no_record-whole shelf row ok =
-    rw (eq-eqb _ _ ok.whole) (let fits = ok.fits in grind (arith, nat_tests))
+a_next : (following next : ℕ) → IsField (next_field following next)
+a_next following next = by (nat_eq next following)
+  where
+    by : (t : Bool) → IsField (cond t (codes "-") (hex_of 2 next))
+    by true = a_word (codes "-") refl
+    by false = a_hex (big_bytes 2 next) (bytes_are 2 next)
 
--- a row in the middle has no fault after those before it
-row_fault-none : (shelf : Shelf) (before rows : List Row) (row : Row) (saved : List SavedRow) (s : SavedRow) → s.id ≡ row.id → s.bytes ≡ row.bytes → SameIds saved before → IsShelf shelf (before ++ row ∷ rows) → row_fault shelf (chained saved) s ≡ None
-row_fault-none shelf before rows row saved s same_id same_bytes same is =
-    let one : is_no_id (chained saved) s.id ≡ false = ap (is_no_id (chained saved)) same_id ∙ rw (is_empty-same saved before same) (is_no_id-middle shelf before rows row is) in
-    let two : has_id (chained saved) s.id ≡ false = ap (has_id (chained saved)) same_id ∙ has_id-same saved before row.id same ∙ has_id-middle before rows row is.distinct in
-    let three : is_no_record shelf s.bytes ≡ false = ap (is_no_record shelf) same_bytes ∙ is_no_record-whole shelf row (middle_row shelf before rows row is.all) in
-    let four : (is_empty (chained saved) && not (nat_eq (id_in s.bytes) s.id)) ≡ false =
-    rw (is_empty-same saved before same, same_id, same_bytes) (is_empty-middle shelf before rows row is) in
-    rw (one, two, three, four) refl
+abbrev pub with_rows : Shelf → Kept → List SavedRow → Kept
+with_rows Sdr kept rows = record kept { sdr = rows }
+with_rows Sel kept rows = record kept { sel = rows }
 
-abbrev pub row_lines : Shelf → List Row → List Line
-row_lines shelf rows = map (a_row shelf) (saved_rows rows)
+row_kept : (shelf : Shelf) (kept : Kept) (saved : List SavedRow) (row : SavedRow)
+    → (fault_in (store_kept (with_rows shelf kept saved)) (a_row shelf row) ≡ row_fault shelf (chained saved) row) × (kept_with (with_rows shelf kept saved) (a_row shelf row ∷ []) ≡ with_rows shelf kept (saved ++ row ∷ []))
+row_kept Sdr kept saved row = (refl, simp append-nil)
+row_kept Sel kept saved row = (refl, simp append-nil)
 
-row_on-shelf : (shelf : Shelf) (s : SavedRow) → row_on shelf (a_row shelf s) ≡ Some s
-row_on-shelf Sdr s = refl
-row_on-shelf Sel s = refl
+rows_give : (store : Store) (shelf : Shelf) (kept : Kept) (saved : List SavedRow) (rows : List Row) (rest : List (List (List ℕ))) → MayFollow shelf saved rows → Gives store (with_rows shelf kept (saved ++ saved_rows rows)) rest
+    → Gives store (with_rows shelf kept saved) (rows_lines (word_of shelf) rows ++ rest)
+rows_give store shelf kept saved [] rest may give = rw append-nil at give
+rows_give store shelf kept saved (row ∷ rows) rest may give =
+    let following = first_row_id rows in
+    let row' = saved_row following row in
+    let next = row_follows shelf saved following row rows may in
+    let kept' = row_kept shelf kept saved row' in
+    let more = rows_give store shelf kept (saved ++ row' ∷ []) rows rest next.1 (rw (← append_assoc saved (row' ∷ []) (saved_rows rows)) at give) in
+    let fields = hex_of 2 row.id ∷ next_field following row.next ∷ encode_lower row.bytes ∷ [] in
+    line_gives store (with_rows shelf kept saved) (word_of shelf) fields (a_row shelf row') (rows_lines (word_of shelf) rows ++ rest)
+    (a_shelf shelf, (a_hex (big_bytes 2 row.id) (bytes_are 2 row.id), (a_next following row.next, (a_hex row.bytes may.all.0.bytes, tt))))
+    (row_again shelf following row may.all.0)
+    refl
+    (kept'.0 ∙ next.0)
+    (subst (λ (k : Kept). Gives store k (rows_lines (word_of shelf) rows ++ rest)) (sym kept'.1) more)
 
-fault_in-row : (shelf : Shelf) (lines : List Line) (s : SavedRow) → fault_in (store_of_lines lines) (a_row shelf s) ≡ row_fault shelf (chained (rows_on shelf lines)) s
-fault_in-row Sdr lines s = refl
-fault_in-row Sel lines s = refl
-
--- the rows of a shelf are taken, after lines that have those before them
-rows_taken : (shelf : Shelf) (before rows : List Row) (lines : List Line) → SameIds (rows_on shelf lines) before → IsShelf shelf (before ++ rows) → Taken lines (row_lines shelf rows)
-rows_taken shelf before [] lines same is = tt
-rows_taken shelf before (row ∷ rows) lines same is =
-    let s = saved_row (first_row_id rows) row in
-    let next : rows_on shelf (lines ++ a_row shelf s ∷ []) ≡ rows_on shelf lines ++ s ∷ [] = filter_map-append (row_on shelf) lines (a_row shelf s ∷ []) ∙ rw (row_on-shelf shelf s) refl in (
-      fault_in-row shelf lines s ∙ row_fault-none shelf before rows row (rows_on shelf lines) s refl refl same is,
-      rows_taken shelf (before ++ row ∷ []) rows (lines ++ a_row shelf s ∷ [])
-          (subst (λ (l : List SavedRow). SameIds l (before ++ row ∷ [])) (sym next) (same-more (rows_on shelf lines) before s row same refl))
-          (subst (IsShelf shelf) (sym (append_assoc before (row ∷ []) rows)) is),
-    )
-
-pub shelf_taken : (shelf : Shelf) (rows : List Row) (lines : List Line) → rows_on shelf lines ≡ [] → IsShelf shelf rows → Taken lines (row_lines shelf rows)
-shelf_taken shelf rows lines none is = rows_taken shelf [] rows lines (subst (λ (l : List SavedRow). SameIds l []) (sym none) tt) is
-
--- what they are of the lines' rows
-pub rows_on-row_lines : (shelf : Shelf) (rows : List Row) → rows_on shelf (row_lines shelf rows) ≡ saved_rows rows
-rows_on-row_lines shelf [] = refl
-rows_on-row_lines shelf (row ∷ rows) = rw (row_on-shelf shelf (saved_row (first_row_id rows) row), rows_on-row_lines shelf rows) refl
+pub shelf_gives : (store : Store) (shelf : Shelf) (kept : Kept) (rows : List Row) (rest : List (List (List ℕ))) → IsShelf shelf rows → Gives store (with_rows shelf kept (saved_rows rows)) rest → Gives store (with_rows shelf kept []) (rows_lines (word_of shelf) rows ++ rest)
+shelf_gives store shelf kept rows rest is = rows_give store shelf kept [] rows rest (record { all = is.all; distinct = is.distinct; others = tt; first = (is.first, is.later) })

@@ -85,7 +85,7 @@ impl Text {
     }
 
     /// Appends the line of a row.
-    #[tactic(auto, using(crate::proofs::RewriteLemmas::row_joined))]
+    #[tactic(auto, using(crate::proofs::RewriteLemmas::texts))]
     fn push_row(&mut self, word: &[u8], following: u16, row: &StoredRow) -> Result<(), AllocError>
         ensures { OnOk result (self.new.bytes.items ≡ self.old.bytes.items ++ line_text
             (row_fields word.now following (record {
@@ -99,6 +99,7 @@ impl Text {
     }
 
     /// Appends the lines of a shelf.
+    #[tactic(auto, using(crate::proofs::RewriteLemmas::rows_end))]
     fn push_rows(&mut self, word: &[u8], rows: &Rows) -> Result<(), AllocError>
         ensures { OnOk result (self.new.bytes.items ≡ self.old.bytes.items ++ lines_text
             (rows_lines word.now (chained rows.now))) }
@@ -124,6 +125,7 @@ impl Text {
     }
 
     /// Appends the lines of an inventory.
+    #[tactic(auto, using(crate::proofs::RewriteLemmas::texts, crate::proofs::RewriteLemmas::parts_of_more))]
     fn push_inventory(&mut self, id: u8, bytes: &[u8]) -> Result<(), AllocError>
         ensures { OnOk result (self.new.bytes.items ≡ self.old.bytes.items ++ lines_text
             (inventory_lines (record { id = id; bytes = bytes.now }))) }
@@ -138,6 +140,7 @@ impl Text {
     }
 
     /// Appends the lines of all inventories.
+    #[tactic(auto, using(crate::proofs::RewriteLemmas::texts))]
     fn push_inventories(&mut self, inventories: &[StoredInventory]) -> Result<(), AllocError>
         ensures { OnOk result (self.new.bytes.items ≡ self.old.bytes.items ++ lines_text
             (flat_map inventory_lines (map table.inventory_of inventories.now))) }
@@ -212,6 +215,7 @@ impl Text {
     }
 
     /// Appends the lines of everything but the rows, and the last line.
+    #[tactic(auto, using(crate::proofs::RewriteLemmas::texts))]
     fn push_others(&mut self, contents: &Contents) -> Result<(), AllocError>
         requires { All (λ sensor. sensor.lun ≤ 3) contents.now.sensors }
         ensures { OnOk result (self.new.bytes.items ≡ self.old.bytes.items ++ lines_text
@@ -225,6 +229,7 @@ impl Text {
     }
 
     /// Appends all lines.
+    #[tactic(auto, using(crate::proofs::RewriteLemmas::texts), unfolding(crate::specs::Rewritten::image_text_of))]
     fn push_image(&mut self, contents: &Contents) -> Result<(), AllocError>
         requires { All (λ sensor. sensor.lun ≤ 3) contents.now.sensors }
         ensures { OnOk result (self.new.bytes.items ≡ self.old.bytes.items ++ image_text_of
@@ -240,6 +245,7 @@ impl Text {
 /// The image as a text of version 2: rows of each shelf in their order, `sdr` first, then inventories in lines of at
 /// most 64 bytes, readings and infos; hex in lower case, and a dash for each next id that is the following row's, or
 /// FFFFh at the last row.
+#[tactic(auto, using(crate::proofs::AgainLemmas::image_again))]
 pub fn image_text(alloc: Global, image: &Image) -> Result<Vec<u8>, AllocError>
     ensures text { IfOk result (λ text. text.items ≡ image_text_of image.now) }
     ensures again { IfOk result (λ text. store_of_image text.items ≡ Ok image.now) }
