@@ -1,7 +1,11 @@
 -- Where a separator stands, a text is cut.
-use Rattle.std.proofs.Common.{◌≡◌, ◌≢◌, ℕ, ◌+◌, ◌<◌, false, nat_eq, List, [], ◌∷◌, ◌++◌, length, take, drop, get_or, refl, sym, ap, ◌∙◌, arith, All, ne_eqb, eq-eqb, take-append-drop, length-take-le, get_or-take}
-use Rattle.std.proofs.lemmas.List.{drop_more, get_or_default}
-use Rattle.std.proofs.lemmas.List.Splits.{slice_split_none, slice_split_at, length-slice_split}
+use Rattle.std.proofs.Common.{◌≡◌, ℕ, ◌+◌, ◌<◌, false, nat_eq, Option, None, Some, MatchOption, List, [], ◌∷◌, ◌++◌, length, take, drop, refl, arith, All, eq-eqb}
+use Rattle.std.specs.List.{position_or_len}
+use Rattle.std.proofs.lemmas.Bool.{false_from_ne_true}
+use Rattle.std.proofs.lemmas.List.Elements.{All-from_get_or}
+use Rattle.std.proofs.lemmas.List.Splits.{slice_split_none, slice_split_at, slice_split_first, length-slice_split}
+use Rattle.std.proofs.lemmas.List.Sums.{position_or_len_is}
+use Rattle.memchr.specs.Find.{IsFirstByte, is_byte}
 use Rattle.ipmi_image.specs.Prelude.{pieces}
 
 -- no byte is the separator
@@ -18,19 +22,15 @@ pub pieces-more : (separator : ℕ) (piece rest : List ℕ) → Lacks separator 
 unfolding pieces
 pieces-more separator piece rest lacks = slice_split_at (λ b. nat_eq b separator) piece separator rest lacks (eq-eqb separator separator refl)
 
-pub pieces-none : (separator : ℕ) (bytes : List ℕ) → ((k : ℕ) → k < length bytes → get_or bytes k 0 ≢ separator) → pieces separator bytes ≡ bytes ∷ []
-pieces-none separator bytes none = pieces-one separator bytes (λ k d lt. ne_eqb _ separator (λ e. none k lt (get_or_default bytes k 0 d lt ∙ e)))
-
-pub pieces-at : (separator : ℕ) (bytes : List ℕ) (k : ℕ) → k < length bytes → get_or bytes k 0 ≡ separator → ((j : ℕ) → j < k → get_or bytes j 0 ≢ separator)
-    → pieces separator bytes ≡ take k bytes ∷ pieces separator (drop (k + 1) bytes)
-pieces-at separator bytes k lt here none =
-    let whole : take k bytes ++ separator ∷ drop (k + 1) bytes ≡ bytes = rw (sym here, sym (drop_more bytes k 0 lt)) (take-append-drop k bytes) in
-    ap (pieces separator) (sym whole) ∙ pieces-more separator (take k bytes) (drop (k + 1) bytes) (λ j d below.
-    let len = length-take-le k bytes (omega (arith, lt)) in
-    let lower : j < k = omega (arith, len, below) in
-    ne_eqb _ separator (λ e. none j lower (get_or_default bytes j 0 d (omega (arith, lower, lt)) ∙ sym (get_or-take k bytes j d lower) ∙ e)))
+pub pieces_cut : (separator : ℕ) (bytes : List ℕ) (at : Option ℕ) → IsFirstByte (is_byte separator) bytes at → MatchOption at (pieces separator bytes ≡ bytes ∷ []) (λ k. pieces separator bytes ≡ take k bytes ∷ pieces separator (drop (k + 1) bytes))
+unfolding pieces
+pieces_cut separator bytes None none = slice_split_none (is_byte separator) bytes (All-from_get_or (λ b. is_byte separator b ≡ false) bytes 0 (λ k lt. false_from_ne_true _ (none k (omega arith) lt)))
+pieces_cut separator bytes (Some k) first =
+    let lt : k < length bytes = first.0.high in
+    let at : position_or_len (is_byte separator) bytes ≡ k = position_or_len_is (is_byte separator) bytes k 0 (omega (arith, lt)) (λ j below. false_from_ne_true _ (first.0.before j (omega arith) below)) (λ h. first.1) in
+    rw at at (slice_split_first (is_byte separator) bytes 0 (omega (arith, at, lt)))
 
 -- there is a piece
-pub length-pieces : (separator : ℕ) (bytes : List ℕ) → 0 < length (pieces separator bytes)
+pub length_pieces : (separator : ℕ) (bytes : List ℕ) → 0 < length (pieces separator bytes)
 unfolding pieces
-length-pieces separator bytes = let len = length-slice_split (λ b. nat_eq b separator) bytes in omega (arith, len)
+length_pieces separator bytes = let len = length-slice_split (λ b. nat_eq b separator) bytes in omega (arith, len)

@@ -8,8 +8,8 @@ pub use Rattle.ipmi_image.specs.Responder.{first_place, fru_answer, IsCopied, nu
 pub use Rattle.ipmi_image.specs.Rewritten.{first_parts, first_row_id, hex_of, info_lines, inventory_lines, IsSaved, line_text, lines_of, lines_text, next_field, other_lines, part_fields, parts_of, reading_fields, RewritingKeepsStores, row_fields, rows_lines}
 unfoldable pub use Rattle.ipmi_image.specs.Rewritten.{image_text_of}
 pub use Rattle.ipmi_image.specs.Rows.{id_of, row_in, row_of}
-pub use Rattle.ipmi_image.specs.Stored.{AreInventories, AreReadings, HoldsLines, IsPut, IsRead, said, sensor_of, store_of}
-pub use Rattle.ipmi_image.specs.Table.{inventory_of, IsIndex, longer_at, place_of, sensor_key}
+pub use Rattle.ipmi_image.specs.Stored.{AreInventories, AreReadings, HoldsLines, IsPut, IsRead, Puts, said, sensor_of, store_of}
+pub use Rattle.ipmi_image.specs.Table.{inventory_of, IsIndex, place_of, sensor_key}
 unfoldable pub use Rattle.ipmi_image.specs.Text.{pieces}
 pub use Rattle.ipmi_image.specs.declared.contents.Contents.{Contents}
 pub use Rattle.ipmi_image.specs.declared.image.ImageFault.{ImageFault}

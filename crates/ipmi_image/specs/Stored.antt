@@ -1,5 +1,5 @@
 -- What an image keeps, as contracts see it.
-use Rattle.std.specs.Prelude.{ℕ, ◌≡◌, ◌≢◌, ◌⊎◌, ◌++◌, ◌∷◌, [], Some, None, Result, Ok, Err, MatchResult, List, map, filter_map, All, AllPairs}
+use Rattle.std.specs.Prelude.{ℕ, ◌≡◌, ◌≢◌, ◌⊎◌, ◌++◌, ◌∷◌, [], Option, Some, None, Result, Ok, Err, MatchResult, List, map, filter_map, All, AllPairs}
 use Rattle.ipmi_image.specs.Below.{Sdr, Sel, Store, Inventory, SensorReading, IsInventory, IsSensorReading, OtherSensor}
 use Rattle.ipmi_image.specs.declared.contents.Contents.{Contents}
 use Rattle.ipmi_image.specs.declared.line.Line.{Line as ReadLine}
@@ -53,8 +53,10 @@ pub record HoldsLines (contents : Contents) (lines : List Line) : Type 0 where
   pub sdr_info : contents.sdr_info ≡ first_of (filter_map (info_on Sdr) lines)
   pub sel_info : contents.sel_info ≡ first_of (filter_map (info_on Sel) lines)
 
+-- this was done where there is no fault, or there is one, or no memory was left
+abbrev pub Puts : Option LineFault → Type 0 → Result (Unit {0}) LineFault → Type 0
+Puts fault Done result = MatchResult result (λ done. (fault ≡ None) × Done) (λ e. (e ≡ LineFault.Memory) ⊎ (fault ≡ Some e))
+
 -- a line was put after these, or may not come there, or no memory was left
 abbrev pub IsPut : Contents → List Line → Line → Result (Unit {0}) LineFault → Type 0
-IsPut new before line result = MatchResult result
-    (λ done. (fault_in (store_of_lines before) line ≡ None) × HoldsLines new (before ++ line ∷ []))
-    (λ e. (e ≡ LineFault.Memory) ⊎ (fault_in (store_of_lines before) line ≡ Some e))
+IsPut new before line result = Puts (fault_in (store_of_lines before) line) (HoldsLines new (before ++ line ∷ [])) result

@@ -1,5 +1,5 @@
 -- Items in their order, found by keys.
-use Rattle.std.specs.Prelude.{◌≡◌, ℕ, zero, suc, ◌+◌, ◌*◌, ◌<◌, ◌==◌, ◌++◌, nat_eq, if◌then◌else◌, Option, Some, None, option_map, List, [], ◌∷◌, map}
+use Rattle.std.specs.Prelude.{◌≡◌, ℕ, suc, ◌+◌, ◌*◌, ◌<◌, ◌==◌, nat_eq, if◌then◌else◌, Option, Some, None, option_map, List, [], ◌∷◌, map}
 use Rattle.std.specs.List.{IsDistinct}
 use Rattle.ipmi_image.specs.Below.{Inventory}
 use Rattle.ipmi_image.specs.declared.stored.StoredInventory.{StoredInventory}
@@ -7,7 +7,7 @@ use Rattle.ipmi_image.specs.declared.stored.StoredInventory.{StoredInventory}
 -- the place of the first item with this key
 abbrev pub place_of : {T : Type 0} → (T → ℕ) → ℕ → List T → Option ℕ
 place_of key k [] = None
-place_of key k (item ∷ items) = if key item == k then Some 0 else option_map (λ place. place + 1) (place_of key k items)
+place_of key k (item ∷ items) = if key item == k then Some 0 else option_map suc (place_of key k items)
 
 -- the places are those of the items, no key comes twice, and each is below FFFFh
 pub record IsIndex {T : Type 0} (key : T → ℕ) (items : List T) (places : ℕ → Option ℕ) : Type 0 where
@@ -21,9 +21,3 @@ sensor_key lun number = lun * 256 + number
 
 abbrev pub inventory_of : StoredInventory → Inventory
 inventory_of inventory = record { id = inventory.id; bytes = inventory.bytes.items }
-
--- the inventory at a place has these bytes after its own
-abbrev pub longer_at : ℕ → List ℕ → List Inventory → List Inventory
-longer_at place bytes [] = []
-longer_at zero bytes (inventory ∷ inventories) = record { id = inventory.id; bytes = inventory.bytes ++ bytes } ∷ inventories
-longer_at (suc place) bytes (inventory ∷ inventories) = inventory ∷ longer_at place bytes inventories

@@ -1,8 +1,8 @@
 //! What the lines of an image say, one after the other.
-ghost use Rattle.std.specs.Prelude.{◌≡◌, ◌⊎◌, ◌++◌, ◌∷◌, [], ◌≤◌, List, not, IsTrue, IfErr, IfSome, OnOk, Some, None, unwrap_or, is_some, length, map};
+ghost use Rattle.std.specs.Prelude.{◌≡◌, ◌++◌, ◌∷◌, [], ◌≤◌, List, not, IsTrue, IfErr, IfSome, OnOk, Some, None, unwrap_or, is_some, length, map};
 ghost use Rattle.ipmi_image.specs.Below.{IsShelf, IsStore, IsInfo, inventory_in, reading_in};
 ghost use Rattle.ipmi_image.specs.Line as lines;
-ghost use Rattle.ipmi_image.specs.Prelude.{chained, is_no_record, is_no_id, begins_with_another, first_fault, row_fault, inventory_fault, reading_fault, info_fault, reading_of_bytes, with_bytes, row_of, sensor_of, said, store_of, AreInventories, AreReadings, HoldsLines, IsPut};
+ghost use Rattle.ipmi_image.specs.Prelude.{chained, is_no_record, is_no_id, begins_with_another, first_fault, row_fault, inventory_fault, reading_fault, info_fault, reading_of_bytes, with_bytes, row_of, sensor_of, said, store_of, AreInventories, AreReadings, HoldsLines, IsPut, Puts};
 ghost use Rattle.ipmi_image.specs.Table as table;
 
 use crate::line::{Line, LineFault};
@@ -78,11 +78,9 @@ fn put_row(
 ) -> Result<(), LineFault>
     requires { IsShelf shelf (chained rows.old) }
     ensures keeps { OnOk result (IsShelf shelf (chained rows.new)) }
-    ensures ok { OnOk result ((row_fault shelf (chained rows.old)
-        (record { id = id; next = next; bytes = bytes.now }) ≡ None) ×
-        (rows.new ≡ rows.old ++ record { id = id; next = next; bytes = bytes.now } ∷ [])) }
-    ensures err { IfErr result (λ e. (e ≡ LineFault.Memory) ⊎ (row_fault shelf (chained rows.old)
-        (record { id = id; next = next; bytes = bytes.now }) ≡ Some e)) }
+    ensures put { Puts (row_fault shelf (chained rows.old)
+        (record { id = id; next = next; bytes = bytes.now }))
+        (rows.new ≡ rows.old ++ record { id = id; next = next; bytes = bytes.now } ∷ []) result }
 {
     if is_no_id(rows, id) {
         return Err(LineFault::Id);
@@ -103,6 +101,7 @@ fn put_row(
 }
 
 /// How many bytes the inventory has so far.
+#[tactic(auto, using(crate::proofs::TableLemmas::inventory_in_place))]
 fn inventory_len(inventories: &Table<StoredInventory>, id: u8) -> usize
     ensures { result ≡ length (unwrap_or (inventory_in (map table.inventory_of inventories.now) id)
         []) }
@@ -138,13 +137,10 @@ fn put_inventory(
 ) -> Result<(), LineFault>
     requires { AreInventories (map table.inventory_of inventories.old) }
     ensures keeps { OnOk result (AreInventories (map table.inventory_of inventories.new)) }
-    ensures ok { OnOk result ((inventory_fault id (inventory_in
-        (map table.inventory_of inventories.old) id) bytes.now ≡ None) ×
+    ensures put { Puts
+        (inventory_fault id (inventory_in (map table.inventory_of inventories.old) id) bytes.now)
         (map table.inventory_of inventories.new ≡ with_bytes id bytes.now
-        (map table.inventory_of inventories.old))) }
-    ensures err { IfErr result (λ e. (e ≡ LineFault.Memory) ⊎
-        (inventory_fault id (inventory_in (map table.inventory_of inventories.old) id) bytes.now ≡
-        Some e)) }
+        (map table.inventory_of inventories.old)) result }
 {
     if let Some(fault) = inventory_fault(inventories, id, bytes) {
         return Err(fault);
@@ -200,12 +196,10 @@ fn put_reading(
 ) -> Result<(), LineFault>
     requires { AreReadings (map sensor_of sensors.old) }
     ensures keeps { OnOk result (AreReadings (map sensor_of sensors.new)) }
-    ensures ok { OnOk result ((reading_fault lun (reading_in (map sensor_of sensors.old) lun number)
-        bytes.now ≡ None) × (map sensor_of sensors.new ≡ map sensor_of sensors.old ++ record
-        { lun = lun; number = number; reading = reading_of_bytes bytes.now } ∷ [])) }
-    ensures err { IfErr result (λ e. (e ≡ LineFault.Memory) ⊎
-        (reading_fault lun (reading_in (map sensor_of sensors.old) lun number) bytes.now
-        ≡ Some e)) }
+    ensures put { Puts
+        (reading_fault lun (reading_in (map sensor_of sensors.old) lun number) bytes.now)
+        (map sensor_of sensors.new ≡ map sensor_of sensors.old ++ record
+        { lun = lun; number = number; reading = reading_of_bytes bytes.now } ∷ []) result }
 {
     if let Some(fault) = reading_fault(sensors, lun, number, bytes) {
         return Err(fault);
@@ -226,8 +220,7 @@ fn put_reading(
 /// Keeps the info of a shelf, or says why it may not come.
 fn put_info(info: &mut Option<[u8; 14]>, bytes: &[u8]) -> Result<(), LineFault>
     ensures keeps { OnOk result (IfSome info.new IsInfo) }
-    ensures ok { OnOk result ((info_fault info.old bytes.now ≡ None)
-        × (info.new ≡ Some bytes.now)) }
+    ensures put { Puts (info_fault info.old bytes.now) (info.new ≡ Some bytes.now) result }
     ensures err { IfErr result (λ e. info_fault info.old bytes.now ≡ Some e) }
 {
     if info.is_some() {

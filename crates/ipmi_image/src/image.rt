@@ -86,6 +86,7 @@ fn read_version(line: &[u8]) -> Option<bool>
 }
 
 /// What the lines after the first one say, up to `end`, the last one.
+#[tactic(auto, using(crate::proofs::ReadLemmas::store_after_line, crate::proofs::ReadLemmas::store_after_unended, crate::proofs::ReadLemmas::ends_here_pieces))]
 fn read_lines(alloc: Global, dashes: bool, text: &[u8]) -> Result<Contents, ImageFault>
     ensures ok { IfOk result (λ contents. IsStore (store_of contents) ×
         (store_after dashes [] (pieces 10 text.now) ≡ Ok (store_of contents))) }
@@ -126,7 +127,6 @@ pub struct Image {
 
 impl Model for Image {
     ghost use Rattle.std.specs.Option.{option_map};
-    ghost use Rattle.ipmi_bus.specs.Shelf.{IsShelf};
     ghost use Rattle.ipmi_bus.specs.Store.{Store, IsStore};
     ghost use Rattle.std.specs.Prelude.{◌≡◌, ℕ, List, Ok};
     ghost use Rattle.ipmi_image.specs.Image.{store_of_image};
@@ -179,7 +179,7 @@ impl Image {
     }
 
     /// The bytes of the inventory with this id.
-    #[tactic(auto, using(crate::proofs::TableLemmas::inventory_in_find))]
+    #[tactic(auto, using(crate::proofs::TableLemmas::inventory_in_place))]
     pub(crate) fn inventory(&self, id: u8) -> Option<&[u8]>
         ensures bytes { option_map (λ bytes. bytes.now) result ≡ inventory_of id self.now }
         ensures fits { IfSome result (λ bytes. length bytes.now ≤ 65535) }
@@ -189,7 +189,7 @@ impl Image {
     }
 
     /// The reading of the sensor with this number at this LUN.
-    #[tactic(auto, using(crate::proofs::TableLemmas::reading_in_find))]
+    #[tactic(auto, using(crate::proofs::TableLemmas::reading_in_place))]
     pub(crate) fn reading(&self, lun: u8, number: u8) -> Option<Reading>
         ensures { result ≡ reading_of lun number self.now }
     {

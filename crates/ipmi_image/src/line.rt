@@ -1,6 +1,6 @@
 //! What one line of an image says.
 ghost use Rattle.ipmi_image.specs.declared.line.LineFault.{LineFault};
-ghost use Rattle.std.specs.Prelude.{◌≡◌, ℕ, List, ◌==◌, ◌&&◌, ◌||◌, ◌⊎◌, [], ◌∷◌, MatchOption, MatchResult, IsTrue, Some, None, Ok, Err, length};
+ghost use Rattle.std.specs.Prelude.{◌≡◌, ℕ, List, ◌==◌, ◌&&◌, ◌||◌, [], ◌∷◌, MatchOption, IsTrue, Some, None, Ok, Err, length};
 ghost use Rattle.ipmi_image.specs.Prelude.{pieces, is_dash, next_in, shelf_in, with_two, with_three, row_line, inventory_line, reading_line, info_line, line_of, is_end, said, IsRead};
 
 use crate::text::{cut, read_bytes, read_digit, read_u8, read_u16};
@@ -61,6 +61,7 @@ impl Line {
 }
 
 /// The two fields, where there are two.
+#[tactic(auto, using(crate::proofs::LineLemmas::with_two_more))]
 fn two(fields: &[u8]) -> Option<(&[u8], &[u8])>
     ensures { MatchOption result ((line : _) → with_two line (pieces 32 fields.now) ≡ Err
         LineFault.Line) (λ t. pieces 32 fields.now ≡ t.0.now ∷ t.1.now ∷ []) }
@@ -73,6 +74,7 @@ fn two(fields: &[u8]) -> Option<(&[u8], &[u8])>
 }
 
 /// The three fields, where there are three.
+#[tactic(auto, using(crate::proofs::LineLemmas::with_three_two))]
 fn three(fields: &[u8]) -> Option<(&[u8], &[u8], &[u8])>
     ensures { MatchOption result ((line : _) → with_three line (pieces 32 fields.now) ≡ Err
         LineFault.Line) (λ t. pieces 32 fields.now ≡ t.0.now ∷ t.1.now ∷ t.2.now ∷ []) }
@@ -179,6 +181,7 @@ fn read_info(bytes: &mut Vec<u8>, fields: &[u8]) -> Result<Line, LineFault>
 }
 
 /// Reads a line without its line feed, and the bytes that it has; in version 2 a row's NEXT may be a dash.
+#[tactic(auto, using(crate::proofs::TextLemmas::length_pieces), unfolding(crate::specs::Line::line_of))]
 pub(crate) fn read_line(bytes: &mut Vec<u8>, dashes: bool, line: &[u8]) -> Result<Line, LineFault>
     ensures { IsRead (line_of dashes line.now) bytes.new.items result }
 {

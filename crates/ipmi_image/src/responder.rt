@@ -1,5 +1,5 @@
 //! What an image answers to a controller's calls.
-ghost use Rattle.std.specs.Prelude.{◌≡◌, ◌+◌, ◌<◌, ◌≤◌, ◌≢◌, Bool, MatchBool, IfOk, OnErr, Ok, Some, None, length, map, drop, option_map, unwrap_or};
+ghost use Rattle.std.specs.Prelude.{◌≡◌, ◌+◌, ◌<◌, ◌≤◌, ◌≢◌, true, false, MatchBool, IfOk, OnErr, Ok, Some, None, length, drop, option_map, unwrap_or};
 ghost use Rattle.ipmi_image.specs.Below.{look, class_of, IsStore, rows_of, info_of, reading_of, inventory_of, IsHonest, FailsWith, ReserveAnswers, PartAnswers, ValueAnswers, SizeAnswers, BytesAnswers};
 ghost use Rattle.ipmi_image.specs.Prelude.{chained, first_id, seen_as, of_shelf, row_found, place_asked, IsCopied, number_after, with_reservation, part_asked, part_answer, fru_answer, value_answer, size_answer};
 
@@ -48,6 +48,7 @@ fn next_of(rows: &Rows, place: usize, next: Option<u16>) -> u16
 }
 
 /// The record that the id asks for. It is looked for near a place first.
+#[tactic(auto, using(crate::proofs::RespondLemmas::look_chained))]
 fn look_up(rows: &Rows, near: usize, id: u16) -> Option<FoundRow<'_>>
     ensures { option_map row_found result ≡ look (chained rows.now) id }
 {
@@ -92,9 +93,8 @@ pub(crate) struct Responder {
 impl Responder {
     /// An image that has given no reservation yet.
     pub(crate) fn new(image: Image) -> Responder
-        ensures store { (plain : Bool) → (seen_as plain result).store ≡ image }
-        ensures none_current { (plain : Bool) → ((seen_as plain result).sdr_reservation ≡ None) ×
-            ((seen_as plain result).sel_reservation ≡ None) }
+        ensures store { result.image ≡ image }
+        ensures none_current { (result.sdr_reservation ≡ None) × (result.sel_reservation ≡ None) }
         ensures none_given { result.given ≡ 0 }
     {
         Responder {
@@ -135,8 +135,8 @@ impl Responder {
         ensures same { self.new ≡ record self.old { tally = self.new.tally } }
         ensures counted { self.new.tally.counts.calls ≡ self.old.tally.counts.calls + 1 }
         ensures no_store { self.new.tally.counts.stores_added ≡ self.old.tally.counts.stores_added }
-        ensures counts { (plain : Bool) → FailsWith (Unit {0}) (Unit {0}) (class_of code.0) code.0
-            (seen_as plain self.old) (seen_as plain self.new) }
+        ensures counts { FailsWith (Unit {0}) (Unit {0}) (class_of code.0) code.0
+            (seen_as false self.old) (seen_as false self.new) }
     {
         self.tally.count(Event::Called);
         match code.class() {
@@ -151,8 +151,8 @@ impl Responder {
     /// Gives the next reservation number. 1 comes again after FFFFh.
     pub(crate) fn reserve(&mut self, shelf: Shelf) -> u16
         ensures counted { self.new.tally.counts.calls ≡ self.old.tally.counts.calls + 1 }
-        ensures answers { (plain : Bool) → IsHonest (seen_as plain self.old) →
-            ReserveAnswers shelf (Ok result) (seen_as plain self.old) (seen_as plain self.new) }
+        ensures answers { IsHonest (seen_as true self.old) →
+            ReserveAnswers shelf (Ok result) (seen_as true self.old) (seen_as true self.new) }
         ensures number { result ≡ number_after self.old.given }
         ensures another { result ≢ self.old.given }
         ensures kept { self.new ≡
@@ -188,6 +188,7 @@ impl Responder {
     }
 
     /// Bytes of a record, at most so many.
+    #[tactic(auto, using(crate::proofs::RespondLemmas::current_of_shelf))]
     pub(crate) fn part(
         &mut self,
         shelf: Shelf,
@@ -204,7 +205,7 @@ impl Responder {
         ensures fits { IfOk result (λ part. part.got ≤ length into.old) }
         ensures rest { IfOk result (λ part. drop part.got into.new ≡ drop part.got into.old) }
         ensures err { OnErr result (into.new ≡ into.old) }
-        ensures answers { (plain : Bool) → IsHonest (seen_as plain self.old) →
+        ensures answers { IsHonest (seen_as true self.old) →
             PartAnswers (record {
               shelf = shelf;
               reservation = reservation;
@@ -213,7 +214,7 @@ impl Responder {
                   offset;
               len = length into.old;
             })
-            result into.new (seen_as plain self.old) (seen_as plain self.new) }
+            result into.new (seen_as true self.old) (seen_as true self.new) }
         ensures same { self.new ≡ record self.old { near = self.new.near; tally = self.new.tally } }
         ensures exact { result ≡ part_answer
             (part_asked shelf reservation id offset (length into.old))
@@ -247,8 +248,8 @@ impl Responder {
     /// The info of a shelf.
     pub(crate) fn info(&mut self, shelf: Shelf) -> Result<[u8; 14], Code>
         ensures counted { self.new.tally.counts.calls ≡ self.old.tally.counts.calls + 1 }
-        ensures answers { (plain : Bool) → IsHonest (seen_as plain self.old) →
-            ValueAnswers (info_of shelf) result (seen_as plain self.old) (seen_as plain self.new) }
+        ensures answers { IsHonest (seen_as true self.old) →
+            ValueAnswers (info_of shelf) result (seen_as true self.old) (seen_as true self.new) }
         ensures same { self.new ≡ record self.old { tally = self.new.tally } }
         ensures exact { result ≡ value_answer (info_of shelf self.old.image) }
     {
@@ -260,9 +261,9 @@ impl Responder {
     /// The reading of a sensor.
     pub(crate) fn reading(&mut self, lun: u8, number: u8) -> Result<Reading, Code>
         ensures counted { self.new.tally.counts.calls ≡ self.old.tally.counts.calls + 1 }
-        ensures answers { (plain : Bool) → IsHonest (seen_as plain self.old) →
-            ValueAnswers (reading_of lun number) result (seen_as plain self.old)
-            (seen_as plain self.new) }
+        ensures answers { IsHonest (seen_as true self.old) →
+            ValueAnswers (reading_of lun number) result (seen_as true self.old)
+            (seen_as true self.new) }
         ensures same { self.new ≡ record self.old { tally = self.new.tally } }
         ensures exact { result ≡ value_answer (reading_of lun number self.old.image) }
     {
@@ -274,8 +275,8 @@ impl Responder {
     /// The size of an inventory.
     pub(crate) fn fru_size(&mut self, id: u8) -> Result<FruSize, Code>
         ensures counted { self.new.tally.counts.calls ≡ self.old.tally.counts.calls + 1 }
-        ensures answers { (plain : Bool) → IsHonest (seen_as plain self.old) →
-            SizeAnswers id result (seen_as plain self.old) (seen_as plain self.new) }
+        ensures answers { IsHonest (seen_as true self.old) →
+            SizeAnswers id result (seen_as true self.old) (seen_as true self.new) }
         ensures same { self.new ≡ record self.old { tally = self.new.tally } }
         ensures exact { result ≡ size_answer (inventory_of id self.old.image) }
     {
@@ -306,9 +307,9 @@ impl Responder {
         ensures fits { IfOk result (λ got. got ≤ length into.old) }
         ensures rest { IfOk result (λ got. drop got into.new ≡ drop got into.old) }
         ensures err { OnErr result (into.new ≡ into.old) }
-        ensures answers { (plain : Bool) → IsHonest (seen_as plain self.old) →
-            BytesAnswers id offset (length into.old) result into.new (seen_as plain self.old)
-            (seen_as plain self.new) }
+        ensures answers { IsHonest (seen_as true self.old) →
+            BytesAnswers id offset (length into.old) result into.new (seen_as true self.old)
+            (seen_as true self.new) }
         ensures same { self.new ≡ record self.old { tally = self.new.tally } }
         ensures exact { result ≡
             fru_answer offset (length into.old) most (inventory_of id self.old.image) }

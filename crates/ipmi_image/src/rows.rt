@@ -100,6 +100,7 @@ impl Rows {
     }
 
     /// The id of the record at the place, FFFFh where there is none.
+    #[tactic(auto, using(crate::proofs::RowsLemmas::first_id_at, std::proofs::lemmas::Option::slice_get_cases))]
     pub(crate) fn id_at(&self, place: usize) -> u16
         ensures { result ≡ first_id (drop place self.now) }
     {
@@ -110,6 +111,7 @@ impl Rows {
     }
 
     /// Whether one of them has this id.
+    #[tactic(auto, using(crate::proofs::RowsLemmas::place_of_row_in))]
     pub(crate) fn has_id(&self, id: u16) -> bool
         ensures { result ≡ is_some (place_of id_of id self.now) }
     {
@@ -117,6 +119,7 @@ impl Rows {
     }
 
     /// The place of the record with this id. It is looked for at a place and next to it before it is looked up.
+    #[tactic(auto, using(crate::proofs::RowsLemmas::place_of_row_in))]
     pub(crate) fn place_near(&self, id: u16, near: usize) -> Option<usize>
         ensures { result ≡ place_of id_of id self.now }
     {

@@ -1,6 +1,6 @@
 //! What an image keeps, in the order of its lines, and an index to find it by.
-ghost use Rattle.std.specs.Prelude.{◌≡◌, ℕ, ◌==◌, ◌<◌, ◌≤◌, ◌++◌, ◌∷◌, [], List, None, Some, true, MatchBool, IsTrue, IfOk, OnErr, OnOk, is_some, map, option_map, find, length};
-ghost use Rattle.ipmi_image.specs.Prelude.{place_of, sensor_key, inventory_of, longer_at};
+ghost use Rattle.std.specs.Prelude.{◌≡◌, ℕ, ◌==◌, ◌<◌, ◌≤◌, ◌++◌, ◌∷◌, [], List, None, Some, true, MatchBool, IsTrue, IfOk, OnErr, OnOk, is_some, map, option_map, option_and_then, slice_get, length};
+ghost use Rattle.ipmi_image.specs.Prelude.{place_of, sensor_key, inventory_of, with_bytes};
 
 use ipmi_text::Reading;
 use std::alloc::{AllocError, Global};
@@ -102,6 +102,7 @@ impl<T: Keyed + Drop> Table<T> {
     }
 
     /// Whether the item at the place has this key. It says so exactly where that is the item's place.
+    #[tactic(auto, using(crate::proofs::TableLemmas::place_of_at))]
     fn is_at(&self, place: usize, key: u16) -> bool
         ensures yes { IsTrue result → place_of T.key key self.now ≡ Some place }
         ensures no { place_of T.key key self.now ≡ Some place → IsTrue result }
@@ -131,12 +132,13 @@ impl<T: Keyed + Drop> Table<T> {
     }
 
     /// The item with this key.
-    #[tactic(auto, using(crate::proofs::TableLemmas::slice_get_place_of))]
+    #[tactic(auto, using(std::proofs::lemmas::Option::slice_get_cases))]
     pub(crate) fn get(&self, key: u16) -> Option<&T>
-        ensures { option_map (λ item. item.now) result ≡ find (λ item. T.key item == key) self.now }
+        ensures { option_map (λ item. item.now) result ≡
+            option_and_then (slice_get self.now) (place_of T.key key self.now) }
     {
         let place = self.place(key)?;
-        Some(&self.items[place])
+        self.items.get(place)
     }
 
     /// Puts an item at the end, where none has its key, and says whether it did.
@@ -170,7 +172,8 @@ impl Table<StoredInventory> {
     /// Puts the bytes after those of the inventory at this place.
     pub(crate) fn append(&mut self, place: usize, bytes: &[u8]) -> Result<(), AllocError>
         requires { place < length self.old }
-        ensures ok { OnOk result (map inventory_of self.new ≡ longer_at place bytes.now
+        ensures { (id : ℕ) → place_of (λ inventory. inventory.id) id self.old ≡ Some place →
+            OnOk result (map inventory_of self.new ≡ with_bytes id bytes.now
             (map inventory_of self.old)) }
     {
         self.items[place].bytes.extend_from_slice(bytes)?;

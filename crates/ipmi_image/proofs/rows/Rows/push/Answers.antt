@@ -1,6 +1,6 @@
 use Rattle.std.proofs.Common.{◌≡◌, ◌++◌, ◌∷◌, [], ap, sym, ◌∙◌, arith, length, List, map, is_some}
 use Rattle.ipmi_image.specs.Prelude.{place_of, id_of, row_in, row_of, SavedRow, RowHead}
-use Rattle.ipmi_image.proofs.RowsLemmas.{place_of-row_in, rows_with}
+use Rattle.ipmi_image.proofs.RowsLemmas.{place_of_row_in, rows_with}
 use Rattle.ipmi_image.proofs.rows.Rows.push.Goals as goal
 
 pub overflow_cast-head : goal.overflow_cast-head
@@ -20,7 +20,7 @@ returns-in-Ok-true c =
     let id = c.args.row.now.id in
     let next = c.args.row.now.next in
     let start : c.len-start.result ≡ length bytes = c.len-start.ensures ∙ c.self.inside.bytes.ok.0 in (
-      ap (place_of id_of id) (sym c.self.view_is) ∙ place_of-row_in bytes id heads ∙ put.0,
+      ap (place_of id_of id) (sym c.self.view_is) ∙ place_of_row_in bytes id heads ∙ put.0,
       ap (λ l. map (row_in l) c.push.new.self) c.in_ok-extend_from_slice.ensures.items
           ∙ ap (map (row_in (bytes ++ more))) (put.1 ∙ ap (λ n. let head : RowHead = record { id = id; next = next; start = n; len = length more } in heads ++ head ∷ []) start)
           ∙ rows_with bytes more heads id next c.self.invariant.within
@@ -30,4 +30,4 @@ returns-in-Ok-true c =
 pub returns-in-Ok-false : goal.returns-in-Ok-false
 returns-in-Ok-false c =
     let put = rw c.in-Ok-false.field-0-test at c.in-Ok-false.ensures.ok in
-    rw (sym c.self.view_is) (ap is_some (place_of-row_in c.self.inside.bytes.items c.args.row.now.id c.self.inside.heads) ∙ put.0)
+    rw (sym c.self.view_is) (ap is_some (place_of_row_in c.self.inside.bytes.items c.args.row.now.id c.self.inside.heads) ∙ put.0)

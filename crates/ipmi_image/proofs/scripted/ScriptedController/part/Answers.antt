@@ -1,8 +1,9 @@
-use Rattle.std.proofs.Common.{true, false, refl, length}
-use Rattle.ipmi_image.proofs.ScriptLemmas.{after_part}
+use Rattle.std.proofs.Common.{refl}
+use Rattle.ipmi_image.proofs.ScriptLemmas.{after_part, plainly}
 use Rattle.ipmi_image.proofs.scripted.ScriptedController.part.Goals as goal
 
 pub returns-in-Answers-clause-honest : goal.returns-in-Answers-clause-honest
 returns-in-Answers-clause-honest c = λ honest.
     let first = c.in-Answers.ensures.turns honest in
-    after_part _ c.turn.new.self.responder c.part.new.self honest refl first (λ plainly. (c.part.ensures.answers true plainly).change) (record { shelf = c.args.shelf; reservation = c.args.reservation; id = c.args.id; offset = c.args.offset; len = length c.args.into.now }) c.part.result c.part.new.into (c.part.ensures.answers false first.change.stays.honest)
+    let a = c.part.ensures.answers (plainly c.turn.new.self.responder first.change.stays.honest) in
+    after_part _ c.turn.new.self.responder c.part.new.self refl first a.change _ c.part.result c.part.new.into a

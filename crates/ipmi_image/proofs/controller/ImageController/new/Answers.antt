@@ -1,8 +1,0 @@
-use Rattle.std.proofs.Common.{true}
-use Rattle.ipmi_image.proofs.controller.ImageController.new.Goals as goal
-
-pub returns-clause-store : goal.returns-clause-store
-returns-clause-store c = c.new.ensures.store true
-
-pub returns-clause-none_current : goal.returns-clause-none_current
-returns-clause-none_current c = c.new.ensures.none_current true

@@ -1,5 +1,0 @@
-use Rattle.std.proofs.Common.{true}
-use Rattle.ipmi_image.proofs.controller.ImageControllerController.fru_size.Goals as goal
-
-pub returns-clause-honest : goal.returns-clause-honest
-returns-clause-honest c = c.fru_size.ensures.answers true

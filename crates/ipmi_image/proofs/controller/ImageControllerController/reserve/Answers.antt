@@ -1,5 +1,0 @@
-use Rattle.std.proofs.Common.{true}
-use Rattle.ipmi_image.proofs.controller.ImageControllerController.reserve.Goals as goal
-
-pub returns-clause-honest : goal.returns-clause-honest
-returns-clause-honest c = c.reserve.ensures.answers true

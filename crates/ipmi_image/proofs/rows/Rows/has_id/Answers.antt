@@ -1,8 +1,0 @@
-use Rattle.std.proofs.Common.{ap, sym, ◌∙◌, is_some}
-use Rattle.ipmi_image.specs.Prelude.{id_of, place_of}
-use Rattle.ipmi_image.proofs.RowsLemmas.{place_of-row_in}
-use Rattle.ipmi_image.proofs.rows.Rows.has_id.Goals as goal
-
-pub returns : goal.returns
-returns c =
-    c.is_some.ensures ∙ ap is_some (c.place.ensures ∙ sym (place_of-row_in c.self.inside.bytes.items c.args.id c.self.inside.heads) ∙ ap (place_of id_of c.args.id) c.self.view_is)
