@@ -1,20 +1,19 @@
 -- How many calls a listing makes.
-use Rattle.std.proofs.Common.{◌≡◌, inl, inr, ℕ, zero, suc, ◌+◌, ◌*◌, ◌<◌, ◌≤◌, ◌==◌, nat_le, true, false, cond, Option, None, Some, Result, Ok, Err, List, [], ◌∷◌, ◌++◌, length, take, drop, refl, sym, ap, ◌∙◌, arith, take-append-drop}
+use Rattle.std.proofs.Common.{◌≡◌, inl, inr, ℕ, zero, suc, ◌+◌, ◌*◌, ◌<◌, ◌≤◌, ◌==◌, true, false, cond, Option, None, Some, Result, Ok, Err, List, [], ◌∷◌, ◌++◌, take, drop, refl, sym, ap, ◌∙◌, arith, take-append-drop}
 use Rattle.std.specs.FinSet as set
 use Rattle.std.specs.FinSet.{len-insert}
 use Rattle.std.specs.Cmp.{nat_cmp_total}
+use Rattle.std.proofs.lemmas.Bool.Decides.{nat_tests}
 use Rattle.std.proofs.lemmas.Nat.{mul-le}
 use Rattle.std.proofs.Math.Seq.{take-nil}
-use Rattle.ipmi_commands.specs.Below.{step_call_bound, digits, reaches, Shelf, Id, End, Ended, Cycle, Missing, Row, first_row, len_of, largest_len, place_after, Seen, CursorState, IsStep, StepLeaves, StepCalls, HandsOut, AsksNothing, Store, Task}
+use Rattle.ipmi_commands.specs.Below.{step_call_bound, digits, Shelf, Id, End, Ended, Cycle, Missing, Row, first_row, len_of, largest_len, place_after, Seen, CursorState, IsStep, StepLeaves, StepCalls, HandsOut, Store, Task}
 use Rattle.ipmi_commands.specs.Prelude.{calls_for, IsPlace, HasCalled, ListingCalls, first_rows}
 
 -- ---- digits
 
 -- a part size has at least one digit
 pub digits_some : (n : ℕ) → 0 < n → 1 ≤ digits n
-digits_some n some =
-    let reached : nat_le 1 n ≡ true = search arith in
-    let one : reaches 1 n ≡ 1 = rw reached refl in omega (arith, one)
+digits_some n some = grind (arith, nat_tests)
 
 -- fewer than are wanted
 abbrev pub IsBelow : Option ℕ → ℕ → Type 0
@@ -66,12 +65,10 @@ module _ (tries later each count : ℕ) (shelf : Shelf) (begun now next : Cursor
   called_more last row step asked =
       let hands = step.leaves.1 in
       let more = len-next_ids now next row hands in
-      let within = called.within in
-      let most = hands.at_most in
       let one : (count + 1) * each ≡ count * each + each = omega arith in
       record {
-        within = omega (arith, more, within);
-        most = omega (arith, more, within, most);
+        within = omega (arith, more, called.within);
+        most = omega (arith, more, called.within, hands.at_most);
         calls = omega (arith, called.calls, at_bound step.calls, asked, each_is, one);
         some = λ some. step.same.part_not_zero;
         place = λ place. rw hands.place (is_place row.next hands.next);
@@ -89,10 +86,8 @@ module _ (tries later each count : ℕ) (shelf : Shelf) (begun now next : Cursor
     where
       asked : set.len now.ids < 65536 → s''.calls + 1 ≤ s.calls + 65536 * each + digits begun.part
       asked room =
-          let within = called.within in
-          let all = at_most_all (count + 1) each (omega (arith, room, within)) in
           let one : (count + 1) * each ≡ count * each + each = omega arith in
-          omega (arith, all, one, called.calls, at_bound step.calls, digits_some next.part step.same.part_not_zero, each_is)
+          omega (arith, at_most_all (count + 1) each (omega (arith, room, called.within)), one, called.calls, at_bound step.calls, digits_some next.part step.same.part_not_zero, each_is)
 
 -- ---- along a walk
 

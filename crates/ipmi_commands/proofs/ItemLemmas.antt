@@ -1,5 +1,6 @@
 -- The items of a plan, one for each row, their texts, and the spots at which a run may stop.
 use Rattle.std.proofs.Common.{◌≡◌, ◌≢◌, inl, ℕ, zero, suc, ◌+◌, ◌-◌, ◌<◌, ◌==◌, Bool, true, false, cond, Option, None, Some, List, [], ◌∷◌, ◌++◌, length, take, drop, refl, sym, ap, ◌∙◌, append_assoc, append-nil, arith, ne_eqb}
+use Rattle.std.proofs.Math.Seq.{drop-nil}
 use Rattle.ipmi_commands.specs.Below.{Place, First, Id, End, Row, first_row, Store, WalkEnd, Done, CycleAt, MissingAt, EndsBy, place_after, place_after_rows, last_next, MayFail, asked_at, Task, TakesPart}
 use Rattle.ipmi_commands.specs.Prelude.{Span, MayStopAt, left_rows, passing, span_items, item_in, Plan, Item, Passed, Spot, AtRecord, row_items, RunEnd, IsItemText, AreTexts, Printed, Outcome, IsAllowed, IsAmong, spots_at, end_spots}
 use Rattle.ipmi_commands.specs.Plan as plan
@@ -11,19 +12,13 @@ pub row_items-append : (t : Task) (start : Place) (done rest : List Row) → row
 row_items-append t start [] rest = refl
 row_items-append t start (d ∷ done) rest = rw (row_items-append t (place_after d.next) done rest) refl
 
--- the next of some rows, and those after it
-pub drop_next : (rows : List Row) (k : ℕ) (row : Row) → first_row (drop k rows) ≡ Some row → drop k rows ≡ row ∷ drop (k + 1) rows
-drop_next [] zero row next = cc next
-drop_next [] (suc k) row next = cc next
-drop_next (first ∷ rows) zero row next = let same : first ≡ row = cc next in rw same refl
-drop_next (first ∷ rows) (suc k) row next = let one_on : suc k + 1 ≡ suc (k + 1) = omega arith in rw one_on (drop_next rows k row next)
-
--- the place after it
-place-next : (start : Place) (rows : List Row) (k : ℕ) (row : Row) → first_row (drop k rows) ≡ Some row → place_after_rows start (take (k + 1) rows) ≡ place_after row.next
-place-next start [] zero row next = cc next
-place-next start [] (suc k) row next = cc next
-place-next start (first ∷ rows) zero row next = let same : first ≡ row = cc next in rw same refl
-place-next start (first ∷ rows) (suc k) row next = let one_on : suc k + 1 ≡ suc (k + 1) = omega arith in rw one_on (place-next (place_after first.next) rows k row next)
+-- the next of some rows: those after it, and the place after it
+pub next_one : (rows : List Row) (k : ℕ) (row : Row) → first_row (drop k rows) ≡ Some row → (drop k rows ≡ row ∷ drop (k + 1) rows) × ((start : Place) → place_after_rows start (take (k + 1) rows) ≡ place_after row.next)
+next_one [] k row next = let none = rw drop-nil at next in cc none
+next_one (first ∷ rows) zero row next = let same : first ≡ row = cc next in (rw same refl, λ start. rw same refl)
+next_one (first ∷ rows) (suc k) row next =
+    let later = next_one rows k row next in
+    let one_on : suc k + 1 ≡ suc (k + 1) = omega arith in (rw one_on later.0, λ start. rw one_on (later.1 (place_after first.next)))
 
 -- ---- texts
 
@@ -94,7 +89,7 @@ passing-none (Some n) = let all : n - 0 ≡ n = omega arith in ap Some all
 pub left_items-next : (span : Span) (t : Task) (start : Place) (walk : List Row) (k : ℕ) (row : Row) → first_row (drop k walk) ≡ Some row → left_rows span k walk ≡ row ∷ left_rows span (k + 1) walk
     → span_items (passing span.skip k) t (place_after_rows start (take k walk)) (left_rows span k walk)
     ≡ item_in (passing span.skip k) t (place_after_rows start (take k walk)) row ∷ span_items (passing span.skip (k + 1)) t (place_after_rows start (take (k + 1) walk)) (left_rows span (k + 1) walk)
-left_items-next span t start walk k row next left = rw (left, span_items-cons, passing-more span.skip k, place-next start walk k row next) refl
+left_items-next span t start walk k row next left = rw (left, span_items-cons, passing-more span.skip k, (next_one walk k row next).1 start) refl
 
 -- the id that is asked for first is a spot of what comes first
 pub asked_first : (skip : Option ℕ) (t : Task) (place : Place) (rows : List Row) (ends : List Spot) → (rows ≡ [] → IsAmong ends (AtRecord (asked_at place))) → IsAmong (spots_at (span_items skip t place rows) ends) (AtRecord (asked_at place))
@@ -185,14 +180,12 @@ asked_at-next n (row ∷ rows) more = asked_at-next row.next rows more
 -- what is asked for at the end of a walk is a spot of its end
 pub end_spot : (rows : List Row) (start : Place) (walk : List Row) (end : WalkEnd) → EndsBy rows start walk end → MayFail end (place_after_rows start walk) → IsAmong (end_spots start walk end) (AtRecord (asked_at (place_after_rows start walk)))
 end_spot rows First [] Done ends may = inl refl
-end_spot rows (Id n) [] Done ends may = absurd ends
 end_spot rows End [] Done ends may = cc may
 end_spot rows start (row ∷ walk) Done ends may = absurd (not_first row.next walk may)
 end_spot rows start walk (CycleAt n) ends may = absurd may
-end_spot rows First [] (MissingAt n) ends may = absurd ends
 end_spot rows (Id id) [] (MissingAt n) ends may = inl (ap AtRecord (sym ends.0))
-end_spot rows End [] (MissingAt n) ends may = absurd ends
 end_spot rows start (row ∷ walk) (MissingAt n) ends may = inl (ap AtRecord (asked_at-next row.next walk ends.1 ∙ sym ends.0))
+end_spot rows _ [] _ ends may = absurd ends
 
 no_end_spot : (place : Place) (rows : List Row) → place ≢ First → end_spots place rows Done ≡ []
 no_end_spot First rows moved = absurd (moved refl)

@@ -1,13 +1,13 @@
 -- The last entries of a shelf: a walk that counts them, and a second one that passes those before them.
-use Rattle.std.proofs.Common.{◌≡◌, inl, inr, ℕ, zero, suc, ◌+◌, ◌-◌, ◌<◌, ◌≤◌, Bool, true, false, None, Some, List, [], ◌∷◌, ◌++◌, length, take, drop, refl, sym, ap, subst, ◌∙◌, append-nil, arith}
+use Rattle.std.proofs.Common.{◌≡◌, inl, inr, ℕ, zero, suc, ◌-◌, ◌<◌, ◌≤◌, true, false, None, Some, List, [], ◌∷◌, ◌++◌, length, take, drop, refl, sym, ap, subst, ◌∙◌, append-nil, arith}
 use Rattle.std.proofs.lemmas.List.{nil_from_length}
 use Rattle.std.proofs.Math.Seq.{drop-nil}
-use Rattle.ipmi_commands.specs.Below.{CursorState, Place, Seen, IsHonest, stays_refl, stays_trans, Row, StandsAt, asked_at, Store, rows_of, IsWalk, EndsBy, WalkEnd, Done, place_after, place_after_rows, Count, Task, shelf_of}
-use Rattle.ipmi_commands.specs.Prelude.{Listed, Span, Stop, is_done, ListsSpan, SpanAlong, course, item_in, span_items, span_plan, IsListing, IsOutcome, walk_call_bound, run_call_bound, second_walk_bound, Request, request, Change, change, OnWalk, Plan, Item, Passed, Spot, AtRecord, RunEnd, WalkEnds, row_items, run_end, spots_along, spots_of_walk, end_spots, spots_at, last_items, last_plan, with_first_spots, end_spots_of_last, Printed, Outcome, IsAllowed, IsAmong, Performs}
+use Rattle.ipmi_commands.specs.Below.{CursorState, Place, Seen, IsHonest, stays_refl, stays_trans, Row, StandsAt, asked_at, Store, rows_of, WalkEnd, Done, place_after, place_after_rows, Count, Task, shelf_of}
+use Rattle.ipmi_commands.specs.Prelude.{Listed, Span, Stop, is_done, ListsSpan, SpanAlong, course, item_in, span_items, span_plan, IsListing, IsOutcome, walk_call_bound, second_walk_bound, Request, request, Change, change, OnWalk, Plan, Item, Passed, Spot, AtRecord, RunEnd, WalkEnds, row_items, run_end, spots_along, spots_of_walk, end_spots, spots_at, last_items, last_plan, with_first_spots, end_spots_of_last, Printed, Outcome, IsAllowed, IsAmong, Performs}
 use Rattle.ipmi_commands.specs.Plan as plan
 use Rattle.ipmi_bus.proofs.InventoryLemmas.{digits_most}
 use Rattle.ipmi_commands.proofs.ItemLemmas.{none_printed, no_text, Carried, allowed_carried}
-use Rattle.ipmi_commands.proofs.ListingLemmas.{counts_since, stopped_otherwise}
+use Rattle.ipmi_commands.proofs.ListingLemmas.{between, counts_since, stopped_otherwise}
 use Rattle.ipmi_commands.proofs.PageLemmas.{done}
 use Rattle.ipmi_commands.proofs.PerformLemmas.{same_printed}
 
@@ -235,11 +235,8 @@ module _ (n : ℕ) (start : Place) (tries : ℕ) where
   -- it is done, and the second walk passes those before the last
   module _ (s s' s'' : Seen) (old mid new : List ℕ) (counted listed : Listed) (lists : ListsSpan of_last all_counted (change s s' old mid) counted) (is_done_ : counted.stop ≡ Stop.Done) (some : 1 ≤ n) (more : 0 < counted.count)
       (second : ListsSpan of_last (record { skip = Some (counted.count - n); most = None }) (change s' s'' mid new) listed) where
-    first_same : s''.stores_added ≡ s.stores_added → s'.stores_added ≡ s.stores_added
-    first_same same = omega (arith, same, lists.stays.store.grows, second.stays.store.grows)
-
-    second_same : s''.stores_added ≡ s.stores_added → s''.stores_added ≡ s'.stores_added
-    second_same same = omega (arith, same, lists.stays.store.grows, second.stays.store.grows)
+    parts : s''.stores_added ≡ s.stores_added → (s'.stores_added ≡ s.stores_added) × (s''.stores_added ≡ s'.stores_added)
+    parts = between s s' s'' lists.stays second.stays
 
     finished : lists.outcome ≡ plan.Finished (WalkEnds Done)
     finished = rw is_done_ at lists.outcome_is
@@ -256,21 +253,21 @@ module _ (n : ℕ) (start : Place) (tries : ℕ) where
     SecondAlong store = OnWalk of_last store (λ walk end. SpanAlong of_last store (record { skip = Some (counted.count - n); most = None }) walk end (change s' s'' mid new) second.outcome listed)
 
     along_second : s''.stores_added ≡ s.stores_added → SecondAlong s.store
-    along_second same = subst SecondAlong (lists.stays.store.stays (first_same same)) (second.along (second_same same))
+    along_second same = subst SecondAlong (lists.stays.store.stays (parts same).0) (second.along (parts same).1)
 
     pub second_performs : Performs of_last (change s s'' old new) listed.stop
     second_performs = record {
       outcome = second.outcome;
       outcome_is = second.outcome_is;
       stays = stays_trans s s' s'' lists.stays second.stays;
-      counts = counts_since tries s s' s'' second_same second.outcome (record { refusals = rw finished at lists.counts; troubles = lists.grows }) second.counts;
+      counts = counts_since tries s s' s'' (λ same. (parts same).1) second.outcome (record { refusals = rw finished at lists.counts; troubles = lists.grows }) second.counts;
       plain = λ p. second.plain (lists.stays.plain p);
       allowed = λ same walk end w ends.
-          let first = counts_all walk end (lists.along (first_same same) walk end w ends) in
+          let first = counts_all walk end (lists.along (parts same).0 walk end w ends) in
           let leaves = (along_second same walk end w ends).leaves in
           rw first.0 (second_leaves n s.store start walk old new second.outcome (rw (first.0, first.1, first.2) at leaves));
       calls = λ same walk end w ends.
-          let along = lists.along (first_same same) walk end w ends in
+          let along = lists.along (parts same).0 walk end w ends in
           let first = counts_all walk end along in
           let fewer : length walk - n < length walk = omega (arith, first.2, some, more) in
           let twice = second_walk_bound-drop (walk_call_bound of_last.task s.store tries walk) (length walk - n) walk fewer in

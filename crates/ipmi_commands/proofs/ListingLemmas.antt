@@ -1,12 +1,12 @@
 -- A listing, one step of its cursor after another, and the piece of each record.
-use Rattle.std.proofs.Common.{◌≡◌, ◌≢◌, ◌⊎◌, inl, inr, ℕ, zero, suc, ◌+◌, ◌-◌, ◌<◌, ◌≤◌, nat_le, true, false, IsTrue, Option, None, Some, IsSome, Result, Ok, Err, List, [], ◌∷◌, length, take, drop, refl, sym, ap, subst, ◌∙◌, arith, take_all, length-drop, length-take, length-take-le, ◌++◌, Bool}
+use Rattle.std.proofs.Common.{◌≡◌, ◌≢◌, ◌⊎◌, inl, inr, ℕ, zero, suc, ◌+◌, ◌-◌, ◌<◌, ◌≤◌, nat_le, true, false, IsTrue, Option, None, Some, Result, Ok, Err, List, [], ◌∷◌, length, take, drop, refl, sym, ap, ◌∙◌, arith, take_all, length-drop, length-take, length-take-le, ◌++◌, Bool}
 use Rattle.std.proofs.lemmas.List.{drop_all}
 use Rattle.std.specs.FinSet as set
 use Rattle.ipmi_commands.specs.Below.{step_call_bound, digits, Shelf, Sdr, Sel, Place, First, End, Ended, Cycle, Missing, Refused, GaveUp, Stalled, Malformed, KeepsReservations, Row, first_row, look, len_of, Store, rows_of, IsWalk, WalkEnd, Done, CycleAt, MissingAt, EndsBy, place_after_rows, Seen, IsHonest, StaysHonest, current, stays_refl, stays_trans, CursorState, StandsAt, WalkStep, MayFail, IsStep, StepLeaves, FailsAt, AsksNothing, CursorHoldsCurrent, asked_at, HandsOut, WithinTries, Task, TakesPart, FruEnded, shelf_of}
-use Rattle.ipmi_commands.specs.Prelude.{IsStopped, Stop, Span, IsWithin, is_reached, passing, shown_rows, span_items, span_plan, left_rows, left_plan, item_in, subject_in, spots_in, stop_at_end, IsOutcome, IsUnrefused, calls_for, calls_at_spots, AsksAt, FindsText, FindsNone, MayStopAt, HasListed, OnEachWalk, GoesAlong, ListsHonest, IsListing, Course, course, first_rows, first_end, Plan, Item, IsItemText, Spot, AtRecord, RunEnd, WalkEnds, run_end, Printed, Outcome, IsAllowed, CountsSo, HasFreshTroubles, IsFine, IsAmong, spots_at, end_spots, spots_after, request}
+use Rattle.ipmi_commands.specs.Prelude.{IsStopped, Stop, Span, IsWithin, is_reached, passing, shown_rows, span_items, span_plan, left_rows, left_plan, item_in, subject_in, spots_in, stop_at_end, IsOutcome, IsUnrefused, calls_for, calls_at_spots, AsksAt, FindsText, FindsNone, MayStopAt, HasListed, OnEachWalk, GoesAlong, ListsHonest, IsListing, Course, course, first_rows, first_end, Item, IsItemText, Spot, AtRecord, RunEnd, WalkEnds, run_end, Printed, Outcome, IsAllowed, CountsSo, HasFreshTroubles, IsFine, IsAmong, spots_at, end_spots, spots_after, request}
 use Rattle.ipmi_commands.specs.Plan as plan
 use Rattle.ipmi_commands.proofs.CallLemmas.{IsBelow, digits_some, len-next_ids, next_calls, first_row-first_rows}
-use Rattle.ipmi_commands.proofs.ItemLemmas.{drop_next, span_items-nil, passing-none, left_items-next, asked_first, none_printed, one_printed, first_cut, after_items, stops_after, leaves_joined, end_spot}
+use Rattle.ipmi_commands.proofs.ItemLemmas.{next_one, span_items-nil, passing-none, left_items-next, asked_first, none_printed, one_printed, first_cut, after_items, stops_after, leaves_joined, end_spot}
 use Rattle.ipmi_commands.proofs.NameLemmas.{Wrote, done_by, done_by-wrote, end_is}
 
 -- ---- limits
@@ -58,6 +58,10 @@ stopped_otherwise _ outcome stopped is done = let h = sym is ∙ done in cc h
 
 unrefused_more : (tries : ℕ) (s s' s'' : Seen) → IsUnrefused s s' → WithinTries tries s' s'' → IsUnrefused s s''
 unrefused_more tries s s' s'' before step = record { refusals = step.refusals ∙ before.refusals; troubles = omega (arith, before.troubles, step.grows) }
+
+-- where no store is added in all, none is added in either part
+pub between : (s s' s'' : Seen) → StaysHonest s s' → StaysHonest s' s'' → s''.stores_added ≡ s.stores_added → (s'.stores_added ≡ s.stores_added) × (s''.stores_added ≡ s'.stores_added)
+between s s' s'' before later same = (omega (arith, before.store.grows, later.store.grows, same), omega (arith, before.store.grows, later.store.grows, same))
 
 -- what an outcome counts, it counts since before
 module _ (tries : ℕ) (s s' s'' : Seen) (later : s''.stores_added ≡ s.stores_added → s''.stores_added ≡ s'.stores_added) where
@@ -172,35 +176,32 @@ module _ (t : Task) (tries : ℕ) (span : Span) (count : ℕ) (begun now : Curso
       stays : StaysHonest s s''
       stays = stays_trans s s' s'' lists.stays stepped
 
-      first : s''.stores_added ≡ s.stores_added → s'.stores_added ≡ s.stores_added
-      first same = omega (arith, lists.stays.store.grows, stepped.store.grows)
-
-      second : s''.stores_added ≡ s.stores_added → s''.stores_added ≡ s'.stores_added
-      second same = omega (arith, lists.stays.store.grows, stepped.store.grows)
+      parts : s''.stores_added ≡ s.stores_added → (s'.stores_added ≡ s.stores_added) × (s''.stores_added ≡ s'.stores_added)
+      parts = between s s' s'' lists.stays stepped
 
       same_rows : s''.stores_added ≡ s.stores_added → rows_of now.shelf s'.store ≡ rows_of (shelf_of t) s.store
-      same_rows same = rw shelf (ap (rows_of (shelf_of t)) (lists.stays.store.stays (first same)))
+      same_rows same = rw shelf (ap (rows_of (shelf_of t)) (lists.stays.store.stays (parts same).0))
 
       -- the step along the walk of the listing
       along : s''.stores_added ≡ s.stores_added → OnEachWalk t begun s.store (λ start walk end. WalkStep (rows_of (shelf_of t) s.store) start walk end count now next result)
       along same = λ start walk end w ends stands.
-          (rw (same_rows same) at ((step.walks lists.stays.honest).follows (second same) start walk end count)) w ends (lists.along (first same) start walk end w ends stands).stands
+          (rw (same_rows same) at ((step.walks lists.stays.honest).follows (parts same).1 start walk end count)) w ends (lists.along (parts same).0 start walk end w ends stands).stands
 
       module _ (same : s''.stores_added ≡ s.stores_added) (start : Place) (walk : List Row) (end : WalkEnd) (w : IsWalk (rows_of (shelf_of t) s.store) start walk) (ends : EndsBy (rows_of (shelf_of t) s.store) start walk end)
           (stands : StandsAt (rows_of (shelf_of t) s.store) start walk 0 begun) where
         -- it asks for the next row, or for none, or asks nothing
         asks : AsksNothing now ⊎ (len_of (look (rows_of (shelf_of t) s.store) (asked_at now.place)) ≡ len_of (first_row (drop count walk)))
-        asks = (rw (same_rows same) at (step.asks lists.stays.honest start walk end count)) w ends (lists.along (first same) start walk end w ends stands).stands
+        asks = (rw (same_rows same) at (step.asks lists.stays.honest start walk end count)) w ends (lists.along (parts same).0 start walk end w ends stands).stands
 
         -- for as many calls as the next row, or none, may take
         for_next : len_of (look (rows_of (shelf_of t) s.store) (asked_at now.place)) ≡ len_of (first_row (drop count walk))
             → s''.calls + digits next.part ≤ s'.calls + step_call_bound tries (len_of (first_row (drop count walk))) + digits now.part
-        for_next is = rw (same_rows same, same_tries, is) at ((step.honest lists.stays.honest).calls (second same))
+        for_next is = rw (same_rows same, same_tries, is) at ((step.honest lists.stays.honest).calls (parts same).1)
 
         -- and so all of the listing
         in_all : 0 < begun.part → InAll t tries span begun s s'' walk
         in_all part =
-            let calls = (lists.along (first same) start walk end w ends stands).calls in
+            let calls = (lists.along (parts same).0 start walk end w ends stands).calls in
             let next_one = rw (first_row-first_rows span.most count walk below) at (next_calls t s.store tries (left_rows span count walk)) in
             elim asks [
               | inl nothing ↦ omega (arith, next_one, calls, ap (λ (x : Seen). x.calls) (step.no_call nothing), digits_some now.part (some part))
@@ -212,7 +213,7 @@ module _ (t : Task) (tries : ℕ) (span : Span) (count : ℕ) (begun now : Curso
           → ((store : Store) (start : Place) (rows : List Row) → Printed t store (span_items span.skip t start rows) old new → run ≡ run_end t (shown_rows span.skip rows) e)
           → (s''.stores_added ≡ s.stores_added → OnEachWalk t begun s.store (λ start walk end. (count ≡ length walk) × (end ≡ e) × StandsAt (rows_of (shelf_of t) s.store) start walk count next))
           → IsListing t tries span (course begun next s s'' old new) (record { stop = st; count = count })
-      at_end st run e is unrefused ends_so ended = finished next s'' st run e is stays unrefused first ends_so
+      at_end st run e is unrefused ends_so ended = finished next s'' st run e is stays unrefused (λ same. (parts same).0) ends_so
           (λ same start walk end w ends stands.
           let there = ended same start walk end w ends stands in
           let all : IsBelow span.most (length walk) = rw there.0 at below in
@@ -225,7 +226,7 @@ module _ (t : Task) (tries : ℕ) (span : Span) (count : ℕ) (begun now : Curso
           → IsListing t tries span (course begun next s s'' old new) (record { stop = st; count = count })
       failed n st outcome is not_done counts grows plain fails may_stop may = stopped t tries span count begun next s s'' old new st outcome is not_done stays counts grows plain
           (λ same start walk end w ends stands.
-          let listed = lists.along (first same) start walk end w ends stands in
+          let listed = lists.along (parts same).0 start walk end w ends stands in
           let place = on_walk (rows_of (shelf_of t) s.store) start now.place (place_after_rows start (take count walk)) listed.stands.place fails.not_at_end in
           let left = left_plan span count t start walk end in
           let past : left_rows span count walk ≡ [] → IsAmong left.end_spots (AtRecord (asked_at (place_after_rows start (take count walk)))) = λ none.
@@ -251,14 +252,14 @@ module _ (t : Task) (tries : ℕ) (span : Span) (count : ℕ) (begun now : Curso
         (λ store start rows printed. refl) (along (Err (Missing n)) step)
     listing_ended (GaveUp n) step =
         let answer = (step.honest lists.stays.honest).answers in
-        let counts = counts_since tries s s' s'' (second (Err (GaveUp n)) step) (plan.GaveUp (AtRecord n)) lists.unrefused (answer.refusals, omega (arith, answer.troubles, same_tries), omega (arith, answer.fresh_troubles, same_tries)) in
+        let counts = counts_since tries s s' s'' (λ same. (parts (Err (GaveUp n)) step same).1) (plan.GaveUp (AtRecord n)) lists.unrefused (answer.refusals, omega (arith, answer.troubles, same_tries), omega (arith, answer.fresh_troubles, same_tries)) in
         failed (Err (GaveUp n)) step n (Stop.Ended (GaveUp n)) (plan.GaveUp (AtRecord n)) refl (λ e. cc e) counts (omega (arith, counts.1))
         (λ p holds. ((step.honest lists.stays.honest).plain (lists.stays.plain p) (lists.plain p holds)).fine) step.leaves.1 (λ spots among. among)
         (λ same start walk end w ends stands. (along (Err (GaveUp n)) step same start walk end w ends stands).1)
     listing_ended (Refused n code) step =
         let answer = (step.honest lists.stays.honest).answers in
         failed (Err (Refused n code)) step n (Stop.Ended (Refused n code)) (plan.Refused (AtRecord n) code.0) refl (λ e. cc e)
-        (counts_since tries s s' s'' (second (Err (Refused n code)) step) (plan.Refused (AtRecord n) code.0) lists.unrefused (answer.refusals, answer.last_code)) (omega (arith, lists.unrefused.troubles, answer.grows))
+        (counts_since tries s s' s'' (λ same. (parts (Err (Refused n code)) step same).1) (plan.Refused (AtRecord n) code.0) lists.unrefused (answer.refusals, answer.last_code)) (omega (arith, lists.unrefused.troubles, answer.grows))
         (λ p holds. ((step.honest lists.stays.honest).plain (lists.stays.plain p) (lists.plain p holds)).fine) step.leaves.1 (λ spots among. among)
         (λ same start walk end w ends stands. (along (Err (Refused n code)) step same start walk end w ends stands).1)
     listing_ended (Stalled n) step = absurd ((step.honest lists.stays.honest).answers)
@@ -270,9 +271,9 @@ module _ (t : Task) (tries : ℕ) (span : Span) (count : ℕ) (begun now : Curso
       stays = stays (Ok (Some row)) step;
       unrefused = unrefused_more now.tries s s' s'' lists.unrefused (step.honest lists.stays.honest).answers.0;
       along = λ same start walk end w ends stands.
-          let listed = lists.along (first (Ok (Some row)) step same) start walk end w ends stands in
+          let listed = lists.along (parts (Ok (Some row)) step same).0 start walk end w ends stands in
           let more = along (Ok (Some row)) step same start walk end w ends stands in
-          let left : left_rows span count walk ≡ row ∷ left_rows span (count + 1) walk = drop_next (first_rows span.most walk) count row (first_row-first_rows span.most count walk below ∙ more.0) in
+          let left : left_rows span count walk ≡ row ∷ left_rows span (count + 1) walk = (next_one (first_rows span.most walk) count row (first_row-first_rows span.most count walk below ∙ more.0)).0 in
           record {
             stands = more.1;
             leads = λ outcome text allowed. listed.leads outcome text (rw (left_items-next span t start walk count row more.0 left) allowed);
@@ -313,23 +314,20 @@ module _ (t : Task) (tries : ℕ) (span : Span) (count : ℕ) (begun next : Curs
     stays_on : StaysHonest s s''
     stays_on = stays_trans s s' s'' taken.stays asks.stays
 
-    before : s''.stores_added ≡ s.stores_added → s'.stores_added ≡ s.stores_added
-    before same = omega (arith, same, taken.stays.store.grows, asks.stays.store.grows)
-
-    since : s''.stores_added ≡ s.stores_added → s''.stores_added ≡ s'.stores_added
-    since same = omega (arith, same, taken.stays.store.grows, asks.stays.store.grows)
+    since : s''.stores_added ≡ s.stores_added → (s'.stores_added ≡ s.stores_added) × (s''.stores_added ≡ s'.stores_added)
+    since = between s s' s'' taken.stays asks.stays
 
     asked_calls : s''.stores_added ≡ s.stores_added → s''.calls ≤ s'.calls + calls_at_spots tries s.store (spots_after t row)
-    asked_calls same = omega (arith, rw (taken.stays.store.stays (before same)) at (asks.calls (since same)), asked_within (passing span.skip count) tries t s.store row)
+    asked_calls same = omega (arith, rw (taken.stays.store.stays (since same).0) at (asks.calls (since same).1), asked_within (passing span.skip count) tries t s.store row)
 
     -- a listing that stops at it
     stopped_there : (st : Stop) (outcome : Outcome) (text : List ℕ) → IsOutcome st outcome → (st ≡ Stop.Done → ⊥) → CountsSo tries s' s'' outcome → (IsTrue s'.plain → IsFine outcome)
         → (s''.stores_added ≡ s.stores_added → (start : Place) (walk : List Row) (end : WalkEnd) → IsAllowed t s.store (after_items (item start walk ∷ []) (left_plan span (count + 1) t start walk end)) new text outcome)
         → IsListing t tries span (course begun next s s'' old text) (record { stop = st; count = count })
-    stopped_there st outcome text is not_done counts fine leaves = stopped t tries span count begun next s s'' old text st outcome is not_done stays_on (counts_since tries s s' s'' since outcome taken.unrefused counts)
+    stopped_there st outcome text is not_done counts fine leaves = stopped t tries span count begun next s s'' old text st outcome is not_done stays_on (counts_since tries s s' s'' (λ same. (since same).1) outcome taken.unrefused counts)
         (omega (arith, taken.unrefused.troubles, asks.grows)) (λ p holds. fine (taken.stays.plain p))
         (λ same start walk end w ends stands.
-        let there = taken.along (before same) start walk end w ends stands in
+        let there = taken.along (since same).0 start walk end w ends stands in
         (there.leads outcome text (leaves same start walk end), λ part. omega (arith, there.calls, asked_calls same, digits_some next.part some)))
 
   -- the piece was not found
@@ -344,7 +342,7 @@ module _ (t : Task) (tries : ℕ) (span : Span) (count : ℕ) (begun next : Curs
   module _ (piece_text : List ℕ) (finds : FindsText IsText spots tries s' s'' piece_text) where
     -- it is a text of the row over the store of the beginning
     is_text : s''.stores_added ≡ s.stores_added → IsText s.store piece_text
-    is_text same = rw (taken.stays.store.stays (before finds.asks same)) at (finds.is (since finds.asks same))
+    is_text same = rw (taken.stays.store.stays (since finds.asks same).0) at (finds.is (since finds.asks same).1)
 
     -- the piece was written in part
     pub listing_cut : (text : List ℕ) → 0 < length piece_text → TakesPart new text piece_text → IsListing t tries span (course begun next s s'' old text) (record { stop = Stop.WriteFault; count = count })
@@ -357,7 +355,7 @@ module _ (t : Task) (tries : ℕ) (span : Span) (count : ℕ) (begun next : Curs
       stays = stays_on finds.asks;
       unrefused = record { refusals = finds.refusals ∙ taken.unrefused.refusals; troubles = omega (arith, taken.unrefused.troubles, finds.asks.grows) };
       along = λ same start walk end w ends stands.
-          let there = taken.along (before finds.asks same) start walk end w ends stands in
+          let there = taken.along (since finds.asks same).0 start walk end w ends stands in
           record {
             stands = there.stands;
             leads = λ outcome last allowed. there.leads outcome last (leaves_joined t s.store (item start walk ∷ []) (left_plan span (count + 1) t start walk end) new text (one_printed t s.store (item start walk) piece_text new text (is_text same) wrote) last outcome allowed);
