@@ -1,5 +1,5 @@
 -- The last entries of a shelf: a walk that counts them, and a second one that passes those before them.
-use Rattle.std.proofs.Common.{◌≡◌, inl, inr, ℕ, zero, suc, ◌-◌, ◌<◌, ◌≤◌, true, false, None, Some, List, [], ◌∷◌, ◌++◌, length, take, drop, refl, sym, ap, subst, ◌∙◌, append-nil, arith}
+use Rattle.std.proofs.Common.{◌≡◌, inl, inr, ℕ, zero, suc, ◌-◌, ◌<◌, ◌≤◌, true, false, None, Some, List, [], ◌∷◌, ◌++◌, length, take, drop, refl, sym, ap, subst, ◌∙◌, append-nil, arith, length-drop}
 use Rattle.std.proofs.lemmas.List.{nil_from_length}
 use Rattle.std.proofs.Math.Seq.{drop-nil}
 use Rattle.ipmi_commands.specs.Below.{CursorState, Place, Seen, IsHonest, stays_refl, stays_trans, Row, StandsAt, asked_at, Store, rows_of, WalkEnd, Done, place_after, place_after_rows, Count, Task, shelf_of}
@@ -43,6 +43,13 @@ span_without_memory r span s text honest = record {
   plain = λ p. tt;
 }
 
+-- all rows are passed, or so many of them
+abbrev all_counted : Span
+all_counted = record { skip = None; most = None }
+
+abbrev listing_after : ℕ → Span
+listing_after k = record { skip = Some k; most = None }
+
 -- ---- plans whose first items are passed
 
 -- what comes first has these spots
@@ -67,8 +74,8 @@ module _ (n : ℕ) (store : Store) where
       printed_shown shown (place_after row.next) rows old new (printed_passed (item_in None t start row) (span_items None t (place_after row.next) rows ++ shown) old new refl printed)
 
   -- where a run may stop on the way to what is shown, it may stop first in another plan
-  module _ (shown : List Item) (at_end : List Spot) (p : Plan) (old : List ℕ) (base : (done rest : List Item) (text : List ℕ) → shown ≡ done ++ rest → Printed t store done old text → Carried t store at_end p old text rest) where
-    carry : (start : Place) (rows : List Row) → ((spot : Spot) → IsAmong (spots_along start rows) spot → IsAmong (spots_at p.items p.end_spots) spot) → (done rest : List Item) (text : List ℕ)
+  module _ (shown : List Item) (at_end later : List Spot) (p : Plan) (old : List ℕ) (base : (done rest : List Item) (text : List ℕ) → shown ≡ done ++ rest → Printed t store done old text → Carried t store at_end p old text rest) where
+    carry : (start : Place) (rows : List Row) → ((spot : Spot) → IsAmong (spots_along start rows ++ later) spot → IsAmong (spots_at p.items p.end_spots) spot) → (done rest : List Item) (text : List ℕ)
         → span_items None t start rows ++ shown ≡ done ++ rest → Printed t store done old text → Carried t store at_end p old text rest
     carry start [] wide done rest text is printed = base done rest text is printed
     carry start (row ∷ rows) wide [] rest text is printed = record {
@@ -118,45 +125,34 @@ module _ (n : ℕ) (store : Store) where
   span_items-split (suc k) start [] = refl
   span_items-split (suc k) start (row ∷ rows) = rw (span_items-split k (place_after row.next) rows) refl
 
-  -- the ids of the first rows, and of what comes after them, are spots of the walk
-  first_along : (k : ℕ) (start : Place) (rows : List Row) (ends : List Spot) (spot : Spot) → IsAmong (spots_along start (take k rows)) spot → IsAmong (spots_along start rows ++ ends) spot
-  first_along zero start rows ends spot among = absurd among
-  first_along (suc k) start [] ends spot among = absurd among
-  first_along (suc k) start (row ∷ rows) ends spot among = elim among [ inl is ↦ inl is | inr later ↦ inr (first_along k (place_after row.next) rows ends spot later) ]
+  spots_along-split : (k : ℕ) (start : Place) (rows : List Row) (ends : List Spot) → spots_along start rows ++ ends ≡ spots_along start (take k rows) ++ (spots_along (place_after_rows start (take k rows)) (drop k rows) ++ ends)
+  spots_along-split zero start rows ends = refl
+  spots_along-split (suc k) start [] ends = refl
+  spots_along-split (suc k) start (row ∷ rows) ends = rw (spots_along-split k (place_after row.next) rows ends) refl
 
-  shown_there : (k : ℕ) (start : Place) (rows : List Row) (ends : List Spot) (spot : Spot) → IsAmong (spots_at (row_items t (place_after_rows start (take k rows)) (drop k rows)) ends) spot → IsAmong (spots_along start rows ++ ends) spot
-  shown_there zero start [] ends spot among = among
-  shown_there zero start (row ∷ rows) ends spot among = elim among [ inl is ↦ inl is | inr none ↦ absurd none ]
-  shown_there (suc k) start [] ends spot among = among
-  shown_there (suc k) start (row ∷ rows) ends spot among = inr (shown_there k (place_after row.next) rows ends spot among)
+  -- what comes first along rows, or after them, is asked for at a spot of theirs
+  first_there : (start : Place) (rows : List Row) (ends : List Spot) (spot : Spot) → IsAmong (spots_at (row_items t start rows) ends) spot → IsAmong (spots_along start rows ++ ends) spot
+  first_there start [] ends spot among = among
+  first_there start (row ∷ rows) ends spot among = elim among [ inl is ↦ inl is | inr none ↦ absurd none ]
 
-  abbrev counting : Span
-  counting = record { skip = None; most = None }
-
-  abbrev listing_after : ℕ → Span
-  listing_after k = record { skip = Some k; most = None }
+  among_after : (spots ends : List Spot) (spot : Spot) → IsAmong ends spot → IsAmong (spots ++ ends) spot
+  among_after [] ends spot among = among
+  among_after (first ∷ spots) ends spot among = inr (among_after spots ends spot among)
 
   -- the second walk leaves what the plan allows
   second_leaves : (start : Place) (walk : List Row) (old new : List ℕ) (outcome : Outcome) → IsAllowed t store (span_plan (listing_after (length walk - n)) t start walk Done) old new outcome → IsAllowed t store (last_plan n t start walk Done) old new outcome
-  second_leaves start walk old new outcome allowed = allowed_carried t store (span_plan (listing_after (length walk - n)) t start walk Done) p old old new
-      (λ done rest text is. carry shown ends p old (widened spots shown ends (WalkEnds Done) old (λ spot among. shown_there k start walk ends spot among))
-      start (take k walk) (λ spot among. rw spots_at-first (first_along k start walk ends spot among)) done rest text (sym (span_items-split k start walk) ∙ is))
-      outcome (λ e is allowed. (first_kept spots shown old new (printed_shown shown start (take k walk) old new (rw span_items-split at allowed.0)), allowed.1)) allowed
-    where
-      k : ℕ
-      k = length walk - n
-
-      ends : List Spot
-      ends = end_spots start walk Done
-
-      spots : List Spot
-      spots = spots_of_walk start walk Done
-
-      shown : List Item
-      shown = last_items n t start walk Done
-
-      p : Plan
-      p = last_plan n t start walk Done
+  second_leaves start walk old new outcome allowed =
+      let k = length walk - n in
+      let ends = end_spots start walk Done in
+      let shown = last_items n t start walk Done in
+      let p = last_plan n t start walk Done in
+      let place = place_after_rows start (take k walk) in
+      let split = spots_along-split k start walk ends in
+      allowed_carried t store (span_plan (listing_after k) t start walk Done) p old old new
+      (λ done rest text is. carry shown ends (spots_along place (drop k walk) ++ ends) p old
+      (widened (spots_of_walk start walk Done) shown ends (WalkEnds Done) old (λ spot among. rw split (among_after (spots_along start (take k walk)) (spots_along place (drop k walk) ++ ends) spot (first_there place (drop k walk) ends spot among))))
+      start (take k walk) (λ spot among. rw (spots_at-first, split) among) done rest text (sym (span_items-split k start walk) ∙ is))
+      outcome (λ e is allowed. (first_kept (spots_of_walk start walk Done) shown old new (printed_shown shown start (take k walk) old new (rw span_items-split at allowed.0)), allowed.1)) allowed
 
   -- the first walk prints nothing
   quiet : (start : Place) (rows : List Row) (old new : List ℕ) → Printed t store (span_items None t start rows) old new → new ≡ old
@@ -167,10 +163,9 @@ module _ (n : ℕ) (store : Store) where
   empty_leaves start walk old new none same = rw (nil_from_length walk none, drop-nil) (same_printed t store old new same, refl)
 
   -- and it stops at an id of the walk; so it leaves what the plan allows, where it does not come to its end, or there is no entry
-  first_leaves : (start : Place) (walk : List Row) (end : WalkEnd) (old new : List ℕ) (outcome : Outcome) → (outcome ≡ plan.Finished (WalkEnds Done) → length walk ≡ 0) → IsAllowed t store (span_plan counting t start walk end) old new outcome → IsAllowed t store (last_plan n t start walk end) old new outcome
-  first_leaves start walk end old new outcome none allowed = allowed_carried t store (span_plan counting t start walk end) (last_plan n t start walk end) old old new
-      (λ done rest text is. carry [] ends (last_plan n t start walk end) old base start walk
-      (λ spot among. there spot (right (spots_along start walk) spot among)) done rest text (append-nil (span_items None t start walk) ∙ is))
+  first_leaves : (start : Place) (walk : List Row) (end : WalkEnd) (old new : List ℕ) (outcome : Outcome) → (outcome ≡ plan.Finished (WalkEnds Done) → length walk ≡ 0) → IsAllowed t store (span_plan all_counted t start walk end) old new outcome → IsAllowed t store (last_plan n t start walk end) old new outcome
+  first_leaves start walk end old new outcome none allowed = allowed_carried t store (span_plan all_counted t start walk end) (last_plan n t start walk end) old old new
+      (λ done rest text is. carry [] ends ends (last_plan n t start walk end) old base start walk there done rest text (append-nil (span_items None t start walk) ∙ is))
       outcome (λ e is allowed. by_end e end (λ at_end. none (is ∙ at_end)) (quiet start walk old new allowed.0) allowed.1) allowed
     where
       ends : List Spot
@@ -179,21 +174,13 @@ module _ (n : ℕ) (store : Store) where
       there : (spot : Spot) → IsAmong (spots_along start walk ++ ends) spot → IsAmong (spots_at (last_plan n t start walk end).items (last_plan n t start walk end).end_spots) spot
       there spot among = rw spots_at-first among
 
-      right : (spots : List Spot) (spot : Spot) → IsAmong spots spot → IsAmong (spots ++ ends) spot
-      right [] spot among = absurd among
-      right (first ∷ spots) spot among = elim among [ inl is ↦ inl is | inr later ↦ inr (right spots spot later) ]
-
-      left : (spots : List Spot) (spot : Spot) → IsAmong ends spot → IsAmong (spots ++ ends) spot
-      left [] spot among = among
-      left (first ∷ spots) spot among = inr (left spots spot among)
-
       base : (done rest : List Item) (text : List ℕ) → [] ≡ done ++ rest → Printed t store done old text → Carried t store ends (last_plan n t start walk end) old text rest
       base [] rest text is printed = record {
         done' = [];
         rest' = (last_plan n t start walk end).items;
         items_are = refl;
         printed = printed;
-        spots = λ spot among. there spot (left (spots_along start walk) spot (rw (← is) at among));
+        spots = λ spot among. there spot (among_after (spots_along start walk) ends spot (rw (← is) at among));
         next = λ item more e some. let h = is ∙ e in cc h;
       }
       base (d ∷ done) rest text is printed = cc is
@@ -202,10 +189,9 @@ module _ (n : ℕ) (store : Store) where
       by_end e Done none same is = rw is (empty_leaves start walk old new (none (ap plan.Finished is)) same)
       by_end e _ none same is = (same_printed t store old new same, is)
 
-second_walk_bound-drop : (bound k : ℕ) (walk : List Row) → k < length walk → second_walk_bound bound (drop k walk) ≡ bound
-second_walk_bound-drop bound k [] within = absurd (omega (arith, within))
-second_walk_bound-drop bound zero (row ∷ walk) within = refl
-second_walk_bound-drop bound (suc k) (row ∷ walk) within = second_walk_bound-drop bound k walk (omega (arith, within))
+second_walk_bound-some : (bound : ℕ) (rows : List Row) → 0 < length rows → second_walk_bound bound rows ≡ bound
+second_walk_bound-some bound [] some = absurd (omega (arith, some))
+second_walk_bound-some bound (row ∷ rows) some = refl
 
 -- what ends by Done is done
 done_there : (result : Stop) (outcome : Outcome) → IsOutcome result outcome → outcome ≡ plan.Finished (WalkEnds Done) → result ≡ Stop.Done
@@ -214,9 +200,6 @@ done_there result outcome is ends = (elim (is_done result) as (λ b. is_done res
 module _ (n : ℕ) (start : Place) (tries : ℕ) where
   abbrev of_last : Request
   of_last = request (Task.SelList (Count.Last n)) start tries
-
-  abbrev all_counted : Span
-  all_counted = record { skip = None; most = None }
 
   -- the first walk did not come to its end, or there is no entry
   pub first_performs : (c : Change) (counted : Listed) → ListsSpan of_last all_counted c counted → (counted.stop ≡ Stop.Done → counted.count ≡ 0) → Performs of_last c counted.stop
@@ -234,7 +217,7 @@ module _ (n : ℕ) (start : Place) (tries : ℕ) where
 
   -- it is done, and the second walk passes those before the last
   module _ (s s' s'' : Seen) (old mid new : List ℕ) (counted listed : Listed) (lists : ListsSpan of_last all_counted (change s s' old mid) counted) (is_done_ : counted.stop ≡ Stop.Done) (some : 1 ≤ n) (more : 0 < counted.count)
-      (second : ListsSpan of_last (record { skip = Some (counted.count - n); most = None }) (change s' s'' mid new) listed) where
+      (second : ListsSpan of_last (listing_after (counted.count - n)) (change s' s'' mid new) listed) where
     parts : s''.stores_added ≡ s.stores_added → (s'.stores_added ≡ s.stores_added) × (s''.stores_added ≡ s'.stores_added)
     parts = between s s' s'' lists.stays second.stays
 
@@ -250,7 +233,7 @@ module _ (n : ℕ) (start : Place) (tries : ℕ) where
         by_end _ is = cc is
 
     abbrev SecondAlong : Store → Type 0
-    SecondAlong store = OnWalk of_last store (λ walk end. SpanAlong of_last store (record { skip = Some (counted.count - n); most = None }) walk end (change s' s'' mid new) second.outcome listed)
+    SecondAlong store = OnWalk of_last store (λ walk end. SpanAlong of_last store (listing_after (counted.count - n)) walk end (change s' s'' mid new) second.outcome listed)
 
     along_second : s''.stores_added ≡ s.stores_added → SecondAlong s.store
     along_second same = subst SecondAlong (lists.stays.store.stays (parts same).0) (second.along (parts same).1)
@@ -269,7 +252,6 @@ module _ (n : ℕ) (start : Place) (tries : ℕ) where
       calls = λ same walk end w ends.
           let along = lists.along (parts same).0 walk end w ends in
           let first = counts_all walk end along in
-          let fewer : length walk - n < length walk = omega (arith, first.2, some, more) in
-          let twice = second_walk_bound-drop (walk_call_bound of_last.task s.store tries walk) (length walk - n) walk fewer in
+          let twice = second_walk_bound-some (walk_call_bound of_last.task s.store tries walk) (drop (length walk - n) walk) (omega (arith, length-drop (length walk - n) walk, first.2, some, more)) in
           rw first.0 (omega (arith, along.calls, (along_second same walk end w ends).calls, twice));
     }

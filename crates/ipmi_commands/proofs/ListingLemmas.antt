@@ -2,7 +2,7 @@
 use Rattle.std.proofs.Common.{◌≡◌, ◌≢◌, ◌⊎◌, inl, inr, ℕ, zero, suc, ◌+◌, ◌-◌, ◌<◌, ◌≤◌, nat_le, true, false, IsTrue, Option, None, Some, Result, Ok, Err, List, [], ◌∷◌, length, take, drop, refl, sym, ap, ◌∙◌, arith, take_all, length-drop, length-take, length-take-le, ◌++◌, Bool}
 use Rattle.std.proofs.lemmas.List.{drop_all}
 use Rattle.std.specs.FinSet as set
-use Rattle.ipmi_commands.specs.Below.{step_call_bound, digits, Shelf, Sdr, Sel, Place, First, End, Ended, Cycle, Missing, Refused, GaveUp, Stalled, Malformed, KeepsReservations, Row, first_row, look, len_of, Store, rows_of, IsWalk, WalkEnd, Done, CycleAt, MissingAt, EndsBy, place_after_rows, Seen, IsHonest, StaysHonest, current, stays_refl, stays_trans, CursorState, StandsAt, WalkStep, MayFail, IsStep, StepLeaves, FailsAt, AsksNothing, CursorHoldsCurrent, asked_at, HandsOut, WithinTries, Task, TakesPart, FruEnded, shelf_of}
+use Rattle.ipmi_commands.specs.Below.{step_call_bound, digits, Shelf, Place, First, End, Ended, Cycle, Missing, Refused, GaveUp, Stalled, Malformed, KeepsReservations, Row, first_row, look, len_of, Store, rows_of, IsWalk, WalkEnd, Done, CycleAt, MissingAt, EndsBy, place_after_rows, Seen, IsHonest, StaysHonest, current, stays_refl, stays_trans, CursorState, StandsAt, WalkStep, MayFail, IsStep, StepLeaves, FailsAt, AsksNothing, CursorHoldsCurrent, asked_at, HandsOut, WithinTries, Task, TakesPart, FruEnded, shelf_of}
 use Rattle.ipmi_commands.specs.Prelude.{IsStopped, Stop, Span, IsWithin, is_reached, passing, shown_rows, span_items, span_plan, left_rows, left_plan, item_in, subject_in, spots_in, stop_at_end, IsOutcome, IsUnrefused, calls_for, calls_at_spots, AsksAt, FindsText, FindsNone, MayStopAt, HasListed, OnEachWalk, GoesAlong, ListsHonest, IsListing, Course, course, first_rows, first_end, Item, IsItemText, Spot, AtRecord, RunEnd, WalkEnds, run_end, Printed, Outcome, IsAllowed, CountsSo, HasFreshTroubles, IsFine, IsAmong, spots_at, end_spots, spots_after, request}
 use Rattle.ipmi_commands.specs.Plan as plan
 use Rattle.ipmi_commands.proofs.CallLemmas.{IsBelow, digits_some, len-next_ids, next_calls, first_row-first_rows}
@@ -49,10 +49,8 @@ none_left (Some n) k walk below none = omega (arith, below, length-drop k (take 
 pub stopped_otherwise : (result : Stop) (outcome : Outcome) → IsStopped result → IsOutcome result outcome → outcome ≡ plan.Finished (WalkEnds Done) → ⊥
 stopped_otherwise Stop.Done outcome stopped is done = cc stopped
 stopped_otherwise (Stop.Inventory id FruEnded.Stalled) outcome stopped is done = is
-stopped_otherwise (Stop.Inventory id FruEnded.Words) outcome stopped is done = is
 stopped_otherwise (Stop.Ended (Stalled n)) outcome stopped is done = is
-stopped_otherwise (Stop.Ended (Malformed n)) outcome stopped is done = is
-stopped_otherwise _ outcome stopped is done = let h = sym is ∙ done in cc h
+stopped_otherwise _ outcome stopped is done = first_of (cc, search)
 
 -- ---- what was counted
 
@@ -70,7 +68,6 @@ module _ (tries : ℕ) (s s' s'' : Seen) (later : s''.stores_added ≡ s.stores_
   fresh_since (plan.AtInventory id) fresh = (fresh.0, λ same. fresh.1 (later same))
 
   pub counts_since : (outcome : Outcome) → IsUnrefused s s' → CountsSo tries s' s'' outcome → CountsSo tries s s'' outcome
-  counts_since (plan.Finished end) before counts = counts ∙ before.refusals
   counts_since (plan.GaveUp spot) before counts = (counts.0 ∙ before.refusals, omega (arith, before.troubles, counts.1), fresh_since spot counts.2)
   counts_since (plan.Refused spot code) before counts = (counts.0 ∙ rw before.refusals refl, counts.1)
   counts_since _ before counts = counts ∙ before.refusals
@@ -86,8 +83,7 @@ on_walk rows start now there (inl same) not_end = same
 on_walk rows start now there (inr at_end) not_end = absurd (not_end at_end.0)
 
 current-kept : (shelf : Shelf) (s s' : Seen) → KeepsReservations s s' → current shelf s' ≡ current shelf s
-current-kept Sdr s s' keeps = keeps.sdr
-current-kept Sel s s' keeps = keeps.sel
+current-kept shelf s s' keeps = grind arith
 
 -- ---- a listing that begins, and one that stops
 
