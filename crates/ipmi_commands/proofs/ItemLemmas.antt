@@ -1,7 +1,8 @@
 -- The items of a plan, one for each row, their texts, and the spots at which a run may stop.
-use Rattle.std.proofs.Common.{◌≡◌, ◌≢◌, inl, ℕ, zero, suc, ◌+◌, ◌-◌, ◌<◌, ◌≤◌, ◌==◌, Bool, true, false, cond, Option, None, Some, List, [], ◌∷◌, ◌++◌, length, take, drop, refl, sym, ap, subst, ◌∙◌, append_assoc, append-nil, arith, ne_eqb, length-take-le}
+use Rattle.std.proofs.Common.{◌≡◌, ◌≢◌, inl, ℕ, zero, suc, ◌+◌, ◌-◌, ◌<◌, ◌==◌, Bool, true, false, cond, Option, None, Some, List, [], ◌∷◌, ◌++◌, length, take, drop, refl, sym, ap, ◌∙◌, append_assoc, append-nil, arith, ne_eqb}
+use Rattle.std.proofs.Math.Seq.{drop-nil}
 use Rattle.ipmi_commands.specs.Below.{Place, First, Id, End, Row, first_row, Store, WalkEnd, Done, CycleAt, MissingAt, EndsBy, place_after, place_after_rows, last_next, MayFail, asked_at, Task, TakesPart}
-use Rattle.ipmi_commands.specs.Prelude.{passing, span_items, item_in, subject_in, Plan, Item, Spot, AtRecord, row_item, row_items, IsItemText, AreTexts, Printed, Outcome, IsAllowed, StopsAt, IsAmong, end_spots}
+use Rattle.ipmi_commands.specs.Prelude.{Span, MayStopAt, left_rows, passing, span_items, item_in, Plan, Item, Passed, Spot, AtRecord, row_items, RunEnd, IsItemText, AreTexts, Printed, Outcome, IsAllowed, IsAmong, spots_at, end_spots}
 use Rattle.ipmi_commands.specs.Plan as plan
 
 -- ---- items and rows
@@ -11,17 +12,19 @@ pub row_items-append : (t : Task) (start : Place) (done rest : List Row) → row
 row_items-append t start [] rest = refl
 row_items-append t start (d ∷ done) rest = rw (row_items-append t (place_after d.next) done rest) refl
 
-pub take-next : (rows : List Row) (k : ℕ) (row : Row) → first_row (drop k rows) ≡ Some row → take (k + 1) rows ≡ take k rows ++ (row ∷ [])
-take-next [] zero row next = cc next
-take-next [] (suc k) row next = cc next
-take-next (first ∷ rows) zero row next = let same : first ≡ row = cc next in rw same refl
-take-next (first ∷ rows) (suc k) row next = let one_on : suc k + 1 ≡ suc (k + 1) = omega arith in rw (one_on, take-next rows k row next) refl
+-- the next of some rows: those after it, and the place after it
+pub next_one : (rows : List Row) (k : ℕ) (row : Row) → first_row (drop k rows) ≡ Some row → (drop k rows ≡ row ∷ drop (k + 1) rows) × ((start : Place) → place_after_rows start (take (k + 1) rows) ≡ place_after row.next)
+next_one [] k row next = let none = rw drop-nil at next in cc none
+next_one (first ∷ rows) zero row next = let same : first ≡ row = cc next in (rw same refl, λ start. rw same refl)
+next_one (first ∷ rows) (suc k) row next =
+    let later = next_one rows k row next in
+    let one_on : suc k + 1 ≡ suc (k + 1) = omega arith in (rw one_on later.0, λ start. rw one_on (later.1 (place_after first.next)))
 
 -- ---- texts
 
 module _ (t : Task) (store : Store) where
   texts_joined : (items more : List Item) (a b : List ℕ) → AreTexts t store items a → AreTexts t store more b → AreTexts t store (items ++ more) (a ++ b)
-  texts_joined [] more a b are rest = subst (λ (l : List ℕ). AreTexts t store more l) (sym (rw are refl)) rest
+  texts_joined [] more a b are rest = rw are rest
   texts_joined (item ∷ items) more a b are rest = record {
     first = are.first;
     rest = are.rest ++ b;
@@ -74,29 +77,24 @@ span_items-cons None t start row rows = refl
 span_items-cons (Some zero) t start row rows = refl
 span_items-cons (Some (suc n)) t start row rows = let fewer : n ≡ suc n - 1 = omega arith in ap (λ (m : ℕ). item_in (Some (suc n)) t start row ∷ span_items (Some m) t (place_after row.next) rows) fewer
 
--- those of some rows, and of the rows after them
-pub span_items-append : (skip : Option ℕ) (t : Task) (start : Place) (done rest : List Row) → span_items skip t start (done ++ rest) ≡ span_items skip t start done ++ span_items (passing skip (length done)) t (place_after_rows start done) rest
-span_items-append None t start [] rest = refl
-span_items-append None t start (d ∷ done) rest = ap (λ (l : List Item). item_in None t start d ∷ l) (span_items-append None t (place_after d.next) done rest)
-span_items-append (Some zero) t start done rest = let none : 0 ≡ 0 - length done = omega arith in row_items-append t start done rest ∙ ap (λ (m : ℕ). row_items t start done ++ span_items (Some m) t (place_after_rows start done) rest) none
-span_items-append (Some (suc n)) t start [] rest = let all : suc n ≡ suc n - 0 = omega arith in ap (λ (m : ℕ). span_items (Some m) t start rest) all
-span_items-append (Some (suc n)) t start (d ∷ done) rest =
-    let fewer : n - length done ≡ suc n - suc (length done) = omega arith in
-    ap (λ (l : List Item). item_in (Some (suc n)) t start d ∷ l) (span_items-append (Some n) t (place_after d.next) done rest)
-    ∙ ap (λ (m : ℕ). item_in (Some (suc n)) t start d ∷ (span_items (Some n) t (place_after d.next) done ++ span_items (Some m) t (place_after_rows (place_after d.next) done) rest)) fewer
+passing-more : (skip : Option ℕ) (k : ℕ) → passing (passing skip k) 1 ≡ passing skip (k + 1)
+passing-more None k = refl
+passing-more (Some n) k = let fewer : n - k - 1 ≡ n - (k + 1) = omega arith in ap Some fewer
 
--- one row more
-pub printed_more : (skip : Option ℕ) (t : Task) (store : Store) (start : Place) (walk : List Row) (k : ℕ) (row : Row) (text old new more : List ℕ) → k ≤ length walk → first_row (drop k walk) ≡ Some row → Printed t store (span_items skip t start (take k walk)) old new
-    → IsItemText t store (subject_in (passing skip k) row) text → more ≡ new ++ text → Printed t store (span_items skip t start (take (k + 1) walk)) old more
-printed_more skip t store start walk k row text old new more within next printed is more_is =
-    let place = place_after_rows start (take k walk) in
-    let item = item_in (passing skip k) t place row in
-    let items : span_items skip t start (take (k + 1) walk) ≡ span_items skip t start (take k walk) ++ (item ∷ []) =
-    ap (span_items skip t start) (take-next walk k row next)
-    ∙ span_items-append skip t start (take k walk) (row ∷ [])
-    ∙ ap (λ (m : ℕ). span_items skip t start (take k walk) ++ span_items (passing skip m) t place (row ∷ [])) (length-take-le k walk within)
-    ∙ ap (λ (l : List Item). span_items skip t start (take k walk) ++ l) (span_items-cons (passing skip k) t place row [] ∙ ap (λ (l : List Item). item ∷ l) (span_items-nil (passing (passing skip k) 1) t (place_after row.next))) in
-    subst (λ (l : List Item). Printed t store l old more) (sym items) (printed_joined t store (span_items skip t start (take k walk)) (item ∷ []) old new more printed (one_printed t store item text new more is more_is))
+pub passing-none : (skip : Option ℕ) → passing skip 0 ≡ skip
+passing-none None = refl
+passing-none (Some n) = let all : n - 0 ≡ n = omega arith in ap Some all
+
+-- what is left of a listing begins with the item of the next row
+pub left_items-next : (span : Span) (t : Task) (start : Place) (walk : List Row) (k : ℕ) (row : Row) → first_row (drop k walk) ≡ Some row → left_rows span k walk ≡ row ∷ left_rows span (k + 1) walk
+    → span_items (passing span.skip k) t (place_after_rows start (take k walk)) (left_rows span k walk)
+    ≡ item_in (passing span.skip k) t (place_after_rows start (take k walk)) row ∷ span_items (passing span.skip (k + 1)) t (place_after_rows start (take (k + 1) walk)) (left_rows span (k + 1) walk)
+left_items-next span t start walk k row next left = rw (left, span_items-cons, passing-more span.skip k, (next_one walk k row next).1 start) refl
+
+-- the id that is asked for first is a spot of what comes first
+pub asked_first : (skip : Option ℕ) (t : Task) (place : Place) (rows : List Row) (ends : List Spot) → (rows ≡ [] → IsAmong ends (AtRecord (asked_at place))) → IsAmong (spots_at (span_items skip t place rows) ends) (AtRecord (asked_at place))
+asked_first skip t place [] ends at_end = rw span_items-nil (at_end refl)
+asked_first skip t place (row ∷ rows) ends at_end = rw span_items-cons (inl refl)
 
 -- ---- plans
 
@@ -104,40 +102,68 @@ printed_more skip t store start walk k row text old new more within next printed
 abbrev pub after_items : List Item → Plan → Plan
 after_items first p = record { items = first ++ p.items; end = p.end; end_spots = p.end_spots }
 
--- what is printed after them is printed after them all
-module _ (t : Task) (store : Store) (first : List Item) (p : Plan) (old text : List ℕ) (before : Printed t store first old text) (new : List ℕ) where
-  stops_joined : (spot : Spot) → StopsAt spot t store p text new → StopsAt spot t store (after_items first p) old new
-  stops_joined spot at = record {
-    done = first ++ at.done;
-    rest = at.rest;
-    items_are = rw at.items_are (sym (append_assoc first at.done at.rest));
-    printed = printed_joined t store first at.done old text new before at.printed;
-    there = at.there;
-  }
+-- where a run may stop after some items of one plan, it may stop after some of another, with the same item next if that is printed
+pub record Carried (t : Task) (store : Store) (at_end : List Spot) (p' : Plan) (old new : List ℕ) (rest : List Item) : Type 0 where
+  pub done' : List Item
+  pub rest' : List Item
+  pub items_are : p'.items ≡ done' ++ rest'
+  pub printed : Printed t store done' old new
+  pub spots : (spot : Spot) → IsAmong (spots_at rest at_end) spot → IsAmong (spots_at rest' p'.end_spots) spot
+  pub next : (item : Item) (more : List Item) → rest ≡ item ∷ more → (item.subject ≡ Passed → ⊥) → (item' : Item) × (more' : List Item) × (rest' ≡ item' ∷ more') × (item'.subject ≡ item.subject)
 
-  pub leaves_joined : (outcome : Outcome) → IsAllowed t store p text new outcome → IsAllowed t store (after_items first p) old new outcome
-  leaves_joined (plan.Finished e) allowed = (printed_joined t store first p.items old text new before allowed.0, allowed.1)
-  leaves_joined (plan.GaveUp spot) allowed = stops_joined spot allowed
-  leaves_joined (plan.Refused spot code) allowed = stops_joined spot allowed
-  leaves_joined plan.OutOfMemory allowed = record {
-    done = first ++ allowed.done;
-    rest = allowed.rest;
-    items_are = rw allowed.items_are (sym (append_assoc first allowed.done allowed.rest));
-    printed = printed_joined t store first allowed.done old text new before allowed.printed;
-  }
-  leaves_joined plan.WriteFault allowed = record {
-    done = first ++ allowed.done;
-    item = allowed.item;
-    rest = allowed.rest;
-    items_are = rw allowed.items_are (sym (append_assoc first allowed.done (allowed.item ∷ allowed.rest)));
-    whole = allowed.whole;
-    printed = printed_joined t store first allowed.done old text allowed.whole before allowed.printed;
-    text = allowed.text;
-    is_text = allowed.is_text;
-    some = allowed.some;
-    bytes = allowed.bytes;
-    new_is = allowed.new_is;
-  }
+module _ (t : Task) (store : Store) where
+  -- what may be given up or refused, or memory wanted, after some items
+  pub stops_after : (p : Plan) (done rest : List Item) (old new : List ℕ) (outcome : Outcome) → p.items ≡ done ++ rest → Printed t store done old new → MayStopAt (spots_at rest p.end_spots) outcome → IsAllowed t store p old new outcome
+  stops_after p done rest old new (plan.GaveUp spot) is printed may = record { done = done; rest = rest; items_are = is; printed = printed; there = may }
+  stops_after p done rest old new (plan.Refused spot code) is printed may = record { done = done; rest = rest; items_are = is; printed = printed; there = may }
+  stops_after p done rest old new plan.OutOfMemory is printed may = record { done = done; rest = rest; items_are = is; printed = printed }
+  stops_after p done rest old new _ is printed may = absurd may
+
+  -- a passed item has no text
+  pub no_text : (item : Item) (text : List ℕ) → item.subject ≡ Passed → IsItemText t store item.subject text → text ≡ []
+  no_text item text passed is = rw passed at is
+
+  -- what may be left by the one plan may be left by the other
+  module _ (p p' : Plan) (old old' new : List ℕ) (carry : (done rest : List Item) (text : List ℕ) → p.items ≡ done ++ rest → Printed t store done old text → Carried t store p.end_spots p' old' text rest) where
+    pub allowed_carried : (outcome : Outcome) → ((e : RunEnd) → outcome ≡ plan.Finished e → IsAllowed t store p old new (plan.Finished e) → IsAllowed t store p' old' new (plan.Finished e))
+        → IsAllowed t store p old new outcome → IsAllowed t store p' old' new outcome
+    allowed_carried (plan.Finished e) whole allowed = whole e refl allowed
+    allowed_carried (plan.GaveUp spot) whole allowed =
+        let c = carry allowed.done allowed.rest new allowed.items_are allowed.printed in stops_after p' c.done' c.rest' old' new (plan.GaveUp spot) c.items_are c.printed (c.spots spot allowed.there)
+    allowed_carried (plan.Refused spot code) whole allowed =
+        let c = carry allowed.done allowed.rest new allowed.items_are allowed.printed in stops_after p' c.done' c.rest' old' new (plan.Refused spot code) c.items_are c.printed (c.spots spot allowed.there)
+    allowed_carried plan.OutOfMemory whole allowed =
+        let c = carry allowed.done allowed.rest new allowed.items_are allowed.printed in stops_after p' c.done' c.rest' old' new plan.OutOfMemory c.items_are c.printed tt
+    allowed_carried plan.WriteFault whole allowed =
+        let some = allowed.some in
+        let c = carry allowed.done (allowed.item ∷ allowed.rest) allowed.whole allowed.items_are allowed.printed in
+        let next = c.next allowed.item allowed.rest refl (λ passed. omega (arith, some, ap length (no_text allowed.item allowed.text passed allowed.is_text))) in
+        record {
+          done = c.done';
+          item = next.0;
+          rest = next.1;
+          items_are = rw (← next.2) c.items_are;
+          whole = allowed.whole;
+          printed = c.printed;
+          text = allowed.text;
+          is_text = rw next.3 allowed.is_text;
+          some = allowed.some;
+          bytes = allowed.bytes;
+          new_is = allowed.new_is;
+        }
+
+-- what is printed after some items is printed after them all
+pub leaves_joined : (t : Task) (store : Store) (first : List Item) (p : Plan) (old text : List ℕ) → Printed t store first old text → (new : List ℕ) (outcome : Outcome) → IsAllowed t store p text new outcome → IsAllowed t store (after_items first p) old new outcome
+leaves_joined t store first p old text before new outcome allowed = allowed_carried t store p (after_items first p) text old new
+    (λ done rest l is printed. record {
+      done' = first ++ done;
+      rest' = rest;
+      items_are = rw is (sym (append_assoc first done rest));
+      printed = printed_joined t store first done old text l before printed;
+      spots = λ spot among. among;
+      next = λ item more e some. (item, more, e, refl);
+    })
+    outcome (λ e is allowed. (printed_joined t store first p.items old text new before allowed.0, allowed.1)) allowed
 
 -- ---- spots
 
@@ -154,31 +180,21 @@ asked_at-next n (row ∷ rows) more = asked_at-next row.next rows more
 -- what is asked for at the end of a walk is a spot of its end
 pub end_spot : (rows : List Row) (start : Place) (walk : List Row) (end : WalkEnd) → EndsBy rows start walk end → MayFail end (place_after_rows start walk) → IsAmong (end_spots start walk end) (AtRecord (asked_at (place_after_rows start walk)))
 end_spot rows First [] Done ends may = inl refl
-end_spot rows (Id n) [] Done ends may = absurd ends
 end_spot rows End [] Done ends may = cc may
 end_spot rows start (row ∷ walk) Done ends may = absurd (not_first row.next walk may)
 end_spot rows start walk (CycleAt n) ends may = absurd may
-end_spot rows First [] (MissingAt n) ends may = absurd ends
 end_spot rows (Id id) [] (MissingAt n) ends may = inl (ap AtRecord (sym ends.0))
-end_spot rows End [] (MissingAt n) ends may = absurd ends
 end_spot rows start (row ∷ walk) (MissingAt n) ends may = inl (ap AtRecord (asked_at-next row.next walk ends.1 ∙ sym ends.0))
+end_spot rows _ [] _ ends may = absurd ends
+
+no_end_spot : (place : Place) (rows : List Row) → place ≢ First → end_spots place rows Done ≡ []
+no_end_spot First rows moved = absurd (moved refl)
+no_end_spot (Id n) rows moved = refl
+no_end_spot End rows moved = refl
 
 -- the end of more rows is that of the last of them
-end_spots-moved : (place : Place) (rest : List Row) (end : WalkEnd) → place ≢ First → end_spots place rest end ≡ end_spots End rest end
-end_spots-moved First rest end moved = absurd (moved refl)
-end_spots-moved (Id n) rest Done moved = refl
-end_spots-moved (Id n) rest _ moved = refl
-end_spots-moved End rest end moved = refl
-
-end_spots-cons : (start : Place) (d : Row) (rows : List Row) (end : WalkEnd) → end_spots start (d ∷ rows) end ≡ end_spots End rows end
-end_spots-cons First d rows Done = refl
-end_spots-cons _ d rows Done = refl
-end_spots-cons start d rows _ = refl
-
-end_spots-append : (done rest : List Row) (end : WalkEnd) → end_spots End (done ++ rest) end ≡ end_spots End rest end
-end_spots-append done rest Done = refl
-end_spots-append done rest _ = refl
-
 pub end_spots-joined : (start : Place) (done rest : List Row) (end : WalkEnd) → end_spots (place_after_rows start done) rest end ≡ end_spots start (done ++ rest) end
 end_spots-joined start [] rest end = refl
-end_spots-joined start (d ∷ done) rest end = end_spots-moved (place_after_rows (place_after d.next) done) rest end (not_first d.next done) ∙ sym (end_spots-append done rest end) ∙ sym (end_spots-cons start d (done ++ rest) end)
+end_spots-joined First (d ∷ done) rest Done = no_end_spot (place_after_rows (place_after d.next) done) rest (not_first d.next done)
+end_spots-joined _ (d ∷ done) rest Done = no_end_spot (place_after_rows (place_after d.next) done) rest (not_first d.next done)
+end_spots-joined start (d ∷ done) rest _ = refl

@@ -1,11 +1,12 @@
 -- A listing, one step of its cursor after another, and the piece of each record.
-use Rattle.std.proofs.Common.{◌≡◌, ◌≢◌, ◌⊎◌, inl, inr, ℕ, zero, suc, ◌+◌, ◌-◌, ◌<◌, ◌≤◌, nat_le, Bool, true, false, IsTrue, Option, None, Some, IsSome, Result, Ok, Err, List, [], ◌∷◌, ◌++◌, length, take, drop, refl, sym, ap, subst, ◌∙◌, arith, take_all, length-drop, length-take, length-take-le, take-append-drop}
+use Rattle.std.proofs.Common.{◌≡◌, ◌≢◌, ◌⊎◌, inl, inr, ℕ, zero, suc, ◌+◌, ◌-◌, ◌<◌, ◌≤◌, nat_le, true, false, IsTrue, Option, None, Some, Result, Ok, Err, List, [], ◌∷◌, length, take, drop, refl, sym, ap, ◌∙◌, arith, take_all, length-drop, length-take, length-take-le, ◌++◌, Bool}
+use Rattle.std.proofs.lemmas.List.{drop_all}
 use Rattle.std.specs.FinSet as set
-use Rattle.ipmi_commands.specs.Below.{step_call_bound, digits, Shelf, Sdr, Sel, Place, First, End, Ended, Cycle, Missing, Refused, GaveUp, Stalled, Malformed, KeepsReservations, Row, first_row, look, len_of, Store, rows_of, IsWalk, WalkEnd, Done, CycleAt, MissingAt, EndsBy, place_after, place_after_rows, Seen, IsHonest, StaysHonest, current, stays_trans, CursorState, StandsAt, WalkStep, MayFail, IsStep, StepLeaves, FailsAt, AsksNothing, CursorHoldsCurrent, asked_at, HandsOut, WithinTries, Task, FruEnded, shelf_of}
-use Rattle.ipmi_commands.specs.Prelude.{IsStopped, Stop, Span, IsWithin, is_reached, passing, shown_rows, span_items, span_plan, item_in, subject_in, spots_in, stop_at_end, IsOutcome, IsUnrefused, calls_for, calls_at_spots, FindsText, FindsNone, MayStopAt, HasListed, ListsHonest, IsListing, course, first_rows, first_end, Plan, Item, IsItemText, Spot, AtRecord, RunEnd, WalkEnds, run_end, done_end, Printed, Outcome, IsAllowed, CountsSo, HasFreshTroubles, IsFine, IsAmong, StopsAt, spots_at, spots_after, request}
+use Rattle.ipmi_commands.specs.Below.{step_call_bound, digits, Shelf, Place, First, End, Ended, Cycle, Missing, Refused, GaveUp, Stalled, Malformed, KeepsReservations, Row, first_row, look, len_of, Store, rows_of, IsWalk, WalkEnd, Done, CycleAt, MissingAt, EndsBy, place_after_rows, Seen, IsHonest, StaysHonest, current, stays_refl, stays_trans, CursorState, StandsAt, WalkStep, MayFail, IsStep, StepLeaves, FailsAt, AsksNothing, CursorHoldsCurrent, asked_at, HandsOut, WithinTries, Task, TakesPart, FruEnded, shelf_of}
+use Rattle.ipmi_commands.specs.Prelude.{IsStopped, Stop, Span, IsWithin, is_reached, passing, shown_rows, span_items, span_plan, left_rows, left_plan, item_in, subject_in, spots_in, stop_at_end, IsOutcome, IsUnrefused, calls_for, calls_at_spots, AsksAt, FindsText, FindsNone, MayStopAt, HasListed, OnEachWalk, GoesAlong, ListsHonest, IsListing, Course, course, first_rows, first_end, Item, IsItemText, Spot, AtRecord, RunEnd, WalkEnds, run_end, Printed, Outcome, IsAllowed, CountsSo, HasFreshTroubles, IsFine, IsAmong, spots_at, end_spots, spots_after, request}
 use Rattle.ipmi_commands.specs.Plan as plan
-use Rattle.ipmi_commands.proofs.CallLemmas.{IsBelow, digits_some, len-next_ids, calls_upto, calls_within, calls_more, take-first_rows, first_row-first_rows, one_within, below_within}
-use Rattle.ipmi_commands.proofs.ItemLemmas.{span_items-append, span_items-cons, span_items-nil, printed_more, end_spot}
+use Rattle.ipmi_commands.proofs.CallLemmas.{IsBelow, digits_some, len-next_ids, next_calls, first_row-first_rows}
+use Rattle.ipmi_commands.proofs.ItemLemmas.{next_one, span_items-nil, passing-none, left_items-next, asked_first, none_printed, one_printed, first_cut, after_items, stops_after, leaves_joined, end_spot}
 use Rattle.ipmi_commands.proofs.NameLemmas.{Wrote, done_by, done_by-wrote, end_is}
 
 -- ---- limits
@@ -21,7 +22,8 @@ one_wanted None count within more = tt
 one_wanted (Some n) count within more = let below : count < n = search arith in below
 
 pub within_more : (most : Option ℕ) (count : ℕ) → IsWithin most count → is_reached most count ≡ false → IsWithin most (count + 1)
-within_more most count within more = one_within most count (one_wanted most count within more)
+within_more None count within more = tt
+within_more (Some n) count within more = let below : count < n = search arith in omega (arith, below)
 
 -- all rows are wanted where more are wanted than there are
 first_rows-all : (most : Option ℕ) (walk : List Row) → IsBelow most (length walk) → first_rows most walk ≡ walk
@@ -36,21 +38,28 @@ first_end-all (Some n) walk end below = let e : nat_le n (length walk) ≡ false
 pub first_end-none : (count : ℕ) (walk : List Row) (end : WalkEnd) → count ≤ length walk → first_end (Some count) walk end ≡ Done
 first_end-none count walk end within = let e : nat_le count (length walk) ≡ true = search arith in rw e refl
 
+-- no row is left where no more are wanted
+none_left : (most : Option ℕ) (k : ℕ) (walk : List Row) → IsBelow most k → drop k (first_rows most walk) ≡ [] → length walk ≤ k
+none_left None k walk below none = omega (arith, length-drop k walk, ap length none)
+none_left (Some n) k walk below none = omega (arith, below, length-drop k (take n walk), length-take n walk, ap length none)
+
 -- ---- how it stopped
 
 -- one that is not done did not stop by that
 pub stopped_otherwise : (result : Stop) (outcome : Outcome) → IsStopped result → IsOutcome result outcome → outcome ≡ plan.Finished (WalkEnds Done) → ⊥
 stopped_otherwise Stop.Done outcome stopped is done = cc stopped
 stopped_otherwise (Stop.Inventory id FruEnded.Stalled) outcome stopped is done = is
-stopped_otherwise (Stop.Inventory id FruEnded.Words) outcome stopped is done = is
 stopped_otherwise (Stop.Ended (Stalled n)) outcome stopped is done = is
-stopped_otherwise (Stop.Ended (Malformed n)) outcome stopped is done = is
-stopped_otherwise _ outcome stopped is done = let h = sym is ∙ done in cc h
+stopped_otherwise _ outcome stopped is done = first_of (cc, search)
 
 -- ---- what was counted
 
 unrefused_more : (tries : ℕ) (s s' s'' : Seen) → IsUnrefused s s' → WithinTries tries s' s'' → IsUnrefused s s''
-unrefused_more tries s s' s'' before step = let grows = before.troubles in let more = step.grows in record { refusals = step.refusals ∙ before.refusals; troubles = omega (arith, grows, more) }
+unrefused_more tries s s' s'' before step = record { refusals = step.refusals ∙ before.refusals; troubles = omega (arith, before.troubles, step.grows) }
+
+-- where no store is added in all, none is added in either part
+pub between : (s s' s'' : Seen) → StaysHonest s s' → StaysHonest s' s'' → s''.stores_added ≡ s.stores_added → (s'.stores_added ≡ s.stores_added) × (s''.stores_added ≡ s'.stores_added)
+between s s' s'' before later same = (omega (arith, before.store.grows, later.store.grows, same), omega (arith, before.store.grows, later.store.grows, same))
 
 -- what an outcome counts, it counts since before
 module _ (tries : ℕ) (s s' s'' : Seen) (later : s''.stores_added ≡ s.stores_added → s''.stores_added ≡ s'.stores_added) where
@@ -59,18 +68,14 @@ module _ (tries : ℕ) (s s' s'' : Seen) (later : s''.stores_added ≡ s.stores_
   fresh_since (plan.AtInventory id) fresh = (fresh.0, λ same. fresh.1 (later same))
 
   pub counts_since : (outcome : Outcome) → IsUnrefused s s' → CountsSo tries s' s'' outcome → CountsSo tries s s'' outcome
-  counts_since (plan.Finished end) before counts = counts ∙ before.refusals
-  counts_since (plan.GaveUp spot) before counts =
-      let grows = before.troubles in
-      let more = counts.1 in
-      (counts.0 ∙ before.refusals, omega (arith, grows, more), fresh_since spot counts.2)
+  counts_since (plan.GaveUp spot) before counts = (counts.0 ∙ before.refusals, omega (arith, before.troubles, counts.1), fresh_since spot counts.2)
   counts_since (plan.Refused spot code) before counts = (counts.0 ∙ rw before.refusals refl, counts.1)
   counts_since _ before counts = counts ∙ before.refusals
 
 -- a step that handed out a record asked for it
 asks_something : (now next : CursorState) (row : Row) → StepLeaves now next (Ok (Some row)) → AsksNothing now → ⊥
 asks_something now next row leaves (inl at_end) = leaves.1.not_at_end at_end
-asks_something now next row leaves (inr cycle) = let closed = subst (λ (o : Option ℕ). IsSome o) leaves.0 cycle in cc closed
+asks_something now next row leaves (inr cycle) = let closed = rw leaves.0 at cycle in cc closed
 
 -- the place at which a step failed is on the walk
 on_walk : (rows : List Row) (start now there : Place) → (now ≡ there) ⊎ ((now ≡ End) × (start ≡ First) × (first_row rows ≡ None)) → now ≢ End → now ≡ there
@@ -78,306 +83,203 @@ on_walk rows start now there (inl same) not_end = same
 on_walk rows start now there (inr at_end) not_end = absurd (not_end at_end.0)
 
 current-kept : (shelf : Shelf) (s s' : Seen) → KeepsReservations s s' → current shelf s' ≡ current shelf s
-current-kept Sdr s s' keeps = keeps.sdr
-current-kept Sel s s' keeps = keeps.sel
+current-kept shelf s s' keeps = grind arith
 
--- no row is left where no more are wanted
-none_left : (most : Option ℕ) (k : ℕ) (walk : List Row) → IsBelow most k → drop k (first_rows most walk) ≡ [] → length walk ≤ k
-none_left None k walk below none = let len = length-drop k walk in let zero_ = ap (λ (l : List Row). length l) none in omega (arith, len, zero_)
-none_left (Some n) k walk below none =
-    omega (arith, below, length-drop k (take n walk), length-take n walk, ap (λ (l : List Row). length l) none)
+-- ---- a listing that begins, and one that stops
 
--- the items of the first ones, and of what is wanted after them
-span_items-wanted : (n : Option ℕ) (t : Task) (start : Place) (most : Option ℕ) (k : ℕ) (walk : List Row) → IsBelow most k → k ≤ length walk
-    → span_items n t start (first_rows most walk) ≡ span_items n t start (take k walk) ++ span_items (passing n k) t (place_after_rows start (take k walk)) (drop k (first_rows most walk))
-span_items-wanted n t start most k walk below within =
-    ap (span_items n t start) (sym (take-append-drop k (first_rows most walk)))
-    ∙ span_items-append n t start (take k (first_rows most walk)) (drop k (first_rows most walk))
-    ∙ ap (λ (l : List Row). span_items n t start l ++ span_items (passing n (length l)) t (place_after_rows start l) (drop k (first_rows most walk))) (take-first_rows most k walk (below_within most k below))
-    ∙ ap (λ (m : ℕ). span_items n t start (take k walk) ++ span_items (passing n m) t (place_after_rows start (take k walk)) (drop k (first_rows most walk))) (length-take-le k walk within)
+-- at the start of a walk all of the plan is left
+pub listing_begins : (t : Task) (tries : ℕ) (span : Span) (begun : CursorState) (s : Seen) (old : List ℕ) → IsHonest s → ListsHonest t tries span 0 (course begun begun s s old old)
+listing_begins t tries span begun s old honest = record {
+  stays = stays_refl s honest;
+  unrefused = record { refusals = refl; troubles = omega arith };
+  along = λ same start walk end w ends stands. record { stands = stands; leads = λ outcome new allowed. rw passing-none at allowed; calls = omega arith };
+  plain = λ p holds. holds;
+}
 
-next_split : (n : Option ℕ) (t : Task) (start : Place) (most : Option ℕ) (k : ℕ) (walk : List Row) (row : Row) → IsBelow most k → k ≤ length walk → first_row (drop k walk) ≡ Some row
-    → (rest : List Item) × (span_items n t start (first_rows most walk) ≡ span_items n t start (take k walk) ++ (item_in (passing n k) t (place_after_rows start (take k walk)) row ∷ rest))
-next_split n t start most k walk row below within next = by_rest (drop k (first_rows most walk)) refl
-  where
-    place : Place
-    place = place_after_rows start (take k walk)
+-- the calls of a listing that stopped, along a walk
+abbrev InAll : Task → ℕ → Span → CursorState → Seen → Seen → List Row → Type 0
+InAll t tries span begun s s' walk = s'.calls + 1 ≤ s.calls + calls_for t s.store tries (first_rows span.most walk) + step_call_bound tries 0 + digits begun.part
 
-    by_rest : (l : List Row) → drop k (first_rows most walk) ≡ l → (rest : List Item) × (span_items n t start (first_rows most walk) ≡ span_items n t start (take k walk) ++ (item_in (passing n k) t (place_after_rows start (take k walk)) row ∷ rest))
-    by_rest [] is = let h = sym (first_row-first_rows most k walk below ∙ next) ∙ ap first_row is in cc h
-    by_rest (first ∷ l) is =
-        let h = sym (ap first_row is) ∙ first_row-first_rows most k walk below ∙ next in
-        let same : first ≡ row = cc h in (
-          span_items (passing (passing n k) 1) t (place_after first.next) l,
-          span_items-wanted n t start most k walk below within ∙ rw (is, span_items-cons (passing n k) t place first l, same) refl,
-        )
-
--- ---- what is left at a place of the walk
-
-module _ (t : Task) (store : Store) (start : Place) (walk : List Row) (end : WalkEnd) (span : Span) (old new : List ℕ) (k : ℕ) (below : IsBelow span.most k) (within : k ≤ length walk) (printed : Printed t store (span_items span.skip t start (take k walk)) old new) where
-  finished : (e : WalkEnd) (run : RunEnd) → k ≡ length walk → end ≡ e → run ≡ run_end t (shown_rows span.skip (take k walk)) e → IsAllowed t store (span_plan span t start walk end) old new (plan.Finished run)
-  finished e run at is ends =
-      let all_below = subst (IsBelow span.most) at below in
-      let rows : take k walk ≡ first_rows span.most walk = take_all k walk (omega (arith, at)) ∙ sym (first_rows-all span.most walk all_below) in (
-        subst (λ (l : List Row). Printed t store (span_items span.skip t start l) old new) rows printed,
-        ends ∙ rw rows (ap (run_end t (shown_rows span.skip (first_rows span.most walk))) (sym (first_end-all span.most walk end all_below ∙ is))),
-      )
-
-  -- the id that is asked for next is a spot of what comes next
-  asked_spot : EndsBy (rows_of (shelf_of t) store) start walk end → (k ≡ length walk → MayFail end (place_after_rows start (take k walk)))
-      → IsAmong (spots_at (span_items (passing span.skip k) t (place_after_rows start (take k walk)) (drop k (first_rows span.most walk))) (plan.end_spots start walk (first_end span.most walk end))) (AtRecord (asked_at (place_after_rows start (take k walk))))
-  asked_spot ends may = by_rest (drop k (first_rows span.most walk)) refl
-    where
-      place : Place
-      place = place_after_rows start (take k walk)
-
-      by_rest : (l : List Row) → drop k (first_rows span.most walk) ≡ l
-          → IsAmong (spots_at (span_items (passing span.skip k) t place l) (plan.end_spots start walk (first_end span.most walk end))) (AtRecord (asked_at place))
-      by_rest (row ∷ l) is = subst (λ (items : List Item). IsAmong (spots_at items (plan.end_spots start walk (first_end span.most walk end))) (AtRecord (asked_at place))) (sym (span_items-cons (passing span.skip k) t place row l)) (inl refl)
-      by_rest [] is =
-          let past = none_left span.most k walk below is in
-          let at : k ≡ length walk = omega (arith, past, within) in
-          let whole = take_all k walk past in
-          subst (λ (items : List Item). IsAmong (spots_at items (plan.end_spots start walk (first_end span.most walk end))) (AtRecord (asked_at place))) (sym (span_items-nil (passing span.skip k) t place))
-          (subst (λ (e : WalkEnd). IsAmong (plan.end_spots start walk e) (AtRecord (asked_at place))) (sym (first_end-all span.most walk end (subst (IsBelow span.most) at below)))
-          (subst (λ (rows : List Row). IsAmong (plan.end_spots start walk end) (AtRecord (asked_at (place_after_rows start rows)))) (sym whole)
-          (end_spot (rows_of (shelf_of t) store) start walk end ends (subst (λ (rows : List Row). MayFail end (place_after_rows start rows)) whole (may at)))))
-
-  stops_there : (n : ℕ) → n ≡ asked_at (place_after_rows start (take k walk)) → EndsBy (rows_of (shelf_of t) store) start walk end → (k ≡ length walk → MayFail end (place_after_rows start (take k walk)))
-      → StopsAt (AtRecord n) t store (span_plan span t start walk end) old new
-  stops_there n asked ends may = record {
-    done = span_items span.skip t start (take k walk);
-    rest = span_items (passing span.skip k) t (place_after_rows start (take k walk)) (drop k (first_rows span.most walk));
-    items_are = span_items-wanted span.skip t start span.most k walk below within;
-    printed = printed;
-    there = subst (λ (m : ℕ). IsAmong (spots_at (span_items (passing span.skip k) t (place_after_rows start (take k walk)) (drop k (first_rows span.most walk))) (plan.end_spots start walk (first_end span.most walk end))) (AtRecord m)) (sym asked) (asked_spot ends may);
-  }
-
--- ---- a record that was handed out, before its piece
-
-pub record TakenAlong (t : Task) (tries : ℕ) (store : Store) (start : Place) (walk : List Row) (span : Span) (count : ℕ) (begun next : CursorState) (s s' : Seen) (old new : List ℕ) (row : Row) : Type 0 where
-  pub within : count ≤ length walk
-  pub next_row : first_row (drop count walk) ≡ Some row
-  pub stands : StandsAt (rows_of (shelf_of t) store) start walk (count + 1) next
-  pub printed : Printed t store (span_items span.skip t start (take count walk)) old new
-  pub calls : s'.calls + digits next.part ≤ s.calls + calls_for t store tries (take count walk) + step_call_bound tries (length row.bytes) + digits begun.part
-
-pub record Taken (t : Task) (tries : ℕ) (span : Span) (count : ℕ) (begun next : CursorState) (s s' : Seen) (old new : List ℕ) (row : Row) : Type 0 where
-  pub stays : StaysHonest s s'
-  pub unrefused : IsUnrefused s s'
-  pub below : IsBelow span.most count
-  pub some : 0 < next.part
-  pub along : s'.stores_added ≡ s.stores_added → (start : Place) (walk : List Row) (end : WalkEnd) → IsWalk (rows_of (shelf_of t) s.store) start walk → EndsBy (rows_of (shelf_of t) s.store) start walk end
-      → StandsAt (rows_of (shelf_of t) s.store) start walk 0 begun → TakenAlong t tries s.store start walk span count begun next s s' old new row
-  pub plain : IsTrue s.plain → CursorHoldsCurrent begun s → CursorHoldsCurrent next s'
+-- one that did not come to its end
+stopped : (t : Task) (tries : ℕ) (span : Span) (count : ℕ) (begun now : CursorState) (s s' : Seen) (old new : List ℕ) (st : Stop) (outcome : Outcome) → IsOutcome st outcome → (st ≡ Stop.Done → ⊥) → StaysHonest s s' → CountsSo tries s s' outcome → s.troubles ≤ s'.troubles
+    → (IsTrue s.plain → CursorHoldsCurrent begun s → IsFine outcome)
+    → (s'.stores_added ≡ s.stores_added → OnEachWalk t begun s.store (λ start walk end. IsAllowed t s.store (span_plan span t start walk end) old new outcome × (0 < begun.part → InAll t tries span begun s s' walk)))
+    → IsListing t tries span (course begun now s s' old new) (record { stop = st; count = count })
+stopped t tries span count begun now s s' old new st outcome is not_done stays counts grows plain along = record {
+  outcome = outcome;
+  outcome_is = is;
+  stays = stays;
+  counts = counts;
+  grows = grows;
+  along = λ same start walk end w ends stands.
+      let there = along same start walk end w ends stands in
+      record { leaves = there.0; calls = there.1; goes_on = λ done. absurd (not_done done); count = λ done. absurd (not_done done) };
+  plain = plain;
+}
 
 -- ---- one step
 
+-- a record was handed out, before its piece: what is left is its item, and then what comes after it
+abbrev pub Taken : Task → ℕ → Span → ℕ → Row → Course → Type 0
+Taken t tries span count row c = GoesAlong t c
+    (λ start walk end. HasListed (request t start tries) c.seen.store walk end span (count + 1)
+    (after_items (item_in (passing span.skip count) t (place_after_rows start (take count walk)) row ∷ []) (left_plan span (count + 1) t start walk end))
+    (calls_at_spots tries c.seen.store (spots_after t row) + calls_for t c.seen.store tries (left_rows span (count + 1) walk)) c)
+
 module _ (t : Task) (tries : ℕ) (span : Span) (count : ℕ) (begun now : CursorState) (s s' : Seen) (old new : List ℕ) (wrote : Bool) (shelf : now.shelf ≡ shelf_of t) (same_tries : now.tries ≡ tries) (some : 0 < begun.part → 0 < now.part) (within : IsWithin span.most count)
-    (has_written : Wrote wrote old new) (honest : IsHonest s) (lists : ListsHonest t tries span count (course begun now s s' old new)) where
-  -- as many were listed as are wanted
-  pub listing_full : is_reached span.most count ≡ true → IsListing t tries span (course begun now s s' old new) (record { stop = stop_at_end t wrote; count = count })
-  listing_full full = record {
-    outcome = plan.Finished (done_by t wrote);
-    outcome_is = end_is t wrote;
-    stays = lists.stays;
-    counts = lists.unrefused.refusals;
-    grows = lists.unrefused.troubles;
+    (has_written : Wrote wrote old new) (lists : ListsHonest t tries span count (course begun now s s' old new)) where
+  -- all that is wanted was listed, and that ends so
+  finished : (next : CursorState) (s'' : Seen) (st : Stop) (run : RunEnd) (e : WalkEnd) → IsOutcome st (plan.Finished run) → StaysHonest s s'' → IsUnrefused s s'' → (s''.stores_added ≡ s.stores_added → s'.stores_added ≡ s.stores_added)
+      → ((store : Store) (start : Place) (rows : List Row) → Printed t store (span_items span.skip t start rows) old new → run ≡ run_end t (shown_rows span.skip rows) e)
+      → (s''.stores_added ≡ s.stores_added → OnEachWalk t begun s.store (λ start walk end. (count ≡ length (first_rows span.most walk)) × (first_end span.most walk end ≡ e) × StandsAt (rows_of (shelf_of t) s.store) start walk count next × (0 < begun.part → InAll t tries span begun s s'' walk)))
+      → IsListing t tries span (course begun next s s'' old new) (record { stop = st; count = count })
+  finished next s'' st run e is stays unrefused first ends_so along = record {
+    outcome = plan.Finished run;
+    outcome_is = is;
+    stays = stays;
+    counts = unrefused.refusals;
+    grows = unrefused.troubles;
     along = λ same start walk end w ends stands.
-        let listed = lists.listed same start walk end w ends stands in
-        let reached = at_limit span.most count full in
-        let first : first_rows span.most walk ≡ take count walk = ap (λ (o : Option ℕ). first_rows o walk) reached in
-        let long : length (first_rows span.most walk) ≡ count = ap (λ (l : List Row). length l) first ∙ length-take-le count walk listed.stands.within in
-        let done : first_end span.most walk end ≡ Done = ap (λ (o : Option ℕ). first_end o walk end) reached ∙ first_end-none count walk end listed.stands.within in
-        let calls = listed.calls in
+        let there = along same start walk end w ends stands in
+        let listed = lists.along (first same) start walk end w ends stands in
+        let none : left_rows span count walk ≡ [] = drop_all count (first_rows span.most walk) (omega (arith, there.0)) in
+        let printed = (listed.leads (plan.Finished (span_plan span t start walk end).end) new (rw (none, span_items-nil) (none_printed t s.store new), refl)).0 in
         record {
-          leaves = (
-            subst (λ (l : List Row). Printed t s.store (span_items span.skip t start l) old new) (sym first) listed.printed,
-            done_by-wrote t wrote s.store span.skip start (take count walk) old new listed.printed has_written
-                ∙ ap (λ (l : List Row). done_end t (shown_rows span.skip l)) (sym first)
-                ∙ ap (run_end t (shown_rows span.skip (first_rows span.most walk))) (sym done),
-          );
-          calls = λ part.
-              omega (arith, calls, digits_some now.part (some part), ap (calls_for t s.store tries) first);
-          goes_on = λ done. subst (λ (n : ℕ). StandsAt (rows_of (shelf_of t) s.store) start walk n now) (sym long) listed.stands;
-          count = λ done. sym long;
+          leaves = (printed, rw there.1 (ends_so s.store start (first_rows span.most walk) printed));
+          calls = there.3;
+          goes_on = λ done. rw there.0 at there.2;
+          count = λ done. there.0;
         };
     plain = λ p holds. tt;
   }
 
-  module _ (next : CursorState) (s'' : Seen) (result : Result (Option Row) Ended) (step : IsStep now next s' s'' result) where
-    stepped : StaysHonest s' s''
-    stepped = (step.honest lists.stays.honest).stays
-
-    stays : StaysHonest s s''
-    stays = stays_trans s s' s'' lists.stays stepped
-
-    first : s''.stores_added ≡ s.stores_added → s'.stores_added ≡ s.stores_added
-    first same = omega (arith, lists.stays.store.grows, stepped.store.grows)
-
-    second : s''.stores_added ≡ s.stores_added → s''.stores_added ≡ s'.stores_added
-    second same = omega (arith, lists.stays.store.grows, stepped.store.grows)
-
-    same_rows : s''.stores_added ≡ s.stores_added → rows_of now.shelf s'.store ≡ rows_of (shelf_of t) s.store
-    same_rows same = rw shelf (ap (rows_of (shelf_of t)) (lists.stays.store.stays (first same)))
-
-    module _ (same : s''.stores_added ≡ s.stores_added) (start : Place) (walk : List Row) (end : WalkEnd) (w : IsWalk (rows_of (shelf_of t) s.store) start walk) (ends : EndsBy (rows_of (shelf_of t) s.store) start walk end)
-        (listed : HasListed (request t start tries) s.store walk span count (course begun now s s' old new)) where
-      -- the step along the walk of the listing
-      along : WalkStep (rows_of (shelf_of t) s.store) start walk end count now next result
-      along =
-          subst (λ (rows : List Row). IsWalk rows start walk → EndsBy rows start walk end → StandsAt rows start walk count now → WalkStep rows start walk end count now next result) (same_rows same)
-          (λ w ends stands. (step.walks lists.stays.honest).follows (second same) start walk end count w ends stands) w ends listed.stands
-
-      -- it asks for the next row, or for none, or asks nothing
-      asks : AsksNothing now ⊎ (len_of (look (rows_of (shelf_of t) s.store) (asked_at now.place)) ≡ len_of (first_row (drop count walk)))
-      asks =
-          subst (λ (rows : List Row). IsWalk rows start walk → EndsBy rows start walk end → StandsAt rows start walk count now → AsksNothing now ⊎ (len_of (look rows (asked_at now.place)) ≡ len_of (first_row (drop count walk)))) (same_rows same)
-          (λ w ends stands. step.asks lists.stays.honest start walk end count w ends stands) w ends listed.stands
-
-      bound : s''.calls + digits next.part ≤ s'.calls + step_call_bound tries (len_of (look (rows_of (shelf_of t) s.store) (asked_at now.place))) + digits now.part
-      bound =
-          subst (λ (n : ℕ). s''.calls + digits next.part ≤ s'.calls + step_call_bound n (len_of (look (rows_of (shelf_of t) s.store) (asked_at now.place))) + digits now.part) same_tries
-          (subst (λ (rows : List Row). s''.calls + digits next.part ≤ s'.calls + step_call_bound now.tries (len_of (look rows (asked_at now.place))) + digits now.part) (same_rows same)
-          ((step.honest lists.stays.honest).calls (second same)))
-
-      -- for as many calls as the next row, or none, may take
-      for_next : len_of (look (rows_of (shelf_of t) s.store) (asked_at now.place)) ≡ len_of (first_row (drop count walk))
-          → s''.calls + digits next.part ≤ s'.calls + step_call_bound tries (len_of (first_row (drop count walk))) + digits now.part
-      for_next is = subst (λ (n : ℕ). s''.calls + digits next.part ≤ s'.calls + step_call_bound tries n + digits now.part) is bound
-
-      -- and so all of the listing
-      in_all : IsBelow span.most count → 0 < begun.part → s''.calls + 1 ≤ s.calls + calls_for t s.store tries (first_rows span.most walk) + step_call_bound tries 0 + digits begun.part
-      in_all below part =
-          let upto = calls_upto t s.store tries span.most count walk below in
-          let calls = listed.calls in
-          elim asks [
-            | inl nothing ↦ let same_calls = ap (λ (x : Seen). x.calls) (step.no_call nothing) in let one = digits_some now.part (some part) in omega (arith, upto, calls, same_calls, one)
-            | inr is ↦ let one = digits_some next.part step.same.part_not_zero in let stepped = for_next is in omega (arith, upto, calls, stepped, one)
-          ]
-
-    module _ (below : IsBelow span.most count) (outcome : Outcome) (st : Stop) (is : IsOutcome st outcome) (unrefused : CountsSo tries s s'' outcome) (grows : s.troubles ≤ s''.troubles) where
-      -- the walk is at its end
-      at_end : (e : WalkEnd) (run : RunEnd) → outcome ≡ plan.Finished run
-          → ((store : Store) (start : Place) (walk : List Row) → Printed t store (span_items span.skip t start (take count walk)) old new → run ≡ run_end t (shown_rows span.skip (take count walk)) e)
-          → ((same : s''.stores_added ≡ s.stores_added) (start : Place) (walk : List Row) (end : WalkEnd) → IsWalk (rows_of (shelf_of t) s.store) start walk → EndsBy (rows_of (shelf_of t) s.store) start walk end
-          → (listed : HasListed (request t start tries) s.store walk span count (course begun now s s' old new)) → (count ≡ length walk) × (end ≡ e) × StandsAt (rows_of (shelf_of t) s.store) start walk count next)
-          → IsListing t tries span (course begun next s s'' old new) (record { stop = st; count = count })
-      at_end e run finish ends_so ended = record {
-        outcome = outcome;
-        outcome_is = is;
-        stays = stays;
-        counts = unrefused;
-        grows = grows;
-        along = λ same start walk end w ends stands.
-            let listed = lists.listed (first same) start walk end w ends stands in
-            let there = ended same start walk end w ends listed in
-            let all = ap (λ (l : List Row). length l) (first_rows-all span.most walk (subst (IsBelow span.most) there.0 below)) in
-            record {
-              leaves = subst (λ (o : Outcome). IsAllowed t s.store (span_plan span t start walk end) old new o) (sym finish)
-                  (finished t s.store start walk end span old new count below listed.stands.within listed.printed e run there.0 there.1 (ends_so s.store start walk listed.printed));
-              calls = λ part. in_all same start walk end w ends listed below part;
-              goes_on = λ done. subst (λ (n : ℕ). StandsAt (rows_of (shelf_of t) s.store) start walk n next) (there.0 ∙ sym all) there.2;
-              count = λ done. there.0 ∙ sym all;
-            };
-        plain = λ p holds. subst IsFine (sym finish) tt;
-      }
-
-      -- nothing came for the id that is asked for
-      failed : (n : ℕ) → ((store : Store) (p : Plan) → StopsAt (AtRecord n) t store p old new → IsAllowed t store p old new outcome) → FailsAt n now next → (st ≡ Stop.Done → ⊥) → (IsTrue s.plain → CursorHoldsCurrent begun s → IsFine outcome)
-          → ((same : s''.stores_added ≡ s.stores_added) (start : Place) (walk : List Row) (end : WalkEnd) → IsWalk (rows_of (shelf_of t) s.store) start walk → EndsBy (rows_of (shelf_of t) s.store) start walk end
-          → (listed : HasListed (request t start tries) s.store walk span count (course begun now s s' old new)) → count ≡ length walk → MayFail end now.place)
-          → IsListing t tries span (course begun next s s'' old new) (record { stop = st; count = count })
-      failed n allowed fails not_done plain may = record {
-        outcome = outcome;
-        outcome_is = is;
-        stays = stays;
-        counts = unrefused;
-        grows = grows;
-        along = λ same start walk end w ends stands.
-            let listed = lists.listed (first same) start walk end w ends stands in
-            let place = on_walk (rows_of (shelf_of t) s.store) start now.place (place_after_rows start (take count walk)) listed.stands.place fails.not_at_end in
-            record {
-              leaves = allowed s.store (span_plan span t start walk end)
-                  (stops_there t s.store start walk end span old new count below listed.stands.within listed.printed n (fails.asked ∙ ap asked_at place) ends
-                  (λ at. subst (λ (x : Place). MayFail end x) place (may same start walk end w ends listed at)));
-              calls = λ part. in_all same start walk end w ends listed below part;
-              goes_on = λ done. absurd (not_done done);
-              count = λ done. absurd (not_done done);
-            };
-        plain = plain;
-      }
+  -- as many were listed as are wanted
+  pub listing_full : is_reached span.most count ≡ true → IsListing t tries span (course begun now s s' old new) (record { stop = stop_at_end t wrote; count = count })
+  listing_full full = finished now s' (stop_at_end t wrote) (done_by t wrote) Done (end_is t wrote) lists.stays lists.unrefused (λ same. same) (λ store start rows printed. done_by-wrote t wrote store span.skip start rows old new printed has_written)
+      (λ same start walk end w ends stands.
+      let listed = lists.along same start walk end w ends stands in
+      let reached = at_limit span.most count full in
+      (rw reached (sym (length-take-le count walk listed.stands.within)), rw reached (first_end-none count walk end listed.stands.within), listed.stands, λ part. omega (arith, listed.calls, digits_some now.part (some part))))
 
   module _ (next : CursorState) (s'' : Seen) (wanted : is_reached span.most count ≡ false) where
     below : IsBelow span.most count
     below = one_wanted span.most count within wanted
 
+    module _ (result : Result (Option Row) Ended) (step : IsStep now next s' s'' result) where
+      stepped : StaysHonest s' s''
+      stepped = (step.honest lists.stays.honest).stays
+
+      stays : StaysHonest s s''
+      stays = stays_trans s s' s'' lists.stays stepped
+
+      parts : s''.stores_added ≡ s.stores_added → (s'.stores_added ≡ s.stores_added) × (s''.stores_added ≡ s'.stores_added)
+      parts = between s s' s'' lists.stays stepped
+
+      same_rows : s''.stores_added ≡ s.stores_added → rows_of now.shelf s'.store ≡ rows_of (shelf_of t) s.store
+      same_rows same = rw shelf (ap (rows_of (shelf_of t)) (lists.stays.store.stays (parts same).0))
+
+      -- the step along the walk of the listing
+      along : s''.stores_added ≡ s.stores_added → OnEachWalk t begun s.store (λ start walk end. WalkStep (rows_of (shelf_of t) s.store) start walk end count now next result)
+      along same = λ start walk end w ends stands.
+          (rw (same_rows same) at ((step.walks lists.stays.honest).follows (parts same).1 start walk end count)) w ends (lists.along (parts same).0 start walk end w ends stands).stands
+
+      module _ (same : s''.stores_added ≡ s.stores_added) (start : Place) (walk : List Row) (end : WalkEnd) (w : IsWalk (rows_of (shelf_of t) s.store) start walk) (ends : EndsBy (rows_of (shelf_of t) s.store) start walk end)
+          (stands : StandsAt (rows_of (shelf_of t) s.store) start walk 0 begun) where
+        -- it asks for the next row, or for none, or asks nothing
+        asks : AsksNothing now ⊎ (len_of (look (rows_of (shelf_of t) s.store) (asked_at now.place)) ≡ len_of (first_row (drop count walk)))
+        asks = (rw (same_rows same) at (step.asks lists.stays.honest start walk end count)) w ends (lists.along (parts same).0 start walk end w ends stands).stands
+
+        -- for as many calls as the next row, or none, may take
+        for_next : len_of (look (rows_of (shelf_of t) s.store) (asked_at now.place)) ≡ len_of (first_row (drop count walk))
+            → s''.calls + digits next.part ≤ s'.calls + step_call_bound tries (len_of (first_row (drop count walk))) + digits now.part
+        for_next is = rw (same_rows same, same_tries, is) at ((step.honest lists.stays.honest).calls (parts same).1)
+
+        -- and so all of the listing
+        in_all : 0 < begun.part → InAll t tries span begun s s'' walk
+        in_all part =
+            let calls = (lists.along (parts same).0 start walk end w ends stands).calls in
+            let next_one = rw (first_row-first_rows span.most count walk below) at (next_calls t s.store tries (left_rows span count walk)) in
+            elim asks [
+              | inl nothing ↦ omega (arith, next_one, calls, ap (λ (x : Seen). x.calls) (step.no_call nothing), digits_some now.part (some part))
+              | inr is ↦ omega (arith, next_one, calls, for_next is, digits_some next.part step.same.part_not_zero)
+            ]
+
+      -- the walk is at its end
+      at_end : (st : Stop) (run : RunEnd) (e : WalkEnd) → IsOutcome st (plan.Finished run) → IsUnrefused s s''
+          → ((store : Store) (start : Place) (rows : List Row) → Printed t store (span_items span.skip t start rows) old new → run ≡ run_end t (shown_rows span.skip rows) e)
+          → (s''.stores_added ≡ s.stores_added → OnEachWalk t begun s.store (λ start walk end. (count ≡ length walk) × (end ≡ e) × StandsAt (rows_of (shelf_of t) s.store) start walk count next))
+          → IsListing t tries span (course begun next s s'' old new) (record { stop = st; count = count })
+      at_end st run e is unrefused ends_so ended = finished next s'' st run e is stays unrefused (λ same. (parts same).0) ends_so
+          (λ same start walk end w ends stands.
+          let there = ended same start walk end w ends stands in
+          let all : IsBelow span.most (length walk) = rw there.0 at below in
+          (rw (first_rows-all span.most walk all) there.0, first_end-all span.most walk end all ∙ there.1, there.2, in_all same start walk end w ends stands))
+
+      -- nothing came for the id that is asked for
+      failed : (n : ℕ) (st : Stop) (outcome : Outcome) → IsOutcome st outcome → (st ≡ Stop.Done → ⊥) → CountsSo tries s s'' outcome → s.troubles ≤ s''.troubles → (IsTrue s.plain → CursorHoldsCurrent begun s → IsFine outcome)
+          → FailsAt n now next → ((spots : List Spot) → IsAmong spots (AtRecord n) → MayStopAt spots outcome)
+          → (s''.stores_added ≡ s.stores_added → OnEachWalk t begun s.store (λ start walk end. count ≡ length walk → MayFail end now.place))
+          → IsListing t tries span (course begun next s s'' old new) (record { stop = st; count = count })
+      failed n st outcome is not_done counts grows plain fails may_stop may = stopped t tries span count begun next s s'' old new st outcome is not_done stays counts grows plain
+          (λ same start walk end w ends stands.
+          let listed = lists.along (parts same).0 start walk end w ends stands in
+          let place = on_walk (rows_of (shelf_of t) s.store) start now.place (place_after_rows start (take count walk)) listed.stands.place fails.not_at_end in
+          let left = left_plan span count t start walk end in
+          let past : left_rows span count walk ≡ [] → IsAmong left.end_spots (AtRecord (asked_at (place_after_rows start (take count walk)))) = λ none.
+          let least = none_left span.most count walk below none in
+          let there : count ≡ length walk = omega (arith, least, listed.stands.within) in
+          let whole = take_all count walk least in
+          rw (first_end-all span.most walk end (rw there at below), whole) (end_spot (rows_of (shelf_of t) s.store) start walk end ends (rw (place, whole) at (may same start walk end w ends stands there))) in
+          let asked : AtRecord n ≡ AtRecord (asked_at (place_after_rows start (take count walk))) = ap AtRecord (fails.asked ∙ ap asked_at place) in (
+            listed.leads outcome new (stops_after t s.store left [] left.items new new outcome refl (none_printed t s.store new)
+                (may_stop (spots_at left.items left.end_spots) (rw asked (asked_first (passing span.skip count) t (place_after_rows start (take count walk)) (left_rows span count walk) left.end_spots past)))),
+            in_all same start walk end w ends stands,
+          ))
+
     pub listing_done : IsStep now next s' s'' (Ok None) → IsListing t tries span (course begun next s s'' old new) (record { stop = stop_at_end t wrote; count = count })
-    listing_done step =
-        let counted = unrefused_more now.tries s s' s'' lists.unrefused (step.honest lists.stays.honest).answers.0 in
-        at_end next s'' (Ok None) step below (plan.Finished (done_by t wrote)) (stop_at_end t wrote) (end_is t wrote) counted.refusals counted.troubles Done (done_by t wrote) refl
-        (λ store start walk printed. done_by-wrote t wrote store span.skip start (take count walk) old new printed has_written)
-        (λ same start walk end w ends listed. along next s'' (Ok None) step same start walk end w ends listed)
+    listing_done step = at_end (Ok None) step (stop_at_end t wrote) (done_by t wrote) Done (end_is t wrote) (unrefused_more now.tries s s' s'' lists.unrefused (step.honest lists.stays.honest).answers.0)
+        (λ store start rows printed. done_by-wrote t wrote store span.skip start rows old new printed has_written) (along (Ok None) step)
 
     -- the cursor gave no record, for this reason
     pub listing_ended : (ended : Ended) → IsStep now next s' s'' (Err ended) → IsListing t tries span (course begun next s s'' old new) (record { stop = Stop.Ended ended; count = count })
-    listing_ended (Cycle n) step =
-        let still = (step.honest lists.stays.honest).answers in
-        let counted = subst (λ (x : Seen). IsUnrefused s x) (sym still) lists.unrefused in
-        at_end next s'' (Err (Cycle n)) step below (plan.Finished (WalkEnds (CycleAt n))) (Stop.Ended (Cycle n)) refl counted.refusals counted.troubles (CycleAt n) (WalkEnds (CycleAt n)) refl (λ store start walk printed. refl)
-        (λ same start walk end w ends listed. along next s'' (Err (Cycle n)) step same start walk end w ends listed)
-    listing_ended (Missing n) step =
-        let counted = unrefused_more now.tries s s' s'' lists.unrefused (step.honest lists.stays.honest).answers.0 in
-        at_end next s'' (Err (Missing n)) step below (plan.Finished (WalkEnds (MissingAt n))) (Stop.Ended (Missing n)) refl counted.refusals counted.troubles (MissingAt n) (WalkEnds (MissingAt n)) refl (λ store start walk printed. refl)
-        (λ same start walk end w ends listed. along next s'' (Err (Missing n)) step same start walk end w ends listed)
+    listing_ended (Cycle n) step = at_end (Err (Cycle n)) step (Stop.Ended (Cycle n)) (WalkEnds (CycleAt n)) (CycleAt n) refl (rw (step.honest lists.stays.honest).answers lists.unrefused)
+        (λ store start rows printed. refl) (along (Err (Cycle n)) step)
+    listing_ended (Missing n) step = at_end (Err (Missing n)) step (Stop.Ended (Missing n)) (WalkEnds (MissingAt n)) (MissingAt n) refl (unrefused_more now.tries s s' s'' lists.unrefused (step.honest lists.stays.honest).answers.0)
+        (λ store start rows printed. refl) (along (Err (Missing n)) step)
     listing_ended (GaveUp n) step =
         let answer = (step.honest lists.stays.honest).answers in
-        let grows = lists.unrefused.troubles in
-        let troubles = answer.troubles in
-        let fresh = answer.fresh_troubles in
-        failed next s'' (Err (GaveUp n)) step below (plan.GaveUp (AtRecord n)) (Stop.Ended (GaveUp n)) refl
-        (answer.refusals ∙ lists.unrefused.refusals, omega (arith, grows, troubles, same_tries), omega (arith, fresh, same_tries)) (omega (arith, grows, troubles)) n (λ store p at. at) step.leaves.1 (λ e. cc e)
-        (λ p holds. ((step.honest lists.stays.honest).plain (lists.stays.plain p) (lists.plain p holds)).fine)
-        (λ same start walk end w ends listed. (along next s'' (Err (GaveUp n)) step same start walk end w ends listed).1)
+        let counts = counts_since tries s s' s'' (λ same. (parts (Err (GaveUp n)) step same).1) (plan.GaveUp (AtRecord n)) lists.unrefused (answer.refusals, omega (arith, answer.troubles, same_tries), omega (arith, answer.fresh_troubles, same_tries)) in
+        failed (Err (GaveUp n)) step n (Stop.Ended (GaveUp n)) (plan.GaveUp (AtRecord n)) refl (λ e. cc e) counts (omega (arith, counts.1))
+        (λ p holds. ((step.honest lists.stays.honest).plain (lists.stays.plain p) (lists.plain p holds)).fine) step.leaves.1 (λ spots among. among)
+        (λ same start walk end w ends stands. (along (Err (GaveUp n)) step same start walk end w ends stands).1)
     listing_ended (Refused n code) step =
         let answer = (step.honest lists.stays.honest).answers in
-        let grows = lists.unrefused.troubles in
-        let troubles = answer.grows in
-        failed next s'' (Err (Refused n code)) step below (plan.Refused (AtRecord n) code.0) (Stop.Ended (Refused n code)) refl
-        (answer.refusals ∙ rw lists.unrefused.refusals refl, answer.last_code) (omega (arith, grows, troubles)) n (λ store p at. at) step.leaves.1 (λ e. cc e)
-        (λ p holds. ((step.honest lists.stays.honest).plain (lists.stays.plain p) (lists.plain p holds)).fine)
-        (λ same start walk end w ends listed. (along next s'' (Err (Refused n code)) step same start walk end w ends listed).1)
+        failed (Err (Refused n code)) step n (Stop.Ended (Refused n code)) (plan.Refused (AtRecord n) code.0) refl (λ e. cc e)
+        (counts_since tries s s' s'' (λ same. (parts (Err (Refused n code)) step same).1) (plan.Refused (AtRecord n) code.0) lists.unrefused (answer.refusals, answer.last_code)) (omega (arith, lists.unrefused.troubles, answer.grows))
+        (λ p holds. ((step.honest lists.stays.honest).plain (lists.stays.plain p) (lists.plain p holds)).fine) step.leaves.1 (λ spots among. among)
+        (λ same start walk end w ends stands. (along (Err (Refused n code)) step same start walk end w ends stands).1)
     listing_ended (Stalled n) step = absurd ((step.honest lists.stays.honest).answers)
     listing_ended (Malformed n) step = absurd ((step.honest lists.stays.honest).answers)
 
     -- a record was handed out
-    pub listing_taken : (row : Row) → IsStep now next s' s'' (Ok (Some row)) → Taken t tries span count begun next s s'' old new row
-    listing_taken row step =
-        let answer = (step.honest lists.stays.honest).answers in
-        record {
-          stays = stays next s'' (Ok (Some row)) step;
-          unrefused = unrefused_more now.tries s s' s'' lists.unrefused answer.0;
-          below = below;
-          some = step.same.part_not_zero;
-          along = λ same start walk end w ends stands.
-              let listed = lists.listed (first next s'' (Ok (Some row)) step same) start walk end w ends stands in
-              let more = along next s'' (Ok (Some row)) step same start walk end w ends listed in
-              let row_there : len_of (first_row (drop count walk)) ≡ length row.bytes = ap len_of more.0 in
-              let asked = asks next s'' (Ok (Some row)) step same start walk end w ends listed in
-              let calls = listed.calls in
-              let same_bound = ap (step_call_bound tries) row_there in
-              record {
-                within = listed.stands.within;
-                next_row = more.0;
-                stands = more.1;
-                printed = listed.printed;
-                calls = elim asked [
-                  | inl nothing ↦ absurd (asks_something now next row step.leaves nothing)
-                  | inr there ↦ omega (arith, calls, for_next next s'' (Ok (Some row)) step same start walk end w ends listed there, same_bound)
-                ];
-              };
-          plain = λ p holds. ((step.honest lists.stays.honest).plain (lists.stays.plain p) (lists.plain p holds)).holds;
-        }
+    pub listing_taken : (row : Row) → IsStep now next s' s'' (Ok (Some row)) → Taken t tries span count row (course begun next s s'' old new)
+    listing_taken row step = record {
+      stays = stays (Ok (Some row)) step;
+      unrefused = unrefused_more now.tries s s' s'' lists.unrefused (step.honest lists.stays.honest).answers.0;
+      along = λ same start walk end w ends stands.
+          let listed = lists.along (parts (Ok (Some row)) step same).0 start walk end w ends stands in
+          let more = along (Ok (Some row)) step same start walk end w ends stands in
+          let left : left_rows span count walk ≡ row ∷ left_rows span (count + 1) walk = (next_one (first_rows span.most walk) count row (first_row-first_rows span.most count walk below ∙ more.0)).0 in
+          record {
+            stands = more.1;
+            leads = λ outcome text allowed. listed.leads outcome text (rw (left_items-next span t start walk count row more.0 left) allowed);
+            calls = elim (asks (Ok (Some row)) step same start walk end w ends stands) [
+              | inl nothing ↦ absurd (asks_something now next row step.leaves nothing)
+              | inr there ↦ omega (arith, rw left at listed.calls, rw more.0 at (for_next (Ok (Some row)) step same start walk end w ends stands there))
+            ];
+          };
+      plain = λ p holds. ((step.honest lists.stays.honest).plain (lists.stays.plain p) (lists.plain p holds)).holds;
+    }
 
 -- ---- its piece
 
@@ -387,14 +289,13 @@ asked_within None tries t store row = omega arith
 asked_within (Some zero) tries t store row = omega arith
 asked_within (Some (suc n)) tries t store row = omega arith
 
-module _ (t : Task) (tries : ℕ) (span : Span) (count : ℕ) (begun next : CursorState) (s s' s'' : Seen) (old new : List ℕ) (row : Row) (taken : Taken t tries span count begun next s s' old new row) where
-  module _ (stays : StaysHonest s' s'') where
-    before : s''.stores_added ≡ s.stores_added → s'.stores_added ≡ s.stores_added
-    before same = omega (arith, same, taken.stays.store.grows, stays.store.grows)
+-- a spot of what comes later
+may_later : (first : Spot) (spots : List Spot) (outcome : Outcome) → MayStopAt spots outcome → MayStopAt (first ∷ spots) outcome
+may_later first spots (plan.GaveUp spot) may = inr may
+may_later first spots (plan.Refused spot code) may = inr may
+may_later first spots _ may = may
 
-    since : s''.stores_added ≡ s.stores_added → s''.stores_added ≡ s'.stores_added
-    since same = omega (arith, same, taken.stays.store.grows, stays.store.grows)
-
+module _ (t : Task) (tries : ℕ) (span : Span) (count : ℕ) (begun next : CursorState) (s s' s'' : Seen) (old new : List ℕ) (row : Row) (some : 0 < next.part) (taken : Taken t tries span count row (course begun next s s' old new)) where
   -- the spots of the row, and its text
   abbrev spots : List Spot
   spots = spots_in (passing span.skip count) t row
@@ -402,121 +303,59 @@ module _ (t : Task) (tries : ℕ) (span : Span) (count : ℕ) (begun next : Curs
   abbrev IsText : Store → List ℕ → Type 0
   IsText store text = IsItemText t store (subject_in (passing span.skip count) row) text
 
-  calls_there : (same : s'.stores_added ≡ s.stores_added) → s''.calls ≤ s'.calls + calls_at_spots tries s'.store spots → s''.calls ≤ s'.calls + calls_at_spots tries s.store (spots_after t row)
-  calls_there same calls =
-      let here = subst (λ (x : Store). s''.calls ≤ s'.calls + calls_at_spots tries x spots) (taken.stays.store.stays same) calls in
-      omega (arith, here, asked_within (passing span.skip count) tries t s.store row)
+  abbrev item : Place → List Row → Item
+  item start walk = item_in (passing span.skip count) t (place_after_rows start (take count walk)) row
 
-  -- within the calls of all the rows
-  in_all_rows : (same : s'.stores_added ≡ s.stores_added) (start : Place) (walk : List Row) → (there : TakenAlong t tries s.store start walk span count begun next s s' old new row)
-      → s''.calls ≤ s'.calls + calls_at_spots tries s'.store spots → s''.calls + 1 ≤ s.calls + calls_for t s.store tries (first_rows span.most walk) + step_call_bound tries 0 + digits begun.part
-  in_all_rows same start walk there asked =
-      let calls = there.calls in
-      let more = calls_there same asked in
-      let longer = calls_more t s.store tries walk count row there.next_row in
-      omega (arith, calls, more, longer, calls_within t s.store tries span.most count walk taken.below, digits_some next.part taken.some)
+  module _ (asks : AsksAt spots tries s' s'') where
+    stays_on : StaysHonest s s''
+    stays_on = stays_trans s s' s'' taken.stays asks.stays
 
-  -- a run may stop so at the piece of the row
-  allowed_after : (start : Place) (walk : List Row) (end : WalkEnd) (there : TakenAlong t tries s.store start walk span count begun next s s' old new row) (outcome : Outcome) → MayStopAt spots outcome
-      → IsAllowed t s.store (span_plan span t start walk end) old new outcome
-  allowed_after start walk end there outcome may = by_case outcome may
-    where
-      done : List Item
-      done = span_items span.skip t start (take count walk)
+    since : s''.stores_added ≡ s.stores_added → (s'.stores_added ≡ s.stores_added) × (s''.stores_added ≡ s'.stores_added)
+    since = between s s' s'' taken.stays asks.stays
 
-      item : Item
-      item = item_in (passing span.skip count) t (place_after_rows start (take count walk)) row
+    asked_calls : s''.stores_added ≡ s.stores_added → s''.calls ≤ s'.calls + calls_at_spots tries s.store (spots_after t row)
+    asked_calls same = omega (arith, rw (taken.stays.store.stays (since same).0) at (asks.calls (since same).1), asked_within (passing span.skip count) tries t s.store row)
 
-      stops : (spot : Spot) → IsAmong spots spot → StopsAt spot t s.store (span_plan span t start walk end) old new
-      stops spot among = let split = next_split span.skip t start span.most count walk row taken.below there.within there.next_row in record { done = done; rest = item ∷ split.0; items_are = split.1; printed = there.printed; there = inr among }
-
-      by_case : (o : Outcome) → MayStopAt spots o → IsAllowed t s.store (span_plan span t start walk end) old new o
-      by_case (plan.Finished e) may = absurd may
-      by_case (plan.GaveUp spot) may = stops spot may
-      by_case (plan.Refused spot code) may = stops spot may
-      by_case plan.OutOfMemory may = let split = next_split span.skip t start span.most count walk row taken.below there.within there.next_row in record { done = done; rest = item ∷ split.0; items_are = split.1; printed = there.printed }
-      by_case plan.WriteFault may = absurd may
-
-  never_done : (result : Stop) (outcome : Outcome) → IsOutcome result outcome → MayStopAt spots outcome → result ≡ Stop.Done → ⊥
-  never_done result outcome is may done = subst (MayStopAt spots) (subst (λ (x : Stop). IsOutcome x outcome) done is) may
+    -- a listing that stops at it
+    stopped_there : (st : Stop) (outcome : Outcome) (text : List ℕ) → IsOutcome st outcome → (st ≡ Stop.Done → ⊥) → CountsSo tries s' s'' outcome → (IsTrue s'.plain → IsFine outcome)
+        → (s''.stores_added ≡ s.stores_added → (start : Place) (walk : List Row) (end : WalkEnd) → IsAllowed t s.store (after_items (item start walk ∷ []) (left_plan span (count + 1) t start walk end)) new text outcome)
+        → IsListing t tries span (course begun next s s'' old text) (record { stop = st; count = count })
+    stopped_there st outcome text is not_done counts fine leaves = stopped t tries span count begun next s s'' old text st outcome is not_done stays_on (counts_since tries s s' s'' (λ same. (since same).1) outcome taken.unrefused counts)
+        (omega (arith, taken.unrefused.troubles, asks.grows)) (λ p holds. fine (taken.stays.plain p))
+        (λ same start walk end w ends stands.
+        let there = taken.along (since same).0 start walk end w ends stands in
+        (there.leads outcome text (leaves same start walk end), λ part. omega (arith, there.calls, asked_calls same, digits_some next.part some)))
 
   -- the piece was not found
   pub listing_none : (result : Stop) → FindsNone spots tries s' s'' result → IsListing t tries span (course begun next s s'' old new) (record { stop = result; count = count })
-  listing_none result none =
-      let low = taken.unrefused.troubles in
-      let high = none.asks.grows in
-      record {
-        outcome = none.outcome;
-        outcome_is = none.outcome_is;
-        stays = stays_trans s s' s'' taken.stays none.asks.stays;
-        counts = counts_since tries s s' s'' (since none.asks.stays) none.outcome taken.unrefused none.counts;
-        grows = omega (arith, low, high);
-        along = λ same start walk end w ends stands.
-            let there = taken.along (before none.asks.stays same) start walk end w ends stands in
-            record {
-              leaves = allowed_after start walk end there none.outcome none.there;
-              calls = λ part. in_all_rows (before none.asks.stays same) start walk there (none.asks.calls (since none.asks.stays same));
-              goes_on = λ done. absurd (never_done result none.outcome none.outcome_is none.there done);
-              count = λ done. absurd (never_done result none.outcome none.outcome_is none.there done);
-            };
-        plain = λ p holds. none.plain (taken.stays.plain p);
-      }
+  listing_none result none = stopped_there none.asks result none.outcome new none.outcome_is never none.counts none.plain
+      (λ same start walk end. stops_after t s.store (after_items (item start walk ∷ []) (left_plan span (count + 1) t start walk end)) [] (item start walk ∷ (left_plan span (count + 1) t start walk end).items) new new none.outcome refl (none_printed t s.store new)
+      (may_later (AtRecord (asked_at (place_after_rows start (take count walk)))) spots none.outcome none.there))
+    where
+      never : result ≡ Stop.Done → ⊥
+      never done = let ended = rw done at none.outcome_is in rw ended at none.there
 
   module _ (piece_text : List ℕ) (finds : FindsText IsText spots tries s' s'' piece_text) where
     -- it is a text of the row over the store of the beginning
     is_text : s''.stores_added ≡ s.stores_added → IsText s.store piece_text
-    is_text same = subst (λ (x : Store). IsText x piece_text) (taken.stays.store.stays (before finds.asks.stays same)) (finds.is (since finds.asks.stays same))
-
-    counted : IsUnrefused s s''
-    counted = let low = taken.unrefused.troubles in let high = finds.asks.grows in record { refusals = finds.refusals ∙ taken.unrefused.refusals; troubles = omega (arith, low, high) }
+    is_text same = rw (taken.stays.store.stays (since finds.asks same).0) at (finds.is (since finds.asks same).1)
 
     -- the piece was written in part
-    pub listing_cut : (n : ℕ) (text : List ℕ) → 0 < length piece_text → text ≡ new ++ take n piece_text → IsListing t tries span (course begun next s s'' old text) (record { stop = Stop.WriteFault; count = count })
-    listing_cut n text some wrote = record {
-      outcome = plan.WriteFault;
-      outcome_is = refl;
-      stays = stays_trans s s' s'' taken.stays finds.asks.stays;
-      counts = counted.refusals;
-      grows = counted.troubles;
-      along = λ same start walk end w ends stands.
-          let there = taken.along (before finds.asks.stays same) start walk end w ends stands in
-          record {
-            leaves =
-                let split = next_split span.skip t start span.most count walk row taken.below there.within there.next_row in
-                record {
-                  done = span_items span.skip t start (take count walk);
-                  item = item_in (passing span.skip count) t (place_after_rows start (take count walk)) row;
-                  rest = split.0;
-                  items_are = split.1;
-                  whole = new;
-                  printed = there.printed;
-                  text = piece_text;
-                  is_text = is_text same;
-                  some = some;
-                  bytes = n;
-                  new_is = wrote;
-                };
-            calls = λ part. in_all_rows (before finds.asks.stays same) start walk there (finds.asks.calls (since finds.asks.stays same));
-            goes_on = λ done. cc done;
-            count = λ done. cc done;
-          };
-      plain = λ p holds. tt;
-    }
+    pub listing_cut : (text : List ℕ) → 0 < length piece_text → TakesPart new text piece_text → IsListing t tries span (course begun next s s'' old text) (record { stop = Stop.WriteFault; count = count })
+    listing_cut text some part = stopped_there finds.asks Stop.WriteFault plan.WriteFault text refl (λ done. cc done) finds.refusals (λ p. tt)
+        (λ same start walk end. first_cut t s.store (after_items (item start walk ∷ []) (left_plan span (count + 1) t start walk end)) (item start walk) (left_plan span (count + 1) t start walk end).items piece_text new text refl (is_text same) some part)
 
     -- the piece was written
     pub listing_more : (text : List ℕ) → text ≡ new ++ piece_text → ListsHonest t tries span (count + 1) (course begun next s s'' old text)
     listing_more text wrote = record {
-      stays = stays_trans s s' s'' taken.stays finds.asks.stays;
-      unrefused = counted;
-      listed = λ same start walk end w ends stands.
-          let there = taken.along (before finds.asks.stays same) start walk end w ends stands in
-          let calls = there.calls in
-          let more = calls_there (before finds.asks.stays same) (finds.asks.calls (since finds.asks.stays same)) in
-          let longer = calls_more t s.store tries walk count row there.next_row in
+      stays = stays_on finds.asks;
+      unrefused = record { refusals = finds.refusals ∙ taken.unrefused.refusals; troubles = omega (arith, taken.unrefused.troubles, finds.asks.grows) };
+      along = λ same start walk end w ends stands.
+          let there = taken.along (since finds.asks same).0 start walk end w ends stands in
           record {
             stands = there.stands;
-            printed = printed_more span.skip t s.store start walk count row piece_text old new text there.within there.next_row there.printed (is_text same) wrote;
-            calls = omega (arith, calls, more, longer);
+            leads = λ outcome last allowed. there.leads outcome last (leaves_joined t s.store (item start walk ∷ []) (left_plan span (count + 1) t start walk end) new text (one_printed t s.store (item start walk) piece_text new text (is_text same) wrote) last outcome allowed);
+            calls = omega (arith, there.calls, asked_calls finds.asks same);
           };
       plain = λ p holds.
           let held = taken.plain p holds in
@@ -525,4 +364,4 @@ module _ (t : Task) (tries : ℕ) (span : Span) (count : ℕ) (begun next : Curs
 
 -- each record that is handed out leaves fewer ids
 pub fewer_ids : (now next : CursorState) (row : Row) → HandsOut now next row → 65536 - set.len next.ids < 65536 - set.len now.ids
-fewer_ids now next row hands = let more = len-next_ids now next row hands in let most = hands.at_most in omega (arith, more, most)
+fewer_ids now next row hands = omega (arith, len-next_ids now next row hands, hands.at_most)

@@ -3,12 +3,12 @@ use Rattle.std.specs.Prelude.{◌≡◌, Bool, true, false, ℕ, zero, suc, ◌+
 use Rattle.std.specs.FinSet as set
 use Rattle.std.specs.declared.alloc.Global.{Global}
 use Rattle.arrayvec.specs.ArrayVec.{ArrayVec}
-use Rattle.ipmi_commands.specs.Below.{step_call_bound, fru_call_bound, digits, Place, First, Id, End, FruEnded, Cycle, Missing, Refused, GaveUp, Stalled, Malformed, inventory_len, KeepsReservations, Row, largest_len, Shelf, Store, info_of, rows_of, IsWalk, WalkEnd, Done, CycleAt, MissingAt, EndsBy, place_after, IsInfoBlock, Seen, StaysHonest, CursorState, StandsAt, CursorHoldsCurrent, asked_at, Count, Task, most_of, shelf_of}
+use Rattle.ipmi_commands.specs.Below.{step_call_bound, fru_call_bound, digits, Place, First, Id, End, FruEnded, Cycle, Missing, Refused, GaveUp, inventory_len, KeepsReservations, Row, largest_len, Shelf, Store, info_of, rows_of, IsWalk, WalkEnd, Done, CycleAt, MissingAt, EndsBy, place_after, place_after_rows, IsInfoBlock, Seen, StaysHonest, CursorState, StandsAt, CursorHoldsCurrent, asked_at, Count, Task, most_of, shelf_of}
 use Rattle.ipmi_commands.specs.declared.piece.Piece.{Piece}
 use Rattle.ipmi_commands.specs.declared.stop.Stop.{Stop}
 use Rattle.ipmi_commands.specs.declared.listing.Listed.{Listed}
 use Rattle.ipmi_commands.specs.declared.listing.Span.{Span}
-use Rattle.ipmi_commands.specs.Plan.{IsRowPiece, most_after, first_rows, first_end, last_rows, Request, request, Plan, Item, IsItemText, Subject, OfRow, Passed, Spot, AtRecord, AtInventory, WalkEnds, row_items, run_end, Printed, Outcome, IsAllowed, CountsSo, IsFine, IsAmong, end_spots, spots_after}
+use Rattle.ipmi_commands.specs.Plan.{IsRowPiece, most_after, first_rows, first_end, last_rows, Request, request, Plan, Item, IsItemText, Subject, OfRow, Passed, Spot, AtRecord, AtInventory, WalkEnds, row_items, run_end, Outcome, IsAllowed, CountsSo, IsFine, IsAmong, end_spots, spots_after}
 use Rattle.ipmi_commands.specs.Plan as plan
 
 -- ---- how far a listing goes
@@ -78,16 +78,14 @@ IsOutcome (Stop.Ended (Cycle n)) outcome = outcome ≡ plan.Finished (WalkEnds (
 IsOutcome (Stop.Ended (Missing n)) outcome = outcome ≡ plan.Finished (WalkEnds (MissingAt n))
 IsOutcome (Stop.Ended (GaveUp n)) outcome = outcome ≡ plan.GaveUp (AtRecord n)
 IsOutcome (Stop.Ended (Refused n code)) outcome = outcome ≡ plan.Refused (AtRecord n) code.0
-IsOutcome (Stop.Ended (Stalled n)) outcome = ⊥
-IsOutcome (Stop.Ended (Malformed n)) outcome = ⊥
 IsOutcome Stop.NoName outcome = outcome ≡ plan.Finished plan.NoName
 IsOutcome Stop.NoInfo outcome = outcome ≡ plan.Finished plan.NoInfo
 IsOutcome (Stop.Inventory id FruEnded.GaveUp) outcome = outcome ≡ plan.GaveUp (AtInventory id)
 IsOutcome (Stop.Inventory id (FruEnded.Refused code)) outcome = outcome ≡ plan.Refused (AtInventory id) code.0
 IsOutcome (Stop.Inventory id FruEnded.Memory) outcome = outcome ≡ plan.OutOfMemory
-IsOutcome (Stop.Inventory id _) outcome = ⊥
 IsOutcome Stop.Memory outcome = outcome ≡ plan.OutOfMemory
 IsOutcome Stop.WriteFault outcome = outcome ≡ plan.WriteFault
+IsOutcome _ outcome = ⊥
 
 -- a write fault is one fault of the output, and nothing else is
 abbrev pub faults_of : Stop → ℕ
@@ -177,11 +175,10 @@ pub record FindsText (IsText : Store → List ℕ → Type 0) (spots : List Spot
 
 -- none is found: what is asked for is given up or refused at one of the spots, or memory is wanted
 abbrev pub MayStopAt : List Spot → Outcome → Type 0
-MayStopAt spots (plan.Finished end) = ⊥
 MayStopAt spots (plan.GaveUp spot) = IsAmong spots spot
 MayStopAt spots (plan.Refused spot code) = IsAmong spots spot
 MayStopAt spots plan.OutOfMemory = Unit {0}
-MayStopAt spots plan.WriteFault = ⊥
+MayStopAt spots _ = ⊥
 
 pub record FindsNone (spots : List Spot) (tries : ℕ) (s s' : Seen) (result : Stop) : Type 0 where
   pub asks : AsksAt spots tries s s'
@@ -265,11 +262,24 @@ pub record Course : Type 0 where
 abbrev pub course : CursorState → CursorState → Seen → Seen → List ℕ → List ℕ → Course
 course begun now seen seen' old new = record { begun = begun; now = now; seen = seen; seen' = seen'; old = old; new = new }
 
--- along a walk: the cursor has passed so many rows of it, and texts of those in the span were written
-pub record HasListed (r : Request) (store : Store) (walk : List Row) (span : Span) (count : ℕ) (c : Course) : Type 0 where
+-- the rows that are wanted and not listed, after so many
+abbrev pub left_rows : Span → ℕ → List Row → List Row
+left_rows span count walk = drop count (first_rows span.most walk)
+
+-- what is left of the plan of a listing after so many rows
+abbrev pub left_plan : Span → ℕ → Task → Place → List Row → WalkEnd → Plan
+left_plan span count t start walk end = record {
+  items = span_items (passing span.skip count) t (place_after_rows start (take count walk)) (left_rows span count walk);
+  end = (span_plan span t start walk end).end;
+  end_spots = (span_plan span t start walk end).end_spots;
+}
+
+-- along a walk: the cursor has passed so many rows of it; what the plan of the rest may leave, with what was written, the plan of all
+-- may leave; and so many calls are left for the rest
+pub record HasListed (r : Request) (store : Store) (walk : List Row) (end : WalkEnd) (span : Span) (count : ℕ) (rest : Plan) (calls_left : ℕ) (c : Course) : Type 0 where
   pub stands : StandsAt (rows_of (shelf_of r.task) store) r.start walk count c.now
-  pub printed : Printed r.task store (span_items span.skip r.task r.start (take count walk)) c.old c.new
-  pub calls : c.seen'.calls + digits c.now.part ≤ c.seen.calls + calls_for r.task store r.tries (take count walk) + digits c.begun.part
+  pub leads : (outcome : Outcome) (new : List ℕ) → IsAllowed r.task store rest c.new new outcome → IsAllowed r.task store (span_plan span r.task r.start walk end) c.old new outcome
+  pub calls : c.seen'.calls + digits c.now.part + calls_left ≤ c.seen.calls + calls_for r.task store r.tries (first_rows span.most walk) + digits c.begun.part
 
 -- along each walk of a task that has an end, and at the start of which the cursor was
 abbrev pub OnEachWalk : Task → CursorState → Store → (Place → List Row → WalkEnd → Type 0) → Type 0
@@ -278,13 +288,17 @@ OnEachWalk t begun store Holds =
     → EndsBy (rows_of (shelf_of t) store) start walk end → StandsAt (rows_of (shelf_of t) store) start walk 0 begun
     → Holds start walk end
 
--- since the listing began, over an honest controller
-pub record ListsHonest (t : Task) (tries : ℕ) (span : Span) (count : ℕ) (c : Course) : Type 0 where
+-- since the listing began, over an honest controller, where so much holds along each walk
+pub record GoesAlong (t : Task) (c : Course) (Along : Place → List Row → WalkEnd → Type 0) : Type 0 where
   pub stays : StaysHonest c.seen c.seen'
   pub unrefused : IsUnrefused c.seen c.seen'
-  pub listed : c.seen'.stores_added ≡ c.seen.stores_added
-      → OnEachWalk t c.begun c.seen.store (λ start walk end. HasListed (request t start tries) c.seen.store walk span count c)
+  pub along : c.seen'.stores_added ≡ c.seen.stores_added → OnEachWalk t c.begun c.seen.store Along
   pub plain : IsTrue c.seen.plain → CursorHoldsCurrent c.begun c.seen → CursorHoldsCurrent c.now c.seen'
+
+abbrev pub ListsHonest : Task → ℕ → Span → ℕ → Course → Type 0
+ListsHonest t tries span count c = GoesAlong t c
+    (λ start walk end. HasListed (request t start tries) c.seen.store walk end span count (left_plan span count t start walk end)
+    (calls_for t c.seen.store tries (left_rows span count walk)) c)
 
 -- a whole listing along a walk: what it leaves, the bound of its calls, that its cursor is after the rows that are wanted, and
 -- how many these are

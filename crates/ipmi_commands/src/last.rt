@@ -1,5 +1,5 @@
 //! Lists the last entries of a shelf, on a second walk after one that counts them.
-ghost use Rattle.std.specs.Prelude.{◌≡◌, ◌+◌, ◌-◌, ◌≤◌};
+ghost use Rattle.std.specs.Prelude.{◌≡◌, ◌+◌, ◌≤◌};
 ghost use Rattle.ipmi_commands.specs.Below.{start_of, IsHonest, start_by, Count, Task};
 ghost use Rattle.ipmi_commands.specs.Prelude.{ListsSpan, faults_of, most_calls, most_on_walk, change, request_of, Performs};
 
@@ -36,13 +36,6 @@ fn list_span<C: Controller, O: Sink>(
     list_records(alloc, &mut cursor, ctl, cmd, span, out)
 }
 
-/// How many of so many entries come before the last ones.
-fn before_last(count: u32, wanted: u16) -> u32
-    ensures { result ≡ count - wanted }
-{
-    count.saturating_sub(u32::from(wanted))
-}
-
 /// Lists the last `wanted` entries: it counts them all, and passes those before them on a second walk.
 pub(crate) fn list_last<C: Controller, O: Sink>(
     alloc: Global,
@@ -71,7 +64,7 @@ pub(crate) fn list_last<C: Controller, O: Sink>(
     if counted.count == 0 {
         return counted.stop;
     }
-    let skip = before_last(counted.count, wanted);
+    let skip = counted.count.saturating_sub(u32::from(wanted));
     let last = Span {
         skip: Some(skip),
         most: None,

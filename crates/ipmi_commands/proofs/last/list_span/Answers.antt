@@ -1,5 +1,5 @@
-use Rattle.std.proofs.Common.{List, ap, sym, subst}
-use Rattle.ipmi_commands.specs.Below.{CursorState, Place, Row, StandsAt}
+use Rattle.std.proofs.Common.{ap, sym}
+use Rattle.ipmi_commands.specs.Below.{CursorState}
 use Rattle.ipmi_commands.specs.Prelude.{request_of}
 use Rattle.ipmi_commands.proofs.LastLemmas.{span_by_cursor, span_without_memory}
 use Rattle.ipmi_commands.proofs.PageLemmas.{page_calls}
@@ -12,8 +12,5 @@ pub returns-clause-calls : goal.returns-clause-calls
 returns-clause-calls g c = page_calls c.args.cmd.now.task c.args.cmd.now.tries c.in-Ok.cursor c.list_records.new.cursor _ _ c.in-Ok.ensures.some c.list_records.ensures.calls
 
 pub returns-clause-honest : goal.returns-clause-honest
-returns-clause-honest g c = λ h.
-    let begun = c.in-Ok.cursor in
-    let at = sym (c.requires) in
-    span_by_cursor (request_of c.args.cmd.now) c.args.span begun c.list_records.new.cursor _ _ _ _ c.list_records.result (ap (λ (x : CursorState). x.reservation) c.in-Ok.ensures.fresh) c.in-Ok.ensures.some
-    (subst (λ (p : Place). (rows walk : List Row) → StandsAt rows p walk 0 begun) at (rw c.from.ensures.value at c.in-Ok.ensures.stands)) (c.list_records.ensures.honest h)
+returns-clause-honest g c = λ h. span_by_cursor (request_of c.args.cmd.now) c.args.span c.in-Ok.cursor c.list_records.new.cursor _ _ _ _ c.list_records.result (ap (λ (x : CursorState). x.reservation) c.in-Ok.ensures.fresh) c.in-Ok.ensures.some
+    (rw (sym c.requires) at (rw c.from.ensures.value at c.in-Ok.ensures.stands)) (c.list_records.ensures.honest h)

@@ -1,46 +1,45 @@
-use Rattle.std.proofs.Common.{◌++◌, Bool, List, ℕ, take, Ok, ◌∙◌, ap, refl, sym, subst}
-use Rattle.ipmi_commands.specs.Below.{row_of_record, Task, shelf_of}
-use Rattle.ipmi_commands.specs.Prelude.{Stop, course, most_for_one, stop_at_end, IsListing, most_after}
-use Rattle.ipmi_commands.proofs.CallLemmas.{called_more, called_stopped, called_done, called_failed}
-use Rattle.ipmi_commands.proofs.ListingLemmas.{listing_full, listing_done, listing_ended, listing_taken, listing_none, listing_cut, listing_more, within_more, fewer_ids}
-use Rattle.ipmi_commands.proofs.NameLemmas.{Wrote, wrote_more}
+use Rattle.std.proofs.Common.{◌++◌, List, ℕ, Ok, Err, None, ◌∙◌, ap, refl, sym, rules}
+use Rattle.ipmi_commands.specs.Below.{row_of_record, shelf_of}
+use Rattle.ipmi_commands.specs.Prelude.{most_for_one, most_after}
+use Rattle.ipmi_commands.proofs.CallLemmas.{called_more, called_stopped, called_ended}
+use Rattle.ipmi_commands.proofs.ListingLemmas.{listing_begins, listing_full, listing_done, listing_ended, listing_taken, listing_none, listing_cut, listing_more, within_more, fewer_ids}
+use Rattle.ipmi_commands.proofs.NameLemmas.{wrote_more}
 use Rattle.ipmi_commands.proofs.listing.list_records.Goals as goal
+
+pub records-init : goal.records-init
+records-init g c = search (rules, listing_begins)
 
 pub returns-then-is_reached-clause-honest : goal.returns-then-is_reached-clause-honest
 returns-then-is_reached-clause-honest g c = λ h.
     let kept = c.records.invariant in
-    subst
-    (λ (x : Stop). IsListing c.args.cmd.now.task c.args.cmd.now.tries c.args.span (course c.args.cursor.now c.records.cursor (g.C.Controller.seen c.args.ctl.now) (g.C.Controller.seen c.records.ctl) (g.O.Sink.taken c.args.out.now) (g.O.Sink.taken c.records.out)) (record { stop = x; count = c.records.count }))
-    (sym (c.stop_at_end-stop.ensures.value ∙ ap (λ (t : Task). stop_at_end t c.records.wrote) c.task.ensures.value))
-    (listing_full _ _ _ _ _ _ _ _ _ _ _ kept.1 kept.2 kept.3.some kept.4 kept.5 h (kept.6 h) (sym c.is_reached.ensures ∙ c.if-is_reached.true))
+    rw (c.stop_at_end-stop.ensures.value, c.task.ensures.value)
+    (listing_full _ _ _ _ _ _ _ _ _ _ _ kept.1 kept.2 kept.3.some kept.4 kept.5 (kept.6 h) (sym c.is_reached.ensures ∙ c.if-is_reached.true))
 
 pub returns-in-Ok-None-clause-calls : goal.returns-in-Ok-None-clause-calls
 returns-in-Ok-None-clause-calls g c =
     let kept = c.records.invariant in
     let cmd = c.args.cmd.now in
-    called_done cmd.tries (most_after cmd.task cmd.tries) (most_for_one cmd.task cmd.tries) _ (shelf_of cmd.task) _ c.records.cursor c.step.follows.lender-at-none _ _ _ refl kept.1 kept.2 kept.3
+    called_ended cmd.tries (most_after cmd.task cmd.tries) (most_for_one cmd.task cmd.tries) _ (shelf_of cmd.task) _ c.records.cursor c.step.follows.lender-at-none _ _ _ refl kept.1 kept.2 kept.3 (Ok None) tt
     (rw (c.in-Ok-None.is ∙ ap Ok c.in-Ok-None.field-0-is) at c.step.follows.holds-at-none)
 
 pub returns-in-Ok-None-clause-honest : goal.returns-in-Ok-None-clause-honest
 returns-in-Ok-None-clause-honest g c = λ h.
     let kept = c.records.invariant in
-    subst
-    (λ (x : Stop). IsListing c.args.cmd.now.task c.args.cmd.now.tries c.args.span (course c.args.cursor.now c.step.follows.lender-at-none (g.C.Controller.seen c.args.ctl.now) (g.C.Controller.seen c.step.new.ctl) (g.O.Sink.taken c.args.out.now) (g.O.Sink.taken c.records.out)) (record { stop = x; count = c.records.count }))
-    (sym (c.stop_at_end-stop-in-Ok-None.ensures.value ∙ ap (λ (t : Task). stop_at_end t c.records.wrote) c.task-in-Ok-None.ensures.value))
-    (listing_done _ _ _ _ _ _ _ _ _ _ _ kept.1 kept.2 kept.3.some kept.4 kept.5 h (kept.6 h) c.step.follows.lender-at-none _ (sym c.is_reached.ensures ∙ c.if-is_reached.false)
+    rw (c.stop_at_end-stop-in-Ok-None.ensures.value, c.task-in-Ok-None.ensures.value)
+    (listing_done _ _ _ _ _ _ _ _ _ _ _ kept.1 kept.2 kept.3.some kept.4 kept.5 (kept.6 h) c.step.follows.lender-at-none _ (sym c.is_reached.ensures ∙ c.if-is_reached.false)
     (rw (c.in-Ok-None.is ∙ ap Ok c.in-Ok-None.field-0-is) at c.step.follows.holds-at-none))
 
 pub returns-in-Err-clause-calls : goal.returns-in-Err-clause-calls
 returns-in-Err-clause-calls g c =
     let kept = c.records.invariant in
     let cmd = c.args.cmd.now in
-    called_failed cmd.tries (most_after cmd.task cmd.tries) (most_for_one cmd.task cmd.tries) _ (shelf_of cmd.task) _ c.records.cursor c.step.follows.lender-at-none _ _ _ refl kept.1 kept.2 kept.3
-    c.in-Err.ended (rw c.in-Err.is at c.step.follows.holds-at-none)
+    called_ended cmd.tries (most_after cmd.task cmd.tries) (most_for_one cmd.task cmd.tries) _ (shelf_of cmd.task) _ c.records.cursor c.step.follows.lender-at-none _ _ _ refl kept.1 kept.2 kept.3 (Err c.in-Err.ended) tt
+    (rw c.in-Err.is at c.step.follows.holds-at-none)
 
 pub returns-in-Err-clause-honest : goal.returns-in-Err-clause-honest
 returns-in-Err-clause-honest g c = λ h.
     let kept = c.records.invariant in
-    listing_ended _ _ _ _ _ _ _ _ _ _ _ kept.1 kept.2 kept.3.some kept.4 kept.5 h (kept.6 h) c.step.follows.lender-at-none _ (sym c.is_reached.ensures ∙ c.if-is_reached.false) c.in-Err.ended
+    listing_ended _ _ _ _ _ _ _ _ _ _ _ kept.1 kept.2 kept.3.some kept.4 kept.5 (kept.6 h) c.step.follows.lender-at-none _ (sym c.is_reached.ensures ∙ c.if-is_reached.false) c.in-Err.ended
     (rw c.in-Err.is at c.step.follows.holds-at-none)
 
 pub returns-in-Err-piece_in-clause-calls : goal.returns-in-Err-piece_in-clause-calls
@@ -56,8 +55,8 @@ returns-in-Err-piece_in-clause-honest g c = λ h.
     let kept = c.records.invariant in
     let step = rw (c.in-Ok-Some.is ∙ ap Ok c.in-Ok-Some.field-0-is) at c.step.follows.holds-at-none in
     let taken =
-    listing_taken _ _ _ _ _ _ _ _ _ _ _ kept.1 kept.2 kept.3.some kept.4 kept.5 h (kept.6 h) c.step.follows.lender-at-none _ (sym c.is_reached.ensures ∙ c.if-is_reached.false) (row_of_record c.in-Ok-Some.record) step in
-    listing_none _ _ _ _ _ _ _ _ _ _ _ _ taken c.in-Err-piece_in.stop (rw c.passing-passing.ensures at c.in-Err-piece_in.ensures.honest taken.stays.honest)
+    listing_taken _ _ _ _ _ _ _ _ _ _ _ kept.1 kept.2 kept.3.some kept.4 kept.5 (kept.6 h) c.step.follows.lender-at-none _ (sym c.is_reached.ensures ∙ c.if-is_reached.false) (row_of_record c.in-Ok-Some.record) step in
+    listing_none _ _ _ _ _ _ _ _ _ _ _ _ step.same.part_not_zero taken c.in-Err-piece_in.stop (rw c.passing-passing.ensures at c.in-Err-piece_in.ensures.honest taken.stays.honest)
 
 pub returns-in-Err-write_all-clause-calls : goal.returns-in-Err-write_all-clause-calls
 returns-in-Err-write_all-clause-calls g c =
@@ -70,13 +69,11 @@ returns-in-Err-write_all-clause-calls g c =
 pub returns-in-Err-write_all-clause-honest : goal.returns-in-Err-write_all-clause-honest
 returns-in-Err-write_all-clause-honest g c = λ h.
     let kept = c.records.invariant in
-    let cut = c.in-Err-write_all.ensures.err.0 in
     let step = rw (c.in-Ok-Some.is ∙ ap Ok c.in-Ok-Some.field-0-is) at c.step.follows.holds-at-none in
     let taken =
-    listing_taken _ _ _ _ _ _ _ _ _ _ _ kept.1 kept.2 kept.3.some kept.4 kept.5 h (kept.6 h) c.step.follows.lender-at-none _ (sym c.is_reached.ensures ∙ c.if-is_reached.false) (row_of_record c.in-Ok-Some.record) step in
-    listing_cut _ _ _ _ _ _ _ _ _ _ (g.O.Sink.taken c.records.out) _ taken _ (rw c.passing-passing.ensures at c.in-Ok.ensures.honest taken.stays.honest) cut.0 _
-    (rw c.bytes-bytes.ensures at c.in-Err-write_all.ensures.some)
-    (cut.1 ∙ ap (λ (l : List ℕ). g.O.Sink.taken c.records.out ++ take cut.0 l) c.bytes-bytes.ensures)
+    listing_taken _ _ _ _ _ _ _ _ _ _ _ kept.1 kept.2 kept.3.some kept.4 kept.5 (kept.6 h) c.step.follows.lender-at-none _ (sym c.is_reached.ensures ∙ c.if-is_reached.false) (row_of_record c.in-Ok-Some.record) step in
+    listing_cut _ _ _ _ _ _ _ _ _ _ (g.O.Sink.taken c.records.out) _ step.same.part_not_zero taken _ (rw c.passing-passing.ensures at c.in-Ok.ensures.honest taken.stays.honest) _
+    (rw c.bytes-bytes.ensures at c.in-Err-write_all.ensures.some) (rw c.bytes-bytes.ensures at c.in-Err-write_all.ensures.err.0)
 
 pub records-smaller : goal.records-smaller
 records-smaller g c =
@@ -94,9 +91,9 @@ records-preserved g c =
       step.same.tries ∙ kept.2,
       called_more cmd.tries (most_after cmd.task cmd.tries) (most_for_one cmd.task cmd.tries) _ (shelf_of cmd.task) _ c.records.cursor _ _ _ _ refl kept.1 kept.2 kept.3 _ (row_of_record c.in-Ok-Some.record) step c.piece_in.ensures.calls,
       within_more _ _ kept.4 (sym c.is_reached.ensures ∙ c.if-is_reached.false),
-      subst (λ (b : Bool). Wrote b (g.O.Sink.taken c.args.out.now) (g.O.Sink.taken c.write_all.new.out)) (sym c.has_written-wrote.ensures) (wrote_more c.records.wrote _ _ _ c.bytes-bytes.result.now kept.5 wrote.0),
+      rw c.has_written-wrote.ensures (wrote_more c.records.wrote _ _ _ c.bytes-bytes.result.now kept.5 wrote.0),
       λ h.
           let taken =
-          listing_taken _ _ _ _ _ _ _ _ _ _ _ kept.1 kept.2 kept.3.some kept.4 kept.5 h (kept.6 h) c.step.follows.lender-at-none _ (sym c.is_reached.ensures ∙ c.if-is_reached.false) (row_of_record c.in-Ok-Some.record) step in
-          listing_more _ _ _ _ _ _ _ _ _ _ (g.O.Sink.taken c.records.out) _ taken _ (rw c.passing-passing.ensures at c.in-Ok.ensures.honest taken.stays.honest) _ (wrote.0 ∙ ap (λ (l : List ℕ). g.O.Sink.taken c.records.out ++ l) c.bytes-bytes.ensures),
+          listing_taken _ _ _ _ _ _ _ _ _ _ _ kept.1 kept.2 kept.3.some kept.4 kept.5 (kept.6 h) c.step.follows.lender-at-none _ (sym c.is_reached.ensures ∙ c.if-is_reached.false) (row_of_record c.in-Ok-Some.record) step in
+          listing_more _ _ _ _ _ _ _ _ _ _ (g.O.Sink.taken c.records.out) _ step.same.part_not_zero taken _ (rw c.passing-passing.ensures at c.in-Ok.ensures.honest taken.stays.honest) _ (wrote.0 ∙ ap (λ (l : List ℕ). g.O.Sink.taken c.records.out ++ l) c.bytes-bytes.ensures),
     )
