@@ -51,9 +51,7 @@ ReceivesPart-after old mid new xs ys first part = (
 joined_parts-split : (parts : List (Bor (List ℕ))) (i : ℕ) (d : Bor (List ℕ)) → i < length parts
     → joined_parts (take i parts) ++ ((get_or parts i d).now ++ joined_parts (drop (suc i) parts)) ≡ joined_parts parts
 joined_parts-split parts i d within =
-    ap (λ (ps : List (Bor (List ℕ))). joined_parts (take i parts) ++ joined_parts ps) (sym (drop-cons parts i d within))
-    ∙ sym (flat_map-append (λ (part : Bor (List ℕ)). part.now) (take i parts) (drop i parts))
-    ∙ ap (λ (ps : List (Bor (List ℕ))). joined_parts ps) (take-append-drop i parts)
+    cc (drop-cons parts i d within, flat_map-append (λ (part : Bor (List ℕ)). part.now) (take i parts) (drop i parts), take-append-drop i parts)
 
 -- the parts before part i, and then a part of that one
 pub ReceivesPart-in_part : (old mid new : Received) (parts : List (Bor (List ℕ))) (i : ℕ) (d : Bor (List ℕ)) → i < length parts
