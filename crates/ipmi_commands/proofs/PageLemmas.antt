@@ -16,10 +16,6 @@ first_rows-nil : (most : Option ℕ) → first_rows most [] ≡ []
 first_rows-nil None = refl
 first_rows-nil (Some n) = take-nil n
 
-take-none : (walk : List Row) → take 0 walk ≡ []
-take-none [] = refl
-take-none (row ∷ walk) = refl
-
 -- what a listing of no rows ends by
 done_by-none : (t : Task) → done_by t false ≡ done_end t []
 done_by-none (Task.Get name) = refl
@@ -49,7 +45,7 @@ page_of_no_rows r most s text run result honest is empty = quiet_page r most s t
 -- a page of no record
 pub page_of_none : (t : Task) (start : Place) (tries : ℕ) (s : Seen) (text : List ℕ) → IsHonest s → IsPage (request t start tries) (Some 0) start (change s s text text) (stop_at_end t false)
 page_of_none t start tries s text honest = page_of_no_rows (request t start tries) (Some 0) s text (done_by t false) (stop_at_end t false) honest (end_is t false)
-    (λ walk end w ends. (take-none walk, done_by-none t ∙ ap (run_end t []) (sym (first_end-none 0 walk end (omega arith)))))
+    (λ walk end w ends. (refl, done_by-none t ∙ ap (run_end t []) (sym (first_end-none 0 walk end (omega arith)))))
 
 -- no walk goes from where no row is
 pub no_walk : (rows : List Row) (start : Place) (walk : List Row) → row_at start rows ≡ None → IsWalk rows start walk → walk ≡ []
