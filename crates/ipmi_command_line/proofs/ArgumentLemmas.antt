@@ -15,21 +15,9 @@ pub is_simple_and_free-command_line : is_simple_and_free command_line ≡ true
 unfolding clap_on_literals
 is_simple_and_free-command_line = refl
 
-pub is_taken-ok : (a : App) (ws words : List Text) → a ≡ command_line → ws ≡ words → fault_of a ws ≡ [] → is_taken words ≡ true
-unfolding is_taken
-is_taken-ok a ws words p q h = ap is_empty (sym (ap₂ fault_of p q) ∙ h)
-
-is_empty-kinds : (k : ErrorKind) (ks : Kinds) → IsAmong k ks → is_empty ks ≡ false
+pub is_empty-kinds : (k : ErrorKind) (ks : Kinds) → IsAmong k ks → is_empty ks ≡ false
 is_empty-kinds k [] h = elim h [ ]
 is_empty-kinds k (x ∷ xs) h = refl
-
-pub is_taken-err : (a : App) (ws words : List Text) (k : ErrorKind) → a ≡ command_line → ws ≡ words → IsAmong k (fault_of a ws) → is_taken words ≡ false
-unfolding is_taken
-is_taken-err a ws words k p q h = ap is_empty (sym (ap₂ fault_of p q)) ∙ is_empty-kinds k (fault_of a ws) h
-
-pub rows : (a : App) (ws words : List Text) (rs : List Row) → a ≡ command_line → ws ≡ words → rs ≡ matches_of a ws → rs ≡ rows_of_words words
-unfolding rows_of_words
-rows a ws words rs p q h = h ∙ ap₂ matches_of p q
 
 -- the words, or none where there are none
 map-unwrap_or : (r : Option (Bor (List (Bor Text)))) (d : Bor (List (Bor Text))) → d.now ≡ [] → map (λ v. v.now) ((unwrap_or r d).now) ≡ unwrap_or (option_map (λ s. map (λ v. v.now) s.now) r) []

@@ -1,3 +1,2 @@
 pub mod ArgumentLemmas
-pub mod CommandLemmas
 pub mod NumberLemmas

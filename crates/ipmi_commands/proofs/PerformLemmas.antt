@@ -41,9 +41,10 @@ pub record TextStops (t : Task) (item : Item) (tries : ℕ) (c : Change) (result
       → IsAllowed t c.seen.store (record { items = item ∷ more; end = e; end_spots = at_end }) c.old c.new outcome
 
 module _ (t : Task) (item : Item) (tries : ℕ) (c : Change) where
-  pub text_written : (found : Result (String Global) Stop) → FindsItem t item tries c.seen c.seen' found → WritesFound found c.old c.new Stop.Done → (found ≡ Err Stop.Done → ⊥) → TextWritten t item tries c
-  text_written (Ok text) finds writes never = record { asks = finds.asks; refusals = finds.refusals; printed = λ same. one_printed t c.seen.store item (string_bytes text) c.old c.new (finds.is same) writes }
-  text_written (Err e) finds writes never = absurd (never (ap Err (sym writes.0)))
+  pub text_written : (found : Result (String Global) Stop) → FindsItem t item tries c.seen c.seen' found → WritesFound found c.old c.new Stop.Done → TextWritten t item tries c
+  text_written (Ok text) finds writes = record { asks = finds.asks; refusals = finds.refusals; printed = λ same. one_printed t c.seen.store item (string_bytes text) c.old c.new (finds.is same) writes }
+  text_written (Err e) finds writes =
+      let ended = subst (λ (x : Stop). IsOutcome x finds.outcome) (sym writes.0) finds.outcome_is in absurd (subst (MayStopAt item.spots) ended finds.there)
 
   pub text_stops : (found : Result (String Global) Stop) (result : Stop) → FindsItem t item tries c.seen c.seen' found → WritesFound found c.old c.new result → is_done result ≡ false → TextStops t item tries c result
   text_stops (Ok text) Stop.Done finds writes stopped = cc stopped
@@ -64,14 +65,6 @@ module _ (t : Task) (item : Item) (tries : ℕ) (c : Change) where
     plain = finds.plain;
     allowed = λ more e at_end same. stops_first t c.seen.store (record { items = item ∷ more; end = e; end_spots = at_end }) c.old c.new finds.outcome writes.1 finds.there;
   }
-
--- a piece that is not found does not end by Done
-pub never_found : (t : Task) (item : Item) (tries : ℕ) (s s' : Seen) (found : Result (String Global) Stop) → FindsItem t item tries s s' found → found ≡ Err Stop.Done → ⊥
-never_found t item tries s s' (Ok text) finds is = cc is
-never_found t item tries s s' (Err e) finds is =
-    let done : e ≡ Stop.Done = cc is in
-    let ended = subst (λ (x : Stop). IsOutcome x finds.outcome) done finds.outcome_is in
-    subst (MayStopAt item.spots) ended finds.there
 
 -- ---- a task that goes along no walk before it stops
 
@@ -103,7 +96,7 @@ one_text_performs r item c found result plan_is bound_is finds writes = by_case 
         (λ same walk end. subst (λ (p : Plan). IsAllowed r.task c.seen.store p c.old c.new stops.outcome) (sym (plan_is c.seen.store walk end)) (stops.allowed [] (WalkEnds Done) [] same))
     by_case true is =
         let is_done_ = done result is in
-        let written = text_written r.task item r.tries c found finds (subst (WritesFound found c.old c.new) is_done_ writes) (never_found r.task item r.tries c.seen c.seen' found finds) in
+        let written = text_written r.task item r.tries c found finds (subst (WritesFound found c.old c.new) is_done_ writes) in
         asked_performs r item.spots c result (plan.Finished (WalkEnds Done)) (bound_is c.seen.store) written.asks (subst (λ (x : Stop). IsOutcome x (plan.Finished (WalkEnds Done))) (sym is_done_) refl) written.refusals (λ p. tt)
         (λ same walk end. subst (λ (p : Plan). IsAllowed r.task c.seen.store p c.old c.new (plan.Finished (WalkEnds Done))) (sym (plan_is c.seen.store walk end)) (written.printed same, refl))
 
@@ -126,11 +119,6 @@ module _ (shelf : Shelf) (start : Place) (tries : ℕ) (c : Change) where
   info_stops None outcome same may = stops_first (Task.Info shelf) c.seen.store (info_plan None) c.old c.new outcome same may
   info_stops (Some info) outcome same may = stops_first (Task.Info shelf) c.seen.store (info_plan (Some info)) c.old c.new outcome same may
 
-  info_lacks : (o : Option (List ℕ)) → o ≡ None → c.new ≡ c.old → IsAllowed (Task.Info shelf) c.seen.store (info_plan o) c.old c.new (plan.Finished plan.NoInfo)
-  info_lacks o none same =
-      let printed : IsAllowed (Task.Info shelf) c.seen.store (info_plan None) c.old c.new (plan.Finished plan.NoInfo) = (same_printed (Task.Info shelf) c.seen.store c.old c.new same, refl) in
-      subst (λ (x : Option (List ℕ)). IsAllowed (Task.Info shelf) c.seen.store (info_plan x) c.old c.new (plan.Finished plan.NoInfo)) (sym none) printed
-
   pub info_performs : (found : Result (String Global) Stop) (result : Stop) → FindsInfo shelf tries c.seen c.seen' found → WritesFound found c.old c.new result → Performs (request (Task.Info shelf) start tries) c result
   info_performs (Ok text) Stop.Done finds writes =
       info_asked Stop.Done (plan.Finished (WalkEnds Done)) finds.asks refl finds.refusals (λ p. tt) (λ same. info_printed (info_of shelf c.seen.store) (string_bytes text) (finds.is same) writes)
@@ -139,7 +127,7 @@ module _ (shelf : Shelf) (start : Place) (tries : ℕ) (c : Change) where
   info_performs (Ok text) _ finds writes = absurd writes
   info_performs (Err Stop.NoInfo) result lacks writes =
       info_asked result (plan.Finished plan.NoInfo) lacks.asks (subst (λ (x : Stop). IsOutcome x (plan.Finished plan.NoInfo)) (sym writes.0) refl) lacks.refusals (λ p. tt)
-      (λ same. info_lacks (info_of shelf c.seen.store) (lacks.is same) writes.1)
+      (λ same. rw (lacks.is same) (same_printed (Task.Info shelf) c.seen.store c.old c.new writes.1, refl))
   info_performs (Err e) result none writes =
       info_asked result none.outcome none.asks (subst (λ (x : Stop). IsOutcome x none.outcome) (sym writes.0) none.outcome_is) none.counts none.plain
       (λ same. info_stops (info_of shelf c.seen.store) none.outcome writes.1 none.there)
@@ -169,6 +157,9 @@ module _ (start : Place) (tries : ℕ) where
   rest_performs s s' s'' old text new next result written page =
       let low = written.asks.stays.store.grows in
       let high = page.stays.store.grows in
+      let first : s''.stores_added ≡ s.stores_added → s'.stores_added ≡ s.stores_added = λ same. omega (arith, same, low, high) in
+      let along : s''.stores_added ≡ s.stores_added → OnWalk of_all s.store (λ walk end. PageAlong of_all s.store None walk end next (change s' s'' text new) page.outcome result) =
+      λ same. subst (λ (x : Store). OnWalk of_all x (λ walk end. PageAlong of_all x None walk end next (change s' s'' text new) page.outcome result)) (written.asks.stays.store.stays (first same)) (page.along (omega (arith, same, low, high))) in
       record {
         outcome = page.outcome;
         outcome_is = page.outcome_is;
@@ -176,16 +167,7 @@ module _ (start : Place) (tries : ℕ) where
         counts = counts_since tries s s' s'' (λ same. omega (arith, same, low, high)) page.outcome (record { refusals = written.refusals; troubles = written.asks.grows }) page.counts;
         plain = λ p. page.plain (written.asks.stays.plain p);
         allowed = λ same walk end w ends.
-            let first : s'.stores_added ≡ s.stores_added = omega (arith, same, low, high) in
-            let second : s''.stores_added ≡ s'.stores_added = omega (arith, same, low, high) in
-            let store = written.asks.stays.store.stays first in
-            let along = subst (λ (x : Store). OnWalk of_all x (λ walk end. PageAlong of_all x None walk end next (change s' s'' text new) page.outcome result)) store (page.along second) walk end w ends in
             subst (λ (p : Plan). IsAllowed (Task.Fru None) s.store p old new page.outcome) (after_first s.store walk end)
-            (leaves_joined (Task.Fru None) s.store (inventory_item 0 ∷ []) (first_plan None (Task.Fru None) start walk end) old text (written.printed first) new page.outcome along.leaves);
-        calls = λ same walk end w ends.
-            let first : s'.stores_added ≡ s.stores_added = omega (arith, same, low, high) in
-            let second : s''.stores_added ≡ s'.stores_added = omega (arith, same, low, high) in
-            let store = written.asks.stays.store.stays first in
-            let along = subst (λ (x : Store). OnWalk of_all x (λ walk end. PageAlong of_all x None walk end next (change s' s'' text new) page.outcome result)) store (page.along second) walk end w ends in
-            omega (arith, written.asks.calls first, along.calls);
+            (leaves_joined (Task.Fru None) s.store (inventory_item 0 ∷ []) (first_plan None (Task.Fru None) start walk end) old text (written.printed (first same)) new page.outcome (along same walk end w ends).leaves);
+        calls = λ same walk end w ends. omega (arith, written.asks.calls (first same), (along same walk end w ends).calls);
       }

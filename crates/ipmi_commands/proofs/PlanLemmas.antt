@@ -1,5 +1,5 @@
 -- A listing as a run by its plan.
-use Rattle.std.proofs.Common.{◌≡◌, ◌⊎◌, inl, inr, ℕ, ◌+◌, ◌≤◌, Bool, true, false, IsTrue, Option, None, Result, Ok, Err, List, [], refl, sym, ap, subst, ◌∙◌}
+use Rattle.std.proofs.Common.{◌≡◌, ◌⊎◌, inl, inr, ℕ, ◌+◌, ◌≤◌, Bool, true, false, IsTrue, Option, None, Result, Ok, Err, List, [], refl, sym, ap, subst, ◌∙◌, arith}
 use Rattle.ipmi_commands.specs.Below.{Place, FruEnded, Stalled, Malformed, Row, Store, TailIsWalk, WalkEnd, Done, Seen, IsHonest, StaysHonest, ImageFault, image_text_of, Count, Task, Image, OutOfMemory, is_listing, most_of, Received, ReceivesText}
 use Rattle.ipmi_commands.specs.Prelude.{Stop, first_plan, IsOutcome, walk_call_bound, most_on_walk, run_call_bound, most_calls, first_rows, Plan, WalkEnds, OfImage, Printed, plan_of, rewrite_plan, Outcome, IsAllowed, CountsSo, IsFine, Request, Change, request, change, IsPage, ArePages, Effect, effect, HasEnded, IsRun, IsPagedRun, status_of, stop_status, stop_text, outcome_text, lists_once, Performs, fault_status, WritesImage, IsRewriting, Says, AnswersTask}
 use Rattle.ipmi_commands.specs.Plan as plan
@@ -29,25 +29,18 @@ listed_whole (Task.Elist kind) listing = (refl, refl)
 listed_whole (Task.SelList Count.All) listing = (refl, refl)
 listed_whole _ listing = cc listing
 
+listed_plan : (t : Task) → is_listing t ≡ true → (store : Store) (start : Place) (walk : List Row) (end : WalkEnd) → plan_of t store start walk end ≡ first_plan None t start walk end
+listed_plan t listing store start walk end = let whole = listed_whole t listing in rw whole.1 at ((goes_once t whole.0).plan_is store start walk end)
+
 -- ---- outcomes
 
 -- the status and the message by how a listing stopped are those of its outcome
-module _ (t : Task) where
-  abbrev said_of : Outcome → ℕ × List ℕ
-  said_of outcome = (status_of outcome, outcome_text t outcome)
-
-  stop_said : (st : Stop) (outcome : Outcome) → IsOutcome st outcome → ◌≡◌ {A = ℕ × List ℕ} (stop_status st, stop_text t st) (said_of outcome)
-  stop_said (Stop.Ended (Stalled n)) outcome is = absurd is
-  stop_said (Stop.Ended (Malformed n)) outcome is = absurd is
-  stop_said (Stop.Inventory id FruEnded.Stalled) outcome is = absurd is
-  stop_said (Stop.Inventory id FruEnded.Words) outcome is = absurd is
-  stop_said _ outcome is = ap said_of (sym is)
-
-  status_same : (st : Stop) (outcome : Outcome) → IsOutcome st outcome → stop_status st ≡ status_of outcome
-  status_same st outcome is = ap (λ (said : ℕ × List ℕ). said.0) (stop_said st outcome is)
-
-  text_same : (st : Stop) (outcome : Outcome) → IsOutcome st outcome → stop_text t st ≡ outcome_text t outcome
-  text_same st outcome is = ap (λ (said : ℕ × List ℕ). said.1) (stop_said st outcome is)
+stop_said : (t : Task) (st : Stop) (outcome : Outcome) → IsOutcome st outcome → (stop_status st ≡ status_of outcome) × (stop_text t st ≡ outcome_text t outcome)
+stop_said t (Stop.Ended (Stalled n)) outcome is = absurd is
+stop_said t (Stop.Ended (Malformed n)) outcome is = absurd is
+stop_said t (Stop.Inventory id FruEnded.Stalled) outcome is = absurd is
+stop_said t (Stop.Inventory id FruEnded.Words) outcome is = absurd is
+stop_said t _ outcome is = rw is (refl, refl)
 
 -- a page of all that it wants is the task
 pub listing_performs : (r : Request) (next : Place) (c : Change) (st : Stop) → lists_once r.task ≡ true → IsPage r (most_of r.task) next c st → Performs r c st
@@ -59,10 +52,8 @@ listing_performs r next c st lists page =
       stays = page.stays;
       counts = page.counts;
       plain = page.plain;
-      allowed = λ same walk end w ends.
-          subst (λ (p : Plan). IsAllowed r.task c.seen.store p c.old c.new page.outcome) (sym (once.plan_is c.seen.store r.start walk end)) (page.along same walk end w ends).leaves;
-      calls = λ same walk end w ends.
-          subst (λ (n : ℕ). c.seen'.calls ≤ c.seen.calls + n) (sym (once.bound_is c.seen.store r.tries walk end)) (page.along same walk end w ends).calls;
+      allowed = λ same walk end w ends. subst (λ (p : Plan). IsAllowed r.task c.seen.store p c.old c.new page.outcome) (sym (once.plan_is c.seen.store r.start walk end)) (page.along same walk end w ends).leaves;
+      calls = λ same walk end w ends. omega (arith, once.bound_is c.seen.store r.tries walk end, (page.along same walk end w ends).calls);
     }
 
 -- ---- runs
@@ -72,8 +63,8 @@ module _ (r : Request) (s s' : Seen) (e : Effect) (st : Stop) (message : Receive
       → HasEnded r s s' e st outcome (stop_status st)
   has_ended outcome is stays counts plain = record {
     outcome_is = is;
-    status_is = status_same r.task st outcome is;
-    message = subst (λ (l : List ℕ). ReceivesText e.said e.said' l) (text_same r.task st outcome is) message;
+    status_is = (stop_said r.task st outcome is).0;
+    message = subst (λ (l : List ℕ). ReceivesText e.said e.said' l) (stop_said r.task st outcome is).1 message;
     stays = stays;
     counts = counts;
     plain = plain;
@@ -88,20 +79,17 @@ module _ (r : Request) (s s' : Seen) (e : Effect) (st : Stop) (message : Receive
     calls = performs.calls;
   }
 
-  pub run_in_pages : TailIsWalk → (sizes : List ℕ) → is_listing r.task ≡ true → IsHonest s → ArePages (request r.task r.start r.tries) sizes (change s s' e.old e.new) st → IsPagedRun r sizes s s' e (stop_status st)
+  pub run_in_pages : TailIsWalk → (sizes : List ℕ) → is_listing r.task ≡ true → IsHonest s → ArePages r sizes (change s s' e.old e.new) st → IsPagedRun r sizes s s' e (stop_status st)
   run_in_pages tail sizes listing honest pages =
-      let one = pages_are_one tail r.task sizes r.start r.tries s s' e.old e.new st listing honest pages in
-      let whole = listed_whole r.task listing in
-      let first : (walk : List Row) (end : WalkEnd) → plan_of r.task s.store r.start walk end ≡ first_plan None r.task r.start walk end = λ walk end.
-      (goes_once r.task whole.0).plan_is s.store r.start walk end ∙ ap (λ (most : Option ℕ). first_plan most r.task r.start walk end) whole.1 in
+      let one = pages_are_one tail r sizes s s' e.old e.new st listing honest pages in
       record {
         result = st;
         outcome = one.outcome;
         ended = has_ended one.outcome one.outcome_is one.stays one.counts one.plain;
         pages = pages;
         allowed = λ same walk end w ends open_.
-            subst (λ (p : Plan). IsAllowed r.task s.store p e.old e.new one.outcome) (sym (first walk end)) (one.leaves same walk end w ends open_);
-        calls = one.calls;
+            subst (λ (p : Plan). IsAllowed r.task s.store p e.old e.new one.outcome) (sym (listed_plan r.task listing s.store r.start walk end)) (one.along same walk end w ends open_).0;
+        calls = λ same walk end w ends open_. (one.along same walk end w ends open_).1;
       }
 
 -- ---- an image written again
@@ -119,7 +107,7 @@ rewriting store e Stop.Memory writes message = record {
   outcome = plan.OutOfMemory;
   status_is = refl;
   message = message;
-  allowed = record { done = []; rest = rewrite_plan.items; items_are = refl; printed = subst (λ (l : List ℕ). Printed Task.Rewrite store [] e.old l) (sym writes) (none_printed Task.Rewrite store e.old) };
+  allowed = record { done = []; rest = rewrite_plan.items; items_are = refl; printed = rw writes (none_printed Task.Rewrite store e.old) };
   unwritten = λ out. writes;
   fine = tt;
 }
@@ -137,14 +125,7 @@ rewriting store e _ writes message = absurd writes
 
 -- where memory ran out, nothing was written
 unread : (rewrite : Bool) (r : Request) (read : Result Store ImageFault) (old : List ℕ) (said said' : Received) (status : ℕ) → Says said said' status OutOfMemory 5 → AnswersTask rewrite r read (effect old old said said') status
-unread true r (Ok store) old said said' status says = record {
-  outcome = plan.OutOfMemory;
-  status_is = says.0;
-  message = says.1;
-  allowed = record { done = []; rest = rewrite_plan.items; items_are = refl; printed = none_printed Task.Rewrite store old };
-  unwritten = λ out. refl;
-  fine = tt;
-}
+unread true r (Ok store) old said said' status says = rw says.0 (rewriting store (effect old old said said') Stop.Memory refl says.1)
 unread false r (Ok store) old said said' status says = record {
   outcome = plan.OutOfMemory;
   status_is = says.0;

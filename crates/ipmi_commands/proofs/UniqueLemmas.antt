@@ -1,8 +1,8 @@
 -- What is printed has one text, and so has a finished run.
-use Rattle.std.proofs.Common.{◌≡◌, ℕ, zero, suc, ◌-◌, ◌==◌, not, Bool, true, false, cond, Option, None, Some, IfSome, Result, Ok, Err, List, [], ◌∷◌, length, take, drop, refl, sym, subst, ◌∙◌}
-use Rattle.ipmi_commands.specs.Below.{Shelf, Sdr, Sel, Place, Row, IsShelf, FoundIsRow, AreBytes, Reading, Store, IsStore, IsInfo, info_of, inventory_of, rows_of, store_shelf, AllOf, WalkExists, WalkEnd, Done, place_after, place_after_rows, IsFruText, SdrFault, SdrView, Event, OemTimed, OemPlain, Other, IsInfoBlock, fru_of, sdr_view_of, IsSdrBlock, entry_bytes, sel_view_of, SdrLineIsUnique, ExtendedLineIsUnique, SelLineIsUnique, SelBlockIsUnique, Kind, Count, Task, most_of, shelf_of}
+use Rattle.std.proofs.Common.{◌≡◌, ℕ, ◌-◌, ◌==◌, not, Bool, true, false, cond, Option, None, Some, IfSome, Result, Ok, Err, List, [], ◌∷◌, ◌++◌, length, take, drop, refl, sym, subst, ◌∙◌, take-append-drop}
+use Rattle.ipmi_commands.specs.Below.{Shelf, Sdr, Sel, Place, Row, IsShelf, FoundIsRow, AreBytes, Reading, Store, IsStore, IsInfo, inventory_of, rows_of, store_shelf, AllOf, WalkExists, WalkEnd, Done, place_after, place_after_rows, IsFruText, SdrFault, SdrView, Event, OemTimed, OemPlain, Other, IsInfoBlock, fru_of, sdr_view_of, IsSdrBlock, entry_bytes, sel_view_of, SdrLineIsUnique, ExtendedLineIsUnique, SelLineIsUnique, SelBlockIsUnique, Kind, Count, Task, most_of, shelf_of}
 use Rattle.ipmi_records.specs.Sdr.{name_of}
-use Rattle.ipmi_commands.specs.Prelude.{Form, IfChosen, IsBlockOfName, IsDevicePiece, IsInventoryPiece, IsInventoryText, IsLineOf, IsListed, IsListedOfKind, IsLocatorPiece, is_name, name_of_locator, reading_for, row_is_of_kind, Request, Subject, OfRow, OfInventory, OfInfo, Item, Spot, IsOfBytes, AreOfBytes, RunEnd, Finished, IsRowPiece, IsItemText, AreTexts, first_rows, last_rows, last_items, row_items, spots_of_walk, with_first_spots, info_plan, listing_plan, plan_of, AllowsAll}
+use Rattle.ipmi_commands.specs.Prelude.{Form, IfChosen, IsBlockOfName, IsDevicePiece, IsInventoryPiece, IsInventoryText, IsListed, IsListedOfKind, IsLocatorPiece, is_name, name_of_locator, reading_for, row_is_of_kind, Request, Subject, OfRow, OfInventory, OfInfo, Item, Spot, IsOfBytes, AreOfBytes, RunEnd, Finished, IsRowPiece, IsItemText, AreTexts, first_rows, last_rows, last_items, row_items, spots_of_walk, with_first_spots, info_plan, listing_plan, plan_of, AllowsAll}
 
 -- what the laws of blocks and of inventories say
 abbrev SdrBlockIsUnique : Type 0
@@ -19,12 +19,9 @@ module _ (one_sdr_line : SdrLineIsUnique) (one_extended_line : ExtendedLineIsUni
   one_chosen true IsText one a b x y = one a b x y
   one_chosen false IsText one a b x y = x ∙ sym y
 
-  one_line : (form : Form) (view : SdrView) (reading : Option Reading) (a b : List ℕ) → IsLineOf form view reading a → IsLineOf form view reading b → a ≡ b
-  one_line Form.Short view reading a b x y = one_sdr_line view reading a b x y
-  one_line Form.Extended view reading a b x y = one_extended_line view reading a b x y
-
   one_listed : (form : Form) (store : Store) (id : ℕ) (view : Result SdrView SdrFault) (a b : List ℕ) → IsListed form store id view a → IsListed form store id view b → a ≡ b
-  one_listed form store id (Ok view) a b x y = one_line form view (reading_for store view) a b x y
+  one_listed Form.Short store id (Ok view) a b x y = one_sdr_line view (reading_for store view) a b x y
+  one_listed Form.Extended store id (Ok view) a b x y = one_extended_line view (reading_for store view) a b x y
   one_listed form store id (Err fault) a b x y = x ∙ sym y
 
   one_of_kind : (form : Form) (kind : Kind) (store : Store) (row : Row) (a b : List ℕ) → IsListedOfKind form kind store row a → IsListedOfKind form kind store row b → a ≡ b
@@ -91,23 +88,19 @@ rows_are_bytes : FoundIsRow → (t : Task) (shelf : Shelf) (rows : List Row) (st
 rows_are_bytes look_row t shelf rows start [] ok all = tt
 rows_are_bytes look_row t shelf rows start (row ∷ walk) ok all = ((look_row shelf rows row.id row ok all.0).bytes, rows_are_bytes look_row t shelf rows (place_after row.next) walk ok all.1)
 
+both_of_shelf : (rows done rest : List Row) → AllOf rows (done ++ rest) → AllOf rows done × AllOf rows rest
+both_of_shelf rows [] rest all = (tt, all)
+both_of_shelf rows (d ∷ done) rest all = let both = both_of_shelf rows done rest all.1 in ((all.0, both.0), both.1)
+
+parts_of_shelf : (n : ℕ) (rows walk : List Row) → AllOf rows walk → AllOf rows (take n walk) × AllOf rows (drop n walk)
+parts_of_shelf n rows walk all = both_of_shelf rows (take n walk) (drop n walk) (rw (take-append-drop n walk) all)
+
 first_of_shelf : (most : Option ℕ) (rows walk : List Row) → AllOf rows walk → AllOf rows (first_rows most walk)
 first_of_shelf None rows walk all = all
-first_of_shelf (Some n) rows walk all = within n walk all
-  where
-    within : (n : ℕ) (walk : List Row) → AllOf rows walk → AllOf rows (take n walk)
-    within zero [] all = tt
-    within (suc n) [] all = tt
-    within zero (row ∷ walk) all = tt
-    within (suc n) (row ∷ walk) all = (all.0, within n walk all.1)
-
-rest_of_shelf : (n : ℕ) (rows walk : List Row) → AllOf rows walk → AllOf rows (drop n walk)
-rest_of_shelf zero rows walk all = all
-rest_of_shelf (suc n) rows [] all = tt
-rest_of_shelf (suc n) rows (row ∷ walk) all = rest_of_shelf n rows walk all.1
+first_of_shelf (Some n) rows walk all = (parts_of_shelf n rows walk all).0
 
 last_of_shelf : (n : ℕ) (rows walk : List Row) (end : WalkEnd) → AllOf rows walk → AllOf rows (last_rows n walk end)
-last_of_shelf n rows walk Done all = rest_of_shelf (length walk - n) rows walk all
+last_of_shelf n rows walk Done all = (parts_of_shelf (length walk - n) rows walk all).1
 last_of_shelf n rows walk _ all = tt
 
 first_kept : (spots : List Spot) (items : List Item) → AreOfBytes items → AreOfBytes (with_first_spots spots items)
@@ -118,24 +111,18 @@ info_bytes : (o : Option (List ℕ)) → IfSome o IsInfo → AreOfBytes (info_pl
 info_bytes None are = tt
 info_bytes (Some info) are = (are.all, tt)
 
-info_of_store : (shelf : Shelf) (store : Store) → IsStore store → IfSome (info_of shelf store) IsInfo
-info_of_store Sdr store ok = ok.sdr_info
-info_of_store Sel store ok = ok.sel_info
-
 module _ (look_row : FoundIsRow) (store : Store) (ok : IsStore store) (start : Place) (walk : List Row) (end : WalkEnd) where
-  listed : (t : Task) → AllOf (rows_of (shelf_of t) store) walk → AreOfBytes (listing_plan t start walk end).items
-  listed t all = rows_are_bytes look_row t (shelf_of t) (rows_of (shelf_of t) store) start (first_rows (most_of t) walk) (store_shelf (shelf_of t) store ok) (first_of_shelf (most_of t) (rows_of (shelf_of t) store) walk all)
-
   -- what a task is to print is of bytes
   plan_bytes : (t : Task) → AllOf (rows_of (shelf_of t) store) walk → AreOfBytes (plan_of t store start walk end).items
   plan_bytes (Task.Fru None) all = (tt, rows_are_bytes look_row (Task.Fru None) Sdr store.sdr start walk ok.sdr all)
   plan_bytes (Task.Fru (Some id)) all = (tt, tt)
-  plan_bytes (Task.Info shelf) all = info_bytes (info_of shelf store) (info_of_store shelf store ok)
+  plan_bytes (Task.Info Sdr) all = info_bytes store.sdr_info ok.sdr_info
+  plan_bytes (Task.Info Sel) all = info_bytes store.sel_info ok.sel_info
   plan_bytes (Task.SelList (Count.Last n)) all =
       first_kept (spots_of_walk start walk end) (last_items n (Task.SelList (Count.Last n)) start walk end)
       (rows_are_bytes look_row (Task.SelList (Count.Last n)) Sel store.sel (place_after_rows start (take (length walk - n) walk)) (last_rows n walk end) ok.sel (last_of_shelf n store.sel walk end all))
   plan_bytes Task.Rewrite all = (tt, tt)
-  plan_bytes t all = listed t all
+  plan_bytes t all = rows_are_bytes look_row t (shelf_of t) (rows_of (shelf_of t) store) start (first_rows (most_of t) walk) (store_shelf (shelf_of t) store ok) (first_of_shelf (most_of t) (rows_of (shelf_of t) store) walk all)
 
 pub one_output : TextIsOne → WalkExists → FoundIsRow → (r : Request) (store : Store) (old a b : List ℕ) (e f : RunEnd) → IsStore store → AllowsAll r store old a (Finished e) → AllowsAll r store old b (Finished f) → (a ≡ b) × (e ≡ f)
 one_output one exists look_row r store old a b e f ok allows other =

@@ -81,6 +81,5 @@ pages_made (size ∷ sizes) = if size == 0 then pages_made sizes else pages_made
 
 -- the walk does not end by a cycle
 abbrev pub IsOpen : WalkEnd → Type 0
-IsOpen Done = Unit {0}
 IsOpen (CycleAt n) = ⊥
-IsOpen (MissingAt n) = Unit {0}
+IsOpen _ = Unit {0}

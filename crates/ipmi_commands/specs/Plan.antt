@@ -130,9 +130,7 @@ abbrev pub end_spots : Place → List Row → WalkEnd → List Spot
 end_spots start walk (MissingAt n) = AtRecord n ∷ []
 end_spots start walk (CycleAt n) = []
 end_spots First [] Done = AtRecord 0 ∷ []
-end_spots First (row ∷ rows) Done = []
-end_spots (Id n) walk Done = []
-end_spots End walk Done = []
+end_spots start walk Done = []
 
 -- ---- plans
 

@@ -1,8 +1,7 @@
 -- What a message sink took once parts were written to it one after another.
-use Rattle.std.proofs.Common.{◌≡◌, ◌∙◌, ℕ, ◌<◌, ◌==◌, false, if◌then◌else◌, zero, suc, List, [], ◌++◌, ◌+◌, ◌-◌, Option, None, Some, Ok, Err, Result, IsErr, Bor, get_or, length, length-append, take, drop, refl, sym, ap, subst, append_assoc, arith, drop-cons, take-add, append-nil, take-append-drop, option_map}
+use Rattle.std.proofs.Common.{◌≡◌, ◌∙◌, ℕ, ◌<◌, ◌==◌, if◌then◌else◌, suc, List, [], ◌++◌, ◌+◌, ◌-◌, Option, None, Some, Ok, Err, Result, Bor, get_or, length, length-append, take, drop, refl, sym, ap, subst, append_assoc, arith, ne_eqb, drop-cons, take-add, append-nil, take-append-drop, option_map}
 use Rattle.std.proofs.Math.Seq.{take-append-add}
 use Rattle.std.proofs.lemmas.List.{take-append-le, take_rest}
-use Rattle.std.proofs.lemmas.Bool.{false≢true}
 use Rattle.std.proofs.lemmas.List.Concat.{flat_map-append}
 use Rattle.std.specs.Io.KnownBytes.{Appends, Keeps}
 use Rattle.ipmi_output.specs.Received.{Received, ReceivesAll, ReceivesPart, WritesAll, ReceivesText, Whole, CutShort}
@@ -12,11 +11,6 @@ use Rattle.ipmi_output.specs.Message.{joined_parts}
 pub take-next : (i n : ℕ) (bytes : List ℕ) → take i bytes ++ take n (take (length bytes - i) (drop i bytes)) ≡ take (i + n) bytes
 take-next i n bytes = rw (take_rest bytes i) (sym (take-add i n bytes))
 
--- nothing was written yet
-pub Appends-none : (old : Option (List ℕ)) → Appends old old []
-Appends-none None = tt
-Appends-none (Some xs) = sym (append-nil xs)
-
 -- to append some and then more is to append both
 pub Appends-both : (old mid new : Option (List ℕ)) (xs ys : List ℕ) → Appends old mid xs → Appends mid new ys → Appends old new (xs ++ ys)
 Appends-both None mid new xs ys first second = tt
@@ -25,28 +19,15 @@ Appends-both (Some o) (Some m) None xs ys first second = absurd second
 Appends-both (Some o) (Some m) (Some n) xs ys first second = second ∙ rw first (append_assoc o xs ys)
 
 -- a call that failed changed nothing
-pub Appends-kept : (old mid new : Option (List ℕ)) (xs : List ℕ) → Appends old mid xs → Keeps mid new → Appends old new xs
-Appends-kept None mid new xs so_far kept = tt
-Appends-kept (Some o) None new xs so_far kept = absurd so_far
-Appends-kept (Some o) (Some m) None xs so_far kept = absurd kept
-Appends-kept (Some o) (Some m) (Some n) xs so_far kept = kept ∙ so_far
-
--- the same bytes
-pub Appends-same : (old new : Option (List ℕ)) (xs ys : List ℕ) → xs ≡ ys → Appends old new xs → Appends old new ys
-Appends-same old new xs ys same all = subst (λ (t : List ℕ). Appends old new t) same all
-
-suc-eq-zero : (n : ℕ) → (suc n == 0) ≡ false
-suc-eq-zero n = search arith
+pub Appends-kept : (old new : Option (List ℕ)) → Keeps old new → Appends old new []
+Appends-kept None new kept = tt
+Appends-kept (Some o) None kept = absurd kept
+Appends-kept (Some o) (Some n) kept = kept ∙ sym (append-nil o)
 
 -- a call that took some bytes was no fault
 pub option_map-kept : (faults : Option ℕ) (n : ℕ) → (n ≡ 0 → ⊥) → option_map (λ k. k + (if n == 0 then 1 else 0)) faults ≡ faults
 option_map-kept None n some = refl
-option_map-kept (Some k) zero some = absurd (some refl)
-option_map-kept (Some k) (suc n) some = let same : k + 0 ≡ k = omega arith in rw (suc-eq-zero n) (ap Some same)
-
--- and one that took none was a fault
-pub option_map-raised : (faults : Option ℕ) (n : ℕ) → n ≡ 0 → option_map (λ k. k + (if n == 0 then 1 else 0)) faults ≡ option_map (λ k. k + 1) faults
-option_map-raised faults n none = rw none refl
+option_map-kept (Some k) n some = let same : k + 0 ≡ k = omega arith in rw (ne_eqb n 0 some) (ap Some same)
 
 -- some bytes were taken, and then more
 pub ReceivesAll-both : (old mid new : Received) (xs ys : List ℕ) → ReceivesAll old mid xs → ReceivesAll mid new ys → ReceivesAll old new (xs ++ ys)
@@ -55,30 +36,22 @@ ReceivesAll-both old mid new xs ys first second =
 
 -- a part of the first bytes is a part of them with more after them
 pub ReceivesPart-before : (old new : Received) (xs ys : List ℕ) → ReceivesPart old new xs → ReceivesPart old new (xs ++ ys)
-ReceivesPart-before old new xs ys part =
-    let within = part.1 in
-    let whole : length (xs ++ ys) ≡ length xs + length ys = length-append xs ys in
-    let same : take part.0 xs ≡ take part.0 (xs ++ ys) = sym (take-append-le part.0 xs ys (omega (arith, within))) in
-    (part.0, omega (arith, within, whole), Appends-same old.taken new.taken _ _ same part.2, part.3)
+ReceivesPart-before old new xs ys part = (part.0, omega (arith, part.1, length-append xs ys), rw (take-append-le part.0 xs ys (omega (arith, part.1))) part.2, part.3)
 
 -- all of the first bytes, and then a part of those after them
 pub ReceivesPart-after : (old mid new : Received) (xs ys : List ℕ) → ReceivesAll old mid xs → ReceivesPart mid new ys → ReceivesPart old new (xs ++ ys)
-ReceivesPart-after old mid new xs ys first part =
-    let within = part.1 in
-    let whole : length (xs ++ ys) ≡ length xs + length ys = length-append xs ys in (
-      length xs + part.0,
-      omega (arith, within, whole),
-      Appends-same old.taken new.taken _ _ (sym (take-append-add xs ys part.0)) (Appends-both old.taken mid.taken new.taken xs (take part.0 ys) first.0 part.2),
-      part.3 ∙ rw first.1 refl,
-    )
+ReceivesPart-after old mid new xs ys first part = (
+  length xs + part.0,
+  omega (arith, part.1, length-append xs ys),
+  rw (take-append-add xs ys part.0) (Appends-both old.taken mid.taken new.taken xs (take part.0 ys) first.0 part.2),
+  part.3 ∙ rw first.1 refl,
+)
 
 -- the parts before part i, that part, and those after it
 joined_parts-split : (parts : List (Bor (List ℕ))) (i : ℕ) (d : Bor (List ℕ)) → i < length parts
     → joined_parts (take i parts) ++ ((get_or parts i d).now ++ joined_parts (drop (suc i) parts)) ≡ joined_parts parts
 joined_parts-split parts i d within =
-    ap (λ (ps : List (Bor (List ℕ))). joined_parts (take i parts) ++ joined_parts ps) (sym (drop-cons parts i d within))
-    ∙ sym (flat_map-append (λ (part : Bor (List ℕ)). part.now) (take i parts) (drop i parts))
-    ∙ ap (λ (ps : List (Bor (List ℕ))). joined_parts ps) (take-append-drop i parts)
+    cc (drop-cons parts i d within, flat_map-append (λ (part : Bor (List ℕ)). part.now) (take i parts) (drop i parts), take-append-drop i parts)
 
 -- the parts before part i, and then a part of that one
 pub ReceivesPart-in_part : (old mid new : Received) (parts : List (Bor (List ℕ))) (i : ℕ) (d : Bor (List ℕ)) → i < length parts
@@ -86,11 +59,6 @@ pub ReceivesPart-in_part : (old mid new : Received) (parts : List (Bor (List ℕ
 ReceivesPart-in_part old mid new parts i d within first part =
     subst (λ (t : List ℕ). ReceivesPart old new t) (joined_parts-split parts i d within)
     (ReceivesPart-after old mid new _ _ first (ReceivesPart-before mid new _ (joined_parts (drop (suc i) parts)) part))
-
--- a failure with a part of the bytes written
-pub WritesAll-failed : {T E : Type 0} (old new : Received) (r : Result T E) (bytes : List ℕ) → IsErr r → ReceivesPart old new bytes → WritesAll old new r bytes
-WritesAll-failed old new (Ok v) bytes failed part = absurd (false≢true failed)
-WritesAll-failed old new (Err e) bytes failed part = part
 
 -- some bytes, and then what a call writes of those after them
 pub WritesAll-after : {T E : Type 0} (old mid new : Received) (r : Result T E) (xs ys : List ℕ) → ReceivesAll old mid xs → WritesAll mid new r ys → WritesAll old new r (xs ++ ys)

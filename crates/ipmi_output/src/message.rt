@@ -137,35 +137,28 @@ fn write_inventory<E: MessageSink>(err: &mut E, id: u8, ended: FruEnded) -> Resu
 {
     match ended {
         FruEnded::Memory => write_line(err, &[b"out of memory"]),
-        FruEnded::Refused(code) => write_refused_inventory(err, id, &byte_h(code.0)),
-        FruEnded::GaveUp => write_about_inventory(err, id, b" gave up"),
-        FruEnded::Stalled => write_about_inventory(err, id, b" stalled"),
-        FruEnded::Words => write_about_inventory(err, id, b" uses words"),
+        FruEnded::Refused(code) => {
+            write_about_inventory(err, id, b" refused with code ", &byte_h(code.0))
+        }
+        FruEnded::GaveUp => write_about_inventory(err, id, b" gave up", b""),
+        FruEnded::Stalled => write_about_inventory(err, id, b" stalled", b""),
+        FruEnded::Words => write_about_inventory(err, id, b" uses words", b""),
     }
 }
 
-/// Writes that an inventory was refused, with the code in these digits.
-fn write_refused_inventory<E: MessageSink>(
+/// Writes this about an inventory, with a code where there is one.
+fn write_about_inventory<E: MessageSink>(
     err: &mut E,
     id: u8,
+    what: &[u8],
     code: &[u8],
 ) -> Result<(), SinkFault>
     ensures { WritesAll (E.received err.old) (E.received err.new) result
-        (line_text (codes "fru " ++ (decimal id ++ (codes " refused with code " ++ code.now)))) }
+        (line_text (codes "fru " ++ (decimal id ++ (what.now ++ code.now)))) }
 {
     let mut buffer = Buffer::new();
     let number = buffer.format(id).as_bytes();
-    write_line(err, &[b"fru ", number, b" refused with code ", code])
-}
-
-/// Writes this about an inventory.
-fn write_about_inventory<E: MessageSink>(err: &mut E, id: u8, what: &[u8]) -> Result<(), SinkFault>
-    ensures { WritesAll (E.received err.old) (E.received err.new) result
-        (line_text (codes "fru " ++ (decimal id ++ what.now))) }
-{
-    let mut buffer = Buffer::new();
-    let number = buffer.format(id).as_bytes();
-    write_line(err, &[b"fru ", number, what])
+    write_line(err, &[b"fru ", number, what, code])
 }
 
 /// Writes why the input is no image.

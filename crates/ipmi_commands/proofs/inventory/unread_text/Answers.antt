@@ -1,5 +1,5 @@
 use Rattle.std.proofs.Common.{◌∙◌, sym}
-use Rattle.ipmi_commands.proofs.AskLemmas.{passed_up, inventory_absent, out_after_absence, fails_at_inventory}
+use Rattle.ipmi_commands.proofs.AskLemmas.{passed, inventory_absent, out_after_absence, fails_at_inventory}
 use Rattle.ipmi_commands.proofs.inventory.unread_text.Goals as goal
 
 pub returns-then-not-is_absent-clause-read : goal.returns-then-not-is_absent-clause-read
@@ -7,7 +7,7 @@ returns-then-not-is_absent-clause-read c = λ tries s s' r. fails_at_inventory c
 
 pub returns-in_err-text-clause-read : goal.returns-in_err-text-clause-read
 returns-in_err-text-clause-read c = λ tries s s' r.
-    passed_up _ _ _ _ _ _ _ _ c.from_residual.ensures.1 (out_after_absence c.args.id tries s s' c.args.ended (sym c.is_absent.ensures ∙ c.if-not-is_absent.false) r)
+    rw (passed _ _ c.from_residual.ensures.1) (out_after_absence c.args.id tries s s' c.args.ended (sym c.is_absent.ensures ∙ c.if-not-is_absent.false) r)
 
 pub returns-clause-read : goal.returns-clause-read
 returns-clause-read c = λ tries s s' r.

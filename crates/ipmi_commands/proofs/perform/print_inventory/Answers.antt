@@ -1,18 +1,14 @@
-use Rattle.std.proofs.Common.{Some, ap, refl, sym, subst, arith}
-use Rattle.ipmi_commands.specs.Below.{Task, start_by}
-use Rattle.ipmi_commands.specs.Prelude.{most_calls, inventory_item, request, change, Performs}
+use Rattle.std.proofs.Common.{Some, refl, arith}
+use Rattle.ipmi_commands.specs.Below.{Task}
+use Rattle.ipmi_commands.specs.Prelude.{inventory_item, request}
 use Rattle.ipmi_commands.proofs.PerformLemmas.{one_text_performs}
 use Rattle.ipmi_commands.proofs.perform.print_inventory.Goals as goal
 
 pub returns-clause-calls : goal.returns-clause-calls
-returns-clause-calls g c =
-    omega (arith, ap (λ (t : Task). most_calls t c.args.cmd.now.tries) c.requires, c.inventory_piece-found.ensures.calls)
+returns-clause-calls g c = rw c.requires (omega (arith, c.inventory_piece-found.ensures.calls))
 
 pub returns-clause-honest : goal.returns-clause-honest
 returns-clause-honest g c = λ h.
-    let cmd = c.args.cmd.now in
-    subst
-    (λ (t : Task). Performs (request t (start_by cmd.task cmd.from) cmd.tries) (change (g.C.Controller.seen c.args.ctl.now) (g.C.Controller.seen c.inventory_piece-found.new.ctl) (g.O.Sink.taken c.args.out.now) (g.O.Sink.taken c.write_found.new.out)) c.write_found.result)
-    (sym c.requires)
-    (one_text_performs (request (Task.Fru (Some c.args.id)) (start_by cmd.task cmd.from) cmd.tries) (inventory_item c.args.id) _ c.inventory_piece-found.result c.write_found.result (λ store walk end. refl) (λ store walk end. omega arith)
+    rw c.requires
+    (one_text_performs (request (Task.Fru (Some c.args.id)) _ c.args.cmd.now.tries) (inventory_item c.args.id) _ c.inventory_piece-found.result c.write_found.result (λ store walk end. refl) (λ store walk end. omega arith)
     (c.inventory_piece-found.ensures.honest h) c.write_found.ensures.text)

@@ -1,19 +1,16 @@
 use Rattle.std.proofs.Common.{◌∙◌, sym}
-use Rattle.ipmi_commands.specs.Below.{row_of_record}
-use Rattle.ipmi_commands.proofs.AskLemmas.{passed_up, out_of_memory, out_after_reading, fails_at_reading, at_listed}
+use Rattle.ipmi_commands.proofs.AskLemmas.{passed, out_of_memory, out_after_value, fails_at_value}
 use Rattle.ipmi_commands.proofs.piece.listed_line.Goals as goal
 
 pub returns-in_err-sdr_fault_line-in-Err-clause-honest : goal.returns-in_err-sdr_fault_line-in-Err-clause-honest
-returns-in_err-sdr_fault_line-in-Err-clause-honest g c = λ h. passed_up _ _ _ _ _ _ _ _ c.from_residual.ensures.1 (out_of_memory _ _ _ h)
+returns-in_err-sdr_fault_line-in-Err-clause-honest g c = λ h. rw (passed _ _ c.from_residual.ensures.1) (out_of_memory _ _ _ h)
 
 pub returns-in_err-reading-clause-honest : goal.returns-in_err-reading-clause-honest
 returns-in_err-reading-clause-honest g c = λ h.
-    passed_up _ _ _ _ _ _ _ _ c.from_residual-in_err-reading.ensures.1
-    (at_listed c.args.kind (row_of_record c.args.lent.now) c.in-Ok.view _ _ _ _ (sym c.is_of_kind.ensures ∙ c.if-not-is_of_kind.false) (sym c.read.ensures ∙ c.in-Ok.is)
-    (fails_at_reading _ _ c.in-Ok.view _ _ c.in_err-reading.field-0.0 (c.in_err-reading.ensures.honest h)))
+    let r = c.in_err-reading.ensures.honest h in
+    rw (passed _ _ c.from_residual-in_err-reading.ensures.1, sym c.is_of_kind.ensures ∙ c.if-not-is_of_kind.false, sym c.read.ensures ∙ c.in-Ok.is) (fails_at_value _ _ _ _ _ r.calls _ r.reads r.there)
 
 pub returns-in_err-line_of-clause-honest : goal.returns-in_err-line_of-clause-honest
 returns-in_err-line_of-clause-honest g c = λ h.
-    passed_up _ _ _ _ _ _ _ _ c.from_residual-in_err-line_of.ensures.1
-    (at_listed c.args.kind (row_of_record c.args.lent.now) c.in-Ok.view _ _ _ _ (sym c.is_of_kind.ensures ∙ c.if-not-is_of_kind.false) (sym c.read.ensures ∙ c.in-Ok.is)
-    (out_after_reading _ _ c.in-Ok.view _ _ c.in_ok-reading.reading (c.in_ok-reading.ensures.honest h)))
+    let r = c.in_ok-reading.ensures.honest h in
+    rw (passed _ _ c.from_residual-in_err-line_of.ensures.1, sym c.is_of_kind.ensures ∙ c.if-not-is_of_kind.false, sym c.read.ensures ∙ c.in-Ok.is) (out_after_value _ _ _ _ _ r.calls _ r.reads)

@@ -1,18 +1,18 @@
 -- A part of the name, or of what comes before it, is a part of the line.
 use Rattle.std.proofs.Common.{◌++◌, codes}
 use Rattle.ipmi_output.specs.Message.{escaped_name}
-use Rattle.ipmi_output.proofs.MessageLemmas.{ReceivesAll-both, ReceivesPart-before, ReceivesPart-after, WritesAll-after, WritesAll-failed}
+use Rattle.std.proofs.lemmas.Result.{MatchResult-from_err}
+use Rattle.ipmi_output.proofs.MessageLemmas.{ReceivesAll-both, ReceivesPart-before, ReceivesPart-after, WritesAll-after}
 use Rattle.ipmi_output.proofs.message.write_cannot_read.Goals as goal
 
 pub returns-in_err-offer_all : goal.returns-in_err-offer_all
 returns-in_err-offer_all g c =
-    WritesAll-failed _ _ c.from_residual.result _ c.from_residual.ensures.0
-    (ReceivesPart-before _ _ _ (codes "\n") (ReceivesPart-before _ _ _ (escaped_name c.args.name.now) c.in_err-offer_all.ensures))
+    MatchResult-from_err c.from_residual.result _ _ c.from_residual.ensures.0 (λ e. ReceivesPart-before _ _ _ (codes "\n") (ReceivesPart-before _ _ _ (escaped_name c.args.name.now) c.in_err-offer_all.ensures))
 
 pub returns-in_err-write_escaped : goal.returns-in_err-write_escaped
 returns-in_err-write_escaped g c =
-    WritesAll-failed _ _ c.from_residual-in_err-write_escaped.result _ c.from_residual-in_err-write_escaped.ensures.0
-    (ReceivesPart-before _ _ _ (codes "\n") (ReceivesPart-after _ _ _ _ _ c.in_ok-offer_all.ensures c.in_err-write_escaped.ensures))
+    MatchResult-from_err c.from_residual-in_err-write_escaped.result _ _ c.from_residual-in_err-write_escaped.ensures.0
+    (λ e. ReceivesPart-before _ _ _ (codes "\n") (ReceivesPart-after _ _ _ _ _ c.in_ok-offer_all.ensures c.in_err-write_escaped.ensures))
 
 pub returns : goal.returns
 returns g c =

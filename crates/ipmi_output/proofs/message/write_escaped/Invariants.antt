@@ -10,7 +10,7 @@ invariant-loop-at g l =
     (l.begun ≤ l.at) × (l.at ≤ length l.name)
     × (text : List ℕ)
     × ReceivesAll (g.E.MessageSink.received l.fn.err) (g.E.MessageSink.received l.err) text
-    × (text ++ drop l.begun (take l.at l.name) ≡ escaped_name (take l.at l.name))
+    × (escaped_name l.name ≡ text ++ (take (l.at - l.begun) (drop l.begun l.name) ++ escaped_name (drop l.at l.name)))
 
 abbrev pub decreases-loop-at : goal.decreases-loop-at
 decreases-loop-at g l = length l.name - l.at

@@ -1,9 +1,10 @@
 -- The bytes before `done` and those taken then are the bytes before the new `done`.
-use Rattle.std.proofs.Common.{ℕ, arith, Option, List, [], ◌+◌, ◌-◌, ◌<◌, ◌≡◌, append-nil, length, take, drop, ap, ◌∙◌, option_map}
+use Rattle.std.proofs.Common.{ℕ, arith, Option, List, [], ◌+◌, ◌<◌, ◌≡◌, append-nil, length, take, ap, ◌∙◌, option_map}
 use Rattle.std.proofs.lemmas.Grind.{common_steps}
+use Rattle.std.proofs.lemmas.Result.{MatchResult-from_err}
 use Rattle.std.specs.Io.KnownBytes.{Appends}
 use Rattle.ipmi_output.specs.Received.{Received, ReceivesAll, ReceivesPart}
-use Rattle.ipmi_output.proofs.MessageLemmas.{Appends-none, Appends-both, Appends-kept, Appends-same, WritesAll-failed, option_map-kept, option_map-raised, take-next}
+use Rattle.ipmi_output.proofs.MessageLemmas.{Appends-both, Appends-kept, option_map-kept, take-next}
 use Rattle.ipmi_output.proofs.message_sink.offer_all.Goals as goal
 
 -- the part before `done`, where the next call took none
@@ -11,28 +12,25 @@ cut : (done : ℕ) (bytes : List ℕ) (old mid new : Received) → done < length
 cut done bytes old mid new within so_far none raised = (
   done,
   within,
-  Appends-same old.taken new.taken _ _ (append-nil (take done bytes)) (Appends-both old.taken mid.taken new.taken _ _ so_far.0 none),
-  raised ∙ ap (λ (f : Option ℕ). option_map (λ n. n + 1) f) so_far.1,
+  rw (append-nil (take done bytes)) at (Appends-both old.taken mid.taken new.taken (take done bytes) [] so_far.0 none),
+  raised ∙ ap (option_map (λ n. n + 1)) so_far.1,
 )
 
 pub loop-done-preserved : goal.loop-done-preserved
 loop-done-preserved g c = (
   grind (arith, common_steps),
   (
-    Appends-same _ _ _ _ (take-next c.loop-done.done c.in_ok-taken.taken c.args.bytes.now)
-        (Appends-both _ _ _ _ _ c.loop-done.invariant.1.0 c.in_ok-taken.ensures.received.0),
+    rw (take-next c.loop-done.done c.in_ok-taken.taken c.args.bytes.now) at (Appends-both _ _ _ _ _ c.loop-done.invariant.1.0 c.in_ok-taken.ensures.received.0),
     c.in_ok-taken.ensures.received.1 ∙ option_map-kept _ c.in_ok-taken.taken c.if-taken-eq0.false ∙ c.loop-done.invariant.1.1,
   ),
 )
 
 pub returns-in_err-taken : goal.returns-in_err-taken
 returns-in_err-taken g c =
-    WritesAll-failed _ _ c.from_residual.result _ c.from_residual.ensures.0
-    (cut c.loop-done.done c.args.bytes.now _ _ _ c.loop-done-test.true c.loop-done.invariant.1 (Appends-kept _ _ _ _ (Appends-none _) c.in_err-taken.ensures.received.0) c.in_err-taken.ensures.received.1)
+    let received = c.in_err-taken.ensures.received in
+    MatchResult-from_err c.from_residual.result _ _ c.from_residual.ensures.0 (λ e. cut c.loop-done.done c.args.bytes.now _ _ _ c.loop-done-test.true c.loop-done.invariant.1 (Appends-kept _ _ received.0) received.1)
 
 pub returns-then-taken-eq0 : goal.returns-then-taken-eq0
 returns-then-taken-eq0 g c =
-    let none = c.if-taken-eq0.true in
-    cut c.loop-done.done c.args.bytes.now _ _ _ c.loop-done-test.true c.loop-done.invariant.1
-    (Appends-same _ _ _ _ (ap (λ (n : ℕ). take n (take (length c.args.bytes.now - c.loop-done.done) (drop c.loop-done.done c.args.bytes.now))) none) c.in_ok-taken.ensures.received.0)
-    (c.in_ok-taken.ensures.received.1 ∙ option_map-raised _ c.in_ok-taken.taken none)
+    let received = rw c.if-taken-eq0.true at c.in_ok-taken.ensures.received in
+    cut c.loop-done.done c.args.bytes.now _ _ _ c.loop-done-test.true c.loop-done.invariant.1 received.0 received.1
