@@ -1,6 +1,5 @@
 -- What the answers of an honest controller leave of a record that is being read.
-use Rattle.std.proofs.Common.{◌≡◌, ℕ, ◌+◌, ◌<◌, Bool, true, false, Option, None, Some, Result, Ok, Err, refl, sym, ap, ◌∙◌, inl, inr, arith, ◌≤◌, IsTrue, IsSome}
-use Rattle.std.proofs.lemmas.Bool.{cases_lt}
+use Rattle.std.proofs.Common.{◌≡◌, ℕ, ◌+◌, ◌<◌, Bool, true, false, Option, None, Some, Result, Ok, Err, refl, sym, ap, ◌∙◌, arith, ◌≤◌, IsTrue, IsSome}
 use Rattle.ipmi_bus.specs.Prelude.{Code, CodeClass, Cancelled, Busy, Refusal, Refused, Shelf, Ended, Outcome, Retrieval, Row, Store, look, rows_of, class_of, FailsWith, ReserveAnswers, Seen, stays_trans, KeepsStore, MayLoseReservation, IsTroubled, IsRefused, current, StaysHonest, SameRequest, IsReading, HoldsCurrent, IsCalm, KeepsHeld, HonestSince, ReadIsHonest, ReadNext, WithinTries, after_trouble, IsRefusedBy, ReserveFails}
 use Rattle.ipmi_bus.specs.Retrieval.{IsOpen, HasRead, CountsTrouble}
 
@@ -17,7 +16,8 @@ reading_kept r s s' part troubles keeps store reserved reading = record { piece 
     at (Some n) is h some now =
         let held : current r.shelf s' ≡ Some n = now ∙ is in
         let before = reading.piece some (keeps.none_given n held ∙ sym is) in
-        (before.0, record { found = ap (λ (x : Store). look (rows_of r.shelf x) r.id) (store-kept r.shelf s s' n keeps store held) ∙ before.1.found; within = before.1.within; bytes = before.1.bytes; next = before.1.next })
+        let found = ap (λ (x : Store). look (rows_of r.shelf x) r.id) (store-kept r.shelf s s' n keeps store held) ∙ before.1.found in
+        (before.0, record { found = found; within = before.1.within; bytes = before.1.bytes; next = before.1.next })
 
 after_reading : (is_cancelled : Bool) (r : Retrieval) (s s' : Seen) → MayLoseReservation r.shelf s s' → KeepsStore s s' → (0 < r.have → IsSome r.reservation) → IsReading r s → IsReading (after_trouble is_cancelled r) s'
 after_reading true r s s' keeps store reserved reading = record { piece = λ some now. absurd (omega arith) }

@@ -1,9 +1,9 @@
 -- The record that a cursor hands out is the row that it asked for.
-use Rattle.std.proofs.Common.{◌≡◌, ℕ, ◌+◌, ◌*◌, ◌<◌, ◌≤◌, false, nat_eq, None, Some, List, [], ◌∷◌, length, take, get_or, refl, sym, subst, ◌∙◌, arith, nat_cmp, take_all, get_or-take, length-take}
+use Rattle.std.proofs.Common.{◌≡◌, ℕ, ◌+◌, ◌*◌, ◌<◌, ◌≤◌, false, nat_eq, None, Some, List, length, take, get_or, refl, sym, ◌∙◌, arith, nat_cmp, take_all, get_or-take, length-take}
 use Rattle.std.specs.FinSet as set
 use Rattle.std.specs.FinSet.{contains-empty, len-empty}
 use Rattle.std.proofs.lemmas.Bool.Decides.{nat_tests}
-use Rattle.ipmi_bus.specs.Prelude.{Shelf, Sdr, Sel, Place, First, Id, End, Retrieval, Handed, Progress, Row, IsShelf, BeginsWithId, whole_len, largest_len, look, first_row, place_after, rows_of, store_shelf, Seen, IsHonest, wanted_len, handed_row, handed_id, whole_row, IsAsked, cycle_at, HandsOut, HasIdAsked, CursorState}
+use Rattle.ipmi_bus.specs.Prelude.{Shelf, Place, First, Id, End, Retrieval, Handed, Progress, Row, IsShelf, BeginsWithId, whole_len, largest_len, look, first_row, place_after, rows_of, store_shelf, Seen, IsHonest, wanted_len, handed_row, handed_id, whole_row, IsAsked, cycle_at, HandsOut, HasIdAsked, CursorState}
 use Rattle.ipmi_bus.specs.Retrieval.{HasRead}
 use Rattle.ipmi_bus.proofs.PartLemmas.{get_or-read}
 use Rattle.ipmi_bus.proofs.WalkLemmas.{id_of}

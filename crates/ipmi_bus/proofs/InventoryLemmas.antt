@@ -37,7 +37,8 @@ module _ (old r : FruRetrieval) (s s' s'' : Seen) (asked got : ℕ) (len : lengt
         whole = before.whole;
         found = before.found;
         size = before.size ∙ sym len;
-        bytes = take-with_piece old.have got asked old.bytes.items r.bytes.items before.whole piece.fits front before.bytes (piece.bytes ∙ ap (λ (l : List ℕ). take got (drop old.have l)) (whole_is same));
+        bytes = take-with_piece old.have got asked old.bytes.items r.bytes.items before.whole piece.fits front before.bytes
+            (piece.bytes ∙ ap (λ (l : List ℕ). take got (drop old.have l)) (whole_is same));
       }
 
   fresh_most : (flag : Bool) → CountsPiece flag s' s'' → s''.fresh_troubles ≤ s.fresh_troubles + old.troubles
@@ -157,7 +158,8 @@ module _ (old : FruRetrieval) (bytes : Vec ℕ Global) (s s' s'' : Seen) (asked 
   part_by_class _ new result class troubled does = trouble_answers new result troubled does
 
   pub part_failed : (r new : FruRetrieval) (result : Result (Unit {0}) FruEnded) → r ≡ record old { bytes = bytes } → PartFails (class_of code.0) code asked r new result → FruNext old new s s'' result
-  part_failed r new result is fails = part_by_class (class_of code.0) new result refl gave.gives (subst (λ (x : FruRetrieval). PartFails (class_of code.0) code asked x new result) is fails)
+  part_failed r new result is fails =
+      part_by_class (class_of code.0) new result refl gave.gives (subst (λ (x : FruRetrieval). PartFails (class_of code.0) code asked x new result) is fails)
 
 pub same_trans : (a b c : FruRetrieval) → SameInventory a b → SameInventory b c → SameInventory a c
 same_trans a b c p q = record { id = q.id ∙ p.id; tries = q.tries ∙ p.tries; size = q.size ∙ p.size; some = q.some; fits = q.fits; have = q.have; troubles = q.troubles }

@@ -2,7 +2,7 @@
 use Rattle.std.proofs.Common.{◌≡◌, ℕ, ◌+◌, ◌<◌, ◌≤◌, Bool, true, false, nat_eq, Option, None, Some, Result, Ok, Err, List, length, take, drop, get_or, slice_range, refl, sym, ap, subst, ◌∙◌, inl, inr, arith, IsTrue, IsSome, ne_eqb, get_or-take, take-take, take-add}
 use Rattle.std.proofs.lemmas.Bool.{cases_lt}
 use Rattle.std.proofs.lemmas.Bool.Decides.{nat_tests}
-use Rattle.ipmi_bus.specs.Prelude.{Shelf, Sdr, Sel, Code, CodeClass, Cancelled, Busy, SmallerPart, NotPresent, Refusal, Part, Ended, Stalled, Malformed, Outcome, Again, Whole, Absent, Retrieval, Row, IsRow, look, whole_len, len_of, largest_len, rows_of, store_shelf, Seen, stays_trans, IsHonest, StaysHonest, MayLoseReservation, IsQuiet, IsFinished, current, CountsPiece, FailsWith, GivesPiece, PartIsPlain, PartAnswers, smaller_part, class_of, SameRequest, IsReading, HoldsCurrent, IsCalm, KeepsHeld, HonestSince, ReadIsHonest, ReadNext, wanted_len, after_part, request_of}
+use Rattle.ipmi_bus.specs.Prelude.{Shelf, Code, CodeClass, Cancelled, Busy, SmallerPart, NotPresent, Refusal, Part, Ended, Stalled, Malformed, Outcome, Again, Whole, Absent, Retrieval, Row, IsRow, look, whole_len, len_of, largest_len, rows_of, store_shelf, Seen, stays_trans, IsHonest, StaysHonest, MayLoseReservation, IsQuiet, IsFinished, current, CountsPiece, FailsWith, GivesPiece, PartIsPlain, PartAnswers, smaller_part, class_of, SameRequest, IsReading, HoldsCurrent, IsCalm, KeepsHeld, HonestSince, ReadIsHonest, ReadNext, wanted_len, after_part, request_of}
 use Rattle.ipmi_bus.specs.Retrieval.{IsOpen, HasRead, TakesPart, MakesSmaller, PartFails}
 use Rattle.ipmi_bus.proofs.ShelfLemmas.{look_row}
 use Rattle.ipmi_bus.proofs.CallLemmas.{reading_kept, held_on, within_calm, trouble_answers, refusal_answers}
@@ -91,9 +91,10 @@ module _ (start old : Retrieval) (buffer : List ℕ) (s s' s'' : Seen) (n asked 
   piece_answers new (Ok Again) takes = rw takes.1 (piece_goes_on (rw takes.1 at takes.2))
   piece_answers new (Ok Whole) takes =
       let is : old.have + part.got ≡ wanted_len old.shelf (old.have + part.got) buffer = rw takes.1 at takes.2 in
+      let within = within_calm start old s s' s'' same since stays open_ calm in
       let base : ReadIsHonest start (taken old buffer part) s s'' (Ok true) = record {
         stays = all;
-        answers = (row, record { within = within_calm start old s s' s'' same since stays open_ calm; read = read; whole = wanted_whole old.shelf (old.have + part.got) buffer row ok read.bytes is });
+        answers = (row, record { within = within; read = read; whole = wanted_whole old.shelf (old.have + part.got) buffer row ok read.bytes is });
         keeps = keeps_held;
         plain = λ p h. record { holds = holds p h; fine = tt };
       } in
@@ -113,7 +114,8 @@ pub honest_part : (start old r new : Retrieval) (s s' s'' : Seen) (n asked : ℕ
 honest_part start old r new s s' s'' n asked part result same since open_ is front held parts takes =
     let row = parts.gives.0 in
     let ok = look_row old.shelf _ old.id row (store_shelf old.shelf s''.store parts.change.stays.honest.store) parts.gives.1.found in
-    piece_answers start old r.buffer s s' s'' n asked part row same since open_ held parts.change.stays parts.keeps ok front parts.gives.1 new result (subst (λ (x : Retrieval). TakesPart part x new result) is takes)
+    let takes' : TakesPart part (record old { buffer = r.buffer }) new result = subst (λ (x : Retrieval). TakesPart part x new result) is takes in
+    piece_answers start old r.buffer s s' s'' n asked part row same since open_ held parts.change.stays parts.keeps ok front parts.gives.1 new result takes'
 
 module _ (old : Retrieval) (s : Seen) (n asked : ℕ) (honest : IsHonest s) (open_ : IsOpen old) (reading : IsReading old s) (holds : HoldsCurrent old s) (held : old.reservation ≡ Some n) where
   -- a plain controller answers a request for more with data, or that there is no such row
@@ -162,9 +164,10 @@ module _ (start old new : Retrieval) (s s' s'' : Seen) (n asked : ℕ) (code : C
 
   absent_answers : (result : Result Outcome Ended) → look (rows_of old.shelf s''.store) old.id ≡ None → IsFinished s' s'' → (result ≡ Ok Absent) × (new ≡ old) → ReadNext start new s s'' result
   absent_answers result absent finished does =
+      let counts : IsCalm s' s'' = record { troubles = finished.troubles; refusals = finished.refusals; last_code = finished.last_code } in
       let base : ReadIsHonest start old s s'' (Ok false) = record {
         stays = over_all;
-        answers = record { within = within_calm start old s s' s'' same since stays open_ (record { troubles = finished.troubles; refusals = finished.refusals; last_code = finished.last_code }); absent = rw (same.shelf, same.id) at absent };
+        answers = record { within = within_calm start old s s' s'' same since stays open_ counts; absent = rw (same.shelf, same.id) at absent };
         keeps = keeps_on old (omega (arith, finished.troubles)) refl;
         plain = λ p h. record { holds = record { held = λ m e. parts.keeps.plain (since.stays.plain p) ∙ (since.plain p h).held m e }; fine = tt };
       } in
@@ -179,5 +182,7 @@ module _ (start old new : Retrieval) (s s' s'' : Seen) (n asked : ℕ) (code : C
   part_by_class Refusal result not_plain refused does = refusal_answers start old s s' s'' same since stays new code result open_ parts.keeps refused does (not_plain (λ e. cc e))
 
   pub part_failed : (result : Result Outcome Ended) → PartFails (class_of code.0) code asked old new result → ReadNext start new s s'' result
-  part_failed result fails =
-      part_by_class (class_of code.0) result (λ other p h. other (ap class_of (plain_code old s' n asked since.stays.honest open_ since.reading (since.plain p h) held code (parts.plain (since.stays.plain p))))) parts.gives fails
+  part_failed result fails = part_by_class (class_of code.0) result not_plain parts.gives fails
+    where
+      not_plain : (class_of code.0 ≡ NotPresent → ⊥) → IsTrue s.plain → HoldsCurrent start s → ⊥
+      not_plain other p h = other (ap class_of (plain_code old s' n asked since.stays.honest open_ since.reading (since.plain p h) held code (parts.plain (since.stays.plain p))))

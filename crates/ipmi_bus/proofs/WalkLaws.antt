@@ -1,14 +1,13 @@
 -- Exactly one walk from a place has an end.
-use Rattle.std.proofs.Common.{◌≡◌, ◌≢◌, ℕ, zero, suc, ◌+◌, ◌≤◌, Bool, true, false, cond, nat_eq, ◌==◌, ◌||◌, Option, None, Some, List, [], ◌∷◌, ◌++◌, refl, sym, ap, subst, ◌∙◌, inl, inr, append_assoc, rules, arith, nat_cmp, ne_eqb, eq-eqb, eqb-true, append-nil}
+use Rattle.std.proofs.Common.{◌≡◌, ◌≢◌, ℕ, zero, suc, ◌+◌, ◌≤◌, Bool, true, false, cond, nat_eq, ◌||◌, Option, None, Some, List, [], ◌∷◌, ◌++◌, refl, sym, ap, subst, ◌∙◌, append_assoc, rules, arith, nat_cmp, eqb-true, append-nil}
 use Rattle.std.specs.FinSet as set
 use Rattle.std.specs.FinSet.{contains-insert, contains-empty}
 use Rattle.std.specs.Cmp.{nat_cmp_total, unsigned_tied}
 use Rattle.std.proofs.Math.Bool.{or-false}
-use Rattle.std.proofs.lemmas.Bool.{cases_eq, eqb-false}
 use Rattle.std.proofs.lemmas.Bool.Decides.{nat_tests}
-use Rattle.ipmi_bus.specs.Prelude.{Shelf, Place, First, Id, End, Row, IsShelf, look, row_with_id, first_row, row_at, Links, AllOf, IsWalk, place_after, place_after_rows, has_id, WalkEnd, Done, CycleAt, MissingAt, EndsBy, EndsAfter, EndsEmpty, last_next, HasWalk, cycle_at}
+use Rattle.ipmi_bus.specs.Prelude.{Shelf, Place, First, Id, End, Row, IsShelf, look, row_with_id, first_row, row_at, Links, AllOf, IsWalk, place_after, place_after_rows, has_id, WalkEnd, Done, CycleAt, MissingAt, EndsBy, EndsAfter, EndsEmpty, last_next, HasWalk}
 use Rattle.ipmi_bus.proofs.ShelfLemmas.{DistinctIds-snoc}
-use Rattle.ipmi_bus.proofs.WalkLemmas.{row_at-next, has_id-next, look-asked_at, cycle_at-none, EndFacts, end_facts, place_after_rows-last, id_of, has_id-append}
+use Rattle.ipmi_bus.proofs.WalkLemmas.{row_at-next, has_id-next, look-asked_at, cycle_at-none, end_facts, place_after_rows-last, id_of, has_id-append}
 
 -- the ids of a walk, as a set
 abbrev ids_of : List Row → set.FinSet nat_cmp
@@ -132,16 +131,18 @@ no_row (Some row) none = absurd (none row refl)
 -- where the place has no row, or one that is in the walk already
 ends_here : (shelf : Shelf) (rows : List Row) (start : Place) (walk : List Row) → IsShelf shelf rows → ((row : Row) → row_at (place_after_rows start walk) rows ≡ Some row → has_id walk row.id ≡ true) → (end : WalkEnd) × EndsBy rows start walk end
 ends_here shelf rows First [] ok none = (Done, no_row (first_row rows) (λ row is. let h = none row is in cc h))
-ends_here shelf rows (Id n) [] ok none = (cond (nat_eq n 0) (CycleAt n) (MissingAt n), empty_end rows n (λ p. no_row (look rows n) (λ row is. let h = none row (rw p (rw p at is)) in cc h)))
+ends_here shelf rows (Id n) [] ok none = (
+  cond (nat_eq n 0) (CycleAt n) (MissingAt n),
+  empty_end rows n (λ p. no_row (look rows n) (λ row is. let h = none row (rw p (rw p at is)) in cc h)),
+)
 ends_here shelf rows End [] ok none = (Done, tt)
 ends_here shelf rows start (d ∷ walk) ok none =
-    let next = last_next d.next walk in
-    (
+    let next = last_next d.next walk in (
       the_end (d ∷ walk) next,
       end_after rows (d ∷ walk) next (λ fresh. no_row (row_at (place_after next) rows) (λ row is.
-      let stands = none row (ap (λ (p : Place). row_at p rows) (place_after_rows-last d.next walk) ∙ is) in
-      let id = linked shelf next rows row ok is in
-      let h = sym (ap (has_id (d ∷ walk)) id.0 ∙ stands) ∙ fresh in cc h)),
+          let stands = none row (ap (λ (p : Place). row_at p rows) (place_after_rows-last d.next walk) ∙ is) in
+          let id = linked shelf next rows row ok is in
+          let h = sym (ap (has_id (d ∷ walk)) id.0 ∙ stands) ∙ fresh in cc h)),
     )
 
 decide : (shelf : Shelf) (rows : List Row) (start : Place) (done : List Row) → IsShelf shelf rows → IsWalk rows start done

@@ -1,8 +1,8 @@
 -- Walks, row after row.
-use Rattle.std.proofs.Common.{◌≡◌, ◌≢◌, ℕ, ◌+◌, ◌≤◌, Bool, true, false, cond, nat_eq, ◌||◌, Option, None, Some, Result, Ok, Err, List, [], ◌∷◌, ◌++◌, length, take, drop, refl, sym, ap, subst, ◌∙◌, inl, inr, rules, arith, ◌⊎◌, ne_eqb, eq-eqb, nat_cmp, take_all, take-append-drop, length-drop, take-add}
+use Rattle.std.proofs.Common.{◌≡◌, ◌≢◌, ℕ, ◌+◌, ◌≤◌, Bool, false, nat_eq, ◌||◌, Option, None, Some, Result, Ok, Err, List, [], ◌∷◌, ◌++◌, length, take, drop, refl, sym, ap, subst, ◌∙◌, inl, inr, rules, arith, ◌⊎◌, ne_eqb, nat_cmp, take_all, take-append-drop, length-drop, take-add}
 use Rattle.std.specs.FinSet as set
 use Rattle.std.proofs.Math.Bool.{or-false, or_assoc, or_comm}
-use Rattle.ipmi_bus.specs.Prelude.{Shelf, Place, First, Id, End, Row, IsShelf, look, len_of, row_with_id, first_row, DistinctIds, LacksId, row_at, IsWalk, place_after, place_after_rows, has_id, WalkEnd, Done, CycleAt, MissingAt, EndsBy, EndsAfter, EndsEmpty, last_next, Ended, Cycle, Missing, CursorState, asked_at, cycle_at, AsksAlong, AsksNothing, StaysThere, StepLeaves, StepAnswers, StepIsHonest, NoneAt, StandsAt, WalkStep, MayFail, FollowsWalks, store_shelf, Store, rows_of, Seen, IsHonest, Refused, GaveUp}
+use Rattle.ipmi_bus.specs.Prelude.{Shelf, Place, First, Id, End, Row, IsShelf, look, len_of, first_row, DistinctIds, LacksId, row_at, IsWalk, place_after, place_after_rows, has_id, WalkEnd, Done, CycleAt, MissingAt, EndsBy, EndsAfter, EndsEmpty, last_next, Ended, Cycle, Missing, CursorState, asked_at, cycle_at, AsksAlong, AsksNothing, StaysThere, StepLeaves, StepAnswers, StepIsHonest, StandsAt, WalkStep, MayFail, FollowsWalks, store_shelf, Store, rows_of, Seen, IsHonest, Refused, GaveUp}
 use Rattle.std.specs.FinSet.{contains-insert, contains-empty}
 use Rattle.std.specs.Cmp.{nat_cmp_total, unsigned_tied}
 use Rattle.std.proofs.lemmas.Bool.Decides.{nat_tests}
@@ -234,7 +234,8 @@ module _ (c new : CursorState) (seen : Seen) (start : Place) (walk : List Row) (
 pub follows_walks : (c new : CursorState) (s s' : Seen) (result : Result (Option Row) Ended) → IsHonest s → StepLeaves c new result → StepIsHonest c new s s' result → FollowsWalks c new s s' result
 follows_walks c new s s' result honest leaves step = record {
   follows = λ same start walk end k.
-      subst (λ (x : Store). IsWalk (rows_of c.shelf x) start walk → EndsBy (rows_of c.shelf x) start walk end → StandsAt (rows_of c.shelf x) start walk k c → WalkStep (rows_of c.shelf x) start walk end k c new result) (step.stays.store.stays same)
+      subst (λ (x : Store). IsWalk (rows_of c.shelf x) start walk → EndsBy (rows_of c.shelf x) start walk end → StandsAt (rows_of c.shelf x) start walk k c
+      → WalkStep (rows_of c.shelf x) start walk end k c new result) (step.stays.store.stays same)
       (λ w ends stands. walk_law c new s' start walk k (store_shelf c.shelf s'.store step.stays.honest.store) w stands s end ends result leaves step.answers);
 }
 

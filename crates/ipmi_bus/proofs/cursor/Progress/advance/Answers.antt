@@ -1,5 +1,3 @@
-use Rattle.std.proofs.Common.{◌≡◌, ap, ◌∙◌, rules}
-use Rattle.ipmi_bus.specs.Prelude.{First, asked_at}
 use Rattle.ipmi_bus.proofs.CursorLemmas.{look-whole_row, handed_row-whole, hands_out}
 use Rattle.ipmi_bus.proofs.cursor.Progress.advance.Goals as goal
 
@@ -9,7 +7,9 @@ returns-in-Ok-true-clause-leaves g c =
     let out = c.hand_out.ensures in
     let leaves = rw c.in-Ok-true.field-0-test at c.in-Ok-true.ensures.leaves in
     let row = handed_row-whole c.hand_out.new.self c.hand_out.result c.args.self.now.place c.in-Asks.id c.read.new.self out.id out.next out.len out.retrieval in
-    (asks.none, hands_out _ _ c.in-Asks.id c.read.new.self _ row asks c.requires.first out.place out.ids out.at_most out.next_fits c.read.ensures.request.shelf (rw (← out.retrieval) out.room) leaves.0 leaves.1 leaves.2)
+    let room = rw out.retrieval at out.room in
+    let shelf = c.read.ensures.request.shelf in
+    (asks.none, hands_out _ _ c.in-Asks.id c.read.new.self _ row asks c.requires.first out.place out.ids out.at_most out.next_fits shelf room leaves.0 leaves.1 leaves.2)
 
 pub returns-in-Ok-true-clause-honest : goal.returns-in-Ok-true-clause-honest
 returns-in-Ok-true-clause-honest g c = λ h.

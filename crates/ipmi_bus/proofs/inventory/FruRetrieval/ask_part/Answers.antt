@@ -1,6 +1,6 @@
-use Rattle.std.proofs.Common.{◌≡◌, ℕ, ◌-◌, Ok, Err, ap, subst, ◌∙◌}
-use Rattle.ipmi_bus.specs.Prelude.{asked_len, class_of}
-use Rattle.ipmi_bus.specs.FruRetrieval.{request_len, PartFails}
+use Rattle.std.proofs.Common.{◌≡◌, ℕ, ◌-◌, Ok, Err, ap, ◌∙◌}
+use Rattle.ipmi_bus.specs.Prelude.{asked_len}
+use Rattle.ipmi_bus.specs.FruRetrieval.{request_len}
 use Rattle.ipmi_bus.proofs.InventoryLemmas.{part_answers, part_failed}
 use Rattle.ipmi_bus.proofs.inventory.FruRetrieval.ask_part.Goals as goal
 

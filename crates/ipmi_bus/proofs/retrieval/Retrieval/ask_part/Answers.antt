@@ -1,6 +1,6 @@
-use Rattle.std.proofs.Common.{◌≡◌, ℕ, ◌-◌, Ok, Err, ap, subst, ◌∙◌}
-use Rattle.ipmi_bus.specs.Prelude.{asked_len, class_of}
-use Rattle.ipmi_bus.specs.Retrieval.{request_len, PartFails}
+use Rattle.std.proofs.Common.{◌≡◌, ℕ, ◌-◌, Ok, Err, ap, ◌∙◌}
+use Rattle.ipmi_bus.specs.Prelude.{asked_len}
+use Rattle.ipmi_bus.specs.Retrieval.{request_len}
 use Rattle.ipmi_bus.proofs.PartLemmas.{honest_part, part_failed}
 use Rattle.ipmi_bus.proofs.retrieval.Retrieval.ask_part.Goals as goal
 
