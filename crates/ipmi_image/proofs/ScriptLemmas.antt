@@ -1,12 +1,19 @@
 -- An answer after what a mood did, and an answer that a mood made.
-use Rattle.std.proofs.Common.{◌≡◌, ℕ, Bool, true, false, Option, Result, Ok, Err, List, refl, sym, ◌∙◌, arith, IsTrue, true≢false}
+use Rattle.std.proofs.Common.{◌≡◌, ℕ, Bool, true, false, Option, Result, Ok, Err, List, [], refl, sym, ◌∙◌, arith, IsTrue, true≢false}
+use Rattle.std.specs.Vec.Iter.{into_iter_deque, into_iter_items, into_iter_len}
+use Rattle.std.proofs.lemmas.List.{nil_from_length}
 use Rattle.ipmi_image.specs.Below.{Shelf, Sdr, Sel, Part, FruSize, Code, CodeClass, Cancelled, Busy, SmallerPart, NotPresent, Refusal, class_of, Store, Seen, IsHonest, IsQuiet, IsFinished, IsChange, MayLoseReservation, current, Asked, other, FailsWith, CountsPiece, ReserveAnswers, PartGives, PartAnswers, ValueGives, ValueAnswers, SizeGives, SizeAnswers, BytesGives, BytesAnswers}
-use Rattle.ipmi_image.specs.Prelude.{Prepares, Responder, seen_as}
+use Rattle.ipmi_image.specs.Prelude.{Prepares, Responder, Scripted, seen_as}
 
--- it answers over the store as it is, as one that never changes
+-- where no mood is counted, none is left
+pub no_moods_left : (s : Scripted) → into_iter_len s.moods ≡ 0 → into_iter_items s.moods ≡ []
+no_moods_left s none = nil_from_length _ (sym (into_iter_deque s.moods).ok.0 ∙ none)
+
+-- what is honest is honest where it says that it is plain too, and then more is said of its answers
 pub plainly : (r : Responder) → IsHonest (seen_as false r) → IsHonest (seen_as true r)
 plainly r honest = record { said = honest.said; store = honest.store }
 
+-- a plain controller's answer, from `mid` to `answered`, is one that is not plain too, from `old` to `new`
 module _ (old : Seen) (r r' : Responder) (plain : old.plain ≡ false) (first : Prepares old (seen_as false r)) (change : IsChange (seen_as true r) (seen_as true r')) where
   abbrev mid : Seen
   mid = seen_as true r

@@ -1,5 +1,5 @@
 -- The rows of some lines as a shelf: what one more row changes.
-use Rattle.std.proofs.Common.{◌≡◌, ◌≢◌, ℕ, ◌<◌, Bool, true, false, not, nat_eq, nat_lt, ◌&&◌, Option, None, Some, List, [], ◌∷◌, ◌++◌, length, refl, arith, eqb-true, unwrap_or}
+use Rattle.std.proofs.Common.{◌≡◌, ◌≢◌, ℕ, ◌<◌, Bool, true, false, not, nat_eq, nat_lt, ◌&&◌, None, Some, List, [], ◌∷◌, ◌++◌, length, refl, arith, eqb-true, unwrap_or}
 use Rattle.std.proofs.lemmas.Bool.{eqb-false, ltb-false, not-false, or_parts}
 use Rattle.std.proofs.lemmas.Bool.Decides.{nat_tests}
 use Rattle.ipmi_image.specs.Below.{Shelf, AreBytes, Row, whole_len, largest_len, IsRow, AllRows, LacksId, DistinctIds, BeginsWithId, LaterHaveIds, IsShelf, has_id}
@@ -7,11 +7,7 @@ use Rattle.ipmi_image.specs.Prelude.{SavedRow, LineFault, chained, row_before, i
 
 -- a row stays one with another next id
 other_next : (shelf : Shelf) (row : SavedRow) (following : List SavedRow) (last : SavedRow) → last.id < 65535 → IsRow shelf (row_before [] row) → IsRow shelf (row_before (last ∷ following) row)
-other_next shelf row following last lt is = record { id = is.id; next = by row.next is.next; whole = is.whole; fits = is.fits; bytes = is.bytes }
-  where
-    by : (next : Option ℕ) → unwrap_or next 65535 < 65536 → unwrap_or next last.id < 65536
-    by (Some n) h = h
-    by None h = omega (arith, lt)
+other_next shelf row following last lt is = record { id = is.id; next = grind (arith, is.next, lt); whole = is.whole; fits = is.fits; bytes = is.bytes }
 
 rows-snoc : (shelf : Shelf) (rows : List SavedRow) (row : SavedRow) → AllRows shelf (chained rows) → IsRow shelf (row_before [] row) → AllRows shelf (chained (rows ++ row ∷ []))
 rows-snoc shelf [] row all is = (is, tt)

@@ -13,11 +13,8 @@ use Rattle.std.proofs.Math.Seq.{map-set_same}
 use Rattle.ipmi_image.specs.Below.{Row, row_with_id, IsSensorReading, inventory_in, reading_in, has_id}
 use Rattle.ipmi_image.specs.Prelude.{SavedRow, StoredInventory, StoredSensor, id_of, place_of, IsIndex, sensor_key, inventory_of, chained, row_before, is_empty, with_bytes, sensor_of}
 
-abbrev here : Bool → ℕ → Option ℕ
-here b n = cond b (Some n) None
-
 -- a last item is found where none before it has the key
-pub place_of_snoc : {T : Type 0} (key : T → ℕ) (q : ℕ) (items : List T) (item : T) → place_of key q (items ++ item ∷ []) ≡ option_or (place_of key q items) (here (nat_eq (key item) q) (length items))
+pub place_of_snoc : {T : Type 0} (key : T → ℕ) (q : ℕ) (items : List T) (item : T) → place_of key q (items ++ item ∷ []) ≡ option_or (place_of key q items) (cond (nat_eq (key item) q) (Some (length items)) None)
 place_of_snoc key q [] item = grind arith
 place_of_snoc key q (x ∷ xs) item = grind (arith, place_of_snoc key q xs item)
 
@@ -108,11 +105,7 @@ index_new key places none = record { found = none; distinct = tt; below = λ q p
 -- keys below FFFFh with no two equal are at most FFFFh
 pub index_len : {T : Type 0} (key : T → ℕ) (items : List T) (places : ℕ → Option ℕ) → IsIndex key items places → length items ≤ 65535
 index_len key items places index =
-    rw length-map at (length-le_from_distinct_below (map key items) 65535 index.distinct (λ q m. below q (place_of key q items) refl (sym (list_any_keys key q items) ∙ m)))
-  where
-    below : (q : ℕ) (o : Option ℕ) → place_of key q items ≡ o → is_some o ≡ true → q < 65535
-    below q None e m = cc m
-    below q (Some place) e m = index.below q place e
+    rw length-map at (length-le_from_distinct_below (map key items) 65535 index.distinct (λ q m. grind (arith, index.below q, list_any_keys key q items)))
 
 -- a new key's item is put at the end, and its place beside the others
 pub index_push : {T : Type 0} (key : T → ℕ) (items : List T) (item : T) (old new : ℕ → Option ℕ) → IsIndex key items old → key item < 65535 → place_of key (key item) items ≡ None → ((q : ℕ) → new q ≡ cond (nat_eq (key item) q) (Some (length items)) (old q)) → IsIndex key (items ++ item ∷ []) new

@@ -206,14 +206,7 @@ impl Responder {
         ensures rest { IfOk result (λ part. drop part.got into.new ≡ drop part.got into.old) }
         ensures err { OnErr result (into.new ≡ into.old) }
         ensures answers { IsHonest (seen_as true self.old) →
-            PartAnswers (record {
-              shelf = shelf;
-              reservation = reservation;
-              id = id;
-              offset =
-                  offset;
-              len = length into.old;
-            })
+            PartAnswers (part_asked shelf reservation id offset (length into.old))
             result into.new (seen_as true self.old) (seen_as true self.new) }
         ensures same { self.new ≡ record self.old { near = self.new.near; tally = self.new.tally } }
         ensures exact { result ≡ part_answer

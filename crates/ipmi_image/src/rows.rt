@@ -127,6 +127,7 @@ impl Rows {
     }
 
     /// Puts a record at the end, where none has its id, and says whether it did.
+    #[tactic(auto, using(crate::proofs::RowsLemmas::place_of_row_in))]
     pub(crate) fn push(&mut self, row: &StoredRow) -> Result<bool, AllocError>
         requires id { row.now.id < 65535 }
         requires fits { length row.now.bytes.now ≤ 256 }

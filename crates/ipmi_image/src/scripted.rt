@@ -92,6 +92,7 @@ impl Scripted {
     }
 
     /// Uses up a mood on a call for `asked` bytes. Calls that name no number of bytes are given 1.
+    #[tactic(auto, using(crate::proofs::ScriptLemmas::no_moods_left))]
     fn turn(&mut self, asked: usize) -> Turn
         ensures counts { TurnCounts result (script_seen self.old) (script_seen self.new) }
         ensures turns { IsHonest (script_seen self.old) →

@@ -6,11 +6,6 @@ use Rattle.ipmi_image.proofs.TableLemmas.{is_some_reading_in, was_put}
 use Rattle.ipmi_image.proofs.StoreLemmas.{reading_fine, AreReadings-new}
 use Rattle.ipmi_image.proofs.contents.put_reading.Goals as goal
 
-pub push-requires : goal.push-requires
-push-requires c =
-    let fine = reading_fine c.args.lun (reading_in (map sensor_of c.args.sensors.now) c.args.lun c.args.number) c.args.bytes.now (sym c.in_default.ensures) in
-    omega (arith, fine, c.ranges.number)
-
 pub returns : goal.returns
 returns c =
     let sensors = c.args.sensors.now in

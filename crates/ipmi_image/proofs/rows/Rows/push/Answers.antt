@@ -1,15 +1,10 @@
-use Rattle.std.proofs.Common.{◌≡◌, ◌++◌, ◌∷◌, [], ap, sym, ◌∙◌, arith, length, List, map, is_some}
+use Rattle.std.proofs.Common.{◌≡◌, ◌++◌, ◌∷◌, [], ap, sym, ◌∙◌, arith, length, List, map}
 use Rattle.ipmi_image.specs.Prelude.{place_of, id_of, row_in, row_of, SavedRow, RowHead}
 use Rattle.ipmi_image.proofs.RowsLemmas.{place_of_row_in, rows_with}
 use Rattle.ipmi_image.proofs.rows.Rows.push.Goals as goal
 
 pub overflow_cast-head : goal.overflow_cast-head
-overflow_cast-head c =
-    let size = c.self.invariant.size in
-    let few = c.self.invariant.few in
-    let ok = c.self.inside.bytes.ok.0 in
-    let is = c.len-start.ensures in
-    omega (arith, size, few, ok, is)
+overflow_cast-head c = omega (arith, c.self.invariant.size, c.self.invariant.few, c.self.inside.bytes.ok.0, c.len-start.ensures)
 
 pub returns-in-Ok-true : goal.returns-in-Ok-true
 returns-in-Ok-true c =
@@ -26,8 +21,3 @@ returns-in-Ok-true c =
           ∙ rows_with bytes more heads id next c.self.invariant.within
           ∙ ap (λ (l : List SavedRow). l ++ row_of c.args.row.now ∷ []) c.self.view_is,
     )
-
-pub returns-in-Ok-false : goal.returns-in-Ok-false
-returns-in-Ok-false c =
-    let put = rw c.in-Ok-false.field-0-test at c.in-Ok-false.ensures.ok in
-    rw (sym c.self.view_is) (ap is_some (place_of_row_in c.self.inside.bytes.items c.args.row.now.id c.self.inside.heads) ∙ put.0)

@@ -1,14 +1,10 @@
-use Rattle.std.proofs.Common.{ap, sym, ◌∙◌, Some, cond, length, arith, ◌≤◌, is_eq, nat_cmp}
+use Rattle.std.proofs.Common.{ap, sym, ◌∙◌, Some, cond, length, arith, is_eq, nat_cmp}
 use Rattle.std.specs.BTreeMap.{get}
 use Rattle.ipmi_image.proofs.TableLemmas.{index_push, index_len, is_eq_nat_cmp}
 use Rattle.ipmi_image.proofs.stored.Table.push.Goals as goal
 
 pub overflow_cast-place : goal.overflow_cast-place
-overflow_cast-place g c =
-    let len : length c.self.inside.items.items ≤ 65535 = index_len g.T.Keyed.key c.self.inside.items.items (get nat_cmp c.self.inside.places) c.self.invariant in
-    let is = c.len-place.ensures in
-    let ok = c.self.inside.items.ok.0 in
-    omega (arith, len, is, ok)
+overflow_cast-place g c = omega (arith, index_len g.T.Keyed.key c.self.inside.items.items (get nat_cmp c.self.inside.places) c.self.invariant, c.len-place.ensures, c.self.inside.items.ok.0)
 
 pub invariant_of-self-in-Ok-None : goal.invariant_of-self-in-Ok-None
 invariant_of-self-in-Ok-None g c =
