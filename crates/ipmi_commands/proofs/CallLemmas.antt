@@ -1,12 +1,12 @@
 -- How many calls a listing makes.
-use Rattle.std.proofs.Common.{◌≡◌, inl, inr, ℕ, zero, suc, ◌+◌, ◌*◌, ◌<◌, ◌≤◌, ◌==◌, true, false, cond, Option, None, Some, Result, Ok, Err, List, [], ◌∷◌, ◌++◌, take, drop, refl, sym, ap, ◌∙◌, arith, take-append-drop}
+use Rattle.std.proofs.Common.{◌≡◌, inl, inr, ℕ, zero, suc, ◌+◌, ◌*◌, ◌<◌, ◌≤◌, Option, None, Some, Result, Ok, List, [], ◌∷◌, ◌++◌, take, drop, refl, sym, ap, ◌∙◌, arith, take-append-drop}
 use Rattle.std.specs.FinSet as set
 use Rattle.std.specs.FinSet.{len-insert}
 use Rattle.std.specs.Cmp.{nat_cmp_total}
 use Rattle.std.proofs.lemmas.Bool.Decides.{nat_tests}
 use Rattle.std.proofs.lemmas.Nat.{mul-le}
 use Rattle.std.proofs.Math.Seq.{take-nil}
-use Rattle.ipmi_commands.specs.Below.{step_call_bound, digits, Shelf, Id, End, Ended, Cycle, Missing, Row, first_row, len_of, largest_len, place_after, Seen, CursorState, IsStep, StepLeaves, StepCalls, HandsOut, Store, Task}
+use Rattle.ipmi_commands.specs.Below.{step_call_bound, digits, Shelf, Ended, Row, first_row, len_of, largest_len, place_after, Seen, CursorState, IsStep, StepLeaves, HandsOut, Store, Task}
 use Rattle.ipmi_commands.specs.Prelude.{calls_for, IsPlace, HasCalled, ListingCalls, first_rows}
 
 -- ---- digits
@@ -28,7 +28,7 @@ len-next_ids now next row hands =
     rw hands.ids (len-insert nat_cmp_total now.ids row.id ∙ rw hands.unseen refl)
 
 is_place : (next : ℕ) → next < 65536 → IsPlace (place_after next)
-is_place next fits = (elim (next == 65535) as (λ b. (next == 65535) ≡ b → IsPlace (cond b End (Id next))) [ true ↦ λ e. tt | false ↦ λ e. search arith ]) refl
+is_place next fits = grind (arith, nat_tests)
 
 -- no more records are asked for than there are ids
 at_most_all : (rows bound : ℕ) → rows ≤ 65536 → rows * bound ≤ 65536 * bound
@@ -47,19 +47,11 @@ HandsNothing (Ok (Some row)) = ⊥
 HandsNothing _ = Unit {0}
 
 place_kept : (now next : CursorState) (result : Result (Option Row) Ended) → HandsNothing result → StepLeaves now next result → IsPlace now.place → IsPlace next.place
-place_kept now next (Ok (Some row)) none leaves place = absurd none
-place_kept now next (Ok None) none leaves place = rw leaves.1.place tt
-place_kept now next (Err (Cycle n)) none leaves place = rw leaves.1.place place
-place_kept now next (Err (Missing n)) none leaves place = rw leaves.1.place place
-place_kept now next (Err _) none leaves place = rw leaves.1.stays.place place
+place_kept now next result none leaves place = grind arith
 
 -- a step of a listing over this shelf, with these tries, where each record takes so many calls at most
 module _ (tries later each count : ℕ) (shelf : Shelf) (begun now next : CursorState) (s s' s'' : Seen) (each_is : each ≡ step_call_bound tries (largest_len shelf) + later) (same_shelf : now.shelf ≡ shelf) (same_tries : now.tries ≡ tries)
     (called : HasCalled each count begun now s s') where
-  -- at the bound of a step of the listing
-  at_bound : StepCalls (largest_len now.shelf) now next s' s'' → s''.calls + digits next.part ≤ s'.calls + step_call_bound tries (largest_len shelf) + digits now.part
-  at_bound calls = rw (same_shelf, same_tries) at calls
-
   -- after a record, and what is asked for on account of it
   pub called_more : (last : Seen) (row : Row) → IsStep now next s' s'' (Ok (Some row)) → last.calls ≤ s''.calls + later → HasCalled each (count + 1) begun next s last
   called_more last row step asked =
@@ -69,7 +61,7 @@ module _ (tries later each count : ℕ) (shelf : Shelf) (begun now next : Cursor
       record {
         within = omega (arith, more, called.within);
         most = omega (arith, more, called.within, hands.at_most);
-        calls = omega (arith, called.calls, at_bound step.calls, asked, each_is, one);
+        calls = omega (arith, called.calls, rw (same_shelf, same_tries) at step.calls, asked, each_is, one);
         some = λ some. step.same.part_not_zero;
         place = λ place. rw hands.place (is_place row.next hands.next);
       }
@@ -77,17 +69,14 @@ module _ (tries later each count : ℕ) (shelf : Shelf) (begun now next : Cursor
   -- a listing whose last step handed out nothing
   pub called_ended : (result : Result (Option Row) Ended) → HandsNothing result → IsStep now next s' s'' result → ListingCalls each begun next s s''
   called_ended result none step = record {
-    calls = λ some. elim step.room [
-      | inl asks ↦ omega (arith, at_most_all count each called.most, called.calls, digits_some now.part (called.some some), ap (λ (x : Seen). x.calls) (step.no_call asks))
-      | inr room ↦ asked room
-    ];
+    calls = λ some.
+        let one : (count + 1) * each ≡ count * each + each = omega arith in
+        elim step.room [
+          | inl asks ↦ omega (arith, at_most_all count each called.most, called.calls, digits_some now.part (called.some some), ap (λ (x : Seen). x.calls) (step.no_call asks))
+          | inr room ↦ omega (arith, at_most_all (count + 1) each (omega (arith, room, called.within)), one, called.calls, rw (same_shelf, same_tries) at step.calls, digits_some next.part step.same.part_not_zero, each_is)
+        ];
     place = λ place. place_kept now next result none step.leaves (called.place place);
   }
-    where
-      asked : set.len now.ids < 65536 → s''.calls + 1 ≤ s.calls + 65536 * each + digits begun.part
-      asked room =
-          let one : (count + 1) * each ≡ count * each + each = omega arith in
-          omega (arith, at_most_all (count + 1) each (omega (arith, room, called.within)), one, called.calls, at_bound step.calls, digits_some next.part step.same.part_not_zero, each_is)
 
 -- ---- along a walk
 
@@ -113,5 +102,4 @@ module _ (t : Task) (store : Store) (tries : ℕ) where
 
   -- a step for the next row, or one that finds none
   pub next_calls : (rows : List Row) → step_call_bound tries (len_of (first_row rows)) ≤ calls_for t store tries rows + step_call_bound tries 0
-  next_calls [] = omega arith
-  next_calls (row ∷ rows) = omega arith
+  next_calls rows = grind arith

@@ -1,7 +1,7 @@
 -- The items of a plan, one for each row, their texts, and the spots at which a run may stop.
-use Rattle.std.proofs.Common.{◌≡◌, ◌≢◌, inl, ℕ, zero, suc, ◌+◌, ◌-◌, ◌<◌, ◌==◌, Bool, true, false, cond, Option, None, Some, List, [], ◌∷◌, ◌++◌, length, take, drop, refl, sym, ap, ◌∙◌, append_assoc, append-nil, arith, ne_eqb}
+use Rattle.std.proofs.Common.{◌≡◌, ◌≢◌, inl, ℕ, zero, suc, ◌+◌, ◌<◌, ◌==◌, Bool, true, false, cond, Option, Some, List, [], ◌∷◌, ◌++◌, length, take, drop, refl, sym, ap, ◌∙◌, append_assoc, append-nil, arith, ne_eqb}
 use Rattle.std.proofs.Math.Seq.{drop-nil}
-use Rattle.ipmi_commands.specs.Below.{Place, First, Id, End, Row, first_row, Store, WalkEnd, Done, CycleAt, MissingAt, EndsBy, place_after, place_after_rows, last_next, MayFail, asked_at, Task, TakesPart}
+use Rattle.ipmi_commands.specs.Below.{Place, First, Id, End, Row, first_row, Store, WalkEnd, Done, EndsBy, place_after, place_after_rows, last_next, MayFail, asked_at, Task, TakesPart}
 use Rattle.ipmi_commands.specs.Prelude.{Span, MayStopAt, left_rows, passing, span_items, item_in, Plan, Item, Passed, Spot, AtRecord, row_items, RunEnd, IsItemText, AreTexts, Printed, Outcome, IsAllowed, IsAmong, spots_at, end_spots}
 use Rattle.ipmi_commands.specs.Plan as plan
 
@@ -67,23 +67,17 @@ module _ (t : Task) (store : Store) where
 
 -- of no rows there is no item
 pub span_items-nil : (skip : Option ℕ) (t : Task) (start : Place) → span_items skip t start [] ≡ []
-span_items-nil None t start = refl
-span_items-nil (Some zero) t start = refl
-span_items-nil (Some (suc n)) t start = refl
+span_items-nil skip t start = grind arith
 
 -- the next one, and those after it
 pub span_items-cons : (skip : Option ℕ) (t : Task) (start : Place) (row : Row) (rows : List Row) → span_items skip t start (row ∷ rows) ≡ item_in skip t start row ∷ span_items (passing skip 1) t (place_after row.next) rows
-span_items-cons None t start row rows = refl
-span_items-cons (Some zero) t start row rows = refl
-span_items-cons (Some (suc n)) t start row rows = let fewer : n ≡ suc n - 1 = omega arith in ap (λ (m : ℕ). item_in (Some (suc n)) t start row ∷ span_items (Some m) t (place_after row.next) rows) fewer
+span_items-cons skip t start row rows = grind arith
 
 passing-more : (skip : Option ℕ) (k : ℕ) → passing (passing skip k) 1 ≡ passing skip (k + 1)
-passing-more None k = refl
-passing-more (Some n) k = let fewer : n - k - 1 ≡ n - (k + 1) = omega arith in ap Some fewer
+passing-more skip k = grind arith
 
 pub passing-none : (skip : Option ℕ) → passing skip 0 ≡ skip
-passing-none None = refl
-passing-none (Some n) = let all : n - 0 ≡ n = omega arith in ap Some all
+passing-none skip = grind arith
 
 -- what is left of a listing begins with the item of the next row
 pub left_items-next : (span : Span) (t : Task) (start : Place) (walk : List Row) (k : ℕ) (row : Row) → first_row (drop k walk) ≡ Some row → left_rows span k walk ≡ row ∷ left_rows span (k + 1) walk
@@ -179,18 +173,10 @@ asked_at-next n (row ∷ rows) more = asked_at-next row.next rows more
 
 -- what is asked for at the end of a walk is a spot of its end
 pub end_spot : (rows : List Row) (start : Place) (walk : List Row) (end : WalkEnd) → EndsBy rows start walk end → MayFail end (place_after_rows start walk) → IsAmong (end_spots start walk end) (AtRecord (asked_at (place_after_rows start walk)))
-end_spot rows First [] Done ends may = inl refl
-end_spot rows End [] Done ends may = cc may
-end_spot rows start (row ∷ walk) Done ends may = absurd (not_first row.next walk may)
-end_spot rows start walk (CycleAt n) ends may = absurd may
-end_spot rows (Id id) [] (MissingAt n) ends may = inl (ap AtRecord (sym ends.0))
-end_spot rows start (row ∷ walk) (MissingAt n) ends may = inl (ap AtRecord (asked_at-next row.next walk ends.1 ∙ sym ends.0))
-end_spot rows _ [] _ ends may = absurd ends
+end_spot rows start walk end ends may = grind (arith, not_first, asked_at-next)
 
 no_end_spot : (place : Place) (rows : List Row) → place ≢ First → end_spots place rows Done ≡ []
-no_end_spot First rows moved = absurd (moved refl)
-no_end_spot (Id n) rows moved = refl
-no_end_spot End rows moved = refl
+no_end_spot place rows moved = grind arith
 
 -- the end of more rows is that of the last of them
 pub end_spots-joined : (start : Place) (done rest : List Row) (end : WalkEnd) → end_spots (place_after_rows start done) rest end ≡ end_spots start (done ++ rest) end

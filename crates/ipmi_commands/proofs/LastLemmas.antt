@@ -1,14 +1,13 @@
 -- The last entries of a shelf: a walk that counts them, and a second one that passes those before them.
-use Rattle.std.proofs.Common.{◌≡◌, inl, inr, ℕ, zero, suc, ◌-◌, ◌<◌, ◌≤◌, true, false, None, Some, List, [], ◌∷◌, ◌++◌, length, take, drop, refl, sym, ap, subst, ◌∙◌, append-nil, arith, length-drop}
+use Rattle.std.proofs.Common.{◌≡◌, inl, inr, ℕ, zero, suc, ◌-◌, ◌<◌, ◌≤◌, None, Some, List, [], ◌∷◌, ◌++◌, length, take, drop, refl, sym, ap, subst, ◌∙◌, append-nil, arith, length-drop}
 use Rattle.std.proofs.lemmas.List.{nil_from_length}
 use Rattle.std.proofs.Math.Seq.{drop-nil}
 use Rattle.ipmi_commands.specs.Below.{CursorState, Place, Seen, IsHonest, stays_refl, stays_trans, Row, StandsAt, asked_at, Store, rows_of, WalkEnd, Done, place_after, place_after_rows, Count, Task, shelf_of}
-use Rattle.ipmi_commands.specs.Prelude.{Listed, Span, Stop, is_done, ListsSpan, SpanAlong, course, item_in, span_items, span_plan, IsListing, IsOutcome, walk_call_bound, second_walk_bound, Request, request, Change, change, OnWalk, Plan, Item, Passed, Spot, AtRecord, RunEnd, WalkEnds, row_items, run_end, spots_along, spots_of_walk, end_spots, spots_at, last_items, last_plan, with_first_spots, end_spots_of_last, Printed, Outcome, IsAllowed, IsAmong, Performs}
+use Rattle.ipmi_commands.specs.Prelude.{Listed, Span, Stop, ListsSpan, SpanAlong, course, item_in, span_items, span_plan, IsListing, IsOutcome, walk_call_bound, second_walk_bound, Request, request, Change, change, OnWalk, Plan, Item, Passed, Spot, AtRecord, RunEnd, WalkEnds, row_items, run_end, spots_along, spots_of_walk, end_spots, spots_at, last_items, last_plan, with_first_spots, end_spots_of_last, Printed, Outcome, IsAllowed, IsAmong, Performs}
 use Rattle.ipmi_commands.specs.Plan as plan
 use Rattle.ipmi_bus.proofs.InventoryLemmas.{digits_most}
 use Rattle.ipmi_commands.proofs.ItemLemmas.{none_printed, no_text, Carried, allowed_carried}
 use Rattle.ipmi_commands.proofs.ListingLemmas.{between, counts_since, stopped_otherwise}
-use Rattle.ipmi_commands.proofs.PageLemmas.{done}
 use Rattle.ipmi_commands.proofs.PerformLemmas.{same_printed}
 
 -- ---- a span by a cursor of its own
@@ -54,8 +53,7 @@ listing_after k = record { skip = Some k; most = None }
 
 -- what comes first has these spots
 spots_at-first : (spots : List Spot) (items : List Item) (ends : List Spot) → spots_at (with_first_spots spots items) (end_spots_of_last spots items ends) ≡ spots
-spots_at-first spots [] ends = refl
-spots_at-first spots (item ∷ items) ends = refl
+spots_at-first spots items ends = grind arith
 
 module _ (n : ℕ) (store : Store) where
   abbrev t : Task
@@ -190,12 +188,11 @@ module _ (n : ℕ) (store : Store) where
       by_end e _ none same is = (same_printed t store old new same, is)
 
 second_walk_bound-some : (bound : ℕ) (rows : List Row) → 0 < length rows → second_walk_bound bound rows ≡ bound
-second_walk_bound-some bound [] some = absurd (omega (arith, some))
-second_walk_bound-some bound (row ∷ rows) some = refl
+second_walk_bound-some bound rows some = grind arith
 
 -- what ends by Done is done
 done_there : (result : Stop) (outcome : Outcome) → IsOutcome result outcome → outcome ≡ plan.Finished (WalkEnds Done) → result ≡ Stop.Done
-done_there result outcome is ends = (elim (is_done result) as (λ b. is_done result ≡ b → result ≡ Stop.Done) [ true ↦ λ e. done result e | false ↦ λ e. absurd (stopped_otherwise result outcome e is ends) ]) refl
+done_there result outcome is ends = grind (arith, stopped_otherwise)
 
 module _ (n : ℕ) (start : Place) (tries : ℕ) where
   abbrev of_last : Request
@@ -226,11 +223,10 @@ module _ (n : ℕ) (start : Place) (tries : ℕ) where
 
     -- along the walk: it is done, nothing was printed, and so many entries were counted
     counts_all : (walk : List Row) (end : WalkEnd) → SpanAlong of_last s.store all_counted walk end (change s s' old mid) lists.outcome counted → (end ≡ Done) × (mid ≡ old) × (counted.count ≡ length walk)
-    counts_all walk end along = let leaves = rw finished at along.leaves in (by_end end leaves.1, quiet n s.store start walk old mid leaves.0, along.count is_done_)
-      where
-        by_end : (e : WalkEnd) → WalkEnds Done ≡ run_end of_last.task [] e → e ≡ Done
-        by_end Done is = refl
-        by_end _ is = cc is
+    counts_all walk end along =
+        let leaves = rw finished at along.leaves in
+        let ends = leaves.1 in
+        let at_end : end ≡ Done = grind arith in (at_end, quiet n s.store start walk old mid leaves.0, along.count is_done_)
 
     abbrev SecondAlong : Store → Type 0
     SecondAlong store = OnWalk of_last store (λ walk end. SpanAlong of_last store (listing_after (counted.count - n)) walk end (change s' s'' mid new) second.outcome listed)

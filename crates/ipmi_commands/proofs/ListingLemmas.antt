@@ -1,9 +1,10 @@
 -- A listing, one step of its cursor after another, and the piece of each record.
-use Rattle.std.proofs.Common.{◌≡◌, ◌≢◌, ◌⊎◌, inl, inr, ℕ, zero, suc, ◌+◌, ◌-◌, ◌<◌, ◌≤◌, nat_le, true, false, IsTrue, Option, None, Some, Result, Ok, Err, List, [], ◌∷◌, length, take, drop, refl, sym, ap, ◌∙◌, arith, take_all, length-drop, length-take, length-take-le, ◌++◌, Bool}
+use Rattle.std.proofs.Common.{◌≡◌, ◌≢◌, ◌⊎◌, inl, inr, ℕ, ◌+◌, ◌-◌, ◌<◌, ◌≤◌, true, false, IsTrue, Option, None, Some, Result, Ok, Err, List, [], ◌∷◌, length, take, drop, refl, sym, ap, ◌∙◌, arith, take_all, length-drop, length-take, length-take-le, ◌++◌, Bool}
+use Rattle.std.proofs.lemmas.Bool.Decides.{nat_tests}
 use Rattle.std.proofs.lemmas.List.{drop_all}
 use Rattle.std.specs.FinSet as set
-use Rattle.ipmi_commands.specs.Below.{step_call_bound, digits, Shelf, Place, First, End, Ended, Cycle, Missing, Refused, GaveUp, Stalled, Malformed, KeepsReservations, Row, first_row, look, len_of, Store, rows_of, IsWalk, WalkEnd, Done, CycleAt, MissingAt, EndsBy, place_after_rows, Seen, IsHonest, StaysHonest, current, stays_refl, stays_trans, CursorState, StandsAt, WalkStep, MayFail, IsStep, StepLeaves, FailsAt, AsksNothing, CursorHoldsCurrent, asked_at, HandsOut, WithinTries, Task, TakesPart, FruEnded, shelf_of}
-use Rattle.ipmi_commands.specs.Prelude.{IsStopped, Stop, Span, IsWithin, is_reached, passing, shown_rows, span_items, span_plan, left_rows, left_plan, item_in, subject_in, spots_in, stop_at_end, IsOutcome, IsUnrefused, calls_for, calls_at_spots, AsksAt, FindsText, FindsNone, MayStopAt, HasListed, OnEachWalk, GoesAlong, ListsHonest, IsListing, Course, course, first_rows, first_end, Item, IsItemText, Spot, AtRecord, RunEnd, WalkEnds, run_end, Printed, Outcome, IsAllowed, CountsSo, HasFreshTroubles, IsFine, IsAmong, spots_at, end_spots, spots_after, request}
+use Rattle.ipmi_commands.specs.Below.{step_call_bound, digits, Shelf, Place, First, End, Ended, Cycle, Missing, Refused, GaveUp, Stalled, Malformed, KeepsReservations, Row, first_row, look, len_of, Store, rows_of, IsWalk, WalkEnd, Done, CycleAt, MissingAt, EndsBy, place_after_rows, Seen, IsHonest, StaysHonest, current, stays_refl, stays_trans, CursorState, StandsAt, WalkStep, MayFail, IsStep, StepLeaves, FailsAt, AsksNothing, CursorHoldsCurrent, asked_at, HandsOut, WithinTries, Task, TakesPart, shelf_of}
+use Rattle.ipmi_commands.specs.Prelude.{IsStopped, Stop, Span, IsWithin, is_reached, passing, shown_rows, span_items, span_plan, left_rows, left_plan, item_in, subject_in, spots_in, stop_at_end, IsOutcome, IsUnrefused, calls_for, calls_at_spots, AsksAt, FindsText, FindsNone, MayStopAt, HasListed, OnEachWalk, GoesAlong, ListsHonest, IsListing, Course, course, first_rows, first_end, Item, IsItemText, Spot, AtRecord, RunEnd, WalkEnds, run_end, Printed, Outcome, IsAllowed, CountsSo, IsFine, IsAmong, spots_at, end_spots, spots_after, request}
 use Rattle.ipmi_commands.specs.Plan as plan
 use Rattle.ipmi_commands.proofs.CallLemmas.{IsBelow, digits_some, len-next_ids, next_calls, first_row-first_rows}
 use Rattle.ipmi_commands.proofs.ItemLemmas.{next_one, span_items-nil, passing-none, left_items-next, asked_first, none_printed, one_printed, first_cut, after_items, stops_after, leaves_joined, end_spot}
@@ -13,44 +14,35 @@ use Rattle.ipmi_commands.proofs.NameLemmas.{Wrote, done_by, done_by-wrote, end_i
 
 -- as many were listed as are wanted
 at_limit : (most : Option ℕ) (count : ℕ) → is_reached most count ≡ true → most ≡ Some count
-at_limit None count reached = cc reached
-at_limit (Some n) count reached = let same : n ≡ count = search arith in ap Some same
+at_limit most count reached = grind (arith, nat_tests)
 
 -- otherwise one more is wanted
 one_wanted : (most : Option ℕ) (count : ℕ) → IsWithin most count → is_reached most count ≡ false → IsBelow most count
-one_wanted None count within more = tt
-one_wanted (Some n) count within more = let below : count < n = search arith in below
+one_wanted most count within more = grind (arith, nat_tests)
 
 pub within_more : (most : Option ℕ) (count : ℕ) → IsWithin most count → is_reached most count ≡ false → IsWithin most (count + 1)
-within_more None count within more = tt
-within_more (Some n) count within more = let below : count < n = search arith in omega (arith, below)
+within_more most count within more = grind (arith, nat_tests)
 
 -- all rows are wanted where more are wanted than there are
 first_rows-all : (most : Option ℕ) (walk : List Row) → IsBelow most (length walk) → first_rows most walk ≡ walk
-first_rows-all None walk below = refl
-first_rows-all (Some n) walk below = take_all n walk (omega (arith, below))
+first_rows-all most walk below = grind (arith, take_all)
 
 first_end-all : (most : Option ℕ) (walk : List Row) (end : WalkEnd) → IsBelow most (length walk) → first_end most walk end ≡ end
-first_end-all None walk end below = refl
-first_end-all (Some n) walk end below = let e : nat_le n (length walk) ≡ false = search arith in rw e refl
+first_end-all most walk end below = grind (arith, nat_tests)
 
 -- and the end is none where no more are wanted
 pub first_end-none : (count : ℕ) (walk : List Row) (end : WalkEnd) → count ≤ length walk → first_end (Some count) walk end ≡ Done
-first_end-none count walk end within = let e : nat_le count (length walk) ≡ true = search arith in rw e refl
+first_end-none count walk end within = grind (arith, nat_tests)
 
 -- no row is left where no more are wanted
 none_left : (most : Option ℕ) (k : ℕ) (walk : List Row) → IsBelow most k → drop k (first_rows most walk) ≡ [] → length walk ≤ k
-none_left None k walk below none = omega (arith, length-drop k walk, ap length none)
-none_left (Some n) k walk below none = omega (arith, below, length-drop k (take n walk), length-take n walk, ap length none)
+none_left most k walk below none = grind (arith, length-drop, length-take, ap length none)
 
 -- ---- how it stopped
 
 -- one that is not done did not stop by that
 pub stopped_otherwise : (result : Stop) (outcome : Outcome) → IsStopped result → IsOutcome result outcome → outcome ≡ plan.Finished (WalkEnds Done) → ⊥
-stopped_otherwise Stop.Done outcome stopped is done = cc stopped
-stopped_otherwise (Stop.Inventory id FruEnded.Stalled) outcome stopped is done = is
-stopped_otherwise (Stop.Ended (Stalled n)) outcome stopped is done = is
-stopped_otherwise _ outcome stopped is done = first_of (cc, search)
+stopped_otherwise result outcome stopped is done = grind arith
 
 -- ---- what was counted
 
@@ -59,28 +51,20 @@ unrefused_more tries s s' s'' before step = record { refusals = step.refusals �
 
 -- where no store is added in all, none is added in either part
 pub between : (s s' s'' : Seen) → StaysHonest s s' → StaysHonest s' s'' → s''.stores_added ≡ s.stores_added → (s'.stores_added ≡ s.stores_added) × (s''.stores_added ≡ s'.stores_added)
-between s s' s'' before later same = (omega (arith, before.store.grows, later.store.grows, same), omega (arith, before.store.grows, later.store.grows, same))
+between s s' s'' before later same = omega (arith, before.store.grows, later.store.grows, same)
 
 -- what an outcome counts, it counts since before
 module _ (tries : ℕ) (s s' s'' : Seen) (later : s''.stores_added ≡ s.stores_added → s''.stores_added ≡ s'.stores_added) where
-  fresh_since : (spot : Spot) → HasFreshTroubles tries s' s'' spot → HasFreshTroubles tries s s'' spot
-  fresh_since (AtRecord n) fresh = fresh
-  fresh_since (plan.AtInventory id) fresh = (fresh.0, λ same. fresh.1 (later same))
-
   pub counts_since : (outcome : Outcome) → IsUnrefused s s' → CountsSo tries s' s'' outcome → CountsSo tries s s'' outcome
-  counts_since (plan.GaveUp spot) before counts = (counts.0 ∙ before.refusals, omega (arith, before.troubles, counts.1), fresh_since spot counts.2)
-  counts_since (plan.Refused spot code) before counts = (counts.0 ∙ rw before.refusals refl, counts.1)
-  counts_since _ before counts = counts ∙ before.refusals
+  counts_since outcome before counts = grind arith
 
 -- a step that handed out a record asked for it
 asks_something : (now next : CursorState) (row : Row) → StepLeaves now next (Ok (Some row)) → AsksNothing now → ⊥
-asks_something now next row leaves (inl at_end) = leaves.1.not_at_end at_end
-asks_something now next row leaves (inr cycle) = let closed = rw leaves.0 at cycle in cc closed
+asks_something now next row leaves asks = grind arith
 
 -- the place at which a step failed is on the walk
 on_walk : (rows : List Row) (start now there : Place) → (now ≡ there) ⊎ ((now ≡ End) × (start ≡ First) × (first_row rows ≡ None)) → now ≢ End → now ≡ there
-on_walk rows start now there (inl same) not_end = same
-on_walk rows start now there (inr at_end) not_end = absurd (not_end at_end.0)
+on_walk rows start now there at not_end = grind arith
 
 current-kept : (shelf : Shelf) (s s' : Seen) → KeepsReservations s s' → current shelf s' ≡ current shelf s
 current-kept shelf s s' keeps = grind arith
@@ -285,15 +269,11 @@ module _ (t : Task) (tries : ℕ) (span : Span) (count : ℕ) (begun now : Curso
 
 -- what is asked for because of a row is within what its task may ask for
 asked_within : (skip : Option ℕ) (tries : ℕ) (t : Task) (store : Store) (row : Row) → calls_at_spots tries store (spots_in skip t row) ≤ calls_at_spots tries store (spots_after t row)
-asked_within None tries t store row = omega arith
-asked_within (Some zero) tries t store row = omega arith
-asked_within (Some (suc n)) tries t store row = omega arith
+asked_within skip tries t store row = grind arith
 
 -- a spot of what comes later
 may_later : (first : Spot) (spots : List Spot) (outcome : Outcome) → MayStopAt spots outcome → MayStopAt (first ∷ spots) outcome
-may_later first spots (plan.GaveUp spot) may = inr may
-may_later first spots (plan.Refused spot code) may = inr may
-may_later first spots _ may = may
+may_later first spots outcome may = grind arith
 
 module _ (t : Task) (tries : ℕ) (span : Span) (count : ℕ) (begun next : CursorState) (s s' s'' : Seen) (old new : List ℕ) (row : Row) (some : 0 < next.part) (taken : Taken t tries span count row (course begun next s s' old new)) where
   -- the spots of the row, and its text

@@ -1,8 +1,7 @@
 -- Whether a record of a name was found, by whether anything was written.
-use Rattle.std.proofs.Common.{◌≡◌, ℕ, zero, suc, ◌<◌, ◌==◌, ◌||◌, not, Bool, true, false, if◌then◌else◌, Option, None, Some, Result, Ok, Err, List, [], ◌∷◌, ◌++◌, length, refl, sym, ap, ◌∙◌, append-nil, arith, length-append}
+use Rattle.std.proofs.Common.{◌≡◌, ℕ, zero, suc, ◌<◌, ◌==◌, ◌||◌, not, Bool, true, false, if◌then◌else◌, Option, None, Some, Result, List, [], ◌∷◌, ◌++◌, length, refl, ap, ◌∙◌, append-nil, arith, length-append}
 use Rattle.ipmi_commands.specs.Below.{Place, Row, Store, Done, place_after, SdrFault, SdrView, sdr_view_of, IsSdrBlock, Task}
-use Rattle.ipmi_records.specs.Sdr.{name_of}
-use Rattle.ipmi_commands.specs.Prelude.{shown_rows, span_items, stop_at_end, IsOutcome, IfChosen, IsBlockOfName, is_name, reading_for, AreTexts, Printed, RunEnd, WalkEnds, NoName, Finished, done_end, view_has_name, some_has_name}
+use Rattle.ipmi_commands.specs.Prelude.{shown_rows, span_items, stop_at_end, IsOutcome, IfChosen, IsBlockOfName, reading_for, AreTexts, Printed, RunEnd, WalkEnds, NoName, Finished, done_end, view_has_name, some_has_name}
 
 -- ---- whether anything was written
 
@@ -18,10 +17,7 @@ wrote_more false old new more (b ∷ text) has is =
 
 -- what was written before tells the same of all that is there
 same_wrote : (a b : Bool) (old text new : List ℕ) → Wrote a old new → Wrote b [] text → new ≡ old ++ text → a ≡ b
-same_wrote true true old text new one two is = refl
-same_wrote true false old text new one two is = let same : new ≡ old = is ∙ rw two (append-nil old) in absurd (omega (arith, one, ap length same))
-same_wrote false true old text new one two is = absurd (omega (arith, two, length-append old text, ap length (sym is ∙ one)))
-same_wrote false false old text new one two is = refl
+same_wrote a b old text new one two is = grind (arith, length-append, ap length is)
 
 -- ---- the end that is told from it
 
@@ -30,9 +26,7 @@ done_by (Task.Get name) wrote = if wrote then WalkEnds Done else NoName
 done_by _ wrote = WalkEnds Done
 
 pub end_is : (t : Task) (wrote : Bool) → IsOutcome (stop_at_end t wrote) (Finished (done_by t wrote))
-end_is (Task.Get name) true = refl
-end_is (Task.Get name) false = refl
-end_is _ wrote = refl
+end_is t wrote = grind arith
 
 -- ---- texts of records with a name
 
@@ -43,13 +37,11 @@ module _ (name : List ℕ) (store : Store) where
   chosen false id view text is = is
 
   block_wrote : (id : ℕ) (view : Result SdrView SdrFault) (text : List ℕ) → IsBlockOfName name store id view text → Wrote (view_has_name name view) [] text
-  block_wrote id (Ok view) text is = chosen (is_name name (name_of view)) id view text is
-  block_wrote id (Err fault) text is = is
+  block_wrote id view text is = grind (arith, chosen)
 
   -- of two texts
   both_wrote : (a b : Bool) (first rest : List ℕ) → Wrote a [] first → Wrote b [] rest → Wrote (a || b) [] (first ++ rest)
-  both_wrote true b first rest one two = omega (arith, one, length-append first rest)
-  both_wrote false b first rest one two = rw one two
+  both_wrote a b first rest one two = grind (arith, length-append)
 
   -- something is printed where a row that is not passed has the name
   name_wrote : (skip : Option ℕ) (start : Place) (rows : List Row) (text : List ℕ) → AreTexts (Task.Get name) store (span_items skip (Task.Get name) start rows) text → Wrote (some_has_name name (shown_rows skip rows)) [] text
