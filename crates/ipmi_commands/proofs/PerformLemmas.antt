@@ -5,7 +5,6 @@ use Rattle.ipmi_commands.specs.Prelude.{Stop, is_done, first_plan, AsksAt, IsOut
 use Rattle.ipmi_commands.specs.Plan as plan
 use Rattle.ipmi_commands.proofs.ItemLemmas.{none_printed, one_printed, first_cut, after_items, leaves_joined}
 use Rattle.ipmi_commands.proofs.ListingLemmas.{counts_since}
-use Rattle.ipmi_commands.proofs.PageLemmas.{done}
 
 -- nothing was printed
 pub same_printed : (t : Task) (store : Store) (old new : List ℕ) → new ≡ old → Printed t store [] old new
@@ -87,18 +86,14 @@ pub one_text_performs : (r : Request) (item : Item) (c : Change) (found : Result
     → ((store : Store) (walk : List Row) (end : WalkEnd) → plan_of r.task store r.start walk end ≡ record { items = item ∷ []; end = WalkEnds Done; end_spots = [] })
     → ((store : Store) (walk : List Row) (end : WalkEnd) → calls_at_spots r.tries store item.spots ≤ run_call_bound r.task store r.tries walk end)
     → FindsItem r.task item r.tries c.seen c.seen' found → WritesFound found c.old c.new result → Performs r c result
-one_text_performs r item c found result plan_is bound_is finds writes = by_case (is_done result) refl
-  where
-    by_case : (b : Bool) → is_done result ≡ b → Performs r c result
-    by_case false stopped =
-        let stops = text_stops r.task item r.tries c found result finds writes stopped in
-        asked_performs r item.spots c result stops.outcome (bound_is c.seen.store) stops.asks stops.outcome_is stops.counts stops.plain
-        (λ same walk end. subst (λ (p : Plan). IsAllowed r.task c.seen.store p c.old c.new stops.outcome) (sym (plan_is c.seen.store walk end)) (stops.allowed [] (WalkEnds Done) [] same))
-    by_case true is =
-        let is_done_ = done result is in
-        let written = text_written r.task item r.tries c found finds (subst (WritesFound found c.old c.new) is_done_ writes) in
-        asked_performs r item.spots c result (plan.Finished (WalkEnds Done)) (bound_is c.seen.store) written.asks (subst (λ (x : Stop). IsOutcome x (plan.Finished (WalkEnds Done))) (sym is_done_) refl) written.refusals (λ p. tt)
-        (λ same walk end. subst (λ (p : Plan). IsAllowed r.task c.seen.store p c.old c.new (plan.Finished (WalkEnds Done))) (sym (plan_is c.seen.store walk end)) (written.printed same, refl))
+one_text_performs r item c found Stop.Done plan_is bound_is finds writes =
+    let written = text_written r.task item r.tries c found finds writes in
+    asked_performs r item.spots c Stop.Done (plan.Finished (WalkEnds Done)) (bound_is c.seen.store) written.asks refl written.refusals (λ p. tt)
+    (λ same walk end. subst (λ (p : Plan). IsAllowed r.task c.seen.store p c.old c.new (plan.Finished (WalkEnds Done))) (sym (plan_is c.seen.store walk end)) (written.printed same, refl))
+one_text_performs r item c found result plan_is bound_is finds writes =
+    let stops = text_stops r.task item r.tries c found result finds writes refl in
+    asked_performs r item.spots c result stops.outcome (bound_is c.seen.store) stops.asks stops.outcome_is stops.counts stops.plain
+    (λ same walk end. subst (λ (p : Plan). IsAllowed r.task c.seen.store p c.old c.new stops.outcome) (sym (plan_is c.seen.store walk end)) (stops.allowed [] (WalkEnds Done) [] same))
 
 -- ---- the info of a shelf
 

@@ -1,5 +1,5 @@
 -- The bytes before `done` and those taken then are the bytes before the new `done`.
-use Rattle.std.proofs.Common.{ℕ, arith, Option, List, [], ◌+◌, ◌<◌, ◌≡◌, append-nil, length, take, ap, ◌∙◌, option_map}
+use Rattle.std.proofs.Common.{ℕ, arith, List, [], ◌+◌, ◌<◌, ◌≡◌, append-nil, length, take, ap, ◌∙◌, option_map}
 use Rattle.std.proofs.lemmas.Grind.{common_steps}
 use Rattle.std.proofs.lemmas.Result.{MatchResult-from_err}
 use Rattle.std.specs.Io.KnownBytes.{Appends}
