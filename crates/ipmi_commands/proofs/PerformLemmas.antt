@@ -1,5 +1,5 @@
 -- A task of one text, and all inventories: a text and then a listing.
-use Rattle.std.proofs.Common.{◌≡◌, ℕ, ◌<◌, ◌≤◌, IsTrue, Bool, true, false, Option, None, Some, Result, Ok, Err, String, string_bytes, Global, List, [], ◌∷◌, ◌++◌, length, refl, sym, ap, subst, arith}
+use Rattle.std.proofs.Common.{◌≡◌, ℕ, ◌<◌, ◌≤◌, IsTrue, false, Option, None, Some, Result, Ok, Err, String, string_bytes, Global, List, [], ◌∷◌, ◌++◌, length, refl, sym, subst, arith}
 use Rattle.ipmi_commands.specs.Below.{Shelf, Place, Seen, stays_trans, Row, Store, info_of, WalkEnd, Done, Task, TakesPart}
 use Rattle.ipmi_commands.specs.Prelude.{Stop, is_done, first_plan, AsksAt, IsOutcome, Finds, FindsInfo, IsBlockOfInfo, MayStopAt, calls_at_spots, run_call_bound, IsPage, PageAlong, Request, request, Change, change, OnWalk, Plan, Item, OfInfo, Spot, AtRecord, AtInventory, RunEnd, WalkEnds, run_end, row_items, end_spots, IsItemText, Printed, Outcome, IsAllowed, CountsSo, IsFine, spots_at, inventory_item, info_plan, plan_of, Performs, WritesFound}
 use Rattle.ipmi_commands.specs.Plan as plan
@@ -143,9 +143,7 @@ module _ (start : Place) (tries : ℕ) where
   ends_as rows _ = refl
 
   after_first : (store : Store) (walk : List Row) (end : WalkEnd) → after_items (inventory_item 0 ∷ []) (first_plan None (Task.Fru None) start walk end) ≡ plan_of (Task.Fru None) store start walk end
-  after_first store walk end =
-      let of_end : RunEnd → Plan = λ e. record { items = inventory_item 0 ∷ row_items (Task.Fru None) start walk; end = e; end_spots = end_spots start walk end } in
-      ap of_end (ends_as walk end)
+  after_first store walk end = rw (ends_as walk end) refl
 
   -- after it the locators are gone along
   pub rest_performs : (s s' s'' : Seen) (old text new : List ℕ) (next : Place) (result : Stop) → TextWritten (Task.Fru None) (inventory_item 0) tries (change s s' old text) → IsPage of_all None next (change s' s'' text new) result → Performs of_all (change s s'' old new) result
@@ -154,7 +152,8 @@ module _ (start : Place) (tries : ℕ) where
       let high = page.stays.store.grows in
       let first : s''.stores_added ≡ s.stores_added → s'.stores_added ≡ s.stores_added = λ same. omega (arith, same, low, high) in
       let along : s''.stores_added ≡ s.stores_added → OnWalk of_all s.store (λ walk end. PageAlong of_all s.store None walk end next (change s' s'' text new) page.outcome result) =
-      λ same. subst (λ (x : Store). OnWalk of_all x (λ walk end. PageAlong of_all x None walk end next (change s' s'' text new) page.outcome result)) (written.asks.stays.store.stays (first same)) (page.along (omega (arith, same, low, high))) in
+      λ same. subst (λ (x : Store). OnWalk of_all x (λ walk end. PageAlong of_all x None walk end next (change s' s'' text new) page.outcome result)) (written.asks.stays.store.stays (first same))
+      (page.along (omega (arith, same, low, high))) in
       record {
         outcome = page.outcome;
         outcome_is = page.outcome_is;

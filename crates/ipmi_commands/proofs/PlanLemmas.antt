@@ -52,7 +52,8 @@ listing_performs r next c st lists page =
       stays = page.stays;
       counts = page.counts;
       plain = page.plain;
-      allowed = λ same walk end w ends. subst (λ (p : Plan). IsAllowed r.task c.seen.store p c.old c.new page.outcome) (sym (once.plan_is c.seen.store r.start walk end)) (page.along same walk end w ends).leaves;
+      allowed = λ same walk end w ends.
+          subst (λ (p : Plan). IsAllowed r.task c.seen.store p c.old c.new page.outcome) (sym (once.plan_is c.seen.store r.start walk end)) (page.along same walk end w ends).leaves;
       calls = λ same walk end w ends. omega (arith, once.bound_is c.seen.store r.tries walk end, (page.along same walk end w ends).calls);
     }
 
