@@ -1,11 +1,11 @@
 -- What `clap`'s clauses say of the command line.
-use Rattle.std.proofs.Common.{◌≡◌, ◌∙◌, true, false, List, [], ◌∷◌, ap, ap₂, codes, sym, refl, map, Option, None, Some, option_map, unwrap_or, Bor}
-use Rattle.clap.specs.Words.{App, IsAmong, Kinds, Row, Text, fault_of, is_simple, is_simple_and_free, matched_of, matches_of, raw_values, rows_of}
+use Rattle.std.proofs.Common.{◌≡◌, ◌∙◌, true, false, List, [], ◌∷◌, ap, codes, refl, map, Option, None, Some, option_map, unwrap_or, Bor}
+use Rattle.clap.specs.Words.{IsAmong, Kinds, Text, is_simple, is_simple_and_free, matched_of, raw_values, rows_of}
 use Rattle.clap.specs.declared.parser.matches.Found.{Found}
 use Rattle.clap.proofs.WalkLemmas.{raw_values-rows}
 use Rattle.clap.proofs.OnLiterals.{clap_on_literals}
 use Rattle.clap.specs.declared.error.kind.ErrorKind.{ErrorKind}
-use Rattle.ipmi_command_line.specs.Arguments.{command_line, free_words, is_empty, is_taken, rows_of_words}
+use Rattle.ipmi_command_line.specs.Arguments.{command_line, free_words, is_empty}
 
 pub is_simple-command_line : is_simple command_line ≡ true
 unfolding clap_on_literals

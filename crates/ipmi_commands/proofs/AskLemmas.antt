@@ -1,6 +1,6 @@
 -- What the reading that is asked for on account of a record leaves.
-use Rattle.std.proofs.Common.{◌≡◌, inl, ℕ, ◌+◌, ◌≤◌, ◌==◌, Bool, true, false, codes, Option, None, Some, Result, Ok, Err, List, [], ◌∷◌, refl, sym, ap, subst, ◌∙◌, arith, IsErrAnd}
-use Rattle.ipmi_commands.specs.Below.{Ended, Refused, GaveUp, FruEnded, EndsUnder, ReadsValue, ValueIs, ReadsInventory, InventoryCounts, InventoryIs, IsRefusedInventory, IsRefusedOverChange, IsFruText, Seen, IsHonest, stays_refl, Store, inventory_of}
+use Rattle.std.proofs.Common.{◌≡◌, inl, ℕ, ◌+◌, ◌≤◌, ◌==◌, Bool, true, false, codes, Option, None, Result, Ok, Err, List, [], ◌∷◌, refl, sym, ap, subst, ◌∙◌, arith, IsErrAnd}
+use Rattle.ipmi_commands.specs.Below.{Ended, Refused, GaveUp, FruEnded, EndsUnder, ReadsValue, ValueIs, ReadsInventory, InventoryCounts, IsRefusedInventory, IsRefusedOverChange, IsFruText, Seen, IsHonest, stays_refl, Store, inventory_of}
 use Rattle.ipmi_commands.specs.Prelude.{Stop, is_absent, EndsAmong, AsksAt, FindsNone, FindsText, calls_at_spots, IsInventoryText, Spot, AtRecord, AtInventory}
 use Rattle.ipmi_commands.specs.Plan as plan
 

@@ -1,9 +1,9 @@
 -- Pages of a listing.
-use Rattle.std.proofs.Common.{◌≡◌, inl, inr, ℕ, zero, suc, ◌+◌, ◌*◌, ◌<◌, ◌≤◌, ◌==◌, nat_le, Bool, true, false, cond, Option, None, Some, Ok, Err, List, [], ◌∷◌, length, take, drop, get_or, refl, sym, ap, subst, ◌∙◌, arith, take_all, length-take}
+use Rattle.std.proofs.Common.{◌≡◌, inl, inr, ℕ, zero, suc, ◌+◌, ◌*◌, ◌<◌, ◌≤◌, ◌==◌, nat_le, true, false, Option, None, Some, Ok, Err, List, [], ◌∷◌, length, take, drop, get_or, refl, sym, ap, subst, ◌∙◌, arith, take_all, length-take}
 use Rattle.std.proofs.Math.Seq.{take-nil}
 use Rattle.std.proofs.lemmas.List.{take_min, at_drop_more}
-use Rattle.ipmi_commands.specs.Below.{Place, First, Id, End, Cycle, Row, Store, rows_of, row_at, IsWalk, WalkEnd, Done, CycleAt, MissingAt, EndsBy, place_after_rows, Seen, IsHonest, stays_refl, CursorState, start_of, StandsAt, Task, shelf_of}
-use Rattle.ipmi_commands.specs.Prelude.{Stop, Listed, is_done, is_reached, stop_at_end, first_plan, up_to, most_for_one, most_on_walk, IsOutcome, IsListing, ListingCalls, course, Request, OnWalk, Outcome, IsAllowed, CountsSo, IsFine, RunEnd, first_rows, first_end, WalkEnds, row_items, run_end, done_end, Printed, request, change, start_at, GoesOn, PageAlong, IsPage, IsStopped, ArePages, pages_made}
+use Rattle.ipmi_commands.specs.Below.{Place, First, Id, End, Cycle, Row, rows_of, row_at, IsWalk, WalkEnd, Done, CycleAt, MissingAt, EndsBy, place_after_rows, Seen, IsHonest, stays_refl, CursorState, start_of, StandsAt, Task, shelf_of}
+use Rattle.ipmi_commands.specs.Prelude.{Stop, Listed, is_done, is_reached, stop_at_end, first_plan, up_to, most_for_one, most_on_walk, IsOutcome, IsListing, ListingCalls, course, Request, OnWalk, Outcome, IsAllowed, CountsSo, IsFine, RunEnd, first_rows, first_end, WalkEnds, row_items, run_end, done_end, request, change, start_at, GoesOn, IsPage, IsStopped, ArePages, pages_made}
 use Rattle.ipmi_commands.specs.Plan as plan
 use Rattle.ipmi_bus.proofs.InventoryLemmas.{digits_most}
 use Rattle.ipmi_commands.proofs.ItemLemmas.{none_printed}

@@ -1,9 +1,9 @@
 -- Pages over a chain that does not end by a cycle are one listing.
-use Rattle.std.proofs.Common.{◌≡◌, inl, inr, ℕ, ◌+◌, ◌*◌, ◌<◌, ◌≤◌, ◌==◌, nat_le, Bool, true, false, cond, IsTrue, None, Some, List, [], ◌∷◌, ◌++◌, length, take, drop, refl, sym, ap, subst, ◌∙◌, append_assoc, append-nil, arith, ne_eqb, take_all, take-append-drop}
+use Rattle.std.proofs.Common.{◌≡◌, inl, inr, ℕ, ◌+◌, ◌*◌, ◌<◌, ◌≤◌, ◌==◌, nat_le, Bool, true, false, IsTrue, None, Some, List, [], ◌∷◌, ◌++◌, length, take, drop, refl, sym, ap, subst, ◌∙◌, append_assoc, arith, ne_eqb, take_all, take-append-drop}
 use Rattle.std.proofs.lemmas.Bool.{or_parts}
 use Rattle.std.proofs.Math.Seq.{take-nil, drop-nil}
-use Rattle.ipmi_commands.specs.Below.{step_call_bound, Shelf, Place, First, Id, End, Row, IsShelf, first_row, Store, rows_of, store_shelf, row_at, IsWalk, TailIsWalk, WalkEnd, Done, CycleAt, MissingAt, EndsBy, EndsAfter, EndsEmpty, last_next, has_id, place_after, place_after_rows, Seen, IsHonest, StaysHonest, stays_trans, Task, is_listing, shelf_of}
-use Rattle.ipmi_commands.specs.Prelude.{Stop, calls_for, first_plan, IsOutcome, first_end, Plan, Item, Spot, RunEnd, WalkEnds, run_end, row_items, Printed, Outcome, IsAllowed, CountsSo, IsFine, IsAmong, StopsAt, spots_at, end_spots, Request, request, change, OnWalk, GoesOn, IsStopped, ArePages, pages_made, IsOpen}
+use Rattle.ipmi_commands.specs.Below.{step_call_bound, Shelf, Place, First, End, Row, IsShelf, Store, rows_of, store_shelf, IsWalk, TailIsWalk, WalkEnd, Done, CycleAt, MissingAt, EndsBy, EndsAfter, EndsEmpty, last_next, has_id, place_after, place_after_rows, Seen, IsHonest, StaysHonest, stays_trans, Task, is_listing, shelf_of}
+use Rattle.ipmi_commands.specs.Prelude.{Stop, calls_for, first_plan, IsOutcome, Plan, Item, Spot, RunEnd, WalkEnds, run_end, row_items, Printed, Outcome, IsAllowed, CountsSo, IsFine, IsAmong, StopsAt, spots_at, end_spots, Request, request, change, OnWalk, GoesOn, IsStopped, ArePages, pages_made, IsOpen}
 use Rattle.ipmi_commands.specs.Plan as plan
 use Rattle.ipmi_commands.proofs.CallLemmas.{calls_split}
 use Rattle.ipmi_commands.proofs.ListingLemmas.{counts_since, stopped_otherwise}
@@ -77,9 +77,6 @@ module _ (walk_tail : TailIsWalk) where
     abbrev left : List Item
     left = row_items t (place_after_rows start (take size walk)) (drop size walk)
 
-    items_are_of : row_items t start walk ≡ row_items t start (take size walk) ++ left
-    items_are_of = ap (row_items t start) (sym (take-append-drop size walk)) ∙ row_items-append t start (take size walk) (drop size walk)
-
     -- where the page stopped at its end no row is there, and it is that of all
     spot_of_end : (spot : Spot) (at : Place) (l : List Row) (e : WalkEnd) → EndsBy rows at l e → IsAmong (end_spots at l Done) spot → IsAmong (spots_at (row_items t (place_after_rows at (take size l)) (drop size l)) (end_spots at l e)) spot
     spot_of_end spot First [] Done ends among = rw (drop-nil size) among
@@ -96,7 +93,8 @@ module _ (walk_tail : TailIsWalk) where
       where
         by_size : (b : Bool) → nat_le size (length walk) ≡ b → IsAllowed t store (first_plan None t start walk end) old new outcome
         by_size true fits =
-            allowed_wide t store (first_plan (Some size) t start walk end) (first_plan None t start walk end) left items_are_of (λ spot rest among. spot_wide spot rest (rw fits at among)) old new outcome
+            let items : row_items t start walk ≡ row_items t start (take size walk) ++ left = cc (take-append-drop size walk, row_items-append t start (take size walk) (drop size walk)) in
+            allowed_wide t store (first_plan (Some size) t start walk end) (first_plan None t start walk end) left items (λ spot rest among. spot_wide spot rest (rw fits at among)) old new outcome
             (λ e is done. absurd (stopped_otherwise result outcome stopped is_outcome (is ∙ ap plan.Finished (done.1 ∙ rw fits (run_end-plain t listing (take size walk) Done))))) allowed
         by_size false past = subst (λ (q : Plan). IsAllowed t store q old new outcome) (is_whole past) allowed
 

@@ -1,11 +1,10 @@
 -- A task of one text, and all inventories: a text and then a listing.
-use Rattle.std.proofs.Common.{◌≡◌, ℕ, ◌<◌, ◌≤◌, IsTrue, Bool, true, false, Option, None, Some, Result, Ok, Err, String, string_bytes, Global, List, [], ◌∷◌, ◌++◌, length, refl, sym, ap, subst, arith}
+use Rattle.std.proofs.Common.{◌≡◌, ℕ, ◌<◌, ◌≤◌, IsTrue, false, Option, None, Some, Result, Ok, Err, String, string_bytes, Global, List, [], ◌∷◌, ◌++◌, length, refl, sym, subst, arith}
 use Rattle.ipmi_commands.specs.Below.{Shelf, Place, Seen, stays_trans, Row, Store, info_of, WalkEnd, Done, Task, TakesPart}
 use Rattle.ipmi_commands.specs.Prelude.{Stop, is_done, first_plan, AsksAt, IsOutcome, Finds, FindsInfo, IsBlockOfInfo, MayStopAt, calls_at_spots, run_call_bound, IsPage, PageAlong, Request, request, Change, change, OnWalk, Plan, Item, OfInfo, Spot, AtRecord, AtInventory, RunEnd, WalkEnds, run_end, row_items, end_spots, IsItemText, Printed, Outcome, IsAllowed, CountsSo, IsFine, spots_at, inventory_item, info_plan, plan_of, Performs, WritesFound}
 use Rattle.ipmi_commands.specs.Plan as plan
 use Rattle.ipmi_commands.proofs.ItemLemmas.{none_printed, one_printed, first_cut, after_items, leaves_joined}
 use Rattle.ipmi_commands.proofs.ListingLemmas.{counts_since}
-use Rattle.ipmi_commands.proofs.PageLemmas.{done}
 
 -- nothing was printed
 pub same_printed : (t : Task) (store : Store) (old new : List ℕ) → new ≡ old → Printed t store [] old new
@@ -87,18 +86,14 @@ pub one_text_performs : (r : Request) (item : Item) (c : Change) (found : Result
     → ((store : Store) (walk : List Row) (end : WalkEnd) → plan_of r.task store r.start walk end ≡ record { items = item ∷ []; end = WalkEnds Done; end_spots = [] })
     → ((store : Store) (walk : List Row) (end : WalkEnd) → calls_at_spots r.tries store item.spots ≤ run_call_bound r.task store r.tries walk end)
     → FindsItem r.task item r.tries c.seen c.seen' found → WritesFound found c.old c.new result → Performs r c result
-one_text_performs r item c found result plan_is bound_is finds writes = by_case (is_done result) refl
-  where
-    by_case : (b : Bool) → is_done result ≡ b → Performs r c result
-    by_case false stopped =
-        let stops = text_stops r.task item r.tries c found result finds writes stopped in
-        asked_performs r item.spots c result stops.outcome (bound_is c.seen.store) stops.asks stops.outcome_is stops.counts stops.plain
-        (λ same walk end. subst (λ (p : Plan). IsAllowed r.task c.seen.store p c.old c.new stops.outcome) (sym (plan_is c.seen.store walk end)) (stops.allowed [] (WalkEnds Done) [] same))
-    by_case true is =
-        let is_done_ = done result is in
-        let written = text_written r.task item r.tries c found finds (subst (WritesFound found c.old c.new) is_done_ writes) in
-        asked_performs r item.spots c result (plan.Finished (WalkEnds Done)) (bound_is c.seen.store) written.asks (subst (λ (x : Stop). IsOutcome x (plan.Finished (WalkEnds Done))) (sym is_done_) refl) written.refusals (λ p. tt)
-        (λ same walk end. subst (λ (p : Plan). IsAllowed r.task c.seen.store p c.old c.new (plan.Finished (WalkEnds Done))) (sym (plan_is c.seen.store walk end)) (written.printed same, refl))
+one_text_performs r item c found Stop.Done plan_is bound_is finds writes =
+    let written = text_written r.task item r.tries c found finds writes in
+    asked_performs r item.spots c Stop.Done (plan.Finished (WalkEnds Done)) (bound_is c.seen.store) written.asks refl written.refusals (λ p. tt)
+    (λ same walk end. subst (λ (p : Plan). IsAllowed r.task c.seen.store p c.old c.new (plan.Finished (WalkEnds Done))) (sym (plan_is c.seen.store walk end)) (written.printed same, refl))
+one_text_performs r item c found result plan_is bound_is finds writes =
+    let stops = text_stops r.task item r.tries c found result finds writes refl in
+    asked_performs r item.spots c result stops.outcome (bound_is c.seen.store) stops.asks stops.outcome_is stops.counts stops.plain
+    (λ same walk end. subst (λ (p : Plan). IsAllowed r.task c.seen.store p c.old c.new stops.outcome) (sym (plan_is c.seen.store walk end)) (stops.allowed [] (WalkEnds Done) [] same))
 
 -- ---- the info of a shelf
 
@@ -148,9 +143,7 @@ module _ (start : Place) (tries : ℕ) where
   ends_as rows _ = refl
 
   after_first : (store : Store) (walk : List Row) (end : WalkEnd) → after_items (inventory_item 0 ∷ []) (first_plan None (Task.Fru None) start walk end) ≡ plan_of (Task.Fru None) store start walk end
-  after_first store walk end =
-      let of_end : RunEnd → Plan = λ e. record { items = inventory_item 0 ∷ row_items (Task.Fru None) start walk; end = e; end_spots = end_spots start walk end } in
-      ap of_end (ends_as walk end)
+  after_first store walk end = rw (ends_as walk end) refl
 
   -- after it the locators are gone along
   pub rest_performs : (s s' s'' : Seen) (old text new : List ℕ) (next : Place) (result : Stop) → TextWritten (Task.Fru None) (inventory_item 0) tries (change s s' old text) → IsPage of_all None next (change s' s'' text new) result → Performs of_all (change s s'' old new) result
@@ -159,7 +152,8 @@ module _ (start : Place) (tries : ℕ) where
       let high = page.stays.store.grows in
       let first : s''.stores_added ≡ s.stores_added → s'.stores_added ≡ s.stores_added = λ same. omega (arith, same, low, high) in
       let along : s''.stores_added ≡ s.stores_added → OnWalk of_all s.store (λ walk end. PageAlong of_all s.store None walk end next (change s' s'' text new) page.outcome result) =
-      λ same. subst (λ (x : Store). OnWalk of_all x (λ walk end. PageAlong of_all x None walk end next (change s' s'' text new) page.outcome result)) (written.asks.stays.store.stays (first same)) (page.along (omega (arith, same, low, high))) in
+      λ same. subst (λ (x : Store). OnWalk of_all x (λ walk end. PageAlong of_all x None walk end next (change s' s'' text new) page.outcome result)) (written.asks.stays.store.stays (first same))
+      (page.along (omega (arith, same, low, high))) in
       record {
         outcome = page.outcome;
         outcome_is = page.outcome_is;

@@ -1,7 +1,7 @@
 -- A listing as a run by its plan.
-use Rattle.std.proofs.Common.{◌≡◌, ◌⊎◌, inl, inr, ℕ, ◌+◌, ◌≤◌, Bool, true, false, IsTrue, Option, None, Result, Ok, Err, List, [], refl, sym, ap, subst, ◌∙◌, arith}
+use Rattle.std.proofs.Common.{◌≡◌, ◌⊎◌, inl, inr, ℕ, Bool, true, false, IsTrue, None, Result, Ok, Err, List, [], refl, sym, subst, arith}
 use Rattle.ipmi_commands.specs.Below.{Place, FruEnded, Stalled, Malformed, Row, Store, TailIsWalk, WalkEnd, Done, Seen, IsHonest, StaysHonest, ImageFault, image_text_of, Count, Task, Image, OutOfMemory, is_listing, most_of, Received, ReceivesText}
-use Rattle.ipmi_commands.specs.Prelude.{Stop, first_plan, IsOutcome, walk_call_bound, most_on_walk, run_call_bound, most_calls, first_rows, Plan, WalkEnds, OfImage, Printed, plan_of, rewrite_plan, Outcome, IsAllowed, CountsSo, IsFine, Request, Change, request, change, IsPage, ArePages, Effect, effect, HasEnded, IsRun, IsPagedRun, status_of, stop_status, stop_text, outcome_text, lists_once, Performs, fault_status, WritesImage, IsRewriting, Says, AnswersTask}
+use Rattle.ipmi_commands.specs.Prelude.{Stop, first_plan, IsOutcome, walk_call_bound, most_on_walk, run_call_bound, most_calls, first_rows, Plan, WalkEnds, OfImage, plan_of, rewrite_plan, Outcome, IsAllowed, CountsSo, IsFine, Request, Change, change, IsPage, ArePages, Effect, effect, HasEnded, IsRun, IsPagedRun, status_of, stop_status, stop_text, outcome_text, lists_once, Performs, fault_status, WritesImage, IsRewriting, Says, AnswersTask}
 use Rattle.ipmi_commands.specs.Plan as plan
 use Rattle.ipmi_commands.proofs.ItemLemmas.{none_printed, one_printed, first_cut}
 use Rattle.ipmi_commands.proofs.PagesLaw.{pages_are_one}
@@ -52,7 +52,8 @@ listing_performs r next c st lists page =
       stays = page.stays;
       counts = page.counts;
       plain = page.plain;
-      allowed = λ same walk end w ends. subst (λ (p : Plan). IsAllowed r.task c.seen.store p c.old c.new page.outcome) (sym (once.plan_is c.seen.store r.start walk end)) (page.along same walk end w ends).leaves;
+      allowed = λ same walk end w ends.
+          subst (λ (p : Plan). IsAllowed r.task c.seen.store p c.old c.new page.outcome) (sym (once.plan_is c.seen.store r.start walk end)) (page.along same walk end w ends).leaves;
       calls = λ same walk end w ends. omega (arith, once.bound_is c.seen.store r.tries walk end, (page.along same walk end w ends).calls);
     }
 
@@ -141,8 +142,5 @@ pub not_answered : (rewrite : Bool) (r : Request) (fault : ImageFault) (read : R
     → (fault ≡ ImageFault.Memory) ⊎ (read ≡ Err fault) → Says said said' status (Image fault) (fault_status fault) → AnswersTask rewrite r read (effect old old said said') status
 not_answered rewrite r fault read old said said' status (inl memory) says =
     unread rewrite r read old said said' status (subst (λ (f : ImageFault). Says said said' status (Image f) (fault_status f)) memory says)
-not_answered rewrite r fault read old said said' status (inr is) says = subst (λ (x : Result Store ImageFault). AnswersTask rewrite r x (effect old old said said') status) (sym is) (failed rewrite)
-  where
-    failed : (b : Bool) → AnswersTask b r (Err fault) (effect old old said said') status
-    failed true = (refl, inl says)
-    failed false = (refl, inl says)
+not_answered true r fault read old said said' status (inr is) says = rw is (refl, inl says)
+not_answered false r fault read old said said' status (inr is) says = rw is (refl, inl says)

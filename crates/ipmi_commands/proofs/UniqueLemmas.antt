@@ -2,7 +2,7 @@
 use Rattle.std.proofs.Common.{◌≡◌, ℕ, ◌-◌, ◌==◌, not, Bool, true, false, cond, Option, None, Some, IfSome, Result, Ok, Err, List, [], ◌∷◌, ◌++◌, length, take, drop, refl, sym, subst, ◌∙◌, take-append-drop}
 use Rattle.ipmi_commands.specs.Below.{Shelf, Sdr, Sel, Place, Row, IsShelf, FoundIsRow, AreBytes, Reading, Store, IsStore, IsInfo, inventory_of, rows_of, store_shelf, AllOf, WalkExists, WalkEnd, Done, place_after, place_after_rows, IsFruText, SdrFault, SdrView, Event, OemTimed, OemPlain, Other, IsInfoBlock, fru_of, sdr_view_of, IsSdrBlock, entry_bytes, sel_view_of, SdrLineIsUnique, ExtendedLineIsUnique, SelLineIsUnique, SelBlockIsUnique, Kind, Count, Task, most_of, shelf_of}
 use Rattle.ipmi_records.specs.Sdr.{name_of}
-use Rattle.ipmi_commands.specs.Prelude.{Form, IfChosen, IsBlockOfName, IsDevicePiece, IsInventoryPiece, IsInventoryText, IsListed, IsListedOfKind, IsLocatorPiece, is_name, name_of_locator, reading_for, row_is_of_kind, Request, Subject, OfRow, OfInventory, OfInfo, Item, Spot, IsOfBytes, AreOfBytes, RunEnd, Finished, IsRowPiece, IsItemText, AreTexts, first_rows, last_rows, last_items, row_items, spots_of_walk, with_first_spots, info_plan, listing_plan, plan_of, AllowsAll}
+use Rattle.ipmi_commands.specs.Prelude.{Form, IfChosen, IsBlockOfName, IsDevicePiece, IsInventoryPiece, IsInventoryText, IsListed, IsListedOfKind, IsLocatorPiece, is_name, name_of_locator, reading_for, row_is_of_kind, Request, Subject, OfRow, OfInventory, OfInfo, Item, Spot, IsOfBytes, AreOfBytes, RunEnd, Finished, IsRowPiece, IsItemText, AreTexts, first_rows, last_rows, last_items, row_items, spots_of_walk, with_first_spots, info_plan, plan_of, AllowsAll}
 
 -- what the laws of blocks and of inventories say
 abbrev SdrBlockIsUnique : Type 0

@@ -14,7 +14,7 @@ pub use Rattle.ipmi_records.specs.declared.sel.SelView.TheVariants.{Event, OemPl
 pub use Rattle.ipmi_bus.specs.Bounds.{digits, fru_call_bound, step_call_bound}
 pub use Rattle.ipmi_bus.specs.CursorState.{CursorState, start_of}
 pub use Rattle.ipmi_bus.specs.Lent.{row_of_record}
-pub use Rattle.ipmi_bus.specs.Readers.{EndsUnder, inventory_len, InventoryCounts, InventoryIs, IsRefusedInventory, IsRefusedOverChange, KeepsReservations, ReadsInventory, ReadsValue, ValueIs}
+pub use Rattle.ipmi_bus.specs.Readers.{EndsUnder, inventory_len, InventoryCounts, IsRefusedInventory, IsRefusedOverChange, KeepsReservations, ReadsInventory, ReadsValue, ValueIs}
 pub use Rattle.ipmi_bus.specs.Seen.{current, IsHonest, Seen, stays_refl, stays_trans, StaysHonest}
 pub use Rattle.ipmi_bus.specs.Shelf.{first_row, FoundIsRow, IsShelf, largest_len, len_of, look, Row, whole_len}
 pub use Rattle.ipmi_bus.specs.Standing.{MayFail, StandsAt, WalkStep}

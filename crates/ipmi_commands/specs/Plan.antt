@@ -1,7 +1,7 @@
 -- What a command is to print over a store: its items in order, its end, and the spots at which a run may give up or be refused.
 -- Everywhere `old` and `new` are what the output holds before and after.
 use Rattle.std.specs.Prelude.{◌≡◌, ℕ, ◌-◌, ◌==◌, nat_le, ◌||◌, ◌+◌, ◌<◌, Bool, false, if◌then◌else◌, Option, Some, None, is_some, Result, Ok, Err, List, [], ◌∷◌, ◌++◌, length, take, drop, ◌⊎◌}
-use Rattle.ipmi_commands.specs.Below.{Place, First, Id, End, Row, AreBytes, asked_at, Store, info_of, rows_of, IsWalk, EndsBy, WalkEnd, Done, CycleAt, MissingAt, place_after, place_after_rows, Seen, image_text_of, IsInfoBlock, sel_view_of, IsSelLine, IsSelBlock, fru_call_bound, SdrFault, SdrView, Count, Kind, Task, most_of, shelf_of}
+use Rattle.ipmi_commands.specs.Below.{Place, First, Row, AreBytes, asked_at, Store, info_of, rows_of, IsWalk, EndsBy, WalkEnd, Done, CycleAt, MissingAt, place_after, place_after_rows, Seen, image_text_of, IsInfoBlock, sel_view_of, IsSelLine, IsSelBlock, fru_call_bound, SdrFault, SdrView, Count, Kind, Task, most_of, shelf_of}
 use Rattle.ipmi_records.specs.Sdr as sdr
 use Rattle.ipmi_commands.specs.Line.{line_of}
 use Rattle.ipmi_commands.specs.declared.piece.Form.{Form}

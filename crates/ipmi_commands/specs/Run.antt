@@ -7,7 +7,7 @@ use Rattle.ipmi_commands.specs.declared.stop.Stop.{Stop}
 use Rattle.ipmi_commands.specs.Listing.{IsOutcome, calls_for, run_call_bound, most_calls}
 use Rattle.ipmi_output.specs.Message.{line_text}
 use Rattle.ipmi_commands.specs.Pages.{ArePages, pages_made, IsOpen}
-use Rattle.ipmi_commands.specs.Plan.{Request, request, Change, change, OnWalk, plan_of, rewrite_plan, Outcome, IsAllowed, CountsSo, IsFine}
+use Rattle.ipmi_commands.specs.Plan.{Request, Change, change, OnWalk, plan_of, rewrite_plan, Outcome, IsAllowed, CountsSo, IsFine}
 use Rattle.ipmi_command_line.specs.Task.{name_of}
 use Rattle.ipmi_commands.specs.Plan as plan
 

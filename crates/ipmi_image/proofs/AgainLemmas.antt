@@ -10,7 +10,7 @@ use Rattle.hex.specs.Hex.{encode_lower}
 use Rattle.ipmi_image.specs.Below.{Shelf, Sdr, Sel, AreBytes, Store, Inventory, SensorReading, IsInventory, IsInfo, IsSensorReading, OtherSensor, IsStore, inventory_in, reading_in}
 use Rattle.ipmi_image.specs.Prelude.{pieces, an_inventory, a_reading, an_info, the_end, first_of, with_bytes, info_fault, fault_in, store_of_image, hex_of, rows_lines, first_parts, part_fields, inventory_lines, reading_fields, info_lines, other_lines, lines_text, image_text_of, IsSaved}
 use Rattle.ipmi_image.proofs.TextLemmas.{Lacks, pieces-more}
-use Rattle.ipmi_image.proofs.ReadLemmas.{line_found, store_after-line, store_of_image-lines}
+use Rattle.ipmi_image.proofs.ReadLemmas.{line_found, store_after_line, store_of_image-lines}
 use Rattle.ipmi_image.proofs.ParseLemmas.{a_word, a_hex, joined, line_of-fields, bytes_are, word_of, part_again, bytes_of_reading, reading_bytes, reading_again, info_again}
 use Rattle.ipmi_image.proofs.TakenLemmas.{Kept, nothing, kept_with, store_kept, Gives, line_gives, saved_rows, chained-saved, with_rows, a_shelf, shelf_gives}
 
@@ -172,7 +172,7 @@ end_gives : (store : Store) (kept : Kept) → store_kept kept ≡ store → Give
 unfolding pieces
 end_gives store kept same = λ before is.
     let found = line_found true before (codes "end") the_end None (line_of-fields (codes "end") [] (a_word (codes "end") refl, tt)) refl in
-    rw (pieces-more 10 (codes "end") [] (joined (codes "end") [] (a_word (codes "end") refl, tt)).0, store_after-line true before (codes "end") [], found) (ap Ok (ap store_kept is ∙ same))
+    rw (pieces-more 10 (codes "end") [] (joined (codes "end") [] (a_word (codes "end") refl, tt)).0, store_after_line true before (codes "end") [], found) (ap Ok (ap store_kept is ∙ same))
 
 pub image_again : (store : Store) → IsStore store → IsSaved store → store_of_image (image_text_of store) ≡ Ok store
 unfolding image_text_of

@@ -9,7 +9,7 @@ use Rattle.hex.specs.Hex.{encode_lower}
 use Rattle.ipmi_image.specs.Below.{Shelf, Sdr, Sel, Row, AllRows, LacksId, DistinctIds, BeginsWithId, LaterHaveIds, IsShelf, Store, Inventory, SensorReading, has_id}
 use Rattle.ipmi_image.specs.Prelude.{pieces, SavedRow, Line, a_row, line_of_fields, rows_on, first_id, chained, with_inventory_line, sensor_on, info_on, first_of, is_no_record, is_no_id, begins_with_another, row_fault, fault_in, line_judged, is_end, store_after, hex_of, first_row_id, next_field, rows_lines, lines_text}
 use Rattle.ipmi_image.proofs.TextLemmas.{pieces-more}
-use Rattle.ipmi_image.proofs.ReadLemmas.{store_after-line, line_found}
+use Rattle.ipmi_image.proofs.ReadLemmas.{store_after_line, line_found}
 use Rattle.ipmi_image.proofs.ParseLemmas.{IsField, AreFields, a_word, a_hex, joined, line_of-fields, bytes_are, word_of, saved_row, row_again}
 
 -- ---- what is kept of lines
@@ -59,7 +59,7 @@ pub line_gives : (store : Store) (kept : Kept) (first : List ℕ) (fields : List
 line_gives store kept first fields line rest are says more fine give = λ before is.
     let text = join_with_byte 32 (first ∷ fields) in
     let found : line_judged true before text ≡ Ok line = line_found true before text line None (line_of-fields first fields are ∙ says) (ap (λ (k : Kept). fault_in (store_kept k) line) is ∙ fine) in
-    rw (append_assoc text (10 ∷ []) (lines_text rest), pieces-more 10 text (lines_text rest) (joined first fields are).0, store_after-line true before text (lines_text rest), found, more)
+    rw (append_assoc text (10 ∷ []) (lines_text rest), pieces-more 10 text (lines_text rest) (joined first fields are).0, store_after_line true before text (lines_text rest), found, more)
     (give (before ++ line ∷ []) (kept_with-one before line ∙ ap (λ (k : Kept). kept_with k (line ∷ [])) is))
 
 -- ---- rows

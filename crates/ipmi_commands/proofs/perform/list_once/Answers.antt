@@ -1,4 +1,4 @@
-use Rattle.std.proofs.Common.{◌≡◌, arith}
+use Rattle.std.proofs.Common.{◌≡◌}
 use Rattle.ipmi_commands.specs.Below.{most_of}
 use Rattle.ipmi_commands.specs.Prelude.{request_of}
 use Rattle.ipmi_commands.proofs.PlanLemmas.{goes_once, listing_performs}

@@ -8,9 +8,11 @@ returns-in_err-is_named-clause-honest g c = λ h. rw (passed _ _ c.from_residual
 pub returns-in_err-reading-clause-honest : goal.returns-in_err-reading-clause-honest
 returns-in_err-reading-clause-honest g c = λ h.
     let r = c.in_err-reading.ensures.honest h in
-    rw (passed _ _ c.from_residual-in_err-reading.ensures.1, sym c.read.ensures ∙ c.in-Ok.is, sym c.in_ok-is_named.ensures ∙ c.if-not-is_named.false) (fails_at_value _ _ _ _ _ r.calls _ r.reads r.there)
+    rw (passed _ _ c.from_residual-in_err-reading.ensures.1, sym c.read.ensures ∙ c.in-Ok.is, sym c.in_ok-is_named.ensures ∙ c.if-not-is_named.false)
+    (fails_at_value _ _ _ _ _ r.calls _ r.reads r.there)
 
 pub returns-in_err-sdr_block-clause-honest : goal.returns-in_err-sdr_block-clause-honest
 returns-in_err-sdr_block-clause-honest g c = λ h.
     let r = c.in_ok-reading.ensures.honest h in
-    rw (passed _ _ c.from_residual-in_err-sdr_block.ensures.1, sym c.read.ensures ∙ c.in-Ok.is, sym c.in_ok-is_named.ensures ∙ c.if-not-is_named.false) (out_after_value _ _ _ _ _ r.calls _ r.reads)
+    rw (passed _ _ c.from_residual-in_err-sdr_block.ensures.1, sym c.read.ensures ∙ c.in-Ok.is, sym c.in_ok-is_named.ensures ∙ c.if-not-is_named.false)
+    (out_after_value _ _ _ _ _ r.calls _ r.reads)

@@ -7,7 +7,8 @@ use Rattle.ipmi_output.proofs.message.write_cannot_read.Goals as goal
 
 pub returns-in_err-offer_all : goal.returns-in_err-offer_all
 returns-in_err-offer_all g c =
-    MatchResult-from_err c.from_residual.result _ _ c.from_residual.ensures.0 (λ e. ReceivesPart-before _ _ _ (codes "\n") (ReceivesPart-before _ _ _ (escaped_name c.args.name.now) c.in_err-offer_all.ensures))
+    MatchResult-from_err c.from_residual.result _ _ c.from_residual.ensures.0
+    (λ e. ReceivesPart-before _ _ _ (codes "\n") (ReceivesPart-before _ _ _ (escaped_name c.args.name.now) c.in_err-offer_all.ensures))
 
 pub returns-in_err-write_escaped : goal.returns-in_err-write_escaped
 returns-in_err-write_escaped g c =

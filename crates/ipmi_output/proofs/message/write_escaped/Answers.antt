@@ -17,8 +17,14 @@ module _ (whole text name : List ℕ) (begun at : ℕ) (so_far : whole ≡ text 
   waits d before within plain =
       let one_more : at + 1 - begun ≡ at - begun + 1 = omega (arith, before) in
       let there : begun + (at - begun) ≡ at = omega (arith, before) in
-      so_far ∙ rw (one_more, take_more (drop begun name) (at - begun) d (omega (arith, length-drop begun name, before, within)), get_or-drop begun name (at - begun) d, there,
-        at_drop_more (λ (l : List ℕ). escaped_name l) name at d within, plain) (simp append_assoc)
+      so_far ∙ rw (
+        one_more,
+        take_more (drop begun name) (at - begun) d (omega (arith, length-drop begun name, before, within)),
+        get_or-drop begun name (at - begun) d,
+        there,
+        at_drop_more (λ (l : List ℕ). escaped_name l) name at d within,
+        plain,
+      ) (simp append_assoc)
 
   -- a control byte is taken, after the bytes that waited, and then none waits
   taken : (d : ℕ) → at < length name → is_ascii_control (get_or name at d) ≡ true
@@ -37,7 +43,8 @@ pub returns-in_err-write_before_control : goal.returns-in_err-write_before_contr
 returns-in_err-write_before_control g c =
     let so_far = c.loop-at.invariant in
     let whole = taken _ so_far.2 c.args.name.now c.loop-at.begun c.loop-at.at so_far.4 _ c.loop-at-test.true (sym c.is_ascii_control.ensures.value ∙ c.if-is_ascii_control.true) in
-    MatchResult-from_err c.from_residual.result _ _ c.from_residual.ensures.0 (λ e. rw whole (ReceivesPart-before _ _ _ _ (ReceivesPart-after _ _ _ _ _ so_far.3 c.in_err-write_before_control.ensures)))
+    MatchResult-from_err c.from_residual.result _ _ c.from_residual.ensures.0
+    (λ e. rw whole (ReceivesPart-before _ _ _ _ (ReceivesPart-after _ _ _ _ _ so_far.3 c.in_err-write_before_control.ensures)))
 
 pub loop-at-preserved : goal.loop-at-preserved
 loop-at-preserved g c =

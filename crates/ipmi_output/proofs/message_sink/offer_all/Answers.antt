@@ -1,5 +1,5 @@
 -- The bytes before `done` and those taken then are the bytes before the new `done`.
-use Rattle.std.proofs.Common.{ℕ, arith, Option, List, [], ◌+◌, ◌<◌, ◌≡◌, append-nil, length, take, ap, ◌∙◌, option_map}
+use Rattle.std.proofs.Common.{ℕ, arith, List, [], ◌+◌, ◌<◌, ◌≡◌, append-nil, length, take, ap, ◌∙◌, option_map}
 use Rattle.std.proofs.lemmas.Grind.{common_steps}
 use Rattle.std.proofs.lemmas.Result.{MatchResult-from_err}
 use Rattle.std.specs.Io.KnownBytes.{Appends}
@@ -28,7 +28,8 @@ loop-done-preserved g c = (
 pub returns-in_err-taken : goal.returns-in_err-taken
 returns-in_err-taken g c =
     let received = c.in_err-taken.ensures.received in
-    MatchResult-from_err c.from_residual.result _ _ c.from_residual.ensures.0 (λ e. cut c.loop-done.done c.args.bytes.now _ _ _ c.loop-done-test.true c.loop-done.invariant.1 (Appends-kept _ _ received.0) received.1)
+    MatchResult-from_err c.from_residual.result _ _ c.from_residual.ensures.0
+    (λ e. cut c.loop-done.done c.args.bytes.now _ _ _ c.loop-done-test.true c.loop-done.invariant.1 (Appends-kept _ _ received.0) received.1)
 
 pub returns-then-taken-eq0 : goal.returns-then-taken-eq0
 returns-then-taken-eq0 g c =
