@@ -1,6 +1,6 @@
 //! The fields of an area, as their type/length bytes and their data spell them (Platform Management FRU Information Storage
 //! Definition v1.0, section 13).
-ghost use Rattle.std.specs.Prelude.{◌≡◌, ◌<◌, [], IsTrue, is_some, unwrap_or};
+ghost use Rattle.std.specs.Prelude.{◌≡◌, ◌/◌, ◌%◌, ◌<◌, [], IsTrue, is_some, unwrap_or};
 
 use std::marker::Model;
 
@@ -16,6 +16,20 @@ pub struct Field<'a> {
     pub bytes: &'a [u8],
     // What `fru_text` asks of a code.
     pub ghost two_bits: { code < 4 },
+}
+
+/// Bits 7:6 of a type/length byte: the code of the field.
+fn code_of(type_length: u8) -> u8
+    ensures { result ≡ type_length / 64 }
+{
+    type_length >> 6
+}
+
+/// Bits 5:0 of a type/length byte: how many bytes of data come after it.
+fn len_of(type_length: u8) -> usize
+    ensures { result ≡ type_length % 64 }
+{
+    usize::from(type_length & 0x3F)
 }
 
 /// What comes first in bytes that are to be read as fields.
@@ -43,10 +57,10 @@ impl<'a> Beginning<'a> {
         if type_length == NO_MORE_FIELDS {
             return Beginning::End;
         }
-        let Some((bytes, rest)) = after.split_at_checked(usize::from(type_length % 64)) else {
+        let Some((bytes, rest)) = after.split_at_checked(len_of(type_length)) else {
             return Beginning::PastEnd;
         };
-        let code = type_length / 64;
+        let code = code_of(type_length);
         Beginning::Field(Field { code, bytes }, rest)
     }
 }

@@ -1,5 +1,5 @@
 //! The lines of multirecords.
-ghost use Rattle.std.specs.Prelude.{◌≡◌, ◌≤◌, ◌+◌, IfOk, length, string_bytes};
+ghost use Rattle.std.specs.Prelude.{◌≡◌, ◌%◌, ◌≤◌, ◌+◌, IfOk, length, string_bytes};
 ghost use Rattle.byteorder.specs.Endian.{twos_complement};
 ghost use Rattle.ipmi_fru.specs.Prelude.{item_of, items_left, record_of, number_at, IsVoltsAt, current_text, dc_start, before_low, before_high, standby_text, IsDcText, access_text, access_line, other_line, form_of, IsRecordText, IsItemText, AreItemTexts};
 
@@ -119,6 +119,13 @@ fn words_of(kind: DcKind) -> DcWords
     }
 }
 
+/// Bits 3:0 of the first data byte of a DC record: the number of the output or the load.
+fn number_of(byte: u8) -> u8
+    ensures { result ≡ byte % 16 }
+{
+    byte & 0x0F
+}
+
 /// ` standby` for a standby output, otherwise nothing. `byte` is the one that has the output's
 /// number.
 fn standby_text(kind: DcKind, byte: u8) -> &'static str
@@ -140,8 +147,7 @@ fn dc_text(alloc: Global, kind: DcKind, bytes: &[u8]) -> Result<String, AllocErr
         before_low,
         before_high,
     } = words_of(kind);
-    // bits 3:0: the number of the output or the load
-    let number = bytes[0] % 16;
+    let number = number_of(bytes[0]);
     let standby = standby_text(kind, bytes[0]);
     let nominal = volts_text(alloc, bytes, 1)?;
     let low = volts_text(alloc, bytes, 3)?;

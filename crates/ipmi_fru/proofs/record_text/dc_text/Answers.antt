@@ -10,5 +10,5 @@ returns c = IfOk-weaker c.format.result _ _ (λ text is. record {
   nominal_is = c.in_ok-nominal.ensures;
   low_is = c.in_ok-low.ensures;
   high_is = c.in_ok-high.ensures;
-  text_is = is ∙ rw (c.words_of.ensures.start, c.words_of.ensures.low, c.words_of.ensures.high, c.standby_text-standby.ensures, c.in_ok-current.ensures) refl;
+  text_is = is ∙ rw (c.words_of.ensures.start, c.words_of.ensures.low, c.words_of.ensures.high, c.number_of-number.ensures, c.standby_text-standby.ensures, c.in_ok-current.ensures) refl;
 }) c.format.ensures.ok
