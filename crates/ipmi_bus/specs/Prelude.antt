@@ -16,9 +16,9 @@ pub use Rattle.ipmi_bus.specs.Seen.{current, IsFinished, IsHonest, IsQuiet, IsRe
 pub use Rattle.ipmi_bus.specs.Shelf.{AllRows, BeginsWithId, DistinctIds, first_row, FoundIsRow, id_in, IsRow, IsShelf, LacksId, largest_len, len_of, look, Row, row_with_id, whole_len}
 pub use Rattle.ipmi_bus.specs.Since.{begun, HonestSince, ReadCalls, ReadIsHonest, ReadNext, Since}
 pub use Rattle.ipmi_bus.specs.Standing.{FollowsWalks, MayFail, StandsAt, WalkStep}
-pub use Rattle.ipmi_bus.specs.Step.{asked_at, AsksAlong, AsksNothing, cycle_at, HandsOut, HasIdAsked, HasRoom, IsStep, KeepsSettings, NoneAt, StaysThere, StepAnswers, StepCalls, StepIsHonest, StepLeaves}
+pub use Rattle.ipmi_bus.specs.Step.{asked_at, AsksAlong, AsksNothing, cycle_at, HandsOut, HasIdAsked, HasRoom, IsStep, KeepsSettings, StaysThere, StepAnswers, StepCalls, StepIsHonest, StepLeaves}
 pub use Rattle.ipmi_bus.specs.Steps.{AreSteps, cursor_after, handed_out, HandsOutPrefix, seen_after, Stepped, StepsFollowWalk, with_handed}
 pub use Rattle.ipmi_bus.specs.Store.{info_of, inventory_of, reading_of, rows_of, Store, store_shelf}
 pub use Rattle.ipmi_bus.specs.Tries.{IsRefusedWith, WithinTries}
-pub use Rattle.ipmi_bus.specs.Types.{Absent, Again, Busy, Cancelled, Code, CodeClass, Cycle, End, Ended, First, FruEnded, FruRetrieval, GaveUp, Handed, Id, Malformed, Missing, NotPresent, Outcome, Part, Place, Progress, Refusal, Refused, Retrieval, Sdr, Sel, Shelf, Size, SmallerPart, Stalled, Whole}
+pub use Rattle.ipmi_bus.specs.Types.{Absent, Again, Busy, Cancelled, Code, CodeClass, Cycle, End, Ended, First, FruEnded, FruRetrieval, GaveUp, Handed, Id, Malformed, Missing, NotPresent, Outcome, Part, Place, Progress, Refusal, Refused, Retrieval, Shelf, Size, SmallerPart, Stalled, Whole}
 pub use Rattle.ipmi_bus.specs.Walk.{AllOf, CycleAt, Done, EndsAfter, EndsBy, EndsEmpty, has_id, HasWalk, IsWalk, last_next, Links, MissingAt, place_after, place_after_rows, RestIsWalk, row_at, TailIsWalk, WalkEnd, WalkExists, WalkIsUnique}
