@@ -71,5 +71,5 @@ hands_out old new asked r row is asks first place ids at_most next shelf room so
       next = next;
     }
 
--- a new cursor has room for each id
+-- where no id was handed out, there is room for each
 pub ruleset empty_ids = (contains-empty, len-empty)

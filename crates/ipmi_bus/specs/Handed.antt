@@ -1,5 +1,5 @@
 -- A cursor's fields as contracts see them, and what it hands out.
-use Rattle.std.specs.Prelude.{◌≡◌, ◌≢◌, ℕ, ◌<◌, List, Option, None, Some, IsSome, Result, Ok, Err, IsOk, take}
+use Rattle.std.specs.Prelude.{◌≡◌, ◌≢◌, ℕ, ◌<◌, ◌⊎◌, List, Option, None, Some, IsSome, Result, Ok, Err, IsOk, take}
 use Rattle.std.specs.FinSet as set
 use Rattle.ipmi_bus.specs.Types.{End, Ended, First, Handed, Next, Place, Progress, Retrieval}
 use Rattle.ipmi_bus.specs.Shelf.{Row, id_in}
@@ -39,7 +39,7 @@ pub record IsAsked (place : Place) (ids : set.FinSet nat_cmp) (asked : ℕ) : Ty
   pub none : cycle_at place ids ≡ None
   pub id : asked ≡ asked_at place
   pub not_at_end : place ≢ End
-  pub room : set.len ids < 65536
+  pub room : (place ≡ First) ⊎ (set.len ids < 65536)
 
 abbrev pub IsNext : Place → set.FinSet nat_cmp → Next → Type 0
 IsNext place ids Next.End = place ≡ End

@@ -3,7 +3,7 @@ ghost use Rattle.std.specs.Prelude.{◌≡◌, ◌<◌, ◌≤◌, Ok, Err, Some
 ghost use Rattle.std.specs.FinSet as set;
 ghost use Rattle.std.specs.Option.{ForSome};
 ghost use Rattle.std.specs.Borrow.{sem};
-ghost use Rattle.ipmi_bus.specs.Prelude.{First, End, IsHonest, StaysHonest, Row, whole_len, largest_len, place_after, KeepsSettings, StepLeaves, StepCalls, StepIsHonest, StepAnswers, AsksNothing, HasRoom, StandsAt, IsStep, start_of, state_of, IsCursor, handed_result, handed_id, IsNext, KeepsReservation};
+ghost use Rattle.ipmi_bus.specs.Prelude.{End, IsHonest, StaysHonest, Row, whole_len, largest_len, place_after, KeepsSettings, StepLeaves, StepCalls, StepIsHonest, StepAnswers, AsksNothing, HasRoom, StandsAt, IsStep, start_of, state_of, IsCursor, handed_result, handed_id, IsNext, KeepsReservation};
 
 use crate::controller::{Controller, Shelf};
 use crate::id_table::IdTable;
@@ -40,9 +40,7 @@ pub(crate) enum Next {
 
 impl Progress {
     /// What is to be asked for next.
-    #[tactic(auto, using(crate::proofs::CursorLemmas::empty_ids))]
     fn next(&self) -> Next
-        requires { self.now.place ≡ First → self.now.ids ≡ set.empty }
         ensures { IsNext self.now.place self.now.ids result }
     {
         match self.place {
@@ -91,6 +89,7 @@ impl Progress {
     }
 
     /// Makes a step. A record that it hands out is in the buffer.
+    #[tactic(auto, using(crate::proofs::CursorLemmas::empty_ids))]
     fn advance<C: Controller>(&mut self, ctl: &mut C) -> Result<Option<Handed>, Ended>
         requires { IsCursor self.old }
         ensures cursor { IsCursor self.new }
