@@ -1,5 +1,5 @@
 -- A rewritten image gives the store that it was made of: its inventories, readings and infos, and all of it.
-use Rattle.std.proofs.Common.{◌≡◌, ◌≢◌, ℕ, zero, suc, ◌+◌, ◌/◌, ◌<◌, ◌≤◌, Bool, true, false, cond, nat_eq, nat_lt, ◌&&◌, Option, None, Some, Ok, List, [], ◌∷◌, ◌++◌, length, take, drop, map, refl, sym, ap, subst, ◌∙◌, append_assoc, append-nil, arith, codes, unwrap_or, IfSome, All, AllPairs, flat_map, eqb-true, eq-eqb, ne_eqb, length-append, length-drop, length-take, take-append-drop, get_or-append-add}
+use Rattle.std.proofs.Common.{◌≡◌, ◌≢◌, ℕ, zero, suc, ◌+◌, ◌/◌, ◌<◌, ◌≤◌, true, false, nat_lt, Option, None, Some, Ok, List, [], ◌∷◌, ◌++◌, length, take, drop, map, refl, sym, ap, subst, ◌∙◌, append_assoc, append-nil, arith, codes, unwrap_or, IfSome, All, AllPairs, flat_map, eq-eqb, ne_eqb, length-append, length-drop, length-take, take-append-drop, get_or-append-add}
 use Rattle.std.specs.Option.{option_to_list}
 use Rattle.std.proofs.lemmas.Bool.Decides.{nat_tests}
 use Rattle.std.proofs.lemmas.List.{take_all, get_or_append_left}
@@ -19,13 +19,14 @@ Lines = List (List (List ℕ))
 
 -- ---- items after those that they differ from
 
--- what comes before in a list
+-- each item before x is so to x
 pairs_middle : {T : Type 0} (R : T → T → Type 0) (front rest : List T) (x : T) → AllPairs R (front ++ x ∷ rest) → All (λ a. R a x) front
 pairs_middle R front rest x pairs = λ k d lt.
     let len = length-append front (x ∷ rest) in
     let p = pairs k (length front + 0) d (omega (arith, lt)) (omega (arith, len)) in
     rw (get_or_append_left front (x ∷ rest) d k lt, get_or-append-add front (x ∷ rest) 0 d) at p
 
+-- where the lines of one item are taken after the items before it, so are those of all
 each_gives : (store : Store) {X : Type 0} (P : X → Type 0) (R : X → X → Type 0) (kept : List X → Kept) (lines : X → Lines)
     → ((front : List X) (x : X) (rest : Lines) → P x → All (λ a. R a x) front → Gives store (kept (front ++ x ∷ [])) rest → Gives store (kept front) (lines x ++ rest))
     → (front xs : List X) (rest : Lines) → All P xs → AllPairs R (front ++ xs) → Gives store (kept (front ++ xs)) rest → Gives store (kept front) (flat_map lines xs ++ rest)
@@ -39,26 +40,23 @@ each_gives store P R kept lines one front (x ∷ xs) rest all pairs give =
 
 with_bytes-twice : (id : ℕ) (a b : List ℕ) (inventories : List Inventory) → with_bytes id b (with_bytes id a inventories) ≡ with_bytes id (a ++ b) inventories
 with_bytes-twice id a b [] = rw (eq-eqb id id refl) refl
-with_bytes-twice id a b (x ∷ xs) = by (with_bytes-twice id a b xs) (nat_eq x.id id) refl
-  where
-    by : with_bytes id b (with_bytes id a xs) ≡ with_bytes id (a ++ b) xs → (t : Bool) → nat_eq x.id id ≡ t → with_bytes id b (cond t (record { id = x.id; bytes = x.bytes ++ a } ∷ xs) (x ∷ with_bytes id a xs)) ≡ cond t (record { id = x.id; bytes = x.bytes ++ (a ++ b) } ∷ xs) (x ∷ with_bytes id (a ++ b) xs)
-    by more true e = rw (e, append_assoc) refl
-    by more false e = rw (e, more) refl
+with_bytes-twice id a b (x ∷ xs) = let more = with_bytes-twice id a b xs in grind (arith, append_assoc, nat_tests, more)
 
 bytes-with_bytes : (id : ℕ) (a : List ℕ) (inventories : List Inventory) → unwrap_or (inventory_in (with_bytes id a inventories) id) [] ≡ unwrap_or (inventory_in inventories id) [] ++ a
 bytes-with_bytes id a [] = rw (eq-eqb id id refl) refl
-bytes-with_bytes id a (x ∷ xs) = by (bytes-with_bytes id a xs) (nat_eq x.id id) refl
-  where
-    by : unwrap_or (inventory_in (with_bytes id a xs) id) [] ≡ unwrap_or (inventory_in xs id) [] ++ a → (t : Bool) → nat_eq x.id id ≡ t → unwrap_or (inventory_in (cond t (record { id = x.id; bytes = x.bytes ++ a } ∷ xs) (x ∷ with_bytes id a xs)) id) [] ≡ unwrap_or (cond t (Some x.bytes) (inventory_in xs id)) [] ++ a
-    by more true e = rw e refl
-    by more false e = rw e more
+bytes-with_bytes id a (x ∷ xs) = let more = bytes-with_bytes id a xs in grind (arith, nat_tests, more)
 
--- after others
+-- the first bytes of an inventory make a new one
 new_bytes : (id : ℕ) (bytes : List ℕ) (front : List Inventory) → All (λ i. i.id ≢ id) front → (with_bytes id bytes front ≡ front ++ record { id = id; bytes = bytes } ∷ []) × (inventory_in front id ≡ None)
 new_bytes id bytes [] lacks = (refl, refl)
 new_bytes id bytes (x ∷ xs) lacks =
     let more = new_bytes id bytes xs (All-tail (λ (i : Inventory). i.id ≢ id) x xs lacks) in
     rw (ne_eqb x.id id (lacks 0 x (omega arith))) (rw more.0 refl, more.1)
+
+-- it has bytes
+record IsWhole (inventory : Inventory) : Type 0 where
+  ok : IsInventory inventory
+  some : 0 < length inventory.bytes
 
 module _ (store : Store) (kept : Kept) where
   abbrev inventories_kept : List Inventory → Kept
@@ -78,7 +76,8 @@ module _ (store : Store) (kept : Kept) where
       below = grind (arith, nat_tests)
 
   -- the first part, and the others if there are any
-  parts_give : (id n : ℕ) (bytes : List ℕ) (inventories : List Inventory) (rest : Lines) → id ≤ 254 → n ≡ (length bytes + 63) / 64 → 0 < length bytes → AreBytes bytes → length (unwrap_or (inventory_in inventories id) []) + length bytes ≤ 65535
+  parts_give : (id n : ℕ) (bytes : List ℕ) (inventories : List Inventory) (rest : Lines) → id ≤ 254 → n ≡ (length bytes + 63) / 64 → 0 < length bytes → AreBytes bytes
+      → length (unwrap_or (inventory_in inventories id) []) + length bytes ≤ 65535
       → Gives store (inventories_kept (with_bytes id bytes inventories)) rest → Gives store (inventories_kept inventories) (map (part_fields id) (first_parts n bytes) ++ rest)
   parts_give id zero bytes inventories rest le count some all fits give = absurd (omega (arith, count, some))
   parts_give id (suc zero) bytes inventories rest le count some all fits give = rw (take_all 64 bytes (omega (arith, count))) (part_gives id bytes inventories rest le some all fits give)
@@ -89,14 +88,12 @@ module _ (store : Store) (kept : Kept) where
       let held = ap length (bytes-with_bytes id (take 64 bytes) inventories) in
       let same : with_bytes id (drop 64 bytes) (with_bytes id (take 64 bytes) inventories) ≡ with_bytes id bytes inventories = with_bytes-twice id (take 64 bytes) (drop 64 bytes) inventories ∙ rw (take-append-drop 64 bytes) refl in
       part_gives id (take 64 bytes) inventories (map (part_fields id) (first_parts (suc n) (drop 64 bytes)) ++ rest) le (omega (arith, taken, some)) (All-take (λ (b : ℕ). b < 256) 64 bytes all) (omega (arith, taken, fits))
-      (parts_give id (suc n) (drop 64 bytes) (with_bytes id (take 64 bytes) inventories) rest le (omega (arith, left, count)) (omega (arith, left, count)) (All-drop (λ (b : ℕ). b < 256) 64 bytes all) (omega (arith, left, taken, joined, held, fits, count)) (subst (λ (l : List Inventory). Gives store (inventories_kept l) rest) (sym same) give))
+      (parts_give id (suc n) (drop 64 bytes) (with_bytes id (take 64 bytes) inventories) rest le (omega (arith, left, count)) (omega (arith, left, count)) (All-drop (λ (b : ℕ). b < 256) 64 bytes all)
+      (omega (arith, left, taken, joined, held, fits, count))
+      (subst (λ (l : List Inventory). Gives store (inventories_kept l) rest) (sym same) give))
 
-  -- no inventory is empty
-  record IsWhole (inventory : Inventory) : Type 0 where
-    ok : IsInventory inventory
-    some : 0 < length inventory.bytes
-
-  inventory_gives : (front : List Inventory) (x : Inventory) (rest : Lines) → IsWhole x → All (λ a. a.id ≢ x.id) front → Gives store (inventories_kept (front ++ x ∷ [])) rest → Gives store (inventories_kept front) (inventory_lines x ++ rest)
+  inventory_gives : (front : List Inventory) (x : Inventory) (rest : Lines) → IsWhole x → All (λ a. a.id ≢ x.id) front → Gives store (inventories_kept (front ++ x ∷ [])) rest
+      → Gives store (inventories_kept front) (inventory_lines x ++ rest)
   inventory_gives front x rest is lacks give =
       let new = new_bytes x.id x.bytes front lacks in
       let fits = is.ok.fits in
@@ -110,25 +107,25 @@ module _ (store : Store) (kept : Kept) where
 
 reading_in-absent : (front : List SensorReading) (x : SensorReading) → All (λ a. OtherSensor a x) front → reading_in front x.lun x.number ≡ None
 reading_in-absent [] x others = refl
-reading_in-absent (a ∷ front) x others = rw (by (nat_eq a.lun x.lun) refl (nat_eq a.number x.number) refl) (reading_in-absent front x (All-tail (λ a. OtherSensor a x) a front others))
-  where
-    by : (s : Bool) → nat_eq a.lun x.lun ≡ s → (t : Bool) → nat_eq a.number x.number ≡ t → (s && t) ≡ false
-    by true e true f = absurd (others 0 a (omega arith) (eqb-true _ _ e) (eqb-true _ _ f))
-    by true e false f = refl
-    by false e t f = refl
+reading_in-absent (a ∷ front) x others =
+    let more = reading_in-absent front x (All-tail (λ a. OtherSensor a x) a front others) in
+    let other = others 0 a (omega arith) in
+    grind (arith, nat_tests, more, other)
+
+record IsSensor (sensor : SensorReading) : Type 0 where
+  ok : IsSensorReading sensor
+  lun : sensor.lun ≤ 3
 
 module _ (store : Store) (kept : Kept) where
   abbrev readings_kept : List SensorReading → Kept
   readings_kept readings = record kept { readings = readings }
 
-  record IsSensor (sensor : SensorReading) : Type 0 where
-    ok : IsSensorReading sensor
-    lun : sensor.lun ≤ 3
-
-  reading_gives : (front : List SensorReading) (x : SensorReading) (rest : Lines) → IsSensor x → All (λ a. OtherSensor a x) front → Gives store (readings_kept (front ++ x ∷ [])) rest → Gives store (readings_kept front) (reading_fields x ∷ rest)
+  reading_gives : (front : List SensorReading) (x : SensorReading) (rest : Lines) → IsSensor x → All (λ a. OtherSensor a x) front → Gives store (readings_kept (front ++ x ∷ [])) rest
+      → Gives store (readings_kept front) (reading_fields x ∷ rest)
   reading_gives front x rest is others give =
+      let lun = All-drop (λ b. nat_lt 32 b ≡ true) 1 (hex_of 1 x.lun) (a_hex (big_bytes 1 x.lun) (bytes_are 1 x.lun)) in
       line_gives store (readings_kept front) (codes "reading") (drop 1 (hex_of 1 x.lun) ∷ hex_of 1 x.number ∷ encode_lower (bytes_of_reading x) ∷ []) (a_reading x.lun x.number (bytes_of_reading x)) rest
-      (a_word (codes "reading") refl, (All-drop (λ b. nat_lt 32 b ≡ true) 1 (hex_of 1 x.lun) (a_hex (big_bytes 1 x.lun) (bytes_are 1 x.lun)), (a_hex (big_bytes 1 x.number) (bytes_are 1 x.number), (a_hex (bytes_of_reading x) (reading_bytes x is.ok), tt))))
+      (a_word (codes "reading") refl, (lun, (a_hex (big_bytes 1 x.number) (bytes_are 1 x.number), (a_hex (bytes_of_reading x) (reading_bytes x is.ok), tt))))
       (reading_again x is.lun is.ok)
       refl
       (rw (below, reading_in-absent front x others) refl)
@@ -137,7 +134,8 @@ module _ (store : Store) (kept : Kept) where
       below : nat_lt 3 x.lun ≡ false
       below = let le = is.lun in grind (arith, nat_tests)
 
-  pub readings_give : (readings : List SensorReading) (rest : Lines) → All IsSensorReading readings → All (λ s. s.lun ≤ 3) readings → AllPairs OtherSensor readings → Gives store (readings_kept readings) rest → Gives store (readings_kept []) (map reading_fields readings ++ rest)
+  pub readings_give : (readings : List SensorReading) (rest : Lines) → All IsSensorReading readings → All (λ s. s.lun ≤ 3) readings → AllPairs OtherSensor readings
+      → Gives store (readings_kept readings) rest → Gives store (readings_kept []) (map reading_fields readings ++ rest)
   readings_give readings rest all luns pairs give = rw (← flat_map_single reading_fields readings)
       (each_gives store IsSensor OtherSensor readings_kept (λ x. reading_fields x ∷ []) reading_gives [] readings rest (λ k d lt. record { ok = all k d lt; lun = luns k d lt }) pairs give)
 
@@ -151,7 +149,8 @@ info_kept : (shelf : Shelf) (kept : Kept) (bytes : List ℕ) → (fault_in (stor
 info_kept Sdr kept bytes = (refl, simp append-nil)
 info_kept Sel kept bytes = (refl, simp append-nil)
 
-info_gives : (store : Store) (shelf : Shelf) (kept : Kept) (info : Option (List ℕ)) (rest : Lines) → IfSome info IsInfo → Gives store (with_infos shelf kept (option_to_list info)) rest → Gives store (with_infos shelf kept []) (info_lines (word_of shelf) info ++ rest)
+info_gives : (store : Store) (shelf : Shelf) (kept : Kept) (info : Option (List ℕ)) (rest : Lines) → IfSome info IsInfo → Gives store (with_infos shelf kept (option_to_list info)) rest
+    → Gives store (with_infos shelf kept []) (info_lines (word_of shelf) info ++ rest)
 info_gives store shelf kept None rest ok give = give
 info_gives store shelf kept (Some bytes) rest ok give =
     let kept' = info_kept shelf kept bytes in

@@ -3,6 +3,7 @@ use Rattle.std.proofs.Common.{◌≡◌, ℕ, zero, suc, ◌*◌, ◌^◌, ◌/�
 use Rattle.std.specs.Result.{result_ok}
 use Rattle.std.specs.List.{AllPass, list_all, join_with_byte}
 use Rattle.std.proofs.lemmas.Bool.Decides.{nat_tests}
+use Rattle.std.proofs.lemmas.Grind.{common_steps}
 use Rattle.std.proofs.lemmas.List.Elements.{All-nil, All-cons, All-tail, All-append}
 use Rattle.std.proofs.lemmas.List.Sums.{AllPass-from_list_all}
 use Rattle.byteorder.specs.Endian.{big_number, big_bytes}
@@ -60,9 +61,7 @@ bytes_are (suc zero) x = All-cons (λ (b : ℕ). b < 256) (x % 256) [] (omega ar
 bytes_are (suc (suc n)) x = All-cons (λ (b : ℕ). b < 256) (x / 256 ^ suc n % 256) (big_bytes (suc n) x) (omega arith) (bytes_are (suc n) x)
 
 are_bytes : (bytes : List ℕ) → AreBytes bytes → IsBytes bytes
-are_bytes [] all i = omega arith
-are_bytes (b ∷ bytes) all zero = all 0 b (omega arith)
-are_bytes (b ∷ bytes) all (suc i) = are_bytes bytes (All-tail (λ (b : ℕ). b < 256) b bytes all) i
+are_bytes bytes all i = grind (arith, common_steps)
 
 bytes_in-encode_lower : (bytes : List ℕ) → AreBytes bytes → bytes_in (encode_lower bytes) ≡ Some bytes
 bytes_in-encode_lower bytes all = ap result_ok (decode_of-encode_lower bytes (are_bytes bytes all))

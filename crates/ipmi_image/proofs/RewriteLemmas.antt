@@ -1,8 +1,9 @@
 -- Texts put together piece by piece.
-use Rattle.std.proofs.Common.{◌≡◌, ℕ, zero, suc, ◌+◌, ◌/◌, ◌≤◌, ◌<◌, List, [], ◌∷◌, ◌++◌, length, take, drop, refl, sym, append_assoc, append-nil, arith, length-drop}
-use Rattle.std.proofs.lemmas.List.{drop_more, take_min, drop_min}
+use Rattle.std.proofs.Common.{◌≡◌, ℕ, zero, suc, ◌+◌, ◌/◌, ◌≤◌, ◌<◌, List, [], ◌∷◌, length, take, drop, refl, append_assoc, append-nil, arith, length-drop}
+use Rattle.std.proofs.lemmas.List.{map-append, drop_more, take_min, drop_min}
+use Rattle.std.proofs.lemmas.List.Folds.{concat-append}
 use Rattle.hex.specs.Hex.{encode_with}
-use Rattle.ipmi_image.specs.Prelude.{SavedRow, chained, first_id, hex_of, parts_of, first_row_id, line_text, lines_text}
+use Rattle.ipmi_image.specs.Prelude.{SavedRow, chained, first_id, hex_of, parts_of, first_row_id}
 use Rattle.ipmi_image.proofs.RowsLemmas.{drop-past, found_below}
 
 -- what holds of each LUN
@@ -17,10 +18,6 @@ pub drop_hex_of_lun : (lun : ℕ) → lun ≤ 3 → drop 1 (hex_of 1 lun) ≡ (4
 unfolding encode_with
 drop_hex_of_lun = of_lun (λ lun. drop 1 (hex_of 1 lun) ≡ (48 + lun) ∷ []) refl refl refl refl
 
-pub lines_text_append : (a b : List (List (List ℕ))) → lines_text (a ++ b) ≡ lines_text a ++ lines_text b
-lines_text_append [] b = refl
-lines_text_append (x ∷ a) b = rw (lines_text_append a b) (sym (append_assoc (line_text x) (lines_text a) (lines_text b)))
-
 -- the first part, and the parts of what is left
 pub parts_of_more : (bytes : List ℕ) → 0 < length bytes → parts_of bytes ≡ take 64 bytes ∷ parts_of (drop 64 bytes)
 parts_of_more bytes some = rw count refl
@@ -33,7 +30,7 @@ first_row_id-chained [] = refl
 first_row_id-chained (row ∷ rows) = refl
 
 -- texts one after the other
-pub ruleset texts = (lines_text_append, append_assoc, append-nil, drop_more, take_min, drop_min)
+pub ruleset texts = (map-append, concat-append, append_assoc, append-nil, drop_more, take_min, drop_min)
 
 -- where the rows end
 pub ruleset rows_end = (append-nil, drop-past, found_below)

@@ -7,7 +7,7 @@ use Rattle.std.proofs.lemmas.List.Sums.{fold-append}
 use Rattle.hex.specs.Hex.{decode_of}
 use Rattle.hex.proofs.HexLemmas.{decode_of-ok}
 use Rattle.ipmi_image.specs.Below.{Shelf, Sdr, Sel, Store, Inventory, SensorReading}
-use Rattle.ipmi_image.specs.Prelude.{LineFault, ImageFault, pieces, Line, an_inventory, a_reading, is_some_text, with_two, with_three, row_line, inventory_line, reading_line, info_line, end_line, line_of_fields, line_of, with_bytes, with_inventory_line, inventories_of, sensor_on, store_of_lines, fault_in, unless_fault, line_judged, is_end, ends_here, store_after, dashes_in, store_of_pieces, store_of_image, StoredSensor, sensor_of, IsSaved}
+use Rattle.ipmi_image.specs.Prelude.{LineFault, ImageFault, pieces, Line, an_inventory, a_reading, is_some_text, with_two, with_three, row_line, inventory_line, reading_line, info_line, end_line, line_of_fields, line_of, with_bytes, with_inventory_line, inventories_of, sensor_on, store_of_lines, fault_in, line_judged, is_end, ends_here, store_after, dashes_in, store_of_pieces, store_of_image, StoredSensor, sensor_of, IsSaved}
 use Rattle.ipmi_image.proofs.ReadLemmas.{after_line}
 use Rattle.ipmi_image.proofs.StoreLemmas.{reading_fine}
 
@@ -30,11 +30,13 @@ module _ (dashes : Bool) (id : ℕ) (bytes : List ℕ) where
   infos_say : (a b : List ℕ) → info_line a b ≡ Ok (an_inventory id bytes) → 0 < length bytes
   infos_say a b e = grind arith
 
-  two_say : (line : List ℕ → List ℕ → Result Line LineFault) → ((a b : List ℕ) → line a b ≡ Ok (an_inventory id bytes) → 0 < length bytes) → (fields : List (List ℕ)) → with_two line fields ≡ Ok (an_inventory id bytes) → 0 < length bytes
+  two_say : (line : List ℕ → List ℕ → Result Line LineFault) → ((a b : List ℕ) → line a b ≡ Ok (an_inventory id bytes) → 0 < length bytes) → (fields : List (List ℕ))
+      → with_two line fields ≡ Ok (an_inventory id bytes) → 0 < length bytes
   two_say line h (a ∷ b ∷ []) e = h a b e
   two_say line h _ e = cc e
 
-  three_say : (line : List ℕ → List ℕ → List ℕ → Result Line LineFault) → ((a b c : List ℕ) → line a b c ≡ Ok (an_inventory id bytes) → 0 < length bytes) → (fields : List (List ℕ)) → with_three line fields ≡ Ok (an_inventory id bytes) → 0 < length bytes
+  three_say : (line : List ℕ → List ℕ → List ℕ → Result Line LineFault) → ((a b c : List ℕ) → line a b c ≡ Ok (an_inventory id bytes) → 0 < length bytes) → (fields : List (List ℕ))
+      → with_three line fields ≡ Ok (an_inventory id bytes) → 0 < length bytes
   three_say line h (a ∷ b ∷ c ∷ []) e = h a b c e
   three_say line h _ e = cc e
 
@@ -91,16 +93,11 @@ module _ (before : List Line) (saved : IsSaved (store_of_lines before)) where
     luns = rw (filter_map-append sensor_on before (line ∷ [])) (All-append LowLun (filter_map sensor_on before) _ saved.luns (readings_more line fine));
   }
 
-  saved_judged : (dashes : Bool) (text : List ℕ) (line : Line) → line_judged dashes before text ≡ Ok line → IsSaved (store_of_lines (before ++ line ∷ []))
-  saved_judged dashes text line e = by (line_of dashes text) refl e
-    where
-      fine : (said : Line) → line_of dashes text ≡ Ok said → (f : Option LineFault) → fault_in (store_of_lines before) said ≡ f → unless_fault f said ≡ Ok line → IsSaved (store_of_lines (before ++ line ∷ []))
-      fine said is (Some fault) found e = cc e
-      fine said is None none e = let same : said ≡ line = cc e in rw same at (saved_more said (says_some dashes text said is) none)
+  judged : (dashes : Bool) (text : List ℕ) (line : Line) → line_judged dashes before text ≡ Ok line → (line_of dashes text ≡ Ok line) × (fault_in (store_of_lines before) line ≡ None)
+  judged dashes text line e = grind arith
 
-      by : (r : Result Line LineFault) → line_of dashes text ≡ r → ◌≡◌ {A = Result Line LineFault} (elim r [ Ok said ↦ unless_fault (fault_in (store_of_lines before) said) said | Err fault ↦ Err fault ]) (Ok line) → IsSaved (store_of_lines (before ++ line ∷ []))
-      by (Err fault) is e = cc e
-      by (Ok said) is e = fine said is (fault_in (store_of_lines before) said) refl e
+  saved_judged : (dashes : Bool) (text : List ℕ) (line : Line) → line_judged dashes before text ≡ Ok line → IsSaved (store_of_lines (before ++ line ∷ []))
+  saved_judged dashes text line e = let parts = judged dashes text line e in saved_more line (says_some dashes text line parts.0) parts.1
 
 -- what all lines give
 saved_after : (dashes : Bool) (before : List Line) (texts : List (List ℕ)) (store : Store) → IsSaved (store_of_lines before) → store_after dashes before texts ≡ Ok store → IsSaved store
@@ -123,7 +120,8 @@ saved_after dashes before _ store saved e = cc e
 pub saved_of_image : (bytes : List ℕ) (store : Store) → store_of_image bytes ≡ Ok store → IsSaved store
 saved_of_image bytes store e = by (pieces 10 bytes) e
   where
-    versions : (first following : List ℕ) (rest : List (List ℕ)) (o : Option Bool) → ◌≡◌ {A = Result Store ImageFault} (elim o [ Some dashes ↦ store_after dashes [] (following ∷ rest) | None ↦ Err ImageFault.Header ]) (Ok store) → IsSaved store
+    versions : (first following : List ℕ) (rest : List (List ℕ)) (o : Option Bool)
+        → ◌≡◌ {A = Result Store ImageFault} (elim o [ Some dashes ↦ store_after dashes [] (following ∷ rest) | None ↦ Err ImageFault.Header ]) (Ok store) → IsSaved store
     versions first following rest (Some dashes) e = saved_after dashes [] (following ∷ rest) store (record { some = All-nil HasBytes; luns = All-nil LowLun }) e
     versions first following rest None e = cc e
 

@@ -1,5 +1,5 @@
 -- The lines of a rewritten image are taken one after the other; the rows of a shelf.
-use Rattle.std.proofs.Common.{◌≡◌, ℕ, ◌+◌, Bool, true, false, cond, not, nat_eq, None, Some, Ok, List, [], ◌∷◌, ◌++◌, refl, sym, ap, subst, ◌∙◌, append_assoc, append-nil, arith, codes, fold, unwrap_or, filter_map, eqb-true, eq-eqb, ne_eqb}
+use Rattle.std.proofs.Common.{◌≡◌, ℕ, ◌+◌, Bool, true, false, cond, not, nat_eq, None, Ok, List, [], ◌∷◌, ◌++◌, refl, sym, ap, subst, ◌∙◌, append_assoc, append-nil, arith, codes, fold, filter_map, eq-eqb, ne_eqb}
 use Rattle.std.specs.List.{join_with_byte}
 use Rattle.std.proofs.lemmas.Bool.Decides.{nat_tests}
 use Rattle.std.proofs.lemmas.List.Elements.{filter_map-append}
@@ -75,11 +75,7 @@ first_id-saved_rows (row ∷ rows) = refl
 -- with their next ids they are the rows again
 pub chained-saved : (rows : List Row) → chained (saved_rows rows) ≡ rows
 chained-saved [] = refl
-chained-saved (row ∷ rows) = rw (by (nat_eq row.next (first_row_id rows)) refl, chained-saved rows) refl
-  where
-    by : (t : Bool) → nat_eq row.next (first_row_id rows) ≡ t → ◌≡◌ {A = Row} (record { id = row.id; next = unwrap_or (cond t None (Some row.next)) (first_id (saved_rows rows)); bytes = row.bytes }) row
-    by true e = rw (first_id-saved_rows rows ∙ sym (eqb-true row.next (first_row_id rows) e)) refl
-    by false e = refl
+chained-saved (row ∷ rows) = let more = chained-saved rows in let first = first_id-saved_rows rows in grind (arith, nat_tests, more, first)
 
 -- none of these rows has the id of a saved one
 abbrev Others : List SavedRow → List Row → Type 0
@@ -105,7 +101,8 @@ record MayFollow (shelf : Shelf) (saved : List SavedRow) (rows : List Row) : Typ
   first : FirstFits saved rows
 
 -- the first of them has no fault, and the others may come after it
-row_follows : (shelf : Shelf) (saved : List SavedRow) (following : ℕ) (row : Row) (rows : List Row) → MayFollow shelf saved (row ∷ rows) → (row_fault shelf (chained saved) (saved_row following row) ≡ None) × MayFollow shelf (saved ++ saved_row following row ∷ []) rows
+row_follows : (shelf : Shelf) (saved : List SavedRow) (following : ℕ) (row : Row) (rows : List Row) → MayFollow shelf saved (row ∷ rows)
+    → (row_fault shelf (chained saved) (saved_row following row) ≡ None) × MayFollow shelf (saved ++ saved_row following row ∷ []) rows
 row_follows shelf saved following row rows may =
     let ok = may.all.0 in
     let fits = ok.fits in
@@ -117,7 +114,8 @@ row_follows shelf saved following row rows may =
     below : nat_eq row.id 65535 ≡ false
     below = let id = may.all.0.id in ne_eqb row.id 65535 (λ e. omega (arith, id, e))
 
-    by : (saved : List SavedRow) → FirstFits saved (row ∷ rows) → (is_no_id (chained saved) row.id ≡ false) × (begins_with_another (chained saved) (saved_row following row) ≡ false) × FirstFits (saved ++ saved_row following row ∷ []) rows
+    by : (saved : List SavedRow) → FirstFits saved (row ∷ rows)
+        → (is_no_id (chained saved) row.id ≡ false) × (begins_with_another (chained saved) (saved_row following row) ≡ false) × FirstFits (saved ++ saved_row following row ∷ []) rows
     by [] fits = (grind (arith, below), ap not (eq-eqb _ _ fits.0), fits.1)
     by (t ∷ saved) fits = (rw (ne_eqb row.id 0 fits.0) below, refl, fits.1)
 
@@ -141,7 +139,8 @@ row_kept : (shelf : Shelf) (kept : Kept) (saved : List SavedRow) (row : SavedRow
 row_kept Sdr kept saved row = (refl, simp append-nil)
 row_kept Sel kept saved row = (refl, simp append-nil)
 
-rows_give : (store : Store) (shelf : Shelf) (kept : Kept) (saved : List SavedRow) (rows : List Row) (rest : List (List (List ℕ))) → MayFollow shelf saved rows → Gives store (with_rows shelf kept (saved ++ saved_rows rows)) rest
+rows_give : (store : Store) (shelf : Shelf) (kept : Kept) (saved : List SavedRow) (rows : List Row) (rest : List (List (List ℕ))) → MayFollow shelf saved rows
+    → Gives store (with_rows shelf kept (saved ++ saved_rows rows)) rest
     → Gives store (with_rows shelf kept saved) (rows_lines (word_of shelf) rows ++ rest)
 rows_give store shelf kept saved [] rest may give = rw append-nil at give
 rows_give store shelf kept saved (row ∷ rows) rest may give =
@@ -158,5 +157,6 @@ rows_give store shelf kept saved (row ∷ rows) rest may give =
     (kept'.0 ∙ next.0)
     (subst (λ (k : Kept). Gives store k (rows_lines (word_of shelf) rows ++ rest)) (sym kept'.1) more)
 
-pub shelf_gives : (store : Store) (shelf : Shelf) (kept : Kept) (rows : List Row) (rest : List (List (List ℕ))) → IsShelf shelf rows → Gives store (with_rows shelf kept (saved_rows rows)) rest → Gives store (with_rows shelf kept []) (rows_lines (word_of shelf) rows ++ rest)
+pub shelf_gives : (store : Store) (shelf : Shelf) (kept : Kept) (rows : List Row) (rest : List (List (List ℕ))) → IsShelf shelf rows
+    → Gives store (with_rows shelf kept (saved_rows rows)) rest → Gives store (with_rows shelf kept []) (rows_lines (word_of shelf) rows ++ rest)
 shelf_gives store shelf kept rows rest is = rows_give store shelf kept [] rows rest (record { all = is.all; distinct = is.distinct; others = tt; first = (is.first, is.later) })
