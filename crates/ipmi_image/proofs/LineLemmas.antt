@@ -3,6 +3,7 @@ use Rattle.std.proofs.Common.{◌≡◌, ℕ, Bool, false, Result, Err, List, �
 use Rattle.ipmi_image.specs.Prelude.{LineFault, pieces, Line, with_two, with_three, line_of}
 use Rattle.ipmi_image.proofs.TextLemmas.{length_pieces}
 
+-- a third field is too many
 pub with_two_more : (line : List ℕ → List ℕ → Result Line LineFault) (a b rest : List ℕ) → with_two line (a ∷ b ∷ pieces 32 rest) ≡ Err LineFault.Line
 with_two_more line a b rest = grind (arith, length_pieces 32 rest)
 
