@@ -61,7 +61,6 @@ impl Line {
 }
 
 /// The two fields, where there are two.
-#[tactic(auto, using(crate::proofs::LineLemmas::with_two_more))]
 fn two(fields: &[u8]) -> Option<(&[u8], &[u8])>
     ensures { MatchOption result ((line : _) → with_two line (pieces 32 fields.now) ≡ Err
         LineFault.Line) (λ t. pieces 32 fields.now ≡ t.0.now ∷ t.1.now ∷ []) }
