@@ -1,12 +1,11 @@
 -- A listing, one step of its cursor after another, and the piece of each record.
-use Rattle.std.proofs.Common.{◌≡◌, ◌≢◌, ◌⊎◌, inl, inr, ℕ, ◌+◌, ◌-◌, ◌<◌, ◌≤◌, true, false, IsTrue, Option, None, Some, Result, Ok, Err, List, [], ◌∷◌, length, take, drop, refl, sym, ap, ◌∙◌, arith, take_all, length-drop, length-take, length-take-le, ◌++◌, Bool}
+use Rattle.std.proofs.Common.{◌≡◌, ◌≢◌, ◌⊎◌, inl, inr, ℕ, ◌+◌, ◌<◌, ◌≤◌, true, false, IsTrue, Option, None, Some, Result, Ok, Err, List, [], ◌∷◌, length, take, drop, refl, sym, ap, ◌∙◌, arith, take_all, length-drop, length-take, length-take-le, ◌++◌, Bool}
 use Rattle.std.proofs.lemmas.Bool.Decides.{nat_tests}
 use Rattle.std.proofs.lemmas.List.{drop_all}
-use Rattle.std.specs.FinSet as set
-use Rattle.ipmi_commands.specs.Below.{step_call_bound, digits, Shelf, Place, First, End, Ended, Cycle, Missing, Refused, GaveUp, Stalled, Malformed, KeepsReservations, Row, first_row, look, len_of, Store, rows_of, IsWalk, WalkEnd, Done, CycleAt, MissingAt, EndsBy, place_after_rows, Seen, IsHonest, StaysHonest, current, stays_refl, stays_trans, CursorState, StandsAt, WalkStep, MayFail, IsStep, StepLeaves, FailsAt, AsksNothing, CursorHoldsCurrent, asked_at, HandsOut, WithinTries, Task, TakesPart, shelf_of}
+use Rattle.ipmi_commands.specs.Below.{step_call_bound, digits, Shelf, Place, First, End, Ended, Cycle, Missing, Refused, GaveUp, KeepsReservations, Row, first_row, look, len_of, Store, rows_of, IsWalk, WalkEnd, Done, CycleAt, MissingAt, EndsBy, place_after_rows, Seen, IsHonest, StaysHonest, current, stays_refl, stays_trans, CursorState, StandsAt, WalkStep, MayFail, IsStep, StepLeaves, FailsAt, AsksNothing, CursorHoldsCurrent, asked_at, WithinTries, Task, TakesPart, shelf_of}
 use Rattle.ipmi_commands.specs.Prelude.{IsStopped, Stop, Span, IsWithin, is_reached, passing, shown_rows, span_items, span_plan, left_rows, left_plan, item_in, subject_in, spots_in, stop_at_end, IsOutcome, IsUnrefused, calls_for, calls_at_spots, AsksAt, FindsText, FindsNone, MayStopAt, HasListed, OnEachWalk, GoesAlong, ListsHonest, IsListing, Course, course, first_rows, first_end, Item, IsItemText, Spot, AtRecord, RunEnd, WalkEnds, run_end, Printed, Outcome, IsAllowed, CountsSo, IsFine, IsAmong, spots_at, end_spots, spots_after, request}
 use Rattle.ipmi_commands.specs.Plan as plan
-use Rattle.ipmi_commands.proofs.CallLemmas.{IsBelow, digits_some, len-next_ids, next_calls, first_row-first_rows}
+use Rattle.ipmi_commands.proofs.CallLemmas.{IsBelow, digits_some, next_calls, first_row-first_rows}
 use Rattle.ipmi_commands.proofs.ItemLemmas.{next_one, span_items-nil, passing-none, left_items-next, asked_first, none_printed, one_printed, first_cut, after_items, stops_after, leaves_joined, end_spot}
 use Rattle.ipmi_commands.proofs.NameLemmas.{Wrote, done_by, done_by-wrote, end_is}
 
@@ -242,8 +241,7 @@ module _ (t : Task) (tries : ℕ) (span : Span) (count : ℕ) (begun now : Curso
         (counts_since tries s s' s'' (λ same. (parts (Err (Refused n code)) step same).1) (plan.Refused (AtRecord n) code.0) lists.unrefused (answer.refusals, answer.last_code)) (omega (arith, lists.unrefused.troubles, answer.grows))
         (λ p holds. ((step.honest lists.stays.honest).plain (lists.stays.plain p) (lists.plain p holds)).fine) step.leaves.1 (λ spots among. among)
         (λ same start walk end w ends stands. (along (Err (Refused n code)) step same start walk end w ends stands).1)
-    listing_ended (Stalled n) step = absurd ((step.honest lists.stays.honest).answers)
-    listing_ended (Malformed n) step = absurd ((step.honest lists.stays.honest).answers)
+    listing_ended _ step = absurd ((step.honest lists.stays.honest).answers)
 
     -- a record was handed out
     pub listing_taken : (row : Row) → IsStep now next s' s'' (Ok (Some row)) → Taken t tries span count row (course begun next s s'' old new)
@@ -341,7 +339,3 @@ module _ (t : Task) (tries : ℕ) (span : Span) (count : ℕ) (begun next : Curs
           let held = taken.plain p holds in
           record { held = λ n is. current-kept next.shelf s' s'' (finds.asks.plain (taken.stays.plain p)) ∙ held.held n is };
     }
-
--- each record that is handed out leaves fewer ids
-pub fewer_ids : (now next : CursorState) (row : Row) → HandsOut now next row → 65536 - set.len next.ids < 65536 - set.len now.ids
-fewer_ids now next row hands = omega (arith, len-next_ids now next row hands, hands.at_most)

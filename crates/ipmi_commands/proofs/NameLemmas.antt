@@ -33,8 +33,7 @@ end_is t wrote = grind arith
 module _ (name : List ℕ) (store : Store) where
   -- a block is not empty, as it begins with the word Record
   chosen : (b : Bool) (id : ℕ) (view : SdrView) (text : List ℕ) → IfChosen b (λ t. IsSdrBlock id view (reading_for store view) t) text → Wrote b [] text
-  chosen true id view text is = rw is.text_is (omega arith)
-  chosen false id view text is = is
+  chosen b id view text is = grind arith
 
   block_wrote : (id : ℕ) (view : Result SdrView SdrFault) (text : List ℕ) → IsBlockOfName name store id view text → Wrote (view_has_name name view) [] text
   block_wrote id view text is = grind (arith, chosen)

@@ -274,7 +274,7 @@ left_plan span count t start walk end = record {
   end_spots = (span_plan span t start walk end).end_spots;
 }
 
--- along a walk: the cursor has passed so many rows of it; what the plan of the rest may leave, with what was written, the plan of all
+-- along a walk: the cursor has passed so many rows of it; what the plan of the rest may leave after what was written, the plan of all
 -- may leave; and so many calls are left for the rest
 pub record HasListed (r : Request) (store : Store) (walk : List Row) (end : WalkEnd) (span : Span) (count : ℕ) (rest : Plan) (calls_left : ℕ) (c : Course) : Type 0 where
   pub stands : StandsAt (rows_of (shelf_of r.task) store) r.start walk count c.now

@@ -1,8 +1,8 @@
-use Rattle.std.proofs.Common.{◌++◌, List, ℕ, Ok, Err, None, ◌∙◌, ap, refl, sym, rules}
+use Rattle.std.proofs.Common.{◌++◌, List, ℕ, Ok, Err, None, ◌∙◌, ap, refl, sym, arith, rules}
 use Rattle.ipmi_commands.specs.Below.{row_of_record, shelf_of}
 use Rattle.ipmi_commands.specs.Prelude.{most_for_one, most_after}
-use Rattle.ipmi_commands.proofs.CallLemmas.{called_more, called_stopped, called_ended}
-use Rattle.ipmi_commands.proofs.ListingLemmas.{listing_begins, listing_full, listing_done, listing_ended, listing_taken, listing_none, listing_cut, listing_more, within_more, fewer_ids}
+use Rattle.ipmi_commands.proofs.CallLemmas.{len-next_ids, called_more, called_stopped, called_ended}
+use Rattle.ipmi_commands.proofs.ListingLemmas.{listing_begins, listing_full, listing_done, listing_ended, listing_taken, listing_none, listing_cut, listing_more, within_more}
 use Rattle.ipmi_commands.proofs.NameLemmas.{wrote_more}
 use Rattle.ipmi_commands.proofs.listing.list_records.Goals as goal
 
@@ -78,7 +78,7 @@ returns-in-Err-write_all-clause-honest g c = λ h.
 pub records-smaller : goal.records-smaller
 records-smaller g c =
     let step = rw (c.in-Ok-Some.is ∙ ap Ok c.in-Ok-Some.field-0-is) at c.step.follows.holds-at-none in
-    fewer_ids c.records.cursor c.step.follows.lender-at-none (row_of_record c.in-Ok-Some.record) step.leaves.1
+    omega (arith, len-next_ids c.records.cursor c.step.follows.lender-at-none (row_of_record c.in-Ok-Some.record) step.leaves.1, step.leaves.1.at_most)
 
 pub records-preserved : goal.records-preserved
 records-preserved g c =
