@@ -1,6 +1,6 @@
 //! What a command prints for a record. Where the text needs a reading, it is asked for here, while the record is lent.
 ghost use Rattle.std.specs.Prelude.{◌≡◌, ◌+◌, ◌≤◌, IfOk, IfErr, IsOk, length, string_bytes};
-ghost use Rattle.ipmi_commands.specs.Below.{row_of_record, IsHonest, largest_len, whole_len, Task, sdr_view_of, shelf_of};
+ghost use Rattle.ipmi_commands.specs.Below.{row_of_record, IsHonest, largest_len, whole_len, Task, sdr_view_of, sel_view_of, IsSelBlock, IsSelLine, shelf_of};
 ghost use Rattle.ipmi_records.specs.Sdr.{name_of};
 ghost use Rattle.ipmi_commands.specs.Prelude.{ReadsFor, bytes_of, faults_of, Finds, FindsIn, FindsPiece, is_name, is_of_kind, IsBlockOfName, IsLineOf, IsListedOfKind, listed_spots, most_after, named_spots};
 
@@ -32,6 +32,26 @@ fn entry_bytes(bytes: &[u8]) -> [u8; 16]
     let mut entry = [0; 16];
     entry.copy_from_slice(bytes);
     entry
+}
+
+/// The line of an entry of the event log.
+fn entry_line(alloc: Global, lent: &Record<'_>) -> Result<String, AllocError>
+    requires { length lent.now.bytes.now ≡ 16 }
+    ensures { IfOk result (λ text. IsSelLine lent.now.id (sel_view_of lent.now.bytes.now)
+        (string_bytes text)) }
+{
+    let entry = entry_bytes(lent.bytes);
+    sel_line(alloc, lent.id, &SelView::read(&entry))
+}
+
+/// The block of an entry of the event log.
+fn entry_block(alloc: Global, lent: &Record<'_>) -> Result<String, AllocError>
+    requires { length lent.now.bytes.now ≡ 16 }
+    ensures { IfOk result (λ text. IsSelBlock lent.now.id (sel_view_of lent.now.bytes.now)
+        (string_bytes text)) }
+{
+    let entry = entry_bytes(lent.bytes);
+    sel_block(alloc, lent.id, &SelView::read(&entry))
 }
 
 /// Whether a record is of the kind, by its type byte.
@@ -202,14 +222,8 @@ fn record_piece<C: Controller>(
             Ok(Piece::Text(text))
         }
         Task::Get(name) => Ok(Piece::Text(named_block(alloc, ctl, name.as_str(), tries, lent)?)),
-        Task::SelList(_) => {
-            let entry = entry_bytes(lent.bytes);
-            Ok(Piece::Text(sel_line(alloc, lent.id, &SelView::read(&entry))?))
-        }
-        Task::SelGet(_) => {
-            let entry = entry_bytes(lent.bytes);
-            Ok(Piece::Text(sel_block(alloc, lent.id, &SelView::read(&entry))?))
-        }
+        Task::SelList(_) => Ok(Piece::Text(entry_line(alloc, lent)?)),
+        Task::SelGet(_) => Ok(Piece::Text(entry_block(alloc, lent)?)),
         Task::Info(_) | Task::Rewrite => Ok(Piece::Text(String::new(alloc))),
     }
 }
