@@ -16,7 +16,7 @@ use ipmi_text::Reading;
 use std::alloc::{AllocError, Global};
 
 /// The two forms in which a sensor data record is listed.
-#[derive(Clone, Copy, Debug, PartialEq, Eq)]
+#[derive(Clone, Copy)]
 pub(crate) enum Form {
     /// The line of `sdr list`.
     Short,

@@ -7,7 +7,7 @@ use ipmi_bus::{Ended, FruEnded};
 use std::alloc::AllocError;
 
 /// How a listing stopped.
-#[derive(Clone, Copy, Debug, PartialEq, Eq)]
+#[derive(Clone, Copy, PartialEq, Eq)]
 pub(crate) enum Stop {
     /// After the last record, or after as many as were wanted.
     Done,

@@ -8,7 +8,7 @@ use ipmi_bus::Shelf;
 use std::alloc::AllocError;
 
 /// Why a line is refused, or no memory was left for it.
-#[derive(Clone, Copy, Debug, PartialEq, Eq)]
+#[derive(Clone, Copy)]
 pub(crate) enum LineFault {
     Memory,
     Line,
@@ -29,7 +29,7 @@ impl From<AllocError> for LineFault {
 }
 
 /// What a line says, without the bytes of its last field, which are kept apart.
-#[derive(Clone, Copy, Debug)]
+#[derive(Clone, Copy)]
 pub(crate) enum Line {
     /// A record of a shelf. Where `next` is None, its next id is that of the following record, or
     /// FFFFh for the last one.

@@ -8,7 +8,7 @@ use std::marker::Model;
 
 /// A record of a shelf. Where `next` is None, its next id is that of the following record, or
 /// FFFFh for the last one.
-#[derive(Clone, Copy, Debug)]
+#[derive(Clone, Copy)]
 pub(crate) struct StoredRow<'a> {
     pub(crate) id: u16,
     pub(crate) next: Option<u16>,
@@ -16,7 +16,7 @@ pub(crate) struct StoredRow<'a> {
 }
 
 /// A record of a shelf, with the place and the number of its bytes among those of the shelf.
-#[derive(Clone, Copy, Debug)]
+#[derive(Clone, Copy)]
 pub(crate) struct RowHead {
     id: u16,
     next: Option<u16>,

@@ -18,7 +18,7 @@ pub(crate) trait Keyed {
 }
 
 /// The inventory of a FRU device.
-#[derive(Debug, Drop)]
+#[derive(Drop)]
 pub(crate) struct StoredInventory {
     pub(crate) id: u8,
     pub(crate) bytes: Vec<u8>,
@@ -33,7 +33,7 @@ impl Keyed for StoredInventory {
 }
 
 /// What a sensor answers.
-#[derive(Debug, Drop)]
+#[derive(Drop)]
 pub(crate) struct StoredSensor {
     pub(crate) lun: u8,
     pub(crate) number: u8,

@@ -16,7 +16,7 @@ impl Model for History {
 }
 
 /// What one call of a sink did.
-#[derive(Clone, Copy, Debug)]
+#[derive(Clone, Copy)]
 pub(crate) struct Taking<'a> {
     /// The bytes that it took.
     pub(crate) bytes: &'a [u8],

@@ -133,7 +133,7 @@ fn push_fru(text: &mut String, fru: Option<u8>) -> Result<(), AllocError>
 }
 
 /// A record type without a name, printed as its number.
-#[derive(Clone, Copy, Debug)]
+#[derive(Clone, Copy)]
 pub(crate) struct RecordType(pub(crate) u8);
 
 impl fmt::Display for RecordType {

@@ -6,7 +6,7 @@ use ipmi_text::HexByte;
 use std::fmt;
 
 /// A byte, printed as two upper-case hex digits.
-#[derive(Clone, Copy, Debug)]
+#[derive(Clone, Copy)]
 struct UpperByte(u8);
 
 impl fmt::Display for UpperByte {
@@ -23,7 +23,7 @@ impl fmt::Display for UpperByte {
 }
 
 /// A number of two bytes, printed as four lower-case hex digits.
-#[derive(Clone, Copy, Debug)]
+#[derive(Clone, Copy)]
 pub(crate) struct HexWord(pub(crate) u16);
 
 impl fmt::Display for HexWord {
@@ -40,7 +40,7 @@ impl fmt::Display for HexWord {
 }
 
 /// A byte, printed as the standard writes it: two upper-case hex digits and an `h`.
-#[derive(Clone, Copy, Debug)]
+#[derive(Clone, Copy)]
 pub(crate) struct ByteH(pub(crate) u8);
 
 impl fmt::Display for ByteH {
@@ -56,7 +56,7 @@ impl fmt::Display for ByteH {
 }
 
 /// A number of two bytes, printed as the standard writes it: four upper-case hex digits and an `h`.
-#[derive(Clone, Copy, Debug)]
+#[derive(Clone, Copy)]
 pub(crate) struct WordH(pub(crate) u16);
 
 impl fmt::Display for WordH {

@@ -58,7 +58,7 @@ pub fn sdr_line(
 }
 
 /// The number of a sensor, printed as dashes where there is none.
-#[derive(Clone, Copy, Debug)]
+#[derive(Clone, Copy)]
 struct SensorNumber(Option<Sensor>);
 
 impl fmt::Display for SensorNumber {

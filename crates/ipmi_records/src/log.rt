@@ -17,7 +17,7 @@ const LINE_ROOM: usize = 128;
 const BLOCK_ROOM: usize = 256;
 
 /// The sensor of an event, printed as what it senses and its number.
-#[derive(Clone, Copy, Debug)]
+#[derive(Clone, Copy)]
 struct EventSensor {
     kind: SensorType,
     number: HexByte,
@@ -68,7 +68,7 @@ fn direction_text(event: &EventEntry) -> &'static str
 }
 
 /// A manufacturer's number, printed as six hex digits.
-#[derive(Clone, Copy, Debug)]
+#[derive(Clone, Copy)]
 struct Manufacturer(u32);
 
 impl fmt::Display for Manufacturer {

@@ -27,7 +27,7 @@ const THRESHOLD_EVENTS: [&str; 12] = [
 ];
 
 /// A number below 16, printed as one lower-case hex digit.
-#[derive(Clone, Copy, Debug)]
+#[derive(Clone, Copy)]
 struct HexDigit {
     value: u8,
     ghost below: { value < 16 },

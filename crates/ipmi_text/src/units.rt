@@ -53,7 +53,7 @@ fn is_there(text: &str) -> bool
 }
 
 /// A base or modifier unit, printed as its name, or as `unit 0xNN` where it has none.
-#[derive(Clone, Copy, Debug)]
+#[derive(Clone, Copy)]
 struct UnitName(u8);
 
 impl UnitName {
@@ -85,7 +85,7 @@ impl fmt::Display for UnitName {
 }
 
 /// A base unit and its modifier, which bits 2:1 of sensor units 1 join to it.
-#[derive(Clone, Copy, Debug)]
+#[derive(Clone, Copy)]
 struct BaseUnit(Units);
 
 impl BaseUnit {

@@ -11,7 +11,7 @@ use std::io::{ErrorKind, Input, Read};
 pub(crate) const MOST_BYTES: u64 = 64 * 1024 * 1024;
 
 /// Why an image was not read.
-#[derive(Clone, Copy, Debug, PartialEq, Eq)]
+#[derive(Clone, Copy)]
 pub(crate) enum InputFault {
     /// No memory was left.
     Memory,
