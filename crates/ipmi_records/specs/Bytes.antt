@@ -45,3 +45,8 @@ abbrev pub columns_line : List (List ℕ) → List ℕ
 columns_line [] = codes "\n"
 columns_line (column ∷ []) = column ++ codes "\n"
 columns_line (column ∷ next ∷ columns) = column ++ (codes " | " ++ columns_line (next ∷ columns))
+
+-- a line for each label and text
+abbrev pub labelled_lines : List (List ℕ × List ℕ) → List ℕ
+labelled_lines [] = []
+labelled_lines (line ∷ lines) = line.0 ++ (codes ": " ++ (line.1 ++ (codes "\n" ++ labelled_lines lines)))

@@ -1,10 +1,9 @@
 -- The reading column and the status of a line (the project's own). Readings are as Get Sensor Reading answers (IPMI v2.0, section
 -- 35.14).
-use Rattle.std.specs.Prelude.{◌≡◌, ℕ, ◌+◌, ◌*◌, ◌%◌, ◌==◌, ◌&&◌, ◌||◌, not, Bool, true, false, if◌then◌else◌, ℤ, Option, Some, None, List, ◌++◌, codes, decimal}
+use Rattle.std.specs.Prelude.{◌≡◌, ℕ, ◌+◌, ◌*◌, ◌%◌, ◌==◌, ◌&&◌, ◌||◌, not, Bool, if◌then◌else◌, ℤ, Option, Some, None, List, ◌++◌, codes, decimal}
 use Rattle.ipmi_records.specs.Below.{IsDecimalOf, hex_byte, reading_value, after_space, unit_text_of, Reading}
 use Rattle.ipmi_records.specs.declared.column.Shown.{Shown}
 use Rattle.ipmi_records.specs.declared.sdr.SdrView.{SdrView}
-use Rattle.ipmi_records.specs.declared.sdr.SdrView.TheVariants.{Full, Compact, EventOnly, Generic, Fru, Controller, Other}
 use Rattle.ipmi_records.specs.declared.sensor.Sensor.{Sensor}
 use Rattle.ipmi_records.specs.Bytes.{byte_h, has_bit, hex_word}
 use Rattle.ipmi_records.specs.Sdr.{fru_in, own_address, record_type}
@@ -50,24 +49,16 @@ states_text reading = codes "states 0x" ++ hex_word (256 * (reading.more % 128) 
 
 -- ---- the reading column
 
-abbrev pub IsAnalogColumn : Bool → List ℕ → Reading → List ℕ → Type 0
-IsAnalogColumn false bytes reading text = text ≡ states_text reading
-IsAnalogColumn true bytes reading text = IsRawText bytes reading.raw text
+-- of a sensor: its value by the bytes of its record, or its states where `analog` has none
+abbrev pub IsSensorColumn : Shown → Option (List ℕ) → List ℕ → Type 0
+IsSensorColumn Shown.OtherOwner analog text = text ≡ codes "other owner"
+IsSensorColumn Shown.NoReading analog text = text ≡ codes "no reading"
+IsSensorColumn (Shown.Value reading) None text = text ≡ states_text reading
+IsSensorColumn (Shown.Value reading) (Some bytes) text = IsRawText bytes reading.raw text
 
--- of a full record: the states where the analog format is 3, otherwise the value
-abbrev pub has_analog : List ℕ → Bool
-has_analog bytes = not (analog_format bytes == 3)
-
-abbrev pub IsFullColumn : List ℕ → Shown → List ℕ → Type 0
-IsFullColumn bytes Shown.OtherOwner text = text ≡ codes "other owner"
-IsFullColumn bytes Shown.NoReading text = text ≡ codes "no reading"
-IsFullColumn bytes (Shown.Value reading) text = IsAnalogColumn (has_analog bytes) bytes reading text
-
--- of a compact record: always the states
-abbrev pub compact_column : Shown → List ℕ
-compact_column Shown.OtherOwner = codes "other owner"
-compact_column Shown.NoReading = codes "no reading"
-compact_column (Shown.Value reading) = states_text reading
+-- a full record tells how a reading is a value, unless the analog format is 3
+abbrev pub analog_of : List ℕ → Option (List ℕ)
+analog_of bytes = if analog_format bytes == 3 then None else Some bytes
 
 -- of a FRU locator: the device, or that its inventory is not read
 abbrev pub fru_column : Option ℕ → List ℕ
@@ -78,13 +69,13 @@ abbrev pub type_text : ℕ → List ℕ
 type_text type = codes "record type 0x" ++ hex_byte type
 
 abbrev pub IsReadingColumn : SdrView → Option Reading → List ℕ → Type 0
-IsReadingColumn (Full bytes) reading text = IsFullColumn bytes (shown_of (full_sensor bytes) reading) text
-IsReadingColumn (Compact bytes) reading text = text ≡ compact_column (shown_of (compact_sensor bytes) reading)
-IsReadingColumn (EventOnly bytes) reading text = text ≡ codes "event only"
-IsReadingColumn (Generic bytes) reading text = text ≡ codes "generic device"
-IsReadingColumn (Fru bytes) reading text = text ≡ fru_column (fru_in bytes)
-IsReadingColumn (Controller bytes) reading text = text ≡ codes "controller " ++ byte_h (locator_in bytes).address
-IsReadingColumn (Other bytes) reading text = text ≡ type_text (record_type bytes)
+IsReadingColumn (SdrView.Full bytes) reading text = IsSensorColumn (shown_of (full_sensor bytes) reading) (analog_of bytes) text
+IsReadingColumn (SdrView.Compact bytes) reading text = IsSensorColumn (shown_of (compact_sensor bytes) reading) None text
+IsReadingColumn (SdrView.EventOnly bytes) reading text = text ≡ codes "event only"
+IsReadingColumn (SdrView.Generic bytes) reading text = text ≡ codes "generic device"
+IsReadingColumn (SdrView.Fru bytes) reading text = text ≡ fru_column (fru_in bytes)
+IsReadingColumn (SdrView.Controller bytes) reading text = text ≡ codes "controller " ++ byte_h (locator_in bytes).address
+IsReadingColumn (SdrView.Other bytes) reading text = text ≡ type_text (record_type bytes)
 
 -- ---- the status
 
@@ -107,10 +98,6 @@ sensor_status sensor Shown.NoReading = codes "ns"
 sensor_status sensor (Shown.Value reading) = if has_thresholds sensor then threshold_status reading.status else codes "ok"
 
 abbrev pub status_of : SdrView → Option Reading → List ℕ
-status_of (Full bytes) reading = sensor_status (full_sensor bytes) (shown_of (full_sensor bytes) reading)
-status_of (Compact bytes) reading = sensor_status (compact_sensor bytes) (shown_of (compact_sensor bytes) reading)
-status_of (EventOnly bytes) reading = codes "na"
-status_of (Generic bytes) reading = codes "na"
-status_of (Fru bytes) reading = codes "na"
-status_of (Controller bytes) reading = codes "na"
-status_of (Other bytes) reading = codes "na"
+status_of (SdrView.Full bytes) reading = sensor_status (full_sensor bytes) (shown_of (full_sensor bytes) reading)
+status_of (SdrView.Compact bytes) reading = sensor_status (compact_sensor bytes) (shown_of (compact_sensor bytes) reading)
+status_of _ reading = codes "na"

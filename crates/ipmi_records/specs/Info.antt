@@ -1,9 +1,8 @@
 -- The answers of Get SDR Repository Info and Get SEL Info (IPMI v2.0, sections 33.9 and 31.2), after their completion code: 14
 -- bytes, alike in both; and their text (the project's own).
 use Rattle.std.specs.Prelude.{◌≡◌, ℕ, Bool, if◌then◌else◌, List, [], ◌∷◌, ◌++◌, codes, decimal}
-use Rattle.std.specs.List.{concat}
-use Rattle.ipmi_records.specs.Below.{hex_byte, IsUtcTextOf, labelled}
-use Rattle.ipmi_records.specs.Bytes.{byte_at, has_bit, number_at}
+use Rattle.ipmi_records.specs.Below.{hex_byte, IsUtcTextOf}
+use Rattle.ipmi_records.specs.Bytes.{labelled_lines, byte_at, has_bit, number_at}
 
 abbrev pub info_version : List ℕ → ℕ
 info_version bytes = byte_at 1 bytes
@@ -34,26 +33,18 @@ has_overflow bytes = has_bit 7 (support bytes)
 abbrev pub overflow_text : Bool → List ℕ
 overflow_text overflow = if overflow then codes "yes" else codes "no"
 
-abbrev pub count_lines : List ℕ → List ℕ
-count_lines bytes = concat (
-    labelled (codes "Version") (codes "0x" ++ hex_byte (info_version bytes))
-    ∷ labelled (codes "Records") (decimal (record_count bytes))
-    ∷ labelled (codes "Free Space") (decimal (free_space bytes))
-    ∷ [])
-
-pub record AreTimeLines (bytes text : List ℕ) : Type 0 where
+-- seven lines
+pub record IsInfoBlock (bytes text : List ℕ) : Type 0 where
   pub addition : List ℕ
   pub erase : List ℕ
   pub is_addition : IsUtcTextOf (last_addition bytes) addition
   pub is_erase : IsUtcTextOf (last_erase bytes) erase
-  pub text_is : text ≡ concat (labelled (codes "Last Addition") addition ∷ labelled (codes "Last Erase") erase ∷ [])
-
-abbrev pub support_lines : List ℕ → List ℕ
-support_lines bytes =
-    labelled (codes "Overflow") (overflow_text (has_overflow bytes)) ++ labelled (codes "Support") (codes "0x" ++ hex_byte (support bytes))
-
--- seven lines
-pub record IsInfoBlock (bytes text : List ℕ) : Type 0 where
-  pub times : List ℕ
-  pub are_times : AreTimeLines bytes times
-  pub text_is : text ≡ count_lines bytes ++ (times ++ support_lines bytes)
+  pub text_is : text ≡ labelled_lines (
+      (codes "Version", codes "0x" ++ hex_byte (info_version bytes))
+      ∷ (codes "Records", decimal (record_count bytes))
+      ∷ (codes "Free Space", decimal (free_space bytes))
+      ∷ (codes "Last Addition", addition)
+      ∷ (codes "Last Erase", erase)
+      ∷ (codes "Overflow", overflow_text (has_overflow bytes))
+      ∷ (codes "Support", codes "0x" ++ hex_byte (support bytes))
+      ∷ [])

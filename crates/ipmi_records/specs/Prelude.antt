@@ -1,16 +1,14 @@
 -- The words of this crate that its code and proofs cite, passed on from one place. Declares nothing.
-pub use Rattle.ipmi_records.specs.Bytes.{byte_h, has_bit, hex_word, padded_to, signed, word_h}
-pub use Rattle.ipmi_records.specs.Columns.{compact_column, fru_column, has_analog, has_thresholds, is_there, IsAnalogColumn, IsFullColumn, IsRawText, IsReadingColumn, IsValueText, sensor_status, shown_of, shown_reading, states_text, status_of, threshold_status, unit_text_in}
-pub use Rattle.ipmi_records.specs.Info.{AreTimeLines, count_lines, free_space, has_overflow, info_version, IsInfoBlock, last_addition, last_erase, overflow_text, record_count, support_lines}
+pub use Rattle.ipmi_records.specs.Bytes.{byte_h, has_bit, hex_word, padded_to, signed, upper_byte, word_h}
+pub use Rattle.ipmi_records.specs.Columns.{analog_of, fru_column, has_thresholds, is_there, IsRawText, IsReadingColumn, IsSensorColumn, IsValueText, sensor_status, shown_of, shown_reading, states_text, status_of, threshold_status, type_text, unit_text_in}
+pub use Rattle.ipmi_records.specs.Info.{free_space, has_overflow, IsInfoBlock, last_addition, last_erase, overflow_text, record_count}
 pub use Rattle.ipmi_records.specs.Laws.{ExtendedLineIsUnique, SdrLineIsUnique, SelBlockIsUnique, SelLineIsUnique}
 pub use Rattle.ipmi_records.specs.Sdr.{body_len, compact_id_place, event_only_id_place, fru_in, fru_of, full_id_place, id_field_at, id_field_of, id_string_of, key_of, least_len, locator_id_place, locator_of, name_of, reading_of, record_bytes, record_id, record_type, record_version, sdr_view_by_type, sdr_view_of, sensor_of}
-pub use Rattle.ipmi_records.specs.SdrText.{all_thresholds, AreReadingLines, AreThresholdTexts, AreValueLines, entity_column, entity_or_dash, entity_text, fault_line, fault_text, head_lines, IsExtendedLine, IsSdrBlock, IsSdrLine, IsThresholdText, key_lines, kind_text, locator_lines, name_line, number_text, printed_name, sensor_columns, sensor_lines, subject_lines, threshold_name, thresholds_of}
+pub use Rattle.ipmi_records.specs.SdrText.{all_thresholds, AreReadingLines, AreThresholdTexts, AreValueLines, entity_column, entity_or_dash, entity_text, fault_line, fault_text, head_lines, IsExtendedLine, IsSdrBlock, IsSdrLine, IsThresholdText, kind_text, locator_lines, name_line, number_text, printed_name, sensor_columns, sensor_lines, threshold_name, thresholds_of}
 pub use Rattle.ipmi_records.specs.Sel.{entry_bytes, entry_id, entry_type, event_data, event_type, generator, is_deasserted, manufacturer, oem_data, plain_data, revision, sel_view_of, sensor_number, sensor_type, time_stamp}
-pub use Rattle.ipmi_records.specs.SelText.{AreEventLines, AreFieldLines, AreOemLines, AreOriginLines, direction_text, event_body_lines, IsEventLine, IsOemLine, IsSelBlock, IsSelLine, manufacturer_text, numbered_sensor, plain_line, sensor_text, words_of_event}
+pub use Rattle.ipmi_records.specs.SelText.{AreEventLines, AreFieldLines, AreOemLines, direction_text, IsEventLine, IsOemLine, IsSelBlock, IsSelLine, manufacturer_text, numbered_sensor, sensor_text, words_of_event}
 pub use Rattle.ipmi_records.specs.Sensor.{access_lun, analog_format, compact_sensor, entity_in, event_only_sensor, exponent_k1, exponent_k2, factor_b, factor_m, factors_in, fru_id, full_sensor, is_logical, is_readable, linearization, locator_in, sensor_by, threshold_bit, threshold_in, threshold_place, units_in}
 pub use Rattle.ipmi_records.specs.declared.column.Shown.{Shown}
 pub use Rattle.ipmi_records.specs.declared.sdr.SdrView.{SdrView}
 pub use Rattle.ipmi_records.specs.declared.sel.SelView.{SelView}
-pub use Rattle.ipmi_records.specs.declared.sensor.Sensor.{Sensor}
 pub use Rattle.ipmi_records.specs.declared.sensor.Threshold.{Threshold}
-pub use Rattle.ipmi_records.specs.declared.sensor.Threshold.TheVariants.{LowerCritical, LowerNonCritical, LowerNonRecoverable, UpperCritical, UpperNonCritical, UpperNonRecoverable}

@@ -2,9 +2,7 @@
 use Rattle.std.specs.Prelude.{ℕ, ◌+◌, ◌==◌, ◌&&◌, nat_lt, not, if◌then◌else◌, Option, Some, None, option_map, Result, Ok, Err, List, length, drop}
 use Rattle.ipmi_records.specs.Below.{sdr_text_of}
 use Rattle.ipmi_records.specs.declared.sdr.SdrFault.{SdrFault}
-use Rattle.ipmi_records.specs.declared.sdr.SdrFault.TheVariants.{Short, Length, BodyShort}
 use Rattle.ipmi_records.specs.declared.sdr.SdrView.{SdrView}
-use Rattle.ipmi_records.specs.declared.sdr.SdrView.TheVariants.{Full, Compact, EventOnly, Generic, Fru, Controller, Other}
 use Rattle.ipmi_records.specs.declared.sensor.Sensor.{Sensor}
 use Rattle.ipmi_records.specs.declared.locator.Locator.{Locator}
 use Rattle.ipmi_records.specs.declared.id_string.IdString.{IdString}
@@ -56,51 +54,45 @@ least_len type =
 -- the view of a record's bytes, by its type
 abbrev pub sdr_view_by_type : ℕ → List ℕ → SdrView
 sdr_view_by_type type bytes =
-    if type == 0x01 then Full bytes
-    else if type == 0x02 then Compact bytes
-    else if type == 0x03 then EventOnly bytes
-    else if type == 0x10 then Generic bytes
-    else if type == 0x11 then Fru bytes
-    else if type == 0x12 then Controller bytes
-    else Other bytes
+    if type == 0x01 then SdrView.Full bytes
+    else if type == 0x02 then SdrView.Compact bytes
+    else if type == 0x03 then SdrView.EventOnly bytes
+    else if type == 0x10 then SdrView.Generic bytes
+    else if type == 0x11 then SdrView.Fru bytes
+    else if type == 0x12 then SdrView.Controller bytes
+    else SdrView.Other bytes
 
 -- the view that bytes have, or the first fault: fewer than a header, another number than the header says, fewer than the type needs
 abbrev pub sdr_view_of : List ℕ → Result SdrView SdrFault
 sdr_view_of bytes =
-    if nat_lt (length bytes) 5 then Err Short
-    else if not (length bytes == 5 + body_len bytes) then Err Length
-    else if nat_lt (length bytes) (least_len (record_type bytes)) then Err BodyShort
+    if nat_lt (length bytes) 5 then Err SdrFault.Short
+    else if not (length bytes == 5 + body_len bytes) then Err SdrFault.Length
+    else if nat_lt (length bytes) (least_len (record_type bytes)) then Err SdrFault.BodyShort
     else Ok (sdr_view_by_type (record_type bytes) bytes)
 
 -- the bytes of a view
 abbrev pub record_bytes : SdrView → List ℕ
-record_bytes (Full bytes) = bytes
-record_bytes (Compact bytes) = bytes
-record_bytes (EventOnly bytes) = bytes
-record_bytes (Generic bytes) = bytes
-record_bytes (Fru bytes) = bytes
-record_bytes (Controller bytes) = bytes
-record_bytes (Other bytes) = bytes
+record_bytes (SdrView.Full bytes) = bytes
+record_bytes (SdrView.Compact bytes) = bytes
+record_bytes (SdrView.EventOnly bytes) = bytes
+record_bytes (SdrView.Generic bytes) = bytes
+record_bytes (SdrView.Fru bytes) = bytes
+record_bytes (SdrView.Controller bytes) = bytes
+record_bytes (SdrView.Other bytes) = bytes
 
 -- what a sensor's record tells of its sensor; other records are of no sensor
 abbrev pub sensor_of : SdrView → Option Sensor
-sensor_of (Full bytes) = Some (full_sensor bytes)
-sensor_of (Compact bytes) = Some (compact_sensor bytes)
-sensor_of (EventOnly bytes) = Some (event_only_sensor bytes)
-sensor_of (Generic bytes) = None
-sensor_of (Fru bytes) = None
-sensor_of (Controller bytes) = None
-sensor_of (Other bytes) = None
+sensor_of (SdrView.Full bytes) = Some (full_sensor bytes)
+sensor_of (SdrView.Compact bytes) = Some (compact_sensor bytes)
+sensor_of (SdrView.EventOnly bytes) = Some (event_only_sensor bytes)
+sensor_of _ = None
 
 -- what a locator tells of its device; other records are of no device
 abbrev pub locator_of : SdrView → Option Locator
-locator_of (Full bytes) = None
-locator_of (Compact bytes) = None
-locator_of (EventOnly bytes) = None
-locator_of (Generic bytes) = Some (locator_in bytes)
-locator_of (Fru bytes) = Some (locator_in bytes)
-locator_of (Controller bytes) = Some (locator_in bytes)
-locator_of (Other bytes) = None
+locator_of (SdrView.Generic bytes) = Some (locator_in bytes)
+locator_of (SdrView.Fru bytes) = Some (locator_in bytes)
+locator_of (SdrView.Controller bytes) = Some (locator_in bytes)
+locator_of _ = None
 
 -- ---- names
 
@@ -117,13 +109,13 @@ abbrev pub id_field_at : ℕ → List ℕ → IdField
 id_field_at place bytes = record { type_length = byte_at place bytes; rest = drop place bytes }
 
 abbrev pub id_string_of : SdrView → Option IdField
-id_string_of (Full bytes) = Some (id_field_at full_id_place bytes)
-id_string_of (Compact bytes) = Some (id_field_at compact_id_place bytes)
-id_string_of (EventOnly bytes) = Some (id_field_at event_only_id_place bytes)
-id_string_of (Generic bytes) = Some (id_field_at locator_id_place bytes)
-id_string_of (Fru bytes) = Some (id_field_at locator_id_place bytes)
-id_string_of (Controller bytes) = Some (id_field_at locator_id_place bytes)
-id_string_of (Other bytes) = None
+id_string_of (SdrView.Full bytes) = Some (id_field_at full_id_place bytes)
+id_string_of (SdrView.Compact bytes) = Some (id_field_at compact_id_place bytes)
+id_string_of (SdrView.EventOnly bytes) = Some (id_field_at event_only_id_place bytes)
+id_string_of (SdrView.Generic bytes) = Some (id_field_at locator_id_place bytes)
+id_string_of (SdrView.Fru bytes) = Some (id_field_at locator_id_place bytes)
+id_string_of (SdrView.Controller bytes) = Some (id_field_at locator_id_place bytes)
+id_string_of (SdrView.Other bytes) = None
 
 -- the name of a record, by its ID string
 abbrev pub name_of : SdrView → Option (List ℕ)
@@ -141,13 +133,9 @@ key_of sensor = if sensor.owner == own_address then Some (sensor.lun, sensor.num
 
 -- the sensor whose reading is asked for: that of a full or a compact record
 abbrev pub reading_of : SdrView → Option (ℕ × ℕ)
-reading_of (Full bytes) = key_of (full_sensor bytes)
-reading_of (Compact bytes) = key_of (compact_sensor bytes)
-reading_of (EventOnly bytes) = None
-reading_of (Generic bytes) = None
-reading_of (Fru bytes) = None
-reading_of (Controller bytes) = None
-reading_of (Other bytes) = None
+reading_of (SdrView.Full bytes) = key_of (full_sensor bytes)
+reading_of (SdrView.Compact bytes) = key_of (compact_sensor bytes)
+reading_of _ = None
 
 -- the FRU device of a locator that is reached through the controller itself: logical, at its address, at LUN 0
 abbrev pub fru_in : List ℕ → Option ℕ
@@ -157,10 +145,5 @@ fru_in bytes =
 
 -- the FRU device whose inventory is asked for: that of a FRU locator
 abbrev pub fru_of : SdrView → Option ℕ
-fru_of (Full bytes) = None
-fru_of (Compact bytes) = None
-fru_of (EventOnly bytes) = None
-fru_of (Generic bytes) = None
-fru_of (Fru bytes) = fru_in bytes
-fru_of (Controller bytes) = None
-fru_of (Other bytes) = None
+fru_of (SdrView.Fru bytes) = fru_in bytes
+fru_of _ = None

@@ -4,15 +4,12 @@ use Rattle.std.specs.Prelude.{◌≡◌, ℕ, Option, Some, None, unwrap_or, Boo
 use Rattle.std.specs.List.{concat}
 use Rattle.ipmi_records.specs.Below.{sensor_type_text_of, Reading, labelled}
 use Rattle.ipmi_records.specs.declared.sdr.SdrFault.{SdrFault}
-use Rattle.ipmi_records.specs.declared.sdr.SdrFault.TheVariants.{Short, Length, BodyShort}
 use Rattle.ipmi_records.specs.declared.sdr.SdrView.{SdrView}
-use Rattle.ipmi_records.specs.declared.sdr.SdrView.TheVariants.{Full, Compact, EventOnly, Generic, Fru, Controller, Other}
 use Rattle.ipmi_records.specs.declared.sensor.Entity.{Entity}
 use Rattle.ipmi_records.specs.declared.sensor.Sensor.{Sensor}
 use Rattle.ipmi_records.specs.declared.sensor.Threshold.{Threshold}
-use Rattle.ipmi_records.specs.declared.sensor.Threshold.TheVariants.{UpperNonRecoverable, UpperCritical, UpperNonCritical, LowerNonRecoverable, LowerCritical, LowerNonCritical}
 use Rattle.ipmi_records.specs.declared.locator.Locator.{Locator}
-use Rattle.ipmi_records.specs.Bytes.{columns_line, padded_to, byte_h, word_h}
+use Rattle.ipmi_records.specs.Bytes.{labelled_lines, columns_line, padded_to, byte_h, word_h}
 use Rattle.ipmi_records.specs.Sdr.{locator_of, name_of, record_type, sensor_of}
 use Rattle.ipmi_records.specs.Sensor.{full_sensor, is_readable, threshold_in}
 use Rattle.ipmi_records.specs.Columns.{IsRawText, IsReadingColumn, has_thresholds, status_of, type_text}
@@ -76,9 +73,9 @@ pub record IsExtendedLine (view : SdrView) (reading : Option Reading) (text : Li
 -- ---- the line of a fault
 
 abbrev pub fault_text : SdrFault → List ℕ
-fault_text Short = codes "short"
-fault_text Length = codes "wrong length"
-fault_text BodyShort = codes "body too short"
+fault_text SdrFault.Short = codes "short"
+fault_text SdrFault.Length = codes "wrong length"
+fault_text SdrFault.BodyShort = codes "body too short"
 
 abbrev pub fault_line : ℕ → SdrFault → List ℕ
 fault_line id fault = labelled (codes "record " ++ word_h id) (fault_text fault)
@@ -86,13 +83,13 @@ fault_line id fault = labelled (codes "record " ++ word_h id) (fault_text fault)
 -- ---- blocks
 
 abbrev pub kind_text : SdrView → List ℕ
-kind_text (Full bytes) = codes "full"
-kind_text (Compact bytes) = codes "compact"
-kind_text (EventOnly bytes) = codes "event-only"
-kind_text (Generic bytes) = codes "generic locator"
-kind_text (Fru bytes) = codes "FRU locator"
-kind_text (Controller bytes) = codes "controller locator"
-kind_text (Other bytes) = type_text (record_type bytes)
+kind_text (SdrView.Full bytes) = codes "full"
+kind_text (SdrView.Compact bytes) = codes "compact"
+kind_text (SdrView.EventOnly bytes) = codes "event-only"
+kind_text (SdrView.Generic bytes) = codes "generic locator"
+kind_text (SdrView.Fru bytes) = codes "FRU locator"
+kind_text (SdrView.Controller bytes) = codes "controller locator"
+kind_text (SdrView.Other bytes) = type_text (record_type bytes)
 
 abbrev pub name_line : Option (List ℕ) → List ℕ
 name_line None = []
@@ -102,23 +99,16 @@ abbrev pub head_lines : ℕ → SdrView → List ℕ
 head_lines id view =
     labelled (codes "Record") (word_h id) ++ (labelled (codes "Type") (kind_text view) ++ name_line (name_of view))
 
--- where the sensor is asked for
-abbrev pub key_lines : Sensor → List ℕ
-key_lines sensor =
-    labelled (codes "Owner") (byte_h sensor.owner ++ (codes " LUN " ++ decimal sensor.lun)) ++ labelled (codes "Sensor") (byte_h sensor.number)
-
--- what it senses
-abbrev pub subject_lines : Sensor → List ℕ
-subject_lines sensor = concat (
-    labelled (codes "Entity") (entity_text sensor.entity)
-    ∷ labelled (codes "Kind") (sensor_type_text_of sensor.sensor_type)
-    ∷ labelled (codes "Event type") (byte_h sensor.event_type)
-    ∷ [])
-
--- what the record tells of its sensor
+-- what the record tells of its sensor: where it is asked for, and what it senses
 abbrev pub sensor_lines : Option Sensor → List ℕ
 sensor_lines None = []
-sensor_lines (Some sensor) = key_lines sensor ++ subject_lines sensor
+sensor_lines (Some sensor) = labelled_lines (
+    (codes "Owner", byte_h sensor.owner ++ (codes " LUN " ++ decimal sensor.lun))
+    ∷ (codes "Sensor", byte_h sensor.number)
+    ∷ (codes "Entity", entity_text sensor.entity)
+    ∷ (codes "Kind", sensor_type_text_of sensor.sensor_type)
+    ∷ (codes "Event type", byte_h sensor.event_type)
+    ∷ [])
 
 -- what the record tells of its device
 abbrev pub locator_lines : Option Locator → List ℕ
@@ -133,12 +123,12 @@ pub record AreReadingLines (view : SdrView) (reading : Option Reading) (text : L
   pub text_is : text ≡ labelled (codes "Reading") column ++ labelled (codes "Status") (status_of view reading)
 
 abbrev pub threshold_name : Threshold → List ℕ
-threshold_name UpperNonRecoverable = codes "Upper non-recoverable"
-threshold_name UpperCritical = codes "Upper critical"
-threshold_name UpperNonCritical = codes "Upper non-critical"
-threshold_name LowerNonRecoverable = codes "Lower non-recoverable"
-threshold_name LowerCritical = codes "Lower critical"
-threshold_name LowerNonCritical = codes "Lower non-critical"
+threshold_name Threshold.UpperNonRecoverable = codes "Upper non-recoverable"
+threshold_name Threshold.UpperCritical = codes "Upper critical"
+threshold_name Threshold.UpperNonCritical = codes "Upper non-critical"
+threshold_name Threshold.LowerNonRecoverable = codes "Lower non-recoverable"
+threshold_name Threshold.LowerCritical = codes "Lower critical"
+threshold_name Threshold.LowerNonCritical = codes "Lower non-critical"
 
 -- the value of a threshold
 pub record IsThresholdLine (bytes : List ℕ) (threshold : Threshold) (text : List ℕ) : Type 0 where
@@ -159,7 +149,8 @@ AreThresholdTexts bytes (threshold ∷ thresholds) text =
 -- the thresholds in the order of their bits, from bit 5 down
 abbrev pub all_thresholds : List Threshold
 all_thresholds =
-    UpperNonRecoverable ∷ UpperCritical ∷ UpperNonCritical ∷ LowerNonRecoverable ∷ LowerCritical ∷ LowerNonCritical ∷ []
+    Threshold.UpperNonRecoverable ∷ Threshold.UpperCritical ∷ Threshold.UpperNonCritical
+    ∷ Threshold.LowerNonRecoverable ∷ Threshold.LowerCritical ∷ Threshold.LowerNonCritical ∷ []
 
 -- a sensor without thresholds has no line of one
 abbrev pub thresholds_of : Sensor → List Threshold
@@ -169,19 +160,15 @@ thresholds_of sensor = if has_thresholds sensor then all_thresholds else []
 pub record AreFullLines (bytes : List ℕ) (reading : Option Reading) (text : List ℕ) : Type 0 where
   pub columns : List ℕ
   pub thresholds : List ℕ
-  pub are_columns : AreReadingLines (Full bytes) reading columns
+  pub are_columns : AreReadingLines (SdrView.Full bytes) reading columns
   pub are_thresholds : AreThresholdTexts bytes (thresholds_of (full_sensor bytes)) thresholds
   pub text_is : text ≡ columns ++ thresholds
 
 -- what is known of the sensor's values: only of a full and of a compact record
 abbrev pub AreValueLines : SdrView → Option Reading → List ℕ → Type 0
-AreValueLines (Full bytes) reading text = AreFullLines bytes reading text
-AreValueLines (Compact bytes) reading text = AreReadingLines (Compact bytes) reading text
-AreValueLines (EventOnly bytes) reading text = text ≡ []
-AreValueLines (Generic bytes) reading text = text ≡ []
-AreValueLines (Fru bytes) reading text = text ≡ []
-AreValueLines (Controller bytes) reading text = text ≡ []
-AreValueLines (Other bytes) reading text = text ≡ []
+AreValueLines (SdrView.Full bytes) reading text = AreFullLines bytes reading text
+AreValueLines (SdrView.Compact bytes) reading text = AreReadingLines (SdrView.Compact bytes) reading text
+AreValueLines _ reading text = text ≡ []
 
 -- the block of a record, with an empty line at its end
 pub record IsSdrBlock (id : ℕ) (view : SdrView) (reading : Option Reading) (text : List ℕ) : Type 0 where

@@ -1,7 +1,6 @@
 -- Entries of the event log as views (IPMI v2.0, section 32). An entry has 16 bytes.
 use Rattle.std.specs.Prelude.{ℕ, ◌%◌, ◌==◌, ◌&&◌, nat_le, Bool, if◌then◌else◌, List, drop, take}
 use Rattle.ipmi_records.specs.declared.sel.SelView.{SelView}
-use Rattle.ipmi_records.specs.declared.sel.SelView.TheVariants.{Event, OemTimed, OemPlain, Other}
 use Rattle.ipmi_records.specs.Bytes.{byte_at, has_bit, number_at}
 
 -- ---- every entry: bytes 1 to 3
@@ -16,20 +15,20 @@ entry_type bytes = byte_at 3 bytes
 -- the view of an entry, by its type: 02h is an event, C0h to DFh are OEM records with a time stamp, E0h to FFh without
 abbrev pub sel_view_by_type : ℕ → List ℕ → SelView
 sel_view_by_type type bytes =
-    if type == 0x02 then Event bytes
-    else if nat_le 0xc0 type && nat_le type 0xdf then OemTimed bytes
-    else if nat_le 0xe0 type then OemPlain bytes
-    else Other bytes
+    if type == 0x02 then SelView.Event bytes
+    else if nat_le 0xc0 type && nat_le type 0xdf then SelView.OemTimed bytes
+    else if nat_le 0xe0 type then SelView.OemPlain bytes
+    else SelView.Other bytes
 
 abbrev pub sel_view_of : List ℕ → SelView
 sel_view_of bytes = sel_view_by_type (entry_type bytes) bytes
 
 -- the bytes of a view
 abbrev pub entry_bytes : SelView → List ℕ
-entry_bytes (Event bytes) = bytes
-entry_bytes (OemTimed bytes) = bytes
-entry_bytes (OemPlain bytes) = bytes
-entry_bytes (Other bytes) = bytes
+entry_bytes (SelView.Event bytes) = bytes
+entry_bytes (SelView.OemTimed bytes) = bytes
+entry_bytes (SelView.OemPlain bytes) = bytes
+entry_bytes (SelView.Other bytes) = bytes
 
 -- ---- events and OEM records with a time stamp (sections 32.1 and 32.2)
 

@@ -3,8 +3,7 @@ use Rattle.std.specs.Prelude.{◌≡◌, ℕ, ◌/◌, ◌%◌, Bool, if◌then�
 use Rattle.std.specs.List.{concat}
 use Rattle.ipmi_records.specs.Below.{event_text_of, binary_text, hex_byte, sensor_type_text_of, IsUtcTextOf, labelled}
 use Rattle.ipmi_records.specs.declared.sel.SelView.{SelView}
-use Rattle.ipmi_records.specs.declared.sel.SelView.TheVariants.{Event, OemTimed, OemPlain, Other}
-use Rattle.ipmi_records.specs.Bytes.{columns_line, hex_word, byte_h, word_h}
+use Rattle.ipmi_records.specs.Bytes.{labelled_lines, columns_line, hex_word, byte_h, word_h}
 use Rattle.ipmi_records.specs.Columns.{type_text}
 use Rattle.ipmi_records.specs.Sel.{entry_bytes, entry_type, event_data, event_type, generator, is_deasserted, manufacturer, oem_data, plain_data, revision, sensor_number, sensor_type, time_stamp}
 
@@ -48,51 +47,41 @@ abbrev pub plain_line : ℕ → List ℕ → List ℕ → List ℕ
 plain_line id type bytes = columns_line (hex_word id ∷ type ∷ binary_text (plain_data bytes) ∷ [])
 
 abbrev pub IsSelLine : ℕ → SelView → List ℕ → Type 0
-IsSelLine id (Event bytes) text = IsEventLine id bytes text
-IsSelLine id (OemTimed bytes) text = IsOemLine id bytes text
-IsSelLine id (OemPlain bytes) text = text ≡ plain_line id (oem_text (entry_type bytes)) bytes
-IsSelLine id (Other bytes) text = text ≡ plain_line id (type_text (entry_type bytes)) bytes
+IsSelLine id (SelView.Event bytes) text = IsEventLine id bytes text
+IsSelLine id (SelView.OemTimed bytes) text = IsOemLine id bytes text
+IsSelLine id (SelView.OemPlain bytes) text = text ≡ plain_line id (oem_text (entry_type bytes)) bytes
+IsSelLine id (SelView.Other bytes) text = text ≡ plain_line id (type_text (entry_type bytes)) bytes
 
 -- ---- blocks
 
--- when an event came, and from what
-pub record AreOriginLines (bytes text : List ℕ) : Type 0 where
+-- when an event came, from what, and what it says
+pub record AreEventLines (bytes text : List ℕ) : Type 0 where
   pub time : List ℕ
   pub is_time : IsUtcTextOf (time_stamp bytes) time
-  pub text_is : text ≡ concat (
-      labelled (codes "Time") time
-      ∷ labelled (codes "Generator") (word_h (generator bytes))
-      ∷ labelled (codes "Revision") (byte_h (revision bytes))
+  pub text_is : text ≡ labelled_lines (
+      (codes "Time", time)
+      ∷ (codes "Generator", word_h (generator bytes))
+      ∷ (codes "Revision", byte_h (revision bytes))
+      ∷ (codes "Sensor", sensor_text bytes)
+      ∷ (codes "Event", words_of_event bytes)
+      ∷ (codes "Direction", direction_text (is_deasserted bytes))
+      ∷ (codes "Data", binary_text (event_data bytes))
       ∷ [])
-
--- what it says
-abbrev pub event_body_lines : List ℕ → List ℕ
-event_body_lines bytes = concat (
-    labelled (codes "Sensor") (sensor_text bytes)
-    ∷ labelled (codes "Event") (words_of_event bytes)
-    ∷ labelled (codes "Direction") (direction_text (is_deasserted bytes))
-    ∷ labelled (codes "Data") (binary_text (event_data bytes))
-    ∷ [])
-
-pub record AreEventLines (bytes text : List ℕ) : Type 0 where
-  pub origin : List ℕ
-  pub are_origin : AreOriginLines bytes origin
-  pub text_is : text ≡ origin ++ event_body_lines bytes
 
 pub record AreOemLines (bytes text : List ℕ) : Type 0 where
   pub time : List ℕ
   pub is_time : IsUtcTextOf (time_stamp bytes) time
-  pub text_is : text ≡ concat (
-      labelled (codes "Time") time
-      ∷ labelled (codes "Manufacturer") (manufacturer_text (manufacturer bytes))
-      ∷ labelled (codes "Data") (binary_text (oem_data bytes))
+  pub text_is : text ≡ labelled_lines (
+      (codes "Time", time)
+      ∷ (codes "Manufacturer", manufacturer_text (manufacturer bytes))
+      ∷ (codes "Data", binary_text (oem_data bytes))
       ∷ [])
 
 abbrev pub AreFieldLines : SelView → List ℕ → Type 0
-AreFieldLines (Event bytes) text = AreEventLines bytes text
-AreFieldLines (OemTimed bytes) text = AreOemLines bytes text
-AreFieldLines (OemPlain bytes) text = text ≡ labelled (codes "Data") (binary_text (plain_data bytes))
-AreFieldLines (Other bytes) text = text ≡ labelled (codes "Data") (binary_text (plain_data bytes))
+AreFieldLines (SelView.Event bytes) text = AreEventLines bytes text
+AreFieldLines (SelView.OemTimed bytes) text = AreOemLines bytes text
+AreFieldLines (SelView.OemPlain bytes) text = text ≡ labelled (codes "Data") (binary_text (plain_data bytes))
+AreFieldLines (SelView.Other bytes) text = text ≡ labelled (codes "Data") (binary_text (plain_data bytes))
 
 -- the block of an entry, with an empty line at its end
 pub record IsSelBlock (id : ℕ) (view : SelView) (text : List ℕ) : Type 0 where

@@ -5,7 +5,6 @@ use Rattle.ipmi_records.specs.declared.sensor.Entity.{Entity}
 use Rattle.ipmi_records.specs.declared.sensor.Sensor.{Sensor}
 use Rattle.ipmi_records.specs.declared.sensor.SensorUnits.{SensorUnits}
 use Rattle.ipmi_records.specs.declared.sensor.Threshold.{Threshold}
-use Rattle.ipmi_records.specs.declared.sensor.Threshold.TheVariants.{UpperNonRecoverable, UpperCritical, UpperNonCritical, LowerNonRecoverable, LowerCritical, LowerNonCritical}
 use Rattle.ipmi_records.specs.declared.locator.Locator.{Locator}
 use Rattle.ipmi_records.specs.Bytes.{byte_at, has_bit, signed}
 
@@ -80,24 +79,24 @@ factors_in bytes = record {
 
 -- the byte of a threshold
 abbrev pub threshold_place : Threshold → ℕ
-threshold_place UpperNonRecoverable = 37
-threshold_place UpperCritical = 38
-threshold_place UpperNonCritical = 39
-threshold_place LowerNonRecoverable = 40
-threshold_place LowerCritical = 41
-threshold_place LowerNonCritical = 42
+threshold_place Threshold.UpperNonRecoverable = 37
+threshold_place Threshold.UpperCritical = 38
+threshold_place Threshold.UpperNonCritical = 39
+threshold_place Threshold.LowerNonRecoverable = 40
+threshold_place Threshold.LowerCritical = 41
+threshold_place Threshold.LowerNonCritical = 42
 
 abbrev pub threshold_in : Threshold → List ℕ → ℕ
 threshold_in threshold bytes = byte_at (threshold_place threshold) bytes
 
 -- the bit of a threshold, among the readable thresholds (byte 19) and in what Get Sensor Reading compares (section 35.14)
 abbrev pub threshold_bit : Threshold → ℕ
-threshold_bit UpperNonRecoverable = 5
-threshold_bit UpperCritical = 4
-threshold_bit UpperNonCritical = 3
-threshold_bit LowerNonRecoverable = 2
-threshold_bit LowerCritical = 1
-threshold_bit LowerNonCritical = 0
+threshold_bit Threshold.UpperNonRecoverable = 5
+threshold_bit Threshold.UpperCritical = 4
+threshold_bit Threshold.UpperNonCritical = 3
+threshold_bit Threshold.LowerNonRecoverable = 2
+threshold_bit Threshold.LowerCritical = 1
+threshold_bit Threshold.LowerNonCritical = 0
 
 abbrev pub is_readable : Threshold → List ℕ → Bool
 is_readable threshold bytes = has_bit (threshold_bit threshold) (byte_at 19 bytes)

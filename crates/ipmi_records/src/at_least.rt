@@ -1,5 +1,5 @@
 //! The bytes of a record, of which there are as many as its fields need.
-ghost use Rattle.std.specs.Prelude.{◌≡◌, ◌≤◌, length};
+ghost use Rattle.std.specs.Prelude.{◌≡◌, ◌≤◌, length, List, ℕ};
 
 use std::marker::Model;
 
@@ -11,8 +11,6 @@ pub struct AtLeast<'a, const TYPE: u8, const LEN: usize> {
 }
 
 impl<'a, const TYPE: u8, const LEN: usize> Model for AtLeast<'a, TYPE, LEN> {
-    ghost use Rattle.std.specs.Prelude.{◌≤◌, List, ℕ, length};
-
     ghost Value = { List ℕ };
 
     ghost view = { λ v. v.bytes.now };

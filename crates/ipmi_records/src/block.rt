@@ -1,11 +1,11 @@
 //! The block of a sensor data record.
 ghost use Rattle.std.specs.Prelude.{◌≡◌, IfOk, string_bytes};
-ghost use Rattle.ipmi_records.specs.Prelude.{name_of, is_readable, AreReadingLines, AreThresholdTexts, AreValueLines, IsSdrBlock, IsThresholdText, all_thresholds, head_lines, key_lines, kind_text, locator_lines, name_line, sensor_lines, subject_lines, threshold_name, thresholds_of};
+ghost use Rattle.ipmi_records.specs.Prelude.{name_of, is_readable, AreReadingLines, AreThresholdTexts, AreValueLines, IsSdrBlock, IsThresholdText, all_thresholds, head_lines, kind_text, locator_lines, name_line, sensor_lines, threshold_name, thresholds_of};
 
 use crate::column::{RecordType, has_thresholds, push_raw, push_reading, status_of};
 use crate::digits::{ByteH, WordH};
 use crate::locator::Locator;
-use crate::sdr::SdrView;
+use crate::sdr::SdrView::{self, Compact, Controller, EventOnly, Fru, Full, Generic, Other};
 use crate::sensor::{FullSensor, Sensor, Threshold};
 use ipmi_text::{Reading, SensorType, text_with_room};
 use std::alloc::{AllocError, Global};
@@ -24,13 +24,13 @@ fn kind_text(alloc: Global, view: &SdrView) -> Result<String, AllocError>
     ensures { IfOk result (λ text. string_bytes text ≡ kind_text view.now) }
 {
     match view {
-        SdrView::Full(_) => String::from_str(alloc, "full"),
-        SdrView::Compact(_) => String::from_str(alloc, "compact"),
-        SdrView::EventOnly(_) => String::from_str(alloc, "event-only"),
-        SdrView::Generic(_) => String::from_str(alloc, "generic locator"),
-        SdrView::Fru(_) => String::from_str(alloc, "FRU locator"),
-        SdrView::Controller(_) => String::from_str(alloc, "controller locator"),
-        SdrView::Other(other) => text_with_room(alloc, PART_ROOM, RecordType(other.bytes()[3])),
+        Full(_) => String::from_str(alloc, "full"),
+        Compact(_) => String::from_str(alloc, "compact"),
+        EventOnly(_) => String::from_str(alloc, "event-only"),
+        Generic(_) => String::from_str(alloc, "generic locator"),
+        Fru(_) => String::from_str(alloc, "FRU locator"),
+        Controller(_) => String::from_str(alloc, "controller locator"),
+        Other(other) => text_with_room(alloc, PART_ROOM, RecordType(other.bytes()[3])),
     }
 }
 
@@ -58,44 +58,27 @@ fn head_lines(alloc: Global, id: u16, view: &SdrView) -> Result<String, AllocErr
     )
 }
 
-/// Where a sensor is asked for.
-fn key_lines(alloc: Global, sensor: &Sensor) -> Result<String, AllocError>
-    ensures { IfOk result (λ text. string_bytes text ≡ key_lines sensor.now) }
-{
-    let owner = ByteH(sensor.owner);
-    let lun = sensor.lun;
-    let number = ByteH(sensor.number);
-    text_with_room(
-        alloc,
-        PART_ROOM,
-        format_args!("Owner: {owner} LUN {lun}\nSensor: {number}\n"),
-    )
-}
-
-/// What a sensor senses.
-fn subject_lines(alloc: Global, sensor: &Sensor) -> Result<String, AllocError>
-    ensures { IfOk result (λ text. string_bytes text ≡ subject_lines sensor.now) }
-{
-    let entity = sensor.entity;
-    let kind = SensorType(sensor.sensor_type);
-    let event_type = ByteH(sensor.event_type);
-    text_with_room(
-        alloc,
-        PART_ROOM,
-        format_args!("Entity: {entity}\nKind: {kind}\nEvent type: {event_type}\n"),
-    )
-}
-
-/// What the record tells of its sensor.
+/// What the record tells of its sensor: where it is asked for, and what it senses.
 fn sensor_lines(alloc: Global, sensor: Option<Sensor>) -> Result<String, AllocError>
     ensures { IfOk result (λ text. string_bytes text ≡ sensor_lines sensor) }
 {
     let Some(sensor) = sensor else {
         return Ok(String::new(alloc));
     };
-    let key = key_lines(alloc, &sensor)?;
-    let subject = subject_lines(alloc, &sensor)?;
-    text_with_room(alloc, PART_ROOM, format_args!("{key}{subject}"))
+    let owner = ByteH(sensor.owner);
+    let lun = sensor.lun;
+    let number = ByteH(sensor.number);
+    let entity = sensor.entity;
+    let kind = SensorType(sensor.sensor_type);
+    let event_type = ByteH(sensor.event_type);
+    text_with_room(
+        alloc,
+        PART_ROOM,
+        format_args!(
+            "Owner: {owner} LUN {lun}\nSensor: {number}\n\
+             Entity: {entity}\nKind: {kind}\nEvent type: {event_type}\n"
+        ),
+    )
 }
 
 /// What the record tells of its device.
@@ -197,17 +180,13 @@ fn value_lines(
     ensures { IfOk result (λ text. AreValueLines view.now reading (string_bytes text)) }
 {
     match view {
-        SdrView::Full(full) => {
+        Full(full) => {
             let columns = reading_lines(alloc, view, reading)?;
             let thresholds = threshold_lines(alloc, full, &full.sensor())?;
             text_with_room(alloc, LINES_ROOM, format_args!("{columns}{thresholds}"))
         }
-        SdrView::Compact(_) => reading_lines(alloc, view, reading),
-        SdrView::EventOnly(_) => Ok(String::new(alloc)),
-        SdrView::Generic(_) => Ok(String::new(alloc)),
-        SdrView::Fru(_) => Ok(String::new(alloc)),
-        SdrView::Controller(_) => Ok(String::new(alloc)),
-        SdrView::Other(_) => Ok(String::new(alloc)),
+        Compact(_) => reading_lines(alloc, view, reading),
+        EventOnly(_) | Generic(_) | Fru(_) | Controller(_) | Other(_) => Ok(String::new(alloc)),
     }
 }
 

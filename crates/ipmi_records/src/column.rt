@@ -1,9 +1,10 @@
 //! The reading column and the status of a record.
-ghost use Rattle.std.specs.Prelude.{◌≡◌, ◌++◌, OnOk, string_bytes};
+ghost use Rattle.std.specs.Prelude.{◌≡◌, ◌++◌, OnOk, option_map, string_bytes, Some};
 ghost use Rattle.ipmi_records.specs.Below.{Appends, unit_text_of};
-ghost use Rattle.ipmi_records.specs.Prelude.{IsAnalogColumn, IsFullColumn, IsRawText, IsReadingColumn, compact_column, fru_column, has_analog, has_thresholds, is_there, sensor_status, shown_of, shown_reading, states_text, status_of, threshold_status, unit_text_in};
+ghost use Rattle.ipmi_records.specs.Prelude.{IsRawText, IsReadingColumn, IsSensorColumn, fru_column, has_thresholds, is_there, sensor_status, shown_of, shown_reading, states_text, status_of, threshold_status, unit_text_in, type_text};
 
 use crate::digits::{ByteH, HexWord, has_bit};
+use crate::sdr::SdrView::{Compact, Controller, EventOnly, Fru, Full, Generic, Other};
 use crate::sdr::{OWN_ADDRESS, SdrView};
 use crate::sensor::{FullSensor, Sensor};
 use ipmi_text::{HexByte, Reading, Units, convert, push_fixed, push_units};
@@ -66,6 +67,7 @@ fn units_of(full: &FullSensor) -> Units
 }
 
 /// Appends the value of a raw byte with its units, or `raw 0xNN` where the record gives it none.
+#[tactic(auto, using(crate::proofs::ColumnLemmas::quantity_appended))]
 pub(crate) fn push_raw(text: &mut String, full: &FullSensor, raw: u8) -> Result<(), AllocError>
     ensures { OnOk result
         (Appends (IsRawText full.now raw) (string_bytes text.old) (string_bytes text.new)) }
@@ -87,38 +89,23 @@ fn push_states(text: &mut String, reading: Reading) -> Result<(), AllocError>
     write!(text, "states 0x{states}")
 }
 
-/// Appends the value of a full record's sensor, or its states.
-fn push_value(text: &mut String, full: &FullSensor, reading: Reading) -> Result<(), AllocError>
-    ensures { OnOk result (Appends (IsAnalogColumn (has_analog full.now) full.now reading)
+/// Appends the reading column of a sensor: its value where its record tells how a reading is one,
+/// otherwise its states.
+fn push_sensor(
+    text: &mut String,
+    shown: Shown,
+    analog: Option<&FullSensor>,
+) -> Result<(), AllocError>
+    ensures { OnOk result (Appends (IsSensorColumn shown (option_map (λ full. full.now) analog.entry))
         (string_bytes text.old) (string_bytes text.new)) }
 {
-    if full.analog_format() == 3 {
-        return push_states(text, reading);
-    }
-    push_raw(text, full, reading.raw)
-}
-
-/// Appends the reading column of a full record.
-fn push_full(text: &mut String, full: &FullSensor, shown: Shown) -> Result<(), AllocError>
-    ensures { OnOk result
-        (Appends (IsFullColumn full.now shown) (string_bytes text.old) (string_bytes text.new)) }
-{
     match shown {
         Shown::OtherOwner => text.push_str("other owner"),
         Shown::NoReading => text.push_str("no reading"),
-        Shown::Value(reading) => push_value(text, full, reading),
-    }
-}
-
-/// Appends the reading column of a compact record.
-fn push_compact(text: &mut String, shown: Shown) -> Result<(), AllocError>
-    ensures { OnOk result
-        (string_bytes text.new ≡ string_bytes text.old ++ compact_column shown) }
-{
-    match shown {
-        Shown::OtherOwner => text.push_str("other owner"),
-        Shown::NoReading => text.push_str("no reading"),
-        Shown::Value(reading) => push_states(text, reading),
+        Shown::Value(reading) => match analog {
+            Some(full) => push_raw(text, full, reading.raw),
+            None => push_states(text, reading),
+        },
     }
 }
 
@@ -137,9 +124,6 @@ fn push_fru(text: &mut String, fru: Option<u8>) -> Result<(), AllocError>
 pub(crate) struct RecordType(pub(crate) u8);
 
 impl fmt::Display for RecordType {
-    ghost use Rattle.std.specs.Prelude.{Some};
-    ghost use Rattle.ipmi_records.specs.Columns.{type_text};
-
     ghost output = { λ kind. Some (type_text kind.0) };
 
     fn fmt<W: fmt::Write>(&self, f: &mut fmt::Formatter<W>) -> fmt::Result {
@@ -159,16 +143,19 @@ pub(crate) fn push_reading(
         (string_bytes text.new)) }
 {
     match view {
-        SdrView::Full(full) => push_full(text, full, shown_of(&full.sensor(), reading)),
-        SdrView::Compact(compact) => push_compact(text, shown_of(&compact.sensor(), reading)),
-        SdrView::EventOnly(_) => text.push_str("event only"),
-        SdrView::Generic(_) => text.push_str("generic device"),
-        SdrView::Fru(fru) => push_fru(text, fru.fru_of()),
-        SdrView::Controller(controller) => {
+        Full(full) if full.analog_format() == 3 => {
+            push_sensor(text, shown_of(&full.sensor(), reading), None)
+        }
+        Full(full) => push_sensor(text, shown_of(&full.sensor(), reading), Some(full)),
+        Compact(compact) => push_sensor(text, shown_of(&compact.sensor(), reading), None),
+        EventOnly(_) => text.push_str("event only"),
+        Generic(_) => text.push_str("generic device"),
+        Fru(fru) => push_fru(text, fru.fru_of()),
+        Controller(controller) => {
             let address = ByteH(controller.locator().address);
             write!(text, "controller {address}")
         }
-        SdrView::Other(other) => {
+        Other(other) => {
             let kind = RecordType(other.bytes()[3]);
             write!(text, "{kind}")
         }
@@ -198,11 +185,11 @@ pub(crate) fn has_thresholds(sensor: &Sensor) -> bool
     sensor.event_type == 0x01
 }
 
-/// The status of a sensor.
-fn sensor_status(sensor: &Sensor, shown: &Shown) -> &'static str
-    ensures { result.now ≡ sensor_status sensor.now shown.now }
+/// The status of a sensor whose reading this is.
+fn sensor_status(sensor: &Sensor, reading: Option<Reading>) -> &'static str
+    ensures { result.now ≡ sensor_status sensor.now (shown_of sensor.now reading) }
 {
-    match shown {
+    match shown_of(sensor, reading) {
         Shown::OtherOwner => "na",
         Shown::NoReading => "ns",
         Shown::Value(reading) => {
@@ -214,24 +201,13 @@ fn sensor_status(sensor: &Sensor, shown: &Shown) -> &'static str
     }
 }
 
-/// The status of a sensor whose reading this is.
-fn status_by(sensor: Sensor, reading: Option<Reading>) -> &'static str
-    ensures { result.now ≡ sensor_status sensor (shown_of sensor reading) }
-{
-    sensor_status(&sensor, &shown_of(&sensor, reading))
-}
-
 /// The status of a record.
 pub(crate) fn status_of(view: &SdrView, reading: Option<Reading>) -> &'static str
     ensures { result.now ≡ status_of view.now reading }
 {
     match view {
-        SdrView::Full(full) => status_by(full.sensor(), reading),
-        SdrView::Compact(compact) => status_by(compact.sensor(), reading),
-        SdrView::EventOnly(_) => "na",
-        SdrView::Generic(_) => "na",
-        SdrView::Fru(_) => "na",
-        SdrView::Controller(_) => "na",
-        SdrView::Other(_) => "na",
+        Full(full) => sensor_status(&full.sensor(), reading),
+        Compact(compact) => sensor_status(&compact.sensor(), reading),
+        EventOnly(_) | Generic(_) | Fru(_) | Controller(_) | Other(_) => "na",
     }
 }

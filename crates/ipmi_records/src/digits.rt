@@ -1,6 +1,6 @@
 //! Hex digits of a fixed number, and single bits.
-ghost use Rattle.std.specs.Prelude.{◌≡◌, ◌<◌};
-ghost use Rattle.ipmi_records.specs.Prelude.{has_bit};
+ghost use Rattle.std.specs.Prelude.{◌≡◌, ◌<◌, Some};
+ghost use Rattle.ipmi_records.specs.Prelude.{has_bit, byte_h, hex_word, upper_byte, word_h};
 
 use ipmi_text::HexByte;
 use std::fmt;
@@ -10,9 +10,6 @@ use std::fmt;
 struct UpperByte(u8);
 
 impl fmt::Display for UpperByte {
-    ghost use Rattle.std.specs.Prelude.{Some};
-    ghost use Rattle.ipmi_records.specs.Bytes.{upper_byte};
-
     ghost output = { λ byte. Some (upper_byte byte.0) };
 
     #[tactic(auto, using(std::proofs::lemmas::Fmt::hex_byte))]
@@ -27,9 +24,6 @@ impl fmt::Display for UpperByte {
 pub(crate) struct HexWord(pub(crate) u16);
 
 impl fmt::Display for HexWord {
-    ghost use Rattle.std.specs.Prelude.{Some};
-    ghost use Rattle.ipmi_records.specs.Bytes.{hex_word};
-
     ghost output = { λ word. Some (hex_word word.0) };
 
     fn fmt<W: fmt::Write>(&self, f: &mut fmt::Formatter<W>) -> fmt::Result {
@@ -44,9 +38,6 @@ impl fmt::Display for HexWord {
 pub(crate) struct ByteH(pub(crate) u8);
 
 impl fmt::Display for ByteH {
-    ghost use Rattle.std.specs.Prelude.{Some};
-    ghost use Rattle.ipmi_records.specs.Bytes.{byte_h};
-
     ghost output = { λ byte. Some (byte_h byte.0) };
 
     fn fmt<W: fmt::Write>(&self, f: &mut fmt::Formatter<W>) -> fmt::Result {
@@ -60,9 +51,6 @@ impl fmt::Display for ByteH {
 pub(crate) struct WordH(pub(crate) u16);
 
 impl fmt::Display for WordH {
-    ghost use Rattle.std.specs.Prelude.{Some};
-    ghost use Rattle.ipmi_records.specs.Bytes.{word_h};
-
     ghost output = { λ word. Some (word_h word.0) };
 
     fn fmt<W: fmt::Write>(&self, f: &mut fmt::Formatter<W>) -> fmt::Result {

@@ -1,10 +1,10 @@
 //! The block of what a repository or a log tells of itself.
 ghost use Rattle.std.specs.Prelude.{◌≡◌, IfOk, string_bytes};
-ghost use Rattle.ipmi_records.specs.Prelude.{AreTimeLines, IsInfoBlock, count_lines, free_space, has_overflow, last_addition, last_erase, overflow_text, record_count, support_lines};
+ghost use Rattle.ipmi_records.specs.Prelude.{IsInfoBlock, free_space, has_overflow, last_addition, last_erase, overflow_text, record_count};
 
 use crate::digits::has_bit;
 use byteorder::{ByteOrder, LittleEndian};
-use ipmi_text::{HexByte, text_with_room, utc_text};
+use ipmi_text::{HexByte, UtcTime, text_with_room};
 use std::alloc::{AllocError, Global};
 
 /// The room for the text.
@@ -45,53 +45,24 @@ fn overflow_text(bytes: &[u8; 14]) -> &'static str
     if has_bit(bytes[13], 7) { "yes" } else { "no" }
 }
 
-/// The version, the number of records and the free space.
-fn count_lines(alloc: Global, bytes: &[u8; 14]) -> Result<String, AllocError>
-    ensures { IfOk result (λ text. string_bytes text ≡ count_lines bytes.now) }
-{
-    let version = HexByte(bytes[0]);
-    let records = record_count(bytes);
-    let free = free_space(bytes);
-    text_with_room(
-        alloc,
-        ROOM,
-        format_args!("Version: 0x{version}\nRecords: {records}\nFree Space: {free}\n"),
-    )
-}
-
-/// The two times.
-fn time_lines(alloc: Global, bytes: &[u8; 14]) -> Result<String, AllocError>
-    ensures { IfOk result (λ text. AreTimeLines bytes.now (string_bytes text)) }
-{
-    let addition = utc_text(alloc, last_addition(bytes))?;
-    let erase = utc_text(alloc, last_erase(bytes))?;
-    text_with_room(
-        alloc,
-        ROOM,
-        format_args!("Last Addition: {addition}\nLast Erase: {erase}\n"),
-    )
-}
-
-/// Overflow, and the whole byte that it is in.
-fn support_lines(alloc: Global, bytes: &[u8; 14]) -> Result<String, AllocError>
-    ensures { IfOk result (λ text. string_bytes text ≡ support_lines bytes.now) }
-{
-    let overflow = overflow_text(bytes);
-    let support = HexByte(bytes[13]);
-    text_with_room(
-        alloc,
-        ROOM,
-        format_args!("Overflow: {overflow}\nSupport: 0x{support}\n"),
-    )
-}
-
 /// The block of an info, seven lines. `bytes` are the answer of Get SDR Repository Info or Get SEL
 /// Info (IPMI v2.0, sections 33.9 and 31.2) after its completion code.
 pub fn info_block(alloc: Global, bytes: &[u8; 14]) -> Result<String, AllocError>
     ensures { IfOk result (λ text. IsInfoBlock bytes.now (string_bytes text)) }
 {
-    let counts = count_lines(alloc, bytes)?;
-    let times = time_lines(alloc, bytes)?;
-    let support = support_lines(alloc, bytes)?;
-    text_with_room(alloc, ROOM, format_args!("{counts}{times}{support}"))
+    let version = HexByte(bytes[0]);
+    let records = record_count(bytes);
+    let free = free_space(bytes);
+    let addition = UtcTime::of(last_addition(bytes));
+    let erase = UtcTime::of(last_erase(bytes));
+    let overflow = overflow_text(bytes);
+    let support = HexByte(bytes[13]);
+    text_with_room(
+        alloc,
+        ROOM,
+        format_args!(
+            "Version: 0x{version}\nRecords: {records}\nFree Space: {free}\n\
+             Last Addition: {addition}\nLast Erase: {erase}\nOverflow: {overflow}\nSupport: 0x{support}\n"
+        ),
+    )
 }

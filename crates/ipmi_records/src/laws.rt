@@ -8,7 +8,6 @@ pub fn one_sdr_line()
     ensures { SdrLineIsUnique }
 {
     ipmi_text::laws::one_decimal_of_a_value();
-    ipmi_text::laws::one_utc_text();
 }
 
 /// A record has at most one extended line under a reading, so what `sdr_eline` gives is the only one.
@@ -16,7 +15,6 @@ pub fn one_extended_line()
     ensures { ExtendedLineIsUnique }
 {
     ipmi_text::laws::one_decimal_of_a_value();
-    ipmi_text::laws::one_utc_text();
 }
 
 /// A record has at most one block under an id and a reading, so what `sdr_block` gives is the only one.
@@ -25,14 +23,12 @@ pub fn one_sdr_block()
         IsSdrBlock id view reading text → IsSdrBlock id view reading other → text ≡ other }
 {
     ipmi_text::laws::one_decimal_of_a_value();
-    ipmi_text::laws::one_utc_text();
 }
 
 /// An entry has at most one line under an id, so what `sel_line` gives is the only one.
 pub fn one_sel_line()
     ensures { SelLineIsUnique }
 {
-    ipmi_text::laws::one_decimal_of_a_value();
     ipmi_text::laws::one_utc_text();
 }
 
@@ -40,7 +36,6 @@ pub fn one_sel_line()
 pub fn one_sel_block()
     ensures { SelBlockIsUnique }
 {
-    ipmi_text::laws::one_decimal_of_a_value();
     ipmi_text::laws::one_utc_text();
 }
 
@@ -49,6 +44,5 @@ pub fn one_info_block()
     ensures { (bytes text other : List ℕ) → AreBytes bytes → IsInfoBlock bytes text →
         IsInfoBlock bytes other → text ≡ other }
 {
-    ipmi_text::laws::one_decimal_of_a_value();
     ipmi_text::laws::one_utc_text();
 }

@@ -1,6 +1,6 @@
 //! The lines of sensor data records.
-ghost use Rattle.std.specs.Prelude.{◌≡◌, ◌++◌, IfOk, OnOk, string_bytes};
-ghost use Rattle.ipmi_records.specs.Prelude.{padded_to, IsExtendedLine, IsSdrLine, entity_column, entity_or_dash, fault_line, fault_text, printed_name, sensor_columns};
+ghost use Rattle.std.specs.Prelude.{◌≡◌, ◌++◌, IfOk, OnOk, string_bytes, Some};
+ghost use Rattle.ipmi_records.specs.Prelude.{padded_to, IsExtendedLine, IsSdrLine, entity_column, entity_or_dash, fault_line, fault_text, printed_name, sensor_columns, number_text};
 
 use crate::column::{push_reading, status_of};
 use crate::digits::{ByteH, WordH};
@@ -62,9 +62,6 @@ pub fn sdr_line(
 struct SensorNumber(Option<Sensor>);
 
 impl fmt::Display for SensorNumber {
-    ghost use Rattle.std.specs.Prelude.{Some};
-    ghost use Rattle.ipmi_records.specs.SdrText.{number_text};
-
     ghost output = { λ number. Some (number_text number.0) };
 
     fn fmt<W: fmt::Write>(&self, f: &mut fmt::Formatter<W>) -> fmt::Result {

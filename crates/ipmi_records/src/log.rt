@@ -1,7 +1,7 @@
 //! The lines and blocks of the event log's entries.
-ghost use Rattle.std.specs.Prelude.{◌≡◌, IfOk, string_bytes};
+ghost use Rattle.std.specs.Prelude.{◌≡◌, IfOk, string_bytes, Some};
 ghost use Rattle.ipmi_records.specs.Below.{event_text_of};
-ghost use Rattle.ipmi_records.specs.Prelude.{is_deasserted, AreEventLines, AreFieldLines, AreOemLines, AreOriginLines, IsEventLine, IsOemLine, IsSelBlock, IsSelLine, direction_text, event_body_lines, numbered_sensor, plain_line, sensor_text, words_of_event};
+ghost use Rattle.ipmi_records.specs.Prelude.{is_deasserted, AreEventLines, AreFieldLines, AreOemLines, IsEventLine, IsOemLine, IsSelBlock, IsSelLine, direction_text, numbered_sensor, sensor_text, words_of_event, manufacturer_text};
 
 use crate::column::RecordType;
 use crate::digits::{ByteH, HexWord, WordH};
@@ -24,9 +24,6 @@ struct EventSensor {
 }
 
 impl fmt::Display for EventSensor {
-    ghost use Rattle.std.specs.Prelude.{Some};
-    ghost use Rattle.ipmi_records.specs.SelText.{numbered_sensor};
-
     ghost output = { λ sensor. Some (numbered_sensor sensor.kind.0 sensor.number.0) };
 
     fn fmt<W: fmt::Write>(&self, f: &mut fmt::Formatter<W>) -> fmt::Result {
@@ -72,9 +69,6 @@ fn direction_text(event: &EventEntry) -> &'static str
 struct Manufacturer(u32);
 
 impl fmt::Display for Manufacturer {
-    ghost use Rattle.std.specs.Prelude.{Some};
-    ghost use Rattle.ipmi_records.specs.SelText.{manufacturer_text};
-
     ghost output = { λ number. Some (manufacturer_text number.0) };
 
     fn fmt<W: fmt::Write>(&self, f: &mut fmt::Formatter<W>) -> fmt::Result {
@@ -143,24 +137,13 @@ pub fn sel_line(alloc: Global, id: u16, view: &SelView) -> Result<String, AllocE
     }
 }
 
-/// When an event came, and from what.
-fn origin_lines(alloc: Global, event: &EventEntry) -> Result<String, AllocError>
-    ensures { IfOk result (λ text. AreOriginLines event.now (string_bytes text)) }
+/// The fields of an event, a line for each: when it came, from what, and what it says.
+fn event_lines(alloc: Global, event: &EventEntry) -> Result<String, AllocError>
+    ensures { IfOk result (λ text. AreEventLines event.now (string_bytes text)) }
 {
     let time = UtcTime::of(event.time_stamp());
     let generator = WordH(event.generator());
     let revision = ByteH(event.revision());
-    text_with_room(
-        alloc,
-        BLOCK_ROOM,
-        format_args!("Time: {time}\nGenerator: {generator}\nRevision: {revision}\n"),
-    )
-}
-
-/// What an event says.
-fn event_body_lines(alloc: Global, event: &EventEntry) -> Result<String, AllocError>
-    ensures { IfOk result (λ text. string_bytes text ≡ event_body_lines event.now) }
-{
     let sensor = sensor_of_event(event);
     let words = words_of_event(event);
     let direction = direction_text(event);
@@ -168,17 +151,11 @@ fn event_body_lines(alloc: Global, event: &EventEntry) -> Result<String, AllocEr
     text_with_room(
         alloc,
         BLOCK_ROOM,
-        format_args!("Sensor: {sensor}\nEvent: {words}\nDirection: {direction}\nData: {bytes}\n"),
+        format_args!(
+            "Time: {time}\nGenerator: {generator}\nRevision: {revision}\n\
+             Sensor: {sensor}\nEvent: {words}\nDirection: {direction}\nData: {bytes}\n"
+        ),
     )
-}
-
-/// The fields of an event, a line for each.
-fn event_lines(alloc: Global, event: &EventEntry) -> Result<String, AllocError>
-    ensures { IfOk result (λ text. AreEventLines event.now (string_bytes text)) }
-{
-    let origin = origin_lines(alloc, event)?;
-    let body = event_body_lines(alloc, event)?;
-    text_with_room(alloc, BLOCK_ROOM, format_args!("{origin}{body}"))
 }
 
 /// The fields of an OEM record with a time stamp, a line for each.

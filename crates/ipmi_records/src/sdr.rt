@@ -5,6 +5,7 @@ ghost use Rattle.ipmi_records.specs.Prelude.{body_len, fru_of, id_field_of, id_s
 use crate::at_least::AtLeast;
 use crate::id_string::IdString;
 use crate::locator::{ControllerLocator, FruLocator, GenericLocator, LOCATOR_ID_PLACE, Locator};
+use crate::sdr::SdrView::{Compact, Controller, EventOnly, Fru, Full, Generic, Other};
 use crate::sensor::{
     COMPACT_ID_PLACE, CompactSensor, EVENT_ONLY_ID_PLACE, EventOnlySensor, FULL_ID_PLACE,
     FullSensor, Sensor,
@@ -76,13 +77,13 @@ impl<'a> SdrView<'a> {
         ensures { result ≡ sdr_view_by_type kind bytes.now }
     {
         match kind {
-            0x01 => SdrView::Full(FullSensor::new(bytes)),
-            0x02 => SdrView::Compact(CompactSensor::new(bytes)),
-            0x03 => SdrView::EventOnly(EventOnlySensor::new(bytes)),
-            0x10 => SdrView::Generic(GenericLocator::new(bytes)),
-            0x11 => SdrView::Fru(FruLocator::new(bytes)),
-            0x12 => SdrView::Controller(ControllerLocator::new(bytes)),
-            _ => SdrView::Other(OtherRecord::new(bytes)),
+            0x01 => Full(FullSensor::new(bytes)),
+            0x02 => Compact(CompactSensor::new(bytes)),
+            0x03 => EventOnly(EventOnlySensor::new(bytes)),
+            0x10 => Generic(GenericLocator::new(bytes)),
+            0x11 => Fru(FruLocator::new(bytes)),
+            0x12 => Controller(ControllerLocator::new(bytes)),
+            _ => Other(OtherRecord::new(bytes)),
         }
     }
 
@@ -109,13 +110,13 @@ impl<'a> SdrView<'a> {
         ensures room { 5 ≤ length result.now }
     {
         match self {
-            SdrView::Full(view) => view.bytes(),
-            SdrView::Compact(view) => view.bytes(),
-            SdrView::EventOnly(view) => view.bytes(),
-            SdrView::Generic(view) => view.bytes(),
-            SdrView::Fru(view) => view.bytes(),
-            SdrView::Controller(view) => view.bytes(),
-            SdrView::Other(view) => view.bytes(),
+            Full(view) => view.bytes(),
+            Compact(view) => view.bytes(),
+            EventOnly(view) => view.bytes(),
+            Generic(view) => view.bytes(),
+            Fru(view) => view.bytes(),
+            Controller(view) => view.bytes(),
+            Other(view) => view.bytes(),
         }
     }
 
@@ -152,13 +153,10 @@ impl<'a> SdrView<'a> {
         ensures { result ≡ sensor_of self.now }
     {
         match self {
-            SdrView::Full(view) => Some(view.sensor()),
-            SdrView::Compact(view) => Some(view.sensor()),
-            SdrView::EventOnly(view) => Some(view.sensor()),
-            SdrView::Generic(_) => None,
-            SdrView::Fru(_) => None,
-            SdrView::Controller(_) => None,
-            SdrView::Other(_) => None,
+            Full(view) => Some(view.sensor()),
+            Compact(view) => Some(view.sensor()),
+            EventOnly(view) => Some(view.sensor()),
+            Generic(_) | Fru(_) | Controller(_) | Other(_) => None,
         }
     }
 
@@ -167,13 +165,10 @@ impl<'a> SdrView<'a> {
         ensures { result ≡ locator_of self.now }
     {
         match self {
-            SdrView::Full(_) => None,
-            SdrView::Compact(_) => None,
-            SdrView::EventOnly(_) => None,
-            SdrView::Generic(view) => Some(view.locator()),
-            SdrView::Fru(view) => Some(view.locator()),
-            SdrView::Controller(view) => Some(view.locator()),
-            SdrView::Other(_) => None,
+            Generic(view) => Some(view.locator()),
+            Fru(view) => Some(view.locator()),
+            Controller(view) => Some(view.locator()),
+            Full(_) | Compact(_) | EventOnly(_) | Other(_) => None,
         }
     }
 
@@ -182,13 +177,13 @@ impl<'a> SdrView<'a> {
         ensures { option_map id_field_of result ≡ id_string_of self.now }
     {
         match self {
-            SdrView::Full(view) => Some(view.id_string()),
-            SdrView::Compact(view) => Some(view.id_string()),
-            SdrView::EventOnly(view) => Some(view.id_string()),
-            SdrView::Generic(view) => Some(view.id_string()),
-            SdrView::Fru(view) => Some(view.id_string()),
-            SdrView::Controller(view) => Some(view.id_string()),
-            SdrView::Other(_) => None,
+            Full(view) => Some(view.id_string()),
+            Compact(view) => Some(view.id_string()),
+            EventOnly(view) => Some(view.id_string()),
+            Generic(view) => Some(view.id_string()),
+            Fru(view) => Some(view.id_string()),
+            Controller(view) => Some(view.id_string()),
+            Other(_) => None,
         }
     }
 
@@ -210,13 +205,9 @@ impl<'a> SdrView<'a> {
         ensures { result ≡ reading_of self.now }
     {
         match self {
-            SdrView::Full(view) => key_of(&view.sensor()),
-            SdrView::Compact(view) => key_of(&view.sensor()),
-            SdrView::EventOnly(_) => None,
-            SdrView::Generic(_) => None,
-            SdrView::Fru(_) => None,
-            SdrView::Controller(_) => None,
-            SdrView::Other(_) => None,
+            Full(view) => key_of(&view.sensor()),
+            Compact(view) => key_of(&view.sensor()),
+            EventOnly(_) | Generic(_) | Fru(_) | Controller(_) | Other(_) => None,
         }
     }
 
@@ -227,13 +218,8 @@ impl<'a> SdrView<'a> {
         ensures { result ≡ fru_of self.now }
     {
         match self {
-            SdrView::Fru(view) => view.fru_of(),
-            SdrView::Full(_) => None,
-            SdrView::Compact(_) => None,
-            SdrView::EventOnly(_) => None,
-            SdrView::Generic(_) => None,
-            SdrView::Controller(_) => None,
-            SdrView::Other(_) => None,
+            Fru(view) => view.fru_of(),
+            Full(_) | Compact(_) | EventOnly(_) | Generic(_) | Controller(_) | Other(_) => None,
         }
     }
 }

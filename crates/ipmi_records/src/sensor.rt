@@ -1,7 +1,7 @@
 //! The records of sensors, and where their fields are (IPMI v2.0, sections 43.1 to 43.3).
-ghost use Rattle.std.specs.Prelude.{◌≡◌, ◌*◌, ◌<◌, ◌≤◌, length};
+ghost use Rattle.std.specs.Prelude.{◌≡◌, ◌*◌, ◌<◌, ◌≤◌, length, Some};
 ghost use Rattle.ipmi_records.specs.Below.{IsTwosComplement};
-ghost use Rattle.ipmi_records.specs.Prelude.{signed, compact_id_place, event_only_id_place, full_id_place, id_field_at, id_field_of, analog_format, compact_sensor, entity_in, event_only_sensor, exponent_k1, exponent_k2, factor_b, factor_m, factors_in, full_sensor, is_readable, linearization, sensor_by, threshold_bit, threshold_in, threshold_place, units_in};
+ghost use Rattle.ipmi_records.specs.Prelude.{signed, compact_id_place, event_only_id_place, full_id_place, id_field_at, id_field_of, analog_format, compact_sensor, entity_in, event_only_sensor, exponent_k1, exponent_k2, factor_b, factor_m, factors_in, full_sensor, is_readable, linearization, sensor_by, threshold_bit, threshold_in, threshold_place, units_in, entity_text};
 
 use crate::at_least::AtLeast;
 use crate::digits::has_bit;
@@ -40,9 +40,6 @@ impl Entity {
 }
 
 impl fmt::Display for Entity {
-    ghost use Rattle.std.specs.Prelude.{Some};
-    ghost use Rattle.ipmi_records.specs.SdrText.{entity_text};
-
     ghost output = { λ entity. Some (entity_text entity) };
 
     fn fmt<W: fmt::Write>(&self, f: &mut fmt::Formatter<W>) -> fmt::Result {
