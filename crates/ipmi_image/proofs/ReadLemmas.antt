@@ -1,8 +1,8 @@
 -- The lines of an image, one after the other.
-use Rattle.std.proofs.Common.{◌≡◌, ℕ, ◌+◌, Bool, true, cond, not, ◌==◌, None, Some, Result, Ok, Err, List, [], ◌∷◌, ◌++◌, length, refl, sym, ap, ◌∙◌, arith}
+use Rattle.std.proofs.Common.{◌≡◌, ℕ, ◌+◌, Bool, true, cond, not, ◌==◌, Option, Some, Result, Ok, Err, List, [], ◌∷◌, ◌++◌, length, refl, sym, ap, ◌∙◌, arith}
 use Rattle.std.proofs.lemmas.Bool.Decides.{nat_tests}
 use Rattle.ipmi_image.specs.Below.{Store}
-use Rattle.ipmi_image.specs.Prelude.{LineFault, ImageFault, pieces, Line, the_end, line_of, store_of_lines, fault_in, line_judged, at_line, is_end, ends_here, store_after, dashes_in, store_of_pieces, store_of_image}
+use Rattle.ipmi_image.specs.Prelude.{LineFault, ImageFault, pieces, Line, the_end, line_of, store_of_lines, fault_in, unless_fault, line_judged, at_line, is_end, ends_here, store_after, dashes_in, store_of_pieces, store_of_image}
 use Rattle.ipmi_image.proofs.TextLemmas.{length_pieces}
 
 -- nothing comes after the last line feed exactly where no byte does
@@ -25,12 +25,17 @@ pub store_after_line : (dashes : Bool) (before : List Line) (text after : List �
 unfolding store_after
 store_after_line dashes before text after = grind (arith, length_pieces 10 after)
 
--- a line without a fault is cut off, and what it makes of those after it is given
-pub lines_after : (dashes : Bool) (before : List Line) (all text after : List ℕ) (line : Line) (given : Result Store ImageFault) → pieces 10 all ≡ text ∷ pieces 10 after → line_of dashes text ≡ Ok line → fault_in (store_of_lines before) line ≡ None
-    → store_after dashes before (pieces 10 all) ≡ given → given ≡ after_line dashes before (pieces 10 after) (Ok line)
-lines_after dashes before all text after line given cut found none was =
-    let judged : line_judged dashes before text ≡ Ok line = rw (line_judged, found, none) refl in
-    sym was ∙ ap (store_after dashes before) cut ∙ store_after_line dashes before text after ∙ ap (after_line dashes before (pieces 10 after)) judged
+-- lines whose first is cut off give what it makes of the others
+pub lines_after : (dashes : Bool) (before : List Line) (all text after : List ℕ) (r : Result Line LineFault) (given : Result Store ImageFault) → pieces 10 all ≡ text ∷ pieces 10 after → line_judged dashes before text ≡ r
+    → store_after dashes before (pieces 10 all) ≡ given → given ≡ after_line dashes before (pieces 10 after) r
+lines_after dashes before all text after r given cut line was = sym was ∙ ap (store_after dashes before) cut ∙ store_after_line dashes before text after ∙ ap (after_line dashes before (pieces 10 after)) line
+
+module _ (dashes : Bool) (before : List Line) (text : List ℕ) where
+  pub line_err : (fault : LineFault) → line_of dashes text ≡ Err fault → line_judged dashes before text ≡ Err fault
+  line_err fault e = rw (line_judged, e) refl
+
+  pub line_found : (line : Line) (f : Option LineFault) → line_of dashes text ≡ Ok line → fault_in (store_of_lines before) line ≡ f → line_judged dashes before text ≡ unless_fault f line
+  line_found line f e is = rw (line_judged, e, is) refl
 
 pub end_is : (line : Line) → is_end line ≡ true → line ≡ the_end
 end_is line e = grind arith

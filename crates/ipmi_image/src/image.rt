@@ -86,7 +86,6 @@ fn read_version(line: &[u8]) -> Option<bool>
 }
 
 /// What the lines after the first one say, up to `end`, the last one.
-#[tactic(auto, using(crate::proofs::ReadLemmas::store_after_line, crate::proofs::ReadLemmas::store_after_unended, crate::proofs::ReadLemmas::ends_here_pieces))]
 fn read_lines(alloc: Global, dashes: bool, text: &[u8]) -> Result<Contents, ImageFault>
     ensures ok { IfOk result (λ contents. IsStore (store_of contents) ×
         (store_after dashes [] (pieces 10 text.now) ≡ Ok (store_of contents))) }

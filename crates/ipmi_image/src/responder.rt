@@ -188,7 +188,6 @@ impl Responder {
     }
 
     /// Bytes of a record, at most so many.
-    #[tactic(auto, using(crate::proofs::RespondLemmas::current_of_shelf))]
     pub(crate) fn part(
         &mut self,
         shelf: Shelf,

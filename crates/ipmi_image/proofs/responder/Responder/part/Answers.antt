@@ -6,6 +6,21 @@ use Rattle.ipmi_image.specs.Prelude.{row_found, seen_as}
 use Rattle.ipmi_image.proofs.RespondLemmas.{current_of_shelf}
 use Rattle.ipmi_image.proofs.responder.Responder.part.Goals as goal
 
+pub returns-then-not-is_reserved-clause-answers : goal.returns-then-not-is_reserved-clause-answers
+returns-then-not-is_reserved-clause-answers c = λ h.
+    let other = c.if-not-is_reserved.ensures in
+    let found : look (rows_of c.args.shelf c.args.self.now.image) c.args.id ≡ Some (row_found c.in-Some.row) = rw (sym c.rows.ensures) (sym c.in-Some.ensures) in
+    record {
+      change = search rules;
+      gives = search rules;
+      keeps = search rules;
+      beside = search rules;
+      plain = λ p. record {
+        found = λ r e lt reserved. absurd (other.1 (sym (current_of_shelf c.args.shelf (seen_as true c.args.self.now)) ∙ reserved other.0));
+        absent = λ e. absurd (none-some _ (sym e ∙ found));
+      };
+    }
+
 pub returns-then-from-row-clause-answers : goal.returns-then-from-row-clause-answers
 returns-then-from-row-clause-answers c = λ h.
     let found : look (rows_of c.args.shelf c.args.self.now.image) c.args.id ≡ Some (row_found c.in-Some.row) = rw (sym c.rows.ensures) (sym c.in-Some.ensures) in
