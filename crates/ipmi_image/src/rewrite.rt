@@ -62,6 +62,28 @@ impl Text {
         }
     }
 
+    /// Appends the first word and the id of a row.
+    fn push_id(&mut self, word: &[u8], id: u16) -> Result<(), AllocError>
+        ensures { OnOk result (self.new.bytes.items ≡ self.old.bytes.items ++
+            (word.now ++ 32 ∷ (hex_of 2 id ++ 32 ∷ []))) }
+    {
+        self.push(word)?;
+        self.push(b" ")?;
+        self.push_hex(&id.to_be_bytes())?;
+        self.push(b" ")
+    }
+
+    /// Appends the next id and the bytes of a row, and a line feed.
+    fn push_rest(&mut self, following: u16, next: u16, bytes: &[u8]) -> Result<(), AllocError>
+        ensures { OnOk result (self.new.bytes.items ≡ self.old.bytes.items ++
+            (next_field following next ++ 32 ∷ (encode_lower bytes.now ++ 10 ∷ []))) }
+    {
+        self.push_next(following, next)?;
+        self.push(b" ")?;
+        self.push_hex(bytes)?;
+        self.push(b"\n")
+    }
+
     /// Appends the line of a row.
     #[tactic(auto, using(std::proofs::Common::append_assoc))]
     fn push_row(&mut self, word: &[u8], following: u16, row: &StoredRow) -> Result<(), AllocError>
@@ -72,14 +94,8 @@ impl Text {
               bytes = row.now.bytes.now;
             }))) }
     {
-        self.push(word)?;
-        self.push(b" ")?;
-        self.push_hex(&row.id.to_be_bytes())?;
-        self.push(b" ")?;
-        self.push_next(following, row.next.unwrap_or(following))?;
-        self.push(b" ")?;
-        self.push_hex(row.bytes)?;
-        self.push(b"\n")
+        self.push_id(word, row.id)?;
+        self.push_rest(following, row.next.unwrap_or(following), row.bytes)
     }
 
     /// Appends the lines of a shelf.
