@@ -21,7 +21,7 @@ look_row shelf rows n row ok found = grind (arith, nat_tests, first_is_row shelf
 
 -- ---- a row after others
 
-pub LacksId-snoc : (n : ℕ) (done : List Row) (row : Row) → LacksId n done → row.id ≢ n → LacksId n (done ++ row ∷ [])
+LacksId-snoc : (n : ℕ) (done : List Row) (row : Row) → LacksId n done → row.id ≢ n → LacksId n (done ++ row ∷ [])
 LacksId-snoc n [] row lacks ne = (ne, tt)
 LacksId-snoc n (d ∷ done) row lacks ne = (lacks.0, LacksId-snoc n done row lacks.1 ne)
 
@@ -30,19 +30,3 @@ DistinctIds-snoc [] row distinct fresh = (tt, tt)
 DistinctIds-snoc (d ∷ done) row distinct fresh =
     let parts = or_parts (nat_eq row.id d.id) (has_id done row.id) fresh in
     (LacksId-snoc d.id done row distinct.0 (eqb-false row.id d.id parts.0), DistinctIds-snoc done row distinct.1 parts.1)
-
-AllRows-snoc : (shelf : Shelf) (rows : List Row) (row : Row) → AllRows shelf rows → IsRow shelf row → AllRows shelf (rows ++ row ∷ [])
-AllRows-snoc shelf [] row all ok = (ok, tt)
-AllRows-snoc shelf (r ∷ rows) row all ok = (all.0, AllRows-snoc shelf rows row all.1 ok)
-
--- a shelf's first row, and a later one
-pub IsShelf-first : (shelf : Shelf) (row : Row) → IsRow shelf row → id_in row.bytes ≡ row.id → IsShelf shelf (row ∷ [])
-IsShelf-first shelf row ok id = record { all = (ok, tt); distinct = (tt, tt); first = id; later = tt }
-
-pub IsShelf-snoc : (shelf : Shelf) (first : Row) (rows : List Row) (row : Row) → IsShelf shelf (first ∷ rows) → IsRow shelf row → row.id ≢ 0 → has_id (first ∷ rows) row.id ≡ false → IsShelf shelf ((first ∷ rows) ++ row ∷ [])
-IsShelf-snoc shelf first rows row shelf_ok ok ne fresh = record {
-  all = AllRows-snoc shelf (first ∷ rows) row shelf_ok.all ok;
-  distinct = DistinctIds-snoc (first ∷ rows) row shelf_ok.distinct fresh;
-  first = shelf_ok.first;
-  later = LacksId-snoc 0 rows row shelf_ok.later ne;
-}

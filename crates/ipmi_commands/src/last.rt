@@ -36,6 +36,13 @@ fn list_span<C: Controller, O: Sink>(
     list_records(alloc, &mut cursor, ctl, cmd, span, out)
 }
 
+/// How many of so many entries come before the last ones.
+fn before_last(count: u32, wanted: u16) -> u32
+    ensures { result ≡ count - wanted }
+{
+    count.saturating_sub(u32::from(wanted))
+}
+
 /// Lists the last `wanted` entries: it counts them all, and passes those before them on a second walk.
 pub(crate) fn list_last<C: Controller, O: Sink>(
     alloc: Global,
@@ -64,7 +71,7 @@ pub(crate) fn list_last<C: Controller, O: Sink>(
     if counted.count == 0 {
         return counted.stop;
     }
-    let skip = counted.count.saturating_sub(u32::from(wanted));
+    let skip = before_last(counted.count, wanted);
     let last = Span {
         skip: Some(skip),
         most: None,

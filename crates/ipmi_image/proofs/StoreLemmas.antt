@@ -18,9 +18,6 @@ said_after l (Some y) = l ++ y ∷ []
 filter_map-after : {Y : Type 0} (h : Line → Option Y) (before : List Line) (line : Line) → filter_map h (before ++ line ∷ []) ≡ said_after (filter_map h before) (h line)
 filter_map-after h before line = grind (arith, filter_map-append h before (line ∷ []), append-nil (filter_map h before))
 
-pub filter_map-no_reading : (before : List Line) (line : Line) → sensor_on line ≡ None → filter_map sensor_on (before ++ line ∷ []) ≡ filter_map sensor_on before
-filter_map-no_reading before line none = filter_map-after sensor_on before line ∙ ap (said_after (filter_map sensor_on before)) none
-
 -- the first info is all there is before the second
 abbrev info_after : Option (List ℕ) → Option (List ℕ) → Option (List ℕ)
 info_after None already = already
