@@ -1,5 +1,5 @@
 //! Lists the last entries of a shelf, on a second walk after one that counts them.
-ghost use Rattle.std.specs.Prelude.{◌≡◌, ◌+◌, ◌≤◌};
+ghost use Rattle.std.specs.Prelude.{◌≡◌, ◌+◌, ◌-◌, ◌≤◌};
 ghost use Rattle.ipmi_commands.specs.Below.{start_of, IsHonest, start_by, Count, Task};
 ghost use Rattle.ipmi_commands.specs.Prelude.{ListsSpan, faults_of, most_calls, most_on_walk, change, request_of, Performs};
 
