@@ -5,7 +5,7 @@ use Rattle.std.specs.Borrow.{Bor}
 use Rattle.ipmi_bus.specs.declared.inventory.FruEnded.{FruEnded}
 use Rattle.ipmi_bus.specs.declared.step.Ended.{Ended}
 use Rattle.ipmi_image.specs.declared.image.ImageFault.{ImageFault}
-use Rattle.ipmi_records.specs.Bytes.{byte_h, upper_byte, word_h}
+use Rattle.ipmi_text.specs.Hex.{byte_h, upper_byte, word_h}
 use Rattle.ipmi_output.specs.declared.message.Message.{Message}
 
 -- how the program is called

@@ -2,7 +2,7 @@
 //! first: so none of them takes memory, and the want of memory can be told as well.
 ghost use Rattle.std.specs.Prelude.{◌≡◌, ◌<◌, ◌++◌, codes, true, decimal};
 ghost use Rattle.std.specs.Fmt.{digit_glyph};
-ghost use Rattle.ipmi_records.specs.Bytes.{byte_h, upper_byte, word_h};
+ghost use Rattle.ipmi_text.specs.Hex.{byte_h, upper_byte, word_h};
 ghost use Rattle.ipmi_output.specs.Received.{ReceivesText, WritesAll};
 ghost use Rattle.ipmi_output.specs.Message.{ended_text, escaped_name, image_fault_text, inventory_text, joined_parts, line_fault_text, line_text, message_text};
 

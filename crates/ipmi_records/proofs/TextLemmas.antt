@@ -1,7 +1,7 @@
 -- Blocks out of the parts that the code puts together. `format_args` writes more than twelve parts in two groups.
 use Rattle.std.proofs.Common.{◌≡◌, ◌∙◌, ℕ, List, ◌++◌, codes, slice_index, append_assoc, decimal}
-use Rattle.ipmi_records.specs.Below.{binary_text, hex_byte, IsUtcTextOf}
-use Rattle.ipmi_records.specs.Prelude.{AreEventLines, IsInfoBlock, byte_h, direction_text, event_data, free_space, generator, has_overflow, is_deasserted, last_addition, last_erase, overflow_text, record_count, revision, sensor_text, time_stamp, word_h, words_of_event}
+use Rattle.ipmi_records.specs.Below.{binary_text, byte_h, hex_byte, IsUtcTextOf, word_h}
+use Rattle.ipmi_records.specs.Prelude.{AreEventLines, IsInfoBlock, direction_text, event_data, free_space, generator, has_overflow, is_deasserted, last_addition, last_erase, overflow_text, record_count, revision, sensor_text, time_stamp, words_of_event}
 
 pub event_lines_made : (stamp maker rev : ℕ) (bytes time sensor words direction content text : List ℕ) → stamp ≡ time_stamp bytes → IsUtcTextOf stamp time → maker ≡ generator bytes
     → rev ≡ revision bytes → sensor ≡ sensor_text bytes → words ≡ words_of_event bytes → direction ≡ direction_text (is_deasserted bytes) → content ≡ binary_text (event_data bytes)

@@ -4,7 +4,7 @@ pub use Rattle.ipmi_text.specs.Bytes.{AreBytes}
 pub use Rattle.ipmi_text.specs.Decimal.{IsDecimalOf}
 pub use Rattle.ipmi_text.specs.Events.{event_text_of}
 pub use Rattle.ipmi_text.specs.FieldText.{binary_text, sdr_text_of}
-pub use Rattle.ipmi_text.specs.Hex.{hex_byte}
+pub use Rattle.ipmi_text.specs.Hex.{byte_h, hex_byte, hex_word, word_h}
 pub use Rattle.ipmi_text.specs.Laws.{DecimalIsUnique, UtcTextIsUnique}
 pub use Rattle.ipmi_text.specs.Lines.{labelled}
 pub use Rattle.ipmi_text.specs.ReadingValue.{IsTwosComplement, reading_value, SensorFactors}

@@ -1,11 +1,11 @@
 -- The reading column and the status of a line (the project's own). Readings are as Get Sensor Reading answers (IPMI v2.0, section
 -- 35.14).
 use Rattle.std.specs.Prelude.{◌≡◌, ℕ, ◌+◌, ◌*◌, ◌%◌, ◌==◌, ◌&&◌, ◌||◌, not, Bool, if◌then◌else◌, ℤ, Option, Some, None, List, ◌++◌, codes, decimal}
-use Rattle.ipmi_records.specs.Below.{IsDecimalOf, hex_byte, reading_value, after_space, unit_text_of, Reading}
+use Rattle.ipmi_records.specs.Below.{IsDecimalOf, byte_h, hex_byte, hex_word, reading_value, after_space, unit_text_of, Reading}
 use Rattle.ipmi_records.specs.declared.column.Shown.{Shown}
 use Rattle.ipmi_records.specs.declared.sdr.SdrView.{SdrView}
 use Rattle.ipmi_records.specs.declared.sensor.Sensor.{Sensor}
-use Rattle.ipmi_records.specs.Bytes.{byte_h, has_bit, hex_word}
+use Rattle.ipmi_records.specs.Bytes.{has_bit}
 use Rattle.ipmi_records.specs.Sdr.{fru_in, own_address, record_type}
 use Rattle.ipmi_records.specs.Sensor.{analog_format, compact_sensor, factors_in, full_sensor, locator_in, units_in}
 

@@ -1,5 +1,5 @@
 -- The words of this crate that its code and proofs cite, passed on from one place. Declares nothing.
-pub use Rattle.ipmi_records.specs.Bytes.{byte_h, has_bit, hex_word, padded_to, signed, upper_byte, word_h}
+pub use Rattle.ipmi_records.specs.Bytes.{has_bit, padded_to, signed}
 pub use Rattle.ipmi_records.specs.Columns.{analog_of, fru_column, has_thresholds, is_there, IsRawText, IsReadingColumn, IsSensorColumn, IsValueText, sensor_status, shown_of, shown_reading, states_text, status_of, threshold_status, type_text, unit_text_in}
 pub use Rattle.ipmi_records.specs.Info.{free_space, has_overflow, IsInfoBlock, last_addition, last_erase, overflow_text, record_count}
 pub use Rattle.ipmi_records.specs.Laws.{ExtendedLineIsUnique, SdrLineIsUnique, SelBlockIsUnique, SelLineIsUnique}

@@ -2,14 +2,14 @@
 -- no view.
 use Rattle.std.specs.Prelude.{◌≡◌, ℕ, Option, Some, None, unwrap_or, Bool, true, false, if◌then◌else◌, List, [], ◌∷◌, ◌++◌, codes, decimal}
 use Rattle.std.specs.List.{concat}
-use Rattle.ipmi_records.specs.Below.{sensor_type_text_of, Reading, labelled}
+use Rattle.ipmi_records.specs.Below.{byte_h, sensor_type_text_of, Reading, labelled, word_h}
 use Rattle.ipmi_records.specs.declared.sdr.SdrFault.{SdrFault}
 use Rattle.ipmi_records.specs.declared.sdr.SdrView.{SdrView}
 use Rattle.ipmi_records.specs.declared.sensor.Entity.{Entity}
 use Rattle.ipmi_records.specs.declared.sensor.Sensor.{Sensor}
 use Rattle.ipmi_records.specs.declared.sensor.Threshold.{Threshold}
 use Rattle.ipmi_records.specs.declared.locator.Locator.{Locator}
-use Rattle.ipmi_records.specs.Bytes.{labelled_lines, columns_line, padded_to, byte_h, word_h}
+use Rattle.ipmi_records.specs.Bytes.{labelled_lines, columns_line, padded_to}
 use Rattle.ipmi_records.specs.Sdr.{locator_of, name_of, record_type, sensor_of}
 use Rattle.ipmi_records.specs.Sensor.{full_sensor, is_readable, threshold_in}
 use Rattle.ipmi_records.specs.Columns.{IsRawText, IsReadingColumn, has_thresholds, status_of, type_text}

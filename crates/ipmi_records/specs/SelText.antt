@@ -1,9 +1,9 @@
 -- The texts of the event log's entries (the project's own): the line and the block.
 use Rattle.std.specs.Prelude.{◌≡◌, ℕ, ◌/◌, ◌%◌, Bool, if◌then◌else◌, List, [], ◌∷◌, ◌++◌, slice_index, codes}
 use Rattle.std.specs.List.{concat}
-use Rattle.ipmi_records.specs.Below.{event_text_of, binary_text, hex_byte, sensor_type_text_of, IsUtcTextOf, labelled}
+use Rattle.ipmi_records.specs.Below.{byte_h, event_text_of, binary_text, hex_byte, hex_word, word_h, sensor_type_text_of, IsUtcTextOf, labelled}
 use Rattle.ipmi_records.specs.declared.sel.SelView.{SelView}
-use Rattle.ipmi_records.specs.Bytes.{labelled_lines, columns_line, hex_word, byte_h, word_h}
+use Rattle.ipmi_records.specs.Bytes.{labelled_lines, columns_line}
 use Rattle.ipmi_records.specs.Columns.{type_text}
 use Rattle.ipmi_records.specs.Sel.{entry_bytes, entry_type, event_data, event_type, generator, is_deasserted, manufacturer, oem_data, plain_data, revision, sensor_number, sensor_type, time_stamp}
 

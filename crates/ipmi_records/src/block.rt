@@ -3,11 +3,10 @@ ghost use Rattle.std.specs.Prelude.{◌≡◌, IfOk, string_bytes};
 ghost use Rattle.ipmi_records.specs.Prelude.{name_of, is_readable, AreReadingLines, AreThresholdTexts, AreValueLines, IsSdrBlock, IsThresholdText, all_thresholds, head_lines, kind_text, locator_lines, name_line, sensor_lines, threshold_name, thresholds_of};
 
 use crate::column::{RecordType, has_thresholds, push_raw, push_reading, status_of};
-use crate::digits::{ByteH, WordH};
 use crate::locator::Locator;
 use crate::sdr::SdrView::{self, Compact, Controller, EventOnly, Fru, Full, Generic, Other};
 use crate::sensor::{FullSensor, Sensor, Threshold};
-use ipmi_text::{Reading, SensorType, text_with_room};
+use ipmi_text::{ByteH, Reading, SensorType, WordH, text_with_room};
 use std::alloc::{AllocError, Global};
 
 /// The room for most groups of a few lines.

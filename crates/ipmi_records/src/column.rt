@@ -3,11 +3,11 @@ ghost use Rattle.std.specs.Prelude.{◌≡◌, ◌++◌, OnOk, option_map, strin
 ghost use Rattle.ipmi_records.specs.Below.{Appends, unit_text_of};
 ghost use Rattle.ipmi_records.specs.Prelude.{IsRawText, IsReadingColumn, IsSensorColumn, fru_column, has_thresholds, is_there, sensor_status, shown_of, shown_reading, states_text, status_of, threshold_status, unit_text_in, type_text};
 
-use crate::digits::{ByteH, HexWord, has_bit};
+use crate::bits::has_bit;
 use crate::sdr::SdrView::{Compact, Controller, EventOnly, Fru, Full, Generic, Other};
 use crate::sdr::{OWN_ADDRESS, SdrView};
 use crate::sensor::{FullSensor, Sensor};
-use ipmi_text::{HexByte, Reading, Units, convert, push_fixed, push_units};
+use ipmi_text::{ByteH, HexByte, HexWord, Reading, Units, convert, push_fixed, push_units};
 use std::alloc::AllocError;
 use std::fmt;
 

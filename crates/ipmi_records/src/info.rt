@@ -2,7 +2,7 @@
 ghost use Rattle.std.specs.Prelude.{◌≡◌, IfOk, string_bytes};
 ghost use Rattle.ipmi_records.specs.Prelude.{IsInfoBlock, free_space, has_overflow, last_addition, last_erase, overflow_text, record_count};
 
-use crate::digits::has_bit;
+use crate::bits::has_bit;
 use byteorder::{ByteOrder, LittleEndian};
 use ipmi_text::{HexByte, UtcTime, text_with_room};
 use std::alloc::{AllocError, Global};

@@ -2,9 +2,9 @@
 #![tactic(auto)]
 
 mod at_least;
+mod bits;
 mod block;
 mod column;
-mod digits;
 mod id_string;
 mod info;
 pub mod laws;

@@ -3,12 +3,11 @@ ghost use Rattle.std.specs.Prelude.{◌≡◌, ◌++◌, IfOk, OnOk, string_byte
 ghost use Rattle.ipmi_records.specs.Prelude.{padded_to, IsExtendedLine, IsSdrLine, entity_column, entity_or_dash, fault_line, fault_text, printed_name, sensor_columns, number_text};
 
 use crate::column::{push_reading, status_of};
-use crate::digits::{ByteH, WordH};
 use crate::locator::Locator;
 use crate::padding::pad;
 use crate::sdr::{SdrFault, SdrView};
 use crate::sensor::{Entity, Sensor};
-use ipmi_text::{Reading, push_sdr_text, text_with_room};
+use ipmi_text::{ByteH, Reading, WordH, push_sdr_text, text_with_room};
 use std::alloc::{AllocError, Global};
 use std::fmt;
 

@@ -3,7 +3,7 @@ ghost use Rattle.std.specs.Prelude.{◌≡◌, ◌≤◌, length};
 ghost use Rattle.ipmi_records.specs.Prelude.{fru_in, id_field_at, id_field_of, locator_id_place, access_lun, fru_id, is_logical, locator_in};
 
 use crate::at_least::AtLeast;
-use crate::digits::has_bit;
+use crate::bits::has_bit;
 use crate::id_string::IdString;
 use crate::sdr::OWN_ADDRESS;
 use crate::sensor::Entity;

@@ -4,9 +4,8 @@ ghost use Rattle.ipmi_records.specs.Below.{event_text_of};
 ghost use Rattle.ipmi_records.specs.Prelude.{is_deasserted, AreEventLines, AreFieldLines, AreOemLines, IsEventLine, IsOemLine, IsSelBlock, IsSelLine, direction_text, numbered_sensor, sensor_text, words_of_event, manufacturer_text};
 
 use crate::column::RecordType;
-use crate::digits::{ByteH, HexWord, WordH};
 use crate::sel::{EventEntry, OemTimedEntry, SelView};
-use ipmi_text::{EventWords, HexByte, SensorType, UtcTime, text_with_room};
+use ipmi_text::{ByteH, EventWords, HexByte, HexWord, SensorType, UtcTime, WordH, text_with_room};
 use std::alloc::{AllocError, Global};
 use std::fmt;
 

@@ -2,7 +2,7 @@
 ghost use Rattle.std.specs.Prelude.{◌≡◌, ◌≤◌, length};
 ghost use Rattle.ipmi_records.specs.Prelude.{entry_bytes, entry_id, entry_type, event_data, event_type, generator, is_deasserted, manufacturer, oem_data, plain_data, revision, sel_view_of, sensor_number, sensor_type, time_stamp};
 
-use crate::digits::has_bit;
+use crate::bits::has_bit;
 use byteorder::{ByteOrder, LittleEndian};
 use std::marker::Model;
 

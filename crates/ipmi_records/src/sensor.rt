@@ -4,7 +4,7 @@ ghost use Rattle.ipmi_records.specs.Below.{IsTwosComplement};
 ghost use Rattle.ipmi_records.specs.Prelude.{signed, compact_id_place, event_only_id_place, full_id_place, id_field_at, id_field_of, analog_format, compact_sensor, entity_in, event_only_sensor, exponent_k1, exponent_k2, factor_b, factor_m, factors_in, full_sensor, is_readable, linearization, sensor_by, threshold_bit, threshold_in, threshold_place, units_in, entity_text};
 
 use crate::at_least::AtLeast;
-use crate::digits::has_bit;
+use crate::bits::has_bit;
 use crate::id_string::IdString;
 use ipmi_text::Factors;
 use std::fmt;

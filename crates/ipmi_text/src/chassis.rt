@@ -2,7 +2,8 @@
 ghost use Rattle.std.specs.Prelude.{◌≡◌, IfOk, string_bytes};
 ghost use Rattle.ipmi_text.specs.Chassis.{chassis_text_of};
 
-use crate::names::{HexByte, entry_from_one};
+use crate::hex_digits::HexByte;
+use crate::names::entry_from_one;
 use std::alloc::{AllocError, Global};
 
 /// The names, from type 01h on (Platform Management FRU Information Storage Definition v1.0,

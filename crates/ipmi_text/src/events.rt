@@ -1,8 +1,9 @@
 //! The words of events.
-ghost use Rattle.std.specs.Prelude.{◌≡◌, ◌<◌, IfOk, option_map, string_bytes};
+ghost use Rattle.std.specs.Prelude.{◌≡◌, IfOk, option_map, string_bytes};
 ghost use Rattle.ipmi_text.specs.Events.{event_name, event_text_of};
 
-use crate::names::{HexByte, entry, hex_digit};
+use crate::hex_digits::{HexByte, HexDigit};
+use crate::names::entry;
 use crate::room::text_with_room;
 use std::alloc::{AllocError, Global};
 use std::fmt;
@@ -25,24 +26,6 @@ const THRESHOLD_EVENTS: [&str; 12] = [
     "Upper Non-recoverable going low",
     "Upper Non-recoverable going high",
 ];
-
-/// A number below 16, printed as one lower-case hex digit.
-#[derive(Clone, Copy)]
-struct HexDigit {
-    value: u8,
-    ghost below: { value < 16 },
-}
-
-impl fmt::Display for HexDigit {
-    ghost use Rattle.std.specs.Prelude.{Some, [], ◌∷◌, false};
-    ghost use Rattle.std.specs.Fmt.{digit_glyph};
-
-    ghost output = { λ digit. Some (digit_glyph false digit.value ∷ []) };
-
-    fn fmt<W: fmt::Write>(&self, f: &mut fmt::Formatter<W>) -> fmt::Result {
-        f.write_str(hex_digit(self.value))
-    }
-}
 
 /// The words of an event, which only threshold events (type 01h) have.
 fn event_name(event: u8, offset: u8) -> Option<&'static str>

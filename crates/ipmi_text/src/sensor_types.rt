@@ -2,7 +2,8 @@
 ghost use Rattle.std.specs.Prelude.{◌≡◌, IfOk, string_bytes};
 ghost use Rattle.ipmi_text.specs.SensorTypes.{sensor_type_text_of};
 
-use crate::names::{HexByte, entry_from_one};
+use crate::hex_digits::HexByte;
+use crate::names::entry_from_one;
 use crate::room::text_with_room;
 use std::alloc::{AllocError, Global};
 use std::fmt;

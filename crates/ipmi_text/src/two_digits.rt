@@ -1,7 +1,7 @@
 //! A number in two digits.
 ghost use Rattle.std.specs.Prelude.{◌<◌};
 
-use crate::names::hex_digit;
+use crate::hex_digits::hex_digit;
 use std::fmt;
 
 /// A number below 100, printed in two digits.

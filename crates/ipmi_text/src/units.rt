@@ -2,7 +2,8 @@
 ghost use Rattle.std.specs.Prelude.{◌≡◌, [], ◌++◌, ◌&&◌, IfOk, IfSome, OnOk, codes, if◌then◌else◌, string_bytes};
 ghost use Rattle.ipmi_text.specs.Units.{after_space, is_not_empty, modifier_part, percent_part, rate_part, unit_name_or_code, unit_text_of};
 
-use crate::names::{HexByte, entry};
+use crate::hex_digits::HexByte;
+use crate::names::entry;
 use crate::room::text_with_room;
 use std::alloc::{AllocError, Global};
 use std::fmt;

@@ -3,7 +3,7 @@ use Rattle.std.proofs.Common.{ℕ, arith, true, false, List, [], ◌++◌, ◌+�
 use Rattle.std.proofs.lemmas.List.{at_drop_more, get_or-drop, take_more}
 use Rattle.std.proofs.lemmas.Result.{MatchResult-from_err}
 use Rattle.std.specs.Char.{is_ascii_control}
-use Rattle.ipmi_records.specs.Bytes.{upper_byte}
+use Rattle.ipmi_text.specs.Hex.{upper_byte}
 use Rattle.ipmi_output.specs.Message.{escaped_name}
 use Rattle.ipmi_output.proofs.MessageLemmas.{ReceivesAll-both, ReceivesPart-before, ReceivesPart-after, WritesAll-after}
 use Rattle.ipmi_output.proofs.message.write_escaped.Goals as goal
