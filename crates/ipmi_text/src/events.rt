@@ -11,6 +11,12 @@ use std::fmt;
 /// The room for the words of any event.
 const ROOM: usize = 40;
 
+/// The event/reading type of a sensor with thresholds (IPMI v2.0, section 42.1).
+pub const THRESHOLD_EVENT_TYPE: u8 = 0x01;
+
+/// Bits 3:0 of an event's first data byte: its offset.
+const OFFSET_BITS: u8 = 0x0F;
+
 /// The words of a threshold event, by its offset, from 0 on (IPMI v2.0, table 42-2).
 const THRESHOLD_EVENTS: [&str; 12] = [
     "Lower Non-critical going low",
@@ -27,11 +33,11 @@ const THRESHOLD_EVENTS: [&str; 12] = [
     "Upper Non-recoverable going high",
 ];
 
-/// The words of an event, which only threshold events (type 01h) have.
+/// The words of an event, which only threshold events have.
 fn event_name(event: u8, offset: u8) -> Option<&'static str>
     ensures { option_map (λ s. s.now) result ≡ event_name event offset }
 {
-    if event == 0x01 {
+    if event == THRESHOLD_EVENT_TYPE {
         entry(THRESHOLD_EVENTS.as_slice(), offset as usize)
     } else {
         None
@@ -54,7 +60,7 @@ impl fmt::Display for EventWords {
     ghost output = { λ words. Some (event_text_of words.event words.data1) };
 
     fn fmt<W: fmt::Write>(&self, f: &mut fmt::Formatter<W>) -> fmt::Result {
-        let offset = self.data1 % 16;
+        let offset = self.data1 & OFFSET_BITS;
         match event_name(self.event, offset) {
             Some(name) => f.write_str(name),
             None => {

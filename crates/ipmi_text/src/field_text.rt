@@ -1,7 +1,8 @@
 //! The texts of type/length fields.
 ghost use Rattle.std.specs.Prelude.{◌≡◌, ◌<◌, ◌≤◌, ◌++◌, ◌↔◌, IfOk, IfSome, IsAscii, IsTrue, OnOk, length, slice_index, string_bytes, take};
-ghost use Rattle.ipmi_text.specs.FieldText.{bcd_plus_character, bcd_plus_text, bytes_used, fru_text_of, is_english, latin1_character, latin1_text, sdr_text_of, six_bit_character, six_bit_text};
+ghost use Rattle.ipmi_text.specs.FieldText.{bcd_plus_character, bcd_plus_text, bytes_used, fru_text_of, id_count, id_kind, is_english, latin1_character, latin1_text, sdr_text_of, six_bit_character, six_bit_text};
 
+use crate::hex_digits::nibbles;
 use std::alloc::{AllocError, Global};
 
 /// The characters of BCD plus, by their nibble.
@@ -25,8 +26,9 @@ fn bcd_plus_text(alloc: Global, bytes: &[u8]) -> Result<String, AllocError>
 {
     let mut text = String::new(alloc);
     for byte in bytes {
-        text.push(bcd_plus_character(byte / 16) as char)?;
-        text.push(bcd_plus_character(byte % 16) as char)?;
+        let (high, low) = nibbles(*byte);
+        text.push(bcd_plus_character(high) as char)?;
+        text.push(bcd_plus_character(low) as char)?;
     }
     Ok(text)
 }
@@ -36,10 +38,7 @@ fn byte_at(bytes: &[u8], at: usize) -> u32
     ensures value { result ≡ slice_index bytes.now at }
     ensures range { result < 256 }
 {
-    match bytes.get(at) {
-        Some(byte) => *byte as u32,
-        None => 0,
-    }
+    u32::from(bytes.get(at).copied().unwrap_or(0))
 }
 
 /// A character of 6-bit ASCII, of which four fill three bytes, low first.
@@ -87,15 +86,10 @@ fn is_plain(byte: u8) -> bool
 fn plain_text(bytes: &[u8]) -> Option<&str>
     ensures { IfSome result (λ text. text.now ≡ latin1_text bytes.now) }
 {
-    for byte in bytes {
-        if !is_plain(*byte) {
-            return None;
-        }
+    if !bytes.iter().all(|byte| is_plain(*byte)) {
+        return None;
     }
-    match str::from_utf8(bytes) {
-        Ok(text) => Some(text),
-        Err(_) => None,
-    }
+    str::from_utf8(bytes).ok()
 }
 
 /// Appends the text of 8-bit ASCII and Latin-1, as far as the first 00h.
@@ -148,13 +142,27 @@ pub fn fru_text(alloc: Global, code: u8, language: u8, bytes: &[u8]) -> Result<S
     }
 }
 
+/// Bits 7:6 of an ID string's type/length byte: how its bytes are read.
+fn id_kind(type_length: u8) -> u8
+    ensures { result ≡ id_kind type_length }
+{
+    type_length >> 6
+}
+
+/// Bits 4:0 of an ID string's type/length byte: how many characters it has.
+fn id_count(type_length: u8) -> usize
+    ensures { result ≡ id_count type_length }
+{
+    usize::from(type_length & 0x1F)
+}
+
 /// The bytes of an ID string: as many as its type/length byte asks for, at most 16, and no more
 /// than there are.
-fn bytes_used(tl: u8, rest: &[u8]) -> &[u8]
-    ensures { result.now ≡ bytes_used tl rest.now }
+fn bytes_used(type_length: u8, rest: &[u8]) -> &[u8]
+    ensures { result.now ≡ bytes_used type_length rest.now }
 {
-    let count = (tl % 32) as usize;
-    let wanted = match tl / 64 {
+    let count = id_count(type_length);
+    let wanted = match id_kind(type_length) {
         1 => (count + 1) / 2,
         2 => (6 * count + 7) / 8,
         _ => count,
@@ -163,11 +171,10 @@ fn bytes_used(tl: u8, rest: &[u8]) -> &[u8]
 }
 
 /// The first characters of an ASCII text.
-fn first_characters(text: String, count: usize) -> String
+fn first_characters(mut text: String, count: usize) -> String
     requires { IsAscii (string_bytes text) }
     ensures { string_bytes result ≡ take count (string_bytes text) }
 {
-    let mut text = text;
     text.truncate(count);
     text
 }
@@ -181,8 +188,8 @@ pub fn sdr_text(alloc: Global, tl: u8, rest: &[u8]) -> Result<String, AllocError
     ensures { IfOk result (λ text. string_bytes text ≡ sdr_text_of tl rest.now) }
 {
     let bytes = bytes_used(tl, rest);
-    let count = (tl % 32) as usize;
-    match tl / 64 {
+    let count = id_count(tl);
+    match id_kind(tl) {
         0 => hex::encode(alloc, bytes),
         1 => Ok(first_characters(bcd_plus_text(alloc, bytes)?, count)),
         2 => Ok(first_characters(six_bit_text(alloc, bytes)?, count)),
@@ -194,15 +201,16 @@ pub fn sdr_text(alloc: Global, tl: u8, rest: &[u8]) -> Result<String, AllocError
 pub fn push_sdr_text(
     alloc: Global,
     text: &mut String,
-    tl: u8,
+    type_length: u8,
     rest: &[u8],
 ) -> Result<(), AllocError>
     ensures { OnOk result
-        (string_bytes text.new ≡ string_bytes text.old ++ sdr_text_of tl rest.now) }
+        (string_bytes text.new ≡ string_bytes text.old ++ sdr_text_of type_length
+        rest.now) }
 {
-    if tl / 64 == 3 {
-        return push_latin1_text(text, bytes_used(tl, rest));
+    if id_kind(type_length) == 3 {
+        return push_latin1_text(text, bytes_used(type_length, rest));
     }
-    let part = sdr_text(alloc, tl, rest)?;
+    let part = sdr_text(alloc, type_length, rest)?;
     text.push_str(part.as_str())
 }

@@ -1,5 +1,5 @@
 //! Digits, bytes and words in hex, of a fixed number of digits.
-ghost use Rattle.std.specs.Prelude.{◌≡◌, ◌<◌, ◌∷◌, [], Some, false};
+ghost use Rattle.std.specs.Prelude.{◌≡◌, ◌/◌, ◌%◌, ◌<◌, ◌∷◌, [], Some, false};
 ghost use Rattle.std.specs.Fmt.{digit_glyph};
 ghost use Rattle.ipmi_text.specs.Hex.{byte_h, hex_byte, hex_word, upper_byte, word_h};
 
@@ -9,6 +9,14 @@ use std::fmt;
 const HEX_DIGITS: [&str; 16] = [
     "0", "1", "2", "3", "4", "5", "6", "7", "8", "9", "a", "b", "c", "d", "e", "f",
 ];
+
+/// The high and the low four bits of a byte.
+pub(crate) fn nibbles(byte: u8) -> (u8, u8)
+    ensures high { result.0 ≡ byte / 16 }
+    ensures low { result.1 ≡ byte % 16 }
+{
+    (byte >> 4, byte & 0x0F)
+}
 
 /// The lower-case hex digit of a number below 16.
 pub(crate) fn hex_digit(value: u8) -> &'static str
@@ -41,8 +49,9 @@ impl fmt::Display for HexByte {
     ghost output = { λ byte. Some (hex_byte byte.0) };
 
     fn fmt<W: fmt::Write>(&self, f: &mut fmt::Formatter<W>) -> fmt::Result {
-        f.write_str(hex_digit(self.0 >> 4))?;
-        f.write_str(hex_digit(self.0 & 0x0F))
+        let (high, low) = nibbles(self.0);
+        f.write_str(hex_digit(high))?;
+        f.write_str(hex_digit(low))
     }
 }
 

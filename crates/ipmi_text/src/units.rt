@@ -1,5 +1,5 @@
 //! The units of a sensor's readings.
-ghost use Rattle.std.specs.Prelude.{◌≡◌, [], ◌++◌, ◌&&◌, IfOk, IfSome, OnOk, codes, if◌then◌else◌, string_bytes};
+ghost use Rattle.std.specs.Prelude.{◌≡◌, ◌/◌, ◌%◌, [], ◌++◌, ◌&&◌, IfOk, IfSome, OnOk, codes, if◌then◌else◌, string_bytes};
 ghost use Rattle.ipmi_text.specs.Units.{after_space, is_not_empty, modifier_part, percent_part, rate_part, unit_name_or_code, unit_text_of};
 
 use crate::hex_digits::HexByte;
@@ -39,6 +39,18 @@ const UNITS: [&str; 25] = [
 
 /// The room for the text of most units.
 const ROOM: usize = 32;
+
+/// Bits 5:0 of sensor units 1: rate, modifier use and percentage. Bits 7:6 are the analog format.
+const JOINED_BITS: u8 = 0x3F;
+
+/// Bits 2:1 of sensor units 1, shifted down: how the modifier is used.
+const MODIFIER_USE_BITS: u8 = 0x03;
+
+/// Bits 5:3 of sensor units 1, shifted down: the rate.
+const RATE_BITS: u8 = 0x07;
+
+/// Bit 0 of sensor units 1: the reading is a percentage.
+const PERCENTAGE: u8 = 0x01;
 
 /// The rates, by bits 5:3 of sensor units 1.
 const RATES: [&str; 8] = [
@@ -95,7 +107,7 @@ impl BaseUnit {
         ensures { result ≡ is_not_empty (unit_name_or_code self.0.base ++ modifier_part
             self.0.units1 self.0.modifier) }
     {
-        match self.0.units1 / 2 % 4 {
+        match self.0.modifier_use() {
             1 | 2 => true,
             _ => UnitName(self.0.base).is_there(),
         }
@@ -111,28 +123,11 @@ impl fmt::Display for BaseUnit {
     fn fmt<W: fmt::Write>(&self, f: &mut fmt::Formatter<W>) -> fmt::Result {
         let base = UnitName(self.0.base);
         let modifier = UnitName(self.0.modifier);
-        match self.0.units1 / 2 % 4 {
+        match self.0.modifier_use() {
             1 => write!(f, "{base}/{modifier}"),
             2 => write!(f, "{base}*{modifier}"),
             _ => write!(f, "{base}"),
         }
-    }
-}
-
-/// `%` where bit 0 of sensor units 1 is set.
-fn percent_part(units1: u8) -> &'static str
-    ensures { result.now ≡ percent_part units1 }
-{
-    if units1 % 2 == 1 { "%" } else { "" }
-}
-
-/// The rate, by bits 5:3 of sensor units 1.
-fn rate_part(units1: u8) -> &'static str
-    ensures { result.now ≡ rate_part units1 }
-{
-    match entry(RATES.as_slice(), (units1 / 8 % 8) as usize) {
-        Some(rate) => rate,
-        None => "",
     }
 }
 
@@ -157,13 +152,45 @@ pub struct Units {
 }
 
 impl Units {
+    /// Rate, modifier use and percentage, 0 where nothing is joined to the base unit.
+    fn joined_bits(self) -> u8
+        ensures { result ≡ self.units1 % 64 }
+    {
+        self.units1 & JOINED_BITS
+    }
+
+    /// How the modifier is joined to the base unit: not at all (0), by `/` (1) or by `*` (2).
+    fn modifier_use(self) -> u8
+        ensures { result ≡ self.units1 / 2 % 4 }
+    {
+        self.units1 >> 1 & MODIFIER_USE_BITS
+    }
+
+    /// `%` for a percentage.
+    fn percent(self) -> &'static str
+        ensures { result.now ≡ percent_part self.units1 }
+    {
+        if self.units1 & PERCENTAGE != 0 {
+            "%"
+        } else {
+            ""
+        }
+    }
+
+    /// The rate, nothing where there is none.
+    fn rate(self) -> &'static str
+        ensures { result.now ≡ rate_part self.units1 }
+    {
+        entry(RATES.as_slice(), usize::from(self.units1 >> 3 & RATE_BITS)).unwrap_or("")
+    }
+
     /// What they print as, where that is the name of the base unit and no more.
     #[tactic(auto, using(crate::proofs::UnitLemmas::plain_units))]
     fn plain_name(self) -> Option<&'static str>
         ensures { IfSome result (λ name. name.now ≡ unit_text_of self.units1 self.base
             self.modifier) }
     {
-        if self.units1 % 64 == 0 {
+        if self.joined_bits() == 0 {
             entry(UNITS.as_slice(), self.base as usize)
         } else {
             None
@@ -175,10 +202,7 @@ impl Units {
     fn is_there(self) -> bool
         ensures { result ≡ is_not_empty (unit_text_of self.units1 self.base self.modifier) }
     {
-        let has_percent = is_there(percent_part(self.units1));
-        let has_unit = BaseUnit(self).is_there();
-        let has_rate = is_there(rate_part(self.units1));
-        has_percent | has_unit | has_rate
+        is_there(self.percent()) || BaseUnit(self).is_there() || is_there(self.rate())
     }
 }
 
@@ -190,13 +214,13 @@ impl fmt::Display for Units {
 
     #[tactic(auto, using(crate::proofs::UnitLemmas::append_spaced))]
     fn fmt<W: fmt::Write>(&self, f: &mut fmt::Formatter<W>) -> fmt::Result {
-        let percent = percent_part(self.units1);
+        let percent = self.percent();
         let unit = BaseUnit(*self);
-        let rate = rate_part(self.units1);
+        let rate = self.rate();
         let has_percent = is_there(percent);
         let has_unit = unit.is_there();
         let first = gap(has_percent, has_unit);
-        let second = gap(has_percent | has_unit, is_there(rate));
+        let second = gap(has_percent || has_unit, is_there(rate));
         write!(f, "{percent}{first}{unit}{second}{rate}")
     }
 }
