@@ -12,3 +12,4 @@ pub use Rattle.ipmi_text.specs.SensorTypes.{sensor_type_text_of}
 pub use Rattle.ipmi_text.specs.Times.{IsUtcTextOf}
 pub use Rattle.ipmi_text.specs.Units.{after_space, unit_text_of}
 pub use Rattle.ipmi_text.specs.declared.reading.Reading.{Reading}
+pub use Rattle.ipmi_text.specs.declared.units.Units.{Units}

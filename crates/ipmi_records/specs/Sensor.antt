@@ -1,9 +1,8 @@
 -- Where the fields of sensors and device locators are in a sensor data record (IPMI v2.0, section 43).
 use Rattle.std.specs.Prelude.{ℕ, ◌+◌, ◌*◌, ◌/◌, ◌%◌, Bool, ℤ, List}
-use Rattle.ipmi_records.specs.Below.{SensorFactors}
+use Rattle.ipmi_records.specs.Below.{SensorFactors, Units}
 use Rattle.ipmi_records.specs.declared.sensor.Entity.{Entity}
 use Rattle.ipmi_records.specs.declared.sensor.Sensor.{Sensor}
-use Rattle.ipmi_records.specs.declared.sensor.SensorUnits.{SensorUnits}
 use Rattle.ipmi_records.specs.declared.sensor.Threshold.{Threshold}
 use Rattle.ipmi_records.specs.declared.locator.Locator.{Locator}
 use Rattle.ipmi_records.specs.Bytes.{byte_at, has_bit, signed}
@@ -38,7 +37,7 @@ abbrev pub event_only_sensor : List ℕ → Sensor
 event_only_sensor bytes = sensor_by (byte_at 11 bytes) (byte_at 12 bytes) bytes
 
 -- bytes 21 to 23 of a full and of a compact record: sensor units 1, base unit, modifier unit
-abbrev pub units_in : List ℕ → SensorUnits
+abbrev pub units_in : List ℕ → Units
 units_in bytes = record { units1 = byte_at 21 bytes; base = byte_at 22 bytes; modifier = byte_at 23 bytes }
 
 -- ---- only full records (table 43-1)

@@ -112,7 +112,6 @@ fn reading_lines(
     Ok(text)
 }
 
-/// The name of a threshold.
 fn threshold_name(threshold: Threshold) -> &'static str
     ensures { result.now ≡ threshold_name threshold }
 {

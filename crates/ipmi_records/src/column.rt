@@ -1,15 +1,26 @@
 //! The reading column and the status of a record.
-ghost use Rattle.std.specs.Prelude.{◌≡◌, ◌++◌, OnOk, option_map, string_bytes, Some};
-ghost use Rattle.ipmi_records.specs.Below.{Appends, unit_text_of};
-ghost use Rattle.ipmi_records.specs.Prelude.{IsRawText, IsReadingColumn, IsSensorColumn, fru_column, has_thresholds, is_there, sensor_status, shown_of, shown_reading, states_text, status_of, threshold_status, unit_text_in, type_text};
+ghost use Rattle.std.specs.Prelude.{◌≡◌, ◌+◌, ◌*◌, ◌%◌, ◌++◌, OnOk, option_map, string_bytes, Some};
+ghost use Rattle.ipmi_records.specs.Below.{Appends};
+ghost use Rattle.ipmi_records.specs.Prelude.{IsRawText, IsReadingColumn, IsSensorColumn, fru_column, has_thresholds, is_there, sensor_status, shown_of, shown_reading, states_text, status_of, threshold_status, type_text};
 
 use crate::bits::has_bit;
 use crate::sdr::SdrView::{Compact, Controller, EventOnly, Fru, Full, Generic, Other};
 use crate::sdr::{OWN_ADDRESS, SdrView};
-use crate::sensor::{FullSensor, Sensor};
-use ipmi_text::{ByteH, HexByte, HexWord, Reading, Units, convert, push_fixed, push_units};
+use crate::sensor::{FullSensor, Sensor, Threshold};
+use ipmi_text::{
+    ByteH, HexByte, HexWord, Reading, THRESHOLD_EVENT_TYPE, convert, push_fixed, push_units,
+};
 use std::alloc::AllocError;
 use std::fmt;
+
+/// The bit of a reading's flags that says that the sensor is scanned.
+const SCANNING_ENABLED: u32 = 6;
+
+/// The one that says that there is no reading at the moment.
+const READING_UNAVAILABLE: u32 = 5;
+
+/// Bits 6:0 of a reading's last byte: states 14:8 of a discrete sensor.
+const STATE_BITS: u8 = 0x7F;
 
 /// What a sensor that could be read shows.
 #[derive(Clone, Copy)]
@@ -26,7 +37,7 @@ pub(crate) enum Shown {
 fn is_there(reading: Reading) -> bool
     ensures { result ≡ is_there reading }
 {
-    has_bit(reading.flags, 6) && !has_bit(reading.flags, 5)
+    has_bit(reading.flags, SCANNING_ENABLED) && !has_bit(reading.flags, READING_UNAVAILABLE)
 }
 
 /// What a sensor of the controller's own shows.
@@ -54,18 +65,6 @@ fn shown_of(sensor: &Sensor, reading: Option<Reading>) -> Shown
     }
 }
 
-/// The units of a full record's sensor.
-fn units_of(full: &FullSensor) -> Units
-    ensures { unit_text_of result.units1 result.base result.modifier ≡ unit_text_in full.now }
-{
-    let units = full.units();
-    Units {
-        units1: units.units1,
-        base: units.base,
-        modifier: units.modifier,
-    }
-}
-
 /// Appends the value of a raw byte with its units, or `raw 0xNN` where the record gives it none.
 #[tactic(auto, using(crate::proofs::ColumnLemmas::quantity_appended))]
 pub(crate) fn push_raw(text: &mut String, full: &FullSensor, raw: u8) -> Result<(), AllocError>
@@ -77,7 +76,14 @@ pub(crate) fn push_raw(text: &mut String, full: &FullSensor, raw: u8) -> Result<
         return write!(text, "raw 0x{raw}");
     };
     push_fixed(text, value)?;
-    push_units(text, units_of(full))
+    push_units(text, full.units())
+}
+
+/// The 15 states of a discrete sensor, those from 8 on above the others.
+fn states_in(reading: Reading) -> u16
+    ensures { result ≡ 256 * (reading.more % 128) + reading.status }
+{
+    u16::from_be_bytes([reading.more & STATE_BITS, reading.status])
 }
 
 /// Appends the states of a discrete sensor.
@@ -85,7 +91,7 @@ fn push_states(text: &mut String, reading: Reading) -> Result<(), AllocError>
     ensures { OnOk result
         (string_bytes text.new ≡ string_bytes text.old ++ states_text reading) }
 {
-    let states = HexWord(256 * u16::from(reading.more % 128) + u16::from(reading.status));
+    let states = HexWord(states_in(reading));
     write!(text, "states 0x{states}")
 }
 
@@ -162,27 +168,27 @@ pub(crate) fn push_reading(
     }
 }
 
-/// The status of a threshold sensor, by its comparisons.
-fn threshold_status(status: u8) -> &'static str
-    ensures { result.now ≡ threshold_status status }
+/// The status of a threshold sensor, by the thresholds that its reading passes.
+fn threshold_status(bits: u8) -> &'static str
+    ensures { result.now ≡ threshold_status bits }
 {
-    if has_bit(status, 5) || has_bit(status, 2) {
+    if Threshold::UpperNonRecoverable.is_in(bits) || Threshold::LowerNonRecoverable.is_in(bits) {
         return "nr";
     }
-    if has_bit(status, 4) || has_bit(status, 1) {
+    if Threshold::UpperCritical.is_in(bits) || Threshold::LowerCritical.is_in(bits) {
         return "cr";
     }
-    if has_bit(status, 3) || has_bit(status, 0) {
+    if Threshold::UpperNonCritical.is_in(bits) || Threshold::LowerNonCritical.is_in(bits) {
         return "nc";
     }
     "ok"
 }
 
-/// Whether the sensor has thresholds: its event/reading type is 01h.
+/// Whether the sensor has thresholds, by its event/reading type.
 pub(crate) fn has_thresholds(sensor: &Sensor) -> bool
     ensures { result ≡ has_thresholds sensor.now }
 {
-    sensor.event_type == 0x01
+    sensor.event_type == THRESHOLD_EVENT_TYPE
 }
 
 /// The status of a sensor whose reading this is.

@@ -10,35 +10,31 @@ use std::alloc::{AllocError, Global};
 /// The room for the text.
 const ROOM: usize = 192;
 
-/// How many records there are.
 fn record_count(bytes: &[u8; 14]) -> u16
     ensures { result ≡ record_count bytes.now }
 {
     LittleEndian::read_u16(&bytes[1..])
 }
 
-/// How many bytes are free.
 fn free_space(bytes: &[u8; 14]) -> u16
     ensures { result ≡ free_space bytes.now }
 {
     LittleEndian::read_u16(&bytes[3..])
 }
 
-/// When a record was added last.
 fn last_addition(bytes: &[u8; 14]) -> u32
     ensures { result ≡ last_addition bytes.now }
 {
     LittleEndian::read_u32(&bytes[5..])
 }
 
-/// When a record was erased last.
 fn last_erase(bytes: &[u8; 14]) -> u32
     ensures { result ≡ last_erase bytes.now }
 {
     LittleEndian::read_u32(&bytes[9..])
 }
 
-/// Whether a record was lost for want of room.
+/// The word for bit 7 of the last byte: whether a record was lost for want of room.
 fn overflow_text(bytes: &[u8; 14]) -> &'static str
     ensures { result.now ≡ overflow_text (has_overflow bytes.now) }
 {

@@ -25,6 +25,4 @@ pub use locator::{ControllerLocator, FruLocator, GenericLocator, Locator};
 pub use log::{sel_block, sel_line};
 pub use sdr::{OtherRecord, SdrFault, SdrView};
 pub use sel::{Entry, EventEntry, OemPlainEntry, OemTimedEntry, OtherEntry, SelView};
-pub use sensor::{
-    CompactSensor, Entity, EventOnlySensor, FullSensor, Sensor, SensorUnits, Threshold,
-};
+pub use sensor::{CompactSensor, Entity, EventOnlySensor, FullSensor, Sensor, Threshold};

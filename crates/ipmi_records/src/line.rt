@@ -80,10 +80,7 @@ fn entity_of(sensor: Option<Sensor>, locator: Option<Locator>) -> Option<Entity>
 {
     match sensor {
         Some(sensor) => Some(sensor.entity),
-        None => match locator {
-            Some(locator) => Some(locator.entity),
-            None => None,
-        },
+        None => Some(locator?.entity),
     }
 }
 
@@ -149,7 +146,6 @@ pub fn sdr_eline(
     Ok(line)
 }
 
-/// The name of a record's fault.
 fn fault_text(fault: SdrFault) -> &'static str
     ensures { result.now ≡ fault_text fault }
 {

@@ -6,7 +6,16 @@ use crate::at_least::AtLeast;
 use crate::bits::has_bit;
 use crate::id_string::IdString;
 use crate::sdr::OWN_ADDRESS;
-use crate::sensor::Entity;
+use crate::sensor::{Entity, LUN_BITS};
+
+/// The type of a generic device locator.
+pub(crate) const GENERIC_TYPE: u8 = 0x10;
+
+/// The type of a FRU device locator.
+pub(crate) const FRU_TYPE: u8 = 0x11;
+
+/// The type of a management controller device locator.
+pub(crate) const CONTROLLER_TYPE: u8 = 0x12;
 
 /// The byte of a locator's ID string type/length, counted from 1. Each locator has it.
 pub(crate) const LOCATOR_ID_PLACE: usize = 16;
@@ -33,17 +42,17 @@ fn locator_in(bytes: &[u8]) -> Locator
 }
 
 /// A generic device locator (section 43.7).
-pub type GenericLocator<'a> = AtLeast<'a, 0x10, LOCATOR_ID_PLACE>;
+pub type GenericLocator<'a> = AtLeast<'a, GENERIC_TYPE, LOCATOR_ID_PLACE>;
 
-impl<'a> GenericLocator<'a> {
-    /// What the record tells of its device.
+impl<'a, const TYPE: u8> AtLeast<'a, TYPE, LOCATOR_ID_PLACE> {
+    /// What the record tells of its device, or of its controller.
     pub fn locator(&self) -> Locator
         ensures { result ≡ locator_in self.now }
     {
         locator_in(self.bytes)
     }
 
-    /// The ID string.
+    /// The ID string, at the record's end: its type/length byte is byte 16 (section 43.15).
     pub fn id_string(&self) -> IdString<'a>
         ensures { id_field_of result ≡ id_field_at locator_id_place self.now }
     {
@@ -52,16 +61,9 @@ impl<'a> GenericLocator<'a> {
 }
 
 /// A FRU device locator (section 43.8).
-pub type FruLocator<'a> = AtLeast<'a, 0x11, LOCATOR_ID_PLACE>;
+pub type FruLocator<'a> = AtLeast<'a, FRU_TYPE, LOCATOR_ID_PLACE>;
 
 impl<'a> FruLocator<'a> {
-    /// What the record tells of its device.
-    pub fn locator(&self) -> Locator
-        ensures { result ≡ locator_in self.now }
-    {
-        locator_in(self.bytes)
-    }
-
     /// The FRU device id; of a device that is not logical, its address on the bus.
     pub fn fru_id(&self) -> u8
         ensures { result ≡ fru_id self.now }
@@ -69,7 +71,7 @@ impl<'a> FruLocator<'a> {
         self.bytes[6]
     }
 
-    /// Whether the device is logical, behind a management controller.
+    /// Whether the device is logical: a management controller answers for it.
     pub fn is_logical(&self) -> bool
         ensures { result ≡ is_logical self.now }
     {
@@ -80,7 +82,7 @@ impl<'a> FruLocator<'a> {
     pub fn lun(&self) -> u8
         ensures { result ≡ access_lun self.now }
     {
-        self.bytes[7] / 8 % 4
+        self.bytes[7] >> 3 & LUN_BITS
     }
 
     /// The FRU device id, where the device is reached through the controller itself: logical, at its address, at LUN 0.
@@ -93,30 +95,7 @@ impl<'a> FruLocator<'a> {
             None
         }
     }
-
-    /// The ID string.
-    pub fn id_string(&self) -> IdString<'a>
-        ensures { id_field_of result ≡ id_field_at locator_id_place self.now }
-    {
-        IdString::at(self.bytes, LOCATOR_ID_PLACE)
-    }
 }
 
 /// A management controller device locator (section 43.9).
-pub type ControllerLocator<'a> = AtLeast<'a, 0x12, LOCATOR_ID_PLACE>;
-
-impl<'a> ControllerLocator<'a> {
-    /// What the record tells of its controller.
-    pub fn locator(&self) -> Locator
-        ensures { result ≡ locator_in self.now }
-    {
-        locator_in(self.bytes)
-    }
-
-    /// The ID string.
-    pub fn id_string(&self) -> IdString<'a>
-        ensures { id_field_of result ≡ id_field_at locator_id_place self.now }
-    {
-        IdString::at(self.bytes, LOCATOR_ID_PLACE)
-    }
-}
+pub type ControllerLocator<'a> = AtLeast<'a, CONTROLLER_TYPE, LOCATOR_ID_PLACE>;

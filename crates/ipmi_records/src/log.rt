@@ -1,6 +1,6 @@
 //! The lines and blocks of the event log's entries.
-ghost use Rattle.std.specs.Prelude.{◌≡◌, IfOk, string_bytes, Some};
-ghost use Rattle.ipmi_records.specs.Below.{event_text_of};
+ghost use Rattle.std.specs.Prelude.{◌≡◌, IfOk, codes, string_bytes, Some};
+ghost use Rattle.ipmi_records.specs.Below.{binary_text, event_text_of, labelled};
 ghost use Rattle.ipmi_records.specs.Prelude.{is_deasserted, AreEventLines, AreFieldLines, AreOemLines, IsEventLine, IsOemLine, IsSelBlock, IsSelLine, direction_text, numbered_sensor, sensor_text, words_of_event, manufacturer_text};
 
 use crate::column::RecordType;
@@ -32,7 +32,6 @@ impl fmt::Display for EventSensor {
     }
 }
 
-/// The sensor of an event.
 fn sensor_of_event(event: &EventEntry) -> EventSensor
     ensures { numbered_sensor result.kind.0 result.number.0 ≡ sensor_text event.now }
 {
@@ -42,7 +41,6 @@ fn sensor_of_event(event: &EventEntry) -> EventSensor
     }
 }
 
-/// The words of an event.
 fn words_of_event(event: &EventEntry) -> EventWords
     ensures { event_text_of result.event result.data1 ≡ words_of_event event.now }
 {
@@ -52,7 +50,7 @@ fn words_of_event(event: &EventEntry) -> EventWords
     }
 }
 
-/// Whether an event comes or goes.
+/// The word for an event that comes or goes.
 fn direction_text(event: &EventEntry) -> &'static str
     ensures { result.now ≡ direction_text (is_deasserted event.now) }
 {
@@ -71,13 +69,14 @@ impl fmt::Display for Manufacturer {
     ghost output = { λ number. Some (manufacturer_text number.0) };
 
     fn fmt<W: fmt::Write>(&self, f: &mut fmt::Formatter<W>) -> fmt::Result {
-        let high = HexByte((self.0 / 65536 % 256) as u8);
-        let low = HexWord((self.0 % 65536) as u16);
+        let [_, high, middle, low] = self.0.to_be_bytes();
+        let high = HexByte(high);
+        let low = HexWord(u16::from_be_bytes([middle, low]));
         write!(f, "{high}{low}")
     }
 }
 
-/// The line of an event.
+/// The line of an event: when it came, from what, and what it says.
 fn event_line(alloc: Global, id: u16, event: &EventEntry) -> Result<String, AllocError>
     ensures { IfOk result (λ text. IsEventLine id event.now (string_bytes text)) }
 {
@@ -93,7 +92,7 @@ fn event_line(alloc: Global, id: u16, event: &EventEntry) -> Result<String, Allo
     )
 }
 
-/// The line of an OEM record with a time stamp.
+/// The line of an OEM record with a time stamp, whose data only its manufacturer can read.
 fn oem_line(alloc: Global, id: u16, entry: &OemTimedEntry) -> Result<String, AllocError>
     ensures { IfOk result (λ text. IsOemLine id entry.now (string_bytes text)) }
 {
@@ -171,6 +170,14 @@ fn oem_lines(alloc: Global, entry: &OemTimedEntry) -> Result<String, AllocError>
     )
 }
 
+/// The line of bytes that this program gives no meaning.
+fn data_line(alloc: Global, bytes: &[u8]) -> Result<String, AllocError>
+    ensures { IfOk result (λ text. string_bytes text ≡ labelled (codes "Data") (binary_text bytes.now)) }
+{
+    let bytes = hex::encode(alloc, bytes)?;
+    text_with_room(alloc, BLOCK_ROOM, format_args!("Data: {bytes}\n"))
+}
+
 /// The fields of an entry, a line for each.
 fn field_lines(alloc: Global, view: &SelView) -> Result<String, AllocError>
     ensures { IfOk result (λ text. AreFieldLines view.now (string_bytes text)) }
@@ -178,14 +185,8 @@ fn field_lines(alloc: Global, view: &SelView) -> Result<String, AllocError>
     match view {
         SelView::Event(event) => event_lines(alloc, event),
         SelView::OemTimed(entry) => oem_lines(alloc, entry),
-        SelView::OemPlain(entry) => {
-            let bytes = hex::encode(alloc, entry.data_bytes())?;
-            text_with_room(alloc, BLOCK_ROOM, format_args!("Data: {bytes}\n"))
-        }
-        SelView::Other(entry) => {
-            let bytes = hex::encode(alloc, entry.data_bytes())?;
-            text_with_room(alloc, BLOCK_ROOM, format_args!("Data: {bytes}\n"))
-        }
+        SelView::OemPlain(entry) => data_line(alloc, entry.data_bytes()),
+        SelView::Other(entry) => data_line(alloc, entry.data_bytes()),
     }
 }
 

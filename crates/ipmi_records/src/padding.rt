@@ -12,24 +12,18 @@ fn is_char_start(byte: u8) -> bool
 }
 
 /// How many characters begin in bytes of UTF-8.
+#[tactic(auto, using(crate::proofs::PaddingLemmas::char_count_is))]
 fn character_count(bytes: &[u8]) -> usize
     ensures { result ≡ char_count bytes.now }
 {
-    let mut count = 0;
-    for byte in bytes {
-        if is_char_start(*byte) {
-            count += 1;
-        }
-    }
-    count
+    bytes.iter().filter(|byte| is_char_start(**byte)).count()
 }
 
-/// Appends so many spaces.
 fn push_spaces(line: &mut String, count: usize) -> Result<(), AllocError>
     ensures { OnOk result
         (string_bytes line.new ≡ string_bytes line.old ++ replicate count 32) }
 {
-    for i in 0..count {
+    for _ in 0..count {
         line.push(' ')?;
     }
     Ok(())

@@ -4,11 +4,14 @@ ghost use Rattle.ipmi_records.specs.Prelude.{body_len, fru_of, id_field_of, id_s
 
 use crate::at_least::AtLeast;
 use crate::id_string::IdString;
-use crate::locator::{ControllerLocator, FruLocator, GenericLocator, LOCATOR_ID_PLACE, Locator};
+use crate::locator::{
+    CONTROLLER_TYPE, ControllerLocator, FRU_TYPE, FruLocator, GENERIC_TYPE, GenericLocator,
+    LOCATOR_ID_PLACE, Locator,
+};
 use crate::sdr::SdrView::{Compact, Controller, EventOnly, Fru, Full, Generic, Other};
 use crate::sensor::{
-    COMPACT_ID_PLACE, CompactSensor, EVENT_ONLY_ID_PLACE, EventOnlySensor, FULL_ID_PLACE,
-    FullSensor, Sensor,
+    COMPACT_ID_PLACE, COMPACT_TYPE, CompactSensor, EVENT_ONLY_ID_PLACE, EVENT_ONLY_TYPE,
+    EventOnlySensor, FULL_ID_PLACE, FULL_TYPE, FullSensor, Sensor,
 };
 use byteorder::{ByteOrder, LittleEndian};
 use ipmi_text::sdr_text;
@@ -19,7 +22,7 @@ use thiserror::Error;
 pub(crate) const OWN_ADDRESS: u8 = 0x20;
 
 /// The bytes of a record's header.
-const HEADER: usize = 5;
+const HEADER_LEN: usize = 5;
 
 /// Why bytes are no sensor data record. The first one that applies, in this order, is the answer.
 #[derive(Clone, Copy, Debug, PartialEq, Eq, Error)]
@@ -36,7 +39,7 @@ pub enum SdrFault {
 }
 
 /// A record of a type that has no view of its own.
-pub type OtherRecord<'a> = AtLeast<'a, 0x00, HEADER>;
+pub type OtherRecord<'a> = AtLeast<'a, 0x00, HEADER_LEN>;
 
 /// A sensor data record, by its type.
 #[derive(Clone, Debug, Drop)]
@@ -62,11 +65,11 @@ fn least_len(kind: u8) -> usize
     ensures { result ≡ least_len kind }
 {
     match kind {
-        0x01 => FULL_ID_PLACE,
-        0x02 => COMPACT_ID_PLACE,
-        0x03 => EVENT_ONLY_ID_PLACE,
-        0x10 | 0x11 | 0x12 => LOCATOR_ID_PLACE,
-        _ => HEADER,
+        FULL_TYPE => FULL_ID_PLACE,
+        COMPACT_TYPE => COMPACT_ID_PLACE,
+        EVENT_ONLY_TYPE => EVENT_ONLY_ID_PLACE,
+        GENERIC_TYPE | FRU_TYPE | CONTROLLER_TYPE => LOCATOR_ID_PLACE,
+        _ => HEADER_LEN,
     }
 }
 
@@ -77,12 +80,12 @@ impl<'a> SdrView<'a> {
         ensures { result ≡ sdr_view_by_type kind bytes.now }
     {
         match kind {
-            0x01 => Full(FullSensor::new(bytes)),
-            0x02 => Compact(CompactSensor::new(bytes)),
-            0x03 => EventOnly(EventOnlySensor::new(bytes)),
-            0x10 => Generic(GenericLocator::new(bytes)),
-            0x11 => Fru(FruLocator::new(bytes)),
-            0x12 => Controller(ControllerLocator::new(bytes)),
+            FULL_TYPE => Full(FullSensor::new(bytes)),
+            COMPACT_TYPE => Compact(CompactSensor::new(bytes)),
+            EVENT_ONLY_TYPE => EventOnly(EventOnlySensor::new(bytes)),
+            GENERIC_TYPE => Generic(GenericLocator::new(bytes)),
+            FRU_TYPE => Fru(FruLocator::new(bytes)),
+            CONTROLLER_TYPE => Controller(ControllerLocator::new(bytes)),
             _ => Other(OtherRecord::new(bytes)),
         }
     }
@@ -91,10 +94,10 @@ impl<'a> SdrView<'a> {
     pub fn read(bytes: &'a [u8]) -> Result<SdrView<'a>, SdrFault>
         ensures { result ≡ sdr_view_of bytes.now }
     {
-        if bytes.len() < HEADER {
+        if bytes.len() < HEADER_LEN {
             return Err(SdrFault::Short);
         }
-        if bytes.len() != HEADER + usize::from(bytes[4]) {
+        if bytes.len() != HEADER_LEN + usize::from(bytes[4]) {
             return Err(SdrFault::Length);
         }
         let kind = bytes[3];

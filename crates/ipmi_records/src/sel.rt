@@ -6,6 +6,21 @@ use crate::bits::has_bit;
 use byteorder::{ByteOrder, LittleEndian};
 use std::marker::Model;
 
+/// The type of an event.
+const EVENT: u8 = 0x02;
+
+/// The first type of an OEM record with a time stamp.
+const OEM_TIMED: u8 = 0xC0;
+
+/// The last type of one.
+const LAST_OEM_TIMED: u8 = 0xDF;
+
+/// The first type of an OEM record without a time stamp.
+const OEM_PLAIN: u8 = 0xE0;
+
+/// Bits 6:0 of an event's byte 13: the event/reading type.
+const EVENT_TYPE_BITS: u8 = 0x7F;
+
 /// The 16 bytes of an entry of the event log. `TYPE` is the first entry type of its kind.
 #[derive(Clone, Debug, Drop)]
 pub struct Entry<'a, const TYPE: u8> {
@@ -57,7 +72,7 @@ fn plain_data(bytes: &[u8]) -> &[u8]
 }
 
 /// An event (section 32.1).
-pub type EventEntry<'a> = Entry<'a, 0x02>;
+pub type EventEntry<'a> = Entry<'a, EVENT>;
 
 impl<'a> EventEntry<'a> {
     /// The time stamp in seconds, as `ipmi_text::UtcTime::of` reads it.
@@ -106,7 +121,7 @@ impl<'a> EventEntry<'a> {
     pub fn event_type(&self) -> u8
         ensures { result ≡ event_type self.now }
     {
-        self.bytes[12] % 128
+        self.bytes[12] & EVENT_TYPE_BITS
     }
 
     /// The three bytes of event data. Bits 3:0 of the first are the offset.
@@ -119,7 +134,7 @@ impl<'a> EventEntry<'a> {
 }
 
 /// An OEM record with a time stamp (section 32.2).
-pub type OemTimedEntry<'a> = Entry<'a, 0xc0>;
+pub type OemTimedEntry<'a> = Entry<'a, OEM_TIMED>;
 
 impl<'a> OemTimedEntry<'a> {
     /// The time stamp in seconds, as `ipmi_text::UtcTime::of` reads it.
@@ -145,7 +160,7 @@ impl<'a> OemTimedEntry<'a> {
 }
 
 /// An OEM record without a time stamp (section 32.3).
-pub type OemPlainEntry<'a> = Entry<'a, 0xe0>;
+pub type OemPlainEntry<'a> = Entry<'a, OEM_PLAIN>;
 
 impl<'a> OemPlainEntry<'a> {
     /// The thirteen bytes that the manufacturer gives a meaning.
@@ -188,9 +203,9 @@ impl<'a> SelView<'a> {
     {
         let bytes = bytes.as_slice();
         match bytes[2] {
-            0x02 => SelView::Event(EventEntry::new(bytes)),
-            0xc0..=0xdf => SelView::OemTimed(OemTimedEntry::new(bytes)),
-            0xe0..=0xff => SelView::OemPlain(OemPlainEntry::new(bytes)),
+            EVENT => SelView::Event(EventEntry::new(bytes)),
+            OEM_TIMED..=LAST_OEM_TIMED => SelView::OemTimed(OemTimedEntry::new(bytes)),
+            OEM_PLAIN..=u8::MAX => SelView::OemPlain(OemPlainEntry::new(bytes)),
             _ => SelView::Other(OtherEntry::new(bytes)),
         }
     }

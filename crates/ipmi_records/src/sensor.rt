@@ -1,13 +1,34 @@
 //! The records of sensors, and where their fields are (IPMI v2.0, sections 43.1 to 43.3).
-ghost use Rattle.std.specs.Prelude.{◌≡◌, ◌*◌, ◌<◌, ◌≤◌, length, Some};
+ghost use Rattle.std.specs.Prelude.{◌≡◌, ◌+◌, ◌*◌, ◌/◌, ◌<◌, ◌≤◌, length, slice_index, Some};
 ghost use Rattle.ipmi_records.specs.Below.{IsTwosComplement};
-ghost use Rattle.ipmi_records.specs.Prelude.{signed, compact_id_place, event_only_id_place, full_id_place, id_field_at, id_field_of, analog_format, compact_sensor, entity_in, event_only_sensor, exponent_k1, exponent_k2, factor_b, factor_m, factors_in, full_sensor, is_readable, linearization, sensor_by, threshold_bit, threshold_in, threshold_place, units_in, entity_text};
+ghost use Rattle.ipmi_records.specs.Prelude.{signed, compact_id_place, event_only_id_place, full_id_place, id_field_at, id_field_of, analog_format, compact_sensor, entity_in, event_only_sensor, exponent_k1, exponent_k2, factor_b, factor_m, factors_in, full_sensor, has_bit, is_readable, linearization, sensor_by, threshold_bit, threshold_in, threshold_place, units_in, entity_text};
 
 use crate::at_least::AtLeast;
 use crate::bits::has_bit;
 use crate::id_string::IdString;
-use ipmi_text::Factors;
+use ipmi_text::{Factors, Units};
 use std::fmt;
+
+/// The type of a full record.
+pub(crate) const FULL_TYPE: u8 = 0x01;
+
+/// The type of a compact record.
+pub(crate) const COMPACT_TYPE: u8 = 0x02;
+
+/// The type of an event-only record.
+pub(crate) const EVENT_ONLY_TYPE: u8 = 0x03;
+
+/// The two bits of a LUN.
+pub(crate) const LUN_BITS: u8 = 0x03;
+
+/// Bits 6:0 of an entity's instance byte. Bit 7 is no part of the instance.
+const INSTANCE_BITS: u8 = 0x7F;
+
+/// Bits 6:0 of a full record's byte 24: the linearization.
+const LINEARIZATION_BITS: u8 = 0x7F;
+
+/// Bits 3:0 of a full record's byte 30: the exponent of B.
+const K1_BITS: u8 = 0x0F;
 
 /// The byte of a full record's ID string type/length, counted from 1. Each full record has it.
 pub(crate) const FULL_ID_PLACE: usize = 48;
@@ -28,13 +49,13 @@ pub struct Entity {
 }
 
 impl Entity {
-    /// The entity of an id and an instance byte. Bit 7 of that byte is no part of the instance.
+    /// The entity of an id and an instance byte.
     pub(crate) fn new(id: u8, instance: u8) -> Entity
         ensures { result ≡ entity_in id instance }
     {
         Entity {
             id,
-            instance: instance % 128,
+            instance: instance & INSTANCE_BITS,
         }
     }
 }
@@ -64,17 +85,6 @@ pub struct Sensor {
     pub sensor_type: u8,
     /// The event/reading type (section 42.1), 01h for a sensor with thresholds.
     pub event_type: u8,
-}
-
-/// The units of a sensor's readings.
-#[derive(Clone, Copy, Debug, PartialEq, Eq)]
-pub struct SensorUnits {
-    /// Sensor units 1: the analog format, the rate, how the modifier is used, percentage.
-    pub units1: u8,
-    /// The base unit (table 43-15).
-    pub base: u8,
-    /// The modifier unit.
-    pub modifier: u8,
 }
 
 /// A threshold of a sensor.
@@ -111,7 +121,7 @@ impl Threshold {
         }
     }
 
-    /// Its bit among the readable thresholds.
+    /// Its bit among the readable thresholds, and in what a reading compares.
     fn bit(self) -> u32
         ensures bit { result ≡ threshold_bit self }
         ensures below { result < 8 }
@@ -125,6 +135,13 @@ impl Threshold {
             Threshold::LowerNonCritical => 0,
         }
     }
+
+    /// Whether its bit is set: a record so marks the readable thresholds, a reading those that are passed.
+    pub(crate) fn is_in(self, bits: u8) -> bool
+        ensures { result ≡ has_bit (threshold_bit self) bits }
+    {
+        has_bit(bits, self.bit())
+    }
 }
 
 /// What a record tells of its sensor. The caller gives the two types, as their places depend on the
@@ -135,7 +152,7 @@ fn sensor_in(bytes: &[u8], sensor_type: u8, event_type: u8) -> Sensor
 {
     Sensor {
         owner: bytes[5],
-        lun: bytes[6] % 4,
+        lun: bytes[6] & LUN_BITS,
         number: bytes[7],
         entity: Entity::new(bytes[8], bytes[9]),
         sensor_type,
@@ -144,15 +161,24 @@ fn sensor_in(bytes: &[u8], sensor_type: u8, event_type: u8) -> Sensor
 }
 
 /// The units of a full or a compact record.
-fn units_in(bytes: &[u8]) -> SensorUnits
+fn units_in(bytes: &[u8]) -> Units
     requires { 23 ≤ length bytes.now }
     ensures { result ≡ units_in bytes.now }
 {
-    SensorUnits {
+    Units {
         units1: bytes[20],
         base: bytes[21],
         modifier: bytes[22],
     }
+}
+
+/// The ten bits of a factor: its low eight are at a place, its high two are bits 7:6 of the next byte.
+fn ten_bits(bytes: &[u8], at: usize) -> u16
+    requires { at + 1 < length bytes.now }
+    ensures value { result ≡ slice_index bytes.now at + 256 * (slice_index bytes.now (at + 1) / 64) }
+    ensures below { result < 1024 }
+{
+    u16::from_be_bytes([bytes[at + 1] >> 6, bytes[at]])
 }
 
 /// The number that bits stand for in 2's complement, of which there are `half` below 0.
@@ -170,7 +196,7 @@ fn signed(half: u16, bits: u16) -> i16
 }
 
 /// A full sensor record (section 43.1).
-pub type FullSensor<'a> = AtLeast<'a, 0x01, FULL_ID_PLACE>;
+pub type FullSensor<'a> = AtLeast<'a, FULL_TYPE, FULL_ID_PLACE>;
 
 impl<'a> FullSensor<'a> {
     /// What the record tells of its sensor.
@@ -181,7 +207,7 @@ impl<'a> FullSensor<'a> {
     }
 
     /// The units of its readings.
-    pub fn units(&self) -> SensorUnits
+    pub fn units(&self) -> Units
         ensures { result ≡ units_in self.now }
     {
         units_in(self.bytes)
@@ -192,7 +218,7 @@ impl<'a> FullSensor<'a> {
         ensures value { result ≡ analog_format self.now }
         ensures range { result ≤ 3 }
     {
-        self.bytes[20] / 64
+        self.bytes[20] >> 6
     }
 
     /// The linearization, 0 for a linear sensor.
@@ -200,29 +226,23 @@ impl<'a> FullSensor<'a> {
         ensures value { result ≡ linearization self.now }
         ensures range { result ≤ 127 }
     {
-        self.bytes[23] % 128
+        self.bytes[23] & LINEARIZATION_BITS
     }
 
-    /// The factor M.
+    /// M, the slope of the formula by which a raw reading becomes a value (section 36.3).
     pub fn m(&self) -> i16
         ensures value { result ≡ factor_m self.now }
         ensures range { IsTwosComplement 512 result }
     {
-        signed(
-            512,
-            u16::from(self.bytes[24]) + 256 * u16::from(self.bytes[25] / 64),
-        )
+        signed(512, ten_bits(self.bytes, 24))
     }
 
-    /// The offset B.
+    /// B, which the formula adds, times ten to the power K1.
     pub fn b(&self) -> i16
         ensures value { result ≡ factor_b self.now }
         ensures range { IsTwosComplement 512 result }
     {
-        signed(
-            512,
-            u16::from(self.bytes[26]) + 256 * u16::from(self.bytes[27] / 64),
-        )
+        signed(512, ten_bits(self.bytes, 26))
     }
 
     /// The exponent of B.
@@ -230,7 +250,7 @@ impl<'a> FullSensor<'a> {
         ensures value { result ≡ exponent_k1 self.now }
         ensures range { IsTwosComplement 8 result }
     {
-        signed(8, u16::from(self.bytes[29] % 16)) as i8
+        signed(8, u16::from(self.bytes[29] & K1_BITS)) as i8
     }
 
     /// The exponent of the result.
@@ -238,7 +258,7 @@ impl<'a> FullSensor<'a> {
         ensures value { result ≡ exponent_k2 self.now }
         ensures range { IsTwosComplement 8 result }
     {
-        signed(8, u16::from(self.bytes[29] / 16)) as i8
+        signed(8, u16::from(self.bytes[29] >> 4)) as i8
     }
 
     /// The factors by which a raw reading becomes a value.
@@ -260,7 +280,7 @@ impl<'a> FullSensor<'a> {
     pub fn is_readable(&self, threshold: Threshold) -> bool
         ensures { result ≡ is_readable threshold self.now }
     {
-        has_bit(self.bytes[18], threshold.bit())
+        threshold.is_in(self.bytes[18])
     }
 
     /// The value of a threshold, as a raw reading.
@@ -270,7 +290,7 @@ impl<'a> FullSensor<'a> {
         self.bytes[threshold.place() - 1]
     }
 
-    /// The ID string.
+    /// The ID string, at the record's end: its type/length byte is byte 48 (section 43.15).
     pub fn id_string(&self) -> IdString<'a>
         ensures { id_field_of result ≡ id_field_at full_id_place self.now }
     {
@@ -279,7 +299,7 @@ impl<'a> FullSensor<'a> {
 }
 
 /// A compact sensor record (section 43.2).
-pub type CompactSensor<'a> = AtLeast<'a, 0x02, COMPACT_ID_PLACE>;
+pub type CompactSensor<'a> = AtLeast<'a, COMPACT_TYPE, COMPACT_ID_PLACE>;
 
 impl<'a> CompactSensor<'a> {
     /// The sensor; of several that share the record, the first.
@@ -290,13 +310,13 @@ impl<'a> CompactSensor<'a> {
     }
 
     /// The units of its readings.
-    pub fn units(&self) -> SensorUnits
+    pub fn units(&self) -> Units
         ensures { result ≡ units_in self.now }
     {
         units_in(self.bytes)
     }
 
-    /// The ID string.
+    /// The ID string, at the record's end: its type/length byte is byte 32.
     pub fn id_string(&self) -> IdString<'a>
         ensures { id_field_of result ≡ id_field_at compact_id_place self.now }
     {
@@ -305,7 +325,7 @@ impl<'a> CompactSensor<'a> {
 }
 
 /// An event-only record (section 43.3), whose sensor has no reading.
-pub type EventOnlySensor<'a> = AtLeast<'a, 0x03, EVENT_ONLY_ID_PLACE>;
+pub type EventOnlySensor<'a> = AtLeast<'a, EVENT_ONLY_TYPE, EVENT_ONLY_ID_PLACE>;
 
 impl<'a> EventOnlySensor<'a> {
     /// The sensor; of several that share the record, the first.
@@ -315,7 +335,7 @@ impl<'a> EventOnlySensor<'a> {
         sensor_in(self.bytes, self.bytes[10], self.bytes[11])
     }
 
-    /// The ID string.
+    /// The ID string, at the record's end: its type/length byte is byte 17.
     pub fn id_string(&self) -> IdString<'a>
         ensures { id_field_of result ≡ id_field_at event_only_id_place self.now }
     {

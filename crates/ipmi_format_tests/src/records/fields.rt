@@ -1,7 +1,8 @@
 //! What is read from sensor data records of every kind without printing them.
 use super::examples::{CPU_TEMP, PSU1, with_byte};
 use crate::cases::{bytes_of, is_text, line_of};
-use ipmi_records::{Entity, FruLocator, IdString, Locator, SdrView, Sensor, SensorUnits};
+use ipmi_records::{Entity, FruLocator, IdString, Locator, SdrView, Sensor};
+use ipmi_text::Units;
 use std::alloc::{AllocError, Global};
 use std::process::Abort;
 
@@ -11,14 +12,14 @@ const RECORDS: &str =
     "010051013320fe0103837f6801010000000038388101188c01800240007f0000000000005f5a551122330202000000c84350552054656d70
 1 81 1 51
 Some(Sensor { owner: 32, lun: 2, number: 1, entity: Entity { id: 3, instance: 3 }, sensor_type: 1, event_type: 1 })
-Some(SensorUnits { units1: 129, base: 1, modifier: 24 })
+Some(Units { units1: 129, base: 1, modifier: 24 })
 None
 c8 4350552054656d70
 
 010051023320000103017f680101000000003838000100000100000000000000000000005f5a550000000202000000c84350552054656d70
 1 81 2 51
 Some(Sensor { owner: 32, lun: 0, number: 1, entity: Entity { id: 3, instance: 1 }, sensor_type: 1, event_type: 1 })
-Some(SensorUnits { units1: 0, base: 1, modifier: 0 })
+Some(Units { units1: 0, base: 1, modifier: 0 })
 None
 00 000000005f5a550000000202000000c84350552054656d70
 
@@ -82,7 +83,7 @@ fn own_sensor(view: &SdrView<'_>) -> Option<Sensor> {
 }
 
 /// The units of a sensor's readings.
-fn own_units(view: &SdrView<'_>) -> Option<SensorUnits> {
+fn own_units(view: &SdrView<'_>) -> Option<Units> {
     match view {
         SdrView::Full(full) => Some(full.units()),
         SdrView::Compact(compact) => Some(compact.units()),

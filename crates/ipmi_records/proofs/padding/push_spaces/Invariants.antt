@@ -1,5 +1,5 @@
 use Rattle.std.proofs.Common.{◌≡◌, ◌++◌, replicate, string_bytes}
 use Rattle.ipmi_records.proofs.padding.push_spaces.Given as goal
 
-abbrev pub invariant-loop-i : goal.invariant-loop-i
-invariant-loop-i l = string_bytes l.line ≡ string_bytes l.fn.line ++ replicate l.i 32
+abbrev pub invariant-loop : goal.invariant-loop
+invariant-loop l = string_bytes l.line ≡ string_bytes l.fn.line ++ replicate l.counter 32
