@@ -9,6 +9,9 @@ use byteorder::{ByteOrder, LittleEndian};
 use std::marker::Model;
 use thiserror::Error;
 
+/// Where an area's head begins, after the bytes of its version and its length.
+const HEAD_START: usize = 2;
+
 /// An area that has fields.
 #[derive(Clone, Copy, Debug, PartialEq, Eq)]
 pub(crate) enum AreaKind {
@@ -116,7 +119,7 @@ fn field_part(kind: AreaKind, area: &[u8]) -> &[u8]
     requires { 2 + head_len kind < length area.now }
     ensures { result.now ≡ field_bytes kind area.now }
 {
-    &area[..area.len() - 1][2 + kind.head_len()..]
+    &area[..area.len() - 1][HEAD_START + kind.head_len()..]
 }
 
 /// An area without a fault: that of the chassis, the board or the product (Platform Management FRU Information Storage
@@ -166,7 +169,7 @@ impl<'a> AreaView<'a> {
         requires { self.now.kind ≡ Chassis }
         ensures { result ≡ slice_index self.now.bytes 2 }
     {
-        self.bytes[2]
+        self.bytes[HEAD_START]
     }
 
     /// When a board was made, in minutes since 1996.
@@ -185,7 +188,7 @@ impl<'a> AreaView<'a> {
     {
         match self.kind {
             AreaKind::Chassis => 0,
-            AreaKind::Board | AreaKind::Product => self.bytes[2],
+            AreaKind::Board | AreaKind::Product => self.bytes[HEAD_START],
         }
     }
 
@@ -195,7 +198,7 @@ impl<'a> AreaView<'a> {
         ensures bytes { result.now ≡ head_of self.now.kind self.now.bytes }
         ensures len { length result.now ≡ head_len self.now.kind }
     {
-        &self.bytes[2..2 + self.kind.head_len()]
+        &self.bytes[HEAD_START..HEAD_START + self.kind.head_len()]
     }
 
     /// The fields, in their order.

@@ -17,7 +17,6 @@ struct Labels {
     extra: &'static str,
 }
 
-/// The labels of an area's lines.
 fn labels_of(kind: AreaKind) -> Labels
     ensures area { result.area.now ≡ area_name kind }
     ensures fields { map (λ label. label.now) result.fields.now ≡ labels_of kind }
@@ -69,8 +68,8 @@ fn push_line(text: &mut String, label: &str, value: &str) -> Result<(), AllocErr
 
 /// Appends the line of a field; none where it has no text.
 fn push_field(
-    text: &mut String,
     alloc: Global,
+    text: &mut String,
     label: &str,
     language: u8,
     field: Field,
@@ -87,8 +86,8 @@ fn push_field(
 
 /// Appends the lines of an area's fields.
 fn push_fields(
-    text: &mut String,
     alloc: Global,
+    text: &mut String,
     labels: &Labels,
     area: &AreaView,
 ) -> Result<(), AllocError>
@@ -100,7 +99,7 @@ fn push_fields(
     let mut left = labels.fields.iter();
     'fields: for field in area.fields() {
         let label = left.next().copied().unwrap_or(labels.extra);
-        push_field(text, alloc, label, language, field)?;
+        push_field(alloc, text, label, language, field)?;
     }
     Ok(())
 }
@@ -122,12 +121,12 @@ fn lead_text(alloc: Global, area: &AreaView) -> Result<String, AllocError>
     }
 }
 
-/// The lines of an area.
+/// The lines of an area that has no fault.
 fn area_text(alloc: Global, area: &AreaView) -> Result<String, AllocError>
     ensures { IfOk result (λ text. IsAreaText area.now (string_bytes text)) }
 {
     let mut text = lead_text(alloc, area)?;
-    push_fields(&mut text, alloc, &labels_of(area.kind()), area)?;
+    push_fields(alloc, &mut text, &labels_of(area.kind()), area)?;
     Ok(text)
 }
 

@@ -14,7 +14,7 @@ pub struct Field<'a> {
     pub code: u8,
     /// The data, as many bytes as bits 5:0 of the type/length byte say.
     pub bytes: &'a [u8],
-    // What `fru_text` asks of a code.
+    /// What `fru_text` asks of a code.
     pub ghost two_bits: { code < 4 },
 }
 

@@ -7,14 +7,14 @@ use crate::multirecord::Records;
 use std::marker::Model;
 use thiserror::Error;
 
-/// The bytes of a header.
-const HEADER: usize = 8;
+/// How many bytes a header has.
+const HEADER_LEN: usize = 8;
 
 /// Bits 3:0 of the first byte of a header or an area: its format version.
-const VERSION: u8 = 0x0F;
+const VERSION_BITS: u8 = 0x0F;
 
-/// The place of the offset of the multirecord area.
-const RECORDS: usize = 5;
+/// Where the header has the offset of the multirecord area.
+const RECORDS_PLACE: usize = 5;
 
 /// Why bytes are no inventory. The first one that applies, in this order, is the answer.
 #[derive(Clone, Copy, Debug, PartialEq, Eq, Error)]
@@ -55,7 +55,7 @@ pub(crate) fn bytes_of(units: u8) -> usize
 pub(crate) fn has_version_1(byte: u8) -> bool
     ensures { result ≡ (version_in byte == 1) }
 {
-    byte & VERSION == 1
+    byte & VERSION_BITS == 1
 }
 
 /// The sum of the bytes modulo 256.
@@ -101,13 +101,13 @@ impl<'a> FruView<'a> {
         ensures ok { IfOk result (λ view. (header_fault bytes.now ≡ None) × (view ≡ bytes.now)) }
         ensures err { IfErr result (λ fault. header_fault bytes.now ≡ Some fault) }
     {
-        if bytes.len() < HEADER {
+        if bytes.len() < HEADER_LEN {
             return Err(FruFault::Short);
         }
         if !has_version_1(bytes[0]) {
             return Err(FruFault::HeaderVersion);
         }
-        if !is_zero_sum(&bytes[..HEADER]) {
+        if !is_zero_sum(&bytes[..HEADER_LEN]) {
             return Err(FruFault::HeaderSum);
         }
         Ok(FruView { bytes })
@@ -167,7 +167,7 @@ impl<'a> FruView<'a> {
     pub fn records(&self) -> Records<'a>
         ensures { HasItems self.now (items_left result) }
     {
-        match self.offset(RECORDS) {
+        match self.offset(RECORDS_PLACE) {
             Some(offset) => Records::new(Some(self.bytes_from(offset))),
             None => Records::new(None),
         }

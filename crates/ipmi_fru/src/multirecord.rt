@@ -5,11 +5,11 @@ ghost use Rattle.ipmi_fru.specs.Prelude.{record_in, record_fault, multi_fault_na
 use crate::header::{is_zero_sum, sum_of};
 use thiserror::Error;
 
-/// The bytes of a record's header.
-const HEADER: usize = 5;
+/// How many bytes a record's header has.
+const HEADER_LEN: usize = 5;
 
 /// Bits 3:0 of a record's second byte: the version of its format.
-const VERSION: u8 = 0x0F;
+const VERSION_BITS: u8 = 0x0F;
 
 /// Bit 7 of a record's second byte: the record is the last one.
 const LAST: u8 = 0x80;
@@ -63,23 +63,23 @@ fn read_record(bytes: &[u8]) -> Result<(MultiView<'_>, &[u8]), MultiFault>
     ensures shorter { IfOk result (λ r. length r.1.now < length bytes.now) }
     ensures err { IfErr result (λ fault. record_fault bytes.now ≡ Some fault) }
 {
-    if bytes.len() < HEADER {
+    if bytes.len() < HEADER_LEN {
         return Err(MultiFault::Outside);
     }
-    if !is_zero_sum(&bytes[..HEADER]) {
+    if !is_zero_sum(&bytes[..HEADER_LEN]) {
         return Err(MultiFault::HeaderSum);
     }
-    let end = HEADER + usize::from(bytes[2]);
+    let end = HEADER_LEN + usize::from(bytes[2]);
     if bytes.len() < end {
         return Err(MultiFault::Outside);
     }
-    let data = &bytes[HEADER..end];
+    let data = &bytes[HEADER_LEN..end];
     if bytes[3].wrapping_add(sum_of(data)) != 0 {
         return Err(MultiFault::DataSum);
     }
     let view = MultiView {
         kind: bytes[0],
-        version: bytes[1] & VERSION,
+        version: bytes[1] & VERSION_BITS,
         last: bytes[1] & LAST != 0,
         bytes: data,
     };

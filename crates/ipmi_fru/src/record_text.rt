@@ -202,7 +202,7 @@ fn form_of(view: &MultiView) -> RecordForm
     }
 }
 
-/// The line of a record.
+/// The line of a record, by what it is printed as.
 fn record_text(alloc: Global, view: &MultiView) -> Result<String, AllocError>
     ensures { IfOk result (λ text. IsRecordText (record_of view.now) (string_bytes text)) }
 {
