@@ -13,8 +13,6 @@ pub const NO_NEXT_ID: u16 = 0xFFFF;
 pub const LARGEST_PART: u8 = 254;
 /// The bytes of a sensor data record's header. Its last one says how many bytes follow.
 pub const SDR_HEADER_LEN: usize = 5;
-/// The most bytes that follow the header.
-pub(crate) const LARGEST_SDR_BODY_LEN: u8 = 0xFB;
 /// The most bytes of a sensor data record.
 pub const LARGEST_SDR_LEN: usize = 256;
 /// The bytes of an entry of the event log.

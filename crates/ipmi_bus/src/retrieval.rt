@@ -4,9 +4,7 @@ ghost use Rattle.ipmi_bus.specs.Prelude.{Retrieval, Seen, IsHonest, StaysHonest,
 
 use crate::calls::{Failure, after_failure, asked_len, smaller_part};
 use crate::code::Code;
-use crate::controller::{
-    Controller, LARGEST_SDR_BODY_LEN, LARGEST_SDR_LEN, Part, SDR_HEADER_LEN, SEL_ENTRY_LEN, Shelf,
-};
+use crate::controller::{Controller, LARGEST_SDR_LEN, Part, SDR_HEADER_LEN, SEL_ENTRY_LEN, Shelf};
 use crate::step::Ended;
 
 /// What a call brought.
@@ -112,11 +110,11 @@ impl Retrieval {
         }
         self.have += usize::from(part.got);
         self.next = part.next;
-        let is_header = self.shelf == Shelf::Sdr && self.have == SDR_HEADER_LEN;
-        if is_header && self.buffer[4] > LARGEST_SDR_BODY_LEN {
+        let wanted = self.wanted();
+        if self.shelf == Shelf::Sdr && self.have == SDR_HEADER_LEN && wanted > LARGEST_SDR_LEN {
             return Err(Ended::Malformed(self.id));
         }
-        if self.have == self.wanted() {
+        if self.have == wanted {
             Ok(CallOutcome::Whole)
         } else {
             Ok(CallOutcome::Again)
