@@ -1,7 +1,7 @@
 -- What the answers of an honest controller leave of a record that is being read.
 use Rattle.std.proofs.Common.{◌≡◌, ℕ, ◌+◌, ◌<◌, Bool, true, false, Option, None, Some, Result, Ok, Err, refl, sym, ap, ◌∙◌, arith, ◌≤◌, IsTrue, IsSome}
-use Rattle.ipmi_bus.specs.Prelude.{Code, CodeClass, Cancelled, Busy, Refusal, Refused, Shelf, Ended, Outcome, Retrieval, Row, Store, look, rows_of, class_of, FailsWith, ReserveAnswers, Seen, stays_trans, KeepsStore, MayLoseReservation, IsTroubled, IsRefused, current, StaysHonest, SameRequest, IsReading, HoldsCurrent, IsCalm, KeepsHeld, HonestSince, ReadIsHonest, ReadNext, WithinTries, after_trouble, IsRefusedBy, ReserveFails}
-use Rattle.ipmi_bus.specs.Retrieval.{IsOpen, HasRead, CountsTrouble}
+use Rattle.ipmi_bus.specs.Prelude.{Code, CodeClass, Cancelled, Busy, Refusal, Refused, Shelf, Ended, CallOutcome, Retrieval, Row, Store, look, rows_of, class_of, FailsWith, ReserveAnswers, Seen, stays_trans, KeepsStore, MayLoseReservation, IsTroubled, IsRefused, current, StaysHonest, SameRequest, IsReading, HoldsCurrent, HasMet, KeepsHeld, HonestSince, ReadIsHonest, ReadNext, WithinTries, after_trouble, IsRefusedBy, ReserveFails}
+use Rattle.ipmi_bus.specs.Retrieval.{IsOpenRecord, HasRead, CountsTrouble}
 
 -- where a reservation is current, it was so before, and the store is the same
 pub store-kept : (shelf : Shelf) (s s' : Seen) (n : ℕ) → MayLoseReservation shelf s s' → KeepsStore s s' → current shelf s' ≡ Some n → s'.store ≡ s.store
@@ -41,11 +41,11 @@ module _ (start old : Retrieval) (s s' s'' : Seen) (same : SameRequest start old
       let given = rw same.shelf at keeps.none_given in
       record { held = held ∙ before.held; none_given = λ n now. before.none_given n (given n now) }
 
-  pub within_calm : IsOpen old → IsCalm s' s'' → WithinTries start.tries s s''
+  pub within_calm : IsOpenRecord old → HasMet 0 s' s'' → WithinTries start.tries s s''
   within_calm open_ calm = search arith
 
   -- a trouble that an honest controller answered
-  pub trouble_answers : (is_cancelled : Bool) (new : Retrieval) (result : Result Outcome Ended) → IsOpen old → MayLoseReservation old.shelf s' s'' → IsTroubled s' s'' → CountsTrouble is_cancelled old new result
+  pub trouble_answers : (is_cancelled : Bool) (new : Retrieval) (result : Result CallOutcome Ended) → IsOpenRecord old → MayLoseReservation old.shelf s' s'' → IsTroubled s' s'' → CountsTrouble is_cancelled old new result
       → (IsTrue s.plain → HoldsCurrent start s → ⊥) → ReadNext start new s s'' result
   trouble_answers is_cancelled new (Ok turn) open_ keeps troubled counts not_plain =
       let goes : HonestSince start (after_trouble is_cancelled old) s s'' = record {
@@ -68,7 +68,7 @@ module _ (start old : Retrieval) (s s' s'' : Seen) (same : SameRequest start old
       rw (counts.0, counts.1) given
 
   -- a call that an honest controller refused
-  pub refusal_answers : (new : Retrieval) (code : Code) (result : Result Outcome Ended) → IsOpen old → MayLoseReservation old.shelf s' s'' → IsRefused code.0 s' s'' → IsRefusedBy code old new result
+  pub refusal_answers : (new : Retrieval) (code : Code) (result : Result CallOutcome Ended) → IsOpenRecord old → MayLoseReservation old.shelf s' s'' → IsRefused code.0 s' s'' → IsRefusedBy code old new result
       → (IsTrue s.plain → HoldsCurrent start s → ⊥) → ReadNext start new s s'' result
   refusal_answers new code result open_ keeps refused does not_plain =
       let base : ReadIsHonest start old s s'' (Err (Refused old.id code)) = record {
@@ -80,7 +80,7 @@ module _ (start old : Retrieval) (s s' s'' : Seen) (same : SameRequest start old
       rw (does.0, does.1) base
 
   -- a reservation that an honest controller gave
-  pub reserve_given : (n : ℕ) → IsOpen old → old.reservation ≡ None → ReserveAnswers old.shelf (Ok n) s' s'' → HonestSince start (record old { reservation = Some n }) s s''
+  pub reserve_given : (n : ℕ) → IsOpenRecord old → old.reservation ≡ None → ReserveAnswers old.shelf (Ok n) s' s'' → HonestSince start (record old { reservation = Some n }) s s''
   reserve_given n open_ none answers =
       let quiet = answers.gives.0 in
       record {
@@ -94,7 +94,7 @@ module _ (start old : Retrieval) (s s' s'' : Seen) (same : SameRequest start old
       }
 
   -- a call for a reservation that an honest controller failed
-  pub reserve_failed : (new : Retrieval) (code : Code) (result : Result Outcome Ended) → IsOpen old → ReserveAnswers old.shelf (Err code) s' s'' → ReserveFails (class_of code.0) code old new result → ReadNext start new s s'' result
+  pub reserve_failed : (new : Retrieval) (code : Code) (result : Result CallOutcome Ended) → IsOpenRecord old → ReserveAnswers old.shelf (Err code) s' s'' → ReserveFails (class_of code.0) code old new result → ReadNext start new s s'' result
   reserve_failed new code result open_ answers fails = by_class (class_of code.0) answers.gives.0 fails
     where
       not_plain : IsTrue s.plain → HoldsCurrent start s → ⊥

@@ -10,18 +10,18 @@ use Rattle.std.proofs.lemmas.Bool.Decides.{nat_tests}
 use Rattle.std.proofs.lemmas.List.{get_or-replicate, get_or_past, length-replicate}
 use mir.Syntax.{w8}
 use mir.Val.{bits}
-use Rattle.ipmi_bus.specs.Prelude.{has_bit, ids_below, ids_in}
+use Rattle.ipmi_bus.specs.Prelude.{has_id_bit, ids_below, ids_in}
 
 step : (s : set.FinSet nat_cmp) (b p : Bool) (k q : ℕ) → (q ≡ k → p ≡ b) → set.contains s q ≡ (nat_lt q k && p) → set.contains (cond b (set.insert s k) s) q ≡ (nat_lt q (suc k) && p)
 step s true p k q same ih = grind (members, rules)
 step s false p k q same ih = grind (members, rules)
 
-contains-ids_below : (bytes : List ℕ) (k q : ℕ) → set.contains (ids_below bytes k) q ≡ (nat_lt q k && has_bit bytes q)
+contains-ids_below : (bytes : List ℕ) (k q : ℕ) → set.contains (ids_below bytes k) q ≡ (nat_lt q k && has_id_bit bytes q)
 unfolding ids_below
 contains-ids_below bytes zero q = grind (members, rules)
-contains-ids_below bytes (suc k) q = step (ids_below bytes k) (has_bit bytes k) (has_bit bytes q) k q (ap (has_bit bytes)) (contains-ids_below bytes k q)
+contains-ids_below bytes (suc k) q = step (ids_below bytes k) (has_id_bit bytes k) (has_id_bit bytes q) k q (ap (has_id_bit bytes)) (contains-ids_below bytes k q)
 
-pub contains-ids_in : (bytes : List ℕ) (q : ℕ) → set.contains (ids_in bytes) q ≡ (nat_lt q 65536 && has_bit bytes q)
+pub contains-ids_in : (bytes : List ℕ) (q : ℕ) → set.contains (ids_in bytes) q ≡ (nat_lt q 65536 && has_id_bit bytes q)
 unfolding ids_in
 contains-ids_in bytes q = contains-ids_below bytes 65536 q
 
@@ -31,7 +31,7 @@ len-put s b k le = grind (arith, len-insert nat_cmp_total s k)
 len-ids_below : (bytes : List ℕ) (k : ℕ) → set.len (ids_below bytes k) ≤ k
 unfolding ids_below
 len-ids_below bytes zero = omega (arith, len-empty nat_cmp)
-len-ids_below bytes (suc k) = len-put (ids_below bytes k) (has_bit bytes k) k (len-ids_below bytes k)
+len-ids_below bytes (suc k) = len-put (ids_below bytes k) (has_id_bit bytes k) k (len-ids_below bytes k)
 
 -- a table has no more ids than bits
 pub len-ids_in : (bytes : List ℕ) → set.len (ids_in bytes) ≤ 65536
@@ -43,12 +43,12 @@ abbrev marked : List ℕ → ℕ → ℕ
 marked bytes n = bit_or (get_or bytes (n / 8) 0) (1 * 2 ^ (n % 8) % 2 ^ bits w8)
 
 -- the bit at q, after that at n is set
-has_bit-put_same : (bytes : List ℕ) (n : ℕ) → n / 8 < length bytes → has_bit (put bytes (n / 8) (marked bytes n)) n ≡ true
-has_bit-put_same bytes n within =
+has_id_bit-put_same : (bytes : List ℕ) (n : ℕ) → n / 8 < length bytes → has_id_bit (put bytes (n / 8) (marked bytes n)) n ≡ true
+has_id_bit-put_same bytes n within =
     eq-eqb _ 1 (rw (get_or-set_same bytes (n / 8) (marked bytes n) 0 within) (bit_at_set_same w8 (get_or bytes (n / 8) 0) (n % 8) (omega arith)))
 
-has_bit-put_other : (bytes : List ℕ) (n q : ℕ) → n / 8 < length bytes → q ≢ n → has_bit (put bytes (n / 8) (marked bytes n)) q ≡ has_bit bytes q
-has_bit-put_other bytes n q within ne = elim (cases_eq (q / 8) (n / 8)) [
+has_id_bit-put_other : (bytes : List ℕ) (n q : ℕ) → n / 8 < length bytes → q ≢ n → has_id_bit (put bytes (n / 8) (marked bytes n)) q ≡ has_id_bit bytes q
+has_id_bit-put_other bytes n q within ne = elim (cases_eq (q / 8) (n / 8)) [
   | inl e ↦
       let apart : q % 8 ≢ n % 8 = λ same. ne (omega arith) in
       ap (λ x. eqb x 1) (
@@ -61,8 +61,8 @@ ids_in-put bytes n len fits =
     let within : n / 8 < length bytes = omega arith in
     set.same_set nat_cmp_total nat_cmp-IsAntisymmetric _ _ (λ q.
     joined q _ _ _ _ (contains-ids_in (put bytes (n / 8) (marked bytes n)) q) (contains-ids_in bytes q)
-    (λ e. ap (has_bit (put bytes (n / 8) (marked bytes n))) e ∙ has_bit-put_same bytes n within)
-    (has_bit-put_other bytes n q within)
+    (λ e. ap (has_id_bit (put bytes (n / 8) (marked bytes n))) e ∙ has_id_bit-put_same bytes n within)
+    (has_id_bit-put_other bytes n q within)
     ∙ sym (contains-insert nat_cmp_total (ids_in bytes) n q ∙ rw (unsigned_tied q n) refl))
   where
     joined : (q : ℕ) (a b x y : Bool) → a ≡ (nat_lt q 65536 && x) → b ≡ (nat_lt q 65536 && y) → (q ≡ n → x ≡ true) → (q ≢ n → x ≡ y) → a ≡ (nat_eq q n || b)
@@ -80,7 +80,7 @@ pub ids_in_zeros : (zeros : List ℕ) (n : ℕ) → zeros ≡ replicate n 0 → 
 ids_in_zeros zeros n is =
     set.same_set nat_cmp_total nat_cmp-IsAntisymmetric _ _ (λ q.
     contains-ids_in zeros q
-    ∙ none q (has_bit zeros q) (rw (get_or-zeros zeros n (q / 8) is, bit_at-zero (q % 8)) refl)
+    ∙ none q (has_id_bit zeros q) (rw (get_or-zeros zeros n (q / 8) is, bit_at-zero (q % 8)) refl)
     ∙ sym (contains-empty nat_cmp q))
   where
     none : (q : ℕ) (b : Bool) → b ≡ false → (nat_lt q 65536 && b) ≡ false

@@ -3,8 +3,8 @@ use Rattle.std.proofs.Common.{◌≡◌, ℕ, ◌+◌, ◌<◌, ◌≤◌, Bool,
 use Rattle.std.specs.declared.alloc.Global.{Global}
 use Rattle.std.proofs.lemmas.Bool.Decides.{nat_tests}
 use Rattle.std.proofs.Math.Seq.{take-length}
-use Rattle.ipmi_bus.specs.Prelude.{Code, CodeClass, SmallerPart, NotPresent, Refusal, FruEnded, Size, FruRetrieval, inventory_of, class_of, Seen, IsQuiet, IsTroubled, IsFinished, IsRefused, StaysHonest, stays_trans, IsCalm, CountsPiece, FailsWith, BytesAnswers, BytesIsPlain, SameInventory, FruSince, FruEnds, FruNext, HasSize, InventoryCounts, InventoryIs, inventory_len, WithinTries, IsRefusedWith, digits, fru_call_bound}
-use Rattle.ipmi_bus.specs.FruRetrieval.{IsOpen, CountsTrouble, MakesSmaller, PartFails, TakesPart, HasRead, calls_left}
+use Rattle.ipmi_bus.specs.Prelude.{Code, CodeClass, SmallerPart, NotPresent, Refusal, FruEnded, Size, FruRetrieval, inventory_of, class_of, Seen, IsQuiet, IsTroubled, IsFinished, IsRefused, StaysHonest, stays_trans, HasMet, CountsPiece, FailsWith, BytesAnswers, BytesIsPlain, SameInventory, FruSince, FruEnds, FruNext, HasSize, InventoryCounts, InventoryIs, inventory_len, WithinTries, IsRefusedWith, digits, fru_call_bound}
+use Rattle.ipmi_bus.specs.FruRetrieval.{IsOpenInventory, CountsTrouble, MakesSmaller, PartFails, TakesInventoryPart, HasRead, calls_left}
 use Rattle.ipmi_bus.proofs.PartLemmas.{take-with_piece, calm_piece, smaller_some}
 
 module _ (old r : FruRetrieval) (s s' s'' : Seen) (asked got : ℕ) (len : length r.bytes.items ≡ length old.bytes.items) (front : take old.have r.bytes.items ≡ take old.have old.bytes.items) (since : FruSince old s s') (more : old.have < length old.bytes.items)
@@ -22,7 +22,7 @@ module _ (old r : FruRetrieval) (s s' s'' : Seen) (asked got : ℕ) (len : lengt
       let before = (since.read (first same)).found in
       cc (here, before)
 
-  calm : IsCalm s' s''
+  calm : HasMet 0 s' s''
   calm = calm_piece _ s' s'' gave.gives.2.counts
 
   -- with the bytes that came in
@@ -68,7 +68,7 @@ module _ (old r : FruRetrieval) (s s' s'' : Seen) (asked got : ℕ) (len : lengt
   }
 
   -- the bytes that came are taken
-  pub part_answers : (new : FruRetrieval) (result : Result (Unit {0}) FruEnded) → r ≡ record old { bytes = r.bytes } → TakesPart got r new result → FruNext old new s s'' result
+  pub part_answers : (new : FruRetrieval) (result : Result (Unit {0}) FruEnded) → r ≡ record old { bytes = r.bytes } → TakesInventoryPart got r new result → FruNext old new s s'' result
   part_answers new (Ok u) is takes = subst (λ (x : FruRetrieval). FruSince x s s'') (sym takes.1) (subst (λ (x : FruRetrieval). FruSince (record x { have = x.have + got }) s s'') (sym is) part_taken)
   part_answers new (Err ended) is takes = absurd (omega (arith, takes.0, gave.gives.2.piece.some))
 
@@ -80,7 +80,7 @@ nat_eq-not_cbh : (code : ℕ) → class_of code ≡ Refusal → nat_eq code 0xCB
 nat_eq-not_cbh code is = ne_eqb _ _ (λ (e : code ≡ 0xCB). let other = sym (ap class_of e) ∙ is in cc other)
 
 -- a call for a part that an honest controller failed
-module _ (old : FruRetrieval) (bytes : Vec ℕ Global) (s s' s'' : Seen) (asked : ℕ) (code : Code) (into : List ℕ) (items : bytes.items ≡ old.bytes.items) (open_ : IsOpen old) (since : FruSince old s s')
+module _ (old : FruRetrieval) (bytes : Vec ℕ Global) (s s' s'' : Seen) (asked : ℕ) (code : Code) (into : List ℕ) (items : bytes.items ≡ old.bytes.items) (open_ : IsOpenInventory old) (since : FruSince old s s')
     (gave : BytesAnswers old.id old.have asked (Err code) into s' s'') where
   stays : StaysHonest s s''
   stays = stays_trans s s' s'' since.stays gave.change.stays

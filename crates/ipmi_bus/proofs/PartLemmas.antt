@@ -2,8 +2,8 @@
 use Rattle.std.proofs.Common.{◌≡◌, ℕ, ◌+◌, ◌<◌, ◌≤◌, Bool, true, false, nat_eq, Option, None, Some, Result, Ok, Err, List, length, take, drop, get_or, slice_range, refl, sym, ap, subst, ◌∙◌, inl, inr, arith, IsTrue, IsSome, ne_eqb, get_or-take, take-take, take-add}
 use Rattle.std.proofs.lemmas.Bool.{cases_lt}
 use Rattle.std.proofs.lemmas.Bool.Decides.{nat_tests}
-use Rattle.ipmi_bus.specs.Prelude.{Shelf, Code, CodeClass, Cancelled, Busy, SmallerPart, NotPresent, Refusal, Part, Ended, Stalled, Malformed, Outcome, Again, Whole, Absent, Retrieval, Row, IsRow, look, whole_len, len_of, largest_len, rows_of, store_shelf, Seen, stays_trans, IsHonest, StaysHonest, MayLoseReservation, IsQuiet, IsFinished, current, CountsPiece, FailsWith, GivesPiece, PartIsPlain, PartAnswers, smaller_part, class_of, SameRequest, IsReading, HoldsCurrent, IsCalm, KeepsHeld, HonestSince, ReadIsHonest, ReadNext, wanted_len, after_part, request_of}
-use Rattle.ipmi_bus.specs.Retrieval.{IsOpen, HasRead, TakesPart, MakesSmaller, PartFails}
+use Rattle.ipmi_bus.specs.Prelude.{Shelf, Code, CodeClass, Cancelled, Busy, SmallerPart, NotPresent, Refusal, Part, Ended, Stalled, Malformed, CallOutcome, Again, Whole, Absent, Retrieval, Row, IsRow, look, whole_len, len_of, largest_len, rows_of, store_shelf, Seen, stays_trans, IsHonest, StaysHonest, MayLoseReservation, IsQuiet, IsFinished, current, CountsPiece, FailsWith, GivesPiece, PartIsPlain, PartAnswers, smaller_part, class_of, SameRequest, IsReading, HoldsCurrent, HasMet, KeepsHeld, HonestSince, ReadIsHonest, ReadNext, wanted_len, after_part, request_of}
+use Rattle.ipmi_bus.specs.Retrieval.{IsOpenRecord, HasRead, TakesRecordPart, MakesSmaller, PartFails}
 use Rattle.ipmi_bus.proofs.ShelfLemmas.{look_row}
 use Rattle.ipmi_bus.proofs.CallLemmas.{reading_kept, held_on, within_calm, trouble_answers, refusal_answers}
 
@@ -39,17 +39,17 @@ take-with_piece have got asked before after bytes fits front same piece =
     let inner : take got (drop have after) ≡ take got (drop have bytes) = sym (take-take got asked (drop have after) fits) ∙ sym (ap (take got) range) ∙ piece in
     take-add have got after ∙ rw (front ∙ same, inner) (sym (take-add have got bytes))
 
-pub calm_piece : (flag : Bool) (s s' : Seen) → CountsPiece flag s s' → IsCalm s s'
-calm_piece true s s' counts = record { troubles = counts.troubles; refusals = counts.refusals; last_code = counts.last_code }
-calm_piece false s s' counts = record { troubles = counts.troubles; refusals = counts.refusals; last_code = counts.last_code }
+pub calm_piece : (flag : Bool) (s s' : Seen) → CountsPiece flag s s' → HasMet 0 s s'
+calm_piece true s s' counts = search (arith, counts)
+calm_piece false s s' counts = search (arith, counts)
 
 -- with the piece taken
 abbrev taken : Retrieval → List ℕ → Part → Retrieval
 taken old buffer part = after_part part (record old { buffer = buffer })
 
-module _ (start old : Retrieval) (buffer : List ℕ) (s s' s'' : Seen) (n asked : ℕ) (part : Part) (row : Row) (same : SameRequest start old) (since : HonestSince start old s s') (open_ : IsOpen old) (held : old.reservation ≡ Some n) (stays : StaysHonest s' s'')
+module _ (start old : Retrieval) (buffer : List ℕ) (s s' s'' : Seen) (n asked : ℕ) (part : Part) (row : Row) (same : SameRequest start old) (since : HonestSince start old s s') (open_ : IsOpenRecord old) (held : old.reservation ≡ Some n) (stays : StaysHonest s' s'')
     (keeps : MayLoseReservation old.shelf s' s'') (ok : IsRow old.shelf row) (front : take old.have buffer ≡ take old.have old.buffer) (gives : GivesPiece (request_of old n asked) part (slice_range buffer old.have (old.have + asked)) s' s'' row) where
-  calm : IsCalm s' s''
+  calm : HasMet 0 s' s''
   calm = calm_piece _ s' s'' gives.counts
 
   all : StaysHonest s s''
@@ -67,7 +67,7 @@ module _ (start old : Retrieval) (buffer : List ℕ) (s s' s'' : Seen) (n asked 
       }
 
   keeps_held : IsSome start.reservation → s''.troubles ≡ s.troubles → KeepsHeld start (taken old buffer part) s s''
-  keeps_held = held_on start old s s' s'' same since stays (taken old buffer part) keeps (omega (arith, calm.troubles)) refl
+  keeps_held = held_on start old s s' s'' same since stays (taken old buffer part) keeps (omega (arith, calm.troubles_are)) refl
 
   holds : IsTrue s.plain → HoldsCurrent start s → HoldsCurrent (taken old buffer part) s''
   holds p h = record { held = λ m e. keeps.plain (since.stays.plain p) ∙ (since.plain p h).held m e }
@@ -87,7 +87,7 @@ module _ (start old : Retrieval) (buffer : List ℕ) (s s' s'' : Seen) (n asked 
         within = λ e. let len = rw (same.shelf, same.id, all.store.stays e) at (ap len_of gives.found) in omega (arith, gives.piece.within, len);
       }
 
-  piece_answers : (new : Retrieval) (result : Result Outcome Ended) → TakesPart part (record old { buffer = buffer }) new result → ReadNext start new s s'' result
+  piece_answers : (new : Retrieval) (result : Result CallOutcome Ended) → TakesRecordPart part (record old { buffer = buffer }) new result → ReadNext start new s s'' result
   piece_answers new (Ok Again) takes = rw takes.1 (piece_goes_on (rw takes.1 at takes.2))
   piece_answers new (Ok Whole) takes =
       let is : old.have + part.got ≡ wanted_len old.shelf (old.have + part.got) buffer = rw takes.1 at takes.2 in
@@ -109,15 +109,15 @@ module _ (start old : Retrieval) (buffer : List ℕ) (s s' s'' : Seen) (n asked 
   piece_answers new _ takes = absurd takes
 
 -- a part that an honest controller gave
-pub honest_part : (start old r new : Retrieval) (s s' s'' : Seen) (n asked : ℕ) (part : Part) (result : Result Outcome Ended) → SameRequest start old → HonestSince start old s s' → IsOpen old → r ≡ record old { buffer = r.buffer }
-    → take old.have r.buffer ≡ take old.have old.buffer → old.reservation ≡ Some n → PartAnswers (request_of old n asked) (Ok part) (slice_range r.buffer old.have (old.have + asked)) s' s'' → TakesPart part r new result → ReadNext start new s s'' result
+pub honest_part : (start old r new : Retrieval) (s s' s'' : Seen) (n asked : ℕ) (part : Part) (result : Result CallOutcome Ended) → SameRequest start old → HonestSince start old s s' → IsOpenRecord old → r ≡ record old { buffer = r.buffer }
+    → take old.have r.buffer ≡ take old.have old.buffer → old.reservation ≡ Some n → PartAnswers (request_of old n asked) (Ok part) (slice_range r.buffer old.have (old.have + asked)) s' s'' → TakesRecordPart part r new result → ReadNext start new s s'' result
 honest_part start old r new s s' s'' n asked part result same since open_ is front held parts takes =
     let row = parts.gives.0 in
     let ok = look_row old.shelf _ old.id row (store_shelf old.shelf s''.store parts.change.stays.honest.store) parts.gives.1.found in
-    let takes' : TakesPart part (record old { buffer = r.buffer }) new result = subst (λ (x : Retrieval). TakesPart part x new result) is takes in
+    let takes' : TakesRecordPart part (record old { buffer = r.buffer }) new result = subst (λ (x : Retrieval). TakesRecordPart part x new result) is takes in
     piece_answers start old r.buffer s s' s'' n asked part row same since open_ held parts.change.stays parts.keeps ok front parts.gives.1 new result takes'
 
-module _ (old : Retrieval) (s : Seen) (n asked : ℕ) (honest : IsHonest s) (open_ : IsOpen old) (reading : IsReading old s) (holds : HoldsCurrent old s) (held : old.reservation ≡ Some n) where
+module _ (old : Retrieval) (s : Seen) (n asked : ℕ) (honest : IsHonest s) (open_ : IsOpenRecord old) (reading : IsReading old s) (holds : HoldsCurrent old s) (held : old.reservation ≡ Some n) where
   -- a plain controller answers a request for more with data, or that there is no such row
   pub plain_code : (code : Code) → PartIsPlain (request_of old n asked) (Err code) s → code.0 ≡ 0xCB
   plain_code code plain = by_row (look (rows_of old.shelf s.store) old.id) refl
@@ -135,7 +135,7 @@ pub smaller_some : (asked : ℕ) → 1 < asked → smaller_part asked ≡ None �
 smaller_some asked more none = grind (arith, nat_tests)
 
 -- a failing call of an honest controller for a part
-module _ (start old new : Retrieval) (s s' s'' : Seen) (n asked : ℕ) (code : Code) (into : List ℕ) (same : SameRequest start old) (since : HonestSince start old s s') (open_ : IsOpen old) (held : old.reservation ≡ Some n)
+module _ (start old new : Retrieval) (s s' s'' : Seen) (n asked : ℕ) (code : Code) (into : List ℕ) (same : SameRequest start old) (since : HonestSince start old s s') (open_ : IsOpenRecord old) (held : old.reservation ≡ Some n)
     (parts : PartAnswers (request_of old n asked) (Err code) into s' s'') where
   stays : StaysHonest s' s''
   stays = parts.change.stays
@@ -158,13 +158,13 @@ module _ (start old new : Retrieval) (s s' s'' : Seen) (n asked : ℕ) (code : C
     within = λ e. since.within (omega (arith, since.stays.store.grows, stays.store.grows));
   }
 
-  smaller_answers : (result : Result Outcome Ended) → 1 < asked → IsQuiet s' s'' → (IsTrue s.plain → HoldsCurrent start s → ⊥) → MakesSmaller asked old new result → ReadNext start new s s'' result
+  smaller_answers : (result : Result CallOutcome Ended) → 1 < asked → IsQuiet s' s'' → (IsTrue s.plain → HoldsCurrent start s → ⊥) → MakesSmaller asked old new result → ReadNext start new s s'' result
   smaller_answers (Ok turn) more quiet not_plain does = rw does.0 (subst (λ (r : Retrieval). HonestSince start r s s'') (sym does.2) (with_smaller new.part quiet not_plain))
   smaller_answers (Err ended) more quiet not_plain does = absurd (smaller_some asked more does.1)
 
-  absent_answers : (result : Result Outcome Ended) → look (rows_of old.shelf s''.store) old.id ≡ None → IsFinished s' s'' → (result ≡ Ok Absent) × (new ≡ old) → ReadNext start new s s'' result
+  absent_answers : (result : Result CallOutcome Ended) → look (rows_of old.shelf s''.store) old.id ≡ None → IsFinished s' s'' → (result ≡ Ok Absent) × (new ≡ old) → ReadNext start new s s'' result
   absent_answers result absent finished does =
-      let counts : IsCalm s' s'' = record { troubles = finished.troubles; refusals = finished.refusals; last_code = finished.last_code } in
+      let counts : HasMet 0 s' s'' = search (arith, finished) in
       let base : ReadIsHonest start old s s'' (Ok false) = record {
         stays = over_all;
         answers = record { within = within_calm start old s s' s'' same since stays open_ counts; absent = rw (same.shelf, same.id) at absent };
@@ -173,7 +173,7 @@ module _ (start old new : Retrieval) (s s' s'' : Seen) (n asked : ℕ) (code : C
       } in
       rw (does.0, does.1) base
 
-  part_by_class : (class : CodeClass) (result : Result Outcome Ended) → ((class ≡ NotPresent → ⊥) → IsTrue s.plain → HoldsCurrent start s → ⊥) → FailsWith (1 < asked) (look (rows_of old.shelf s''.store) old.id ≡ None) class code.0 s' s''
+  part_by_class : (class : CodeClass) (result : Result CallOutcome Ended) → ((class ≡ NotPresent → ⊥) → IsTrue s.plain → HoldsCurrent start s → ⊥) → FailsWith (1 < asked) (look (rows_of old.shelf s''.store) old.id ≡ None) class code.0 s' s''
       → PartFails class code asked old new result → ReadNext start new s s'' result
   part_by_class Cancelled result not_plain troubled does = trouble_answers start old s s' s'' same since stays true new result open_ parts.keeps troubled does (not_plain (λ e. cc e))
   part_by_class Busy result not_plain troubled does = trouble_answers start old s s' s'' same since stays false new result open_ parts.keeps troubled does (not_plain (λ e. cc e))
@@ -181,7 +181,7 @@ module _ (start old new : Retrieval) (s s' s'' : Seen) (n asked : ℕ) (code : C
   part_by_class NotPresent result not_plain fails does = absent_answers result fails.0 fails.1 does
   part_by_class Refusal result not_plain refused does = refusal_answers start old s s' s'' same since stays new code result open_ parts.keeps refused does (not_plain (λ e. cc e))
 
-  pub part_failed : (result : Result Outcome Ended) → PartFails (class_of code.0) code asked old new result → ReadNext start new s s'' result
+  pub part_failed : (result : Result CallOutcome Ended) → PartFails (class_of code.0) code asked old new result → ReadNext start new s s'' result
   part_failed result fails = part_by_class (class_of code.0) result not_plain parts.gives fails
     where
       not_plain : (class_of code.0 ≡ NotPresent → ⊥) → IsTrue s.plain → HoldsCurrent start s → ⊥

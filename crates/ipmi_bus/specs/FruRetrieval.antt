@@ -18,7 +18,7 @@ pub record IsBegun (r : FruRetrieval) : Type 0 where
   pub troubles : r.troubles ≤ r.tries
 
 -- and not all
-pub record IsOpen (r : FruRetrieval) : Type 0 where
+pub record IsOpenInventory (r : FruRetrieval) : Type 0 where
   pub begun : IsBegun r
   pub more : r.have < length r.bytes.items
 
@@ -66,14 +66,14 @@ PartFails SmallerPart code asked old new result = MakesSmaller asked old new res
 PartFails _ code asked old new result = IsRefusedBy code old new result
 
 -- so many bytes came, or none
-abbrev pub TakesPart : ℕ → FruRetrieval → FruRetrieval → Result (Unit {0}) FruEnded → Type 0
-TakesPart got old new (Ok u) = (0 < got) × (new ≡ record old { have = old.have + got })
-TakesPart got old new (Err ended) = (got ≡ 0) × (ended ≡ FruEnded.Stalled) × (new ≡ old)
+abbrev pub TakesInventoryPart : ℕ → FruRetrieval → FruRetrieval → Result (Unit {0}) FruEnded → Type 0
+TakesInventoryPart got old new (Ok u) = (0 < got) × (new ≡ record old { have = old.have + got })
+TakesInventoryPart got old new (Err ended) = (got ≡ 0) × (ended ≡ FruEnded.Stalled) × (new ≡ old)
 
 -- what the answer to a request for so many bytes leaves, once its bytes are in their place
 abbrev pub TakesAnswer : Result ℕ Code → ℕ → FruRetrieval → FruRetrieval
     → Result (Unit {0}) FruEnded → Type 0
-TakesAnswer (Ok got) asked old new result = TakesPart got old new result
+TakesAnswer (Ok got) asked old new result = TakesInventoryPart got old new result
 TakesAnswer (Err code) asked old new result = PartFails (class_of code.0) code asked old new result
 
 -- one request of `request_len` was answered
@@ -84,7 +84,7 @@ pub record IsAnswered (old new : FruRetrieval) (result : Result (Unit {0}) FruEn
   pub takes : TakesAnswer answer (request_len old) filled new result
 
 -- the answer to the last request ended the reading so
-pub record EndsBy (new : FruRetrieval) (ended : FruEnded) : Type 0 where
+pub record IsEndedBy (new : FruRetrieval) (ended : FruEnded) : Type 0 where
   pub last : FruRetrieval
   pub answered : IsAnswered last new (Err ended)
 

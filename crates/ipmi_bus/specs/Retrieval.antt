@@ -1,6 +1,6 @@
 -- A record that is being read in parts: what is there so far, and what one call may leave of it.
 use Rattle.std.specs.Prelude.{◌≡◌, ℕ, ◌+◌, ◌-◌, ◌*◌, ◌<◌, ◌≤◌, Bool, true, false, MatchResult, nat_lt, if◌then◌else◌, Option, None, Some, IsSome, Result, Ok, Err, List, length, take, slice_index}
-use Rattle.ipmi_bus.specs.Types.{Absent, Again, Busy, Cancelled, Code, CodeClass, Ended, GaveUp, Malformed, NotPresent, Outcome, Part, Refusal, Refused, Retrieval, Sdr, Sel, Shelf, SmallerPart, Stalled, Whole}
+use Rattle.ipmi_bus.specs.Types.{Absent, Again, Busy, CallOutcome, Cancelled, Code, CodeClass, Ended, GaveUp, Malformed, NotPresent, Part, Refusal, Refused, Retrieval, Sdr, Sel, Shelf, SmallerPart, Stalled, Whole}
 use Rattle.ipmi_bus.specs.Shelf.{Row, look, len_of, largest_len}
 use Rattle.ipmi_bus.specs.Store.{rows_of}
 use Rattle.ipmi_bus.specs.Seen.{Seen, current}
@@ -19,7 +19,7 @@ abbrev pub request_len : Retrieval → ℕ
 request_len r = asked_len r.part (wanted_len r.shelf r.have r.buffer - r.have)
 
 -- a record that is not whole yet
-pub record IsOpen (r : Retrieval) : Type 0 where
+pub record IsOpenRecord (r : Retrieval) : Type 0 where
   pub part : 0 < r.part
   pub part_fits : r.part < 255
   pub more : r.have < wanted_len r.shelf r.have r.buffer
@@ -55,12 +55,6 @@ pub record KeepsHeld (old new : Retrieval) (s s' : Seen) : Type 0 where
   pub held : new.reservation ≡ old.reservation
   pub none_given : (n : ℕ) → current old.shelf s' ≡ Some n → current old.shelf s ≡ Some n
 
--- neither a trouble nor a refusal came
-pub record IsCalm (old new : Seen) : Type 0 where
-  pub troubles : new.troubles ≡ old.troubles
-  pub refusals : new.refusals ≡ old.refusals
-  pub last_code : new.last_code ≡ old.last_code
-
 -- how many bytes the row has that is asked for, 0 where there is none
 abbrev pub row_len : Retrieval → Seen → ℕ
 row_len r seen = len_of (look (rows_of r.shelf seen.store) r.id)
@@ -70,42 +64,42 @@ abbrev pub after_trouble : Bool → Retrieval → Retrieval
 after_trouble is_cancelled r = record r { troubles = r.troubles + 1; reservation = if is_cancelled then None else r.reservation; have = if is_cancelled then 0 else r.have }
 
 -- the trouble is counted, or it was one too many
-abbrev pub CountsTrouble : Bool → Retrieval → Retrieval → Result Outcome Ended → Type 0
+abbrev pub CountsTrouble : Bool → Retrieval → Retrieval → Result CallOutcome Ended → Type 0
 CountsTrouble is_cancelled old new result = MatchResult result
     (λ turn. (turn ≡ Again) × (new ≡ after_trouble is_cancelled old) × (old.troubles < old.tries))
     (λ ended. (ended ≡ GaveUp old.id) × (new ≡ old) × (old.troubles ≡ old.tries))
 
 -- refused with this code
-abbrev pub IsRefusedBy : Code → Retrieval → Retrieval → Result Outcome Ended → Type 0
+abbrev pub IsRefusedBy : Code → Retrieval → Retrieval → Result CallOutcome Ended → Type 0
 IsRefusedBy code old new result = (result ≡ Err (Refused old.id code)) × (new ≡ old)
 
 -- a failing call for a reservation, by the class of its code: CBh and a smaller part are refusals
-abbrev pub ReserveFails : CodeClass → Code → Retrieval → Retrieval → Result Outcome Ended
+abbrev pub ReserveFails : CodeClass → Code → Retrieval → Retrieval → Result CallOutcome Ended
     → Type 0
 ReserveFails Cancelled code old new result = CountsTrouble false old new result
 ReserveFails Busy code old new result = CountsTrouble false old new result
 ReserveFails _ code old new result = IsRefusedBy code old new result
 
 -- what the answer to a call for a reservation leaves
-abbrev pub TakesReservation : Result ℕ Code → Retrieval → Retrieval → Result Outcome Ended
+abbrev pub TakesReservation : Result ℕ Code → Retrieval → Retrieval → Result CallOutcome Ended
     → Type 0
 TakesReservation (Ok n) old new result =
     (result ≡ Ok Again) × (new ≡ record old { reservation = Some n })
 TakesReservation (Err code) old new result = ReserveFails (class_of code.0) code old new result
 
 -- one call for a reservation was answered
-abbrev pub IsReserveAnswered : Retrieval → Retrieval → Result Outcome Ended → Type 0
+abbrev pub IsReserveAnswered : Retrieval → Retrieval → Result CallOutcome Ended → Type 0
 IsReserveAnswered old new result = (answer : Result ℕ Code) × TakesReservation answer old new result
 
 -- a smaller part is to be asked for; a part of less than one byte can't be
-abbrev pub MakesSmaller : ℕ → Retrieval → Retrieval → Result Outcome Ended → Type 0
+abbrev pub MakesSmaller : ℕ → Retrieval → Retrieval → Result CallOutcome Ended → Type 0
 MakesSmaller asked old new result = MatchResult result
     (λ turn. (turn ≡ Again) × (smaller_part asked ≡ Some new.part)
     × (new ≡ record old { part = new.part }))
     (λ ended. (ended ≡ Stalled old.id) × (smaller_part asked ≡ None) × (new ≡ old))
 
 -- a failing call for a part of so many bytes, by the class of its code
-abbrev pub PartFails : CodeClass → Code → ℕ → Retrieval → Retrieval → Result Outcome Ended
+abbrev pub PartFails : CodeClass → Code → ℕ → Retrieval → Retrieval → Result CallOutcome Ended
     → Type 0
 PartFails Cancelled code asked old new result = CountsTrouble true old new result
 PartFails Busy code asked old new result = CountsTrouble false old new result
@@ -122,28 +116,28 @@ abbrev pub after_part : Part → Retrieval → Retrieval
 after_part part r = record r { have = r.have + part.got; next = part.next }
 
 -- the taken bytes make the record whole, or they don't; a header that says too much, or no bytes, end it
-abbrev pub TakesPart : Part → Retrieval → Retrieval → Result Outcome Ended → Type 0
-TakesPart part old new (Ok Again) = (0 < part.got) × (new ≡ after_part part old) × (new.have < wanted_len new.shelf new.have new.buffer) × (wanted_len new.shelf new.have new.buffer ≤ largest_len new.shelf)
-TakesPart part old new (Ok Whole) = (0 < part.got) × (new ≡ after_part part old) × (new.have ≡ wanted_len new.shelf new.have new.buffer) × (new.have ≤ largest_len new.shelf) × (5 ≤ new.have)
-TakesPart part old new (Err (Stalled id)) = (part.got ≡ 0) × (id ≡ old.id) × (new ≡ old)
-TakesPart part old new (Err (Malformed id)) = (0 < part.got) × (new ≡ after_part part old) × (id ≡ old.id) × (old.shelf ≡ Sdr) × (new.have ≡ 5) × (0xFB < slice_index old.buffer 4)
-TakesPart part old new _ = ⊥
+abbrev pub TakesRecordPart : Part → Retrieval → Retrieval → Result CallOutcome Ended → Type 0
+TakesRecordPart part old new (Ok Again) = (0 < part.got) × (new ≡ after_part part old) × (new.have < wanted_len new.shelf new.have new.buffer) × (wanted_len new.shelf new.have new.buffer ≤ largest_len new.shelf)
+TakesRecordPart part old new (Ok Whole) = (0 < part.got) × (new ≡ after_part part old) × (new.have ≡ wanted_len new.shelf new.have new.buffer) × (new.have ≤ largest_len new.shelf) × (5 ≤ new.have)
+TakesRecordPart part old new (Err (Stalled id)) = (part.got ≡ 0) × (id ≡ old.id) × (new ≡ old)
+TakesRecordPart part old new (Err (Malformed id)) = (0 < part.got) × (new ≡ after_part part old) × (id ≡ old.id) × (old.shelf ≡ Sdr) × (new.have ≡ 5) × (0xFB < slice_index old.buffer 4)
+TakesRecordPart part old new _ = ⊥
 
 -- what the answer to a request for so many bytes leaves, once its bytes are in the buffer
-abbrev pub TakesAnswer : Result Part Code → ℕ → Retrieval → Retrieval → Result Outcome Ended
+abbrev pub TakesAnswer : Result Part Code → ℕ → Retrieval → Retrieval → Result CallOutcome Ended
     → Type 0
-TakesAnswer (Ok part) asked old new result = TakesPart part old new result
+TakesAnswer (Ok part) asked old new result = TakesRecordPart part old new result
 TakesAnswer (Err code) asked old new result = PartFails (class_of code.0) code asked old new result
 
 -- one request of `request_len` was answered
-pub record IsAnswered (old new : Retrieval) (result : Result Outcome Ended) : Type 0 where
+pub record IsAnswered (old new : Retrieval) (result : Result CallOutcome Ended) : Type 0 where
   pub answer : Result Part Code
   pub filled : Retrieval
   pub buffer : filled ≡ record old { buffer = filled.buffer }
   pub takes : TakesAnswer answer (request_len old) filled new result
 
 -- one call was answered: for a reservation where none is held, otherwise for a part
-abbrev pub CallIsAnswered : Option ℕ → Retrieval → Retrieval → Result Outcome Ended → Type 0
+abbrev pub CallIsAnswered : Option ℕ → Retrieval → Retrieval → Result CallOutcome Ended → Type 0
 CallIsAnswered None old new result = IsReserveAnswered old new result
 CallIsAnswered (Some n) old new result = IsAnswered old new result
 
@@ -165,8 +159,8 @@ NamesId id shelf (Malformed n) = (n ≡ id) × (shelf ≡ Sdr)
 NamesId id shelf _ = ⊥
 
 -- after a call there is less to do, or the record is whole, or an answer ends it
-abbrev pub CallLeaves : Retrieval → Retrieval → Result Outcome Ended → Type 0
-CallLeaves old new (Ok Again) = IsOpen new × ((len : ℕ) → new.have ≤ len → calls_left len new + 1 ≤ calls_left len old)
+abbrev pub CallLeaves : Retrieval → Retrieval → Result CallOutcome Ended → Type 0
+CallLeaves old new (Ok Again) = IsOpenRecord new × ((len : ℕ) → new.have ≤ len → calls_left len new + 1 ≤ calls_left len old)
 CallLeaves old new (Ok Whole) = (new.part ≡ old.part) × (5 ≤ new.have) × (new.have ≤ largest_len new.shelf) × (new.have ≡ wanted_len new.shelf new.have new.buffer)
 CallLeaves old new (Ok Absent) = new.part ≡ old.part
 CallLeaves old new (Err ended) = (new.part ≡ old.part) × NamesId old.id old.shelf ended

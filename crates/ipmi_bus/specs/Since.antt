@@ -1,13 +1,13 @@
 -- What holds since the reading of a record began, and when it ends.
 use Rattle.std.specs.Prelude.{◌≡◌, ℕ, ◌+◌, ◌≤◌, Bool, true, false, IsTrue, IsSome, None, Result, Ok, Err, length}
-use Rattle.ipmi_bus.specs.Types.{Absent, Again, Ended, GaveUp, Outcome, Refused, Retrieval, Whole}
+use Rattle.ipmi_bus.specs.Types.{Absent, Again, CallOutcome, Ended, GaveUp, Refused, Retrieval, Whole}
 use Rattle.ipmi_bus.specs.Shelf.{Row, look, largest_len}
 use Rattle.ipmi_bus.specs.Store.{rows_of}
 use Rattle.ipmi_bus.specs.Seen.{Seen, IsHonest, StaysHonest}
 use Rattle.ipmi_bus.specs.Tries.{WithinTries, GivesUp, IsRefusedWith, NotGivenUpOrRefused}
 use Rattle.ipmi_bus.specs.Failures.{HasMet}
 use Rattle.ipmi_bus.specs.Bounds.{digits, step_call_bound}
-use Rattle.ipmi_bus.specs.Retrieval.{IsOpen, SameRequest, HasRead, IsReading, HoldsCurrent, KeepsHeld, CallIsAnswered, calls_left, row_len, wanted_len, NamesId}
+use Rattle.ipmi_bus.specs.Retrieval.{IsOpenRecord, SameRequest, HasRead, IsReading, HoldsCurrent, KeepsHeld, CallIsAnswered, calls_left, row_len, wanted_len, NamesId}
 
 -- a retrieval at the start of a record
 abbrev pub begun : Retrieval → ℕ → Retrieval
@@ -23,7 +23,7 @@ pub record HonestSince (start now : Retrieval) (s s' : Seen) : Type 0 where
   pub within : s'.stores_added ≡ s.stores_added → now.have ≤ row_len start s
 
 pub record Since (start now : Retrieval) (s s' : Seen) : Type 0 where
-  pub is_open : IsOpen now
+  pub is_open : IsOpenRecord now
   pub request : SameRequest start now
   pub calls : s'.calls + calls_left (largest_len start.shelf) now ≤ s.calls + calls_left (largest_len start.shelf) start
   pub honest : IsHonest s → HonestSince start now s s'
@@ -58,7 +58,7 @@ pub record ReadIsHonest (start new : Retrieval) (s s' : Seen) (result : Result B
   pub plain : IsTrue s.plain → HoldsCurrent start s → ReadIsPlain new s' result
 
 -- what one more call leaves
-abbrev pub ReadNext : Retrieval → Retrieval → Seen → Seen → Result Outcome Ended → Type 0
+abbrev pub ReadNext : Retrieval → Retrieval → Seen → Seen → Result CallOutcome Ended → Type 0
 ReadNext start new s s' (Ok Again) = HonestSince start new s s'
 ReadNext start new s s' (Ok Whole) = ReadIsHonest start new s s' (Ok true)
 ReadNext start new s s' (Ok Absent) = ReadIsHonest start new s s' (Ok false)
@@ -69,7 +69,7 @@ abbrev pub ReadCalls : ℕ → Retrieval → Retrieval → Seen → Seen → Typ
 ReadCalls len old new s s' = s'.calls + digits new.part ≤ s.calls + step_call_bound old.tries len + digits old.part
 
 -- what the last call left is what the reading gives
-abbrev pub EndsRead : Result Outcome Ended → Result Bool Ended → Type 0
+abbrev pub EndsRead : Result CallOutcome Ended → Result Bool Ended → Type 0
 EndsRead (Ok Again) result = ⊥
 EndsRead (Ok Whole) result = result ≡ Ok true
 EndsRead (Ok Absent) result = result ≡ Ok false
@@ -78,7 +78,7 @@ EndsRead (Err ended) result = result ≡ Err ended
 -- the answer to the last call ended the reading so
 pub record IsEnded (new : Retrieval) (result : Result Bool Ended) : Type 0 where
   pub last : Retrieval
-  pub outcome : Result Outcome Ended
+  pub outcome : Result CallOutcome Ended
   pub answered : CallIsAnswered last.reservation last new outcome
   pub ends : EndsRead outcome result
 

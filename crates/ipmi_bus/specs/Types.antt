@@ -14,8 +14,8 @@ pub use Rattle.ipmi_bus.specs.declared.inventory.FruEnded.{FruEnded}
 pub use Rattle.ipmi_bus.specs.declared.inventory.FruRetrieval.{FruRetrieval}
 pub use Rattle.ipmi_bus.specs.declared.inventory.Size.{Size}
 pub use Rattle.ipmi_bus.specs.declared.readers.ValueFailure.{ValueFailure}
-pub use Rattle.ipmi_bus.specs.declared.retrieval.Outcome.{Outcome}
-pub use Rattle.ipmi_bus.specs.declared.retrieval.Outcome.TheVariants.{Absent, Again, Whole}
+pub use Rattle.ipmi_bus.specs.declared.retrieval.CallOutcome.{CallOutcome}
+pub use Rattle.ipmi_bus.specs.declared.retrieval.CallOutcome.TheVariants.{Absent, Again, Whole}
 pub use Rattle.ipmi_bus.specs.declared.retrieval.Retrieval.{Retrieval}
 pub use Rattle.ipmi_bus.specs.declared.step.Ended.{Ended}
 pub use Rattle.ipmi_bus.specs.declared.step.Ended.TheVariants.{Cycle, GaveUp, Malformed, Missing, Refused, Stalled}

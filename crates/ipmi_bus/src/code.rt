@@ -41,6 +41,9 @@ impl Code {
     /// The length of the request is more than the field has.
     pub const TOO_LONG: Code = Code(0xC8);
 
+    /// A parameter is out of range: there is no byte at the offset.
+    pub const OUT_OF_RANGE: Code = Code(0xC9);
+
     /// As many bytes as are asked for can't be given.
     pub const TOO_MANY_BYTES: Code = Code(0xCA);
 

@@ -5,6 +5,21 @@ ghost use Rattle.ipmi_bus.specs.Prelude.{Seen, IsHonest, info_of, reading_of, Re
 use crate::code::Code;
 use ipmi_text::Reading;
 
+/// The id by which a shelf's first record is asked for.
+pub const FIRST_RECORD_ID: u16 = 0;
+/// The next id of a shelf's last record.
+pub const NO_NEXT_ID: u16 = 0xFFFF;
+/// The most bytes that a part may have: a length of FFh would ask for the whole record.
+pub const LARGEST_PART: u8 = 254;
+/// The bytes of a sensor data record's header. Its last one says how many bytes follow.
+pub const SDR_HEADER_LEN: usize = 5;
+/// The most bytes of a sensor data record.
+pub const LARGEST_SDR_LEN: usize = 256;
+/// The bytes of an entry of the event log.
+pub const SEL_ENTRY_LEN: usize = 16;
+/// The most bytes of an inventory, whose size is a 16-bit number.
+pub const LARGEST_INVENTORY_LEN: usize = 0xFFFF;
+
 /// The two repositories of records (IPMI v2.0, sections 31 and 33).
 #[derive(Clone, Copy, Debug, PartialEq, Eq)]
 pub enum Shelf {
@@ -14,7 +29,7 @@ pub enum Shelf {
     Sel,
 }
 
-/// The answer of Get SDR or Get SEL Entry, beside the data.
+/// The answer of Get SDR or Get SEL Entry (IPMI v2.0, sections 33.12 and 31.5), beside the data.
 #[derive(Clone, Copy, Debug, PartialEq, Eq)]
 pub struct Part {
     /// The id of the next record, FFFFh where there is no more.
@@ -23,7 +38,7 @@ pub struct Part {
     pub got: u8,
 }
 
-/// The answer of Get FRU Inventory Area Info.
+/// The answer of Get FRU Inventory Area Info (IPMI v2.0, section 34.1).
 #[derive(Clone, Copy, Debug, PartialEq, Eq)]
 pub struct FruSize {
     /// The size of the inventory, in bytes.

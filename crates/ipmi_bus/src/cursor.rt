@@ -5,7 +5,7 @@ ghost use Rattle.std.specs.Option.{ForSome};
 ghost use Rattle.std.specs.Borrow.{sem};
 ghost use Rattle.ipmi_bus.specs.Prelude.{End, IsHonest, StaysHonest, Row, whole_len, largest_len, place_after, KeepsSettings, StepLeaves, StepCalls, StepIsHonest, StepAnswers, AsksNothing, HasRoom, StandsAt, IsStep, start_of, state_of, IsCursor, handed_result, handed_id, IsNext, KeepsReservation};
 
-use crate::controller::{Controller, Shelf};
+use crate::controller::{Controller, FIRST_RECORD_ID, LARGEST_SDR_LEN, NO_NEXT_ID, Shelf};
 use crate::id_table::IdTable;
 use crate::retrieval::Retrieval;
 use crate::step::{Ended, Place, Record};
@@ -30,11 +30,14 @@ pub(crate) struct Progress {
     pub(crate) ids: IdTable,
 }
 
-/// What a step does: nothing at the end, or it reports a cycle, or it asks for a record.
+/// What a step does.
 #[derive(Clone, Copy)]
 pub(crate) enum Next {
+    /// Nothing, as the cursor is at the end.
     End,
+    /// It reports a cycle: the chain closes at this id.
     Cycle(u16),
+    /// It asks for the record with this id.
     Asks(u16),
 }
 
@@ -45,9 +48,9 @@ impl Progress {
     {
         match self.place {
             Place::End => Next::End,
-            Place::First => Next::Asks(0),
+            Place::First => Next::Asks(FIRST_RECORD_ID),
             Place::Id(id) => {
-                if id == 0 || self.ids.contains(id) {
+                if id == FIRST_RECORD_ID || self.ids.contains(id) {
                     Next::Cycle(id)
                 } else {
                     Next::Asks(id)
@@ -76,7 +79,7 @@ impl Progress {
         };
         self.ids.insert(id);
         let next = self.retrieval.next;
-        self.place = if next == 0xFFFF {
+        self.place = if next == NO_NEXT_ID {
             Place::End
         } else {
             Place::Id(next)
@@ -86,6 +89,16 @@ impl Progress {
             next,
             len: self.retrieval.have,
         }
+    }
+
+    /// Lets the reservation go: a later step asks for a new one.
+    fn fail(&mut self, ended: Ended) -> Result<Option<Handed>, Ended>
+        ensures answers { result ≡ Err ended }
+        ensures leaves { self.new ≡ record self.old
+            { retrieval = record self.old.retrieval { reservation = None } } }
+    {
+        self.retrieval.reservation = None;
+        Err(ended)
     }
 
     /// Makes a step. A record that it hands out is in the buffer.
@@ -110,10 +123,7 @@ impl Progress {
     {
         let asked = match self.next() {
             Next::End => return Ok(None),
-            Next::Cycle(id) => {
-                self.retrieval.reservation = None;
-                return Err(Ended::Cycle(id));
-            }
+            Next::Cycle(id) => return self.fail(Ended::Cycle(id)),
             Next::Asks(id) => id,
         };
         match self.retrieval.read(ctl, asked) {
@@ -123,13 +133,9 @@ impl Progress {
                     self.place = Place::End;
                     return Ok(None);
                 }
-                self.retrieval.reservation = None;
-                Err(Ended::Missing(asked))
+                self.fail(Ended::Missing(asked))
             }
-            Err(ended) => {
-                self.retrieval.reservation = None;
-                Err(ended)
-            }
+            Err(ended) => self.fail(ended),
         }
     }
 }
@@ -194,7 +200,7 @@ impl Cursor {
                     troubles: 0,
                     have: 0,
                     next: 0,
-                    buffer: [0; 256],
+                    buffer: [0; LARGEST_SDR_LEN],
                 },
                 place: match from {
                     None => Place::First,

@@ -5,6 +5,9 @@ ghost use Rattle.std.specs.FinSet as set;
 use std::alloc::{AllocError, Global};
 use std::marker::Model;
 
+/// The bytes of the table, which has a bit for each of the 65,536 ids.
+const TABLE_LEN: usize = 8192;
+
 /// A set of ids, a bit for each.
 #[derive(Drop)]
 pub(crate) struct IdTable {
@@ -33,7 +36,7 @@ impl IdTable {
         ensures { IfOk result (λ table. table ≡ set.empty) }
     {
         Ok(IdTable {
-            bytes: vec![in alloc; 0u8; 8192]?,
+            bytes: vec![in alloc; 0u8; TABLE_LEN]?,
         })
     }
 

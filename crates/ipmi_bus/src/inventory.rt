@@ -56,7 +56,7 @@ struct FruRetrieval {
 }
 
 impl FruRetrieval {
-    ghost use Rattle.ipmi_bus.specs.FruRetrieval.{IsBegun, IsOpen, SameInventory, request_len, TakesPart, PartFails, IsAnswered, EndsBy, FruSince, FruNext, calls_left};
+    ghost use Rattle.ipmi_bus.specs.FruRetrieval.{IsBegun, IsOpenInventory, SameInventory, request_len, TakesInventoryPart, PartFails, IsAnswered, IsEndedBy, FruSince, FruNext, calls_left};
 
     /// Asks for some of the bytes that are missing, into their place.
     fn request<C: Controller>(&mut self, ctl: &mut C, asked: usize) -> Result<u8, Code>
@@ -84,9 +84,9 @@ impl FruRetrieval {
 
     /// Takes the bytes that came in.
     fn take_part(&mut self, got: u8) -> Result<(), FruEnded>
-        requires is_open { IsOpen self.old }
+        requires is_open { IsOpenInventory self.old }
         requires fits { self.old.have + got ≤ vec_len self.old.bytes }
-        ensures takes { TakesPart got self.old self.new result }
+        ensures takes { TakesInventoryPart got self.old self.new result }
     {
         if got == 0 {
             return Err(FruEnded::Stalled);
@@ -98,7 +98,7 @@ impl FruRetrieval {
     /// After a failed call for `asked` bytes: counts a trouble, makes the parts smaller, or ends
     /// the reading.
     fn fail_part(&mut self, code: Code, asked: usize) -> Result<(), FruEnded>
-        requires is_open { IsOpen self.old }
+        requires is_open { IsOpenInventory self.old }
         requires asked { asked ≤ self.old.part }
         ensures fails { PartFails (class_of code.0) code asked self.old self.new result }
         ensures same { SameInventory self.old self.new }
@@ -123,7 +123,7 @@ impl FruRetrieval {
 
     /// Makes one call for the bytes that are missing.
     fn ask_part<C: Controller>(&mut self, ctl: &mut C) -> Result<(), FruEnded>
-        requires { IsOpen self.old }
+        requires { IsOpenInventory self.old }
         ensures counted { (C.seen ctl.new).calls ≡ (C.seen ctl.old).calls + 1 }
         ensures same { SameInventory self.old self.new }
         ensures leaves { OnOk result (calls_left self.new < calls_left self.old) }
@@ -144,17 +144,14 @@ impl FruRetrieval {
         requires { IsBegun self.old }
         ensures same { SameInventory self.old self.new }
         ensures whole { OnOk result (self.new.have ≡ length self.new.bytes.items) }
-        ensures ended { IfErr result (λ ended. EndsBy self.new ended) }
+        ensures ended { IfErr result (λ ended. IsEndedBy self.new ended) }
         ensures calls { (C.seen ctl.new).calls + 1 ≤ (C.seen ctl.old).calls + calls_left self.old }
         ensures stays { IsHonest (C.seen ctl.old) → StaysHonest (C.seen ctl.old) (C.seen ctl.new) }
         ensures honest { (s : Seen) → FruSince self.old s (C.seen ctl.old) →
             FruNext self.old self.new s (C.seen ctl.new) result }
     {
         'parts: while self.have < self.bytes.len() {
-            match self.ask_part(ctl) {
-                Ok(()) => {}
-                Err(ended) => return Err(ended),
-            }
+            self.ask_part(ctl)?;
         }
         Ok(())
     }
@@ -191,7 +188,6 @@ fn fail_size(code: Code, troubles: u16, tries: u8) -> Result<(), FruEnded>
     }
 }
 
-/// Asks for the size of the inventory.
 fn read_size<C: Controller>(ctl: &mut C, id: u8, tries: u8) -> Result<Size, FruEnded>
     ensures ok { IfOk result (λ size. (size.troubles ≤ tries) ×
         ((C.seen ctl.new).calls ≡ (C.seen ctl.old).calls + size.troubles + 1)) }
@@ -204,11 +200,9 @@ fn read_size<C: Controller>(ctl: &mut C, id: u8, tries: u8) -> Result<Size, FruE
     'asking: loop {
         match ctl.fru_size(id) {
             Ok(told) => return take_size(told, troubles),
-            Err(code) => match fail_size(code, troubles, tries) {
-                Ok(()) => troubles += 1,
-                Err(end) => return Err(end),
-            },
+            Err(code) => fail_size(code, troubles, tries)?,
         }
+        troubles += 1;
     }
 }
 

@@ -14,7 +14,10 @@ mod step;
 mod tally;
 
 pub use code::{Code, CodeClass};
-pub use controller::{Controller, FruSize, Part, Shelf};
+pub use controller::{
+    Controller, FIRST_RECORD_ID, FruSize, LARGEST_INVENTORY_LEN, LARGEST_PART, LARGEST_SDR_LEN,
+    NO_NEXT_ID, Part, SDR_HEADER_LEN, SEL_ENTRY_LEN, Shelf,
+};
 pub use cursor::Cursor;
 pub use inventory::{FruEnded, read_fru};
 pub use readers::{read_info, read_reading};

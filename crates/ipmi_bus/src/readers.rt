@@ -29,9 +29,9 @@ fn after_value_failure(code: Code, id: u16, troubles: u16, tries: u8) -> Result<
     }
 }
 
-/// The reading of the sensor with this number at this LUN, None where the controller has none. The
-/// call is made again after a trouble, up to `tries` times. An `Ended` names `id`, which the caller
-/// chooses: the controller never sees it.
+/// The reading of the sensor with this number at this LUN (IPMI v2.0, section 35.14), None where the controller has none.
+/// The call is made again after a trouble, up to `tries` times. An `Ended` names `id`, which the caller chooses: the
+/// controller never sees it.
 pub fn read_reading<C: Controller>(
     ctl: &mut C,
     id: u16,
@@ -48,17 +48,16 @@ pub fn read_reading<C: Controller>(
     'asking: loop {
         match ctl.reading(lun, number) {
             Ok(reading) => return Ok(Some(reading)),
-            Err(code) => match after_value_failure(code, id, troubles, tries) {
-                Ok(ValueFailure::Again) => troubles += 1,
-                Ok(ValueFailure::Absent) => return Ok(None),
-                Err(ended) => return Err(ended),
+            Err(code) => match after_value_failure(code, id, troubles, tries)? {
+                ValueFailure::Again => troubles += 1,
+                ValueFailure::Absent => return Ok(None),
             },
         }
     }
 }
 
-/// The 14 bytes of the shelf's info, None where there is none. The call is made again after a trouble, up to `tries`
-/// times. An `Ended` carries 0000h.
+/// The 14 bytes of the shelf's info (IPMI v2.0, sections 33.9 and 31.2), None where there is none. The call is made again
+/// after a trouble, up to `tries` times. An `Ended` carries 0000h.
 pub fn read_info<C: Controller>(
     ctl: &mut C,
     shelf: Shelf,
@@ -73,10 +72,9 @@ pub fn read_info<C: Controller>(
     'asking: loop {
         match ctl.info(shelf) {
             Ok(info) => return Ok(Some(info)),
-            Err(code) => match after_value_failure(code, 0, troubles, tries) {
-                Ok(ValueFailure::Again) => troubles += 1,
-                Ok(ValueFailure::Absent) => return Ok(None),
-                Err(ended) => return Err(ended),
+            Err(code) => match after_value_failure(code, 0, troubles, tries)? {
+                ValueFailure::Again => troubles += 1,
+                ValueFailure::Absent => return Ok(None),
             },
         }
     }

@@ -4,12 +4,12 @@ ghost use Rattle.ipmi_bus.specs.Prelude.{Retrieval, Seen, IsHonest, StaysHonest,
 
 use crate::calls::{Failure, after_failure, asked_len, smaller_part};
 use crate::code::Code;
-use crate::controller::{Controller, Part, Shelf};
+use crate::controller::{Controller, LARGEST_SDR_LEN, Part, SDR_HEADER_LEN, SEL_ENTRY_LEN, Shelf};
 use crate::step::Ended;
 
 /// What a call brought.
 #[derive(Clone, Copy)]
-pub(crate) enum Outcome {
+pub(crate) enum CallOutcome {
     /// There is more to ask for.
     Again,
     /// The record is whole.
@@ -35,11 +35,11 @@ pub(crate) struct Retrieval {
     pub(crate) have: usize,
     /// The next id of the last part.
     pub(crate) next: u16,
-    pub(crate) buffer: [u8; 256],
+    pub(crate) buffer: [u8; LARGEST_SDR_LEN],
 }
 
 impl Retrieval {
-    ghost use Rattle.ipmi_bus.specs.Retrieval.{IsOpen, SameRequest, row_len, wanted_len, request_len, ReserveFails, IsReserveAnswered, PartFails, TakesPart, IsAnswered, CallIsAnswered, request_of, CallLeaves};
+    ghost use Rattle.ipmi_bus.specs.Retrieval.{IsOpenRecord, SameRequest, row_len, wanted_len, request_len, ReserveFails, IsReserveAnswered, PartFails, TakesRecordPart, IsAnswered, CallIsAnswered, request_of, CallLeaves};
     ghost use Rattle.ipmi_bus.specs.Since.{begun, HonestSince, IsEnded, ReadCalls, ReadIsHonest, ReadLeaves, ReadNext};
 
     /// How many bytes are asked for in all, as far as the bytes that are there tell.
@@ -48,19 +48,19 @@ impl Retrieval {
     {
         match self.shelf {
             Shelf::Sdr => {
-                if self.have < 5 {
-                    5
+                if self.have < SDR_HEADER_LEN {
+                    SDR_HEADER_LEN
                 } else {
-                    5 + usize::from(self.buffer[4])
+                    SDR_HEADER_LEN + usize::from(self.buffer[4])
                 }
             }
-            Shelf::Sel => 16,
+            Shelf::Sel => SEL_ENTRY_LEN,
         }
     }
 
     /// Does what is to be done after a failing call for a reservation.
-    fn fail_reserve(&mut self, code: Code) -> Result<Outcome, Ended>
-        requires is_open { IsOpen self.old }
+    fn fail_reserve(&mut self, code: Code) -> Result<CallOutcome, Ended>
+        requires is_open { IsOpenRecord self.old }
         ensures fails { ReserveFails (class_of code.0) code self.old self.new result }
         ensures request { SameRequest self.old self.new }
         ensures leaves { CallLeaves self.old self.new result }
@@ -68,7 +68,7 @@ impl Retrieval {
         match after_failure(code, self.troubles, self.tries) {
             Failure::Again | Failure::Anew => {
                 self.troubles += 1;
-                Ok(Outcome::Again)
+                Ok(CallOutcome::Again)
             }
             Failure::GiveUp => Err(Ended::GaveUp(self.id)),
             Failure::Smaller | Failure::Absent | Failure::Refuse => {
@@ -77,9 +77,8 @@ impl Retrieval {
         }
     }
 
-    /// Asks for a reservation.
-    fn ask_reservation<C: Controller>(&mut self, ctl: &mut C) -> Result<Outcome, Ended>
-        requires is_open { IsOpen self.old }
+    fn ask_reservation<C: Controller>(&mut self, ctl: &mut C) -> Result<CallOutcome, Ended>
+        requires is_open { IsOpenRecord self.old }
         requires none { self.old.reservation ≡ None }
         ensures counted { (C.seen ctl.new).calls ≡ (C.seen ctl.old).calls + 1 }
         ensures request { SameRequest self.old self.new }
@@ -93,31 +92,32 @@ impl Retrieval {
         match ctl.reserve(self.shelf) {
             Ok(reservation) => {
                 self.reservation = Some(reservation);
-                Ok(Outcome::Again)
+                Ok(CallOutcome::Again)
             }
             Err(code) => self.fail_reserve(code),
         }
     }
 
     /// Counts the bytes that came into the buffer, and judges a header once it is there.
-    fn take_part(&mut self, part: Part) -> Result<Outcome, Ended>
-        requires is_open { IsOpen self.old }
+    fn take_part(&mut self, part: Part) -> Result<CallOutcome, Ended>
+        requires is_open { IsOpenRecord self.old }
         requires fits { self.old.have + part.got ≤ wanted_len self.old.shelf self.old.have
             self.old.buffer }
-        ensures takes { TakesPart part self.old self.new result }
+        ensures takes { TakesRecordPart part self.old self.new result }
     {
         if part.got == 0 {
             return Err(Ended::Stalled(self.id));
         }
         self.have += usize::from(part.got);
         self.next = part.next;
-        if self.shelf == Shelf::Sdr && self.have == 5 && self.buffer[4] > 0xFB {
+        let wanted = self.wanted();
+        if self.shelf == Shelf::Sdr && self.have == SDR_HEADER_LEN && wanted > LARGEST_SDR_LEN {
             return Err(Ended::Malformed(self.id));
         }
-        if self.have == self.wanted() {
-            Ok(Outcome::Whole)
+        if self.have == wanted {
+            Ok(CallOutcome::Whole)
         } else {
-            Ok(Outcome::Again)
+            Ok(CallOutcome::Again)
         }
     }
 
@@ -149,8 +149,8 @@ impl Retrieval {
 
     /// After a failed call for `asked` bytes: counts a trouble, makes the parts smaller, or ends
     /// the reading.
-    fn fail_part(&mut self, code: Code, asked: usize) -> Result<Outcome, Ended>
-        requires is_open { IsOpen self.old }
+    fn fail_part(&mut self, code: Code, asked: usize) -> Result<CallOutcome, Ended>
+        requires is_open { IsOpenRecord self.old }
         requires asked { asked ≤ self.old.part }
         ensures fails { PartFails (class_of code.0) code asked self.old self.new result }
         ensures request { SameRequest self.old self.new }
@@ -159,30 +159,34 @@ impl Retrieval {
         match after_failure(code, self.troubles, self.tries) {
             Failure::Again => {
                 self.troubles += 1;
-                Ok(Outcome::Again)
+                Ok(CallOutcome::Again)
             }
             Failure::Anew => {
                 self.troubles += 1;
                 self.reservation = None;
                 self.have = 0;
-                Ok(Outcome::Again)
+                Ok(CallOutcome::Again)
             }
             Failure::Smaller => match smaller_part(asked) {
                 Some(part) => {
                     self.part = part;
-                    Ok(Outcome::Again)
+                    Ok(CallOutcome::Again)
                 }
                 None => Err(Ended::Stalled(self.id)),
             },
-            Failure::Absent => Ok(Outcome::Absent),
+            Failure::Absent => Ok(CallOutcome::Absent),
             Failure::GiveUp => Err(Ended::GaveUp(self.id)),
             Failure::Refuse => Err(Ended::Refused(self.id, code)),
         }
     }
 
     /// Asks for the next part under the reservation.
-    fn ask_part<C: Controller>(&mut self, ctl: &mut C, reservation: u16) -> Result<Outcome, Ended>
-        requires is_open { IsOpen self.old }
+    fn ask_part<C: Controller>(
+        &mut self,
+        ctl: &mut C,
+        reservation: u16,
+    ) -> Result<CallOutcome, Ended>
+        requires is_open { IsOpenRecord self.old }
         requires reserved { self.old.reservation ≡ Some reservation }
         ensures counted { (C.seen ctl.new).calls ≡ (C.seen ctl.old).calls + 1 }
         ensures request { SameRequest self.old self.new }
@@ -200,9 +204,9 @@ impl Retrieval {
         }
     }
 
-    /// Makes one call.
-    fn make_call<C: Controller>(&mut self, ctl: &mut C) -> Result<Outcome, Ended>
-        requires { IsOpen self.old }
+    /// Makes one call: for a part, or first for the reservation that it needs.
+    fn make_call<C: Controller>(&mut self, ctl: &mut C) -> Result<CallOutcome, Ended>
+        requires { IsOpenRecord self.old }
         ensures counted { (C.seen ctl.new).calls ≡ (C.seen ctl.old).calls + 1 }
         ensures request { SameRequest self.old self.new }
         ensures leaves { CallLeaves self.old self.new result }
@@ -238,11 +242,10 @@ impl Retrieval {
         self.troubles = 0;
         self.have = 0;
         'reading: loop {
-            match self.make_call(ctl) {
-                Ok(Outcome::Again) => {}
-                Ok(Outcome::Whole) => return Ok(true),
-                Ok(Outcome::Absent) => return Ok(false),
-                Err(ended) => return Err(ended),
+            match self.make_call(ctl)? {
+                CallOutcome::Again => {}
+                CallOutcome::Whole => return Ok(true),
+                CallOutcome::Absent => return Ok(false),
             }
         }
     }

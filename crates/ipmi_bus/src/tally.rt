@@ -20,9 +20,10 @@ pub enum Event {
     Stored,
 }
 
-/// Counts that only clauses read, as `counts`. They take no bytes and have no greatest value.
+/// Counts that only clauses read. They take no bytes and have no greatest value.
 #[derive(Drop)]
 pub struct Tally {
+    /// What the events so far come to.
     pub ghost counts: { Counts },
 }
 

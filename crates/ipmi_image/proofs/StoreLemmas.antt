@@ -6,7 +6,7 @@ use Rattle.std.proofs.lemmas.List.Quantifiers.{all_pairs_push}
 use Rattle.std.proofs.lemmas.List.Elements.{All-cons, All-append, All-push, filter_map-append}
 use Rattle.std.proofs.lemmas.List.Sums.{fold-append}
 use Rattle.ipmi_image.specs.Below.{Reading, Sdr, Sel, AreBytes, Store, Inventory, SensorReading, IsInventory, IsSensorReading, OtherSensor, inventory_in, reading_in}
-use Rattle.ipmi_image.specs.Prelude.{LineFault, Contents, StoredInventory, StoredSensor, SavedRow, Line, a_row, an_inventory, a_reading, an_info, the_end, inventory_of, row_on, chained, with_bytes, with_inventory_line, reading_of_bytes, sensor_on, info_on, first_of, store_of_lines, row_fault, inventory_fault, reading_fault, info_fault, fault_in, sensor_of, store_of, HoldsLines, Puts, IsPut, AreInventories, AreReadings}
+use Rattle.ipmi_image.specs.Prelude.{LineFault, Contents, StoredInventory, StoredSensor, SavedRow, Line, a_row, an_inventory, a_reading, an_info, the_end, kept_inventory, row_on, chained, with_bytes, with_inventory_line, reading_of_bytes, sensor_on, info_on, first_of, store_of_lines, row_fault, inventory_fault, reading_fault, info_fault, fault_in, sensor_of, store_of, HoldsLines, Puts, IsPut, AreInventories, AreReadings}
 
 -- ---- one more line
 
@@ -49,7 +49,7 @@ module _ (old : Contents) (before : List Line) (holds : HoldsLines old before) w
 
   -- each part of the new contents is the old one's with what the line says of it
   holds-after : (new : Contents) (line : Line) → new.sdr ≡ said_after old.sdr (row_on Sdr line) → new.sel ≡ said_after old.sel (row_on Sel line)
-      → map inventory_of new.inventories ≡ with_inventory_line (map inventory_of old.inventories) line → map sensor_of new.sensors ≡ said_after (map sensor_of old.sensors) (sensor_on line)
+      → map kept_inventory new.inventories ≡ with_inventory_line (map kept_inventory old.inventories) line → map sensor_of new.sensors ≡ said_after (map sensor_of old.sensors) (sensor_on line)
       → new.sdr_info ≡ info_after (info_on Sdr line) old.sdr_info → new.sel_info ≡ info_after (info_on Sel line) old.sel_info → HoldsLines new (before ++ line ∷ [])
   holds-after new line sdr sel inventories readings sdr_info sel_info = record {
     sdr = sdr ∙ rw holds.sdr (sym (filter_map-after (row_on Sdr) before line));
@@ -67,7 +67,7 @@ module _ (old : Contents) (before : List Line) (holds : HoldsLines old before) w
   sel-put row sel r = puts_as _ _ _ _ r (fault_is (a_row Sel row)) (λ none is. holds-after (record old { sel = sel }) (a_row Sel row) refl is refl refl refl refl)
 
   pub bytes-put : (id : ℕ) (bytes : List ℕ) (inventories : List StoredInventory) (r : Result (Unit {0}) LineFault)
-      → Puts (inventory_fault id (inventory_in (map inventory_of old.inventories) id) bytes) (map inventory_of inventories ≡ with_bytes id bytes (map inventory_of old.inventories)) r → IsPut (record old { inventories = inventories }) before (an_inventory id bytes) r
+      → Puts (inventory_fault id (inventory_in (map kept_inventory old.inventories) id) bytes) (map kept_inventory inventories ≡ with_bytes id bytes (map kept_inventory old.inventories)) r → IsPut (record old { inventories = inventories }) before (an_inventory id bytes) r
   bytes-put id bytes inventories r = puts_as _ _ _ _ r (fault_is (an_inventory id bytes)) (λ none is. holds-after (record old { inventories = inventories }) (an_inventory id bytes) refl refl is refl refl refl)
 
   pub sensor-put : (lun number : ℕ) (bytes : List ℕ) (sensors : List StoredSensor) (r : Result (Unit {0}) LineFault)

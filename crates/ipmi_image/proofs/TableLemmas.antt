@@ -11,7 +11,7 @@ use Rattle.std.proofs.lemmas.Bool.Decides.{nat_tests}
 use Rattle.std.proofs.Math.ListN.{get_or-map}
 use Rattle.std.proofs.Math.Seq.{map-set_same}
 use Rattle.ipmi_image.specs.Below.{Row, row_with_id, IsSensorReading, inventory_in, reading_in, has_id}
-use Rattle.ipmi_image.specs.Prelude.{SavedRow, StoredInventory, StoredSensor, id_of, place_of, IsIndex, sensor_key, inventory_of, chained, row_before, is_empty, with_bytes, sensor_of}
+use Rattle.ipmi_image.specs.Prelude.{SavedRow, StoredInventory, StoredSensor, id_of, place_of, IsIndex, sensor_key, kept_inventory, chained, row_before, is_empty, with_bytes, sensor_of}
 
 -- a last item is found where none before it has the key
 pub place_of_snoc : {T : Type 0} (key : T → ℕ) (q : ℕ) (items : List T) (item : T) → place_of key q (items ++ item ∷ []) ≡ option_or (place_of key q items) (cond (nat_eq (key item) q) (Some (length items)) None)
@@ -66,18 +66,18 @@ row_with_id_chained (row ∷ rows) id = by (nat_eq row.id id) (place_of id_of id
 
 -- ---- inventories
 
-pub inventory_in_place : (items : List StoredInventory) (id : ℕ) → inventory_in (map inventory_of items) id ≡ option_map (λ (i : StoredInventory). i.bytes.items) (option_and_then (slice_get items) (place_of (λ (i : StoredInventory). i.id) id items))
+pub inventory_in_place : (items : List StoredInventory) (id : ℕ) → inventory_in (map kept_inventory items) id ≡ option_map (λ (i : StoredInventory). i.bytes.items) (option_and_then (slice_get items) (place_of (λ (i : StoredInventory). i.id) id items))
 inventory_in_place [] id = refl
 inventory_in_place (x ∷ xs) id = grind (arith, inventory_in_place xs id)
 
 -- the inventory at the place has these bytes after its own
 pub with_bytes_set : (items : List StoredInventory) (id place : ℕ) (bytes : List ℕ) (item d : StoredInventory) → place_of (λ (i : StoredInventory). i.id) id items ≡ Some place
-    → inventory_of item ≡ record { id = (get_or items place d).id; bytes = (get_or items place d).bytes.items ++ bytes } → with_bytes id bytes (map inventory_of items) ≡ map inventory_of (set items place item)
+    → kept_inventory item ≡ record { id = (get_or items place d).id; bytes = (get_or items place d).bytes.items ++ bytes } → with_bytes id bytes (map kept_inventory items) ≡ map kept_inventory (set items place item)
 with_bytes_set [] id place bytes item d at is = absurd (none-some place at)
 with_bytes_set (x ∷ xs) id zero bytes item d at is = grind arith
 with_bytes_set (x ∷ xs) id (suc place) bytes item d at is = grind (arith, with_bytes_set xs id place bytes item d)
 
-pub with_bytes_new : (items : List StoredInventory) (id : ℕ) (bytes : List ℕ) → place_of (λ (i : StoredInventory). i.id) id items ≡ None → with_bytes id bytes (map inventory_of items) ≡ map inventory_of items ++ record { id = id; bytes = bytes } ∷ []
+pub with_bytes_new : (items : List StoredInventory) (id : ℕ) (bytes : List ℕ) → place_of (λ (i : StoredInventory). i.id) id items ≡ None → with_bytes id bytes (map kept_inventory items) ≡ map kept_inventory items ++ record { id = id; bytes = bytes } ∷ []
 with_bytes_new [] id bytes at = refl
 with_bytes_new (x ∷ xs) id bytes at = grind (arith, with_bytes_new xs id bytes)
 

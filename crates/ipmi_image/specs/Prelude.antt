@@ -9,7 +9,7 @@ pub use Rattle.ipmi_image.specs.Rewritten.{first_parts, first_row_id, hex_of, in
 unfoldable pub use Rattle.ipmi_image.specs.Rewritten.{image_text_of}
 pub use Rattle.ipmi_image.specs.Rows.{id_of, row_in, row_of}
 pub use Rattle.ipmi_image.specs.Stored.{AreInventories, AreReadings, HoldsLines, IsPut, IsRead, Puts, said, sensor_of, store_of}
-pub use Rattle.ipmi_image.specs.Table.{inventory_of, IsIndex, place_of, sensor_key}
+pub use Rattle.ipmi_image.specs.Table.{kept_inventory, IsIndex, place_of, sensor_key}
 unfoldable pub use Rattle.ipmi_image.specs.Text.{pieces}
 pub use Rattle.ipmi_image.specs.declared.contents.Contents.{Contents}
 pub use Rattle.ipmi_image.specs.declared.image.ImageFault.{ImageFault}

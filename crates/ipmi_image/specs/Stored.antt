@@ -5,7 +5,7 @@ use Rattle.ipmi_image.specs.declared.contents.Contents.{Contents}
 use Rattle.ipmi_image.specs.declared.line.Line.{Line as ReadLine}
 use Rattle.ipmi_image.specs.declared.line.LineFault.{LineFault}
 use Rattle.ipmi_image.specs.declared.stored.StoredSensor.{StoredSensor}
-use Rattle.ipmi_image.specs.Table.{inventory_of}
+use Rattle.ipmi_image.specs.Table.{kept_inventory}
 use Rattle.ipmi_image.specs.Line.{Line, a_row, an_inventory, a_reading, an_info, the_end}
 use Rattle.ipmi_image.specs.Image.{chained, rows_on, inventories_of, sensor_on, info_on, first_of, store_of_lines, fault_in}
 
@@ -29,7 +29,7 @@ abbrev pub store_of : Contents → Store
 store_of contents = record {
   sdr = chained contents.sdr;
   sel = chained contents.sel;
-  inventories = map inventory_of contents.inventories;
+  inventories = map kept_inventory contents.inventories;
   readings = map sensor_of contents.sensors;
   sdr_info = contents.sdr_info;
   sel_info = contents.sel_info;
@@ -48,7 +48,7 @@ pub record AreReadings (readings : List SensorReading) : Type 0 where
 pub record HoldsLines (contents : Contents) (lines : List Line) : Type 0 where
   pub sdr : contents.sdr ≡ rows_on Sdr lines
   pub sel : contents.sel ≡ rows_on Sel lines
-  pub inventories : map inventory_of contents.inventories ≡ inventories_of lines
+  pub inventories : map kept_inventory contents.inventories ≡ inventories_of lines
   pub readings : map sensor_of contents.sensors ≡ filter_map sensor_on lines
   pub sdr_info : contents.sdr_info ≡ first_of (filter_map (info_on Sdr) lines)
   pub sel_info : contents.sel_info ≡ first_of (filter_map (info_on Sel) lines)

@@ -19,5 +19,5 @@ pub record IsIndex {T : Type 0} (key : T → ℕ) (items : List T) (places : ℕ
 abbrev pub sensor_key : ℕ → ℕ → ℕ
 sensor_key lun number = lun * 256 + number
 
-abbrev pub inventory_of : StoredInventory → Inventory
-inventory_of inventory = record { id = inventory.id; bytes = inventory.bytes.items }
+abbrev pub kept_inventory : StoredInventory → Inventory
+kept_inventory inventory = record { id = inventory.id; bytes = inventory.bytes.items }

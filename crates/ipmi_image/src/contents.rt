@@ -2,14 +2,16 @@
 ghost use Rattle.std.specs.Prelude.{◌≡◌, ◌++◌, ◌∷◌, [], ◌≤◌, List, not, IsTrue, IfErr, IfSome, OnOk, Some, None, unwrap_or, is_some, length, map};
 ghost use Rattle.ipmi_image.specs.Below.{IsShelf, IsStore, IsInfo, inventory_in, reading_in};
 ghost use Rattle.ipmi_image.specs.Line as lines;
-ghost use Rattle.ipmi_image.specs.Prelude.{chained, is_no_record, is_no_id, begins_with_another, first_fault, row_fault, inventory_fault, reading_fault, info_fault, reading_of_bytes, with_bytes, row_of, sensor_of, said, store_of, AreInventories, AreReadings, HoldsLines, IsPut, Puts};
-ghost use Rattle.ipmi_image.specs.Table as table;
+ghost use Rattle.ipmi_image.specs.Prelude.{chained, is_no_record, is_no_id, begins_with_another, first_fault, row_fault, inventory_fault, reading_fault, info_fault, reading_of_bytes, with_bytes, kept_inventory, row_of, sensor_of, said, store_of, AreInventories, AreReadings, HoldsLines, IsPut, Puts};
 
 use crate::line::{Line, LineFault};
 use crate::rows::{Rows, StoredRow};
 use crate::stored::{StoredInventory, StoredSensor, Table, sensor_key};
 use byteorder::{ByteOrder, LittleEndian};
-use ipmi_bus::Shelf;
+use ipmi_bus::{
+    FIRST_RECORD_ID, LARGEST_INVENTORY_LEN, LARGEST_SDR_LEN, NO_NEXT_ID, SDR_HEADER_LEN,
+    SEL_ENTRY_LEN, Shelf,
+};
 use ipmi_text::Reading;
 use std::alloc::Global;
 
@@ -31,8 +33,9 @@ fn is_whole(shelf: Shelf, bytes: &[u8]) -> bool
 {
     let len = bytes.len();
     match shelf {
-        Shelf::Sdr => len >= 5 && len == 5 + usize::from(bytes[4]) && len <= 256,
-        Shelf::Sel => len == 16,
+        Shelf::Sdr if len < SDR_HEADER_LEN => false,
+        Shelf::Sdr => len == SDR_HEADER_LEN + usize::from(bytes[4]) && len <= LARGEST_SDR_LEN,
+        Shelf::Sel => len == SEL_ENTRY_LEN,
     }
 }
 
@@ -41,7 +44,7 @@ fn is_whole(shelf: Shelf, bytes: &[u8]) -> bool
 fn is_no_id(rows: &Rows, id: u16) -> bool
     ensures { result ≡ is_no_id (chained rows.now) id }
 {
-    (id == 0 && !rows.is_empty()) || id == 0xFFFF
+    (id == FIRST_RECORD_ID && !rows.is_empty()) || id == NO_NEXT_ID
 }
 
 /// Whether the record is the first, and its bytes begin with another id.
@@ -103,26 +106,25 @@ fn put_row(
 /// How many bytes the inventory has so far.
 #[tactic(auto, using(crate::proofs::TableLemmas::inventory_in_place))]
 fn inventory_len(inventories: &Table<StoredInventory>, id: u8) -> usize
-    ensures { result ≡ length (unwrap_or (inventory_in (map table.inventory_of inventories.now) id)
+    ensures { result ≡ length (unwrap_or (inventory_in (map kept_inventory inventories.now) id)
         []) }
 {
-    match inventories.get(u16::from(id)) {
-        Some(inventory) => inventory.bytes.len(),
-        None => 0,
-    }
+    inventories
+        .get(u16::from(id))
+        .map_or(0, |inventory| inventory.bytes.len())
 }
 
 /// Why the bytes may not be those of the inventory, or more of it.
 #[tactic(auto, using(crate::proofs::StoreLemmas::inventory_fits))]
 fn inventory_fault(inventories: &Table<StoredInventory>, id: u8, bytes: &[u8]) -> Option<LineFault>
-    requires { AreInventories (map table.inventory_of inventories.now) }
-    ensures { result ≡ inventory_fault id (inventory_in (map table.inventory_of inventories.now) id)
+    requires { AreInventories (map kept_inventory inventories.now) }
+    ensures { result ≡ inventory_fault id (inventory_in (map kept_inventory inventories.now) id)
         bytes.now }
 {
     if id == 0xFF {
         return Some(LineFault::Id);
     }
-    if inventory_len(inventories, id) + bytes.len() > 0xFFFF {
+    if inventory_len(inventories, id) + bytes.len() > LARGEST_INVENTORY_LEN {
         return Some(LineFault::TooMany);
     }
     None
@@ -135,12 +137,12 @@ fn put_inventory(
     id: u8,
     bytes: &[u8],
 ) -> Result<(), LineFault>
-    requires { AreInventories (map table.inventory_of inventories.old) }
-    ensures keeps { OnOk result (AreInventories (map table.inventory_of inventories.new)) }
+    requires { AreInventories (map kept_inventory inventories.old) }
+    ensures keeps { OnOk result (AreInventories (map kept_inventory inventories.new)) }
     ensures put { Puts
-        (inventory_fault id (inventory_in (map table.inventory_of inventories.old) id) bytes.now)
-        (map table.inventory_of inventories.new ≡ with_bytes id bytes.now
-        (map table.inventory_of inventories.old)) result }
+        (inventory_fault id (inventory_in (map kept_inventory inventories.old) id) bytes.now)
+        (map kept_inventory inventories.new ≡ with_bytes id bytes.now
+        (map kept_inventory inventories.old)) result }
 {
     if let Some(fault) = inventory_fault(inventories, id, bytes) {
         return Err(fault);
@@ -226,11 +228,9 @@ fn put_info(info: &mut Option<[u8; 14]>, bytes: &[u8]) -> Result<(), LineFault>
     if info.is_some() {
         return Err(LineFault::Twice);
     }
-    if bytes.len() != 14 {
+    let Ok(whole) = <[u8; 14]>::try_from(bytes) else {
         return Err(LineFault::Length);
-    }
-    let mut whole = [0; 14];
-    whole.copy_from_slice(bytes);
+    };
     *info = Some(whole);
     Ok(())
 }

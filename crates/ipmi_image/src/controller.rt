@@ -4,8 +4,8 @@ ghost use Rattle.ipmi_image.specs.Below.{look, rows_of, info_of, reading_of, inv
 ghost use Rattle.ipmi_image.specs.Prelude.{number_after, part_asked, part_answer, fru_answer, value_answer, size_answer, seen_of, last_number};
 
 use crate::image::Image;
-use crate::responder::{Responder, WHOLE};
-use ipmi_bus::{Code, Controller, FruSize, Part, Shelf};
+use crate::responder::Responder;
+use ipmi_bus::{Code, Controller, FruSize, LARGEST_PART, Part, Shelf};
 use ipmi_text::Reading;
 
 /// A controller over an image. A part has as many bytes as were asked for, or as are left. The
@@ -71,7 +71,7 @@ impl Controller for ImageController {
         ensures last { last_number self.new ≡ last_number self.old }
     {
         self.responder
-            .part(shelf, reservation, id, offset, WHOLE, into)
+            .part(shelf, reservation, id, offset, LARGEST_PART, into)
     }
 
     fn info(&mut self, shelf: Shelf) -> Result<[u8; 14], Code>
@@ -118,6 +118,6 @@ impl Controller for ImageController {
             fru_answer offset (length into.old) 254 (inventory_of id (seen_of self.old).store) }
         ensures last { last_number self.new ≡ last_number self.old }
     {
-        self.responder.fru_part(id, offset, WHOLE, into)
+        self.responder.fru_part(id, offset, LARGEST_PART, into)
     }
 }

@@ -1,13 +1,13 @@
 //! What one line of an image says.
 ghost use Rattle.ipmi_image.specs.declared.line.LineFault.{LineFault};
-ghost use Rattle.std.specs.Prelude.{◌≡◌, ℕ, List, ◌==◌, ◌&&◌, ◌||◌, [], ◌∷◌, MatchOption, IsTrue, Some, None, Ok, Err, length};
+ghost use Rattle.std.specs.Prelude.{◌≡◌, ℕ, List, ◌==◌, ◌&&◌, ◌||◌, [], ◌∷◌, MatchOption, IsTrue, Some, None, Ok, Err, ok_or, length};
 ghost use Rattle.ipmi_image.specs.Prelude.{pieces, is_dash, next_in, shelf_in, with_two, with_three, row_line, inventory_line, reading_line, info_line, line_of, is_end, said, IsRead};
 
 use crate::text::{cut, read_bytes, read_digit, read_u8, read_u16};
 use ipmi_bus::Shelf;
 use std::alloc::AllocError;
 
-/// Why a line is refused, or no memory was left for it.
+/// Why a line is refused, or no memory was left for it. Each variant comes when the `ImageFault` of its name does.
 #[derive(Clone, Copy)]
 pub(crate) enum LineFault {
     Memory,
@@ -84,18 +84,19 @@ fn three(fields: &[u8]) -> Option<(&[u8], &[u8], &[u8])>
 }
 
 /// The next id; a dash stands for that of the following row.
-fn read_next(field: &[u8]) -> Option<Option<u16>>
+fn parse_next(field: &[u8]) -> Result<Option<u16>, LineFault>
     requires { IsTrue ((length field.now == 4) || is_dash field.now) }
-    ensures { result ≡ next_in field.now }
+    ensures { result ≡ ok_or (next_in field.now) LineFault.Hex }
 {
-    if field == b"-".as_slice() {
-        return Some(None);
+    if matches!(field, b"-") {
+        return Ok(None);
     }
-    Some(Some(read_u16(field)?))
+    let id = read_u16(field).ok_or(LineFault::Hex)?;
+    Ok(Some(id))
 }
 
 /// The shelf that a word names.
-fn read_shelf(word: &[u8]) -> Option<Shelf>
+fn parse_shelf(word: &[u8]) -> Option<Shelf>
     ensures { result ≡ shelf_in word.now }
 {
     match word {
@@ -106,7 +107,7 @@ fn read_shelf(word: &[u8]) -> Option<Shelf>
 }
 
 /// Reads `ID NEXT HEX` after the name of a shelf.
-fn read_row(
+fn parse_row(
     bytes: &mut Vec<u8>,
     dashes: bool,
     shelf: Shelf,
@@ -114,64 +115,50 @@ fn read_row(
 ) -> Result<Line, LineFault>
     ensures { IsRead (with_three (row_line dashes shelf) (pieces 32 fields.now)) bytes.new.items result }
 {
-    let Some((id, next, hex)) = three(fields) else {
-        return Err(LineFault::Line);
-    };
-    let is_next = next.len() == 4 || (dashes && next == b"-".as_slice());
+    let (id, next, hex) = three(fields).ok_or(LineFault::Line)?;
+    let is_next = next.len() == 4 || (dashes && matches!(next, b"-"));
     if id.len() != 4 || !is_next || hex.is_empty() {
         return Err(LineFault::Line);
     }
-    let (Some(id), Some(next)) = (read_u16(id), read_next(next)) else {
-        return Err(LineFault::Hex);
-    };
+    let id = read_u16(id).ok_or(LineFault::Hex)?;
+    let next = parse_next(next)?;
     read_bytes(bytes, hex)?;
     Ok(Line::Row { shelf, id, next })
 }
 
 /// Reads `ID HEX` after `fru`.
-fn read_inventory(bytes: &mut Vec<u8>, fields: &[u8]) -> Result<Line, LineFault>
+fn parse_inventory(bytes: &mut Vec<u8>, fields: &[u8]) -> Result<Line, LineFault>
     ensures { IsRead (with_two inventory_line (pieces 32 fields.now)) bytes.new.items result }
 {
-    let Some((id, hex)) = two(fields) else {
-        return Err(LineFault::Line);
-    };
+    let (id, hex) = two(fields).ok_or(LineFault::Line)?;
     if id.len() != 2 || hex.is_empty() {
         return Err(LineFault::Line);
     }
-    let Some(id) = read_u8(id) else {
-        return Err(LineFault::Hex);
-    };
+    let id = read_u8(id).ok_or(LineFault::Hex)?;
     read_bytes(bytes, hex)?;
     Ok(Line::Inventory(id))
 }
 
 /// Reads `LUN NUM HEX8` after `reading`.
-fn read_reading(bytes: &mut Vec<u8>, fields: &[u8]) -> Result<Line, LineFault>
+fn parse_reading(bytes: &mut Vec<u8>, fields: &[u8]) -> Result<Line, LineFault>
     ensures { IsRead (with_three reading_line (pieces 32 fields.now)) bytes.new.items result }
 {
-    let Some((lun, number, hex)) = three(fields) else {
-        return Err(LineFault::Line);
-    };
+    let (lun, number, hex) = three(fields).ok_or(LineFault::Line)?;
     if lun.len() != 1 || number.len() != 2 || hex.is_empty() {
         return Err(LineFault::Line);
     }
-    let (Some(lun), Some(number)) = (read_digit(lun), read_u8(number)) else {
-        return Err(LineFault::Hex);
-    };
+    let lun = read_digit(lun).ok_or(LineFault::Hex)?;
+    let number = read_u8(number).ok_or(LineFault::Hex)?;
     read_bytes(bytes, hex)?;
     Ok(Line::Reading { lun, number })
 }
 
 /// Reads `sdr HEX28` or `sel HEX28` after `info`.
-fn read_info(bytes: &mut Vec<u8>, fields: &[u8]) -> Result<Line, LineFault>
+fn parse_info(bytes: &mut Vec<u8>, fields: &[u8]) -> Result<Line, LineFault>
     ensures { IsRead (with_two info_line (pieces 32 fields.now)) bytes.new.items result }
 {
-    let Some((word, hex)) = two(fields) else {
-        return Err(LineFault::Line);
-    };
-    let Some(shelf) = read_shelf(word) else {
-        return Err(LineFault::Line);
-    };
+    let (word, hex) = two(fields).ok_or(LineFault::Line)?;
+    let shelf = parse_shelf(word).ok_or(LineFault::Line)?;
     if hex.is_empty() {
         return Err(LineFault::Line);
     }
@@ -185,21 +172,22 @@ pub(crate) fn read_line(bytes: &mut Vec<u8>, dashes: bool, line: &[u8]) -> Resul
     ensures { IsRead (line_of dashes line.now) bytes.new.items result }
 {
     let Some((word, fields)) = cut(line, b' ') else {
-        if line == b"end".as_slice() {
+        if matches!(line, b"end") {
             return Ok(Line::End);
         }
         return Err(LineFault::Line);
     };
+    // a match on words of several lengths has a default arm, and a goal, for each byte that may differ
     if word == b"sdr".as_slice() {
-        read_row(bytes, dashes, Shelf::Sdr, fields)
+        parse_row(bytes, dashes, Shelf::Sdr, fields)
     } else if word == b"sel".as_slice() {
-        read_row(bytes, dashes, Shelf::Sel, fields)
+        parse_row(bytes, dashes, Shelf::Sel, fields)
     } else if word == b"fru".as_slice() {
-        read_inventory(bytes, fields)
+        parse_inventory(bytes, fields)
     } else if word == b"reading".as_slice() {
-        read_reading(bytes, fields)
+        parse_reading(bytes, fields)
     } else if word == b"info".as_slice() {
-        read_info(bytes, fields)
+        parse_info(bytes, fields)
     } else {
         Err(LineFault::Line)
     }

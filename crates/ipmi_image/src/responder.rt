@@ -5,14 +5,8 @@ ghost use Rattle.ipmi_image.specs.Prelude.{chained, first_id, seen_as, of_shelf,
 
 use crate::image::Image;
 use crate::rows::Rows;
-use ipmi_bus::{Code, CodeClass, Event, FruSize, Part, Shelf, Tally};
+use ipmi_bus::{Code, CodeClass, Event, FIRST_RECORD_ID, FruSize, Part, Shelf, Tally};
 use ipmi_text::Reading;
-
-/// The parameter is out of range: there is no byte at the offset.
-const OUT_OF_RANGE: u8 = 0xC9;
-
-/// The most bytes that a part may have.
-pub(crate) const WHOLE: u8 = 254;
 
 /// A record with its place and with the next id that it has on its shelf.
 #[derive(Clone, Copy)]
@@ -27,7 +21,7 @@ struct FoundRow<'a> {
 fn place_of(rows: &Rows, near: usize, id: u16) -> Option<usize>
     ensures { result ≡ place_asked id rows.now }
 {
-    if id != 0 {
+    if id != FIRST_RECORD_ID {
         return rows.place_near(id, near);
     }
     if rows.is_empty() {
@@ -41,10 +35,7 @@ fn next_of(rows: &Rows, place: usize, next: Option<u16>) -> u16
     requires { place < 65535 }
     ensures { result ≡ unwrap_or next (first_id (drop (place + 1) rows.now)) }
 {
-    match next {
-        Some(next) => next,
-        None => rows.id_at(place + 1),
-    }
+    next.unwrap_or_else(|| rows.id_at(place + 1))
 }
 
 /// The record that the id asks for. It is looked for near a place first.
@@ -159,7 +150,7 @@ impl Responder {
             record (with_reservation shelf result self.old) { tally = self.new.tally } }
     {
         self.tally.count(Event::Called);
-        let number = if self.given == 0xFFFF {
+        let number = if self.given == u16::MAX {
             1
         } else {
             self.given + 1
@@ -225,8 +216,8 @@ impl Responder {
             return Err(Code::CANCELLED);
         }
         let Some(got) = copy_piece(row.bytes, usize::from(offset), most, into) else {
-            self.tally.count(Event::Refused(OUT_OF_RANGE));
-            return Err(Code(OUT_OF_RANGE));
+            self.tally.count(Event::Refused(Code::OUT_OF_RANGE.0));
+            return Err(Code::OUT_OF_RANGE);
         };
         if usize::from(offset) + usize::from(got) == row.bytes.len() {
             self.tally.count(Event::Finished);
@@ -312,8 +303,8 @@ impl Responder {
             return Err(Code::NOT_PRESENT);
         };
         let Some(got) = copy_piece(bytes, usize::from(offset), most, into) else {
-            self.tally.count(Event::Refused(OUT_OF_RANGE));
-            return Err(Code(OUT_OF_RANGE));
+            self.tally.count(Event::Refused(Code::OUT_OF_RANGE.0));
+            return Err(Code::OUT_OF_RANGE);
         };
         if usize::from(offset) + usize::from(got) == bytes.len() {
             self.tally.count(Event::Finished);

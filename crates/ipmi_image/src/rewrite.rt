@@ -1,8 +1,7 @@
 //! The one text of version 2 that an image has.
 ghost use Rattle.std.specs.Prelude.{◌≡◌, ◌++◌, ◌∷◌, [], ◌≤◌, OnOk, IfOk, Ok, All, map, flat_map, drop, codes, unwrap_or};
 ghost use Rattle.hex.specs.Hex.{encode_lower};
-ghost use Rattle.ipmi_image.specs.Prelude.{chained, store_of_image, sensor_of, store_of, hex_of, next_field, row_fields, rows_lines, part_fields, inventory_lines, reading_fields, info_lines, other_lines, line_text, lines_text, image_text_of};
-ghost use Rattle.ipmi_image.specs.Table as table;
+ghost use Rattle.ipmi_image.specs.Prelude.{chained, store_of_image, sensor_of, store_of, hex_of, next_field, row_fields, rows_lines, part_fields, inventory_lines, reading_fields, info_lines, other_lines, kept_inventory, line_text, lines_text, image_text_of};
 
 use crate::contents::Contents;
 use crate::image::Image;
@@ -12,7 +11,7 @@ use ipmi_bus::Shelf;
 use std::alloc::{AllocError, Global};
 
 /// The most bytes of an inventory on one line.
-const PART: usize = 64;
+const LINE_BYTES: usize = 64;
 
 /// The room of a text for its first and last line, and for what most images say beside their records.
 const OTHER_ROOM: usize = 4096;
@@ -38,13 +37,11 @@ impl Text {
             bytes.now) }
     {
         let start = self.bytes.len();
-        let Some(end) = bytes
+        let end = bytes
             .len()
             .checked_mul(2)
             .and_then(|len| len.checked_add(start))
-        else {
-            return Err(AllocError);
-        };
+            .ok_or(AllocError)?;
         self.bytes.resize(end, 0)?;
         hex::encode_to_slice(bytes, &mut self.bytes[start..]).unwrap();
         Ok(())
@@ -132,7 +129,7 @@ impl Text {
     {
         let mut rest = bytes;
         'parts: while !rest.is_empty() {
-            let (part, after) = rest.split_at(PART.min(rest.len()));
+            let (part, after) = rest.split_at(LINE_BYTES.min(rest.len()));
             self.push_part(id, part)?;
             rest = after;
         }
@@ -143,7 +140,7 @@ impl Text {
     #[tactic(auto, using(crate::proofs::RewriteLemmas::texts))]
     fn push_inventories(&mut self, inventories: &[StoredInventory]) -> Result<(), AllocError>
         ensures { OnOk result (self.new.bytes.items ≡ self.old.bytes.items ++ lines_text
-            (flat_map inventory_lines (map table.inventory_of inventories.now))) }
+            (flat_map inventory_lines (map kept_inventory inventories.now))) }
     {
         'inventories: for inventory in inventories {
             self.push_inventory(inventory.id, &inventory.bytes)?;

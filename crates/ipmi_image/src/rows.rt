@@ -3,6 +3,7 @@ ghost use Rattle.std.specs.Prelude.{◌≡◌, ◌≤◌, ◌<◌, ◌==◌, ◌
 ghost use Rattle.ipmi_image.specs.Prelude.{first_id, place_of, id_of, row_of};
 
 use crate::stored::{Keyed, Table};
+use ipmi_bus::NO_NEXT_ID;
 use std::alloc::{AllocError, Global};
 use std::marker::Model;
 
@@ -104,10 +105,8 @@ impl Rows {
     pub(crate) fn id_at(&self, place: usize) -> u16
         ensures { result ≡ first_id (drop place self.now) }
     {
-        match self.heads.as_slice().get(place) {
-            Some(head) => head.id,
-            None => 0xFFFF,
-        }
+        let head = self.heads.as_slice().get(place);
+        head.map_or(NO_NEXT_ID, |head| head.id)
     }
 
     /// Whether one of them has this id.

@@ -4,8 +4,8 @@ ghost use Rattle.ipmi_image.specs.Below.{look, rows_of, info_of, reading_of, inv
 ghost use Rattle.ipmi_image.specs.Prelude.{seen_as, number_after, part_asked, part_answer, fru_answer, value_answer, size_answer, script_seen, script_last_number, moods_left, seen_after_mood, script_answer, StaysAfterMood, ReservesAfterMood, TurnCounts, Turns, mood_turn, after_mood, next_turn};
 
 use crate::image::Image;
-use crate::responder::{Responder, WHOLE};
-use ipmi_bus::{Code, CodeClass, Controller, FruSize, Part, Shelf};
+use crate::responder::Responder;
+use ipmi_bus::{Code, CodeClass, Controller, FruSize, LARGEST_PART, Part, Shelf};
 use ipmi_text::Reading;
 use std::vec::IntoIter;
 
@@ -26,9 +26,11 @@ pub enum Mood {
     Change(Image),
 }
 
-/// What a mood makes of a call: the answer is still to come, with so many bytes at most, or the call has failed.
+/// What a mood makes of a call.
 enum Turn {
+    /// The answer is still to come, with so many bytes at most.
     Answers(u8),
+    /// The call has failed with this code.
     Failed(Code),
 }
 
@@ -60,17 +62,17 @@ fn mood_turn(responder: &mut Responder, mood: Mood, asked: usize) -> Turn
             if asked > 1 {
                 return Turn::Failed(responder.fail(Code::TOO_MANY_BYTES));
             }
-            Turn::Answers(WHOLE)
+            Turn::Answers(LARGEST_PART)
         }
         Mood::Refuse(code) => {
             if code.0 != 0 && code.class() == CodeClass::Refusal {
                 return Turn::Failed(responder.fail(code));
             }
-            Turn::Answers(WHOLE)
+            Turn::Answers(LARGEST_PART)
         }
         Mood::Change(image) => {
             responder.change(image);
-            Turn::Answers(WHOLE)
+            Turn::Answers(LARGEST_PART)
         }
     }
 }
@@ -102,7 +104,7 @@ impl Scripted {
         ensures leaves { StaysAfterMood self.old self.new }
     {
         match self.moods.next() {
-            None => Turn::Answers(WHOLE),
+            None => Turn::Answers(LARGEST_PART),
             Some(mood) => mood_turn(&mut self.responder, mood, asked),
         }
     }

@@ -1,6 +1,6 @@
 //! What an image keeps, in the order of its lines, and an index to find it by.
 ghost use Rattle.std.specs.Prelude.{◌≡◌, ℕ, ◌==◌, ◌<◌, ◌≤◌, ◌++◌, ◌∷◌, [], List, None, Some, true, MatchBool, IsTrue, IfOk, OnErr, OnOk, is_some, map, option_map, option_and_then, slice_get, length};
-ghost use Rattle.ipmi_image.specs.Prelude.{place_of, sensor_key, inventory_of, with_bytes};
+ghost use Rattle.ipmi_image.specs.Prelude.{place_of, sensor_key, kept_inventory, with_bytes};
 
 use ipmi_text::Reading;
 use std::alloc::{AllocError, Global};
@@ -9,10 +9,8 @@ use std::marker::Model;
 
 /// What is found by a number of its own.
 pub(crate) trait Keyed {
-    /// The number.
     ghost key: { Self → ℕ };
 
-    /// The number that it is found by.
     fn key(&self) -> u16
         ensures { result ≡ key self.now };
 }
@@ -173,8 +171,8 @@ impl Table<StoredInventory> {
     pub(crate) fn append(&mut self, place: usize, bytes: &[u8]) -> Result<(), AllocError>
         requires { place < length self.old }
         ensures { (id : ℕ) → place_of (λ inventory. inventory.id) id self.old ≡ Some place →
-            OnOk result (map inventory_of self.new ≡ with_bytes id bytes.now
-            (map inventory_of self.old)) }
+            OnOk result (map kept_inventory self.new ≡ with_bytes id bytes.now
+            (map kept_inventory self.old)) }
     {
         self.items[place].bytes.extend_from_slice(bytes)?;
         Ok(())

@@ -49,8 +49,5 @@ pub(crate) fn read_bytes(bytes: &mut Vec<u8>, digits: &[u8]) -> Result<(), LineF
         (λ e. (e ≡ LineFault.Memory) ⊎ ((e ≡ LineFault.Hex) × (bytes_in digits.now ≡ None))) }
 {
     bytes.resize(digits.len() / 2, 0)?;
-    match hex::decode_to_slice(digits, bytes) {
-        Ok(()) => Ok(()),
-        Err(_) => Err(LineFault::Hex),
-    }
+    hex::decode_to_slice(digits, bytes).map_err(|_| LineFault::Hex)
 }

@@ -3,7 +3,7 @@ use Rattle.std.proofs.lemmas.Grind.{get_or_default_zero}
 use Rattle.std.proofs.lemmas.Nat.Bits.{shr_and_one}
 use Rattle.std.specs.Int.{bit_at}
 use Rattle.std.specs.FinSet as set
-use Rattle.ipmi_bus.specs.Prelude.{has_bit}
+use Rattle.ipmi_bus.specs.Prelude.{has_id_bit}
 use Rattle.ipmi_bus.proofs.IdTableLemmas.{contains-ids_in, room_left}
 use Rattle.ipmi_bus.proofs.id_table.IdTable.contains.Goals as goal
 
@@ -15,7 +15,7 @@ returns-clause-is c =
     c.index.ensures ∙ get_or_default_zero bytes c.from.result _ (omega arith) ∙ ap (λ i. get_or bytes i 0) c.from.ensures in
     let fits : nat_lt c.args.id 65536 ≡ true = search rules in
     ap (λ x. nat_eq x 1) (shr_and_one c.index.result.now (c.args.id % 8) ∙ ap (λ x. bit_at x (c.args.id % 8)) byte)
-    ∙ sym (ap (λ b. b && has_bit bytes c.args.id) fits)
+    ∙ sym (ap (λ b. b && has_id_bit bytes c.args.id) fits)
     ∙ sym (contains-ids_in bytes c.args.id)
     ∙ ap (λ s. set.contains s c.args.id) c.self.view_is
 
