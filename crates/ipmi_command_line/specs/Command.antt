@@ -1,8 +1,8 @@
 -- What a command line means.
 use Rattle.std.specs.Prelude.{◌≤◌, ℕ, Bool, ◌&&◌, not, List, Option, Some, None, option_map, is_some, Result, Ok, Err, ⊤, codes, IfSome, OnSome, IsTrue, if◌then◌else◌}
 use Rattle.clap.specs.Words.{Row, first_of}
-use Rattle.ipmi_command_line.specs.declared.command.Count.{Count}
-use Rattle.ipmi_command_line.specs.declared.command.Task.{Task}
+use Rattle.ipmi_command_line.specs.declared.task.Count.{Count}
+use Rattle.ipmi_command_line.specs.declared.task.Task.{Task}
 use Rattle.ipmi_command_line.specs.declared.command.UsageFault.{UsageFault}
 use Rattle.ipmi_command_line.specs.Arguments.{free_words, is_taken, rows_of_words}
 use Rattle.ipmi_command_line.specs.Number.{decimal_of, four_hex_of, within}

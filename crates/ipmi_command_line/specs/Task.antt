@@ -5,8 +5,8 @@ use Rattle.ipmi_bus.specs.declared.controller.Shelf.TheVariants.{Sdr, Sel}
 use Rattle.ipmi_bus.specs.declared.step.Place.{Place}
 use Rattle.ipmi_bus.specs.declared.step.Place.TheVariants.{Id}
 use Rattle.ipmi_bus.specs.CursorState.{start_of}
-use Rattle.ipmi_command_line.specs.declared.command.Count.{Count}
-use Rattle.ipmi_command_line.specs.declared.command.Task.{Task}
+use Rattle.ipmi_command_line.specs.declared.task.Count.{Count}
+use Rattle.ipmi_command_line.specs.declared.task.Task.{Task}
 
 -- the shelf whose records a task is about, the id that it begins at by itself, how many of them it asks for, whether it takes an
 -- id to start from, and whether it lists all of them, so that it can be done in pages

@@ -5,7 +5,9 @@ mod arguments;
 mod command;
 mod number;
 mod table;
+mod task;
 mod words;
 
-pub use command::{Command, Count, Kind, Task, UsageFault, command_of};
+pub use command::{Command, UsageFault, command_of};
+pub use task::{Count, Kind, Task};
 pub use words::{Word, Words};

@@ -3,8 +3,9 @@ ghost use Rattle.std.specs.Prelude.{◌≡◌, IfOk, IfSome, map};
 ghost use Rattle.ipmi_command_line.specs.Command.{IsCount, IsTask};
 ghost use Rattle.ipmi_command_line.specs.Table.{elist_of, entry_of, inventory_of, kind_of, list_of, newest, newest_of, oldest, oldest_of, task_of, task_of_four, task_of_one, task_of_three, task_of_two};
 
-use crate::command::{Count, FIRST_ID, Kind, LAST_ID, Task};
+use crate::command::{FIRST_ID, LAST_ID};
 use crate::number::number;
+use crate::task::{Count, Kind, Task};
 use crate::words::Word;
 use ipmi_bus::Shelf;
 use std::alloc::{AllocError, Global};

@@ -35,9 +35,9 @@ unfoldable pub use Rattle.ipmi_image.specs.Rewritten.{image_text_of}
 pub use Rattle.ipmi_image.specs.declared.image.ImageFault.{ImageFault}
 pub use Rattle.ipmi_command_line.specs.Command.{CommandState}
 pub use Rattle.ipmi_command_line.specs.Task.{is_listing, most_of, shelf_of, start_by}
-pub use Rattle.ipmi_command_line.specs.declared.command.Count.{Count}
-pub use Rattle.ipmi_command_line.specs.declared.command.Kind.{Kind}
-pub use Rattle.ipmi_command_line.specs.declared.command.Task.{Task}
+pub use Rattle.ipmi_command_line.specs.declared.task.Count.{Count}
+pub use Rattle.ipmi_command_line.specs.declared.task.Kind.{Kind}
+pub use Rattle.ipmi_command_line.specs.declared.task.Task.{Task}
 pub use Rattle.ipmi_command_line.specs.declared.command.UsageFault.{UsageFault}
 pub use Rattle.ipmi_output.specs.Message.{ended_text, inventory_text, message_text, no_info_text, no_name_text, refused_inventory_text, refused_text}
 pub use Rattle.ipmi_output.specs.Received.{of_writer, Received, ReceivesText}

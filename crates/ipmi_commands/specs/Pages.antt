@@ -1,6 +1,6 @@
 -- A listing in pages: each page has a cursor of its own, from where the page before it stopped.
 use Rattle.std.specs.Prelude.{◌≡◌, ℕ, ◌+◌, ◌≤◌, ◌==◌, if◌then◌else◌, ◌⊎◌, false, IsTrue, Option, None, Some, Result, Ok, Err, List, [], ◌∷◌}
-use Rattle.ipmi_commands.specs.Below.{Place, First, Id, End, Cycle, Row, first_row, Store, rows_of, WalkEnd, Done, CycleAt, place_after_rows, CursorState, start_of, Seen, StaysHonest, CommandState, Task, shelf_of}
+use Rattle.ipmi_commands.specs.Below.{Place, First, Id, End, Cycle, Row, first_row, Store, rows_of, WalkEnd, CycleAt, place_after_rows, CursorState, start_of, Seen, StaysHonest, CommandState, Task, shelf_of}
 use Rattle.std.specs.FinSet as set
 use Rattle.ipmi_commands.specs.declared.stop.Stop.{Stop}
 use Rattle.ipmi_commands.specs.Listing.{is_done, stop_at_end, first_plan, IsOutcome, walk_call_bound}

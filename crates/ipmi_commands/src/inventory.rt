@@ -28,8 +28,7 @@ fn unread_text(alloc: Global, id: u8, ended: FruEnded) -> Result<String, Stop>
     if !is_absent(ended) {
         return Err(Stop::Inventory(id, ended));
     }
-    let text = format!(in alloc; "not present\n")?;
-    Ok(text)
+    Ok(String::from_str(alloc, "not present\n")?)
 }
 
 /// The text of a device's inventory, or that there is none. Its bytes are let go before the answer.
@@ -47,10 +46,7 @@ fn inventory_text<C: Controller>(
         cmd.now.tries (C.seen ctl.old) (C.seen ctl.new) result }
 {
     match read_fru(alloc, ctl, id, cmd.part(), cmd.tries()) {
-        Ok(bytes) => {
-            let text = print_fru(alloc, &bytes)?;
-            Ok(text)
-        }
+        Ok(bytes) => Ok(print_fru(alloc, &bytes)?),
         Err(ended) => unread_text(alloc, id, ended),
     }
 }
@@ -110,10 +106,7 @@ fn device_piece<C: Controller>(
         (device_spots (fru_of view.now)) cmd.now.tries (C.seen ctl.old) (C.seen ctl.new) result }
 {
     match view.fru_of() {
-        None => {
-            let text = elsewhere_text(alloc, view)?;
-            Ok(text)
-        }
+        None => Ok(elsewhere_text(alloc, view)?),
         Some(0) => Ok(String::new(alloc)),
         Some(id) => {
             let name = name_of_locator(alloc, view)?;

@@ -11,6 +11,7 @@ mod pages;
 mod perform;
 mod piece;
 mod runs;
+pub mod status;
 mod stop;
 
 pub use runs::{answer, run, run_pages, run_to_message_sink};

@@ -8,30 +8,30 @@ use arrayvec::ArrayVec;
 use ipmi_bus::Record;
 
 /// A line, with room for the longest: a word, two ids of four digits, 256 bytes in hex, three spaces and a line feed.
-pub(crate) type Line = ArrayVec<u8, 527>;
+pub(crate) type LineBuffer = ArrayVec<u8, 527>;
 
 /// Appends bytes that there is room for.
-fn push(line: &mut Line, bytes: &[u8])
+fn push(line: &mut LineBuffer, bytes: &[u8])
     requires { length line.old.items + length bytes.now ≤ 527 }
     ensures items { line.new.items ≡ line.old.items ++ bytes.now }
     ensures len { length line.new.items ≡ length line.old.items + length bytes.now }
 {
-    let _fits = line.try_extend_from_slice(bytes);
+    line.try_extend_from_slice(bytes).unwrap();
 }
 
 /// Appends an id in hex, and a space.
-fn push_id(line: &mut Line, id: u16)
+fn push_id(line: &mut LineBuffer, id: u16)
     requires { length line.old.items + 5 ≤ 527 }
     ensures items { line.new.items ≡ line.old.items ++ (hex_of 2 id ++ 32 ∷ []) }
     ensures len { length line.new.items ≡ length line.old.items + 5 }
 {
     let mut field = [b' '; 5];
-    let _fits = hex::encode_to_slice(&id.to_be_bytes(), &mut field[..4]);
+    hex::encode_to_slice(&id.to_be_bytes(), &mut field[..4]).unwrap();
     push(line, &field);
 }
 
 /// Appends the bytes of a record in hex.
-fn push_hex(line: &mut Line, bytes: &[u8])
+fn push_hex(line: &mut LineBuffer, bytes: &[u8])
     requires record { length bytes.now ≤ 256 }
     requires room { length line.old.items + 2 * length bytes.now ≤ 527 }
     ensures items { line.new.items ≡ line.old.items ++ encode_lower bytes.now }
@@ -39,12 +39,12 @@ fn push_hex(line: &mut Line, bytes: &[u8])
 {
     let mut digits = [0; 512];
     let digits = &mut digits[..2 * bytes.len()];
-    let _fits = hex::encode_to_slice(bytes, digits);
+    hex::encode_to_slice(bytes, digits).unwrap();
     push(line, digits);
 }
 
 /// `sdr ID NEXT HEX` and a line feed: the two ids in four hex digits, then the bytes in hex. It takes no memory.
-pub(crate) fn record_line(lent: &Record<'_>, line: &mut Line)
+pub(crate) fn record_line(lent: &Record<'_>, line: &mut LineBuffer)
     requires { length lent.now.bytes.now ≤ 256 }
     ensures { line.new.items ≡ line_of (row_of_record lent.now) }
 {

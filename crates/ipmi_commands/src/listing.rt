@@ -3,7 +3,7 @@ ghost use Rattle.std.specs.Prelude.{◌≡◌, ◌≢◌, ◌+◌, ◌==◌, ◌
 ghost use Rattle.ipmi_commands.specs.Below.{IsHonest, shelf_of, Task};
 ghost use Rattle.ipmi_commands.specs.Prelude.{course, faults_of, is_reached, most_for_one, passing, stop_at_end, IsListing, ListingCalls};
 
-use crate::line::Line;
+use crate::line::LineBuffer;
 use crate::piece::piece_in;
 use crate::stop::Stop;
 use ipmi_bus::{Controller, Cursor};
@@ -31,20 +31,14 @@ pub(crate) struct Listed {
 pub(crate) fn is_reached(most: Option<u32>, count: u32) -> bool
     ensures { result ≡ is_reached most count }
 {
-    match most {
-        None => false,
-        Some(n) => n == count,
-    }
+    most == Some(count)
 }
 
 /// How many records are still to be passed after so many; all of them, where there is no number.
 fn passing(skip: Option<u32>, count: u32) -> Option<u32>
     ensures { result ≡ passing skip count }
 {
-    match skip {
-        None => None,
-        Some(n) => Some(n.saturating_sub(count)),
-    }
+    Some(skip?.saturating_sub(count))
 }
 
 /// Whether anything was written, with this text too.
@@ -94,7 +88,7 @@ pub(crate) fn list_records<C: Controller, O: Sink>(
 {
     let mut count = 0;
     let mut wrote = false;
-    let mut line = Line::new();
+    let mut line = LineBuffer::new();
     'records: loop {
         if is_reached(span.most, count) {
             let stop = stop_at_end(cmd.task(), wrote);

@@ -13,7 +13,7 @@ use ipmi_command_line::{Command, Count, Task};
 use ipmi_output::{Sink, write_all};
 use std::alloc::Global;
 
-/// Writes a text.
+/// Writes a text, and says how that stopped.
 pub(crate) fn write_text<O: Sink>(text: &[u8], out: &mut O) -> Stop
     ensures faults { O.faults out.new ≡ O.faults out.old + faults_of result }
     ensures text { WritesText text.now (O.taken out.old) (O.taken out.new) result }

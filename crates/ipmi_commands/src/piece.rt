@@ -5,7 +5,7 @@ ghost use Rattle.ipmi_records.specs.Sdr.{name_of};
 ghost use Rattle.ipmi_commands.specs.Prelude.{ReadsFor, bytes_of, faults_of, Finds, FindsIn, FindsPiece, is_name, is_of_kind, IsBlockOfName, IsLineOf, IsListedOfKind, listed_spots, most_after, named_spots};
 
 use crate::inventory::locator_piece;
-use crate::line::{Line, record_line};
+use crate::line::{LineBuffer, record_line};
 use crate::stop::Stop;
 use ipmi_bus::{Controller, Ended, Record, read_reading};
 use ipmi_command_line::{Command, Kind, Task};
@@ -29,9 +29,7 @@ fn entry_bytes(bytes: &[u8]) -> [u8; 16]
     requires { length bytes.now ≡ 16 }
     ensures { result ≡ bytes.now }
 {
-    let mut entry = [0; 16];
-    entry.copy_from_slice(bytes);
-    entry
+    *bytes.first_chunk::<16>().unwrap()
 }
 
 /// The line of an entry of the event log.
@@ -177,7 +175,7 @@ pub(crate) enum Piece {
 
 impl Piece {
     /// The bytes of the piece. `line` is the line that was written for it.
-    pub(crate) fn bytes<'a>(&'a self, line: &'a Line) -> &'a [u8]
+    pub(crate) fn bytes<'a>(&'a self, line: &'a LineBuffer) -> &'a [u8]
         ensures { result.now ≡ bytes_of line.now self.now }
     {
         match self {
@@ -193,7 +191,7 @@ fn record_piece<C: Controller>(
     ctl: &mut C,
     cmd: &Command,
     lent: &Record<'_>,
-    line: &mut Line,
+    line: &mut LineBuffer,
 ) -> Result<Piece, Stop>
     requires whole { length lent.now.bytes.now ≡ whole_len (shelf_of cmd.now.task)
         lent.now.bytes.now }
@@ -236,7 +234,7 @@ pub(crate) fn piece_in<C: Controller>(
     cmd: &Command,
     passing: Option<u32>,
     lent: &Record<'_>,
-    line: &mut Line,
+    line: &mut LineBuffer,
 ) -> Result<Piece, Stop>
     requires whole { length lent.now.bytes.now ≡ whole_len (shelf_of cmd.now.task)
         lent.now.bytes.now }

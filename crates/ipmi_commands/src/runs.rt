@@ -5,6 +5,7 @@ ghost use Rattle.ipmi_commands.specs.Prelude.{faults_of, most_calls, pages_made,
 
 use crate::pages::list_pages;
 use crate::perform::{perform, write_text};
+use crate::status::{DONE, INCOMPLETE, OUT_OF_MEMORY, UNREADABLE, USAGE, WRITE_FAULT};
 use crate::stop::Stop;
 use ipmi_bus::{Controller, FruEnded};
 use ipmi_command_line::{Command, Task, UsageFault};
@@ -35,10 +36,10 @@ fn stop_status(stop: Stop) -> u8
     ensures { result ≡ stop_status stop }
 {
     match stop {
-        Stop::Done => 0,
-        Stop::WriteFault => 4,
-        Stop::Memory | Stop::Inventory(_, FruEnded::Memory) => 5,
-        Stop::Ended(_) | Stop::NoName | Stop::NoInfo | Stop::Inventory(_, _) => 1,
+        Stop::Done => DONE,
+        Stop::WriteFault => WRITE_FAULT,
+        Stop::Memory | Stop::Inventory(_, FruEnded::Memory) => OUT_OF_MEMORY,
+        Stop::Ended(_) | Stop::NoName | Stop::NoInfo | Stop::Inventory(_, _) => INCOMPLETE,
     }
 }
 
@@ -72,7 +73,7 @@ fn report_usage<E: MessageSink>(err: &mut E) -> u8
     ensures { Says (E.received err.old) (E.received err.new) result Message.Usage 2 }
 {
     say(err, Message::Usage);
-    2
+    USAGE
 }
 
 /// The exit status of an image that is not read.
@@ -80,7 +81,7 @@ fn image_status(fault: ImageFault) -> u8
     ensures { result ≡ fault_status fault }
 {
     match fault {
-        ImageFault::Memory => 5,
+        ImageFault::Memory => OUT_OF_MEMORY,
         ImageFault::Header
         | ImageFault::Line(_)
         | ImageFault::Hex(_)
@@ -90,7 +91,7 @@ fn image_status(fault: ImageFault) -> u8
         | ImageFault::FirstId(_)
         | ImageFault::NoEnd
         | ImageFault::AfterEnd(_)
-        | ImageFault::TooMany(_) => 3,
+        | ImageFault::TooMany(_) => UNREADABLE,
     }
 }
 
@@ -187,7 +188,7 @@ pub fn answer<O: Sink, E: MessageSink>(
         Ok(cmd) => answer_command(alloc, cmd, image, out, err),
         Err(UsageFault::Memory) => {
             say(err, Message::OutOfMemory);
-            5
+            OUT_OF_MEMORY
         }
         Err(UsageFault::Line | UsageFault::Command | UsageFault::Option) => report_usage(err),
     }

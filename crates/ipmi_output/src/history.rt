@@ -4,10 +4,12 @@ ghost use Rattle.std.specs.Borrow.{ftrue};
 
 use std::marker::Model;
 
-/// The bytes taken so far, and how many calls took none or failed.
+/// What all calls of a sink did so far.
 #[derive(Drop)]
 pub(crate) struct History {
+    /// The bytes taken so far, in their order.
     pub ghost taken: { List ℕ },
+    /// How many calls took none or failed.
     pub ghost faults: { ℕ },
 }
 

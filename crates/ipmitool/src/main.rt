@@ -7,6 +7,7 @@ mod tests;
 
 use input::{InputFault, read_input, words_of};
 pub use ipmi_command_line::{Command, Count, Kind, Task, UsageFault, Word, Words, command_of};
+use ipmi_commands::status::{OUT_OF_MEMORY, UNREADABLE, WRITE_FAULT};
 pub use ipmi_commands::{answer, run, run_pages, run_to_message_sink};
 pub use ipmi_output::{MessageSink, Sink, SinkFault, Written};
 use ipmi_output::{Message, say};
@@ -44,22 +45,22 @@ fn program(rt: &HostRuntime) -> u8 {
         Ok(image) => image,
         Err(InputFault::Memory) => {
             say(&mut err, Message::OutOfMemory);
-            return 5;
+            return OUT_OF_MEMORY;
         }
         Err(InputFault::Unreadable) => {
             say(&mut err, Message::CannotRead(input_name(&line)));
-            return 3;
+            return UNREADABLE;
         }
     };
     let Ok(buffer) = BufWriter::new(rt.alloc(), io::writer(rt)) else {
         say(&mut err, Message::OutOfMemory);
-        return 5;
+        return OUT_OF_MEMORY;
     };
     let mut out = Written::new(buffer);
     let status = answer(rt.alloc(), &line, &image, &mut out, &mut err);
-    if status != 4 && out.into_inner().flush().is_err() {
+    if status != WRITE_FAULT && out.into_inner().flush().is_err() {
         say(&mut err, Message::WriteFault);
-        return 4;
+        return WRITE_FAULT;
     }
     status
 }

@@ -1,14 +1,17 @@
 use Rattle.std.proofs.Common.{inl, inr, refl}
+use Rattle.std.proofs.lemmas.Result.{err_from_is_err_and}
 use Rattle.ipmi_command_line.specs.Command.{meaning_of}
 use Rattle.ipmi_command_line.proofs.command.command_of.Goals as goal
 
-pub returns-in-Ok : goal.returns-in-Ok
+pub returns : goal.returns
 unfolding meaning_of
-returns-in-Ok c = rw (c.in-Ok.ensures.ok.0, ← c.in-Ok.ensures.ok.1) c.command_of_matches.ensures
+returns c = rw (c.in_ok-matches.ensures.ok.0, ← c.in_ok-matches.ensures.ok.1) c.command_of_matches.ensures
 
-pub returns-in-Err : goal.returns-in-Err
+pub returns-in_err-matches : goal.returns-in_err-matches
 unfolding meaning_of
-returns-in-Err c = elim c.in-Err.ensures.err [
-  | inl h ↦ inl h
-  | inr h ↦ inr (rw (h.1, h.0) refl)
-]
+returns-in_err-matches c =
+    let out = err_from_is_err_and c.from_residual.result c.from_residual.ensures.1 in
+    rw (out.1, out.2) (elim c.in_err-matches.ensures.err [
+      | inl h ↦ inl h
+      | inr h ↦ inr (rw (h.1, h.0) refl)
+    ])

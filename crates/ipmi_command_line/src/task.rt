@@ -1,0 +1,163 @@
+//! What is to be done, and what it goes along.
+ghost use Rattle.std.specs.Prelude.{◌≡◌};
+ghost use Rattle.ipmi_command_line.specs.Task.{count_of, is_listing, limit_of, name_of, shelf_of, start_by, takes_from};
+
+use crate::words::Word;
+use ipmi_bus::{Place, Shelf};
+
+/// Which sensor data records are listed, by their type.
+#[derive(Clone, Copy, Debug, PartialEq, Eq)]
+pub enum Kind {
+    /// No kind is named: full and compact sensors.
+    Sensors,
+    /// Every record.
+    All,
+    /// Full sensor records.
+    Full,
+    /// Compact sensor records.
+    Compact,
+    /// Event-only records.
+    Event,
+    /// Generic device locators.
+    Generic,
+    /// Management controller locators.
+    Mc,
+    /// FRU device locators.
+    Fru,
+}
+
+/// Which entries of the system event log are listed. A number is at least 1.
+#[derive(Clone, Copy, Debug, PartialEq, Eq)]
+pub enum Count {
+    /// Every entry.
+    All,
+    /// The oldest ones, so many.
+    First(u16),
+    /// The newest ones, so many.
+    Last(u16),
+}
+
+/// What is to be done.
+#[derive(Debug, Drop)]
+pub enum Task {
+    /// `fru print`: the inventory with this id, 0 to 254, or every one.
+    Fru(Option<u8>),
+    /// `sdr hex`: the image line of each sensor data record.
+    Hex,
+    /// `sdr list`: a line for each sensor data record of the kind.
+    List(Kind),
+    /// `sdr elist`: a longer line for each.
+    Elist(Kind),
+    /// `sdr get`: the block of each record with this printed name.
+    Get(Word),
+    /// `sdr info` and `sel info`.
+    Info(Shelf),
+    /// `sel list`: a line for each of these entries.
+    SelList(Count),
+    /// `sel get`: the block of the entry with this id, 1 to 65534.
+    SelGet(u16),
+    /// `image rewrite`: the image in its one spelling.
+    Rewrite,
+}
+
+impl Count {
+    /// After how many records a listing stops, where there is such a limit; the newest entries have none.
+    pub fn limit(&self) -> Option<u32>
+        ensures { result ≡ limit_of self.now }
+    {
+        match self {
+            Count::First(n) => Some(u32::from(*n)),
+            Count::All | Count::Last(_) => None,
+        }
+    }
+}
+
+impl Task {
+    /// The shelf whose records the task is about.
+    pub fn shelf(&self) -> Shelf
+        ensures { result ≡ shelf_of self.now }
+    {
+        match self {
+            Task::SelList(_) | Task::SelGet(_) => Shelf::Sel,
+            Task::Info(shelf) => *shelf,
+            Task::Hex
+            | Task::List(_)
+            | Task::Elist(_)
+            | Task::Get(_)
+            | Task::Fru(_)
+            | Task::Rewrite => Shelf::Sdr,
+        }
+    }
+
+    /// Where its listing begins: at its own id, where it has one; otherwise at the id that is given, or at the first
+    /// record.
+    pub fn start(&self, from: Option<u16>) -> Place
+        ensures { result ≡ start_by self.now from }
+    {
+        match (self, from) {
+            (Task::SelGet(id), _) => Place::Id(*id),
+            (_, Some(id)) => Place::Id(id),
+            (_, None) => Place::First,
+        }
+    }
+
+    /// How many of the shelf's records it asks for.
+    pub fn count(&self) -> Count
+        ensures { result ≡ count_of self.now }
+    {
+        match self {
+            Task::SelList(entries) => *entries,
+            Task::SelGet(_) => Count::First(1),
+            Task::Hex
+            | Task::List(_)
+            | Task::Elist(_)
+            | Task::Get(_)
+            | Task::Info(_)
+            | Task::Fru(_)
+            | Task::Rewrite => Count::All,
+        }
+    }
+
+    /// The name that `sdr get` asks for; empty for every other task.
+    pub fn name(&self) -> &str
+        ensures { result.now ≡ name_of self.now }
+    {
+        match self {
+            Task::Get(name) => name.as_str(),
+            Task::Hex
+            | Task::List(_)
+            | Task::Elist(_)
+            | Task::SelList(_)
+            | Task::SelGet(_)
+            | Task::Info(_)
+            | Task::Fru(_)
+            | Task::Rewrite => "",
+        }
+    }
+
+    /// Whether the task may be given an id to start from, `--from`.
+    pub fn takes_from(&self) -> bool
+        ensures { result ≡ takes_from self.now }
+    {
+        match self {
+            Task::Hex | Task::List(_) | Task::Elist(_) | Task::Get(_) | Task::SelList(_) => true,
+            Task::Info(_) | Task::SelGet(_) | Task::Fru(_) | Task::Rewrite => false,
+        }
+    }
+
+    /// Whether it is a listing of a shelf that no count and no name limits, so that it can be done
+    /// in pages.
+    pub fn is_listing(&self) -> bool
+        ensures { result ≡ is_listing self.now }
+    {
+        match self {
+            Task::Hex | Task::List(_) | Task::Elist(_) | Task::SelList(Count::All) => true,
+            Task::SelList(Count::First(_) | Count::Last(_))
+            | Task::Get(_)
+            | Task::Info(_)
+            | Task::SelGet(_)
+            | Task::Fru(_)
+            | Task::Rewrite => false,
+        }
+    }
+}
