@@ -177,7 +177,7 @@ pub(crate) fn read_line(bytes: &mut Vec<u8>, dashes: bool, line: &[u8]) -> Resul
         }
         return Err(LineFault::Line);
     };
-    // a match on words of several lengths has a default arm, and a goal, for each byte that may differ
+    // a match on these words has 18 default arms, each with a goal of its own
     if word == b"sdr".as_slice() {
         parse_row(bytes, dashes, Shelf::Sdr, fields)
     } else if word == b"sel".as_slice() {
