@@ -4,17 +4,24 @@ use std::process::Abort;
 
 /// The parts of a line before and after its first bar.
 pub(crate) fn parts<'a>(rt: &impl Abort, line: &'a str) -> (&'a str, &'a str) {
-    line.split_once('|').expect(rt, "a bar")
+    line.split_once('|').expect(rt, line)
+}
+
+/// The parts of a line around its first two bars.
+pub(crate) fn three_parts<'a>(rt: &impl Abort, line: &'a str) -> (&'a str, &'a str, &'a str) {
+    let (first, rest) = parts(rt, line);
+    let (second, third) = rest.split_once('|').expect(rt, line);
+    (first, second, third)
 }
 
 /// The byte that two hex digits stand for.
 pub(crate) fn byte_of(rt: &impl Abort, digits: &str) -> u8 {
-    u8::from_str_radix(digits, 16).expect(rt, "a byte in hex")
+    u8::from_str_radix(digits, 16).expect(rt, digits)
 }
 
 /// The bytes that hex digits stand for.
 pub(crate) fn bytes_of(rt: &impl Abort, alloc: Global, digits: &str) -> Vec<u8> {
-    hex::decode(alloc, digits).expect(rt, "bytes in hex")
+    hex::decode(alloc, digits).expect(rt, digits)
 }
 
 /// Asserts that a call gave the wanted text.
@@ -55,10 +62,10 @@ pub(crate) fn bytes_of_lines(rt: &impl Abort, alloc: Global, lines: &str) -> Vec
 
 /// The line at this place of a case of several lines.
 pub(crate) fn line_of<'a>(rt: &impl Abort, case: &'a str, place: usize) -> &'a str {
-    case.lines().nth(place).expect(rt, "a line")
+    case.lines().nth(place).expect(rt, case)
 }
 
 /// The id that four hex digits stand for.
 pub(crate) fn id_of(rt: &impl Abort, digits: &str) -> u16 {
-    u16::from_str_radix(digits, 16).expect(rt, "an id in hex")
+    u16::from_str_radix(digits, 16).expect(rt, digits)
 }

@@ -144,18 +144,11 @@ fn what_the_image_has_not_is_not_present(rt: HostRuntime) {
 
 /// An image of a record of 256 bytes and an inventory of 300.
 fn long_image(rt: &impl Abort, alloc: Global) -> String {
-    let mut image = String::from_str(alloc, "ipmi-image 1\nsdr 0001 ffff 010051c0fb").expect(
-        rt, "memory",
-    );
-    for _ in 0..251 {
-        image.push_str("00").expect(rt, "memory");
-    }
-    image.push_str("\nfru 00 ").expect(rt, "memory");
-    for _ in 0..300 {
-        image.push_str("00").expect(rt, "memory");
-    }
-    image.push_str("\nend\n").expect(rt, "memory");
-    image
+    let record = "00".repeat(alloc, 251).expect(rt, "memory");
+    let inventory = "00".repeat(alloc, 300).expect(rt, "memory");
+    format!(in alloc;
+        "ipmi-image 1\nsdr 0001 ffff 010051c0fb{record}\nfru 00 {inventory}\nend\n"
+    ).expect(rt, "memory")
 }
 
 /// A part for 254 bytes from the offset on has so many.

@@ -99,7 +99,7 @@ fn next_len(rt: &impl Abort, words: &mut SplitWhitespace) -> usize
     ensures fits { result ≤ 17 }
 {
     let len = usize::from(next_byte(rt, words));
-    assert!(rt; 0 < len && len <= MOST);
+    assert!(rt; 0 < len && len <= MOST, "{len} bytes");
     len
 }
 
@@ -107,7 +107,7 @@ fn next_shelf(rt: &impl Abort, words: &mut SplitWhitespace) -> Shelf {
     match words.next() {
         Some("sdr") => Shelf::Sdr,
         Some("sel") => Shelf::Sel,
-        _ => panic!(rt; "no shelf"),
+        word => panic!(rt; "{word:?} is no shelf"),
     }
 }
 
@@ -195,9 +195,14 @@ pub fn ask<C: Controller>(rt: &impl Abort, ctl: &mut C, call: &str) -> Answer {
     }
 }
 
+/// The parts of a line before and after its first bar.
+pub fn parts<'a>(rt: &impl Abort, line: &'a str) -> (&'a str, &'a str) {
+    line.split_once('|').expect(rt, line)
+}
+
 /// Makes the call of a line, and compares its answer with the one after the bar.
 pub fn is_answered<C: Controller>(rt: &impl Abort, ctl: &mut C, line: &str) {
-    let (call, wanted) = line.split_once('|').expect(rt, "a call and its answer");
+    let (call, wanted) = parts(rt, line);
     let answer = ask(rt, ctl, call);
     let text = answer.text(rt);
     assert!(rt; text == wanted, "{line}: got {text}");

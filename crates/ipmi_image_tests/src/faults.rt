@@ -1,4 +1,5 @@
 //! Images with a fault and without, by their lines.
+use crate::calls::parts;
 use ipmi_image::Image;
 use std::alloc::Global;
 use std::process::Abort;
@@ -26,7 +27,7 @@ fn verdict(rt: &impl Abort, alloc: Global, image: &[u8]) -> String {
 
 /// Reads these lines and those of the case, and compares what is said of them with what comes after the bar.
 fn has_verdict(rt: &impl Abort, alloc: Global, before: &str, case: &str) {
-    let (lines, wanted) = case.split_once('|').expect(rt, "an image and its fault");
+    let (lines, wanted) = parts(rt, case);
     let mut image = Vec::new(alloc);
     push_lines(rt, &mut image, before);
     push_lines(rt, &mut image, lines);

@@ -1,8 +1,9 @@
 //! Images cut short, and records and inventories as long as they may be, and longer.
-use crate::calls::are_answered;
-use crate::images::THREE_ROWS;
-use ipmi_image::{Image, ImageController, ImageFault, image_text};
+use crate::images::{THREE_ROWS, image_is_answered};
+use crate::rewritten::has_text;
+use ipmi_image::{Image, ImageFault};
 use std::alloc::Global;
+use std::fmt::Write;
 use std::process::Abort;
 
 /// Compares the fault of the image, if it has one.
@@ -17,27 +18,31 @@ fn cut_has_fault(rt: &impl Abort, alloc: Global, len: usize, wanted: Option<Imag
     has_fault(rt, alloc, image, wanted);
 }
 
+/// How many bytes the first line of `THREE_ROWS` has, with its line feed.
+const FIRST_LINE: usize = 13;
+
+/// How many bytes `THREE_ROWS` has.
+const WHOLE: usize = 98;
+
 #[test]
 fn an_image_cut_short_has_no_end(rt: HostRuntime) {
-    for len in 0..13 {
+    for len in 0..FIRST_LINE {
         cut_has_fault(&rt, rt.alloc(), len, Some(ImageFault::Header));
     }
-    for len in 13..98 {
+    for len in FIRST_LINE..WHOLE {
         cut_has_fault(&rt, rt.alloc(), len, Some(ImageFault::NoEnd));
     }
-    cut_has_fault(&rt, rt.alloc(), 98, None);
-    assert!(rt; THREE_ROWS.len() == 98);
+    cut_has_fault(&rt, rt.alloc(), WHOLE, None);
+    let len = THREE_ROWS.len();
+    assert!(rt; len == WHOLE, "{len} bytes");
 }
 
 /// An image of a record that has its fifth byte and so many after it, as that byte says.
 fn has_record_of(rt: &impl Abort, alloc: Global, after: u8, wanted: Option<ImageFault>) {
-    let mut image = format!(in alloc; "ipmi-image 1\nsdr 0001 ffff 010051c0{after:02x}").expect(
-        rt, "memory",
-    );
-    for _ in 0..after {
-        image.push_str("00").expect(rt, "memory");
-    }
-    image.push_str("\nend\n").expect(rt, "memory");
+    let bytes = "00".repeat(alloc, usize::from(after)).expect(rt, "memory");
+    let image = format!(in alloc;
+        "ipmi-image 1\nsdr 0001 ffff 010051c0{after:02x}{bytes}\nend\n"
+    ).expect(rt, "memory");
     has_fault(rt, alloc, image.as_bytes(), wanted);
 }
 
@@ -52,66 +57,63 @@ fn a_record_has_256_bytes_at_most(rt: HostRuntime) {
     }
 }
 
-/// Puts bytes of the longest inventory at the end of the image, in hex. Each is its place, modulo 251.
-fn push_bytes(rt: &impl Abort, image: &mut Vec<u8>, from: u32, to: u32) {
+/// Puts bytes of the longest inventory at the end of the text, in hex. Each is its place, modulo 251.
+fn push_bytes(rt: &impl Abort, text: &mut String, from: u32, to: u32) {
     for place in from..to {
-        let mut digits = [0; 2];
-        let _ = hex::encode_to_slice([(place % 251) as u8], &mut digits);
-        image.extend_from_slice(&digits).expect(rt, "memory");
+        let byte = place % 251;
+        write!(text, "{byte:02x}").expect(rt, "memory");
     }
 }
 
 /// An image whose only line is an inventory of 65,535 bytes, and then this text.
-fn full_inventory(rt: &impl Abort, alloc: Global, after: &[u8]) -> Vec<u8> {
-    let mut image = Vec::new(alloc);
-    image
-        .extend_from_slice(b"ipmi-image 1\nfru 00 ")
-        .expect(rt, "memory");
+fn full_inventory(rt: &impl Abort, alloc: Global, after: &str) -> String {
+    let mut image = String::from_str(alloc, "ipmi-image 1\nfru 00 ").expect(rt, "memory");
     push_bytes(rt, &mut image, 0, 65_535);
-    image.extend_from_slice(after).expect(rt, "memory");
+    image.push_str(after).expect(rt, "memory");
     image
 }
 
 #[test]
 fn an_inventory_has_65535_bytes_at_most(rt: HostRuntime) {
-    let image = full_inventory(&rt, rt.alloc(), b"\nend\n");
-    has_fault(&rt, rt.alloc(), &image, None);
-    let image = full_inventory(&rt, rt.alloc(), b"\nfru 00 00\nend\n");
-    has_fault(&rt, rt.alloc(), &image, Some(ImageFault::TooMany(3)));
-    let image = full_inventory(&rt, rt.alloc(), b"00\nend\n");
-    has_fault(&rt, rt.alloc(), &image, Some(ImageFault::TooMany(2)));
+    let image = full_inventory(&rt, rt.alloc(), "\nend\n");
+    has_fault(&rt, rt.alloc(), image.as_bytes(), None);
+    let image = full_inventory(&rt, rt.alloc(), "\nfru 00 00\nend\n");
+    has_fault(
+        &rt,
+        rt.alloc(),
+        image.as_bytes(),
+        Some(ImageFault::TooMany(3)),
+    );
+    let image = full_inventory(&rt, rt.alloc(), "00\nend\n");
+    has_fault(
+        &rt,
+        rt.alloc(),
+        image.as_bytes(),
+        Some(ImageFault::TooMany(2)),
+    );
 }
 
 /// Puts a line of the longest inventory at the end of the text.
-fn push_line(rt: &impl Abort, text: &mut Vec<u8>, from: u32, to: u32) {
-    text.extend_from_slice(b"fru 00 ").expect(rt, "memory");
+fn push_line(rt: &impl Abort, text: &mut String, from: u32, to: u32) {
+    text.push_str("fru 00 ").expect(rt, "memory");
     push_bytes(rt, text, from, to);
-    text.push(b'\n').expect(rt, "memory");
+    text.push_str("\n").expect(rt, "memory");
 }
 
 /// The longest inventory as it is written: lines of 64 bytes, and 63 on the last one.
-fn full_inventory_rewritten(rt: &impl Abort, alloc: Global) -> Vec<u8> {
-    let mut text = Vec::new(alloc);
-    text.extend_from_slice(b"ipmi-image 2\n")
-        .expect(rt, "memory");
+fn full_inventory_rewritten(rt: &impl Abort, alloc: Global) -> String {
+    let mut text = String::from_str(alloc, "ipmi-image 2\n").expect(rt, "memory");
     for line in 0..1_023 {
         push_line(rt, &mut text, 64 * line, 64 * line + 64);
     }
     push_line(rt, &mut text, 65_472, 65_535);
-    text.extend_from_slice(b"end\n").expect(rt, "memory");
+    text.push_str("end\n").expect(rt, "memory");
     text
-}
-
-/// Compares the text of the image with this one.
-fn has_text(rt: &impl Abort, alloc: Global, image: &[u8], wanted: &[u8]) {
-    let image = Image::read(alloc, image).expect(rt, "an image");
-    let text = image_text(alloc, &image).expect(rt, "memory");
-    assert!(rt; text.as_slice() == wanted, "{} bytes", text.len());
 }
 
 #[test]
 fn the_longest_inventory_is_written_again(rt: HostRuntime) {
-    let image = full_inventory(&rt, rt.alloc(), b"\nend\n");
+    let image = full_inventory(&rt, rt.alloc(), "\nend\n");
     let wanted = full_inventory_rewritten(&rt, rt.alloc());
     has_text(&rt, rt.alloc(), &image, &wanted);
     has_text(&rt, rt.alloc(), &wanted, &wanted);
@@ -130,7 +132,6 @@ fru_part 0 0 2|02 0001";
 
 #[test]
 fn the_longest_inventory_is_given_to_its_last_byte(rt: HostRuntime) {
-    let bytes = full_inventory(&rt, rt.alloc(), b"\nend\n");
-    let image = Image::read(rt.alloc(), &bytes).expect(&rt, "an image");
-    are_answered(&rt, &mut ImageController::new(image), LAST_BYTES);
+    let image = full_inventory(&rt, rt.alloc(), "\nend\n");
+    image_is_answered(&rt, rt.alloc(), &image, LAST_BYTES);
 }

@@ -1,5 +1,5 @@
 //! What a scripted controller makes of each call, mood by mood.
-use crate::calls::{are_answered, ask, next_byte};
+use crate::calls::{are_answered, ask, next_byte, parts};
 use crate::images::{ANSWERS, OTHER, SAVED, image};
 use ipmi_bus::Code;
 use ipmi_image::{Mood, Scripted};
@@ -57,8 +57,8 @@ fn is_met(rt: &impl Abort, alloc: Global, mood: &str, call: &str, wanted: &str) 
 
 /// The same for a line of a mood, a call and the answer.
 fn line_is_met(rt: &impl Abort, alloc: Global, line: &str) {
-    let (mood, rest) = line.split_once('|').expect(rt, "a mood and a call");
-    let (call, wanted) = rest.split_once('|').expect(rt, "a call and its answer");
+    let (mood, rest) = parts(rt, line);
+    let (call, wanted) = parts(rt, rest);
     is_met(rt, alloc, mood, call, wanted);
 }
 
@@ -178,7 +178,7 @@ fn is_refusal(code: u8) -> bool {
 
 /// The code is the answer to the call, or the call is answered plainly, as the line has it.
 fn refusal_is_met(rt: &impl Abort, alloc: Global, code: u8, line: &str) {
-    let (call, plain) = line.split_once('|').expect(rt, "a call and its answer");
+    let (call, plain) = parts(rt, line);
     let mood = format!(in alloc; "refuse {code:x}").expect(rt, "memory");
     let refused = format!(in alloc; "code {code:02x}").expect(rt, "memory");
     let wanted = if is_refusal(code) { &refused } else { plain };

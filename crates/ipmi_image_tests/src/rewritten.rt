@@ -5,7 +5,7 @@ use std::alloc::Global;
 use std::process::Abort;
 
 /// Compares the text of the image with this one.
-fn has_text(rt: &impl Abort, alloc: Global, text: &str, wanted: &str) {
+pub fn has_text(rt: &impl Abort, alloc: Global, text: &str, wanted: &str) {
     let bytes = image_text(alloc, &image(rt, alloc, text)).expect(rt, "memory");
     let got = std::str::from_utf8(&bytes).expect(rt, "text");
     assert!(rt; got == wanted, "{text}: got {got}");
@@ -102,12 +102,8 @@ fn lines_are_ordered_by_their_kind(rt: HostRuntime) {
 
 /// An image whose first line of an inventory has 64 bytes, and then this text.
 fn with_64_bytes(rt: &impl Abort, alloc: Global, after: &str) -> String {
-    let mut text = String::from_str(alloc, "ipmi-image 2\nfru 00 ").expect(rt, "memory");
-    for _ in 0..64 {
-        text.push_str("a5").expect(rt, "memory");
-    }
-    text.push_str(after).expect(rt, "memory");
-    text
+    let bytes = "a5".repeat(alloc, 64).expect(rt, "memory");
+    format!(in alloc; "ipmi-image 2\nfru 00 {bytes}{after}").expect(rt, "memory")
 }
 
 // 64 bytes fit on a line; of 65 the last one has a line of its own.

@@ -65,7 +65,7 @@ fn is_printed_when_altered(rt: &impl Abort, alloc: Global, place: usize) {
 #[test]
 fn a_board_that_is_cut_short_has_a_fault(rt: HostRuntime) {
     let board = bytes_of(&rt, rt.alloc(), BOARD);
-    assert!(rt; board.len() == 32);
+    assert!(rt; board.len() == 32, "{} bytes", board.len());
     for len in 0..=32 {
         is_printed_when_cut(&rt, rt.alloc(), &board, len, cut_board(len));
     }
@@ -74,7 +74,7 @@ fn a_board_that_is_cut_short_has_a_fault(rt: HostRuntime) {
 #[test]
 fn a_record_that_is_cut_short_has_a_fault(rt: HostRuntime) {
     let output = bytes_of(&rt, rt.alloc(), OUTPUT);
-    assert!(rt; output.len() == 26);
+    assert!(rt; output.len() == 26, "{} bytes", output.len());
     for len in 0..=26 {
         is_printed_when_cut(&rt, rt.alloc(), &output, len, cut_output(len));
     }

@@ -6,14 +6,7 @@ use std::process::Abort;
 
 /// Inventories with their texts: the bytes area by area or record by record, a line of dashes, and the text. An empty
 /// line comes between two inventories.
-const INVENTORIES: &str = "01000001000000fe0103000100008329dca642123bc441e90042c1000000004d
---
-Board Mfg Date: 1996-01-01 00:01
-Board Mfg: IPMI
-Board Product: 123-
-Board Serial: Aé
-
-01000001000000fe0103000100008329dca642123bc441e90042c1000000004e
+const INVENTORIES: &str = "01000001000000fe0103000100008329dca642123bc441e90042c1000000004e
 --
 Board fault: checksum
 
@@ -45,10 +38,6 @@ Chassis fault: length
 --
 Product Manufacturer: AB
 Product Name: CD
-
-01000000000100fe01820d432d01b0043c003c007800000024f4
---
-DC Output 1: nominal 12 V, negative deviation 0.6 V, positive deviation 0.6 V, ripple 120 mV, current 0 to 62500 mA
 
 01000000000100fe01820d432d01b0043c003c007800000024
 --
@@ -197,7 +186,7 @@ Record fault: header checksum";
 
 /// Asserts the text of an inventory.
 fn is_inventory(rt: &impl Abort, alloc: Global, case: &str) {
-    let (areas, wanted) = case.split_once("\n--\n").expect(rt, "a line of dashes");
+    let (areas, wanted) = case.split_once("\n--\n").expect(rt, case);
     let bytes = bytes_of_lines(rt, alloc, areas);
     is_text_with_end(rt, print_fru(alloc, &bytes), wanted, "\n", case);
 }

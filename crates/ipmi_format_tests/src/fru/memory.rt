@@ -26,7 +26,7 @@ Record 0xc0: 5a
 Record fault: outside
 ";
 
-/// With ample memory the text is whole.
+/// No body is always out of memory: with ample memory the text is whole.
 #[test]
 fn always_out_of_memory(rt: HostRuntime) {
     is_text(&rt, print_fru(rt.alloc(), &MIXED), MIXED_LINES, "mixed");

@@ -55,7 +55,7 @@ fn has_heads(rt: &impl Abort, alloc: Global, digits: &str, wanted: &str) {
 /// Asserts a field of a board.
 fn has_field(rt: &impl Abort, alloc: Global, board: &AreaView<'_>, line: &str) {
     let (place, wanted) = parts(rt, line);
-    let place = place.parse::<usize>().expect(rt, "a place");
+    let place = place.parse::<usize>().expect(rt, line);
     let field = board.field(place);
     is_text(rt, format!(in alloc; "{field:?}"), wanted, line);
 }
@@ -71,7 +71,8 @@ fn lists_fields(rt: &impl Abort, alloc: Global, board: &AreaView<'_>, wanted: &s
         fields.next(),
     ];
     is_text(rt, format!(in alloc; "{first:?}"), wanted, "fields");
-    assert!(rt; first[1] == board.field(1) && first[1] != first[2]);
+    assert!(rt; first[1] == board.field(1), "the second field");
+    assert!(rt; first[1] != first[2], "the second and the third field");
 }
 
 /// Asserts what an inventory's iterator of records gives at each of four calls.

@@ -51,5 +51,6 @@ fn only_the_controller_itself_is_asked(rt: HostRuntime) {
 #[test]
 fn the_inventory_of_a_fru_device_is_asked_for_by_its_id(rt: HostRuntime) {
     let view = SdrView::read(&PSU1).expect(&rt, "a record");
-    assert!(rt; view.fru_of() == Some(1));
+    let device = view.fru_of();
+    assert!(rt; device == Some(1), "got {device:?}");
 }

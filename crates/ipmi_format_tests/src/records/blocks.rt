@@ -1,6 +1,6 @@
 //! Blocks of sensor data records.
 use super::examples::{CPU_TEMP, CPU_TEMP_BLOCK, answer_of, reading_of};
-use crate::cases::{bytes_of, id_of, is_text, is_text_with_end, parts};
+use crate::cases::{bytes_of, id_of, is_text, is_text_with_end, three_parts};
 use ipmi_records::{SdrView, sdr_block};
 use std::alloc::Global;
 use std::process::Abort;
@@ -253,9 +253,8 @@ Lower critical: raw 0x05";
 
 /// Asserts the block of a record.
 fn is_block(rt: &impl Abort, alloc: Global, case: &str) {
-    let (head, wanted) = case.split_once('\n').expect(rt, "a block");
-    let (id, rest) = parts(rt, head);
-    let (answer, digits) = parts(rt, rest);
+    let (head, wanted) = case.split_once('\n').expect(rt, case);
+    let (id, answer, digits) = three_parts(rt, head);
     let bytes = bytes_of(rt, alloc, digits);
     let view = SdrView::read(&bytes).expect(rt, case);
     let block = sdr_block(alloc, id_of(rt, id), &view, answer_of(rt, answer));

@@ -1,6 +1,6 @@
 //! Lines and blocks of the event log's entries, and the block of an info.
 use super::examples::{EVENT, EVENT_BLOCK, INFO, INFO_LINES};
-use crate::cases::{id_of, is_text, is_text_with_end, parts};
+use crate::cases::{id_of, is_text, is_text_with_end, parts, three_parts};
 use hex::FromHex;
 use ipmi_records::{SelView, info_block, sel_block, sel_line};
 use std::alloc::Global;
@@ -66,18 +66,17 @@ Support: 0x80
 
 /// Asserts the line of an entry.
 fn is_line(rt: &impl Abort, alloc: Global, case: &str) {
-    let (id, rest) = parts(rt, case);
-    let (digits, wanted) = parts(rt, rest);
-    let bytes = <[u8; 16]>::from_hex(digits).expect(rt, "16 bytes");
+    let (id, digits, wanted) = three_parts(rt, case);
+    let bytes = <[u8; 16]>::from_hex(digits).expect(rt, case);
     let line = sel_line(alloc, id_of(rt, id), &SelView::read(&bytes));
     is_text_with_end(rt, line, wanted, "\n", case);
 }
 
 /// Asserts the block of an entry.
 fn is_block(rt: &impl Abort, alloc: Global, case: &str) {
-    let (head, wanted) = case.split_once('\n').expect(rt, "a block");
+    let (head, wanted) = case.split_once('\n').expect(rt, case);
     let (id, digits) = parts(rt, head);
-    let bytes = <[u8; 16]>::from_hex(digits).expect(rt, "16 bytes");
+    let bytes = <[u8; 16]>::from_hex(digits).expect(rt, case);
     let block = sel_block(alloc, id_of(rt, id), &SelView::read(&bytes));
     is_text_with_end(rt, block, wanted, "\n\n", case);
 }

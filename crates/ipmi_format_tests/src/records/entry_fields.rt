@@ -25,7 +25,7 @@ fn data_of<'a>(view: &SelView<'a>) -> &'a [u8] {
 /// Asserts what each entry has, whatever its type.
 fn has_fields(rt: &impl Abort, alloc: Global, line: &str) {
     let (digits, wanted) = parts(rt, line);
-    let bytes = <[u8; 16]>::from_hex(digits).expect(rt, "16 bytes");
+    let bytes = <[u8; 16]>::from_hex(digits).expect(rt, line);
     let view = SelView::read(&bytes);
     let id = view.id();
     let entry_type = view.entry_type();
@@ -37,7 +37,7 @@ fn has_fields(rt: &impl Abort, alloc: Global, line: &str) {
 /// Asserts the bytes of an entry.
 fn has_bytes(rt: &impl Abort, alloc: Global, line: &str) {
     let (digits, _) = parts(rt, line);
-    let bytes = <[u8; 16]>::from_hex(digits).expect(rt, "16 bytes");
+    let bytes = <[u8; 16]>::from_hex(digits).expect(rt, line);
     let view = SelView::read(&bytes);
     is_text(rt, hex::encode(alloc, view.bytes()), digits, line);
 }
@@ -46,7 +46,7 @@ fn has_bytes(rt: &impl Abort, alloc: Global, line: &str) {
 fn event_of<'a>(rt: &impl Abort, bytes: &'a [u8; 16]) -> EventEntry<'a> {
     match SelView::read(bytes) {
         SelView::Event(event) => event,
-        _ => panic!(rt; "no event"),
+        _ => panic!(rt; "no event: {bytes:?}"),
     }
 }
 
@@ -54,7 +54,7 @@ fn event_of<'a>(rt: &impl Abort, bytes: &'a [u8; 16]) -> EventEntry<'a> {
 fn oem_entry_of<'a>(rt: &impl Abort, bytes: &'a [u8; 16]) -> OemTimedEntry<'a> {
     match SelView::read(bytes) {
         SelView::OemTimed(entry) => entry,
-        _ => panic!(rt; "no OEM entry with a time"),
+        _ => panic!(rt; "no OEM entry with a time: {bytes:?}"),
     }
 }
 
@@ -95,7 +95,8 @@ fn an_event_has_its_numbers(rt: HostRuntime) {
 
 #[test]
 fn an_event_with_bit_7_clear_is_asserted(rt: HostRuntime) {
-    assert!(rt; !event_of(&rt, &EVENT).is_deasserted());
+    let event = event_of(&rt, &EVENT);
+    assert!(rt; !event.is_deasserted(), "{event:?}");
 }
 
 #[test]

@@ -88,7 +88,7 @@ pub(super) fn answer_of(rt: &impl Abort, digits: &str) -> Option<Reading> {
     if digits == "none" {
         return None;
     }
-    let bytes = <[u8; 4]>::from_hex(digits).expect(rt, "four bytes");
+    let bytes = <[u8; 4]>::from_hex(digits).expect(rt, digits);
     Some(reading_of(bytes))
 }
 
@@ -100,8 +100,8 @@ fn set_byte(rt: &impl Abort, record: &mut [u8; 56], place: usize, value: u8) {
 
 /// Makes a change such as `14=6f` to a record: byte 14 gets the value 6Fh.
 fn change(rt: &impl Abort, record: &mut [u8; 56], change: &str) {
-    let (place, value) = change.split_once('=').expect(rt, "a change");
-    let place = place.parse::<usize>().expect(rt, "a place");
+    let (place, value) = change.split_once('=').expect(rt, change);
+    let place = place.parse::<usize>().expect(rt, change);
     set_byte(rt, record, place, byte_of(rt, value));
 }
 

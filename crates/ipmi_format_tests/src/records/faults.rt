@@ -1,6 +1,6 @@
 //! Bytes that are no record, and the kinds of records: by their type, their length, and what their header says of it.
 use super::examples::{CPU_TEMP, with_byte};
-use crate::cases::{byte_of, bytes_of, parts};
+use crate::cases::{byte_of, bytes_of, parts, three_parts};
 use ipmi_records::{SdrFault, SdrView};
 use std::alloc::Global;
 use std::process::Abort;
@@ -83,9 +83,8 @@ fn cut_record(len: usize) -> &'static str {
 
 /// Asserts the kind of a record of the least length, and that one byte less is too few.
 fn has_least_length(rt: &impl Abort, line: &str) {
-    let (kind, rest) = parts(rt, line);
-    let (least, wanted) = parts(rt, rest);
-    let least = least.parse::<u8>().expect(rt, "a length");
+    let (kind, least, wanted) = three_parts(rt, line);
+    let least = least.parse::<u8>().expect(rt, line);
     let record = with_byte(rt, CPU_TEMP, 4, byte_of(rt, kind));
     is_kind_of_len(rt, record, least, wanted);
     if least > 5 {

@@ -197,7 +197,7 @@ fn has_id_string(rt: &impl Abort, alloc: Global, case: &str) {
 fn fru_locator_of<'a>(rt: &impl Abort, bytes: &'a [u8]) -> FruLocator<'a> {
     match SdrView::read(bytes) {
         Ok(SdrView::Fru(fru)) => fru,
-        _ => panic!(rt; "no FRU device locator"),
+        _ => panic!(rt; "no FRU device locator: {bytes:?}"),
     }
 }
 

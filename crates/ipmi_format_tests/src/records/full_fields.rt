@@ -11,7 +11,7 @@ const CHANGES: &str = "7=fe,10=83,21=81,23=18,24=8c,26=80,27=02,28=40,30=7f,40=1
 fn full_of<'a>(rt: &impl Abort, bytes: &'a [u8]) -> FullSensor<'a> {
     match SdrView::read(bytes) {
         Ok(SdrView::Full(full)) => full,
-        _ => panic!(rt; "no full record"),
+        _ => panic!(rt; "no full record: {bytes:?}"),
     }
 }
 

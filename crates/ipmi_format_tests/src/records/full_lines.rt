@@ -1,6 +1,6 @@
 //! Lines of a full record: each case of the reading column, each bit of the status, and the factors.
 use super::examples::{answer_of, changed};
-use crate::cases::{is_text_with_end, parts};
+use crate::cases::{is_text_with_end, three_parts};
 use ipmi_records::{SdrView, sdr_line};
 use std::alloc::Global;
 use std::process::Abort;
@@ -91,8 +91,7 @@ const LINES: &str = "|none|CPU Temp         | no reading        | ns
 
 /// Asserts the line of the full record with changes.
 fn is_line(rt: &impl Abort, alloc: Global, case: &str) {
-    let (changes, rest) = parts(rt, case);
-    let (answer, wanted) = parts(rt, rest);
+    let (changes, answer, wanted) = three_parts(rt, case);
     let bytes = changed(rt, changes);
     let view = SdrView::read(&bytes).expect(rt, case);
     let line = sdr_line(alloc, &view, answer_of(rt, answer));

@@ -57,7 +57,7 @@ fn is_name_or_refused(rt: &impl Abort, name: Result<Option<String>, AllocError>)
     }
 }
 
-/// With ample memory each of them answers with its text.
+/// None of them is always out of memory: with ample memory each answers with its text.
 #[test]
 fn always_out_of_memory(rt: HostRuntime) {
     let view = SdrView::read(&CPU_TEMP).expect(&rt, "a record");

@@ -62,7 +62,7 @@ const FACTORS: &str = "0 0 -512 -512 -8 -8|in range
 /// Asserts the decimal of a number.
 fn is_decimal(rt: &impl Abort, alloc: Global, line: &str) {
     let (units, wanted) = parts(rt, line);
-    let units = units.parse::<i128>().expect(rt, "a number");
+    let units = units.parse::<i128>().expect(rt, line);
     is_text(rt, fixed_text(alloc, Fixed(units)), wanted, line);
 }
 
@@ -108,7 +108,7 @@ fn reading_text(alloc: Global, factors: &Factors, raw: u8) -> Result<String, All
 fn is_reading(rt: &impl Abort, alloc: Global, line: &str) {
     let (words, wanted) = parts(rt, line);
     let mut words = words.split_whitespace();
-    let factors = factors_of(rt, &mut words).expect(rt, "factors");
+    let factors = factors_of(rt, &mut words).expect(rt, line);
     let raw = next_number::<u8>(rt, &mut words);
     is_text(rt, reading_text(alloc, &factors, raw), wanted, line);
 }

@@ -1,5 +1,5 @@
 //! The texts of fields: of an inventory by their code and language, and of a record by their type/length byte.
-use crate::cases::{byte_of, bytes_of, is_text, parts};
+use crate::cases::{byte_of, bytes_of, is_text, three_parts};
 use ipmi_text::{fru_text, sdr_text};
 use std::alloc::Global;
 use std::process::Abort;
@@ -114,11 +114,10 @@ e3|414243|ABC";
 
 /// Asserts the text of a field of an inventory.
 fn is_fru_field(rt: &impl Abort, alloc: Global, line: &str) {
-    let (head, rest) = parts(rt, line);
-    let (digits, wanted) = parts(rt, rest);
-    let (code, language) = head.split_at_checked(2).expect(rt, "code and language");
+    let (head, digits, wanted) = three_parts(rt, line);
+    let (code, language) = head.split_at_checked(2).expect(rt, line);
     let code = byte_of(rt, code);
-    assert!(rt; code < 4);
+    assert!(rt; code < 4, "{line}: code {code}");
     let bytes = bytes_of(rt, alloc, digits);
     let text = fru_text(alloc, code, byte_of(rt, language), &bytes);
     is_text(rt, text, wanted, line);
@@ -126,8 +125,7 @@ fn is_fru_field(rt: &impl Abort, alloc: Global, line: &str) {
 
 /// Asserts the text of an ID string.
 fn is_id_string(rt: &impl Abort, alloc: Global, line: &str) {
-    let (type_length, rest) = parts(rt, line);
-    let (digits, wanted) = parts(rt, rest);
+    let (type_length, digits, wanted) = three_parts(rt, line);
     let bytes = bytes_of(rt, alloc, digits);
     let text = sdr_text(alloc, byte_of(rt, type_length), &bytes);
     is_text(rt, text, wanted, line);

@@ -129,7 +129,7 @@ fn is_chassis_type(rt: &impl Abort, alloc: Global, line: &str) {
 /// Asserts the text of an event.
 fn is_event(rt: &impl Abort, alloc: Global, line: &str) {
     let (bytes, wanted) = parts(rt, line);
-    let (event, data) = bytes.split_at_checked(2).expect(rt, "two bytes");
+    let (event, data) = bytes.split_at_checked(2).expect(rt, line);
     let text = event_text(alloc, byte_of(rt, event), byte_of(rt, data));
     is_text(rt, text, wanted, line);
 }

@@ -54,15 +54,15 @@ const MINUTES: &str = "0|unspecified
 /// Asserts the text of a time in seconds.
 fn is_time_of_seconds(rt: &impl Abort, alloc: Global, line: &str) {
     let (seconds, wanted) = parts(rt, line);
-    let seconds = seconds.parse::<u32>().expect(rt, "seconds");
+    let seconds = seconds.parse::<u32>().expect(rt, line);
     is_text(rt, utc_text(alloc, seconds), wanted, line);
 }
 
 /// Asserts the text of a time in minutes.
 fn is_time_of_minutes(rt: &impl Abort, alloc: Global, line: &str) {
     let (minutes, wanted) = parts(rt, line);
-    let minutes = minutes.parse::<u32>().expect(rt, "minutes");
-    assert!(rt; minutes <= 0xff_ffff);
+    let minutes = minutes.parse::<u32>().expect(rt, line);
+    assert!(rt; minutes <= 0xff_ffff, "{line}: too many");
     is_text(rt, minutes_text(alloc, minutes), wanted, line);
 }
 

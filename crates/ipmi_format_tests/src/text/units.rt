@@ -57,7 +57,7 @@ c01900|unit 0x19";
 /// Asserts the text of a unit.
 fn is_unit(rt: &impl Abort, alloc: Global, line: &str) {
     let (digits, wanted) = parts(rt, line);
-    let [units1, base, modifier] = <[u8; 3]>::from_hex(digits).expect(rt, "three bytes");
+    let [units1, base, modifier] = <[u8; 3]>::from_hex(digits).expect(rt, line);
     is_text(rt, unit_text(alloc, units1, base, modifier), wanted, line);
 }
 
