@@ -38,12 +38,10 @@ pub enum UsageFault {
     /// The options and words cannot be told apart.
     #[error("the command line cannot be read")]
     Line,
-    /// The words name no command, or what should be a number among them is none, or is out of
-    /// range.
+    /// The words name no command, or what should be a number among them is none, or is out of range.
     #[error("no such command")]
     Command,
-    /// The value of an option is malformed or out of range, or the command does not take the
-    /// option.
+    /// The value of an option is malformed or out of range, or the command does not take the option.
     #[error("an option that does not fit")]
     Option,
 }
@@ -58,8 +56,7 @@ impl From<AllocError> for UsageFault {
     }
 }
 
-/// What a command line asks for. Its numbers are in their ranges, and it has an id to start from
-/// only where its task takes one.
+/// What a command line asks for. Its numbers are in their ranges, and it has an id to start from only where its task takes one.
 #[derive(Debug, Drop)]
 pub struct Command {
     task: Task,
@@ -80,8 +77,7 @@ impl Model for Command {
 }
 
 impl Command {
-    /// A command. The numbers have to be in their ranges, and the task has to take `from`, if there
-    /// is one.
+    /// A command. The numbers have to be in their ranges, and the task has to take `from`, if there is one.
     pub fn new(task: Task, from: Option<u16>, part: u8, tries: u8, image: Option<Word>) -> Command
         requires { IsCommand task from part }
         ensures { result ≡ record {
@@ -134,8 +130,7 @@ impl Command {
         self.tries
     }
 
-    /// Whether it is a listing of a shelf that no count and no name limits, so that it can be done
-    /// in pages.
+    /// Whether it is a listing of a shelf that no count and no name limits, so that it can be done in pages.
     pub fn is_listing(&self) -> bool
         ensures { result ≡ is_listing self.now.task }
     {
@@ -157,8 +152,7 @@ fn is_stray(task: &Task, from: Option<u16>) -> bool
     from.is_some() && !task.takes_from()
 }
 
-/// The id that the text of `--from` names: four hex digits, neither `0000` nor `FFFF`; None where
-/// the option is not given.
+/// The id that the text of `--from` names: four hex digits, neither `0000` nor `FFFF`; None where the option is not given.
 fn start_of_text(text: Option<&str>) -> Result<Option<u16>, UsageFault>
     ensures value { let meant = start_of_text (option_map (λ t. t.now) text.entry) in
         MatchResult result (λ from. meant ≡ Some from) (λ e. (e ≡ UsageFault.Option) × (meant ≡ None)) }
@@ -226,8 +220,7 @@ fn command_of_matches(alloc: Global, matches: &ArgMatches<'_>) -> Result<Command
     }
 }
 
-/// The command that the words mean, or why they mean none; `Memory` may come in place of either.
-/// The first word is the program's name.
+/// The command that the words mean, or why they mean none; `Memory` may come in place of either. The first word is the program's name.
 pub fn command_of(alloc: Global, words: &Words) -> Result<Command, UsageFault>
     requires { 0 < length words.now }
     ensures { MatchResult result (λ c. meaning_of words.now ≡ Ok c)

@@ -89,8 +89,7 @@ impl Task {
         }
     }
 
-    /// Where its listing begins: at its own id, where it has one; otherwise at the id that is given, or at the first
-    /// record.
+    /// Where its listing begins: at its own id, where it has one; otherwise at the id that is given, or at the first record.
     pub fn start(&self, from: Option<u16>) -> Place
         ensures { result ≡ start_by self.now from }
     {
@@ -145,8 +144,7 @@ impl Task {
         }
     }
 
-    /// Whether it is a listing of a shelf that no count and no name limits, so that it can be done
-    /// in pages.
+    /// Whether it is a listing of a shelf that no count and no name limits, so that it can be done in pages.
     pub fn is_listing(&self) -> bool
         ensures { result ≡ is_listing self.now }
     {

@@ -17,8 +17,7 @@ fn is_absent(ended: FruEnded) -> bool
     ended == FruEnded::Refused(Code::NOT_PRESENT)
 }
 
-/// The text for an inventory that was not read: `not present` where the controller has none. For
-/// any other reason the run stops.
+/// The text for an inventory that was not read: `not present` where the controller has none. For any other reason the run stops.
 fn unread_text(alloc: Global, id: u8, ended: FruEnded) -> Result<String, Stop>
     ensures unwritten { IfErr result (λ stop. faults_of stop ≡ 0) }
     ensures read { (tries : ℕ) (s s' : Seen) → ReadsInventory id tries s s' (Err ended) →

@@ -93,8 +93,7 @@ fn print_inventories<C: Controller, O: Sink>(
     if !first.is_done() {
         return first;
     }
-    let page = list_page(alloc, ctl, cmd, first_place(cmd), None, out);
-    page.stop
+    list_page(alloc, ctl, cmd, first_place(cmd), None, out).stop
 }
 
 /// Lists the records that the command asks for, where that takes one walk.
@@ -107,8 +106,7 @@ fn list_once<C: Controller, O: Sink>(alloc: Global, ctl: &mut C, cmd: &Command, 
         (change (C.seen ctl.old) (C.seen ctl.new) (O.taken out.old) (O.taken out.new)) result }
 {
     let most = cmd.task().count().limit();
-    let page = list_page(alloc, ctl, cmd, first_place(cmd), most, out);
-    page.stop
+    list_page(alloc, ctl, cmd, first_place(cmd), most, out).stop
 }
 
 /// Does what the command's task asks for.

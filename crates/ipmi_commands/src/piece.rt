@@ -226,8 +226,7 @@ fn record_piece<C: Controller>(
     }
 }
 
-/// What the command prints for the record, or nothing where it is still to be passed: `passing`
-/// says how many are, and None that all are.
+/// What the command prints for the record, or nothing where it is still to be passed: `passing` says how many are, and None that all are.
 pub(crate) fn piece_in<C: Controller>(
     alloc: Global,
     ctl: &mut C,
