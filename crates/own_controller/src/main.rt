@@ -56,7 +56,7 @@ fn copy_part(bytes: &[u8], offset: usize, into: &mut [u8]) -> Result<u8, Code>
     ensures rest { IfOk result (λ got. drop got into.new ≡ drop got into.old) }
     ensures err { OnErr result (into.new ≡ into.old) }
 {
-    let rest = bytes.get(offset..).ok_or(Code(0xC9))?;
+    let rest = bytes.get(offset..).ok_or(Code::OUT_OF_RANGE)?;
     let got = rest.len().min(into.len()).min(MOST);
     into[..got].copy_from_slice(&rest[..got]);
     Ok(got as u8)
