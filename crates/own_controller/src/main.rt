@@ -9,6 +9,7 @@ ghost use Rattle.ipmi_bus.specs.Unclaimed.{calls_only};
 
 use ipmi_bus::{Code, Controller, Event, FruSize, Part, Shelf, Tally, read_fru};
 use ipmi_command_line::{Command, Kind, Task};
+use ipmi_commands::status::WRITE_FAULT;
 use ipmi_fru::FruView;
 use ipmi_output::Written;
 use ipmi_text::{Reading, fru_text};
@@ -27,6 +28,12 @@ const INVENTORY: &[u8] =
 
 /// The most bytes that one answer has.
 const MOST: usize = 8;
+
+/// How many bytes a request asks for.
+const PART: u8 = 32;
+
+/// How many troubles each record, reading or inventory may meet.
+const TRIES: u8 = 5;
 
 /// The controller, which counts its calls and claims nothing else.
 #[derive(Drop)]
@@ -128,7 +135,7 @@ impl Controller for Board {
 
 /// The serial number of the board of device 0: the third field of its board area.
 fn board_serial<C: Controller>(alloc: Global, ctl: &mut C) -> Option<String> {
-    let bytes = read_fru(alloc, ctl, 0, 32, 5).ok()?;
+    let bytes = read_fru(alloc, ctl, 0, PART, TRIES).ok()?;
     let board = FruView::read(&bytes).ok()?.board()?.ok()?;
     let language = *board.head().first()?;
     let serial = board.field(2)?;
@@ -140,12 +147,12 @@ fn main(rt: HostRuntime) -> std::process::ExitCode {
         tally: Tally::new(),
         turn: 0,
     };
-    let command = Command::new(Task::List(Kind::All), None, 32, 5, None);
+    let command = Command::new(Task::List(Kind::All), None, PART, TRIES, None);
     let mut out = Written::new(std::io::writer(&rt));
     let status = ipmi_commands::run(rt.alloc(), &mut ctl, &command, &mut out, &mut rt.stderr());
     if let Some(serial) = board_serial(rt.alloc(), &mut ctl) {
         if println!(rt; "Board serial: {serial}").is_err() {
-            return 4.into();
+            return WRITE_FAULT.into();
         }
     }
     status.into()

@@ -33,23 +33,23 @@ impl Env for Called<'_> {
 #[test]
 fn the_program_has_its_name_where_it_is_called_without_a_word(rt: HostRuntime) -> Result<(), Fail> {
     let words = words_of(&(Called(&[]), rt.alloc()))?;
-    assert_eq!(rt; words.as_slice().len(), 1);
-    assert_eq!(rt; words.as_slice()[0].as_str(), "ipmitool");
+    assert_eq!(rt; words.as_slice().len(), 1, "no word");
+    assert_eq!(rt; words.as_slice()[0].as_str(), "ipmitool", "no word");
     Ok(())
 }
 
 #[test]
 fn the_words_are_those_of_the_call(rt: HostRuntime) -> Result<(), Fail> {
     let words = words_of(&(Called(&[b"", b"sdr", b"hex"]), rt.alloc()))?;
-    assert_eq!(rt; words.as_slice().len(), 3);
-    assert_eq!(rt; words.as_slice()[0].as_str(), "");
-    assert_eq!(rt; words.as_slice()[1].as_str(), "sdr");
-    assert_eq!(rt; words.as_slice()[2].as_str(), "hex");
+    assert_eq!(rt; words.as_slice().len(), 3, "an empty name, and two words");
+    assert_eq!(rt; words.as_slice()[0].as_str(), "", "the name");
+    assert_eq!(rt; words.as_slice()[1].as_str(), "sdr", "the first word");
+    assert_eq!(rt; words.as_slice()[2].as_str(), "hex", "the second word");
     Ok(())
 }
 
 #[test]
 fn a_word_that_is_no_text_is_a_fault_of_the_line(rt: HostRuntime) {
     let words = words_of(&(Called(&[b"ipmitool", b"sdr", b"\xFFhex"]), rt.alloc()));
-    assert_eq!(rt; words.err(), Some(UsageFault::Line));
+    assert_eq!(rt; words.err(), Some(UsageFault::Line), "FFh before hex");
 }
