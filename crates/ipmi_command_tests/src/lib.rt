@@ -4,6 +4,8 @@
 #[cfg(test)]
 mod bus;
 #[cfg(test)]
+mod cases;
+#[cfg(test)]
 mod command_line;
 #[cfg(test)]
 mod commands;

@@ -1,6 +1,7 @@
-//! Writers that fall short or are slow, and a comparison of what was written.
+//! A writer that falls short or is slow, and a comparison of what was written.
 ghost use Rattle.std.specs.Prelude.{◌≤◌, IfOk, length};
 
+use std::alloc::Global;
 use std::io::{Error, ErrorKind, Result, Write};
 use std::process::Abort;
 
@@ -20,86 +21,56 @@ fn take_first(got: &mut Vec<u8>, bytes: &[u8], most: usize) -> Result<usize>
     Ok(count)
 }
 
-/// Takes so many bytes in all, and then fails.
+/// Takes so many bytes a call at most, and so many in all; then it fails, or takes none.
 #[derive(Drop)]
 pub struct Limited {
     pub got: Vec<u8>,
-    pub room: usize,
+    room: usize,
+    most: usize,
+    fails: bool,
+}
+
+impl Limited {
+    /// Takes so many bytes in all, and then fails.
+    pub fn failing_after(alloc: Global, room: usize) -> Limited {
+        Limited {
+            got: Vec::new(alloc),
+            room,
+            most: usize::MAX,
+            fails: true,
+        }
+    }
+
+    /// Takes so many bytes in all, and then none.
+    pub fn full_after(alloc: Global, room: usize) -> Limited {
+        Limited {
+            got: Vec::new(alloc),
+            room,
+            most: usize::MAX,
+            fails: false,
+        }
+    }
+
+    /// Takes so many bytes a call at most.
+    pub fn slow(alloc: Global, most: usize) -> Limited {
+        Limited {
+            got: Vec::new(alloc),
+            room: usize::MAX,
+            most,
+            fails: false,
+        }
+    }
 }
 
 impl Write for Limited {
     fn write(&mut self, buf: &[u8]) -> Result<usize> {
-        if self.room == 0 {
+        if self.fails && self.room == 0 {
             return Err(Error::from(ErrorKind::Other));
         }
-        let count = take_first(&mut self.got, buf, self.room)?;
+        let offered = buf.get(..self.most).unwrap_or(buf);
+        let count = take_first(&mut self.got, offered, self.room)?;
         self.room -= count;
         Ok(count)
-    }
-
-    fn flush(&mut self) -> Result<()> {
-        Ok(())
-    }
-}
-
-/// Takes so many bytes in all, and then none.
-#[derive(Drop)]
-pub struct Full {
-    pub got: Vec<u8>,
-    pub room: usize,
-}
-
-impl Write for Full {
-    fn write(&mut self, buf: &[u8]) -> Result<usize> {
-        let count = take_first(&mut self.got, buf, self.room)?;
-        self.room -= count;
-        Ok(count)
-    }
-
-    fn flush(&mut self) -> Result<()> {
-        Ok(())
-    }
-}
-
-/// Takes at most one byte a call.
-#[derive(Drop)]
-pub struct Narrow {
-    pub got: Vec<u8>,
-}
-
-impl Write for Narrow {
-    fn write(&mut self, buf: &[u8]) -> Result<usize> {
-        take_first(&mut self.got, buf, 1)
-    }
-
-    fn flush(&mut self) -> Result<()> {
-        Ok(())
-    }
-}
-
-/// Takes at most three bytes a call.
-#[derive(Drop)]
-pub struct Slow {
-    pub got: Vec<u8>,
-}
-
-impl Write for Slow {
-    fn write(&mut self, buf: &[u8]) -> Result<usize> {
-        take_first(&mut self.got, buf, 3)
-    }
-
-    fn flush(&mut self) -> Result<()> {
-        Ok(())
-    }
-}
-
-/// Takes nothing, and never fails.
-#[derive(Drop)]
-pub struct Idle;
-
-impl Write for Idle {
-    fn write(&mut self, _buf: &[u8]) -> Result<usize> {
-        Ok(0)
     }
 
     fn flush(&mut self) -> Result<()> {

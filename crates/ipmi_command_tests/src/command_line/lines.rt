@@ -45,7 +45,7 @@ pub(crate) fn read_words(
 
 /// The command that these words are, which are split at spaces.
 pub(crate) fn command(rt: &impl Abort, alloc: Global, line: &str) -> Command {
-    read_line(rt, alloc, line).expect(rt, "a command")
+    read_line(rt, alloc, line).expect(rt, line)
 }
 
 /// The command that these words are, which are split at commas where there is one, and else at spaces.
@@ -53,5 +53,5 @@ pub(crate) fn command_of_case(rt: &impl Abort, alloc: Global, line: &str) -> Com
     if line.find(',').is_none() {
         return command(rt, alloc, line);
     }
-    read_words(rt, alloc, line).expect(rt, "a command")
+    read_words(rt, alloc, line).expect(rt, line)
 }

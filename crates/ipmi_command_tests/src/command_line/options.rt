@@ -1,5 +1,6 @@
 //! The options of a command line, and what a command gives of what it was made of.
 use super::lines::command;
+use crate::cases::parts;
 use ipmi_command_line::{Command, Task, Word};
 use std::alloc::Global;
 use std::process::Abort;
@@ -54,7 +55,7 @@ pub(super) fn is_task(rt: &impl Abort, alloc: Global, command: &Command, task: &
 
 /// Asserts that a line is `sdr hex` with options: those after its bar.
 fn is_hex(rt: &impl Abort, alloc: Global, case: &str) {
-    let (words, options) = case.split_once('|').expect(rt, "a bar");
+    let (words, options) = parts(rt, case);
     is_command(rt, alloc, &command(rt, alloc, words), "Hex", options, case);
 }
 
@@ -105,7 +106,7 @@ const STARTS: &str = "--from 0002|Hex
 
 /// Asserts that a line is this task with a start at 2, and no other option.
 fn starts_at_two(rt: &impl Abort, alloc: Global, case: &str) {
-    let (words, task) = case.split_once('|').expect(rt, "a bar");
+    let (words, task) = parts(rt, case);
     let command = command(rt, alloc, words);
     is_command(rt, alloc, &command, task, "Some(2) 32 5 -", case);
 }

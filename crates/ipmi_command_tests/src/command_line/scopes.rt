@@ -1,6 +1,7 @@
 //! What each command goes along: its shelf, where it begins, how many records it asks for, after how many it stops, whether
 //! it takes a start, and whether it can be done in pages.
 use super::lines::command;
+use crate::cases::parts;
 use std::alloc::Global;
 use std::process::Abort;
 
@@ -21,7 +22,7 @@ fn scope_text(rt: &impl Abort, alloc: Global, words: &str) -> String {
 
 /// Asserts that the command before the bar goes along what is after it.
 fn has_scope(rt: &impl Abort, alloc: Global, case: &str) {
-    let (words, wanted) = case.split_once('|').expect(rt, "words and a scope");
+    let (words, wanted) = parts(rt, case);
     let got = scope_text(rt, alloc, words);
     assert!(rt; got.as_str() == wanted, "{case}: got {got}");
 }

@@ -1,12 +1,13 @@
 //! The task that the words of a command line name.
 use super::lines::{command, read_words};
 use super::options::is_task;
+use crate::cases::parts;
 use std::alloc::Global;
 use std::process::Abort;
 
 /// Asserts that the words of a line, before its bar, are this task with no option.
 fn is_plain(rt: &impl Abort, alloc: Global, case: &str) {
-    let (words, task) = case.split_once('|').expect(rt, "a bar");
+    let (words, task) = parts(rt, case);
     is_task(rt, alloc, &command(rt, alloc, words), task, case);
 }
 
@@ -75,7 +76,7 @@ sdr,get,--,--part|Get(--part)";
 
 /// Asserts that the words of a line, which are split at commas, are this task with no option.
 fn is_plain_with_name(rt: &impl Abort, alloc: Global, case: &str) {
-    let (words, task) = case.split_once('|').expect(rt, "a bar");
+    let (words, task) = parts(rt, case);
     let command = read_words(rt, alloc, words).expect(rt, "a command");
     is_task(rt, alloc, &command, task, case);
 }
@@ -152,7 +153,7 @@ image rewrite|false";
 
 /// Asserts whether the words of a line are a listing.
 fn is_listing(rt: &impl Abort, alloc: Global, case: &str) {
-    let (words, wanted) = case.split_once('|').expect(rt, "a bar");
+    let (words, wanted) = parts(rt, case);
     let is_listing = command(rt, alloc, words).is_listing();
     assert!(rt; is_listing == (wanted == "true"), "{case}");
 }

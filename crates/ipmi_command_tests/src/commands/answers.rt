@@ -1,6 +1,7 @@
 //! What the answer to a command line leaves over the bytes of an image, and how it is compared with what is wanted.
 use super::left::text_of;
 use super::saved::THREE_ROWS;
+use crate::cases::first_line;
 use crate::command_line::lines::{command, read_line};
 use ipmi_command_line::{Command, UsageFault};
 use ipmi_commands::answer;
@@ -77,14 +78,14 @@ pub(crate) fn is_usage(
 
 /// Asserts what the answer to these words leaves. The case is an image, a line of dashes, and what is left.
 fn is_answered_over(rt: &impl Abort, alloc: Global, words: &str, case: &str) {
-    let (image, wanted) = case.split_once("--\n").expect(rt, "a line of dashes");
+    let (image, wanted) = case.split_once("--\n").expect(rt, case);
     let line = Ok(command(rt, alloc, words));
     is_answered(rt, alloc, &line, image.as_bytes(), wanted, case);
 }
 
 /// Asserts what the words in the first line of the case leave over this image: the rest of the case.
 pub(super) fn words_are_answered(rt: &impl Abort, alloc: Global, image: &str, case: &str) {
-    let (words, wanted) = case.split_once('\n').expect(rt, "a line of words");
+    let (words, wanted) = first_line(rt, case);
     let line = read_line(rt, alloc, words);
     is_answered(rt, alloc, &line, image.as_bytes(), wanted, case);
 }

@@ -2,6 +2,7 @@
 use super::left::{is_left, left_by};
 use super::over_images::interrupting;
 use super::saved::image_named;
+use crate::cases::{case_of, number};
 use crate::command_line::lines::command_of_case;
 use std::alloc::Global;
 use std::process::Abort;
@@ -9,13 +10,11 @@ use std::process::Abort;
 /// Asserts what a command leaves over an image where one call is answered CBh. The first line of the case is the words,
 /// the name of the image and the number of the call, with bars between them; the other lines are what is left.
 fn is_left_without(rt: &impl Abort, alloc: Global, case: &str) {
-    let (first, wanted) = case.split_once('\n').expect(rt, "a first line");
-    let (words, rest) = first.split_once('|').expect(rt, "words");
-    let (name, call) = rest.split_once('|').expect(rt, "an image and a call");
-    let call = call.parse::<u32>().expect(rt, "a number");
-    let mut ctl = interrupting(rt, alloc, image_named(rt, name), call, 0xCB);
-    let left = left_by(alloc, &mut ctl, &command_of_case(rt, alloc, words));
-    is_left(rt, alloc, &left, wanted, first);
+    let case = case_of(rt, case);
+    let call = number(rt, case.more);
+    let mut ctl = interrupting(rt, alloc, image_named(rt, case.image), call, 0xCB);
+    let left = left_by(alloc, &mut ctl, &command_of_case(rt, alloc, case.words));
+    is_left(rt, alloc, &left, case.wanted, case.line);
 }
 
 /// The same for each of these cases.

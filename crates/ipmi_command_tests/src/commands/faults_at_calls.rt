@@ -1,8 +1,10 @@
 //! A fault at each call of a command: a busy or a cancelled call that is outlived, one too many of them, a refusal, and
 //! a part that is too long.
 use super::left::{Left, is_left, left_by};
+use super::outputs::{INFO, INVENTORIES, INVENTORY, LOCATOR_BLOCK, NEWEST, SENSOR_BLOCK};
 use super::over_images::scripted;
 use super::saved::image_named;
+use crate::cases::{number, parts};
 use crate::command_line::lines::command_of_case;
 use std::alloc::Global;
 use std::process::Abort;
@@ -33,68 +35,14 @@ struct Fault<'a> {
 
 /// What a line of a course says.
 fn fault_of<'a>(rt: &impl Abort, line: &'a str) -> Fault<'a> {
-    let (names, rest) = line.split_once('|').expect(rt, "what is named");
-    let (lines, calls) = rest.split_once('|').expect(rt, "a number of lines");
+    let (names, rest) = parts(rt, line);
+    let (lines, calls) = parts(rt, rest);
     Fault {
         names,
-        lines: lines.parse::<usize>().expect(rt, "a number of lines"),
-        calls: calls.parse::<u32>().expect(rt, "a number of calls"),
+        lines: lines.parse::<usize>().expect(rt, line),
+        calls: number(rt, calls),
     }
 }
-
-const BLOCK: &str = "Record: 0001h
-Type: full
-Name: CPU Temp
-Owner: 20h LUN 0
-Sensor: 01h
-Entity: 3.1
-Kind: Temperature
-Event type: 01h
-Reading: 45 degrees C
-Status: ok
-Upper non-recoverable: 95 degrees C
-Upper critical: 90 degrees C
-Upper non-critical: 85 degrees C
-
-";
-
-const LOCATOR_BLOCK: &str = "Record: 0002h
-Type: FRU locator
-Name: PSU1
-Address: 20h
-Entity: 10.1
-
-";
-
-const INFO: &str = "Version: 0x51
-Records: 3
-Free Space: 1024
-Last Addition: 1987-01-05 18:48:33
-Last Erase: unspecified
-Overflow: no
-Support: 0x02
-";
-
-const NEWEST: &str =
-    "0002 | +536870912 s | Temperature #0x30 | Upper Non-critical going high | Deasserted
-0003 | unspecified | OEM record 0xc0 | 001357 | 010203040506
-";
-
-const INVENTORY: &str = "FRU 0
-Chassis Type: Rack Mount Chassis
-
-";
-
-const INVENTORIES: &str = "FRU 0
-Chassis Type: Rack Mount Chassis
-
-FRU 1 (PSU1)
-FRU fault: header short
-
-FRU 2 (PSU2)
-Chassis fault: outside
-
-";
 
 // A record that is cancelled begins again with a reservation, and its calls so far are made twice. Where a reading or
 // an inventory is cancelled the reservation is lost too, so that the next record begins again after its header.
@@ -110,7 +58,7 @@ const COURSES: [Course<'static>; 10] = [
 0002h|14|9
 0002h|14|10",
         said: "",
-        out: BLOCK,
+        out: SENSOR_BLOCK,
     },
     Course {
         words: "sdr,get,PSU1",

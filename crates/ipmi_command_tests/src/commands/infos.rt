@@ -3,6 +3,7 @@ use super::left::{is_left, left_by};
 use super::over_images::interrupting;
 use super::printed::all_print;
 use super::saved::image_named;
+use crate::cases::first_line;
 use crate::command_line::lines::command;
 use std::alloc::Global;
 use std::process::Abort;
@@ -162,7 +163,7 @@ fn an_info_is_asked_for_until_it_comes(rt: HostRuntime) {
 /// Asserts what is left by a request for the log's info that is answered a code. The first line of the case is the code
 /// in hex, and the other lines are what is left.
 fn is_left_after(rt: &impl Abort, alloc: Global, case: &str) {
-    let (digits, wanted) = case.split_once('\n').expect(rt, "a code");
+    let (digits, wanted) = first_line(rt, case);
     let code = u8::from_str_radix(digits, 16).expect(rt, "a code in hex");
     let mut ctl = interrupting(rt, alloc, image_named(rt, "log"), 1, code);
     let left = left_by(alloc, &mut ctl, &command(rt, alloc, "--tries 0 sel"));

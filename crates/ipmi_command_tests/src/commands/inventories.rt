@@ -3,13 +3,14 @@ use super::left::is_left;
 use super::over_images::left_over;
 use super::printed::all_print;
 use super::saved::EMPTY;
+use crate::cases::first_line;
 use std::alloc::Global;
 use std::process::Abort;
 
 /// Asserts what is printed of device 0's inventory after two calls. The first line of the case is its bytes in hex, and
 /// the other lines are its text.
 fn is_printed(rt: &impl Abort, alloc: Global, case: &str) {
-    let (hex, text) = case.split_once('\n').expect(rt, "bytes");
+    let (hex, text) = first_line(rt, case);
     let image = format!(in alloc; "ipmi-image 1\nfru 00 {hex}\nend\n").expect(rt, "memory");
     let wanted = format!(in alloc; "0 2\n--\nFRU 0\n{text}\n").expect(rt, "memory");
     let left = left_over(rt, alloc, "fru print 0", image.as_str());

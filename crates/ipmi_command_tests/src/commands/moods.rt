@@ -2,6 +2,7 @@
 use super::left::{Left, has_numbers, left_by};
 use super::over_images::scripted;
 use super::saved::{CHANGED_LINES, THREE_LINES, THREE_ROWS};
+use crate::cases::parts;
 use crate::command_line::lines::command;
 use std::alloc::Global;
 use std::process::Abort;
@@ -28,8 +29,8 @@ fn is_left_of(rt: &impl Abort, alloc: Global, left: &Left, lines: &str, wanted: 
 
 /// Asserts what a listing leaves of these lines: the case has tries, moods, numbers and a message with bars between them.
 fn lists(rt: &impl Abort, alloc: Global, lines: &str, case: &str) {
-    let (tries, rest) = case.split_once('|').expect(rt, "tries");
-    let (moods, wanted) = rest.split_once('|').expect(rt, "moods");
+    let (tries, rest) = parts(rt, case);
+    let (moods, wanted) = parts(rt, rest);
     let left = met(rt, alloc, tries, moods);
     is_left_of(rt, alloc, &left, lines, wanted, case);
 }

@@ -3,6 +3,7 @@ use super::answers::{USAGE, is_answered, words_are_answered};
 use super::left::{is_left, left_by};
 use super::over_images::over;
 use super::saved::THREE_ROWS;
+use crate::cases::first_line;
 use crate::command_line::lines::{command, read_line};
 use ipmi_command_line::{Command, UsageFault};
 use std::alloc::Global;
@@ -10,7 +11,7 @@ use std::process::Abort;
 
 /// Asserts what the words in the first line of a case leave over three records: the rest of the case.
 fn leaves(rt: &impl Abort, alloc: Global, case: &str) {
-    let (words, wanted) = case.split_once('\n').expect(rt, "a line of words");
+    let (words, wanted) = first_line(rt, case);
     let mut ctl = over(rt, alloc, THREE_ROWS);
     let left = left_by(alloc, &mut ctl, &command(rt, alloc, words));
     is_left(rt, alloc, &left, wanted, words);

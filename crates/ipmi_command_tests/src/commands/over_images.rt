@@ -30,8 +30,16 @@ pub(crate) fn interrupting(
     Counting::interrupting(ctl, call, code)
 }
 
-/// The mood that a letter means. A dot grants all, `1` one byte; `N` changes the second record, and `E` leaves none.
-fn mood(rt: &impl Abort, alloc: Global, letter: u8) -> Mood {
+/// Two images, the second of which a controller over the first changes to.
+#[derive(Clone, Copy)]
+pub(crate) struct Two<'a> {
+    pub first: &'a str,
+    pub second: &'a str,
+}
+
+/// The mood that a letter means. A dot grants all, `1` one byte; `x` changes to the second image and `y` to the first, `N`
+/// changes the second of three records, and `E` leaves none.
+fn mood(rt: &impl Abort, alloc: Global, images: Two<'_>, letter: u8) -> Mood {
     match letter {
         b'.' => Mood::Grant(254),
         b'1' => Mood::Grant(1),
@@ -39,6 +47,8 @@ fn mood(rt: &impl Abort, alloc: Global, letter: u8) -> Mood {
         b'C' => Mood::Cancel,
         b'L' => Mood::TooLong,
         b'R' => Mood::Refuse(Code(0xD4)),
+        b'x' => Mood::Change(image_of(rt, alloc, images.second)),
+        b'y' => Mood::Change(image_of(rt, alloc, images.first)),
         b'N' => Mood::Change(image_of(rt, alloc, CHANGED_ROWS)),
         b'E' => Mood::Change(image_of(rt, alloc, EMPTY)),
         _ => panic!(rt; "{letter} is no mood"),
@@ -46,25 +56,39 @@ fn mood(rt: &impl Abort, alloc: Global, letter: u8) -> Mood {
 }
 
 /// Puts the mood of a letter at the end.
-fn push(rt: &impl Abort, alloc: Global, moods: &mut Vec<Mood>, letter: u8) {
+fn push(rt: &impl Abort, alloc: Global, moods: &mut Vec<Mood>, images: Two<'_>, letter: u8) {
     moods
-        .push(mood(rt, alloc, letter))
+        .push(mood(rt, alloc, images, letter))
         .ok()
         .expect(rt, "memory");
 }
 
-/// A controller over the image whose calls meet the moods of these letters, and then none.
+/// A controller over the first image whose calls meet the moods of these letters, and then none.
+pub(crate) fn changing(
+    rt: &impl Abort,
+    alloc: Global,
+    images: Two<'_>,
+    letters: &str,
+) -> Counting<Scripted> {
+    let mut moods = Vec::new(alloc);
+    for letter in letters.as_bytes() {
+        push(rt, alloc, &mut moods, images, *letter);
+    }
+    Counting::new(Scripted::new(image_of(rt, alloc, images.first), moods))
+}
+
+/// The same over one image.
 pub(crate) fn scripted(
     rt: &impl Abort,
     alloc: Global,
     image: &str,
     letters: &str,
 ) -> Counting<Scripted> {
-    let mut moods = Vec::new(alloc);
-    for letter in letters.as_bytes() {
-        push(rt, alloc, &mut moods, *letter);
-    }
-    Counting::new(Scripted::new(image_of(rt, alloc, image), moods))
+    let images = Two {
+        first: image,
+        second: image,
+    };
+    changing(rt, alloc, images, letters)
 }
 
 /// What a command leaves over the image.

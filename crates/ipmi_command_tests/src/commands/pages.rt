@@ -5,8 +5,10 @@ ghost use Rattle.ipmi_command_line.specs.Task.{is_listing};
 use super::left::{Left, is_left};
 use super::over_images::{over, scripted};
 use super::saved::{THREE_LINES, THREE_ROWS, image_named};
+use crate::cases::{case_of, number};
 use crate::command_line::lines::command;
 use crate::controllers::Counting;
+use crate::writers::is_written;
 use ipmi_bus::Controller;
 use ipmi_command_line::{Command, Task};
 use ipmi_commands::run_pages;
@@ -38,8 +40,7 @@ fn left_in_pages<C: Controller + Drop>(
 
 /// Puts a size of pages at the end.
 fn push_size(rt: &impl Abort, pages: &mut Vec<u32>, size: &str) {
-    let size = size.parse::<u32>().expect(rt, "a size");
-    pages.push(size).expect(rt, "memory");
+    pages.push(number(rt, size)).expect(rt, "memory");
 }
 
 /// The sizes of pages in a text, which is split at spaces.
@@ -71,11 +72,9 @@ fn leaves_in_pages<C: Controller + Drop>(
 /// Asserts what a listing leaves over an image in pages. The first line of the case is the words, the name of the image
 /// and the sizes; the other lines are what is left.
 fn lists_in_pages(rt: &impl Abort, alloc: Global, case: &str) {
-    let (first, wanted) = case.split_once('\n').expect(rt, "a first line");
-    let (words, rest) = first.split_once('|').expect(rt, "words");
-    let (name, pages) = rest.split_once('|').expect(rt, "an image and sizes");
-    let ctl = over(rt, alloc, image_named(rt, name));
-    leaves_in_pages(rt, alloc, ctl, words, pages, wanted);
+    let case = case_of(rt, case);
+    let ctl = over(rt, alloc, image_named(rt, case.image));
+    leaves_in_pages(rt, alloc, ctl, case.words, case.more, case.wanted);
 }
 
 /// The same for each of these cases.
@@ -210,9 +209,9 @@ fn three_in_pages(alloc: Global) -> Result<Left, ImageFault> {
 
 /// Asserts that all is left.
 fn is_whole(rt: &impl Abort, left: &Left) {
-    assert!(rt; left.status == 0);
-    assert!(rt; left.out.as_slice() == THREE_LINES.as_bytes());
-    assert!(rt; left.err.is_empty());
+    assert!(rt; left.status == 0, "status {}", left.status);
+    is_written(rt, &left.out, THREE_LINES);
+    is_written(rt, &left.err, "");
 }
 
 #[test]
@@ -225,10 +224,11 @@ fn always_out_of_memory(rt: HostRuntime) {
 fn is_whole_or_refused(rt: &impl Abort, left: &Left) {
     match left.status {
         0 => is_whole(rt, left),
-        4 => assert!(rt; left.err.as_slice() == b"write fault\n".as_slice()),
+        4 => is_written(rt, &left.err, "write fault\n"),
         5 => {
-            assert!(rt; matches!(left.out.len(), 0 | 27 | 56));
-            assert!(rt; left.err.as_slice() == b"out of memory\n".as_slice());
+            let len = left.out.len();
+            assert!(rt; matches!(len, 0 | 27 | 56), "{len} bytes");
+            is_written(rt, &left.err, "out of memory\n");
         }
         status => panic!(rt; "status {status}"),
     }

@@ -3,6 +3,7 @@ use super::left::left_by;
 use super::over_images::over;
 use super::saved::image_named;
 use crate::bus::listings::is_done;
+use crate::cases::{case_of, number};
 use crate::command_line::lines::command;
 use std::alloc::Global;
 use std::process::Abort;
@@ -17,8 +18,8 @@ fn lists_in_parts(
     part: &str,
     lines: &str,
 ) {
-    let (size, calls) = part.split_once(':').expect(rt, "a colon");
-    let calls = calls.parse::<u32>().expect(rt, "a number of calls");
+    let (size, calls) = part.split_once(':').expect(rt, part);
+    let calls = number(rt, calls);
     let words = format!(in alloc; "--part {size} {words}").expect(rt, "memory");
     let mut ctl = over(rt, alloc, image);
     let left = left_by(alloc, &mut ctl, &command(rt, alloc, words.as_str()));
@@ -42,10 +43,9 @@ fn lists_in_all_parts(
 /// The same for a case: its first line is the words, the name of the image and the parts, and the other lines are those that
 /// are left.
 fn lists(rt: &impl Abort, alloc: Global, case: &str) {
-    let (first, lines) = case.split_once('\n').expect(rt, "a first line");
-    let (words, rest) = first.split_once('|').expect(rt, "words");
-    let (name, parts) = rest.split_once('|').expect(rt, "an image and parts");
-    lists_in_all_parts(rt, alloc, words, image_named(rt, name), parts, lines);
+    let case = case_of(rt, case);
+    let image = image_named(rt, case.image);
+    lists_in_all_parts(rt, alloc, case.words, image, case.more, case.wanted);
 }
 
 /// The same for each of these cases.

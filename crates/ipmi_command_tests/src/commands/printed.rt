@@ -2,6 +2,7 @@
 use super::left::{is_left, left_by};
 use super::over_images::scripted;
 use super::saved::image_named;
+use crate::cases::case_of;
 use crate::command_line::lines::command_of_case;
 use std::alloc::Global;
 use std::process::Abort;
@@ -9,12 +10,10 @@ use std::process::Abort;
 /// Asserts what a command leaves over an image. The first line of the case is the words, the name of the image and the
 /// moods that the calls meet, with bars between them; the other lines are what is left.
 fn prints(rt: &impl Abort, alloc: Global, case: &str) {
-    let (first, wanted) = case.split_once('\n').expect(rt, "a first line");
-    let (words, rest) = first.split_once('|').expect(rt, "words");
-    let (name, moods) = rest.split_once('|').expect(rt, "an image and moods");
-    let mut ctl = scripted(rt, alloc, image_named(rt, name), moods);
-    let left = left_by(alloc, &mut ctl, &command_of_case(rt, alloc, words));
-    is_left(rt, alloc, &left, wanted, first);
+    let case = case_of(rt, case);
+    let mut ctl = scripted(rt, alloc, image_named(rt, case.image), case.more);
+    let left = left_by(alloc, &mut ctl, &command_of_case(rt, alloc, case.words));
+    is_left(rt, alloc, &left, case.wanted, case.line);
 }
 
 /// The same for each of these cases.

@@ -3,6 +3,7 @@
 use super::answers::words_are_answered;
 use super::left::is_left;
 use super::over_images::left_over;
+use crate::cases::first_line;
 use std::alloc::Global;
 use std::process::Abort;
 
@@ -31,7 +32,7 @@ fn is_left_of_sensor(rt: &impl Abort, alloc: Global, words: &str, len: usize, wa
     let image = cut_sensor(rt, alloc, len);
     let left = left_over(rt, alloc, words, image.as_str());
     let calls = left.calls;
-    let (status, rest) = wanted.split_once('\n').expect(rt, "a status");
+    let (status, rest) = first_line(rt, wanted);
     let wanted = format!(in alloc; "{status} {calls}\n{rest}").expect(rt, "memory");
     let case = format!(in alloc; "{words}: {len} bytes").expect(rt, "memory");
     is_left(rt, alloc, &left, wanted.as_str(), case.as_str());

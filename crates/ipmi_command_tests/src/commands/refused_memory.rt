@@ -1,6 +1,8 @@
 //! Commands whose requests for memory are refused: they have written whole pieces, and nothing more.
 use super::answers::{Answered, left_by_answer};
+use super::outputs::{INFO, INVENTORIES, INVENTORY, NEWEST, SENSOR_BLOCK};
 use super::saved::image_named;
+use crate::writers::is_written;
 use ipmi_bus::Shelf;
 use ipmi_command_line::{Command, Count, Task, UsageFault, Word};
 use std::alloc::{AllocError, Global};
@@ -15,22 +17,6 @@ struct Printed {
     end: &'static str,
 }
 
-const BLOCK: &str = "Record: 0001h
-Type: full
-Name: CPU Temp
-Owner: 20h LUN 0
-Sensor: 01h
-Entity: 3.1
-Kind: Temperature
-Event type: 01h
-Reading: 45 degrees C
-Status: ok
-Upper non-recoverable: 95 degrees C
-Upper critical: 90 degrees C
-Upper non-critical: 85 degrees C
-
-";
-
 /// `sdr get "CPU Temp"`.
 fn get_command(alloc: Global) -> Result<Command, AllocError> {
     let name = Word::new(alloc, "CPU Temp")?;
@@ -41,19 +27,10 @@ fn block(alloc: Global) -> Printed {
     Printed {
         command: get_command(alloc).ok().ok_or(UsageFault::Memory),
         image: "sensor",
-        text: BLOCK,
-        end: BLOCK,
+        text: SENSOR_BLOCK,
+        end: SENSOR_BLOCK,
     }
 }
-
-const INFO: &str = "Version: 0x51
-Records: 3
-Free Space: 1024
-Last Addition: 1987-01-05 18:48:33
-Last Erase: unspecified
-Overflow: no
-Support: 0x02
-";
 
 fn info() -> Printed {
     Printed {
@@ -63,11 +40,6 @@ fn info() -> Printed {
         end: INFO,
     }
 }
-
-const NEWEST: &str =
-    "0002 | +536870912 s | Temperature #0x30 | Upper Non-critical going high | Deasserted
-0003 | unspecified | OEM record 0xc0 | 001357 | 010203040506
-";
 
 fn newest() -> Printed {
     let task = Task::SelList(Count::Last(2));
@@ -79,11 +51,6 @@ fn newest() -> Printed {
     }
 }
 
-const INVENTORY: &str = "FRU 0
-Chassis Type: Rack Mount Chassis
-
-";
-
 fn inventory() -> Printed {
     Printed {
         command: Ok(Command::new(Task::Fru(Some(0)), None, 32, 5, None)),
@@ -92,17 +59,6 @@ fn inventory() -> Printed {
         end: INVENTORY,
     }
 }
-
-const INVENTORIES: &str = "FRU 0
-Chassis Type: Rack Mount Chassis
-
-FRU 1 (PSU1)
-FRU fault: header short
-
-FRU 2 (PSU2)
-Chassis fault: outside
-
-";
 
 fn inventories() -> Printed {
     Printed {
@@ -122,13 +78,13 @@ fn left_of(rt: &impl Abort, alloc: Global, printed: &Printed) -> Answered {
 /// Asserts that all is left.
 fn is_whole(rt: &impl Abort, left: &Answered, printed: &Printed) {
     assert!(rt; left.status == 0, "{}: status", printed.image);
-    assert!(rt; left.out.as_slice() == printed.text.as_bytes());
+    is_written(rt, &left.out, printed.text);
     assert!(rt; left.err.is_empty(), "{}: message", printed.image);
 }
 
 /// Asserts that whole pieces are left, and that memory is said to be wanted.
 fn is_out_of_memory(rt: &impl Abort, left: &Answered, printed: &Printed) {
-    assert!(rt; left.err.as_slice() == b"out of memory\n".as_slice());
+    is_written(rt, &left.err, "out of memory\n");
     let is_of_pieces = left.out.is_empty() || left.out.ends_with(printed.end.as_bytes());
     assert!(rt; is_of_pieces, "{}: a piece", printed.image);
 }
@@ -137,9 +93,9 @@ fn is_out_of_memory(rt: &impl Abort, left: &Answered, printed: &Printed) {
 fn is_whole_or_refused(rt: &impl Abort, left: &Answered, printed: &Printed) {
     match left.status {
         0 => is_whole(rt, left, printed),
-        4 => assert!(rt; left.err.as_slice() == b"write fault\n".as_slice()),
+        4 => is_written(rt, &left.err, "write fault\n"),
         5 => is_out_of_memory(rt, left, printed),
-        status => panic!(rt; "status {status}"),
+        status => panic!(rt; "{}: status {status}", printed.image),
     }
     assert!(rt;
         printed.text.as_bytes().starts_with(&left.out),

@@ -1,4 +1,5 @@
 //! Saved images that the tests share, each with a name.
+use crate::cases::first_line;
 use std::process::Abort;
 
 /// Three records, of 27, 29 and 25 bytes as lines.
@@ -291,7 +292,7 @@ end
 
 /// The text of an image that has this name, and nothing where it has another.
 fn text_if_named<'a>(rt: &impl Abort, image: &'a str, name: &str) -> Option<&'a str> {
-    let (first, text) = image.split_once('\n').expect(rt, "a name");
+    let (first, text) = first_line(rt, image);
     if first == name { Some(text) } else { None }
 }
 

@@ -1,9 +1,10 @@
 //! Outputs that fail or take few bytes, and messages to writers that do.
 use super::answers::{Answered, is_answer};
+use super::outputs::{INFO, INVENTORIES, INVENTORY, NEWEST, SENSOR_BLOCK};
 use super::over_images::image_of;
 use super::saved::{THREE_LINES, TO_NOWHERE, image_named};
 use crate::command_line::lines::{command, command_of_case};
-use crate::writers::{Full, Limited, Narrow, Slow};
+use crate::writers::Limited;
 use ipmi_commands::{answer, run_to_message_sink};
 use ipmi_image::ImageController;
 use ipmi_output::{MessageSink, Sink, Written};
@@ -44,8 +45,7 @@ fn is_cut(rt: &impl Abort, alloc: Global, left: &Answered, printed: &Printed, ro
 
 /// Asserts what the words leave in an output that takes so many bytes, and then fails.
 fn is_cut_where_it_fails(rt: &impl Abort, alloc: Global, printed: &Printed, room: usize) {
-    let got = Vec::new(alloc);
-    let mut out = Written::new(Limited { got, room });
+    let mut out = Written::new(Limited::failing_after(alloc, room));
     let mut err = Vec::new(alloc);
     let image = image_named(rt, printed.image);
     let status = answer_words(rt, alloc, printed.words, image, &mut out, &mut err);
@@ -55,8 +55,7 @@ fn is_cut_where_it_fails(rt: &impl Abort, alloc: Global, printed: &Printed, room
 
 /// Asserts what the words leave in an output that takes so many bytes, and then none.
 fn is_cut_where_it_is_full(rt: &impl Abort, alloc: Global, printed: &Printed, room: usize) {
-    let got = Vec::new(alloc);
-    let mut out = Written::new(Full { got, room });
+    let mut out = Written::new(Limited::full_after(alloc, room));
     let mut err = Vec::new(alloc);
     let image = image_named(rt, printed.image);
     let status = answer_words(rt, alloc, printed.words, image, &mut out, &mut err);
@@ -73,21 +72,7 @@ const PRINTED: [Printed<'static>; 10] = [
     Printed {
         words: "sdr,get,CPU Temp",
         image: "sensor and locator",
-        text: "Record: 0001h
-Type: full
-Name: CPU Temp
-Owner: 20h LUN 0
-Sensor: 01h
-Entity: 3.1
-Kind: Temperature
-Event type: 01h
-Reading: 45 degrees C
-Status: ok
-Upper non-recoverable: 95 degrees C
-Upper critical: 90 degrees C
-Upper non-critical: 85 degrees C
-
-",
+        text: SENSOR_BLOCK,
     },
     Printed {
         words: "sdr get PSU1",
@@ -109,55 +94,27 @@ Entity: 10.2
     Printed {
         words: "sdr info",
         image: "infos",
-        text: "Version: 0x51
-Records: 3
-Free Space: 1024
-Last Addition: 1987-01-05 18:48:33
-Last Erase: unspecified
-Overflow: no
-Support: 0x02
-",
+        text: INFO,
     },
     Printed {
         words: "sel",
         image: "log",
-        text: "Version: 0x51
-Records: 3
-Free Space: 1024
-Last Addition: 1987-01-05 18:48:33
-Last Erase: unspecified
-Overflow: no
-Support: 0x02
-",
+        text: INFO,
     },
     Printed {
         words: "sel list last 2",
         image: "log",
-        text: "0002 | +536870912 s | Temperature #0x30 | Upper Non-critical going high | Deasserted
-0003 | unspecified | OEM record 0xc0 | 001357 | 010203040506
-",
+        text: NEWEST,
     },
     Printed {
         words: "fru print 0",
         image: "inventory",
-        text: "FRU 0
-Chassis Type: Rack Mount Chassis
-
-",
+        text: INVENTORY,
     },
     Printed {
         words: "fru",
         image: "two locators",
-        text: "FRU 0
-Chassis Type: Rack Mount Chassis
-
-FRU 1 (PSU1)
-FRU fault: header short
-
-FRU 2 (PSU2)
-Chassis fault: outside
-
-",
+        text: INVENTORIES,
     },
     Printed {
         words: "fru print",
@@ -203,8 +160,7 @@ fn an_output_keeps_what_was_taken_before_its_fault(rt: HostRuntime) {
 
 /// Asserts what is left in an output that takes one byte a call.
 fn is_whole_by_bytes(rt: &impl Abort, alloc: Global, printed: &Printed) {
-    let got = Vec::new(alloc);
-    let mut out = Written::new(Narrow { got });
+    let mut out = Written::new(Limited::slow(alloc, 1));
     let mut err = Vec::new(alloc);
     let image = image_named(rt, printed.image);
     let status = answer_words(rt, alloc, printed.words, image, &mut out, &mut err);
@@ -223,8 +179,7 @@ fn an_output_may_take_one_byte_a_call(rt: HostRuntime) {
 #[test]
 fn a_fault_of_the_messages_changes_nothing(rt: HostRuntime) {
     let mut out = Written::new(Vec::new(rt.alloc()));
-    let got = Vec::new(rt.alloc());
-    let mut err = Limited { got, room: 0 };
+    let mut err = Limited::failing_after(rt.alloc(), 0);
     let status = answer_words(&rt, rt.alloc(), "sdr hex", TO_NOWHERE, &mut out, &mut err);
     let out = out.into_inner();
     let left = Answered {
@@ -241,8 +196,7 @@ fn left_with_slow_messages(rt: &impl Abort, alloc: Global) -> Answered {
     let hex = command(rt, alloc, "sdr hex");
     let mut ctl = ImageController::new(image_of(rt, alloc, TO_NOWHERE));
     let mut out = Written::new(Vec::new(alloc));
-    let got = Vec::new(alloc);
-    let mut err = Written::new(Slow { got });
+    let mut err = Written::new(Limited::slow(alloc, 3));
     let status = run_to_message_sink(alloc, &mut ctl, &hex, &mut out, &mut err);
     let out = out.into_inner();
     let err = err.into_inner().got;

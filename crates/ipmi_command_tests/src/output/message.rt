@@ -1,5 +1,5 @@
 //! The line of each message, and what writers that fall short hold of one.
-use crate::writers::{Full, Idle, Limited, Slow, is_written};
+use crate::writers::{Limited, is_written};
 use ipmi_bus::{Code, Ended, FruEnded};
 use ipmi_image::ImageFault;
 use ipmi_output::{Message, MessageSink, SinkFault, Written, say, write_message};
@@ -207,10 +207,7 @@ fn a_line_comes_after_the_last_one(rt: HostRuntime) {
 
 /// Writes the message where only this many bytes are taken.
 fn is_cut_short(rt: &impl Abort, alloc: Global, case: &Case, room: usize) {
-    let mut err = Limited {
-        got: Vec::new(alloc),
-        room,
-    };
+    let mut err = Limited::failing_after(alloc, room);
     let result = write_message(&mut err, case.message);
     assert!(rt; result == Err(SinkFault), "{room} bytes of {}", case.line);
     is_written(
@@ -237,23 +234,20 @@ fn a_writer_that_fails_holds_a_first_part_of_the_line(rt: HostRuntime) {
 
 #[test]
 fn a_slow_writer_gets_the_whole_line(rt: HostRuntime) {
-    let mut err = Slow {
-        got: Vec::new(rt.alloc()),
-    };
+    let mut err = Limited::slow(rt.alloc(), 3);
     assert!(rt; write_message(&mut err, REFUSED.message) == Ok(()));
     is_written(&rt, &err.got, REFUSED.line);
 }
 
 #[test]
 fn a_writer_that_takes_nothing_is_at_fault(rt: HostRuntime) {
-    assert!(rt; write_message(&mut Idle, REFUSED.message) == Err(SinkFault));
+    let mut err = Limited::full_after(rt.alloc(), 0);
+    assert!(rt; write_message(&mut err, REFUSED.message) == Err(SinkFault));
 }
 
 #[test]
 fn a_sink_takes_messages_too(rt: HostRuntime) {
-    let mut err = Written::new(Slow {
-        got: Vec::new(rt.alloc()),
-    });
+    let mut err = Written::new(Limited::slow(rt.alloc(), 3));
     assert!(rt; write_message(&mut err, TWICE.message) == Ok(()));
     assert!(rt; err.offer(b"record") == Ok(3));
     is_written(&rt, &err.into_inner().got, "image line 107: twice\nrec");
@@ -261,10 +255,7 @@ fn a_sink_takes_messages_too(rt: HostRuntime) {
 
 #[test]
 fn a_full_sink_keeps_the_first_bytes(rt: HostRuntime) {
-    let mut err = Written::new(Full {
-        got: Vec::new(rt.alloc()),
-        room: 10,
-    });
+    let mut err = Written::new(Limited::full_after(rt.alloc(), 10));
     assert!(rt; write_message(&mut err, TWICE.message) == Err(SinkFault));
     assert!(rt; err.offer(b"record") == Ok(0));
     is_written(&rt, &err.into_inner().got, "image line");

@@ -1,14 +1,12 @@
 //! Writers as sinks: what one call takes, and whole texts.
-use crate::writers::{Idle, Limited, Slow, is_written};
+use crate::writers::{Limited, is_written};
 use ipmi_output::{Sink, SinkFault, Written, write_all};
 
 const LINE: &str = "sdr 0001 0002 010051c001aa\n";
 
 #[test]
 fn one_call_takes_what_the_writer_takes(rt: HostRuntime) {
-    let mut out = Written::new(Slow {
-        got: Vec::new(rt.alloc()),
-    });
+    let mut out = Written::new(Limited::slow(rt.alloc(), 3));
     assert!(rt; out.write(LINE.as_bytes()) == Ok(3));
     is_written(&rt, &out.into_inner().got, "sdr");
 }
@@ -24,26 +22,21 @@ fn a_vector_gets_all_bytes_after_its_own(rt: HostRuntime) {
 
 #[test]
 fn a_slow_writer_gets_all_bytes(rt: HostRuntime) {
-    let mut out = Written::new(Slow {
-        got: Vec::new(rt.alloc()),
-    });
+    let mut out = Written::new(Limited::slow(rt.alloc(), 3));
     assert!(rt; write_all(&mut out, LINE.as_bytes()) == Ok(()));
     is_written(&rt, &out.into_inner().got, LINE);
 }
 
 #[test]
 fn a_writer_that_fails_keeps_what_it_took(rt: HostRuntime) {
-    let mut out = Written::new(Limited {
-        got: Vec::new(rt.alloc()),
-        room: 10,
-    });
+    let mut out = Written::new(Limited::failing_after(rt.alloc(), 10));
     assert!(rt; write_all(&mut out, LINE.as_bytes()) == Err(SinkFault));
     is_written(&rt, &out.into_inner().got, "sdr 0001 0");
 }
 
 #[test]
 fn a_writer_that_takes_nothing_is_at_fault(rt: HostRuntime) {
-    let mut out = Written::new(Idle);
+    let mut out = Written::new(Limited::full_after(rt.alloc(), 0));
     assert!(rt; out.write(LINE.as_bytes()) == Ok(0));
     assert!(rt; write_all(&mut out, LINE.as_bytes()) == Err(SinkFault));
 }

@@ -1,36 +1,10 @@
 //! Texts that are displayed in another text, or appended to it.
-use crate::cases::{byte_of, is_text, parts};
+use crate::cases::is_text;
 use ipmi_text::{
-    EventWords, Fixed, HexByte, SensorType, Units, UtcTime, push_fixed, push_sdr_text, push_units,
+    EventWords, Fixed, SensorType, Units, UtcTime, push_fixed, push_sdr_text, push_units,
     text_with_room,
 };
 use std::alloc::{AllocError, Global};
-use std::process::Abort;
-
-/// Two hex digits in any case, and how the byte is displayed.
-const BYTES: &str = "00|00
-09|09
-0a|0a
-0F|0f
-10|10
-9C|9c
-a0|a0
-FF|ff";
-
-/// Asserts how a byte is displayed, in room for it and in none.
-fn is_byte(rt: &impl Abort, alloc: Global, line: &str) {
-    let (digits, wanted) = parts(rt, line);
-    let byte = HexByte(byte_of(rt, digits));
-    is_text(rt, text_with_room(alloc, 2, byte), wanted, line);
-    is_text(rt, text_with_room(alloc, 0, byte), wanted, line);
-}
-
-#[test]
-fn a_byte_is_two_hex_digits(rt: HostRuntime) {
-    for line in BYTES.lines() {
-        is_byte(&rt, rt.alloc(), line);
-    }
-}
 
 /// Units by their bytes.
 fn units(units1: u8, base: u8, modifier: u8) -> Units {

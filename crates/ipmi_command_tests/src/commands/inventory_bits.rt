@@ -1,85 +1,18 @@
-//! An inventory of 512 bytes with each bit turned over, or cut short: a text is printed, and names the fault.
-use super::left::is_left;
-use super::over_images::left_over;
+//! A long inventory with each of its bits turned over: the text names the fault where it is, and has the other parts.
+use super::long_inventory::{
+    BOARD, CHASSIS, FIRST, INVENTORY, PRODUCT, SECOND, digits_at, has_parts,
+};
 use std::alloc::Global;
 use std::process::Abort;
 
-/// An image of an inventory of 512 bytes, 32 in a line: a header, a chassis area of 64 bytes, a board area and a
-/// product area of 128 each, and two multirecords of 45 and 139 bytes. No byte is left over.
-const INVENTORY: &str = "ipmi-image 1
-fru 00 01000109192900b3010817d1434841535349532d504152542d30303031d54348
-fru 00 41535349532d53455249414c2d303030303031c65241434b2037c10000000000
-fru 00 0000000000000092011019010000c441434d45ce4d61696e626f617264203930
-fru 00 30308329dca642123b02abcde24649525354204f462054574f20424f41524453
-fru 00 2c20544845205550504552204f4e45c100000000000000000000000000000000
-fru 00 0000000000000000000000000000000000000000000000000000000000000000
-fru 00 00000000000000d0011019c441434d45c6536572766572c3502d31c25632c353
-fru 00 2d33c3412d34c3462d35ea54574f20504f57455220535550504c4945532c2046
-fru 00 4f55522046414e5320414e44204f4e45204c4f434bc100000000000000000000
-fru 00 0000000000000000000000000000000000000000000000000000000000000000
-fru 00 00000000000000c9c00228cc4a0102030405060708090a0b0c0d0e0f10111213
-fru 00 1415161718191a1b1c1d1e1f202122232425262728038286c332013031323334
-fru 00 3536373839303132333435363738393031323334353637383930313233343536
-fru 00 3738393031323334353637383930313233343536373839303132333435363738
-fru 00 3930313233343536373839303132333435363738393031323334353637383930
-fru 00 3132333435363738393031323334353637383930313233343536373839303132
-end
-";
-
-const CHASSIS: &str = "Chassis Type: Rack Mount Chassis
-Chassis Part Number: CHASSIS-PART-0001
-Chassis Serial: CHASSIS-SERIAL-000001
-Chassis Extra: RACK 7
-";
-
-const BOARD: &str = "Board Mfg Date: 1996-01-01 00:01
-Board Mfg: ACME
-Board Product: Mainboard 9000
-Board Serial: IPMI
-Board Part Number: 123-
-Board FRU ID: abcd
-Board Extra: FIRST OF TWO BOARDS, THE UPPER ONE
-";
-
-const PRODUCT: &str = "Product Manufacturer: ACME
-Product Name: Server
-Product Part Number: P-1
-Product Version: V2
-Product Serial: S-3
-Product Asset Tag: A-4
-Product FRU ID: F-5
-Product Extra: TWO POWER SUPPLIES, FOUR FANS AND ONE LOCK
-";
-
-const FIRST: &str =
-    "Record 0xc0: 0102030405060708090a0b0c0d0e0f101112131415161718191a1b1c1d1e1f202122232425262728
-";
-
-const SECOND: &str =
-    "Management Access 0x01: 0123456789012345678901234567890123456789012345678901234567890123456789012345678901234567890123456789012345678901234567890123456789012
-";
-
-const CHASSIS_OUTSIDE: &str = "Chassis fault: outside\n";
-
-const BOARD_OUTSIDE: &str = "Board fault: outside\n";
-
-const PRODUCT_OUTSIDE: &str = "Product fault: outside\n";
-
-const RECORD_OUTSIDE: &str = "Record fault: outside\n";
-
-/// Places in the inventory, or lengths of it, some bits of a byte, and the parts of the text that is printed there.
+/// Places in the inventory, the bits of each byte there that are turned over one at a time, and the parts of the text that
+/// is printed then.
 #[derive(Clone, Copy)]
 struct Damage {
     first: usize,
     last: usize,
     bits: u8,
     parts: [&'static str; 5],
-}
-
-/// Where the digits of the byte at a place are in the image.
-fn digits_at(place: usize) -> usize {
-    let line = 20_usize.saturating_add((place / 32).saturating_mul(72));
-    line.saturating_add((place % 32).saturating_mul(2))
 }
 
 /// The image with these bits of the byte at a place turned over.
@@ -90,37 +23,6 @@ fn turned_image(rt: &impl Abort, alloc: Global, place: usize, bits: u8) -> Strin
     let (digits, after) = rest.split_at_checked(2).expect(rt, "a byte");
     let byte = u8::from_str_radix(digits, 16).expect(rt, "a byte in hex") ^ bits;
     format!(in alloc; "{before}{byte:02x}{after}").expect(rt, "memory")
-}
-
-/// The image of the inventory's first bytes, so many.
-fn cut_image(rt: &impl Abort, alloc: Global, len: usize) -> String {
-    let end = digits_at(len.saturating_sub(1)).saturating_add(2);
-    let rows = INVENTORY.get(..end).expect(rt, "rows");
-    format!(in alloc; "{rows}\nend\n").expect(rt, "memory")
-}
-
-/// One text of all parts.
-fn joined(rt: &impl Abort, alloc: Global, parts: &[&str]) -> String {
-    let mut text = String::new(alloc);
-    for part in parts {
-        text.push_str(*part).expect(rt, "memory");
-    }
-    text
-}
-
-/// Asserts that the inventory is printed with these parts, after a call for its size and one for each 32 bytes.
-fn has_parts(rt: &impl Abort, alloc: Global, image: &str, len: usize, parts: &[&str], case: &str) {
-    let left = left_over(rt, alloc, "fru print 0", image);
-    let calls = len.div_ceil(32).saturating_add(1);
-    let text = joined(rt, alloc, parts);
-    let wanted = format!(in alloc; "0 {calls}\n--\nFRU 0\n{text}\n").expect(rt, "memory");
-    is_left(rt, alloc, &left, wanted.as_str(), case);
-}
-
-#[test]
-fn an_inventory_of_512_bytes_is_printed(rt: HostRuntime) {
-    let parts = [CHASSIS, BOARD, PRODUCT, FIRST, SECOND];
-    has_parts(&rt, rt.alloc(), INVENTORY, 512, &parts, "whole");
 }
 
 /// Asserts what is printed where one bit at a place is turned over.
@@ -366,77 +268,4 @@ const OF_THE_RECORDS: [Damage; 4] = [
 #[test]
 fn a_bit_of_a_multirecord_is_told_and_is_the_last(rt: HostRuntime) {
     all_are_named(&rt, rt.alloc(), &OF_THE_RECORDS);
-}
-
-const CUT_SHORT: [Damage; 7] = [
-    Damage {
-        first: 1,
-        last: 7,
-        bits: 0x00,
-        parts: ["FRU fault: header short\n", "", "", "", ""],
-    },
-    Damage {
-        first: 8,
-        last: 71,
-        bits: 0x00,
-        parts: [
-            CHASSIS_OUTSIDE,
-            BOARD_OUTSIDE,
-            PRODUCT_OUTSIDE,
-            RECORD_OUTSIDE,
-            "",
-        ],
-    },
-    Damage {
-        first: 72,
-        last: 199,
-        bits: 0x00,
-        parts: [CHASSIS, BOARD_OUTSIDE, PRODUCT_OUTSIDE, RECORD_OUTSIDE, ""],
-    },
-    Damage {
-        first: 200,
-        last: 327,
-        bits: 0x00,
-        parts: [CHASSIS, BOARD, PRODUCT_OUTSIDE, RECORD_OUTSIDE, ""],
-    },
-    Damage {
-        first: 328,
-        last: 372,
-        bits: 0x00,
-        parts: [CHASSIS, BOARD, PRODUCT, RECORD_OUTSIDE, ""],
-    },
-    Damage {
-        first: 373,
-        last: 511,
-        bits: 0x00,
-        parts: [CHASSIS, BOARD, PRODUCT, FIRST, RECORD_OUTSIDE],
-    },
-    Damage {
-        first: 512,
-        last: 512,
-        bits: 0x00,
-        parts: [CHASSIS, BOARD, PRODUCT, FIRST, SECOND],
-    },
-];
-
-/// Asserts what is printed of so many bytes.
-fn is_printed_of(rt: &impl Abort, alloc: Global, damage: &Damage, len: usize) {
-    let image = cut_image(rt, alloc, len);
-    let case = format!(in alloc; "{len} bytes").expect(rt, "memory");
-    has_parts(rt, alloc, image.as_str(), len, &damage.parts, case.as_str());
-}
-
-/// The same for each length.
-fn are_printed_of(rt: &impl Abort, alloc: Global, damage: &Damage) {
-    for len in damage.first..=damage.last {
-        is_printed_of(rt, alloc, damage, len);
-    }
-}
-
-// Each area that is not whole is outside, and so is the first record that is not.
-#[test]
-fn an_inventory_cut_short_is_printed_as_far_as_it_goes(rt: HostRuntime) {
-    for damage in &CUT_SHORT {
-        are_printed_of(&rt, rt.alloc(), damage);
-    }
 }

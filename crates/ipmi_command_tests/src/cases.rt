@@ -1,0 +1,46 @@
+//! How cases are written: parts of a line with bars between them, and a first line before what is wanted. A case that is
+//! not written so fails by its own text.
+use std::process::Abort;
+
+/// The parts of a line before and after its first bar.
+pub(crate) fn parts<'a>(rt: &impl Abort, line: &'a str) -> (&'a str, &'a str) {
+    line.split_once('|').expect(rt, line)
+}
+
+/// The first line of a case, and the other ones.
+pub(crate) fn first_line<'a>(rt: &impl Abort, case: &'a str) -> (&'a str, &'a str) {
+    case.split_once('\n').expect(rt, case)
+}
+
+/// The number that a text is.
+pub(crate) fn number(rt: &impl Abort, text: &str) -> u32 {
+    text.parse::<u32>().expect(rt, text)
+}
+
+/// A command over an image, and what is wanted of it.
+#[derive(Clone, Copy)]
+pub(crate) struct Case<'a> {
+    /// The first line, by which a failure names the case.
+    pub line: &'a str,
+    pub words: &'a str,
+    /// The name of the image.
+    pub image: &'a str,
+    /// What else the first line has.
+    pub more: &'a str,
+    pub wanted: &'a str,
+}
+
+/// The case whose first line is words, the name of an image and one part more, with bars between them, and whose other lines
+/// are what is wanted.
+pub(crate) fn case_of<'a>(rt: &impl Abort, case: &'a str) -> Case<'a> {
+    let (line, wanted) = first_line(rt, case);
+    let (words, rest) = parts(rt, line);
+    let (image, more) = parts(rt, rest);
+    Case {
+        line,
+        words,
+        image,
+        more,
+        wanted,
+    }
+}

@@ -1,0 +1,155 @@
+//! Logs that change at a call of a listing: each entry that is printed is one of the log that gave it.
+use super::changing::all_are_left;
+
+const ENTRIES: &str = "sel list last 2|log|another log|x
+0 8
+--
+0002 | OEM record 0xe1 | 02020202020202020202020202
+0003 | OEM record 0xe2 | 03030303030303030303030303
+====
+sel list last 2|log|another log|.x
+0 8
+--
+0002 | OEM record 0xe1 | 02020202020202020202020202
+0003 | OEM record 0xe2 | 03030303030303030303030303
+====
+sel list last 2|log|another log|..x
+0 8
+--
+0002 | OEM record 0xe1 | 02020202020202020202020202
+0003 | OEM record 0xe2 | 03030303030303030303030303
+====
+sel list last 2|log|another log|...x
+0 8
+--
+0002 | OEM record 0xe1 | 02020202020202020202020202
+0003 | OEM record 0xe2 | 03030303030303030303030303
+====
+sel list last 2|log|another log|....x
+0 8
+--
+0002 | OEM record 0xe1 | 02020202020202020202020202
+0003 | OEM record 0xe2 | 03030303030303030303030303
+====
+sel list last 2|log|another log|.....x
+0 8
+--
+0002 | OEM record 0xe1 | 02020202020202020202020202
+0003 | OEM record 0xe2 | 03030303030303030303030303
+====
+sel list last 2|log|another log|......x
+0 8
+--
+0002 | OEM record 0xe1 | 02020202020202020202020202
+0003 | OEM record 0xe2 | 03030303030303030303030303
+====
+sel list last 2|log|another log|.......x
+0 8
+--
+0002 | +536870912 s | Temperature #0x30 | Upper Non-critical going high | Deasserted
+0003 | OEM record 0xe2 | 03030303030303030303030303
+====
+sel list last 2|log|another log|........x
+0 8
+--
+0002 | +536870912 s | Temperature #0x30 | Upper Non-critical going high | Deasserted
+0003 | unspecified | OEM record 0xc0 | 001357 | 010203040506
+====
+sel list last 2|log|another log|......xy
+0 8
+--
+0002 | OEM record 0xe1 | 02020202020202020202020202
+0003 | unspecified | OEM record 0xc0 | 001357 | 010203040506
+====
+sel list last 2|log|another log|.......x.y
+0 8
+--
+0002 | +536870912 s | Temperature #0x30 | Upper Non-critical going high | Deasserted
+0003 | OEM record 0xe2 | 03030303030303030303030303
+";
+
+// The seventh call asks for the second entry and the eighth for the third.
+#[test]
+fn an_entry_is_of_the_log_that_gives_it(rt: HostRuntime) {
+    all_are_left(&rt, rt.alloc(), ENTRIES);
+}
+
+const GROWN: &str = "sel list last 2|log|grown log|...x
+0 10
+--
+0003 | unspecified | OEM record 0xc0 | 001357 | 010203040506
+0004 | OEM record 0xe0 | 04040404040404040404040404
+====
+sel list last 2|log|grown log|....x
+0 9
+--
+0002 | +536870912 s | Temperature #0x30 | Upper Non-critical going high | Deasserted
+0003 | unspecified | OEM record 0xc0 | 001357 | 010203040506
+0004 | OEM record 0xe0 | 04040404040404040404040404
+====
+sel list last 2|log|grown log|.......x
+0 9
+--
+0002 | +536870912 s | Temperature #0x30 | Upper Non-critical going high | Deasserted
+0003 | unspecified | OEM record 0xc0 | 001357 | 010203040506
+0004 | OEM record 0xe0 | 04040404040404040404040404
+====
+sel list last 9|log|grown log|....x
+0 9
+--
+0001 | 1987-01-05 18:48:33 | Temperature #0x30 | Upper Critical going high | Asserted
+0002 | +536870912 s | Temperature #0x30 | Upper Non-critical going high | Deasserted
+0003 | unspecified | OEM record 0xc0 | 001357 | 010203040506
+0004 | OEM record 0xe0 | 04040404040404040404040404
+";
+
+// The fourth call ends the walk that counts. Of four entries two are passed, of three one, and the entry that comes
+// after them is printed too.
+#[test]
+fn entries_that_come_after_the_count_are_printed(rt: HostRuntime) {
+    all_are_left(&rt, rt.alloc(), GROWN);
+}
+
+const CLEARED: &str = "sel list last 2|log|empty|x
+0 2
+--
+====
+sel list last 2|log|empty|.x
+0 2
+--
+====
+sel list last 2|log|empty|..x
+1 3
+record 0002h not present
+--
+====
+sel list last 2|log|empty|...x
+1 4
+record 0003h not present
+--
+====
+sel list last 2|log|empty|....x
+0 6
+--
+====
+sel list last 2|log|empty|.....x
+0 6
+--
+====
+sel list last 2|log|empty|......x
+1 7
+record 0002h not present
+--
+====
+sel list last 2|log|empty|.......x
+1 8
+record 0003h not present
+--
+0002 | +536870912 s | Temperature #0x30 | Upper Non-critical going high | Deasserted
+";
+
+// An empty log has no entry to count, or none to print. Within a walk the next entry is not there.
+#[test]
+fn a_log_may_be_cleared(rt: HostRuntime) {
+    all_are_left(&rt, rt.alloc(), CLEARED);
+}

@@ -1,0 +1,146 @@
+//! Two images that take each other's place, at any two calls of a command: each piece of its output is a whole one of one of
+//! them.
+use super::changing::left_over;
+use super::left::text_of;
+use super::over_images::Two;
+use std::alloc::Global;
+use std::process::Abort;
+
+/// Moods that change to the second image after so many calls, and to the first after so many others.
+fn there_and_back(rt: &impl Abort, alloc: Global, before: u32, between: u32) -> String {
+    let mut letters = String::new(alloc);
+    for _ in 0..before {
+        letters.push_str(".").expect(rt, "memory");
+    }
+    letters.push_str("x").expect(rt, "memory");
+    for _ in 0..between {
+        letters.push_str(".").expect(rt, "memory");
+    }
+    letters.push_str("y").expect(rt, "memory");
+    letters
+}
+
+/// Asserts that each piece of an output, which ends so, is in a text.
+fn are_within(rt: &impl Abort, out: &str, end: &str, texts: &str, case: &str) {
+    for piece in out.split_terminator(end) {
+        assert!(rt; texts.find(piece).is_some(), "{case}: {piece}");
+    }
+    assert!(rt; out.is_empty() || out.ends_with(end), "{case}: end");
+}
+
+/// Words over two images, how each piece of their output ends, and all the pieces that the two images have.
+#[derive(Clone, Copy)]
+struct Pieces<'a> {
+    words: &'a str,
+    two: Two<'a>,
+    end: &'a str,
+    texts: &'a str,
+}
+
+/// Asserts that each piece is a whole one of an image, where it changes after so many calls and back after so many
+/// others.
+fn are_whole(rt: &impl Abort, alloc: Global, pieces: &Pieces, before: u32, between: u32) {
+    let letters = there_and_back(rt, alloc, before, between);
+    let letters = letters.as_str();
+    let left = left_over(rt, alloc, pieces.words, pieces.two, letters);
+    assert!(rt; left.status < 2, "{letters}: status");
+    are_within(
+        rt,
+        text_of(rt, &left.out),
+        pieces.end,
+        pieces.texts,
+        letters,
+    );
+}
+
+/// The same for each number of calls before the change, and after it, up to twelve.
+fn are_always_whole(rt: &impl Abort, alloc: Global, pieces: &Pieces) {
+    for before in 0..12 {
+        for between in 0..12 {
+            are_whole(rt, alloc, pieces, before, between);
+        }
+    }
+}
+
+const LINES: &str =
+    "0001 | 1987-01-05 18:48:33 | Temperature #0x30 | Upper Critical going high | Asserted
+0002 | +536870912 s | Temperature #0x30 | Upper Non-critical going high | Deasserted
+0003 | unspecified | OEM record 0xc0 | 001357 | 010203040506
+0001 | OEM record 0xe0 | 01010101010101010101010101
+0002 | OEM record 0xe1 | 02020202020202020202020202
+0003 | OEM record 0xe2 | 03030303030303030303030303
+";
+
+const BOTH_BLOCKS: &str = "Record: 0002h
+Type: FRU locator
+Name: PSU1
+Address: 20h
+Entity: 10.1
+
+Record: 0002h
+Type: FRU locator
+Name: PSU1
+Address: 20h
+Entity: 10.3
+
+";
+
+const DEVICE_LINES: &str = "FRU 0
+FRU 1 (PSU1)
+FRU 1 (FAN1)
+FRU 2 (PSU2)
+FRU 2 (FAN2)
+Chassis Type: Rack Mount Chassis
+Chassis Type: Other
+FRU fault: header short
+Chassis fault: outside
+FRU fault: header checksum
+
+";
+
+const PIECES: [Pieces<'static>; 4] = [
+    Pieces {
+        words: "sel list last 2",
+        two: Two {
+            first: "log",
+            second: "another log",
+        },
+        end: "\n",
+        texts: LINES,
+    },
+    Pieces {
+        words: "sel list last 3",
+        two: Two {
+            first: "log",
+            second: "turned log",
+        },
+        end: "\n",
+        texts: LINES,
+    },
+    Pieces {
+        words: "sdr,get,PSU1",
+        two: Two {
+            first: "sensor and locator",
+            second: "another sensor and locator",
+        },
+        end: "\n\n",
+        texts: BOTH_BLOCKS,
+    },
+    Pieces {
+        words: "fru",
+        two: Two {
+            first: "two locators",
+            second: "two other locators",
+        },
+        end: "\n",
+        texts: DEVICE_LINES,
+    },
+];
+
+// The log is turned where its entries have another order.
+#[test]
+fn no_record_is_of_two_images(rt: HostRuntime) {
+    for pieces in &PIECES {
+        are_always_whole(&rt, rt.alloc(), pieces);
+    }
+}

@@ -1,0 +1,55 @@
+//! Bytes and words in hex digits: in lower case, and in upper case with an `h`.
+use crate::cases::{byte_of, id_of, is_text, three_parts};
+use ipmi_text::{ByteH, HexByte, HexWord, WordH, text_with_room};
+use std::alloc::Global;
+use std::process::Abort;
+
+/// Two hex digits in any case, and how the byte is displayed.
+const BYTES: &str = "00|00|00h
+09|09|09h
+0a|0a|0Ah
+0F|0f|0Fh
+10|10|10h
+9C|9c|9Ch
+a0|a0|A0h
+FF|ff|FFh";
+
+/// Asserts how a byte is displayed, in room for it and in none.
+fn is_byte(rt: &impl Abort, alloc: Global, line: &str) {
+    let (digits, lower, upper) = three_parts(rt, line);
+    let byte = byte_of(rt, digits);
+    is_text(rt, text_with_room(alloc, 2, HexByte(byte)), lower, line);
+    is_text(rt, text_with_room(alloc, 0, HexByte(byte)), lower, line);
+    is_text(rt, text_with_room(alloc, 3, ByteH(byte)), upper, line);
+}
+
+#[test]
+fn a_byte_is_two_hex_digits(rt: HostRuntime) {
+    for line in BYTES.lines() {
+        is_byte(&rt, rt.alloc(), line);
+    }
+}
+
+/// Four hex digits in any case, and how the word is displayed: its high byte first.
+const WORDS: &str = "0000|0000|0000h
+0001|0001|0001h
+00A0|00a0|00A0h
+0b00|0b00|0B00h
+1A2b|1a2b|1A2Bh
+fffe|fffe|FFFEh
+FFFF|ffff|FFFFh";
+
+/// Asserts how a word is displayed.
+fn is_word(rt: &impl Abort, alloc: Global, line: &str) {
+    let (digits, lower, upper) = three_parts(rt, line);
+    let word = id_of(rt, digits);
+    is_text(rt, text_with_room(alloc, 4, HexWord(word)), lower, line);
+    is_text(rt, text_with_room(alloc, 5, WordH(word)), upper, line);
+}
+
+#[test]
+fn a_word_is_four_hex_digits(rt: HostRuntime) {
+    for line in WORDS.lines() {
+        is_word(&rt, rt.alloc(), line);
+    }
+}
