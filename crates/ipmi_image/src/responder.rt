@@ -1,7 +1,7 @@
 //! What an image answers to a controller's calls.
 ghost use Rattle.std.specs.Prelude.{◌≡◌, ◌+◌, ◌<◌, ◌≤◌, ◌≢◌, true, false, MatchBool, IfOk, OnErr, Ok, Some, None, length, drop, option_map, unwrap_or};
 ghost use Rattle.ipmi_image.specs.Below.{look, class_of, IsStore, rows_of, info_of, reading_of, inventory_of, IsHonest, FailsWith, ReserveAnswers, PartAnswers, ValueAnswers, SizeAnswers, BytesAnswers};
-ghost use Rattle.ipmi_image.specs.Prelude.{chained, first_id, seen_as, of_shelf, row_found, place_asked, IsCopied, number_after, with_reservation, part_asked, part_answer, fru_answer, value_answer, size_answer};
+ghost use Rattle.ipmi_image.specs.Prelude.{chained, first_id, seen_as, of_shelf, row_found, place_asked, IsCopied, number_after, with_reservation, out_of_range, part_asked, part_answer, fru_answer, value_answer, size_answer};
 
 use crate::image::Image;
 use crate::rows::Rows;
@@ -66,6 +66,17 @@ fn copy_piece(bytes: &[u8], offset: usize, most: u8, into: &mut [u8]) -> Option<
     let got = into.len().min(usize::from(most)).min(bytes.len() - offset);
     into[..got].copy_from_slice(&bytes[offset..offset + got]);
     Some(got as u8)
+}
+
+/// Counts that a part begins at the end or past it, and gives the code that says so.
+fn past_the_end(tally: &mut Tally) -> Code
+    ensures code { result ≡ out_of_range }
+    ensures refused { tally.new.counts ≡ record tally.old.counts
+        { refusals = tally.old.counts.refusals + 1; last_code = out_of_range.0 } }
+{
+    let code = Code::OUT_OF_RANGE;
+    tally.count(Event::Refused(code.0));
+    code
 }
 
 /// An image that answers calls, and counts them.
@@ -216,8 +227,7 @@ impl Responder {
             return Err(Code::CANCELLED);
         }
         let Some(got) = copy_piece(row.bytes, usize::from(offset), most, into) else {
-            self.tally.count(Event::Refused(Code::OUT_OF_RANGE.0));
-            return Err(Code::OUT_OF_RANGE);
+            return Err(past_the_end(&mut self.tally));
         };
         if usize::from(offset) + usize::from(got) == row.bytes.len() {
             self.tally.count(Event::Finished);
@@ -303,8 +313,7 @@ impl Responder {
             return Err(Code::NOT_PRESENT);
         };
         let Some(got) = copy_piece(bytes, usize::from(offset), most, into) else {
-            self.tally.count(Event::Refused(Code::OUT_OF_RANGE.0));
-            return Err(Code::OUT_OF_RANGE);
+            return Err(past_the_end(&mut self.tally));
         };
         if usize::from(offset) + usize::from(got) == bytes.len() {
             self.tally.count(Event::Finished);
