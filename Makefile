@@ -1,6 +1,6 @@
 # `make demo` and `make test` are for every reader. The toolchain's command `rt` is all that they need.
 PREFIX ?= /usr/local
-# The name that the program is installed under. It isn't `ipmitool`, which would stand before the system's.
+# The name that the program is installed under. It isn't `ipmitool`, which would come before the system's.
 NAME := serdimko
 PROGRAM := crates/ipmitool/out/ipmitool
 # What the program is built of: no test, must-fail edit or document is among it.
@@ -31,7 +31,7 @@ test:
 memory:
 	@scripts/refuse_memory
 
-# Each turn of a must-fail edit that joins several, refused alone; an hour and more.
+# Each turn of a must-fail edit that joins several, refused by itself; an hour and more.
 turns:
 	@scripts/refuse_turns
 
@@ -45,7 +45,7 @@ capture-test:
 
 build: $(PROGRAM)
 
-# The program is built only where it and all that it stands on is proved.
+# The program is built only where it and all that it rests on is proved.
 $(PROGRAM): $(SOURCES)
 	cd crates/ipmitool && rt run < stdin > /dev/null
 	@touch $@

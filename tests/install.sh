@@ -67,7 +67,7 @@ expect_files 'install' '755 usr/local/bin/serdimko
 cmp "$program" "$to/usr/local/bin/serdimko" || fault 'the installed program is another one'
 cmp docs/serdimko.1 "$to/usr/local/share/man/man1/serdimko.1" || fault 'the installed page is another one'
 
-# A second install puts the same there, and another name and another folder stand beside it.
+# A second install puts the same there, and another name and another folder are put beside it.
 run_make install DESTDIR="$to" || fault 'install again:' "$(cat "$work/err")"
 installed=$(files)
 echo 'of others' > "$to/usr/local/bin/ipmitool.old"

@@ -29,7 +29,7 @@ table() {
   ' "${2:-README.md}"
 }
 
-# What stands between backquotes, a line for each.
+# What is between backquotes, a line for each.
 quoted() {
   grep -o '`[^`]*`' | sed -E 's/^` *//; s/ *`$//'
 }

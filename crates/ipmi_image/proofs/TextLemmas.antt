@@ -1,4 +1,4 @@
--- Where a separator stands, a text is cut.
+-- Where a separator is, a text is cut.
 use Rattle.std.proofs.Common.{◌≡◌, ℕ, ◌+◌, ◌<◌, false, nat_eq, Option, None, Some, MatchOption, List, [], ◌∷◌, ◌++◌, length, take, drop, refl, arith, All, eq-eqb}
 use Rattle.std.specs.List.{position_or_len}
 use Rattle.std.proofs.lemmas.Bool.{false_from_ne_true}

@@ -110,7 +110,7 @@ locator_in bytes = record { address = byte_at 6 bytes; entity = entity_in (byte_
 abbrev pub fru_id : List ℕ → ℕ
 fru_id bytes = byte_at 7 bytes
 
--- bit 7 of byte 8: the device is logical, behind a management controller
+-- bit 7 of byte 8: the device is logical, reached through a management controller
 abbrev pub is_logical : List ℕ → Bool
 is_logical bytes = has_bit 7 (byte_at 8 bytes)
 
