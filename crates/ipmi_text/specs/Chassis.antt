@@ -1,6 +1,6 @@
 -- The names of chassis types (Platform Management FRU Information Storage Definition v1.0, section 10).
-use Rattle.std.specs.Prelude.{ℕ, ◌-◌, ◌==◌, List, [], ◌∷◌, ◌++◌, codes, Option, None, slice_get, unwrap_or, if◌then◌else◌}
-use Rattle.ipmi_text.specs.Hex.{hex_byte}
+use Rattle.std.specs.Prelude.{ℕ, List, [], ◌∷◌, codes, Option}
+use Rattle.ipmi_text.specs.Names.{entry_from_one, name_or_code}
 
 -- the names, from type 01h on
 abbrev pub chassis_types : List (List ℕ)
@@ -31,8 +31,8 @@ chassis_types =
 
 -- the name of a type, if it has one
 abbrev pub chassis_name : ℕ → Option (List ℕ)
-chassis_name code = if code == 0 then None else slice_get chassis_types (code - 1)
+chassis_name code = entry_from_one chassis_types code
 
 -- the name, or else `type 0xNN`
 abbrev pub chassis_text_of : ℕ → List ℕ
-chassis_text_of code = unwrap_or (chassis_name code) (codes "type 0x" ++ hex_byte code)
+chassis_text_of code = name_or_code (chassis_name code) (codes "type") code

@@ -7,6 +7,7 @@ pub mod FieldText
 pub mod Hex
 pub mod Laws
 pub mod Lines
+pub mod Names
 pub mod ReadingValue
 pub mod SensorTypes
 pub mod Times

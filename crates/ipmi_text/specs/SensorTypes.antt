@@ -1,6 +1,6 @@
 -- The names of sensor types (IPMI v2.0, table 42-3).
-use Rattle.std.specs.Prelude.{ℕ, ◌-◌, ◌==◌, List, [], ◌∷◌, ◌++◌, codes, Option, None, slice_get, unwrap_or, if◌then◌else◌}
-use Rattle.ipmi_text.specs.Hex.{hex_byte}
+use Rattle.std.specs.Prelude.{ℕ, List, [], ◌∷◌, codes, Option}
+use Rattle.ipmi_text.specs.Names.{entry_from_one, name_or_code}
 
 -- the names, from type 01h on, some of them shortened
 abbrev pub sensor_types : List (List ℕ)
@@ -52,8 +52,8 @@ sensor_types =
 
 -- the name of a type, if it has one
 abbrev pub sensor_type_name : ℕ → Option (List ℕ)
-sensor_type_name code = if code == 0 then None else slice_get sensor_types (code - 1)
+sensor_type_name code = entry_from_one sensor_types code
 
 -- the name, or else `sensor type 0xNN`
 abbrev pub sensor_type_text_of : ℕ → List ℕ
-sensor_type_text_of code = unwrap_or (sensor_type_name code) (codes "sensor type 0x" ++ hex_byte code)
+sensor_type_text_of code = name_or_code (sensor_type_name code) (codes "sensor type") code

@@ -2,7 +2,7 @@
 -- (table 43-1, sensor units 1 to 3).
 use Rattle.std.specs.Prelude.{ℕ, ◌/◌, ◌%◌, ◌==◌, Bool, true, false, List, [], ◌∷◌, ◌++◌, codes, Option, slice_get, unwrap_or, if◌then◌else◌, filter}
 use Rattle.std.specs.List.{join_with_byte}
-use Rattle.ipmi_text.specs.Hex.{hex_byte}
+use Rattle.ipmi_text.specs.Names.{name_or_code}
 
 -- the names, from unit 00h on, which is unspecified, to 18h; later ones print as their code
 abbrev pub units : List (List ℕ)
@@ -39,7 +39,7 @@ unit_name code = slice_get units code
 
 -- the name of a unit, or else `unit 0xNN`
 abbrev pub unit_name_or_code : ℕ → List ℕ
-unit_name_or_code code = unwrap_or (unit_name code) (codes "unit 0x" ++ hex_byte code)
+unit_name_or_code code = name_or_code (unit_name code) (codes "unit") code
 
 -- `%` where bit 0 of units 1 is set
 abbrev pub percent_part : ℕ → List ℕ

@@ -2,9 +2,12 @@
 ghost use Rattle.std.specs.Prelude.{◌≡◌, IfOk, string_bytes};
 ghost use Rattle.ipmi_text.specs.Chassis.{chassis_text_of};
 
-use crate::hex_digits::HexByte;
-use crate::names::entry_from_one;
+use crate::names::{NameOrCode, entry_from_one};
+use crate::room::text_with_room;
 use std::alloc::{AllocError, Global};
+
+/// The room for the text of any chassis type.
+const ROOM: usize = 24;
 
 /// The names, from type 01h on (Platform Management FRU Information Storage Definition v1.0,
 /// section 10).
@@ -39,11 +42,10 @@ const CHASSIS_TYPES: [&str; 23] = [
 pub fn chassis_text(alloc: Global, code: u8) -> Result<String, AllocError>
     ensures { IfOk result (λ text. string_bytes text ≡ chassis_text_of code) }
 {
-    match entry_from_one(CHASSIS_TYPES.as_slice(), code) {
-        Some(name) => String::from_str(alloc, name),
-        None => {
-            let code = HexByte(code);
-            format!(in alloc; "type 0x{code}")
-        }
-    }
+    let words = NameOrCode {
+        name: entry_from_one(CHASSIS_TYPES.as_slice(), code),
+        kind: "type",
+        code,
+    };
+    text_with_room(alloc, ROOM, words)
 }

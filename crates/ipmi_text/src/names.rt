@@ -1,5 +1,9 @@
-//! A name out of a table.
-ghost use Rattle.std.specs.Prelude.{◌≡◌, ◌-◌, ◌==◌, None, map, option_map, slice_get, if◌then◌else◌};
+//! Names out of tables, and what is printed where there is none.
+ghost use Rattle.std.specs.Prelude.{◌≡◌, map, option_map, slice_get};
+ghost use Rattle.ipmi_text.specs.Names.{entry_from_one};
+
+use crate::hex_digits::HexByte;
+use std::fmt;
 
 /// The name at a place of a table.
 pub(crate) fn entry(table: &[&'static str], at: usize) -> Option<&'static str>
@@ -10,8 +14,33 @@ pub(crate) fn entry(table: &[&'static str], at: usize) -> Option<&'static str>
 
 /// The name of a code, in a table that begins with the name of code 1.
 pub(crate) fn entry_from_one(table: &[&'static str], code: u8) -> Option<&'static str>
-    ensures { option_map (λ s. s.now) result ≡
-        (if code == 0 then None else slice_get (map (λ s. s.now) table.now) (code - 1)) }
+    ensures { option_map (λ s. s.now) result ≡ entry_from_one (map (λ s. s.now) table.now) code }
 {
-    entry(table, (code as usize).checked_sub(1)?)
+    entry(table, usize::from(code).checked_sub(1)?)
+}
+
+/// What a code of some kind stands for, printed as its name, or as `KIND 0xNN` where it has none.
+#[derive(Clone, Copy)]
+pub(crate) struct NameOrCode {
+    pub(crate) name: Option<&'static str>,
+    pub(crate) kind: &'static str,
+    pub(crate) code: u8,
+}
+
+impl fmt::Display for NameOrCode {
+    ghost use Rattle.std.specs.Prelude.{Some, option_map};
+    ghost use Rattle.ipmi_text.specs.Names.{name_or_code};
+
+    ghost output = { λ words. Some (name_or_code (option_map (λ s. s.now) words.name) words.kind.now words.code) };
+
+    fn fmt<W: fmt::Write>(&self, f: &mut fmt::Formatter<W>) -> fmt::Result {
+        match self.name {
+            Some(name) => f.write_str(name),
+            None => {
+                let kind = self.kind;
+                let code = HexByte(self.code);
+                write!(f, "{kind} 0x{code}")
+            }
+        }
+    }
 }

@@ -2,8 +2,7 @@
 ghost use Rattle.std.specs.Prelude.{◌≡◌, IfOk, string_bytes};
 ghost use Rattle.ipmi_text.specs.SensorTypes.{sensor_type_text_of};
 
-use crate::hex_digits::HexByte;
-use crate::names::entry_from_one;
+use crate::names::{NameOrCode, entry_from_one};
 use crate::room::text_with_room;
 use std::alloc::{AllocError, Global};
 use std::fmt;
@@ -70,13 +69,12 @@ impl fmt::Display for SensorType {
     ghost output = { λ kind. Some (sensor_type_text_of kind.0) };
 
     fn fmt<W: fmt::Write>(&self, f: &mut fmt::Formatter<W>) -> fmt::Result {
-        match entry_from_one(SENSOR_TYPES.as_slice(), self.0) {
-            Some(name) => f.write_str(name),
-            None => {
-                let code = HexByte(self.0);
-                write!(f, "sensor type 0x{code}")
-            }
-        }
+        let words = NameOrCode {
+            name: entry_from_one(SENSOR_TYPES.as_slice(), self.0),
+            kind: "sensor type",
+            code: self.0,
+        };
+        write!(f, "{words}")
     }
 }
 

@@ -1,9 +1,8 @@
 //! The units of a sensor's readings.
-ghost use Rattle.std.specs.Prelude.{◌≡◌, ◌/◌, ◌%◌, [], ◌++◌, ◌&&◌, IfOk, IfSome, OnOk, codes, if◌then◌else◌, string_bytes};
-ghost use Rattle.ipmi_text.specs.Units.{after_space, is_not_empty, modifier_part, percent_part, rate_part, unit_name_or_code, unit_text_of};
+ghost use Rattle.std.specs.Prelude.{◌≡◌, ◌/◌, ◌%◌, [], ◌++◌, ◌&&◌, IfOk, IfSome, OnOk, codes, if◌then◌else◌, option_map, string_bytes};
+ghost use Rattle.ipmi_text.specs.Units.{after_space, is_not_empty, modifier_part, percent_part, rate_part, unit_name, unit_name_or_code, unit_text_of};
 
-use crate::hex_digits::HexByte;
-use crate::names::entry;
+use crate::names::{NameOrCode, entry};
 use crate::room::text_with_room;
 use std::alloc::{AllocError, Global};
 use std::fmt;
@@ -65,6 +64,13 @@ fn is_there(text: &str) -> bool
     !text.is_empty()
 }
 
+/// The name of a unit, if it has one.
+fn unit_name(code: u8) -> Option<&'static str>
+    ensures { option_map (λ s. s.now) result ≡ unit_name code }
+{
+    entry(UNITS.as_slice(), usize::from(code))
+}
+
 /// A base or modifier unit, printed as its name, or as `unit 0xNN` where it has none.
 #[derive(Clone, Copy)]
 struct UnitName(u8);
@@ -73,7 +79,7 @@ impl UnitName {
     fn is_there(self) -> bool
         ensures { result ≡ is_not_empty (unit_name_or_code self.0) }
     {
-        match entry(UNITS.as_slice(), self.0 as usize) {
+        match unit_name(self.0) {
             Some(name) => is_there(name),
             None => true,
         }
@@ -87,13 +93,12 @@ impl fmt::Display for UnitName {
     ghost output = { λ unit. Some (unit_name_or_code unit.0) };
 
     fn fmt<W: fmt::Write>(&self, f: &mut fmt::Formatter<W>) -> fmt::Result {
-        match entry(UNITS.as_slice(), self.0 as usize) {
-            Some(name) => write!(f, "{name}"),
-            None => {
-                let code = HexByte(self.0);
-                write!(f, "unit 0x{code}")
-            }
-        }
+        let words = NameOrCode {
+            name: unit_name(self.0),
+            kind: "unit",
+            code: self.0,
+        };
+        write!(f, "{words}")
     }
 }
 
@@ -191,7 +196,7 @@ impl Units {
             self.modifier) }
     {
         if self.joined_bits() == 0 {
-            entry(UNITS.as_slice(), self.base as usize)
+            unit_name(self.base)
         } else {
             None
         }
