@@ -6,6 +6,7 @@ ghost use Rattle.ipmi_fru.specs.Prelude.{language_of, Board, Chassis, field_of, 
 use crate::field::{Field, Fields};
 use crate::header::{bytes_of, has_version_1, is_zero_sum};
 use byteorder::{ByteOrder, LittleEndian};
+use ipmi_text::ENGLISH;
 use std::marker::Model;
 use thiserror::Error;
 
@@ -93,7 +94,7 @@ fn whole_area(bytes: &[u8], offset: usize) -> Result<&[u8], AreaFault>
     ensures room { IfOk result (λ area. 8 ≤ length area.now) }
     ensures err { IfErr result (λ fault. area_fault offset bytes.now ≡ Some fault) }
 {
-    if bytes.len() < offset + 2 {
+    if bytes.len() < offset + HEAD_START {
         return Err(AreaFault::Outside);
     }
     if !has_version_1(bytes[offset]) {
@@ -187,7 +188,7 @@ impl<'a> AreaView<'a> {
         ensures { result ≡ language_of self.now.kind self.now.bytes }
     {
         match self.kind {
-            AreaKind::Chassis => 0,
+            AreaKind::Chassis => ENGLISH,
             AreaKind::Board | AreaKind::Product => self.bytes[HEAD_START],
         }
     }

@@ -7,6 +7,9 @@ use std::marker::Model;
 /// The byte that comes after the last field.
 const NO_MORE_FIELDS: u8 = 0xC1;
 
+/// Bits 5:0 of a type/length byte: how many bytes of data come after it.
+const LEN_BITS: u8 = 0x3F;
+
 /// A field of an area: what its type/length byte says, and its data.
 #[derive(Clone, Copy, Debug, PartialEq, Eq)]
 pub struct Field<'a> {
@@ -25,11 +28,11 @@ fn code_of(type_length: u8) -> u8
     type_length >> 6
 }
 
-/// Bits 5:0 of a type/length byte: how many bytes of data come after it.
+/// How many bytes of data come after a type/length byte.
 fn len_of(type_length: u8) -> usize
     ensures { result ≡ type_length % 64 }
 {
-    usize::from(type_length & 0x3F)
+    usize::from(type_length & LEN_BITS)
 }
 
 /// What comes first in bytes that are to be read as fields.

@@ -10,8 +10,8 @@ use thiserror::Error;
 /// How many bytes a header has.
 const HEADER_LEN: usize = 8;
 
-/// Bits 3:0 of the first byte of a header or an area: its format version.
-const VERSION_BITS: u8 = 0x0F;
+/// Bits 3:0 of the first byte of a header or an area, and of the second byte of a record: its format version.
+pub(crate) const VERSION_BITS: u8 = 0x0F;
 
 /// Where the header has the offset of the multirecord area.
 const RECORDS_PLACE: usize = 5;

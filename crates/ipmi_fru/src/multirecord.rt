@@ -2,14 +2,11 @@
 ghost use Rattle.std.specs.Prelude.{◌≡◌, ◌<◌, IfOk, IfErr, Some, None, length};
 ghost use Rattle.ipmi_fru.specs.Prelude.{record_in, record_fault, multi_fault_name, after_record, record_of, items_after, items_left};
 
-use crate::header::{is_zero_sum, sum_of};
+use crate::header::{VERSION_BITS, is_zero_sum, sum_of};
 use thiserror::Error;
 
 /// How many bytes a record's header has.
 const HEADER_LEN: usize = 5;
-
-/// Bits 3:0 of a record's second byte: the version of its format.
-const VERSION_BITS: u8 = 0x0F;
 
 /// Bit 7 of a record's second byte: the record is the last one.
 const LAST: u8 = 0x80;

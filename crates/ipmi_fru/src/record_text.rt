@@ -5,7 +5,7 @@ ghost use Rattle.ipmi_fru.specs.Prelude.{item_of, items_left, record_of, number_
 
 use crate::multirecord::{MultiFault, MultiView, Records};
 use byteorder::{ByteOrder, LittleEndian};
-use ipmi_text::{Fixed, fixed_text, fru_text};
+use ipmi_text::{ENGLISH, Fixed, fixed_text, fru_text};
 use std::alloc::{AllocError, Global};
 
 /// 10 mV, the unit of the voltages in a record, as a `Fixed`.
@@ -16,9 +16,6 @@ const BINARY: u8 = 0;
 
 /// The code of a field whose form the language decides: Latin-1 in English.
 const BY_LANGUAGE: u8 = 3;
-
-/// The language code of English.
-const ENGLISH: u8 = 0;
 
 /// The type of a DC output record.
 const DC_OUTPUT: u8 = 1;
@@ -34,6 +31,15 @@ const DC_LEN: usize = 13;
 
 /// Bit 7 of the first data byte of a DC output: it is a standby one.
 const STANDBY: u8 = 0x80;
+
+/// Bits 3:0 of the first data byte of a DC record: the number of the output or the load.
+const NUMBER_BITS: u8 = 0x0F;
+
+/// The first subtype of a management access record whose data are text.
+const FIRST_TEXT: u8 = 0x01;
+
+/// The last of these subtypes.
+const LAST_TEXT: u8 = 0x06;
 
 /// Which record of direct current it is.
 #[derive(Clone, Copy)]
@@ -119,11 +125,11 @@ fn words_of(kind: DcKind) -> DcWords
     }
 }
 
-/// Bits 3:0 of the first data byte of a DC record: the number of the output or the load.
+/// The number of an output or a load, by the first data byte of its record.
 fn number_of(byte: u8) -> u8
     ensures { result ≡ byte % 16 }
 {
-    byte & 0x0F
+    byte & NUMBER_BITS
 }
 
 /// ` standby` for a standby output, otherwise nothing. `byte` is the one that has the output's
@@ -158,13 +164,13 @@ fn dc_text(alloc: Global, kind: DcKind, bytes: &[u8]) -> Result<String, AllocErr
     )
 }
 
-/// The data of a management access record after its subtype: subtypes 01h to 06h are text.
+/// The data of a management access record after its subtype, as text or in hex, as the subtype says.
 fn access_text(alloc: Global, bytes: &[u8]) -> Result<String, AllocError>
     requires { 1 ≤ length bytes.now }
     ensures { IfOk result (λ text. string_bytes text ≡ access_text bytes.now) }
 {
     let subtype = bytes[0];
-    if (1..=6).contains(&subtype) {
+    if (FIRST_TEXT..=LAST_TEXT).contains(&subtype) {
         return fru_text(alloc, BY_LANGUAGE, ENGLISH, &bytes[1..]);
     }
     fru_text(alloc, BINARY, ENGLISH, &bytes[1..])

@@ -27,7 +27,6 @@ impl<'a, const TYPE: u8, const LEN: usize> AtLeast<'a, TYPE, LEN> {
         AtLeast { bytes }
     }
 
-    /// The bytes of the record.
     pub(crate) fn bytes(&self) -> &'a [u8]
         ensures value { result.now ≡ self.now }
         ensures room { LEN ≤ length result.now }

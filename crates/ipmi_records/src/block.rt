@@ -29,7 +29,7 @@ fn kind_text(alloc: Global, view: &SdrView) -> Result<String, AllocError>
         Generic(_) => String::from_str(alloc, "generic locator"),
         Fru(_) => String::from_str(alloc, "FRU locator"),
         Controller(_) => String::from_str(alloc, "controller locator"),
-        Other(other) => text_with_room(alloc, PART_ROOM, RecordType(other.bytes()[3])),
+        Other(_) => text_with_room(alloc, PART_ROOM, RecordType(view.record_type())),
     }
 }
 

@@ -8,7 +8,8 @@ use crate::sdr::SdrView::{Compact, Controller, EventOnly, Fru, Full, Generic, Ot
 use crate::sdr::{OWN_ADDRESS, SdrView};
 use crate::sensor::{FullSensor, Sensor, Threshold};
 use ipmi_text::{
-    ByteH, HexByte, HexWord, Reading, THRESHOLD_EVENT_TYPE, convert, push_fixed, push_units,
+    ByteH, HexByte, HexWord, NO_ANALOG_READING, Reading, THRESHOLD_EVENT_TYPE, convert, push_fixed,
+    push_units,
 };
 use std::alloc::AllocError;
 use std::fmt;
@@ -149,7 +150,7 @@ pub(crate) fn push_reading(
         (string_bytes text.new)) }
 {
     match view {
-        Full(full) if full.analog_format() == 3 => {
+        Full(full) if full.analog_format() == NO_ANALOG_READING => {
             push_sensor(text, shown_of(&full.sensor(), reading), None)
         }
         Full(full) => push_sensor(text, shown_of(&full.sensor(), reading), Some(full)),
@@ -161,8 +162,8 @@ pub(crate) fn push_reading(
             let address = ByteH(controller.locator().address);
             write!(text, "controller {address}")
         }
-        Other(other) => {
-            let kind = RecordType(other.bytes()[3]);
+        Other(_) => {
+            let kind = RecordType(view.record_type());
             write!(text, "{kind}")
         }
     }

@@ -10,6 +10,9 @@ use std::alloc::{AllocError, Global};
 /// The room for the text.
 const ROOM: usize = 192;
 
+/// The bit of an info's last byte that says that a record was lost for want of room.
+const OVERFLOW: u32 = 7;
+
 fn record_count(bytes: &[u8; 14]) -> u16
     ensures { result ≡ record_count bytes.now }
 {
@@ -34,11 +37,15 @@ fn last_erase(bytes: &[u8; 14]) -> u32
     LittleEndian::read_u32(&bytes[9..])
 }
 
-/// The word for bit 7 of the last byte: whether a record was lost for want of room.
+/// The word for whether a record was lost for want of room.
 fn overflow_text(bytes: &[u8; 14]) -> &'static str
     ensures { result.now ≡ overflow_text (has_overflow bytes.now) }
 {
-    if has_bit(bytes[13], 7) { "yes" } else { "no" }
+    if has_bit(bytes[13], OVERFLOW) {
+        "yes"
+    } else {
+        "no"
+    }
 }
 
 /// The block of an info, seven lines. `bytes` are the answer of Get SDR Repository Info or Get SEL

@@ -14,6 +14,18 @@ use std::fmt;
 /// The room for most lines.
 const LINE_ROOM: usize = 80;
 
+/// How many characters the column of names has at least.
+const NAME_WIDTH: usize = 16;
+
+/// How many that of readings has, where a status follows it.
+const READING_WIDTH: usize = 17;
+
+/// How many that of statuses has, where an entity follows it.
+const STATUS_WIDTH: usize = 3;
+
+/// How many that of entities has.
+const ENTITY_WIDTH: usize = 5;
+
 /// Appends the name of a record, nothing where it has none.
 fn push_name(alloc: Global, line: &mut String, view: &SdrView) -> Result<(), AllocError>
     ensures { OnOk result
@@ -25,14 +37,14 @@ fn push_name(alloc: Global, line: &mut String, view: &SdrView) -> Result<(), All
     }
 }
 
-/// Appends the name of a record in 16 characters.
+/// Appends the name of a record in the width of its column.
 fn push_name_column(alloc: Global, line: &mut String, view: &SdrView) -> Result<(), AllocError>
     ensures { OnOk result
         (string_bytes line.new ≡ string_bytes line.old ++ padded_to 16 (printed_name view.now)) }
 {
     let start = line.as_bytes().len();
     push_name(alloc, line, view)?;
-    pad(line, start, 16)
+    pad(line, start, NAME_WIDTH)
 }
 
 /// The line of a record: its name in 16 characters, its reading column in 17, and its status.
@@ -50,7 +62,7 @@ pub fn sdr_line(
     line.push_str(" | ")?;
     let start = line.as_bytes().len();
     push_reading(&mut line, view, reading)?;
-    pad(&mut line, start, 17)?;
+    pad(&mut line, start, READING_WIDTH)?;
     let status = status_of(view, reading);
     write!(line, " | {status}\n")?;
     Ok(line)
@@ -95,24 +107,24 @@ fn push_entity(line: &mut String, entity: Option<Entity>) -> Result<(), AllocErr
     }
 }
 
-/// Appends an entity in 5 characters, a dash where there is none.
+/// Appends an entity in the width of its column, a dash where there is none.
 fn push_entity_column(line: &mut String, entity: Option<Entity>) -> Result<(), AllocError>
     ensures { OnOk result
         (string_bytes line.new ≡ string_bytes line.old ++ padded_to 5 (entity_or_dash entity)) }
 {
     let start = line.as_bytes().len();
     push_entity(line, entity)?;
-    pad(line, start, 5)
+    pad(line, start, ENTITY_WIDTH)
 }
 
-/// Appends a status in 3 characters.
+/// Appends a status in the width of its column.
 fn push_status_column(line: &mut String, status: &str) -> Result<(), AllocError>
     ensures { OnOk result
         (string_bytes line.new ≡ string_bytes line.old ++ padded_to 3 status.now) }
 {
     let start = line.as_bytes().len();
     line.push_str(status)?;
-    pad(line, start, 3)
+    pad(line, start, STATUS_WIDTH)
 }
 
 /// Appends the number, the status and the entity of a record, after and before ` | `.

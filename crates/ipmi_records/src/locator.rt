@@ -20,6 +20,9 @@ pub(crate) const CONTROLLER_TYPE: u8 = 0x12;
 /// The byte of a locator's ID string type/length, counted from 1. Each locator has it.
 pub(crate) const LOCATOR_ID_PLACE: usize = 16;
 
+/// The bit of a FRU locator's byte 8 that says that the device is logical.
+const LOGICAL: u32 = 7;
+
 /// What all three kinds of locators tell of their device.
 #[derive(Clone, Copy, Debug, PartialEq, Eq)]
 pub struct Locator {
@@ -75,7 +78,7 @@ impl<'a> FruLocator<'a> {
     pub fn is_logical(&self) -> bool
         ensures { result ≡ is_logical self.now }
     {
-        has_bit(self.bytes[7], 7)
+        has_bit(self.bytes[7], LOGICAL)
     }
 
     /// The LUN at which the device is reached.

@@ -118,7 +118,7 @@ pub fn sel_line(alloc: Global, id: u16, view: &SelView) -> Result<String, AllocE
         SelView::OemTimed(entry) => oem_line(alloc, id, entry),
         SelView::OemPlain(entry) => {
             let id = HexWord(id);
-            let kind = HexByte(entry.bytes()[2]);
+            let kind = HexByte(view.entry_type());
             let bytes = hex::encode(alloc, entry.data_bytes())?;
             text_with_room(
                 alloc,
@@ -128,7 +128,7 @@ pub fn sel_line(alloc: Global, id: u16, view: &SelView) -> Result<String, AllocE
         }
         SelView::Other(entry) => {
             let id = HexWord(id);
-            let kind = RecordType(entry.bytes()[2]);
+            let kind = RecordType(view.entry_type());
             let bytes = hex::encode(alloc, entry.data_bytes())?;
             text_with_room(alloc, LINE_ROOM, format_args!("{id} | {kind} | {bytes}\n"))
         }

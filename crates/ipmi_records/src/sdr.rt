@@ -24,6 +24,9 @@ pub(crate) const OWN_ADDRESS: u8 = 0x20;
 /// The bytes of a record's header.
 const HEADER_LEN: usize = 5;
 
+/// The first of the types that have no view of their own.
+const OTHER_TYPE: u8 = 0x00;
+
 /// Why bytes are no sensor data record. The first one that applies, in this order, is the answer.
 #[derive(Clone, Copy, Debug, PartialEq, Eq, Error)]
 pub enum SdrFault {
@@ -39,7 +42,7 @@ pub enum SdrFault {
 }
 
 /// A record of a type that has no view of its own.
-pub type OtherRecord<'a> = AtLeast<'a, 0x00, HEADER_LEN>;
+pub type OtherRecord<'a> = AtLeast<'a, OTHER_TYPE, HEADER_LEN>;
 
 /// A sensor data record, by its type.
 #[derive(Clone, Debug, Drop)]

@@ -18,7 +18,13 @@ const LAST_OEM_TIMED: u8 = 0xDF;
 /// The first type of an OEM record without a time stamp.
 const OEM_PLAIN: u8 = 0xE0;
 
-/// Bits 6:0 of an event's byte 13: the event/reading type.
+/// The first of all other types.
+const OTHER: u8 = 0x00;
+
+/// The bit of an event's byte 13 that says that it is a deassertion.
+const DEASSERTED: u32 = 7;
+
+/// Bits 6:0 of that byte: the event/reading type.
 const EVENT_TYPE_BITS: u8 = 0x7F;
 
 /// The 16 bytes of an entry of the event log. `TYPE` is the first entry type of its kind.
@@ -46,7 +52,6 @@ impl<'a, const TYPE: u8> Entry<'a, TYPE> {
         Entry { bytes }
     }
 
-    /// The bytes of the entry.
     pub(crate) fn bytes(&self) -> &'a [u8]
         ensures value { result.now ≡ self.now }
         ensures len { length result.now ≡ 16 }
@@ -114,7 +119,7 @@ impl<'a> EventEntry<'a> {
     pub fn is_deasserted(&self) -> bool
         ensures { result ≡ is_deasserted self.now }
     {
-        has_bit(self.bytes[12], 7)
+        has_bit(self.bytes[12], DEASSERTED)
     }
 
     /// The event/reading type (section 42.1), 01h for a threshold event.
@@ -172,7 +177,7 @@ impl<'a> OemPlainEntry<'a> {
 }
 
 /// An entry of another type.
-pub type OtherEntry<'a> = Entry<'a, 0x00>;
+pub type OtherEntry<'a> = Entry<'a, OTHER>;
 
 impl<'a> OtherEntry<'a> {
     /// All bytes after the type.

@@ -30,6 +30,12 @@ const LINEARIZATION_BITS: u8 = 0x7F;
 /// Bits 3:0 of a full record's byte 30: the exponent of B.
 const K1_BITS: u8 = 0x0F;
 
+/// How many numbers of the 10 bits of M and of B are below 0.
+const FACTOR_HALF: u16 = 512;
+
+/// How many of the 4 bits of an exponent are.
+const EXPONENT_HALF: u16 = 8;
+
 /// The byte of a full record's ID string type/length, counted from 1. Each full record has it.
 pub(crate) const FULL_ID_PLACE: usize = 48;
 
@@ -234,7 +240,7 @@ impl<'a> FullSensor<'a> {
         ensures value { result ≡ factor_m self.now }
         ensures range { IsTwosComplement 512 result }
     {
-        signed(512, ten_bits(self.bytes, 24))
+        signed(FACTOR_HALF, ten_bits(self.bytes, 24))
     }
 
     /// B, which the formula adds, times ten to the power K1.
@@ -242,7 +248,7 @@ impl<'a> FullSensor<'a> {
         ensures value { result ≡ factor_b self.now }
         ensures range { IsTwosComplement 512 result }
     {
-        signed(512, ten_bits(self.bytes, 26))
+        signed(FACTOR_HALF, ten_bits(self.bytes, 26))
     }
 
     /// The exponent of B.
@@ -250,7 +256,7 @@ impl<'a> FullSensor<'a> {
         ensures value { result ≡ exponent_k1 self.now }
         ensures range { IsTwosComplement 8 result }
     {
-        signed(8, u16::from(self.bytes[29] & K1_BITS)) as i8
+        signed(EXPONENT_HALF, u16::from(self.bytes[29] & K1_BITS)) as i8
     }
 
     /// The exponent of the result.
@@ -258,7 +264,7 @@ impl<'a> FullSensor<'a> {
         ensures value { result ≡ exponent_k2 self.now }
         ensures range { IsTwosComplement 8 result }
     {
-        signed(8, u16::from(self.bytes[29] >> 4)) as i8
+        signed(EXPONENT_HALF, u16::from(self.bytes[29] >> 4)) as i8
     }
 
     /// The factors by which a raw reading becomes a value.

@@ -17,6 +17,27 @@ const ONE: u64 = 10_000_000_000_000_000;
 /// The room for the decimal of most values: a sign, whole digits, a point and 16 digits.
 const ROOM: usize = 32;
 
+/// The analog data format of an unsigned reading. The format is two bits of a full record's sensor units 1.
+const UNSIGNED: u8 = 0;
+
+/// That of a reading in 1's complement.
+const ONES_COMPLEMENT: u8 = 1;
+
+/// That of a sensor without an analog reading, the last of the four.
+pub const NO_ANALOG_READING: u8 = 3;
+
+/// The linearization of a sensor whose formula is linear.
+const LINEAR: u8 = 0;
+
+/// The last linearization that its 7 bits can say.
+const LAST_LINEARIZATION: u8 = 0x7F;
+
+/// How many numbers of the 10 bits of M and of B are below 0.
+const FACTOR_HALF: u16 = 512;
+
+/// How many of the 4 bits of an exponent are.
+const EXPONENT_HALF: u16 = 8;
+
 /// The factors by which a full sensor record turns a raw reading into a value (IPMI v2.0, section
 /// 36.3 and table 43-1). Contracts see them as a record of their numbers.
 #[derive(Clone, Copy, Debug, PartialEq, Eq)]
@@ -49,12 +70,12 @@ impl Factors {
         ensures value { IfSome result (λ f. f ≡ record
             { format = format; linear = linear; m = m; b = b; k1 = k1; k2 = k2 }) }
     {
-        if format <= 3
-            && linear <= 127
-            && is_twos_complement(m, 512)
-            && is_twos_complement(b, 512)
-            && is_twos_complement(k1 as i16, 8)
-            && is_twos_complement(k2 as i16, 8)
+        if format <= NO_ANALOG_READING
+            && linear <= LAST_LINEARIZATION
+            && is_twos_complement(m, FACTOR_HALF)
+            && is_twos_complement(b, FACTOR_HALF)
+            && is_twos_complement(i16::from(k1), EXPONENT_HALF)
+            && is_twos_complement(i16::from(k2), EXPONENT_HALF)
         {
             Some(Factors {
                 format,
@@ -74,8 +95,8 @@ impl Factors {
 fn is_twos_complement(number: i16, half: u16) -> bool
     ensures { IsTrue result ↔ IsTwosComplement half number }
 {
-    let half = half as i32;
-    let number = number as i32;
+    let half = i32::from(half);
+    let number = i32::from(number);
     -half <= number && number < half
 }
 
@@ -84,12 +105,13 @@ fn raw_number(format: u8, raw: u8) -> i32
     ensures value { result ≡ raw_number format raw }
     ensures size { unsigned_abs result ≤ 2 ^ 8 }
 {
-    if format == 0 || raw < 128 {
-        raw as i32
-    } else if format == 1 {
-        raw as i32 - 255
+    // without its highest bit a byte is the same number in all formats
+    if format == UNSIGNED || raw < 128 {
+        i32::from(raw)
+    } else if format == ONES_COMPLEMENT {
+        i32::from(raw) - 255
     } else {
-        raw as i32 - 256
+        i32::from(raw) - 256
     }
 }
 
@@ -114,7 +136,7 @@ fn scaled(number: i32, exponent: i32) -> i128
 pub fn convert(f: &Factors, raw: u8) -> Option<Fixed>
     ensures { option_map (λ value. value.0) result ≡ reading_value f.now raw }
 {
-    if f.format == 3 || f.linear != 0 {
+    if f.format == NO_ANALOG_READING || f.linear != LINEAR {
         return None;
     }
     let result_exponent = f.k2 as i32 + 16;
@@ -156,11 +178,12 @@ fn parts(size: u128) -> (u128, u64)
     ensures rest { result.1 ≡ size % 10 ^ 16 }
 {
     // a division of 64 bits is far cheaper, and nearly all sizes have no more
-    if size <= u64::MAX as u128 {
+    if size <= u128::from(u64::MAX) {
         let size = size as u64;
-        ((size / ONE) as u128, size % ONE)
+        (u128::from(size / ONE), size % ONE)
     } else {
-        (size / ONE as u128, (size % ONE as u128) as u64)
+        let one = u128::from(ONE);
+        (size / one, (size % one) as u64)
     }
 }
 

@@ -38,7 +38,7 @@ fn event_name(event: u8, offset: u8) -> Option<&'static str>
     ensures { option_map (λ s. s.now) result ≡ event_name event offset }
 {
     if event == THRESHOLD_EVENT_TYPE {
-        entry(THRESHOLD_EVENTS.as_slice(), offset as usize)
+        entry(THRESHOLD_EVENTS.as_slice(), usize::from(offset))
     } else {
         None
     }

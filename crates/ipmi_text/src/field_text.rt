@@ -6,7 +6,28 @@ use crate::hex_digits::nibbles;
 use std::alloc::{AllocError, Global};
 
 /// The characters of BCD plus, by their nibble.
-const BCD_PLUS: &[u8; 16] = b"0123456789 -.:,_";
+const BCD_PLUS_CHARACTERS: &[u8; 16] = b"0123456789 -.:,_";
+
+/// Bits 7:6 of the type/length byte of an ID string in Unicode.
+const UNICODE: u8 = 0;
+
+/// Those of a field or an ID string in BCD plus.
+const BCD_PLUS: u8 = 1;
+
+/// Those of one in 6-bit ASCII.
+const SIX_BIT: u8 = 2;
+
+/// Those of an ID string in 8-bit ASCII and Latin-1, and of a field whose form the language decides.
+const LATIN1: u8 = 3;
+
+/// The language code of English.
+pub const ENGLISH: u8 = 0;
+
+/// The other code that the standard has for English.
+const ALSO_ENGLISH: u8 = 25;
+
+/// Bits 4:0 of an ID string's type/length byte: how many characters it has.
+const COUNT_BITS: u8 = 0x1F;
 
 /// The most bytes that the ID string of a sensor data record has.
 const ID_BYTES: usize = 16;
@@ -17,7 +38,7 @@ fn bcd_plus_character(nibble: u8) -> u8
     ensures value { result ≡ bcd_plus_character nibble }
     ensures ascii { result < 128 }
 {
-    BCD_PLUS[nibble as usize]
+    BCD_PLUS_CHARACTERS[usize::from(nibble)]
 }
 
 /// BCD plus: each byte is two characters, the high nibble first.
@@ -123,7 +144,7 @@ fn latin1_text(alloc: Global, bytes: &[u8]) -> Result<String, AllocError>
 fn is_english(language: u8) -> bool
     ensures { result ≡ is_english language }
 {
-    language == 0 || language == 25
+    language == ENGLISH || language == ALSO_ENGLISH
 }
 
 /// The text of a field of a FRU area (Platform Management FRU Information Storage Definition v1.0,
@@ -135,25 +156,25 @@ pub fn fru_text(alloc: Global, code: u8, language: u8, bytes: &[u8]) -> Result<S
     ensures { IfOk result (λ text. string_bytes text ≡ fru_text_of code language bytes.now) }
 {
     match code {
-        1 => bcd_plus_text(alloc, bytes),
-        2 => six_bit_text(alloc, bytes),
-        3 if is_english(language) => latin1_text(alloc, bytes),
+        BCD_PLUS => bcd_plus_text(alloc, bytes),
+        SIX_BIT => six_bit_text(alloc, bytes),
+        LATIN1 if is_english(language) => latin1_text(alloc, bytes),
         _ => hex::encode(alloc, bytes),
     }
 }
 
-/// Bits 7:6 of an ID string's type/length byte: how its bytes are read.
+/// How the bytes of an ID string are read: bits 7:6 of its type/length byte.
 fn id_kind(type_length: u8) -> u8
     ensures { result ≡ id_kind type_length }
 {
     type_length >> 6
 }
 
-/// Bits 4:0 of an ID string's type/length byte: how many characters it has.
+/// How many characters an ID string has, by its type/length byte.
 fn id_count(type_length: u8) -> usize
     ensures { result ≡ id_count type_length }
 {
-    usize::from(type_length & 0x1F)
+    usize::from(type_length & COUNT_BITS)
 }
 
 /// The bytes of an ID string: as many as its type/length byte asks for, at most 16, and no more
@@ -163,8 +184,8 @@ fn bytes_used(type_length: u8, rest: &[u8]) -> &[u8]
 {
     let count = id_count(type_length);
     let wanted = match id_kind(type_length) {
-        1 => (count + 1) / 2,
-        2 => (6 * count + 7) / 8,
+        BCD_PLUS => (count + 1) / 2,
+        SIX_BIT => (6 * count + 7) / 8,
         _ => count,
     };
     &rest[..wanted.min(ID_BYTES).min(rest.len())]
@@ -190,9 +211,9 @@ pub fn sdr_text(alloc: Global, tl: u8, rest: &[u8]) -> Result<String, AllocError
     let bytes = bytes_used(tl, rest);
     let count = id_count(tl);
     match id_kind(tl) {
-        0 => hex::encode(alloc, bytes),
-        1 => Ok(first_characters(bcd_plus_text(alloc, bytes)?, count)),
-        2 => Ok(first_characters(six_bit_text(alloc, bytes)?, count)),
+        UNICODE => hex::encode(alloc, bytes),
+        BCD_PLUS => Ok(first_characters(bcd_plus_text(alloc, bytes)?, count)),
+        SIX_BIT => Ok(first_characters(six_bit_text(alloc, bytes)?, count)),
         _ => latin1_text(alloc, bytes),
     }
 }
@@ -208,7 +229,7 @@ pub fn push_sdr_text(
         (string_bytes text.new ≡ string_bytes text.old ++ sdr_text_of type_length
         rest.now) }
 {
-    if id_kind(type_length) == 3 {
+    if id_kind(type_length) == LATIN1 {
         return push_latin1_text(text, bytes_used(type_length, rest));
     }
     let part = sdr_text(alloc, type_length, rest)?;

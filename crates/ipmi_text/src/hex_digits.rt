@@ -23,7 +23,7 @@ pub(crate) fn hex_digit(value: u8) -> &'static str
     requires { value < 16 }
     ensures { result.now ≡ digit_glyph false value ∷ [] }
 {
-    HEX_DIGITS[value as usize]
+    HEX_DIGITS[usize::from(value)]
 }
 
 /// A number below 16, printed as one lower-case hex digit.

@@ -45,6 +45,12 @@ const JOINED_BITS: u8 = 0x3F;
 /// Bits 2:1 of sensor units 1, shifted down: how the modifier is used.
 const MODIFIER_USE_BITS: u8 = 0x03;
 
+/// The modifier use of a base unit that is divided by the modifier.
+const DIVIDED: u8 = 1;
+
+/// That of one that is multiplied by it.
+const MULTIPLIED: u8 = 2;
+
 /// Bits 5:3 of sensor units 1, shifted down: the rate.
 const RATE_BITS: u8 = 0x07;
 
@@ -113,7 +119,7 @@ impl BaseUnit {
             self.0.units1 self.0.modifier) }
     {
         match self.0.modifier_use() {
-            1 | 2 => true,
+            DIVIDED | MULTIPLIED => true,
             _ => UnitName(self.0.base).is_there(),
         }
     }
@@ -129,8 +135,8 @@ impl fmt::Display for BaseUnit {
         let base = UnitName(self.0.base);
         let modifier = UnitName(self.0.modifier);
         match self.0.modifier_use() {
-            1 => write!(f, "{base}/{modifier}"),
-            2 => write!(f, "{base}*{modifier}"),
+            DIVIDED => write!(f, "{base}/{modifier}"),
+            MULTIPLIED => write!(f, "{base}*{modifier}"),
             _ => write!(f, "{base}"),
         }
     }
@@ -164,7 +170,7 @@ impl Units {
         self.units1 & JOINED_BITS
     }
 
-    /// How the modifier is joined to the base unit: not at all (0), by `/` (1) or by `*` (2).
+    /// How the modifier is joined to the base unit: not at all, or as `DIVIDED` or `MULTIPLIED` says.
     fn modifier_use(self) -> u8
         ensures { result ≡ self.units1 / 2 % 4 }
     {

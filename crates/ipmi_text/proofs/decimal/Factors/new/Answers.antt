@@ -9,8 +9,8 @@ invariant_of-result c =
     let k1 = c.is_twos_complement-then-is_twos_complement-2.ensures.0 c.if-is_twos_complement-3.true in
     let k2 = c.is_twos_complement-then-is_twos_complement-3.ensures.0 c.if-is_twos_complement-4.true in
     record {
-      format = c.if-format-le3.true;
-      linear = c.if-linear-le127.true;
+      format = c.if-format-le-NO_ANALOG_READING.true;
+      linear = c.if-linear-le-LAST_LINEARIZATION.true;
       m = (omega (arith, ints), omega (arith, ints));
       b = (omega (arith, ints), omega (arith, ints));
       k1 = (omega (arith, ints), omega (arith, ints));
