@@ -57,14 +57,14 @@ module _ (one_text : DecimalIsUnique) where
 
 module _ (one_utc_text : UtcTextIsUnique) where
   -- what is at a place is a byte; past the end it is 0
-  below_256 : (bytes : List ℕ) → AreBytes bytes → (k : ℕ) → slice_index bytes k < 256
-  below_256 bytes are k = elim (cases_lt k (length bytes)) [
+  slice_index-lt : (bytes : List ℕ) → AreBytes bytes → (k : ℕ) → slice_index bytes k < 256
+  slice_index-lt bytes are k = elim (cases_lt k (length bytes)) [
     | inl within ↦ are k 0 within
     | inr past ↦ let none = get_or_past bytes k 0 past in omega (arith, none)
   ]
 
   one_time : (place : ℕ) (bytes text other : List ℕ) → AreBytes bytes → IsUtcTextOf (little_from place 4 bytes) text → IsUtcTextOf (little_from place 4 bytes) other → text ≡ other
-  one_time place bytes text other are = one_utc_text (little_from place 4 bytes) text other (omega (arith, little_from-lt place 4 bytes (below_256 bytes are)))
+  one_time place bytes text other are = one_utc_text (little_from place 4 bytes) text other (omega (arith, little_from-lt place 4 bytes (slice_index-lt bytes are)))
 
   pub one_sel_line : (id : ℕ) (view : SelView) (text other : List ℕ) → AreBytes (entry_bytes view) → IsSelLine id view text → IsSelLine id view other → text ≡ other
   one_sel_line id (SelView.Event bytes) text other are h k = cc (one_time 3 bytes h.time k.time are h.is_time k.is_time)

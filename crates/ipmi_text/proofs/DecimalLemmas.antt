@@ -45,16 +45,16 @@ not_longer xs (y ∷ ys) h k e = elim (cases_lt (length xs) (length (y ∷ ys)))
 same_whole : (xs ys : List ℕ) → IsWhole xs → IsWhole ys → digits_value 10 xs ≡ digits_value 10 ys → xs ≡ ys
 same_whole xs ys h k e = (same_digits 0 0 xs ys (omega (arith, not_longer xs ys h k e, not_longer ys xs k h (sym e))) h.numeral.1 k.numeral.1 e).1
 
-digits-filled : (n : ℕ) (ds : List ℕ) → AllDigits 10 ds → AllDigits 10 (ds ++ replicate n 48)
-digits-filled zero [] h = tt
-digits-filled (suc n) [] h = (omega arith, digits-filled n [] h)
-digits-filled n (d ∷ ds) h = (h.0, digits-filled n ds h.1)
+AllDigits-filled : (n : ℕ) (ds : List ℕ) → AllDigits 10 ds → AllDigits 10 (ds ++ replicate n 48)
+AllDigits-filled zero [] h = tt
+AllDigits-filled (suc n) [] h = (omega arith, AllDigits-filled n [] h)
+AllDigits-filled n (d ∷ ds) h = (h.0, AllDigits-filled n ds h.1)
 
 length-filled : (ds : List ℕ) → IsFraction ds → length (filled ds) ≡ 16
 length-filled ds h = let short : length ds ≤ 16 = h.short in rw (length-append, length-replicate) (omega arith)
 
-filled_below : (ds : List ℕ) → IsFraction ds → digits_value 10 (filled ds) < 10 ^ 16
-filled_below ds h = rw (length-filled ds h) at (digits_value-lt 10 (filled ds) (digits-filled (16 - length ds) ds h.all_digits))
+digits_value-filled : (ds : List ℕ) → IsFraction ds → digits_value 10 (filled ds) < 10 ^ 16
+digits_value-filled ds h = rw (length-filled ds h) at (digits_value-lt 10 (filled ds) (AllDigits-filled (16 - length ds) ds h.all_digits))
 
 -- the fraction that is not 0 to its end is no longer than another of the same filled digits
 no_longer : (xs ys : List ℕ) → IsFraction xs → IsFraction ys → filled xs ≡ filled ys → length ys ≤ length xs
@@ -71,14 +71,14 @@ no_longer xs ys h k e = elim (cases_lt (length xs) (length ys)) [
 same_fraction : (xs ys : List ℕ) → IsFraction xs → IsFraction ys → digits_value 10 (filled xs) ≡ digits_value 10 (filled ys) → xs ≡ ys
 same_fraction xs ys h k e =
     let same : filled xs ≡ filled ys
-    = (same_digits 0 0 (filled xs) (filled ys) (length-filled xs h ∙ sym (length-filled ys k)) (digits-filled _ xs h.all_digits) (digits-filled _ ys k.all_digits) e).1 in
+    = (same_digits 0 0 (filled xs) (filled ys) (length-filled xs h ∙ sym (length-filled ys k)) (AllDigits-filled _ xs h.all_digits) (AllDigits-filled _ ys k.all_digits) e).1 in
     let long : length xs ≡ length ys = omega (arith, no_longer xs ys h k same, no_longer ys xs k h (sym same)) in
     append_cancel_right xs ys (replicate (16 - length ys) 48) (rw long at same)
 
 pub one_text : (value : ℤ) (text other : List ℕ) → IsDecimalOf value text → IsDecimalOf value other → text ≡ other
 one_text value text other h k =
-    let low = filled_below h.fraction h.is_fraction in
-    let low_other = filled_below k.fraction k.is_fraction in
+    let low = digits_value-filled h.fraction h.is_fraction in
+    let low_other = digits_value-filled k.fraction k.is_fraction in
     let whole = same_whole h.whole k.whole h.is_whole k.is_whole (omega arith) in
     let fraction = same_fraction h.fraction k.fraction h.is_fraction k.is_fraction (omega arith) in
     cc

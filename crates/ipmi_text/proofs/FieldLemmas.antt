@@ -51,15 +51,15 @@ six_bit_character_is bs i a b c bytes a_is b_is c_is =
 pub six_bit_count : (n : ℕ) → 8 * n / 6 ≡ n + n / 3
 six_bit_count n = omega arith
 
-pub latin1_text_step : (b : ℕ) (bs : List ℕ) → b ≢ 0 → latin1_text (b ∷ bs) ≡ encode_utf8 (latin1_character b) ++ latin1_text bs
-latin1_text_step b bs h =
+pub latin1_text-cons : (b : ℕ) (bs : List ℕ) → b ≢ 0 → latin1_text (b ∷ bs) ≡ encode_utf8 (latin1_character b) ++ latin1_text bs
+latin1_text-cons b bs h =
     let test : (b == 0) ≡ false = grind (arith, nat_tests) in
     let one_more : 1 + position_or_len (λ b. b == 0) bs ≡ suc (position_or_len (λ b. b == 0) bs) = omega arith in
     rw (test, one_more) refl
 
-pub latin1_text_next : (bs : List ℕ) (i : ℕ) → i < length bs → get_or bs i 0 ≢ 0
+pub latin1_text-drop : (bs : List ℕ) (i : ℕ) → i < length bs → get_or bs i 0 ≢ 0
     → latin1_text (drop i bs) ≡ encode_utf8 (latin1_character (get_or bs i 0)) ++ latin1_text (drop (i + 1) bs)
-latin1_text_next bs i within some = rw add-one (ap latin1_text (drop-cons bs i 0 within) ∙ latin1_text_step (get_or bs i 0) (drop (suc i) bs) some)
+latin1_text-drop bs i within some = rw add-one (ap latin1_text (drop-cons bs i 0 within) ∙ latin1_text-cons (get_or bs i 0) (drop (suc i) bs) some)
 
 -- bytes that are all printed as themselves
 pub all_plain : (bs : List ℕ) → ((k : ℕ) → k < length bs → (0x20 ≤ get_or bs k 0) × (get_or bs k 0 ≤ 0x7e)) → bs ≡ latin1_text bs
@@ -70,7 +70,7 @@ all_plain (b ∷ bs) plain =
     let above : nat_le 0x20 b ≡ true = grind (arith, nat_tests) in
     let below : nat_le b 0x7e ≡ true = grind (arith, nat_tests) in
     let rest = all_plain bs (λ k h. plain (suc k) (omega arith)) in
-    sym (latin1_text_step b bs (λ e. absurd (omega (arith, e))) ∙ rw (above, below, encode_ascii b (omega arith), ← rest) refl)
+    sym (latin1_text-cons b bs (λ e. absurd (omega (arith, e))) ∙ rw (above, below, encode_ascii b (omega arith), ← rest) refl)
 
 IsAscii-map : (f : ℕ → ℕ) → ((x : ℕ) → f x < 128) → (xs : List ℕ) → IsAscii (map f xs)
 IsAscii-map f h [] i = omega arith

@@ -1,5 +1,5 @@
 pub mod DecimalLemmas
-pub mod Division
+pub mod DivisionLemmas
 pub mod FieldLemmas
 pub mod ReadingLemmas
 pub mod TimeLemmas

@@ -6,14 +6,14 @@ use Rattle.std.proofs.lemmas.Int.{ints, unsigned_abs-mul}
 use Rattle.std.proofs.lemmas.Bool.Decides.{nat_tests}
 use Rattle.ipmi_text.specs.ReadingValue.{IsTwosComplement, SensorFactors, raw_number, reading_value, ten_to}
 
-pub ten_to_le : (z : ℤ) → pos 0 ≤ℤ z → z ≤ℤ pos 30 → unsigned_abs (ten_to z) ≤ 10 ^ 30
-ten_to_le z low high = let small : unsigned_abs z ≤ 30 = omega (arith, ints) in pow-le-pow_right (omega arith) small
+pub unsigned_abs-ten_to : (z : ℤ) → pos 0 ≤ℤ z → z ≤ℤ pos 30 → unsigned_abs (ten_to z) ≤ 10 ^ 30
+unsigned_abs-ten_to z low high = let small : unsigned_abs z ≤ 30 = omega (arith, ints) in pow-le-pow_right (omega arith) small
 
-pub abs_twos_complement : (half : ℕ) (z : ℤ) → IsTwosComplement half z → unsigned_abs z ≤ half
-abs_twos_complement half z h = let a = h.0 in let b = h.1 in omega (arith, ints)
+pub unsigned_abs-twos_complement : (half : ℕ) (z : ℤ) → IsTwosComplement half z → unsigned_abs z ≤ half
+unsigned_abs-twos_complement half z h = let a = h.0 in let b = h.1 in omega (arith, ints)
 
-pub abs_product : (a b : ℤ) (m n : ℕ) → unsigned_abs a ≤ m → unsigned_abs b ≤ n → unsigned_abs (a *ℤ b) ≤ m * n
-abs_product a b m n h k = rw (unsigned_abs-mul a b) (mul-le-mul h k)
+pub unsigned_abs-mul_le : (a b : ℤ) (m n : ℕ) → unsigned_abs a ≤ m → unsigned_abs b ≤ n → unsigned_abs (a *ℤ b) ≤ m * n
+unsigned_abs-mul_le a b m n h k = rw (unsigned_abs-mul a b) (mul-le-mul h k)
 
 pub sum_fits : (a b : ℤ) → unsigned_abs a ≤ 2 ^ 17 * 10 ^ 30 → unsigned_abs b ≤ 2 ^ 17 * 10 ^ 30 → FitsSigned w128 (a +ℤ b)
 sum_fits a b h k = omega (arith, ints)

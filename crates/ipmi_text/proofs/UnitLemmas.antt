@@ -27,16 +27,16 @@ append_spaced (x ∷ xs) (y ∷ ys) [] f s first second = rw (first, second, app
 append_spaced (x ∷ xs) (y ∷ ys) (z ∷ zs) f s first second = rw (first, second) refl
 
 -- they are something where one of them is
-pub is_not_empty_joined : (p u r : List ℕ)
+pub is_not_empty_join_with_byte : (p u r : List ℕ)
     → is_not_empty (join_with_byte 32 (filter is_not_empty (p ∷ u ∷ r ∷ []))) ≡ (is_not_empty p || is_not_empty u) || is_not_empty r
-is_not_empty_joined [] [] [] = refl
-is_not_empty_joined [] [] (z ∷ zs) = refl
-is_not_empty_joined [] (y ∷ ys) [] = refl
-is_not_empty_joined [] (y ∷ ys) (z ∷ zs) = refl
-is_not_empty_joined (x ∷ xs) [] [] = refl
-is_not_empty_joined (x ∷ xs) [] (z ∷ zs) = refl
-is_not_empty_joined (x ∷ xs) (y ∷ ys) [] = refl
-is_not_empty_joined (x ∷ xs) (y ∷ ys) (z ∷ zs) = refl
+is_not_empty_join_with_byte [] [] [] = refl
+is_not_empty_join_with_byte [] [] (z ∷ zs) = refl
+is_not_empty_join_with_byte [] (y ∷ ys) [] = refl
+is_not_empty_join_with_byte [] (y ∷ ys) (z ∷ zs) = refl
+is_not_empty_join_with_byte (x ∷ xs) [] [] = refl
+is_not_empty_join_with_byte (x ∷ xs) [] (z ∷ zs) = refl
+is_not_empty_join_with_byte (x ∷ xs) (y ∷ ys) [] = refl
+is_not_empty_join_with_byte (x ∷ xs) (y ∷ ys) (z ∷ zs) = refl
 
 -- a name that is all there is
 only_name : (name : List ℕ) → name ≡ join_with_byte 32 (filter is_not_empty ([] ∷ (name ++ []) ∷ [] ∷ []))
@@ -44,8 +44,8 @@ only_name [] = refl
 only_name (c ∷ name) = rw append-nil refl
 
 -- without percent, modifier and rate the name is printed, and nothing else
-pub plain_units : (units1 base modifier : ℕ) → units1 % 64 ≡ 0 → unit_text_of units1 base modifier ≡ unit_name_or_code base
-plain_units units1 base modifier none =
+pub unit_text_of_plain : (units1 base modifier : ℕ) → units1 % 64 ≡ 0 → unit_text_of units1 base modifier ≡ unit_name_or_code base
+unit_text_of_plain units1 base modifier none =
     let no_percent : units1 % 2 ≡ 0 = omega arith in
     let no_modifier : units1 / 2 % 4 ≡ 0 = omega arith in
     let no_rate : units1 / 8 % 8 ≡ 0 = omega arith in

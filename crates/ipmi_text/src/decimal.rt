@@ -200,7 +200,7 @@ pub fn push_fixed(text: &mut String, value: Fixed) -> Result<(), AllocError>
 }
 
 /// The shortest exact decimal of a value, as `push_fixed` appends it.
-#[tactic(auto, using(crate::proofs::Division::only_part))]
+#[tactic(auto, using(crate::proofs::DivisionLemmas::only_part))]
 pub fn fixed_text(alloc: Global, value: Fixed) -> Result<String, AllocError>
     ensures { IfOk result (λ text. IsDecimalOf value.0 (string_bytes text)) }
 {

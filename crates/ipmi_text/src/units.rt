@@ -196,7 +196,7 @@ impl Units {
     }
 
     /// What they print as, where that is the name of the base unit and no more.
-    #[tactic(auto, using(crate::proofs::UnitLemmas::plain_units))]
+    #[tactic(auto, using(crate::proofs::UnitLemmas::unit_text_of_plain))]
     fn plain_name(self) -> Option<&'static str>
         ensures { IfSome result (λ name. name.now ≡ unit_text_of self.units1 self.base
             self.modifier) }
@@ -209,7 +209,7 @@ impl Units {
     }
 
     /// Whether they print as something.
-    #[tactic(auto, using(crate::proofs::UnitLemmas::is_not_empty_joined))]
+    #[tactic(auto, using(crate::proofs::UnitLemmas::is_not_empty_join_with_byte))]
     fn is_there(self) -> bool
         ensures { result ≡ is_not_empty (unit_text_of self.units1 self.base self.modifier) }
     {

@@ -1,7 +1,7 @@
 use Rattle.std.proofs.Common.{◌*ℤ◌, ◌+ℤ◌, pos, arith, FitsSigned, w8, w16, w32, to_z-of_z}
 use Rattle.std.specs.Int.{w128}
 use Rattle.std.proofs.lemmas.Int.{fits_signed_from_abs, fits_signed_mul, ints}
-use Rattle.ipmi_text.proofs.ReadingLemmas.{abs_product, abs_twos_complement, sum_fits, value_is}
+use Rattle.ipmi_text.proofs.ReadingLemmas.{unsigned_abs-mul_le, unsigned_abs-twos_complement, sum_fits, value_is}
 use Rattle.ipmi_text.proofs.decimal.convert.Goals as goal
 use Rattle.ipmi_text.proofs.decimal.convert.Goals.{After-raw_number}
 
@@ -15,7 +15,7 @@ raw_fits : (c : After-raw_number) → FitsSigned w32 c.raw_number.result
 raw_fits c = fits_signed_from_abs w32 c.raw_number.result (omega (arith, c.raw_number.ensures.size))
 
 product_fits : (c : After-raw_number) → FitsSigned w32 (c.f.inside.m *ℤ c.raw_number.result)
-product_fits c = fits_signed_mul w32 c.f.inside.m c.raw_number.result 512 256 (abs_twos_complement 512 c.f.inside.m c.f.invariant.m) c.raw_number.ensures.size (omega arith)
+product_fits c = fits_signed_mul w32 c.f.inside.m c.raw_number.result 512 256 (unsigned_abs-twos_complement 512 c.f.inside.m c.f.invariant.m) c.raw_number.ensures.size (omega arith)
 
 pub overflow_mul-f-inside : goal.overflow_mul-f-inside
 overflow_mul-f-inside c = simp (to_z-of_z (m_fits c), to_z-of_z (m_fits_32 c), to_z-of_z (raw_fits c)) (product_fits c)
@@ -23,7 +23,7 @@ overflow_mul-f-inside c = simp (to_z-of_z (m_fits c), to_z-of_z (m_fits_32 c), t
 pub scaled-slope-requires-clause-number : goal.scaled-slope-requires-clause-number
 scaled-slope-requires-clause-number c =
     simp (to_z-of_z (m_fits c), to_z-of_z (m_fits_32 c), to_z-of_z (raw_fits c), to_z-of_z (product_fits c))
-    (abs_product c.f.inside.m c.raw_number.result 512 256 (abs_twos_complement 512 c.f.inside.m c.f.invariant.m) c.raw_number.ensures.size)
+    (unsigned_abs-mul_le c.f.inside.m c.raw_number.result 512 256 (unsigned_abs-twos_complement 512 c.f.inside.m c.f.invariant.m) c.raw_number.ensures.size)
 
 pub overflow_add-f-inside : goal.overflow_add-f-inside
 overflow_add-f-inside c = omega (arith, ints, c.f.invariant.k1.0, c.f.invariant.k1.1, c.f.invariant.k2.0, c.f.invariant.k2.1)
@@ -42,9 +42,9 @@ overflow_add-result c =
 
 pub returns : goal.returns
 returns c =
-    let b = abs_twos_complement 512 c.f.inside.b c.f.invariant.b in
-    let k1 = abs_twos_complement 8 c.f.inside.k1 c.f.invariant.k1 in
-    let k2 = abs_twos_complement 8 c.f.inside.k2 c.f.invariant.k2 in
+    let b = unsigned_abs-twos_complement 512 c.f.inside.b c.f.invariant.b in
+    let k1 = unsigned_abs-twos_complement 8 c.f.inside.k1 c.f.invariant.k1 in
+    let k2 = unsigned_abs-twos_complement 8 c.f.inside.k2 c.f.invariant.k2 in
     let m16 : FitsSigned w16 c.f.inside.m = m_fits (goal.at.returns c).After-raw_number in
     let m32 : FitsSigned w32 c.f.inside.m = m_fits_32 (goal.at.returns c).After-raw_number in
     let x32 : FitsSigned w32 c.raw_number.result = raw_fits (goal.at.returns c).After-raw_number in

@@ -1,7 +1,7 @@
 use Rattle.std.proofs.Common.{rules, ◌≡◌, ◌∙◌, ◌<◌, ◌%◌, ◌/◌, ◌^◌, ◌++◌, ℕ, ap, arith, string_bytes, decimal, unsigned_abs}
 use Rattle.std.proofs.lemmas.Result.{IfOk-weaker}
 use Rattle.ipmi_text.specs.Decimal.{sign_of}
-use Rattle.ipmi_text.proofs.Division.{appended}
+use Rattle.ipmi_text.proofs.DivisionLemmas.{appended}
 use Rattle.ipmi_text.proofs.decimal.push_fixed.Goals as goal
 
 pub returns : goal.returns

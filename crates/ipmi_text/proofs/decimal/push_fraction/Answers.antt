@@ -1,6 +1,6 @@
 use Rattle.std.proofs.Common.{◌≡◌, ◌+◌, ◌/◌, ◌++◌, ◌∷◌, [], arith, string_bytes}
 use Rattle.std.proofs.lemmas.Grind.{common_steps}
-use Rattle.ipmi_text.proofs.Division.{all_written, next_digit, one_more_written}
+use Rattle.ipmi_text.proofs.DivisionLemmas.{all_written, next_digit, one_more_written}
 use Rattle.ipmi_text.proofs.decimal.push_fraction.Goals as goal
 
 pub nonzero_div-rest : goal.nonzero_div-rest

@@ -1,5 +1,5 @@
 use Rattle.std.proofs.Common.{string_bytes}
-use Rattle.ipmi_text.proofs.Division.{HasWritten}
+use Rattle.ipmi_text.proofs.DivisionLemmas.{HasWritten}
 use Rattle.ipmi_text.proofs.decimal.push_fraction.Given as goal
 
 abbrev pub invariant-digits : goal.invariant-digits

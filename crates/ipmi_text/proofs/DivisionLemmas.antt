@@ -81,8 +81,8 @@ digits_value-zeros (suc k) ds =
     ap (digits_value 10) (sym (append_assoc ds (48 ∷ []) (replicate k 48))) ∙ digits_value-zeros k (ds ++ 48 ∷ []) ∙ rw (one, power) (omega arith)
 
 -- no leading zero but in `0` itself
-whole_of : (n : ℕ) → n < 10 ^ 64 → IsWhole (decimal n)
-whole_of n small =
+IsWhole-decimal : (n : ℕ) → n < 10 ^ 64 → IsWhole (decimal n)
+IsWhole-decimal n small =
     let steps = decimal_by_steps_wide (λ m ds. (0 < length ds) × (get_or ds 0 0 ≡ 48 → (m ≡ 0) × (length ds ≡ 1)))
     (λ m h. (omega arith, λ e. (omega arith, refl)))
     (λ m ds h p. (simp length-append (omega arith), λ e. let front : 0 < length ds = p.0 in absurd (omega (arith, (p.1 (rw (get_or-append ds ((48 + m % 10) ∷ []) 0 0 front) at e)).0))))
@@ -116,7 +116,7 @@ appended v old start text small start_is h =
       is_text = record {
         whole = whole;
         fraction = h.digits;
-        is_whole = whole_of (unsigned_abs v / 10 ^ 16) whole_small;
+        is_whole = IsWhole-decimal (unsigned_abs v / 10 ^ 16) whole_small;
         is_fraction = h.is_fraction;
         text_is = refl;
         size_is = rw ((decimal_is_IsNumeral_wide (unsigned_abs v / 10 ^ 16) whole_small).1, h.value_is) (omega arith);
