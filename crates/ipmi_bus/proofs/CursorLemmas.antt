@@ -6,7 +6,7 @@ use Rattle.std.proofs.lemmas.Bool.Decides.{nat_tests}
 use Rattle.ipmi_bus.specs.Prelude.{Shelf, Place, First, Id, End, Retrieval, Handed, Progress, Row, IsShelf, BeginsWithId, whole_len, largest_len, look, first_row, place_after, rows_of, store_shelf, Seen, IsHonest, wanted_len, handed_row, handed_id, whole_row, IsAsked, cycle_at, HandsOut, HasIdAsked, CursorState}
 use Rattle.ipmi_bus.specs.Retrieval.{HasRead}
 use Rattle.ipmi_bus.proofs.PartLemmas.{get_or-read}
-use Rattle.ipmi_bus.proofs.WalkLemmas.{id_of}
+use Rattle.ipmi_bus.proofs.WalkLemmas.{id-row_at}
 
 -- the id that is handed out is the row's
 begins : (rows : List Row) (row : Row) → BeginsWithId rows → first_row rows ≡ Some row → get_or row.bytes 0 0 + 256 * get_or row.bytes 1 0 ≡ row.id
@@ -23,7 +23,7 @@ handed_id-row shelf rows First ids asked have buffer row ok asks found some same
     let high = get_or-read have 1 buffer row.bytes (omega arith) same in
     let id = begins rows row ok.first (rw asks.id at found) in omega arith
 handed_id-row shelf rows (Id n) ids asked have buffer row ok asks found some same =
-    let zero = (asked_unseen n ids asks.none).0 in asks.id ∙ sym (id_of shelf rows n row ok (rw zero (rw (asks.id, zero) at found))).1
+    let zero = (asked_unseen n ids asks.none).0 in asks.id ∙ sym (id-row_at shelf rows n row ok (rw zero (rw (asks.id, zero) at found))).1
 handed_id-row shelf rows End ids asked have buffer row ok asks found some same = absurd (asks.not_at_end refl)
 
 -- the row that is whole in the buffer is the one that was read

@@ -12,14 +12,14 @@ use mir.Syntax.{w8}
 use mir.Val.{bits}
 use Rattle.ipmi_bus.specs.Prelude.{has_id_bit, ids_below, ids_in}
 
-step : (s : set.FinSet nat_cmp) (b p : Bool) (k q : ℕ) → (q ≡ k → p ≡ b) → set.contains s q ≡ (nat_lt q k && p) → set.contains (cond b (set.insert s k) s) q ≡ (nat_lt q (suc k) && p)
-step s true p k q same ih = grind (members, rules)
-step s false p k q same ih = grind (members, rules)
+contains-put : (s : set.FinSet nat_cmp) (b p : Bool) (k q : ℕ) → (q ≡ k → p ≡ b) → set.contains s q ≡ (nat_lt q k && p) → set.contains (cond b (set.insert s k) s) q ≡ (nat_lt q (suc k) && p)
+contains-put s true p k q same ih = grind (members, rules)
+contains-put s false p k q same ih = grind (members, rules)
 
 contains-ids_below : (bytes : List ℕ) (k q : ℕ) → set.contains (ids_below bytes k) q ≡ (nat_lt q k && has_id_bit bytes q)
 unfolding ids_below
 contains-ids_below bytes zero q = grind (members, rules)
-contains-ids_below bytes (suc k) q = step (ids_below bytes k) (has_id_bit bytes k) (has_id_bit bytes q) k q (ap (has_id_bit bytes)) (contains-ids_below bytes k q)
+contains-ids_below bytes (suc k) q = contains-put (ids_below bytes k) (has_id_bit bytes k) (has_id_bit bytes q) k q (ap (has_id_bit bytes)) (contains-ids_below bytes k q)
 
 pub contains-ids_in : (bytes : List ℕ) (q : ℕ) → set.contains (ids_in bytes) q ≡ (nat_lt q 65536 && has_id_bit bytes q)
 unfolding ids_in

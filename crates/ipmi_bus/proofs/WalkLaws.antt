@@ -7,7 +7,7 @@ use Rattle.std.proofs.Math.Bool.{or-false}
 use Rattle.std.proofs.lemmas.Bool.Decides.{nat_tests}
 use Rattle.ipmi_bus.specs.Prelude.{Shelf, Place, First, Id, End, Row, IsShelf, look, row_with_id, first_row, row_at, Links, AllOf, IsWalk, place_after, place_after_rows, has_id, WalkEnd, Done, CycleAt, MissingAt, EndsBy, EndsAfter, EndsEmpty, last_next, HasWalk}
 use Rattle.ipmi_bus.proofs.ShelfLemmas.{DistinctIds-snoc}
-use Rattle.ipmi_bus.proofs.WalkLemmas.{row_at-next, has_id-next, look-asked_at, cycle_at-none, end_facts, place_after_rows-last, id_of, has_id-append}
+use Rattle.ipmi_bus.proofs.WalkLemmas.{row_at-next, has_id-next, look-asked_at, cycle_at-none, end_facts, place_after_rows-last, id-row_at, has_id-append}
 
 -- the ids of a walk, as a set
 abbrev ids_of : List Row → set.FinSet nat_cmp
@@ -89,7 +89,7 @@ left_over_lt (r ∷ rows) done row found fresh =
 -- a row at a place is a row of the shelf
 found_at : (shelf : Shelf) (place : Place) (rows : List Row) (row : Row) → IsShelf shelf rows → row_at place rows ≡ Some row → (look rows row.id ≡ Some row) × (row_with_id row.id rows ≡ Some row)
 found_at shelf First rows row ok found = grind (arith, nat_tests)
-found_at shelf (Id n) rows row ok found = let is = id_of shelf rows n row ok found in grind (arith, nat_tests)
+found_at shelf (Id n) rows row ok found = let is = id-row_at shelf rows n row ok found in grind (arith, nat_tests)
 found_at shelf End rows row ok found = cc found
 
 AllOf-snoc : (rows done : List Row) (row : Row) → AllOf rows done → look rows row.id ≡ Some row → AllOf rows (done ++ row ∷ [])
@@ -98,7 +98,7 @@ AllOf-snoc rows (d ∷ done) row all here = (all.0, AllOf-snoc rows done row all
 
 -- the place after a row leads to the next one by its id
 linked : (shelf : Shelf) (next : ℕ) (rows : List Row) (row : Row) → IsShelf shelf rows → row_at (place_after next) rows ≡ Some row → (next ≡ row.id) × (row.id ≢ 0)
-linked shelf next rows row ok found = grind (arith, nat_tests, id_of shelf rows next row ok)
+linked shelf next rows row ok found = grind (arith, nat_tests, id-row_at shelf rows next row ok)
 
 Links-snoc : (shelf : Shelf) (rows : List Row) (d : Row) (done : List Row) (row : Row) → IsShelf shelf rows → Links (d ∷ done) → row_at (place_after_rows (place_after d.next) done) rows ≡ Some row → Links (d ∷ (done ++ row ∷ []))
 Links-snoc shelf rows d [] row ok links found = let l = linked shelf d.next rows row ok found in (l.0, l.1, tt)

@@ -51,13 +51,13 @@ pub look-asked_at : (place : Place) (rows : List Row) (row : Row) → row_at pla
 look-asked_at place rows row found = grind (arith, nat_tests)
 
 -- it is the row's
-pub id_of : (shelf : Shelf) (rows : List Row) (n : ℕ) (row : Row) → IsShelf shelf rows → row_at (Id n) rows ≡ Some row → (nat_eq n 0 ≡ false) × (row.id ≡ n)
-id_of shelf rows n row ok found = grind (arith, nat_tests, found_row shelf rows n row ok.all)
+pub id-row_at : (shelf : Shelf) (rows : List Row) (n : ℕ) (row : Row) → IsShelf shelf rows → row_at (Id n) rows ≡ Some row → (nat_eq n 0 ≡ false) × (row.id ≡ n)
+id-row_at shelf rows n row ok found = grind (arith, nat_tests, found_row shelf rows n row ok.all)
 
 pub cycle_at-none : (shelf : Shelf) (rows : List Row) (place : Place) (ids : set.FinSet nat_cmp) (done : List Row) (row : Row) → IsShelf shelf rows → ((n : ℕ) → set.contains ids n ≡ has_id done n) → has_id done row.id ≡ false
     → row_at place rows ≡ Some row → cycle_at place ids ≡ None
 cycle_at-none shelf rows (Id n) ids done row ok same fresh found =
-    let is = id_of shelf rows n row ok found in
+    let is = id-row_at shelf rows n row ok found in
     let out : set.contains ids n ≡ false = same n ∙ ap (has_id done) (sym is.1) ∙ fresh in
     rw (is.0, out) refl
 cycle_at-none shelf rows _ ids done row ok same fresh found = refl

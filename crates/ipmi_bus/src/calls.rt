@@ -17,11 +17,7 @@ pub(crate) fn smaller_part(asked: usize) -> Option<u8>
     requires { asked < 255 }
     ensures { result ≡ smaller_part asked }
 {
-    if asked > 1 {
-        Some((asked / 2) as u8)
-    } else {
-        None
-    }
+    (asked > 1).then_some((asked / 2) as u8)
 }
 
 /// What is to be done after a call that failed.

@@ -17,6 +17,8 @@ pub const SDR_HEADER_LEN: usize = 5;
 pub const LARGEST_SDR_LEN: usize = 256;
 /// The bytes of an entry of the event log.
 pub const SEL_ENTRY_LEN: usize = 16;
+/// The bytes of a repository info, after the completion code.
+pub const INFO_LEN: usize = 14;
 /// The most bytes of an inventory, whose size is a 16-bit number.
 pub const LARGEST_INVENTORY_LEN: usize = 0xFFFF;
 
@@ -91,7 +93,7 @@ pub trait Controller {
 
     /// Get SDR Repository Info or Get SEL Info (IPMI v2.0, sections 33.9 and 31.2): the 14 bytes after the
     /// completion code.
-    fn info(&mut self, shelf: Shelf) -> Result<[u8; 14], Code>
+    fn info(&mut self, shelf: Shelf) -> Result<[u8; INFO_LEN], Code>
         ensures counted { (seen self.new).calls ≡ (seen self.old).calls + 1 }
         ensures honest { IsHonest (seen self.old) →
             ValueAnswers (info_of shelf) result (seen self.old) (seen self.new) };

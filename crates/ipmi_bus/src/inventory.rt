@@ -109,13 +109,10 @@ impl FruRetrieval {
                 self.troubles += 1;
                 Ok(())
             }
-            Failure::Smaller => match smaller_part(asked) {
-                Some(part) => {
-                    self.part = part;
-                    Ok(())
-                }
-                None => Err(FruEnded::Stalled),
-            },
+            Failure::Smaller => {
+                self.part = smaller_part(asked).ok_or(FruEnded::Stalled)?;
+                Ok(())
+            }
             Failure::GiveUp => Err(FruEnded::GaveUp),
             Failure::Absent | Failure::Refuse => Err(FruEnded::Refused(code)),
         }
@@ -232,6 +229,5 @@ pub fn read_fru<C: Controller>(
         bytes: vec![in alloc; 0u8; usize::from(size.bytes)]?,
     };
     retrieval.read_all(ctl)?;
-    let FruRetrieval { bytes, .. } = retrieval;
-    Ok(bytes)
+    Ok(retrieval.bytes)
 }

@@ -15,8 +15,8 @@ mod tally;
 
 pub use code::{Code, CodeClass};
 pub use controller::{
-    Controller, FIRST_RECORD_ID, FruSize, LARGEST_INVENTORY_LEN, LARGEST_PART, LARGEST_SDR_LEN,
-    NO_NEXT_ID, Part, SDR_HEADER_LEN, SEL_ENTRY_LEN, Shelf,
+    Controller, FIRST_RECORD_ID, FruSize, INFO_LEN, LARGEST_INVENTORY_LEN, LARGEST_PART,
+    LARGEST_SDR_LEN, NO_NEXT_ID, Part, SDR_HEADER_LEN, SEL_ENTRY_LEN, Shelf,
 };
 pub use cursor::Cursor;
 pub use inventory::{FruEnded, read_fru};

@@ -167,13 +167,10 @@ impl Retrieval {
                 self.have = 0;
                 Ok(CallOutcome::Again)
             }
-            Failure::Smaller => match smaller_part(asked) {
-                Some(part) => {
-                    self.part = part;
-                    Ok(CallOutcome::Again)
-                }
-                None => Err(Ended::Stalled(self.id)),
-            },
+            Failure::Smaller => {
+                self.part = smaller_part(asked).ok_or(Ended::Stalled(self.id))?;
+                Ok(CallOutcome::Again)
+            }
             Failure::Absent => Ok(CallOutcome::Absent),
             Failure::GiveUp => Err(Ended::GaveUp(self.id)),
             Failure::Refuse => Err(Ended::Refused(self.id, code)),

@@ -10,9 +10,9 @@ use Rattle.hex.specs.Hex.{encode_lower}
 use Rattle.ipmi_image.specs.Below.{Shelf, Sdr, Sel, AreBytes, Store, Inventory, SensorReading, IsInventory, IsInfo, IsSensorReading, OtherSensor, IsStore, inventory_in, reading_in}
 use Rattle.ipmi_image.specs.Prelude.{pieces, an_inventory, a_reading, an_info, the_end, first_of, with_bytes, info_fault, fault_in, store_of_image, hex_of, rows_lines, first_parts, part_fields, inventory_lines, reading_fields, info_lines, other_lines, lines_text, image_text_of, IsSaved}
 use Rattle.ipmi_image.proofs.TextLemmas.{Lacks, pieces-more}
-use Rattle.ipmi_image.proofs.ReadLemmas.{line_found, store_after_line, store_of_image-lines}
-use Rattle.ipmi_image.proofs.ParseLemmas.{a_word, a_hex, joined, line_of-fields, bytes_are, word_of, part_again, bytes_of_reading, reading_bytes, reading_again, info_again}
-use Rattle.ipmi_image.proofs.TakenLemmas.{Kept, nothing, kept_with, store_kept, Gives, line_gives, saved_rows, chained-saved, with_rows, a_shelf, shelf_gives}
+use Rattle.ipmi_image.proofs.ReadLemmas.{line_judged-found, store_after_line, store_of_image-lines}
+use Rattle.ipmi_image.proofs.ParseLemmas.{a_word, a_hex, pieces-join_with_byte, line_of-fields, AreBytes-big_bytes, word_of, line_of_fields-part_fields, bytes_of_reading, AreBytes-bytes_of_reading, line_of_fields-reading_fields, line_of_fields-info}
+use Rattle.ipmi_image.proofs.TakenLemmas.{Kept, nothing, kept_with, store_kept, Gives, line_gives, saved_rows, chained-saved_rows, with_rows, a_shelf, shelf_gives}
 
 abbrev Lines : Type 0
 Lines = List (List (List ℕ))
@@ -42,9 +42,9 @@ with_bytes-twice : (id : ℕ) (a b : List ℕ) (inventories : List Inventory) �
 with_bytes-twice id a b [] = rw (eq-eqb id id refl) refl
 with_bytes-twice id a b (x ∷ xs) = let more = with_bytes-twice id a b xs in grind (arith, append_assoc, nat_tests, more)
 
-bytes-with_bytes : (id : ℕ) (a : List ℕ) (inventories : List Inventory) → unwrap_or (inventory_in (with_bytes id a inventories) id) [] ≡ unwrap_or (inventory_in inventories id) [] ++ a
-bytes-with_bytes id a [] = rw (eq-eqb id id refl) refl
-bytes-with_bytes id a (x ∷ xs) = let more = bytes-with_bytes id a xs in grind (arith, nat_tests, more)
+inventory_in-with_bytes : (id : ℕ) (a : List ℕ) (inventories : List Inventory) → unwrap_or (inventory_in (with_bytes id a inventories) id) [] ≡ unwrap_or (inventory_in inventories id) [] ++ a
+inventory_in-with_bytes id a [] = rw (eq-eqb id id refl) refl
+inventory_in-with_bytes id a (x ∷ xs) = let more = inventory_in-with_bytes id a xs in grind (arith, nat_tests, more)
 
 -- the first bytes of an inventory make a new one
 new_bytes : (id : ℕ) (bytes : List ℕ) (front : List Inventory) → All (λ i. i.id ≢ id) front → (with_bytes id bytes front ≡ front ++ record { id = id; bytes = bytes } ∷ []) × (inventory_in front id ≡ None)
@@ -66,8 +66,8 @@ module _ (store : Store) (kept : Kept) where
       → Gives store (inventories_kept (with_bytes id part inventories)) rest → Gives store (inventories_kept inventories) (part_fields id part ∷ rest)
   part_gives id part inventories rest le some bytes fits give =
       line_gives store (inventories_kept inventories) (codes "fru") (hex_of 1 id ∷ encode_lower part ∷ []) (an_inventory id part) rest
-      (a_word (codes "fru") refl, (a_hex (big_bytes 1 id) (bytes_are 1 id), (a_hex part bytes, tt)))
-      (part_again id part le some bytes)
+      (a_word (codes "fru") refl, (a_hex (big_bytes 1 id) (AreBytes-big_bytes 1 id), (a_hex part bytes, tt)))
+      (line_of_fields-part_fields id part le some bytes)
       refl
       (rw (ne_eqb id 255 (λ e. omega (arith, le, e)), below) refl)
       (simp append-nil give)
@@ -84,12 +84,12 @@ module _ (store : Store) (kept : Kept) where
   parts_give id (suc (suc n)) bytes inventories rest le count some all fits give =
       let left = length-drop 64 bytes in
       let taken = length-take 64 bytes in
-      let joined = length-append (unwrap_or (inventory_in inventories id) []) (take 64 bytes) in
-      let held = ap length (bytes-with_bytes id (take 64 bytes) inventories) in
+      let joined_len = length-append (unwrap_or (inventory_in inventories id) []) (take 64 bytes) in
+      let held = ap length (inventory_in-with_bytes id (take 64 bytes) inventories) in
       let same : with_bytes id (drop 64 bytes) (with_bytes id (take 64 bytes) inventories) ≡ with_bytes id bytes inventories = with_bytes-twice id (take 64 bytes) (drop 64 bytes) inventories ∙ rw (take-append-drop 64 bytes) refl in
       part_gives id (take 64 bytes) inventories (map (part_fields id) (first_parts (suc n) (drop 64 bytes)) ++ rest) le (omega (arith, taken, some)) (All-take (λ (b : ℕ). b < 256) 64 bytes all) (omega (arith, taken, fits))
       (parts_give id (suc n) (drop 64 bytes) (with_bytes id (take 64 bytes) inventories) rest le (omega (arith, left, count)) (omega (arith, left, count)) (All-drop (λ (b : ℕ). b < 256) 64 bytes all)
-      (omega (arith, left, taken, joined, held, fits, count))
+      (omega (arith, left, taken, joined_len, held, fits, count))
       (subst (λ (l : List Inventory). Gives store (inventories_kept l) rest) (sym same) give))
 
   inventory_gives : (front : List Inventory) (x : Inventory) (rest : Lines) → IsWhole x → All (λ a. a.id ≢ x.id) front → Gives store (inventories_kept (front ++ x ∷ [])) rest
@@ -123,10 +123,10 @@ module _ (store : Store) (kept : Kept) where
   reading_gives : (front : List SensorReading) (x : SensorReading) (rest : Lines) → IsSensor x → All (λ a. OtherSensor a x) front → Gives store (readings_kept (front ++ x ∷ [])) rest
       → Gives store (readings_kept front) (reading_fields x ∷ rest)
   reading_gives front x rest is others give =
-      let lun = All-drop (λ b. nat_lt 32 b ≡ true) 1 (hex_of 1 x.lun) (a_hex (big_bytes 1 x.lun) (bytes_are 1 x.lun)) in
+      let lun = All-drop (λ b. nat_lt 32 b ≡ true) 1 (hex_of 1 x.lun) (a_hex (big_bytes 1 x.lun) (AreBytes-big_bytes 1 x.lun)) in
       line_gives store (readings_kept front) (codes "reading") (drop 1 (hex_of 1 x.lun) ∷ hex_of 1 x.number ∷ encode_lower (bytes_of_reading x) ∷ []) (a_reading x.lun x.number (bytes_of_reading x)) rest
-      (a_word (codes "reading") refl, (lun, (a_hex (big_bytes 1 x.number) (bytes_are 1 x.number), (a_hex (bytes_of_reading x) (reading_bytes x is.ok), tt))))
-      (reading_again x is.lun is.ok)
+      (a_word (codes "reading") refl, (lun, (a_hex (big_bytes 1 x.number) (AreBytes-big_bytes 1 x.number), (a_hex (bytes_of_reading x) (AreBytes-bytes_of_reading x is.ok), tt))))
+      (line_of_fields-reading_fields x is.lun is.ok)
       refl
       (rw (below, reading_in-absent front x others) refl)
       (simp append-nil give)
@@ -156,7 +156,7 @@ info_gives store shelf kept (Some bytes) rest ok give =
     let kept' = info_kept shelf kept bytes in
     line_gives store (with_infos shelf kept []) (codes "info") (word_of shelf ∷ encode_lower bytes ∷ []) (an_info shelf bytes) rest
     (a_word (codes "info") refl, (a_shelf shelf, (a_hex bytes ok.all, tt)))
-    (info_again shelf bytes ok)
+    (line_of_fields-info shelf bytes ok)
     refl
     (kept'.0 ∙ rw (eq-eqb _ _ ok.len) refl)
     (subst (λ (k : Kept). Gives store k rest) (sym kept'.1) give)
@@ -170,18 +170,18 @@ first_of-info (Some bytes) = refl
 end_gives : (store : Store) (kept : Kept) → store_kept kept ≡ store → Gives store kept ((codes "end" ∷ []) ∷ [])
 unfolding pieces
 end_gives store kept same = λ before is.
-    let found = line_found true before (codes "end") the_end None (line_of-fields (codes "end") [] (a_word (codes "end") refl, tt)) refl in
-    rw (pieces-more 10 (codes "end") [] (joined (codes "end") [] (a_word (codes "end") refl, tt)).0, store_after_line true before (codes "end") [], found) (ap Ok (ap store_kept is ∙ same))
+    let found = line_judged-found true before (codes "end") the_end None (line_of-fields (codes "end") [] (a_word (codes "end") refl, tt)) refl in
+    rw (pieces-more 10 (codes "end") [] (pieces-join_with_byte (codes "end") [] (a_word (codes "end") refl, tt)).0, store_after_line true before (codes "end") [], found) (ap Ok (ap store_kept is ∙ same))
 
-pub image_again : (store : Store) → IsStore store → IsSaved store → store_of_image (image_text_of store) ≡ Ok store
+pub store_of_image_image_text_of : (store : Store) → IsStore store → IsSaved store → store_of_image (image_text_of store) ≡ Ok store
 unfolding image_text_of
-image_again store is saved =
+store_of_image_image_text_of store is saved =
     let rows = with_rows Sel (with_rows Sdr nothing (saved_rows store.sdr)) (saved_rows store.sel) in
     let inventories = inventories_kept store rows store.inventories in
     let readings = readings_kept store inventories store.readings in
     let info = with_infos Sdr readings (option_to_list store.sdr_info) in
     let all = with_infos Sel info (option_to_list store.sel_info) in
-    let same : store_kept all ≡ store = rw (chained-saved store.sdr, chained-saved store.sel, first_of-info store.sdr_info, first_of-info store.sel_info) refl in
+    let same : store_kept all ≡ store = rw (chained-saved_rows store.sdr, chained-saved_rows store.sel, first_of-info store.sdr_info, first_of-info store.sel_info) refl in
     let end = end_gives store all same in
     let infos = info_gives store Sdr readings store.sdr_info _ is.sdr_info (info_gives store Sel info store.sel_info _ is.sel_info end) in
     let others = inventories_give store rows store.inventories _ is.inventories saved.some is.distinct_inventories (readings_give store inventories store.readings _ is.readings saved.luns is.distinct_readings infos) in
@@ -190,4 +190,4 @@ image_again store is saved =
     ∙ shelf_gives store Sdr nothing store.sdr _ is.sdr (shelf_gives store Sel (with_rows Sdr nothing (saved_rows store.sdr)) store.sel _ is.sel others) [] refl
   where
     header : Lacks 10 (codes "ipmi-image 2")
-    header = (joined (codes "ipmi-image") (codes "2" ∷ []) (a_word (codes "ipmi-image") refl, (a_word (codes "2") refl, tt))).0
+    header = (pieces-join_with_byte (codes "ipmi-image") (codes "2" ∷ []) (a_word (codes "ipmi-image") refl, (a_word (codes "2") refl, tt))).0

@@ -31,11 +31,11 @@ pub lines_after : (dashes : Bool) (before : List Line) (all text after : List �
 lines_after dashes before all text after r given cut line was = sym was ∙ ap (store_after dashes before) cut ∙ store_after_line dashes before text after ∙ ap (after_line dashes before (pieces 10 after)) line
 
 module _ (dashes : Bool) (before : List Line) (text : List ℕ) where
-  pub line_err : (fault : LineFault) → line_of dashes text ≡ Err fault → line_judged dashes before text ≡ Err fault
-  line_err fault e = rw (line_judged, e) refl
+  pub line_judged-err : (fault : LineFault) → line_of dashes text ≡ Err fault → line_judged dashes before text ≡ Err fault
+  line_judged-err fault e = rw (line_judged, e) refl
 
-  pub line_found : (line : Line) (f : Option LineFault) → line_of dashes text ≡ Ok line → fault_in (store_of_lines before) line ≡ f → line_judged dashes before text ≡ unless_fault f line
-  line_found line f e is = rw (line_judged, e, is) refl
+  pub line_judged-found : (line : Line) (f : Option LineFault) → line_of dashes text ≡ Ok line → fault_in (store_of_lines before) line ≡ f → line_judged dashes before text ≡ unless_fault f line
+  line_judged-found line f e is = rw (line_judged, e, is) refl
 
 pub end_is : (line : Line) → is_end line ≡ true → line ≡ the_end
 end_is line e = grind arith

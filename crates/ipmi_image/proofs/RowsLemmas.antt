@@ -31,13 +31,13 @@ drop-past rows place past = drop_all place rows (grind (arith, slice_get_cases r
 
 module _ (bytes more : List ℕ) where
   -- more bytes change no row whose bytes are among these
-  pub longer_bytes : (heads : List RowHead) → All (λ head. head.start + head.len ≤ length bytes) heads → map (row_in (bytes ++ more)) heads ≡ map (row_in bytes) heads
-  longer_bytes [] within = refl
-  longer_bytes (head ∷ heads) within =
+  pub map-row_in_longer : (heads : List RowHead) → All (λ head. head.start + head.len ≤ length bytes) heads → map (row_in (bytes ++ more)) heads ≡ map (row_in bytes) heads
+  map-row_in_longer [] within = refl
+  map-row_in_longer (head ∷ heads) within =
       let fits = within 0 head (omega arith) in
       let len = length-drop head.start bytes in
-      rw (drop-append-le head.start bytes more (omega (arith, fits)), take-append-le head.len (drop head.start bytes) more (omega (arith, fits, len)), longer_bytes heads (λ k d lt. within (suc k) d (omega (arith, lt)))) refl
+      rw (drop-append-le head.start bytes more (omega (arith, fits)), take-append-le head.len (drop head.start bytes) more (omega (arith, fits, len)), map-row_in_longer heads (λ k d lt. within (suc k) d (omega (arith, lt)))) refl
 
-  pub rows_with : (heads : List RowHead) (id : ℕ) (next : Option ℕ) → All (λ head. head.start + head.len ≤ length bytes) heads
+  pub map-row_in_with : (heads : List RowHead) (id : ℕ) (next : Option ℕ) → All (λ head. head.start + head.len ≤ length bytes) heads
       → map (row_in (bytes ++ more)) (heads ++ record { id = id; next = next; start = length bytes; len = length more } ∷ []) ≡ map (row_in bytes) heads ++ record { id = id; next = next; bytes = more } ∷ []
-  rows_with heads id next within = map-append (row_in (bytes ++ more)) heads _ ∙ rw (longer_bytes heads within, drop-append_seam bytes more, take-length more) refl
+  map-row_in_with heads id next within = map-append (row_in (bytes ++ more)) heads _ ∙ rw (map-row_in_longer heads within, drop-append_seam bytes more, take-length more) refl

@@ -1,55 +1,55 @@
 -- What the stores that images give have beside what every store has.
-use Rattle.std.proofs.Common.{◌≡◌, ℕ, ◌+◌, ◌<◌, ◌≤◌, Bool, true, false, cond, not, nat_eq, Option, None, Some, Result, Ok, Err, List, [], ◌∷◌, ◌++◌, length, map, refl, arith, codes, All, filter_map, length-append, bytes_eq}
+use Rattle.std.proofs.Common.{◌≡◌, ℕ, ◌+◌, ◌<◌, ◌≤◌, Bool, true, false, cond, not, Option, None, Some, Result, Ok, Err, List, [], ◌∷◌, ◌++◌, length, map, refl, arith, codes, All, filter_map, unwrap_or, length-append, bytes_eq}
 use Rattle.std.proofs.lemmas.List.{length-map}
 use Rattle.std.proofs.Math.ListN.{get_or-map}
-use Rattle.std.proofs.lemmas.List.Elements.{All-nil, All-cons, All-head, All-tail, All-append, filter_map-append}
+use Rattle.std.proofs.lemmas.List.Elements.{All-nil, All-cons, All-append, filter_map-append}
 use Rattle.std.proofs.lemmas.List.Sums.{fold-append}
 use Rattle.hex.specs.Hex.{decode_of}
 use Rattle.hex.proofs.HexLemmas.{decode_of-ok}
-use Rattle.ipmi_image.specs.Below.{Shelf, Sdr, Sel, Store, Inventory, SensorReading}
-use Rattle.ipmi_image.specs.Prelude.{LineFault, ImageFault, pieces, Line, an_inventory, a_reading, is_some_text, with_two, with_three, row_line, inventory_line, reading_line, info_line, end_line, line_of_fields, line_of, with_bytes, with_inventory_line, inventories_of, sensor_on, store_of_lines, fault_in, line_judged, is_end, ends_here, store_after, dashes_in, store_of_pieces, store_of_image, StoredSensor, sensor_of, IsSaved}
+use Rattle.ipmi_image.specs.Below.{Shelf, Sdr, Sel, Store, Inventory, SensorReading, inventory_in}
+use Rattle.ipmi_image.specs.Prelude.{LineFault, ImageFault, pieces, Line, an_inventory, a_reading, is_some_text, with_two, with_three, row_line, inventory_line, reading_line, info_line, end_line, line_of_fields, line_of, with_inventory_line, inventories_of, sensor_on, store_of_lines, fault_in, line_judged, is_end, ends_here, store_after, dashes_in, store_of_pieces, store_of_image, StoredSensor, sensor_of, IsSaved}
 use Rattle.ipmi_image.proofs.ReadLemmas.{after_line}
-use Rattle.ipmi_image.proofs.StoreLemmas.{reading_fine}
+use Rattle.ipmi_image.proofs.StoreLemmas.{reading_fine, with_bytes_all}
 
 -- ---- a line of an inventory has bytes
 
-bytes_some : (hex bytes : List ℕ) → is_some_text hex ≡ true → decode_of hex ≡ Ok bytes → 0 < length bytes
-bytes_some [] bytes some e = cc some
-bytes_some (digit ∷ hex) bytes some e = let ok = decode_of-ok (digit ∷ hex) bytes e in let len = ok.2 in omega (arith, len)
+decode_of_has_bytes : (hex bytes : List ℕ) → is_some_text hex ≡ true → decode_of hex ≡ Ok bytes → 0 < length bytes
+decode_of_has_bytes [] bytes some e = cc some
+decode_of_has_bytes (digit ∷ hex) bytes some e = let ok = decode_of-ok (digit ∷ hex) bytes e in let len = ok.2 in omega (arith, len)
 
 module _ (dashes : Bool) (id : ℕ) (bytes : List ℕ) where
-  rows_say : (shelf : Shelf) (a b c : List ℕ) → row_line dashes shelf a b c ≡ Ok (an_inventory id bytes) → 0 < length bytes
-  rows_say shelf a b c e = grind arith
+  row_line_has_bytes : (shelf : Shelf) (a b c : List ℕ) → row_line dashes shelf a b c ≡ Ok (an_inventory id bytes) → 0 < length bytes
+  row_line_has_bytes shelf a b c e = grind arith
 
-  inventories_say : (a b : List ℕ) → inventory_line a b ≡ Ok (an_inventory id bytes) → 0 < length bytes
-  inventories_say a b e = grind (arith, bytes_some)
+  inventory_line_has_bytes : (a b : List ℕ) → inventory_line a b ≡ Ok (an_inventory id bytes) → 0 < length bytes
+  inventory_line_has_bytes a b e = grind (arith, decode_of_has_bytes)
 
-  readings_say : (a b c : List ℕ) → reading_line a b c ≡ Ok (an_inventory id bytes) → 0 < length bytes
-  readings_say a b c e = grind arith
+  reading_line_has_bytes : (a b c : List ℕ) → reading_line a b c ≡ Ok (an_inventory id bytes) → 0 < length bytes
+  reading_line_has_bytes a b c e = grind arith
 
-  infos_say : (a b : List ℕ) → info_line a b ≡ Ok (an_inventory id bytes) → 0 < length bytes
-  infos_say a b e = grind arith
+  info_line_has_bytes : (a b : List ℕ) → info_line a b ≡ Ok (an_inventory id bytes) → 0 < length bytes
+  info_line_has_bytes a b e = grind arith
 
-  two_say : (line : List ℕ → List ℕ → Result Line LineFault) → ((a b : List ℕ) → line a b ≡ Ok (an_inventory id bytes) → 0 < length bytes) → (fields : List (List ℕ))
+  with_two_has_bytes : (line : List ℕ → List ℕ → Result Line LineFault) → ((a b : List ℕ) → line a b ≡ Ok (an_inventory id bytes) → 0 < length bytes) → (fields : List (List ℕ))
       → with_two line fields ≡ Ok (an_inventory id bytes) → 0 < length bytes
-  two_say line h (a ∷ b ∷ []) e = h a b e
-  two_say line h _ e = cc e
+  with_two_has_bytes line h (a ∷ b ∷ []) e = h a b e
+  with_two_has_bytes line h _ e = cc e
 
-  three_say : (line : List ℕ → List ℕ → List ℕ → Result Line LineFault) → ((a b c : List ℕ) → line a b c ≡ Ok (an_inventory id bytes) → 0 < length bytes) → (fields : List (List ℕ))
+  with_three_has_bytes : (line : List ℕ → List ℕ → List ℕ → Result Line LineFault) → ((a b c : List ℕ) → line a b c ≡ Ok (an_inventory id bytes) → 0 < length bytes) → (fields : List (List ℕ))
       → with_three line fields ≡ Ok (an_inventory id bytes) → 0 < length bytes
-  three_say line h (a ∷ b ∷ c ∷ []) e = h a b c e
-  three_say line h _ e = cc e
+  with_three_has_bytes line h (a ∷ b ∷ c ∷ []) e = h a b c e
+  with_three_has_bytes line h _ e = cc e
 
-  fields_say : (fields : List (List ℕ)) → line_of_fields dashes fields ≡ Ok (an_inventory id bytes) → 0 < length bytes
-  fields_say [] e = cc e
-  fields_say (word ∷ fields) e = by (bytes_eq word (codes "sdr")) (bytes_eq word (codes "sel")) (bytes_eq word (codes "fru")) (bytes_eq word (codes "reading")) (bytes_eq word (codes "info")) (bytes_eq word (codes "end")) e
+  line_of_fields_has_bytes : (fields : List (List ℕ)) → line_of_fields dashes fields ≡ Ok (an_inventory id bytes) → 0 < length bytes
+  line_of_fields_has_bytes [] e = cc e
+  line_of_fields_has_bytes (word ∷ fields) e = by (bytes_eq word (codes "sdr")) (bytes_eq word (codes "sel")) (bytes_eq word (codes "fru")) (bytes_eq word (codes "reading")) (bytes_eq word (codes "info")) (bytes_eq word (codes "end")) e
     where
       by : (a b c d e f : Bool) → cond a (with_three (row_line dashes Sdr) fields) (cond b (with_three (row_line dashes Sel) fields) (cond c (with_two inventory_line fields) (cond d (with_three reading_line fields) (cond e (with_two info_line fields) (cond f (end_line fields) (Err LineFault.Line)))))) ≡ Ok (an_inventory id bytes) → 0 < length bytes
-      by true b c d e f h = three_say (row_line dashes Sdr) (rows_say Sdr) fields h
-      by false true c d e f h = three_say (row_line dashes Sel) (rows_say Sel) fields h
-      by false false true d e f h = two_say inventory_line inventories_say fields h
-      by false false false true e f h = three_say reading_line readings_say fields h
-      by false false false false true f h = two_say info_line infos_say fields h
+      by true b c d e f h = with_three_has_bytes (row_line dashes Sdr) (row_line_has_bytes Sdr) fields h
+      by false true c d e f h = with_three_has_bytes (row_line dashes Sel) (row_line_has_bytes Sel) fields h
+      by false false true d e f h = with_two_has_bytes inventory_line inventory_line_has_bytes fields h
+      by false false false true e f h = with_three_has_bytes reading_line reading_line_has_bytes fields h
+      by false false false false true f h = with_two_has_bytes info_line info_line_has_bytes fields h
       by false false false false false f h = grind arith
 
 abbrev HasBytes : Inventory → Type 0
@@ -62,42 +62,36 @@ abbrev SaysSome : Line → Type 0
 SaysSome (an_inventory id bytes) = 0 < length bytes
 SaysSome line = Unit {0}
 
-says_some : (dashes : Bool) (text : List ℕ) (line : Line) → line_of dashes text ≡ Ok line → SaysSome line
+line_of_says_some : (dashes : Bool) (text : List ℕ) (line : Line) → line_of dashes text ≡ Ok line → SaysSome line
 unfolding line_of
-says_some dashes text (an_inventory id bytes) e = fields_say dashes id bytes (pieces 32 text) e
-says_some dashes text _ e = tt
+line_of_says_some dashes text (an_inventory id bytes) e = line_of_fields_has_bytes dashes id bytes (pieces 32 text) e
+line_of_says_some dashes text _ e = tt
 
 -- ---- lines that were taken
 
-with_some : (id : ℕ) (bytes : List ℕ) (inventories : List Inventory) → 0 < length bytes → All HasBytes inventories → All HasBytes (with_bytes id bytes inventories)
-with_some id bytes [] some all = All-cons HasBytes (record { id = id; bytes = bytes }) [] some (All-nil HasBytes)
-with_some id bytes (x ∷ xs) some all = by (nat_eq x.id id) (with_some id bytes xs some (All-tail HasBytes x xs all))
-  where
-    by : (b : Bool) → All HasBytes (with_bytes id bytes xs) → All HasBytes (cond b (record { id = x.id; bytes = x.bytes ++ bytes } ∷ xs) (x ∷ with_bytes id bytes xs))
-    by true more = All-cons HasBytes (record { id = x.id; bytes = x.bytes ++ bytes }) xs (let len = length-append x.bytes bytes in omega (arith, some, len)) (All-tail HasBytes x xs all)
-    by false more = All-cons HasBytes x (with_bytes id bytes xs) (All-head HasBytes x xs all) more
-
 -- one more line keeps them so
 module _ (before : List Line) (saved : IsSaved (store_of_lines before)) where
-  inventories_more : (line : Line) → SaysSome line → All HasBytes (with_inventory_line (inventories_of before) line)
-  inventories_more (an_inventory id bytes) some = with_some id bytes (inventories_of before) some saved.some
-  inventories_more _ some = saved.some
+  with_inventory_line_has_bytes : (line : Line) → SaysSome line → All HasBytes (with_inventory_line (inventories_of before) line)
+  with_inventory_line_has_bytes (an_inventory id bytes) some =
+      let len = length-append (unwrap_or (inventory_in (inventories_of before) id) []) bytes in
+      with_bytes_all HasBytes id bytes (inventories_of before) (omega (arith, some, len)) saved.some
+  with_inventory_line_has_bytes _ some = saved.some
 
-  readings_more : (line : Line) → fault_in (store_of_lines before) line ≡ None → All LowLun (filter_map sensor_on (line ∷ []))
-  readings_more (a_reading lun number bytes) fine = All-cons LowLun _ [] (reading_fine lun _ bytes fine).1 (All-nil LowLun)
-  readings_more _ fine = All-nil LowLun
+  sensor_on_has_low_lun : (line : Line) → fault_in (store_of_lines before) line ≡ None → All LowLun (filter_map sensor_on (line ∷ []))
+  sensor_on_has_low_lun (a_reading lun number bytes) fine = All-cons LowLun _ [] (reading_fine lun _ bytes fine).1 (All-nil LowLun)
+  sensor_on_has_low_lun _ fine = All-nil LowLun
 
   saved_more : (line : Line) → SaysSome line → fault_in (store_of_lines before) line ≡ None → IsSaved (store_of_lines (before ++ line ∷ []))
   saved_more line some fine = record {
-    some = rw (fold-append with_inventory_line [] before (line ∷ [])) (inventories_more line some);
-    luns = rw (filter_map-append sensor_on before (line ∷ [])) (All-append LowLun (filter_map sensor_on before) _ saved.luns (readings_more line fine));
+    some = rw (fold-append with_inventory_line [] before (line ∷ [])) (with_inventory_line_has_bytes line some);
+    luns = rw (filter_map-append sensor_on before (line ∷ [])) (All-append LowLun (filter_map sensor_on before) _ saved.luns (sensor_on_has_low_lun line fine));
   }
 
-  judged : (dashes : Bool) (text : List ℕ) (line : Line) → line_judged dashes before text ≡ Ok line → (line_of dashes text ≡ Ok line) × (fault_in (store_of_lines before) line ≡ None)
-  judged dashes text line e = grind arith
+  line_judged_parts : (dashes : Bool) (text : List ℕ) (line : Line) → line_judged dashes before text ≡ Ok line → (line_of dashes text ≡ Ok line) × (fault_in (store_of_lines before) line ≡ None)
+  line_judged_parts dashes text line e = grind arith
 
   saved_judged : (dashes : Bool) (text : List ℕ) (line : Line) → line_judged dashes before text ≡ Ok line → IsSaved (store_of_lines (before ++ line ∷ []))
-  saved_judged dashes text line e = let parts = judged dashes text line e in saved_more line (says_some dashes text line parts.0) parts.1
+  saved_judged dashes text line e = let parts = line_judged_parts dashes text line e in saved_more line (line_of_says_some dashes text line parts.0) parts.1
 
 -- what all lines give
 saved_after : (dashes : Bool) (before : List Line) (texts : List (List ℕ)) (store : Store) → IsSaved (store_of_lines before) → store_after dashes before texts ≡ Ok store → IsSaved store

@@ -9,37 +9,37 @@ use Rattle.ipmi_image.specs.Prelude.{SavedRow, LineFault, chained, row_before, i
 other_next : (shelf : Shelf) (row : SavedRow) (following : List SavedRow) (last : SavedRow) → last.id < 65535 → IsRow shelf (row_before [] row) → IsRow shelf (row_before (last ∷ following) row)
 other_next shelf row following last lt is = record { id = is.id; next = grind (arith, is.next, lt); whole = is.whole; fits = is.fits; bytes = is.bytes }
 
-rows-snoc : (shelf : Shelf) (rows : List SavedRow) (row : SavedRow) → AllRows shelf (chained rows) → IsRow shelf (row_before [] row) → AllRows shelf (chained (rows ++ row ∷ []))
-rows-snoc shelf [] row all is = (is, tt)
-rows-snoc shelf (r ∷ []) row all is = (other_next shelf r [] row is.id all.0, (is, tt))
-rows-snoc shelf (r ∷ (s ∷ rows)) row all is = (all.0, rows-snoc shelf (s ∷ rows) row all.1 is)
+AllRows-snoc : (shelf : Shelf) (rows : List SavedRow) (row : SavedRow) → AllRows shelf (chained rows) → IsRow shelf (row_before [] row) → AllRows shelf (chained (rows ++ row ∷ []))
+AllRows-snoc shelf [] row all is = (is, tt)
+AllRows-snoc shelf (r ∷ []) row all is = (other_next shelf r [] row is.id all.0, (is, tt))
+AllRows-snoc shelf (r ∷ (s ∷ rows)) row all is = (all.0, AllRows-snoc shelf (s ∷ rows) row all.1 is)
 
-lacks : (n : ℕ) (rows : List SavedRow) (row : SavedRow) → LacksId n (chained rows) → row.id ≢ n → LacksId n (chained (rows ++ row ∷ []))
-lacks n [] row h ne = (ne, tt)
-lacks n (r ∷ rows) row h ne = (h.0, lacks n rows row h.1 ne)
+LacksId-snoc : (n : ℕ) (rows : List SavedRow) (row : SavedRow) → LacksId n (chained rows) → row.id ≢ n → LacksId n (chained (rows ++ row ∷ []))
+LacksId-snoc n [] row h ne = (ne, tt)
+LacksId-snoc n (r ∷ rows) row h ne = (h.0, LacksId-snoc n rows row h.1 ne)
 
-distinct : (rows : List SavedRow) (row : SavedRow) → DistinctIds (chained rows) → has_id (chained rows) row.id ≡ false → DistinctIds (chained (rows ++ row ∷ []))
-distinct [] row h new = (tt, tt)
-distinct (r ∷ rows) row h new =
+DistinctIds-snoc : (rows : List SavedRow) (row : SavedRow) → DistinctIds (chained rows) → has_id (chained rows) row.id ≡ false → DistinctIds (chained (rows ++ row ∷ []))
+DistinctIds-snoc [] row h new = (tt, tt)
+DistinctIds-snoc (r ∷ rows) row h new =
     let parts = or_parts (nat_eq row.id r.id) (has_id (chained rows) row.id) new in
-    (lacks r.id rows row h.0 (eqb-false row.id r.id parts.0), distinct rows row h.1 parts.1)
+    (LacksId-snoc r.id rows row h.0 (eqb-false row.id r.id parts.0), DistinctIds-snoc rows row h.1 parts.1)
 
-first : (rows : List SavedRow) (row : SavedRow) → BeginsWithId (chained rows) → begins_with_another (chained rows) row ≡ false → BeginsWithId (chained (rows ++ row ∷ []))
-first [] row h own = eqb-true _ _ (not-false _ own)
-first (r ∷ rows) row h own = h
+BeginsWithId-snoc : (rows : List SavedRow) (row : SavedRow) → BeginsWithId (chained rows) → begins_with_another (chained rows) row ≡ false → BeginsWithId (chained (rows ++ row ∷ []))
+BeginsWithId-snoc [] row h own = eqb-true _ _ (not-false _ own)
+BeginsWithId-snoc (r ∷ rows) row h own = h
 
-later : (rows : List SavedRow) (row : SavedRow) → LaterHaveIds (chained rows) → is_no_id (chained rows) row.id ≡ false → LaterHaveIds (chained (rows ++ row ∷ []))
-later [] row h is_id = tt
-later (r ∷ rows) row h is_id = lacks 0 rows row h (λ zero. grind (arith, nat_tests))
+LaterHaveIds-snoc : (rows : List SavedRow) (row : SavedRow) → LaterHaveIds (chained rows) → is_no_id (chained rows) row.id ≡ false → LaterHaveIds (chained (rows ++ row ∷ []))
+LaterHaveIds-snoc [] row h is_id = tt
+LaterHaveIds-snoc (r ∷ rows) row h is_id = LacksId-snoc 0 rows row h (λ zero. grind (arith, nat_tests))
 
 -- ---- a row whose id was looked for last
 
 module _ (shelf : Shelf) (rows : List Row) (row : SavedRow) (is_id : is_no_id rows row.id ≡ false) where
-  pub new_row_fault : has_id rows row.id ≡ false → row_fault shelf rows row ≡ first_fault ((is_no_record shelf row.bytes, LineFault.Length) ∷ (begins_with_another rows row, LineFault.FirstId) ∷ [])
-  new_row_fault new = rw (is_id, new) refl
+  pub row_fault-new : has_id rows row.id ≡ false → row_fault shelf rows row ≡ first_fault ((is_no_record shelf row.bytes, LineFault.Length) ∷ (begins_with_another rows row, LineFault.FirstId) ∷ [])
+  row_fault-new new = rw (is_id, new) refl
 
-  pub row_twice : has_id rows row.id ≡ true → row_fault shelf rows row ≡ Some LineFault.Twice
-  row_twice old = rw (is_id, old) refl
+  pub row_fault-twice : has_id rows row.id ≡ true → row_fault shelf rows row ≡ Some LineFault.Twice
+  row_fault-twice old = rw (is_id, old) refl
 
 -- ---- a row without a fault
 
@@ -53,14 +53,14 @@ shelf_with shelf rows row fine id next bytes old =
     let ne = eqb-false row.id 65535 (or_parts (nat_eq row.id 0 && not (is_empty (chained rows))) (nat_eq row.id 65535) parts.0).1 in
     let sized = or_parts (not (nat_eq (length row.bytes) (whole_len shelf row.bytes))) (nat_lt (largest_len shelf) (length row.bytes)) parts.2 in
     record {
-      all = rows-snoc shelf rows row old.all (record {
+      all = AllRows-snoc shelf rows row old.all (record {
         id = omega (arith, id, ne);
         next = next;
         whole = eqb-true _ _ (not-false _ sized.0);
         fits = ltb-false _ _ sized.1;
         bytes = bytes;
       });
-      distinct = distinct rows row old.distinct parts.1;
-      first = first rows row old.first parts.3;
-      later = later rows row old.later parts.0;
+      distinct = DistinctIds-snoc rows row old.distinct parts.1;
+      first = BeginsWithId-snoc rows row old.first parts.3;
+      later = LaterHaveIds-snoc rows row old.later parts.0;
     }

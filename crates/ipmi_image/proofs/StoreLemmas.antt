@@ -44,8 +44,8 @@ puts_as f f' P P' (Ok done) e to put = (e ∙ put.0, to put.0 put.1)
 puts_as f f' P P' (Err x) e to put = elim put [ inl memory ↦ inl memory | inr is ↦ inr (e ∙ is) ]
 
 module _ (old : Contents) (before : List Line) (holds : HoldsLines old before) where
-  fault_is : (line : Line) → fault_in (store_of_lines before) line ≡ fault_in (store_of old) line
-  fault_is line = rw (sym (store_of-lines old before holds)) refl
+  fault_in-store_of_lines : (line : Line) → fault_in (store_of_lines before) line ≡ fault_in (store_of old) line
+  fault_in-store_of_lines line = rw (sym (store_of-lines old before holds)) refl
 
   -- each part of the new contents is the old one's with what the line says of it
   holds-after : (new : Contents) (line : Line) → new.sdr ≡ said_after old.sdr (row_on Sdr line) → new.sel ≡ said_after old.sel (row_on Sel line)
@@ -61,29 +61,29 @@ module _ (old : Contents) (before : List Line) (holds : HoldsLines old before) w
   }
 
   pub sdr-put : (row : SavedRow) (sdr : List SavedRow) (r : Result (Unit {0}) LineFault) → Puts (row_fault Sdr (chained old.sdr) row) (sdr ≡ old.sdr ++ row ∷ []) r → IsPut (record old { sdr = sdr }) before (a_row Sdr row) r
-  sdr-put row sdr r = puts_as _ _ _ _ r (fault_is (a_row Sdr row)) (λ none is. holds-after (record old { sdr = sdr }) (a_row Sdr row) is refl refl refl refl refl)
+  sdr-put row sdr r = puts_as _ _ _ _ r (fault_in-store_of_lines (a_row Sdr row)) (λ none is. holds-after (record old { sdr = sdr }) (a_row Sdr row) is refl refl refl refl refl)
 
   pub sel-put : (row : SavedRow) (sel : List SavedRow) (r : Result (Unit {0}) LineFault) → Puts (row_fault Sel (chained old.sel) row) (sel ≡ old.sel ++ row ∷ []) r → IsPut (record old { sel = sel }) before (a_row Sel row) r
-  sel-put row sel r = puts_as _ _ _ _ r (fault_is (a_row Sel row)) (λ none is. holds-after (record old { sel = sel }) (a_row Sel row) refl is refl refl refl refl)
+  sel-put row sel r = puts_as _ _ _ _ r (fault_in-store_of_lines (a_row Sel row)) (λ none is. holds-after (record old { sel = sel }) (a_row Sel row) refl is refl refl refl refl)
 
   pub bytes-put : (id : ℕ) (bytes : List ℕ) (inventories : List StoredInventory) (r : Result (Unit {0}) LineFault)
       → Puts (inventory_fault id (inventory_in (map kept_inventory old.inventories) id) bytes) (map kept_inventory inventories ≡ with_bytes id bytes (map kept_inventory old.inventories)) r → IsPut (record old { inventories = inventories }) before (an_inventory id bytes) r
-  bytes-put id bytes inventories r = puts_as _ _ _ _ r (fault_is (an_inventory id bytes)) (λ none is. holds-after (record old { inventories = inventories }) (an_inventory id bytes) refl refl is refl refl refl)
+  bytes-put id bytes inventories r = puts_as _ _ _ _ r (fault_in-store_of_lines (an_inventory id bytes)) (λ none is. holds-after (record old { inventories = inventories }) (an_inventory id bytes) refl refl is refl refl refl)
 
   pub sensor-put : (lun number : ℕ) (bytes : List ℕ) (sensors : List StoredSensor) (r : Result (Unit {0}) LineFault)
       → Puts (reading_fault lun (reading_in (map sensor_of old.sensors) lun number) bytes) (map sensor_of sensors ≡ map sensor_of old.sensors ++ record { lun = lun; number = number; reading = reading_of_bytes bytes } ∷ []) r
       → IsPut (record old { sensors = sensors }) before (a_reading lun number bytes) r
-  sensor-put lun number bytes sensors r = puts_as _ _ _ _ r (fault_is (a_reading lun number bytes)) (λ none is. holds-after (record old { sensors = sensors }) (a_reading lun number bytes) refl refl refl is refl refl)
+  sensor-put lun number bytes sensors r = puts_as _ _ _ _ r (fault_in-store_of_lines (a_reading lun number bytes)) (λ none is. holds-after (record old { sensors = sensors }) (a_reading lun number bytes) refl refl refl is refl refl)
 
   -- what is given is the first
   first_info : (already info : Option (List ℕ)) (bytes : List ℕ) → info_fault already bytes ≡ None → info ≡ Some bytes → info ≡ info_after (Some bytes) already
   first_info already info bytes none is = grind arith
 
   pub sdr_info-put : (bytes : List ℕ) (info : Option (List ℕ)) (r : Result (Unit {0}) LineFault) → Puts (info_fault old.sdr_info bytes) (info ≡ Some bytes) r → IsPut (record old { sdr_info = info }) before (an_info Sdr bytes) r
-  sdr_info-put bytes info r = puts_as _ _ _ _ r (fault_is (an_info Sdr bytes)) (λ none is. holds-after (record old { sdr_info = info }) (an_info Sdr bytes) refl refl refl refl (first_info old.sdr_info info bytes none is) refl)
+  sdr_info-put bytes info r = puts_as _ _ _ _ r (fault_in-store_of_lines (an_info Sdr bytes)) (λ none is. holds-after (record old { sdr_info = info }) (an_info Sdr bytes) refl refl refl refl (first_info old.sdr_info info bytes none is) refl)
 
   pub sel_info-put : (bytes : List ℕ) (info : Option (List ℕ)) (r : Result (Unit {0}) LineFault) → Puts (info_fault old.sel_info bytes) (info ≡ Some bytes) r → IsPut (record old { sel_info = info }) before (an_info Sel bytes) r
-  sel_info-put bytes info r = puts_as _ _ _ _ r (fault_is (an_info Sel bytes)) (λ none is. holds-after (record old { sel_info = info }) (an_info Sel bytes) refl refl refl refl refl (first_info old.sel_info info bytes none is))
+  sel_info-put bytes info r = puts_as _ _ _ _ r (fault_in-store_of_lines (an_info Sel bytes)) (λ none is. holds-after (record old { sel_info = info }) (an_info Sel bytes) refl refl refl refl refl (first_info old.sel_info info bytes none is))
 
   pub end-put : IsPut old before the_end (Ok tt)
   end-put = (refl, holds-after old the_end refl refl refl refl refl refl)
@@ -100,7 +100,7 @@ inventory_fits (x ∷ xs) id all = by (inventory_fits xs id (λ k d lt. all (suc
     by rest false = rest
 
 -- what is true of each inventory, and of the one with more bytes
-with_bytes_all : (P : Inventory → Type 0) (id : ℕ) (bytes : List ℕ) (xs : List Inventory) → P (record { id = id; bytes = unwrap_or (inventory_in xs id) [] ++ bytes }) → All P xs → All P (with_bytes id bytes xs)
+pub with_bytes_all : (P : Inventory → Type 0) (id : ℕ) (bytes : List ℕ) (xs : List Inventory) → P (record { id = id; bytes = unwrap_or (inventory_in xs id) [] ++ bytes }) → All P xs → All P (with_bytes id bytes xs)
 with_bytes_all P id bytes [] new all = All-cons P _ [] new all
 with_bytes_all P id bytes (x ∷ xs) new all = by (λ more tail. with_bytes_all P id bytes xs more tail) (λ k d lt. all (suc k) d (omega (arith, lt))) (nat_eq x.id id) refl new
   where

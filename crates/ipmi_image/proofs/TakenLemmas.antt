@@ -9,8 +9,8 @@ use Rattle.hex.specs.Hex.{encode_lower}
 use Rattle.ipmi_image.specs.Below.{Shelf, Sdr, Sel, Row, AllRows, LacksId, DistinctIds, BeginsWithId, LaterHaveIds, IsShelf, Store, Inventory, SensorReading, has_id}
 use Rattle.ipmi_image.specs.Prelude.{pieces, SavedRow, Line, a_row, line_of_fields, rows_on, first_id, chained, with_inventory_line, sensor_on, info_on, first_of, is_no_record, is_no_id, begins_with_another, row_fault, fault_in, line_judged, is_end, store_after, hex_of, first_row_id, next_field, rows_lines, lines_text}
 use Rattle.ipmi_image.proofs.TextLemmas.{pieces-more}
-use Rattle.ipmi_image.proofs.ReadLemmas.{store_after_line, line_found}
-use Rattle.ipmi_image.proofs.ParseLemmas.{IsField, AreFields, a_word, a_hex, joined, line_of-fields, bytes_are, word_of, saved_row, row_again}
+use Rattle.ipmi_image.proofs.ReadLemmas.{store_after_line, line_judged-found}
+use Rattle.ipmi_image.proofs.ParseLemmas.{IsField, AreFields, a_word, a_hex, pieces-join_with_byte, line_of-fields, AreBytes-big_bytes, word_of, saved_row, line_of_fields-row_fields}
 
 -- ---- what is kept of lines
 
@@ -58,8 +58,8 @@ pub line_gives : (store : Store) (kept : Kept) (first : List ℕ) (fields : List
     → is_end line ≡ false → fault_in (store_kept kept) line ≡ None → Gives store (kept_with kept (line ∷ [])) rest → Gives store kept ((first ∷ fields) ∷ rest)
 line_gives store kept first fields line rest are says more fine give = λ before is.
     let text = join_with_byte 32 (first ∷ fields) in
-    let found : line_judged true before text ≡ Ok line = line_found true before text line None (line_of-fields first fields are ∙ says) (ap (λ (k : Kept). fault_in (store_kept k) line) is ∙ fine) in
-    rw (append_assoc text (10 ∷ []) (lines_text rest), pieces-more 10 text (lines_text rest) (joined first fields are).0, store_after_line true before text (lines_text rest), found, more)
+    let found : line_judged true before text ≡ Ok line = line_judged-found true before text line None (line_of-fields first fields are ∙ says) (ap (λ (k : Kept). fault_in (store_kept k) line) is ∙ fine) in
+    rw (append_assoc text (10 ∷ []) (lines_text rest), pieces-more 10 text (lines_text rest) (pieces-join_with_byte first fields are).0, store_after_line true before text (lines_text rest), found, more)
     (give (before ++ line ∷ []) (kept_with-one before line ∙ ap (λ (k : Kept). kept_with k (line ∷ [])) is))
 
 -- ---- rows
@@ -73,9 +73,9 @@ first_id-saved_rows [] = refl
 first_id-saved_rows (row ∷ rows) = refl
 
 -- with their next ids they are the rows again
-pub chained-saved : (rows : List Row) → chained (saved_rows rows) ≡ rows
-chained-saved [] = refl
-chained-saved (row ∷ rows) = let more = chained-saved rows in let first = first_id-saved_rows rows in grind (arith, nat_tests, more, first)
+pub chained-saved_rows : (rows : List Row) → chained (saved_rows rows) ≡ rows
+chained-saved_rows [] = refl
+chained-saved_rows (row ∷ rows) = let more = chained-saved_rows rows in let first = first_id-saved_rows rows in grind (arith, nat_tests, more, first)
 
 -- none of these rows has the id of a saved one
 abbrev Others : List SavedRow → List Row → Type 0
@@ -128,7 +128,7 @@ a_next following next = by (nat_eq next following)
   where
     by : (t : Bool) → IsField (cond t (codes "-") (hex_of 2 next))
     by true = a_word (codes "-") refl
-    by false = a_hex (big_bytes 2 next) (bytes_are 2 next)
+    by false = a_hex (big_bytes 2 next) (AreBytes-big_bytes 2 next)
 
 abbrev pub with_rows : Shelf → Kept → List SavedRow → Kept
 with_rows Sdr kept rows = record kept { sdr = rows }
@@ -151,8 +151,8 @@ rows_give store shelf kept saved (row ∷ rows) rest may give =
     let more = rows_give store shelf kept (saved ++ row' ∷ []) rows rest next.1 (rw (← append_assoc saved (row' ∷ []) (saved_rows rows)) at give) in
     let fields = hex_of 2 row.id ∷ next_field following row.next ∷ encode_lower row.bytes ∷ [] in
     line_gives store (with_rows shelf kept saved) (word_of shelf) fields (a_row shelf row') (rows_lines (word_of shelf) rows ++ rest)
-    (a_shelf shelf, (a_hex (big_bytes 2 row.id) (bytes_are 2 row.id), (a_next following row.next, (a_hex row.bytes may.all.0.bytes, tt))))
-    (row_again shelf following row may.all.0)
+    (a_shelf shelf, (a_hex (big_bytes 2 row.id) (AreBytes-big_bytes 2 row.id), (a_next following row.next, (a_hex row.bytes may.all.0.bytes, tt))))
+    (line_of_fields-row_fields shelf following row may.all.0)
     refl
     (kept'.0 ∙ next.0)
     (subst (λ (k : Kept). Gives store k (rows_lines (word_of shelf) rows ++ rest)) (sym kept'.1) more)

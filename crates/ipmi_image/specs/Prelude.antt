@@ -4,8 +4,8 @@ pub use Rattle.ipmi_image.specs.Image.{at_line, begins_with_another, chained, da
 unfoldable pub use Rattle.ipmi_image.specs.Image.{store_after}
 pub use Rattle.ipmi_image.specs.Line.{a_reading, a_row, an_info, an_inventory, bytes_in, digit_in, end_line, info_line, info_line_of, inventory_line, is_dash, is_some_text, Line, line_of_fields, next_in, number_in, reading_line, row_line, SavedRow, shelf_in, the_end, with_three, with_two}
 unfoldable pub use Rattle.ipmi_image.specs.Line.{line_of}
-pub use Rattle.ipmi_image.specs.Responder.{fru_answer, IsCopied, number_after, of_shelf, out_of_range, part_answer, part_asked, place_asked, row_found, seen_as, size_answer, value_answer, with_reservation}
-pub use Rattle.ipmi_image.specs.Rewritten.{first_parts, first_row_id, hex_of, info_lines, inventory_lines, IsSaved, line_text, lines_text, next_field, other_lines, part_fields, parts_of, reading_fields, RewritingKeepsStores, row_fields, rows_lines}
+pub use Rattle.ipmi_image.specs.Responder.{fru_answer, IsCopied, number_after, of_shelf, out_of_range, part_answer, part_asked, place_asked, seen_as, size_answer, value_answer, with_reservation}
+pub use Rattle.ipmi_image.specs.Rewritten.{first_parts, first_row_id, hex_of, info_lines, inventory_lines, IsSaved, line_text, lines_text, next_field, other_lines, part_fields, parts_of, reading_fields, record_line_of, RewritingKeepsStores, row_fields, rows_lines}
 unfoldable pub use Rattle.ipmi_image.specs.Rewritten.{image_text_of}
 pub use Rattle.ipmi_image.specs.Rows.{id_of, row_in, row_of}
 pub use Rattle.ipmi_image.specs.Stored.{AreInventories, AreReadings, HoldsLines, IsPut, IsRead, Puts, said, sensor_of, store_of}

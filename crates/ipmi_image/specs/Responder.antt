@@ -1,14 +1,10 @@
 -- What contracts see of an image that answers calls.
 use Rattle.std.specs.Prelude.{◌≡◌, ℕ, ◌+◌, ◌-◌, ◌≤◌, ◌==◌, nat_lt, nat_le, min, if◌then◌else◌, Bool, true, false, ◌&&◌, not, Option, None, Some, Result, Ok, Err, List, [], ◌∷◌, length, drop}
 use Rattle.ipmi_image.specs.Below.{Code, FruSize, Part, Shelf, Sdr, Sel, Row, Seen, Asked, IsPiece, not_present}
-use Rattle.ipmi_image.specs.declared.responder.FoundRow.{FoundRow}
 use Rattle.ipmi_image.specs.declared.responder.Responder.{Responder}
 use Rattle.ipmi_image.specs.Line.{SavedRow}
 use Rattle.ipmi_image.specs.Table.{place_of}
 use Rattle.ipmi_image.specs.Rows.{id_of}
-
-abbrev pub row_found : FoundRow → Row
-row_found row = record { id = row.id; next = row.next; bytes = row.bytes.now }
 
 abbrev pub first_place : List SavedRow → Option ℕ
 first_place [] = None

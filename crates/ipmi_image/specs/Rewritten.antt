@@ -1,4 +1,4 @@
--- The one text of version 2 that a store has.
+-- The one text of version 2 that a store has, and the line of a single record.
 use Rattle.std.specs.Prelude.{◌≡◌, ℕ, zero, suc, ◌+◌, ◌/◌, ◌==◌, ◌<◌, ◌≤◌, if◌then◌else◌, Option, Some, None, Ok, List, [], ◌∷◌, ◌++◌, length, take, drop, map, flat_map, All, codes}
 use Rattle.std.specs.List.{concat, join_with_byte}
 use Rattle.byteorder.specs.Endian.{big_bytes}
@@ -21,8 +21,17 @@ first_row_id (row ∷ rows) = row.id
 abbrev pub next_field : ℕ → ℕ → List ℕ
 next_field following next = if next == following then codes "-" else hex_of 2 next
 
+-- with this field for the next id
+abbrev pub fields_with_next : List ℕ → List ℕ → Row → List (List ℕ)
+fields_with_next word next row = word ∷ hex_of 2 row.id ∷ next ∷ encode_lower row.bytes ∷ []
+
+-- before a row with this id
 abbrev pub row_fields : List ℕ → ℕ → Row → List (List ℕ)
-row_fields word following row = word ∷ hex_of 2 row.id ∷ next_field following row.next ∷ encode_lower row.bytes ∷ []
+row_fields word following row = fields_with_next word (next_field following row.next) row
+
+-- of a single record, which no row follows
+abbrev pub record_fields : Row → List (List ℕ)
+record_fields row = fields_with_next (codes "sdr") (hex_of 2 row.next) row
 
 abbrev pub rows_lines : List ℕ → List Row → List (List (List ℕ))
 rows_lines word [] = []
@@ -57,6 +66,10 @@ info_lines word (Some bytes) = (codes "info" ∷ word ∷ encode_lower bytes ∷
 -- fields between single spaces, and a line feed
 abbrev pub line_text : List (List ℕ) → List ℕ
 line_text fields = join_with_byte 32 fields ++ 10 ∷ []
+
+-- the line of a single record
+abbrev pub record_line_of : Row → List ℕ
+record_line_of row = line_text (record_fields row)
 
 abbrev pub lines_text : List (List (List ℕ)) → List ℕ
 lines_text lines = concat (map line_text lines)

@@ -9,11 +9,20 @@ use crate::rows::{Rows, StoredRow};
 use crate::stored::{StoredInventory, StoredSensor, Table, sensor_key};
 use byteorder::{ByteOrder, LittleEndian};
 use ipmi_bus::{
-    FIRST_RECORD_ID, LARGEST_INVENTORY_LEN, LARGEST_SDR_LEN, NO_NEXT_ID, SDR_HEADER_LEN,
+    FIRST_RECORD_ID, INFO_LEN, LARGEST_INVENTORY_LEN, LARGEST_SDR_LEN, NO_NEXT_ID, SDR_HEADER_LEN,
     SEL_ENTRY_LEN, Shelf,
 };
 use ipmi_text::Reading;
 use std::alloc::Global;
+
+/// An id that no FRU device has.
+const NO_DEVICE_ID: u8 = 0xFF;
+
+/// The highest LUN, which is a number of two bits.
+const LARGEST_LUN: u8 = 3;
+
+/// The bytes of a reading.
+const READING_LEN: usize = 4;
 
 /// What the lines so far say.
 #[derive(Drop)]
@@ -22,8 +31,8 @@ pub(crate) struct Contents {
     pub(crate) sel: Rows,
     pub(crate) inventories: Table<StoredInventory>,
     pub(crate) sensors: Table<StoredSensor>,
-    pub(crate) sdr_info: Option<[u8; 14]>,
-    pub(crate) sel_info: Option<[u8; 14]>,
+    pub(crate) sdr_info: Option<[u8; INFO_LEN]>,
+    pub(crate) sel_info: Option<[u8; INFO_LEN]>,
 }
 
 /// Whether the bytes are as many as a whole record of the shelf.
@@ -121,7 +130,7 @@ fn inventory_fault(inventories: &Table<StoredInventory>, id: u8, bytes: &[u8]) -
     ensures { result ≡ inventory_fault id (inventory_in (map kept_inventory inventories.now) id)
         bytes.now }
 {
-    if id == 0xFF {
+    if id == NO_DEVICE_ID {
         return Some(LineFault::Id);
     }
     if inventory_len(inventories, id) + bytes.len() > LARGEST_INVENTORY_LEN {
@@ -177,13 +186,13 @@ fn reading_fault(
     ensures { result ≡ reading_fault lun (reading_in (map sensor_of sensors.now) lun number)
         bytes.now }
 {
-    if lun > 3 {
+    if lun > LARGEST_LUN {
         return Some(LineFault::Id);
     }
     if has_reading(sensors, lun, number) {
         return Some(LineFault::Twice);
     }
-    if bytes.len() != 4 {
+    if bytes.len() != READING_LEN {
         return Some(LineFault::Length);
     }
     None
@@ -220,7 +229,7 @@ fn put_reading(
 }
 
 /// Keeps the info of a shelf, or says why it may not come.
-fn put_info(info: &mut Option<[u8; 14]>, bytes: &[u8]) -> Result<(), LineFault>
+fn put_info(info: &mut Option<[u8; INFO_LEN]>, bytes: &[u8]) -> Result<(), LineFault>
     ensures keeps { OnOk result (IfSome info.new IsInfo) }
     ensures put { Puts (info_fault info.old bytes.now) (info.new ≡ Some bytes.now) result }
     ensures err { IfErr result (λ e. info_fault info.old bytes.now ≡ Some e) }
@@ -228,7 +237,7 @@ fn put_info(info: &mut Option<[u8; 14]>, bytes: &[u8]) -> Result<(), LineFault>
     if info.is_some() {
         return Err(LineFault::Twice);
     }
-    let Ok(whole) = <[u8; 14]>::try_from(bytes) else {
+    let Ok(whole) = <[u8; INFO_LEN]>::try_from(bytes) else {
         return Err(LineFault::Length);
     };
     *info = Some(whole);

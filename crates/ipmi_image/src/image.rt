@@ -8,7 +8,7 @@ use crate::line::{LineFault, read_line};
 use crate::rows::Rows;
 use crate::stored::sensor_key;
 use crate::text::cut;
-use ipmi_bus::Shelf;
+use ipmi_bus::{INFO_LEN, Shelf};
 use ipmi_text::Reading;
 use std::alloc::Global;
 use std::marker::Model;
@@ -198,7 +198,7 @@ impl Image {
     }
 
     /// The info of the shelf.
-    pub(crate) fn info(&self, shelf: Shelf) -> Option<[u8; 14]>
+    pub(crate) fn info(&self, shelf: Shelf) -> Option<[u8; INFO_LEN]>
         ensures { result ≡ info_of shelf self.now }
     {
         match shelf {

@@ -6,6 +6,7 @@ mod controller;
 mod image;
 pub mod laws;
 mod line;
+mod line_buffer;
 mod responder;
 mod rewrite;
 mod rows;
@@ -15,5 +16,6 @@ mod text;
 
 pub use controller::ImageController;
 pub use image::{Image, ImageFault};
+pub use line_buffer::{LineBuffer, record_line};
 pub use rewrite::image_text;
 pub use scripted::{Mood, Scripted};

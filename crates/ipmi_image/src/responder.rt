@@ -1,21 +1,14 @@
 //! What an image answers to a controller's calls.
 ghost use Rattle.std.specs.Prelude.{◌≡◌, ◌+◌, ◌<◌, ◌≤◌, ◌≢◌, true, false, MatchBool, IfOk, OnErr, Ok, Some, None, length, drop, option_map, unwrap_or};
-ghost use Rattle.ipmi_image.specs.Below.{look, class_of, IsStore, rows_of, info_of, reading_of, inventory_of, IsHonest, FailsWith, ReserveAnswers, PartAnswers, ValueAnswers, SizeAnswers, BytesAnswers};
-ghost use Rattle.ipmi_image.specs.Prelude.{chained, first_id, seen_as, of_shelf, row_found, place_asked, IsCopied, number_after, with_reservation, out_of_range, part_asked, part_answer, fru_answer, value_answer, size_answer};
+ghost use Rattle.ipmi_image.specs.Below.{look, row_of_record, class_of, IsStore, rows_of, info_of, reading_of, inventory_of, IsHonest, FailsWith, ReserveAnswers, PartAnswers, ValueAnswers, SizeAnswers, BytesAnswers};
+ghost use Rattle.ipmi_image.specs.Prelude.{chained, first_id, seen_as, of_shelf, place_asked, IsCopied, number_after, with_reservation, out_of_range, part_asked, part_answer, fru_answer, value_answer, size_answer};
 
 use crate::image::Image;
 use crate::rows::Rows;
-use ipmi_bus::{Code, CodeClass, Event, FIRST_RECORD_ID, FruSize, Part, Shelf, Tally};
+use ipmi_bus::{
+    Code, CodeClass, Event, FIRST_RECORD_ID, FruSize, INFO_LEN, Part, Record, Shelf, Tally,
+};
 use ipmi_text::Reading;
-
-/// A record with its place and with the next id that it has on its shelf.
-#[derive(Clone, Copy)]
-struct FoundRow<'a> {
-    place: usize,
-    id: u16,
-    next: u16,
-    bytes: &'a [u8],
-}
 
 /// The place of the record that the id asks for: 0000h asks for the first. It is looked for near a place first.
 fn place_of(rows: &Rows, near: usize, id: u16) -> Option<usize>
@@ -38,19 +31,19 @@ fn next_of(rows: &Rows, place: usize, next: Option<u16>) -> u16
     next.unwrap_or_else(|| rows.id_at(place + 1))
 }
 
-/// The record that the id asks for. It is looked for near a place first.
+/// The record that the id asks for, with its place. It is looked for near a place first.
 #[tactic(auto, using(crate::proofs::RespondLemmas::look_chained))]
-fn look_up(rows: &Rows, near: usize, id: u16) -> Option<FoundRow<'_>>
-    ensures { option_map row_found result ≡ look (chained rows.now) id }
+fn look_up(rows: &Rows, near: usize, id: u16) -> Option<(usize, Record<'_>)>
+    ensures { option_map (λ found. row_of_record found.1) result ≡ look (chained rows.now) id }
 {
     let place = place_of(rows, near, id)?;
     let row = rows.get(place)?;
-    Some(FoundRow {
-        place,
+    let record = Record {
         id: row.id,
         next: next_of(rows, place, row.next),
         bytes: row.bytes,
-    })
+    };
+    Some((place, record))
 }
 
 /// Copies bytes from the offset on, as many as there is room for, and at most so many.
@@ -217,11 +210,11 @@ impl Responder {
     {
         self.tally.count(Event::Called);
         let is_reserved = self.is_reserved(shelf, reservation, offset);
-        let Some(row) = look_up(self.image.rows(shelf), self.near, id) else {
+        let Some((place, row)) = look_up(self.image.rows(shelf), self.near, id) else {
             self.tally.count(Event::Finished);
             return Err(Code::NOT_PRESENT);
         };
-        self.near = row.place;
+        self.near = place;
         if !is_reserved {
             self.tally.count(Event::Troubled);
             return Err(Code::CANCELLED);
@@ -239,7 +232,7 @@ impl Responder {
     }
 
     /// The info of a shelf.
-    pub(crate) fn info(&mut self, shelf: Shelf) -> Result<[u8; 14], Code>
+    pub(crate) fn info(&mut self, shelf: Shelf) -> Result<[u8; INFO_LEN], Code>
         ensures counted { self.new.tally.counts.calls ≡ self.old.tally.counts.calls + 1 }
         ensures answers { IsHonest (seen_as true self.old) →
             ValueAnswers (info_of shelf) result (seen_as true self.old) (seen_as true self.new) }

@@ -7,7 +7,7 @@ use crate::contents::Contents;
 use crate::image::Image;
 use crate::rows::{Rows, StoredRow};
 use crate::stored::{StoredInventory, StoredSensor};
-use ipmi_bus::Shelf;
+use ipmi_bus::INFO_LEN;
 use std::alloc::{AllocError, Global};
 
 /// The most bytes of an inventory on one line.
@@ -185,7 +185,7 @@ impl Text {
     }
 
     /// Appends the line of an info, where there is one.
-    fn push_info(&mut self, word: &[u8], info: Option<[u8; 14]>) -> Result<(), AllocError>
+    fn push_info(&mut self, word: &[u8], info: Option<[u8; INFO_LEN]>) -> Result<(), AllocError>
         ensures { OnOk result (self.new.bytes.items ≡ self.old.bytes.items ++ lines_text
             (info_lines word.now info)) }
     {
@@ -242,7 +242,7 @@ impl Text {
 /// The image as a text of version 2: rows of each shelf in their order, `sdr` first, then inventories in lines of at
 /// most 64 bytes, readings and infos; hex in lower case, and a dash for each next id that is the following row's, or
 /// FFFFh at the last row.
-#[tactic(auto, using(crate::proofs::AgainLemmas::image_again))]
+#[tactic(auto, using(crate::proofs::AgainLemmas::store_of_image_image_text_of))]
 pub fn image_text(alloc: Global, image: &Image) -> Result<Vec<u8>, AllocError>
     ensures text { IfOk result (λ text. text.items ≡ image_text_of image.now) }
     ensures again { IfOk result (λ text. store_of_image text.items ≡ Ok image.now) }

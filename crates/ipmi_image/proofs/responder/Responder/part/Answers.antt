@@ -1,15 +1,15 @@
 use Rattle.std.proofs.Common.{rules, ◌≡◌, ◌+◌, nat_eq, true, false, sym, ◌∙◌, arith, Some, length, refl}
 use Rattle.std.proofs.lemmas.Option.{none-some}
 use Rattle.std.proofs.lemmas.Bool.Decides.{nat_tests}
-use Rattle.ipmi_image.specs.Below.{look, rows_of}
-use Rattle.ipmi_image.specs.Prelude.{row_found, seen_as}
+use Rattle.ipmi_image.specs.Below.{look, row_of_record, rows_of}
+use Rattle.ipmi_image.specs.Prelude.{seen_as}
 use Rattle.ipmi_image.proofs.RespondLemmas.{current_of_shelf}
 use Rattle.ipmi_image.proofs.responder.Responder.part.Goals as goal
 
 pub returns-then-not-is_reserved-clause-answers : goal.returns-then-not-is_reserved-clause-answers
 returns-then-not-is_reserved-clause-answers c = λ h.
     let other = c.if-not-is_reserved.ensures in
-    let found : look (rows_of c.args.shelf c.args.self.now.image) c.args.id ≡ Some (row_found c.in-Some.row) = rw (sym c.rows.ensures) (sym c.in-Some.ensures) in
+    let found : look (rows_of c.args.shelf c.args.self.now.image) c.args.id ≡ Some (row_of_record c.in-Some.row) = rw (sym c.rows.ensures) (sym c.in-Some.ensures) in
     record {
       change = search rules;
       gives = search rules;
@@ -23,12 +23,12 @@ returns-then-not-is_reserved-clause-answers c = λ h.
 
 pub returns-then-from-row-clause-answers : goal.returns-then-from-row-clause-answers
 returns-then-from-row-clause-answers c = λ h.
-    let found : look (rows_of c.args.shelf c.args.self.now.image) c.args.id ≡ Some (row_found c.in-Some.row) = rw (sym c.rows.ensures) (sym c.in-Some.ensures) in
+    let found : look (rows_of c.args.shelf c.args.self.now.image) c.args.id ≡ Some (row_of_record c.in-Some.row) = rw (sym c.rows.ensures) (sym c.in-Some.ensures) in
     let flag : nat_eq (c.args.offset + c.in-Some-copy_piece.got) (length c.in-Some.row.bytes.now) ≡ true = grind (arith, nat_tests, c.if-from-row.true, c.from-2.ensures, c.from-3.ensures) in
     record {
       change = search rules;
       gives = (
-        row_found c.in-Some.row,
+        row_of_record c.in-Some.row,
         record {
           found = found;
           piece = search rules;
@@ -44,12 +44,12 @@ returns-then-from-row-clause-answers c = λ h.
 
 pub returns-else-from-row-clause-answers : goal.returns-else-from-row-clause-answers
 returns-else-from-row-clause-answers c = λ h.
-    let found : look (rows_of c.args.shelf c.args.self.now.image) c.args.id ≡ Some (row_found c.in-Some.row) = rw (sym c.rows.ensures) (sym c.in-Some.ensures) in
+    let found : look (rows_of c.args.shelf c.args.self.now.image) c.args.id ≡ Some (row_of_record c.in-Some.row) = rw (sym c.rows.ensures) (sym c.in-Some.ensures) in
     let flag : nat_eq (c.args.offset + c.in-Some-copy_piece.got) (length c.in-Some.row.bytes.now) ≡ false = grind (arith, nat_tests, c.if-from-row.false, c.from-2.ensures, c.from-3.ensures) in
     record {
       change = search rules;
       gives = (
-        row_found c.in-Some.row,
+        row_of_record c.in-Some.row,
         record {
           found = found;
           piece = search rules;

@@ -1,6 +1,6 @@
 use Rattle.std.proofs.Common.{◌≡◌, ◌++◌, ◌∷◌, [], ap, sym, ◌∙◌, arith, length, List, map}
 use Rattle.ipmi_image.specs.Prelude.{place_of, id_of, row_in, row_of, SavedRow, RowHead}
-use Rattle.ipmi_image.proofs.RowsLemmas.{place_of_row_in, rows_with}
+use Rattle.ipmi_image.proofs.RowsLemmas.{place_of_row_in, map-row_in_with}
 use Rattle.ipmi_image.proofs.rows.Rows.push.Goals as goal
 
 pub overflow_cast-head : goal.overflow_cast-head
@@ -18,6 +18,6 @@ returns-in-Ok-true c =
       ap (place_of id_of id) (sym c.self.view_is) ∙ place_of_row_in bytes id heads ∙ put.0,
       ap (λ l. map (row_in l) c.push.new.self) c.in_ok-extend_from_slice.ensures.items
           ∙ ap (map (row_in (bytes ++ more))) (put.1 ∙ ap (λ n. let head : RowHead = record { id = id; next = next; start = n; len = length more } in heads ++ head ∷ []) start)
-          ∙ rows_with bytes more heads id next c.self.invariant.within
+          ∙ map-row_in_with bytes more heads id next c.self.invariant.within
           ∙ ap (λ (l : List SavedRow). l ++ row_of c.args.row.now ∷ []) c.self.view_is,
     )

@@ -1,0 +1,60 @@
+//! The line of a single record, written into a buffer that takes no memory.
+ghost use Rattle.std.specs.Prelude.{◌≡◌, ◌+◌, ◌*◌, ◌++◌, ◌≤◌, ◌∷◌, [], length};
+ghost use Rattle.hex.specs.Hex.{encode_lower};
+ghost use Rattle.ipmi_image.specs.Below.{row_of_record};
+ghost use Rattle.ipmi_image.specs.Prelude.{hex_of, record_line_of};
+
+use arrayvec::ArrayVec;
+use ipmi_bus::Record;
+
+/// A line of a record, with room for the longest: a word, two ids of four digits, 256 bytes in hex, three spaces and a
+/// line feed.
+pub type LineBuffer = ArrayVec<u8, 527>;
+
+/// Appends bytes that there is room for.
+fn push(line: &mut LineBuffer, bytes: &[u8])
+    requires { length line.old.items + length bytes.now ≤ 527 }
+    ensures items { line.new.items ≡ line.old.items ++ bytes.now }
+    ensures len { length line.new.items ≡ length line.old.items + length bytes.now }
+{
+    line.try_extend_from_slice(bytes).unwrap();
+}
+
+/// Appends an id in hex, and a space.
+fn push_id(line: &mut LineBuffer, id: u16)
+    requires { length line.old.items + 5 ≤ 527 }
+    ensures items { line.new.items ≡ line.old.items ++ (hex_of 2 id ++ 32 ∷ []) }
+    ensures len { length line.new.items ≡ length line.old.items + 5 }
+{
+    let mut field = [b' '; 5];
+    hex::encode_to_slice(&id.to_be_bytes(), &mut field[..4]).unwrap();
+    push(line, &field);
+}
+
+/// Appends the bytes of a record in hex.
+fn push_hex(line: &mut LineBuffer, bytes: &[u8])
+    requires record { length bytes.now ≤ 256 }
+    requires room { length line.old.items + 2 * length bytes.now ≤ 527 }
+    ensures items { line.new.items ≡ line.old.items ++ encode_lower bytes.now }
+    ensures len { length line.new.items ≡ length line.old.items + 2 * length bytes.now }
+{
+    let mut digits = [0; 512];
+    let digits = &mut digits[..2 * bytes.len()];
+    hex::encode_to_slice(bytes, digits).unwrap();
+    push(line, digits);
+}
+
+/// Makes of `line`, whatever is in it, the line of the record in an image: `sdr ID NEXT HEX` and a line feed, the ids in
+/// four hex digits and the bytes in hex, all of them in lower case. NEXT is never a dash, as no record follows. A record
+/// of at most 256 bytes has room, and no memory is taken.
+pub fn record_line(lent: &Record<'_>, line: &mut LineBuffer)
+    requires { length lent.now.bytes.now ≤ 256 }
+    ensures { line.new.items ≡ record_line_of (row_of_record lent.now) }
+{
+    line.clear();
+    push(line, b"sdr ");
+    push_id(line, lent.id);
+    push_id(line, lent.next);
+    push_hex(line, lent.bytes);
+    push(line, b"\n");
+}
