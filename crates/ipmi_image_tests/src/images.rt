@@ -56,7 +56,7 @@ fru_part 0 0 8|06 010051c001aaeeee";
 
 /// The image that the text is.
 pub fn image(rt: &impl Abort, alloc: Global, text: &str) -> Image {
-    Image::read(alloc, text.as_bytes()).expect(rt, "an image")
+    Image::read(alloc, text.as_bytes()).expect(rt, text)
 }
 
 /// A controller over the image that the text is.
