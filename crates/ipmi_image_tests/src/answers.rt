@@ -103,12 +103,39 @@ fn there_is_no_byte_past_the_end(rt: HostRuntime) {
     image_is_answered(&rt, rt.alloc(), SAVED, PAST_THE_END);
 }
 
+/// A byte that may be asked for: of a record, from an offset on, with a reservation.
+#[derive(Clone, Copy, Debug)]
+struct Asked {
+    shelf: Shelf,
+    reservation: u16,
+    id: u16,
+    offset: u8,
+}
+
+/// The controller has no record of which this byte could be.
+fn is_absent(rt: &impl Abort, ctl: &mut ImageController, asked: Asked) {
+    let mut into = [0xEE];
+    let part = ctl.part(
+        asked.shelf,
+        asked.reservation,
+        asked.id,
+        asked.offset,
+        &mut into,
+    );
+    assert!(rt; part == Err(Code(0xCB)), "{asked:?}: {part:?}");
+}
+
 /// The controller has no such record, whatever the reservation and the offset.
 fn has_no_record(rt: &impl Abort, ctl: &mut ImageController, shelf: Shelf, id: u16) {
     for reservation in 0..3 {
         for offset in [0, 1, 255] {
-            let part = ctl.part(shelf, reservation, id, offset, &mut [0xEE]);
-            assert!(rt; part == Err(Code(0xCB)), "{shelf:?} {id}: {part:?}");
+            let asked = Asked {
+                shelf,
+                reservation,
+                id,
+                offset,
+            };
+            is_absent(rt, ctl, asked);
         }
     }
 }

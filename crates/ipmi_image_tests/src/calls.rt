@@ -82,48 +82,68 @@ impl Answer {
     }
 }
 
-fn next_number(rt: &impl Abort, words: &mut SplitWhitespace) -> u16 {
-    let word = words.next().expect(rt, "a number");
-    u16::from_str_radix(word, 16).expect(rt, "a number in hex")
+/// The words of a line that are left, and the line, by which a failure names the case.
+#[derive(Drop)]
+pub struct LineWords<'a> {
+    line: &'a str,
+    left: SplitWhitespace<'a>,
 }
 
-/// The next word of a line, a byte in hex.
-pub fn next_byte(rt: &impl Abort, words: &mut SplitWhitespace) -> u8 {
-    let word = words.next().expect(rt, "a byte");
-    u8::from_str_radix(word, 16).expect(rt, "a byte in hex")
-}
+impl<'a> LineWords<'a> {
+    /// All words of a line.
+    pub fn of(line: &'a str) -> LineWords<'a> {
+        LineWords {
+            line,
+            left: line.split_whitespace(),
+        }
+    }
 
-/// How many bytes are asked for.
-fn next_len(rt: &impl Abort, words: &mut SplitWhitespace) -> usize
-    ensures some { 0 < result }
-    ensures fits { result ≤ 17 }
-{
-    let len = usize::from(next_byte(rt, words));
-    assert!(rt; 0 < len && len <= MOST, "{len} bytes");
-    len
-}
+    /// The next word.
+    pub fn next(&mut self, rt: &impl Abort) -> &'a str {
+        self.left.next().expect(rt, self.line)
+    }
 
-fn next_shelf(rt: &impl Abort, words: &mut SplitWhitespace) -> Shelf {
-    match words.next() {
-        Some("sdr") => Shelf::Sdr,
-        Some("sel") => Shelf::Sel,
-        word => panic!(rt; "{word:?} is no shelf"),
+    /// The next word, a byte in hex.
+    pub fn next_byte(&mut self, rt: &impl Abort) -> u8 {
+        u8::from_str_radix(self.next(rt), 16).expect(rt, self.line)
+    }
+
+    fn next_number(&mut self, rt: &impl Abort) -> u16 {
+        u16::from_str_radix(self.next(rt), 16).expect(rt, self.line)
+    }
+
+    /// How many bytes are asked for.
+    fn next_len(&mut self, rt: &impl Abort) -> usize
+        ensures some { 0 < result }
+        ensures fits { result ≤ 17 }
+    {
+        let len = usize::from(self.next_byte(rt));
+        assert!(rt; 0 < len && len <= MOST, "{}: {len} bytes", self.line);
+        len
+    }
+
+    fn next_shelf(&mut self, rt: &impl Abort) -> Shelf {
+        match self.next(rt) {
+            "sdr" => Shelf::Sdr,
+            "sel" => Shelf::Sel,
+            _ => panic!(rt; "{}: no shelf", self.line),
+        }
     }
 }
 
-fn reserve<C: Controller>(rt: &impl Abort, ctl: &mut C, words: &mut SplitWhitespace) -> Answer {
-    match ctl.reserve(next_shelf(rt, words)) {
+fn reserve<C: Controller>(rt: &impl Abort, ctl: &mut C, words: &mut LineWords) -> Answer {
+    match ctl.reserve(words.next_shelf(rt)) {
         Ok(number) => Answer::of_bytes(&number.to_be_bytes()),
         Err(code) => Answer::of_code(code),
     }
 }
 
-fn part<C: Controller>(rt: &impl Abort, ctl: &mut C, words: &mut SplitWhitespace) -> Answer {
-    let shelf = next_shelf(rt, words);
-    let reservation = next_number(rt, words);
-    let id = next_number(rt, words);
-    let offset = next_byte(rt, words);
-    let len = next_len(rt, words);
+fn part<C: Controller>(rt: &impl Abort, ctl: &mut C, words: &mut LineWords) -> Answer {
+    let shelf = words.next_shelf(rt);
+    let reservation = words.next_number(rt);
+    let id = words.next_number(rt);
+    let offset = words.next_byte(rt);
+    let len = words.next_len(rt);
     let mut into = [0xEE; MOST];
     match ctl.part(shelf, reservation, id, offset, &mut into[..len]) {
         Ok(part) => Answer::of_three(&part.next.to_be_bytes(), &[part.got], &into[..len]),
@@ -131,16 +151,16 @@ fn part<C: Controller>(rt: &impl Abort, ctl: &mut C, words: &mut SplitWhitespace
     }
 }
 
-fn info<C: Controller>(rt: &impl Abort, ctl: &mut C, words: &mut SplitWhitespace) -> Answer {
-    match ctl.info(next_shelf(rt, words)) {
+fn info<C: Controller>(rt: &impl Abort, ctl: &mut C, words: &mut LineWords) -> Answer {
+    match ctl.info(words.next_shelf(rt)) {
         Ok(bytes) => Answer::of_bytes(&bytes),
         Err(code) => Answer::of_code(code),
     }
 }
 
-fn reading<C: Controller>(rt: &impl Abort, ctl: &mut C, words: &mut SplitWhitespace) -> Answer {
-    let lun = next_byte(rt, words);
-    let number = next_byte(rt, words);
+fn reading<C: Controller>(rt: &impl Abort, ctl: &mut C, words: &mut LineWords) -> Answer {
+    let lun = words.next_byte(rt);
+    let number = words.next_byte(rt);
     match ctl.reading(lun, number) {
         Ok(reading) => Answer::of_bytes(&[
             reading.raw,
@@ -152,17 +172,17 @@ fn reading<C: Controller>(rt: &impl Abort, ctl: &mut C, words: &mut SplitWhitesp
     }
 }
 
-fn fru_size<C: Controller>(rt: &impl Abort, ctl: &mut C, words: &mut SplitWhitespace) -> Answer {
-    match ctl.fru_size(next_byte(rt, words)) {
+fn fru_size<C: Controller>(rt: &impl Abort, ctl: &mut C, words: &mut LineWords) -> Answer {
+    match ctl.fru_size(words.next_byte(rt)) {
         Ok(size) => Answer::of_two(&size.size.to_be_bytes(), &[u8::from(size.words)]),
         Err(code) => Answer::of_code(code),
     }
 }
 
-fn fru_part<C: Controller>(rt: &impl Abort, ctl: &mut C, words: &mut SplitWhitespace) -> Answer {
-    let id = next_byte(rt, words);
-    let offset = next_number(rt, words);
-    let len = next_len(rt, words);
+fn fru_part<C: Controller>(rt: &impl Abort, ctl: &mut C, words: &mut LineWords) -> Answer {
+    let id = words.next_byte(rt);
+    let offset = words.next_number(rt);
+    let len = words.next_len(rt);
     let mut into = [0xEE; MOST];
     match ctl.fru_part(id, offset, &mut into[..len]) {
         Ok(got) => Answer::of_two(&[got], &into[..len]),
@@ -183,14 +203,14 @@ fn fru_part<C: Controller>(rt: &impl Abort, ctl: &mut C, words: &mut SplitWhites
 ///
 /// Where a byte did not come, it is EEh.
 pub fn ask<C: Controller>(rt: &impl Abort, ctl: &mut C, call: &str) -> Answer {
-    let mut words = call.split_whitespace();
-    match words.next() {
-        Some("reserve") => reserve(rt, ctl, &mut words),
-        Some("part") => part(rt, ctl, &mut words),
-        Some("info") => info(rt, ctl, &mut words),
-        Some("reading") => reading(rt, ctl, &mut words),
-        Some("fru_size") => fru_size(rt, ctl, &mut words),
-        Some("fru_part") => fru_part(rt, ctl, &mut words),
+    let mut words = LineWords::of(call);
+    match words.next(rt) {
+        "reserve" => reserve(rt, ctl, &mut words),
+        "part" => part(rt, ctl, &mut words),
+        "info" => info(rt, ctl, &mut words),
+        "reading" => reading(rt, ctl, &mut words),
+        "fru_size" => fru_size(rt, ctl, &mut words),
+        "fru_part" => fru_part(rt, ctl, &mut words),
         _ => panic!(rt; "{call} is no call"),
     }
 }

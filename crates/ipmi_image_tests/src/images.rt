@@ -54,9 +54,8 @@ reading 0 1|2dc00000
 fru_size 0|0006 00
 fru_part 0 0 8|06 010051c001aaeeee";
 
-/// The image that the text is.
 pub fn image(rt: &impl Abort, alloc: Global, text: &str) -> Image {
-    Image::read(alloc, text.as_bytes()).expect(rt, "an image")
+    Image::read(alloc, text.as_bytes()).expect(rt, text)
 }
 
 /// A controller over the image that the text is.

@@ -2,45 +2,44 @@
 use crate::calls::are_answered;
 use crate::images::{ANSWERS, REWRITTEN, SAVED};
 use ipmi_image::{Image, ImageController, ImageFault, image_text};
-use std::alloc::Global;
+use std::alloc::AllocError;
 use std::process::Abort;
 
-/// Whether the image has its text, or memory was wanting.
-fn is_written(rt: &impl Abort, alloc: Global, image: &Image) -> bool {
-    match image_text(alloc, image) {
-        Ok(text) => {
-            let text = std::str::from_utf8(&text).expect(rt, "a text");
-            assert!(rt; text == REWRITTEN, "got {text}");
-            true
-        }
-        Err(_) => false,
-    }
+/// Asserts that bytes are the text of `SAVED` written again.
+fn is_rewritten(rt: &impl Abort, bytes: &[u8]) {
+    let text = std::str::from_utf8(bytes).expect(rt, "a text");
+    assert!(rt; text == REWRITTEN, "got {text}");
 }
 
-/// Whether `SAVED` is read and has its text, or memory was wanting. Where it is read, it is read whole.
-fn is_read_and_written(rt: &impl Abort, alloc: Global) -> bool {
-    match Image::read(alloc, SAVED.as_bytes()) {
-        Ok(image) => {
-            let is_written = is_written(rt, alloc, &image);
-            are_answered(rt, &mut ImageController::new(image), ANSWERS);
-            is_written
-        }
-        Err(fault) => {
-            assert!(rt; fault == ImageFault::Memory, "{fault}");
-            false
-        }
+/// Asserts that an image is `SAVED`, whole. It takes no memory.
+fn is_whole(rt: &impl Abort, image: Image) {
+    are_answered(rt, &mut ImageController::new(image), ANSWERS);
+}
+
+/// Asserts that bytes are the text of `SAVED` written again, or that memory was refused.
+fn is_rewritten_or_refused(rt: &impl Abort, written: Result<Vec<u8>, AllocError>) {
+    if let Ok(bytes) = written {
+        is_rewritten(rt, &bytes);
     }
 }
 
 // Neither call is always out of memory: with ample memory `SAVED`, which has a line of each kind, is read and written.
 #[test]
-fn always_out_of_memory(rt: HostRuntime) {
-    let is_done = is_read_and_written(&rt, rt.alloc());
-    assert!(rt; is_done, "memory was wanting");
+fn not_always_out_of_memory(rt: HostRuntime) {
+    let image = Image::read(rt.alloc(), SAVED.as_bytes()).expect(&rt, "memory");
+    let written = image_text(rt.alloc(), &image).expect(&rt, "memory");
+    is_rewritten(&rt, &written);
+    is_whole(&rt, image);
 }
 
 // Where memory is refused, the image is read whole all the same and has its text, or want of memory is the answer.
 #[test]
 fn memory_may_be_refused(rt: HostRuntime) {
-    is_read_and_written(&rt, rt.alloc());
+    match Image::read(rt.alloc(), SAVED.as_bytes()) {
+        Ok(image) => {
+            is_rewritten_or_refused(&rt, image_text(rt.alloc(), &image));
+            is_whole(&rt, image);
+        }
+        Err(fault) => assert!(rt; fault == ImageFault::Memory, "{fault}"),
+    }
 }

@@ -1,7 +1,6 @@
 //! Moods of calls of the event log, before what is absent, and one after another.
 use crate::moods::{are_met, moods_are_met};
 
-/// The moods of calls of the event log.
 const OF_THE_EVENT_LOG: &str = "cancel|reserve sel|code c5
 cancel|part sel 0 1 0 1|code c5
 cancel|info sel|code c5

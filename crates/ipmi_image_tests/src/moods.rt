@@ -1,18 +1,17 @@
 //! What a scripted controller makes of each call, mood by mood.
-use crate::calls::{are_answered, ask, next_byte, parts};
+use crate::calls::{LineWords, are_answered, ask, parts};
 use crate::images::{ANSWERS, OTHER, SAVED, image};
 use ipmi_bus::Code;
 use ipmi_image::{Mood, Scripted};
 use std::alloc::Global;
 use std::process::Abort;
-use std::str::SplitWhitespace;
 
-fn grant(rt: &impl Abort, words: &mut SplitWhitespace) -> Mood {
-    Mood::Grant(next_byte(rt, words))
+fn grant(rt: &impl Abort, words: &mut LineWords) -> Mood {
+    Mood::Grant(words.next_byte(rt))
 }
 
-fn refuse(rt: &impl Abort, words: &mut SplitWhitespace) -> Mood {
-    Mood::Refuse(Code(next_byte(rt, words)))
+fn refuse(rt: &impl Abort, words: &mut LineWords) -> Mood {
+    Mood::Refuse(Code(words.next_byte(rt)))
 }
 
 fn change(rt: &impl Abort, alloc: Global, text: &str) -> Mood {
@@ -22,15 +21,15 @@ fn change(rt: &impl Abort, alloc: Global, text: &str) -> Mood {
 /// The mood that these words are: `grant` with the most bytes, `refuse` with a code, `cancel`, `busy` or `too_long`,
 /// and `saved` or `other` where the image changes to that one.
 fn mood(rt: &impl Abort, alloc: Global, text: &str) -> Mood {
-    let mut words = text.split_whitespace();
-    match words.next() {
-        Some("grant") => grant(rt, &mut words),
-        Some("refuse") => refuse(rt, &mut words),
-        Some("cancel") => Mood::Cancel,
-        Some("busy") => Mood::Busy,
-        Some("too_long") => Mood::TooLong,
-        Some("saved") => change(rt, alloc, SAVED),
-        Some("other") => change(rt, alloc, OTHER),
+    let mut words = LineWords::of(text);
+    match words.next(rt) {
+        "grant" => grant(rt, &mut words),
+        "refuse" => refuse(rt, &mut words),
+        "cancel" => Mood::Cancel,
+        "busy" => Mood::Busy,
+        "too_long" => Mood::TooLong,
+        "saved" => change(rt, alloc, SAVED),
+        "other" => change(rt, alloc, OTHER),
         _ => panic!(rt; "{text} is no mood"),
     }
 }

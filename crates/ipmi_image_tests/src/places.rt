@@ -75,7 +75,8 @@ info sel 510300000401000020ffffffff0200;end;|line 2: length
 info sdr 510300000401000020ffffffff;end;|line 2: length
 info sdr 510300000401000020ffffffff02;info sdr 00;end;|line 3: twice
 info sel 510300000401000020ffffffff02;info sel 00;end;|line 3: twice
-info sdr 510300000401000020ffffffff02;info sel 510300000401000020ffffffff02;info sdr 510300000401000020ffffffff02;end;|line 4: twice
+info sdr 510300000401000020ffffffff02;info sel 510300000401000020ffffffff02;info sdr 510300000401000020ffffffff02;end;|\
+    line 4: twice
 reading 4 0g 2dc00000;end;|line 2: hex
 info fru 0g;end;|line 2: not a line";
 

@@ -7,7 +7,7 @@ use std::process::Abort;
 /// Compares the text of the image with this one.
 pub fn has_text(rt: &impl Abort, alloc: Global, text: &str, wanted: &str) {
     let bytes = image_text(alloc, &image(rt, alloc, text)).expect(rt, "memory");
-    let got = std::str::from_utf8(&bytes).expect(rt, "text");
+    let got = std::str::from_utf8(&bytes).expect(rt, text);
     assert!(rt; got == wanted, "{text}: got {got}");
 }
 
@@ -108,7 +108,7 @@ fn with_64_bytes(rt: &impl Abort, alloc: Global, after: &str) -> String {
 
 // 64 bytes fit on a line; of 65 the last one has a line of its own.
 #[test]
-fn a_line_has_64_bytes_of_an_inventory(rt: HostRuntime) {
+fn a_line_has_64_bytes_of_an_inventory_at_most(rt: HostRuntime) {
     let one_line = with_64_bytes(&rt, rt.alloc(), "\nend\n");
     is_rewritten(&rt, rt.alloc(), &one_line, &one_line);
     let two_lines = with_64_bytes(&rt, rt.alloc(), "\nfru 00 3c\nend\n");
