@@ -93,7 +93,7 @@ pub trait Controller {
 
     /// Get SDR Repository Info or Get SEL Info (IPMI v2.0, sections 33.9 and 31.2): the 14 bytes after the
     /// completion code.
-    fn info(&mut self, shelf: Shelf) -> Result<[u8; INFO_LEN], Code>
+    fn info(&mut self, shelf: Shelf) -> Result<[u8; 14], Code>
         ensures counted { (seen self.new).calls ≡ (seen self.old).calls + 1 }
         ensures honest { IsHonest (seen self.old) →
             ValueAnswers (info_of shelf) result (seen self.old) (seen self.new) };

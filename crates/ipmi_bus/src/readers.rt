@@ -4,7 +4,7 @@ ghost use Rattle.ipmi_bus.specs.Prelude.{IsHonest, info_of, reading_of, class_of
 
 use crate::calls::{Failure, after_failure};
 use crate::code::Code;
-use crate::controller::{Controller, INFO_LEN, Shelf};
+use crate::controller::{Controller, Shelf};
 use crate::step::Ended;
 use ipmi_text::Reading;
 
@@ -62,7 +62,7 @@ pub fn read_info<C: Controller>(
     ctl: &mut C,
     shelf: Shelf,
     tries: u8,
-) -> Result<Option<[u8; INFO_LEN]>, Ended>
+) -> Result<Option<[u8; 14]>, Ended>
     ensures calls { (C.seen ctl.new).calls ≤ (C.seen ctl.old).calls + (tries + 1) }
     ensures ends { EndsUnder 0 result }
     ensures honest { IsHonest (C.seen ctl.old) → ReadsValue (info_of shelf) tries (C.seen ctl.old)

@@ -10,7 +10,8 @@ use crate::stop::Stop;
 use ipmi_bus::{Controller, Ended, Record, read_reading};
 use ipmi_command_line::{Command, Kind, Task};
 use ipmi_records::{
-    SdrView, SelView, sdr_block, sdr_eline, sdr_fault_line, sdr_line, sel_block, sel_line,
+    COMPACT_TYPE, CONTROLLER_TYPE, EVENT_ONLY_TYPE, FRU_TYPE, FULL_TYPE, GENERIC_TYPE, SdrView,
+    SelView, sdr_block, sdr_eline, sdr_fault_line, sdr_line, sel_block, sel_line,
 };
 use ipmi_text::Reading;
 use std::alloc::{AllocError, Global};
@@ -57,14 +58,14 @@ fn is_of_kind(kind: Kind, record_type: u8) -> bool
     ensures { result ≡ is_of_kind kind record_type }
 {
     match kind {
-        Kind::Sensors => record_type == 0x01 || record_type == 0x02,
+        Kind::Sensors => record_type == FULL_TYPE || record_type == COMPACT_TYPE,
         Kind::All => true,
-        Kind::Full => record_type == 0x01,
-        Kind::Compact => record_type == 0x02,
-        Kind::Event => record_type == 0x03,
-        Kind::Generic => record_type == 0x10,
-        Kind::Mc => record_type == 0x12,
-        Kind::Fru => record_type == 0x11,
+        Kind::Full => record_type == FULL_TYPE,
+        Kind::Compact => record_type == COMPACT_TYPE,
+        Kind::Event => record_type == EVENT_ONLY_TYPE,
+        Kind::Generic => record_type == GENERIC_TYPE,
+        Kind::Mc => record_type == CONTROLLER_TYPE,
+        Kind::Fru => record_type == FRU_TYPE,
     }
 }
 

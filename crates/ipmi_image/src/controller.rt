@@ -5,7 +5,7 @@ ghost use Rattle.ipmi_image.specs.Prelude.{number_after, part_asked, part_answer
 
 use crate::image::Image;
 use crate::responder::Responder;
-use ipmi_bus::{Code, Controller, FruSize, INFO_LEN, LARGEST_PART, Part, Shelf};
+use ipmi_bus::{Code, Controller, FruSize, LARGEST_PART, Part, Shelf};
 use ipmi_text::Reading;
 
 /// A controller over an image. A part has as many bytes as were asked for, or as are left. The
@@ -74,7 +74,7 @@ impl Controller for ImageController {
             .part(shelf, reservation, id, offset, LARGEST_PART, into)
     }
 
-    fn info(&mut self, shelf: Shelf) -> Result<[u8; INFO_LEN], Code>
+    fn info(&mut self, shelf: Shelf) -> Result<[u8; 14], Code>
         ensures counted { (seen_of self.new).calls ≡ (seen_of self.old).calls + 1 }
         ensures honest { IsHonest (seen_of self.old) →
             ValueAnswers (info_of shelf) result (seen_of self.old) (seen_of self.new) }

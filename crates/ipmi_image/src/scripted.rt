@@ -5,7 +5,7 @@ ghost use Rattle.ipmi_image.specs.Prelude.{seen_as, number_after, part_asked, pa
 
 use crate::image::Image;
 use crate::responder::Responder;
-use ipmi_bus::{Code, CodeClass, Controller, FruSize, INFO_LEN, LARGEST_PART, Part, Shelf};
+use ipmi_bus::{Code, CodeClass, Controller, FruSize, LARGEST_PART, Part, Shelf};
 use ipmi_text::Reading;
 use std::vec::IntoIter;
 
@@ -160,7 +160,7 @@ impl Controller for Scripted {
         }
     }
 
-    fn info(&mut self, shelf: Shelf) -> Result<[u8; INFO_LEN], Code>
+    fn info(&mut self, shelf: Shelf) -> Result<[u8; 14], Code>
         ensures counted { (script_seen self.new).calls ≡ (script_seen self.old).calls + 1 }
         ensures honest { IsHonest (script_seen self.old) →
             ValueAnswers (info_of shelf) result (script_seen self.old) (script_seen self.new) }

@@ -21,8 +21,13 @@ pub use block::sdr_block;
 pub use id_string::IdString;
 pub use info::info_block;
 pub use line::{sdr_eline, sdr_fault_line, sdr_line};
-pub use locator::{ControllerLocator, FruLocator, GenericLocator, Locator};
+pub use locator::{
+    CONTROLLER_TYPE, ControllerLocator, FRU_TYPE, FruLocator, GENERIC_TYPE, GenericLocator, Locator,
+};
 pub use log::{sel_block, sel_line};
 pub use sdr::{OtherRecord, SdrFault, SdrView};
 pub use sel::{Entry, EventEntry, OemPlainEntry, OemTimedEntry, OtherEntry, SelView};
-pub use sensor::{CompactSensor, Entity, EventOnlySensor, FullSensor, Sensor, Threshold};
+pub use sensor::{
+    COMPACT_TYPE, CompactSensor, EVENT_ONLY_TYPE, Entity, EventOnlySensor, FULL_TYPE, FullSensor,
+    Sensor, Threshold,
+};

@@ -8,14 +8,14 @@ use crate::id_string::IdString;
 use crate::sdr::OWN_ADDRESS;
 use crate::sensor::{Entity, LUN_BITS};
 
-/// The type of a generic device locator.
-pub(crate) const GENERIC_TYPE: u8 = 0x10;
+/// The type of a generic device locator (section 43.7).
+pub const GENERIC_TYPE: u8 = 0x10;
 
-/// The type of a FRU device locator.
-pub(crate) const FRU_TYPE: u8 = 0x11;
+/// The type of a FRU device locator (section 43.8).
+pub const FRU_TYPE: u8 = 0x11;
 
-/// The type of a management controller device locator.
-pub(crate) const CONTROLLER_TYPE: u8 = 0x12;
+/// The type of a management controller device locator (section 43.9).
+pub const CONTROLLER_TYPE: u8 = 0x12;
 
 /// The byte of a locator's ID string type/length, counted from 1. Each locator has it.
 pub(crate) const LOCATOR_ID_PLACE: usize = 16;

@@ -9,14 +9,14 @@ use crate::id_string::IdString;
 use ipmi_text::{Factors, Units};
 use std::fmt;
 
-/// The type of a full record.
-pub(crate) const FULL_TYPE: u8 = 0x01;
+/// The type of a full sensor record (IPMI v2.0, section 43.1).
+pub const FULL_TYPE: u8 = 0x01;
 
-/// The type of a compact record.
-pub(crate) const COMPACT_TYPE: u8 = 0x02;
+/// The type of a compact sensor record (section 43.2).
+pub const COMPACT_TYPE: u8 = 0x02;
 
-/// The type of an event-only record.
-pub(crate) const EVENT_ONLY_TYPE: u8 = 0x03;
+/// The type of an event-only record (section 43.3).
+pub const EVENT_ONLY_TYPE: u8 = 0x03;
 
 /// The two bits of a LUN.
 pub(crate) const LUN_BITS: u8 = 0x03;
