@@ -30,7 +30,7 @@ pub use Rattle.ipmi_bus.specs.declared.step.Ended.TheVariants.{Cycle, GaveUp, Ma
 pub use Rattle.ipmi_bus.specs.declared.step.Place.{Place}
 pub use Rattle.ipmi_bus.specs.declared.step.Place.TheVariants.{End, First, Id}
 pub use Rattle.ipmi_image.specs.Image.{store_of_image}
-pub use Rattle.ipmi_image.specs.Rewritten.{hex_of}
+pub use Rattle.ipmi_image.specs.Rewritten.{record_line_of}
 unfoldable pub use Rattle.ipmi_image.specs.Rewritten.{image_text_of}
 pub use Rattle.ipmi_image.specs.declared.image.ImageFault.{ImageFault}
 pub use Rattle.ipmi_command_line.specs.Command.{CommandState}

@@ -1,7 +1,6 @@
 pub mod Asking
 pub mod Below
 pub mod Last
-pub mod Line
 pub mod Listing
 pub mod Pages
 pub mod Pieces

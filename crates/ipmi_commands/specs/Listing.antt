@@ -2,7 +2,6 @@
 use Rattle.std.specs.Prelude.{◌≡◌, Bool, true, false, ℕ, zero, suc, ◌+◌, ◌-◌, ◌*◌, ◌<◌, ◌≤◌, ◌==◌, IsTrue, Option, None, Some, Result, Ok, Err, String, string_bytes, List, [], ◌∷◌, length, take, drop}
 use Rattle.std.specs.FinSet as set
 use Rattle.std.specs.declared.alloc.Global.{Global}
-use Rattle.arrayvec.specs.ArrayVec.{ArrayVec}
 use Rattle.ipmi_commands.specs.Below.{step_call_bound, fru_call_bound, digits, Place, First, Id, End, FruEnded, Cycle, Missing, Refused, GaveUp, inventory_len, KeepsReservations, Row, largest_len, Shelf, Store, info_of, rows_of, IsWalk, WalkEnd, Done, CycleAt, MissingAt, EndsBy, place_after, place_after_rows, IsInfoBlock, Seen, StaysHonest, CursorState, StandsAt, CursorHoldsCurrent, asked_at, Count, Task, most_of, shelf_of}
 use Rattle.ipmi_commands.specs.declared.piece.Piece.{Piece}
 use Rattle.ipmi_commands.specs.declared.stop.Stop.{Stop}
@@ -197,16 +196,16 @@ abbrev pub Finds : (Store → List ℕ → Type 0) → List Spot → ℕ → See
 Finds IsText spots tries s s' result = FindsBy string_bytes IsText spots tries s s' result
 
 -- the bytes of a piece, where this is the line that was written
-abbrev pub bytes_of : ArrayVec ℕ → Piece → List ℕ
-bytes_of line Piece.Line = line.items
+abbrev pub bytes_of : List ℕ → Piece → List ℕ
+bytes_of line Piece.Line = line
 bytes_of line (Piece.Text text) = string_bytes text
 
 -- what the task prints for a row
-abbrev pub FindsPiece : Task → ℕ → Row → Seen → Seen → ArrayVec ℕ → Result Piece Stop → Type 0
+abbrev pub FindsPiece : Task → ℕ → Row → Seen → Seen → List ℕ → Result Piece Stop → Type 0
 FindsPiece t tries row s s' line result = FindsBy (bytes_of line) (λ store text. IsRowPiece t store row text) (spots_after t row) tries s s' result
 
 -- the same where so many rows are still to be passed
-abbrev pub FindsIn : Option ℕ → Task → ℕ → Row → Seen → Seen → ArrayVec ℕ → Result Piece Stop → Type 0
+abbrev pub FindsIn : Option ℕ → Task → ℕ → Row → Seen → Seen → List ℕ → Result Piece Stop → Type 0
 FindsIn skip t tries row s s' line result = FindsBy (bytes_of line) (λ store text. IsItemText t store (subject_in skip row) text) (spots_in skip t row) tries s s' result
 
 -- the block of a shelf's info, where the store has one

@@ -1,9 +1,8 @@
 -- What a command is to print over a store: its items in order, its end, and the spots at which a run may give up or be refused.
 -- Everywhere `old` and `new` are what the output holds before and after.
 use Rattle.std.specs.Prelude.{◌≡◌, ℕ, ◌-◌, ◌==◌, nat_le, ◌||◌, ◌+◌, ◌<◌, Bool, false, if◌then◌else◌, Option, Some, None, is_some, Result, Ok, Err, List, [], ◌∷◌, ◌++◌, length, take, drop, ◌⊎◌}
-use Rattle.ipmi_commands.specs.Below.{Place, First, Row, AreBytes, asked_at, Store, info_of, rows_of, IsWalk, EndsBy, WalkEnd, Done, CycleAt, MissingAt, place_after, place_after_rows, Seen, image_text_of, IsInfoBlock, sel_view_of, IsSelLine, IsSelBlock, fru_call_bound, SdrFault, SdrView, Count, Kind, Task, most_of, shelf_of}
+use Rattle.ipmi_commands.specs.Below.{Place, First, Row, AreBytes, asked_at, Store, info_of, rows_of, IsWalk, EndsBy, WalkEnd, Done, CycleAt, MissingAt, place_after, place_after_rows, Seen, image_text_of, record_line_of, IsInfoBlock, sel_view_of, IsSelLine, IsSelBlock, fru_call_bound, SdrFault, SdrView, Count, Kind, Task, most_of, shelf_of}
 use Rattle.ipmi_records.specs.Sdr as sdr
-use Rattle.ipmi_commands.specs.Line.{line_of}
 use Rattle.ipmi_commands.specs.declared.piece.Form.{Form}
 use Rattle.ipmi_commands.specs.Pieces.{IsListedOfKind, IsBlockOfName, IsLocatorPiece, IsInventoryPiece, row_is_of_kind, is_name}
 
@@ -95,7 +94,7 @@ abbrev pub printing : (Store → Row → List ℕ → Type 0) → (Row → List 
 printing IsText spots most = record { IsText = IsText; spots = spots; most = most }
 
 abbrev pub printing_of : Task → Printing
-printing_of Task.Hex = printing (λ store row text. text ≡ line_of row) (λ row. []) (λ tries. 0)
+printing_of Task.Hex = printing (λ store row text. text ≡ record_line_of row) (λ row. []) (λ tries. 0)
 printing_of (Task.List kind) = printing (λ store row text. IsListedOfKind Form.Short kind store row text) (listed_spots kind) (λ tries. tries + 1)
 printing_of (Task.Elist kind) = printing (λ store row text. IsListedOfKind Form.Extended kind store row text) (listed_spots kind) (λ tries. tries + 1)
 printing_of (Task.Get name) =

@@ -1,7 +1,6 @@
 -- The words of this crate that its code and proofs cite, passed on from one place. Declares nothing.
 pub use Rattle.ipmi_commands.specs.Asking.{EndsAmong, is_absent, ReadsFor}
 pub use Rattle.ipmi_commands.specs.Last.{ListsSpan, SpanAlong}
-pub use Rattle.ipmi_commands.specs.Line.{line_of}
 pub use Rattle.ipmi_commands.specs.Listing.{AsksAt, bytes_of, calls_at_spots, calls_for, Course, course, faults_of, Finds, FindsIn, FindsInfo, FindsNone, FindsPiece, FindsText, first_plan, GoesAlong, HasCalled, HasListed, is_done, is_reached, IsBlockOfInfo, IsListing, IsOutcome, IsPlace, IsUnrefused, IsWithin, item_in, left_plan, left_rows, ListingCalls, ListsHonest, MayStopAt, most_calls, most_for_one, most_on_walk, OnEachWalk, passing, run_call_bound, second_walk_bound, shown_rows, span_items, span_plan, spots_in, stop_at_end, subject_in, up_to, walk_call_bound}
 pub use Rattle.ipmi_commands.specs.Pages.{ArePages, GoesOn, IsOpen, IsPage, IsStopped, listing_cursor, PageAlong, pages_made, start_at}
 pub use Rattle.ipmi_commands.specs.Pieces.{IfChosen, is_name, is_of_kind, IsBlockOfName, IsDevicePiece, IsInventoryPiece, IsInventoryText, IsLineOf, IsListed, IsListedOfKind, IsLocatorPiece, name_of_locator, reading_for, row_is_of_kind}

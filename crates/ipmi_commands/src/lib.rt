@@ -5,7 +5,6 @@ mod info;
 mod inventory;
 mod last;
 pub mod laws;
-mod line;
 mod listing;
 mod pages;
 mod perform;

@@ -3,11 +3,11 @@ ghost use Rattle.std.specs.Prelude.{◌≡◌, ◌≢◌, ◌+◌, ◌==◌, ◌
 ghost use Rattle.ipmi_commands.specs.Below.{IsHonest, shelf_of, Task};
 ghost use Rattle.ipmi_commands.specs.Prelude.{course, faults_of, is_reached, most_for_one, passing, stop_at_end, IsListing, ListingCalls};
 
-use crate::line::LineBuffer;
 use crate::piece::piece_in;
 use crate::stop::Stop;
 use ipmi_bus::{Controller, Cursor};
 use ipmi_command_line::{Command, Task};
+use ipmi_image::LineBuffer;
 use ipmi_output::{Sink, write_all};
 use std::alloc::Global;
 

@@ -5,10 +5,10 @@ ghost use Rattle.ipmi_records.specs.Sdr.{name_of};
 ghost use Rattle.ipmi_commands.specs.Prelude.{ReadsFor, bytes_of, faults_of, Finds, FindsIn, FindsPiece, is_name, is_of_kind, IsBlockOfName, IsLineOf, IsListedOfKind, listed_spots, most_after, named_spots};
 
 use crate::inventory::locator_piece;
-use crate::line::{LineBuffer, record_line};
 use crate::stop::Stop;
 use ipmi_bus::{Controller, Ended, Record, read_reading};
 use ipmi_command_line::{Command, Kind, Task};
+use ipmi_image::{LineBuffer, record_line};
 use ipmi_records::{
     COMPACT_TYPE, CONTROLLER_TYPE, EVENT_ONLY_TYPE, FRU_TYPE, FULL_TYPE, GENERIC_TYPE, SdrView,
     SelView, sdr_block, sdr_eline, sdr_fault_line, sdr_line, sel_block, sel_line,
@@ -177,7 +177,7 @@ pub(crate) enum Piece {
 impl Piece {
     /// The bytes of the piece. `line` is the line that was written for it.
     pub(crate) fn bytes<'a>(&'a self, line: &'a LineBuffer) -> &'a [u8]
-        ensures { result.now ≡ bytes_of line.now self.now }
+        ensures { result.now ≡ bytes_of line.now.items self.now }
     {
         match self {
             Piece::Line => line.as_slice(),
@@ -203,7 +203,7 @@ fn record_piece<C: Controller>(
     ensures no_memory { cmd.now.task ≡ Task.Hex → IsOk result }
     ensures honest { IsHonest (C.seen ctl.old) →
         FindsPiece cmd.now.task cmd.now.tries (row_of_record lent.now) (C.seen ctl.old)
-        (C.seen ctl.new) line.new result }
+        (C.seen ctl.new) line.new.items result }
 {
     let tries = cmd.tries();
     match cmd.task() {
@@ -245,7 +245,7 @@ pub(crate) fn piece_in<C: Controller>(
     ensures no_memory { cmd.now.task ≡ Task.Hex → IsOk result }
     ensures honest { IsHonest (C.seen ctl.old) →
         FindsIn passing cmd.now.task cmd.now.tries (row_of_record lent.now) (C.seen ctl.old)
-        (C.seen ctl.new) line.new result }
+        (C.seen ctl.new) line.new.items result }
 {
     match passing {
         Some(0) => record_piece(alloc, ctl, cmd, lent, line),

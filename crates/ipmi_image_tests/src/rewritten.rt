@@ -1,6 +1,9 @@
-//! Images written again in the one spelling of version 2.
+//! Images written again in the one spelling of version 2, and the lines of single records.
+ghost use Rattle.std.specs.Prelude.{◌≤◌, length};
+
 use crate::images::{REWRITTEN, SAVED, THREE_ROWS, image};
-use ipmi_image::image_text;
+use ipmi_bus::Record;
+use ipmi_image::{LineBuffer, image_text, record_line};
 use std::alloc::Global;
 use std::process::Abort;
 
@@ -138,4 +141,31 @@ end
 #[test]
 fn the_shelves_are_in_one_order(rt: HostRuntime) {
     is_rewritten(&rt, rt.alloc(), INFOS, INFOS_REWRITTEN);
+}
+
+/// Writes the line of the record, and compares it with this one.
+fn has_line(rt: &impl Abort, line: &mut LineBuffer, record: &Record<'_>, wanted: &str)
+    requires { length record.now.bytes.now ≤ 256 }
+{
+    record_line(record, line);
+    let got = std::str::from_utf8(line.as_slice()).expect(rt, "text");
+    assert!(rt; got == wanted, "{got}");
+}
+
+// One buffer is used for all. No next id is a dash, and of the first line nothing is left.
+#[test]
+fn a_single_record_has_a_line(rt: HostRuntime) {
+    let mut line = LineBuffer::new();
+    let first = Record {
+        id: 0x000A,
+        next: 0xABCD,
+        bytes: &[0x0A, 0x00, 0x51, 0xC0, 0x02, 0xBB, 0xCC],
+    };
+    has_line(&rt, &mut line, &first, "sdr 000a abcd 0a0051c002bbcc\n");
+    let last = Record {
+        id: 0xABCD,
+        next: 0xFFFF,
+        bytes: &[0xCD, 0xAB, 0x51, 0xC0, 0x00],
+    };
+    has_line(&rt, &mut line, &last, "sdr abcd ffff cdab51c000\n");
 }
