@@ -4,14 +4,19 @@ use Rattle.ipmi_bus.specs.Prelude.{Code, CodeClass, Cancelled, Busy, Refusal, Re
 use Rattle.ipmi_bus.specs.Retrieval.{IsOpenRecord, HasRead, CountsTrouble}
 
 -- where a reservation is current, it was so before, and the store is the same
-pub store-kept : (shelf : Shelf) (s s' : Seen) (n : ℕ) → MayLoseReservation shelf s s' → KeepsStore s s' → current shelf s' ≡ Some n → s'.store ≡ s.store
+pub store-kept : (shelf : Shelf) (s s' : Seen) (n : ℕ) → MayLoseReservation shelf s s'
+    → KeepsStore s s' → current shelf s' ≡ Some n → s'.store ≡ s.store
 store-kept shelf s s' n keeps store now = grind arith
 
 -- a call that brought nothing leaves what was read, of which the part size and the count of troubles are no part
-pub reading_kept : (r : Retrieval) (s s' : Seen) (part troubles : ℕ) → MayLoseReservation r.shelf s s' → KeepsStore s s' → (0 < r.have → IsSome r.reservation) → IsReading r s → IsReading (record r { part = part; troubles = troubles }) s'
+pub reading_kept : (r : Retrieval) (s s' : Seen) (part troubles : ℕ)
+    → MayLoseReservation r.shelf s s' → KeepsStore s s' → (0 < r.have → IsSome r.reservation)
+    → IsReading r s → IsReading (record r { part = part; troubles = troubles }) s'
 reading_kept r s s' part troubles keeps store reserved reading = record { piece = λ some now. at r.reservation refl (reserved some) some now }
   where
-    at : (o : Option ℕ) → r.reservation ≡ o → IsSome o → 0 < r.have → current r.shelf s' ≡ r.reservation → (row : Row) × HasRead (record r { part = part; troubles = troubles }) s' row
+    at : (o : Option ℕ) → r.reservation ≡ o → IsSome o → 0 < r.have
+        → current r.shelf s' ≡ r.reservation
+        → (row : Row) × HasRead (record r { part = part; troubles = troubles }) s' row
     at None is h some now = cc h
     at (Some n) is h some now =
         let held : current r.shelf s' ≡ Some n = now ∙ is in
@@ -19,7 +24,9 @@ reading_kept r s s' part troubles keeps store reserved reading = record { piece 
         let found = ap (λ (x : Store). look (rows_of r.shelf x) r.id) (store-kept r.shelf s s' n keeps store held) ∙ before.1.found in
         (before.0, record { found = found; within = before.1.within; bytes = before.1.bytes; next = before.1.next })
 
-after_reading : (is_cancelled : Bool) (r : Retrieval) (s s' : Seen) → MayLoseReservation r.shelf s s' → KeepsStore s s' → (0 < r.have → IsSome r.reservation) → IsReading r s → IsReading (after_trouble is_cancelled r) s'
+after_reading : (is_cancelled : Bool) (r : Retrieval) (s s' : Seen)
+    → MayLoseReservation r.shelf s s' → KeepsStore s s' → (0 < r.have → IsSome r.reservation)
+    → IsReading r s → IsReading (after_trouble is_cancelled r) s'
 after_reading true r s s' keeps store reserved reading = record { piece = λ some now. absurd (omega arith) }
 after_reading false r s s' keeps store reserved reading = reading_kept r s s' r.part (r.troubles + 1) keeps store reserved reading
 
@@ -27,7 +34,8 @@ after_have : (is_cancelled : Bool) (r : Retrieval) → (after_trouble is_cancell
 after_have is_cancelled r = grind arith
 
 -- one call more
-module _ (start old : Retrieval) (s s' s'' : Seen) (same : SameRequest start old) (since : HonestSince start old s s') (stays : StaysHonest s' s'') where
+module _ (start old : Retrieval) (s s' s'' : Seen) (same : SameRequest start old)
+    (since : HonestSince start old s s') (stays : StaysHonest s' s'') where
   all : StaysHonest s s''
   all = stays_trans s s' s'' since.stays stays
 
@@ -35,7 +43,9 @@ module _ (start old : Retrieval) (s s' s'' : Seen) (same : SameRequest start old
   first e = omega (arith, since.stays.store.grows, stays.store.grows)
 
   -- a reservation that is held on
-  pub held_on : (new : Retrieval) → MayLoseReservation old.shelf s' s'' → s'.troubles ≤ s''.troubles → new.reservation ≡ old.reservation → IsSome start.reservation → s''.troubles ≡ s.troubles → KeepsHeld start new s s''
+  pub held_on : (new : Retrieval) → MayLoseReservation old.shelf s' s'' → s'.troubles ≤ s''.troubles
+      → new.reservation ≡ old.reservation → IsSome start.reservation → s''.troubles ≡ s.troubles
+      → KeepsHeld start new s s''
   held_on new keeps grows held some e =
       let before = since.keeps some (omega arith) in
       let given = rw same.shelf at keeps.none_given in
@@ -45,7 +55,9 @@ module _ (start old : Retrieval) (s s' s'' : Seen) (same : SameRequest start old
   within_calm open_ calm = search arith
 
   -- a trouble that an honest controller answered
-  pub trouble_answers : (is_cancelled : Bool) (new : Retrieval) (result : Result CallOutcome Ended) → IsOpenRecord old → MayLoseReservation old.shelf s' s'' → IsTroubled s' s'' → CountsTrouble is_cancelled old new result
+  pub trouble_answers : (is_cancelled : Bool) (new : Retrieval) (result : Result CallOutcome Ended)
+      → IsOpenRecord old → MayLoseReservation old.shelf s' s'' → IsTroubled s' s''
+      → CountsTrouble is_cancelled old new result
       → (IsTrue s.plain → HoldsCurrent start s → ⊥) → ReadNext start new s s'' result
   trouble_answers is_cancelled new (Ok turn) open_ keeps troubled counts not_plain =
       let goes : HonestSince start (after_trouble is_cancelled old) s s'' = record {
@@ -68,7 +80,9 @@ module _ (start old : Retrieval) (s s' s'' : Seen) (same : SameRequest start old
       rw (counts.0, counts.1) given
 
   -- a call that an honest controller refused
-  pub refusal_answers : (new : Retrieval) (code : Code) (result : Result CallOutcome Ended) → IsOpenRecord old → MayLoseReservation old.shelf s' s'' → IsRefused code.0 s' s'' → IsRefusedBy code old new result
+  pub refusal_answers : (new : Retrieval) (code : Code) (result : Result CallOutcome Ended)
+      → IsOpenRecord old → MayLoseReservation old.shelf s' s'' → IsRefused code.0 s' s''
+      → IsRefusedBy code old new result
       → (IsTrue s.plain → HoldsCurrent start s → ⊥) → ReadNext start new s s'' result
   refusal_answers new code result open_ keeps refused does not_plain =
       let base : ReadIsHonest start old s s'' (Err (Refused old.id code)) = record {
@@ -80,7 +94,9 @@ module _ (start old : Retrieval) (s s' s'' : Seen) (same : SameRequest start old
       rw (does.0, does.1) base
 
   -- a reservation that an honest controller gave
-  pub reserve_given : (n : ℕ) → IsOpenRecord old → old.reservation ≡ None → ReserveAnswers old.shelf (Ok n) s' s'' → HonestSince start (record old { reservation = Some n }) s s''
+  pub reserve_given : (n : ℕ) → IsOpenRecord old → old.reservation ≡ None
+      → ReserveAnswers old.shelf (Ok n) s' s''
+      → HonestSince start (record old { reservation = Some n }) s s''
   reserve_given n open_ none answers =
       let quiet = answers.gives.0 in
       record {
@@ -94,13 +110,16 @@ module _ (start old : Retrieval) (s s' s'' : Seen) (same : SameRequest start old
       }
 
   -- a call for a reservation that an honest controller failed
-  pub reserve_failed : (new : Retrieval) (code : Code) (result : Result CallOutcome Ended) → IsOpenRecord old → ReserveAnswers old.shelf (Err code) s' s'' → ReserveFails (class_of code.0) code old new result → ReadNext start new s s'' result
+  pub reserve_failed : (new : Retrieval) (code : Code) (result : Result CallOutcome Ended)
+      → IsOpenRecord old → ReserveAnswers old.shelf (Err code) s' s''
+      → ReserveFails (class_of code.0) code old new result → ReadNext start new s s'' result
   reserve_failed new code result open_ answers fails = by_class (class_of code.0) answers.gives.0 fails
     where
       not_plain : IsTrue s.plain → HoldsCurrent start s → ⊥
       not_plain p holds = cc (answers.plain (since.stays.plain p))
 
-      by_class : (class : CodeClass) → FailsWith ⊥ ⊥ class code.0 s' s'' → ReserveFails class code old new result → ReadNext start new s s'' result
+      by_class : (class : CodeClass) → FailsWith ⊥ ⊥ class code.0 s' s''
+          → ReserveFails class code old new result → ReadNext start new s s'' result
       by_class Cancelled troubled does = trouble_answers false new result open_ answers.gives.1 troubled does not_plain
       by_class Busy troubled does = trouble_answers false new result open_ answers.gives.1 troubled does not_plain
       by_class Refusal refused does = refusal_answers new code result open_ answers.gives.1 refused does not_plain

@@ -9,14 +9,18 @@ use Rattle.ipmi_bus.proofs.PartLemmas.{get_or-read}
 use Rattle.ipmi_bus.proofs.WalkLemmas.{id-row_at}
 
 -- the id that is handed out is the row's
-begins : (rows : List Row) (row : Row) → BeginsWithId rows → first_row rows ≡ Some row → get_or row.bytes 0 0 + 256 * get_or row.bytes 1 0 ≡ row.id
+begins : (rows : List Row) (row : Row) → BeginsWithId rows → first_row rows ≡ Some row
+    → get_or row.bytes 0 0 + 256 * get_or row.bytes 1 0 ≡ row.id
 begins rows row ok found = grind arith
 
 -- an id that is asked for after the start is not 0000h, and was not handed out
-asked_unseen : (n : ℕ) (ids : set.FinSet nat_cmp) → cycle_at (Id n) ids ≡ None → (nat_eq n 0 ≡ false) × (set.contains ids n ≡ false)
+asked_unseen : (n : ℕ) (ids : set.FinSet nat_cmp) → cycle_at (Id n) ids ≡ None
+    → (nat_eq n 0 ≡ false) × (set.contains ids n ≡ false)
 asked_unseen n ids none = grind (arith, nat_tests)
 
-pub handed_id-row : (shelf : Shelf) (rows : List Row) (place : Place) (ids : set.FinSet nat_cmp) (asked have : ℕ) (buffer : List ℕ) (row : Row) → IsShelf shelf rows → IsAsked place ids asked → look rows asked ≡ Some row → 5 ≤ have
+pub handed_id-row : (shelf : Shelf) (rows : List Row) (place : Place) (ids : set.FinSet nat_cmp)
+    (asked have : ℕ) (buffer : List ℕ) (row : Row) → IsShelf shelf rows → IsAsked place ids asked
+    → look rows asked ≡ Some row → 5 ≤ have
     → take have buffer ≡ take have row.bytes → handed_id place asked buffer ≡ row.id
 handed_id-row shelf rows First ids asked have buffer row ok asks found some same =
     let low = get_or-read have 0 buffer row.bytes (omega arith) same in
@@ -27,7 +31,9 @@ handed_id-row shelf rows (Id n) ids asked have buffer row ok asks found some sam
 handed_id-row shelf rows End ids asked have buffer row ok asks found some same = absurd (asks.not_at_end refl)
 
 -- the row that is whole in the buffer is the one that was read
-pub look-whole_row : (place : Place) (ids : set.FinSet nat_cmp) (asked : ℕ) (r : Retrieval) (s : Seen) (row : Row) → IsHonest s → IsAsked place ids asked → r.id ≡ asked → HasRead r s row → r.have ≡ length row.bytes → 5 ≤ r.have
+pub look-whole_row : (place : Place) (ids : set.FinSet nat_cmp) (asked : ℕ) (r : Retrieval)
+    (s : Seen) (row : Row) → IsHonest s → IsAsked place ids asked → r.id ≡ asked → HasRead r s row
+    → r.have ≡ length row.bytes → 5 ≤ r.have
     → look (rows_of r.shelf s.store) asked ≡ Some (whole_row place asked r)
 look-whole_row place ids asked r s row honest asks is read whole some =
     let found : look (rows_of r.shelf s.store) asked ≡ Some row = rw (sym is) read.found in
@@ -36,27 +42,39 @@ look-whole_row place ids asked r s row honest asks is read whole some =
     rw (id, read.next, bytes) found
 
 -- and it is handed out
-pub handed_row-whole : (p : Progress) (handed : Handed) (place : Place) (asked : ℕ) (r : Retrieval) → handed.id ≡ handed_id place asked r.buffer → handed.next ≡ r.next → handed.len ≡ r.have → p.retrieval ≡ r → handed_row p handed ≡ whole_row place asked r
+pub handed_row-whole : (p : Progress) (handed : Handed) (place : Place) (asked : ℕ) (r : Retrieval)
+    → handed.id ≡ handed_id place asked r.buffer → handed.next ≡ r.next → handed.len ≡ r.have
+    → p.retrieval ≡ r → handed_row p handed ≡ whole_row place asked r
 handed_row-whole p handed place asked r id next len is = rw (id, next, len, is) refl
 
 -- what is handed out was not handed out before
-pub contains-handed_id : (place : Place) (ids : set.FinSet nat_cmp) (asked : ℕ) (buffer : List ℕ) → (place ≡ First → ids ≡ set.empty) → IsAsked place ids asked → set.contains ids (handed_id place asked buffer) ≡ false
+pub contains-handed_id : (place : Place) (ids : set.FinSet nat_cmp) (asked : ℕ) (buffer : List ℕ)
+    → (place ≡ First → ids ≡ set.empty) → IsAsked place ids asked
+    → set.contains ids (handed_id place asked buffer) ≡ false
 contains-handed_id place ids asked buffer first asks = grind (arith, nat_tests, contains-empty nat_cmp)
 
 -- the row that is handed out has the id that was asked for
-has_id_asked : (place : Place) (ids : set.FinSet nat_cmp) (asked : ℕ) (r : Retrieval) → 5 ≤ r.have → IsAsked place ids asked → HasIdAsked place (whole_row place asked r)
+has_id_asked : (place : Place) (ids : set.FinSet nat_cmp) (asked : ℕ) (r : Retrieval) → 5 ≤ r.have
+    → IsAsked place ids asked → HasIdAsked place (whole_row place asked r)
 has_id_asked place ids asked r some asks = grind (arith, get_or-take)
 
 -- and is as long as its bytes say
-length-take-whole : (shelf : Shelf) (have : ℕ) (buffer : List ℕ) → 5 ≤ have → have ≤ length buffer → have ≡ wanted_len shelf have buffer → length (take have buffer) ≡ whole_len shelf (take have buffer)
+length-take-whole : (shelf : Shelf) (have : ℕ) (buffer : List ℕ) → 5 ≤ have → have ≤ length buffer
+    → have ≡ wanted_len shelf have buffer
+    → length (take have buffer) ≡ whole_len shelf (take have buffer)
 length-take-whole shelf have buffer some fits whole = grind (arith, nat_tests, length-take, get_or-take)
 
 largest_fits : (shelf : Shelf) → largest_len shelf ≤ 256
 largest_fits shelf = grind arith
 
 -- the cursor hands out a whole row, which it had not handed out before
-pub hands_out : (old new : CursorState) (asked : ℕ) (r : Retrieval) (row : Row) → row ≡ whole_row old.place asked r → IsAsked old.place old.ids asked → (old.place ≡ First → old.ids ≡ set.empty) → new.place ≡ place_after row.next → new.ids ≡ set.insert old.ids row.id
-    → set.len new.ids ≤ 65536 → row.next < 65536 → r.shelf ≡ old.shelf → length r.buffer ≡ 256 → 5 ≤ r.have → r.have ≤ largest_len r.shelf → r.have ≡ wanted_len r.shelf r.have r.buffer → HandsOut old new row
+pub hands_out : (old new : CursorState) (asked : ℕ) (r : Retrieval) (row : Row)
+    → row ≡ whole_row old.place asked r → IsAsked old.place old.ids asked
+    → (old.place ≡ First → old.ids ≡ set.empty) → new.place ≡ place_after row.next
+    → new.ids ≡ set.insert old.ids row.id
+    → set.len new.ids ≤ 65536 → row.next < 65536 → r.shelf ≡ old.shelf → length r.buffer ≡ 256
+    → 5 ≤ r.have → r.have ≤ largest_len r.shelf → r.have ≡ wanted_len r.shelf r.have r.buffer
+    → HandsOut old new row
 hands_out old new asked r row is asks first place ids at_most next shelf room some fits whole =
     let within : r.have ≤ length r.buffer = omega (arith, largest_fits r.shelf) in
     record {

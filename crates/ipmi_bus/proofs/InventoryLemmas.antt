@@ -7,7 +7,10 @@ use Rattle.ipmi_bus.specs.Prelude.{Code, CodeClass, SmallerPart, NotPresent, Ref
 use Rattle.ipmi_bus.specs.FruRetrieval.{IsOpenInventory, CountsTrouble, MakesSmaller, PartFails, TakesInventoryPart, HasRead, calls_left}
 use Rattle.ipmi_bus.proofs.PartLemmas.{take-with_piece, calm_piece, smaller_some}
 
-module _ (old r : FruRetrieval) (s s' s'' : Seen) (asked got : ℕ) (len : length r.bytes.items ≡ length old.bytes.items) (front : take old.have r.bytes.items ≡ take old.have old.bytes.items) (since : FruSince old s s') (more : old.have < length old.bytes.items)
+module _ (old r : FruRetrieval) (s s' s'' : Seen) (asked got : ℕ)
+    (len : length r.bytes.items ≡ length old.bytes.items)
+    (front : take old.have r.bytes.items ≡ take old.have old.bytes.items)
+    (since : FruSince old s s') (more : old.have < length old.bytes.items)
     (gave : BytesAnswers old.id old.have asked (Ok got) (slice_range r.bytes.items old.have (old.have + asked)) s' s'') where
   all : StaysHonest s s''
   all = stays_trans s s' s'' since.stays gave.change.stays
@@ -16,7 +19,8 @@ module _ (old r : FruRetrieval) (s s' s'' : Seen) (asked got : ℕ) (len : lengt
   first same = omega (arith, since.stays.store.grows, gave.change.stays.store.grows)
 
   -- the inventory is the one of which bytes were read before
-  whole_is : (same : s''.stores_added ≡ s.stores_added) → gave.gives.0 ≡ (since.read (first same)).whole
+  whole_is : (same : s''.stores_added ≡ s.stores_added)
+      → gave.gives.0 ≡ (since.read (first same)).whole
   whole_is same =
       let here = sym (ap (inventory_of old.id) (all.store.stays same)) ∙ gave.gives.1 in
       let before = (since.read (first same)).found in
@@ -41,11 +45,13 @@ module _ (old r : FruRetrieval) (s s' s'' : Seen) (asked got : ℕ) (len : lengt
             (piece.bytes ∙ ap (λ (l : List ℕ). take got (drop old.have l)) (whole_is same));
       }
 
-  fresh_most : (flag : Bool) → CountsPiece flag s' s'' → s''.fresh_troubles ≤ s.fresh_troubles + old.troubles
+  fresh_most : (flag : Bool) → CountsPiece flag s' s''
+      → s''.fresh_troubles ≤ s.fresh_troubles + old.troubles
   fresh_most true counts = omega (arith, counts.fresh_troubles)
   fresh_most false counts = omega (arith, counts.fresh_troubles, since.fresh_most more)
 
-  fresh_more : s''.stores_added ≡ s.stores_added → old.have + got < length r.bytes.items → s''.fresh_troubles ≡ s.fresh_troubles + old.troubles
+  fresh_more : s''.stores_added ≡ s.stores_added → old.have + got < length r.bytes.items
+      → s''.fresh_troubles ≡ s.fresh_troubles + old.troubles
   fresh_more same left =
       let size = (since.read (first same)).size in
       let whole = ap (length {A = ℕ}) (whole_is same) in
@@ -68,7 +74,9 @@ module _ (old r : FruRetrieval) (s s' s'' : Seen) (asked got : ℕ) (len : lengt
   }
 
   -- the bytes that came are taken
-  pub part_answers : (new : FruRetrieval) (result : Result (Unit {0}) FruEnded) → r ≡ record old { bytes = r.bytes } → TakesInventoryPart got r new result → FruNext old new s s'' result
+  pub part_answers : (new : FruRetrieval) (result : Result (Unit {0}) FruEnded)
+      → r ≡ record old { bytes = r.bytes } → TakesInventoryPart got r new result
+      → FruNext old new s s'' result
   part_answers new (Ok u) is takes = subst (λ (x : FruRetrieval). FruSince x s s'') (sym takes.1) (subst (λ (x : FruRetrieval). FruSince (record x { have = x.have + got }) s s'') (sym is) part_taken)
   part_answers new (Err ended) is takes = absurd (omega (arith, takes.0, gave.gives.2.piece.some))
 
@@ -80,7 +88,9 @@ nat_eq-not_cbh : (code : ℕ) → class_of code ≡ Refusal → nat_eq code 0xCB
 nat_eq-not_cbh code is = ne_eqb _ _ (λ (e : code ≡ 0xCB). let other = sym (ap class_of e) ∙ is in cc other)
 
 -- a call for a part that an honest controller failed
-module _ (old : FruRetrieval) (bytes : Vec ℕ Global) (s s' s'' : Seen) (asked : ℕ) (code : Code) (into : List ℕ) (items : bytes.items ≡ old.bytes.items) (open_ : IsOpenInventory old) (since : FruSince old s s')
+module _ (old : FruRetrieval) (bytes : Vec ℕ Global) (s s' s'' : Seen) (asked : ℕ) (code : Code)
+    (into : List ℕ) (items : bytes.items ≡ old.bytes.items) (open_ : IsOpenInventory old)
+    (since : FruSince old s s')
     (gave : BytesAnswers old.id old.have asked (Err code) into s' s'') where
   stays : StaysHonest s s''
   stays = stays_trans s s' s'' since.stays gave.change.stays
@@ -98,7 +108,9 @@ module _ (old : FruRetrieval) (bytes : Vec ℕ Global) (s s' s'' : Seen) (asked 
       cc (plain (omega (arith, open_.more, read.size)))
 
   -- the call is to be made again
-  since_failed : (part troubles k : ℕ) → troubles ≡ old.troubles + k → s''.troubles ≡ s'.troubles + k → s''.fresh_troubles ≡ s'.fresh_troubles + k → s''.refusals ≡ s'.refusals → s''.last_code ≡ s'.last_code
+  since_failed : (part troubles k : ℕ) → troubles ≡ old.troubles + k
+      → s''.troubles ≡ s'.troubles + k → s''.fresh_troubles ≡ s'.fresh_troubles + k
+      → s''.refusals ≡ s'.refusals → s''.last_code ≡ s'.last_code
       → FruSince (record old { bytes = bytes; part = part; troubles = troubles }) s s''
   since_failed part troubles k now counted fresh refusals last_code =
       let len = ap (length {A = ℕ}) items in
@@ -113,7 +125,8 @@ module _ (old : FruRetrieval) (bytes : Vec ℕ Global) (s s' s'' : Seen) (asked 
         plain = λ p. absurd (not_plain p);
       }
 
-  given_up : IsTroubled s' s'' → old.troubles ≡ old.tries → FruEnds old.id old.tries s s'' FruEnded.GaveUp
+  given_up : IsTroubled s' s'' → old.troubles ≡ old.tries
+      → FruEnds old.id old.tries s s'' FruEnded.GaveUp
   given_up troubled all = record {
     stays = stays;
     counts = search (arith, since.fresh_most open_.more);
@@ -121,16 +134,20 @@ module _ (old : FruRetrieval) (bytes : Vec ℕ Global) (s s' s'' : Seen) (asked 
     plain = λ p. absurd (not_plain p);
   }
 
-  trouble_answers : (new : FruRetrieval) (result : Result (Unit {0}) FruEnded) → IsTroubled s' s'' → CountsTrouble (record old { bytes = bytes }) new result → FruNext old new s s'' result
+  trouble_answers : (new : FruRetrieval) (result : Result (Unit {0}) FruEnded) → IsTroubled s' s''
+      → CountsTrouble (record old { bytes = bytes }) new result → FruNext old new s s'' result
   trouble_answers new (Ok u) troubled counts = rw counts.0 (since_failed old.part (old.troubles + 1) 1 refl troubled.troubles troubled.fresh_troubles troubled.refusals troubled.last_code)
   trouble_answers new (Err ended) troubled counts = rw counts.0 (given_up troubled counts.2)
 
-  smaller_answers : (new : FruRetrieval) (result : Result (Unit {0}) FruEnded) → 1 < asked → IsQuiet s' s'' → MakesSmaller asked (record old { bytes = bytes }) new result → FruNext old new s s'' result
+  smaller_answers : (new : FruRetrieval) (result : Result (Unit {0}) FruEnded) → 1 < asked
+      → IsQuiet s' s'' → MakesSmaller asked (record old { bytes = bytes }) new result
+      → FruNext old new s s'' result
   smaller_answers new (Ok u) more quiet does = subst (λ (x : FruRetrieval). FruSince x s s'') (sym does.1)
       (since_failed new.part old.troubles 0 (omega arith) (omega (arith, quiet.troubles)) (omega (arith, quiet.fresh_troubles)) quiet.refusals quiet.last_code)
   smaller_answers new (Err ended) more quiet does = absurd (smaller_some asked more does.1)
 
-  absent : class_of code.0 ≡ NotPresent → inventory_of old.id s''.store ≡ None → IsFinished s' s'' → FruEnds old.id old.tries s s'' (FruEnded.Refused code)
+  absent : class_of code.0 ≡ NotPresent → inventory_of old.id s''.store ≡ None → IsFinished s' s''
+      → FruEnds old.id old.tries s s'' (FruEnded.Refused code)
   absent class none finished =
       let within : WithinTries old.tries s s'' = search arith in
       record {
@@ -140,7 +157,8 @@ module _ (old : FruRetrieval) (bytes : Vec ℕ Global) (s s' s'' : Seen) (asked 
         plain = λ p. absurd (not_plain p);
       }
 
-  refused : class_of code.0 ≡ Refusal → IsRefused code.0 s' s'' → FruEnds old.id old.tries s s'' (FruEnded.Refused code)
+  refused : class_of code.0 ≡ Refusal → IsRefused code.0 s' s''
+      → FruEnds old.id old.tries s s'' (FruEnded.Refused code)
   refused class refuses =
       let with_code : IsRefusedWith old.tries code.0 s s'' = search arith in
       record {
@@ -150,14 +168,19 @@ module _ (old : FruRetrieval) (bytes : Vec ℕ Global) (s s' s'' : Seen) (asked 
         plain = λ p. absurd (not_plain p);
       }
 
-  part_by_class : (class : CodeClass) (new : FruRetrieval) (result : Result (Unit {0}) FruEnded) → class_of code.0 ≡ class → FailsWith (1 < asked) (inventory_of old.id s''.store ≡ None) class code.0 s' s''
-      → PartFails class code asked (record old { bytes = bytes }) new result → FruNext old new s s'' result
+  part_by_class : (class : CodeClass) (new : FruRetrieval) (result : Result (Unit {0}) FruEnded)
+      → class_of code.0 ≡ class → FailsWith (1 < asked) (inventory_of old.id s''.store ≡ None) class
+      code.0 s' s''
+      → PartFails class code asked (record old { bytes = bytes }) new result
+      → FruNext old new s s'' result
   part_by_class SmallerPart new result class fails does = smaller_answers new result fails.0 fails.1 does
   part_by_class NotPresent new result class fails does = rw does.0 (absent class fails.0 fails.1)
   part_by_class Refusal new result class refuses does = rw does.0 (refused class refuses)
   part_by_class _ new result class troubled does = trouble_answers new result troubled does
 
-  pub part_failed : (r new : FruRetrieval) (result : Result (Unit {0}) FruEnded) → r ≡ record old { bytes = bytes } → PartFails (class_of code.0) code asked r new result → FruNext old new s s'' result
+  pub part_failed : (r new : FruRetrieval) (result : Result (Unit {0}) FruEnded)
+      → r ≡ record old { bytes = bytes } → PartFails (class_of code.0) code asked r new result
+      → FruNext old new s s'' result
   part_failed r new result is fails =
       part_by_class (class_of code.0) new result refl gave.gives (subst (λ (x : FruRetrieval). PartFails (class_of code.0) code asked x new result) is fails)
 
@@ -171,7 +194,8 @@ pub digits_most : (n : ℕ) → digits n ≤ 8
 digits_most n = grind (arith, nat_tests)
 
 -- the size was told, and no byte is there
-module _ (id part tries : ℕ) (size : Size) (bytes : Vec ℕ Global) (s s' : Seen) (has : HasSize id size s s') (len : length bytes.items ≡ size.bytes) where
+module _ (id part tries : ℕ) (size : Size) (bytes : Vec ℕ Global) (s s' : Seen)
+    (has : HasSize id size s s') (len : length bytes.items ≡ size.bytes) where
   abbrev begun : FruRetrieval
   begun = record { id = id; part = part; tries = tries; troubles = size.troubles; have = 0; bytes = bytes }
 
@@ -189,14 +213,18 @@ module _ (id part tries : ℕ) (size : Size) (bytes : Vec ℕ Global) (s s' : Se
     plain = has.plain;
   }
 
-  pub bound_is : (s'' : Seen) → StaysHonest s' s'' → size.troubles ≤ tries → s'.calls ≡ s.calls + size.troubles + 1 → s''.calls + 1 ≤ s'.calls + calls_left begun → s''.stores_added ≡ s.stores_added
+  pub bound_is : (s'' : Seen) → StaysHonest s' s'' → size.troubles ≤ tries
+      → s'.calls ≡ s.calls + size.troubles + 1 → s''.calls + 1 ≤ s'.calls + calls_left begun
+      → s''.stores_added ≡ s.stores_added
       → s''.calls ≤ s.calls + fru_call_bound tries (inventory_len id s.store)
   bound_is s'' stays few called made same =
       let first = found_at_first (omega (arith, has.stays.store.grows, stays.store.grows)) in
       omega (arith, has.found.2, ap (λ (o : Option (List ℕ)). length (unwrap_or o [])) first, digits_most part)
 
 -- all bytes are there
-module _ (id tries : ℕ) (s s' : Seen) (r : FruRetrieval) (since : FruSince r s s') (id_is : r.id ≡ id) (tries_are : r.tries ≡ tries) (few : r.troubles ≤ r.tries) (all : r.have ≡ length r.bytes.items) where
+module _ (id tries : ℕ) (s s' : Seen) (r : FruRetrieval) (since : FruSince r s s')
+    (id_is : r.id ≡ id) (tries_are : r.tries ≡ tries) (few : r.troubles ≤ r.tries)
+    (all : r.have ≡ length r.bytes.items) where
   -- no more troubles came than the tries
   within_tries : WithinTries tries s s'
   within_tries = search arith
@@ -204,7 +232,8 @@ module _ (id tries : ℕ) (s s' : Seen) (r : FruRetrieval) (since : FruSince r s
   pub inventory_counted : InventoryCounts id tries s s' (Ok r.bytes.items)
   inventory_counted = (within_tries, subst (λ (n : ℕ). IsSome (inventory_of n s'.store)) id_is (since.found all))
 
-  pub inventory_read : s'.stores_added ≡ s.stores_added → InventoryIs id tries s s' (Ok r.bytes.items)
+  pub inventory_read : s'.stores_added ≡ s.stores_added
+      → InventoryIs id tries s s' (Ok r.bytes.items)
   inventory_read same =
       let read = since.read same in
       let bytes : r.bytes.items ≡ read.whole =

@@ -8,21 +8,27 @@ use Rattle.ipmi_bus.proofs.ShelfLemmas.{look_row}
 use Rattle.ipmi_bus.proofs.CallLemmas.{reading_kept, held_on, within_calm, trouble_answers, refusal_answers}
 
 -- the byte at a place that is read
-pub get_or-read : (have i : ℕ) (buffer bytes : List ℕ) → i < have → take have buffer ≡ take have bytes → get_or buffer i 0 ≡ get_or bytes i 0
+pub get_or-read : (have i : ℕ) (buffer bytes : List ℕ) → i < have
+    → take have buffer ≡ take have bytes → get_or buffer i 0 ≡ get_or bytes i 0
 get_or-read have i buffer bytes lt same = sym (get_or-take have buffer i 0 lt) ∙ rw same (get_or-take have bytes i 0 lt)
 
 -- no more is wanted than the row has
-pub wanted_within : (shelf : Shelf) (have : ℕ) (buffer : List ℕ) (row : Row) → IsRow shelf row → take have buffer ≡ take have row.bytes → wanted_len shelf have buffer ≤ length row.bytes
+pub wanted_within : (shelf : Shelf) (have : ℕ) (buffer : List ℕ) (row : Row) → IsRow shelf row
+    → take have buffer ≡ take have row.bytes → wanted_len shelf have buffer ≤ length row.bytes
 wanted_within shelf have buffer row ok same =
     let whole = ok.whole in let byte = λ (lt : 4 < have). get_or-read have 4 buffer row.bytes lt same in grind (arith, nat_tests)
 
 -- what is as long as is wanted is whole
-pub wanted_whole : (shelf : Shelf) (have : ℕ) (buffer : List ℕ) (row : Row) → IsRow shelf row → take have buffer ≡ take have row.bytes → have ≡ wanted_len shelf have buffer → have ≡ length row.bytes
+pub wanted_whole : (shelf : Shelf) (have : ℕ) (buffer : List ℕ) (row : Row) → IsRow shelf row
+    → take have buffer ≡ take have row.bytes → have ≡ wanted_len shelf have buffer
+    → have ≡ length row.bytes
 wanted_whole shelf have buffer row ok same is =
     let whole = ok.whole in let byte = λ (lt : 4 < have). get_or-read have 4 buffer row.bytes lt same in grind (arith, nat_tests)
 
 -- what was read before, while the reservation is current
-take-before : (r : Retrieval) (s : Seen) (row : Row) → IsReading r s → (0 < r.have → current r.shelf s ≡ r.reservation) → look (rows_of r.shelf s.store) r.id ≡ Some row → take r.have r.buffer ≡ take r.have row.bytes
+take-before : (r : Retrieval) (s : Seen) (row : Row) → IsReading r s
+    → (0 < r.have → current r.shelf s ≡ r.reservation)
+    → look (rows_of r.shelf s.store) r.id ≡ Some row → take r.have r.buffer ≡ take r.have row.bytes
 take-before r s row reading reserved found = elim (cases_lt 0 r.have) [
   | inl some ↦
       let before = reading.piece some (reserved some) in
@@ -32,8 +38,10 @@ take-before r s row reading reserved found = elim (cases_lt 0 r.have) [
 ]
 
 -- and with the piece
-pub take-with_piece : (have got asked : ℕ) (before after bytes : List ℕ) → got ≤ asked → take have after ≡ take have before → take have before ≡ take have bytes
-    → take got (slice_range after have (have + asked)) ≡ take got (drop have bytes) → take (have + got) after ≡ take (have + got) bytes
+pub take-with_piece : (have got asked : ℕ) (before after bytes : List ℕ) → got ≤ asked
+    → take have after ≡ take have before → take have before ≡ take have bytes
+    → take got (slice_range after have (have + asked)) ≡ take got (drop have bytes)
+    → take (have + got) after ≡ take (have + got) bytes
 take-with_piece have got asked before after bytes fits front same piece =
     let range : slice_range after have (have + asked) ≡ take asked (drop have after) = ap (λ (k : ℕ). take k (drop have after)) {y = asked} (omega arith) in
     let inner : take got (drop have after) ≡ take got (drop have bytes) = sym (take-take got asked (drop have after) fits) ∙ sym (ap (take got) range) ∙ piece in
@@ -47,8 +55,13 @@ calm_piece false s s' counts = search (arith, counts)
 abbrev taken : Retrieval → List ℕ → Part → Retrieval
 taken old buffer part = after_part part (record old { buffer = buffer })
 
-module _ (start old : Retrieval) (buffer : List ℕ) (s s' s'' : Seen) (n asked : ℕ) (part : Part) (row : Row) (same : SameRequest start old) (since : HonestSince start old s s') (open_ : IsOpenRecord old) (held : old.reservation ≡ Some n) (stays : StaysHonest s' s'')
-    (keeps : MayLoseReservation old.shelf s' s'') (ok : IsRow old.shelf row) (front : take old.have buffer ≡ take old.have old.buffer) (gives : GivesPiece (request_of old n asked) part (slice_range buffer old.have (old.have + asked)) s' s'' row) where
+module _ (start old : Retrieval) (buffer : List ℕ) (s s' s'' : Seen) (n asked : ℕ) (part : Part)
+    (row : Row) (same : SameRequest start old) (since : HonestSince start old s s')
+    (open_ : IsOpenRecord old) (held : old.reservation ≡ Some n) (stays : StaysHonest s' s'')
+    (keeps : MayLoseReservation old.shelf s' s'') (ok : IsRow old.shelf row)
+    (front : take old.have buffer ≡ take old.have old.buffer)
+    (gives : GivesPiece (request_of old n asked) part
+    (slice_range buffer old.have (old.have + asked)) s' s'' row) where
   calm : HasMet 0 s' s''
   calm = calm_piece _ s' s'' gives.counts
 
@@ -66,13 +79,15 @@ module _ (start old : Retrieval) (buffer : List ℕ) (s s' s'' : Seen) (n asked 
         next = gives.next;
       }
 
-  keeps_held : IsSome start.reservation → s''.troubles ≡ s.troubles → KeepsHeld start (taken old buffer part) s s''
+  keeps_held : IsSome start.reservation → s''.troubles ≡ s.troubles
+      → KeepsHeld start (taken old buffer part) s s''
   keeps_held = held_on start old s s' s'' same since stays (taken old buffer part) keeps (omega (arith, calm.troubles_are)) refl
 
   holds : IsTrue s.plain → HoldsCurrent start s → HoldsCurrent (taken old buffer part) s''
   holds p h = record { held = λ m e. keeps.plain (since.stays.plain p) ∙ (since.plain p h).held m e }
 
-  piece_goes_on : old.have + part.got < wanted_len old.shelf (old.have + part.got) buffer → HonestSince start (taken old buffer part) s s''
+  piece_goes_on : old.have + part.got < wanted_len old.shelf (old.have + part.got) buffer
+      → HonestSince start (taken old buffer part) s s''
   piece_goes_on more =
       let within = wanted_within old.shelf (old.have + part.got) buffer row ok read.bytes in
       let flag : nat_eq (old.have + part.got) (length row.bytes) ≡ false = ne_eqb _ _ (λ (e : old.have + part.got ≡ length row.bytes). absurd (omega arith)) in
@@ -87,7 +102,9 @@ module _ (start old : Retrieval) (buffer : List ℕ) (s s' s'' : Seen) (n asked 
         within = λ e. let len = rw (same.shelf, same.id, all.store.stays e) at (ap len_of gives.found) in omega (arith, gives.piece.within, len);
       }
 
-  piece_answers : (new : Retrieval) (result : Result CallOutcome Ended) → TakesRecordPart part (record old { buffer = buffer }) new result → ReadNext start new s s'' result
+  piece_answers : (new : Retrieval) (result : Result CallOutcome Ended)
+      → TakesRecordPart part (record old { buffer = buffer }) new result
+      → ReadNext start new s s'' result
   piece_answers new (Ok Again) takes = rw takes.1 (piece_goes_on (rw takes.1 at takes.2))
   piece_answers new (Ok Whole) takes =
       let is : old.have + part.got ≡ wanted_len old.shelf (old.have + part.got) buffer = rw takes.1 at takes.2 in
@@ -109,15 +126,21 @@ module _ (start old : Retrieval) (buffer : List ℕ) (s s' s'' : Seen) (n asked 
   piece_answers new _ takes = absurd takes
 
 -- a part that an honest controller gave
-pub honest_part : (start old r new : Retrieval) (s s' s'' : Seen) (n asked : ℕ) (part : Part) (result : Result CallOutcome Ended) → SameRequest start old → HonestSince start old s s' → IsOpenRecord old → r ≡ record old { buffer = r.buffer }
-    → take old.have r.buffer ≡ take old.have old.buffer → old.reservation ≡ Some n → PartAnswers (request_of old n asked) (Ok part) (slice_range r.buffer old.have (old.have + asked)) s' s'' → TakesRecordPart part r new result → ReadNext start new s s'' result
+pub honest_part : (start old r new : Retrieval) (s s' s'' : Seen) (n asked : ℕ) (part : Part)
+    (result : Result CallOutcome Ended) → SameRequest start old → HonestSince start old s s'
+    → IsOpenRecord old → r ≡ record old { buffer = r.buffer }
+    → take old.have r.buffer ≡ take old.have old.buffer → old.reservation ≡ Some n
+    → PartAnswers (request_of old n asked) (Ok part)
+    (slice_range r.buffer old.have (old.have + asked)) s' s'' → TakesRecordPart part r new result
+    → ReadNext start new s s'' result
 honest_part start old r new s s' s'' n asked part result same since open_ is front held parts takes =
     let row = parts.gives.0 in
     let ok = look_row old.shelf _ old.id row (store_shelf old.shelf s''.store parts.change.stays.honest.store) parts.gives.1.found in
     let takes' : TakesRecordPart part (record old { buffer = r.buffer }) new result = subst (λ (x : Retrieval). TakesRecordPart part x new result) is takes in
     piece_answers start old r.buffer s s' s'' n asked part row same since open_ held parts.change.stays parts.keeps ok front parts.gives.1 new result takes'
 
-module _ (old : Retrieval) (s : Seen) (n asked : ℕ) (honest : IsHonest s) (open_ : IsOpenRecord old) (reading : IsReading old s) (holds : HoldsCurrent old s) (held : old.reservation ≡ Some n) where
+module _ (old : Retrieval) (s : Seen) (n asked : ℕ) (honest : IsHonest s) (open_ : IsOpenRecord old)
+    (reading : IsReading old s) (holds : HoldsCurrent old s) (held : old.reservation ≡ Some n) where
   -- a plain controller answers a request for more with data, or that there is no such row
   pub plain_code : (code : Code) → PartIsPlain (request_of old n asked) (Err code) s → code.0 ≡ 0xCB
   plain_code code plain = by_row (look (rows_of old.shelf s.store) old.id) refl
@@ -135,7 +158,9 @@ pub smaller_some : (asked : ℕ) → 1 < asked → smaller_part asked ≡ None �
 smaller_some asked more none = grind (arith, nat_tests)
 
 -- a failing call of an honest controller for a part
-module _ (start old new : Retrieval) (s s' s'' : Seen) (n asked : ℕ) (code : Code) (into : List ℕ) (same : SameRequest start old) (since : HonestSince start old s s') (open_ : IsOpenRecord old) (held : old.reservation ≡ Some n)
+module _ (start old new : Retrieval) (s s' s'' : Seen) (n asked : ℕ) (code : Code) (into : List ℕ)
+    (same : SameRequest start old) (since : HonestSince start old s s') (open_ : IsOpenRecord old)
+    (held : old.reservation ≡ Some n)
     (parts : PartAnswers (request_of old n asked) (Err code) into s' s'') where
   stays : StaysHonest s' s''
   stays = parts.change.stays
@@ -143,11 +168,13 @@ module _ (start old new : Retrieval) (s s' s'' : Seen) (n asked : ℕ) (code : C
   over_all : StaysHonest s s''
   over_all = stays_trans s s' s'' since.stays stays
 
-  keeps_on : (r : Retrieval) → s'.troubles ≤ s''.troubles → r.reservation ≡ old.reservation → IsSome start.reservation → s''.troubles ≡ s.troubles → KeepsHeld start r s s''
+  keeps_on : (r : Retrieval) → s'.troubles ≤ s''.troubles → r.reservation ≡ old.reservation
+      → IsSome start.reservation → s''.troubles ≡ s.troubles → KeepsHeld start r s s''
   keeps_on r = held_on start old s s' s'' same since stays r parts.keeps
 
   -- a smaller part is to be asked for
-  with_smaller : (part : ℕ) → IsQuiet s' s'' → (IsTrue s.plain → HoldsCurrent start s → ⊥) → HonestSince start (record old { part = part }) s s''
+  with_smaller : (part : ℕ) → IsQuiet s' s'' → (IsTrue s.plain → HoldsCurrent start s → ⊥)
+      → HonestSince start (record old { part = part }) s s''
   with_smaller part quiet not_plain = record {
     stays = over_all;
     reading = reading_kept old s' s'' part old.troubles parts.keeps stays.store open_.reserved since.reading;
@@ -158,11 +185,15 @@ module _ (start old new : Retrieval) (s s' s'' : Seen) (n asked : ℕ) (code : C
     within = λ e. since.within (omega (arith, since.stays.store.grows, stays.store.grows));
   }
 
-  smaller_answers : (result : Result CallOutcome Ended) → 1 < asked → IsQuiet s' s'' → (IsTrue s.plain → HoldsCurrent start s → ⊥) → MakesSmaller asked old new result → ReadNext start new s s'' result
+  smaller_answers : (result : Result CallOutcome Ended) → 1 < asked → IsQuiet s' s''
+      → (IsTrue s.plain → HoldsCurrent start s → ⊥) → MakesSmaller asked old new result
+      → ReadNext start new s s'' result
   smaller_answers (Ok turn) more quiet not_plain does = rw does.0 (subst (λ (r : Retrieval). HonestSince start r s s'') (sym does.2) (with_smaller new.part quiet not_plain))
   smaller_answers (Err ended) more quiet not_plain does = absurd (smaller_some asked more does.1)
 
-  absent_answers : (result : Result CallOutcome Ended) → look (rows_of old.shelf s''.store) old.id ≡ None → IsFinished s' s'' → (result ≡ Ok Absent) × (new ≡ old) → ReadNext start new s s'' result
+  absent_answers : (result : Result CallOutcome Ended)
+      → look (rows_of old.shelf s''.store) old.id ≡ None → IsFinished s' s''
+      → (result ≡ Ok Absent) × (new ≡ old) → ReadNext start new s s'' result
   absent_answers result absent finished does =
       let counts : HasMet 0 s' s'' = search (arith, finished) in
       let base : ReadIsHonest start old s s'' (Ok false) = record {
@@ -173,7 +204,9 @@ module _ (start old new : Retrieval) (s s' s'' : Seen) (n asked : ℕ) (code : C
       } in
       rw (does.0, does.1) base
 
-  part_by_class : (class : CodeClass) (result : Result CallOutcome Ended) → ((class ≡ NotPresent → ⊥) → IsTrue s.plain → HoldsCurrent start s → ⊥) → FailsWith (1 < asked) (look (rows_of old.shelf s''.store) old.id ≡ None) class code.0 s' s''
+  part_by_class : (class : CodeClass) (result : Result CallOutcome Ended)
+      → ((class ≡ NotPresent → ⊥) → IsTrue s.plain → HoldsCurrent start s → ⊥)
+      → FailsWith (1 < asked) (look (rows_of old.shelf s''.store) old.id ≡ None) class code.0 s' s''
       → PartFails class code asked old new result → ReadNext start new s s'' result
   part_by_class Cancelled result not_plain troubled does = trouble_answers start old s s' s'' same since stays true new result open_ parts.keeps troubled does (not_plain (λ e. cc e))
   part_by_class Busy result not_plain troubled does = trouble_answers start old s s' s'' same since stays false new result open_ parts.keeps troubled does (not_plain (λ e. cc e))
@@ -181,7 +214,8 @@ module _ (start old new : Retrieval) (s s' s'' : Seen) (n asked : ℕ) (code : C
   part_by_class NotPresent result not_plain fails does = absent_answers result fails.0 fails.1 does
   part_by_class Refusal result not_plain refused does = refusal_answers start old s s' s'' same since stays new code result open_ parts.keeps refused does (not_plain (λ e. cc e))
 
-  pub part_failed : (result : Result CallOutcome Ended) → PartFails (class_of code.0) code asked old new result → ReadNext start new s s'' result
+  pub part_failed : (result : Result CallOutcome Ended)
+      → PartFails (class_of code.0) code asked old new result → ReadNext start new s s'' result
   part_failed result fails = part_by_class (class_of code.0) result not_plain parts.gives fails
     where
       not_plain : (class_of code.0 ≡ NotPresent → ⊥) → IsTrue s.plain → HoldsCurrent start s → ⊥

@@ -7,15 +7,20 @@ same_request_trans : (a b c : Retrieval) → SameRequest a b → SameRequest b c
 same_request_trans a b c p q = record { shelf = q.shelf ∙ p.shelf; tries = q.tries ∙ p.tries; id = q.id ∙ p.id; part = omega (arith, p.part, q.part); some = q.some }
 
 -- one call more
-module _ (start now new : Retrieval) (s s' s'' : Seen) (since : Since start now s s') (request : SameRequest now new) (counted : s''.calls ≡ s'.calls + 1) (leaves : CallLeaves now new (Ok Again)) where
+module _ (start now new : Retrieval) (s s' s'' : Seen) (since : Since start now s s')
+    (request : SameRequest now new) (counted : s''.calls ≡ s'.calls + 1)
+    (leaves : CallLeaves now new (Ok Again)) where
   -- one call is spent
   chain : (a b c : ℕ) → a + 1 ≤ b → s'.calls + b ≤ s.calls + c → s''.calls + a ≤ s.calls + c
   chain a b c p q = omega (arith, counted)
 
-  calls_more : (len : ℕ) → new.have ≤ len → s'.calls + calls_left len now ≤ s.calls + calls_left len start → s''.calls + calls_left len new ≤ s.calls + calls_left len start
+  calls_more : (len : ℕ) → new.have ≤ len
+      → s'.calls + calls_left len now ≤ s.calls + calls_left len start
+      → s''.calls + calls_left len new ≤ s.calls + calls_left len start
   calls_more len fits before = chain (calls_left len new) (calls_left len now) (calls_left len start) (leaves.1 len fits) before
 
-  pub since_more : (IsHonest s' → StaysHonest s' s'') → (IsHonest s → HonestSince start new s s'') → Since start new s s''
+  pub since_more : (IsHonest s' → StaysHonest s' s'') → (IsHonest s → HonestSince start new s s'')
+      → Since start new s s''
   since_more stays honest = record {
     is_open = leaves.0;
     request = same_request_trans start now new since.request request;
@@ -31,16 +36,19 @@ unreserved_le None = omega arith
 unreserved_le (Some n) = omega arith
 
 -- the last call
-module _ (old : Retrieval) (id : ℕ) (now new : Retrieval) (s s' s'' : Seen) (since : Since (begun old id) now s s') (counted : s''.calls ≡ s'.calls + 1) where
+module _ (old : Retrieval) (id : ℕ) (now new : Retrieval) (s s' s'' : Seen)
+    (since : Since (begun old id) now s s') (counted : s''.calls ≡ s'.calls + 1) where
   -- the most calls of a record that is begun
-  bound_by : (len tries : ℕ) (r : Retrieval) → r.tries ≡ tries → r.troubles ≡ 0 → r.have ≡ 0 → calls_left len r ≤ step_call_bound tries len + digits r.part
+  bound_by : (len tries : ℕ) (r : Retrieval) → r.tries ≡ tries → r.troubles ≡ 0 → r.have ≡ 0
+      → calls_left len r ≤ step_call_bound tries len + digits r.part
   bound_by len tries r is t h =
       let most = unreserved_le r.reservation in
       let product : (r.tries - r.troubles) * (len + 2) ≡ tries * (len + 2) = ap (λ (n : ℕ). n * (len + 2)) {y = tries} (omega (arith, is, t)) in
       omega (arith, most, product, h)
 
   -- the calls are within the bound by the row's length, with the digits that the part size lost, where the store stays
-  pub row_bound : (IsHonest s' → StaysHonest s' s'') → new.part ≡ now.part → IsHonest s → s''.stores_added ≡ s.stores_added → ReadCalls (row_len (begun old id) s) old new s s''
+  pub row_bound : (IsHonest s' → StaysHonest s' s'') → new.part ≡ now.part → IsHonest s
+      → s''.stores_added ≡ s.stores_added → ReadCalls (row_len (begun old id) s) old new s s''
   row_bound stays same h e =
       let before = (since.honest h).stays in
       let len = row_len (begun old id) s in
@@ -50,5 +58,7 @@ module _ (old : Retrieval) (id : ℕ) (now new : Retrieval) (s s' s'' : Seen) (s
       left_least : (len : ℕ) (r : Retrieval) → 1 + digits r.part ≤ calls_left len r
       left_least len r = omega arith
 
-      chain : (a b c : ℕ) → 1 + digits now.part ≤ a → s'.calls + a ≤ s.calls + b → digits new.part ≡ digits now.part → b ≤ c + digits old.part → s''.calls + digits new.part ≤ s.calls + c + digits old.part
+      chain : (a b c : ℕ) → 1 + digits now.part ≤ a → s'.calls + a ≤ s.calls + b
+          → digits new.part ≡ digits now.part → b ≤ c + digits old.part
+          → s''.calls + digits new.part ≤ s.calls + c + digits old.part
       chain a b c p q d m = omega (arith, counted)

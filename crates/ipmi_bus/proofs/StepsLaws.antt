@@ -5,16 +5,22 @@ use Rattle.ipmi_bus.proofs.WalkLemmas.{walk_tail, row_at-id}
 
 -- ---- the rest of a walk
 
-pub rest_walk : (shelf : Shelf) (rows : List Row) (start : Place) (before : List Row) (row : Row) (after : List Row) → IsShelf shelf rows → IsWalk rows start (before ++ row ∷ after) → EndsBy rows start (before ++ row ∷ after) Done
-    → row.id ≢ 0 → IsWalk rows (Id row.id) (row ∷ after) × EndsBy rows (Id row.id) (row ∷ after) Done
+pub rest_walk : (shelf : Shelf) (rows : List Row) (start : Place) (before : List Row) (row : Row)
+    (after : List Row) → IsShelf shelf rows → IsWalk rows start (before ++ row ∷ after)
+    → EndsBy rows start (before ++ row ∷ after) Done
+    → row.id ≢ 0 → IsWalk rows (Id row.id) (row ∷ after)
+    × EndsBy rows (Id row.id) (row ∷ after) Done
 rest_walk shelf rows start [] row after ok w ends ne = (record { of_shelf = w.of_shelf; distinct = w.distinct; first = row_at-id rows row.id ne ∙ w.of_shelf.0; links = w.links }, ends)
 rest_walk shelf rows start (d ∷ []) row after ok w ends ne = rest_walk shelf rows (place_after d.next) [] row after ok (walk_tail shelf rows start d (row ∷ after) ok w) ends ne
-rest_walk shelf rows start (d ∷ (e ∷ before)) row after ok w ends ne = rest_walk shelf rows (place_after d.next) (e ∷ before) row after ok (walk_tail shelf rows start d ((e ∷ before) ++ row ∷ after) ok w) ends ne
+rest_walk shelf rows start (d ∷ (e ∷ before)) row after ok w ends ne =
+    rest_walk shelf rows (place_after d.next) (e ∷ before) row after ok
+    (walk_tail shelf rows start d ((e ∷ before) ++ row ∷ after) ok w) ends ne
 
 -- ---- steps
 
 -- the store stays over the first step where it stays over all
-grows : (c : CursorState) (s : Seen) (steps : List Stepped) → IsHonest s → AreSteps c s steps → s.stores_added ≤ (seen_after s steps).stores_added
+grows : (c : CursorState) (s : Seen) (steps : List Stepped) → IsHonest s → AreSteps c s steps
+    → s.stores_added ≤ (seen_after s steps).stores_added
 grows c s [] honest steps = omega arith
 grows c s (step ∷ more) honest steps =
     let between = steps.0 in
@@ -22,7 +28,8 @@ grows c s (step ∷ more) honest steps =
     omega (arith, between.store.grows, stays.store.grows, grows step.cursor step.seen more stays.honest steps.2)
 
 -- the next row, and the first ones of those after it
-cons-take-drop : (walk : List Row) (k m : ℕ) (row : Row) → first_row (drop k walk) ≡ Some row → row ∷ take m (drop (k + 1) walk) ≡ take (m + 1) (drop k walk)
+cons-take-drop : (walk : List Row) (k m : ℕ) (row : Row) → first_row (drop k walk) ≡ Some row
+    → row ∷ take m (drop (k + 1) walk) ≡ take (m + 1) (drop k walk)
 cons-take-drop walk k m row next =
     let rest = split (drop k walk) next in
     rw (sym (drop-drop 1 k walk)) (sym (rw (add-one m) (ap (take (suc m)) rest)))
@@ -32,14 +39,18 @@ cons-take-drop walk k m row next =
     split (r ∷ l) e = let same : r ≡ row = cc e in rw same refl
 
 -- from the k-th row on
-record HandsOutFrom (rows : List Row) (start : Place) (walk : List Row) (k : ℕ) (c : CursorState) (handed : List Row) : Type 0 where
+record HandsOutFrom (rows : List Row) (start : Place) (walk : List Row) (k : ℕ) (c : CursorState)
+    (handed : List Row) : Type 0 where
   count : ℕ
   handed_are : handed ≡ take count (drop k walk)
   stands : StandsAt rows start walk (k + count) c
 
-module _ (rows : List Row) (start : Place) (walk : List Row) (end : WalkEnd) (w : IsWalk rows start walk) (ends : EndsBy rows start walk end) where
-  one_more : (k : ℕ) (c c' last : CursorState) (result : Result (Option Row) Ended) (handed : List Row) → WalkStep rows start walk end k c c' result
-      → ((j : ℕ) → StandsAt rows start walk j c' → HandsOutFrom rows start walk j last handed) → HandsOutFrom rows start walk k last (with_handed result handed)
+module _ (rows : List Row) (start : Place) (walk : List Row) (end : WalkEnd)
+    (w : IsWalk rows start walk) (ends : EndsBy rows start walk end) where
+  one_more : (k : ℕ) (c c' last : CursorState) (result : Result (Option Row) Ended)
+      (handed : List Row) → WalkStep rows start walk end k c c' result
+      → ((j : ℕ) → StandsAt rows start walk j c' → HandsOutFrom rows start walk j last handed)
+      → HandsOutFrom rows start walk k last (with_handed result handed)
   one_more k c c' last (Ok (Some row)) handed step go =
       let more = go (k + 1) step.1 in record {
         count = more.count + 1;
@@ -53,7 +64,9 @@ module _ (rows : List Row) (start : Place) (walk : List Row) (end : WalkEnd) (w 
   one_more k c c' last (Err (Refused n code)) handed step go = go k step.0
   one_more k c c' last _ handed step go = absurd step
 
-  steps_from : (k : ℕ) (c : CursorState) (s : Seen) (steps : List Stepped) → IsHonest s → rows_of c.shelf s.store ≡ rows → StandsAt rows start walk k c → AreSteps c s steps → (seen_after s steps).stores_added ≡ s.stores_added
+  steps_from : (k : ℕ) (c : CursorState) (s : Seen) (steps : List Stepped) → IsHonest s
+      → rows_of c.shelf s.store ≡ rows → StandsAt rows start walk k c → AreSteps c s steps
+      → (seen_after s steps).stores_added ≡ s.stores_added
       → HandsOutFrom rows start walk k (cursor_after c steps) (handed_out steps)
   steps_from k c s [] honest is stands steps same = record { count = 0; handed_are = refl; stands = subst (λ (n : ℕ). StandsAt rows start walk n c) {x = k} (omega arith) stands }
   steps_from k c s (step ∷ more) honest is stands steps same =
@@ -74,8 +87,12 @@ module _ (rows : List Row) (start : Place) (walk : List Row) (end : WalkEnd) (w 
       (λ w ends stands. (made.walks between.honest).follows first start walk end k w ends stands) w ends stands in
       one_more k c step.cursor (cursor_after step.cursor more) step.result (handed_out more) along (λ j at. steps_from j step.cursor step.seen more stays.honest is' at steps.2 later)
 
-pub steps_follow : (c : CursorState) (s : Seen) (steps : List Stepped) (start : Place) (walk : List Row) (end : WalkEnd) → IsHonest s → IsWalk (rows_of c.shelf s.store) start walk → EndsBy (rows_of c.shelf s.store) start walk end
-    → StandsAt (rows_of c.shelf s.store) start walk 0 c → AreSteps c s steps → (seen_after s steps).stores_added ≡ s.stores_added → HandsOutPrefix (rows_of c.shelf s.store) start walk (cursor_after c steps) (handed_out steps)
+pub steps_follow : (c : CursorState) (s : Seen) (steps : List Stepped) (start : Place)
+    (walk : List Row) (end : WalkEnd) → IsHonest s → IsWalk (rows_of c.shelf s.store) start walk
+    → EndsBy (rows_of c.shelf s.store) start walk end
+    → StandsAt (rows_of c.shelf s.store) start walk 0 c → AreSteps c s steps
+    → (seen_after s steps).stores_added ≡ s.stores_added
+    → HandsOutPrefix (rows_of c.shelf s.store) start walk (cursor_after c steps) (handed_out steps)
 steps_follow c s steps start walk end honest w ends stands made same =
     let all = steps_from (rows_of c.shelf s.store) start walk end w ends 0 c s steps honest refl stands made same in
     record {

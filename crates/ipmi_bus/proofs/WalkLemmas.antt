@@ -17,7 +17,8 @@ pub row_at-id : (rows : List Row) (n : ℕ) → n ≢ 0 → row_at (Id n) rows �
 row_at-id rows n ne = rw (ne_eqb n 0 ne) refl
 
 -- what follows a walk's first row is a walk from the place after it
-pub walk_tail : (shelf : Shelf) (rows : List Row) (start : Place) (row : Row) (walk : List Row) → IsShelf shelf rows → IsWalk rows start (row ∷ walk) → IsWalk rows (place_after row.next) walk
+pub walk_tail : (shelf : Shelf) (rows : List Row) (start : Place) (row : Row) (walk : List Row)
+    → IsShelf shelf rows → IsWalk rows start (row ∷ walk) → IsWalk rows (place_after row.next) walk
 walk_tail shelf rows start row [] ok w = record { of_shelf = w.of_shelf.1; distinct = w.distinct.1; first = search rules; links = search rules }
 walk_tail shelf rows start row (after ∷ walk) ok w =
     let found = w.of_shelf.1.0 in
@@ -31,30 +32,38 @@ walk_tail shelf rows start row (after ∷ walk) ok w =
     }
 
 -- the row after the first rows of a walk is the one at the place where they end
-pub row_at-next : (shelf : Shelf) (rows : List Row) (start : Place) (done : List Row) (row : Row) (walk : List Row) → IsShelf shelf rows → IsWalk rows start (done ++ row ∷ walk) → row_at (place_after_rows start done) rows ≡ Some row
+pub row_at-next : (shelf : Shelf) (rows : List Row) (start : Place) (done : List Row) (row : Row)
+    (walk : List Row) → IsShelf shelf rows → IsWalk rows start (done ++ row ∷ walk)
+    → row_at (place_after_rows start done) rows ≡ Some row
 row_at-next shelf rows start [] row walk ok w = w.first
 row_at-next shelf rows start (d ∷ done) row walk ok w = row_at-next shelf rows (place_after d.next) done row walk ok (walk_tail shelf rows start d (done ++ row ∷ walk) ok w)
 
-lacks_here : (n : ℕ) (done : List Row) (row : Row) (walk : List Row) → LacksId n (done ++ row ∷ walk) → row.id ≢ n
+lacks_here : (n : ℕ) (done : List Row) (row : Row) (walk : List Row)
+    → LacksId n (done ++ row ∷ walk) → row.id ≢ n
 lacks_here n [] row walk lacks = lacks.0
 lacks_here n (d ∷ done) row walk lacks = lacks_here n done row walk lacks.1
 
 -- and its id is not among theirs
-pub has_id-next : (done : List Row) (row : Row) (walk : List Row) → DistinctIds (done ++ row ∷ walk) → has_id done row.id ≡ false
+pub has_id-next : (done : List Row) (row : Row) (walk : List Row) → DistinctIds (done ++ row ∷ walk)
+    → has_id done row.id ≡ false
 has_id-next [] row walk distinct = refl
 has_id-next (d ∷ done) row walk distinct =
     let apart : nat_eq row.id d.id ≡ false = ne_eqb row.id d.id (lacks_here d.id done row walk distinct.0) in
     rw apart (has_id-next done row walk distinct.1)
 
 -- the id asked for at a place that has a row
-pub look-asked_at : (place : Place) (rows : List Row) (row : Row) → row_at place rows ≡ Some row → look rows (asked_at place) ≡ Some row
+pub look-asked_at : (place : Place) (rows : List Row) (row : Row) → row_at place rows ≡ Some row
+    → look rows (asked_at place) ≡ Some row
 look-asked_at place rows row found = grind (arith, nat_tests)
 
 -- it is the row's
-pub id-row_at : (shelf : Shelf) (rows : List Row) (n : ℕ) (row : Row) → IsShelf shelf rows → row_at (Id n) rows ≡ Some row → (nat_eq n 0 ≡ false) × (row.id ≡ n)
+pub id-row_at : (shelf : Shelf) (rows : List Row) (n : ℕ) (row : Row) → IsShelf shelf rows
+    → row_at (Id n) rows ≡ Some row → (nat_eq n 0 ≡ false) × (row.id ≡ n)
 id-row_at shelf rows n row ok found = grind (arith, nat_tests, found_row shelf rows n row ok.all)
 
-pub cycle_at-none : (shelf : Shelf) (rows : List Row) (place : Place) (ids : set.FinSet nat_cmp) (done : List Row) (row : Row) → IsShelf shelf rows → ((n : ℕ) → set.contains ids n ≡ has_id done n) → has_id done row.id ≡ false
+pub cycle_at-none : (shelf : Shelf) (rows : List Row) (place : Place) (ids : set.FinSet nat_cmp)
+    (done : List Row) (row : Row) → IsShelf shelf rows
+    → ((n : ℕ) → set.contains ids n ≡ has_id done n) → has_id done row.id ≡ false
     → row_at place rows ≡ Some row → cycle_at place ids ≡ None
 cycle_at-none shelf rows (Id n) ids done row ok same fresh found =
     let is = id-row_at shelf rows n row ok found in
@@ -62,11 +71,13 @@ cycle_at-none shelf rows (Id n) ids done row ok same fresh found =
     rw (is.0, out) refl
 cycle_at-none shelf rows _ ids done row ok same fresh found = refl
 
-place_after_rows-append : (start : Place) (done : List Row) (row : Row) → place_after_rows start (done ++ row ∷ []) ≡ place_after row.next
+place_after_rows-append : (start : Place) (done : List Row) (row : Row)
+    → place_after_rows start (done ++ row ∷ []) ≡ place_after row.next
 place_after_rows-append start [] row = refl
 place_after_rows-append start (d ∷ done) row = place_after_rows-append (place_after d.next) done row
 
-pub has_id-append : (done : List Row) (row : Row) (n : ℕ) → has_id (done ++ row ∷ []) n ≡ (has_id done n || nat_eq n row.id)
+pub has_id-append : (done : List Row) (row : Row) (n : ℕ)
+    → has_id (done ++ row ∷ []) n ≡ (has_id done n || nat_eq n row.id)
 has_id-append [] row n = or-false (nat_eq n row.id)
 has_id-append (d ∷ done) row n = rw (has_id-append done row n) (sym (or_assoc (nat_eq n d.id) (has_id done n) (nat_eq n row.id)))
 
@@ -77,24 +88,33 @@ EndFacts rows start place ids Done = (place ≡ End) ⊎ ((place ≡ First) × (
 EndFacts rows start place ids (CycleAt n) = cycle_at place ids ≡ Some n
 EndFacts rows start place ids (MissingAt n) = (place ≡ Id n) × (cycle_at place ids ≡ None) × (look rows n ≡ None)
 
-pub place_after_rows-last : (next : ℕ) (walk : List Row) → place_after_rows (place_after next) walk ≡ place_after (last_next next walk)
+pub place_after_rows-last : (next : ℕ) (walk : List Row)
+    → place_after_rows (place_after next) walk ≡ place_after (last_next next walk)
 place_after_rows-last next [] = refl
 place_after_rows-last next (row ∷ walk) = place_after_rows-last row.next walk
 
-after_facts : (rows : List Row) (start place : Place) (ids : set.FinSet nat_cmp) (walk : List Row) (next : ℕ) (end : WalkEnd) → EndsAfter rows walk next end → place ≡ place_after next → ((n : ℕ) → set.contains ids n ≡ has_id walk n)
+after_facts : (rows : List Row) (start place : Place) (ids : set.FinSet nat_cmp) (walk : List Row)
+    (next : ℕ) (end : WalkEnd) → EndsAfter rows walk next end → place ≡ place_after next
+    → ((n : ℕ) → set.contains ids n ≡ has_id walk n)
     → EndFacts rows start place ids end
 after_facts rows start place ids walk next end ends p same = grind (arith, nat_tests)
 
-empty_walk_facts : (rows : List Row) (start place : Place) (ids : set.FinSet nat_cmp) (end : WalkEnd) → EndsEmpty rows start end → place ≡ start → ((n : ℕ) → set.contains ids n ≡ false) → EndFacts rows start place ids end
+empty_walk_facts : (rows : List Row) (start place : Place) (ids : set.FinSet nat_cmp)
+    (end : WalkEnd) → EndsEmpty rows start end → place ≡ start
+    → ((n : ℕ) → set.contains ids n ≡ false) → EndFacts rows start place ids end
 empty_walk_facts rows start place ids end ends p same = grind (arith, nat_tests)
 
-pub end_facts : (rows : List Row) (start : Place) (walk : List Row) (place : Place) (ids : set.FinSet nat_cmp) (end : WalkEnd) → EndsBy rows start walk end → place ≡ place_after_rows start walk → ((n : ℕ) → set.contains ids n ≡ has_id walk n)
+pub end_facts : (rows : List Row) (start : Place) (walk : List Row) (place : Place)
+    (ids : set.FinSet nat_cmp) (end : WalkEnd) → EndsBy rows start walk end
+    → place ≡ place_after_rows start walk → ((n : ℕ) → set.contains ids n ≡ has_id walk n)
     → EndFacts rows start place ids end
 end_facts rows start (row ∷ walk) place ids end ends p same = after_facts rows start place ids (row ∷ walk) (last_next row.next walk) end ends (p ∙ place_after_rows-last row.next walk) same
 end_facts rows start [] place ids end ends p same = empty_walk_facts rows start place ids end ends p same
 
 -- at the end of an empty shelf
-empty_facts : (rows : List Row) (start : Place) (walk : List Row) (place : Place) (ids : set.FinSet nat_cmp) (end : WalkEnd) → IsWalk rows start walk → EndsBy rows start walk end → place ≡ End → start ≡ First → first_row rows ≡ None
+empty_facts : (rows : List Row) (start : Place) (walk : List Row) (place : Place)
+    (ids : set.FinSet nat_cmp) (end : WalkEnd) → IsWalk rows start walk → EndsBy rows start walk end
+    → place ≡ End → start ≡ First → first_row rows ≡ None
     → EndFacts rows start place ids end
 empty_facts rows start (row ∷ walk) place ids end w ends p first none = let h = sym (ap (λ (q : Place). row_at q rows) first) ∙ w.first in cc (h, none)
 empty_facts rows start [] place ids end w ends p first none = grind arith
@@ -102,7 +122,10 @@ empty_facts rows start [] place ids end w ends p first none = grind arith
 -- ---- the law
 
 -- on a walk along the rows that the controller has now
-module _ (c new : CursorState) (seen : Seen) (start : Place) (walk : List Row) (k : ℕ) (ok : IsShelf c.shelf (rows_of c.shelf seen.store)) (w : IsWalk (rows_of c.shelf seen.store) start walk) (stands : StandsAt (rows_of c.shelf seen.store) start walk k c) where
+module _ (c new : CursorState) (seen : Seen) (start : Place) (walk : List Row) (k : ℕ)
+    (ok : IsShelf c.shelf (rows_of c.shelf seen.store))
+    (w : IsWalk (rows_of c.shelf seen.store) start walk)
+    (stands : StandsAt (rows_of c.shelf seen.store) start walk k c) where
   abbrev rows : List Row
   rows = rows_of c.shelf seen.store
 
@@ -127,7 +150,8 @@ module _ (c new : CursorState) (seen : Seen) (start : Place) (walk : List Row) (
       | inr e ↦ absurd (not_empty walk w split e.1 e.2)
     ]
       where
-        not_empty : (l : List Row) → IsWalk rows start l → drop k l ≡ row ∷ rest → start ≡ First → first_row rows ≡ None → ⊥
+        not_empty : (l : List Row) → IsWalk rows start l → drop k l ≡ row ∷ rest → start ≡ First
+            → first_row rows ≡ None → ⊥
         not_empty [] w some first none = let h = sym (drop-nil k) ∙ some in cc h
         not_empty (x ∷ l) w some first none = let h = sym (ap (λ (q : Place). row_at q rows) first) ∙ w.first in cc (h, none)
 
@@ -146,7 +170,8 @@ module _ (c new : CursorState) (seen : Seen) (start : Place) (walk : List Row) (
     len : k + 1 ≤ length walk
     len = omega (arith, length-drop k walk, ap (length {A = Row}) split)
 
-    inside : (s : Seen) (result : Result (Option Row) Ended) → StepLeaves c new result → StepAnswers c s seen result → WalkStep rows start walk end k c new result
+    inside : (s : Seen) (result : Result (Option Row) Ended) → StepLeaves c new result
+        → StepAnswers c s seen result → WalkStep rows start walk end k c new result
     inside s (Ok (Some r)) leaves answers =
         let found_r = answers.1 in
         let same : row ≡ r = cc (found, found_r) in (
@@ -185,17 +210,23 @@ module _ (c new : CursorState) (seen : Seen) (start : Place) (walk : List Row) (
       | inr e ↦ empty_facts rows start walk c.place c.ids end w ends e.0 e.1 e.2
     ]
 
-    may_fail : (e : WalkEnd) → EndFacts rows start c.place c.ids e → cycle_at c.place c.ids ≡ None → c.place ≢ End → MayFail e c.place
+    may_fail : (e : WalkEnd) → EndFacts rows start c.place c.ids e → cycle_at c.place c.ids ≡ None
+        → c.place ≢ End → MayFail e c.place
     may_fail e facts none open_ = grind arith
 
     -- there is no row to ask for
-    asks_at_end : (e : WalkEnd) → EndFacts rows start c.place c.ids e → AsksNothing c ⊎ (look rows (asked_at c.place) ≡ None)
+    asks_at_end : (e : WalkEnd) → EndFacts rows start c.place c.ids e
+        → AsksNothing c ⊎ (look rows (asked_at c.place) ≡ None)
     asks_at_end e known = grind arith
 
-    no_row : (e : WalkEnd) (row : Row) → EndFacts rows start c.place c.ids e → cycle_at c.place c.ids ≡ None → c.place ≢ End → look rows (asked_at c.place) ≡ Some row → ⊥
+    no_row : (e : WalkEnd) (row : Row) → EndFacts rows start c.place c.ids e
+        → cycle_at c.place c.ids ≡ None → c.place ≢ End → look rows (asked_at c.place) ≡ Some row
+        → ⊥
     no_row e row facts none open_ found = elim (asks_at_end e facts) [ inl asks ↦ (elim asks [ inl p ↦ open_ p | inr some ↦ cc (some, none) ]) | inr empty ↦ (let h = empty in cc (h, found)) ]
 
-    ending : (s : Seen) (e : WalkEnd) → EndFacts rows start c.place c.ids e → (result : Result (Option Row) Ended) → StepLeaves c new result → StepAnswers c s seen result → WalkStep rows start walk e k c new result
+    ending : (s : Seen) (e : WalkEnd) → EndFacts rows start c.place c.ids e
+        → (result : Result (Option Row) Ended) → StepLeaves c new result
+        → StepAnswers c s seen result → WalkStep rows start walk e k c new result
     ending s e facts (Ok (Some r)) leaves answers = absurd (no_row e r facts leaves.0 leaves.1.not_at_end answers.1)
     ending s Done facts (Ok None) leaves answers = (
       at_end,
@@ -214,7 +245,9 @@ module _ (c new : CursorState) (seen : Seen) (start : Place) (walk : List Row) (
     ending s e facts _ leaves answers = absurd answers
 
   -- a step on a walk that has an end
-  pub walk_law : (s : Seen) (end : WalkEnd) → EndsBy rows start walk end → (result : Result (Option Row) Ended) → StepLeaves c new result → StepAnswers c s seen result → WalkStep rows start walk end k c new result
+  pub walk_law : (s : Seen) (end : WalkEnd) → EndsBy rows start walk end
+      → (result : Result (Option Row) Ended) → StepLeaves c new result → StepAnswers c s seen result
+      → WalkStep rows start walk end k c new result
   walk_law s end ends result leaves answers = by_rest (drop k walk) refl
     where
       by_rest : (l : List Row) → drop k walk ≡ l → WalkStep rows start walk end k c new result
@@ -222,16 +255,21 @@ module _ (c new : CursorState) (seen : Seen) (start : Place) (walk : List Row) (
       by_rest (row ∷ rest) is = inside row rest is end s result leaves answers
 
   -- a step on it asks for the next row, or at its end for none, or asks nothing
-  pub asks_next : (end : WalkEnd) → EndsBy rows start walk end → AsksNothing c ⊎ (len_of (look rows (asked_at c.place)) ≡ len_of (first_row (drop k walk)))
+  pub asks_next : (end : WalkEnd) → EndsBy rows start walk end
+      → AsksNothing c ⊎ (len_of (look rows (asked_at c.place)) ≡ len_of (first_row (drop k walk)))
   asks_next end ends = by_rest (drop k walk) refl
     where
-      by_rest : (l : List Row) → drop k walk ≡ l → AsksNothing c ⊎ (len_of (look rows (asked_at c.place)) ≡ len_of (first_row (drop k walk)))
+      by_rest : (l : List Row) → drop k walk ≡ l
+          → AsksNothing c ⊎ (len_of (look rows (asked_at c.place))
+          ≡ len_of (first_row (drop k walk)))
       by_rest [] is = elim (asks_at_end is end ends end (facts is end ends)) [ inl asks ↦ inl asks | inr nothing ↦ inr (ap len_of nothing ∙ sym (rw is refl)) ]
       by_rest (row ∷ rest) is = inr (ap len_of (found row rest is end) ∙ sym (rw is refl))
 
 -- ---- the law over an honest controller, which keeps its store
 
-pub follows_walks : (c new : CursorState) (s s' : Seen) (result : Result (Option Row) Ended) → IsHonest s → StepLeaves c new result → StepIsHonest c new s s' result → FollowsWalks c new s s' result
+pub follows_walks : (c new : CursorState) (s s' : Seen) (result : Result (Option Row) Ended)
+    → IsHonest s → StepLeaves c new result → StepIsHonest c new s s' result
+    → FollowsWalks c new s s' result
 follows_walks c new s s' result honest leaves step = record {
   follows = λ same start walk end k.
       subst (λ (x : Store). IsWalk (rows_of c.shelf x) start walk → EndsBy (rows_of c.shelf x) start walk end → StandsAt (rows_of c.shelf x) start walk k c
@@ -243,7 +281,8 @@ pub asks_along : (c : CursorState) (s : Seen) → IsHonest s → AsksAlong c s
 asks_along c s honest start walk end k w ends stands = asks_next c c s start walk k (store_shelf c.shelf s.store honest.store) w stands end ends
 
 -- a new cursor is at the start of each walk
-pub stands_at_start : (rows : List Row) (start : Place) (walk : List Row) (c : CursorState) → c.place ≡ start → c.ids ≡ set.empty → StandsAt rows start walk 0 c
+pub stands_at_start : (rows : List Row) (start : Place) (walk : List Row) (c : CursorState)
+    → c.place ≡ start → c.ids ≡ set.empty → StandsAt rows start walk 0 c
 stands_at_start rows start walk c place ids = record {
   within = omega arith;
   place = inl place;

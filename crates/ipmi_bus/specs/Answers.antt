@@ -30,7 +30,8 @@ not_present = record { 0 = 0xCB }
 
 abbrev pub ReserveGives : Shelf → Result ℕ Code → Seen → Seen → Type 0
 ReserveGives shelf (Ok r) old new = IsQuiet old new × (current shelf new ≡ Some r)
-ReserveGives shelf (Err code) old new = FailsWith ⊥ ⊥ (class_of code.0) code.0 old new × MayLoseReservation shelf old new
+ReserveGives shelf (Err code) old new =
+    FailsWith ⊥ ⊥ (class_of code.0) code.0 old new × MayLoseReservation shelf old new
 
 pub record ReserveAnswers (shelf : Shelf) (result : Result ℕ Code) (old new : Seen) : Type 0 where
   pub change : IsChange old new
@@ -55,8 +56,10 @@ pub record IsPiece (whole : List ℕ) (offset asked got : ℕ) (into : List ℕ)
   pub within : offset + got ≤ length whole
   pub bytes : take got into ≡ take got (drop offset whole)
 
--- Data is of a row of the store as it is after the call. Past the first byte it comes only under the current reservation.
-pub record GivesPiece (ask : Asked) (part : Part) (into : List ℕ) (old new : Seen) (row : Row) : Type 0 where
+-- Data is of a row of the store as it is after the call. Past the first byte it comes only under the current
+-- reservation.
+pub record GivesPiece (ask : Asked) (part : Part) (into : List ℕ) (old new : Seen)
+    (row : Row) : Type 0 where
   pub found : look (rows_of ask.shelf new.store) ask.id ≡ Some row
   pub piece : IsPiece row.bytes ask.offset ask.len part.got into
   pub next : part.next ≡ row.next
@@ -65,15 +68,19 @@ pub record GivesPiece (ask : Asked) (part : Part) (into : List ℕ) (old new : S
 
 abbrev pub PartGives : Asked → Result Part Code → List ℕ → Seen → Seen → Type 0
 PartGives ask (Ok part) into old new = (row : Row) × GivesPiece ask part into old new row
-PartGives ask (Err code) into old new = FailsWith (1 < ask.len) (look (rows_of ask.shelf new.store) ask.id ≡ None) (class_of code.0) code.0 old new
+PartGives ask (Err code) into old new =
+    FailsWith (1 < ask.len) (look (rows_of ask.shelf new.store) ask.id ≡ None) (class_of code.0)
+    code.0 old new
 
 -- a plain controller gives what is there, and says CBh of what is not
 pub record PartIsPlain (ask : Asked) (result : Result Part Code) (old : Seen) : Type 0 where
-  pub found : (row : Row) → look (rows_of ask.shelf old.store) ask.id ≡ Some row → ask.offset < length row.bytes
+  pub found : (row : Row) → look (rows_of ask.shelf old.store) ask.id ≡ Some row
+      → ask.offset < length row.bytes
       → ((0 < ask.offset) → current ask.shelf old ≡ Some ask.reservation) → IsOk result
   pub absent : look (rows_of ask.shelf old.store) ask.id ≡ None → result ≡ Err not_present
 
-pub record PartAnswers (ask : Asked) (result : Result Part Code) (into : List ℕ) (old new : Seen) : Type 0 where
+pub record PartAnswers (ask : Asked) (result : Result Part Code) (into : List ℕ)
+    (old new : Seen) : Type 0 where
   pub change : IsChange old new
   pub gives : PartGives ask result into old new
   pub keeps : MayLoseReservation ask.shelf old new
@@ -84,7 +91,8 @@ pub record PartAnswers (ask : Asked) (result : Result Part Code) (into : List �
 
 abbrev pub ValueGives : {V : Type 0} → (Store → Option V) → Result V Code → Seen → Seen → Type 0
 ValueGives value (Ok v) old new = (value new.store ≡ Some v) × IsFinished old new
-ValueGives value (Err code) old new = FailsWith ⊥ (value new.store ≡ None) (class_of code.0) code.0 old new
+ValueGives value (Err code) old new =
+    FailsWith ⊥ (value new.store ≡ None) (class_of code.0) code.0 old new
 
 -- a plain controller gives the value that is there, and says CBh of one that is not
 abbrev pub ValueIsPlain : {V : Type 0} → Option V → Result V Code → Type 0
@@ -92,7 +100,8 @@ ValueIsPlain (Some v) result = result ≡ Ok v
 ValueIsPlain None result = result ≡ Err not_present
 
 -- the answer to a request for a value of the store
-pub record ValueAnswers {V : Type 0} (value : Store → Option V) (result : Result V Code) (old new : Seen) : Type 0 where
+pub record ValueAnswers {V : Type 0} (value : Store → Option V) (result : Result V Code)
+    (old new : Seen) : Type 0 where
   pub change : IsChange old new
   pub gives : ValueGives value result old new
   pub sdr : MayLoseReservation Sdr old new
@@ -108,8 +117,10 @@ pub record GivesSize (size : FruSize) (old new : Seen) (bytes : List ℕ) : Type
   pub counts : CountsPiece (length bytes == 0) old new
 
 abbrev pub SizeGives : ℕ → Result FruSize Code → Seen → Seen → Type 0
-SizeGives id (Ok size) old new = (bytes : List ℕ) × (inventory_of id new.store ≡ Some bytes) × GivesSize size old new bytes
-SizeGives id (Err code) old new = FailsWith ⊥ (inventory_of id new.store ≡ None) (class_of code.0) code.0 old new
+SizeGives id (Ok size) old new =
+    (bytes : List ℕ) × (inventory_of id new.store ≡ Some bytes) × GivesSize size old new bytes
+SizeGives id (Err code) old new =
+    FailsWith ⊥ (inventory_of id new.store ≡ None) (class_of code.0) code.0 old new
 
 abbrev pub SizeIsPlain : Option (List ℕ) → Result FruSize Code → Type 0
 SizeIsPlain (Some bytes) result = IsOk result
@@ -123,19 +134,24 @@ pub record SizeAnswers (id : ℕ) (result : Result FruSize Code) (old new : Seen
   pub plain : IsTrue old.plain → SizeIsPlain (inventory_of id old.store) result
 
 -- data of it, from an offset on
-pub record GivesBytes (offset asked got : ℕ) (into : List ℕ) (old new : Seen) (bytes : List ℕ) : Type 0 where
+pub record GivesBytes (offset asked got : ℕ) (into : List ℕ) (old new : Seen)
+    (bytes : List ℕ) : Type 0 where
   pub piece : IsPiece bytes offset asked got into
   pub counts : CountsPiece (offset + got == length bytes) old new
 
 abbrev pub BytesGives : ℕ → ℕ → ℕ → Result ℕ Code → List ℕ → Seen → Seen → Type 0
-BytesGives id offset asked (Ok got) into old new = (bytes : List ℕ) × (inventory_of id new.store ≡ Some bytes) × GivesBytes offset asked got into old new bytes
-BytesGives id offset asked (Err code) into old new = FailsWith (1 < asked) (inventory_of id new.store ≡ None) (class_of code.0) code.0 old new
+BytesGives id offset asked (Ok got) into old new =
+    (bytes : List ℕ) × (inventory_of id new.store ≡ Some bytes)
+    × GivesBytes offset asked got into old new bytes
+BytesGives id offset asked (Err code) into old new =
+    FailsWith (1 < asked) (inventory_of id new.store ≡ None) (class_of code.0) code.0 old new
 
 abbrev pub BytesIsPlain : Option (List ℕ) → ℕ → Result ℕ Code → Type 0
 BytesIsPlain (Some bytes) offset result = offset < length bytes → IsOk result
 BytesIsPlain None offset result = result ≡ Err not_present
 
-pub record BytesAnswers (id offset asked : ℕ) (result : Result ℕ Code) (into : List ℕ) (old new : Seen) : Type 0 where
+pub record BytesAnswers (id offset asked : ℕ) (result : Result ℕ Code) (into : List ℕ)
+    (old new : Seen) : Type 0 where
   pub change : IsChange old new
   pub gives : BytesGives id offset asked result into old new
   pub sdr : MayLoseReservation Sdr old new

@@ -5,8 +5,8 @@ use Rattle.std.specs.Prelude.{ℕ, ◌+◌, ◌*◌, nat_le, if◌then◌else◌
 abbrev pub step_call_bound : ℕ → ℕ → ℕ
 step_call_bound tries len = (tries + 1) * (len + 2)
 
--- of an inventory of this length: a call for its size, one for each byte, one for each trouble, and one for each fall of the
--- part size, of which there are at most seven
+-- of an inventory of this length: a call for its size, one for each byte, one for each trouble, and one for each fall
+-- of the part size, of which there are at most seven
 abbrev pub fru_call_bound : ℕ → ℕ → ℕ
 fru_call_bound tries len = len + tries + 8
 
@@ -16,4 +16,5 @@ reaches power n = if nat_le power n then 1 else 0
 
 -- How many binary digits a part size has. Whenever the part size falls, to half or less, it has at least one fewer.
 abbrev pub digits : ℕ → ℕ
-digits n = reaches 1 n + reaches 2 n + reaches 4 n + reaches 8 n + reaches 16 n + reaches 32 n + reaches 64 n + reaches 128 n
+digits n = reaches 1 n + reaches 2 n + reaches 4 n + reaches 8 n + reaches 16 n + reaches 32 n
+    + reaches 64 n + reaches 128 n

@@ -14,7 +14,8 @@ smaller_part asked = if nat_lt 1 asked then Some (asked / 2) else None
 abbrev pub FailureIs : Failure → CodeClass → ℕ → ℕ → Type 0
 FailureIs Failure.Again class troubles tries = (class ≡ Busy) × (troubles < tries)
 FailureIs Failure.Anew class troubles tries = (class ≡ Cancelled) × (troubles < tries)
-FailureIs Failure.GiveUp class troubles tries = ((class ≡ Busy) ⊎ (class ≡ Cancelled)) × (tries ≤ troubles)
+FailureIs Failure.GiveUp class troubles tries =
+    ((class ≡ Busy) ⊎ (class ≡ Cancelled)) × (tries ≤ troubles)
 FailureIs Failure.Smaller class troubles tries = class ≡ SmallerPart
 FailureIs Failure.Absent class troubles tries = class ≡ NotPresent
 FailureIs Failure.Refuse class troubles tries = class ≡ Refusal

@@ -4,7 +4,8 @@ use Rattle.std.specs.Ordering.{nat_cmp}
 use Rattle.std.specs.FinSet as set
 use Rattle.ipmi_bus.specs.Types.{First, Id, Place, Shelf}
 
--- its shelf, its place, its part size in bytes, its tries, the ids that it has handed out, and the reservation that it holds
+-- its shelf, its place, its part size in bytes, its tries, the ids that it has handed out, and the reservation that it
+-- holds
 pub record CursorState : Type 0 where
   pub shelf : Shelf
   pub place : Place

@@ -42,8 +42,10 @@ calls_left r = (r.tries - r.troubles) + (length r.bytes.items - r.have) + digits
 
 -- one more trouble is counted, or it was one too many
 abbrev pub CountsTrouble : FruRetrieval → FruRetrieval → Result (Unit {0}) FruEnded → Type 0
-CountsTrouble old new (Ok u) = (new ≡ record old { troubles = old.troubles + 1 }) × (old.troubles < old.tries)
-CountsTrouble old new (Err ended) = (ended ≡ FruEnded.GaveUp) × (new ≡ old) × (old.troubles ≡ old.tries)
+CountsTrouble old new (Ok u) =
+    (new ≡ record old { troubles = old.troubles + 1 }) × (old.troubles < old.tries)
+CountsTrouble old new (Err ended) =
+    (ended ≡ FruEnded.GaveUp) × (new ≡ old) × (old.troubles ≡ old.tries)
 
 -- a smaller part is to be asked for; a part of less than one byte can't be
 abbrev pub MakesSmaller : ℕ → FruRetrieval → FruRetrieval → Result (Unit {0}) FruEnded → Type 0
@@ -66,7 +68,8 @@ PartFails SmallerPart code asked old new result = MakesSmaller asked old new res
 PartFails _ code asked old new result = IsRefusedBy code old new result
 
 -- so many bytes came, or none
-abbrev pub TakesInventoryPart : ℕ → FruRetrieval → FruRetrieval → Result (Unit {0}) FruEnded → Type 0
+abbrev pub TakesInventoryPart : ℕ → FruRetrieval → FruRetrieval → Result (Unit {0}) FruEnded
+    → Type 0
 TakesInventoryPart got old new (Ok u) = (0 < got) × (new ≡ record old { have = old.have + got })
 TakesInventoryPart got old new (Err ended) = (got ≡ 0) × (ended ≡ FruEnded.Stalled) × (new ≡ old)
 
@@ -95,15 +98,16 @@ pub record HasRead (r : FruRetrieval) (s : Seen) : Type 0 where
   pub size : length whole ≡ length r.bytes.items
   pub bytes : take r.have r.bytes.items ≡ take r.have whole
 
--- Since the reading began, over an honest controller: the troubles that came are those that were counted, and nothing was
--- refused. Before all bytes are there something is finished only where a store was added.
+-- Since the reading began, over an honest controller: the troubles that came are those that were counted, and nothing
+-- was refused. Before all bytes are there something is finished only where a store was added.
 pub record FruSince (r : FruRetrieval) (s s' : Seen) : Type 0 where
   pub stays : StaysHonest s s'
   pub read : s'.stores_added ≡ s.stores_added → HasRead r s
   pub met : HasMet r.troubles s s'
   pub fresh_most : r.have < length r.bytes.items → s'.fresh_troubles ≤ s.fresh_troubles + r.troubles
   pub found : r.have ≡ length r.bytes.items → IsSome (inventory_of r.id s'.store)
-  pub fresh : s'.stores_added ≡ s.stores_added → r.have < length r.bytes.items → s'.fresh_troubles ≡ s.fresh_troubles + r.troubles
+  pub fresh : s'.stores_added ≡ s.stores_added → r.have < length r.bytes.items
+      → s'.fresh_troubles ≡ s.fresh_troubles + r.troubles
   pub plain : IsTrue s.plain → (r.troubles ≡ 0) × KeepsReservations s s'
 
 -- the reading ends without an inventory, over an honest controller
@@ -153,7 +157,8 @@ pub record IsSizeAnswered (tries : ℕ) (result : Result Size FruEnded) : Type 0
 -- the size is that of the inventory which the store has when the call returns
 pub record HasSize (id : ℕ) (size : Size) (s s' : Seen) : Type 0 where
   pub stays : StaysHonest s s'
-  pub found : (bytes : List ℕ) × (inventory_of id s'.store ≡ Some bytes) × (length bytes ≡ size.bytes)
+  pub found : (bytes : List ℕ) × (inventory_of id s'.store ≡ Some bytes)
+      × (length bytes ≡ size.bytes)
   pub met : HasMet size.troubles s s'
   pub fresh_troubles : 0 < size.bytes → s'.fresh_troubles ≡ s.fresh_troubles + size.troubles
   pub plain : IsTrue s.plain → (size.troubles ≡ 0) × KeepsReservations s s'

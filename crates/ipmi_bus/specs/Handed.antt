@@ -9,7 +9,14 @@ use Rattle.ipmi_bus.specs.Step.{asked_at, cycle_at}
 use Rattle.std.specs.Ordering.{nat_cmp}
 
 abbrev pub state_of : Progress → CursorState
-state_of p = record { shelf = p.retrieval.shelf; place = p.place; part = p.retrieval.part; tries = p.retrieval.tries; ids = p.ids; reservation = p.retrieval.reservation }
+state_of p = record {
+  shelf = p.retrieval.shelf;
+  place = p.place;
+  part = p.retrieval.part;
+  tries = p.retrieval.tries;
+  ids = p.ids;
+  reservation = p.retrieval.reservation;
+}
 
 pub record IsCursor (p : Progress) : Type 0 where
   pub some : 0 < p.retrieval.part
@@ -18,7 +25,8 @@ pub record IsCursor (p : Progress) : Type 0 where
 
 -- the row that was handed out
 abbrev pub handed_row : Progress → Handed → Row
-handed_row p handed = record { id = handed.id; next = handed.next; bytes = take handed.len p.retrieval.buffer }
+handed_row p handed =
+    record { id = handed.id; next = handed.next; bytes = take handed.len p.retrieval.buffer }
 
 abbrev pub handed_result : Progress → Result (Option Handed) Ended → Result (Option Row) Ended
 handed_result p (Ok (Some handed)) = Ok (Some (handed_row p handed))
@@ -32,7 +40,8 @@ handed_id _ asked buffer = asked
 
 -- the row that is whole in the buffer, where this id was asked for
 abbrev pub whole_row : Place → ℕ → Retrieval → Row
-whole_row place asked r = record { id = handed_id place asked r.buffer; next = r.next; bytes = take r.have r.buffer }
+whole_row place asked r =
+    record { id = handed_id place asked r.buffer; next = r.next; bytes = take r.have r.buffer }
 
 -- an id is asked for: 0000h at the start, and later one that was not handed out, for which there is room
 pub record IsAsked (place : Place) (ids : set.FinSet nat_cmp) (asked : ℕ) : Type 0 where

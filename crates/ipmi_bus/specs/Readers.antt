@@ -17,7 +17,8 @@ EndsUnder id (Err (Refused n code)) = n ≡ id
 EndsUnder id _ = ⊥
 
 -- over an honest controller it is the value that the store has when the call returns, or none where that store has none
-abbrev pub ValueIs : {V : Type 0} → (Store → Option V) → ℕ → Seen → Seen → Result (Option V) Ended → Type 0
+abbrev pub ValueIs : {V : Type 0} → (Store → Option V) → ℕ → Seen → Seen → Result (Option V) Ended
+    → Type 0
 ValueIs value tries s s' (Ok o) = WithinTries tries s s' × (o ≡ value s'.store)
 ValueIs value tries s s' (Err (GaveUp n)) = GivesUp tries s s'
 ValueIs value tries s s' (Err (Refused n code)) = IsRefusedWith tries code.0 s s'
@@ -29,7 +30,8 @@ pub record KeepsReservations (s s' : Seen) : Type 0 where
   pub sel : current Sel s' ≡ current Sel s
 
 -- the reading of a value, over an honest controller: over a plain one it is the store's, and the reservations stay
-pub record ReadsValue {V : Type 0} (value : Store → Option V) (tries : ℕ) (s s' : Seen) (result : Result (Option V) Ended) : Type 0 where
+pub record ReadsValue {V : Type 0} (value : Store → Option V) (tries : ℕ) (s s' : Seen)
+    (result : Result (Option V) Ended) : Type 0 where
   pub stays : StaysHonest s s'
   pub is : ValueIs value tries s s' result
   pub plain : IsTrue s.plain → (result ≡ Ok (value s.store)) × KeepsReservations s s'
@@ -38,28 +40,37 @@ pub record ReadsValue {V : Type 0} (value : Store → Option V) (tries : ℕ) (s
 
 -- CBh is no refusal that is counted, and comes only where the store has no such inventory
 abbrev pub IsRefusedInventory : Bool → ℕ → ℕ → ℕ → Seen → Seen → Type 0
-IsRefusedInventory true id tries code s s' = WithinTries tries s s' × (inventory_of id s.store ≡ None)
+IsRefusedInventory true id tries code s s' =
+    WithinTries tries s s' × (inventory_of id s.store ≡ None)
 IsRefusedInventory false id tries code s s' = IsRefusedWith tries code s s'
 
--- what the reading gives while no store is added: the inventory's bytes, or why there are none; memory can fail only where there is such an inventory
+-- what the reading gives while no store is added: the inventory's bytes, or why there are none; memory can fail only
+-- where there is such an inventory
 abbrev pub InventoryIs : ℕ → ℕ → Seen → Seen → Result (List ℕ) FruEnded → Type 0
-InventoryIs id tries s s' (Ok bytes) = WithinTries tries s s' × (inventory_of id s.store ≡ Some bytes)
-InventoryIs id tries s s' (Err FruEnded.Memory) = WithinTries tries s s' × IsSome (inventory_of id s.store)
-InventoryIs id tries s s' (Err (FruEnded.Refused code)) = IsRefusedInventory (code.0 == 0xCB) id tries code.0 s s'
+InventoryIs id tries s s' (Ok bytes) =
+    WithinTries tries s s' × (inventory_of id s.store ≡ Some bytes)
+InventoryIs id tries s s' (Err FruEnded.Memory) =
+    WithinTries tries s s' × IsSome (inventory_of id s.store)
+InventoryIs id tries s s' (Err (FruEnded.Refused code)) =
+    IsRefusedInventory (code.0 == 0xCB) id tries code.0 s s'
 InventoryIs id tries s s' (Err FruEnded.GaveUp) = GivesUp tries s s'
 InventoryIs id tries s s' _ = ⊥
 
 -- CBh is no refusal that is counted, and comes only where the store has no such inventory when the call returns
 abbrev pub IsRefusedOverChange : Bool → ℕ → ℕ → ℕ → Seen → Seen → Type 0
-IsRefusedOverChange true id tries code s s' = WithinTries tries s s' × (inventory_of id s'.store ≡ None)
+IsRefusedOverChange true id tries code s s' =
+    WithinTries tries s s' × (inventory_of id s'.store ≡ None)
 IsRefusedOverChange false id tries code s s' = IsRefusedWith tries code s s'
 
--- what the reading counts, whatever stores are added; bytes come, and memory can fail, only where the store has such an inventory
--- when the call returns
+-- what the reading counts, whatever stores are added; bytes come, and memory can fail, only where the store has such an
+-- inventory when the call returns
 abbrev pub InventoryCounts : ℕ → ℕ → Seen → Seen → Result (List ℕ) FruEnded → Type 0
-InventoryCounts id tries s s' (Ok bytes) = WithinTries tries s s' × IsSome (inventory_of id s'.store)
-InventoryCounts id tries s s' (Err FruEnded.Memory) = WithinTries tries s s' × IsSome (inventory_of id s'.store)
-InventoryCounts id tries s s' (Err (FruEnded.Refused code)) = IsRefusedOverChange (code.0 == 0xCB) id tries code.0 s s'
+InventoryCounts id tries s s' (Ok bytes) =
+    WithinTries tries s s' × IsSome (inventory_of id s'.store)
+InventoryCounts id tries s s' (Err FruEnded.Memory) =
+    WithinTries tries s s' × IsSome (inventory_of id s'.store)
+InventoryCounts id tries s s' (Err (FruEnded.Refused code)) =
+    IsRefusedOverChange (code.0 == 0xCB) id tries code.0 s s'
 InventoryCounts id tries s s' (Err FruEnded.GaveUp) = GivesUpOverChange tries s s'
 InventoryCounts id tries s s' _ = ⊥
 
@@ -75,11 +86,13 @@ abbrev pub inventory_len : ℕ → Store → ℕ
 inventory_len id store = length (unwrap_or (inventory_of id store) [])
 
 -- the reading of an inventory, over an honest controller
-pub record ReadsInventory (id tries : ℕ) (s s' : Seen) (result : Result (List ℕ) FruEnded) : Type 0 where
+pub record ReadsInventory (id tries : ℕ) (s s' : Seen)
+    (result : Result (List ℕ) FruEnded) : Type 0 where
   pub stays : StaysHonest s s'
   pub counts : InventoryCounts id tries s s' result
   pub is : s'.stores_added ≡ s.stores_added → InventoryIs id tries s s' result
-  pub calls : s'.stores_added ≡ s.stores_added → s'.calls ≤ s.calls + fru_call_bound tries (inventory_len id s.store)
+  pub calls : s'.stores_added ≡ s.stores_added
+      → s'.calls ≤ s.calls + fru_call_bound tries (inventory_len id s.store)
   pub plain : IsTrue s.plain → PlainMayAnswer result × KeepsReservations s s'
 
 -- an inventory's bytes, as a list

@@ -61,7 +61,13 @@ row_len r seen = len_of (look (rows_of r.shelf seen.store) r.id)
 
 -- the retrieval after one more trouble; where that cancelled the reservation, without it and without the bytes so far
 abbrev pub after_trouble : Bool → Retrieval → Retrieval
-after_trouble is_cancelled r = record r { troubles = r.troubles + 1; reservation = if is_cancelled then None else r.reservation; have = if is_cancelled then 0 else r.have }
+after_trouble is_cancelled r =
+    record r {
+      troubles = r.troubles + 1;
+      reservation = if is_cancelled then None else r.reservation;
+      have =
+          if is_cancelled then 0 else r.have;
+    }
 
 -- the trouble is counted, or it was one too many
 abbrev pub CountsTrouble : Bool → Retrieval → Retrieval → Result CallOutcome Ended → Type 0
@@ -109,7 +115,8 @@ PartFails Refusal code asked old new result = IsRefusedBy code old new result
 
 -- a request for the bytes after those that are there
 abbrev pub request_of : Retrieval → ℕ → ℕ → Asked
-request_of r reservation len = record { shelf = r.shelf; reservation = reservation; id = r.id; offset = r.have; len = len }
+request_of r reservation len =
+    record { shelf = r.shelf; reservation = reservation; id = r.id; offset = r.have; len = len }
 
 -- with a part taken
 abbrev pub after_part : Part → Retrieval → Retrieval
@@ -117,10 +124,18 @@ after_part part r = record r { have = r.have + part.got; next = part.next }
 
 -- the taken bytes make the record whole, or they don't; a header that says too much, or no bytes, end it
 abbrev pub TakesRecordPart : Part → Retrieval → Retrieval → Result CallOutcome Ended → Type 0
-TakesRecordPart part old new (Ok Again) = (0 < part.got) × (new ≡ after_part part old) × (new.have < wanted_len new.shelf new.have new.buffer) × (wanted_len new.shelf new.have new.buffer ≤ largest_len new.shelf)
-TakesRecordPart part old new (Ok Whole) = (0 < part.got) × (new ≡ after_part part old) × (new.have ≡ wanted_len new.shelf new.have new.buffer) × (new.have ≤ largest_len new.shelf) × (5 ≤ new.have)
+TakesRecordPart part old new (Ok Again) =
+    (0 < part.got) × (new ≡ after_part part old)
+    × (new.have < wanted_len new.shelf new.have new.buffer)
+    × (wanted_len new.shelf new.have new.buffer ≤ largest_len new.shelf)
+TakesRecordPart part old new (Ok Whole) =
+    (0 < part.got) × (new ≡ after_part part old)
+    × (new.have ≡ wanted_len new.shelf new.have new.buffer) × (new.have ≤ largest_len new.shelf)
+    × (5 ≤ new.have)
 TakesRecordPart part old new (Err (Stalled id)) = (part.got ≡ 0) × (id ≡ old.id) × (new ≡ old)
-TakesRecordPart part old new (Err (Malformed id)) = (0 < part.got) × (new ≡ after_part part old) × (id ≡ old.id) × (old.shelf ≡ Sdr) × (new.have ≡ 5) × (0xFB < slice_index old.buffer 4)
+TakesRecordPart part old new (Err (Malformed id)) =
+    (0 < part.got) × (new ≡ after_part part old) × (id ≡ old.id) × (old.shelf ≡ Sdr)
+    × (new.have ≡ 5) × (0xFB < slice_index old.buffer 4)
 TakesRecordPart part old new _ = ⊥
 
 -- what the answer to a request for so many bytes leaves, once its bytes are in the buffer
@@ -148,7 +163,8 @@ unreserved (Some n) = 0
 
 -- the most calls that a record of this length can still take
 abbrev pub calls_left : ℕ → Retrieval → ℕ
-calls_left len r = (r.tries - r.troubles) * (len + 2) + unreserved r.reservation + (len - r.have) + 1 + digits r.part
+calls_left len r = (r.tries - r.troubles) * (len + 2) + unreserved r.reservation + (len - r.have)
+    + 1 + digits r.part
 
 -- what ends the reading of a record names its id
 abbrev pub NamesId : ℕ → Shelf → Ended → Type 0
@@ -160,7 +176,10 @@ NamesId id shelf _ = ⊥
 
 -- after a call there is less to do, or the record is whole, or an answer ends it
 abbrev pub CallLeaves : Retrieval → Retrieval → Result CallOutcome Ended → Type 0
-CallLeaves old new (Ok Again) = IsOpenRecord new × ((len : ℕ) → new.have ≤ len → calls_left len new + 1 ≤ calls_left len old)
-CallLeaves old new (Ok Whole) = (new.part ≡ old.part) × (5 ≤ new.have) × (new.have ≤ largest_len new.shelf) × (new.have ≡ wanted_len new.shelf new.have new.buffer)
+CallLeaves old new (Ok Again) =
+    IsOpenRecord new × ((len : ℕ) → new.have ≤ len → calls_left len new + 1 ≤ calls_left len old)
+CallLeaves old new (Ok Whole) =
+    (new.part ≡ old.part) × (5 ≤ new.have) × (new.have ≤ largest_len new.shelf)
+    × (new.have ≡ wanted_len new.shelf new.have new.buffer)
 CallLeaves old new (Ok Absent) = new.part ≡ old.part
 CallLeaves old new (Err ended) = (new.part ≡ old.part) × NamesId old.id old.shelf ended

@@ -4,8 +4,8 @@ use Rattle.std.specs.Prelude.{◌≡◌, ℕ, ◌+◌, ◌<◌, ◌≤◌, Bool,
 use Rattle.ipmi_bus.specs.Types.{Sdr, Sel, Shelf}
 use Rattle.ipmi_bus.specs.Store.{Store, IsStore}
 
--- The numbers have no greatest value. Fresh troubles are those since something was finished; the last code is that of the
--- last refusal; a store is added where another one takes the place of the store.
+-- The numbers have no greatest value. Fresh troubles are those since something was finished; the last code is that of
+-- the last refusal; a store is added where another one takes the place of the store.
 pub record Seen : Type 0 where
   pub store : Store
   pub honest : Bool
@@ -100,8 +100,8 @@ pub record IsChange (old new : Seen) : Type 0 where
   pub stays : StaysHonest old new
   pub one : new.stores_added ≤ old.stores_added + 1
 
--- No reservation of the shelf becomes current, and none stays so where a store is added. An honest controller may cancel one
--- at any call, a plain one cancels none.
+-- No reservation of the shelf becomes current, and none stays so where a store is added. An honest controller may
+-- cancel one at any call, a plain one cancels none.
 pub record MayLoseReservation (shelf : Shelf) (old new : Seen) : Type 0 where
   pub none_given : (r : ℕ) → current shelf new ≡ Some r → current shelf old ≡ Some r
   pub none_over_change : old.stores_added < new.stores_added → current shelf new ≡ None

@@ -84,4 +84,5 @@ pub record IsShelf (shelf : Shelf) (rows : List Row) : Type 0 where
 
 -- a record that is found on a well-formed shelf is a row
 abbrev pub FoundIsRow : Type 0
-FoundIsRow = (shelf : Shelf) (rows : List Row) (n : ℕ) (row : Row) → IsShelf shelf rows → look rows n ≡ Some row → IsRow shelf row
+FoundIsRow = (shelf : Shelf) (rows : List Row) (n : ℕ) (row : Row) → IsShelf shelf rows
+    → look rows n ≡ Some row → IsRow shelf row

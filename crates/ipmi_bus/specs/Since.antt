@@ -25,9 +25,11 @@ pub record HonestSince (start now : Retrieval) (s s' : Seen) : Type 0 where
 pub record Since (start now : Retrieval) (s s' : Seen) : Type 0 where
   pub is_open : IsOpenRecord now
   pub request : SameRequest start now
-  pub calls : s'.calls + calls_left (largest_len start.shelf) now ≤ s.calls + calls_left (largest_len start.shelf) start
+  pub calls : s'.calls + calls_left (largest_len start.shelf) now
+      ≤ s.calls + calls_left (largest_len start.shelf) start
   pub honest : IsHonest s → HonestSince start now s s'
-  pub row_calls : IsHonest s → s'.stores_added ≡ s.stores_added → s'.calls + calls_left (row_len start s) now ≤ s.calls + calls_left (row_len start s) start
+  pub row_calls : IsHonest s → s'.stores_added ≡ s.stores_added
+      → s'.calls + calls_left (row_len start s) now ≤ s.calls + calls_left (row_len start s) start
 
 -- a whole row, of the store that the controller has now
 pub record ReadsRow (start new : Retrieval) (s s' : Seen) (row : Row) : Type 0 where
@@ -51,7 +53,8 @@ pub record ReadIsPlain (new : Retrieval) (s' : Seen) (result : Result Bool Ended
   pub fine : NotGivenUpOrRefused result
 
 -- over an honest controller: where a reservation is held and no trouble comes, none is asked for
-pub record ReadIsHonest (start new : Retrieval) (s s' : Seen) (result : Result Bool Ended) : Type 0 where
+pub record ReadIsHonest (start new : Retrieval) (s s' : Seen)
+    (result : Result Bool Ended) : Type 0 where
   pub stays : StaysHonest s s'
   pub answers : ReadAnswers start new s s' result
   pub keeps : IsSome start.reservation → s'.troubles ≡ s.troubles → KeepsHeld start new s s'
@@ -66,7 +69,8 @@ ReadNext start new s s' (Err ended) = ReadIsHonest start new s s' (Err ended)
 
 -- no more calls than the bound for a record of this length, but for those that made the part size fall
 abbrev pub ReadCalls : ℕ → Retrieval → Retrieval → Seen → Seen → Type 0
-ReadCalls len old new s s' = s'.calls + digits new.part ≤ s.calls + step_call_bound old.tries len + digits old.part
+ReadCalls len old new s s' =
+    s'.calls + digits new.part ≤ s.calls + step_call_bound old.tries len + digits old.part
 
 -- what the last call left is what the reading gives
 abbrev pub EndsRead : Result CallOutcome Ended → Result Bool Ended → Type 0
@@ -84,6 +88,8 @@ pub record IsEnded (new : Retrieval) (result : Result Bool Ended) : Type 0 where
 
 -- what a reading leaves over any controller
 abbrev pub ReadLeaves : ℕ → Retrieval → Result Bool Ended → Type 0
-ReadLeaves id new (Ok true) = (5 ≤ new.have) × (new.have ≤ largest_len new.shelf) × (new.have ≡ wanted_len new.shelf new.have new.buffer)
+ReadLeaves id new (Ok true) =
+    (5 ≤ new.have) × (new.have ≤ largest_len new.shelf)
+    × (new.have ≡ wanted_len new.shelf new.have new.buffer)
 ReadLeaves id new (Ok false) = Unit {0}
 ReadLeaves id new (Err ended) = NamesId id new.shelf ended

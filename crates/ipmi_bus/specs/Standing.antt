@@ -9,9 +9,11 @@ use Rattle.ipmi_bus.specs.Seen.{Seen}
 use Rattle.ipmi_bus.specs.CursorState.{CursorState}
 
 -- the cursor has handed out the first k rows of the walk, and no others
-pub record StandsAt (rows : List Row) (start : Place) (walk : List Row) (k : ℕ) (c : CursorState) : Type 0 where
+pub record StandsAt (rows : List Row) (start : Place) (walk : List Row) (k : ℕ)
+    (c : CursorState) : Type 0 where
   pub within : k ≤ length walk
-  pub place : (c.place ≡ place_after_rows start (take k walk)) ⊎ ((c.place ≡ End) × (start ≡ First) × (first_row rows ≡ None))
+  pub place : (c.place ≡ place_after_rows start (take k walk))
+      ⊎ ((c.place ≡ End) × (start ≡ First) × (first_row rows ≡ None))
   pub ids : (n : ℕ) → set.contains c.ids n ≡ has_id (take k walk) n
 
 -- a step at a walk's end may give up or be refused: there is a call to make
@@ -20,18 +22,30 @@ MayFail Done place = place ≡ First
 MayFail (CycleAt n) place = ⊥
 MayFail (MissingAt n) place = Unit {0}
 
--- What a step of a cursor that is at k does: before the walk's end it hands out row k + 1, at the end it answers by that
--- end, or it gives up or is refused and stays.
-abbrev pub WalkStep : List Row → Place → List Row → WalkEnd → ℕ → CursorState → CursorState → Result (Option Row) Ended → Type 0
-WalkStep rows start walk end k old new (Ok (Some row)) = (first_row (drop k walk) ≡ Some row) × StandsAt rows start walk (k + 1) new
-WalkStep rows start walk end k old new (Ok None) = (k ≡ length walk) × (end ≡ Done) × StandsAt rows start walk k new
-WalkStep rows start walk end k old new (Err (Cycle n)) = (k ≡ length walk) × (end ≡ CycleAt n) × StandsAt rows start walk k new
-WalkStep rows start walk end k old new (Err (Missing n)) = (k ≡ length walk) × (end ≡ MissingAt n) × StandsAt rows start walk k new
-WalkStep rows start walk end k old new (Err (GaveUp n)) = StandsAt rows start walk k new × (k ≡ length walk → MayFail end old.place)
-WalkStep rows start walk end k old new (Err (Refused n code)) = StandsAt rows start walk k new × (k ≡ length walk → MayFail end old.place)
+-- What a step of a cursor that is at k does: before the walk's end it hands out row k + 1, at the end it answers by
+-- that end, or it gives up or is refused and stays.
+abbrev pub WalkStep : List Row → Place → List Row → WalkEnd → ℕ → CursorState → CursorState
+    → Result (Option Row) Ended → Type 0
+WalkStep rows start walk end k old new (Ok (Some row)) =
+    (first_row (drop k walk) ≡ Some row) × StandsAt rows start walk (k + 1) new
+WalkStep rows start walk end k old new (Ok None) =
+    (k ≡ length walk) × (end ≡ Done) × StandsAt rows start walk k new
+WalkStep rows start walk end k old new (Err (Cycle n)) =
+    (k ≡ length walk) × (end ≡ CycleAt n) × StandsAt rows start walk k new
+WalkStep rows start walk end k old new (Err (Missing n)) =
+    (k ≡ length walk) × (end ≡ MissingAt n) × StandsAt rows start walk k new
+WalkStep rows start walk end k old new (Err (GaveUp n)) =
+    StandsAt rows start walk k new × (k ≡ length walk → MayFail end old.place)
+WalkStep rows start walk end k old new (Err (Refused n code)) =
+    StandsAt rows start walk k new × (k ≡ length walk → MayFail end old.place)
 WalkStep rows start walk end k old new _ = ⊥
 
 -- where no store is added, the step is one along each walk that has an end and on which the cursor is
-pub record FollowsWalks (old new : CursorState) (s s' : Seen) (result : Result (Option Row) Ended) : Type 0 where
-  pub follows : s'.stores_added ≡ s.stores_added → (start : Place) (walk : List Row) (end : WalkEnd) (k : ℕ) → IsWalk (rows_of old.shelf s.store) start walk → EndsBy (rows_of old.shelf s.store) start walk end
-      → StandsAt (rows_of old.shelf s.store) start walk k old → WalkStep (rows_of old.shelf s.store) start walk end k old new result
+pub record FollowsWalks (old new : CursorState) (s s' : Seen)
+    (result : Result (Option Row) Ended) : Type 0 where
+  pub follows : s'.stores_added ≡ s.stores_added
+      → (start : Place) (walk : List Row) (end : WalkEnd) (k : ℕ)
+      → IsWalk (rows_of old.shelf s.store) start walk
+      → EndsBy (rows_of old.shelf s.store) start walk end
+      → StandsAt (rows_of old.shelf s.store) start walk k old
+      → WalkStep (rows_of old.shelf s.store) start walk end k old new result

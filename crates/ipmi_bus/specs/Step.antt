@@ -73,11 +73,13 @@ abbrev pub StepLeaves : CursorState → CursorState → Result (Option Row) Ende
 StepLeaves old new (Ok (Some row)) = (cycle_at old.place old.ids ≡ None) × HandsOut old new row
 StepLeaves old new (Ok None) = (cycle_at old.place old.ids ≡ None) × GoesToEnd old new
 StepLeaves old new (Err (Cycle n)) = (cycle_at old.place old.ids ≡ Some n) × StaysThere old new
-StepLeaves old new (Err (Missing n)) = (cycle_at old.place old.ids ≡ None) × StaysThere old new × (old.place ≡ Id n)
+StepLeaves old new (Err (Missing n)) =
+    (cycle_at old.place old.ids ≡ None) × StaysThere old new × (old.place ≡ Id n)
 StepLeaves old new (Err (GaveUp n)) = (cycle_at old.place old.ids ≡ None) × FailsAt n old new
 StepLeaves old new (Err (Refused n code)) = (cycle_at old.place old.ids ≡ None) × FailsAt n old new
 StepLeaves old new (Err (Stalled n)) = (cycle_at old.place old.ids ≡ None) × FailsAt n old new
-StepLeaves old new (Err (Malformed n)) = (cycle_at old.place old.ids ≡ None) × FailsAt n old new × (old.shelf ≡ Sdr)
+StepLeaves old new (Err (Malformed n)) =
+    (cycle_at old.place old.ids ≡ None) × FailsAt n old new × (old.shelf ≡ Sdr)
 
 -- a step from here asks nothing of the controller: the cursor is at the end, or the chain closes
 abbrev pub AsksNothing : CursorState → Type 0
@@ -86,9 +88,12 @@ AsksNothing c = (c.place ≡ End) ⊎ IsSome (cycle_at c.place c.ids)
 -- on a walk it asks for the row that is next, or at the walk's end for none, or asks nothing
 abbrev pub AsksAlong : CursorState → Seen → Type 0
 AsksAlong c s =
-    (start : Place) (walk : List Row) (end : WalkEnd) (k : ℕ) → IsWalk (rows_of c.shelf s.store) start walk
-    → EndsBy (rows_of c.shelf s.store) start walk end → StandsAt (rows_of c.shelf s.store) start walk k c
-    → AsksNothing c ⊎ (len_of (look (rows_of c.shelf s.store) (asked_at c.place)) ≡ len_of (first_row (drop k walk)))
+    (start : Place) (walk : List Row) (end : WalkEnd) (k : ℕ)
+    → IsWalk (rows_of c.shelf s.store) start walk
+    → EndsBy (rows_of c.shelf s.store) start walk end
+    → StandsAt (rows_of c.shelf s.store) start walk k c
+    → AsksNothing c ⊎ (len_of (look (rows_of c.shelf s.store) (asked_at c.place))
+    ≡ len_of (first_row (drop k walk)))
 
 -- a cursor that asks for a record has handed out fewer than all ids
 abbrev pub HasRoom : CursorState → Type 0
@@ -96,7 +101,8 @@ HasRoom c = AsksNothing c ⊎ (set.len c.ids < 65536)
 
 -- no more calls than the bound for a record of this length, but for those that made the part size fall
 abbrev pub StepCalls : ℕ → CursorState → CursorState → Seen → Seen → Type 0
-StepCalls len old new s s' = s'.calls + digits new.part ≤ s.calls + step_call_bound old.tries len + digits old.part
+StepCalls len old new s s' =
+    s'.calls + digits new.part ≤ s.calls + step_call_bound old.tries len + digits old.part
 
 -- ---- over an honest controller, whatever its store does
 
@@ -106,13 +112,15 @@ NoneAt First shelf seen = look (rows_of shelf seen.store) 0 ≡ None
 NoneAt (Id n) shelf seen = ⊥
 NoneAt End shelf seen = Unit {0}
 
--- What is handed out is a whole row of the store as it is when the step ends, Missing and the end at First come only where that
--- store has no such row, and the troubles and refusals say what else the answer is.
+-- What is handed out is a whole row of the store as it is when the step ends, Missing and the end at First come only
+-- where that store has no such row, and the troubles and refusals say what else the answer is.
 abbrev pub StepAnswers : CursorState → Seen → Seen → Result (Option Row) Ended → Type 0
-StepAnswers old s s' (Ok (Some row)) = WithinTries old.tries s s' × (look (rows_of old.shelf s'.store) (asked_at old.place) ≡ Some row)
+StepAnswers old s s' (Ok (Some row)) =
+    WithinTries old.tries s s' × (look (rows_of old.shelf s'.store) (asked_at old.place) ≡ Some row)
 StepAnswers old s s' (Ok None) = WithinTries old.tries s s' × NoneAt old.place old.shelf s'
 StepAnswers old s s' (Err (Cycle n)) = s' ≡ s
-StepAnswers old s s' (Err (Missing n)) = WithinTries old.tries s s' × (look (rows_of old.shelf s'.store) n ≡ None)
+StepAnswers old s s' (Err (Missing n)) =
+    WithinTries old.tries s s' × (look (rows_of old.shelf s'.store) n ≡ None)
 StepAnswers old s s' (Err (GaveUp n)) = GivesUp old.tries s s'
 StepAnswers old s s' (Err (Refused n code)) = IsRefusedWith old.tries code.0 s s'
 StepAnswers old s s' _ = ⊥
@@ -122,21 +130,25 @@ pub record CursorHoldsCurrent (c : CursorState) (seen : Seen) : Type 0 where
   pub held : (n : ℕ) → c.reservation ≡ Some n → current c.shelf seen ≡ Some n
 
 -- over a plain controller
-pub record StepIsPlain (new : CursorState) (s' : Seen) (result : Result (Option Row) Ended) : Type 0 where
+pub record StepIsPlain (new : CursorState) (s' : Seen)
+    (result : Result (Option Row) Ended) : Type 0 where
   pub holds : CursorHoldsCurrent new s'
   pub fine : NotGivenUpOrRefused result
 
 -- over an honest controller
-pub record StepIsHonest (old new : CursorState) (s s' : Seen) (result : Result (Option Row) Ended) : Type 0 where
+pub record StepIsHonest (old new : CursorState) (s s' : Seen)
+    (result : Result (Option Row) Ended) : Type 0 where
   pub stays : StaysHonest s s'
   pub answers : StepAnswers old s s' result
   pub plain : IsTrue s.plain → CursorHoldsCurrent old s → StepIsPlain new s' result
-  pub calls : s'.stores_added ≡ s.stores_added → StepCalls (len_of (look (rows_of old.shelf s.store) (asked_at old.place))) old new s s'
+  pub calls : s'.stores_added ≡ s.stores_added
+      → StepCalls (len_of (look (rows_of old.shelf s.store) (asked_at old.place))) old new s s'
 
 -- ---- all of it
 
 -- a step, by the cursor and the controller before and after it
-pub record IsStep (old new : CursorState) (s s' : Seen) (result : Result (Option Row) Ended) : Type 0 where
+pub record IsStep (old new : CursorState) (s s' : Seen)
+    (result : Result (Option Row) Ended) : Type 0 where
   pub same : KeepsSettings old new
   pub leaves : StepLeaves old new result
   pub calls : StepCalls (largest_len old.shelf) old new s s'

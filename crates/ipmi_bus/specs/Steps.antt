@@ -16,10 +16,13 @@ pub record Stepped : Type 0 where
   pub cursor : CursorState
   pub seen : Seen
 
--- each step begins with the cursor that the one before it left, and between them other things may be asked of the controller
+-- each step begins with the cursor that the one before it left, and between them other things may be asked of the
+-- controller
 abbrev pub AreSteps : CursorState → Seen → List Stepped → Type 0
 AreSteps c s [] = Unit {0}
-AreSteps c s (step ∷ steps) = StaysHonest s step.before × IsStep c step.cursor step.before step.seen step.result × AreSteps step.cursor step.seen steps
+AreSteps c s (step ∷ steps) =
+    StaysHonest s step.before × IsStep c step.cursor step.before step.seen step.result
+    × AreSteps step.cursor step.seen steps
 
 abbrev pub cursor_after : CursorState → List Stepped → CursorState
 cursor_after c [] = c
@@ -39,12 +42,18 @@ handed_out [] = []
 handed_out (step ∷ steps) = with_handed step.result (handed_out steps)
 
 -- the first rows of the walk were handed out, and the cursor is after them
-pub record HandsOutPrefix (rows : List Row) (start : Place) (walk : List Row) (c : CursorState) (handed : List Row) : Type 0 where
+pub record HandsOutPrefix (rows : List Row) (start : Place) (walk : List Row) (c : CursorState)
+    (handed : List Row) : Type 0 where
   pub count : ℕ
   pub handed_are : handed ≡ take count walk
   pub stands : StandsAt rows start walk count c
 
--- over an honest controller, while no store is added, steps hand out the first rows of the walk, none left out and none twice, whatever gave up or was refused, and whatever else was asked of the controller, between them
+-- over an honest controller, while no store is added, steps hand out the first rows of the walk, none left out and none
+-- twice, whatever gave up or was refused, and whatever else was asked of the controller, between them
 abbrev pub StepsFollowWalk : Type 0
-StepsFollowWalk = (c : CursorState) (s : Seen) (steps : List Stepped) (start : Place) (walk : List Row) (end : WalkEnd) → IsHonest s → IsWalk (rows_of c.shelf s.store) start walk → EndsBy (rows_of c.shelf s.store) start walk end
-    → StandsAt (rows_of c.shelf s.store) start walk 0 c → AreSteps c s steps → (seen_after s steps).stores_added ≡ s.stores_added → HandsOutPrefix (rows_of c.shelf s.store) start walk (cursor_after c steps) (handed_out steps)
+StepsFollowWalk = (c : CursorState) (s : Seen) (steps : List Stepped) (start : Place)
+    (walk : List Row) (end : WalkEnd) → IsHonest s → IsWalk (rows_of c.shelf s.store) start walk
+    → EndsBy (rows_of c.shelf s.store) start walk end
+    → StandsAt (rows_of c.shelf s.store) start walk 0 c → AreSteps c s steps
+    → (seen_after s steps).stores_added ≡ s.stores_added
+    → HandsOutPrefix (rows_of c.shelf s.store) start walk (cursor_after c steps) (handed_out steps)

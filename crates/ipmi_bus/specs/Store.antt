@@ -35,7 +35,9 @@ info_of Sel store = store.sel_info
 -- the reading of the sensor with this number at this LUN
 abbrev pub reading_in : List SensorReading → ℕ → ℕ → Option Reading
 reading_in [] lun number = None
-reading_in (sensor ∷ sensors) lun number = if (sensor.lun == lun) && (sensor.number == number) then Some sensor.reading else reading_in sensors lun number
+reading_in (sensor ∷ sensors) lun number =
+    if (sensor.lun == lun) && (sensor.number == number) then Some sensor.reading
+    else reading_in sensors lun number
 
 abbrev pub reading_of : ℕ → ℕ → Store → Option Reading
 reading_of lun number store = reading_in store.readings lun number
@@ -43,7 +45,8 @@ reading_of lun number store = reading_in store.readings lun number
 -- the bytes of the inventory of the FRU device with this id
 abbrev pub inventory_in : List Inventory → ℕ → Option (List ℕ)
 inventory_in [] id = None
-inventory_in (inventory ∷ inventories) id = if inventory.id == id then Some inventory.bytes else inventory_in inventories id
+inventory_in (inventory ∷ inventories) id =
+    if inventory.id == id then Some inventory.bytes else inventory_in inventories id
 
 abbrev pub inventory_of : ℕ → Store → Option (List ℕ)
 inventory_of id store = inventory_in store.inventories id
@@ -84,6 +87,7 @@ pub record IsStore (store : Store) : Type 0 where
   pub sel_info : IfSome store.sel_info IsInfo
 
 -- so both of its shelves are well formed
-pub store_shelf : (shelf : Shelf) (store : Store) → IsStore store → IsShelf shelf (rows_of shelf store)
+pub store_shelf : (shelf : Shelf) (store : Store) → IsStore store
+    → IsShelf shelf (rows_of shelf store)
 store_shelf Sdr store ok = ok.sdr
 store_shelf Sel store ok = ok.sel

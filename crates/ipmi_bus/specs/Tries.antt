@@ -17,8 +17,8 @@ pub record GivesUp (tries : ℕ) (old new : Seen) : Type 0 where
   pub refusals : new.refusals ≡ old.refusals
   pub last_code : new.last_code ≡ old.last_code
 
--- One trouble more than the tries, and no refusal. Where stores are added something may be finished between the troubles, and then
--- fewer are fresh, but the last one is.
+-- One trouble more than the tries, and no refusal. Where stores are added something may be finished between the
+-- troubles, and then fewer are fresh, but the last one is.
 pub record GivesUpOverChange (tries : ℕ) (old new : Seen) : Type 0 where
   pub troubles : new.troubles ≡ old.troubles + tries + 1
   pub some_fresh : 0 < new.fresh_troubles

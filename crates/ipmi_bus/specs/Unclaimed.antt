@@ -5,7 +5,14 @@ use Rattle.ipmi_bus.specs.Seen.{Seen}
 -- it doesn't say that it is honest, so nothing is known of its answers
 abbrev pub calls_only : ℕ → Seen
 calls_only calls = record {
-  store = record { sdr = []; sel = []; inventories = []; readings = []; sdr_info = None; sel_info = None };
+  store = record {
+    sdr = [];
+    sel = [];
+    inventories = [];
+    readings = [];
+    sdr_info = None;
+    sel_info = None;
+  };
   honest = false;
   plain = false;
   sdr_reservation = None;

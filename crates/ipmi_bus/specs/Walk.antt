@@ -52,8 +52,10 @@ pub data WalkEnd : Type 0 where
 -- the end of a walk whose last row has this next id
 abbrev pub EndsAfter : List Row → List Row → ℕ → WalkEnd → Type 0
 EndsAfter rows walk next Done = next ≡ 0xFFFF
-EndsAfter rows walk next (CycleAt n) = (n ≡ next) × (next ≢ 0xFFFF) × IsTrue ((next == 0) || has_id walk next)
-EndsAfter rows walk next (MissingAt n) = (n ≡ next) × (next ≢ 0xFFFF) × (next ≢ 0) × (has_id walk next ≡ false) × (look rows next ≡ None)
+EndsAfter rows walk next (CycleAt n) =
+    (n ≡ next) × (next ≢ 0xFFFF) × IsTrue ((next == 0) || has_id walk next)
+EndsAfter rows walk next (MissingAt n) =
+    (n ≡ next) × (next ≢ 0xFFFF) × (next ≢ 0) × (has_id walk next ≡ false) × (look rows next ≡ None)
 
 -- the end of the empty walk
 abbrev pub EndsEmpty : List Row → Place → WalkEnd → Type 0
@@ -77,24 +79,32 @@ EndsBy rows start (row ∷ walk) end = EndsAfter rows (row ∷ walk) (last_next 
 
 -- a walk from the place that has an end
 abbrev pub HasWalk : List Row → Place → Type 0
-HasWalk rows start = (walk : List Row) × (end : WalkEnd) × IsWalk rows start walk × EndsBy rows start walk end
+HasWalk rows start = (walk : List Row) × (end : WalkEnd) × IsWalk rows start walk
+    × EndsBy rows start walk end
 
 -- on a well-formed shelf the rest of a walk after its first row is a walk from the place after that
 abbrev pub TailIsWalk : Type 0
 TailIsWalk =
-    (shelf : Shelf) (rows : List Row) (start : Place) (row : Row) (walk : List Row) → IsShelf shelf rows
+    (shelf : Shelf) (rows : List Row) (start : Place) (row : Row) (walk : List Row)
+    → IsShelf shelf rows
     → IsWalk rows start (row ∷ walk) → IsWalk rows (place_after row.next) walk
 
 -- on each well-formed shelf there is one from each place
 abbrev pub WalkExists : Type 0
-WalkExists = (shelf : Shelf) (rows : List Row) (start : Place) → IsShelf shelf rows → HasWalk rows start
+WalkExists = (shelf : Shelf) (rows : List Row) (start : Place) → IsShelf shelf rows
+    → HasWalk rows start
 
 -- and no other, with one end
 abbrev pub WalkIsUnique : Type 0
-WalkIsUnique = (shelf : Shelf) (rows : List Row) (start : Place) (a b : List Row) (e f : WalkEnd) → IsShelf shelf rows
-    → IsWalk rows start a → EndsBy rows start a e → IsWalk rows start b → EndsBy rows start b f → (a ≡ b) × (e ≡ f)
+WalkIsUnique = (shelf : Shelf) (rows : List Row) (start : Place) (a b : List Row) (e f : WalkEnd)
+    → IsShelf shelf rows
+    → IsWalk rows start a → EndsBy rows start a e → IsWalk rows start b → EndsBy rows start b f
+    → (a ≡ b) × (e ≡ f)
 
 -- the rest of a walk that ends by Done is the walk from its first row's id, where that is not 0000h, and ends by Done
 abbrev pub RestIsWalk : Type 0
-RestIsWalk = (shelf : Shelf) (rows : List Row) (start : Place) (before : List Row) (row : Row) (after : List Row) → IsShelf shelf rows → IsWalk rows start (before ++ row ∷ after) → EndsBy rows start (before ++ row ∷ after) Done
-    → row.id ≢ 0 → IsWalk rows (Id row.id) (row ∷ after) × EndsBy rows (Id row.id) (row ∷ after) Done
+RestIsWalk = (shelf : Shelf) (rows : List Row) (start : Place) (before : List Row) (row : Row)
+    (after : List Row) → IsShelf shelf rows → IsWalk rows start (before ++ row ∷ after)
+    → EndsBy rows start (before ++ row ∷ after) Done
+    → row.id ≢ 0 → IsWalk rows (Id row.id) (row ∷ after)
+    × EndsBy rows (Id row.id) (row ∷ after) Done

@@ -20,13 +20,18 @@ is_empty-kinds k [] h = elim h [ ]
 is_empty-kinds k (x ∷ xs) h = refl
 
 -- the words, or none where there are none
-map-unwrap_or : (r : Option (Bor (List (Bor Text)))) (d : Bor (List (Bor Text))) → d.now ≡ [] → map (λ v. v.now) ((unwrap_or r d).now) ≡ unwrap_or (option_map (λ s. map (λ v. v.now) s.now) r) []
+map-unwrap_or : (r : Option (Bor (List (Bor Text)))) (d : Bor (List (Bor Text))) → d.now ≡ []
+    → map (λ v. v.now) ((unwrap_or r d).now)
+    ≡ unwrap_or (option_map (λ s. map (λ v. v.now) s.now) r) []
 map-unwrap_or None d h = ap (map (λ (v : Bor Text). v.now)) h
 map-unwrap_or (Some s) d h = refl
 
 -- `get_strs("words").unwrap_or(&[])`, which is `u`, is the words that belong to no option
-pub map-free_words : (f : Found) (r : Option (Bor (List (Bor Text)))) (d u : Bor (List (Bor Text))) → d.now ≡ [] → u ≡ unwrap_or r d
-    → option_map (λ s. map (λ v. v.now) s.now) r ≡ option_map raw_values (matched_of f (codes "words")) → map (λ v. v.now) u.now ≡ free_words (rows_of f)
+pub map-free_words : (f : Found) (r : Option (Bor (List (Bor Text)))) (d u : Bor (List (Bor Text)))
+    → d.now ≡ [] → u ≡ unwrap_or r d
+    → option_map (λ s. map (λ v. v.now) s.now) r
+    ≡ option_map raw_values (matched_of f (codes "words"))
+    → map (λ v. v.now) u.now ≡ free_words (rows_of f)
 map-free_words f r d u none by given =
     ap (map (λ (v : Bor Text). v.now)) (ap (λ (s : Bor (List (Bor Text))). s.now) by) ∙ map-unwrap_or r d none
     ∙ ap (λ (w : Option (List Text)). unwrap_or w []) (given ∙ raw_values-rows f (codes "words"))

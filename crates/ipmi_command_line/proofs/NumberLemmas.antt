@@ -20,7 +20,8 @@ own = numerals_by_value _ tells
 pub within-too_large : (low high n : ℕ) → high < n → within low high (Some n) ≡ None
 within-too_large low high n h = grind (arith, nat_tests)
 
-pub decimal_unread : {E : Type 0} (e : E) (bs : List ℕ) (low high : ℕ) → high < 2 ^ 16 → (length bs == 0) ≡ false → has_leading_zero bs ≡ false → list_all is_ascii_digit bs ≡ true
+pub decimal_unread : {E : Type 0} (e : E) (bs : List ℕ) (low high : ℕ) → high < 2 ^ 16
+    → (length bs == 0) ≡ false → has_leading_zero bs ≡ false → list_all is_ascii_digit bs ≡ true
     → ParsesUnsigned 16 10 bs (Err e) → None ≡ within low high (decimal_of bs)
 decimal_unread e bs low high small some spare ds h =
     let out = parse_digits own 16 bs (Err e) h ds in
@@ -44,7 +45,8 @@ below_four : (n len : ℕ) → len ≤ 4 → n < 16 ^ len → n < 2 ^ 16
 below_four n len four h = let most : 16 ^ len ≤ 16 ^ 4 = pow-le-pow_right {n = 16} (omega arith) four in omega arith
 
 -- one to four hex digits are always read
-pub hex_read : {E : Type 0} (e : E) (bs : List ℕ) → 0 < length bs → length bs ≤ 4 → list_all is_ascii_hexdigit bs ≡ true → ParsesUnsigned 16 16 bs (Err e) → ⊥
+pub hex_read : {E : Type 0} (e : E) (bs : List ℕ) → 0 < length bs → length bs ≤ 4
+    → list_all is_ascii_hexdigit bs ≡ true → ParsesUnsigned 16 16 bs (Err e) → ⊥
 hex_read e [] some four ds h = absurd (omega arith)
 hex_read e (c ∷ cs) some four ds h =
     let no_plus : c ≢ 43 = not_plus c (and_parts (is_ascii_hexdigit c) (list_all is_ascii_hexdigit cs) ds).0 in

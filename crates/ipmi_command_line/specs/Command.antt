@@ -66,7 +66,8 @@ abbrev pub is_stray : Task → Option ℕ → Bool
 is_stray task from = is_some from && not (takes_from task)
 
 -- a task with its options, `--from` before `--part` before `--tries`
-abbrev pub with_options : Option (List ℕ) → Task → Option (Option ℕ) → Option ℕ → Option ℕ → Result CommandState UsageFault
+abbrev pub with_options : Option (List ℕ) → Task → Option (Option ℕ) → Option ℕ → Option ℕ
+    → Result CommandState UsageFault
 with_options image task None part tries = Err UsageFault.Option
 with_options image task (Some from) None tries = Err UsageFault.Option
 with_options image task (Some from) (Some part) None = Err UsageFault.Option
@@ -79,7 +80,8 @@ with_options image task (Some from) (Some part) (Some tries) =
 abbrev pub command_of_task : List Row → Option Task → Result CommandState UsageFault
 command_of_task rows None = Err UsageFault.Command
 command_of_task rows (Some task) = with_options (first_of (codes "image") rows) task
-    (start_of_text (first_of (codes "from") rows)) (part_of (first_of (codes "part") rows)) (tries_of (first_of (codes "tries") rows))
+    (start_of_text (first_of (codes "from") rows)) (part_of (first_of (codes "part") rows))
+    (tries_of (first_of (codes "tries") rows))
 
 -- the command of what `clap` made of the words, or why they are none
 abbrev pub command_of_matches : List Row → Result CommandState UsageFault
@@ -87,4 +89,5 @@ command_of_matches rows = command_of_task rows (task_of (free_words rows))
 
 -- what the words mean, the first of which is the program's name
 unfoldable pub meaning_of : List (List ℕ) → Result CommandState UsageFault
-meaning_of words = if is_taken words then command_of_matches (rows_of_words words) else Err UsageFault.Line
+meaning_of words = if is_taken words then command_of_matches (rows_of_words words)
+    else Err UsageFault.Line

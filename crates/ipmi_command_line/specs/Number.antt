@@ -10,11 +10,15 @@ has_leading_zero text = nat_lt 1 (length text) && slice_index text 0 == 48
 
 -- decimal digits without a leading zero; `0` itself is one
 abbrev pub decimal_of : List ℕ → Option ℕ
-decimal_of text = if not (length text == 0) && (not (has_leading_zero text) && list_all is_ascii_digit text) then Some (digits_value 10 text) else None
+decimal_of text = if not (length text == 0)
+    && (not (has_leading_zero text) && list_all is_ascii_digit text)
+    then Some (digits_value 10 text) else None
 
 -- one to four hex digits of either case
 abbrev pub hex_of : List ℕ → Option ℕ
-hex_of text = if nat_lt 0 (length text) && (nat_le (length text) 4 && list_all is_ascii_hexdigit text) then Some (digits_value 16 text) else None
+hex_of text = if nat_lt 0 (length text)
+    && (nat_le (length text) 4 && list_all is_ascii_hexdigit text) then Some (digits_value 16 text)
+    else None
 
 -- four of them
 abbrev pub four_hex_of : List ℕ → Option ℕ

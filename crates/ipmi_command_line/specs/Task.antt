@@ -8,8 +8,8 @@ use Rattle.ipmi_bus.specs.CursorState.{start_of}
 use Rattle.ipmi_command_line.specs.declared.task.Count.{Count}
 use Rattle.ipmi_command_line.specs.declared.task.Task.{Task}
 
--- the shelf whose records a task is about, the id that it begins at by itself, how many of them it asks for, whether it takes an
--- id to start from, and whether it lists all of them, so that it can be done in pages
+-- the shelf whose records a task is about, the id that it begins at by itself, how many of them it asks for, whether it
+-- takes an id to start from, and whether it lists all of them, so that it can be done in pages
 pub record Scope : Type 0 where
   pub shelf : Shelf
   pub own_start : Option ℕ
@@ -19,7 +19,13 @@ pub record Scope : Type 0 where
 
 abbrev pub scope : Shelf → Option ℕ → Count → Bool → Bool → Scope
 scope shelf own_start count takes_from is_listing =
-    record { shelf = shelf; own_start = own_start; count = count; takes_from = takes_from; is_listing = is_listing }
+    record {
+      shelf = shelf;
+      own_start = own_start;
+      count = count;
+      takes_from = takes_from;
+      is_listing = is_listing;
+    }
 
 abbrev pub is_all : Count → Bool
 is_all Count.All = true

@@ -8,12 +8,16 @@ use Rattle.ipmi_commands.specs.Plan as plan
 -- ---- items and rows
 
 -- those of some rows, and of the rows after them
-pub row_items-append : (t : Task) (start : Place) (done rest : List Row) → row_items t start (done ++ rest) ≡ row_items t start done ++ row_items t (place_after_rows start done) rest
+pub row_items-append : (t : Task) (start : Place) (done rest : List Row)
+    → row_items t start (done ++ rest)
+    ≡ row_items t start done ++ row_items t (place_after_rows start done) rest
 row_items-append t start [] rest = refl
 row_items-append t start (d ∷ done) rest = rw (row_items-append t (place_after d.next) done rest) refl
 
 -- the next of some rows: those after it, and the place after it
-pub next_one : (rows : List Row) (k : ℕ) (row : Row) → first_row (drop k rows) ≡ Some row → (drop k rows ≡ row ∷ drop (k + 1) rows) × ((start : Place) → place_after_rows start (take (k + 1) rows) ≡ place_after row.next)
+pub next_one : (rows : List Row) (k : ℕ) (row : Row) → first_row (drop k rows) ≡ Some row
+    → (drop k rows ≡ row ∷ drop (k + 1) rows)
+    × ((start : Place) → place_after_rows start (take (k + 1) rows) ≡ place_after row.next)
 next_one [] k row next = let none = rw drop-nil at next in cc none
 next_one (first ∷ rows) zero row next = let same : first ≡ row = cc next in (rw same refl, λ start. rw same refl)
 next_one (first ∷ rows) (suc k) row next =
@@ -23,7 +27,8 @@ next_one (first ∷ rows) (suc k) row next =
 -- ---- texts
 
 module _ (t : Task) (store : Store) where
-  texts_joined : (items more : List Item) (a b : List ℕ) → AreTexts t store items a → AreTexts t store more b → AreTexts t store (items ++ more) (a ++ b)
+  texts_joined : (items more : List Item) (a b : List ℕ) → AreTexts t store items a
+      → AreTexts t store more b → AreTexts t store (items ++ more) (a ++ b)
   texts_joined [] more a b are rest = rw are rest
   texts_joined (item ∷ items) more a b are rest = record {
     first = are.first;
@@ -34,7 +39,9 @@ module _ (t : Task) (store : Store) where
   }
 
   -- what is printed after what was printed
-  pub printed_joined : (items more : List Item) (old text new : List ℕ) → Printed t store items old text → Printed t store more text new → Printed t store (items ++ more) old new
+  pub printed_joined : (items more : List Item) (old text new : List ℕ)
+      → Printed t store items old text → Printed t store more text new
+      → Printed t store (items ++ more) old new
   printed_joined items more old text new one two = record {
     text = one.text ++ two.text;
     are = texts_joined items more one.text two.text one.are two.are;
@@ -44,11 +51,14 @@ module _ (t : Task) (store : Store) where
   pub none_printed : (old : List ℕ) → Printed t store [] old old
   none_printed old = record { text = []; are = refl; new_is = sym (append-nil old) }
 
-  pub one_printed : (item : Item) (text old new : List ℕ) → IsItemText t store item.subject text → new ≡ old ++ text → Printed t store (item ∷ []) old new
+  pub one_printed : (item : Item) (text old new : List ℕ) → IsItemText t store item.subject text
+      → new ≡ old ++ text → Printed t store (item ∷ []) old new
   one_printed item text old new is new_is = record { text = text; are = record { first = text; rest = []; is_first = is; is_rest = refl; joined = sym (append-nil text) }; new_is = new_is }
 
   -- of a text of the first item only a part
-  pub first_cut : (p : Plan) (item : Item) (rest : List Item) (text old new : List ℕ) → p.items ≡ item ∷ rest → IsItemText t store item.subject text → 0 < length text → TakesPart old new text → IsAllowed t store p old new plan.WriteFault
+  pub first_cut : (p : Plan) (item : Item) (rest : List Item) (text old new : List ℕ)
+      → p.items ≡ item ∷ rest → IsItemText t store item.subject text → 0 < length text
+      → TakesPart old new text → IsAllowed t store p old new plan.WriteFault
   first_cut p item rest text old new items_are is some part = record {
     done = [];
     item = item;
@@ -70,7 +80,9 @@ pub span_items-nil : (skip : Option ℕ) (t : Task) (start : Place) → span_ite
 span_items-nil skip t start = grind arith
 
 -- the next one, and those after it
-pub span_items-cons : (skip : Option ℕ) (t : Task) (start : Place) (row : Row) (rows : List Row) → span_items skip t start (row ∷ rows) ≡ item_in skip t start row ∷ span_items (passing skip 1) t (place_after row.next) rows
+pub span_items-cons : (skip : Option ℕ) (t : Task) (start : Place) (row : Row) (rows : List Row)
+    → span_items skip t start (row ∷ rows)
+    ≡ item_in skip t start row ∷ span_items (passing skip 1) t (place_after row.next) rows
 span_items-cons skip t start row rows = grind arith
 
 passing-more : (skip : Option ℕ) (k : ℕ) → passing (passing skip k) 1 ≡ passing skip (k + 1)
@@ -80,13 +92,19 @@ pub passing-none : (skip : Option ℕ) → passing skip 0 ≡ skip
 passing-none skip = grind arith
 
 -- what is left of a listing begins with the item of the next row
-pub left_items-next : (span : Span) (t : Task) (start : Place) (walk : List Row) (k : ℕ) (row : Row) → first_row (drop k walk) ≡ Some row → left_rows span k walk ≡ row ∷ left_rows span (k + 1) walk
-    → span_items (passing span.skip k) t (place_after_rows start (take k walk)) (left_rows span k walk)
-    ≡ item_in (passing span.skip k) t (place_after_rows start (take k walk)) row ∷ span_items (passing span.skip (k + 1)) t (place_after_rows start (take (k + 1) walk)) (left_rows span (k + 1) walk)
+pub left_items-next : (span : Span) (t : Task) (start : Place) (walk : List Row) (k : ℕ) (row : Row)
+    → first_row (drop k walk) ≡ Some row → left_rows span k walk ≡ row ∷ left_rows span (k + 1) walk
+    → span_items (passing span.skip k) t (place_after_rows start (take k walk))
+    (left_rows span k walk)
+    ≡ item_in (passing span.skip k) t (place_after_rows start (take k walk)) row
+    ∷ span_items (passing span.skip (k + 1)) t (place_after_rows start (take (k + 1) walk))
+    (left_rows span (k + 1) walk)
 left_items-next span t start walk k row next left = rw (left, span_items-cons, passing-more span.skip k, (next_one walk k row next).1 start) refl
 
 -- the id that is asked for first is a spot of what comes first
-pub asked_first : (skip : Option ℕ) (t : Task) (place : Place) (rows : List Row) (ends : List Spot) → (rows ≡ [] → IsAmong ends (AtRecord (asked_at place))) → IsAmong (spots_at (span_items skip t place rows) ends) (AtRecord (asked_at place))
+pub asked_first : (skip : Option ℕ) (t : Task) (place : Place) (rows : List Row) (ends : List Spot)
+    → (rows ≡ [] → IsAmong ends (AtRecord (asked_at place)))
+    → IsAmong (spots_at (span_items skip t place rows) ends) (AtRecord (asked_at place))
 asked_first skip t place [] ends at_end = rw span_items-nil (at_end refl)
 asked_first skip t place (row ∷ rows) ends at_end = rw span_items-cons (inl refl)
 
@@ -96,30 +114,42 @@ asked_first skip t place (row ∷ rows) ends at_end = rw span_items-cons (inl re
 abbrev pub after_items : List Item → Plan → Plan
 after_items first p = record { items = first ++ p.items; end = p.end; end_spots = p.end_spots }
 
--- where a run may stop after some items of one plan, it may stop after some of another, with the same item next if that is printed
-pub record Carried (t : Task) (store : Store) (at_end : List Spot) (p' : Plan) (old new : List ℕ) (rest : List Item) : Type 0 where
+-- where a run may stop after some items of one plan, it may stop after some of another, with the same item next if that
+-- is printed
+pub record Carried (t : Task) (store : Store) (at_end : List Spot) (p' : Plan) (old new : List ℕ)
+    (rest : List Item) : Type 0 where
   pub done' : List Item
   pub rest' : List Item
   pub items_are : p'.items ≡ done' ++ rest'
   pub printed : Printed t store done' old new
-  pub spots : (spot : Spot) → IsAmong (spots_at rest at_end) spot → IsAmong (spots_at rest' p'.end_spots) spot
-  pub next : (item : Item) (more : List Item) → rest ≡ item ∷ more → (item.subject ≡ Passed → ⊥) → (item' : Item) × (more' : List Item) × (rest' ≡ item' ∷ more') × (item'.subject ≡ item.subject)
+  pub spots : (spot : Spot) → IsAmong (spots_at rest at_end) spot
+      → IsAmong (spots_at rest' p'.end_spots) spot
+  pub next : (item : Item) (more : List Item) → rest ≡ item ∷ more → (item.subject ≡ Passed → ⊥)
+      → (item' : Item) × (more' : List Item) × (rest' ≡ item' ∷ more')
+      × (item'.subject ≡ item.subject)
 
 module _ (t : Task) (store : Store) where
   -- what may be given up or refused, or memory wanted, after some items
-  pub stops_after : (p : Plan) (done rest : List Item) (old new : List ℕ) (outcome : Outcome) → p.items ≡ done ++ rest → Printed t store done old new → MayStopAt (spots_at rest p.end_spots) outcome → IsAllowed t store p old new outcome
+  pub stops_after : (p : Plan) (done rest : List Item) (old new : List ℕ) (outcome : Outcome)
+      → p.items ≡ done ++ rest → Printed t store done old new
+      → MayStopAt (spots_at rest p.end_spots) outcome → IsAllowed t store p old new outcome
   stops_after p done rest old new (plan.GaveUp spot) is printed may = record { done = done; rest = rest; items_are = is; printed = printed; there = may }
   stops_after p done rest old new (plan.Refused spot code) is printed may = record { done = done; rest = rest; items_are = is; printed = printed; there = may }
   stops_after p done rest old new plan.OutOfMemory is printed may = record { done = done; rest = rest; items_are = is; printed = printed }
   stops_after p done rest old new _ is printed may = absurd may
 
   -- a passed item has no text
-  pub no_text : (item : Item) (text : List ℕ) → item.subject ≡ Passed → IsItemText t store item.subject text → text ≡ []
+  pub no_text : (item : Item) (text : List ℕ) → item.subject ≡ Passed
+      → IsItemText t store item.subject text → text ≡ []
   no_text item text passed is = rw passed at is
 
   -- what may be left by the one plan may be left by the other
-  module _ (p p' : Plan) (old old' new : List ℕ) (carry : (done rest : List Item) (text : List ℕ) → p.items ≡ done ++ rest → Printed t store done old text → Carried t store p.end_spots p' old' text rest) where
-    pub allowed_carried : (outcome : Outcome) → ((e : RunEnd) → outcome ≡ plan.Finished e → IsAllowed t store p old new (plan.Finished e) → IsAllowed t store p' old' new (plan.Finished e))
+  module _ (p p' : Plan) (old old' new : List ℕ)
+      (carry : (done rest : List Item) (text : List ℕ) → p.items ≡ done ++ rest
+      → Printed t store done old text → Carried t store p.end_spots p' old' text rest) where
+    pub allowed_carried : (outcome : Outcome)
+        → ((e : RunEnd) → outcome ≡ plan.Finished e → IsAllowed t store p old new (plan.Finished e)
+        → IsAllowed t store p' old' new (plan.Finished e))
         → IsAllowed t store p old new outcome → IsAllowed t store p' old' new outcome
     allowed_carried (plan.Finished e) whole allowed = whole e refl allowed
     allowed_carried (plan.GaveUp spot) whole allowed =
@@ -147,7 +177,9 @@ module _ (t : Task) (store : Store) where
         }
 
 -- what is printed after some items is printed after them all
-pub leaves_joined : (t : Task) (store : Store) (first : List Item) (p : Plan) (old text : List ℕ) → Printed t store first old text → (new : List ℕ) (outcome : Outcome) → IsAllowed t store p text new outcome → IsAllowed t store (after_items first p) old new outcome
+pub leaves_joined : (t : Task) (store : Store) (first : List Item) (p : Plan) (old text : List ℕ)
+    → Printed t store first old text → (new : List ℕ) (outcome : Outcome)
+    → IsAllowed t store p text new outcome → IsAllowed t store (after_items first p) old new outcome
 leaves_joined t store first p old text before new outcome allowed = allowed_carried t store p (after_items first p) text old new
     (λ done rest l is printed. record {
       done' = first ++ done;
@@ -167,19 +199,23 @@ not_first n [] at = (elim (n == 0xFFFF) as (λ b. cond b End (Id n) ≡ First �
 not_first n (row ∷ rows) at = not_first row.next rows at
 
 -- the id that is asked for after rows whose last has a next one
-asked_at-next : (n : ℕ) (rows : List Row) → last_next n rows ≢ 0xFFFF → asked_at (place_after_rows (place_after n) rows) ≡ last_next n rows
+asked_at-next : (n : ℕ) (rows : List Row) → last_next n rows ≢ 0xFFFF
+    → asked_at (place_after_rows (place_after n) rows) ≡ last_next n rows
 asked_at-next n [] more = ap asked_at (ap (λ (b : Bool). cond b End (Id n)) (ne_eqb n 0xFFFF more))
 asked_at-next n (row ∷ rows) more = asked_at-next row.next rows more
 
 -- what is asked for at the end of a walk is a spot of its end
-pub end_spot : (rows : List Row) (start : Place) (walk : List Row) (end : WalkEnd) → EndsBy rows start walk end → MayFail end (place_after_rows start walk) → IsAmong (end_spots start walk end) (AtRecord (asked_at (place_after_rows start walk)))
+pub end_spot : (rows : List Row) (start : Place) (walk : List Row) (end : WalkEnd)
+    → EndsBy rows start walk end → MayFail end (place_after_rows start walk)
+    → IsAmong (end_spots start walk end) (AtRecord (asked_at (place_after_rows start walk)))
 end_spot rows start walk end ends may = grind (arith, not_first, asked_at-next)
 
 no_end_spot : (place : Place) (rows : List Row) → place ≢ First → end_spots place rows Done ≡ []
 no_end_spot place rows moved = grind arith
 
 -- the end of more rows is that of the last of them
-pub end_spots-joined : (start : Place) (done rest : List Row) (end : WalkEnd) → end_spots (place_after_rows start done) rest end ≡ end_spots start (done ++ rest) end
+pub end_spots-joined : (start : Place) (done rest : List Row) (end : WalkEnd)
+    → end_spots (place_after_rows start done) rest end ≡ end_spots start (done ++ rest) end
 end_spots-joined start [] rest end = refl
 end_spots-joined First (d ∷ done) rest Done = no_end_spot (place_after_rows (place_after d.next) done) rest (not_first d.next done)
 end_spots-joined _ (d ∷ done) rest Done = no_end_spot (place_after_rows (place_after d.next) done) rest (not_first d.next done)

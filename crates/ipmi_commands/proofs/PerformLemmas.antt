@@ -7,11 +7,14 @@ use Rattle.ipmi_commands.proofs.ItemLemmas.{none_printed, one_printed, first_cut
 use Rattle.ipmi_commands.proofs.ListingLemmas.{counts_since}
 
 -- nothing was printed
-pub same_printed : (t : Task) (store : Store) (old new : List ℕ) → new ≡ old → Printed t store [] old new
+pub same_printed : (t : Task) (store : Store) (old new : List ℕ) → new ≡ old
+    → Printed t store [] old new
 same_printed t store old new same = subst (λ (l : List ℕ). Printed t store [] old l) (sym same) (none_printed t store old)
 
 -- what is given up or refused before anything is printed, or memory wanted
-pub stops_first : (t : Task) (store : Store) (p : Plan) (old new : List ℕ) (outcome : Outcome) → new ≡ old → MayStopAt (spots_at p.items p.end_spots) outcome → IsAllowed t store p old new outcome
+pub stops_first : (t : Task) (store : Store) (p : Plan) (old new : List ℕ) (outcome : Outcome)
+    → new ≡ old → MayStopAt (spots_at p.items p.end_spots) outcome
+    → IsAllowed t store p old new outcome
 stops_first t store p old new (plan.Finished e) same may = absurd may
 stops_first t store p old new (plan.GaveUp spot) same may = record { done = []; rest = p.items; items_are = refl; printed = same_printed t store old new same; there = may }
 stops_first t store p old new (plan.Refused spot code) same may = record { done = []; rest = p.items; items_are = refl; printed = same_printed t store old new same; there = may }
@@ -27,25 +30,33 @@ FindsItem t item tries s s' found = Finds (λ store text. IsItemText t store ite
 pub record TextWritten (t : Task) (item : Item) (tries : ℕ) (c : Change) : Type 0 where
   pub asks : AsksAt item.spots tries c.seen c.seen'
   pub refusals : c.seen'.refusals ≡ c.seen.refusals
-  pub printed : c.seen'.stores_added ≡ c.seen.stores_added → Printed t c.seen.store (item ∷ []) c.old c.new
+  pub printed : c.seen'.stores_added ≡ c.seen.stores_added
+      → Printed t c.seen.store (item ∷ []) c.old c.new
 
 -- or it stops there, whatever was to come after it
-pub record TextStops (t : Task) (item : Item) (tries : ℕ) (c : Change) (result : Stop) : Type 0 where
+pub record TextStops (t : Task) (item : Item) (tries : ℕ) (c : Change)
+    (result : Stop) : Type 0 where
   pub asks : AsksAt item.spots tries c.seen c.seen'
   pub outcome : Outcome
   pub outcome_is : IsOutcome result outcome
   pub counts : CountsSo tries c.seen c.seen' outcome
   pub plain : IsTrue c.seen.plain → IsFine outcome
-  pub allowed : (more : List Item) (e : RunEnd) (at_end : List Spot) → c.seen'.stores_added ≡ c.seen.stores_added
-      → IsAllowed t c.seen.store (record { items = item ∷ more; end = e; end_spots = at_end }) c.old c.new outcome
+  pub allowed : (more : List Item) (e : RunEnd) (at_end : List Spot)
+      → c.seen'.stores_added ≡ c.seen.stores_added
+      → IsAllowed t c.seen.store (record { items = item ∷ more; end = e; end_spots = at_end }) c.old
+      c.new outcome
 
 module _ (t : Task) (item : Item) (tries : ℕ) (c : Change) where
-  pub text_written : (found : Result (String Global) Stop) → FindsItem t item tries c.seen c.seen' found → WritesFound found c.old c.new Stop.Done → TextWritten t item tries c
+  pub text_written : (found : Result (String Global) Stop)
+      → FindsItem t item tries c.seen c.seen' found → WritesFound found c.old c.new Stop.Done
+      → TextWritten t item tries c
   text_written (Ok text) finds writes = record { asks = finds.asks; refusals = finds.refusals; printed = λ same. one_printed t c.seen.store item (string_bytes text) c.old c.new (finds.is same) writes }
   text_written (Err e) finds writes =
       let ended = subst (λ (x : Stop). IsOutcome x finds.outcome) (sym writes.0) finds.outcome_is in absurd (subst (MayStopAt item.spots) ended finds.there)
 
-  pub text_stops : (found : Result (String Global) Stop) (result : Stop) → FindsItem t item tries c.seen c.seen' found → WritesFound found c.old c.new result → is_done result ≡ false → TextStops t item tries c result
+  pub text_stops : (found : Result (String Global) Stop) (result : Stop)
+      → FindsItem t item tries c.seen c.seen' found → WritesFound found c.old c.new result
+      → is_done result ≡ false → TextStops t item tries c result
   text_stops (Ok text) Stop.Done finds writes stopped = cc stopped
   text_stops (Ok text) Stop.WriteFault finds writes stopped = record {
     asks = finds.asks;
@@ -68,9 +79,15 @@ module _ (t : Task) (item : Item) (tries : ℕ) (c : Change) where
 -- ---- a task that goes along no walk before it stops
 
 -- it asks at these spots only
-asked_performs : (r : Request) (spots : List Spot) (c : Change) (result : Stop) (outcome : Outcome) → ((walk : List Row) (end : WalkEnd) → calls_at_spots r.tries c.seen.store spots ≤ run_call_bound r.task c.seen.store r.tries walk end)
-    → AsksAt spots r.tries c.seen c.seen' → IsOutcome result outcome → CountsSo r.tries c.seen c.seen' outcome → (IsTrue c.seen.plain → IsFine outcome)
-    → (c.seen'.stores_added ≡ c.seen.stores_added → (walk : List Row) (end : WalkEnd) → IsAllowed r.task c.seen.store (plan_of r.task c.seen.store r.start walk end) c.old c.new outcome) → Performs r c result
+asked_performs : (r : Request) (spots : List Spot) (c : Change) (result : Stop) (outcome : Outcome)
+    → ((walk : List Row) (end : WalkEnd)
+    → calls_at_spots r.tries c.seen.store spots
+    ≤ run_call_bound r.task c.seen.store r.tries walk end)
+    → AsksAt spots r.tries c.seen c.seen' → IsOutcome result outcome
+    → CountsSo r.tries c.seen c.seen' outcome → (IsTrue c.seen.plain → IsFine outcome)
+    → (c.seen'.stores_added ≡ c.seen.stores_added → (walk : List Row) (end : WalkEnd)
+    → IsAllowed r.task c.seen.store (plan_of r.task c.seen.store r.start walk end) c.old c.new
+    outcome) → Performs r c result
 asked_performs r spots c result outcome bound asks is counts plain allowed = record {
   outcome = outcome;
   outcome_is = is;
@@ -82,10 +99,15 @@ asked_performs r spots c result outcome bound asks is counts plain allowed = rec
 }
 
 -- a task of one text
-pub one_text_performs : (r : Request) (item : Item) (c : Change) (found : Result (String Global) Stop) (result : Stop)
-    → ((store : Store) (walk : List Row) (end : WalkEnd) → plan_of r.task store r.start walk end ≡ record { items = item ∷ []; end = WalkEnds Done; end_spots = [] })
-    → ((store : Store) (walk : List Row) (end : WalkEnd) → calls_at_spots r.tries store item.spots ≤ run_call_bound r.task store r.tries walk end)
-    → FindsItem r.task item r.tries c.seen c.seen' found → WritesFound found c.old c.new result → Performs r c result
+pub one_text_performs : (r : Request) (item : Item) (c : Change)
+    (found : Result (String Global) Stop) (result : Stop)
+    → ((store : Store) (walk : List Row) (end : WalkEnd)
+    → plan_of r.task store r.start walk end
+    ≡ record { items = item ∷ []; end = WalkEnds Done; end_spots = [] })
+    → ((store : Store) (walk : List Row) (end : WalkEnd)
+    → calls_at_spots r.tries store item.spots ≤ run_call_bound r.task store r.tries walk end)
+    → FindsItem r.task item r.tries c.seen c.seen' found → WritesFound found c.old c.new result
+    → Performs r c result
 one_text_performs r item c found Stop.Done plan_is bound_is finds writes =
     let written = text_written r.task item r.tries c found finds writes in
     asked_performs r item.spots c Stop.Done (plan.Finished (WalkEnds Done)) (bound_is c.seen.store) written.asks refl written.refusals (λ p. tt)
@@ -98,23 +120,37 @@ one_text_performs r item c found result plan_is bound_is finds writes =
 -- ---- the info of a shelf
 
 module _ (shelf : Shelf) (start : Place) (tries : ℕ) (c : Change) where
-  info_asked : (result : Stop) (outcome : Outcome) → AsksAt (AtRecord 0 ∷ []) tries c.seen c.seen' → IsOutcome result outcome → CountsSo tries c.seen c.seen' outcome → (IsTrue c.seen.plain → IsFine outcome)
-      → (c.seen'.stores_added ≡ c.seen.stores_added → IsAllowed (Task.Info shelf) c.seen.store (info_plan (info_of shelf c.seen.store)) c.old c.new outcome) → Performs (request (Task.Info shelf) start tries) c result
-  info_asked result outcome asks is counts plain allowed = asked_performs (request (Task.Info shelf) start tries) (AtRecord 0 ∷ []) c result outcome (λ walk end. omega arith) asks is counts plain (λ same walk end. allowed same)
+  info_asked : (result : Stop) (outcome : Outcome) → AsksAt (AtRecord 0 ∷ []) tries c.seen c.seen'
+      → IsOutcome result outcome → CountsSo tries c.seen c.seen' outcome
+      → (IsTrue c.seen.plain → IsFine outcome)
+      → (c.seen'.stores_added ≡ c.seen.stores_added
+      → IsAllowed (Task.Info shelf) c.seen.store (info_plan (info_of shelf c.seen.store)) c.old
+      c.new outcome) → Performs (request (Task.Info shelf) start tries) c result
+  info_asked result outcome asks is counts plain allowed =
+      asked_performs (request (Task.Info shelf) start tries) (AtRecord 0 ∷ []) c result outcome
+      (λ walk end. omega arith) asks is counts plain (λ same walk end. allowed same)
 
-  info_printed : (o : Option (List ℕ)) (text : List ℕ) → IsBlockOfInfo o text → c.new ≡ c.old ++ text → IsAllowed (Task.Info shelf) c.seen.store (info_plan o) c.old c.new (plan.Finished (WalkEnds Done))
+  info_printed : (o : Option (List ℕ)) (text : List ℕ) → IsBlockOfInfo o text
+      → c.new ≡ c.old ++ text → IsAllowed (Task.Info shelf) c.seen.store (info_plan o) c.old c.new
+      (plan.Finished (WalkEnds Done))
   info_printed None text is wrote = absurd is
   info_printed (Some info) text is wrote = (one_printed (Task.Info shelf) c.seen.store (record { subject = OfInfo info; spots = AtRecord 0 ∷ [] }) text c.old c.new is wrote, refl)
 
-  info_cut : (o : Option (List ℕ)) (text : List ℕ) → IsBlockOfInfo o text → 0 < length text → TakesPart c.old c.new text → IsAllowed (Task.Info shelf) c.seen.store (info_plan o) c.old c.new plan.WriteFault
+  info_cut : (o : Option (List ℕ)) (text : List ℕ) → IsBlockOfInfo o text → 0 < length text
+      → TakesPart c.old c.new text → IsAllowed (Task.Info shelf) c.seen.store (info_plan o) c.old
+      c.new plan.WriteFault
   info_cut None text is some part = absurd is
   info_cut (Some info) text is some part = first_cut (Task.Info shelf) c.seen.store (info_plan (Some info)) (record { subject = OfInfo info; spots = AtRecord 0 ∷ [] }) [] text c.old c.new refl is some part
 
-  info_stops : (o : Option (List ℕ)) (outcome : Outcome) → c.new ≡ c.old → MayStopAt (AtRecord 0 ∷ []) outcome → IsAllowed (Task.Info shelf) c.seen.store (info_plan o) c.old c.new outcome
+  info_stops : (o : Option (List ℕ)) (outcome : Outcome) → c.new ≡ c.old
+      → MayStopAt (AtRecord 0 ∷ []) outcome
+      → IsAllowed (Task.Info shelf) c.seen.store (info_plan o) c.old c.new outcome
   info_stops None outcome same may = stops_first (Task.Info shelf) c.seen.store (info_plan None) c.old c.new outcome same may
   info_stops (Some info) outcome same may = stops_first (Task.Info shelf) c.seen.store (info_plan (Some info)) c.old c.new outcome same may
 
-  pub info_performs : (found : Result (String Global) Stop) (result : Stop) → FindsInfo shelf tries c.seen c.seen' found → WritesFound found c.old c.new result → Performs (request (Task.Info shelf) start tries) c result
+  pub info_performs : (found : Result (String Global) Stop) (result : Stop)
+      → FindsInfo shelf tries c.seen c.seen' found → WritesFound found c.old c.new result
+      → Performs (request (Task.Info shelf) start tries) c result
   info_performs (Ok text) Stop.Done finds writes =
       info_asked Stop.Done (plan.Finished (WalkEnds Done)) finds.asks refl finds.refusals (λ p. tt) (λ same. info_printed (info_of shelf c.seen.store) (string_bytes text) (finds.is same) writes)
   info_performs (Ok text) Stop.WriteFault finds writes =
@@ -134,7 +170,8 @@ module _ (start : Place) (tries : ℕ) where
   of_all = request (Task.Fru None) start tries
 
   -- it stopped at that of device 0
-  pub first_performs : (c : Change) (result : Stop) → TextStops (Task.Fru None) (inventory_item 0) tries c result → Performs of_all c result
+  pub first_performs : (c : Change) (result : Stop)
+      → TextStops (Task.Fru None) (inventory_item 0) tries c result → Performs of_all c result
   first_performs c result stops = asked_performs of_all (AtInventory 0 ∷ []) c result stops.outcome (λ walk end. omega arith) stops.asks stops.outcome_is stops.counts stops.plain
       (λ same walk end. stops.allowed (row_items (Task.Fru None) start walk) (WalkEnds end) (end_spots start walk end) same)
 
@@ -142,11 +179,16 @@ module _ (start : Place) (tries : ℕ) where
   ends_as rows Done = refl
   ends_as rows _ = refl
 
-  after_first : (store : Store) (walk : List Row) (end : WalkEnd) → after_items (inventory_item 0 ∷ []) (first_plan None (Task.Fru None) start walk end) ≡ plan_of (Task.Fru None) store start walk end
+  after_first : (store : Store) (walk : List Row) (end : WalkEnd)
+      → after_items (inventory_item 0 ∷ []) (first_plan None (Task.Fru None) start walk end)
+      ≡ plan_of (Task.Fru None) store start walk end
   after_first store walk end = rw (ends_as walk end) refl
 
   -- after it the locators are gone along
-  pub rest_performs : (s s' s'' : Seen) (old text new : List ℕ) (next : Place) (result : Stop) → TextWritten (Task.Fru None) (inventory_item 0) tries (change s s' old text) → IsPage of_all None next (change s' s'' text new) result → Performs of_all (change s s'' old new) result
+  pub rest_performs : (s s' s'' : Seen) (old text new : List ℕ) (next : Place) (result : Stop)
+      → TextWritten (Task.Fru None) (inventory_item 0) tries (change s s' old text)
+      → IsPage of_all None next (change s' s'' text new) result
+      → Performs of_all (change s s'' old new) result
   rest_performs s s' s'' old text new next result written page =
       let low = written.asks.stays.store.grows in
       let high = page.stays.store.grows in
@@ -162,6 +204,9 @@ module _ (start : Place) (tries : ℕ) where
         plain = λ p. page.plain (written.asks.stays.plain p);
         allowed = λ same walk end w ends.
             subst (λ (p : Plan). IsAllowed (Task.Fru None) s.store p old new page.outcome) (after_first s.store walk end)
-            (leaves_joined (Task.Fru None) s.store (inventory_item 0 ∷ []) (first_plan None (Task.Fru None) start walk end) old text (written.printed (first same)) new page.outcome (along same walk end w ends).leaves);
+            (leaves_joined (Task.Fru None) s.store (inventory_item 0 ∷ [])
+            (first_plan None (Task.Fru None) start walk end) old text
+            (written.printed (first same)) new page.outcome
+            (along same walk end w ends).leaves);
         calls = λ same walk end w ends. omega (arith, written.asks.calls (first same), (along same walk end w ends).calls);
       }

@@ -10,8 +10,11 @@ use Rattle.ipmi_commands.proofs.PagesLaw.{pages_are_one}
 
 -- it goes along one walk, and asks for nothing before it
 pub record GoesOnce (t : Task) : Type 0 where
-  pub plan_is : (store : Store) (start : Place) (walk : List Row) (end : WalkEnd) → plan_of t store start walk end ≡ first_plan (most_of t) t start walk end
-  pub bound_is : (store : Store) (tries : ℕ) (walk : List Row) (end : WalkEnd) → run_call_bound t store tries walk end ≡ walk_call_bound t store tries (first_rows (most_of t) walk)
+  pub plan_is : (store : Store) (start : Place) (walk : List Row) (end : WalkEnd)
+      → plan_of t store start walk end ≡ first_plan (most_of t) t start walk end
+  pub bound_is : (store : Store) (tries : ℕ) (walk : List Row) (end : WalkEnd)
+      → run_call_bound t store tries walk end
+      ≡ walk_call_bound t store tries (first_rows (most_of t) walk)
   pub most_is : (tries : ℕ) → most_calls t tries ≡ most_on_walk t tries
 
 pub goes_once : (t : Task) → lists_once t ≡ true → GoesOnce t
@@ -29,13 +32,16 @@ listed_whole (Task.Elist kind) listing = (refl, refl)
 listed_whole (Task.SelList Count.All) listing = (refl, refl)
 listed_whole _ listing = cc listing
 
-listed_plan : (t : Task) → is_listing t ≡ true → (store : Store) (start : Place) (walk : List Row) (end : WalkEnd) → plan_of t store start walk end ≡ first_plan None t start walk end
+listed_plan : (t : Task) → is_listing t ≡ true
+    → (store : Store) (start : Place) (walk : List Row) (end : WalkEnd)
+    → plan_of t store start walk end ≡ first_plan None t start walk end
 listed_plan t listing store start walk end = let whole = listed_whole t listing in rw whole.1 at ((goes_once t whole.0).plan_is store start walk end)
 
 -- ---- outcomes
 
 -- the status and the message by how a listing stopped are those of its outcome
-stop_said : (t : Task) (st : Stop) (outcome : Outcome) → IsOutcome st outcome → (stop_status st ≡ status_of outcome) × (stop_text t st ≡ outcome_text t outcome)
+stop_said : (t : Task) (st : Stop) (outcome : Outcome) → IsOutcome st outcome
+    → (stop_status st ≡ status_of outcome) × (stop_text t st ≡ outcome_text t outcome)
 stop_said t (Stop.Ended (Stalled n)) outcome is = absurd is
 stop_said t (Stop.Ended (Malformed n)) outcome is = absurd is
 stop_said t (Stop.Inventory id FruEnded.Stalled) outcome is = absurd is
@@ -43,7 +49,8 @@ stop_said t (Stop.Inventory id FruEnded.Words) outcome is = absurd is
 stop_said t _ outcome is = rw is (refl, refl)
 
 -- a page of all that it wants is the task
-pub listing_performs : (r : Request) (next : Place) (c : Change) (st : Stop) → lists_once r.task ≡ true → IsPage r (most_of r.task) next c st → Performs r c st
+pub listing_performs : (r : Request) (next : Place) (c : Change) (st : Stop)
+    → lists_once r.task ≡ true → IsPage r (most_of r.task) next c st → Performs r c st
 listing_performs r next c st lists page =
     let once = goes_once r.task lists in
     record {
@@ -59,8 +66,10 @@ listing_performs r next c st lists page =
 
 -- ---- runs
 
-module _ (r : Request) (s s' : Seen) (e : Effect) (st : Stop) (message : ReceivesText e.said e.said' (stop_text r.task st)) where
-  has_ended : (outcome : Outcome) → IsOutcome st outcome → StaysHonest s s' → CountsSo r.tries s s' outcome → (IsTrue s.plain → IsFine outcome)
+module _ (r : Request) (s s' : Seen) (e : Effect) (st : Stop)
+    (message : ReceivesText e.said e.said' (stop_text r.task st)) where
+  has_ended : (outcome : Outcome) → IsOutcome st outcome → StaysHonest s s'
+      → CountsSo r.tries s s' outcome → (IsTrue s.plain → IsFine outcome)
       → HasEnded r s s' e st outcome (stop_status st)
   has_ended outcome is stays counts plain = record {
     outcome_is = is;
@@ -80,7 +89,8 @@ module _ (r : Request) (s s' : Seen) (e : Effect) (st : Stop) (message : Receive
     calls = performs.calls;
   }
 
-  pub run_in_pages : TailIsWalk → (sizes : List ℕ) → is_listing r.task ≡ true → IsHonest s → ArePages r sizes (change s s' e.old e.new) st → IsPagedRun r sizes s s' e (stop_status st)
+  pub run_in_pages : TailIsWalk → (sizes : List ℕ) → is_listing r.task ≡ true → IsHonest s
+      → ArePages r sizes (change s s' e.old e.new) st → IsPagedRun r sizes s s' e (stop_status st)
   run_in_pages tail sizes listing honest pages =
       let one = pages_are_one tail r sizes s s' e.old e.new st listing honest pages in
       record {
@@ -95,7 +105,9 @@ module _ (r : Request) (s s' : Seen) (e : Effect) (st : Stop) (message : Receive
 
 -- ---- an image written again
 
-pub rewriting : (store : Store) (e : Effect) (st : Stop) → WritesImage (image_text_of store) e.old e.new st → ReceivesText e.said e.said' (stop_text Task.Rewrite st) → IsRewriting store e (stop_status st)
+pub rewriting : (store : Store) (e : Effect) (st : Stop)
+    → WritesImage (image_text_of store) e.old e.new st
+    → ReceivesText e.said e.said' (stop_text Task.Rewrite st) → IsRewriting store e (stop_status st)
 rewriting store e Stop.Done writes message = record {
   outcome = plan.Finished (WalkEnds Done);
   status_is = refl;
@@ -125,7 +137,9 @@ rewriting store e _ writes message = absurd writes
 -- ---- an image that is not read
 
 -- where memory ran out, nothing was written
-unread : (rewrite : Bool) (r : Request) (read : Result Store ImageFault) (old : List ℕ) (said said' : Received) (status : ℕ) → Says said said' status OutOfMemory 5 → AnswersTask rewrite r read (effect old old said said') status
+unread : (rewrite : Bool) (r : Request) (read : Result Store ImageFault) (old : List ℕ)
+    (said said' : Received) (status : ℕ) → Says said said' status OutOfMemory 5
+    → AnswersTask rewrite r read (effect old old said said') status
 unread true r (Ok store) old said said' status says = rw says.0 (rewriting store (effect old old said said') Stop.Memory refl says.1)
 unread false r (Ok store) old said said' status says = record {
   outcome = plan.OutOfMemory;
@@ -138,8 +152,11 @@ unread true r (Err fault) old said said' status says = (refl, inr says)
 unread false r (Err fault) old said said' status says = (refl, inr says)
 
 -- the fault of the image, or want of memory
-pub not_answered : (rewrite : Bool) (r : Request) (fault : ImageFault) (read : Result Store ImageFault) (old : List ℕ) (said said' : Received) (status : ℕ)
-    → (fault ≡ ImageFault.Memory) ⊎ (read ≡ Err fault) → Says said said' status (Image fault) (fault_status fault) → AnswersTask rewrite r read (effect old old said said') status
+pub not_answered : (rewrite : Bool) (r : Request) (fault : ImageFault)
+    (read : Result Store ImageFault) (old : List ℕ) (said said' : Received) (status : ℕ)
+    → (fault ≡ ImageFault.Memory) ⊎ (read ≡ Err fault)
+    → Says said said' status (Image fault) (fault_status fault)
+    → AnswersTask rewrite r read (effect old old said said') status
 not_answered rewrite r fault read old said said' status (inl memory) says =
     unread rewrite r read old said said' status (subst (λ (f : ImageFault). Says said said' status (Image f) (fault_status f)) memory says)
 not_answered true r fault read old said said' status (inr is) says = rw is (refl, inl says)

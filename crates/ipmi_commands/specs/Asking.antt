@@ -13,7 +13,8 @@ EndsAmong spots (Err (Refused n code)) = IsAmong spots (AtRecord n)
 EndsAmong spots (Err _) = ⊥
 
 -- the reading of a record, where it has one: the store's, for no more calls than its spot allows
-pub record ReadsFor (id : ℕ) (view : SdrView) (tries : ℕ) (s s' : Seen) (result : Result (Option Reading) Ended) : Type 0 where
+pub record ReadsFor (id : ℕ) (view : SdrView) (tries : ℕ) (s s' : Seen)
+    (result : Result (Option Reading) Ended) : Type 0 where
   pub reads : ReadsValue (λ store. reading_for store view) tries s s' result
   pub calls : s'.calls ≤ s.calls + calls_at_spots tries s.store (reading_spots id (Ok view))
   pub there : EndsAmong (reading_spots id (Ok view)) result

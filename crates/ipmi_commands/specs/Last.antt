@@ -8,9 +8,11 @@ use Rattle.ipmi_commands.specs.Listing.{span_plan, IsOutcome, walk_call_bound}
 use Rattle.ipmi_commands.specs.Plan.{first_rows, Request, Change, OnWalk, Outcome, IsAllowed, CountsSo, IsFine}
 
 -- along the walk from its start: what it leaves, its calls, and how many records it passed
-pub record SpanAlong (r : Request) (store : Store) (span : Span) (walk : List Row) (end : WalkEnd) (c : Change) (outcome : Outcome) (result : Listed) : Type 0 where
+pub record SpanAlong (r : Request) (store : Store) (span : Span) (walk : List Row) (end : WalkEnd)
+    (c : Change) (outcome : Outcome) (result : Listed) : Type 0 where
   pub leaves : IsAllowed r.task store (span_plan span r.task r.start walk end) c.old c.new outcome
-  pub calls : c.seen'.calls ≤ c.seen.calls + walk_call_bound r.task store r.tries (first_rows span.most walk)
+  pub calls : c.seen'.calls ≤ c.seen.calls
+      + walk_call_bound r.task store r.tries (first_rows span.most walk)
   pub count : result.stop ≡ Stop.Done → result.count ≡ length (first_rows span.most walk)
 
 -- over an honest controller

@@ -43,15 +43,21 @@ spots_in (Some zero) t row = spots_after t row
 spots_in _ t row = []
 
 abbrev pub item_in : Option ℕ → Task → Place → Row → Item
-item_in skip t place row = record { subject = subject_in skip row; spots = AtRecord (asked_at place) ∷ spots_in skip t row }
+item_in skip t place row =
+    record {
+      subject = subject_in skip row;
+      spots = AtRecord (asked_at place) ∷ spots_in skip t row;
+    }
 
 -- the items of rows of which the first are passed, or all
 abbrev pub span_items : Option ℕ → Task → Place → List Row → List Item
 span_items None t start [] = []
-span_items None t start (row ∷ rows) = item_in None t start row ∷ span_items None t (place_after row.next) rows
+span_items None t start (row ∷ rows) =
+    item_in None t start row ∷ span_items None t (place_after row.next) rows
 span_items (Some zero) t start rows = row_items t start rows
 span_items (Some (suc n)) t start [] = []
-span_items (Some (suc n)) t start (row ∷ rows) = item_in (Some (suc n)) t start row ∷ span_items (Some n) t (place_after row.next) rows
+span_items (Some (suc n)) t start (row ∷ rows) =
+    item_in (Some (suc n)) t start row ∷ span_items (Some n) t (place_after row.next) rows
 
 -- the rows that are not passed
 abbrev pub shown_rows : Option ℕ → List Row → List Row
@@ -80,7 +86,8 @@ IsOutcome (Stop.Ended (Refused n code)) outcome = outcome ≡ plan.Refused (AtRe
 IsOutcome Stop.NoName outcome = outcome ≡ plan.Finished plan.NoName
 IsOutcome Stop.NoInfo outcome = outcome ≡ plan.Finished plan.NoInfo
 IsOutcome (Stop.Inventory id FruEnded.GaveUp) outcome = outcome ≡ plan.GaveUp (AtInventory id)
-IsOutcome (Stop.Inventory id (FruEnded.Refused code)) outcome = outcome ≡ plan.Refused (AtInventory id) code.0
+IsOutcome (Stop.Inventory id (FruEnded.Refused code)) outcome =
+    outcome ≡ plan.Refused (AtInventory id) code.0
 IsOutcome (Stop.Inventory id FruEnded.Memory) outcome = outcome ≡ plan.OutOfMemory
 IsOutcome Stop.Memory outcome = outcome ≡ plan.OutOfMemory
 IsOutcome Stop.WriteFault outcome = outcome ≡ plan.WriteFault
@@ -110,15 +117,18 @@ calls_at tries store (AtInventory id) = fru_call_bound tries (inventory_len id s
 
 abbrev pub calls_at_spots : ℕ → Store → List Spot → ℕ
 calls_at_spots tries store [] = 0
-calls_at_spots tries store (spot ∷ spots) = calls_at tries store spot + calls_at_spots tries store spots
+calls_at_spots tries store (spot ∷ spots) =
+    calls_at tries store spot + calls_at_spots tries store spots
 
 -- for each row the bound of a step, and the most calls for what is asked for because of the row
 abbrev pub calls_for : Task → Store → ℕ → List Row → ℕ
 calls_for t store tries [] = 0
-calls_for t store tries (row ∷ rows) = step_call_bound tries (length row.bytes) + calls_at_spots tries store (spots_after t row) + calls_for t store tries rows
+calls_for t store tries (row ∷ rows) =
+    step_call_bound tries (length row.bytes) + calls_at_spots tries store (spots_after t row)
+    + calls_for t store tries rows
 
--- of a cursor along these rows: beside those, the calls of a step that finds no row, and one for each fall of the part size, of
--- which there are at most seven
+-- of a cursor along these rows: beside those, the calls of a step that finds no row, and one for each fall of the part
+-- size, of which there are at most seven
 abbrev pub walk_call_bound : Task → Store → ℕ → List Row → ℕ
 walk_call_bound t store tries rows = calls_for t store tries rows + step_call_bound tries 0 + 7
 
@@ -141,16 +151,20 @@ second_walk_bound bound _ = bound
 abbrev pub run_call_bound : Task → Store → ℕ → List Row → WalkEnd → ℕ
 run_call_bound (Task.SelList (Count.Last n)) store tries walk end =
     walk_call_bound (Task.SelList (Count.Last n)) store tries walk
-    + second_walk_bound (walk_call_bound (Task.SelList (Count.Last n)) store tries walk) (last_rows n walk end)
+    + second_walk_bound (walk_call_bound (Task.SelList (Count.Last n)) store tries walk)
+    (last_rows n walk end)
 run_call_bound (Task.Info shelf) store tries walk end = tries + 1
 run_call_bound (Task.Fru (Some id)) store tries walk end = calls_at tries store (AtInventory id)
-run_call_bound (Task.Fru None) store tries walk end = calls_at tries store (AtInventory 0) + walk_call_bound (Task.Fru None) store tries walk
+run_call_bound (Task.Fru None) store tries walk end =
+    calls_at tries store (AtInventory 0) + walk_call_bound (Task.Fru None) store tries walk
 run_call_bound Task.Rewrite store tries walk end = 0
 run_call_bound t store tries walk end = walk_call_bound t store tries (first_rows (most_of t) walk)
 
 -- the same over any controller, where an inventory has at most 65,535 bytes
 abbrev pub most_calls : Task → ℕ → ℕ
-most_calls (Task.SelList (Count.Last n)) tries = most_on_walk (Task.SelList (Count.Last n)) tries + most_on_walk (Task.SelList (Count.Last n)) tries
+most_calls (Task.SelList (Count.Last n)) tries =
+    most_on_walk (Task.SelList (Count.Last n)) tries
+    + most_on_walk (Task.SelList (Count.Last n)) tries
 most_calls (Task.Info shelf) tries = tries + 1
 most_calls (Task.Fru (Some id)) tries = fru_call_bound tries 65535
 most_calls (Task.Fru None) tries = fru_call_bound tries 65535 + most_on_walk (Task.Fru None) tries
@@ -163,11 +177,13 @@ most_calls t tries = most_on_walk t tries
 pub record AsksAt (spots : List Spot) (tries : ℕ) (s s' : Seen) : Type 0 where
   pub stays : StaysHonest s s'
   pub grows : s.troubles ≤ s'.troubles
-  pub calls : s'.stores_added ≡ s.stores_added → s'.calls ≤ s.calls + calls_at_spots tries s.store spots
+  pub calls : s'.stores_added ≡ s.stores_added
+      → s'.calls ≤ s.calls + calls_at_spots tries s.store spots
   pub plain : IsTrue s.plain → KeepsReservations s s'
 
 -- a text is found
-pub record FindsText (IsText : Store → List ℕ → Type 0) (spots : List Spot) (tries : ℕ) (s s' : Seen) (text : List ℕ) : Type 0 where
+pub record FindsText (IsText : Store → List ℕ → Type 0) (spots : List Spot) (tries : ℕ)
+    (s s' : Seen) (text : List ℕ) : Type 0 where
   pub asks : AsksAt spots tries s s'
   pub refusals : s'.refusals ≡ s.refusals
   pub is : s'.stores_added ≡ s.stores_added → IsText s.store text
@@ -188,11 +204,13 @@ pub record FindsNone (spots : List Spot) (tries : ℕ) (s s' : Seen) (result : S
   pub plain : IsTrue s.plain → IsFine outcome
 
 -- something is found of which these are the bytes, with what is asked for at these spots
-abbrev pub FindsBy : {T : Type 0} → (T → List ℕ) → (Store → List ℕ → Type 0) → List Spot → ℕ → Seen → Seen → Result T Stop → Type 0
+abbrev pub FindsBy : {T : Type 0} → (T → List ℕ) → (Store → List ℕ → Type 0) → List Spot → ℕ → Seen
+    → Seen → Result T Stop → Type 0
 FindsBy bytes IsText spots tries s s' (Ok found) = FindsText IsText spots tries s s' (bytes found)
 FindsBy bytes IsText spots tries s s' (Err stop) = FindsNone spots tries s s' stop
 
-abbrev pub Finds : (Store → List ℕ → Type 0) → List Spot → ℕ → Seen → Seen → Result (String Global) Stop → Type 0
+abbrev pub Finds : (Store → List ℕ → Type 0) → List Spot → ℕ → Seen → Seen
+    → Result (String Global) Stop → Type 0
 Finds IsText spots tries s s' result = FindsBy string_bytes IsText spots tries s s' result
 
 -- the bytes of a piece, where this is the line that was written
@@ -202,11 +220,15 @@ bytes_of line (Piece.Text text) = string_bytes text
 
 -- what the task prints for a row
 abbrev pub FindsPiece : Task → ℕ → Row → Seen → Seen → List ℕ → Result Piece Stop → Type 0
-FindsPiece t tries row s s' line result = FindsBy (bytes_of line) (λ store text. IsRowPiece t store row text) (spots_after t row) tries s s' result
+FindsPiece t tries row s s' line result =
+    FindsBy (bytes_of line) (λ store text. IsRowPiece t store row text) (spots_after t row) tries s
+    s' result
 
 -- the same where so many rows are still to be passed
 abbrev pub FindsIn : Option ℕ → Task → ℕ → Row → Seen → Seen → List ℕ → Result Piece Stop → Type 0
-FindsIn skip t tries row s s' line result = FindsBy (bytes_of line) (λ store text. IsItemText t store (subject_in skip row) text) (spots_in skip t row) tries s s' result
+FindsIn skip t tries row s s' line result =
+    FindsBy (bytes_of line) (λ store text. IsItemText t store (subject_in skip row) text)
+    (spots_in skip t row) tries s s' result
 
 -- the block of a shelf's info, where the store has one
 abbrev pub IsBlockOfInfo : Option (List ℕ) → List ℕ → Type 0
@@ -221,7 +243,9 @@ pub record LacksInfo (shelf : Shelf) (tries : ℕ) (s s' : Seen) : Type 0 where
 
 abbrev pub FindsInfo : Shelf → ℕ → Seen → Seen → Result (String Global) Stop → Type 0
 FindsInfo shelf tries s s' (Err Stop.NoInfo) = LacksInfo shelf tries s s'
-FindsInfo shelf tries s s' result = Finds (λ store text. IsBlockOfInfo (info_of shelf store) text) (AtRecord 0 ∷ []) tries s s' result
+FindsInfo shelf tries s s' result =
+    Finds (λ store text. IsBlockOfInfo (info_of shelf store) text) (AtRecord 0 ∷ []) tries s s'
+    result
 
 -- ---- a listing by a cursor
 
@@ -231,7 +255,8 @@ IsPlace First = Unit {0}
 IsPlace (Id n) = n < 65535
 IsPlace End = Unit {0}
 
--- since the listing began, over any controller: so many records were handed out, for no more calls than the most for each
+-- since the listing began, over any controller: so many records were handed out, for no more calls than the most for
+-- each
 pub record HasCalled (each count : ℕ) (begun now : CursorState) (s s' : Seen) : Type 0 where
   pub within : count ≤ set.len now.ids
   pub most : count ≤ 65536
@@ -259,7 +284,8 @@ pub record Course : Type 0 where
   pub new : List ℕ
 
 abbrev pub course : CursorState → CursorState → Seen → Seen → List ℕ → List ℕ → Course
-course begun now seen seen' old new = record { begun = begun; now = now; seen = seen; seen' = seen'; old = old; new = new }
+course begun now seen seen' old new =
+    record { begun = begun; now = now; seen = seen; seen' = seen'; old = old; new = new }
 
 -- the rows that are wanted and not listed, after so many
 abbrev pub left_rows : Span → ℕ → List Row → List Row
@@ -268,53 +294,71 @@ left_rows span count walk = drop count (first_rows span.most walk)
 -- what is left of the plan of a listing after so many rows
 abbrev pub left_plan : Span → ℕ → Task → Place → List Row → WalkEnd → Plan
 left_plan span count t start walk end = record {
-  items = span_items (passing span.skip count) t (place_after_rows start (take count walk)) (left_rows span count walk);
+  items = span_items (passing span.skip count) t (place_after_rows start (take count walk))
+      (left_rows span count walk);
   end = (span_plan span t start walk end).end;
   end_spots = (span_plan span t start walk end).end_spots;
 }
 
--- along a walk: the cursor has passed so many rows of it; what the plan of the rest may leave after what was written, the plan of all
--- may leave; and so many calls are left for the rest
-pub record HasListed (r : Request) (store : Store) (walk : List Row) (end : WalkEnd) (span : Span) (count : ℕ) (rest : Plan) (calls_left : ℕ) (c : Course) : Type 0 where
+-- along a walk: the cursor has passed so many rows of it; what the plan of the rest may leave after what was written,
+-- the plan of all may leave; and so many calls are left for the rest
+pub record HasListed (r : Request) (store : Store) (walk : List Row) (end : WalkEnd) (span : Span)
+    (count : ℕ) (rest : Plan) (calls_left : ℕ) (c : Course) : Type 0 where
   pub stands : StandsAt (rows_of (shelf_of r.task) store) r.start walk count c.now
-  pub leads : (outcome : Outcome) (new : List ℕ) → IsAllowed r.task store rest c.new new outcome → IsAllowed r.task store (span_plan span r.task r.start walk end) c.old new outcome
-  pub calls : c.seen'.calls + digits c.now.part + calls_left ≤ c.seen.calls + calls_for r.task store r.tries (first_rows span.most walk) + digits c.begun.part
+  pub leads : (outcome : Outcome) (new : List ℕ) → IsAllowed r.task store rest c.new new outcome
+      → IsAllowed r.task store (span_plan span r.task r.start walk end) c.old new outcome
+  pub calls : c.seen'.calls + digits c.now.part + calls_left
+      ≤ c.seen.calls + calls_for r.task store r.tries (first_rows span.most walk)
+      + digits c.begun.part
 
 -- along each walk of a task that has an end, and at the start of which the cursor was
 abbrev pub OnEachWalk : Task → CursorState → Store → (Place → List Row → WalkEnd → Type 0) → Type 0
 OnEachWalk t begun store Holds =
-    (start : Place) (walk : List Row) (end : WalkEnd) → IsWalk (rows_of (shelf_of t) store) start walk
-    → EndsBy (rows_of (shelf_of t) store) start walk end → StandsAt (rows_of (shelf_of t) store) start walk 0 begun
+    (start : Place) (walk : List Row) (end : WalkEnd)
+    → IsWalk (rows_of (shelf_of t) store) start walk
+    → EndsBy (rows_of (shelf_of t) store) start walk end
+    → StandsAt (rows_of (shelf_of t) store) start walk 0 begun
     → Holds start walk end
 
 -- since the listing began, over an honest controller, where so much holds along each walk
-pub record GoesAlong (t : Task) (c : Course) (Along : Place → List Row → WalkEnd → Type 0) : Type 0 where
+pub record GoesAlong (t : Task) (c : Course)
+    (Along : Place → List Row → WalkEnd → Type 0) : Type 0 where
   pub stays : StaysHonest c.seen c.seen'
   pub unrefused : IsUnrefused c.seen c.seen'
   pub along : c.seen'.stores_added ≡ c.seen.stores_added → OnEachWalk t c.begun c.seen.store Along
-  pub plain : IsTrue c.seen.plain → CursorHoldsCurrent c.begun c.seen → CursorHoldsCurrent c.now c.seen'
+  pub plain : IsTrue c.seen.plain → CursorHoldsCurrent c.begun c.seen
+      → CursorHoldsCurrent c.now c.seen'
 
 abbrev pub ListsHonest : Task → ℕ → Span → ℕ → Course → Type 0
 ListsHonest t tries span count c = GoesAlong t c
-    (λ start walk end. HasListed (request t start tries) c.seen.store walk end span count (left_plan span count t start walk end)
+    (λ start walk end. HasListed (request t start tries) c.seen.store walk end span count
+    (left_plan span count t start walk end)
     (calls_for t c.seen.store tries (left_rows span count walk)) c)
 
--- a whole listing along a walk: what it leaves, the bound of its calls, that its cursor is after the rows that are wanted, and
--- how many these are
-pub record ListsAlong (r : Request) (store : Store) (walk : List Row) (end : WalkEnd) (span : Span) (c : Course) (outcome : Outcome) (result : Listed) : Type 0 where
+-- a whole listing along a walk: what it leaves, the bound of its calls, that its cursor is after the rows that are
+-- wanted, and how many these are
+pub record ListsAlong (r : Request) (store : Store) (walk : List Row) (end : WalkEnd) (span : Span)
+    (c : Course) (outcome : Outcome) (result : Listed) : Type 0 where
   pub leaves : IsAllowed r.task store (span_plan span r.task r.start walk end) c.old c.new outcome
   pub calls : 0 < c.begun.part
-      → c.seen'.calls + 1 ≤ c.seen.calls + calls_for r.task store r.tries (first_rows span.most walk) + step_call_bound r.tries 0 + digits c.begun.part
-  pub goes_on : result.stop ≡ Stop.Done → StandsAt (rows_of (shelf_of r.task) store) r.start walk (length (first_rows span.most walk)) c.now
+      → c.seen'.calls + 1 ≤ c.seen.calls
+      + calls_for r.task store r.tries (first_rows span.most walk) + step_call_bound r.tries 0
+      + digits c.begun.part
+  pub goes_on : result.stop ≡ Stop.Done
+      → StandsAt (rows_of (shelf_of r.task) store) r.start walk (length (first_rows span.most walk))
+      c.now
   pub count : result.stop ≡ Stop.Done → result.count ≡ length (first_rows span.most walk)
 
 -- a whole listing, over an honest controller
-pub record IsListing (t : Task) (tries : ℕ) (span : Span) (c : Course) (result : Listed) : Type 0 where
+pub record IsListing (t : Task) (tries : ℕ) (span : Span) (c : Course)
+    (result : Listed) : Type 0 where
   pub outcome : Outcome
   pub outcome_is : IsOutcome result.stop outcome
   pub stays : StaysHonest c.seen c.seen'
   pub counts : CountsSo tries c.seen c.seen' outcome
   pub grows : c.seen.troubles ≤ c.seen'.troubles
   pub along : c.seen'.stores_added ≡ c.seen.stores_added
-      → OnEachWalk t c.begun c.seen.store (λ start walk end. ListsAlong (request t start tries) c.seen.store walk end span c outcome result)
+      → OnEachWalk t c.begun c.seen.store
+      (λ start walk end. ListsAlong (request t start tries) c.seen.store walk end span c outcome
+      result)
   pub plain : IsTrue c.seen.plain → CursorHoldsCurrent c.begun c.seen → IsFine outcome

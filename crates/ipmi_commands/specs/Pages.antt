@@ -25,18 +25,24 @@ listing_cursor command from = record {
 
 -- where a listing goes on after these rows; on an empty shelf the end will do in place of the start
 abbrev pub GoesOn : List Row → Place → List Row → Place → Type 0
-GoesOn rows start used next = (next ≡ place_after_rows start used) ⊎ ((next ≡ End) × (start ≡ First) × (first_row rows ≡ None))
+GoesOn rows start used next =
+    (next ≡ place_after_rows start used)
+    ⊎ ((next ≡ End) × (start ≡ First) × (first_row rows ≡ None))
 
 -- ---- a page
 
 -- along the walk from its place: what it leaves, its calls, and where the next page begins
-pub record PageAlong (r : Request) (store : Store) (most : Option ℕ) (walk : List Row) (end : WalkEnd) (next : Place) (c : Change) (outcome : Outcome) (result : Stop) : Type 0 where
+pub record PageAlong (r : Request) (store : Store) (most : Option ℕ) (walk : List Row)
+    (end : WalkEnd) (next : Place) (c : Change) (outcome : Outcome) (result : Stop) : Type 0 where
   pub leaves : IsAllowed r.task store (first_plan most r.task r.start walk end) c.old c.new outcome
-  pub calls : c.seen'.calls ≤ c.seen.calls + walk_call_bound r.task store r.tries (first_rows most walk)
-  pub goes_on : result ≡ Stop.Done → GoesOn (rows_of (shelf_of r.task) store) r.start (first_rows most walk) next
+  pub calls : c.seen'.calls ≤ c.seen.calls
+      + walk_call_bound r.task store r.tries (first_rows most walk)
+  pub goes_on : result ≡ Stop.Done → GoesOn (rows_of (shelf_of r.task) store) r.start
+      (first_rows most walk) next
 
 -- of so many records at most, over an honest controller
-pub record IsPage (r : Request) (most : Option ℕ) (next : Place) (c : Change) (result : Stop) : Type 0 where
+pub record IsPage (r : Request) (most : Option ℕ) (next : Place) (c : Change)
+    (result : Stop) : Type 0 where
   pub outcome : Outcome
   pub outcome_is : IsOutcome result outcome
   pub stays : StaysHonest c.seen c.seen'
@@ -44,7 +50,8 @@ pub record IsPage (r : Request) (most : Option ℕ) (next : Place) (c : Change) 
   pub grows : c.seen.troubles ≤ c.seen'.troubles
   pub none : most ≡ Some 0 → c.seen' ≡ c.seen
   pub along : c.seen'.stores_added ≡ c.seen.stores_added
-      → OnWalk r c.seen.store (λ walk end. PageAlong r c.seen.store most walk end next c outcome result)
+      → OnWalk r c.seen.store
+      (λ walk end. PageAlong r c.seen.store most walk end next c outcome result)
   pub plain : IsTrue c.seen.plain → IsFine outcome
 
 -- ---- pages
@@ -58,19 +65,22 @@ pub record LastPage (r : Request) (most : Option ℕ) (c : Change) (result : Sto
   pub page : IsPage r most next c result
 
 -- a page after which the listing goes on
-pub record PageThen (r : Request) (size : ℕ) (s : Seen) (old : List ℕ) (Rest : Place → Seen → List ℕ → Type 0) : Type 0 where
+pub record PageThen (r : Request) (size : ℕ) (s : Seen) (old : List ℕ)
+    (Rest : Place → Seen → List ℕ → Type 0) : Type 0 where
   pub next : Place
   pub seen : Seen
   pub text : List ℕ
   pub page : IsPage r (Some size) next (change s seen old text) Stop.Done
   pub rest : Rest next seen text
 
--- pages of these sizes, and then one without a limit; a page that ends by name, or for want of memory or by a write fault, ends all
+-- pages of these sizes, and then one without a limit; a page that ends by name, or for want of memory or by a write
+-- fault, ends all
 abbrev pub ArePages : Request → List ℕ → Change → Stop → Type 0
 ArePages r [] c result = LastPage r None c result
 ArePages r (size ∷ sizes) c result =
     (LastPage r (Some size) c result × IsStopped result)
-    ⊎ PageThen r size c.seen c.old (λ next seen text. ArePages (request r.task next r.tries) sizes (change seen c.seen' text c.new) result)
+    ⊎ PageThen r size c.seen c.old (λ next seen text.
+    ArePages (request r.task next r.tries) sizes (change seen c.seen' text c.new) result)
 
 -- how many pages may make calls: each that wants a record, and the last one
 abbrev pub pages_made : List ℕ → ℕ

@@ -52,11 +52,15 @@ IsListed form store id (Err fault) text = text ≡ fault_line id fault
 
 -- the line of a record of the kind, nothing of any other
 abbrev pub IsListedOfKind : Form → Kind → Store → Row → List ℕ → Type 0
-IsListedOfKind form kind store row text = IfChosen (row_is_of_kind kind row) (λ t. IsListed form store row.id (sdr.sdr_view_of row.bytes) t) text
+IsListedOfKind form kind store row text =
+    IfChosen (row_is_of_kind kind row)
+    (λ t. IsListed form store row.id (sdr.sdr_view_of row.bytes) t) text
 
 -- the block of a record with the name; a record with a fault has none
 abbrev pub IsBlockOfName : List ℕ → Store → ℕ → Result SdrView SdrFault → List ℕ → Type 0
-IsBlockOfName name store id (Ok view) text = IfChosen (is_name name (sdr.name_of view)) (λ t. IsSdrBlock id view (reading_for store view) t) text
+IsBlockOfName name store id (Ok view) text =
+    IfChosen (is_name name (sdr.name_of view)) (λ t. IsSdrBlock id view (reading_for store view) t)
+    text
 IsBlockOfName name store id (Err fault) text = text ≡ []
 
 -- ---- inventories
@@ -69,7 +73,8 @@ IsInventoryText (Some bytes) text = IsFruText bytes text
 pub record IsInventoryPiece (store : Store) (id : ℕ) (name : List ℕ) (text : List ℕ) : Type 0 where
   pub inventory : List ℕ
   pub is_inventory : IsInventoryText (inventory_of id store) inventory
-  pub text_is : text ≡ codes "FRU " ++ (decimal id ++ (name ++ (codes "\n" ++ (inventory ++ codes "\n"))))
+  pub text_is : text ≡ codes "FRU " ++
+      (decimal id ++ (name ++ (codes "\n" ++ (inventory ++ codes "\n"))))
 
 -- the name of a locator, in parentheses
 abbrev pub name_of_locator : SdrView → List ℕ
@@ -77,10 +82,13 @@ name_of_locator view = codes " (" ++ (printed_name view ++ codes ")")
 
 -- the device of a locator: device 0 was printed first, and one that is reached elsewhere is not read
 abbrev pub IsDevicePiece : Store → SdrView → Option ℕ → List ℕ → Type 0
-IsDevicePiece store view None text = text ≡ codes "FRU" ++ (name_of_locator view ++ codes ": elsewhere, not read\n\n")
-IsDevicePiece store view (Some id) text = IfChosen (not (id == 0)) (λ t. IsInventoryPiece store id (name_of_locator view) t) text
+IsDevicePiece store view None text =
+    text ≡ codes "FRU" ++ (name_of_locator view ++ codes ": elsewhere, not read\n\n")
+IsDevicePiece store view (Some id) text =
+    IfChosen (not (id == 0)) (λ t. IsInventoryPiece store id (name_of_locator view) t) text
 
 -- only of a FRU device locator
 abbrev pub IsLocatorPiece : Store → Result SdrView SdrFault → List ℕ → Type 0
-IsLocatorPiece store (Ok (SdrView.Fru bytes)) text = IsDevicePiece store (SdrView.Fru bytes) (sdr.fru_of (SdrView.Fru bytes)) text
+IsLocatorPiece store (Ok (SdrView.Fru bytes)) text =
+    IsDevicePiece store (SdrView.Fru bytes) (sdr.fru_of (SdrView.Fru bytes)) text
 IsLocatorPiece store _ text = text ≡ []

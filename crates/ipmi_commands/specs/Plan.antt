@@ -1,5 +1,5 @@
--- What a command is to print over a store: its items in order, its end, and the spots at which a run may give up or be refused.
--- Everywhere `old` and `new` are what the output holds before and after.
+-- What a command is to print over a store: its items in order, its end, and the spots at which a run may give up or be
+-- refused. Everywhere `old` and `new` are what the output holds before and after.
 use Rattle.std.specs.Prelude.{◌≡◌, ℕ, ◌-◌, ◌==◌, nat_le, ◌||◌, ◌+◌, ◌<◌, Bool, false, if◌then◌else◌, Option, Some, None, is_some, Result, Ok, Err, List, [], ◌∷◌, ◌++◌, length, take, drop, ◌⊎◌}
 use Rattle.ipmi_commands.specs.Below.{Place, First, Row, AreBytes, asked_at, Store, info_of, rows_of, IsWalk, EndsBy, WalkEnd, Done, CycleAt, MissingAt, place_after, place_after_rows, Seen, image_text_of, record_line_of, IsInfoBlock, sel_view_of, IsSelLine, IsSelBlock, fru_call_bound, SdrFault, SdrView, Count, Kind, Task, most_of, shelf_of}
 use Rattle.ipmi_records.specs.Sdr as sdr
@@ -52,8 +52,8 @@ last_rows n walk _ = []
 
 -- ---- spots at which a run may give up or be refused
 
--- at a record: the id that is asked for, which is 0000h where a walk starts at the first one, or the record's own id for its
--- reading, or 0000h for an info; or at the inventory of a device
+-- at a record: the id that is asked for, which is 0000h where a walk starts at the first one, or the record's own id
+-- for its reading, or 0000h for an info; or at the inventory of a device
 pub data Spot : Type 0 where
   AtRecord : ℕ → Spot
   AtInventory : ℕ → Spot
@@ -65,11 +65,13 @@ reading_spots id (Err fault) = []
 
 -- the same for a record of the kind; for any other nothing is asked for
 abbrev pub listed_spots : Kind → Row → List Spot
-listed_spots kind row = if row_is_of_kind kind row then reading_spots row.id (sdr.sdr_view_of row.bytes) else []
+listed_spots kind row =
+    if row_is_of_kind kind row then reading_spots row.id (sdr.sdr_view_of row.bytes) else []
 
 -- the same for a record with the name
 abbrev pub named_spots : List ℕ → ℕ → Result SdrView SdrFault → List Spot
-named_spots name id (Ok view) = if is_name name (sdr.name_of view) then reading_spots id (Ok view) else []
+named_spots name id (Ok view) =
+    if is_name name (sdr.name_of view) then reading_spots id (Ok view) else []
 named_spots name id (Err fault) = []
 
 -- the inventory of a locator, but for that of device 0, which was read first
@@ -83,8 +85,8 @@ locator_spots (Err fault) = []
 
 -- ---- the table of what each task prints for a row
 
--- its text, nothing for a row that is left out; what is asked for because of it; and at most how many calls that takes over any
--- controller. A task that goes along no records prints nothing for one
+-- its text, nothing for a row that is left out; what is asked for because of it; and at most how many calls that takes
+-- over any controller. A task that goes along no records prints nothing for one
 pub record Printing : Type 1 where
   pub IsText : Store → Row → List ℕ → Type 0
   pub spots : Row → List Spot
@@ -94,14 +96,23 @@ abbrev pub printing : (Store → Row → List ℕ → Type 0) → (Row → List 
 printing IsText spots most = record { IsText = IsText; spots = spots; most = most }
 
 abbrev pub printing_of : Task → Printing
-printing_of Task.Hex = printing (λ store row text. text ≡ record_line_of row) (λ row. []) (λ tries. 0)
-printing_of (Task.List kind) = printing (λ store row text. IsListedOfKind Form.Short kind store row text) (listed_spots kind) (λ tries. tries + 1)
-printing_of (Task.Elist kind) = printing (λ store row text. IsListedOfKind Form.Extended kind store row text) (listed_spots kind) (λ tries. tries + 1)
+printing_of Task.Hex =
+    printing (λ store row text. text ≡ record_line_of row) (λ row. []) (λ tries. 0)
+printing_of (Task.List kind) =
+    printing (λ store row text. IsListedOfKind Form.Short kind store row text) (listed_spots kind)
+    (λ tries. tries + 1)
+printing_of (Task.Elist kind) =
+    printing (λ store row text. IsListedOfKind Form.Extended kind store row text)
+    (listed_spots kind) (λ tries. tries + 1)
 printing_of (Task.Get name) =
     printing (λ store row text. IsBlockOfName name store row.id (sdr.sdr_view_of row.bytes) text)
     (λ row. named_spots name row.id (sdr.sdr_view_of row.bytes)) (λ tries. tries + 1)
-printing_of (Task.SelList entries) = printing (λ store row text. IsSelLine row.id (sel_view_of row.bytes) text) (λ row. []) (λ tries. 0)
-printing_of (Task.SelGet id) = printing (λ store row text. IsSelBlock row.id (sel_view_of row.bytes) text) (λ row. []) (λ tries. 0)
+printing_of (Task.SelList entries) =
+    printing (λ store row text. IsSelLine row.id (sel_view_of row.bytes) text) (λ row. [])
+    (λ tries. 0)
+printing_of (Task.SelGet id) =
+    printing (λ store row text. IsSelBlock row.id (sel_view_of row.bytes) text) (λ row. [])
+    (λ tries. 0)
 printing_of (Task.Fru id) =
     printing (λ store row text. IsLocatorPiece store (sdr.sdr_view_of row.bytes) text)
     (λ row. locator_spots (sdr.sdr_view_of row.bytes)) (λ tries. fru_call_bound tries 65535)
@@ -139,8 +150,8 @@ pub data RunEnd : Type 0 where
   NoName : RunEnd
   NoInfo : RunEnd
 
--- what is printed as one piece: a row of a walk, nothing of a row that is only passed, the inventory of a device that no row names,
--- the bytes of an info, an image
+-- what is printed as one piece: a row of a walk, nothing of a row that is only passed, the inventory of a device that
+-- no row names, the bytes of an info, an image
 pub data Subject : Type 0 where
   OfRow : Row → Subject
   Passed : Subject
@@ -162,12 +173,14 @@ pub record Plan : Type 0 where
 
 -- a row that is asked for at this place
 abbrev pub row_item : Task → Place → Row → Item
-row_item task place row = record { subject = OfRow row; spots = AtRecord (asked_at place) ∷ spots_after task row }
+row_item task place row =
+    record { subject = OfRow row; spots = AtRecord (asked_at place) ∷ spots_after task row }
 
 -- an item for each row, from the place where the first is asked for
 abbrev pub row_items : Task → Place → List Row → List Item
 row_items task start [] = []
-row_items task start (row ∷ rows) = row_item task start row ∷ row_items task (place_after row.next) rows
+row_items task start (row ∷ rows) =
+    row_item task start row ∷ row_items task (place_after row.next) rows
 
 abbrev pub view_has_name : List ℕ → Result SdrView SdrFault → Bool
 view_has_name name (Ok view) = is_name name (sdr.name_of view)
@@ -176,7 +189,8 @@ view_has_name name (Err fault) = false
 -- one of the rows has the name
 abbrev pub some_has_name : List ℕ → List Row → Bool
 some_has_name name [] = false
-some_has_name name (row ∷ rows) = view_has_name name (sdr.sdr_view_of row.bytes) || some_has_name name rows
+some_has_name name (row ∷ rows) =
+    view_has_name name (sdr.sdr_view_of row.bytes) || some_has_name name rows
 
 -- how a listing of these rows ends: a finished walk on which no record has the name ends by that
 abbrev pub done_end : Task → List Row → RunEnd
@@ -200,8 +214,8 @@ listing_plan t start walk end = record {
 abbrev pub spots_of_walk : Place → List Row → WalkEnd → List Spot
 spots_of_walk start walk end = spots_along start walk ++ end_spots start walk end
 
--- the last entries are listed after a walk that counts them, and those before them are passed once more: at the first item the
--- run may stop at any spot of that walk
+-- the last entries are listed after a walk that counts them, and those before them are passed once more: at the first
+-- item the run may stop at any spot of that walk
 abbrev pub with_first_spots : List Spot → List Item → List Item
 with_first_spots spots [] = []
 with_first_spots spots (item ∷ items) = record { subject = item.subject; spots = spots } ∷ items
@@ -212,13 +226,15 @@ end_spots_of_last spots (item ∷ items) at_end = at_end
 
 -- of a listing of the last n entries
 abbrev pub last_items : ℕ → Task → Place → List Row → WalkEnd → List Item
-last_items n t start walk end = row_items t (place_after_rows start (take (length walk - n) walk)) (last_rows n walk end)
+last_items n t start walk end =
+    row_items t (place_after_rows start (take (length walk - n) walk)) (last_rows n walk end)
 
 abbrev pub last_plan : ℕ → Task → Place → List Row → WalkEnd → Plan
 last_plan n t start walk end = record {
   items = with_first_spots (spots_of_walk start walk end) (last_items n t start walk end);
   end = WalkEnds end;
-  end_spots = end_spots_of_last (spots_of_walk start walk end) (last_items n t start walk end) (end_spots start walk end);
+  end_spots = end_spots_of_last (spots_of_walk start walk end) (last_items n t start walk end)
+      (end_spots start walk end);
 }
 
 abbrev pub inventory_item : ℕ → Item
@@ -239,11 +255,20 @@ inventory_plan id = record { items = inventory_item id ∷ []; end = WalkEnds Do
 -- of the info of a shelf: its block, or none
 abbrev pub info_plan : Option (List ℕ) → Plan
 info_plan None = record { items = []; end = NoInfo; end_spots = AtRecord 0 ∷ [] }
-info_plan (Some info) = record { items = record { subject = OfInfo info; spots = AtRecord 0 ∷ [] } ∷ []; end = WalkEnds Done; end_spots = [] }
+info_plan (Some info) =
+    record {
+      items = record { subject = OfInfo info; spots = AtRecord 0 ∷ [] } ∷ [];
+      end = WalkEnds Done;
+      end_spots = [];
+    }
 
 -- of an image written again, which is no run over a controller
 abbrev pub rewrite_plan : Plan
-rewrite_plan = record { items = record { subject = OfImage; spots = [] } ∷ []; end = WalkEnds Done; end_spots = [] }
+rewrite_plan = record {
+  items = record { subject = OfImage; spots = [] } ∷ [];
+  end = WalkEnds Done;
+  end_spots = [];
+}
 
 abbrev pub counted_plan : Count → Task → Place → List Row → WalkEnd → Plan
 counted_plan (Count.Last n) t start walk end = last_plan n t start walk end
@@ -254,7 +279,8 @@ abbrev pub plan_of : Task → Store → Place → List Row → WalkEnd → Plan
 plan_of (Task.Fru None) store start walk end = inventories_plan start walk end
 plan_of (Task.Fru (Some id)) store start walk end = inventory_plan id
 plan_of (Task.Info shelf) store start walk end = info_plan (info_of shelf store)
-plan_of (Task.SelList entries) store start walk end = counted_plan entries (Task.SelList entries) start walk end
+plan_of (Task.SelList entries) store start walk end =
+    counted_plan entries (Task.SelList entries) start walk end
 plan_of Task.Rewrite store start walk end = rewrite_plan
 plan_of t store start walk end = listing_plan t start walk end
 
@@ -279,7 +305,9 @@ pub record TextsJoined (IsFirst IsRest : List ℕ → Type 0) (text : List ℕ) 
 -- texts of the items, one after another
 abbrev pub AreTexts : Task → Store → List Item → List ℕ → Type 0
 AreTexts t store [] text = text ≡ []
-AreTexts t store (item ∷ items) text = TextsJoined (λ first. IsItemText t store item.subject first) (λ rest. AreTexts t store items rest) text
+AreTexts t store (item ∷ items) text =
+    TextsJoined (λ first. IsItemText t store item.subject first)
+    (λ rest. AreTexts t store items rest) text
 
 -- of bytes, as what a store has is
 abbrev pub IsOfBytes : Subject → Type 0
@@ -317,7 +345,8 @@ pub record Printed (t : Task) (store : Store) (items : List Item) (old new : Lis
   pub new_is : new ≡ old ++ text
 
 -- texts of the first items were printed, and the run stopped at a spot of what comes next
-pub record StopsAt (spot : Spot) (t : Task) (store : Store) (plan : Plan) (old new : List ℕ) : Type 0 where
+pub record StopsAt (spot : Spot) (t : Task) (store : Store) (plan : Plan)
+    (old new : List ℕ) : Type 0 where
   pub done : List Item
   pub rest : List Item
   pub items_are : plan.items ≡ done ++ rest
@@ -331,7 +360,8 @@ pub record HasFirstItems (t : Task) (store : Store) (plan : Plan) (old new : Lis
   pub items_are : plan.items ≡ done ++ rest
   pub printed : Printed t store done old new
 
--- texts of the first items were printed, and of a text of the next one, which is not empty, the first bytes, perhaps none or all
+-- texts of the first items were printed, and of a text of the next one, which is not empty, the first bytes, perhaps
+-- none or all
 pub record HasCutItem (t : Task) (store : Store) (plan : Plan) (old new : List ℕ) : Type 0 where
   pub done : List Item
   pub item : Item
@@ -347,22 +377,27 @@ pub record HasCutItem (t : Task) (store : Store) (plan : Plan) (old new : List �
 
 -- what may be in the output, by how the run stopped
 abbrev pub IsAllowed : Task → Store → Plan → List ℕ → List ℕ → Outcome → Type 0
-IsAllowed t store plan old new (Finished end) = Printed t store plan.items old new × (end ≡ plan.end)
+IsAllowed t store plan old new (Finished end) =
+    Printed t store plan.items old new × (end ≡ plan.end)
 IsAllowed t store plan old new (GaveUp spot) = StopsAt spot t store plan old new
 IsAllowed t store plan old new (Refused spot code) = StopsAt spot t store plan old new
 IsAllowed t store plan old new OutOfMemory = HasFirstItems t store plan old new
 IsAllowed t store plan old new WriteFault = HasCutItem t store plan old new
 
--- how many troubles came since the controller last answered something whole, where a run gives up: more than the tries. At an
--- inventory so many while no store is added, and otherwise at least one, as a shorter inventory may be whole between two of them
+-- how many troubles came since the controller last answered something whole, where a run gives up: more than the tries.
+-- At an inventory so many while no store is added, and otherwise at least one, as a shorter inventory may be whole
+-- between two of them
 abbrev pub HasFreshTroubles : ℕ → Seen → Seen → Spot → Type 0
 HasFreshTroubles tries s s' (AtRecord n) = tries < s'.fresh_troubles
-HasFreshTroubles tries s s' (AtInventory id) = (0 < s'.fresh_troubles) × (s'.stores_added ≡ s.stores_added → tries < s'.fresh_troubles)
+HasFreshTroubles tries s s' (AtInventory id) =
+    (0 < s'.fresh_troubles) × (s'.stores_added ≡ s.stores_added → tries < s'.fresh_troubles)
 
--- what the controller counted in the run: where it gave up more troubles than the tries, as many of them fresh as at the spot; one
--- refusal, with this code, exactly where it was refused
+-- what the controller counted in the run: where it gave up more troubles than the tries, as many of them fresh as at
+-- the spot; one refusal, with this code, exactly where it was refused
 abbrev pub CountsSo : ℕ → Seen → Seen → Outcome → Type 0
-CountsSo tries s s' (GaveUp spot) = (s'.refusals ≡ s.refusals) × (s.troubles + tries < s'.troubles) × HasFreshTroubles tries s s' spot
+CountsSo tries s s' (GaveUp spot) =
+    (s'.refusals ≡ s.refusals) × (s.troubles + tries < s'.troubles)
+    × HasFreshTroubles tries s s' spot
 CountsSo tries s s' (Refused spot code) = (s'.refusals ≡ s.refusals + 1) × (s'.last_code ≡ code)
 CountsSo tries s s' _ = s'.refusals ≡ s.refusals
 

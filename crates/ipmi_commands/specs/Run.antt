@@ -67,14 +67,17 @@ stop_text t Stop.WriteFault = line_text (message_text WriteFault)
 -- what is said of an outcome
 abbrev pub outcome_text : Task → Outcome → List ℕ
 outcome_text t (plan.Finished (plan.WalkEnds walk_end.Done)) = []
-outcome_text t (plan.Finished (plan.WalkEnds (walk_end.CycleAt n))) = line_text (ended_text (Cycle n))
-outcome_text t (plan.Finished (plan.WalkEnds (walk_end.MissingAt n))) = line_text (ended_text (Missing n))
+outcome_text t (plan.Finished (plan.WalkEnds (walk_end.CycleAt n))) =
+    line_text (ended_text (Cycle n))
+outcome_text t (plan.Finished (plan.WalkEnds (walk_end.MissingAt n))) =
+    line_text (ended_text (Missing n))
 outcome_text t (plan.Finished plan.NoName) = line_text (no_name_text (name_of t))
 outcome_text t (plan.Finished plan.NoInfo) = line_text no_info_text
 outcome_text t (plan.GaveUp (plan.AtRecord n)) = line_text (ended_text (GaveUp n))
 outcome_text t (plan.GaveUp (plan.AtInventory id)) = line_text (inventory_text id FruEnded.GaveUp)
 outcome_text t (plan.Refused (plan.AtRecord n) code) = line_text (refused_text n code)
-outcome_text t (plan.Refused (plan.AtInventory id) code) = line_text (refused_inventory_text id code)
+outcome_text t (plan.Refused (plan.AtInventory id) code) =
+    line_text (refused_inventory_text id code)
 outcome_text t plan.OutOfMemory = line_text (message_text OutOfMemory)
 outcome_text t plan.WriteFault = line_text (message_text WriteFault)
 
@@ -82,7 +85,11 @@ outcome_text t plan.WriteFault = line_text (message_text WriteFault)
 
 -- the request of a command
 abbrev pub request_of : CommandState → Request
-request_of command = record { task = command.task; start = start_by command.task command.from; tries = command.tries }
+request_of command = record {
+  task = command.task;
+  start = start_by command.task command.from;
+  tries = command.tries;
+}
 
 -- what the output had taken and what was said before, and after
 pub record Effect : Type 0 where
@@ -96,7 +103,8 @@ effect old new said said' = record { old = old; new = new; said = said; said' = 
 
 -- this status is given, and this message is said
 abbrev pub Says : Received → Received → ℕ → Message → ℕ → Type 0
-Says said said' status message n = (status ≡ n) × ReceivesText said said' (line_text (message_text message))
+Says said said' status message n =
+    (status ≡ n) × ReceivesText said said' (line_text (message_text message))
 
 -- the same, and nothing is written
 abbrev pub OnlySays : Effect → ℕ → Message → ℕ → Type 0
@@ -107,21 +115,26 @@ OnlySays e status message n = (e.new ≡ e.old) × Says e.said e.said' status me
 -- the output is allowed for the outcome by the plan of the task over a store
 abbrev pub AllowsAll : Request → Store → List ℕ → List ℕ → Outcome → Type 0
 AllowsAll r store old new outcome =
-    OnWalk r store (λ walk end. IsAllowed r.task store (plan_of r.task store r.start walk end) old new outcome)
+    OnWalk r store (λ walk end. IsAllowed r.task store (plan_of r.task store r.start walk end) old
+    new outcome)
 
 -- the calls are within the task's bound
 abbrev pub CallsWithin : Request → Store → ℕ → ℕ → Type 0
-CallsWithin r store before after = OnWalk r store (λ walk end. after ≤ before + run_call_bound r.task store r.tries walk end)
+CallsWithin r store before after =
+    OnWalk r store (λ walk end. after ≤ before + run_call_bound r.task store r.tries walk end)
 
--- a task over an honest controller: how it stopped, and while no store is added what it leaves and how many calls it makes
+-- a task over an honest controller: how it stopped, and while no store is added what it leaves and how many calls it
+-- makes
 pub record Performs (r : Request) (c : Change) (result : Stop) : Type 0 where
   pub outcome : Outcome
   pub outcome_is : IsOutcome result outcome
   pub stays : StaysHonest c.seen c.seen'
   pub counts : CountsSo r.tries c.seen c.seen' outcome
   pub plain : IsTrue c.seen.plain → IsFine outcome
-  pub allowed : c.seen'.stores_added ≡ c.seen.stores_added → AllowsAll r c.seen.store c.old c.new outcome
-  pub calls : c.seen'.stores_added ≡ c.seen.stores_added → CallsWithin r c.seen.store c.seen.calls c.seen'.calls
+  pub allowed : c.seen'.stores_added ≡ c.seen.stores_added
+      → AllowsAll r c.seen.store c.old c.new outcome
+  pub calls : c.seen'.stores_added ≡ c.seen.stores_added
+      → CallsWithin r c.seen.store c.seen.calls c.seen'.calls
 
 -- over any controller a run ends as a listing may stop, and says so
 pub record EndsSo (t : Task) (e : Effect) (status : ℕ) : Type 0 where
@@ -129,9 +142,10 @@ pub record EndsSo (t : Task) (e : Effect) (status : ℕ) : Type 0 where
   pub status_is : status ≡ stop_status result
   pub message : ReceivesText e.said e.said' (stop_text t result)
 
--- how a run ended over an honest controller, whatever stores were added: what is said and what is counted, and that nothing is
--- given up or refused over a plain one
-pub record HasEnded (r : Request) (s s' : Seen) (e : Effect) (result : Stop) (outcome : Outcome) (status : ℕ) : Type 0 where
+-- how a run ended over an honest controller, whatever stores were added: what is said and what is counted, and that
+-- nothing is given up or refused over a plain one
+pub record HasEnded (r : Request) (s s' : Seen) (e : Effect) (result : Stop) (outcome : Outcome)
+    (status : ℕ) : Type 0 where
   pub outcome_is : IsOutcome result outcome
   pub status_is : status ≡ status_of outcome
   pub message : ReceivesText e.said e.said' (outcome_text r.task outcome)
@@ -147,12 +161,13 @@ pub record IsRun (r : Request) (s s' : Seen) (e : Effect) (status : ℕ) : Type 
   pub allowed : s'.stores_added ≡ s.stores_added → AllowsAll r s.store e.old e.new outcome
   pub calls : s'.stores_added ≡ s.stores_added → CallsWithin r s.store s.calls s'.calls
 
--- what every run promises: its calls and its end over any controller, and what it is over an honest one; that of the task that
--- writes an image again only says how the program is called
+-- what every run promises: its calls and its end over any controller, and what it is over an honest one; that of the
+-- task that writes an image again only says how the program is called
 pub record Runs (command : CommandState) (s s' : Seen) (e : Effect) (status : ℕ) : Type 0 where
   pub calls : s'.calls ≤ s.calls + most_calls command.task command.tries
   pub ends : is_rewrite command.task ≡ false → EndsSo command.task e status
-  pub honest : is_rewrite command.task ≡ false → IsHonest s → IsRun (request_of command) s s' e status
+  pub honest : is_rewrite command.task ≡ false → IsHonest s
+      → IsRun (request_of command) s s' e status
   pub rewrite : is_rewrite command.task ≡ true → (s' ≡ s) × OnlySays e status Usage 2
 
 -- ---- a run in pages
@@ -160,17 +175,20 @@ pub record Runs (command : CommandState) (s s' : Seen) (e : Effect) (status : �
 -- the same as of one run, over each walk that does not end by a cycle
 abbrev pub AllowsOpen : Request → Store → List ℕ → List ℕ → Outcome → Type 0
 AllowsOpen r store old new outcome =
-    OnWalk r store (λ walk end. IsOpen end → IsAllowed r.task store (plan_of r.task store r.start walk end) old new outcome)
+    OnWalk r store (λ walk end. IsOpen end
+    → IsAllowed r.task store (plan_of r.task store r.start walk end) old new outcome)
 
 -- the calls are within the bounds for the rows of such a walk, and for each page that may make calls
 abbrev pub PagesWithin : Request → Store → List ℕ → ℕ → ℕ → Type 0
 PagesWithin r store sizes before after =
     OnWalk r store (λ walk end. IsOpen end
-    → after ≤ before + calls_for r.task store r.tries walk + pages_made sizes * (step_call_bound r.tries 0 + 7))
+    → after ≤ before + calls_for r.task store r.tries walk
+    + pages_made sizes * (step_call_bound r.tries 0 + 7))
 
--- a run in pages of these sizes: each page by itself is the listing from its place, of at most as many rows as its size, and where
--- the chain does not end by a cycle all of them leave what one run may leave
-pub record IsPagedRun (r : Request) (sizes : List ℕ) (s s' : Seen) (e : Effect) (status : ℕ) : Type 0 where
+-- a run in pages of these sizes: each page by itself is the listing from its place, of at most as many rows as its
+-- size, and where the chain does not end by a cycle all of them leave what one run may leave
+pub record IsPagedRun (r : Request) (sizes : List ℕ) (s s' : Seen) (e : Effect)
+    (status : ℕ) : Type 0 where
   pub result : Stop
   pub outcome : Outcome
   pub ended : HasEnded r s s' e result outcome status
@@ -195,7 +213,8 @@ fault_status _ = 3
 
 abbrev pub FailsToRead : ImageFault → Effect → ℕ → Type 0
 FailsToRead fault e status =
-    (e.new ≡ e.old) × (Says e.said e.said' status (Image fault) (fault_status fault) ⊎ Says e.said e.said' status OutOfMemory 5)
+    (e.new ≡ e.old) × (Says e.said e.said' status (Image fault) (fault_status fault)
+    ⊎ Says e.said e.said' status OutOfMemory 5)
 
 -- the text of an image, by how writing it stopped
 abbrev pub WritesImage : List ℕ → List ℕ → List ℕ → Stop → Type 0
@@ -226,10 +245,12 @@ AnswersTask true r image e status = AnswersRewrite image e status
 AnswersTask false r image e status = AnswersImage r image e status
 
 abbrev pub AnswersCommand : CommandState → Result Store ImageFault → Effect → ℕ → Type 0
-AnswersCommand command image e status = AnswersTask (is_rewrite command.task) (request_of command) image e status
+AnswersCommand command image e status =
+    AnswersTask (is_rewrite command.task) (request_of command) image e status
 
 -- the answer to a command line over an image, by what the image gives
-abbrev pub AnswersLine : Result CommandState UsageFault → Result Store ImageFault → Effect → ℕ → Type 0
+abbrev pub AnswersLine : Result CommandState UsageFault → Result Store ImageFault → Effect → ℕ
+    → Type 0
 AnswersLine (Ok command) image e status = AnswersCommand command image e status
 AnswersLine (Err UsageFault.Memory) image e status = OnlySays e status OutOfMemory 5
 AnswersLine (Err _) image e status = OnlySays e status Usage 2

@@ -3,12 +3,16 @@ use Rattle.std.proofs.Common.{◌≡◌, ℕ, true, false, inr, Option, None, So
 use Rattle.ipmi_fru.specs.Prelude.{AreaKind, AreaFault, AreaField, Spells, fields_in, IsArea, IsAreaFault, area_at, area_fault, area_in, field_bytes}
 use Rattle.ipmi_fru.proofs.FieldLemmas.{are_spelt, none_spelt}
 
-spelt_there : (bytes : List ℕ) (found : Option (List AreaField)) → fields_in bytes ≡ found → is_some found ≡ true → Spells bytes (unwrap_or found [])
+spelt_there : (bytes : List ℕ) (found : Option (List AreaField)) → fields_in bytes ≡ found
+    → is_some found ≡ true → Spells bytes (unwrap_or found [])
 spelt_there bytes None is some = cc some
 spelt_there bytes (Some fields) is some = are_spelt bytes fields is
 
-module _ (kind : AreaKind) (offset : ℕ) (bytes area part : List ℕ) (fine : area_fault offset bytes ≡ None) (area_is : area ≡ area_at offset bytes) (part_is : part ≡ field_bytes kind area) where
-  pub past_end : is_some (fields_in part) ≡ false → IsAreaFault kind offset bytes AreaFault.FieldPastEnd
+module _ (kind : AreaKind) (offset : ℕ) (bytes area part : List ℕ)
+    (fine : area_fault offset bytes ≡ None) (area_is : area ≡ area_at offset bytes)
+    (part_is : part ≡ field_bytes kind area) where
+  pub past_end : is_some (fields_in part) ≡ false
+      → IsAreaFault kind offset bytes AreaFault.FieldPastEnd
   past_end none = inr (
     record {
       fine = fine;

@@ -6,11 +6,13 @@ use Rattle.ipmi_fru.specs.Prelude.{AreaField, Spells, field_in, fields_from, fie
 
 -- a field and what is after it
 fields_from-cons : (n byte : ℕ) (bytes : List ℕ) → byte ≢ 0xc1 → byte % 64 ≤ length bytes
-    → fields_from (suc n) (byte ∷ bytes) ≡ option_map (λ fields. field_in byte bytes ∷ fields) (fields_from n (drop (byte % 64) bytes))
+    → fields_from (suc n) (byte ∷ bytes)
+    ≡ option_map (λ fields. field_in byte bytes ∷ fields) (fields_from n (drop (byte % 64) bytes))
 fields_from-cons n byte bytes goes_on fits = rw (ne_eqb byte 0xc1 goes_on, le-ltb (length bytes) (byte % 64) fits) refl
 
 -- more steps than there are bytes change nothing
-fields_from-enough : (n m : ℕ) (bytes : List ℕ) → length bytes ≤ n → length bytes ≤ m → fields_from n bytes ≡ fields_from m bytes
+fields_from-enough : (n m : ℕ) (bytes : List ℕ) → length bytes ≤ n → length bytes ≤ m
+    → fields_from n bytes ≡ fields_from m bytes
 fields_from-enough n m [] a b = refl
 fields_from-enough zero m (byte ∷ bytes) a b = absurd (omega (arith, a))
 fields_from-enough (suc n) zero (byte ∷ bytes) a b = absurd (omega (arith, b))
@@ -18,7 +20,9 @@ fields_from-enough (suc n) (suc m) (byte ∷ bytes) a b =
     let left = length-drop (byte % 64) bytes in
     rw (fields_from-enough n m (drop (byte % 64) bytes) (omega (arith, left, a)) (omega (arith, left, b))) refl
 
-pub fields_in-first : (bytes after rest : List ℕ) (byte : ℕ) (field : AreaField) → bytes ≡ byte ∷ after → byte ≢ 0xc1 → byte % 64 ≤ length after → field ≡ field_in byte after → rest ≡ drop (byte % 64) after
+pub fields_in-first : (bytes after rest : List ℕ) (byte : ℕ) (field : AreaField)
+    → bytes ≡ byte ∷ after → byte ≢ 0xc1 → byte % 64 ≤ length after → field ≡ field_in byte after
+    → rest ≡ drop (byte % 64) after
     → fields_in bytes ≡ option_map (λ fields. field ∷ fields) (fields_in rest)
 fields_in-first bytes after rest byte field is no_end fits field_is rest_is =
     let left = length-drop (byte % 64) after in
@@ -27,7 +31,8 @@ fields_in-first bytes after rest byte field is no_end fits field_is rest_is =
 
 -- ---- the fields that are found are those that the bytes spell
 
-fields_from-spelt : (n : ℕ) (bytes : List ℕ) (fields : List AreaField) → length bytes ≤ n → Spells bytes fields → fields_from n bytes ≡ Some fields
+fields_from-spelt : (n : ℕ) (bytes : List ℕ) (fields : List AreaField) → length bytes ≤ n
+    → Spells bytes fields → fields_from n bytes ≡ Some fields
 fields_from-spelt n [] [] fits spells = refl
 fields_from-spelt zero (byte ∷ bytes) fields fits spells = absurd (omega (arith, fits))
 fields_from-spelt (suc n) (byte ∷ bytes) [] fits spells = rw (eq-eqb byte 0xc1 spells) refl
@@ -42,15 +47,18 @@ fields_from-spelt (suc n) (byte ∷ bytes) (field ∷ fields) fits spells =
     ∙ rw (← b.length_is, drop-append_seam field.bytes rest, take-append_seam field.bytes rest, ← b.code_is, more) refl
 
 -- what is spelt is found
-pub fields_in-found : (bytes : List ℕ) (fields : List AreaField) → Spells bytes fields → fields_in bytes ≡ Some fields
+pub fields_in-found : (bytes : List ℕ) (fields : List AreaField) → Spells bytes fields
+    → fields_in bytes ≡ Some fields
 fields_in-found bytes fields spells = fields_from-spelt (length bytes) bytes fields (omega arith) spells
 
-mapped : (f : List AreaField → List AreaField) (o : Option (List AreaField)) (fields : List AreaField)
+mapped : (f : List AreaField → List AreaField) (o : Option (List AreaField))
+    (fields : List AreaField)
     → option_map f o ≡ Some fields → (rest : List AreaField) × ((o ≡ Some rest) × (f rest ≡ fields))
 mapped f None fields e = cc e
 mapped f (Some rest) fields e = (rest, (refl, cc e))
 
-found : (n : ℕ) (bytes : List ℕ) (fields : List AreaField) → fields_from n bytes ≡ Some fields → Spells bytes fields
+found : (n : ℕ) (bytes : List ℕ) (fields : List AreaField) → fields_from n bytes ≡ Some fields
+    → Spells bytes fields
 found n [] fields e = let is : [] ≡ fields = cc e in subst (Spells []) is tt
 found zero (byte ∷ bytes) fields e = cc e
 found (suc n) (byte ∷ bytes) fields e = elim (cases_eq byte 0xc1) [
@@ -77,9 +85,11 @@ found (suc n) (byte ∷ bytes) fields e = elim (cases_eq byte 0xc1) [
 ]
 
 -- what is found is spelt
-pub are_spelt : (bytes : List ℕ) (fields : List AreaField) → fields_in bytes ≡ Some fields → Spells bytes fields
+pub are_spelt : (bytes : List ℕ) (fields : List AreaField) → fields_in bytes ≡ Some fields
+    → Spells bytes fields
 are_spelt bytes fields is = found (length bytes) bytes fields is
 
 -- nothing is spelt where nothing is found
-pub none_spelt : (bytes : List ℕ) → is_some (fields_in bytes) ≡ false → (fields : List AreaField) → Spells bytes fields → ⊥
+pub none_spelt : (bytes : List ℕ) → is_some (fields_in bytes) ≡ false → (fields : List AreaField)
+    → Spells bytes fields → ⊥
 none_spelt bytes none fields spells = true≢false (sym (ap is_some (fields_in-found bytes fields spells)) ∙ none)

@@ -3,10 +3,12 @@ use Rattle.std.proofs.Common.{◌≡◌, ◌∙◌, ℕ, Bool, true, false, None
 use Rattle.ipmi_fru.specs.Prelude.{AreaField, ContinuesBy, IsRecordList, MultiRecord, RecordsEnd, SameList, Spells, after_record}
 use Rattle.ipmi_fru.proofs.FieldLemmas.{fields_in-found}
 
-pub one_list_of_fields : (bytes : List ℕ) (a b : List AreaField) → Spells bytes a → Spells bytes b → a ≡ b
+pub one_list_of_fields : (bytes : List ℕ) (a b : List AreaField) → Spells bytes a → Spells bytes b
+    → a ≡ b
 one_list_of_fields bytes a b x y = let same : Some a ≡ Some b = sym (fields_in-found bytes a x) ∙ fields_in-found bytes b y in cc same
 
-pub one_list_of_records : (bytes : List ℕ) (a b : List MultiRecord) (e f : RecordsEnd) → IsRecordList bytes a e → IsRecordList bytes b f → SameList a b e f
+pub one_list_of_records : (bytes : List ℕ) (a b : List MultiRecord) (e f : RecordsEnd)
+    → IsRecordList bytes a e → IsRecordList bytes b f → SameList a b e f
 one_list_of_records bytes [] b None f x y = absurd x
 one_list_of_records bytes a [] e None x y = absurd y
 one_list_of_records bytes [] [] (Some g) (Some h) x y = record { records = refl; ends = cc (x, y) }
@@ -18,7 +20,9 @@ one_list_of_records bytes (r ∷ a) (s ∷ b) e f x y =
     let more = by (λ x y. one_list_of_records (after_record bytes) a b e f x y) s.last here y.1.1 in
     record { records = cc (first, more.records); ends = more.ends }
   where
-    by : (IsRecordList (after_record bytes) a e → IsRecordList (after_record bytes) b f → SameList a b e f) → (last : Bool)
-        → ContinuesBy last a e (IsRecordList (after_record bytes) a e) → ContinuesBy last b f (IsRecordList (after_record bytes) b f) → SameList a b e f
+    by : (IsRecordList (after_record bytes) a e → IsRecordList (after_record bytes) b f
+        → SameList a b e f) → (last : Bool)
+        → ContinuesBy last a e (IsRecordList (after_record bytes) a e)
+        → ContinuesBy last b f (IsRecordList (after_record bytes) b f) → SameList a b e f
     by ih true x y = record { records = x.0 ∙ sym y.0; ends = x.1 ∙ sym y.1 }
     by ih false x y = ih x y

@@ -1,4 +1,5 @@
--- The chassis, board and product areas (Platform Management FRU Information Storage Definition v1.0, sections 10 to 12).
+-- The chassis, board and product areas (Platform Management FRU Information Storage Definition v1.0, sections 10 to
+-- 12).
 use Rattle.std.specs.Prelude.{◌≡◌, ℕ, ◌<◌, ◌+◌, ◌-◌, ◌*◌, ◌==◌, nat_lt, not, if◌then◌else◌, ◌⊎◌, IsTrue, is_some, Option, Some, None, unwrap_or, Result, Ok, Err, List, [], length, take, drop, slice_index, codes}
 use Rattle.ipmi_fru.specs.declared.area.AreaKind.{AreaKind}
 use Rattle.ipmi_fru.specs.declared.area.AreaKind.TheVariants.{Chassis, Board, Product}
@@ -12,8 +13,8 @@ place_of Chassis = 2
 place_of Board = 3
 place_of Product = 4
 
--- how many bytes are between the length byte and the first field. Chassis: its type; board: the language and three bytes of
--- the date; product: the language
+-- how many bytes are between the length byte and the first field. Chassis: its type; board: the language and three
+-- bytes of the date; product: the language
 abbrev pub head_len : AreaKind → ℕ
 head_len Chassis = 1
 head_len Board = 4
@@ -37,7 +38,8 @@ area_fault offset bytes =
     if nat_lt (length bytes) (offset + 2) then Some AreaFault.Outside
     else if not (version_in (slice_index bytes offset) == 1) then Some AreaFault.Version
     else if slice_index bytes (offset + 1) == 0 then Some AreaFault.Length
-    else if nat_lt (length bytes) (offset + 8 * slice_index bytes (offset + 1)) then Some AreaFault.Outside
+    else if nat_lt (length bytes) (offset + 8 * slice_index bytes (offset + 1))
+    then Some AreaFault.Outside
     else if not (is_zero_sum (area_at offset bytes)) then Some AreaFault.Sum
     else None
 
@@ -65,17 +67,24 @@ pub record IsArea (kind : AreaKind) (offset : ℕ) (bytes : List ℕ) (area : Ar
 -- no list of fields is spelt by the bytes between the head and the checksum
 pub record HasFieldPastEnd (kind : AreaKind) (offset : ℕ) (bytes : List ℕ) : Type 0 where
   pub fine : area_fault offset bytes ≡ None
-  pub no_list : (fields : List AreaField) → Spells (field_bytes kind (area_at offset bytes)) fields → ⊥
+  pub no_list : (fields : List AreaField) → Spells (field_bytes kind (area_at offset bytes)) fields
+      → ⊥
 
 -- why there is no area at the offset
 abbrev pub IsAreaFault : AreaKind → ℕ → List ℕ → AreaFault → Type 0
-IsAreaFault kind offset bytes f = (area_fault offset bytes ≡ Some f) ⊎ (HasFieldPastEnd kind offset bytes × (f ≡ AreaFault.FieldPastEnd))
+IsAreaFault kind offset bytes f =
+    (area_fault offset bytes ≡ Some f)
+    ⊎ (HasFieldPastEnd kind offset bytes × (f ≡ AreaFault.FieldPastEnd))
 
 -- ---- how the fields are found
 
 -- an area with the fields that are found in it
 abbrev pub area_in : AreaKind → List ℕ → Area
-area_in kind bytes = record { kind = kind; bytes = bytes; fields = unwrap_or (fields_in (field_bytes kind bytes)) [] }
+area_in kind bytes = record {
+  kind = kind;
+  bytes = bytes;
+  fields = unwrap_or (fields_in (field_bytes kind bytes)) [];
+}
 
 -- it has at least a head and a checksum, and fields are found in it
 pub record HasFields (kind : AreaKind) (bytes : List ℕ) : Type 0 where
@@ -85,5 +94,8 @@ pub record HasFields (kind : AreaKind) (bytes : List ℕ) : Type 0 where
 -- what an inventory has of a kind: no area, an area, or a fault
 abbrev pub IsFound : AreaKind → List ℕ → Option (Result Area AreaFault) → Type 0
 IsFound kind bytes None = offset_of (place_of kind) bytes ≡ None
-IsFound kind bytes (Some (Ok area)) = (offset : ℕ) × ((offset_of (place_of kind) bytes ≡ Some offset) × IsArea kind offset bytes area)
-IsFound kind bytes (Some (Err f)) = (offset : ℕ) × ((offset_of (place_of kind) bytes ≡ Some offset) × IsAreaFault kind offset bytes f)
+IsFound kind bytes (Some (Ok area)) =
+    (offset : ℕ) × ((offset_of (place_of kind) bytes ≡ Some offset) × IsArea kind offset bytes area)
+IsFound kind bytes (Some (Err f)) =
+    (offset : ℕ) × ((offset_of (place_of kind) bytes ≡ Some offset)
+    × IsAreaFault kind offset bytes f)

@@ -1,5 +1,5 @@
--- The fields of an area: their type/length bytes and their data (Platform Management FRU Information Storage Definition v1.0,
--- section 13).
+-- The fields of an area: their type/length bytes and their data (Platform Management FRU Information Storage Definition
+-- v1.0, section 13).
 use Rattle.std.specs.Prelude.{◌≡◌, ◌≢◌, ℕ, zero, suc, ◌<◌, ◌/◌, ◌%◌, ◌==◌, nat_lt, if◌then◌else◌, Option, Some, None, option_map, List, [], ◌∷◌, ◌++◌, length, take, drop}
 use Rattle.ipmi_fru.specs.declared.field.Field.{Field}
 use Rattle.ipmi_fru.specs.declared.field.Beginning.{Beginning}
@@ -9,7 +9,8 @@ pub record AreaField : Type 0 where
   pub code : ℕ
   pub bytes : List ℕ
 
--- bytes that begin with a field: a type/length byte other than C1h, and as many bytes as its bits 5:0 say; then the rest
+-- bytes that begin with a field: a type/length byte other than C1h, and as many bytes as its bits 5:0 say; then the
+-- rest
 pub record BeginsWithField (bytes : List ℕ) (field : AreaField) (rest : List ℕ) : Type 0 where
   pub type_length : ℕ
   pub is_no_end : type_length ≢ 0xc1
@@ -25,11 +26,13 @@ EndsFields (byte ∷ bytes) = byte ≡ 0xc1
 -- the bytes spell these fields, one after the other
 abbrev pub Spells : List ℕ → List AreaField → Type 0
 Spells bytes [] = EndsFields bytes
-Spells bytes (field ∷ fields) = (rest : List ℕ) × (BeginsWithField bytes field rest × Spells rest fields)
+Spells bytes (field ∷ fields) =
+    (rest : List ℕ) × (BeginsWithField bytes field rest × Spells rest fields)
 
 -- the field that a type/length byte and the bytes after it are
 abbrev pub field_in : ℕ → List ℕ → AreaField
-field_in type_length bytes = record { code = type_length / 64; bytes = take (type_length % 64) bytes }
+field_in type_length bytes =
+    record { code = type_length / 64; bytes = take (type_length % 64) bytes }
 
 -- the fields that bytes spell, at most n, or none where they spell no list
 abbrev pub fields_from : ℕ → List ℕ → Option (List AreaField)
@@ -38,7 +41,8 @@ fields_from zero (byte ∷ bytes) = None
 fields_from (suc n) (byte ∷ bytes) =
     if byte == 0xc1 then Some []
     else if nat_lt (length bytes) (byte % 64) then None
-    else option_map (λ fields. field_in byte bytes ∷ fields) (fields_from n (drop (byte % 64) bytes))
+    else option_map (λ fields. field_in byte bytes ∷ fields)
+    (fields_from n (drop (byte % 64) bytes))
 
 -- with as many steps as there are bytes
 abbrev pub fields_in : List ℕ → Option (List AreaField)
@@ -54,4 +58,6 @@ field_of f = record { code = f.code; bytes = f.bytes.now }
 abbrev pub Begins : List ℕ → Beginning → Type 0
 Begins bytes Beginning.End = fields_in bytes ≡ Some []
 Begins bytes Beginning.PastEnd = fields_in bytes ≡ None
-Begins bytes (Beginning.Field f rest) = (fields_in bytes ≡ option_map (λ fields. field_of f ∷ fields) (fields_in rest.now)) × (length rest.now < length bytes)
+Begins bytes (Beginning.Field f rest) =
+    (fields_in bytes ≡ option_map (λ fields. field_of f ∷ fields) (fields_in rest.now))
+    × (length rest.now < length bytes)

@@ -29,6 +29,8 @@ fru_fault_name FruFault.HeaderSum = codes "header checksum"
 abbrev pub records_place : ℕ
 records_place = 5
 
--- where the area begins whose offset has this place in the header: offsets are in units of eight bytes, and 0 is no area
+-- where the area begins whose offset has this place in the header: offsets are in units of eight bytes, and 0 is no
+-- area
 abbrev pub offset_of : ℕ → List ℕ → Option ℕ
-offset_of place bytes = if slice_index bytes place == 0 then None else Some (8 * slice_index bytes place)
+offset_of place bytes =
+    if slice_index bytes place == 0 then None else Some (8 * slice_index bytes place)

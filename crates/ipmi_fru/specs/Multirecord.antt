@@ -59,7 +59,9 @@ abbrev pub IsRecordList : List ℕ → List MultiRecord → RecordsEnd → Type 
 IsRecordList bytes [] None = ⊥
 IsRecordList bytes [] (Some f) = record_fault bytes ≡ Some f
 IsRecordList bytes (r ∷ records) end =
-    (record_fault bytes ≡ None) × ((r ≡ record_in bytes) × ContinuesBy r.last records end (IsRecordList (after_record bytes) records end))
+    (record_fault bytes ≡ None)
+    × ((r ≡ record_in bytes) × ContinuesBy r.last records end
+    (IsRecordList (after_record bytes) records end))
 
 -- the records from an offset on, where there is one; without one no records and no fault
 abbrev pub AreRecordsAt : Option ℕ → List ℕ → List MultiRecord → RecordsEnd → Type 0
@@ -80,14 +82,16 @@ pub record SameList (a b : List MultiRecord) (e f : RecordsEnd) : Type 0 where
 -- ---- how the records are found
 
 -- what bytes begin with: a fault, or a record and what comes after it where it is not the last
-abbrev pub items_by : Option MultiFault → MultiRecord → List (Result MultiRecord MultiFault) → List (Result MultiRecord MultiFault)
+abbrev pub items_by : Option MultiFault → MultiRecord → List (Result MultiRecord MultiFault)
+    → List (Result MultiRecord MultiFault)
 items_by (Some f) r more = Err f ∷ []
 items_by None r more = Ok r ∷ (if r.last then [] else more)
 
 -- the records that bytes begin with and their fault, at most n items
 abbrev pub items_from : ℕ → List ℕ → List (Result MultiRecord MultiFault)
 items_from zero bytes = []
-items_from (suc n) bytes = items_by (record_fault bytes) (record_in bytes) (items_from n (after_record bytes))
+items_from (suc n) bytes =
+    items_by (record_fault bytes) (record_in bytes) (items_from n (after_record bytes))
 
 -- all of them: at most one more than there are bytes
 abbrev pub items_in : List ℕ → List (Result MultiRecord MultiFault)
@@ -95,7 +99,12 @@ items_in bytes = items_from (suc (length bytes)) bytes
 
 -- a record as it is seen
 abbrev pub record_of : MultiView → MultiRecord
-record_of view = record { kind = view.kind; version = view.version; last = view.last; bytes = view.bytes.now }
+record_of view = record {
+  kind = view.kind;
+  version = view.version;
+  last = view.last;
+  bytes = view.bytes.now;
+}
 
 -- an item as it is seen
 abbrev pub item_of : Result MultiView MultiFault → Result MultiRecord MultiFault

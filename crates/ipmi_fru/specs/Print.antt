@@ -1,7 +1,7 @@
--- The text of an inventory: the lines of the chassis, the board and the product, and then those of the records. Lines, labels
--- and the names of faults are the project's own, and so is that volts are in two's complement and that the standard's marks for
--- what is not specified are printed as numbers; record types are the standard's (Platform Management FRU Information Storage
--- Definition v1.0, sections 16 and 18).
+-- The text of an inventory: the lines of the chassis, the board and the product, and then those of the records. Lines,
+-- labels and the names of faults are the project's own, and so is that volts are in two's complement and that the
+-- standard's marks for what is not specified are printed as numbers; record types are the standard's (Platform
+-- Management FRU Information Storage Definition v1.0, sections 16 and 18).
 use Rattle.std.specs.Prelude.{◌≡◌, ℕ, ◌%◌, ◌^◌, ◌==◌, ◌&&◌, nat_le, if◌then◌else◌, pos, ◌*ℤ◌, Option, Some, None, Result, Ok, Err, List, [], ◌∷◌, ◌++◌, length, drop, take, slice_index, codes, decimal}
 use Rattle.byteorder.specs.Endian.{little_from, twos_complement}
 use Rattle.ipmi_text.specs.FieldText.{binary_text, latin1_text, fru_text_of}
@@ -64,30 +64,39 @@ abbrev pub field_line : List ℕ → List ℕ → List ℕ
 field_line label [] = []
 field_line label (character ∷ text) = labelled label (character ∷ text)
 
--- the lines of fields, each under the label of its place, those past the labels under `extra`; a field without text uses up its
--- label too
+-- the lines of fields, each under the label of its place, those past the labels under `extra`; a field without text
+-- uses up its label too
 abbrev pub field_lines : ℕ → List (List ℕ) → List ℕ → List AreaField → List ℕ
 field_lines language labels extra [] = []
-field_lines language [] extra (field ∷ fields) = field_line extra (fru_text_of field.code language field.bytes) ++ field_lines language [] extra fields
-field_lines language (label ∷ labels) extra (field ∷ fields) = field_line label (fru_text_of field.code language field.bytes) ++ field_lines language labels extra fields
+field_lines language [] extra (field ∷ fields) =
+    field_line extra (fru_text_of field.code language field.bytes)
+    ++ field_lines language [] extra fields
+field_lines language (label ∷ labels) extra (field ∷ fields) =
+    field_line label (fru_text_of field.code language field.bytes)
+    ++ field_lines language labels extra fields
 
 -- what comes before the lines of the fields: the type of a chassis, the date of a board
 abbrev pub IsLead : AreaKind → List ℕ → List ℕ → Type 0
-IsLead Chassis area text = text ≡ labelled (codes "Chassis Type") (chassis_text_of (slice_index area 2))
-IsLead Board area text = (date : List ℕ) × (IsMinutesTextOf (little_from 3 3 area) date × (text ≡ labelled (codes "Board Mfg Date") date))
+IsLead Chassis area text =
+    text ≡ labelled (codes "Chassis Type") (chassis_text_of (slice_index area 2))
+IsLead Board area text =
+    (date : List ℕ) × (IsMinutesTextOf (little_from 3 3 area) date
+    × (text ≡ labelled (codes "Board Mfg Date") date))
 IsLead Product area text = text ≡ []
 
 -- the lines of an area
 pub record IsAreaText (area : Area) (text : List ℕ) : Type 0 where
   pub lead : List ℕ
   pub is_lead : IsLead area.kind area.bytes lead
-  pub text_is : text ≡ lead ++ field_lines (language_of area.kind area.bytes) (labels_of area.kind) (extra_label area.kind) area.fields
+  pub text_is : text ≡ lead ++ field_lines (language_of area.kind area.bytes) (labels_of area.kind)
+      (extra_label area.kind) area.fields
 
 -- what is printed for an area of a kind: nothing where the inventory has none, the lines of the area, or its fault
 abbrev pub IsTextFound : AreaKind → Option (Result Area AreaFault) → List ℕ → Type 0
 IsTextFound kind None text = text ≡ []
 IsTextFound kind (Some (Ok area)) text = IsAreaText area text
-IsTextFound kind (Some (Err f)) text = text ≡ labelled (area_name kind ++ codes " fault") (area_fault_name f)
+IsTextFound kind (Some (Err f)) text =
+    text ≡ labelled (area_name kind ++ codes " fault") (area_fault_name f)
 
 pub record IsTextOfArea (kind : AreaKind) (bytes text : List ℕ) : Type 0 where
   pub found : Option (Result Area AreaFault)
@@ -102,7 +111,8 @@ number_at place bytes = little_from place 2 bytes
 
 -- the volts of two bytes from a place on: a signed number of 10 mV
 abbrev pub IsVoltsAt : ℕ → List ℕ → List ℕ → Type 0
-IsVoltsAt place bytes text = IsDecimalOf (twos_complement 2 (number_at place bytes) *ℤ pos (10 ^ 14)) text
+IsVoltsAt place bytes text =
+    IsDecimalOf (twos_complement 2 (number_at place bytes) *ℤ pos (10 ^ 14)) text
 
 -- what follows the voltages: the ripple in mV, and the least and the greatest current in mA
 abbrev pub current_text : List ℕ → List ℕ
@@ -138,21 +148,26 @@ pub record IsDcText (kind : DcKind) (bytes text : List ℕ) : Type 0 where
   pub nominal_is : IsVoltsAt 1 bytes nominal
   pub low_is : IsVoltsAt 3 bytes low
   pub high_is : IsVoltsAt 5 bytes high
-  pub text_is : text ≡ dc_start kind ++ (decimal (slice_index bytes 0 % 16) ++ (standby_text kind (slice_index bytes 0)
+  pub text_is : text ≡ dc_start kind ++
+      (decimal (slice_index bytes 0 % 16) ++ (standby_text kind (slice_index bytes 0)
       ++ (codes ": nominal " ++ (nominal
-      ++ (before_low kind ++ (low ++ (before_high kind ++ (high ++ (codes " V, " ++ current_text bytes)))))))))
+      ++ (before_low kind ++ (low
+      ++ (before_high kind ++ (high ++ (codes " V, " ++ current_text bytes)))))))))
 
 -- the data of a management access record after its subtype: subtypes 01h to 06h are text
 abbrev pub access_text : List ℕ → List ℕ
 access_text bytes =
-    if nat_le 1 (slice_index bytes 0) && nat_le (slice_index bytes 0) 6 then latin1_text (drop 1 bytes) else binary_text (drop 1 bytes)
+    if nat_le 1 (slice_index bytes 0) && nat_le (slice_index bytes 0) 6
+    then latin1_text (drop 1 bytes) else binary_text (drop 1 bytes)
 
 abbrev pub access_line : List ℕ → List ℕ
-access_line bytes = codes "Management Access 0x" ++ (binary_text (take 1 bytes) ++ (codes ": " ++ (access_text bytes ++ codes "\n")))
+access_line bytes = codes "Management Access 0x"
+    ++ (binary_text (take 1 bytes) ++ (codes ": " ++ (access_text bytes ++ codes "\n")))
 
 -- a record of another type, or with too few data
 abbrev pub other_line : MultiRecord → List ℕ
-other_line r = codes "Record 0x" ++ (binary_text (r.kind ∷ []) ++ (codes ": " ++ (binary_text r.bytes ++ codes "\n")))
+other_line r = codes "Record 0x"
+    ++ (binary_text (r.kind ∷ []) ++ (codes ": " ++ (binary_text r.bytes ++ codes "\n")))
 
 -- what a record is printed as, by its type and the number of its data bytes
 abbrev pub form_of : MultiRecord → RecordForm
@@ -179,7 +194,9 @@ IsItemText (Err f) text = text ≡ labelled (codes "Record fault") (multi_fault_
 -- a line for each
 abbrev pub AreItemTexts : List (Result MultiRecord MultiFault) → List ℕ → Type 0
 AreItemTexts [] text = text ≡ []
-AreItemTexts (item ∷ items) text = (line more : List ℕ) × (IsItemText item line × (AreItemTexts items more × (text ≡ line ++ more)))
+AreItemTexts (item ∷ items) text =
+    (line more : List ℕ) × (IsItemText item line
+    × (AreItemTexts items more × (text ≡ line ++ more)))
 
 -- what is printed of the records: nothing where there are none
 pub record IsTextOfRecords (bytes text : List ℕ) : Type 0 where

@@ -20,16 +20,20 @@ Lines = List (List (List ℕ))
 -- ---- items after those that they differ from
 
 -- each item before x is so to x
-pairs_middle : {T : Type 0} (R : T → T → Type 0) (front rest : List T) (x : T) → AllPairs R (front ++ x ∷ rest) → All (λ a. R a x) front
+pairs_middle : {T : Type 0} (R : T → T → Type 0) (front rest : List T) (x : T)
+    → AllPairs R (front ++ x ∷ rest) → All (λ a. R a x) front
 pairs_middle R front rest x pairs = λ k d lt.
     let len = length-append front (x ∷ rest) in
     let p = pairs k (length front + 0) d (omega (arith, lt)) (omega (arith, len)) in
     rw (get_or_append_left front (x ∷ rest) d k lt, get_or-append-add front (x ∷ rest) 0 d) at p
 
 -- where the lines of one item are taken after the items before it, so are those of all
-each_gives : (store : Store) {X : Type 0} (P : X → Type 0) (R : X → X → Type 0) (kept : List X → Kept) (lines : X → Lines)
-    → ((front : List X) (x : X) (rest : Lines) → P x → All (λ a. R a x) front → Gives store (kept (front ++ x ∷ [])) rest → Gives store (kept front) (lines x ++ rest))
-    → (front xs : List X) (rest : Lines) → All P xs → AllPairs R (front ++ xs) → Gives store (kept (front ++ xs)) rest → Gives store (kept front) (flat_map lines xs ++ rest)
+each_gives : (store : Store) {X : Type 0} (P : X → Type 0) (R : X → X → Type 0)
+    (kept : List X → Kept) (lines : X → Lines)
+    → ((front : List X) (x : X) (rest : Lines) → P x → All (λ a. R a x) front
+    → Gives store (kept (front ++ x ∷ [])) rest → Gives store (kept front) (lines x ++ rest))
+    → (front xs : List X) (rest : Lines) → All P xs → AllPairs R (front ++ xs)
+    → Gives store (kept (front ++ xs)) rest → Gives store (kept front) (flat_map lines xs ++ rest)
 each_gives store P R kept lines one front [] rest all pairs give = rw append-nil at give
 each_gives store P R kept lines one front (x ∷ xs) rest all pairs give =
     let same = append_assoc front (x ∷ []) xs in
@@ -38,16 +42,21 @@ each_gives store P R kept lines one front (x ∷ xs) rest all pairs give =
 
 -- ---- inventories
 
-with_bytes-twice : (id : ℕ) (a b : List ℕ) (inventories : List Inventory) → with_bytes id b (with_bytes id a inventories) ≡ with_bytes id (a ++ b) inventories
+with_bytes-twice : (id : ℕ) (a b : List ℕ) (inventories : List Inventory)
+    → with_bytes id b (with_bytes id a inventories) ≡ with_bytes id (a ++ b) inventories
 with_bytes-twice id a b [] = rw (eq-eqb id id refl) refl
 with_bytes-twice id a b (x ∷ xs) = let more = with_bytes-twice id a b xs in grind (arith, append_assoc, nat_tests, more)
 
-inventory_in-with_bytes : (id : ℕ) (a : List ℕ) (inventories : List Inventory) → unwrap_or (inventory_in (with_bytes id a inventories) id) [] ≡ unwrap_or (inventory_in inventories id) [] ++ a
+inventory_in-with_bytes : (id : ℕ) (a : List ℕ) (inventories : List Inventory)
+    → unwrap_or (inventory_in (with_bytes id a inventories) id) []
+    ≡ unwrap_or (inventory_in inventories id) [] ++ a
 inventory_in-with_bytes id a [] = rw (eq-eqb id id refl) refl
 inventory_in-with_bytes id a (x ∷ xs) = let more = inventory_in-with_bytes id a xs in grind (arith, nat_tests, more)
 
 -- the first bytes of an inventory make a new one
-new_bytes : (id : ℕ) (bytes : List ℕ) (front : List Inventory) → All (λ i. i.id ≢ id) front → (with_bytes id bytes front ≡ front ++ record { id = id; bytes = bytes } ∷ []) × (inventory_in front id ≡ None)
+new_bytes : (id : ℕ) (bytes : List ℕ) (front : List Inventory) → All (λ i. i.id ≢ id) front
+    → (with_bytes id bytes front ≡ front ++ record { id = id; bytes = bytes } ∷ [])
+    × (inventory_in front id ≡ None)
 new_bytes id bytes [] lacks = (refl, refl)
 new_bytes id bytes (x ∷ xs) lacks =
     let more = new_bytes id bytes xs (All-tail (λ (i : Inventory). i.id ≢ id) x xs lacks) in
@@ -62,8 +71,11 @@ module _ (store : Store) (kept : Kept) where
   abbrev inventories_kept : List Inventory → Kept
   inventories_kept inventories = record kept { inventories = inventories }
 
-  part_gives : (id : ℕ) (part : List ℕ) (inventories : List Inventory) (rest : Lines) → id ≤ 254 → 0 < length part → AreBytes part → length (unwrap_or (inventory_in inventories id) []) + length part ≤ 65535
-      → Gives store (inventories_kept (with_bytes id part inventories)) rest → Gives store (inventories_kept inventories) (part_fields id part ∷ rest)
+  part_gives : (id : ℕ) (part : List ℕ) (inventories : List Inventory) (rest : Lines) → id ≤ 254
+      → 0 < length part → AreBytes part
+      → length (unwrap_or (inventory_in inventories id) []) + length part ≤ 65535
+      → Gives store (inventories_kept (with_bytes id part inventories)) rest
+      → Gives store (inventories_kept inventories) (part_fields id part ∷ rest)
   part_gives id part inventories rest le some bytes fits give =
       line_gives store (inventories_kept inventories) (codes "fru") (hex_of 1 id ∷ encode_lower part ∷ []) (an_inventory id part) rest
       (a_word (codes "fru") refl, (a_hex (big_bytes 1 id) (AreBytes-big_bytes 1 id), (a_hex part bytes, tt)))
@@ -72,13 +84,17 @@ module _ (store : Store) (kept : Kept) where
       (rw (ne_eqb id 255 (λ e. omega (arith, le, e)), below) refl)
       (simp append-nil give)
     where
-      below : nat_lt 65535 (length (unwrap_or (inventory_in inventories id) []) + length part) ≡ false
+      below : nat_lt 65535 (length (unwrap_or (inventory_in inventories id) []) + length part)
+          ≡ false
       below = grind (arith, nat_tests)
 
   -- the first part, and the others if there are any
-  parts_give : (id n : ℕ) (bytes : List ℕ) (inventories : List Inventory) (rest : Lines) → id ≤ 254 → n ≡ (length bytes + 63) / 64 → 0 < length bytes → AreBytes bytes
+  parts_give : (id n : ℕ) (bytes : List ℕ) (inventories : List Inventory) (rest : Lines) → id ≤ 254
+      → n ≡ (length bytes + 63) / 64 → 0 < length bytes → AreBytes bytes
       → length (unwrap_or (inventory_in inventories id) []) + length bytes ≤ 65535
-      → Gives store (inventories_kept (with_bytes id bytes inventories)) rest → Gives store (inventories_kept inventories) (map (part_fields id) (first_parts n bytes) ++ rest)
+      → Gives store (inventories_kept (with_bytes id bytes inventories)) rest
+      → Gives store (inventories_kept inventories)
+      (map (part_fields id) (first_parts n bytes) ++ rest)
   parts_give id zero bytes inventories rest le count some all fits give = absurd (omega (arith, count, some))
   parts_give id (suc zero) bytes inventories rest le count some all fits give = rw (take_all 64 bytes (omega (arith, count))) (part_gives id bytes inventories rest le some all fits give)
   parts_give id (suc (suc n)) bytes inventories rest le count some all fits give =
@@ -86,26 +102,38 @@ module _ (store : Store) (kept : Kept) where
       let taken = length-take 64 bytes in
       let joined_len = length-append (unwrap_or (inventory_in inventories id) []) (take 64 bytes) in
       let held = ap length (inventory_in-with_bytes id (take 64 bytes) inventories) in
-      let same : with_bytes id (drop 64 bytes) (with_bytes id (take 64 bytes) inventories) ≡ with_bytes id bytes inventories = with_bytes-twice id (take 64 bytes) (drop 64 bytes) inventories ∙ rw (take-append-drop 64 bytes) refl in
-      part_gives id (take 64 bytes) inventories (map (part_fields id) (first_parts (suc n) (drop 64 bytes)) ++ rest) le (omega (arith, taken, some)) (All-take (λ (b : ℕ). b < 256) 64 bytes all) (omega (arith, taken, fits))
+      let same : with_bytes id (drop 64 bytes) (with_bytes id (take 64 bytes) inventories)
+      ≡ with_bytes id bytes inventories =
+      with_bytes-twice id (take 64 bytes) (drop 64 bytes) inventories
+      ∙ rw (take-append-drop 64 bytes) refl in
+      part_gives id (take 64 bytes) inventories
+      (map (part_fields id) (first_parts (suc n) (drop 64 bytes)) ++ rest) le
+      (omega (arith, taken, some)) (All-take (λ (b : ℕ). b < 256) 64 bytes all)
+      (omega (arith, taken, fits))
       (parts_give id (suc n) (drop 64 bytes) (with_bytes id (take 64 bytes) inventories) rest le (omega (arith, left, count)) (omega (arith, left, count)) (All-drop (λ (b : ℕ). b < 256) 64 bytes all)
       (omega (arith, left, taken, joined_len, held, fits, count))
       (subst (λ (l : List Inventory). Gives store (inventories_kept l) rest) (sym same) give))
 
-  inventory_gives : (front : List Inventory) (x : Inventory) (rest : Lines) → IsWhole x → All (λ a. a.id ≢ x.id) front → Gives store (inventories_kept (front ++ x ∷ [])) rest
+  inventory_gives : (front : List Inventory) (x : Inventory) (rest : Lines) → IsWhole x
+      → All (λ a. a.id ≢ x.id) front → Gives store (inventories_kept (front ++ x ∷ [])) rest
       → Gives store (inventories_kept front) (inventory_lines x ++ rest)
   inventory_gives front x rest is lacks give =
       let new = new_bytes x.id x.bytes front lacks in
       let fits = is.ok.fits in
       parts_give x.id ((length x.bytes + 63) / 64) x.bytes front rest is.ok.id refl is.some is.ok.bytes (rw new.1 (omega (arith, fits))) (rw new.0 give)
 
-  pub inventories_give : (inventories : List Inventory) (rest : Lines) → All IsInventory inventories → All (λ i. 0 < length i.bytes) inventories → AllPairs (λ a b. a.id ≢ b.id) inventories
-      → Gives store (inventories_kept inventories) rest → Gives store (inventories_kept []) (flat_map inventory_lines inventories ++ rest)
-  inventories_give inventories rest all some = each_gives store IsWhole (λ (a b : Inventory). a.id ≢ b.id) inventories_kept inventory_lines inventory_gives [] inventories rest (λ k d lt. record { ok = all k d lt; some = some k d lt })
+  pub inventories_give : (inventories : List Inventory) (rest : Lines) → All IsInventory inventories
+      → All (λ i. 0 < length i.bytes) inventories → AllPairs (λ a b. a.id ≢ b.id) inventories
+      → Gives store (inventories_kept inventories) rest
+      → Gives store (inventories_kept []) (flat_map inventory_lines inventories ++ rest)
+  inventories_give inventories rest all some =
+      each_gives store IsWhole (λ (a b : Inventory). a.id ≢ b.id) inventories_kept inventory_lines
+      inventory_gives [] inventories rest (λ k d lt. record { ok = all k d lt; some = some k d lt })
 
 -- ---- readings
 
-reading_in-absent : (front : List SensorReading) (x : SensorReading) → All (λ a. OtherSensor a x) front → reading_in front x.lun x.number ≡ None
+reading_in-absent : (front : List SensorReading) (x : SensorReading)
+    → All (λ a. OtherSensor a x) front → reading_in front x.lun x.number ≡ None
 reading_in-absent [] x others = refl
 reading_in-absent (a ∷ front) x others =
     let more = reading_in-absent front x (All-tail (λ a. OtherSensor a x) a front others) in
@@ -120,7 +148,8 @@ module _ (store : Store) (kept : Kept) where
   abbrev readings_kept : List SensorReading → Kept
   readings_kept readings = record kept { readings = readings }
 
-  reading_gives : (front : List SensorReading) (x : SensorReading) (rest : Lines) → IsSensor x → All (λ a. OtherSensor a x) front → Gives store (readings_kept (front ++ x ∷ [])) rest
+  reading_gives : (front : List SensorReading) (x : SensorReading) (rest : Lines) → IsSensor x
+      → All (λ a. OtherSensor a x) front → Gives store (readings_kept (front ++ x ∷ [])) rest
       → Gives store (readings_kept front) (reading_fields x ∷ rest)
   reading_gives front x rest is others give =
       let lun = All-drop (λ b. nat_lt 32 b ≡ true) 1 (hex_of 1 x.lun) (a_hex (big_bytes 1 x.lun) (AreBytes-big_bytes 1 x.lun)) in
@@ -134,8 +163,10 @@ module _ (store : Store) (kept : Kept) where
       below : nat_lt 3 x.lun ≡ false
       below = let le = is.lun in grind (arith, nat_tests)
 
-  pub readings_give : (readings : List SensorReading) (rest : Lines) → All IsSensorReading readings → All (λ s. s.lun ≤ 3) readings → AllPairs OtherSensor readings
-      → Gives store (readings_kept readings) rest → Gives store (readings_kept []) (map reading_fields readings ++ rest)
+  pub readings_give : (readings : List SensorReading) (rest : Lines) → All IsSensorReading readings
+      → All (λ s. s.lun ≤ 3) readings → AllPairs OtherSensor readings
+      → Gives store (readings_kept readings) rest
+      → Gives store (readings_kept []) (map reading_fields readings ++ rest)
   readings_give readings rest all luns pairs give = rw (← flat_map_single reading_fields readings)
       (each_gives store IsSensor OtherSensor readings_kept (λ x. reading_fields x ∷ []) reading_gives [] readings rest (λ k d lt. record { ok = all k d lt; lun = luns k d lt }) pairs give)
 
@@ -145,11 +176,16 @@ abbrev pub with_infos : Shelf → Kept → List (List ℕ) → Kept
 with_infos Sdr kept infos = record kept { sdr_info = infos }
 with_infos Sel kept infos = record kept { sel_info = infos }
 
-info_kept : (shelf : Shelf) (kept : Kept) (bytes : List ℕ) → (fault_in (store_kept (with_infos shelf kept [])) (an_info shelf bytes) ≡ info_fault None bytes) × (kept_with (with_infos shelf kept []) (an_info shelf bytes ∷ []) ≡ with_infos shelf kept (bytes ∷ []))
+info_kept : (shelf : Shelf) (kept : Kept) (bytes : List ℕ)
+    → (fault_in (store_kept (with_infos shelf kept [])) (an_info shelf bytes)
+    ≡ info_fault None bytes)
+    × (kept_with (with_infos shelf kept []) (an_info shelf bytes ∷ [])
+    ≡ with_infos shelf kept (bytes ∷ []))
 info_kept Sdr kept bytes = (refl, simp append-nil)
 info_kept Sel kept bytes = (refl, simp append-nil)
 
-info_gives : (store : Store) (shelf : Shelf) (kept : Kept) (info : Option (List ℕ)) (rest : Lines) → IfSome info IsInfo → Gives store (with_infos shelf kept (option_to_list info)) rest
+info_gives : (store : Store) (shelf : Shelf) (kept : Kept) (info : Option (List ℕ)) (rest : Lines)
+    → IfSome info IsInfo → Gives store (with_infos shelf kept (option_to_list info)) rest
     → Gives store (with_infos shelf kept []) (info_lines (word_of shelf) info ++ rest)
 info_gives store shelf kept None rest ok give = give
 info_gives store shelf kept (Some bytes) rest ok give =
@@ -167,13 +203,15 @@ first_of-info : (info : Option (List ℕ)) → first_of (option_to_list info) �
 first_of-info None = refl
 first_of-info (Some bytes) = refl
 
-end_gives : (store : Store) (kept : Kept) → store_kept kept ≡ store → Gives store kept ((codes "end" ∷ []) ∷ [])
+end_gives : (store : Store) (kept : Kept) → store_kept kept ≡ store
+    → Gives store kept ((codes "end" ∷ []) ∷ [])
 unfolding pieces
 end_gives store kept same = λ before is.
     let found = line_judged-found true before (codes "end") the_end None (line_of-fields (codes "end") [] (a_word (codes "end") refl, tt)) refl in
     rw (pieces-more 10 (codes "end") [] (pieces-join_with_byte (codes "end") [] (a_word (codes "end") refl, tt)).0, store_after_line true before (codes "end") [], found) (ap Ok (ap store_kept is ∙ same))
 
-pub store_of_image_image_text_of : (store : Store) → IsStore store → IsSaved store → store_of_image (image_text_of store) ≡ Ok store
+pub store_of_image_image_text_of : (store : Store) → IsStore store → IsSaved store
+    → store_of_image (image_text_of store) ≡ Ok store
 unfolding image_text_of
 store_of_image_image_text_of store is saved =
     let rows = with_rows Sel (with_rows Sdr nothing (saved_rows store.sdr)) (saved_rows store.sel) in
@@ -184,7 +222,10 @@ store_of_image_image_text_of store is saved =
     let same : store_kept all ≡ store = rw (chained-saved_rows store.sdr, chained-saved_rows store.sel, first_of-info store.sdr_info, first_of-info store.sel_info) refl in
     let end = end_gives store all same in
     let infos = info_gives store Sdr readings store.sdr_info _ is.sdr_info (info_gives store Sel info store.sel_info _ is.sel_info end) in
-    let others = inventories_give store rows store.inventories _ is.inventories saved.some is.distinct_inventories (readings_give store inventories store.readings _ is.readings saved.luns is.distinct_readings infos) in
+    let others = inventories_give store rows store.inventories _ is.inventories saved.some
+    is.distinct_inventories
+    (readings_give store inventories store.readings _ is.readings saved.luns
+    is.distinct_readings infos) in
     let lines = rows_lines (codes "sdr") store.sdr ++ (rows_lines (codes "sel") store.sel ++ other_lines store) in
     store_of_image-lines _ (codes "ipmi-image 2") (lines_text lines) true (pieces-more 10 (codes "ipmi-image 2") (lines_text lines) header) refl
     ∙ shelf_gives store Sdr nothing store.sdr _ is.sdr (shelf_gives store Sel (with_rows Sdr nothing (saved_rows store.sdr)) store.sel _ is.sel others) [] refl

@@ -38,10 +38,16 @@ a_hex (b ∷ bytes) all =
     let digits = a_word lower_digits refl in
     let lt = all 0 b (omega arith) in
     let cons = All-cons (λ (b : ℕ). nat_lt 32 b ≡ true) in
-    cons (slice_index lower_digits (b / 16)) (slice_index lower_digits (b % 16) ∷ encode_lower bytes) (digits (b / 16) 0 (omega (arith, lt))) (cons (slice_index lower_digits (b % 16)) (encode_lower bytes) (digits (b % 16) 0 (omega arith)) (a_hex bytes (All-tail (λ (b : ℕ). b < 256) b bytes all)))
+    cons (slice_index lower_digits (b / 16))
+    (slice_index lower_digits (b % 16) ∷ encode_lower bytes)
+    (digits (b / 16) 0 (omega (arith, lt)))
+    (cons (slice_index lower_digits (b % 16)) (encode_lower bytes)
+    (digits (b % 16) 0 (omega arith)) (a_hex bytes (All-tail (λ (b : ℕ). b < 256) b bytes all)))
 
 -- fields pieces-join_with_byte are one line, and are cut where they were pieces-join_with_byte
-pub pieces-join_with_byte : (first : List ℕ) (fields : List (List ℕ)) → AreFields (first ∷ fields) → Lacks 10 (join_with_byte 32 (first ∷ fields)) × (pieces 32 (join_with_byte 32 (first ∷ fields)) ≡ first ∷ fields)
+pub pieces-join_with_byte : (first : List ℕ) (fields : List (List ℕ)) → AreFields (first ∷ fields)
+    → Lacks 10 (join_with_byte 32 (first ∷ fields))
+    × (pieces 32 (join_with_byte 32 (first ∷ fields)) ≡ first ∷ fields)
 pieces-join_with_byte first [] are = (lacks 10 first (omega arith) are.0, pieces-one 32 first (lacks 32 first (omega arith) are.0))
 pieces-join_with_byte first (second ∷ fields) are =
     let more = pieces-join_with_byte second fields are.1 in (
@@ -49,7 +55,8 @@ pieces-join_with_byte first (second ∷ fields) are =
       pieces-more 32 first _ (lacks 32 first (omega arith) are.0) ∙ rw more.1 refl,
     )
 
-pub line_of-fields : (first : List ℕ) (fields : List (List ℕ)) → AreFields (first ∷ fields) → line_of true (join_with_byte 32 (first ∷ fields)) ≡ line_of_fields true (first ∷ fields)
+pub line_of-fields : (first : List ℕ) (fields : List (List ℕ)) → AreFields (first ∷ fields)
+    → line_of true (join_with_byte 32 (first ∷ fields)) ≡ line_of_fields true (first ∷ fields)
 unfolding line_of
 line_of-fields first fields are = ap (line_of_fields true) (pieces-join_with_byte first fields are).1
 
@@ -63,7 +70,8 @@ AreBytes-big_bytes (suc (suc n)) x = All-cons (λ (b : ℕ). b < 256) (x / 256 ^
 IsBytes-from_AreBytes : (bytes : List ℕ) → AreBytes bytes → IsBytes bytes
 IsBytes-from_AreBytes bytes all i = grind (arith, common_steps)
 
-bytes_in-encode_lower : (bytes : List ℕ) → AreBytes bytes → bytes_in (encode_lower bytes) ≡ Some bytes
+bytes_in-encode_lower : (bytes : List ℕ) → AreBytes bytes
+    → bytes_in (encode_lower bytes) ≡ Some bytes
 bytes_in-encode_lower bytes all = ap result_ok (decode_of-encode_lower bytes (IsBytes-from_AreBytes bytes all))
 
 number_in-hex_of : (n x : ℕ) → x < 256 ^ n → number_in n (hex_of n x) ≡ Some x
@@ -72,7 +80,8 @@ number_in-hex_of n x lt = ap (option_map (big_number n)) (bytes_in-encode_lower 
 length-hex_of : (n x : ℕ) → length (hex_of n x) ≡ 2 * n
 length-hex_of n x = length-encode_with lower_digits (big_bytes n x) ∙ ap (λ (k : ℕ). 2 * k) (length-bytes_high_first n x)
 
-is_some_text-encode_lower : (bytes : List ℕ) → 0 < length bytes → is_some_text (encode_lower bytes) ≡ true
+is_some_text-encode_lower : (bytes : List ℕ) → 0 < length bytes
+    → is_some_text (encode_lower bytes) ≡ true
 unfolding encode_with
 is_some_text-encode_lower [] some = absurd (omega (arith, some))
 is_some_text-encode_lower (b ∷ bytes) some = refl
@@ -91,33 +100,43 @@ is_dash-hex_of : (x : ℕ) → is_dash (hex_of 2 x) ≡ false
 unfolding encode_with
 is_dash-hex_of x = grind arith
 
-next_in-next_field : (following next : ℕ) → next < 65536 → (((length (next_field following next) == 4) || is_dash (next_field following next)) ≡ true) × (next_in (next_field following next) ≡ Some (if next == following then None else Some next))
+next_in-next_field : (following next : ℕ) → next < 65536
+    → (((length (next_field following next) == 4) || is_dash (next_field following next)) ≡ true)
+    × (next_in (next_field following next) ≡ Some (if next == following then None else Some next))
 next_in-next_field following next lt = by (nat_eq next following)
   where
-    by : (t : Bool) → (let field = cond t (codes "-") (hex_of 2 next) in ((length field == 4) || is_dash field) ≡ true) × (next_in (cond t (codes "-") (hex_of 2 next)) ≡ Some (cond t None (Some next)))
+    by : (t : Bool) → (let field = cond t (codes "-") (hex_of 2 next) in
+        ((length field == 4) || is_dash field) ≡ true)
+        × (next_in (cond t (codes "-") (hex_of 2 next)) ≡ Some (cond t None (Some next)))
     by true = (refl, refl)
     by false = (rw (length-hex_of 2 next) refl, rw (is_dash-hex_of next) (ap (option_map (λ id. Some id)) (number_in-hex_of 2 next lt)))
 
 -- a row has bytes
-pub line_of_fields-row_fields : (shelf : Shelf) (following : ℕ) (row : Row) → IsRow shelf row → line_of_fields true (row_fields (word_of shelf) following row) ≡ Ok (a_row shelf (saved_row following row))
+pub line_of_fields-row_fields : (shelf : Shelf) (following : ℕ) (row : Row) → IsRow shelf row
+    → line_of_fields true (row_fields (word_of shelf) following row)
+    ≡ Ok (a_row shelf (saved_row following row))
 line_of_fields-row_fields shelf following row ok =
     let whole = ok.whole in
     let id = ok.id in
     let next = next_in-next_field following row.next ok.next in
     (by shelf).0 ∙ rw (number_in-hex_of 2 row.id (omega (arith, id)), next.1, bytes_in-encode_lower row.bytes ok.bytes, length-hex_of 2 row.id, next.0, is_some_text-encode_lower row.bytes (omega (arith, whole, (by shelf).1))) refl
   where
-    by : (s : Shelf) → (line_of_fields true (row_fields (word_of s) following row) ≡ row_line true s (hex_of 2 row.id) (next_field following row.next) (encode_lower row.bytes)) × (0 < whole_len s row.bytes)
+    by : (s : Shelf) → (line_of_fields true (row_fields (word_of s) following row)
+        ≡ row_line true s (hex_of 2 row.id) (next_field following row.next)
+        (encode_lower row.bytes)) × (0 < whole_len s row.bytes)
     by Sdr = (refl, omega arith)
     by Sel = (refl, omega arith)
 
-pub line_of_fields-part_fields : (id : ℕ) (part : List ℕ) → id ≤ 254 → 0 < length part → AreBytes part → line_of_fields true (part_fields id part) ≡ Ok (an_inventory id part)
+pub line_of_fields-part_fields : (id : ℕ) (part : List ℕ) → id ≤ 254 → 0 < length part
+    → AreBytes part → line_of_fields true (part_fields id part) ≡ Ok (an_inventory id part)
 line_of_fields-part_fields id part le some bytes = rw (number_in-hex_of 1 id (omega (arith, le)), bytes_in-encode_lower part bytes, length-hex_of 1 id, is_some_text-encode_lower part some) refl
 
 -- the four bytes of a reading
 abbrev pub bytes_of_reading : SensorReading → List ℕ
 bytes_of_reading sensor = sensor.reading.raw ∷ sensor.reading.flags ∷ sensor.reading.status ∷ sensor.reading.more ∷ []
 
-pub AreBytes-bytes_of_reading : (sensor : SensorReading) → IsSensorReading sensor → AreBytes (bytes_of_reading sensor)
+pub AreBytes-bytes_of_reading : (sensor : SensorReading) → IsSensorReading sensor
+    → AreBytes (bytes_of_reading sensor)
 AreBytes-bytes_of_reading sensor ok =
     let cons = All-cons (λ (b : ℕ). b < 256) in
     let r = sensor.reading in
@@ -127,15 +146,20 @@ digit_in-lun : (lun : ℕ) → lun ≤ 3 → digit_in (drop 1 (hex_of 1 lun)) �
 unfolding decode_pairs encode_with
 digit_in-lun = of_lun (λ lun. digit_in (drop 1 (hex_of 1 lun)) ≡ Some lun) refl refl refl refl
 
-pub line_of_fields-reading_fields : (sensor : SensorReading) → sensor.lun ≤ 3 → IsSensorReading sensor → line_of_fields true (reading_fields sensor) ≡ Ok (a_reading sensor.lun sensor.number (bytes_of_reading sensor))
+pub line_of_fields-reading_fields : (sensor : SensorReading) → sensor.lun ≤ 3
+    → IsSensorReading sensor → line_of_fields true (reading_fields sensor)
+    ≡ Ok (a_reading sensor.lun sensor.number (bytes_of_reading sensor))
 line_of_fields-reading_fields sensor le ok =
     let bytes = bytes_of_reading sensor in
     let len : length (drop 1 (hex_of 1 sensor.lun)) ≡ 1 = ap length (drop_hex_of_lun sensor.lun le) in
     rw (digit_in-lun sensor.lun le, number_in-hex_of 1 sensor.number ok.number, bytes_in-encode_lower bytes (AreBytes-bytes_of_reading sensor ok), len, length-hex_of 1 sensor.number, is_some_text-encode_lower bytes (omega arith)) refl
 
-pub line_of_fields-info : (shelf : Shelf) (bytes : List ℕ) → IsInfo bytes → line_of_fields true (codes "info" ∷ word_of shelf ∷ encode_lower bytes ∷ []) ≡ Ok (an_info shelf bytes)
+pub line_of_fields-info : (shelf : Shelf) (bytes : List ℕ) → IsInfo bytes
+    → line_of_fields true (codes "info" ∷ word_of shelf ∷ encode_lower bytes ∷ [])
+    ≡ Ok (an_info shelf bytes)
 line_of_fields-info shelf bytes ok = let len = ok.len in by shelf ∙ rw (bytes_in-encode_lower bytes ok.all, is_some_text-encode_lower bytes (omega (arith, len))) refl
   where
-    by : (s : Shelf) → line_of_fields true (codes "info" ∷ word_of s ∷ encode_lower bytes ∷ []) ≡ info_line_of (Some s) (encode_lower bytes)
+    by : (s : Shelf) → line_of_fields true (codes "info" ∷ word_of s ∷ encode_lower bytes ∷ [])
+        ≡ info_line_of (Some s) (encode_lower bytes)
     by Sdr = refl
     by Sel = refl

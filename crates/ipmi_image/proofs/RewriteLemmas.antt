@@ -19,7 +19,8 @@ unfolding encode_with
 drop_hex_of_lun = of_lun (λ lun. drop 1 (hex_of 1 lun) ≡ (48 + lun) ∷ []) refl refl refl refl
 
 -- the first part, and the parts of what is left
-pub parts_of_more : (bytes : List ℕ) → 0 < length bytes → parts_of bytes ≡ take 64 bytes ∷ parts_of (drop 64 bytes)
+pub parts_of_more : (bytes : List ℕ) → 0 < length bytes
+    → parts_of bytes ≡ take 64 bytes ∷ parts_of (drop 64 bytes)
 parts_of_more bytes some = rw count refl
   where
     count : (length bytes + 63) / 64 ≡ suc ((length (drop 64 bytes) + 63) / 64)

@@ -14,7 +14,9 @@ pub plainly : (r : Responder) → IsHonest (seen_as false r) → IsHonest (seen_
 plainly r honest = record { said = honest.said; store = honest.store }
 
 -- a plain controller's answer, from `mid` to `answered`, is one that is not plain too, from `old` to `new`
-module _ (old : Seen) (r r' : Responder) (plain : old.plain ≡ false) (first : Prepares old (seen_as false r)) (change : IsChange (seen_as true r) (seen_as true r')) where
+module _ (old : Seen) (r r' : Responder) (plain : old.plain ≡ false)
+    (first : Prepares old (seen_as false r))
+    (change : IsChange (seen_as true r) (seen_as true r')) where
   abbrev mid : Seen
   mid = seen_as true r
 
@@ -37,7 +39,8 @@ module _ (old : Seen) (r r' : Responder) (plain : old.plain ≡ false) (first : 
   piece true h = finished h
   piece false h = quiet h
 
-  fails : (P Q : Type 0) (class : CodeClass) (code : ℕ) → FailsWith P Q class code mid answered → FailsWith P Q class code old new
+  fails : (P Q : Type 0) (class : CodeClass) (code : ℕ) → FailsWith P Q class code mid answered
+      → FailsWith P Q class code old new
   fails P Q Cancelled code q = omega arith
   fails P Q Busy code q = omega arith
   fails P Q SmallerPart code h = (h.0, quiet h.1)
@@ -77,7 +80,8 @@ module _ (old : Seen) (r r' : Responder) (plain : old.plain ≡ false) (first : 
     plain = λ p. not_plain p;
   }
 
-  pub after_reserve : (shelf : Shelf) (number : ℕ) → ReserveAnswers shelf (Ok number) mid answered → ReserveAnswers shelf (Ok number) old new
+  pub after_reserve : (shelf : Shelf) (number : ℕ) → ReserveAnswers shelf (Ok number) mid answered
+      → ReserveAnswers shelf (Ok number) old new
   after_reserve shelf number a = record {
     change = changed;
     gives = (quiet a.gives.0, sym (reserved shelf) ∙ a.gives.1);
@@ -85,7 +89,8 @@ module _ (old : Seen) (r r' : Responder) (plain : old.plain ≡ false) (first : 
     plain = λ p. not_plain p;
   }
 
-  pub after_part : (ask : Asked) (result : Result Part Code) (into : List ℕ) → PartAnswers ask result into mid answered → PartAnswers ask result into old new
+  pub after_part : (ask : Asked) (result : Result Part Code) (into : List ℕ)
+      → PartAnswers ask result into mid answered → PartAnswers ask result into old new
   after_part ask result into a = record {
     change = changed;
     gives = by result a.gives;
@@ -98,23 +103,28 @@ module _ (old : Seen) (r r' : Responder) (plain : old.plain ≡ false) (first : 
       by (Ok part) g = (g.0, record { found = g.1.found; piece = g.1.piece; next = g.1.next; reserved = λ some. sym (reserved ask.shelf) ∙ g.1.reserved some; counts = piece _ g.1.counts })
       by (Err code) g = fails _ _ (class_of code.0) code.0 g
 
-  pub after_value : {V : Type 0} (value : Store → Option V) (result : Result V Code) → ValueAnswers value result mid answered → ValueAnswers value result old new
+  pub after_value : {V : Type 0} (value : Store → Option V) (result : Result V Code)
+      → ValueAnswers value result mid answered → ValueAnswers value result old new
   after_value {V} value result a = record { change = changed; gives = by result a.gives; sdr = loses Sdr a.sdr; sel = loses Sel a.sel; plain = λ p. not_plain p }
     where
       by : (r : Result V Code) → ValueGives value r mid answered → ValueGives value r old new
       by (Ok v) g = (g.0, finished g.1)
       by (Err code) g = fails _ _ (class_of code.0) code.0 g
 
-  pub after_size : (id : ℕ) (result : Result FruSize Code) → SizeAnswers id result mid answered → SizeAnswers id result old new
+  pub after_size : (id : ℕ) (result : Result FruSize Code) → SizeAnswers id result mid answered
+      → SizeAnswers id result old new
   after_size id result a = record { change = changed; gives = by result a.gives; sdr = loses Sdr a.sdr; sel = loses Sel a.sel; plain = λ p. not_plain p }
     where
       by : (r : Result FruSize Code) → SizeGives id r mid answered → SizeGives id r old new
       by (Ok size) g = (g.0, g.1, record { size_is = g.2.size_is; no_words = g.2.no_words; counts = piece _ g.2.counts })
       by (Err code) g = fails _ _ (class_of code.0) code.0 g
 
-  pub after_bytes : (id offset asked : ℕ) (result : Result ℕ Code) (into : List ℕ) → BytesAnswers id offset asked result into mid answered → BytesAnswers id offset asked result into old new
+  pub after_bytes : (id offset asked : ℕ) (result : Result ℕ Code) (into : List ℕ)
+      → BytesAnswers id offset asked result into mid answered
+      → BytesAnswers id offset asked result into old new
   after_bytes id offset asked result into a = record { change = changed; gives = by result a.gives; sdr = loses Sdr a.sdr; sel = loses Sel a.sel; plain = λ p. not_plain p }
     where
-      by : (r : Result ℕ Code) → BytesGives id offset asked r into mid answered → BytesGives id offset asked r into old new
+      by : (r : Result ℕ Code) → BytesGives id offset asked r into mid answered
+          → BytesGives id offset asked r into old new
       by (Ok got) g = (g.0, g.1, record { piece = g.2.piece; counts = piece _ g.2.counts })
       by (Err code) g = fails _ _ (class_of code.0) code.0 g

@@ -14,26 +14,33 @@ use Rattle.ipmi_image.specs.Below.{Row, row_with_id, IsSensorReading, inventory_
 use Rattle.ipmi_image.specs.Prelude.{SavedRow, StoredInventory, StoredSensor, id_of, place_of, IsIndex, sensor_key, kept_inventory, chained, row_before, is_empty, with_bytes, sensor_of}
 
 -- a last item is found where none before it has the key
-pub place_of_snoc : {T : Type 0} (key : T → ℕ) (q : ℕ) (items : List T) (item : T) → place_of key q (items ++ item ∷ []) ≡ option_or (place_of key q items) (cond (nat_eq (key item) q) (Some (length items)) None)
+pub place_of_snoc : {T : Type 0} (key : T → ℕ) (q : ℕ) (items : List T) (item : T)
+    → place_of key q (items ++ item ∷ [])
+    ≡ option_or (place_of key q items) (cond (nat_eq (key item) q) (Some (length items)) None)
 place_of_snoc key q [] item = grind arith
 place_of_snoc key q (x ∷ xs) item = grind (arith, place_of_snoc key q xs item)
 
-pub list_any_keys : {T : Type 0} (key : T → ℕ) (q : ℕ) (items : List T) → list_any (nat_eq q) (map key items) ≡ is_some (place_of key q items)
+pub list_any_keys : {T : Type 0} (key : T → ℕ) (q : ℕ) (items : List T)
+    → list_any (nat_eq q) (map key items) ≡ is_some (place_of key q items)
 list_any_keys key q [] = refl
 list_any_keys key q (x ∷ xs) = grind (arith, nat_tests, list_any_keys key q xs)
 
 -- it is one of the list's places
-pub place_below : {T : Type 0} (key : T → ℕ) (q : ℕ) (items : List T) → IfSome (place_of key q items) (λ place. place < length items)
+pub place_below : {T : Type 0} (key : T → ℕ) (q : ℕ) (items : List T)
+    → IfSome (place_of key q items) (λ place. place < length items)
 place_below key q [] = tt
 place_below key q (x ∷ xs) = grind (arith, place_below key q xs)
 
 -- the item there has the key
-pub key_place_of : {T : Type 0} (key : T → ℕ) (q : ℕ) (items : List T) (d : T) → IfSome (place_of key q items) (λ place. key (get_or items place d) ≡ q)
+pub key_place_of : {T : Type 0} (key : T → ℕ) (q : ℕ) (items : List T) (d : T)
+    → IfSome (place_of key q items) (λ place. key (get_or items place d) ≡ q)
 key_place_of key q [] d = tt
 key_place_of key q (x ∷ xs) d = grind (arith, nat_tests, key_place_of key q xs d)
 
 -- where no two keys are equal, an item with the key is found at its place
-pub place_of_at : {T : Type 0} (key : T → ℕ) (q : ℕ) (items : List T) (place : ℕ) (d : T) → IsDistinct nat_eq (map key items) → place < length items → key (get_or items place d) ≡ q → place_of key q items ≡ Some place
+pub place_of_at : {T : Type 0} (key : T → ℕ) (q : ℕ) (items : List T) (place : ℕ) (d : T)
+    → IsDistinct nat_eq (map key items) → place < length items → key (get_or items place d) ≡ q
+    → place_of key q items ≡ Some place
 place_of_at key q [] place d distinct lt is = absurd (omega (arith, lt))
 place_of_at key q (x ∷ xs) zero d distinct lt is = grind (arith, nat_tests)
 place_of_at key q (x ∷ xs) (suc place) d distinct lt is =
@@ -43,7 +50,8 @@ place_of_at key q (x ∷ xs) (suc place) d distinct lt is =
 
 -- ---- rows
 
-pub has_id_chained : (rows : List SavedRow) (id : ℕ) → has_id (chained rows) id ≡ is_some (place_of id_of id rows)
+pub has_id_chained : (rows : List SavedRow) (id : ℕ)
+    → has_id (chained rows) id ≡ is_some (place_of id_of id rows)
 has_id_chained [] id = refl
 has_id_chained (row ∷ rows) id = grind (arith, nat_tests, has_id_chained rows id)
 
@@ -55,60 +63,90 @@ is_empty_chained (row ∷ rows) = grind (arith, nat_tests)
 abbrev pub row_at : List SavedRow → ℕ → Option Row
 row_at rows place = option_map (row_before (drop (suc place) rows)) (slice_get rows place)
 
-pub row_with_id_chained : (rows : List SavedRow) (id : ℕ) → row_with_id id (chained rows) ≡ option_and_then (row_at rows) (place_of id_of id rows)
+pub row_with_id_chained : (rows : List SavedRow) (id : ℕ)
+    → row_with_id id (chained rows) ≡ option_and_then (row_at rows) (place_of id_of id rows)
 row_with_id_chained [] id = refl
 row_with_id_chained (row ∷ rows) id = by (nat_eq row.id id) (place_of id_of id rows) (row_with_id_chained rows id)
   where
-    by : (b : Bool) (o : Option ℕ) → row_with_id id (chained rows) ≡ option_and_then (row_at rows) o → cond b (Some (row_before rows row)) (row_with_id id (chained rows)) ≡ option_and_then (row_at (row ∷ rows)) (cond b (Some 0) (option_map suc o))
+    by : (b : Bool) (o : Option ℕ) → row_with_id id (chained rows) ≡ option_and_then (row_at rows) o
+        → cond b (Some (row_before rows row)) (row_with_id id (chained rows))
+        ≡ option_and_then (row_at (row ∷ rows)) (cond b (Some 0) (option_map suc o))
     by true o e = refl
     by false None e = e
     by false (Some p) e = e
 
 -- ---- inventories
 
-pub inventory_in_place : (items : List StoredInventory) (id : ℕ) → inventory_in (map kept_inventory items) id ≡ option_map (λ (i : StoredInventory). i.bytes.items) (option_and_then (slice_get items) (place_of (λ (i : StoredInventory). i.id) id items))
+pub inventory_in_place : (items : List StoredInventory) (id : ℕ)
+    → inventory_in (map kept_inventory items) id
+    ≡ option_map (λ (i : StoredInventory). i.bytes.items)
+    (option_and_then (slice_get items) (place_of (λ (i : StoredInventory). i.id) id items))
 inventory_in_place [] id = refl
 inventory_in_place (x ∷ xs) id = grind (arith, inventory_in_place xs id)
 
 -- the inventory at the place has these bytes after its own
-pub with_bytes_set : (items : List StoredInventory) (id place : ℕ) (bytes : List ℕ) (item d : StoredInventory) → place_of (λ (i : StoredInventory). i.id) id items ≡ Some place
-    → kept_inventory item ≡ record { id = (get_or items place d).id; bytes = (get_or items place d).bytes.items ++ bytes } → with_bytes id bytes (map kept_inventory items) ≡ map kept_inventory (set items place item)
+pub with_bytes_set : (items : List StoredInventory) (id place : ℕ) (bytes : List ℕ)
+    (item d : StoredInventory) → place_of (λ (i : StoredInventory). i.id) id items ≡ Some place
+    → kept_inventory item
+    ≡ record { id = (get_or items place d).id; bytes = (get_or items place d).bytes.items ++ bytes }
+    → with_bytes id bytes (map kept_inventory items) ≡ map kept_inventory (set items place item)
 with_bytes_set [] id place bytes item d at is = absurd (none-some place at)
 with_bytes_set (x ∷ xs) id zero bytes item d at is = grind arith
 with_bytes_set (x ∷ xs) id (suc place) bytes item d at is = grind (arith, with_bytes_set xs id place bytes item d)
 
-pub with_bytes_new : (items : List StoredInventory) (id : ℕ) (bytes : List ℕ) → place_of (λ (i : StoredInventory). i.id) id items ≡ None → with_bytes id bytes (map kept_inventory items) ≡ map kept_inventory items ++ record { id = id; bytes = bytes } ∷ []
+pub with_bytes_new : (items : List StoredInventory) (id : ℕ) (bytes : List ℕ)
+    → place_of (λ (i : StoredInventory). i.id) id items ≡ None
+    → with_bytes id bytes (map kept_inventory items)
+    ≡ map kept_inventory items ++ record { id = id; bytes = bytes } ∷ []
 with_bytes_new [] id bytes at = refl
 with_bytes_new (x ∷ xs) id bytes at = grind (arith, with_bytes_new xs id bytes)
 
 -- ---- sensors
 
-and-sensor_key : (lun number lun' number' : ℕ) → number < 256 → number' < 256 → (nat_eq lun lun' && nat_eq number number') ≡ nat_eq (sensor_key lun number) (sensor_key lun' number')
+and-sensor_key : (lun number lun' number' : ℕ) → number < 256 → number' < 256
+    → (nat_eq lun lun' && nat_eq number number')
+    ≡ nat_eq (sensor_key lun number) (sensor_key lun' number')
 and-sensor_key lun number lun' number' lt lt' = grind (arith, nat_tests)
 
 module _ (lun number : ℕ) (lt : number < 256) where
-  pub reading_in_place : (items : List StoredSensor) → All IsSensorReading (map sensor_of items) → reading_in (map sensor_of items) lun number ≡ option_map (λ (s : StoredSensor). s.reading) (option_and_then (slice_get items) (place_of (λ (s : StoredSensor). sensor_key s.lun s.number) (sensor_key lun number) items))
+  pub reading_in_place : (items : List StoredSensor) → All IsSensorReading (map sensor_of items)
+      → reading_in (map sensor_of items) lun number
+      ≡ option_map (λ (s : StoredSensor). s.reading)
+      (option_and_then (slice_get items)
+      (place_of (λ (s : StoredSensor). sensor_key s.lun s.number) (sensor_key lun number) items))
   reading_in_place [] all = refl
-  reading_in_place (x ∷ xs) all = rw (and-sensor_key x.lun x.number lun number (all 0 (sensor_of x) (omega arith)).number lt) (grind (arith, reading_in_place xs (λ k d below. all (suc k) d (omega (arith, below)))))
+  reading_in_place (x ∷ xs) all =
+      rw (and-sensor_key x.lun x.number lun number (all 0 (sensor_of x) (omega arith)).number lt)
+      (grind (arith, reading_in_place xs (λ k d below. all (suc k) d (omega (arith, below)))))
 
-  pub is_some_reading_in : (items : List StoredSensor) → All IsSensorReading (map sensor_of items) → is_some (reading_in (map sensor_of items) lun number) ≡ is_some (place_of (λ (s : StoredSensor). sensor_key s.lun s.number) (sensor_key lun number) items)
+  pub is_some_reading_in : (items : List StoredSensor) → All IsSensorReading (map sensor_of items)
+      → is_some (reading_in (map sensor_of items) lun number)
+      ≡ is_some (place_of (λ (s : StoredSensor). sensor_key s.lun s.number) (sensor_key lun number)
+      items)
   is_some_reading_in [] all = refl
-  is_some_reading_in (x ∷ xs) all = rw (and-sensor_key x.lun x.number lun number (all 0 (sensor_of x) (omega arith)).number lt) (grind (arith, is_some_reading_in xs (λ k d below. all (suc k) d (omega (arith, below)))))
+  is_some_reading_in (x ∷ xs) all =
+      rw (and-sensor_key x.lun x.number lun number (all 0 (sensor_of x) (omega arith)).number lt)
+      (grind (arith, is_some_reading_in xs (λ k d below. all (suc k) d (omega (arith, below)))))
 
 -- ---- an index beside the items
 
 -- no items yet
-pub index_new : {T : Type 0} (key : T → ℕ) (places : ℕ → Option ℕ) → ((q : ℕ) → places q ≡ None) → IsIndex key [] places
+pub index_new : {T : Type 0} (key : T → ℕ) (places : ℕ → Option ℕ) → ((q : ℕ) → places q ≡ None)
+    → IsIndex key [] places
 unfolding IsDistinct
 index_new key places none = record { found = none; distinct = tt; below = λ q place is. absurd (none-some place is) }
 
 -- keys below FFFFh with no two equal are at most FFFFh
-pub index_len : {T : Type 0} (key : T → ℕ) (items : List T) (places : ℕ → Option ℕ) → IsIndex key items places → length items ≤ 65535
+pub index_len : {T : Type 0} (key : T → ℕ) (items : List T) (places : ℕ → Option ℕ)
+    → IsIndex key items places → length items ≤ 65535
 index_len key items places index =
     rw length-map at (length-le_from_distinct_below (map key items) 65535 index.distinct (λ q m. grind (arith, index.below q, list_any_keys key q items)))
 
 -- a new key's item is put at the end, and its place beside the others
-pub index_push : {T : Type 0} (key : T → ℕ) (items : List T) (item : T) (old new : ℕ → Option ℕ) → IsIndex key items old → key item < 65535 → place_of key (key item) items ≡ None → ((q : ℕ) → new q ≡ cond (nat_eq (key item) q) (Some (length items)) (old q)) → IsIndex key (items ++ item ∷ []) new
+pub index_push : {T : Type 0} (key : T → ℕ) (items : List T) (item : T) (old new : ℕ → Option ℕ)
+    → IsIndex key items old → key item < 65535 → place_of key (key item) items ≡ None
+    → ((q : ℕ) → new q ≡ cond (nat_eq (key item) q) (Some (length items)) (old q))
+    → IsIndex key (items ++ item ∷ []) new
 index_push key items item old new index lt absent puts = record {
   found = λ q. grind (arith, nat_tests, puts q, index.found q, place_of_snoc key q items item);
   distinct = rw map-append (IsDistinct-push nat_eq_equiv (map key items) (key item) index.distinct (list_any_keys key (key item) items ∙ ap is_some absent));
@@ -116,17 +154,22 @@ index_push key items item old new index lt absent puts = record {
 }
 
 -- what was put, where none had its key
-pub was_put : {P : Type 0} (Q : Type 0) (is_new : Bool) (o : Option ℕ) → MatchBool is_new ((o ≡ None) × P) ((is_some o ≡ true) × Q) → o ≡ None → P
+pub was_put : {P : Type 0} (Q : Type 0) (is_new : Bool) (o : Option ℕ)
+    → MatchBool is_new ((o ≡ None) × P) ((is_some o ≡ true) × Q) → o ≡ None → P
 was_put Q true o m none = m.1
 was_put Q false o m none = let there = m.0 in cc
 
 -- an item in another's place, with its key, is found where that was
-place_of_set : {T : Type 0} (key : T → ℕ) (q : ℕ) (items : List T) (place : ℕ) (item d : T) → key item ≡ key (get_or items place d) → place_of key q (set items place item) ≡ place_of key q items
+place_of_set : {T : Type 0} (key : T → ℕ) (q : ℕ) (items : List T) (place : ℕ) (item d : T)
+    → key item ≡ key (get_or items place d)
+    → place_of key q (set items place item) ≡ place_of key q items
 place_of_set key q [] place item d is = refl
 place_of_set key q (x ∷ xs) zero item d is = rw is refl
 place_of_set key q (x ∷ xs) (suc place) item d is = rw (place_of_set key q xs place item d is) refl
 
-pub index_set : {T : Type 0} (key : T → ℕ) (items : List T) (places : ℕ → Option ℕ) (place : ℕ) (item d : T) → IsIndex key items places → key item ≡ key (get_or items place d) → IsIndex key (set items place item) places
+pub index_set : {T : Type 0} (key : T → ℕ) (items : List T) (places : ℕ → Option ℕ) (place : ℕ)
+    (item d : T) → IsIndex key items places → key item ≡ key (get_or items place d)
+    → IsIndex key (set items place item) places
 index_set key items places place item d index is = record {
   found = λ q. index.found q ∙ sym (place_of_set key q items place item d is);
   distinct = subst (IsDistinct nat_eq) (sym (map-set_same key items place item d is)) index.distinct;

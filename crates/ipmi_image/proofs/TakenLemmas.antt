@@ -47,15 +47,19 @@ store_kept kept = record {
   sel_info = first_of kept.sel_info;
 }
 
-kept_with-one : (lines : List Line) (line : Line) → kept_with nothing (lines ++ line ∷ []) ≡ kept_with (kept_with nothing lines) (line ∷ [])
+kept_with-one : (lines : List Line) (line : Line)
+    → kept_with nothing (lines ++ line ∷ []) ≡ kept_with (kept_with nothing lines) (line ∷ [])
 kept_with-one lines line = simp (filter_map-append, fold-append)
 
 -- after lines of which this is kept, lines of these fields give the store
 abbrev pub Gives : Store → Kept → List (List (List ℕ)) → Type 0
 Gives store kept lines = (before : List Line) → kept_with nothing before ≡ kept → store_after true before (pieces 10 (lines_text lines)) ≡ Ok store
 
-pub line_gives : (store : Store) (kept : Kept) (first : List ℕ) (fields : List (List ℕ)) (line : Line) (rest : List (List (List ℕ))) → AreFields (first ∷ fields) → line_of_fields true (first ∷ fields) ≡ Ok line
-    → is_end line ≡ false → fault_in (store_kept kept) line ≡ None → Gives store (kept_with kept (line ∷ [])) rest → Gives store kept ((first ∷ fields) ∷ rest)
+pub line_gives : (store : Store) (kept : Kept) (first : List ℕ) (fields : List (List ℕ))
+    (line : Line) (rest : List (List (List ℕ))) → AreFields (first ∷ fields)
+    → line_of_fields true (first ∷ fields) ≡ Ok line
+    → is_end line ≡ false → fault_in (store_kept kept) line ≡ None
+    → Gives store (kept_with kept (line ∷ [])) rest → Gives store kept ((first ∷ fields) ∷ rest)
 line_gives store kept first fields line rest are says more fine give = λ before is.
     let text = join_with_byte 32 (first ∷ fields) in
     let found : line_judged true before text ≡ Ok line = line_judged-found true before text line None (line_of-fields first fields are ∙ says) (ap (λ (k : Kept). fault_in (store_kept k) line) is ∙ fine) in
@@ -82,7 +86,9 @@ abbrev Others : List SavedRow → List Row → Type 0
 Others [] rows = Unit {0}
 Others (s ∷ saved) rows = LacksId s.id rows × Others saved rows
 
-others_next : (saved : List SavedRow) (s : SavedRow) (row : Row) (rows : List Row) → Others saved (row ∷ rows) → LacksId s.id rows → (has_id (chained saved) row.id ≡ false) × Others (saved ++ s ∷ []) rows
+others_next : (saved : List SavedRow) (s : SavedRow) (row : Row) (rows : List Row)
+    → Others saved (row ∷ rows) → LacksId s.id rows
+    → (has_id (chained saved) row.id ≡ false) × Others (saved ++ s ∷ []) rows
 others_next [] s row rows others lacks = (refl, (lacks, tt))
 others_next (t ∷ saved) s row rows others lacks =
     let more = others_next saved s row rows others.1 lacks in
@@ -101,8 +107,10 @@ record MayFollow (shelf : Shelf) (saved : List SavedRow) (rows : List Row) : Typ
   first : FirstFits saved rows
 
 -- the first of them has no fault, and the others may come after it
-row_follows : (shelf : Shelf) (saved : List SavedRow) (following : ℕ) (row : Row) (rows : List Row) → MayFollow shelf saved (row ∷ rows)
-    → (row_fault shelf (chained saved) (saved_row following row) ≡ None) × MayFollow shelf (saved ++ saved_row following row ∷ []) rows
+row_follows : (shelf : Shelf) (saved : List SavedRow) (following : ℕ) (row : Row) (rows : List Row)
+    → MayFollow shelf saved (row ∷ rows)
+    → (row_fault shelf (chained saved) (saved_row following row) ≡ None)
+    × MayFollow shelf (saved ++ saved_row following row ∷ []) rows
 row_follows shelf saved following row rows may =
     let ok = may.all.0 in
     let fits = ok.fits in
@@ -115,7 +123,9 @@ row_follows shelf saved following row rows may =
     below = let id = may.all.0.id in ne_eqb row.id 65535 (λ e. omega (arith, id, e))
 
     by : (saved : List SavedRow) → FirstFits saved (row ∷ rows)
-        → (is_no_id (chained saved) row.id ≡ false) × (begins_with_another (chained saved) (saved_row following row) ≡ false) × FirstFits (saved ++ saved_row following row ∷ []) rows
+        → (is_no_id (chained saved) row.id ≡ false)
+        × (begins_with_another (chained saved) (saved_row following row) ≡ false)
+        × FirstFits (saved ++ saved_row following row ∷ []) rows
     by [] fits = (grind (arith, below), ap not (eq-eqb _ _ fits.0), fits.1)
     by (t ∷ saved) fits = (rw (ne_eqb row.id 0 fits.0) below, refl, fits.1)
 
@@ -135,11 +145,15 @@ with_rows Sdr kept rows = record kept { sdr = rows }
 with_rows Sel kept rows = record kept { sel = rows }
 
 row_kept : (shelf : Shelf) (kept : Kept) (saved : List SavedRow) (row : SavedRow)
-    → (fault_in (store_kept (with_rows shelf kept saved)) (a_row shelf row) ≡ row_fault shelf (chained saved) row) × (kept_with (with_rows shelf kept saved) (a_row shelf row ∷ []) ≡ with_rows shelf kept (saved ++ row ∷ []))
+    → (fault_in (store_kept (with_rows shelf kept saved)) (a_row shelf row)
+    ≡ row_fault shelf (chained saved) row)
+    × (kept_with (with_rows shelf kept saved) (a_row shelf row ∷ [])
+    ≡ with_rows shelf kept (saved ++ row ∷ []))
 row_kept Sdr kept saved row = (refl, simp append-nil)
 row_kept Sel kept saved row = (refl, simp append-nil)
 
-rows_give : (store : Store) (shelf : Shelf) (kept : Kept) (saved : List SavedRow) (rows : List Row) (rest : List (List (List ℕ))) → MayFollow shelf saved rows
+rows_give : (store : Store) (shelf : Shelf) (kept : Kept) (saved : List SavedRow) (rows : List Row)
+    (rest : List (List (List ℕ))) → MayFollow shelf saved rows
     → Gives store (with_rows shelf kept (saved ++ saved_rows rows)) rest
     → Gives store (with_rows shelf kept saved) (rows_lines (word_of shelf) rows ++ rest)
 rows_give store shelf kept saved [] rest may give = rw append-nil at give
@@ -157,6 +171,8 @@ rows_give store shelf kept saved (row ∷ rows) rest may give =
     (kept'.0 ∙ next.0)
     (subst (λ (k : Kept). Gives store k (rows_lines (word_of shelf) rows ++ rest)) (sym kept'.1) more)
 
-pub shelf_gives : (store : Store) (shelf : Shelf) (kept : Kept) (rows : List Row) (rest : List (List (List ℕ))) → IsShelf shelf rows
-    → Gives store (with_rows shelf kept (saved_rows rows)) rest → Gives store (with_rows shelf kept []) (rows_lines (word_of shelf) rows ++ rest)
+pub shelf_gives : (store : Store) (shelf : Shelf) (kept : Kept) (rows : List Row)
+    (rest : List (List (List ℕ))) → IsShelf shelf rows
+    → Gives store (with_rows shelf kept (saved_rows rows)) rest
+    → Gives store (with_rows shelf kept []) (rows_lines (word_of shelf) rows ++ rest)
 shelf_gives store shelf kept rows rest is = rows_give store shelf kept [] rows rest (record { all = is.all; distinct = is.distinct; others = tt; first = (is.first, is.later) })

@@ -13,21 +13,28 @@ abbrev pub Lacks : ℕ → List ℕ → Type 0
 Lacks separator bytes = All (λ b. nat_eq b separator ≡ false) bytes
 
 -- a text without the separator is one piece
-pub pieces-one : (separator : ℕ) (bytes : List ℕ) → Lacks separator bytes → pieces separator bytes ≡ bytes ∷ []
+pub pieces-one : (separator : ℕ) (bytes : List ℕ) → Lacks separator bytes
+    → pieces separator bytes ≡ bytes ∷ []
 unfolding pieces
 pieces-one separator bytes lacks = slice_split_none (λ b. nat_eq b separator) bytes lacks
 
 -- the first separator comes after the first piece
-pub pieces-more : (separator : ℕ) (piece rest : List ℕ) → Lacks separator piece → pieces separator (piece ++ separator ∷ rest) ≡ piece ∷ pieces separator rest
+pub pieces-more : (separator : ℕ) (piece rest : List ℕ) → Lacks separator piece
+    → pieces separator (piece ++ separator ∷ rest) ≡ piece ∷ pieces separator rest
 unfolding pieces
 pieces-more separator piece rest lacks = slice_split_at (λ b. nat_eq b separator) piece separator rest lacks (eq-eqb separator separator refl)
 
-pub pieces_cut : (separator : ℕ) (bytes : List ℕ) (at : Option ℕ) → IsFirstByte (is_byte separator) bytes at → MatchOption at (pieces separator bytes ≡ bytes ∷ []) (λ k. pieces separator bytes ≡ take k bytes ∷ pieces separator (drop (k + 1) bytes))
+pub pieces_cut : (separator : ℕ) (bytes : List ℕ) (at : Option ℕ)
+    → IsFirstByte (is_byte separator) bytes at
+    → MatchOption at (pieces separator bytes ≡ bytes ∷ [])
+    (λ k. pieces separator bytes ≡ take k bytes ∷ pieces separator (drop (k + 1) bytes))
 unfolding pieces
 pieces_cut separator bytes None none = slice_split_none (is_byte separator) bytes (All-from_get_or (λ b. is_byte separator b ≡ false) bytes 0 (λ k lt. false_from_ne_true _ (none k (omega arith) lt)))
 pieces_cut separator bytes (Some k) first =
     let lt : k < length bytes = first.0.high in
-    let at : position_or_len (is_byte separator) bytes ≡ k = position_or_len_is (is_byte separator) bytes k 0 (omega (arith, lt)) (λ j below. false_from_ne_true _ (first.0.before j (omega arith) below)) (λ h. first.1) in
+    let at : position_or_len (is_byte separator) bytes ≡ k =
+    position_or_len_is (is_byte separator) bytes k 0 (omega (arith, lt))
+    (λ j below. false_from_ne_true _ (first.0.before j (omega arith) below)) (λ h. first.1) in
     rw at at (slice_split_first (is_byte separator) bytes 0 (omega (arith, at, lt)))
 
 -- there is a piece

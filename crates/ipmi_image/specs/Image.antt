@@ -23,7 +23,8 @@ first_id [] = 65535
 first_id (row ∷ rows) = row.id
 
 abbrev pub row_before : List SavedRow → SavedRow → Row
-row_before following row = record { id = row.id; next = unwrap_or row.next (first_id following); bytes = row.bytes }
+row_before following row =
+    record { id = row.id; next = unwrap_or row.next (first_id following); bytes = row.bytes }
 
 -- each row with its next id: where its line has none it is the following row's, FFFFh for the last row
 abbrev pub chained : List SavedRow → List Row
@@ -34,7 +35,8 @@ chained (row ∷ rows) = row_before rows row ∷ chained rows
 abbrev pub with_bytes : ℕ → List ℕ → List Inventory → List Inventory
 with_bytes id bytes [] = record { id = id; bytes = bytes } ∷ []
 with_bytes id bytes (inventory ∷ inventories) =
-    if inventory.id == id then record { id = inventory.id; bytes = inventory.bytes ++ bytes } ∷ inventories
+    if inventory.id == id then record { id = inventory.id; bytes = inventory.bytes ++ bytes }
+    ∷ inventories
     else inventory ∷ with_bytes id bytes inventories
 
 abbrev pub with_inventory_line : List Inventory → Line → List Inventory
@@ -46,10 +48,17 @@ inventories_of lines = fold with_inventory_line [] lines
 
 -- the four bytes of a reading
 abbrev pub reading_of_bytes : List ℕ → Reading
-reading_of_bytes bytes = record { raw = slice_index bytes 0; flags = slice_index bytes 1; status = slice_index bytes 2; more = slice_index bytes 3 }
+reading_of_bytes bytes =
+    record {
+      raw = slice_index bytes 0;
+      flags = slice_index bytes 1;
+      status = slice_index bytes 2;
+      more = slice_index bytes 3;
+    }
 
 abbrev pub sensor_on : Line → Option SensorReading
-sensor_on (a_reading lun number bytes) = Some (record { lun = lun; number = number; reading = reading_of_bytes bytes })
+sensor_on (a_reading lun number bytes) =
+    Some (record { lun = lun; number = number; reading = reading_of_bytes bytes })
 sensor_on line = None
 
 abbrev pub info_on : Shelf → Line → Option (List ℕ)
@@ -85,7 +94,8 @@ is_empty (row ∷ rows) = false
 
 -- no whole record of the shelf, or a longer one than it may have
 abbrev pub is_no_record : Shelf → List ℕ → Bool
-is_no_record shelf bytes = not (length bytes == whole_len shelf bytes) || nat_lt (largest_len shelf) (length bytes)
+is_no_record shelf bytes =
+    not (length bytes == whole_len shelf bytes) || nat_lt (largest_len shelf) (length bytes)
 
 -- no id of a row after these: 0000h is only the first row's, and FFFFh none's
 abbrev pub is_no_id : List Row → ℕ → Bool
@@ -95,7 +105,8 @@ is_no_id rows id = ((id == 0) && not (is_empty rows)) || (id == 65535)
 abbrev pub begins_with_another : List Row → SavedRow → Bool
 begins_with_another rows row = is_empty rows && not (id_in row.bytes == row.id)
 
--- a row after these: its id, an id that one of them has, its length, and the first bytes of the first one, in this order
+-- a row after these: its id, an id that one of them has, its length, and the first bytes of the first one, in this
+-- order
 abbrev pub row_fault : Shelf → List Row → SavedRow → Option LineFault
 row_fault shelf rows row = first_fault (
     (is_no_id rows row.id, LineFault.Id)
@@ -140,7 +151,11 @@ unless_fault (Some fault) line = Err fault
 
 -- what the line says after these lines
 abbrev pub line_judged : Bool → List Line → List ℕ → Result Line LineFault
-line_judged dashes before text = elim (line_of dashes text) [ Ok line ↦ unless_fault (fault_in (store_of_lines before) line) line | Err fault ↦ Err fault ]
+line_judged dashes before text =
+    elim (line_of dashes text) [
+      | Ok line ↦ unless_fault (fault_in (store_of_lines before) line) line
+      | Err fault ↦ Err fault
+    ]
 
 -- ---- all lines
 
@@ -164,7 +179,8 @@ abbrev pub ends_here : List (List ℕ) → Bool
 ends_here ([] ∷ []) = true
 ends_here more = false
 
--- the store of the lines before and of these up to `end`, the last one; of the pieces of a text the last is no whole line
+-- the store of the lines before and of these up to `end`, the last one; of the pieces of a text the last is no whole
+-- line
 unfoldable pub store_after : Bool → List Line → List (List ℕ) → Result Store ImageFault
 store_after dashes before (text ∷ (following ∷ rest)) =
     elim (line_judged dashes before text) [
@@ -185,7 +201,10 @@ dashes_in first =
 
 abbrev pub store_of_pieces : List (List ℕ) → Result Store ImageFault
 store_of_pieces (first ∷ (following ∷ rest)) =
-    elim (dashes_in first) [ Some dashes ↦ store_after dashes [] (following ∷ rest) | None ↦ Err ImageFault.Header ]
+    elim (dashes_in first) [
+      | Some dashes ↦ store_after dashes [] (following ∷ rest)
+      | None ↦ Err ImageFault.Header
+    ]
 store_of_pieces rest = Err ImageFault.Header
 
 -- the store that the bytes of an image give, or its first fault

@@ -52,15 +52,17 @@ shelf_in word =
     else if bytes_eq word (codes "sel") then Some Sel
     else None
 
--- ---- lines, by their first word: first the fields' lengths, of which that of HEX is not 0, and then the hex digits; how many bytes HEX
--- has to be is asked after the other lines
+-- ---- lines, by their first word: first the fields' lengths, of which that of HEX is not 0, and then the hex digits;
+-- how many bytes HEX has to be is asked after the other lines
 
 -- the line of two fields, or of three
-abbrev pub with_two : (List ℕ → List ℕ → Result Line LineFault) → List (List ℕ) → Result Line LineFault
+abbrev pub with_two : (List ℕ → List ℕ → Result Line LineFault) → List (List ℕ)
+    → Result Line LineFault
 with_two line (first ∷ second ∷ []) = line first second
 with_two line fields = Err LineFault.Line
 
-abbrev pub with_three : (List ℕ → List ℕ → List ℕ → Result Line LineFault) → List (List ℕ) → Result Line LineFault
+abbrev pub with_three : (List ℕ → List ℕ → List ℕ → Result Line LineFault) → List (List ℕ)
+    → Result Line LineFault
 with_three line (first ∷ second ∷ third ∷ []) = line first second third
 with_three line fields = Err LineFault.Line
 
@@ -68,26 +70,34 @@ with_three line fields = Err LineFault.Line
 abbrev pub row_line : Bool → Shelf → List ℕ → List ℕ → List ℕ → Result Line LineFault
 row_line dashes shelf id next hex =
     if (length id == 4) && (((length next == 4) || (dashes && is_dash next)) && is_some_text hex)
-    then ok_or (option_and_then (λ i. option_and_then (λ n. option_map (λ b. a_row shelf (record { id = i; next = n; bytes = b })) (bytes_in hex)) (next_in next)) (number_in 2 id)) LineFault.Hex
+    then ok_or (option_and_then
+    (λ i. option_and_then
+    (λ n. option_map (λ b. a_row shelf (record { id = i; next = n; bytes = b })) (bytes_in hex))
+    (next_in next)) (number_in 2 id)) LineFault.Hex
     else Err LineFault.Line
 
 -- `fru ID HEX`
 abbrev pub inventory_line : List ℕ → List ℕ → Result Line LineFault
 inventory_line id hex =
     if (length id == 2) && is_some_text hex
-    then ok_or (option_and_then (λ i. option_map (λ b. an_inventory i b) (bytes_in hex)) (number_in 1 id)) LineFault.Hex
+    then ok_or (option_and_then (λ i. option_map (λ b. an_inventory i b) (bytes_in hex))
+    (number_in 1 id)) LineFault.Hex
     else Err LineFault.Line
 
 -- `reading LUN NUM HEX8`
 abbrev pub reading_line : List ℕ → List ℕ → List ℕ → Result Line LineFault
 reading_line lun number hex =
     if (length lun == 1) && ((length number == 2) && is_some_text hex)
-    then ok_or (option_and_then (λ l. option_and_then (λ n. option_map (λ b. a_reading l n b) (bytes_in hex)) (number_in 1 number)) (digit_in lun)) LineFault.Hex
+    then ok_or (option_and_then
+    (λ l. option_and_then (λ n. option_map (λ b. a_reading l n b) (bytes_in hex))
+    (number_in 1 number)) (digit_in lun)) LineFault.Hex
     else Err LineFault.Line
 
 -- `info sdr HEX28` and `info sel HEX28`
 abbrev pub info_line_of : Option Shelf → List ℕ → Result Line LineFault
-info_line_of (Some shelf) hex = if is_some_text hex then ok_or (option_map (λ b. an_info shelf b) (bytes_in hex)) LineFault.Hex else Err LineFault.Line
+info_line_of (Some shelf) hex =
+    if is_some_text hex then ok_or (option_map (λ b. an_info shelf b) (bytes_in hex)) LineFault.Hex
+    else Err LineFault.Line
 info_line_of None hex = Err LineFault.Line
 
 abbrev pub info_line : List ℕ → List ℕ → Result Line LineFault

@@ -55,7 +55,8 @@ inventory_lines inventory = map (part_fields inventory.id) (parts_of inventory.b
 -- a LUN has one digit, the low one of two
 abbrev pub reading_fields : SensorReading → List (List ℕ)
 reading_fields sensor = codes "reading" ∷ drop 1 (hex_of 1 sensor.lun) ∷ hex_of 1 sensor.number
-    ∷ encode_lower (sensor.reading.raw ∷ sensor.reading.flags ∷ sensor.reading.status ∷ sensor.reading.more ∷ []) ∷ []
+    ∷ encode_lower (sensor.reading.raw ∷ sensor.reading.flags ∷ sensor.reading.status
+    ∷ sensor.reading.more ∷ []) ∷ []
 
 abbrev pub info_lines : List ℕ → Option (List ℕ) → List (List (List ℕ))
 info_lines word None = []
@@ -84,7 +85,9 @@ other_lines store =
 -- the first line, the rows of each shelf in their order, and the others
 abbrev pub lines_of : Store → List (List (List ℕ))
 lines_of store =
-    (codes "ipmi-image" ∷ codes "2" ∷ []) ∷ (rows_lines (codes "sdr") store.sdr ++ (rows_lines (codes "sel") store.sel ++ other_lines store))
+    (codes "ipmi-image" ∷ codes "2" ∷ [])
+    ∷ (rows_lines (codes "sdr") store.sdr
+    ++ (rows_lines (codes "sel") store.sel ++ other_lines store))
 
 unfoldable pub image_text_of : Store → List ℕ
 image_text_of store = lines_text (lines_of store)
@@ -98,4 +101,6 @@ pub record IsSaved (store : Store) : Type 0 where
 
 -- the text of such a store is read as that store
 abbrev pub RewritingKeepsStores : Type 0
-RewritingKeepsStores = (store : Store) → IsStore store → IsSaved store → store_of_image (image_text_of store) ≡ Ok store
+RewritingKeepsStores =
+    (store : Store) → IsStore store → IsSaved store → store_of_image (image_text_of store)
+    ≡ Ok store

@@ -13,7 +13,11 @@ row_of row = record { id = row.id; next = row.next; bytes = row.bytes.now }
 
 -- a record whose bytes are among these
 abbrev pub row_in : List ℕ → RowHead → SavedRow
-row_in bytes head = record { id = head.id; next = head.next; bytes = take head.len (drop head.start bytes) }
+row_in bytes head = record {
+  id = head.id;
+  next = head.next;
+  bytes = take head.len (drop head.start bytes);
+}
 
 -- the bytes of each record are among these; there are at most FFFFh records, and on average at most 256 bytes for each
 pub record AreHeads (heads : List RowHead) (bytes : List ℕ) : Type 0 where

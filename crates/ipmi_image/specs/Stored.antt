@@ -14,7 +14,8 @@ sensor_of sensor = record { lun = sensor.lun; number = sensor.number; reading = 
 
 -- what a line that was read says of these bytes
 abbrev pub said : List ℕ → ReadLine → Line
-said bytes (ReadLine.Row shelf id next) = a_row shelf (record { id = id; next = next; bytes = bytes })
+said bytes (ReadLine.Row shelf id next) =
+    a_row shelf (record { id = id; next = next; bytes = bytes })
 said bytes (ReadLine.Inventory id) = an_inventory id bytes
 said bytes (ReadLine.Reading lun number) = a_reading lun number bytes
 said bytes (ReadLine.Info shelf) = an_info shelf bytes
@@ -22,7 +23,9 @@ said bytes ReadLine.End = the_end
 
 -- the line with these bytes or its fault was found, or no memory was left for it
 abbrev pub IsRead : Result Line LineFault → List ℕ → Result ReadLine LineFault → Type 0
-IsRead wanted bytes result = MatchResult result (λ l. wanted ≡ Ok (said bytes l)) (λ e. (e ≡ LineFault.Memory) ⊎ (wanted ≡ Err e))
+IsRead wanted bytes result =
+    MatchResult result (λ l. wanted ≡ Ok (said bytes l))
+    (λ e. (e ≡ LineFault.Memory) ⊎ (wanted ≡ Err e))
 
 -- what the contents of an image are
 abbrev pub store_of : Contents → Store
@@ -55,8 +58,11 @@ pub record HoldsLines (contents : Contents) (lines : List Line) : Type 0 where
 
 -- this was done where there is no fault, or there is one, or no memory was left
 abbrev pub Puts : Option LineFault → Type 0 → Result (Unit {0}) LineFault → Type 0
-Puts fault Done result = MatchResult result (λ done. (fault ≡ None) × Done) (λ e. (e ≡ LineFault.Memory) ⊎ (fault ≡ Some e))
+Puts fault Done result =
+    MatchResult result (λ done. (fault ≡ None) × Done)
+    (λ e. (e ≡ LineFault.Memory) ⊎ (fault ≡ Some e))
 
 -- a line was put after these, or may not come there, or no memory was left
 abbrev pub IsPut : Contents → List Line → Line → Result (Unit {0}) LineFault → Type 0
-IsPut new before line result = Puts (fault_in (store_of_lines before) line) (HoldsLines new (before ++ line ∷ [])) result
+IsPut new before line result =
+    Puts (fault_in (store_of_lines before) line) (HoldsLines new (before ++ line ∷ [])) result

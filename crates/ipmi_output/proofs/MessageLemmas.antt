@@ -8,11 +8,13 @@ use Rattle.ipmi_output.specs.Received.{Received, ReceivesAll, ReceivesPart, Writ
 use Rattle.ipmi_output.specs.Message.{joined_parts}
 
 -- the first i bytes and the next n of them
-pub take-next : (i n : ℕ) (bytes : List ℕ) → take i bytes ++ take n (take (length bytes - i) (drop i bytes)) ≡ take (i + n) bytes
+pub take-next : (i n : ℕ) (bytes : List ℕ)
+    → take i bytes ++ take n (take (length bytes - i) (drop i bytes)) ≡ take (i + n) bytes
 take-next i n bytes = rw (take_rest bytes i) (sym (take-add i n bytes))
 
 -- to append some and then more is to append both
-pub Appends-both : (old mid new : Option (List ℕ)) (xs ys : List ℕ) → Appends old mid xs → Appends mid new ys → Appends old new (xs ++ ys)
+pub Appends-both : (old mid new : Option (List ℕ)) (xs ys : List ℕ) → Appends old mid xs
+    → Appends mid new ys → Appends old new (xs ++ ys)
 Appends-both None mid new xs ys first second = tt
 Appends-both (Some o) None new xs ys first second = absurd first
 Appends-both (Some o) (Some m) None xs ys first second = absurd second
@@ -25,21 +27,25 @@ Appends-kept (Some o) None kept = absurd kept
 Appends-kept (Some o) (Some n) kept = kept ∙ sym (append-nil o)
 
 -- a call that took some bytes was no fault
-pub option_map-kept : (faults : Option ℕ) (n : ℕ) → (n ≡ 0 → ⊥) → option_map (λ k. k + (if n == 0 then 1 else 0)) faults ≡ faults
+pub option_map-kept : (faults : Option ℕ) (n : ℕ) → (n ≡ 0 → ⊥)
+    → option_map (λ k. k + (if n == 0 then 1 else 0)) faults ≡ faults
 option_map-kept None n some = refl
 option_map-kept (Some k) n some = let same : k + 0 ≡ k = omega arith in rw (ne_eqb n 0 some) (ap Some same)
 
 -- some bytes were taken, and then more
-pub ReceivesAll-both : (old mid new : Received) (xs ys : List ℕ) → ReceivesAll old mid xs → ReceivesAll mid new ys → ReceivesAll old new (xs ++ ys)
+pub ReceivesAll-both : (old mid new : Received) (xs ys : List ℕ) → ReceivesAll old mid xs
+    → ReceivesAll mid new ys → ReceivesAll old new (xs ++ ys)
 ReceivesAll-both old mid new xs ys first second =
     (Appends-both old.taken mid.taken new.taken xs ys first.0 second.0, second.1 ∙ first.1)
 
 -- a part of the first bytes is a part of them with more after them
-pub ReceivesPart-before : (old new : Received) (xs ys : List ℕ) → ReceivesPart old new xs → ReceivesPart old new (xs ++ ys)
+pub ReceivesPart-before : (old new : Received) (xs ys : List ℕ) → ReceivesPart old new xs
+    → ReceivesPart old new (xs ++ ys)
 ReceivesPart-before old new xs ys part = (part.0, omega (arith, part.1, length-append xs ys), rw (take-append-le part.0 xs ys (omega (arith, part.1))) part.2, part.3)
 
 -- all of the first bytes, and then a part of those after them
-pub ReceivesPart-after : (old mid new : Received) (xs ys : List ℕ) → ReceivesAll old mid xs → ReceivesPart mid new ys → ReceivesPart old new (xs ++ ys)
+pub ReceivesPart-after : (old mid new : Received) (xs ys : List ℕ) → ReceivesAll old mid xs
+    → ReceivesPart mid new ys → ReceivesPart old new (xs ++ ys)
 ReceivesPart-after old mid new xs ys first part = (
   length xs + part.0,
   omega (arith, part.1, length-append xs ys),
@@ -49,23 +55,28 @@ ReceivesPart-after old mid new xs ys first part = (
 
 -- the parts before part i, that part, and those after it
 joined_parts-split : (parts : List (Bor (List ℕ))) (i : ℕ) (d : Bor (List ℕ)) → i < length parts
-    → joined_parts (take i parts) ++ ((get_or parts i d).now ++ joined_parts (drop (suc i) parts)) ≡ joined_parts parts
+    → joined_parts (take i parts) ++ ((get_or parts i d).now ++ joined_parts (drop (suc i) parts))
+    ≡ joined_parts parts
 joined_parts-split parts i d within =
     cc (drop-cons parts i d within, flat_map-append (λ (part : Bor (List ℕ)). part.now) (take i parts) (drop i parts), take-append-drop i parts)
 
 -- the parts before part i, and then a part of that one
-pub ReceivesPart-in_part : (old mid new : Received) (parts : List (Bor (List ℕ))) (i : ℕ) (d : Bor (List ℕ)) → i < length parts
-    → ReceivesAll old mid (joined_parts (take i parts)) → ReceivesPart mid new (get_or parts i d).now → ReceivesPart old new (joined_parts parts)
+pub ReceivesPart-in_part : (old mid new : Received) (parts : List (Bor (List ℕ))) (i : ℕ)
+    (d : Bor (List ℕ)) → i < length parts
+    → ReceivesAll old mid (joined_parts (take i parts))
+    → ReceivesPart mid new (get_or parts i d).now → ReceivesPart old new (joined_parts parts)
 ReceivesPart-in_part old mid new parts i d within first part =
     subst (λ (t : List ℕ). ReceivesPart old new t) (joined_parts-split parts i d within)
     (ReceivesPart-after old mid new _ _ first (ReceivesPart-before mid new _ (joined_parts (drop (suc i) parts)) part))
 
 -- some bytes, and then what a call writes of those after them
-pub WritesAll-after : {T E : Type 0} (old mid new : Received) (r : Result T E) (xs ys : List ℕ) → ReceivesAll old mid xs → WritesAll mid new r ys → WritesAll old new r (xs ++ ys)
+pub WritesAll-after : {T E : Type 0} (old mid new : Received) (r : Result T E) (xs ys : List ℕ)
+    → ReceivesAll old mid xs → WritesAll mid new r ys → WritesAll old new r (xs ++ ys)
 WritesAll-after old mid new (Ok v) xs ys first all = ReceivesAll-both old mid new xs ys first all
 WritesAll-after old mid new (Err e) xs ys first part = ReceivesPart-after old mid new xs ys first part
 
 -- in either case the text was written
-pub ReceivesText-any : {T E : Type 0} (old new : Received) (r : Result T E) (bytes : List ℕ) → WritesAll old new r bytes → ReceivesText old new bytes
+pub ReceivesText-any : {T E : Type 0} (old new : Received) (r : Result T E) (bytes : List ℕ)
+    → WritesAll old new r bytes → ReceivesText old new bytes
 ReceivesText-any old new (Ok v) bytes all = Whole all
 ReceivesText-any old new (Err e) bytes part = CutShort part

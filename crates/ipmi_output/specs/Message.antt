@@ -14,7 +14,8 @@ usage_text = codes "usage: ipmitool [--image FILE] [--from HEX4] [--part N] [--t
 
 -- that a record was refused, with this code
 abbrev pub refused_text : ℕ → ℕ → List ℕ
-refused_text id code = codes "record " ++ (word_h id ++ (codes " refused with code " ++ byte_h code))
+refused_text id code =
+    codes "record " ++ (word_h id ++ (codes " refused with code " ++ byte_h code))
 
 -- why a listing ended, with the record's id
 abbrev pub ended_text : Ended → List ℕ
@@ -27,7 +28,8 @@ ended_text (Ended.Malformed id) = codes "malformed record " ++ word_h id
 
 -- that an inventory was refused, with this code
 abbrev pub refused_inventory_text : ℕ → ℕ → List ℕ
-refused_inventory_text id code = codes "fru " ++ (decimal id ++ (codes " refused with code " ++ byte_h code))
+refused_inventory_text id code =
+    codes "fru " ++ (decimal id ++ (codes " refused with code " ++ byte_h code))
 
 -- why an inventory was not read, with the id of its FRU device
 abbrev pub inventory_text : ℕ → FruEnded → List ℕ
@@ -37,8 +39,8 @@ inventory_text id FruEnded.Stalled = codes "fru " ++ (decimal id ++ codes " stal
 inventory_text id FruEnded.Words = codes "fru " ++ (decimal id ++ codes " uses words")
 inventory_text id FruEnded.Memory = codes "out of memory"
 
--- a byte of a file's name as it is printed: a control byte, below 20h or 7Fh, as `\x` and two upper-case hex digits, any other as
--- it is, a backslash too
+-- a byte of a file's name as it is printed: a control byte, below 20h or 7Fh, as `\x` and two upper-case hex digits,
+-- any other as it is, a backslash too
 abbrev pub escaped_byte : ℕ → List ℕ
 escaped_byte byte = if is_ascii_control byte then codes "\\x" ++ upper_byte byte else byte ∷ []
 

@@ -14,7 +14,9 @@ of_writer contents = record { taken = contents; faults = None }
 
 -- what one call took; where the faults are known they rose by its own
 abbrev pub Receives : {E : Type 0} → Received → Received → Result ℕ E → List ℕ → Type 0
-Receives old new result bytes = WriteAppends old.taken new.taken result bytes × (new.faults ≡ option_map (λ n. n + faults_by result) old.faults)
+Receives old new result bytes =
+    WriteAppends old.taken new.taken result bytes
+    × (new.faults ≡ option_map (λ n. n + faults_by result) old.faults)
 
 -- all of the bytes were taken, and no call is known to have been a fault
 abbrev pub ReceivesAll : Received → Received → List ℕ → Type 0
@@ -22,11 +24,14 @@ ReceivesAll old new bytes = Appends old.taken new.taken bytes × (new.faults ≡
 
 -- a first part of the bytes was taken, not all; where the faults are known there is one more
 abbrev pub ReceivesPart : Received → Received → List ℕ → Type 0
-ReceivesPart old new bytes = (k : ℕ) × (k < length bytes) × Appends old.taken new.taken (take k bytes) × (new.faults ≡ option_map (λ n. n + 1) old.faults)
+ReceivesPart old new bytes =
+    (k : ℕ) × (k < length bytes) × Appends old.taken new.taken (take k bytes)
+    × (new.faults ≡ option_map (λ n. n + 1) old.faults)
 
 -- by the answer: at `Ok` all of the bytes were taken, at `Err` a part
 abbrev pub WritesAll : {T E : Type 0} → Received → Received → Result T E → List ℕ → Type 0
-WritesAll old new result bytes = MatchResult result (λ _. ReceivesAll old new bytes) (λ _. ReceivesPart old new bytes)
+WritesAll old new result bytes =
+    MatchResult result (λ _. ReceivesAll old new bytes) (λ _. ReceivesPart old new bytes)
 
 -- a text was written to it: all of it, or a part before a fault
 pub data ReceivesText (old new : Received) (text : List ℕ) : Type 0 where

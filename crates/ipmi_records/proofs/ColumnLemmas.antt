@@ -4,8 +4,10 @@ use Rattle.ipmi_records.specs.Below.{Appends, IsDecimalOf, reading_value, after_
 use Rattle.ipmi_records.specs.Prelude.{IsRawText, IsValueText, unit_text_in, factors_in}
 
 -- a number and its unit
-pub quantity_appended : (bytes unit old number new : List ℕ) (raw : ℕ) (value : ℤ) → Some value ≡ reading_value (factors_in bytes) raw → Appends (IsDecimalOf value) old number
-    → unit ≡ unit_text_in bytes → new ≡ number ++ after_space unit → Appends (IsRawText bytes raw) old new
+pub quantity_appended : (bytes unit old number new : List ℕ) (raw : ℕ) (value : ℤ)
+    → Some value ≡ reading_value (factors_in bytes) raw → Appends (IsDecimalOf value) old number
+    → unit ≡ unit_text_in bytes → new ≡ number ++ after_space unit
+    → Appends (IsRawText bytes raw) old new
 quantity_appended bytes unit old number new raw value value_is h unit_is text_is =
     let part = h.part ++ after_space (unit_text_in bytes) in
     record {

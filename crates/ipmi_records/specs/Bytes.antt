@@ -1,4 +1,5 @@
--- How records are read and printed alike: bytes counted from 1, as the standard's tables count them, bits counted from 0, and lines.
+-- How records are read and printed alike: bytes counted from 1, as the standard's tables count them, bits counted from
+-- 0, and lines.
 use Rattle.std.specs.Prelude.{ℕ, ◌-◌, ◌*◌, ◌/◌, ◌%◌, ◌^◌, ◌==◌, nat_lt, Bool, if◌then◌else◌, ℤ, pos, ◌-ℤ◌, List, [], ◌∷◌, ◌++◌, slice_index, replicate, codes}
 use Rattle.std.specs.Fmt.{char_count}
 use Rattle.byteorder.specs.Endian.{little_from}
@@ -32,4 +33,5 @@ columns_line (column ∷ next ∷ columns) = column ++ (codes " | " ++ columns_l
 -- a line for each label and text
 abbrev pub labelled_lines : List (List ℕ × List ℕ) → List ℕ
 labelled_lines [] = []
-labelled_lines (line ∷ lines) = line.0 ++ (codes ": " ++ (line.1 ++ (codes "\n" ++ labelled_lines lines)))
+labelled_lines (line ∷ lines) =
+    line.0 ++ (codes ": " ++ (line.1 ++ (codes "\n" ++ labelled_lines lines)))

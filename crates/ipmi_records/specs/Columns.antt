@@ -1,5 +1,5 @@
--- The reading column and the status of a line (the project's own). Readings are as Get Sensor Reading answers (IPMI v2.0, section
--- 35.14).
+-- The reading column and the status of a line (the project's own). Readings are as Get Sensor Reading answers (IPMI
+-- v2.0, section 35.14).
 use Rattle.std.specs.Prelude.{◌≡◌, ℕ, ◌+◌, ◌*◌, ◌%◌, ◌==◌, ◌&&◌, ◌||◌, not, Bool, if◌then◌else◌, ℤ, Option, Some, None, List, ◌++◌, codes, decimal}
 use Rattle.ipmi_records.specs.Below.{IsDecimalOf, byte_h, hex_byte, hex_word, reading_value, after_space, unit_text_of, Reading}
 use Rattle.ipmi_records.specs.declared.column.Shown.{Shown}
@@ -21,12 +21,14 @@ shown_reading (Some reading) = if is_there reading then Shown.Value reading else
 
 -- the first that holds: the sensor is another controller's, it has no reading, it has one
 abbrev pub shown_of : Sensor → Option Reading → Shown
-shown_of sensor reading = if sensor.owner == own_address then shown_reading reading else Shown.OtherOwner
+shown_of sensor reading =
+    if sensor.owner == own_address then shown_reading reading else Shown.OtherOwner
 
 -- ---- values
 
 abbrev pub unit_text_in : List ℕ → List ℕ
-unit_text_in bytes = unit_text_of (units_in bytes).units1 (units_in bytes).base (units_in bytes).modifier
+unit_text_in bytes = unit_text_of (units_in bytes).units1 (units_in bytes).base
+    (units_in bytes).modifier
 
 -- the decimal of a value and its unit
 pub record IsQuantity (value : ℤ) (unit text : List ℕ) : Type 0 where
@@ -38,10 +40,11 @@ abbrev pub IsValueText : Option ℤ → List ℕ → ℕ → List ℕ → Type 0
 IsValueText None unit raw text = text ≡ codes "raw 0x" ++ hex_byte raw
 IsValueText (Some value) unit raw text = IsQuantity value unit text
 
--- what a raw byte of a full record's sensor means: its value by the record's factors, with its unit, or the byte itself where
--- the sensor has no analog reading or is not linear
+-- what a raw byte of a full record's sensor means: its value by the record's factors, with its unit, or the byte itself
+-- where the sensor has no analog reading or is not linear
 abbrev pub IsRawText : List ℕ → ℕ → List ℕ → Type 0
-IsRawText bytes raw text = IsValueText (reading_value (factors_in bytes) raw) (unit_text_in bytes) raw text
+IsRawText bytes raw text =
+    IsValueText (reading_value (factors_in bytes) raw) (unit_text_in bytes) raw text
 
 -- the 15 states of a discrete sensor, those from 8 on above the others
 abbrev pub states_text : Reading → List ℕ
@@ -69,18 +72,21 @@ abbrev pub type_text : ℕ → List ℕ
 type_text type = codes "record type 0x" ++ hex_byte type
 
 abbrev pub IsReadingColumn : SdrView → Option Reading → List ℕ → Type 0
-IsReadingColumn (SdrView.Full bytes) reading text = IsSensorColumn (shown_of (full_sensor bytes) reading) (analog_of bytes) text
-IsReadingColumn (SdrView.Compact bytes) reading text = IsSensorColumn (shown_of (compact_sensor bytes) reading) None text
+IsReadingColumn (SdrView.Full bytes) reading text =
+    IsSensorColumn (shown_of (full_sensor bytes) reading) (analog_of bytes) text
+IsReadingColumn (SdrView.Compact bytes) reading text =
+    IsSensorColumn (shown_of (compact_sensor bytes) reading) None text
 IsReadingColumn (SdrView.EventOnly bytes) reading text = text ≡ codes "event only"
 IsReadingColumn (SdrView.Generic bytes) reading text = text ≡ codes "generic device"
 IsReadingColumn (SdrView.Fru bytes) reading text = text ≡ fru_column (fru_in bytes)
-IsReadingColumn (SdrView.Controller bytes) reading text = text ≡ codes "controller " ++ byte_h (locator_in bytes).address
+IsReadingColumn (SdrView.Controller bytes) reading text =
+    text ≡ codes "controller " ++ byte_h (locator_in bytes).address
 IsReadingColumn (SdrView.Other bytes) reading text = text ≡ type_text (record_type bytes)
 
 -- ---- the status
 
--- of a threshold sensor by the worst threshold that is passed, upper or lower: bits 5 and 2 are the non-recoverable ones, 4 and 1
--- the critical, 3 and 0 the non-critical
+-- of a threshold sensor by the worst threshold that is passed, upper or lower: bits 5 and 2 are the non-recoverable
+-- ones, 4 and 1 the critical, 3 and 0 the non-critical
 abbrev pub threshold_status : ℕ → List ℕ
 threshold_status status =
     if has_bit 5 status || has_bit 2 status then codes "nr"
@@ -95,9 +101,12 @@ has_thresholds sensor = sensor.event_type == 0x01
 abbrev pub sensor_status : Sensor → Shown → List ℕ
 sensor_status sensor Shown.OtherOwner = codes "na"
 sensor_status sensor Shown.NoReading = codes "ns"
-sensor_status sensor (Shown.Value reading) = if has_thresholds sensor then threshold_status reading.status else codes "ok"
+sensor_status sensor (Shown.Value reading) =
+    if has_thresholds sensor then threshold_status reading.status else codes "ok"
 
 abbrev pub status_of : SdrView → Option Reading → List ℕ
-status_of (SdrView.Full bytes) reading = sensor_status (full_sensor bytes) (shown_of (full_sensor bytes) reading)
-status_of (SdrView.Compact bytes) reading = sensor_status (compact_sensor bytes) (shown_of (compact_sensor bytes) reading)
+status_of (SdrView.Full bytes) reading =
+    sensor_status (full_sensor bytes) (shown_of (full_sensor bytes) reading)
+status_of (SdrView.Compact bytes) reading =
+    sensor_status (compact_sensor bytes) (shown_of (compact_sensor bytes) reading)
 status_of _ reading = codes "na"

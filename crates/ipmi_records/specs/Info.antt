@@ -1,5 +1,5 @@
--- The answers of Get SDR Repository Info and Get SEL Info (IPMI v2.0, sections 33.9 and 31.2), after their completion code: 14
--- bytes, alike in both; and their text (the project's own).
+-- The answers of Get SDR Repository Info and Get SEL Info (IPMI v2.0, sections 33.9 and 31.2), after their completion
+-- code: 14 bytes, alike in both; and their text (the project's own).
 use Rattle.std.specs.Prelude.{◌≡◌, ℕ, Bool, if◌then◌else◌, List, [], ◌∷◌, ◌++◌, codes, decimal}
 use Rattle.ipmi_records.specs.Below.{hex_byte, IsUtcTextOf}
 use Rattle.ipmi_records.specs.Bytes.{labelled_lines, byte_at, has_bit, number_at}

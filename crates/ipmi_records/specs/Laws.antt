@@ -9,16 +9,21 @@ use Rattle.ipmi_records.specs.SelText.{IsSelBlock, IsSelLine}
 
 -- a record has one line under a reading
 abbrev pub SdrLineIsUnique : Type 0
-SdrLineIsUnique = (view : SdrView) (reading : Option Reading) (text other : List ℕ) → IsSdrLine view reading text → IsSdrLine view reading other → text ≡ other
+SdrLineIsUnique = (view : SdrView) (reading : Option Reading) (text other : List ℕ)
+    → IsSdrLine view reading text → IsSdrLine view reading other → text ≡ other
 
 -- and one extended line
 abbrev pub ExtendedLineIsUnique : Type 0
-ExtendedLineIsUnique = (view : SdrView) (reading : Option Reading) (text other : List ℕ) → IsExtendedLine view reading text → IsExtendedLine view reading other → text ≡ other
+ExtendedLineIsUnique =
+    (view : SdrView) (reading : Option Reading) (text other : List ℕ)
+    → IsExtendedLine view reading text → IsExtendedLine view reading other → text ≡ other
 
 -- an entry has one line under an id
 abbrev pub SelLineIsUnique : Type 0
-SelLineIsUnique = (id : ℕ) (view : SelView) (text other : List ℕ) → AreBytes (entry_bytes view) → IsSelLine id view text → IsSelLine id view other → text ≡ other
+SelLineIsUnique = (id : ℕ) (view : SelView) (text other : List ℕ) → AreBytes (entry_bytes view)
+    → IsSelLine id view text → IsSelLine id view other → text ≡ other
 
 -- and one block
 abbrev pub SelBlockIsUnique : Type 0
-SelBlockIsUnique = (id : ℕ) (view : SelView) (text other : List ℕ) → AreBytes (entry_bytes view) → IsSelBlock id view text → IsSelBlock id view other → text ≡ other
+SelBlockIsUnique = (id : ℕ) (view : SelView) (text other : List ℕ) → AreBytes (entry_bytes view)
+    → IsSelBlock id view text → IsSelBlock id view other → text ≡ other

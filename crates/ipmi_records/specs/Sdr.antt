@@ -40,7 +40,8 @@ event_only_id_place = 17
 abbrev pub locator_id_place : ℕ
 locator_id_place = 16
 
--- the fewest bytes that a record of a type has: as far as its ID string's type/length byte, and of other types the header
+-- the fewest bytes that a record of a type has: as far as its ID string's type/length byte, and of other types the
+-- header
 abbrev pub least_len : ℕ → ℕ
 least_len type =
     if type == 0x01 then full_id_place
@@ -62,7 +63,8 @@ sdr_view_by_type type bytes =
     else if type == 0x12 then SdrView.Controller bytes
     else SdrView.Other bytes
 
--- the view that bytes have, or the first fault: fewer than a header, another number than the header says, fewer than the type needs
+-- the view that bytes have, or the first fault: fewer than a header, another number than the header says, fewer than
+-- the type needs
 abbrev pub sdr_view_of : List ℕ → Result SdrView SdrFault
 sdr_view_of bytes =
     if nat_lt (length bytes) 5 then Err SdrFault.Short
@@ -140,7 +142,8 @@ reading_of _ = None
 -- the FRU device of a locator that is reached through the controller itself: logical, at its address, at LUN 0
 abbrev pub fru_in : List ℕ → Option ℕ
 fru_in bytes =
-    if is_logical bytes && ((locator_in bytes).address == own_address && (access_lun bytes == 0)) then Some (fru_id bytes)
+    if is_logical bytes && ((locator_in bytes).address == own_address && (access_lun bytes == 0))
+    then Some (fru_id bytes)
     else None
 
 -- the FRU device whose inventory is asked for: that of a FRU locator

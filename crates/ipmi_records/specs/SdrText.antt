@@ -1,5 +1,5 @@
--- The texts of sensor data records (the project's own): the line, the extended line, the block, and the line of a record that has
--- no view.
+-- The texts of sensor data records (the project's own): the line, the extended line, the block, and the line of a
+-- record that has no view.
 use Rattle.std.specs.Prelude.{◌≡◌, ℕ, Option, Some, None, unwrap_or, Bool, true, false, if◌then◌else◌, List, [], ◌∷◌, ◌++◌, codes, decimal}
 use Rattle.std.specs.List.{concat}
 use Rattle.ipmi_records.specs.Below.{byte_h, sensor_type_text_of, Reading, labelled, word_h}
@@ -22,7 +22,8 @@ printed_name view = unwrap_or (name_of view) []
 
 -- name, reading and status
 abbrev pub line_text : List ℕ → List ℕ → List ℕ → List ℕ
-line_text name reading status = columns_line (padded_to 16 name ∷ padded_to 17 reading ∷ status ∷ [])
+line_text name reading status =
+    columns_line (padded_to 16 name ∷ padded_to 17 reading ∷ status ∷ [])
 
 pub record IsSdrLine (view : SdrView) (reading : Option Reading) (text : List ℕ) : Type 0 where
   pub column : List ℕ
@@ -63,7 +64,10 @@ extended_text view status reading =
 -- the columns between name and reading
 abbrev pub sensor_columns : SdrView → List ℕ → List ℕ
 sensor_columns view status =
-    codes " | " ++ (number_text (sensor_of view) ++ (codes " | " ++ (padded_to 3 status ++ (codes " | " ++ (padded_to 5 (entity_column (sensor_of view) (locator_of view)) ++ codes " | ")))))
+    codes " | " ++ (number_text (sensor_of view)
+    ++ (codes " | " ++ (padded_to 3 status
+    ++ (codes " | " ++ (padded_to 5 (entity_column (sensor_of view) (locator_of view))
+    ++ codes " | ")))))
 
 pub record IsExtendedLine (view : SdrView) (reading : Option Reading) (text : List ℕ) : Type 0 where
   pub column : List ℕ
@@ -97,7 +101,8 @@ name_line (Some name) = labelled (codes "Name") name
 
 abbrev pub head_lines : ℕ → SdrView → List ℕ
 head_lines id view =
-    labelled (codes "Record") (word_h id) ++ (labelled (codes "Type") (kind_text view) ++ name_line (name_of view))
+    labelled (codes "Record") (word_h id)
+    ++ (labelled (codes "Type") (kind_text view) ++ name_line (name_of view))
 
 -- what the record tells of its sensor: where it is asked for, and what it senses
 abbrev pub sensor_lines : Option Sensor → List ℕ
@@ -114,13 +119,16 @@ sensor_lines (Some sensor) = labelled_lines (
 abbrev pub locator_lines : Option Locator → List ℕ
 locator_lines None = []
 locator_lines (Some locator) =
-    labelled (codes "Address") (byte_h locator.address) ++ labelled (codes "Entity") (entity_text locator.entity)
+    labelled (codes "Address") (byte_h locator.address)
+    ++ labelled (codes "Entity") (entity_text locator.entity)
 
 -- the two columns of a line, a line for each
-pub record AreReadingLines (view : SdrView) (reading : Option Reading) (text : List ℕ) : Type 0 where
+pub record AreReadingLines (view : SdrView) (reading : Option Reading)
+    (text : List ℕ) : Type 0 where
   pub column : List ℕ
   pub is_column : IsReadingColumn view reading column
-  pub text_is : text ≡ labelled (codes "Reading") column ++ labelled (codes "Status") (status_of view reading)
+  pub text_is : text ≡ labelled (codes "Reading") column
+      ++ labelled (codes "Status") (status_of view reading)
 
 abbrev pub threshold_name : Threshold → List ℕ
 threshold_name Threshold.UpperNonRecoverable = codes "Upper non-recoverable"
@@ -144,7 +152,8 @@ IsThresholdText true bytes threshold text = IsThresholdLine bytes threshold text
 abbrev pub AreThresholdTexts : List ℕ → List Threshold → List ℕ → Type 0
 AreThresholdTexts bytes [] text = text ≡ []
 AreThresholdTexts bytes (threshold ∷ thresholds) text =
-    (line more : List ℕ) × (IsThresholdText (is_readable threshold bytes) bytes threshold line × (AreThresholdTexts bytes thresholds more × (text ≡ line ++ more)))
+    (line more : List ℕ) × (IsThresholdText (is_readable threshold bytes) bytes threshold line
+    × (AreThresholdTexts bytes thresholds more × (text ≡ line ++ more)))
 
 -- the thresholds in the order of their bits, from bit 5 down
 abbrev pub all_thresholds : List Threshold
@@ -167,11 +176,14 @@ pub record AreFullLines (bytes : List ℕ) (reading : Option Reading) (text : Li
 -- what is known of the sensor's values: only of a full and of a compact record
 abbrev pub AreValueLines : SdrView → Option Reading → List ℕ → Type 0
 AreValueLines (SdrView.Full bytes) reading text = AreFullLines bytes reading text
-AreValueLines (SdrView.Compact bytes) reading text = AreReadingLines (SdrView.Compact bytes) reading text
+AreValueLines (SdrView.Compact bytes) reading text =
+    AreReadingLines (SdrView.Compact bytes) reading text
 AreValueLines _ reading text = text ≡ []
 
 -- the block of a record, with an empty line at its end
-pub record IsSdrBlock (id : ℕ) (view : SdrView) (reading : Option Reading) (text : List ℕ) : Type 0 where
+pub record IsSdrBlock (id : ℕ) (view : SdrView) (reading : Option Reading)
+    (text : List ℕ) : Type 0 where
   pub values : List ℕ
   pub are_values : AreValueLines view reading values
-  pub text_is : text ≡ concat (head_lines id view ∷ sensor_lines (sensor_of view) ∷ locator_lines (locator_of view) ∷ values ∷ codes "\n" ∷ [])
+  pub text_is : text ≡ concat (head_lines id view ∷ sensor_lines (sensor_of view)
+      ∷ locator_lines (locator_of view) ∷ values ∷ codes "\n" ∷ [])

@@ -36,12 +36,14 @@ oem_text type = codes "OEM record 0x" ++ hex_byte type
 pub record IsEventLine (id : ℕ) (bytes text : List ℕ) : Type 0 where
   pub time : List ℕ
   pub is_time : IsUtcTextOf (time_stamp bytes) time
-  pub text_is : text ≡ columns_line (hex_word id ∷ time ∷ sensor_text bytes ∷ words_of_event bytes ∷ direction_text (is_deasserted bytes) ∷ [])
+  pub text_is : text ≡ columns_line (hex_word id ∷ time ∷ sensor_text bytes ∷ words_of_event bytes
+      ∷ direction_text (is_deasserted bytes) ∷ [])
 
 pub record IsOemLine (id : ℕ) (bytes text : List ℕ) : Type 0 where
   pub time : List ℕ
   pub is_time : IsUtcTextOf (time_stamp bytes) time
-  pub text_is : text ≡ columns_line (hex_word id ∷ time ∷ oem_text (entry_type bytes) ∷ manufacturer_text (manufacturer bytes) ∷ binary_text (oem_data bytes) ∷ [])
+  pub text_is : text ≡ columns_line (hex_word id ∷ time ∷ oem_text (entry_type bytes)
+      ∷ manufacturer_text (manufacturer bytes) ∷ binary_text (oem_data bytes) ∷ [])
 
 abbrev pub plain_line : ℕ → List ℕ → List ℕ → List ℕ
 plain_line id type bytes = columns_line (hex_word id ∷ type ∷ binary_text (plain_data bytes) ∷ [])
@@ -49,7 +51,8 @@ plain_line id type bytes = columns_line (hex_word id ∷ type ∷ binary_text (p
 abbrev pub IsSelLine : ℕ → SelView → List ℕ → Type 0
 IsSelLine id (SelView.Event bytes) text = IsEventLine id bytes text
 IsSelLine id (SelView.OemTimed bytes) text = IsOemLine id bytes text
-IsSelLine id (SelView.OemPlain bytes) text = text ≡ plain_line id (oem_text (entry_type bytes)) bytes
+IsSelLine id (SelView.OemPlain bytes) text =
+    text ≡ plain_line id (oem_text (entry_type bytes)) bytes
 IsSelLine id (SelView.Other bytes) text = text ≡ plain_line id (type_text (entry_type bytes)) bytes
 
 -- ---- blocks
@@ -80,8 +83,10 @@ pub record AreOemLines (bytes text : List ℕ) : Type 0 where
 abbrev pub AreFieldLines : SelView → List ℕ → Type 0
 AreFieldLines (SelView.Event bytes) text = AreEventLines bytes text
 AreFieldLines (SelView.OemTimed bytes) text = AreOemLines bytes text
-AreFieldLines (SelView.OemPlain bytes) text = text ≡ labelled (codes "Data") (binary_text (plain_data bytes))
-AreFieldLines (SelView.Other bytes) text = text ≡ labelled (codes "Data") (binary_text (plain_data bytes))
+AreFieldLines (SelView.OemPlain bytes) text =
+    text ≡ labelled (codes "Data") (binary_text (plain_data bytes))
+AreFieldLines (SelView.Other bytes) text =
+    text ≡ labelled (codes "Data") (binary_text (plain_data bytes))
 
 -- the block of an entry, with an empty line at its end
 pub record IsSelBlock (id : ℕ) (view : SelView) (text : List ℕ) : Type 0 where

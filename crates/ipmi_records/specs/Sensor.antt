@@ -38,7 +38,11 @@ event_only_sensor bytes = sensor_by (byte_at 11 bytes) (byte_at 12 bytes) bytes
 
 -- bytes 21 to 23 of a full and of a compact record: sensor units 1, base unit, modifier unit
 abbrev pub units_in : List ℕ → Units
-units_in bytes = record { units1 = byte_at 21 bytes; base = byte_at 22 bytes; modifier = byte_at 23 bytes }
+units_in bytes = record {
+  units1 = byte_at 21 bytes;
+  base = byte_at 22 bytes;
+  modifier = byte_at 23 bytes;
+}
 
 -- ---- only full records (table 43-1)
 
@@ -88,7 +92,8 @@ threshold_place Threshold.LowerNonCritical = 42
 abbrev pub threshold_in : Threshold → List ℕ → ℕ
 threshold_in threshold bytes = byte_at (threshold_place threshold) bytes
 
--- the bit of a threshold, among the readable thresholds (byte 19) and in what Get Sensor Reading compares (section 35.14)
+-- the bit of a threshold, among the readable thresholds (byte 19) and in what Get Sensor Reading compares (section
+-- 35.14)
 abbrev pub threshold_bit : Threshold → ℕ
 threshold_bit Threshold.UpperNonRecoverable = 5
 threshold_bit Threshold.UpperCritical = 4
@@ -104,7 +109,10 @@ is_readable threshold bytes = has_bit (threshold_bit threshold) (byte_at 19 byte
 
 -- byte 6 is the address, bytes 13 and 14 the entity
 abbrev pub locator_in : List ℕ → Locator
-locator_in bytes = record { address = byte_at 6 bytes; entity = entity_in (byte_at 13 bytes) (byte_at 14 bytes) }
+locator_in bytes = record {
+  address = byte_at 6 bytes;
+  entity = entity_in (byte_at 13 bytes) (byte_at 14 bytes);
+}
 
 -- of a FRU locator: the FRU device id
 abbrev pub fru_id : List ℕ → ℕ

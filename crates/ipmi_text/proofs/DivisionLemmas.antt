@@ -42,13 +42,16 @@ last_digit q rest h some none e =
     some (sym all ∙ rw zero_digit (omega arith))
 
 -- the next digit is one, below a place that is not 0
-pub next_digit : (n : ℕ) (old new : List ℕ) (place rest : ℕ) → HasWritten n old new place rest → rest ≢ 0 → (0 < place / 10) × (rest / (place / 10) < 10)
+pub next_digit : (n : ℕ) (old new : List ℕ) (place rest : ℕ) → HasWritten n old new place rest
+    → rest ≢ 0 → (0 < place / 10) × (rest / (place / 10) < 10)
 next_digit n old new place rest h some =
     let next = next_place (16 - length h.digits) place rest h.place_is h.below some in
     (next.1.0, (div-lt_iff_lt-mul next.1.0).1 (omega (arith, h.below, next.1.1.0)))
 
-pub one_more_written : (n : ℕ) (old new text : List ℕ) (place rest : ℕ) → HasWritten n old new place rest → rest ≢ 0
-    → text ≡ new ++ (48 + rest / (place / 10)) ∷ [] → HasWritten n old text (place / 10) (rest % (place / 10))
+pub one_more_written : (n : ℕ) (old new text : List ℕ) (place rest : ℕ)
+    → HasWritten n old new place rest → rest ≢ 0
+    → text ≡ new ++ (48 + rest / (place / 10)) ∷ []
+    → HasWritten n old text (place / 10) (rest % (place / 10))
 one_more_written n old new text place rest h some e =
     let next = next_place (16 - length h.digits) place rest h.place_is h.below some in
     let q = place / 10 in
@@ -73,7 +76,8 @@ one_more_written n old new text place rest h some e =
       last = λ none. rw (long, end, get_or_push ds (48 + d) 0 (length ds) refl) (last_digit q rest q_pos some none);
     }
 
-digits_value-zeros : (k : ℕ) (ds : List ℕ) → digits_value 10 (ds ++ replicate k 48) ≡ digits_value 10 ds * 10 ^ k
+digits_value-zeros : (k : ℕ) (ds : List ℕ)
+    → digits_value 10 (ds ++ replicate k 48) ≡ digits_value 10 ds * 10 ^ k
 digits_value-zeros zero ds = rw append-nil (omega arith)
 digits_value-zeros (suc k) ds =
     let one : digits_value 10 (ds ++ 48 ∷ []) ≡ digits_value 10 ds * 10 = digits_value_push 10 ds 48 ∙ omega arith in
@@ -94,7 +98,8 @@ after_point-some [] some = absurd (some refl)
 after_point-some (d ∷ ds) some = refl
 
 -- the whole fraction is written, where it is not 0
-pub all_written : (n : ℕ) (old new : List ℕ) (place rest : ℕ) → HasWritten n old new place rest → rest ≡ 0 → n ≢ 0 → AppendsFraction n old new
+pub all_written : (n : ℕ) (old new : List ℕ) (place rest : ℕ) → HasWritten n old new place rest
+    → rest ≡ 0 → n ≢ 0 → AppendsFraction n old new
 all_written n old new place rest h none some =
     let value : digits_value 10 (filled h.digits) ≡ n
     = digits_value-zeros (16 - length h.digits) h.digits ∙ rw (sym h.place_is) (omega (arith, h.sum)) in
@@ -106,7 +111,8 @@ all_written n old new place rest h none some =
     }
 
 -- a sign, the whole digits and the fraction make the decimal, after any text
-pub appended : (v : ℤ) (old start text : List ℕ) → unsigned_abs v < 10 ^ 64 → start ≡ old ++ (sign_of v ++ decimal (unsigned_abs v / 10 ^ 16))
+pub appended : (v : ℤ) (old start text : List ℕ) → unsigned_abs v < 10 ^ 64
+    → start ≡ old ++ (sign_of v ++ decimal (unsigned_abs v / 10 ^ 16))
     → AppendsFraction (unsigned_abs v % 10 ^ 16) start text → Appends (IsDecimalOf v) old text
 appended v old start text small start_is h =
     let whole = decimal (unsigned_abs v / 10 ^ 16) in
@@ -124,5 +130,6 @@ appended v old start text small start_is h =
       text_is = h.text_is ∙ rw start_is (simp append_assoc);
     }
 
-pub only_part : (v : ℤ) (old text : List ℕ) → old ≡ [] → Appends (IsDecimalOf v) old text → IsDecimalOf v text
+pub only_part : (v : ℤ) (old text : List ℕ) → old ≡ [] → Appends (IsDecimalOf v) old text
+    → IsDecimalOf v text
 only_part v old text none h = subst (IsDecimalOf v) (sym (h.text_is ∙ rw none refl)) h.is_text

@@ -10,14 +10,17 @@ use Rattle.std.specs.List.{position_or_len, range_with_len}
 use Rattle.ipmi_text.specs.FieldText.{bcd_plus_character, bcd_plus_text, latin1_character, latin1_text, nibbles, number_of, six_bit_character, six_bit_text}
 
 -- the first three bytes are the low part of the number
-number_of-three : (bs : List ℕ) → number_of bs ≡ slice_index bs 0 + slice_index bs 1 * 256 + slice_index bs 2 * 65536 + 16777216 * number_of (drop 3 bs)
+number_of-three : (bs : List ℕ) → number_of bs
+    ≡ slice_index bs 0 + slice_index bs 1 * 256 + slice_index bs 2 * 65536
+    + 16777216 * number_of (drop 3 bs)
 number_of-three [] = refl
 number_of-three (a ∷ []) = omega arith
 number_of-three (a ∷ b ∷ []) = omega arith
 number_of-three (a ∷ b ∷ c ∷ rest) = omega arith
 
 -- four characters are three bytes
-number_of-drop : (g i : ℕ) (bs : List ℕ) → ((k : ℕ) → slice_index bs k < 256) → number_of bs / 64 ^ (g * 4 + i) ≡ number_of (drop (g * 3) bs) / 64 ^ i
+number_of-drop : (g i : ℕ) (bs : List ℕ) → ((k : ℕ) → slice_index bs k < 256)
+    → number_of bs / 64 ^ (g * 4 + i) ≡ number_of (drop (g * 3) bs) / 64 ^ i
 number_of-drop zero i bs bytes = ap (λ k. number_of bs / 64 ^ k) (omega arith)
 number_of-drop (suc g) i bs bytes =
     let first : number_of bs / 16777216 ≡ number_of (drop 3 bs) = omega (arith, number_of-three bs, bytes 0, bytes 1, bytes 2) in
@@ -35,8 +38,10 @@ low_digit v n (suc (suc (suc (suc i)))) h = absurd (omega arith)
 
 -- a character out of its three bytes
 pub six_bit_character_is : (bs : List ℕ) (i a b c : ℕ) → ((k : ℕ) → slice_index bs k < 256)
-    → a ≡ slice_index bs (i / 4 * 3) → b ≡ slice_index bs (i / 4 * 3 + 1) → c ≡ slice_index bs (i / 4 * 3 + 2)
-    → (a + b * 256 % 4294967296 + c * 65536 % 4294967296) / 2 ^ (i % 4 * 6) % 64 + 0x20 ≡ six_bit_character bs i
+    → a ≡ slice_index bs (i / 4 * 3) → b ≡ slice_index bs (i / 4 * 3 + 1)
+    → c ≡ slice_index bs (i / 4 * 3 + 2)
+    → (a + b * 256 % 4294967296 + c * 65536 % 4294967296) / 2 ^ (i % 4 * 6) % 64 + 0x20
+    ≡ six_bit_character bs i
 six_bit_character_is bs i a b c bytes a_is b_is c_is =
     let rest = drop (i / 4 * 3) bs in
     let place : i ≡ i / 4 * 4 + i % 4 = omega arith in
@@ -51,18 +56,22 @@ six_bit_character_is bs i a b c bytes a_is b_is c_is =
 pub six_bit_count : (n : ℕ) → 8 * n / 6 ≡ n + n / 3
 six_bit_count n = omega arith
 
-pub latin1_text-cons : (b : ℕ) (bs : List ℕ) → b ≢ 0 → latin1_text (b ∷ bs) ≡ encode_utf8 (latin1_character b) ++ latin1_text bs
+pub latin1_text-cons : (b : ℕ) (bs : List ℕ) → b ≢ 0
+    → latin1_text (b ∷ bs) ≡ encode_utf8 (latin1_character b) ++ latin1_text bs
 latin1_text-cons b bs h =
     let test : (b == 0) ≡ false = grind (arith, nat_tests) in
     let one_more : 1 + position_or_len (λ b. b == 0) bs ≡ suc (position_or_len (λ b. b == 0) bs) = omega arith in
     rw (test, one_more) refl
 
 pub latin1_text-drop : (bs : List ℕ) (i : ℕ) → i < length bs → get_or bs i 0 ≢ 0
-    → latin1_text (drop i bs) ≡ encode_utf8 (latin1_character (get_or bs i 0)) ++ latin1_text (drop (i + 1) bs)
+    → latin1_text (drop i bs) ≡ encode_utf8 (latin1_character (get_or bs i 0))
+    ++ latin1_text (drop (i + 1) bs)
 latin1_text-drop bs i within some = rw add-one (ap latin1_text (drop-cons bs i 0 within) ∙ latin1_text-cons (get_or bs i 0) (drop (suc i) bs) some)
 
 -- bytes that are all printed as themselves
-pub all_plain : (bs : List ℕ) → ((k : ℕ) → k < length bs → (0x20 ≤ get_or bs k 0) × (get_or bs k 0 ≤ 0x7e)) → bs ≡ latin1_text bs
+pub all_plain : (bs : List ℕ)
+    → ((k : ℕ) → k < length bs → (0x20 ≤ get_or bs k 0) × (get_or bs k 0 ≤ 0x7e))
+    → bs ≡ latin1_text bs
 all_plain [] plain = refl
 all_plain (b ∷ bs) plain =
     let low = (plain 0 (omega arith)).0 in

@@ -8,19 +8,22 @@ use Rattle.ipmi_text.specs.Times.{IsMinutesTextOf, IsMoment, IsUtcTextOf}
 use Rattle.ipmi_text.specs.TwoDigits.{two_digits}
 
 -- the two glyphs of a number below 100
-pub digit_glyph_two : (n : ℕ) → n < 100 → digit_glyph false (n / 10) ∷ digit_glyph false (n % 10) ∷ [] ≡ two_digits n
+pub digit_glyph_two : (n : ℕ) → n < 100
+    → digit_glyph false (n / 10) ∷ digit_glyph false (n % 10) ∷ [] ≡ two_digits n
 digit_glyph_two n small = rw (decimal_glyph (n / 10) (omega arith), decimal_glyph (n % 10) (omega arith)) refl
   where
     decimal_glyph : (d : ℕ) → d < 10 → digit_glyph false d ≡ 48 + d
     decimal_glyph d h = grind (arith, nat_tests)
 
 -- a day number and a time of day have one text
-one_moment : (day : ℕ) (time text other : List ℕ) → IsMoment day time text → IsMoment day time other → text ≡ other
+one_moment : (day : ℕ) (time text other : List ℕ) → IsMoment day time text → IsMoment day time other
+    → text ≡ other
 one_moment day time text other h k =
     let same = epoch_day_injective h.date k.date (h.day_is ∙ sym k.day_is) in
     h.text_is ∙ rw (same.0, same.1, same.2) (sym k.text_is)
 
-pub one_utc_text : (seconds : ℕ) (text other : List ℕ) → seconds ≤ 0xffff_ffff → IsUtcTextOf seconds text → IsUtcTextOf seconds other → text ≡ other
+pub one_utc_text : (seconds : ℕ) (text other : List ℕ) → seconds ≤ 0xffff_ffff
+    → IsUtcTextOf seconds text → IsUtcTextOf seconds other → text ≡ other
 one_utc_text seconds text other bound h k = elim (cases_lt 0x2000_0000 seconds) [
   | inr early ↦ h.since_start early ∙ sym (k.since_start early)
   | inl late ↦ elim (cases_lt seconds 0xffff_ffff) [
@@ -29,7 +32,8 @@ one_utc_text seconds text other bound h k = elim (cases_lt 0x2000_0000 seconds) 
   ]
 ]
 
-pub one_minutes_text : (minutes : ℕ) (text other : List ℕ) → IsMinutesTextOf minutes text → IsMinutesTextOf minutes other → text ≡ other
+pub one_minutes_text : (minutes : ℕ) (text other : List ℕ) → IsMinutesTextOf minutes text
+    → IsMinutesTextOf minutes other → text ≡ other
 one_minutes_text minutes text other h k = elim (cases_lt 0 minutes) [
   | inl some ↦ one_moment _ _ text other (h.moment some) (k.moment some)
   | inr none ↦ let zero_minutes : minutes ≡ 0 = omega arith in h.unspecified zero_minutes ∙ sym (k.unspecified zero_minutes)

@@ -8,7 +8,8 @@ pub not_length_zero : (xs : List ℕ) → not (length xs == 0) ≡ is_not_empty 
 not_length_zero [] = refl
 not_length_zero (x ∷ xs) = grind (arith, nat_tests)
 
-pub is_not_empty_append : (xs ys : List ℕ) → is_not_empty (xs ++ ys) ≡ is_not_empty xs || is_not_empty ys
+pub is_not_empty_append : (xs ys : List ℕ)
+    → is_not_empty (xs ++ ys) ≡ is_not_empty xs || is_not_empty ys
 is_not_empty_append [] ys = refl
 is_not_empty_append (x ∷ xs) ys = refl
 
@@ -28,7 +29,8 @@ append_spaced (x ∷ xs) (y ∷ ys) (z ∷ zs) f s first second = rw (first, sec
 
 -- they are something where one of them is
 pub is_not_empty_join_with_byte : (p u r : List ℕ)
-    → is_not_empty (join_with_byte 32 (filter is_not_empty (p ∷ u ∷ r ∷ []))) ≡ (is_not_empty p || is_not_empty u) || is_not_empty r
+    → is_not_empty (join_with_byte 32 (filter is_not_empty (p ∷ u ∷ r ∷ [])))
+    ≡ (is_not_empty p || is_not_empty u) || is_not_empty r
 is_not_empty_join_with_byte [] [] [] = refl
 is_not_empty_join_with_byte [] [] (z ∷ zs) = refl
 is_not_empty_join_with_byte [] (y ∷ ys) [] = refl
@@ -39,18 +41,21 @@ is_not_empty_join_with_byte (x ∷ xs) (y ∷ ys) [] = refl
 is_not_empty_join_with_byte (x ∷ xs) (y ∷ ys) (z ∷ zs) = refl
 
 -- a name that is all there is
-only_name : (name : List ℕ) → name ≡ join_with_byte 32 (filter is_not_empty ([] ∷ (name ++ []) ∷ [] ∷ []))
+only_name : (name : List ℕ) → name ≡ join_with_byte 32
+    (filter is_not_empty ([] ∷ (name ++ []) ∷ [] ∷ []))
 only_name [] = refl
 only_name (c ∷ name) = rw append-nil refl
 
 -- without percent, modifier and rate the name is printed, and nothing else
-pub unit_text_of_plain : (units1 base modifier : ℕ) → units1 % 64 ≡ 0 → unit_text_of units1 base modifier ≡ unit_name_or_code base
+pub unit_text_of_plain : (units1 base modifier : ℕ) → units1 % 64 ≡ 0
+    → unit_text_of units1 base modifier ≡ unit_name_or_code base
 unit_text_of_plain units1 base modifier none =
     let no_percent : units1 % 2 ≡ 0 = omega arith in
     let no_modifier : units1 / 2 % 4 ≡ 0 = omega arith in
     let no_rate : units1 / 8 % 8 ≡ 0 = omega arith in
     rw (no_percent, no_modifier, no_rate) (sym (only_name (unit_name_or_code base)))
 
-pub after_space_is : (text : List ℕ) → after_space text ≡ (if is_not_empty text then 32 ∷ text else [])
+pub after_space_is : (text : List ℕ)
+    → after_space text ≡ (if is_not_empty text then 32 ∷ text else [])
 after_space_is [] = refl
 after_space_is (c ∷ text) = refl

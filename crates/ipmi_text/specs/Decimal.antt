@@ -35,7 +35,8 @@ pub record IsDecimalOf (value : ℤ) (text : List ℕ) : Type 0 where
   pub is_whole : IsWhole whole
   pub is_fraction : IsFraction fraction
   pub text_is : text ≡ sign_of value ++ (whole ++ after_point fraction)
-  pub size_is : digits_value 10 whole * 10 ^ 16 + digits_value 10 (filled fraction) ≡ unsigned_abs value
+  pub size_is : digits_value 10 whole * 10 ^ 16 + digits_value 10 (filled fraction)
+      ≡ unsigned_abs value
 
 -- new is old, followed by a point and the digits of a fraction of so many units, or by nothing where there are no
 -- digits

@@ -31,4 +31,5 @@ event_name event offset = if event == 1 then slice_get threshold_events offset e
 abbrev pub event_text_of : ℕ → ℕ → List ℕ
 event_text_of event data1 =
     unwrap_or (event_name event (event_offset data1))
-    (codes "event 0x" ++ hex_byte event ++ codes " offset 0x" ++ digit_glyph false (event_offset data1) ∷ [])
+    (codes "event 0x" ++ hex_byte event ++ codes " offset 0x"
+    ++ digit_glyph false (event_offset data1) ∷ [])

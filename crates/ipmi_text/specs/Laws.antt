@@ -5,12 +5,16 @@ use Rattle.ipmi_text.specs.Times.{IsMinutesTextOf, IsUtcTextOf}
 
 -- two decimals of one value are one text
 abbrev pub DecimalIsUnique : Type 0
-DecimalIsUnique = (value : ℤ) (text other : List ℕ) → IsDecimalOf value text → IsDecimalOf value other → text ≡ other
+DecimalIsUnique = (value : ℤ) (text other : List ℕ) → IsDecimalOf value text
+    → IsDecimalOf value other → text ≡ other
 
 -- two texts of one time stamp in seconds are one
 abbrev pub UtcTextIsUnique : Type 0
-UtcTextIsUnique = (seconds : ℕ) (text other : List ℕ) → seconds ≤ 0xffff_ffff → IsUtcTextOf seconds text → IsUtcTextOf seconds other → text ≡ other
+UtcTextIsUnique = (seconds : ℕ) (text other : List ℕ) → seconds ≤ 0xffff_ffff
+    → IsUtcTextOf seconds text → IsUtcTextOf seconds other → text ≡ other
 
 -- two texts of one time stamp in minutes are one
 abbrev pub MinutesTextIsUnique : Type 0
-MinutesTextIsUnique = (minutes : ℕ) (text other : List ℕ) → IsMinutesTextOf minutes text → IsMinutesTextOf minutes other → text ≡ other
+MinutesTextIsUnique =
+    (minutes : ℕ) (text other : List ℕ) → IsMinutesTextOf minutes text
+    → IsMinutesTextOf minutes other → text ≡ other

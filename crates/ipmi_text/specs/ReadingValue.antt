@@ -41,4 +41,5 @@ ten_to exponent = pos (10 ^ unsigned_abs exponent)
 abbrev pub reading_value : SensorFactors → ℕ → Option ℤ
 reading_value f raw =
     if (f.format == 3) || not (f.linear == 0) then None
-    else Some ((f.m *ℤ raw_number f.format raw) *ℤ ten_to (f.k2 +ℤ pos 16) +ℤ f.b *ℤ ten_to (f.k1 +ℤ (f.k2 +ℤ pos 16)))
+    else Some ((f.m *ℤ raw_number f.format raw) *ℤ ten_to (f.k2 +ℤ pos 16) +ℤ f.b *ℤ ten_to
+    (f.k1 +ℤ (f.k2 +ℤ pos 16)))

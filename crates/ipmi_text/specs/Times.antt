@@ -24,7 +24,10 @@ pub record IsMoment (day : ℕ) (time text : List ℕ) : Type 0 where
 -- what a moment, and what the meaning of a time stamp, is printed as
 abbrev pub moment_text : Moment → List ℕ
 moment_text moment =
-    date_text moment.date ++ (codes " " ++ (two_digits moment.hour.value ++ (codes ":" ++ (two_digits moment.minute.value ++ (codes ":" ++ two_digits moment.second.value)))))
+    date_text moment.date
+    ++ (codes " " ++ (two_digits moment.hour.value
+    ++ (codes ":" ++ (two_digits moment.minute.value
+    ++ (codes ":" ++ two_digits moment.second.value)))))
 
 abbrev pub utc_time_text : UtcTime → List ℕ
 utc_time_text Unspecified = codes "unspecified"
@@ -36,7 +39,8 @@ utc_time_text (At moment) = moment_text moment
 pub record IsUtcTextOf (seconds : ℕ) (text : List ℕ) : Type 0 where
   pub unspecified : seconds ≡ 0xffff_ffff → text ≡ codes "unspecified"
   pub since_start : seconds ≤ 0x2000_0000 → text ≡ codes "+" ++ (decimal seconds ++ codes " s")
-  pub moment : 0x2000_0000 < seconds → seconds < 0xffff_ffff → IsMoment (seconds / 86_400) (second_text (seconds % 86_400)) text
+  pub moment : 0x2000_0000 < seconds → seconds < 0xffff_ffff
+      → IsMoment (seconds / 86_400) (second_text (seconds % 86_400)) text
 
 -- the day number of 1996-01-01: 26 years of 365 days, of which 6 were leap years
 abbrev pub first_fru_day : ℕ
@@ -46,4 +50,5 @@ first_fru_day = 9496
 -- Information Storage Definition v1.0, section 11)
 pub record IsMinutesTextOf (minutes : ℕ) (text : List ℕ) : Type 0 where
   pub unspecified : minutes ≡ 0 → text ≡ codes "unspecified"
-  pub moment : 0 < minutes → IsMoment (first_fru_day + minutes / 1440) (minute_text (minutes % 1440)) text
+  pub moment : 0 < minutes → IsMoment (first_fru_day + minutes / 1440)
+      (minute_text (minutes % 1440)) text

@@ -75,7 +75,8 @@ is_not_empty (_ ∷ _) = true
 abbrev pub unit_text_of : ℕ → ℕ → ℕ → List ℕ
 unit_text_of units1 base modifier =
     join_with_byte 32 (filter is_not_empty
-    (percent_part units1 ∷ (unit_name_or_code base ++ modifier_part units1 modifier) ∷ rate_part units1 ∷ []))
+    (percent_part units1 ∷ (unit_name_or_code base ++ modifier_part units1 modifier)
+    ∷ rate_part units1 ∷ []))
 
 -- nothing for an empty text, otherwise a space and the text
 abbrev pub after_space : List ℕ → List ℕ

@@ -4,7 +4,8 @@ use Rattle.ipmi_command_line.specs.Table.{task_of}
 use Rattle.ipmi_command_line.proofs.table.task_of.Goals as goal
 
 -- the table has no row of five words or more
-too_many : (words : List (Bor Text)) → 5 ≤ length words → None ≡ task_of (map (λ word. word.now) words)
+too_many : (words : List (Bor Text)) → 5 ≤ length words
+    → None ≡ task_of (map (λ word. word.now) words)
 too_many (a ∷ b ∷ c ∷ d ∷ e ∷ words) h = refl
 too_many _ h = absurd (omega arith)
 

@@ -13,7 +13,10 @@ invariant-records g l =
     × HasCalled (most_for_one l.cmd.task l.cmd.tries) l.count l.fn.cursor l.cursor (g.C.Controller.seen l.fn.ctl) (g.C.Controller.seen l.ctl)
     × IsWithin l.span.most l.count
     × Wrote l.wrote (g.O.Sink.taken l.fn.out) (g.O.Sink.taken l.out)
-    × (IsHonest (g.C.Controller.seen l.fn.ctl) → ListsHonest l.cmd.task l.cmd.tries l.span l.count (course l.fn.cursor l.cursor (g.C.Controller.seen l.fn.ctl) (g.C.Controller.seen l.ctl) (g.O.Sink.taken l.fn.out) (g.O.Sink.taken l.out)))
+    × (IsHonest (g.C.Controller.seen l.fn.ctl)
+    → ListsHonest l.cmd.task l.cmd.tries l.span l.count
+    (course l.fn.cursor l.cursor (g.C.Controller.seen l.fn.ctl) (g.C.Controller.seen l.ctl)
+    (g.O.Sink.taken l.fn.out) (g.O.Sink.taken l.out)))
 
 -- the ids that the cursor can still hand out
 abbrev pub decreases-records : goal.decreases-records

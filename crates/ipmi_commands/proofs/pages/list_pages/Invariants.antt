@@ -9,7 +9,12 @@ abbrev pub invariant-pages : goal.invariant-pages
 invariant-pages g l =
     (g.O.Sink.faults l.out ≡ g.O.Sink.faults l.fn.out)
     × IsPlace l.place
-    × ((g.C.Controller.seen l.ctl).calls + pages_made (drop l.size-index l.sizes) * most_on_walk l.cmd.task l.cmd.tries ≤ (g.C.Controller.seen l.fn.ctl).calls + pages_made l.fn.sizes * most_on_walk l.cmd.task l.cmd.tries)
+    × ((g.C.Controller.seen l.ctl).calls
+    + pages_made (drop l.size-index l.sizes) * most_on_walk l.cmd.task l.cmd.tries
+    ≤ (g.C.Controller.seen l.fn.ctl).calls
+    + pages_made l.fn.sizes * most_on_walk l.cmd.task l.cmd.tries)
     × (IsHonest (g.C.Controller.seen l.fn.ctl)
     → IsHonest (g.C.Controller.seen l.ctl)
-    × LeadsTo l.cmd.task l.fn.sizes (drop l.size-index l.sizes) (start_by l.cmd.task l.cmd.from) l.place l.cmd.tries (g.C.Controller.seen l.fn.ctl) (g.C.Controller.seen l.ctl) (g.O.Sink.taken l.fn.out) (g.O.Sink.taken l.out))
+    × LeadsTo l.cmd.task l.fn.sizes (drop l.size-index l.sizes) (start_by l.cmd.task l.cmd.from)
+    l.place l.cmd.tries (g.C.Controller.seen l.fn.ctl) (g.C.Controller.seen l.ctl)
+    (g.O.Sink.taken l.fn.out) (g.O.Sink.taken l.out))

@@ -2,7 +2,8 @@ use Rattle.std.proofs.Common.{◌∙◌, sym}
 use Rattle.ipmi_commands.proofs.AskLemmas.{passed, out_of_memory, out_after_value, fails_at_value}
 use Rattle.ipmi_commands.proofs.piece.listed_line.Goals as goal
 
-pub returns-in_err-sdr_fault_line-in-Err-clause-honest : goal.returns-in_err-sdr_fault_line-in-Err-clause-honest
+pub returns-in_err-sdr_fault_line-in-Err-clause-honest
+    : goal.returns-in_err-sdr_fault_line-in-Err-clause-honest
 returns-in_err-sdr_fault_line-in-Err-clause-honest g c = λ h. rw (passed _ _ c.from_residual.ensures.1) (out_of_memory _ _ _ h)
 
 pub returns-in_err-reading-clause-honest : goal.returns-in_err-reading-clause-honest

@@ -10,10 +10,13 @@ use Rattle.ipmi_output.proofs.message.write_escaped.Goals as goal
 use Rattle.ipmi_output.proofs.message.write_escaped.Goals.{then-is_ascii_control+in_ok-write_before_control, else-is_ascii_control}
 
 -- the text that was taken, the bytes that wait, and the bytes that are left are the whole
-module _ (whole text name : List ℕ) (begun at : ℕ) (so_far : whole ≡ text ++ (take (at - begun) (drop begun name) ++ escaped_name (drop at name))) where
+module _ (whole text name : List ℕ) (begun at : ℕ)
+    (so_far : whole ≡ text
+    ++ (take (at - begun) (drop begun name) ++ escaped_name (drop at name))) where
   -- a byte that is no control byte waits
   waits : (d : ℕ) → begun ≤ at → at < length name → is_ascii_control (get_or name at d) ≡ false
-      → whole ≡ text ++ (take (at + 1 - begun) (drop begun name) ++ escaped_name (drop (at + 1) name))
+      → whole ≡ text ++ (take (at + 1 - begun) (drop begun name)
+      ++ escaped_name (drop (at + 1) name))
   waits d before within plain =
       let one_more : at + 1 - begun ≡ at - begun + 1 = omega (arith, before) in
       let there : begun + (at - begun) ≡ at = omega (arith, before) in
@@ -28,7 +31,9 @@ module _ (whole text name : List ℕ) (begun at : ℕ) (so_far : whole ≡ text 
 
   -- a control byte is taken, after the bytes that waited, and then none waits
   taken : (d : ℕ) → at < length name → is_ascii_control (get_or name at d) ≡ true
-      → whole ≡ (text ++ (take (at - begun) (drop begun name) ++ (codes "\\x" ++ upper_byte (get_or name at d)))) ++ (take (at + 1 - (at + 1)) (drop (at + 1) name) ++ escaped_name (drop (at + 1) name))
+      → whole ≡ (text ++ (take (at - begun) (drop begun name)
+      ++ (codes "\\x" ++ upper_byte (get_or name at d))))
+      ++ (take (at + 1 - (at + 1)) (drop (at + 1) name) ++ escaped_name (drop (at + 1) name))
   taken d within control =
       let none : at + 1 - (at + 1) ≡ 0 = omega arith in
       so_far ∙ rw (none, at_drop_more (λ (l : List ℕ). escaped_name l) name at d within, control) (simp append_assoc)

@@ -8,7 +8,9 @@ use Rattle.ipmi_output.proofs.MessageLemmas.{Appends-both, Appends-kept, option_
 use Rattle.ipmi_output.proofs.message_sink.offer_all.Goals as goal
 
 -- the part before `done`, where the next call took none
-cut : (done : ℕ) (bytes : List ℕ) (old mid new : Received) → done < length bytes → ReceivesAll old mid (take done bytes) → Appends mid.taken new.taken [] → new.faults ≡ option_map (λ n. n + 1) mid.faults → ReceivesPart old new bytes
+cut : (done : ℕ) (bytes : List ℕ) (old mid new : Received) → done < length bytes
+    → ReceivesAll old mid (take done bytes) → Appends mid.taken new.taken []
+    → new.faults ≡ option_map (λ n. n + 1) mid.faults → ReceivesPart old new bytes
 cut done bytes old mid new within so_far none raised = (
   done,
   within,

@@ -3,8 +3,10 @@ use Rattle.std.proofs.lemmas.Result.{IfOk-weaker}
 use Rattle.ipmi_records.specs.Prelude.{AreThresholdTexts, IsThresholdText, Threshold, all_thresholds, is_readable}
 use Rattle.ipmi_records.proofs.block.all_thresholds.Goals as goal
 
-one_more : (bytes : List ℕ) (threshold : Threshold) (thresholds : List Threshold) (line more : List ℕ) → IsThresholdText (is_readable threshold bytes) bytes threshold line
-    → AreThresholdTexts bytes thresholds more → AreThresholdTexts bytes (threshold ∷ thresholds) (line ++ more)
+one_more : (bytes : List ℕ) (threshold : Threshold) (thresholds : List Threshold)
+    (line more : List ℕ) → IsThresholdText (is_readable threshold bytes) bytes threshold line
+    → AreThresholdTexts bytes thresholds more
+    → AreThresholdTexts bytes (threshold ∷ thresholds) (line ++ more)
 one_more bytes threshold thresholds line more is_line are_more = (line, more, (is_line, (are_more, refl)))
 
 pub returns : goal.returns

@@ -62,4 +62,5 @@ returns c =
     let sum : FitsSigned w128 (c.scaled-slope.result +ℤ c.scaled-offset.result) = sum_fits c.scaled-slope.result c.scaled-offset.result c.scaled-slope.ensures.size c.scaled-offset.ensures.size in
     let slope_is = simp to_z-of_z at c.scaled-slope.ensures.value in
     let offset_is = simp to_z-of_z at c.scaled-offset.ensures.value in
-    simp to_z-of_z (rw (← c.f.view_is) (value_is (record { format = c.f.inside.format; linear = c.f.inside.linear; m = c.f.inside.m; b = c.f.inside.b; k1 = c.f.inside.k1; k2 = c.f.inside.k2 }) c.args.raw c.raw_number.result c.scaled-slope.result c.scaled-offset.result c.if-f-eq-NO_ANALOG_READING.false c.if-f-ne-LINEAR.false c.raw_number.ensures.value slope_is offset_is))
+    simp to_z-of_z (rw (← c.f.view_is)
+    (value_is (record { format = c.f.inside.format; linear = c.f.inside.linear; m = c.f.inside.m; b = c.f.inside.b; k1 = c.f.inside.k1; k2 = c.f.inside.k2 }) c.args.raw c.raw_number.result c.scaled-slope.result c.scaled-offset.result c.if-f-eq-NO_ANALOG_READING.false c.if-f-ne-LINEAR.false c.raw_number.ensures.value slope_is offset_is))

@@ -13,4 +13,7 @@ returns c =
     let whole_is : c.parts-whole.result.0 ≡ unsigned_abs v / 10 ^ 16 = c.parts-whole.ensures.whole ∙ ap (λ (n : ℕ). n / 10 ^ 16) size_is in
     let rest_is : c.parts-whole.result.1 ≡ unsigned_abs v % 10 ^ 16 = c.parts-whole.ensures.rest ∙ ap (λ (n : ℕ). n % 10 ^ 16) size_is in
     let start_is : string_bytes c.write.new.self ≡ string_bytes c.args.text.now ++ (sign_of v ++ decimal (unsigned_abs v / 10 ^ 16)) = rw (← whole_is, ← sign_is) c.in_ok-write.ensures.bytes in
-    IfOk-weaker c.push_fraction.result _ _ (λ _ h. appended v (string_bytes c.args.text.now) (string_bytes c.write.new.self) (string_bytes c.push_fraction.new.text) small start_is (rw (← rest_is) h)) c.push_fraction.ensures
+    IfOk-weaker c.push_fraction.result _ _
+    (λ _ h. appended v (string_bytes c.args.text.now) (string_bytes c.write.new.self)
+    (string_bytes c.push_fraction.new.text) small start_is (rw (← rest_is) h))
+    c.push_fraction.ensures

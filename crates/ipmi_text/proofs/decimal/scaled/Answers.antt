@@ -16,7 +16,8 @@ pow-ten_to c = rw (to_z-of_z c.ranges.exponent) at c.pow.ensures
 power_le : (c : After-pow) → unsigned_abs c.pow.result ≤ 10 ^ 30
 power_le c = rw (pow-ten_to c) (unsigned_abs-ten_to _ c.requires.low c.requires.high)
 
-number_is : (c : After-pow) → to_z w128 (of_z w128 (to_z w32 (of_z w32 c.args.number))) ≡ c.args.number
+number_is : (c : After-pow) → to_z w128 (of_z w128 (to_z w32 (of_z w32 c.args.number)))
+    ≡ c.args.number
 number_is c = omega (arith, ints)
 
 power_is : (c : After-pow) → to_z w128 (of_z w128 c.pow.result) ≡ c.pow.result

@@ -7,7 +7,8 @@ use Rattle.jiff.proofs.OnLiterals.{jiff_on_literals}
 use Rattle.jiff.proofs.SpanFacts.{signed_arith, date_add-days, can_add-days}
 use Rattle.ipmi_text.proofs.times.date_of_day.Goals as goal
 
-epoch_day-first : (d : Date) → d.year ≡ pos 1970 → pos d.month ≡ pos 1 → pos d.day ≡ pos 1 → epoch_day d ≡ pos 0
+epoch_day-first : (d : Date) → d.year ≡ pos 1970 → pos d.month ≡ pos 1 → pos d.day ≡ pos 1
+    → epoch_day d ≡ pos 0
 unfolding jiff_on_literals
 epoch_day-first d a b c =
     let m : d.month ≡ 1 = cc in

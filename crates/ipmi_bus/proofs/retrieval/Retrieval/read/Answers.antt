@@ -14,11 +14,15 @@ reading-preserved g c =
 
 pub returns-in-Whole-clause-row_calls : goal.returns-in-Whole-clause-row_calls
 returns-in-Whole-clause-row_calls g c =
-    let call = c.make_call.ensures in row_bound c.args.self.now c.args.id c.reading.self c.make_call.new.self _ _ _ c.reading.invariant call.counted call.stays (rw c.in-Whole.is at c.in_ok-make_call.ensures.leaves).0
+    let call = c.make_call.ensures in row_bound c.args.self.now c.args.id c.reading.self
+    c.make_call.new.self _ _ _ c.reading.invariant call.counted call.stays
+    (rw c.in-Whole.is at c.in_ok-make_call.ensures.leaves).0
 
 pub returns-in-Absent-clause-row_calls : goal.returns-in-Absent-clause-row_calls
 returns-in-Absent-clause-row_calls g c =
-    let call = c.make_call.ensures in row_bound c.args.self.now c.args.id c.reading.self c.make_call.new.self _ _ _ c.reading.invariant call.counted call.stays (rw c.in-Absent.is at c.in_ok-make_call.ensures.leaves)
+    let call = c.make_call.ensures in row_bound c.args.self.now c.args.id c.reading.self
+    c.make_call.new.self _ _ _ c.reading.invariant call.counted call.stays
+    (rw c.in-Absent.is at c.in_ok-make_call.ensures.leaves)
 
 pub returns-in_err-make_call-clause-row_calls : goal.returns-in_err-make_call-clause-row_calls
 returns-in_err-make_call-clause-row_calls g c =

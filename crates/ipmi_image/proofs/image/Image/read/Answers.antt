@@ -10,7 +10,10 @@ returns-in_err-read_lines-clause-err c =
     rw (out.1, out.2) (elim c.in_err-read_lines.ensures.err [ inl memory ↦ inl memory | inr fault ↦ inr (is ∙ fault) ])
 
 pub returns-clause-ok : goal.returns-clause-ok
-returns-clause-ok c = store_of_image-lines c.args.bytes.now c.in-Some.first.now c.in-Some.rest.now c.in-Some-read_version.dashes c.in-Some.ensures.cut c.in-Some-read_version.ensures ∙ c.in_ok-read_lines.ensures.ok.1
+returns-clause-ok c =
+    store_of_image-lines c.args.bytes.now c.in-Some.first.now c.in-Some.rest.now
+    c.in-Some-read_version.dashes c.in-Some.ensures.cut c.in-Some-read_version.ensures
+    ∙ c.in_ok-read_lines.ensures.ok.1
 
 pub invariant_of-result : goal.invariant_of-result
 invariant_of-result c = (

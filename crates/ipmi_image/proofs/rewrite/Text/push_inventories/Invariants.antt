@@ -5,4 +5,7 @@ use Rattle.ipmi_image.proofs.rewrite.Text.push_inventories.Given as goal
 -- with the lines of the inventories that are left the text is what it is to be
 abbrev pub invariant-inventories : goal.invariant-inventories
 invariant-inventories l =
-    l.self.bytes.items ++ lines_text (flat_map inventory_lines (map kept_inventory (drop l.inventory-index l.inventories))) ≡ l.fn.self.bytes.items ++ lines_text (flat_map inventory_lines (map kept_inventory l.inventories))
+    l.self.bytes.items ++ lines_text
+    (flat_map inventory_lines (map kept_inventory (drop l.inventory-index l.inventories)))
+    ≡ l.fn.self.bytes.items ++ lines_text
+    (flat_map inventory_lines (map kept_inventory l.inventories))

@@ -5,10 +5,18 @@ use Rattle.ipmi_image.proofs.TableLemmas.{index_set, with_bytes_set}
 use Rattle.ipmi_image.proofs.stored.Table+StoredInventory.append.Goals as goal
 
 pub invariant_of-self : goal.invariant_of-self
-invariant_of-self c = index_set (λ (i : StoredInventory). i.id) c.self.inside.items.items _ c.args.place (record { id = c.index_mut.result.now.id; bytes = c.extend_from_slice.new.self }) c.index_mut.result.now c.self.invariant (ap (λ (i : StoredInventory). i.id) c.index_mut.ensures.value)
+invariant_of-self c =
+    index_set (λ (i : StoredInventory). i.id) c.self.inside.items.items _ c.args.place
+    (record { id = c.index_mut.result.now.id; bytes = c.extend_from_slice.new.self })
+    c.index_mut.result.now c.self.invariant
+    (ap (λ (i : StoredInventory). i.id) c.index_mut.ensures.value)
 
 pub invariant_of-self-2 : goal.invariant_of-self-2
-invariant_of-self-2 c = index_set (λ (i : StoredInventory). i.id) c.self.inside.items.items _ c.args.place (record { id = c.index_mut.result.now.id; bytes = c.extend_from_slice.new.self }) c.index_mut.result.now c.self.invariant (ap (λ (i : StoredInventory). i.id) c.index_mut.ensures.value)
+invariant_of-self-2 c =
+    index_set (λ (i : StoredInventory). i.id) c.self.inside.items.items _ c.args.place
+    (record { id = c.index_mut.result.now.id; bytes = c.extend_from_slice.new.self })
+    c.index_mut.result.now c.self.invariant
+    (ap (λ (i : StoredInventory). i.id) c.index_mut.ensures.value)
 
 pub returns : goal.returns
 returns c = λ id at.

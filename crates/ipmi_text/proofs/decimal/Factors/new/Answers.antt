@@ -17,7 +17,8 @@ invariant_of-result c =
       k2 = (omega (arith, ints), omega (arith, ints));
     }
 
-pub returns-then-is_twos_complement-4-clause-some : goal.returns-then-is_twos_complement-4-clause-some
+pub returns-then-is_twos_complement-4-clause-some
+    : goal.returns-then-is_twos_complement-4-clause-some
 returns-then-is_twos_complement-4-clause-some c =
     let ranges = rw (to_z-of_z c.ranges.m, to_z-of_z c.ranges.b, to_z-of_z c.ranges.k1, to_z-of_z c.ranges.k2) at (invariant_of-result c) in
     (λ _. ranges, λ _. refl)
