@@ -144,10 +144,10 @@ fn the_shelves_are_in_one_order(rt: HostRuntime) {
 }
 
 /// Writes the line of the record, and compares it with this one.
-fn has_line(rt: &impl Abort, line: &mut LineBuffer, record: &Record<'_>, wanted: &str)
-    requires { length record.now.bytes.now ≤ 256 }
+fn has_line(rt: &impl Abort, line: &mut LineBuffer, lent: &Record<'_>, wanted: &str)
+    requires { length lent.now.bytes.now ≤ 256 }
 {
-    record_line(record, line);
+    record_line(lent, line);
     let got = std::str::from_utf8(line.as_slice()).expect(rt, "text");
     assert!(rt; got == wanted, "{got}");
 }
