@@ -1,5 +1,5 @@
-//! Two images that take each other's place, at any two calls of a command: each piece of its output is a whole one of one of
-//! them.
+//! Two images that take each other's place, at any two calls of a command: each piece of its output is a whole one, of
+//! one of them.
 use super::changing::left_over;
 use super::left::text_of;
 use super::over_images::Two;
@@ -20,15 +20,25 @@ fn there_and_back(rt: &impl Abort, alloc: Global, before: u32, between: u32) -> 
     letters
 }
 
-/// Asserts that each piece of an output, which ends so, is in a text.
-fn are_within(rt: &impl Abort, out: &str, end: &str, texts: &str, case: &str) {
-    for piece in out.split_terminator(end) {
-        assert!(rt; texts.find(piece).is_some(), "{case}: {piece}");
+/// Whether a piece is one of the texts, each of which ends so.
+fn is_one_of(piece: &str, texts: &str, end: &str) -> bool {
+    for text in texts.split_terminator(end) {
+        if text == piece {
+            return true;
+        }
     }
-    assert!(rt; out.is_empty() || out.ends_with(end), "{case}: end");
+    false
 }
 
-/// Words over two images, how each piece of their output ends, and all the pieces that the two images have.
+/// Asserts that an output ends so, as each piece of it, and that each piece is one of the texts.
+fn are_pieces(rt: &impl Abort, out: &str, end: &str, texts: &str, case: &str) {
+    for piece in out.split_terminator(end) {
+        assert!(rt; is_one_of(piece, texts, end), "{case}: {piece}");
+    }
+    assert!(rt; out.is_empty() || out.ends_with(end), "{case}: {out}");
+}
+
+/// Words over two images, how each piece of their output ends, and all the pieces that the two images can have.
 #[derive(Clone, Copy)]
 struct Pieces<'a> {
     words: &'a str,
@@ -43,14 +53,10 @@ fn are_whole(rt: &impl Abort, alloc: Global, pieces: &Pieces, before: u32, betwe
     let letters = there_and_back(rt, alloc, before, between);
     let letters = letters.as_str();
     let left = left_over(rt, alloc, pieces.words, pieces.two, letters);
-    assert!(rt; left.status < 2, "{letters}: status");
-    are_within(
-        rt,
-        text_of(rt, &left.out),
-        pieces.end,
-        pieces.texts,
-        letters,
-    );
+    let status = left.status;
+    assert!(rt; status < 2, "{letters}: status {status}");
+    let out = text_of(rt, &left.out);
+    are_pieces(rt, out, pieces.end, pieces.texts, letters);
 }
 
 /// The same for each number of calls before the change, and after it, up to twelve.
@@ -85,15 +91,28 @@ Entity: 10.3
 
 ";
 
-const DEVICE_LINES: &str = "FRU 0
-FRU 1 (PSU1)
-FRU 1 (FAN1)
-FRU 2 (PSU2)
-FRU 2 (FAN2)
+const DEVICES: &str = "FRU 0
 Chassis Type: Rack Mount Chassis
+
+FRU 0
 Chassis Type: Other
+
+FRU 1 (PSU1)
 FRU fault: header short
+
+FRU 1 (FAN1)
+FRU fault: header short
+
+FRU 2 (PSU2)
 Chassis fault: outside
+
+FRU 2 (PSU2)
+FRU fault: header checksum
+
+FRU 2 (FAN2)
+Chassis fault: outside
+
+FRU 2 (FAN2)
 FRU fault: header checksum
 
 ";
@@ -132,12 +151,13 @@ const PIECES: [Pieces<'static>; 4] = [
             first: "two locators",
             second: "two other locators",
         },
-        end: "\n",
-        texts: DEVICE_LINES,
+        end: "\n\n",
+        texts: DEVICES,
     },
 ];
 
-// The log is turned where its entries have another order.
+// The log is turned where its entries have another order. A device may have its name of one image, and its inventory of the
+// other.
 #[test]
 fn no_record_is_of_two_images(rt: HostRuntime) {
     for pieces in &PIECES {
