@@ -54,7 +54,8 @@ fn each_command_has_its_scope(rt: HostRuntime) {
 /// Asserts that the command asks for this name.
 fn has_name(rt: &impl Abort, alloc: Global, words: &str, wanted: &str) {
     let command = command(rt, alloc, words);
-    assert!(rt; command.task().name() == wanted, "{words}");
+    let got = command.task().name();
+    assert!(rt; got == wanted, "{words}: got {got}");
 }
 
 #[test]

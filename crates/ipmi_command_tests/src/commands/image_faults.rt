@@ -148,7 +148,8 @@ fn is_listed_when_cut(rt: &impl Abort, alloc: Global, len: usize, wanted: &str) 
 
 #[test]
 fn an_image_cut_short_is_not_listed(rt: HostRuntime) {
-    assert!(rt; THREE_ROWS.len() == 98);
+    let len = THREE_ROWS.len();
+    assert!(rt; len == 98, "{len} bytes");
     for len in 0..13 {
         is_listed_when_cut(&rt, rt.alloc(), len, "3\nimage: header\n--\n");
     }

@@ -1,4 +1,4 @@
-//! Listings of as many records as there are ids.
+//! Listings of a record for each id.
 use super::left::{Left, has_numbers, left_by};
 use super::over_images::over;
 use crate::command_line::lines::command;
@@ -49,7 +49,7 @@ fn left_over(rt: &impl Abort, alloc: Global, image: &str) -> Left {
 
 // 65,534 lines of 25 bytes each.
 #[test]
-fn there_may_be_as_many_rows_as_there_are_ids(rt: HostRuntime) {
+fn each_id_from_0001h_to_fffeh_may_have_a_row(rt: HostRuntime) {
     let left = left_over(&rt, rt.alloc(), falling_image(&rt, rt.alloc()).as_str());
     has_numbers(&rt, rt.alloc(), &left, "0 65535 1638350|", "rows");
     is_rising(&rt, rt.alloc(), &left, 1, "rows");
@@ -67,6 +67,8 @@ fn a_listing_without_a_last_record_ends(rt: HostRuntime) {
     let left = left_endless(&rt, rt.alloc());
     has_numbers(&rt, rt.alloc(), &left, "0 65536 1638375|", "endless");
     is_rising(&rt, rt.alloc(), &left, 0, "endless");
-    assert!(rt; left.out.starts_with(b"sdr 0000 0001 000051c000\n"));
-    assert!(rt; left.out.ends_with(b"sdr fffe ffff feff51c000\n"));
+    let is_first = left.out.starts_with(b"sdr 0000 0001 000051c000\n");
+    assert!(rt; is_first, "another first line");
+    let is_last = left.out.ends_with(b"sdr fffe ffff feff51c000\n");
+    assert!(rt; is_last, "another last line");
 }

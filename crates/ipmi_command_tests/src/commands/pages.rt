@@ -5,7 +5,7 @@ ghost use Rattle.ipmi_command_line.specs.Task.{is_listing};
 use super::left::{Left, is_left};
 use super::over_images::{over, scripted};
 use super::saved::{THREE_LINES, THREE_ROWS, image_named};
-use crate::cases::{case_of, number};
+use crate::cases::{Case, case_of, number};
 use crate::command_line::lines::command;
 use crate::controllers::Counting;
 use crate::writers::is_written;
@@ -52,21 +52,19 @@ fn sizes(rt: &impl Abort, alloc: Global, text: &str) -> Vec<u32> {
     pages
 }
 
-/// Asserts what the words leave over the controller in pages of the sizes in a text.
+/// Asserts what the words of a case leave over the controller, in pages of the sizes that it has more.
 fn leaves_in_pages<C: Controller + Drop>(
     rt: &impl Abort,
     alloc: Global,
     ctl: Counting<C>,
-    words: &str,
-    pages: &str,
-    wanted: &str,
+    case: &Case,
 ) {
-    let command = command(rt, alloc, words);
+    let command = command(rt, alloc, case.words);
     if !command.is_listing() {
-        panic!(rt; "{words}: no listing");
+        panic!(rt; "{}: no listing", case.line);
     }
-    let left = left_in_pages(alloc, ctl, &command, &sizes(rt, alloc, pages));
-    is_left(rt, alloc, &left, wanted, words);
+    let left = left_in_pages(alloc, ctl, &command, &sizes(rt, alloc, case.more));
+    is_left(rt, alloc, &left, case.wanted, case.line);
 }
 
 /// Asserts what a listing leaves over an image in pages. The first line of the case is the words, the name of the image
@@ -74,7 +72,7 @@ fn leaves_in_pages<C: Controller + Drop>(
 fn lists_in_pages(rt: &impl Abort, alloc: Global, case: &str) {
     let case = case_of(rt, case);
     let ctl = over(rt, alloc, image_named(rt, case.image));
-    leaves_in_pages(rt, alloc, ctl, case.words, case.more, case.wanted);
+    leaves_in_pages(rt, alloc, ctl, &case);
 }
 
 /// The same for each of these cases.
@@ -159,8 +157,9 @@ const EMPTY_IN_PAGES: &str = "sdr hex|empty|1 1
 --
 ";
 
+// A reservation, and a call that finds no record. No other page is begun.
 #[test]
-fn an_empty_image_has_pages(rt: HostRuntime) {
+fn an_empty_image_ends_on_the_first_page(rt: HostRuntime) {
     all_list_in_pages(&rt, rt.alloc(), EMPTY_IN_PAGES);
 }
 
@@ -186,7 +185,8 @@ fn each_page_sees_its_own_cycle(rt: HostRuntime) {
     all_list_in_pages(&rt, rt.alloc(), CYCLES);
 }
 
-const GIVEN_UP: &str = "1 4
+const GIVEN_UP: &str = "--tries 0 sdr hex|three|1 1
+1 4
 gave up at 0002h
 --
 sdr 0001 0002 010051c001aa
@@ -195,8 +195,9 @@ sdr 0001 0002 010051c001aa
 // The fourth call begins the second page, and the third page is not begun.
 #[test]
 fn a_page_that_ends_by_name_ends_all(rt: HostRuntime) {
-    let ctl = scripted(&rt, rt.alloc(), THREE_ROWS, "...B");
-    leaves_in_pages(&rt, rt.alloc(), ctl, "--tries 0 sdr hex", "1 1", GIVEN_UP);
+    let case = case_of(&rt, GIVEN_UP);
+    let ctl = scripted(&rt, rt.alloc(), image_named(&rt, case.image), "...B");
+    leaves_in_pages(&rt, rt.alloc(), ctl, &case);
 }
 
 /// What a listing of three records in hex leaves in three pages. It takes no memory but for the listing.
@@ -215,7 +216,7 @@ fn is_whole(rt: &impl Abort, left: &Left) {
 }
 
 #[test]
-fn always_out_of_memory(rt: HostRuntime) {
+fn not_always_out_of_memory(rt: HostRuntime) {
     let left = three_in_pages(rt.alloc()).expect(&rt, "memory");
     is_whole(&rt, &left);
 }
@@ -232,7 +233,8 @@ fn is_whole_or_refused(rt: &impl Abort, left: &Left) {
         }
         status => panic!(rt; "status {status}"),
     }
-    assert!(rt; THREE_LINES.as_bytes().starts_with(&left.out));
+    let is_first_part = THREE_LINES.as_bytes().starts_with(&left.out);
+    assert!(rt; is_first_part, "status {}: other lines", left.status);
 }
 
 // Where memory is refused, to the run or to what takes its output, it has first lines, or first bytes of them.
@@ -240,6 +242,6 @@ fn is_whole_or_refused(rt: &impl Abort, left: &Left) {
 fn memory_may_be_refused(rt: HostRuntime) {
     match three_in_pages(rt.alloc()) {
         Ok(left) => is_whole_or_refused(&rt, &left),
-        Err(fault) => assert!(rt; fault == ImageFault::Memory),
+        Err(fault) => assert!(rt; fault == ImageFault::Memory, "{fault:?}"),
     }
 }

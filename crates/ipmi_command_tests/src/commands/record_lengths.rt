@@ -1,9 +1,10 @@
 //! Sensor data records of each length: a line or a block of what is there, a line that it is too short, or a fault of
 //! the image.
-use super::answers::words_are_answered;
+use super::answers::is_answered;
 use super::left::is_left;
 use super::over_images::left_over;
 use crate::cases::first_line;
+use crate::command_line::lines::read_line;
 use std::alloc::Global;
 use std::process::Abort;
 
@@ -109,6 +110,8 @@ Upper non-critical: 85 degrees C
 fn a_sensor_record_of_48_bytes_or_more_is_listed_and_named(rt: HostRuntime) {
     for len in 48..57 {
         is_listed(&rt, rt.alloc(), len);
+    }
+    for len in 48..57 {
         is_shown(&rt, rt.alloc(), len);
     }
 }
@@ -155,20 +158,26 @@ fn a_locator_cut_short_is_passed_or_printed(rt: HostRuntime) {
     }
 }
 
-/// Asserts that each of these commands tells the fault of an image that has only the record's first bytes, so many.
+const COMMANDS: &str = "sdr info
+sdr get Foo
+sel
+sel list last 1
+fru
+fru print 0";
+
+/// Asserts that the words tell the fault of the image.
+fn tells_the_fault(rt: &impl Abort, alloc: Global, image: &str, words: &str, wanted: &str) {
+    let line = read_line(rt, alloc, words);
+    let case = format!(in alloc; "{words}: {image}").expect(rt, "memory");
+    is_answered(rt, alloc, &line, image.as_bytes(), wanted, case.as_str());
+}
+
+/// Asserts that each of the commands tells the fault of an image that has only the record's first bytes, so many.
 fn is_no_record(rt: &impl Abort, alloc: Global, len: usize, wanted: &str) {
     let hex = SENSOR.get(..len.saturating_mul(2)).expect(rt, "bytes");
     let image = format!(in alloc; "ipmi-image 1\nsdr 0001 ffff {hex}\nend\n").expect(rt, "memory");
-    for words in [
-        "sdr info",
-        "sdr get Foo",
-        "sel",
-        "sel list last 1",
-        "fru",
-        "fru print 0",
-    ] {
-        let case = format!(in alloc; "{words}\n{wanted}").expect(rt, "memory");
-        words_are_answered(rt, alloc, image.as_str(), case.as_str());
+    for words in COMMANDS.lines() {
+        tells_the_fault(rt, alloc, image.as_str(), words, wanted);
     }
 }
 

@@ -50,13 +50,15 @@ struct Pieces<'a> {
 /// Asserts that each piece is a whole one of an image, where it changes after so many calls and back after so many
 /// others.
 fn are_whole(rt: &impl Abort, alloc: Global, pieces: &Pieces, before: u32, between: u32) {
+    let words = pieces.words;
     let letters = there_and_back(rt, alloc, before, between);
-    let letters = letters.as_str();
-    let left = left_over(rt, alloc, pieces.words, pieces.two, letters);
+    let case = format!(in alloc; "{words}: {letters}").expect(rt, "memory");
+    let case = case.as_str();
+    let left = left_over(rt, alloc, words, pieces.two, letters.as_str());
     let status = left.status;
-    assert!(rt; status < 2, "{letters}: status {status}");
-    let out = text_of(rt, &left.out);
-    are_pieces(rt, out, pieces.end, pieces.texts, letters);
+    assert!(rt; status < 2, "{case}: status {status}");
+    let out = text_of(rt, &left.out, case);
+    are_pieces(rt, out, pieces.end, pieces.texts, case);
 }
 
 /// The same for each number of calls before the change, and after it, up to twelve.

@@ -7,7 +7,7 @@ use std::alloc::Global;
 use std::process::Abort;
 
 /// Words, what their calls are answered, and what they leave.
-#[derive(Clone, Copy)]
+#[derive(Clone, Copy, Debug)]
 struct Case {
     words: &'static str,
     replies: &'static [Reply],
@@ -24,7 +24,8 @@ const EIGHT: Reply = Reply::Has(FruSize {
 fn is_left_over_answers(rt: &impl Abort, alloc: Global, case: &Case) {
     let mut ctl = Counting::new(Replay::new(case.replies));
     let left = left_by(alloc, &mut ctl, &command(rt, alloc, case.words));
-    is_left(rt, alloc, &left, case.wanted, case.words);
+    let name = format!(in alloc; "{case:?}").expect(rt, "memory");
+    is_left(rt, alloc, &left, case.wanted, name.as_str());
 }
 
 /// The same for each of these cases.

@@ -92,7 +92,7 @@ pub(super) fn answer_of(rt: &impl Abort, digits: &str) -> Option<Reading> {
     Some(reading_of(bytes))
 }
 
-/// Puts a value into a byte of a record, which is counted from 1.
+/// Puts a value into a byte of a record. Bytes are counted from 1.
 fn set_byte(rt: &impl Abort, record: &mut [u8; 56], place: usize, value: u8) {
     let byte = record.get_mut(place.wrapping_sub(1));
     *byte.expect(rt, "a byte of the record") = value;
