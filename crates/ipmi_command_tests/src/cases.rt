@@ -1,5 +1,5 @@
-//! How cases are written: parts of a line with bars between them, and a first line before what is wanted. A case that is
-//! not written so fails by its own text.
+//! How cases are written: parts of a line with bars between them, and a first line before what is wanted. A case that
+//! is not written so fails by its own text.
 use std::process::Abort;
 
 /// The parts of a line before and after its first bar.
@@ -30,8 +30,8 @@ pub(crate) struct Case<'a> {
     pub wanted: &'a str,
 }
 
-/// The case whose first line is words, the name of an image and one part more, with bars between them, and whose other lines
-/// are what is wanted.
+/// The case whose first line is words, the name of an image and one part more, with bars between them, and whose other
+/// lines are what is wanted.
 pub(crate) fn case_of<'a>(rt: &impl Abort, case: &'a str) -> Case<'a> {
     let (line, wanted) = first_line(rt, case);
     let (words, rest) = parts(rt, line);

@@ -239,8 +239,8 @@ impl Controller for Replay<'_> {
     }
 }
 
-/// Has a record of five bytes for every id, whose next id is one higher, and refuses all but records. It counts the calls
-/// for reservations and parts.
+/// Has a record of five bytes for every id, whose next id is one higher, and refuses all but records. It counts the
+/// calls for reservations and parts.
 #[derive(Drop)]
 pub struct Endless {
     pub calls: u32,

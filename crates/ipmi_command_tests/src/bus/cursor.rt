@@ -157,12 +157,8 @@ fn a_short_part_is_kept(rt: HostRuntime) {
 
 /// The image line of a record of 256 bytes.
 fn longest_line(rt: &impl Abort, alloc: Global) -> String {
-    let mut line = String::from_str(alloc, "sdr 0001 ffff 010051c0fb").expect(rt, "memory");
-    for _ in 0..251 {
-        line.push_str("a5").expect(rt, "memory");
-    }
-    line.push_str("\n").expect(rt, "memory");
-    line
+    let bytes = "a5".repeat(alloc, 251).expect(rt, "memory");
+    format!(in alloc; "sdr 0001 ffff 010051c0fb{bytes}\n").expect(rt, "memory")
 }
 
 /// Lists the record of this line in parts of one byte: it comes again, after so many calls.
@@ -185,7 +181,6 @@ fn cursor(rt: &impl Abort, alloc: Global, tries: u8) -> Cursor {
     Cursor::start(alloc, Shelf::Sdr, None, 32, tries).expect(rt, "memory")
 }
 
-/// Compares the place of a cursor.
 fn stands_at(rt: &impl Abort, cursor: &Cursor, wanted: Place) {
     let place = cursor.resume_at();
     assert!(rt; place == wanted, "wanted {wanted:?}: got {place:?}");
@@ -201,7 +196,6 @@ fn is_last_record(rt: &impl Abort, record: &Record) {
     );
 }
 
-/// Makes a step that hands out a record.
 fn hands_out_record(rt: &impl Abort, cursor: &mut Cursor, ctl: &mut Replay) {
     match cursor.step(ctl) {
         Ok(Some(record)) => is_last_record(rt, &record),
@@ -228,7 +222,6 @@ fn a_later_step_tries_again(rt: HostRuntime) {
     assert!(rt; ctl.calls == 3, "{} calls", ctl.calls);
 }
 
-/// The id of the next record.
 fn next_id(cursor: &mut Cursor, ctl: &mut Endless) -> Option<u16> {
     match cursor.step(ctl) {
         Ok(Some(record)) => Some(record.id),

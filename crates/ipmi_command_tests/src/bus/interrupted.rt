@@ -14,8 +14,8 @@ fn is_one_call_more(rt: &impl Abort, alloc: Global, call: u32, code: u8) {
     is_done(rt, alloc, &left, THREE_LINES, 7, case.as_str());
 }
 
-/// The same for each of the six calls: a reservation, and two calls for the first record, two for the second and one for
-/// the third.
+/// The same for each of the six calls: a reservation, and two calls for the first record, two for the second and one
+/// for the third.
 fn is_always_one_call_more(rt: &impl Abort, alloc: Global, code: u8) {
     for call in 1..=6 {
         is_one_call_more(rt, alloc, call, code);

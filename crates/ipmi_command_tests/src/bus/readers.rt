@@ -15,7 +15,6 @@ struct Case<T> {
     calls: u32,
 }
 
-/// Compares what was read, and the number of calls.
 fn compare<T: Debug + PartialEq>(rt: &impl Abort, case: &Case<T>, got: &T, calls: u32) {
     assert!(rt; *got == case.wanted, "{case:?}: {got:?}");
     assert!(rt; calls == case.calls, "{case:?}: {calls} calls");
@@ -241,7 +240,6 @@ const ONE_BYTE: [Reply; 2] = [
     Reply::Gives(&[7], 0),
 ];
 
-/// Compares an inventory of the one byte.
 fn is_one_byte(rt: &impl Abort, bytes: &[u8]) {
     assert!(rt; bytes == [7].as_slice(), "{bytes:?}");
 }

@@ -6,7 +6,6 @@ use std::process::Abort;
 
 const LINE: [&str; 6] = ["ipmitool", "--image", "server.image", "sdr", "get", "Fan 1"];
 
-/// The words of the line.
 fn words(alloc: Global) -> Result<Words, AllocError> {
     let mut words = Words::new(alloc);
     for word in LINE {
@@ -15,13 +14,11 @@ fn words(alloc: Global) -> Result<Words, AllocError> {
     Ok(words)
 }
 
-/// The command of the line.
 fn command(rt: &impl Abort, alloc: Global) -> Result<Command, UsageFault> {
     let words = words(alloc)?;
     command_of_words(rt, alloc, &words)
 }
 
-/// Asserts that a word is the name.
 fn is_name(rt: &impl Abort, word: &Word) {
     let got = word.as_str();
     assert!(rt; got == "Fan 1", "the name: got {got}");

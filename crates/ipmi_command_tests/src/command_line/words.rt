@@ -2,7 +2,6 @@
 use ipmi_command_line::{Word, Words};
 use std::process::Abort;
 
-/// Puts a word at the end.
 fn push(rt: &impl Abort, words: &mut Words, word: &str) {
     words.push(word).expect(rt, "memory");
 }

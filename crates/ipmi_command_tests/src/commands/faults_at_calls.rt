@@ -16,8 +16,8 @@ struct Course<'a> {
     words: &'a str,
     /// The name of the image.
     image: &'a str,
-    /// A line for each call: what a message names after a fault there, how many lines are printed before, how many calls are
-    /// made where the call is cancelled once, and how many where a part is too long there.
+    /// A line for each call: what a message names after a fault there, how many lines are printed before, how many
+    /// calls are made where the call is cancelled once, and how many where a part is too long there.
     faults: &'a str,
     /// The line of the message, where one is left without a fault.
     said: &'a str,
@@ -34,7 +34,6 @@ struct Fault<'a> {
     calls_if_too_long: u32,
 }
 
-/// What a line of a course says.
 fn fault_of<'a>(rt: &impl Abort, line: &'a str) -> Fault<'a> {
     let (names, rest) = parts(rt, line);
     let (lines, rest) = parts(rt, rest);
@@ -50,10 +49,10 @@ fn fault_of<'a>(rt: &impl Abort, line: &'a str) -> Fault<'a> {
 // A record that is cancelled begins again with a reservation, and its calls so far are made twice. Where a reading or
 // an inventory is cancelled the reservation is lost too, so that the next record begins again after its header.
 //
-// A part that is too long is asked for again in parts of half as many bytes, and so is all that comes after it on the same
-// walk, or of the same inventory. After a header of 5 bytes parts have 2: a header takes 3 calls then, 51 bytes after one
-// 26, and 15 bytes 8. After 32 bytes they have 16, after 19 they have 9, and after 15 they have 7. Of an entry or an
-// inventory of 16 bytes they have 8. A call for no part, or for one of one byte, is never too long.
+// A part that is too long is asked for again in parts of half as many bytes, and so is all that comes after it on the
+// same walk, or of the same inventory. After a header of 5 bytes parts have 2: a header takes 3 calls then, 51 bytes
+// after one 26, and 15 bytes 8. After 32 bytes they have 16, after 19 they have 9, and after 15 they have 7. Of an
+// entry or an inventory of 16 bytes they have 8. A call for no part, or for one of one byte, is never too long.
 const COURSES: [Course<'static>; 10] = [
     Course {
         words: "sdr,get,CPU Temp",
@@ -188,7 +187,6 @@ fn whole_text(rt: &impl Abort, alloc: Global, course: &Course, calls: u32) -> St
     format!(in alloc; "{status} {calls}\n{said}--\n{out}").expect(rt, "memory")
 }
 
-/// Puts a line at the end.
 fn push_line(rt: &impl Abort, lines: &mut String, line: &str) {
     lines.push_str(line).expect(rt, "memory");
     lines.push_str("\n").expect(rt, "memory");
@@ -234,12 +232,9 @@ fn refused(rt: &impl Abort, alloc: Global, names: &str) -> String {
 
 /// Moods that grant the calls before one, which meets this mood.
 fn moods_at(rt: &impl Abort, alloc: Global, call: u32, mood: &str) -> String {
-    let mut moods = String::new(alloc);
-    for _ in 1..call {
-        moods.push_str(".").expect(rt, "memory");
-    }
-    moods.push_str(mood).expect(rt, "memory");
-    moods
+    let granted = ".".repeat(alloc, call.saturating_sub(1) as usize);
+    let granted = granted.expect(rt, "memory");
+    format!(in alloc; "{granted}{mood}").expect(rt, "memory")
 }
 
 /// What a call of a course meets.

@@ -113,12 +113,8 @@ fn each_fault_has_a_message(rt: HostRuntime) {
 
 /// An image of a text with so many bytes of zero within it.
 fn padded(rt: &impl Abort, alloc: Global, before: &str, zeros: usize, after: &str) -> String {
-    let mut image = String::from_str(alloc, before).expect(rt, "memory");
-    for _ in 0..zeros {
-        image.push_str("00").expect(rt, "memory");
-    }
-    image.push_str(after).expect(rt, "memory");
-    image
+    let zeros = "00".repeat(alloc, zeros).expect(rt, "memory");
+    format!(in alloc; "{before}{zeros}{after}").expect(rt, "memory")
 }
 
 /// Asserts what is left by a listing of an image in hex.

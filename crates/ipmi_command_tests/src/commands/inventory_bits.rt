@@ -5,8 +5,8 @@ use super::long_inventory::{
 use std::alloc::Global;
 use std::process::Abort;
 
-/// Places in the inventory, the bits of each byte there that are turned over one at a time, and the parts of the text that
-/// is printed then.
+/// Places in the inventory, the bits of each byte there that are turned over one at a time, and the parts of the text
+/// that is printed then.
 #[derive(Clone, Copy)]
 struct Damage {
     first: usize,

@@ -33,7 +33,6 @@ pub(crate) fn left_by<C: Controller + Drop>(
     }
 }
 
-/// The bytes as a text.
 pub(crate) fn text_of<'a>(rt: &impl Abort, bytes: &'a [u8], case: &str) -> &'a str {
     std::str::from_utf8(bytes).expect(rt, case)
 }

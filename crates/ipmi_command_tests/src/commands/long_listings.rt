@@ -1,6 +1,6 @@
 //! Listings of a record for each id.
 use super::left::{Left, has_numbers, left_by};
-use super::over_images::over;
+use super::over_images::left_over;
 use crate::command_line::lines::command;
 use crate::controllers::{Counting, Endless};
 use std::alloc::Global;
@@ -41,16 +41,11 @@ fn is_rising(rt: &impl Abort, alloc: Global, left: &Left, first: u16, case: &str
     assert!(rt; is_rising, "{case}: other lines");
 }
 
-/// What a listing of the image in hex leaves.
-fn left_over(rt: &impl Abort, alloc: Global, image: &str) -> Left {
-    let mut ctl = over(rt, alloc, image);
-    left_by(alloc, &mut ctl, &command(rt, alloc, "sdr hex"))
-}
-
 // 65,534 lines of 25 bytes each.
 #[test]
 fn each_id_from_0001h_to_fffeh_may_have_a_row(rt: HostRuntime) {
-    let left = left_over(&rt, rt.alloc(), falling_image(&rt, rt.alloc()).as_str());
+    let image = falling_image(&rt, rt.alloc());
+    let left = left_over(&rt, rt.alloc(), "sdr hex", image.as_str());
     has_numbers(&rt, rt.alloc(), &left, "0 65535 1638350|", "rows");
     is_rising(&rt, rt.alloc(), &left, 1, "rows");
 }

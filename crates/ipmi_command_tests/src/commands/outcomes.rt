@@ -25,8 +25,8 @@ sdr 0002 0003 020051c002bbcc
 sdr 0003 ffff 030051c000
 ";
 
-// Three calls read a record of six bytes: a reservation, the header and the byte after it. The third record ends with its
-// header.
+// Three calls read a record of six bytes: a reservation, the header and the byte after it. The third record ends with
+// its header.
 #[test]
 fn one_reservation_serves_all_records(rt: HostRuntime) {
     leaves(&rt, rt.alloc(), IN_ONE_RESERVATION);
@@ -163,7 +163,6 @@ fn lines_are_answered_over_an_image(rt: HostRuntime) {
     }
 }
 
-/// What want of memory leaves.
 const OUT_OF_MEMORY: &str = "5
 out of memory
 --

@@ -38,7 +38,6 @@ fn left_in_pages<C: Controller + Drop>(
     }
 }
 
-/// Puts a size of pages at the end.
 fn push_size(rt: &impl Abort, pages: &mut Vec<u32>, size: &str) {
     pages.push(number(rt, size)).expect(rt, "memory");
 }
@@ -145,8 +144,8 @@ CPU Temp         | 45 degrees C      | ok
 PSU1             | FRU 1             | na
 ";
 
-// A reservation and two entries, and a reservation and one. A sensor and its reading, after a reservation, the header and
-// two parts, and then a locator.
+// A reservation and two entries, and a reservation and one. A sensor and its reading, after a reservation, the header
+// and two parts, and then a locator.
 #[test]
 fn entries_and_sensors_are_listed_in_pages(rt: HostRuntime) {
     all_list_in_pages(&rt, rt.alloc(), ENTRIES_AND_SENSORS);
@@ -208,7 +207,6 @@ fn three_in_pages(alloc: Global) -> Result<Left, ImageFault> {
     Ok(left_in_pages(alloc, ctl, &hex, &[1, 0, 1]))
 }
 
-/// Asserts that all is left.
 fn is_whole(rt: &impl Abort, left: &Left) {
     assert!(rt; left.status == 0, "status {}", left.status);
     is_written(rt, &left.out, THREE_LINES);

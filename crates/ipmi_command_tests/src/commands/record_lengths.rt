@@ -45,8 +45,8 @@ fn is_left_of_sensor(
     is_left(rt, alloc, &left, wanted.as_str(), case.as_str());
 }
 
-/// Asserts that a record without room for its body has a line and no name after so many calls, and that `fru`, after as many
-/// as it makes, names no device for it.
+/// Asserts that a record without room for its body has a line and no name after so many calls, and that `fru`, after as
+/// many as it makes, names no device for it.
 fn is_too_short(rt: &impl Abort, alloc: Global, len: usize, calls: u32, calls_of_fru: u32) {
     let line = "0\n--\nrecord 0001h: body too short\n";
     let unnamed = "1\nno record named CPU Temp\n--\n";
@@ -56,8 +56,8 @@ fn is_too_short(rt: &impl Abort, alloc: Global, len: usize, calls: u32, calls_of
     is_left_of_sensor(rt, alloc, "fru", len, calls_of_fru, device_0);
 }
 
-// A full sensor record has 48 bytes before its name. The reservation takes a call, the header of five bytes another, and each
-// 32 bytes after it, or the rest of them, one more. `fru` makes a call before these, for the size of device 0.
+// A full sensor record has 48 bytes before its name. The reservation takes a call, the header of five bytes another,
+// and each 32 bytes after it, or the rest of them, one more. `fru` makes a call before these, for the size of device 0.
 #[test]
 fn a_sensor_record_of_fewer_than_48_bytes_has_no_name(rt: HostRuntime) {
     is_too_short(&rt, rt.alloc(), 5, 2, 3);

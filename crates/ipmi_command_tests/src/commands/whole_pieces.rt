@@ -7,17 +7,10 @@ use std::alloc::Global;
 use std::process::Abort;
 
 /// Moods that change to the second image after so many calls, and to the first after so many others.
-fn there_and_back(rt: &impl Abort, alloc: Global, before: u32, between: u32) -> String {
-    let mut letters = String::new(alloc);
-    for _ in 0..before {
-        letters.push_str(".").expect(rt, "memory");
-    }
-    letters.push_str("x").expect(rt, "memory");
-    for _ in 0..between {
-        letters.push_str(".").expect(rt, "memory");
-    }
-    letters.push_str("y").expect(rt, "memory");
-    letters
+fn there_and_back(rt: &impl Abort, alloc: Global, before: usize, between: usize) -> String {
+    let before = ".".repeat(alloc, before).expect(rt, "memory");
+    let between = ".".repeat(alloc, between).expect(rt, "memory");
+    format!(in alloc; "{before}x{between}y").expect(rt, "memory")
 }
 
 /// Whether a piece is one of the texts, each of which ends so.
@@ -49,7 +42,7 @@ struct Pieces<'a> {
 
 /// Asserts that each piece is a whole one of an image, where it changes after so many calls and back after so many
 /// others.
-fn are_whole(rt: &impl Abort, alloc: Global, pieces: &Pieces, before: u32, between: u32) {
+fn are_whole(rt: &impl Abort, alloc: Global, pieces: &Pieces, before: usize, between: usize) {
     let words = pieces.words;
     let letters = there_and_back(rt, alloc, before, between);
     let case = format!(in alloc; "{words}: {letters}").expect(rt, "memory");
@@ -158,8 +151,8 @@ const PIECES: [Pieces<'static>; 4] = [
     },
 ];
 
-// The log is turned where its entries have another order. A device may have its name of one image, and its inventory of the
-// other.
+// The log is turned where its entries have another order. A device may have its name of one image, and its inventory of
+// the other.
 #[test]
 fn no_record_is_of_two_images(rt: HostRuntime) {
     for pieces in &PIECES {

@@ -14,7 +14,6 @@ struct Case {
     wanted: &'static str,
 }
 
-/// An inventory of eight bytes.
 const EIGHT: Reply = Reply::Has(FruSize {
     size: 8,
     words: false,
@@ -190,7 +189,6 @@ fn an_inventory_of_any_size_is_printed(rt: HostRuntime) {
     all_are_left(&rt, rt.alloc(), &DISHONEST);
 }
 
-/// A reservation.
 const RESERVED: Reply = Reply::Reserves(1);
 
 /// The header of a locator of FRU device 1 without a name, after which eleven bytes follow.

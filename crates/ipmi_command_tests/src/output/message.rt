@@ -6,7 +6,6 @@ use ipmi_output::{Message, MessageSink, SinkFault, Written, say, write_message};
 use std::alloc::Global;
 use std::process::Abort;
 
-/// A message and its line.
 #[derive(Clone, Copy, Debug)]
 struct Case {
     message: Message<'static>,
@@ -34,7 +33,6 @@ const UNREAD_IN_TWO_LINES: Case = Case {
     line: "cannot read a\\x0Ab\n",
 };
 
-/// Says the message, and compares the line.
 fn is_said(rt: &impl Abort, alloc: Global, case: &Case) {
     let mut err = Vec::new(alloc);
     say(&mut err, case.message);

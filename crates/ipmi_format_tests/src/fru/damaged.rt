@@ -12,7 +12,8 @@ const BOARD_LINES: &str =
 
 /// The text of the whole output.
 const OUTPUT_LINES: &str =
-    "DC Output 1: nominal 12 V, negative deviation 0.6 V, positive deviation 0.6 V, ripple 120 mV, current 0 to 62500 mA\n";
+    "DC Output 1: nominal 12 V, negative deviation 0.6 V, positive deviation 0.6 V, ripple 120 mV, \
+    current 0 to 62500 mA\n";
 
 /// Asserts the text of the first bytes of an inventory, of which there are `len`.
 fn is_printed_when_cut(rt: &impl Abort, alloc: Global, bytes: &[u8], len: usize, wanted: &str) {

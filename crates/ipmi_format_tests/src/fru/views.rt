@@ -14,7 +14,8 @@ const FIELDS: &str = "0|Some(Field { code: 2, bytes: [41, 220, 166] })
 
 /// What five calls of the iterator over the fields of the board give.
 const LISTED: &str =
-    "[Some(Field { code: 2, bytes: [41, 220, 166] }), Some(Field { code: 1, bytes: [18, 59] }), Some(Field { code: 3, bytes: [65, 233, 0, 66] }), None, None]";
+    "[Some(Field { code: 2, bytes: [41, 220, 166] }), Some(Field { code: 1, bytes: [18, 59] }), \
+    Some(Field { code: 3, bytes: [65, 233, 0, 66] }), None, None]";
 
 /// An inventory of a chassis and a product.
 const CHASSIS_AND_PRODUCT: &str = "01000100020000fc010117c100000026010119c100000024";
@@ -25,14 +26,14 @@ const THREE_RECORDS: &str = "01000000000100fec00201023bfec18f0000b0c2820000bc";
 /// Records, of which the first has a wrong checksum.
 const WRONG_RECORD: &str = "01000000000100fec002000040c18f0000b0";
 
-/// What is read from the three records.
+/// What is read from them: nothing after the second one.
 const TWO_RECORDS: &str =
-    "[Some(Ok(MultiView { kind: 192, version: 2, last: false, bytes: [254] })), Some(Ok(MultiView { kind: 193, version: 15, last: true, bytes: [] })), None, None]";
+    "[Some(Ok(MultiView { kind: 192, version: 2, last: false, bytes: [254] })), \
+    Some(Ok(MultiView { kind: 193, version: 15, last: true, bytes: [] })), None, None]";
 
 /// An area that may be there, and may have a fault.
 type Area<'a> = Option<Result<AreaView<'a>, AreaFault>>;
 
-/// The head of an area.
 fn head_of<'a>(area: Area<'a>) -> Option<Result<&'a [u8], AreaFault>> {
     match area {
         Some(Ok(area)) => Some(Ok(area.head())),
@@ -52,7 +53,6 @@ fn has_heads(rt: &impl Abort, alloc: Global, digits: &str, wanted: &str) {
     is_text(rt, text, wanted, digits);
 }
 
-/// Asserts a field of a board.
 fn has_field(rt: &impl Abort, alloc: Global, board: &AreaView<'_>, line: &str) {
     let (place, wanted) = parts(rt, line);
     let place = place.parse::<usize>().expect(rt, line);

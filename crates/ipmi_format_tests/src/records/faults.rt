@@ -28,7 +28,6 @@ const LEAST_LENGTHS: &str = "01|48|full
 c0|5|other
 ff|5|other";
 
-/// The kind of a record.
 fn kind_of_record(view: &SdrView<'_>) -> &'static str {
     match view {
         SdrView::Full(_) => "full",

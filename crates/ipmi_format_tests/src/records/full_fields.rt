@@ -7,7 +7,6 @@ use std::process::Abort;
 /// The full record with other factors, and with other thresholds that are not readable.
 const CHANGES: &str = "7=fe,10=83,21=81,23=18,24=8c,26=80,27=02,28=40,30=7f,40=11,41=22,42=33";
 
-/// The view of a full record.
 fn full_of<'a>(rt: &impl Abort, bytes: &'a [u8]) -> FullSensor<'a> {
     match SdrView::read(bytes) {
         Ok(SdrView::Full(full)) => full,

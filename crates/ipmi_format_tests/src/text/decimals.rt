@@ -59,7 +59,6 @@ const FACTORS: &str = "0 0 -512 -512 -8 -8|in range
 0 0 0 0 0 -9|out of range
 255 255 32767 -32768 127 -128|out of range";
 
-/// Asserts the decimal of a number.
 fn is_decimal(rt: &impl Abort, alloc: Global, line: &str) {
     let (units, wanted) = parts(rt, line);
     let units = units.parse::<i128>().expect(rt, line);
@@ -104,7 +103,7 @@ fn is_in_range(rt: &impl Abort, line: &str) {
     assert!(rt; got == wanted, "{line}: got {got}");
 }
 
-/// The decimal of a raw reading.
+/// The decimal of a raw reading, and `no value` where it has none.
 fn reading_text(alloc: Global, factors: &Factors, raw: u8) -> Result<String, AllocError> {
     match convert(factors, raw) {
         Some(value) => fixed_text(alloc, value),
@@ -112,7 +111,6 @@ fn reading_text(alloc: Global, factors: &Factors, raw: u8) -> Result<String, All
     }
 }
 
-/// Asserts the decimal of a raw reading.
 fn is_reading(rt: &impl Abort, alloc: Global, line: &str) {
     let (words, wanted) = parts(rt, line);
     let mut words = words.split_whitespace();

@@ -3,8 +3,8 @@ use crate::cases::parts;
 use ipmi_text::{Factors, Fixed, convert};
 use std::process::Abort;
 
-/// The analog data format and a raw byte, and the number that it stands for: by format 0 without a sign, by format 1 in ones'
-/// complement, and by format 2 in two's complement.
+/// The analog data format and a raw byte, and the number that it stands for: by format 0 without a sign, by format 1 in
+/// ones' complement, and by format 2 in two's complement.
 const NUMBERS: &str = "0 0|0
 0 1|1
 0 127|127
@@ -42,7 +42,6 @@ struct Case {
     k2: i8,
 }
 
-/// A number, times ten so many times.
 fn times_ten(number: i128, count: i8) -> i128 {
     let mut number = number;
     for _ in 0..count {

@@ -31,7 +31,6 @@ impl Env for Called<'_> {
     }
 }
 
-/// Puts a word and a bar at the end of a text.
 fn push_word(rt: &impl Abort, text: &mut String, word: &Word) {
     text.push_str(word.as_str()).expect(rt, "memory");
     text.push('|').expect(rt, "memory");
