@@ -17,6 +17,17 @@ pub(crate) fn number(rt: &impl Abort, text: &str) -> u32 {
     text.parse::<u32>().expect(rt, text)
 }
 
+/// The byte that two hex digits stand for.
+pub(crate) fn byte_of(rt: &impl Abort, digits: &str) -> u8 {
+    u8::from_str_radix(digits, 16).expect(rt, digits)
+}
+
+/// The first and the last number of a text, which has a dash between them.
+pub(crate) fn range(rt: &impl Abort, text: &str) -> (usize, usize) {
+    let (first, last) = text.split_once('-').expect(rt, text);
+    (number(rt, first) as usize, number(rt, last) as usize)
+}
+
 /// A command over an image, and what is wanted of it.
 #[derive(Clone, Copy)]
 pub(crate) struct Case<'a> {

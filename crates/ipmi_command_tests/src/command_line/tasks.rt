@@ -155,7 +155,10 @@ image rewrite|false";
 fn is_listing(rt: &impl Abort, alloc: Global, case: &str) {
     let (words, wanted) = parts(rt, case);
     let is_listing = command(rt, alloc, words).is_listing();
-    assert!(rt; is_listing == (wanted == "true"), "{case}: got {is_listing}");
+    assert!(rt;
+        is_listing == (wanted == "true"),
+        "{case}: got {is_listing}"
+    );
 }
 
 #[test]

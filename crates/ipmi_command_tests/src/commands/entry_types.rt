@@ -1,7 +1,7 @@
 //! Entries of each type, 00h to FFh: what their lines are, and which of them are the newest.
 use super::left::is_left;
 use super::over_images::left_over;
-use crate::cases::parts;
+use crate::cases::{byte_of, parts};
 use std::alloc::Global;
 use std::fmt::Write;
 use std::process::Abort;
@@ -72,15 +72,10 @@ fn lines_of(rt: &impl Abort, alloc: Global, first: u8, last: u8) -> String {
     lines
 }
 
-/// The type that two hex digits are.
-fn type_of(rt: &impl Abort, digits: &str) -> u8 {
-    u8::from_str_radix(digits, 16).expect(rt, digits)
-}
-
 /// The lines of the entries from one type to another, which have a dash between them.
 fn lines_between(rt: &impl Abort, alloc: Global, types: &str) -> String {
     let (first, last) = types.split_once('-').expect(rt, types);
-    lines_of(rt, alloc, type_of(rt, first), type_of(rt, last))
+    lines_of(rt, alloc, byte_of(rt, first), byte_of(rt, last))
 }
 
 /// Asserts what the words of a case leave over the log of an entry of each type.

@@ -52,7 +52,8 @@ fn fault_of<'a>(rt: &impl Abort, line: &'a str) -> Fault<'a> {
 // A part that is too long is asked for again in parts of half as many bytes, and so is all that comes after it on the
 // same walk, or of the same inventory. After a header of 5 bytes parts have 2: a header takes 3 calls then, 51 bytes
 // after one 26, and 15 bytes 8. After 32 bytes they have 16, after 19 they have 9, and after 15 they have 7. Of an
-// entry or an inventory of 16 bytes they have 8. A call for no part, or for one of one byte, is never too long.
+// entry or an inventory of 16 bytes they have 8, and after 8 bytes 4. A call for no part, or for a part of one byte, is
+// never too long.
 const COURSES: [Course<'static>; 10] = [
     Course {
         words: "sdr,get,CPU Temp",

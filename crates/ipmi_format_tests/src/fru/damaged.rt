@@ -56,7 +56,12 @@ fn is_printed_when_altered(rt: &impl Abort, alloc: Global, place: usize) {
     let byte = board.get_mut(place).expect(rt, "a byte");
     *byte ^= 1;
     let case = format!(in alloc; "byte {place} altered").expect(rt, "memory");
-    is_text(rt, print_fru(alloc, &board), altered_board(place), case.as_str());
+    is_text(
+        rt,
+        print_fru(alloc, &board),
+        altered_board(place),
+        case.as_str(),
+    );
 }
 
 #[test]

@@ -6,8 +6,7 @@ use std::alloc::Global;
 use std::process::Abort;
 
 /// An id, what the sensor answered and the record, and then the block. An empty line comes between two cases.
-const BLOCKS: &str =
-    "0001|none|\
+const BLOCKS: &str = "0001|none|\
     010051013320000103017f680101000000003838000100000100000000000000000000005f5a550000000202000000c84350552054656d70
 Record: 0001h
 Type: full

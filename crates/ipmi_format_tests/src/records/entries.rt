@@ -7,8 +7,7 @@ use std::alloc::Global;
 use std::process::Abort;
 
 /// An id, an entry, and the line.
-const LINES: &str =
-    "0001|01000201000020200004013001595f5a|\
+const LINES: &str = "0001|01000201000020200004013001595f5a|\
     0001 | 1987-01-05 18:48:33 | Temperature #0x30 | Upper Critical going high | Asserted
 0002|02000200000020200004013081570000|\
     0002 | +536870912 s | Temperature #0x30 | Upper Non-critical going high | Deasserted

@@ -79,11 +79,7 @@ fn next_number<N: FromStr<Err: Drop>>(
 }
 
 /// The factors of six words of a line, where they are in range.
-fn factors_of(
-    rt: &impl Abort,
-    words: &mut SplitWhitespace<'_>,
-    line: &str,
-) -> Option<Factors> {
+fn factors_of(rt: &impl Abort, words: &mut SplitWhitespace<'_>, line: &str) -> Option<Factors> {
     let format = next_number::<u8>(rt, words, line);
     let linear = next_number::<u8>(rt, words, line);
     let m = next_number::<i16>(rt, words, line);

@@ -62,7 +62,10 @@ fn product(case: &Case) -> i128 {
 fn is_product(rt: &impl Abort, case: &Case) {
     let factors = Factors::new(case.format, 0, case.m, case.b, case.k1, case.k2);
     let value = convert(&factors.expect(rt, "factors"), case.raw);
-    assert!(rt; value == Some(Fixed(product(case))), "{case:?}: got {value:?}");
+    assert!(rt;
+        value == Some(Fixed(product(case))),
+        "{case:?}: got {value:?}"
+    );
 }
 
 /// The same for all exponents.
