@@ -67,5 +67,8 @@ fn the_words_are_those_of_the_call(rt: HostRuntime) {
 fn a_word_that_is_no_text_is_a_fault_of_the_line(rt: HostRuntime) {
     let called = Called(&[b"ipmitool", b"sdr", b"\xFFhex"]);
     let fault = words_of(&(called, rt.alloc())).err();
-    assert!(rt; fault == Some(UsageFault::Line), "FFh before hex: {fault:?}");
+    assert!(rt;
+        fault == Some(UsageFault::Line),
+        "FFh before hex: {fault:?}"
+    );
 }
