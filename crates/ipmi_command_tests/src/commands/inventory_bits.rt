@@ -30,8 +30,8 @@ fn are_named_at(rt: &impl Abort, alloc: Global, place: usize, bits: u8, wanted: 
     }
 }
 
-/// The same for a line: the first and the last place, the bits of each byte there that are turned over, and the parts of
-/// the text that is printed then.
+/// The same for a line: the first and the last place, the bits of each byte there that are turned over, and the parts
+/// of the text that is printed then.
 fn are_named(rt: &impl Abort, alloc: Global, line: &str) {
     let (places, rest) = parts(rt, line);
     let (first, last) = range(rt, places);
