@@ -1,5 +1,5 @@
-//! How cases are written: parts of a line with bars between them, and a first line before what is wanted. A case that is
-//! not written so fails by its own text.
+//! How cases are written: parts of a line with bars between them, and a first line before what is wanted. A case that
+//! is not written so fails by its own text.
 use std::process::Abort;
 
 /// The parts of a line before and after its first bar.
@@ -17,6 +17,17 @@ pub(crate) fn number(rt: &impl Abort, text: &str) -> u32 {
     text.parse::<u32>().expect(rt, text)
 }
 
+/// The byte that two hex digits stand for.
+pub(crate) fn byte_of(rt: &impl Abort, digits: &str) -> u8 {
+    u8::from_str_radix(digits, 16).expect(rt, digits)
+}
+
+/// The first and the last number of a text, which has a dash between them.
+pub(crate) fn range(rt: &impl Abort, text: &str) -> (usize, usize) {
+    let (first, last) = text.split_once('-').expect(rt, text);
+    (number(rt, first) as usize, number(rt, last) as usize)
+}
+
 /// A command over an image, and what is wanted of it.
 #[derive(Clone, Copy)]
 pub(crate) struct Case<'a> {
@@ -30,8 +41,8 @@ pub(crate) struct Case<'a> {
     pub wanted: &'a str,
 }
 
-/// The case whose first line is words, the name of an image and one part more, with bars between them, and whose other lines
-/// are what is wanted.
+/// The case whose first line is words, the name of an image and one part more, with bars between them, and whose other
+/// lines are what is wanted.
 pub(crate) fn case_of<'a>(rt: &impl Abort, case: &'a str) -> Case<'a> {
     let (line, wanted) = first_line(rt, case);
     let (words, rest) = parts(rt, line);

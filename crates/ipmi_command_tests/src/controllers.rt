@@ -167,8 +167,10 @@ impl<'a> Replay<'a> {
 
 /// Compares the offset and the length of the last part that was asked for.
 pub fn asked_last(rt: &impl Abort, ctl: &Replay, offset: u16, room: usize) {
-    assert!(rt; ctl.offset == offset, "from {} on", ctl.offset);
-    assert!(rt; ctl.room == room, "{} bytes", ctl.room);
+    let got = ctl.offset;
+    assert!(rt; got == offset, "asked from {got} on, not from {offset}");
+    let got = ctl.room;
+    assert!(rt; got == room, "asked for {got} bytes, not for {room}");
 }
 
 /// Copies the bytes that there is room for, and says how many.
@@ -237,8 +239,8 @@ impl Controller for Replay<'_> {
     }
 }
 
-/// Has a record of five bytes for every id, whose next id is one higher, and refuses all but records. It counts the calls
-/// for reservations and parts.
+/// Has a record of five bytes for every id, whose next id is one higher, and refuses all but records. It counts the
+/// calls for reservations and parts.
 #[derive(Drop)]
 pub struct Endless {
     pub calls: u32,

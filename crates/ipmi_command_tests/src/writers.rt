@@ -7,7 +7,7 @@ use std::process::Abort;
 
 /// Compares the bytes that were written with a text.
 pub fn is_written(rt: &impl Abort, bytes: &[u8], text: &str) {
-    let written = str::from_utf8(bytes).expect(rt, "text");
+    let written = str::from_utf8(bytes).expect(rt, text);
     assert!(rt; written == text, "{written:?} is written, not {text:?}");
 }
 

@@ -1,5 +1,6 @@
 //! Codes and their classes, the ends of a listing by name, a later step, parts and ids.
-use crate::bus::listings::{is_done, is_ended, listed, listed_by_bytes};
+use crate::bus::listings::{is_done, listed, listed_by_bytes};
+use crate::commands::left::{Left, is_left};
 use crate::commands::over_images::over;
 use crate::controllers::{Counting, Endless, Replay, Reply, asked_last};
 use ipmi_bus::{Code, CodeClass, Cursor, Ended, Event, Place, Record, Shelf, Tally};
@@ -15,7 +16,8 @@ fn has_its_class(rt: &impl Abort, code: u8) {
         0xCB => CodeClass::NotPresent,
         _ => CodeClass::Refusal,
     };
-    assert!(rt; Code(code).class() == wanted, "{code}");
+    let class = Code(code).class();
+    assert!(rt; class == wanted, "code {code:02X}h: got {class:?}");
 }
 
 #[test]
@@ -29,7 +31,8 @@ fn every_code_has_its_class(rt: HostRuntime) {
 fn a_tally_takes_no_room(rt: HostRuntime) {
     let mut tally = Tally::new();
     tally.count(Event::Called);
-    assert!(rt; size_of::<Tally>() == 0);
+    let size = size_of::<Tally>();
+    assert!(rt; size == 0, "{size} bytes");
 }
 
 /// What a controller answers one call after another, with how many tries a record is read, and what is said of the
@@ -115,11 +118,20 @@ const ENDINGS: [Case; 9] = [
     },
 ];
 
+/// Asserts that a listing ended after so many calls and before its first line, and that this was said.
+fn is_ended(rt: &impl Abort, alloc: Global, left: &Left, case: &Case, name: &str) {
+    let calls = case.calls;
+    let said = case.said;
+    let wanted = format!(in alloc; "1 {calls}\n{said}--\n").expect(rt, "memory");
+    is_left(rt, alloc, left, wanted.as_str(), name);
+}
+
 /// Lists over a controller with these replies, and compares what is said after how many calls.
 fn ends_by_name(rt: &impl Abort, alloc: Global, case: &Case) {
     let mut ctl = Counting::new(Replay::new(case.replies));
     let left = listed(alloc, &mut ctl, case.tries);
-    is_ended(rt, alloc, &left, case.said, case.calls);
+    let name = format!(in alloc; "{case:?}").expect(rt, "memory");
+    is_ended(rt, alloc, &left, case, name.as_str());
 }
 
 #[test]
@@ -145,12 +157,8 @@ fn a_short_part_is_kept(rt: HostRuntime) {
 
 /// The image line of a record of 256 bytes.
 fn longest_line(rt: &impl Abort, alloc: Global) -> String {
-    let mut line = String::from_str(alloc, "sdr 0001 ffff 010051c0fb").expect(rt, "memory");
-    for _ in 0..251 {
-        line.push_str("a5").expect(rt, "memory");
-    }
-    line.push_str("\n").expect(rt, "memory");
-    line
+    let bytes = "a5".repeat(alloc, 251).expect(rt, "memory");
+    format!(in alloc; "sdr 0001 ffff 010051c0fb{bytes}\n").expect(rt, "memory")
 }
 
 /// Lists the record of this line in parts of one byte: it comes again, after so many calls.
@@ -173,17 +181,21 @@ fn cursor(rt: &impl Abort, alloc: Global, tries: u8) -> Cursor {
     Cursor::start(alloc, Shelf::Sdr, None, 32, tries).expect(rt, "memory")
 }
 
+fn stands_at(rt: &impl Abort, cursor: &Cursor, wanted: Place) {
+    let place = cursor.resume_at();
+    assert!(rt; place == wanted, "wanted {wanted:?}: got {place:?}");
+}
+
 /// Compares a record of five bytes that comes last.
 fn is_last_record(rt: &impl Abort, record: &Record) {
-    assert!(rt; record.id == 1, "{}", record.id);
-    assert!(rt; record.next == 0xFFFF, "{}", record.next);
+    assert!(rt; record.id == 1, "{record:?}");
+    assert!(rt; record.next == 0xFFFF, "{record:?}");
     assert!(rt;
         record.bytes == [0x01, 0x00, 0x51, 0xC0, 0x00].as_slice(),
         "{record:?}"
     );
 }
 
-/// Makes a step that hands out a record.
 fn hands_out_record(rt: &impl Abort, cursor: &mut Cursor, ctl: &mut Replay) {
     match cursor.step(ctl) {
         Ok(Some(record)) => is_last_record(rt, &record),
@@ -200,15 +212,16 @@ fn a_later_step_tries_again(rt: HostRuntime) {
     ];
     let mut ctl = Replay::new(&replies);
     let mut cursor = cursor(&rt, rt.alloc(), 0);
-    assert!(rt; matches!(cursor.step(&mut ctl), Err(Ended::GaveUp(0))));
-    assert!(rt; cursor.resume_at() == Place::First);
+    let step = cursor.step(&mut ctl);
+    assert!(rt; matches!(step, Err(Ended::GaveUp(0))), "first: {step:?}");
+    stands_at(&rt, &cursor, Place::First);
     hands_out_record(&rt, &mut cursor, &mut ctl);
-    assert!(rt; cursor.resume_at() == Place::End);
-    assert!(rt; matches!(cursor.step(&mut ctl), Ok(None)));
+    stands_at(&rt, &cursor, Place::End);
+    let step = cursor.step(&mut ctl);
+    assert!(rt; matches!(step, Ok(None)), "third: {step:?}");
     assert!(rt; ctl.calls == 3, "{} calls", ctl.calls);
 }
 
-/// The id of the next record.
 fn next_id(cursor: &mut Cursor, ctl: &mut Endless) -> Option<u16> {
     match cursor.step(ctl) {
         Ok(Some(record)) => Some(record.id),
@@ -234,6 +247,6 @@ fn every_id_is_handed_out_once(rt: HostRuntime) {
     let mut cursor = cursor(&rt, rt.alloc(), 5);
     let records = records_in_order(&mut cursor, &mut ctl);
     assert!(rt; records == 65_535, "{records} records");
-    assert!(rt; cursor.resume_at() == Place::End);
+    stands_at(&rt, &cursor, Place::End);
     assert!(rt; ctl.calls == 65_536, "{} calls", ctl.calls);
 }

@@ -13,12 +13,10 @@ fn byte_at(place: u16) -> u8 {
     low ^ high
 }
 
-/// Puts the byte at this place at the end.
 fn push_byte(rt: &impl Abort, bytes: &mut Vec<u8>, place: u16) {
     bytes.push(byte_at(place)).expect(rt, "memory");
 }
 
-/// The 65,535 bytes of the inventory.
 fn longest_inventory(rt: &impl Abort, alloc: Global) -> Vec<u8> {
     let mut bytes = Vec::new(alloc);
     for place in 0..0xFFFFu16 {
@@ -27,7 +25,6 @@ fn longest_inventory(rt: &impl Abort, alloc: Global) -> Vec<u8> {
     bytes
 }
 
-/// Puts the line of the byte at this place at the end.
 fn push_line(rt: &impl Abort, image: &mut String, place: u16) {
     let byte = byte_at(place);
     write!(image, "fru 00 {byte:02x}\n").expect(rt, "memory");

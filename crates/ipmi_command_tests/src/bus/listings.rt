@@ -21,9 +21,3 @@ pub fn is_done(rt: &impl Abort, alloc: Global, left: &Left, lines: &str, calls: 
     let wanted = format!(in alloc; "0 {calls}\n--\n{lines}").expect(rt, "memory");
     is_left(rt, alloc, left, wanted.as_str(), case);
 }
-
-/// Asserts that the listing ended after so many calls and before its first line, and that this was said.
-pub fn is_ended(rt: &impl Abort, alloc: Global, left: &Left, said: &str, calls: u32) {
-    let wanted = format!(in alloc; "1 {calls}\n{said}--\n").expect(rt, "memory");
-    is_left(rt, alloc, left, wanted.as_str(), said);
-}

@@ -15,7 +15,6 @@ struct Case<T> {
     calls: u32,
 }
 
-/// Compares what was read, and the number of calls.
 fn compare<T: Debug + PartialEq>(rt: &impl Abort, case: &Case<T>, got: &T, calls: u32) {
     assert!(rt; *got == case.wanted, "{case:?}: {got:?}");
     assert!(rt; calls == case.calls, "{case:?}: {calls} calls");
@@ -192,8 +191,10 @@ const ENDED_INVENTORIES: [Case<FruEnded>; 7] = [
 /// Asks for an inventory in parts of 32 bytes, which doesn't come.
 fn inventory_ends(rt: &impl Abort, alloc: Global, case: &Case<FruEnded>) {
     let mut ctl = Replay::new(case.replies);
-    let ended = read_fru(alloc, &mut ctl, 0, 32, case.tries).expect_err(rt, "no inventory");
-    compare(rt, case, &ended, ctl.calls);
+    match read_fru(alloc, &mut ctl, 0, 32, case.tries) {
+        Ok(bytes) => panic!(rt; "{case:?}: {bytes:?}"),
+        Err(ended) => compare(rt, case, &ended, ctl.calls),
+    }
 }
 
 #[test]
@@ -239,13 +240,12 @@ const ONE_BYTE: [Reply; 2] = [
     Reply::Gives(&[7], 0),
 ];
 
-/// Compares an inventory of the one byte.
 fn is_one_byte(rt: &impl Abort, bytes: &[u8]) {
     assert!(rt; bytes == [7].as_slice(), "{bytes:?}");
 }
 
 #[test]
-fn always_out_of_memory(rt: HostRuntime) {
+fn not_always_out_of_memory(rt: HostRuntime) {
     let mut ctl = Replay::new(&ONE_BYTE);
     let bytes = read_fru(rt.alloc(), &mut ctl, 0, 32, 5).expect(&rt, "an inventory");
     is_one_byte(&rt, &bytes);

@@ -5,7 +5,6 @@ use ipmi_command_line::{Command, UsageFault};
 use std::alloc::{AllocError, Global};
 use std::process::Abort;
 
-/// Asserts that a command line has this fault.
 fn is_fault(rt: &impl Abort, got: &Result<Command, UsageFault>, wanted: UsageFault, line: &str) {
     match got {
         Ok(_) => panic!(rt; "{line}: taken as a command"),
@@ -27,8 +26,8 @@ fn all_fail(rt: &impl Abort, alloc: Global, lines: &str, fault: UsageFault) {
     }
 }
 
-/// Asserts that the words of a line, which are split at commas, are no command, and that the answer over an image is the usage
-/// line.
+/// Asserts that the words of a line, which are split at commas, are no command, and that the answer over an image is
+/// the usage line.
 fn no_command(rt: &impl Abort, alloc: Global, line: &str) {
     let got = read_words(rt, alloc, line);
     is_fault(rt, &got, UsageFault::Command, line);
@@ -233,7 +232,7 @@ fn the_first_fault_counts(rt: HostRuntime) {
 #[test]
 fn want_of_memory_is_a_usage_fault(rt: HostRuntime) {
     let fault = UsageFault::from(AllocError);
-    assert!(rt; fault == UsageFault::Memory);
+    assert!(rt; fault == UsageFault::Memory, "{fault:?}");
     let text = format!(in rt.alloc(); "{fault}").expect(&rt, "memory");
-    assert!(rt; text.as_str() == "out of memory");
+    assert!(rt; text.as_str() == "out of memory", "got {text}");
 }

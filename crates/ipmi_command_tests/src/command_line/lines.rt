@@ -17,7 +17,7 @@ pub(crate) fn command_of_words(
     alloc: Global,
     words: &Words,
 ) -> Result<Command, UsageFault> {
-    assert!(rt; 0 < words.as_slice().len());
+    assert!(rt; 0 < words.as_slice().len(), "no word");
     command_of(alloc, words)
 }
 

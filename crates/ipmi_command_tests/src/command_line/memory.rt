@@ -6,7 +6,6 @@ use std::process::Abort;
 
 const LINE: [&str; 6] = ["ipmitool", "--image", "server.image", "sdr", "get", "Fan 1"];
 
-/// The words of the line.
 fn words(alloc: Global) -> Result<Words, AllocError> {
     let mut words = Words::new(alloc);
     for word in LINE {
@@ -15,15 +14,14 @@ fn words(alloc: Global) -> Result<Words, AllocError> {
     Ok(words)
 }
 
-/// The command of the line.
 fn command(rt: &impl Abort, alloc: Global) -> Result<Command, UsageFault> {
     let words = words(alloc)?;
     command_of_words(rt, alloc, &words)
 }
 
-/// Asserts that a word is the name.
 fn is_name(rt: &impl Abort, word: &Word) {
-    assert!(rt; word.as_str() == "Fan 1");
+    let got = word.as_str();
+    assert!(rt; got == "Fan 1", "the name: got {got}");
 }
 
 /// Asserts that the command has the name and the image. It takes no memory.
@@ -33,12 +31,13 @@ fn is_whole(rt: &impl Abort, command: &Command) {
         _ => panic!(rt; "another task"),
     }
     let image = command.image().expect(rt, "an image");
-    assert!(rt; image.as_str() == "server.image");
+    let got = image.as_str();
+    assert!(rt; got == "server.image", "the image: got {got}");
 }
 
 /// With ample memory each of them gives what it is asked for.
 #[test]
-fn always_out_of_memory(rt: HostRuntime) {
+fn not_always_out_of_memory(rt: HostRuntime) {
     is_name(&rt, &Word::new(rt.alloc(), "Fan 1").expect(&rt, "memory"));
     is_whole(&rt, &command(&rt, rt.alloc()).expect(&rt, "a command"));
 }
@@ -51,6 +50,6 @@ fn memory_may_be_refused(rt: HostRuntime) {
     }
     match command(&rt, rt.alloc()) {
         Ok(command) => is_whole(&rt, &command),
-        Err(fault) => assert!(rt; fault == UsageFault::Memory),
+        Err(fault) => assert!(rt; fault == UsageFault::Memory, "{fault:?}"),
     }
 }

@@ -118,7 +118,6 @@ fn some_commands_take_a_start(rt: HostRuntime) {
     }
 }
 
-/// A copy of the word.
 fn word(rt: &impl Abort, alloc: Global, text: &str) -> Word {
     Word::new(alloc, text).expect(rt, "memory")
 }

@@ -1,5 +1,5 @@
-//! What each command goes along: its shelf, where it begins, how many records it asks for, after how many it stops, whether
-//! it takes a start, and whether it can be done in pages.
+//! What each command goes along: its shelf, where it begins, how many records it asks for, after how many it stops,
+//! whether it takes a start, and whether it can be done in pages.
 use super::lines::command;
 use crate::cases::parts;
 use std::alloc::Global;
@@ -51,10 +51,10 @@ fn each_command_has_its_scope(rt: HostRuntime) {
     }
 }
 
-/// Asserts that the command asks for this name.
 fn has_name(rt: &impl Abort, alloc: Global, words: &str, wanted: &str) {
     let command = command(rt, alloc, words);
-    assert!(rt; command.task().name() == wanted, "{words}");
+    let got = command.task().name();
+    assert!(rt; got == wanted, "{words}: got {got}");
 }
 
 #[test]

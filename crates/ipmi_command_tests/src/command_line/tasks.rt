@@ -77,7 +77,7 @@ sdr,get,--,--part|Get(--part)";
 /// Asserts that the words of a line, which are split at commas, are this task with no option.
 fn is_plain_with_name(rt: &impl Abort, alloc: Global, case: &str) {
     let (words, task) = parts(rt, case);
-    let command = read_words(rt, alloc, words).expect(rt, "a command");
+    let command = read_words(rt, alloc, words).expect(rt, case);
     is_task(rt, alloc, &command, task, case);
 }
 
@@ -155,7 +155,10 @@ image rewrite|false";
 fn is_listing(rt: &impl Abort, alloc: Global, case: &str) {
     let (words, wanted) = parts(rt, case);
     let is_listing = command(rt, alloc, words).is_listing();
-    assert!(rt; is_listing == (wanted == "true"), "{case}");
+    assert!(rt;
+        is_listing == (wanted == "true"),
+        "{case}: got {is_listing}"
+    );
 }
 
 #[test]

@@ -2,7 +2,6 @@
 use ipmi_command_line::{Word, Words};
 use std::process::Abort;
 
-/// Puts a word at the end.
 fn push(rt: &impl Abort, words: &mut Words, word: &str) {
     words.push(word).expect(rt, "memory");
 }
@@ -17,11 +16,12 @@ fn has(rt: &impl Abort, words: &Words, place: usize, wanted: &str) {
 #[test]
 fn words_are_in_order(rt: HostRuntime) {
     let mut words = Words::new(rt.alloc());
-    assert!(rt; words.as_slice().is_empty());
+    assert!(rt; words.as_slice().is_empty(), "before the first word");
     for word in ["ipmitool", "", "hex"] {
         push(&rt, &mut words, word);
     }
-    assert!(rt; words.as_slice().len() == 3);
+    let len = words.as_slice().len();
+    assert!(rt; len == 3, "{len} words");
     has(&rt, &words, 0, "ipmitool");
     has(&rt, &words, 1, "");
     has(&rt, &words, 2, "hex");
@@ -30,5 +30,6 @@ fn words_are_in_order(rt: HostRuntime) {
 #[test]
 fn a_word_is_a_copy(rt: HostRuntime) {
     let word = Word::new(rt.alloc(), "Fan 1").expect(&rt, "memory");
-    assert!(rt; word.as_str() == "Fan 1");
+    let got = word.as_str();
+    assert!(rt; got == "Fan 1", "got {got}");
 }

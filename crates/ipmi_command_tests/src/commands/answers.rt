@@ -40,16 +40,16 @@ pub(super) fn left_by_answer(
 }
 
 /// What an answer left as a text: as `left_text`, without calls.
-fn answered_text(rt: &impl Abort, alloc: Global, left: &Answered) -> String {
-    let out = text_of(rt, &left.out);
-    let err = text_of(rt, &left.err);
+fn answered_text(rt: &impl Abort, alloc: Global, left: &Answered, case: &str) -> String {
+    let out = text_of(rt, &left.out, case);
+    let err = text_of(rt, &left.err, case);
     let status = left.status;
     format!(in alloc; "{status}\n{err}--\n{out}").expect(rt, "memory")
 }
 
 /// Asserts that this was left, in the form of `answered_text`.
 pub(super) fn is_answer(rt: &impl Abort, alloc: Global, left: &Answered, wanted: &str, case: &str) {
-    let got = answered_text(rt, alloc, left);
+    let got = answered_text(rt, alloc, left, case);
     assert!(rt; got.as_str() == wanted, "{case}: got {got}");
 }
 

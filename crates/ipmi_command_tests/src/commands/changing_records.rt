@@ -1,4 +1,5 @@
-//! Records, infos and inventories that change at a call, or at every one: what is printed is of one image, or ends by name.
+//! Records, infos and inventories that change at a call, or at every one: what is printed is of one image, or ends by
+//! name.
 use super::changing::all_are_left;
 
 const BLOCKS: &str = "sdr,get,PSU1|sensor and locator|another sensor and locator|x

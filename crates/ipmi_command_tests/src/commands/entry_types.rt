@@ -1,6 +1,7 @@
 //! Entries of each type, 00h to FFh: what their lines are, and which of them are the newest.
 use super::left::is_left;
 use super::over_images::left_over;
+use crate::cases::{byte_of, parts};
 use std::alloc::Global;
 use std::fmt::Write;
 use std::process::Abort;
@@ -71,85 +72,37 @@ fn lines_of(rt: &impl Abort, alloc: Global, first: u8, last: u8) -> String {
     lines
 }
 
-/// Some words over the log of an entry of each type, the types that they list, and how many calls they make.
-#[derive(Clone, Copy)]
-struct Case {
-    words: &'static str,
-    first: u8,
-    last: u8,
-    calls: u32,
+/// The lines of the entries from one type to another, which have a dash between them.
+fn lines_between(rt: &impl Abort, alloc: Global, types: &str) -> String {
+    let (first, last) = types.split_once('-').expect(rt, types);
+    lines_of(rt, alloc, byte_of(rt, first), byte_of(rt, last))
 }
 
-/// Asserts what the words leave.
-fn is_listed(rt: &impl Abort, alloc: Global, case: &Case) {
-    let calls = case.calls;
-    let left = left_over(rt, alloc, case.words, log_of_all(rt, alloc).as_str());
-    let lines = lines_of(rt, alloc, case.first, case.last);
+/// Asserts what the words of a case leave over the log of an entry of each type.
+fn is_listed(rt: &impl Abort, alloc: Global, case: &str) {
+    let (words, rest) = parts(rt, case);
+    let (types, calls) = parts(rt, rest);
+    let left = left_over(rt, alloc, words, log_of_all(rt, alloc).as_str());
+    let lines = lines_between(rt, alloc, types);
     let wanted = format!(in alloc; "0 {calls}\n--\n{lines}").expect(rt, "memory");
-    is_left(rt, alloc, &left, wanted.as_str(), case.words);
+    is_left(rt, alloc, &left, wanted.as_str(), case);
 }
 
-const CASES: [Case; 9] = [
-    Case {
-        words: "sel list",
-        first: 0x00,
-        last: 0xFF,
-        calls: 257,
-    },
-    Case {
-        words: "sel list last 256",
-        first: 0x00,
-        last: 0xFF,
-        calls: 514,
-    },
-    Case {
-        words: "sel list last 257",
-        first: 0x00,
-        last: 0xFF,
-        calls: 514,
-    },
-    Case {
-        words: "sel list last 65535",
-        first: 0x00,
-        last: 0xFF,
-        calls: 514,
-    },
-    Case {
-        words: "sel list last 255",
-        first: 0x01,
-        last: 0xFF,
-        calls: 514,
-    },
-    Case {
-        words: "sel list last 32",
-        first: 0xE0,
-        last: 0xFF,
-        calls: 514,
-    },
-    Case {
-        words: "sel list last 1",
-        first: 0xFF,
-        last: 0xFF,
-        calls: 514,
-    },
-    Case {
-        words: "sel list first 3",
-        first: 0x00,
-        last: 0x02,
-        calls: 4,
-    },
-    Case {
-        words: "--from 0081 sel list last 64",
-        first: 0xC0,
-        last: 0xFF,
-        calls: 258,
-    },
-];
+/// Words, the first and the last type that they list, and how many calls they make.
+const CASES: &str = "sel list|00-ff|257
+sel list last 256|00-ff|514
+sel list last 257|00-ff|514
+sel list last 65535|00-ff|514
+sel list last 255|01-ff|514
+sel list last 32|e0-ff|514
+sel list last 1|ff-ff|514
+sel list first 3|00-02|4
+--from 0081 sel list last 64|c0-ff|258";
 
 // A reservation and 256 entries in each walk, or 128 from the entry of type 80h on.
 #[test]
 fn an_entry_of_each_type_is_listed(rt: HostRuntime) {
-    for case in &CASES {
+    for case in CASES.lines() {
         is_listed(&rt, rt.alloc(), case);
     }
 }

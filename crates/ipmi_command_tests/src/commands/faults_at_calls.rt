@@ -16,8 +16,8 @@ struct Course<'a> {
     words: &'a str,
     /// The name of the image.
     image: &'a str,
-    /// A line for each call: what a message names after a fault there, how many lines are printed before, and how many
-    /// calls are made where the call is cancelled once.
+    /// A line for each call: what a message names after a fault there, how many lines are printed before, how many
+    /// calls are made where the call is cancelled once, and how many where a part is too long there.
     faults: &'a str,
     /// The line of the message, where one is left without a fault.
     said: &'a str,
@@ -30,126 +30,134 @@ struct Course<'a> {
 struct Fault<'a> {
     names: &'a str,
     lines: usize,
-    calls: u32,
+    calls_if_cancelled: u32,
+    calls_if_too_long: u32,
 }
 
-/// What a line of a course says.
 fn fault_of<'a>(rt: &impl Abort, line: &'a str) -> Fault<'a> {
     let (names, rest) = parts(rt, line);
-    let (lines, calls) = parts(rt, rest);
+    let (lines, rest) = parts(rt, rest);
+    let (cancelled, too_long) = parts(rt, rest);
     Fault {
         names,
         lines: lines.parse::<usize>().expect(rt, line),
-        calls: number(rt, calls),
+        calls_if_cancelled: number(rt, cancelled),
+        calls_if_too_long: number(rt, too_long),
     }
 }
 
 // A record that is cancelled begins again with a reservation, and its calls so far are made twice. Where a reading or
 // an inventory is cancelled the reservation is lost too, so that the next record begins again after its header.
+//
+// A part that is too long is asked for again in parts of half as many bytes, and so is all that comes after it on the
+// same walk, or of the same inventory. After a header of 5 bytes parts have 2: a header takes 3 calls then, 51 bytes
+// after one 26, and 15 bytes 8. After 32 bytes they have 16, after 19 they have 9, and after 15 they have 7. Of an
+// entry or an inventory of 16 bytes they have 8, and after 8 bytes 4. A call for no part, or for a part of one byte, is
+// never too long.
 const COURSES: [Course<'static>; 10] = [
     Course {
         words: "sdr,get,CPU Temp",
         image: "sensor and locator",
-        faults: "0000h|0|8
-0000h|0|9
-0000h|0|10
-0000h|0|11
-0001h|0|11
-0002h|14|9
-0002h|14|10",
+        faults: "0000h|0|8|7
+0000h|0|9|43
+0000h|0|10|10
+0000h|0|11|11
+0001h|0|11|7
+0002h|14|9|17
+0002h|14|10|10",
         said: "",
         out: SENSOR_BLOCK,
     },
     Course {
         words: "sdr,get,PSU1",
         image: "sensor and locator",
-        faults: "0000h|0|7
-0000h|0|8
-0000h|0|9
-0000h|0|10
-0002h|0|8
-0002h|0|9",
+        faults: "0000h|0|7|6
+0000h|0|8|42
+0000h|0|9|9
+0000h|0|10|10
+0002h|0|8|16
+0002h|0|9|9",
         said: "",
         out: LOCATOR_BLOCK,
     },
     Course {
         words: "sdr,get,Foo",
         image: "sensor and locator",
-        faults: "0000h|0|7
-0000h|0|8
-0000h|0|9
-0000h|0|10
-0002h|0|8
-0002h|0|9",
+        faults: "0000h|0|7|6
+0000h|0|8|42
+0000h|0|9|9
+0000h|0|10|10
+0002h|0|8|16
+0002h|0|9|9",
         said: "no record named Foo\n",
         out: "",
     },
     Course {
         words: "sdr,info",
         image: "infos",
-        faults: "0000h|0|2",
+        faults: "0000h|0|2|1",
         said: "",
         out: INFO,
     },
     Course {
         words: "sel,info",
         image: "log",
-        faults: "0000h|0|2",
+        faults: "0000h|0|2|1",
         said: "",
         out: INFO,
     },
     Course {
         words: "sdr,info",
         image: "three",
-        faults: "0000h|0|2",
+        faults: "0000h|0|2|1",
         said: "info not present\n",
         out: "",
     },
     Course {
         words: "sel,list,last,2",
         image: "log",
-        faults: "0000h|0|9
-0000h|0|10
-0002h|0|10
-0003h|0|10
-0000h|0|9
-0000h|0|10
-0002h|0|10
-0003h|1|10",
+        faults: "0000h|0|9|8
+0000h|0|10|12
+0002h|0|10|11
+0003h|0|10|10
+0000h|0|9|8
+0000h|0|10|12
+0002h|0|10|11
+0003h|1|10|10",
         said: "",
         out: NEWEST,
     },
     Course {
         words: "fru,print,0",
         image: "inventory",
-        faults: "fru 0|0|3
-fru 0|0|3",
+        faults: "fru 0|0|3|2
+fru 0|0|3|4",
         said: "",
         out: INVENTORY,
     },
     Course {
         words: "--part,8,fru,print,0",
         image: "inventory",
-        faults: "fru 0|0|4
-fru 0|0|4
-fru 0|0|4",
+        faults: "fru 0|0|4|3
+fru 0|0|4|6
+fru 0|0|4|5",
         said: "",
         out: INVENTORY,
     },
     Course {
         words: "fru,print",
         image: "two locators",
-        faults: "fru 0|0|12
-fru 0|0|12
-0000h|3|12
-0000h|3|13
-0000h|3|14
-fru 1|3|15
-fru 1|3|15
-0002h|6|13
-0002h|6|14
-fru 2|6|12
-fru 2|6|12",
+        faults: "fru 0|0|12|11
+fru 0|0|12|13
+0000h|3|12|11
+0000h|3|13|30
+0000h|3|14|16
+fru 1|3|15|11
+fru 1|3|15|11
+0002h|6|13|21
+0002h|6|14|14
+fru 2|6|12|11
+fru 2|6|12|13",
         said: "",
         out: INVENTORIES,
     },
@@ -180,7 +188,6 @@ fn whole_text(rt: &impl Abort, alloc: Global, course: &Course, calls: u32) -> St
     format!(in alloc; "{status} {calls}\n{said}--\n{out}").expect(rt, "memory")
 }
 
-/// Puts a line at the end.
 fn push_line(rt: &impl Abort, lines: &mut String, line: &str) {
     lines.push_str(line).expect(rt, "memory");
     lines.push_str("\n").expect(rt, "memory");
@@ -226,12 +233,9 @@ fn refused(rt: &impl Abort, alloc: Global, names: &str) -> String {
 
 /// Moods that grant the calls before one, which meets this mood.
 fn moods_at(rt: &impl Abort, alloc: Global, call: u32, mood: &str) -> String {
-    let mut moods = String::new(alloc);
-    for _ in 1..call {
-        moods.push_str(".").expect(rt, "memory");
-    }
-    moods.push_str(mood).expect(rt, "memory");
-    moods
+    let granted = ".".repeat(alloc, call.saturating_sub(1) as usize);
+    let granted = granted.expect(rt, "memory");
+    format!(in alloc; "{granted}{mood}").expect(rt, "memory")
 }
 
 /// What a call of a course meets.
@@ -263,8 +267,7 @@ fn script_of(meeting: Meeting) -> (u8, &'static str) {
     }
 }
 
-/// What the course leaves where its call of this number meets this. The number of calls is compared but for a part that is
-/// too long.
+/// What the course leaves where its call of this number meets this.
 fn wanted_of(
     rt: &impl Abort,
     alloc: Global,
@@ -272,12 +275,11 @@ fn wanted_of(
     call: u32,
     fault: &Fault,
     meeting: Meeting,
-    calls: u32,
 ) -> String {
     match meeting {
         Meeting::Busy => whole_text(rt, alloc, course, calls_of(course).saturating_add(1)),
-        Meeting::Cancelled => whole_text(rt, alloc, course, fault.calls),
-        Meeting::TooLong => whole_text(rt, alloc, course, calls),
+        Meeting::Cancelled => whole_text(rt, alloc, course, fault.calls_if_cancelled),
+        Meeting::TooLong => whole_text(rt, alloc, course, fault.calls_if_too_long),
         Meeting::BusyAtLast | Meeting::CancelledAtLast => {
             let said = gave_up(rt, alloc, fault.names);
             ended_text(rt, alloc, course, call, fault, said.as_str())
@@ -301,7 +303,7 @@ fn is_met(
     let (tries, mood) = script_of(meeting);
     let moods = moods_at(rt, alloc, call, mood);
     let left = left_of(rt, alloc, course, tries, moods.as_str());
-    let wanted = wanted_of(rt, alloc, course, call, fault, meeting, left.calls);
+    let wanted = wanted_of(rt, alloc, course, call, fault, meeting);
     let words = course.words;
     let case = format!(in alloc; "{words}: {moods}").expect(rt, "memory");
     is_left(rt, alloc, &left, wanted.as_str(), case.as_str());

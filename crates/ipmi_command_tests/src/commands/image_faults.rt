@@ -113,12 +113,8 @@ fn each_fault_has_a_message(rt: HostRuntime) {
 
 /// An image of a text with so many bytes of zero within it.
 fn padded(rt: &impl Abort, alloc: Global, before: &str, zeros: usize, after: &str) -> String {
-    let mut image = String::from_str(alloc, before).expect(rt, "memory");
-    for _ in 0..zeros {
-        image.push_str("00").expect(rt, "memory");
-    }
-    image.push_str(after).expect(rt, "memory");
-    image
+    let zeros = "00".repeat(alloc, zeros).expect(rt, "memory");
+    format!(in alloc; "{before}{zeros}{after}").expect(rt, "memory")
 }
 
 /// Asserts what is left by a listing of an image in hex.
@@ -148,7 +144,8 @@ fn is_listed_when_cut(rt: &impl Abort, alloc: Global, len: usize, wanted: &str) 
 
 #[test]
 fn an_image_cut_short_is_not_listed(rt: HostRuntime) {
-    assert!(rt; THREE_ROWS.len() == 98);
+    let len = THREE_ROWS.len();
+    assert!(rt; len == 98, "{len} bytes");
     for len in 0..13 {
         is_listed_when_cut(&rt, rt.alloc(), len, "3\nimage: header\n--\n");
     }

@@ -3,7 +3,7 @@ use super::left::{is_left, left_by};
 use super::over_images::interrupting;
 use super::printed::all_print;
 use super::saved::image_named;
-use crate::cases::first_line;
+use crate::cases::{byte_of, first_line};
 use crate::command_line::lines::command;
 use std::alloc::Global;
 use std::process::Abort;
@@ -164,8 +164,8 @@ fn an_info_is_asked_for_until_it_comes(rt: HostRuntime) {
 /// in hex, and the other lines are what is left.
 fn is_left_after(rt: &impl Abort, alloc: Global, case: &str) {
     let (digits, wanted) = first_line(rt, case);
-    let code = u8::from_str_radix(digits, 16).expect(rt, "a code in hex");
-    let mut ctl = interrupting(rt, alloc, image_named(rt, "log"), 1, code);
+    let image = image_named(rt, "log");
+    let mut ctl = interrupting(rt, alloc, image, 1, byte_of(rt, digits));
     let left = left_by(alloc, &mut ctl, &command(rt, alloc, "--tries 0 sel"));
     is_left(rt, alloc, &left, wanted, digits);
 }

@@ -1,19 +1,8 @@
 //! A long inventory with each of its bits turned over: the text names the fault where it is, and has the other parts.
-use super::long_inventory::{
-    BOARD, CHASSIS, FIRST, INVENTORY, PRODUCT, SECOND, digits_at, has_parts,
-};
+use super::long_inventory::{INVENTORY, digits_at, has_parts};
+use crate::cases::{byte_of, parts, range};
 use std::alloc::Global;
 use std::process::Abort;
-
-/// Places in the inventory, the bits of each byte there that are turned over one at a time, and the parts of the text that
-/// is printed then.
-#[derive(Clone, Copy)]
-struct Damage {
-    first: usize,
-    last: usize,
-    bits: u8,
-    parts: [&'static str; 5],
-}
 
 /// The image with these bits of the byte at a place turned over.
 fn turned_image(rt: &impl Abort, alloc: Global, place: usize, bits: u8) -> String {
@@ -21,251 +10,103 @@ fn turned_image(rt: &impl Abort, alloc: Global, place: usize, bits: u8) -> Strin
         .split_at_checked(digits_at(place))
         .expect(rt, "a place");
     let (digits, after) = rest.split_at_checked(2).expect(rt, "a byte");
-    let byte = u8::from_str_radix(digits, 16).expect(rt, "a byte in hex") ^ bits;
+    let byte = byte_of(rt, digits) ^ bits;
     format!(in alloc; "{before}{byte:02x}{after}").expect(rt, "memory")
 }
 
-/// Asserts what is printed where one bit at a place is turned over.
-fn is_named(rt: &impl Abort, alloc: Global, damage: &Damage, place: usize, bit: u8) {
+/// Asserts which parts are printed where one bit at a place is turned over.
+fn is_named(rt: &impl Abort, alloc: Global, place: usize, bit: u8, wanted: &str) {
     let image = turned_image(rt, alloc, place, bit);
     let case = format!(in alloc; "bit {bit:02x} of byte {place}").expect(rt, "memory");
-    has_parts(rt, alloc, image.as_str(), 512, &damage.parts, case.as_str());
+    has_parts(rt, alloc, image.as_str(), 512, wanted, case.as_str());
 }
 
-/// The same for each of the bits that are turned over at a place.
-fn are_named_at(rt: &impl Abort, alloc: Global, damage: &Damage, place: usize) {
+/// The same for each of these bits at a place, turned over one at a time.
+fn are_named_at(rt: &impl Abort, alloc: Global, place: usize, bits: u8, wanted: &str) {
     for bit in [0x01, 0x02, 0x04, 0x08, 0x10, 0x20, 0x40, 0x80] {
-        if damage.bits & bit != 0 {
-            is_named(rt, alloc, damage, place, bit);
+        if bits & bit != 0 {
+            is_named(rt, alloc, place, bit, wanted);
         }
     }
 }
 
-/// The same for each place.
-fn are_named(rt: &impl Abort, alloc: Global, damage: &Damage) {
-    for place in damage.first..=damage.last {
-        are_named_at(rt, alloc, damage, place);
+/// The same for a line: the first and the last place, the bits of each byte there that are turned over, and the parts
+/// of the text that is printed then.
+fn are_named(rt: &impl Abort, alloc: Global, line: &str) {
+    let (places, rest) = parts(rt, line);
+    let (first, last) = range(rt, places);
+    let (bits, wanted) = parts(rt, rest);
+    let bits = byte_of(rt, bits);
+    for place in first..=last {
+        are_named_at(rt, alloc, place, bits, wanted);
     }
 }
 
-/// The same for each damage.
-fn all_are_named(rt: &impl Abort, alloc: Global, damages: &[Damage]) {
-    for damage in damages {
-        are_named(rt, alloc, damage);
+/// The same for each of these lines.
+fn all_are_named(rt: &impl Abort, alloc: Global, lines: &str) {
+    for line in lines.lines() {
+        are_named(rt, alloc, line);
     }
 }
 
-const OF_THE_HEADER: [Damage; 3] = [
-    Damage {
-        first: 0,
-        last: 0,
-        bits: 0x0F,
-        parts: ["FRU fault: header version\n", "", "", "", ""],
-    },
-    Damage {
-        first: 0,
-        last: 0,
-        bits: 0xF0,
-        parts: ["FRU fault: header checksum\n", "", "", "", ""],
-    },
-    Damage {
-        first: 1,
-        last: 7,
-        bits: 0xFF,
-        parts: ["FRU fault: header checksum\n", "", "", "", ""],
-    },
-];
+const OF_THE_HEADER: &str = "0-0|0f|FRU fault: header version
+0-0|f0|FRU fault: header checksum
+1-7|ff|FRU fault: header checksum";
 
 // The version is in the lower four bits of the first byte, and is looked at before the sum.
 #[test]
 fn a_bit_of_the_header_is_told_by_the_version_or_the_sum(rt: HostRuntime) {
-    all_are_named(&rt, rt.alloc(), &OF_THE_HEADER);
+    all_are_named(&rt, rt.alloc(), OF_THE_HEADER);
 }
 
-const OF_THE_CHASSIS: [Damage; 6] = [
-    Damage {
-        first: 8,
-        last: 8,
-        bits: 0x0F,
-        parts: ["Chassis fault: version\n", BOARD, PRODUCT, FIRST, SECOND],
-    },
-    Damage {
-        first: 8,
-        last: 8,
-        bits: 0xF0,
-        parts: ["Chassis fault: checksum\n", BOARD, PRODUCT, FIRST, SECOND],
-    },
-    Damage {
-        first: 9,
-        last: 9,
-        bits: 0x37,
-        parts: ["Chassis fault: checksum\n", BOARD, PRODUCT, FIRST, SECOND],
-    },
-    Damage {
-        first: 9,
-        last: 9,
-        bits: 0x08,
-        parts: ["Chassis fault: length\n", BOARD, PRODUCT, FIRST, SECOND],
-    },
-    Damage {
-        first: 9,
-        last: 9,
-        bits: 0xC0,
-        parts: ["Chassis fault: outside\n", BOARD, PRODUCT, FIRST, SECOND],
-    },
-    Damage {
-        first: 10,
-        last: 71,
-        bits: 0xFF,
-        parts: ["Chassis fault: checksum\n", BOARD, PRODUCT, FIRST, SECOND],
-    },
-];
+const OF_THE_CHASSIS: &str = "8-8|0f|Chassis fault: version|board|product|first|second
+8-8|f0|Chassis fault: checksum|board|product|first|second
+9-9|37|Chassis fault: checksum|board|product|first|second
+9-9|08|Chassis fault: length|board|product|first|second
+9-9|c0|Chassis fault: outside|board|product|first|second
+10-71|ff|Chassis fault: checksum|board|product|first|second";
 
 // The second byte is the length, 8 times 8 bytes: with a bit of it turned over it is 0, or runs past the end, or has
 // another sum.
 #[test]
 fn a_bit_of_the_chassis_is_told_beside_the_other_areas(rt: HostRuntime) {
-    all_are_named(&rt, rt.alloc(), &OF_THE_CHASSIS);
+    all_are_named(&rt, rt.alloc(), OF_THE_CHASSIS);
 }
 
-const OF_THE_BOARD: [Damage; 6] = [
-    Damage {
-        first: 72,
-        last: 72,
-        bits: 0x0F,
-        parts: [CHASSIS, "Board fault: version\n", PRODUCT, FIRST, SECOND],
-    },
-    Damage {
-        first: 72,
-        last: 72,
-        bits: 0xF0,
-        parts: [CHASSIS, "Board fault: checksum\n", PRODUCT, FIRST, SECOND],
-    },
-    Damage {
-        first: 73,
-        last: 73,
-        bits: 0x2F,
-        parts: [CHASSIS, "Board fault: checksum\n", PRODUCT, FIRST, SECOND],
-    },
-    Damage {
-        first: 73,
-        last: 73,
-        bits: 0x10,
-        parts: [CHASSIS, "Board fault: length\n", PRODUCT, FIRST, SECOND],
-    },
-    Damage {
-        first: 73,
-        last: 73,
-        bits: 0xC0,
-        parts: [CHASSIS, "Board fault: outside\n", PRODUCT, FIRST, SECOND],
-    },
-    Damage {
-        first: 74,
-        last: 199,
-        bits: 0xFF,
-        parts: [CHASSIS, "Board fault: checksum\n", PRODUCT, FIRST, SECOND],
-    },
-];
+const OF_THE_BOARD: &str = "72-72|0f|chassis|Board fault: version|product|first|second
+72-72|f0|chassis|Board fault: checksum|product|first|second
+73-73|2f|chassis|Board fault: checksum|product|first|second
+73-73|10|chassis|Board fault: length|product|first|second
+73-73|c0|chassis|Board fault: outside|product|first|second
+74-199|ff|chassis|Board fault: checksum|product|first|second";
 
 // A length of 16 times 8 bytes from byte 72 on.
 #[test]
 fn a_bit_of_the_board_is_told_beside_the_other_areas(rt: HostRuntime) {
-    all_are_named(&rt, rt.alloc(), &OF_THE_BOARD);
+    all_are_named(&rt, rt.alloc(), OF_THE_BOARD);
 }
 
-const OF_THE_PRODUCT: [Damage; 6] = [
-    Damage {
-        first: 200,
-        last: 200,
-        bits: 0x0F,
-        parts: [CHASSIS, BOARD, "Product fault: version\n", FIRST, SECOND],
-    },
-    Damage {
-        first: 200,
-        last: 200,
-        bits: 0xF0,
-        parts: [CHASSIS, BOARD, "Product fault: checksum\n", FIRST, SECOND],
-    },
-    Damage {
-        first: 201,
-        last: 201,
-        bits: 0x0F,
-        parts: [CHASSIS, BOARD, "Product fault: checksum\n", FIRST, SECOND],
-    },
-    Damage {
-        first: 201,
-        last: 201,
-        bits: 0x10,
-        parts: [CHASSIS, BOARD, "Product fault: length\n", FIRST, SECOND],
-    },
-    Damage {
-        first: 201,
-        last: 201,
-        bits: 0xE0,
-        parts: [CHASSIS, BOARD, "Product fault: outside\n", FIRST, SECOND],
-    },
-    Damage {
-        first: 202,
-        last: 327,
-        bits: 0xFF,
-        parts: [CHASSIS, BOARD, "Product fault: checksum\n", FIRST, SECOND],
-    },
-];
+const OF_THE_PRODUCT: &str = "200-200|0f|chassis|board|Product fault: version|first|second
+200-200|f0|chassis|board|Product fault: checksum|first|second
+201-201|0f|chassis|board|Product fault: checksum|first|second
+201-201|10|chassis|board|Product fault: length|first|second
+201-201|e0|chassis|board|Product fault: outside|first|second
+202-327|ff|chassis|board|Product fault: checksum|first|second";
 
 // A length of 16 times 8 bytes from byte 200 on.
 #[test]
 fn a_bit_of_the_product_is_told_beside_the_other_areas(rt: HostRuntime) {
-    all_are_named(&rt, rt.alloc(), &OF_THE_PRODUCT);
+    all_are_named(&rt, rt.alloc(), OF_THE_PRODUCT);
 }
 
-const OF_THE_RECORDS: [Damage; 4] = [
-    Damage {
-        first: 328,
-        last: 332,
-        bits: 0xFF,
-        parts: [
-            CHASSIS,
-            BOARD,
-            PRODUCT,
-            "Record fault: header checksum\n",
-            "",
-        ],
-    },
-    Damage {
-        first: 333,
-        last: 372,
-        bits: 0xFF,
-        parts: [CHASSIS, BOARD, PRODUCT, "Record fault: data checksum\n", ""],
-    },
-    Damage {
-        first: 373,
-        last: 377,
-        bits: 0xFF,
-        parts: [
-            CHASSIS,
-            BOARD,
-            PRODUCT,
-            FIRST,
-            "Record fault: header checksum\n",
-        ],
-    },
-    Damage {
-        first: 378,
-        last: 511,
-        bits: 0xFF,
-        parts: [
-            CHASSIS,
-            BOARD,
-            PRODUCT,
-            FIRST,
-            "Record fault: data checksum\n",
-        ],
-    },
-];
+const OF_THE_RECORDS: &str = "328-332|ff|chassis|board|product|Record fault: header checksum
+333-372|ff|chassis|board|product|Record fault: data checksum
+373-377|ff|chassis|board|product|first|Record fault: header checksum
+378-511|ff|chassis|board|product|first|Record fault: data checksum";
 
 // A header of five bytes has a sum of its own, and the data another, which is in the header. No record after one with a
 // fault is printed.
 #[test]
 fn a_bit_of_a_multirecord_is_told_and_is_the_last(rt: HostRuntime) {
-    all_are_named(&rt, rt.alloc(), &OF_THE_RECORDS);
+    all_are_named(&rt, rt.alloc(), OF_THE_RECORDS);
 }

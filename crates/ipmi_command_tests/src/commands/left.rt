@@ -33,16 +33,15 @@ pub(crate) fn left_by<C: Controller + Drop>(
     }
 }
 
-/// The bytes as a text.
-pub(crate) fn text_of<'a>(rt: &impl Abort, bytes: &'a [u8]) -> &'a str {
-    std::str::from_utf8(bytes).expect(rt, "a text")
+pub(crate) fn text_of<'a>(rt: &impl Abort, bytes: &'a [u8], case: &str) -> &'a str {
+    std::str::from_utf8(bytes).expect(rt, case)
 }
 
 /// What a command left as a text: the status and the number of calls in a line, the messages, a line of dashes and the
 /// output.
-fn left_text(rt: &impl Abort, alloc: Global, left: &Left) -> String {
-    let out = text_of(rt, &left.out);
-    let err = text_of(rt, &left.err);
+fn left_text(rt: &impl Abort, alloc: Global, left: &Left, case: &str) -> String {
+    let out = text_of(rt, &left.out, case);
+    let err = text_of(rt, &left.err, case);
     let status = left.status;
     let calls = left.calls;
     format!(in alloc; "{status} {calls}\n{err}--\n{out}").expect(rt, "memory")
@@ -50,21 +49,21 @@ fn left_text(rt: &impl Abort, alloc: Global, left: &Left) -> String {
 
 /// Asserts that this was left, in the form of `left_text`.
 pub(crate) fn is_left(rt: &impl Abort, alloc: Global, left: &Left, wanted: &str, case: &str) {
-    let got = left_text(rt, alloc, left);
+    let got = left_text(rt, alloc, left, case);
     assert!(rt; got.as_str() == wanted, "{case}: got {got}");
 }
 
 /// What was left as a text: the status, the number of calls and the number of bytes, then a bar and the messages.
-fn numbers_text(rt: &impl Abort, alloc: Global, left: &Left) -> String {
+fn numbers_text(rt: &impl Abort, alloc: Global, left: &Left, case: &str) -> String {
     let status = left.status;
     let calls = left.calls;
     let len = left.out.len();
-    let err = text_of(rt, &left.err);
+    let err = text_of(rt, &left.err, case);
     format!(in alloc; "{status} {calls} {len}|{err}").expect(rt, "memory")
 }
 
 /// Asserts that these numbers and these messages were left, in the form of `numbers_text`.
 pub(crate) fn has_numbers(rt: &impl Abort, alloc: Global, left: &Left, wanted: &str, case: &str) {
-    let got = numbers_text(rt, alloc, left);
+    let got = numbers_text(rt, alloc, left, case);
     assert!(rt; got.as_str() == wanted, "{case}: got {got}");
 }

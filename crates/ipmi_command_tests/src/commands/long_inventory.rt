@@ -26,13 +26,13 @@ fru 00 3132333435363738393031323334353637383930313233343536373839303132
 end
 ";
 
-pub(super) const CHASSIS: &str = "Chassis Type: Rack Mount Chassis
+const CHASSIS: &str = "Chassis Type: Rack Mount Chassis
 Chassis Part Number: CHASSIS-PART-0001
 Chassis Serial: CHASSIS-SERIAL-000001
 Chassis Extra: RACK 7
 ";
 
-pub(super) const BOARD: &str = "Board Mfg Date: 1996-01-01 00:01
+const BOARD: &str = "Board Mfg Date: 1996-01-01 00:01
 Board Mfg: ACME
 Board Product: Mainboard 9000
 Board Serial: IPMI
@@ -41,7 +41,7 @@ Board FRU ID: abcd
 Board Extra: FIRST OF TWO BOARDS, THE UPPER ONE
 ";
 
-pub(super) const PRODUCT: &str = "Product Manufacturer: ACME
+const PRODUCT: &str = "Product Manufacturer: ACME
 Product Name: Server
 Product Part Number: P-1
 Product Version: V2
@@ -51,12 +51,13 @@ Product FRU ID: F-5
 Product Extra: TWO POWER SUPPLIES, FOUR FANS AND ONE LOCK
 ";
 
-pub(super) const FIRST: &str =
+const FIRST: &str =
     "Record 0xc0: 0102030405060708090a0b0c0d0e0f101112131415161718191a1b1c1d1e1f202122232425262728
 ";
 
-pub(super) const SECOND: &str =
-    "Management Access 0x01: 0123456789012345678901234567890123456789012345678901234567890123456789012345678901234567890123456789012345678901234567890123456789012
+const SECOND: &str =
+    "Management Access 0x01: 012345678901234567890123456789012345678901234567890123456789012345678901234567890123456789\
+    0123456789012345678901234567890123456789012
 ";
 
 /// Where the digits of the byte at a place are in the image.
@@ -65,11 +66,30 @@ pub(super) fn digits_at(place: usize) -> usize {
     line.saturating_add((place % 32).saturating_mul(2))
 }
 
-/// One text of all parts.
-fn joined(rt: &impl Abort, alloc: Global, parts: &[&str]) -> String {
+fn push(rt: &impl Abort, text: &mut String, part: &str) {
+    text.push_str(part).expect(rt, "memory");
+}
+
+/// Puts a part of the text at the end: one of the inventory by its name, or the line of a fault.
+fn push_part(rt: &impl Abort, text: &mut String, part: &str) {
+    match part {
+        "chassis" => push(rt, text, CHASSIS),
+        "board" => push(rt, text, BOARD),
+        "product" => push(rt, text, PRODUCT),
+        "first" => push(rt, text, FIRST),
+        "second" => push(rt, text, SECOND),
+        fault => {
+            push(rt, text, fault);
+            push(rt, text, "\n");
+        }
+    }
+}
+
+/// The text of all parts, which have bars between them.
+fn text_of_parts(rt: &impl Abort, alloc: Global, parts: &str) -> String {
     let mut text = String::new(alloc);
-    for part in parts {
-        text.push_str(*part).expect(rt, "memory");
+    for part in parts.split('|') {
+        push_part(rt, &mut text, part);
     }
     text
 }
@@ -80,18 +100,18 @@ pub(super) fn has_parts(
     alloc: Global,
     image: &str,
     len: usize,
-    parts: &[&str],
+    parts: &str,
     case: &str,
 ) {
     let left = left_over(rt, alloc, "fru print 0", image);
     let calls = len.div_ceil(32).saturating_add(1);
-    let text = joined(rt, alloc, parts);
+    let text = text_of_parts(rt, alloc, parts);
     let wanted = format!(in alloc; "0 {calls}\n--\nFRU 0\n{text}\n").expect(rt, "memory");
     is_left(rt, alloc, &left, wanted.as_str(), case);
 }
 
 #[test]
 fn an_inventory_of_512_bytes_is_printed(rt: HostRuntime) {
-    let parts = [CHASSIS, BOARD, PRODUCT, FIRST, SECOND];
-    has_parts(&rt, rt.alloc(), INVENTORY, 512, &parts, "whole");
+    let parts = "chassis|board|product|first|second";
+    has_parts(&rt, rt.alloc(), INVENTORY, 512, parts, "whole");
 }

@@ -1,6 +1,6 @@
-//! Listings of as many records as there are ids.
+//! Listings of a record for each id.
 use super::left::{Left, has_numbers, left_by};
-use super::over_images::over;
+use super::over_images::left_over;
 use crate::command_line::lines::command;
 use crate::controllers::{Counting, Endless};
 use std::alloc::Global;
@@ -25,28 +25,29 @@ fn falling_image(rt: &impl Abort, alloc: Global) -> String {
     image
 }
 
-/// The rows of each id but 0000h and FFFFh, in rising order.
-fn rising_lines(rt: &impl Abort, alloc: Global) -> String {
+/// The rows of each id from the first one to FFFEh, in rising order.
+fn rising_lines(rt: &impl Abort, alloc: Global, first: u16) -> String {
     let mut lines = String::new(alloc);
-    for id in 1..0xFFFFu16 {
+    for id in first..0xFFFFu16 {
         push_row(rt, &mut lines, id);
     }
     lines
 }
 
-/// What a listing of the image in hex leaves.
-fn left_over(rt: &impl Abort, alloc: Global, image: &str) -> Left {
-    let mut ctl = over(rt, alloc, image);
-    left_by(alloc, &mut ctl, &command(rt, alloc, "sdr hex"))
+/// Asserts that a listing left the rows of each id from the first one to FFFEh, in rising order.
+fn is_rising(rt: &impl Abort, alloc: Global, left: &Left, first: u16, case: &str) {
+    let lines = rising_lines(rt, alloc, first);
+    let is_rising = left.out.as_slice() == lines.as_bytes();
+    assert!(rt; is_rising, "{case}: other lines");
 }
 
 // 65,534 lines of 25 bytes each.
 #[test]
-fn there_may_be_as_many_rows_as_there_are_ids(rt: HostRuntime) {
-    let left = left_over(&rt, rt.alloc(), falling_image(&rt, rt.alloc()).as_str());
+fn each_id_from_0001h_to_fffeh_may_have_a_row(rt: HostRuntime) {
+    let image = falling_image(&rt, rt.alloc());
+    let left = left_over(&rt, rt.alloc(), "sdr hex", image.as_str());
     has_numbers(&rt, rt.alloc(), &left, "0 65535 1638350|", "rows");
-    let is_rising = left.out.as_slice() == rising_lines(&rt, rt.alloc()).as_bytes();
-    assert!(rt; is_rising);
+    is_rising(&rt, rt.alloc(), &left, 1, "rows");
 }
 
 /// What a listing of records without a last one leaves.
@@ -60,6 +61,9 @@ fn left_endless(rt: &impl Abort, alloc: Global) -> Left {
 fn a_listing_without_a_last_record_ends(rt: HostRuntime) {
     let left = left_endless(&rt, rt.alloc());
     has_numbers(&rt, rt.alloc(), &left, "0 65536 1638375|", "endless");
-    assert!(rt; left.out.starts_with(b"sdr 0000 0001 000051c000\n"));
-    assert!(rt; left.out.ends_with(b"sdr fffe ffff feff51c000\n"));
+    is_rising(&rt, rt.alloc(), &left, 0, "endless");
+    let is_first = left.out.starts_with(b"sdr 0000 0001 000051c000\n");
+    assert!(rt; is_first, "another first line");
+    let is_last = left.out.ends_with(b"sdr fffe ffff feff51c000\n");
+    assert!(rt; is_last, "another last line");
 }

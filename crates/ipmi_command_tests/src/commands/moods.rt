@@ -27,7 +27,8 @@ fn is_left_of(rt: &impl Abort, alloc: Global, left: &Left, lines: &str, wanted: 
     assert!(rt; lines.as_bytes().starts_with(&left.out), "{case}: output");
 }
 
-/// Asserts what a listing leaves of these lines: the case has tries, moods, numbers and a message with bars between them.
+/// Asserts what a listing leaves of these lines: the case has tries, moods, numbers and a message with bars between
+/// them.
 fn lists(rt: &impl Abort, alloc: Global, lines: &str, case: &str) {
     let (tries, rest) = parts(rt, case);
     let (moods, wanted) = parts(rt, rest);

@@ -25,8 +25,8 @@ sdr 0002 0003 020051c002bbcc
 sdr 0003 ffff 030051c000
 ";
 
-// Three calls read a record of six bytes: a reservation, the header and the byte after it. The third record ends with its
-// header.
+// Three calls read a record of six bytes: a reservation, the header and the byte after it. The third record ends with
+// its header.
 #[test]
 fn one_reservation_serves_all_records(rt: HostRuntime) {
     leaves(&rt, rt.alloc(), IN_ONE_RESERVATION);
@@ -163,7 +163,6 @@ fn lines_are_answered_over_an_image(rt: HostRuntime) {
     }
 }
 
-/// What want of memory leaves.
 const OUT_OF_MEMORY: &str = "5
 out of memory
 --
@@ -175,14 +174,21 @@ fn is_answered_without_image(
     alloc: Global,
     line: &Result<Command, UsageFault>,
     wanted: &str,
+    case: &str,
 ) {
-    is_answered(rt, alloc, line, b"no image", wanted, "no image");
+    is_answered(rt, alloc, line, b"no image", wanted, case);
+}
+
+/// Asserts what the answer to a fault of the command line leaves where there is no image.
+fn looks_at_no_image(rt: &impl Abort, alloc: Global, fault: UsageFault, wanted: &str) {
+    let case = format!(in alloc; "{fault:?}").expect(rt, "memory");
+    is_answered_without_image(rt, alloc, &Err(fault), wanted, case.as_str());
 }
 
 #[test]
 fn usage_faults_look_at_no_image(rt: HostRuntime) {
-    is_answered_without_image(&rt, rt.alloc(), &Err(UsageFault::Command), USAGE);
-    is_answered_without_image(&rt, rt.alloc(), &Err(UsageFault::Memory), OUT_OF_MEMORY);
+    looks_at_no_image(&rt, rt.alloc(), UsageFault::Command, USAGE);
+    looks_at_no_image(&rt, rt.alloc(), UsageFault::Memory, OUT_OF_MEMORY);
 }
 
 /// What an image that is none leaves.
@@ -203,7 +209,7 @@ image rewrite";
 /// Asserts that these words are answered by the fault of what is no image.
 fn looks_at_the_image(rt: &impl Abort, alloc: Global, words: &str) {
     let line = read_line(rt, alloc, words);
-    is_answered_without_image(rt, alloc, &line, NO_IMAGE);
+    is_answered_without_image(rt, alloc, &line, NO_IMAGE, words);
 }
 
 #[test]

@@ -8,17 +8,15 @@ use ipmi_image::{Image, ImageController, Mood, Scripted};
 use std::alloc::Global;
 use std::process::Abort;
 
-/// The image of a text.
 pub(crate) fn image_of(rt: &impl Abort, alloc: Global, text: &str) -> Image {
-    Image::read(alloc, text.as_bytes()).expect(rt, "an image")
+    Image::read(alloc, text.as_bytes()).expect(rt, text)
 }
 
-/// A controller over the image.
 pub(crate) fn over(rt: &impl Abort, alloc: Global, image: &str) -> Counting<ImageController> {
     Counting::new(ImageController::new(image_of(rt, alloc, image)))
 }
 
-/// The same, with the call of this number answered with the code.
+/// A controller over the image, with the call of this number answered with the code.
 pub(crate) fn interrupting(
     rt: &impl Abort,
     alloc: Global,
@@ -37,8 +35,8 @@ pub(crate) struct Two<'a> {
     pub second: &'a str,
 }
 
-/// The mood that a letter means. A dot grants all, `1` one byte; `x` changes to the second image and `y` to the first, `N`
-/// changes the second of three records, and `E` leaves none.
+/// The mood that a letter means. A dot grants all, `1` one byte; `x` changes to the second image and `y` to the first,
+/// `N` changes the second of three records, and `E` leaves none.
 fn mood(rt: &impl Abort, alloc: Global, images: Two<'_>, letter: u8) -> Mood {
     match letter {
         b'.' => Mood::Grant(254),

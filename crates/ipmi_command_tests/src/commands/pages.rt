@@ -5,7 +5,7 @@ ghost use Rattle.ipmi_command_line.specs.Task.{is_listing};
 use super::left::{Left, is_left};
 use super::over_images::{over, scripted};
 use super::saved::{THREE_LINES, THREE_ROWS, image_named};
-use crate::cases::{case_of, number};
+use crate::cases::{Case, case_of, number};
 use crate::command_line::lines::command;
 use crate::controllers::Counting;
 use crate::writers::is_written;
@@ -38,7 +38,6 @@ fn left_in_pages<C: Controller + Drop>(
     }
 }
 
-/// Puts a size of pages at the end.
 fn push_size(rt: &impl Abort, pages: &mut Vec<u32>, size: &str) {
     pages.push(number(rt, size)).expect(rt, "memory");
 }
@@ -52,21 +51,19 @@ fn sizes(rt: &impl Abort, alloc: Global, text: &str) -> Vec<u32> {
     pages
 }
 
-/// Asserts what the words leave over the controller in pages of the sizes in a text.
+/// Asserts what the words of a case leave over the controller, in pages of the sizes that it has more.
 fn leaves_in_pages<C: Controller + Drop>(
     rt: &impl Abort,
     alloc: Global,
     ctl: Counting<C>,
-    words: &str,
-    pages: &str,
-    wanted: &str,
+    case: &Case,
 ) {
-    let command = command(rt, alloc, words);
+    let command = command(rt, alloc, case.words);
     if !command.is_listing() {
-        panic!(rt; "{words}: no listing");
+        panic!(rt; "{}: no listing", case.line);
     }
-    let left = left_in_pages(alloc, ctl, &command, &sizes(rt, alloc, pages));
-    is_left(rt, alloc, &left, wanted, words);
+    let left = left_in_pages(alloc, ctl, &command, &sizes(rt, alloc, case.more));
+    is_left(rt, alloc, &left, case.wanted, case.line);
 }
 
 /// Asserts what a listing leaves over an image in pages. The first line of the case is the words, the name of the image
@@ -74,7 +71,7 @@ fn leaves_in_pages<C: Controller + Drop>(
 fn lists_in_pages(rt: &impl Abort, alloc: Global, case: &str) {
     let case = case_of(rt, case);
     let ctl = over(rt, alloc, image_named(rt, case.image));
-    leaves_in_pages(rt, alloc, ctl, case.words, case.more, case.wanted);
+    leaves_in_pages(rt, alloc, ctl, &case);
 }
 
 /// The same for each of these cases.
@@ -147,8 +144,8 @@ CPU Temp         | 45 degrees C      | ok
 PSU1             | FRU 1             | na
 ";
 
-// A reservation and two entries, and a reservation and one. A sensor and its reading, after a reservation, the header and
-// two parts, and then a locator.
+// A reservation and two entries, and a reservation and one. A sensor and its reading, after a reservation, the header
+// and two parts, and then a locator.
 #[test]
 fn entries_and_sensors_are_listed_in_pages(rt: HostRuntime) {
     all_list_in_pages(&rt, rt.alloc(), ENTRIES_AND_SENSORS);
@@ -159,8 +156,9 @@ const EMPTY_IN_PAGES: &str = "sdr hex|empty|1 1
 --
 ";
 
+// A reservation, and a call that finds no record. No other page is begun.
 #[test]
-fn an_empty_image_has_pages(rt: HostRuntime) {
+fn an_empty_image_ends_on_the_first_page(rt: HostRuntime) {
     all_list_in_pages(&rt, rt.alloc(), EMPTY_IN_PAGES);
 }
 
@@ -186,7 +184,8 @@ fn each_page_sees_its_own_cycle(rt: HostRuntime) {
     all_list_in_pages(&rt, rt.alloc(), CYCLES);
 }
 
-const GIVEN_UP: &str = "1 4
+const GIVEN_UP: &str = "--tries 0 sdr hex|three|1 1
+1 4
 gave up at 0002h
 --
 sdr 0001 0002 010051c001aa
@@ -195,8 +194,9 @@ sdr 0001 0002 010051c001aa
 // The fourth call begins the second page, and the third page is not begun.
 #[test]
 fn a_page_that_ends_by_name_ends_all(rt: HostRuntime) {
-    let ctl = scripted(&rt, rt.alloc(), THREE_ROWS, "...B");
-    leaves_in_pages(&rt, rt.alloc(), ctl, "--tries 0 sdr hex", "1 1", GIVEN_UP);
+    let case = case_of(&rt, GIVEN_UP);
+    let ctl = scripted(&rt, rt.alloc(), image_named(&rt, case.image), "...B");
+    leaves_in_pages(&rt, rt.alloc(), ctl, &case);
 }
 
 /// What a listing of three records in hex leaves in three pages. It takes no memory but for the listing.
@@ -207,7 +207,6 @@ fn three_in_pages(alloc: Global) -> Result<Left, ImageFault> {
     Ok(left_in_pages(alloc, ctl, &hex, &[1, 0, 1]))
 }
 
-/// Asserts that all is left.
 fn is_whole(rt: &impl Abort, left: &Left) {
     assert!(rt; left.status == 0, "status {}", left.status);
     is_written(rt, &left.out, THREE_LINES);
@@ -215,7 +214,7 @@ fn is_whole(rt: &impl Abort, left: &Left) {
 }
 
 #[test]
-fn always_out_of_memory(rt: HostRuntime) {
+fn not_always_out_of_memory(rt: HostRuntime) {
     let left = three_in_pages(rt.alloc()).expect(&rt, "memory");
     is_whole(&rt, &left);
 }
@@ -232,7 +231,8 @@ fn is_whole_or_refused(rt: &impl Abort, left: &Left) {
         }
         status => panic!(rt; "status {status}"),
     }
-    assert!(rt; THREE_LINES.as_bytes().starts_with(&left.out));
+    let is_first_part = THREE_LINES.as_bytes().starts_with(&left.out);
+    assert!(rt; is_first_part, "status {}: other lines", left.status);
 }
 
 // Where memory is refused, to the run or to what takes its output, it has first lines, or first bytes of them.
@@ -240,6 +240,6 @@ fn is_whole_or_refused(rt: &impl Abort, left: &Left) {
 fn memory_may_be_refused(rt: HostRuntime) {
     match three_in_pages(rt.alloc()) {
         Ok(left) => is_whole_or_refused(&rt, &left),
-        Err(fault) => assert!(rt; fault == ImageFault::Memory),
+        Err(fault) => assert!(rt; fault == ImageFault::Memory, "{fault:?}"),
     }
 }

@@ -40,8 +40,8 @@ fn lists_in_all_parts(
     }
 }
 
-/// The same for a case: its first line is the words, the name of the image and the parts, and the other lines are those that
-/// are left.
+/// The same for a case: its first line is the words, the name of the image and the parts, and the other lines are those
+/// that are left.
 fn lists(rt: &impl Abort, alloc: Global, case: &str) {
     let case = case_of(rt, case);
     let image = image_named(rt, case.image);
@@ -61,12 +61,13 @@ sdr 0002 0003 020051c002bbcc
 sdr 0003 ffff 030051c000
 ====
 sdr hex|sensor and locator|1:77 5:17 16:8 254:5
-sdr 0001 0002 010051013320000103017f680101000000003838000100000100000000000000000000005f5a550000000202000000c84350552054656d70
+sdr 0001 0002 \
+    010051013320000103017f680101000000003838000100000100000000000000000000005f5a550000000202000000c84350552054656d70
 sdr 0002 ffff 020051110f200180000000000a0100c450535531
 ";
 
-// A reservation, and for each record the parts of its header, which has five bytes, and those of the bytes after it. The
-// three records have 1, 2 and no byte after their headers, and the sensor and the locator 51 and 15.
+// A reservation, and for each record the parts of its header, which has five bytes, and those of the bytes after it.
+// The three records have 1, 2 and no byte after their headers, and the sensor and the locator 51 and 15.
 #[test]
 fn records_are_listed_in_parts_of_any_size(rt: HostRuntime) {
     all_list(&rt, rt.alloc(), HEX);

@@ -69,7 +69,8 @@ sdr elist fru|sensor and locator|
 PSU1             | --h | na  | 10.1  | FRU 1
 ";
 
-// A reservation, the header, the body in parts of 32 and 19 bytes, and the reading; of a locator the header and the body.
+// A reservation, the header, the body in parts of 32 and 19 bytes, and the reading; of a locator the header and the
+// body.
 #[test]
 fn sensors_are_listed_with_their_readings(rt: HostRuntime) {
     all_print(&rt, rt.alloc(), SENSORS);

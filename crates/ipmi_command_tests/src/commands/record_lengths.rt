@@ -1,9 +1,10 @@
 //! Sensor data records of each length: a line or a block of what is there, a line that it is too short, or a fault of
 //! the image.
-use super::answers::words_are_answered;
+use super::answers::is_answered;
 use super::left::is_left;
 use super::over_images::left_over;
 use crate::cases::first_line;
+use crate::command_line::lines::read_line;
 use std::alloc::Global;
 use std::process::Abort;
 
@@ -27,43 +28,64 @@ fn cut_name(rt: &impl Abort, len: usize) -> &'static str {
         .expect(rt, "a name")
 }
 
-/// Asserts what the words leave over so many bytes of the sensor record.
-fn is_left_of_sensor(rt: &impl Abort, alloc: Global, words: &str, len: usize, wanted: &str) {
+/// Asserts what the words leave after so many calls over so many bytes of the sensor record.
+fn is_left_of_sensor(
+    rt: &impl Abort,
+    alloc: Global,
+    words: &str,
+    len: usize,
+    calls: u32,
+    wanted: &str,
+) {
     let image = cut_sensor(rt, alloc, len);
     let left = left_over(rt, alloc, words, image.as_str());
-    let calls = left.calls;
     let (status, rest) = first_line(rt, wanted);
     let wanted = format!(in alloc; "{status} {calls}\n{rest}").expect(rt, "memory");
     let case = format!(in alloc; "{words}: {len} bytes").expect(rt, "memory");
     is_left(rt, alloc, &left, wanted.as_str(), case.as_str());
 }
 
-/// Asserts that a record without room for its body has a line, and no name.
-fn is_too_short(rt: &impl Abort, alloc: Global, len: usize) {
+/// Asserts that a record without room for its body has a line and no name after so many calls, and that `fru`, after as
+/// many as it makes, names no device for it.
+fn is_too_short(rt: &impl Abort, alloc: Global, len: usize, calls: u32, calls_of_fru: u32) {
     let line = "0\n--\nrecord 0001h: body too short\n";
     let unnamed = "1\nno record named CPU Temp\n--\n";
-    is_left_of_sensor(rt, alloc, "sdr,list", len, line);
-    is_left_of_sensor(rt, alloc, "sdr,get,CPU Temp", len, unnamed);
-    is_left_of_sensor(rt, alloc, "fru", len, "0\n--\nFRU 0\nnot present\n\n");
+    let device_0 = "0\n--\nFRU 0\nnot present\n\n";
+    is_left_of_sensor(rt, alloc, "sdr,list", len, calls, line);
+    is_left_of_sensor(rt, alloc, "sdr,get,CPU Temp", len, calls, unnamed);
+    is_left_of_sensor(rt, alloc, "fru", len, calls_of_fru, device_0);
 }
 
-/// Asserts that a record whose name is cut short has a line.
+// A full sensor record has 48 bytes before its name. The reservation takes a call, the header of five bytes another,
+// and each 32 bytes after it, or the rest of them, one more. `fru` makes a call before these, for the size of device 0.
+#[test]
+fn a_sensor_record_of_fewer_than_48_bytes_has_no_name(rt: HostRuntime) {
+    is_too_short(&rt, rt.alloc(), 5, 2, 3);
+    for len in 6..38 {
+        is_too_short(&rt, rt.alloc(), len, 3, 4);
+    }
+    for len in 38..48 {
+        is_too_short(&rt, rt.alloc(), len, 4, 5);
+    }
+}
+
+/// Asserts that a record whose name is cut short has a line, after as many calls as a whole record.
 fn is_listed(rt: &impl Abort, alloc: Global, len: usize) {
     let name = cut_name(rt, len);
     let line = format!(in alloc; "0\n--\n{name:<16} | 45 degrees C      | ok\n").expect(
         rt, "memory",
     );
-    is_left_of_sensor(rt, alloc, "sdr,list", len, line.as_str());
+    is_left_of_sensor(rt, alloc, "sdr,list", len, 5, line.as_str());
 }
 
-/// Asserts that it has a block by that name.
+/// Asserts that it has a block by that name, after as many calls.
 fn is_shown(rt: &impl Abort, alloc: Global, len: usize) {
     let name = cut_name(rt, len);
     let words = format!(in alloc; "sdr,get,{name}").expect(rt, "memory");
     let block = format!(in alloc; "0\n--\n{BEFORE_THE_NAME}{name}\n{AFTER_THE_NAME}").expect(
         rt, "memory",
     );
-    is_left_of_sensor(rt, alloc, words.as_str(), len, block.as_str());
+    is_left_of_sensor(rt, alloc, words.as_str(), len, 5, block.as_str());
 }
 
 const BEFORE_THE_NAME: &str = "Record: 0001h
@@ -83,14 +105,13 @@ Upper non-critical: 85 degrees C
 
 ";
 
-// A full sensor record has 48 bytes before its name.
+// A reservation, the header, the body in two parts, of 32 bytes and of 11 to 19, and the reading.
 #[test]
-fn a_sensor_record_cut_short_is_named_or_listed(rt: HostRuntime) {
-    for len in 5..48 {
-        is_too_short(&rt, rt.alloc(), len);
-    }
+fn a_sensor_record_of_48_bytes_or_more_is_listed_and_named(rt: HostRuntime) {
     for len in 48..57 {
         is_listed(&rt, rt.alloc(), len);
+    }
+    for len in 48..57 {
         is_shown(&rt, rt.alloc(), len);
     }
 }
@@ -137,20 +158,26 @@ fn a_locator_cut_short_is_passed_or_printed(rt: HostRuntime) {
     }
 }
 
-/// Asserts that each of these commands tells the fault of an image that has only the record's first bytes, so many.
+const COMMANDS: &str = "sdr info
+sdr get Foo
+sel
+sel list last 1
+fru
+fru print 0";
+
+/// Asserts that the words tell the fault of the image.
+fn tells_the_fault(rt: &impl Abort, alloc: Global, image: &str, words: &str, wanted: &str) {
+    let line = read_line(rt, alloc, words);
+    let case = format!(in alloc; "{words}: {image}").expect(rt, "memory");
+    is_answered(rt, alloc, &line, image.as_bytes(), wanted, case.as_str());
+}
+
+/// Asserts that each of the commands tells the fault of an image that has only the record's first bytes, so many.
 fn is_no_record(rt: &impl Abort, alloc: Global, len: usize, wanted: &str) {
     let hex = SENSOR.get(..len.saturating_mul(2)).expect(rt, "bytes");
     let image = format!(in alloc; "ipmi-image 1\nsdr 0001 ffff {hex}\nend\n").expect(rt, "memory");
-    for words in [
-        "sdr info",
-        "sdr get Foo",
-        "sel",
-        "sel list last 1",
-        "fru",
-        "fru print 0",
-    ] {
-        let case = format!(in alloc; "{words}\n{wanted}").expect(rt, "memory");
-        words_are_answered(rt, alloc, image.as_str(), case.as_str());
+    for words in COMMANDS.lines() {
+        tells_the_fault(rt, alloc, image.as_str(), words, wanted);
     }
 }
 

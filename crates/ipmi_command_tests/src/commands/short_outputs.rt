@@ -43,24 +43,26 @@ fn is_cut(rt: &impl Abort, alloc: Global, left: &Answered, printed: &Printed, ro
     is_answer(rt, alloc, left, wanted.as_str(), case.as_str());
 }
 
-/// Asserts what the words leave in an output that takes so many bytes, and then fails.
-fn is_cut_where_it_fails(rt: &impl Abort, alloc: Global, printed: &Printed, room: usize) {
-    let mut out = Written::new(Limited::failing_after(alloc, room));
+/// What the words leave where the writer takes their output.
+fn left_in(rt: &impl Abort, alloc: Global, printed: &Printed, writer: Limited) -> Answered {
+    let mut out = Written::new(writer);
     let mut err = Vec::new(alloc);
     let image = image_named(rt, printed.image);
     let status = answer_words(rt, alloc, printed.words, image, &mut out, &mut err);
     let out = out.into_inner().got;
-    is_cut(rt, alloc, &Answered { out, err, status }, printed, room);
+    Answered { out, err, status }
+}
+
+/// Asserts what the words leave in an output that takes so many bytes, and then fails.
+fn is_cut_where_it_fails(rt: &impl Abort, alloc: Global, printed: &Printed, room: usize) {
+    let left = left_in(rt, alloc, printed, Limited::failing_after(alloc, room));
+    is_cut(rt, alloc, &left, printed, room);
 }
 
 /// Asserts what the words leave in an output that takes so many bytes, and then none.
 fn is_cut_where_it_is_full(rt: &impl Abort, alloc: Global, printed: &Printed, room: usize) {
-    let mut out = Written::new(Limited::full_after(alloc, room));
-    let mut err = Vec::new(alloc);
-    let image = image_named(rt, printed.image);
-    let status = answer_words(rt, alloc, printed.words, image, &mut out, &mut err);
-    let out = out.into_inner().got;
-    is_cut(rt, alloc, &Answered { out, err, status }, printed, room);
+    let left = left_in(rt, alloc, printed, Limited::full_after(alloc, room));
+    is_cut(rt, alloc, &left, printed, room);
 }
 
 const PRINTED: [Printed<'static>; 10] = [
@@ -142,15 +144,20 @@ end
     },
 ];
 
-/// Asserts what is left in an output of each room, up to one byte more than the text has.
+/// Asserts what is left in an output of so much room, whether it fails then or takes no more.
+fn is_cut_at(rt: &impl Abort, alloc: Global, printed: &Printed, room: usize) {
+    is_cut_where_it_fails(rt, alloc, printed, room);
+    is_cut_where_it_is_full(rt, alloc, printed, room);
+}
+
+/// The same for each room, up to one byte more than the text has.
 fn is_cut_anywhere(rt: &impl Abort, alloc: Global, printed: &Printed) {
     for room in 0..=printed.text.len().saturating_add(1) {
-        is_cut_where_it_fails(rt, alloc, printed, room);
-        is_cut_where_it_is_full(rt, alloc, printed, room);
+        is_cut_at(rt, alloc, printed, room);
     }
 }
 
-// Whether it fails or takes no more: the output is a first part of the whole text.
+// The output is a first part of the whole text.
 #[test]
 fn an_output_keeps_what_was_taken_before_its_fault(rt: HostRuntime) {
     for printed in &PRINTED {
@@ -160,12 +167,7 @@ fn an_output_keeps_what_was_taken_before_its_fault(rt: HostRuntime) {
 
 /// Asserts what is left in an output that takes one byte a call.
 fn is_whole_by_bytes(rt: &impl Abort, alloc: Global, printed: &Printed) {
-    let mut out = Written::new(Limited::slow(alloc, 1));
-    let mut err = Vec::new(alloc);
-    let image = image_named(rt, printed.image);
-    let status = answer_words(rt, alloc, printed.words, image, &mut out, &mut err);
-    let out = out.into_inner().got;
-    let left = Answered { out, err, status };
+    let left = left_in(rt, alloc, printed, Limited::slow(alloc, 1));
     is_cut(rt, alloc, &left, printed, printed.text.len());
 }
 
@@ -204,7 +206,7 @@ fn left_with_slow_messages(rt: &impl Abort, alloc: Global) -> Answered {
 }
 
 #[test]
-fn messages_go_to_a_sink_that_counts_its_faults(rt: HostRuntime) {
+fn a_slow_sink_gets_whole_messages(rt: HostRuntime) {
     let left = left_with_slow_messages(&rt, rt.alloc());
     let wanted = "1\nrecord 0009h not present\n--\nsdr 0001 0009 010051c000\n";
     is_answer(&rt, rt.alloc(), &left, wanted, "slow messages");

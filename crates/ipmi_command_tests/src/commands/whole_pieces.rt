@@ -1,5 +1,5 @@
-//! Two images that take each other's place, at any two calls of a command: each piece of its output is a whole one of one of
-//! them.
+//! Two images that take each other's place, at any two calls of a command: each piece of its output is a whole one, of
+//! one of them.
 use super::changing::left_over;
 use super::left::text_of;
 use super::over_images::Two;
@@ -7,28 +7,31 @@ use std::alloc::Global;
 use std::process::Abort;
 
 /// Moods that change to the second image after so many calls, and to the first after so many others.
-fn there_and_back(rt: &impl Abort, alloc: Global, before: u32, between: u32) -> String {
-    let mut letters = String::new(alloc);
-    for _ in 0..before {
-        letters.push_str(".").expect(rt, "memory");
-    }
-    letters.push_str("x").expect(rt, "memory");
-    for _ in 0..between {
-        letters.push_str(".").expect(rt, "memory");
-    }
-    letters.push_str("y").expect(rt, "memory");
-    letters
+fn there_and_back(rt: &impl Abort, alloc: Global, before: usize, between: usize) -> String {
+    let before = ".".repeat(alloc, before).expect(rt, "memory");
+    let between = ".".repeat(alloc, between).expect(rt, "memory");
+    format!(in alloc; "{before}x{between}y").expect(rt, "memory")
 }
 
-/// Asserts that each piece of an output, which ends so, is in a text.
-fn are_within(rt: &impl Abort, out: &str, end: &str, texts: &str, case: &str) {
+/// Whether a piece is one of the texts, each of which ends so.
+fn is_one_of(piece: &str, texts: &str, end: &str) -> bool {
+    for text in texts.split_terminator(end) {
+        if text == piece {
+            return true;
+        }
+    }
+    false
+}
+
+/// Asserts that an output ends so, as each piece of it, and that each piece is one of the texts.
+fn are_pieces(rt: &impl Abort, out: &str, end: &str, texts: &str, case: &str) {
     for piece in out.split_terminator(end) {
-        assert!(rt; texts.find(piece).is_some(), "{case}: {piece}");
+        assert!(rt; is_one_of(piece, texts, end), "{case}: {piece}");
     }
-    assert!(rt; out.is_empty() || out.ends_with(end), "{case}: end");
+    assert!(rt; out.is_empty() || out.ends_with(end), "{case}: {out}");
 }
 
-/// Words over two images, how each piece of their output ends, and all the pieces that the two images have.
+/// Words over two images, how each piece of their output ends, and all the pieces that the two images can have.
 #[derive(Clone, Copy)]
 struct Pieces<'a> {
     words: &'a str,
@@ -39,18 +42,16 @@ struct Pieces<'a> {
 
 /// Asserts that each piece is a whole one of an image, where it changes after so many calls and back after so many
 /// others.
-fn are_whole(rt: &impl Abort, alloc: Global, pieces: &Pieces, before: u32, between: u32) {
+fn are_whole(rt: &impl Abort, alloc: Global, pieces: &Pieces, before: usize, between: usize) {
+    let words = pieces.words;
     let letters = there_and_back(rt, alloc, before, between);
-    let letters = letters.as_str();
-    let left = left_over(rt, alloc, pieces.words, pieces.two, letters);
-    assert!(rt; left.status < 2, "{letters}: status");
-    are_within(
-        rt,
-        text_of(rt, &left.out),
-        pieces.end,
-        pieces.texts,
-        letters,
-    );
+    let case = format!(in alloc; "{words}: {letters}").expect(rt, "memory");
+    let case = case.as_str();
+    let left = left_over(rt, alloc, words, pieces.two, letters.as_str());
+    let status = left.status;
+    assert!(rt; status < 2, "{case}: status {status}");
+    let out = text_of(rt, &left.out, case);
+    are_pieces(rt, out, pieces.end, pieces.texts, case);
 }
 
 /// The same for each number of calls before the change, and after it, up to twelve.
@@ -85,15 +86,28 @@ Entity: 10.3
 
 ";
 
-const DEVICE_LINES: &str = "FRU 0
-FRU 1 (PSU1)
-FRU 1 (FAN1)
-FRU 2 (PSU2)
-FRU 2 (FAN2)
+const DEVICES: &str = "FRU 0
 Chassis Type: Rack Mount Chassis
+
+FRU 0
 Chassis Type: Other
+
+FRU 1 (PSU1)
 FRU fault: header short
+
+FRU 1 (FAN1)
+FRU fault: header short
+
+FRU 2 (PSU2)
 Chassis fault: outside
+
+FRU 2 (PSU2)
+FRU fault: header checksum
+
+FRU 2 (FAN2)
+Chassis fault: outside
+
+FRU 2 (FAN2)
 FRU fault: header checksum
 
 ";
@@ -132,12 +146,13 @@ const PIECES: [Pieces<'static>; 4] = [
             first: "two locators",
             second: "two other locators",
         },
-        end: "\n",
-        texts: DEVICE_LINES,
+        end: "\n\n",
+        texts: DEVICES,
     },
 ];
 
-// The log is turned where its entries have another order.
+// The log is turned where its entries have another order. A device may have its name of one image, and its inventory of
+// the other.
 #[test]
 fn no_record_is_of_two_images(rt: HostRuntime) {
     for pieces in &PIECES {

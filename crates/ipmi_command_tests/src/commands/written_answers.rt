@@ -7,14 +7,13 @@ use std::alloc::Global;
 use std::process::Abort;
 
 /// Words, what their calls are answered, and what they leave.
-#[derive(Clone, Copy)]
+#[derive(Clone, Copy, Debug)]
 struct Case {
     words: &'static str,
     replies: &'static [Reply],
     wanted: &'static str,
 }
 
-/// An inventory of eight bytes.
 const EIGHT: Reply = Reply::Has(FruSize {
     size: 8,
     words: false,
@@ -24,7 +23,8 @@ const EIGHT: Reply = Reply::Has(FruSize {
 fn is_left_over_answers(rt: &impl Abort, alloc: Global, case: &Case) {
     let mut ctl = Counting::new(Replay::new(case.replies));
     let left = left_by(alloc, &mut ctl, &command(rt, alloc, case.words));
-    is_left(rt, alloc, &left, case.wanted, case.words);
+    let name = format!(in alloc; "{case:?}").expect(rt, "memory");
+    is_left(rt, alloc, &left, case.wanted, name.as_str());
 }
 
 /// The same for each of these cases.
@@ -189,7 +189,6 @@ fn an_inventory_of_any_size_is_printed(rt: HostRuntime) {
     all_are_left(&rt, rt.alloc(), &DISHONEST);
 }
 
-/// A reservation.
 const RESERVED: Reply = Reply::Reserves(1);
 
 /// The header of a locator of FRU device 1 without a name, after which eleven bytes follow.

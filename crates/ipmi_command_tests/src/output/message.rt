@@ -6,8 +6,7 @@ use ipmi_output::{Message, MessageSink, SinkFault, Written, say, write_message};
 use std::alloc::Global;
 use std::process::Abort;
 
-/// A message and its line.
-#[derive(Clone, Copy)]
+#[derive(Clone, Copy, Debug)]
 struct Case {
     message: Message<'static>,
     line: &'static str,
@@ -34,11 +33,11 @@ const UNREAD_IN_TWO_LINES: Case = Case {
     line: "cannot read a\\x0Ab\n",
 };
 
-/// Says the message, and compares the line.
 fn is_said(rt: &impl Abort, alloc: Global, case: &Case) {
     let mut err = Vec::new(alloc);
     say(&mut err, case.message);
-    is_written(rt, &err, case.line);
+    let written = str::from_utf8(&err).expect(rt, case.line);
+    assert!(rt; written == case.line, "{case:?}: got {written:?}");
 }
 
 fn are_said(rt: &impl Abort, alloc: Global, cases: &[Case]) {
@@ -196,8 +195,10 @@ fn image_faults_name_the_line(rt: HostRuntime) {
 #[test]
 fn a_line_comes_after_the_last_one(rt: HostRuntime) {
     let mut err = Vec::new(rt.alloc());
-    assert!(rt; write_message(&mut err, REFUSED.message) == Ok(()));
-    assert!(rt; write_message(&mut err, Message::OutOfMemory) == Ok(()));
+    let result = write_message(&mut err, REFUSED.message);
+    assert!(rt; result == Ok(()), "the first line: {result:?}");
+    let result = write_message(&mut err, Message::OutOfMemory);
+    assert!(rt; result == Ok(()), "the second line: {result:?}");
     is_written(
         &rt,
         &err,
@@ -235,28 +236,34 @@ fn a_writer_that_fails_holds_a_first_part_of_the_line(rt: HostRuntime) {
 #[test]
 fn a_slow_writer_gets_the_whole_line(rt: HostRuntime) {
     let mut err = Limited::slow(rt.alloc(), 3);
-    assert!(rt; write_message(&mut err, REFUSED.message) == Ok(()));
+    let result = write_message(&mut err, REFUSED.message);
+    assert!(rt; result == Ok(()), "{result:?}");
     is_written(&rt, &err.got, REFUSED.line);
 }
 
 #[test]
 fn a_writer_that_takes_nothing_is_at_fault(rt: HostRuntime) {
     let mut err = Limited::full_after(rt.alloc(), 0);
-    assert!(rt; write_message(&mut err, REFUSED.message) == Err(SinkFault));
+    let result = write_message(&mut err, REFUSED.message);
+    assert!(rt; result == Err(SinkFault), "{result:?}");
 }
 
 #[test]
 fn a_sink_takes_messages_too(rt: HostRuntime) {
     let mut err = Written::new(Limited::slow(rt.alloc(), 3));
-    assert!(rt; write_message(&mut err, TWICE.message) == Ok(()));
-    assert!(rt; err.offer(b"record") == Ok(3));
+    let result = write_message(&mut err, TWICE.message);
+    assert!(rt; result == Ok(()), "the message: {result:?}");
+    let result = err.offer(b"record");
+    assert!(rt; result == Ok(3), "what is offered: {result:?}");
     is_written(&rt, &err.into_inner().got, "image line 107: twice\nrec");
 }
 
 #[test]
 fn a_full_sink_keeps_the_first_bytes(rt: HostRuntime) {
     let mut err = Written::new(Limited::full_after(rt.alloc(), 10));
-    assert!(rt; write_message(&mut err, TWICE.message) == Err(SinkFault));
-    assert!(rt; err.offer(b"record") == Ok(0));
+    let result = write_message(&mut err, TWICE.message);
+    assert!(rt; result == Err(SinkFault), "the message: {result:?}");
+    let result = err.offer(b"record");
+    assert!(rt; result == Ok(0), "what is offered: {result:?}");
     is_written(&rt, &err.into_inner().got, "image line");
 }

@@ -1,6 +1,6 @@
 //! Inventories that were cut short, or of which one bit is wrong.
 use super::examples::{BOARD, OUTPUT};
-use crate::cases::bytes_of;
+use crate::cases::{bytes_of, is_text};
 use hex::FromHex;
 use ipmi_fru::print_fru;
 use std::alloc::Global;
@@ -12,18 +12,14 @@ const BOARD_LINES: &str =
 
 /// The text of the whole output.
 const OUTPUT_LINES: &str =
-    "DC Output 1: nominal 12 V, negative deviation 0.6 V, positive deviation 0.6 V, ripple 120 mV, current 0 to 62500 mA\n";
-
-/// Asserts the text of an inventory, in the case with this number.
-fn is_printed(rt: &impl Abort, alloc: Global, bytes: &[u8], wanted: &str, case: usize) {
-    let got = print_fru(alloc, bytes).expect(rt, "memory");
-    assert!(rt; got.as_str() == wanted, "{case}: got {got}");
-}
+    "DC Output 1: nominal 12 V, negative deviation 0.6 V, positive deviation 0.6 V, ripple 120 mV, \
+    current 0 to 62500 mA\n";
 
 /// Asserts the text of the first bytes of an inventory, of which there are `len`.
 fn is_printed_when_cut(rt: &impl Abort, alloc: Global, bytes: &[u8], len: usize, wanted: &str) {
-    let cut = bytes.get(..len).expect(rt, "that many bytes");
-    is_printed(rt, alloc, cut, wanted, len);
+    let cut = bytes.get(..len).expect(rt, wanted);
+    let case = format!(in alloc; "the first {len} bytes").expect(rt, "memory");
+    is_text(rt, print_fru(alloc, cut), wanted, case.as_str());
 }
 
 /// The text of the first bytes of the board.
@@ -59,7 +55,13 @@ fn is_printed_when_altered(rt: &impl Abort, alloc: Global, place: usize) {
     let mut board = <[u8; 32]>::from_hex(BOARD).expect(rt, "32 bytes");
     let byte = board.get_mut(place).expect(rt, "a byte");
     *byte ^= 1;
-    is_printed(rt, alloc, &board, altered_board(place), place);
+    let case = format!(in alloc; "byte {place} altered").expect(rt, "memory");
+    is_text(
+        rt,
+        print_fru(alloc, &board),
+        altered_board(place),
+        case.as_str(),
+    );
 }
 
 #[test]

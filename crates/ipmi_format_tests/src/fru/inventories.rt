@@ -60,7 +60,8 @@ Record 0xc0:\x20
 0111223344556677
 010517c743482d3130303085b30b419404c4426c75650200ff452024b01b31c100000000000000f4
 01060011f6d1c441434d4586e21bca2480474312c500c7502f4e20b52d3702c0dec55265762041836c38d3c10000007a
-010a19c441434d45cb536572766572203230303086b36c371204414201c28678aeeb399041cf5261636b20372c20756e69742031320101c765787472612031c765787472612032c10000000000000093
+010a19c441434d45cb536572766572203230303086b36c371204414201c28678aeeb399041cf5261636b20372c20756e69742031320101c7657874\
+    72612031c765787472612032c10000000000000093
 --
 Chassis Type: Rack Mount Chassis
 Chassis Part Number: CH-1000
@@ -147,7 +148,8 @@ ff8f000072
 c1820210ab7878
 --
 Record 0x00: 000102030405060708090a0b0c0d0e0f1011121314151617
-DC Output 3 standby: nominal -12 V, negative deviation -12.6 V, positive deviation -11.4 V, ripple 50 mV, current 0 to 4000 mA
+DC Output 3 standby: nominal -12 V, negative deviation -12.6 V, positive deviation -11.4 V, ripple 50 mV, \
+    current 0 to 4000 mA
 DC Output 2: nominal 5.05 V, negative deviation 4.8 V, positive deviation 5.25 V, ripple 65535 mV, current 1 to 65535 mA
 DC Load 1: nominal 3.3 V, 3 to -0.01 V, ripple 0 mV, current 10 to 20 mA
 Management Access 0x01: http://a/
@@ -184,7 +186,6 @@ Product Manufacturer: ACME
 Record 0xc0: 01
 Record fault: header checksum";
 
-/// Asserts the text of an inventory.
 fn is_inventory(rt: &impl Abort, alloc: Global, case: &str) {
     let (areas, wanted) = case.split_once("\n--\n").expect(rt, case);
     let bytes = bytes_of_lines(rt, alloc, areas);

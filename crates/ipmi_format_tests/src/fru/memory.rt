@@ -28,7 +28,7 @@ Record fault: outside
 
 /// No body is always out of memory: with ample memory the text is whole.
 #[test]
-fn always_out_of_memory(rt: HostRuntime) {
+fn not_always_out_of_memory(rt: HostRuntime) {
     is_text(&rt, print_fru(rt.alloc(), &MIXED), MIXED_LINES, "mixed");
 }
 

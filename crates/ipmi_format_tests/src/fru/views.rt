@@ -1,7 +1,7 @@
 //! What is read from an inventory without printing it: the heads of its areas, the fields of an area, and its records.
 use super::examples::BOARD;
 use crate::cases::{bytes_of, is_text, parts};
-use ipmi_fru::{AreaFault, AreaView, FruFault, FruView, MultiFault};
+use ipmi_fru::{AreaFault, AreaView, Field, FruFault, FruView, MultiFault};
 use std::alloc::Global;
 use std::process::Abort;
 
@@ -14,7 +14,8 @@ const FIELDS: &str = "0|Some(Field { code: 2, bytes: [41, 220, 166] })
 
 /// What five calls of the iterator over the fields of the board give.
 const LISTED: &str =
-    "[Some(Field { code: 2, bytes: [41, 220, 166] }), Some(Field { code: 1, bytes: [18, 59] }), Some(Field { code: 3, bytes: [65, 233, 0, 66] }), None, None]";
+    "[Some(Field { code: 2, bytes: [41, 220, 166] }), Some(Field { code: 1, bytes: [18, 59] }), \
+    Some(Field { code: 3, bytes: [65, 233, 0, 66] }), None, None]";
 
 /// An inventory of a chassis and a product.
 const CHASSIS_AND_PRODUCT: &str = "01000100020000fc010117c100000026010119c100000024";
@@ -25,14 +26,14 @@ const THREE_RECORDS: &str = "01000000000100fec00201023bfec18f0000b0c2820000bc";
 /// Records, of which the first has a wrong checksum.
 const WRONG_RECORD: &str = "01000000000100fec002000040c18f0000b0";
 
-/// What is read from the three records.
+/// What is read from them: nothing after the second one.
 const TWO_RECORDS: &str =
-    "[Some(Ok(MultiView { kind: 192, version: 2, last: false, bytes: [254] })), Some(Ok(MultiView { kind: 193, version: 15, last: true, bytes: [] })), None, None]";
+    "[Some(Ok(MultiView { kind: 192, version: 2, last: false, bytes: [254] })), \
+    Some(Ok(MultiView { kind: 193, version: 15, last: true, bytes: [] })), None, None]";
 
 /// An area that may be there, and may have a fault.
 type Area<'a> = Option<Result<AreaView<'a>, AreaFault>>;
 
-/// The head of an area.
 fn head_of<'a>(area: Area<'a>) -> Option<Result<&'a [u8], AreaFault>> {
     match area {
         Some(Ok(area)) => Some(Ok(area.head())),
@@ -52,7 +53,6 @@ fn has_heads(rt: &impl Abort, alloc: Global, digits: &str, wanted: &str) {
     is_text(rt, text, wanted, digits);
 }
 
-/// Asserts a field of a board.
 fn has_field(rt: &impl Abort, alloc: Global, board: &AreaView<'_>, line: &str) {
     let (place, wanted) = parts(rt, line);
     let place = place.parse::<usize>().expect(rt, line);
@@ -71,8 +71,12 @@ fn lists_fields(rt: &impl Abort, alloc: Global, board: &AreaView<'_>, wanted: &s
         fields.next(),
     ];
     is_text(rt, format!(in alloc; "{first:?}"), wanted, "fields");
-    assert!(rt; first[1] == board.field(1), "the second field");
-    assert!(rt; first[1] != first[2], "the second and the third field");
+    let second = Some(Field {
+        code: 1,
+        bytes: &[18, 59],
+    });
+    assert!(rt; first[1] == second, "the second field");
+    assert!(rt; first[2] != second, "the third field");
 }
 
 /// Asserts what an inventory's iterator of records gives at each of four calls.

@@ -5,8 +5,8 @@ use ipmi_records::SdrView;
 use std::alloc::Global;
 use std::process::Abort;
 
-/// Changes of the full record; the LUN and the number of the sensor whose reading is asked for; and the FRU device whose
-/// inventory is asked for.
+/// Changes of the full record; the LUN and the number of the sensor whose reading is asked for; and the FRU device
+/// whose inventory is asked for.
 const ASKED: &str = "7=00|Some((0, 1))|None
 7=03|Some((3, 1))|None
 7=f2|Some((2, 1))|None
@@ -30,7 +30,6 @@ const ASKED: &str = "7=00|Some((0, 1))|None
 4=11,6=00,7=01,8=80|None|None
 |Some((0, 1))|None";
 
-/// Asserts what is asked for a record.
 fn is_asked(rt: &impl Abort, alloc: Global, line: &str) {
     let (changes, wanted) = parts(rt, line);
     let bytes = changed(rt, changes);

@@ -7,9 +7,10 @@ use std::alloc::Global;
 use std::process::Abort;
 
 /// An id, an entry, and the line.
-const LINES: &str =
-    "0001|01000201000020200004013001595f5a|0001 | 1987-01-05 18:48:33 | Temperature #0x30 | Upper Critical going high | Asserted
-0002|02000200000020200004013081570000|0002 | +536870912 s | Temperature #0x30 | Upper Non-critical going high | Deasserted
+const LINES: &str = "0001|01000201000020200004013001595f5a|\
+    0001 | 1987-01-05 18:48:33 | Temperature #0x30 | Upper Critical going high | Asserted
+0002|02000200000020200004013081570000|\
+    0002 | +536870912 s | Temperature #0x30 | Upper Non-critical going high | Deasserted
 0003|0300c0ffffffff571300010203040506|0003 | unspecified | OEM record 0xc0 | 001357 | 010203040506
 0004|0400e00102030405060708090a0b0c0d|0004 | OEM record 0xe0 | 0102030405060708090a0b0c0d
 abcd|0400ff0102030405060708090a0b0cff|abcd | OEM record 0xff | 0102030405060708090a0b0cff
@@ -17,7 +18,8 @@ abcd|0400ff0102030405060708090a0b0cff|abcd | OEM record 0xff | 01020304050607080
 0006|0600bf0102030405060708090a0b0c0d|0006 | record type 0xbf | 0102030405060708090a0b0c0d
 0007|0700030102030405060708090a0b0c0d|0007 | record type 0x03 | 0102030405060708090a0b0c0d
 0008|08000001020304050607080900000000|0008 | record type 0x00 | 01020304050607080900000000
-0009|090002010000202000041201efa30000|0009 | 1987-01-05 18:48:33 | System Event #0x01 | event 0x6f offset 0x3 | Deasserted
+0009|090002010000202000041201efa30000|\
+    0009 | 1987-01-05 18:48:33 | System Event #0x01 | event 0x6f offset 0x3 | Deasserted
 000a|0a0002ffffffff2000042dff010c0000|000a | unspecified | sensor type 0x2d #0xff | event 0x01 offset 0xc | Asserted";
 
 /// An id and an entry, and then the block. An empty line comes between two cases.
@@ -64,7 +66,6 @@ Overflow: yes
 Support: 0x80
 ";
 
-/// Asserts the line of an entry.
 fn is_line(rt: &impl Abort, alloc: Global, case: &str) {
     let (id, digits, wanted) = three_parts(rt, case);
     let bytes = <[u8; 16]>::from_hex(digits).expect(rt, case);
@@ -72,7 +73,6 @@ fn is_line(rt: &impl Abort, alloc: Global, case: &str) {
     is_text_with_end(rt, line, wanted, "\n", case);
 }
 
-/// Asserts the block of an entry.
 fn is_block(rt: &impl Abort, alloc: Global, case: &str) {
     let (head, wanted) = case.split_once('\n').expect(rt, case);
     let (id, digits) = parts(rt, head);

@@ -12,7 +12,6 @@ const ENTRIES: &str = "01000201000020200004013001595f5a|1 2 [89, 95, 90]
 0300e0030405060708090a0b0c0d0e0f|3 224 [3, 4, 5, 6, 7, 8, 9, 10, 11, 12, 13, 14, 15]
 030003030405060708090a0b0c0d0e0f|3 3 [3, 4, 5, 6, 7, 8, 9, 10, 11, 12, 13, 14, 15]";
 
-/// The data of an entry.
 fn data_of<'a>(view: &SelView<'a>) -> &'a [u8] {
     match view {
         SelView::Event(event) => event.data_bytes(),
@@ -34,7 +33,6 @@ fn has_fields(rt: &impl Abort, alloc: Global, line: &str) {
     is_text(rt, text, wanted, line);
 }
 
-/// Asserts the bytes of an entry.
 fn has_bytes(rt: &impl Abort, alloc: Global, line: &str) {
     let (digits, _) = parts(rt, line);
     let bytes = <[u8; 16]>::from_hex(digits).expect(rt, line);
@@ -42,7 +40,6 @@ fn has_bytes(rt: &impl Abort, alloc: Global, line: &str) {
     is_text(rt, hex::encode(alloc, view.bytes()), digits, line);
 }
 
-/// The view of an event.
 fn event_of<'a>(rt: &impl Abort, bytes: &'a [u8; 16]) -> EventEntry<'a> {
     match SelView::read(bytes) {
         SelView::Event(event) => event,

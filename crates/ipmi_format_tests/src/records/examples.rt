@@ -18,7 +18,7 @@ pub(super) const PSU1: [u8; 20] = [
     0x50, 0x53, 0x55, 0x31,
 ];
 
-/// An event.
+/// An event of a temperature sensor.
 pub(super) const EVENT: [u8; 16] = [
     0x01, 0x00, 0x02, 0x01, 0x00, 0x00, 0x20, 0x20, 0x00, 0x04, 0x01, 0x30, 0x01, 0x59, 0x5f, 0x5a,
 ];
@@ -45,12 +45,10 @@ Upper non-critical: 85 degrees C
 
 ";
 
-/// The line of the event.
 pub(super) const EVENT_LINE: &str =
     "0001 | 1987-01-05 18:48:33 | Temperature #0x30 | Upper Critical going high | Asserted
 ";
 
-/// The block of the event.
 pub(super) const EVENT_BLOCK: &str = "Record: 0001h
 Type: 02h
 Time: 1987-01-05 18:48:33
@@ -63,7 +61,6 @@ Data: 595f5a
 
 ";
 
-/// The block of the info.
 pub(super) const INFO_LINES: &str = "Version: 0x51
 Records: 3
 Free Space: 1024
@@ -92,7 +89,7 @@ pub(super) fn answer_of(rt: &impl Abort, digits: &str) -> Option<Reading> {
     Some(reading_of(bytes))
 }
 
-/// Puts a value into a byte of a record, which is counted from 1.
+/// Puts a value into a byte of a record. Bytes are counted from 1.
 fn set_byte(rt: &impl Abort, record: &mut [u8; 56], place: usize, value: u8) {
     let byte = record.get_mut(place.wrapping_sub(1));
     *byte.expect(rt, "a byte of the record") = value;

@@ -28,7 +28,6 @@ const LEAST_LENGTHS: &str = "01|48|full
 c0|5|other
 ff|5|other";
 
-/// The kind of a record.
 fn kind_of_record(view: &SdrView<'_>) -> &'static str {
     match view {
         SdrView::Full(_) => "full",
@@ -61,7 +60,7 @@ fn has_fault(rt: &impl Abort, alloc: Global, line: &str) {
 
 /// Asserts what the first bytes of a record are.
 fn is_kind_when_cut(rt: &impl Abort, record: &[u8; 56], len: usize, wanted: &str) {
-    let cut = record.get(..len).expect(rt, "that many bytes");
+    let cut = record.get(..len).expect(rt, wanted);
     let kind = kind_of(cut);
     assert!(rt; kind == wanted, "{len} bytes, {wanted}: got {kind}");
 }

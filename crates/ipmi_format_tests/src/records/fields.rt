@@ -58,12 +58,10 @@ None
 None
 none";
 
-/// The bytes of a case's record.
 fn record_of(rt: &impl Abort, alloc: Global, case: &str) -> Vec<u8> {
     bytes_of(rt, alloc, line_of(rt, case, 0))
 }
 
-/// The header of a record.
 fn header_text(alloc: Global, view: &SdrView<'_>) -> Result<String, AllocError> {
     let id = view.id();
     let version = view.version();
@@ -138,7 +136,7 @@ fn has_header(rt: &impl Abort, alloc: Global, case: &str) {
     );
 }
 
-/// Asserts the sensor of a record.
+/// Asserts the sensor of a record, as any view has it and as that of the record's own kind does.
 fn has_sensor(rt: &impl Abort, alloc: Global, case: &str) {
     let bytes = record_of(rt, alloc, case);
     let view = SdrView::read(&bytes).expect(rt, case);
@@ -152,7 +150,6 @@ fn has_sensor(rt: &impl Abort, alloc: Global, case: &str) {
     );
 }
 
-/// Asserts the units of a record.
 fn has_units(rt: &impl Abort, alloc: Global, case: &str) {
     let bytes = record_of(rt, alloc, case);
     let view = SdrView::read(&bytes).expect(rt, case);
@@ -165,7 +162,7 @@ fn has_units(rt: &impl Abort, alloc: Global, case: &str) {
     );
 }
 
-/// Asserts the locator of a record.
+/// The same for the locator.
 fn has_locator(rt: &impl Abort, alloc: Global, case: &str) {
     let bytes = record_of(rt, alloc, case);
     let view = SdrView::read(&bytes).expect(rt, case);
@@ -179,7 +176,7 @@ fn has_locator(rt: &impl Abort, alloc: Global, case: &str) {
     );
 }
 
-/// Asserts the ID string of a record.
+/// The same for the ID string.
 fn has_id_string(rt: &impl Abort, alloc: Global, case: &str) {
     let bytes = record_of(rt, alloc, case);
     let view = SdrView::read(&bytes).expect(rt, case);
@@ -193,7 +190,6 @@ fn has_id_string(rt: &impl Abort, alloc: Global, case: &str) {
     );
 }
 
-/// The view of a FRU device locator.
 fn fru_locator_of<'a>(rt: &impl Abort, bytes: &'a [u8]) -> FruLocator<'a> {
     match SdrView::read(bytes) {
         Ok(SdrView::Fru(fru)) => fru,
@@ -201,7 +197,7 @@ fn fru_locator_of<'a>(rt: &impl Abort, bytes: &'a [u8]) -> FruLocator<'a> {
     }
 }
 
-/// Asserts the name of a record.
+/// Asserts the name that a record has, if it has one.
 fn has_name(rt: &impl Abort, alloc: Global, bytes: &[u8], wanted: &str) {
     let view = SdrView::read(bytes).expect(rt, wanted);
     let name = view.name(alloc).expect(rt, "memory");

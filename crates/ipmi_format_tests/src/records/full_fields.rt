@@ -1,13 +1,12 @@
 //! What only a full record has: the numbers of its formula, its factors and its thresholds.
 use super::examples::changed;
+use crate::cases::is_text;
 use ipmi_records::{FullSensor, SdrView, Threshold};
-use ipmi_text::Factors;
 use std::process::Abort;
 
 /// The full record with other factors, and with other thresholds that are not readable.
 const CHANGES: &str = "7=fe,10=83,21=81,23=18,24=8c,26=80,27=02,28=40,30=7f,40=11,41=22,42=33";
 
-/// The view of a full record.
 fn full_of<'a>(rt: &impl Abort, bytes: &'a [u8]) -> FullSensor<'a> {
     match SdrView::read(bytes) {
         Ok(SdrView::Full(full)) => full,
@@ -44,9 +43,11 @@ fn a_full_record_has_the_numbers_of_its_formula(rt: HostRuntime) {
 fn a_full_record_has_its_factors(rt: HostRuntime) {
     let bytes = changed(&rt, CHANGES);
     let factors = full_of(&rt, &bytes).factors();
-    assert!(rt;
-        Some(factors) == Factors::new(2, 0x0c, -511, 258, -1, 7),
-        "got {factors:?}"
+    is_text(
+        &rt,
+        format!(in rt.alloc(); "{factors:?}"),
+        "Factors { format: 2, linear: 12, m: -511, b: 258, k1: -1, k2: 7 }",
+        CHANGES,
     );
 }
 

@@ -8,7 +8,8 @@ use std::process::Abort;
 
 /// A record and what the sensor answered, the line, and the extended line. An empty line comes between two cases.
 const LINES: &str =
-    "010051013320000103017f680101000000003838000100000100000000000000000000005f5a550000000202000000c84350552054656d70|2dc00000
+    "010051013320000103017f680101000000003838000100000100000000000000000000005f5a550000000202000000c84350552054656d70|\
+    2dc00000
 CPU Temp         | 45 degrees C      | ok
 CPU Temp         | 01h | ok  | 3.1   | 45 degrees C
 
@@ -156,7 +157,6 @@ fn case_of<'a>(rt: &impl Abort, alloc: Global, lines: &'a str) -> Case<'a> {
     }
 }
 
-/// Asserts the line of a record.
 fn is_line(rt: &impl Abort, alloc: Global, lines: &str) {
     let case = case_of(rt, alloc, lines);
     let view = SdrView::read(&case.record).expect(rt, lines);
@@ -164,7 +164,6 @@ fn is_line(rt: &impl Abort, alloc: Global, lines: &str) {
     is_text_with_end(rt, line, case.line, "\n", lines);
 }
 
-/// Asserts the extended line of a record.
 fn is_extended_line(rt: &impl Abort, alloc: Global, lines: &str) {
     let case = case_of(rt, alloc, lines);
     let view = SdrView::read(&case.record).expect(rt, lines);
@@ -172,7 +171,6 @@ fn is_extended_line(rt: &impl Abort, alloc: Global, lines: &str) {
     is_text_with_end(rt, line, case.extended_line, "\n", lines);
 }
 
-/// Asserts the line of a fault.
 fn is_fault_line(rt: &impl Abort, alloc: Global, id: u16, fault: SdrFault, wanted: &str) {
     is_text_with_end(rt, sdr_fault_line(alloc, id, fault), wanted, "\n", wanted);
 }

@@ -59,7 +59,7 @@ fn is_name_or_refused(rt: &impl Abort, name: Result<Option<String>, AllocError>)
 
 /// None of them is always out of memory: with ample memory each answers with its text.
 #[test]
-fn always_out_of_memory(rt: HostRuntime) {
+fn not_always_out_of_memory(rt: HostRuntime) {
     let view = SdrView::read(&CPU_TEMP).expect(&rt, "a record");
     for (text, wanted) in calls_over_a_record(rt.alloc(), &view) {
         is_text(&rt, text, wanted, wanted);

@@ -59,44 +59,47 @@ const FACTORS: &str = "0 0 -512 -512 -8 -8|in range
 0 0 0 0 0 -9|out of range
 255 255 32767 -32768 127 -128|out of range";
 
-/// Asserts the decimal of a number.
 fn is_decimal(rt: &impl Abort, alloc: Global, line: &str) {
     let (units, wanted) = parts(rt, line);
     let units = units.parse::<i128>().expect(rt, line);
     is_text(rt, fixed_text(alloc, Fixed(units)), wanted, line);
 }
 
-/// The number that the next word is.
-fn next_number<N: FromStr<Err: Drop>>(rt: &impl Abort, words: &mut SplitWhitespace<'_>) -> N {
-    let word = words.next().expect(rt, "a word");
+/// The number that the next word of a line is.
+fn next_number<N: FromStr<Err: Drop>>(
+    rt: &impl Abort,
+    words: &mut SplitWhitespace<'_>,
+    line: &str,
+) -> N {
+    let word = words.next().expect(rt, line);
     match word.parse::<N>() {
         Ok(number) => number,
-        Err(_) => panic!(rt; "no number: {word}"),
+        Err(_) => panic!(rt; "{line}: no number: {word}"),
     }
 }
 
-/// The factors of six words, where they are in range.
-fn factors_of(rt: &impl Abort, words: &mut SplitWhitespace<'_>) -> Option<Factors> {
-    let format = next_number::<u8>(rt, words);
-    let linear = next_number::<u8>(rt, words);
-    let m = next_number::<i16>(rt, words);
-    let b = next_number::<i16>(rt, words);
-    let k1 = next_number::<i8>(rt, words);
-    let k2 = next_number::<i8>(rt, words);
+/// The factors of six words of a line, where they are in range.
+fn factors_of(rt: &impl Abort, words: &mut SplitWhitespace<'_>, line: &str) -> Option<Factors> {
+    let format = next_number::<u8>(rt, words, line);
+    let linear = next_number::<u8>(rt, words, line);
+    let m = next_number::<i16>(rt, words, line);
+    let b = next_number::<i16>(rt, words, line);
+    let k1 = next_number::<i8>(rt, words, line);
+    let k2 = next_number::<i8>(rt, words, line);
     Factors::new(format, linear, m, b, k1, k2)
 }
 
 /// Asserts whether there are such factors.
 fn is_in_range(rt: &impl Abort, line: &str) {
     let (words, wanted) = parts(rt, line);
-    let got = match factors_of(rt, &mut words.split_whitespace()) {
+    let got = match factors_of(rt, &mut words.split_whitespace(), line) {
         Some(_) => "in range",
         None => "out of range",
     };
-    assert!(rt; got == wanted, "{line}");
+    assert!(rt; got == wanted, "{line}: got {got}");
 }
 
-/// The decimal of a raw reading.
+/// The decimal of a raw reading, and `no value` where it has none.
 fn reading_text(alloc: Global, factors: &Factors, raw: u8) -> Result<String, AllocError> {
     match convert(factors, raw) {
         Some(value) => fixed_text(alloc, value),
@@ -104,12 +107,11 @@ fn reading_text(alloc: Global, factors: &Factors, raw: u8) -> Result<String, All
     }
 }
 
-/// Asserts the decimal of a raw reading.
 fn is_reading(rt: &impl Abort, alloc: Global, line: &str) {
     let (words, wanted) = parts(rt, line);
     let mut words = words.split_whitespace();
-    let factors = factors_of(rt, &mut words).expect(rt, line);
-    let raw = next_number::<u8>(rt, &mut words);
+    let factors = factors_of(rt, &mut words, line).expect(rt, line);
+    let raw = next_number::<u8>(rt, &mut words, line);
     is_text(rt, reading_text(alloc, &factors, raw), wanted, line);
 }
 

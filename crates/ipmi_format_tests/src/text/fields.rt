@@ -34,7 +34,9 @@ const FRU_FIELDS: &str = "0200|29dca6|IPMI
 0200|d91e3f721fcb1971174494|9[Q/R]QR9$W%$1
 0200|d6493c9d5c3460be31201e69fedaa0eee8|6G$/=R%-@Y;,@X1:^K-HNC
 0200|b9997f5c7c2999fdafe593253cd654af4dfad71427a0aeb3fee9232f8af2|YFY?<Q7*9V_KE/9)\\8-5OVD^73Q)@ZZL^G^(OHH\\
-0200|211f9ee491c5b10becb5563bfc1e6f93427ecbc8fe2955e5cd8e46dc8ed4b7c2764d2a5a4d767706f85d8690024ad6bda3401be9c8cbccc935f6cd1f61226a|A\\AGD'9QQN [U:U.\\[Q;3*D?+CL_I45Y-[H1<[(UW*L=-IB6-9W=&@?7&\"I *9=OC\"T&IC\\R,G<-VW\\'A)B:
+0200|\
+    211f9ee491c5b10becb5563bfc1e6f93427ecbc8fe2955e5cd8e46dc8ed4b7c2764d2a5a4d767706f85d8690024ad6bda3401be9c8cbccc935\
+    f6cd1f61226a|A\\AGD'9QQN [U:U.\\[Q;3*D?+CL_I45Y-[H1<[(UW*L=-IB6-9W=&@?7&\"I *9=OC\"T&IC\\R,G<-VW\\'A)B:
 0100|123b|123-
 0100||
 0100|00|00
@@ -54,7 +56,11 @@ const FRU_FIELDS: &str = "0200|29dca6|IPMI
 0119|ae1a34004d33| ,1 34004:33
 0119|ba0d246ac04c81b1baf23e3b|- 0:246 .04.81-1- _23,3-
 0119|f9eef5f79f2b4934af87f5520b69b94b0d982e85|_9,,_5_79_2-4934 _87_5520-69-94-0:982,85
-0119|bb55b672a872637acd7466fcb60e0e8ff18463b0e4b2ba29703474f064ac68f700f5b02b3dc666f45bdeaa2ccaedcd2b5157410e4dee4af2b34f430a073447|--55-672 872637 .:7466_.-60,0,8__18463-0,4-2- 29703474_064 .68_700_5-02-3:.666_45-:,  2.. ,:.:2-5157410,4:,,4 _2-34_430 073447
+0119|\
+    bb55b672a872637acd7466fcb60e0e8ff18463b0e4b2ba29703474f064ac68f700f5b02b3dc666f45bdeaa2ccaedcd2b5157410e4dee4af2b3\
+    4f430a073447|\
+    --55-672 872637 .:7466_.-60,0,8__18463-0,4-2- 29703474_064 .68_700_5-02-3:.666_45-:,  2.. ,:.:2-5157410,4:,,4 _2-34\
+    _430 073447
 0000||
 0000|00|00
 0000|abcd|abcd
@@ -112,7 +118,6 @@ c4|41e90042|Aé
 c2||
 e3|414243|ABC";
 
-/// Asserts the text of a field of an inventory.
 fn is_fru_field(rt: &impl Abort, alloc: Global, line: &str) {
     let (head, digits, wanted) = three_parts(rt, line);
     let (code, language) = head.split_at_checked(2).expect(rt, line);
@@ -123,7 +128,6 @@ fn is_fru_field(rt: &impl Abort, alloc: Global, line: &str) {
     is_text(rt, text, wanted, line);
 }
 
-/// Asserts the text of an ID string.
 fn is_id_string(rt: &impl Abort, alloc: Global, line: &str) {
     let (type_length, digits, wanted) = three_parts(rt, line);
     let bytes = bytes_of(rt, alloc, digits);

@@ -39,7 +39,6 @@ const WORDS: &str = "0000|0000|0000h
 fffe|fffe|FFFEh
 FFFF|ffff|FFFFh";
 
-/// Asserts how a word is displayed.
 fn is_word(rt: &impl Abort, alloc: Global, line: &str) {
     let (digits, lower, upper) = three_parts(rt, line);
     let word = id_of(rt, digits);

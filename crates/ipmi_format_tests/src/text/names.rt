@@ -112,21 +112,18 @@ const EVENTS: &str = "0100|Lower Non-critical going low
 0000|event 0x00 offset 0x0
 fffa|event 0xff offset 0xa";
 
-/// Asserts the name of a sensor type.
 fn is_sensor_type(rt: &impl Abort, alloc: Global, line: &str) {
     let (code, wanted) = parts(rt, line);
     let text = sensor_type_text(alloc, byte_of(rt, code));
     is_text(rt, text, wanted, line);
 }
 
-/// Asserts the name of a chassis type.
 fn is_chassis_type(rt: &impl Abort, alloc: Global, line: &str) {
     let (code, wanted) = parts(rt, line);
     let text = chassis_text(alloc, byte_of(rt, code));
     is_text(rt, text, wanted, line);
 }
 
-/// Asserts the text of an event.
 fn is_event(rt: &impl Abort, alloc: Global, line: &str) {
     let (bytes, wanted) = parts(rt, line);
     let (event, data) = bytes.split_at_checked(2).expect(rt, line);

@@ -1,8 +1,28 @@
 //! The formula of a reading, computed once more by repeated multiplication, for many factors and raw bytes.
+use crate::cases::parts;
 use ipmi_text::{Factors, Fixed, convert};
 use std::process::Abort;
 
-const FORMATS: [u8; 3] = [0, 1, 2];
+/// The analog data format and a raw byte, and the number that it stands for: by format 0 without a sign, by format 1 in
+/// ones' complement, and by format 2 in two's complement.
+const NUMBERS: &str = "0 0|0
+0 1|1
+0 127|127
+0 128|128
+0 200|200
+0 255|255
+1 0|0
+1 1|1
+1 127|127
+1 128|-127
+1 200|-55
+1 255|0
+2 0|0
+2 1|1
+2 127|127
+2 128|-128
+2 200|-56
+2 255|-1";
 
 const SLOPES: [i16; 8] = [-512, -511, -7, -1, 0, 1, 6, 511];
 
@@ -10,30 +30,18 @@ const OFFSETS: [i16; 5] = [-512, -1, 0, 1, 511];
 
 const EXPONENTS: [i8; 16] = [-8, -7, -6, -5, -4, -3, -2, -1, 0, 1, 2, 3, 4, 5, 6, 7];
 
-const RAW_BYTES: [u8; 6] = [0, 1, 127, 128, 200, 255];
-
-/// The factors of a linear sensor.
-#[derive(Clone, Copy)]
+/// A raw byte with the number that it stands for, and the factors of a linear sensor.
+#[derive(Clone, Copy, Debug)]
 struct Case {
     format: u8,
+    raw: u8,
+    number: i128,
     m: i16,
     b: i16,
     k1: i8,
     k2: i8,
 }
 
-/// The number that a raw byte stands for, by its bits.
-fn number_of_bits(format: u8, raw: u8) -> i128 {
-    if format == 1 && raw & 0x80 != 0 {
-        -((raw ^ 0xff) as i128)
-    } else if format == 2 {
-        (raw ^ 0x80) as i128 - 128
-    } else {
-        raw as i128
-    }
-}
-
-/// A number, times ten so many times.
 fn times_ten(number: i128, count: i8) -> i128 {
     let mut number = number;
     for _ in 0..count {
@@ -44,66 +52,66 @@ fn times_ten(number: i128, count: i8) -> i128 {
 
 /// The reading in units of 10^-16: B is multiplied by ten K1 + 8 times, and M times the number 8 times; then their sum
 /// is multiplied by ten K2 + 8 times.
-fn product(case: Case, raw: u8) -> i128 {
-    let number = number_of_bits(case.format, raw);
-    let slope = times_ten((case.m as i128).wrapping_mul(number), 8);
+fn product(case: &Case) -> i128 {
+    let slope = times_ten((case.m as i128).wrapping_mul(case.number), 8);
     let offset = times_ten(case.b as i128, case.k1.wrapping_add(8));
     times_ten(slope.wrapping_add(offset), case.k2.wrapping_add(8))
 }
 
 /// Asserts the reading of a raw byte.
-fn is_product(rt: &impl Abort, case: Case, factors: &Factors, raw: u8) {
-    let value = convert(factors, raw);
+fn is_product(rt: &impl Abort, case: &Case) {
+    let factors = Factors::new(case.format, 0, case.m, case.b, case.k1, case.k2);
+    let value = convert(&factors.expect(rt, "factors"), case.raw);
     assert!(rt;
-        value == Some(Fixed(product(case, raw))),
-        "format {}, M {}, B {}, K1 {}, K2 {}, raw {raw}",
-        case.format,
-        case.m,
-        case.b,
-        case.k1,
-        case.k2
+        value == Some(Fixed(product(case))),
+        "{case:?}: got {value:?}"
     );
 }
 
-/// Asserts the reading of each raw byte, and says how many there were.
-fn are_products(rt: &impl Abort, case: Case) -> u32 {
-    let factors = Factors::new(case.format, 0, case.m, case.b, case.k1, case.k2);
-    let factors = factors.expect(rt, "factors");
-    let mut count = 0u32;
-    for raw in RAW_BYTES {
-        is_product(rt, case, &factors, raw);
-        count = count.wrapping_add(1);
-    }
-    count
-}
-
-/// Asserts the readings for all exponents, and says how many there were.
-fn are_products_for_all_exponents(rt: &impl Abort, format: u8, m: i16, b: i16) -> u32 {
-    let mut count = 0u32;
+/// The same for all exponents.
+fn is_product_for_all_exponents(rt: &impl Abort, case: Case) {
     for k1 in EXPONENTS {
         for k2 in EXPONENTS {
-            let case = Case {
-                format,
-                m,
-                b,
-                k1,
-                k2,
-            };
-            count = count.wrapping_add(are_products(rt, case));
+            is_product(rt, &Case { k1, k2, ..case });
         }
     }
-    count
 }
 
-#[test]
-fn repeated_multiplication_gives_the_same_readings(rt: HostRuntime) {
-    let mut count = 0u32;
-    for format in FORMATS {
-        for m in SLOPES {
-            for b in OFFSETS {
-                count = count.wrapping_add(are_products_for_all_exponents(&rt, format, m, b));
-            }
+/// The same for all slopes and offsets.
+fn is_product_for_all_factors(rt: &impl Abort, case: Case) {
+    for m in SLOPES {
+        for b in OFFSETS {
+            is_product_for_all_exponents(rt, Case { m, b, ..case });
         }
     }
-    assert!(rt; count == 184_320, "{count} readings");
+}
+
+/// The case that a line stands for, without factors.
+fn case_of(rt: &impl Abort, line: &str) -> Case {
+    let (bits, number) = parts(rt, line);
+    let (format, raw) = bits.split_once(' ').expect(rt, line);
+    Case {
+        format: format.parse::<u8>().expect(rt, line),
+        raw: raw.parse::<u8>().expect(rt, line),
+        number: number.parse::<i128>().expect(rt, line),
+        m: 0,
+        b: 0,
+        k1: 0,
+        k2: 0,
+    }
+}
+
+/// Asserts the readings of the raw byte of a line.
+fn are_products(rt: &impl Abort, line: &str) {
+    is_product_for_all_factors(rt, case_of(rt, line));
+}
+
+// 18 raw bytes, each with 8 slopes, 5 offsets, and 16 times 16 exponents: 184,320 readings.
+#[test]
+fn repeated_multiplication_gives_the_same_readings(rt: HostRuntime) {
+    for line in NUMBERS.lines() {
+        are_products(&rt, line);
+    }
+    let lines = NUMBERS.lines().count();
+    assert!(rt; lines == 18, "{lines} raw bytes");
 }

@@ -51,14 +51,12 @@ const MINUTES: &str = "0|unspecified
 7629870|2010-07-04 12:30
 14812207|2024-02-29 06:07";
 
-/// Asserts the text of a time in seconds.
 fn is_time_of_seconds(rt: &impl Abort, alloc: Global, line: &str) {
     let (seconds, wanted) = parts(rt, line);
     let seconds = seconds.parse::<u32>().expect(rt, line);
     is_text(rt, utc_text(alloc, seconds), wanted, line);
 }
 
-/// Asserts the text of a time in minutes.
 fn is_time_of_minutes(rt: &impl Abort, alloc: Global, line: &str) {
     let (minutes, wanted) = parts(rt, line);
     let minutes = minutes.parse::<u32>().expect(rt, line);

@@ -54,7 +54,6 @@ const UNITS: &str = "000000|
 db07ff|% Joules/unit 0xff per s
 c01900|unit 0x19";
 
-/// Asserts the text of a unit.
 fn is_unit(rt: &impl Abort, alloc: Global, line: &str) {
     let (digits, wanted) = parts(rt, line);
     let [units1, base, modifier] = <[u8; 3]>::from_hex(digits).expect(rt, line);

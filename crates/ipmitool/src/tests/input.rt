@@ -1,8 +1,9 @@
 //! Tests of `words_of`, which is private.
 use crate::input::words_of;
-use ipmi_command_line::UsageFault;
+use ipmi_command_line::{UsageFault, Word};
+use std::alloc::Global;
 use std::env::{Env, FillError};
-use std::test::Fail;
+use std::process::Abort;
 
 /// The words that a program was called with, as bytes.
 #[derive(Clone, Copy, Drop)]
@@ -30,26 +31,44 @@ impl Env for Called<'_> {
     }
 }
 
-#[test]
-fn the_program_has_its_name_where_it_is_called_without_a_word(rt: HostRuntime) -> Result<(), Fail> {
-    let words = words_of(&(Called(&[]), rt.alloc()))?;
-    assert_eq!(rt; words.as_slice().len(), 1, "no word");
-    assert_eq!(rt; words.as_slice()[0].as_str(), "ipmitool", "no word");
-    Ok(())
+fn push_word(rt: &impl Abort, text: &mut String, word: &Word) {
+    text.push_str(word.as_str()).expect(rt, "memory");
+    text.push('|').expect(rt, "memory");
+}
+
+/// The words as a text, with a bar after each.
+fn text_of(rt: &impl Abort, alloc: Global, words: &[Word]) -> String {
+    let mut text = String::new(alloc);
+    for word in words {
+        push_word(rt, &mut text, word);
+    }
+    text
+}
+
+/// Asserts that a call gives these words, with a bar after each.
+fn gives_words(rt: &impl Abort, alloc: Global, called: Called, wanted: &str) {
+    let words = words_of(&(called, alloc)).expect(rt, wanted);
+    let got = text_of(rt, alloc, words.as_slice());
+    assert!(rt; got.as_str() == wanted, "wanted {wanted}: got {got}");
 }
 
 #[test]
-fn the_words_are_those_of_the_call(rt: HostRuntime) -> Result<(), Fail> {
-    let words = words_of(&(Called(&[b"", b"sdr", b"hex"]), rt.alloc()))?;
-    assert_eq!(rt; words.as_slice().len(), 3, "an empty name, and two words");
-    assert_eq!(rt; words.as_slice()[0].as_str(), "", "the name");
-    assert_eq!(rt; words.as_slice()[1].as_str(), "sdr", "the first word");
-    assert_eq!(rt; words.as_slice()[2].as_str(), "hex", "the second word");
-    Ok(())
+fn the_program_has_its_name_where_it_is_called_without_a_word(rt: HostRuntime) {
+    gives_words(&rt, rt.alloc(), Called(&[]), "ipmitool|");
+}
+
+#[test]
+fn the_words_are_those_of_the_call(rt: HostRuntime) {
+    let called = Called(&[b"", b"sdr", b"hex"]);
+    gives_words(&rt, rt.alloc(), called, "|sdr|hex|");
 }
 
 #[test]
 fn a_word_that_is_no_text_is_a_fault_of_the_line(rt: HostRuntime) {
-    let words = words_of(&(Called(&[b"ipmitool", b"sdr", b"\xFFhex"]), rt.alloc()));
-    assert_eq!(rt; words.err(), Some(UsageFault::Line), "FFh before hex");
+    let called = Called(&[b"ipmitool", b"sdr", b"\xFFhex"]);
+    let fault = words_of(&(called, rt.alloc())).err();
+    assert!(rt;
+        fault == Some(UsageFault::Line),
+        "FFh before hex: {fault:?}"
+    );
 }
