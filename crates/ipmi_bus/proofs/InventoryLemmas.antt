@@ -11,7 +11,8 @@ module _ (old r : FruRetrieval) (s s' s'' : Seen) (asked got : ℕ)
     (len : length r.bytes.items ≡ length old.bytes.items)
     (front : take old.have r.bytes.items ≡ take old.have old.bytes.items)
     (since : FruSince old s s') (more : old.have < length old.bytes.items)
-    (gave : BytesAnswers old.id old.have asked (Ok got) (slice_range r.bytes.items old.have (old.have + asked)) s' s'') where
+    (gave : BytesAnswers old.id old.have asked (Ok got)
+    (slice_range r.bytes.items old.have (old.have + asked)) s' s'') where
   all : StaysHonest s s''
   all = stays_trans s s' s'' since.stays gave.change.stays
 

@@ -17,7 +17,7 @@ pub const SDR_HEADER_LEN: usize = 5;
 pub const LARGEST_SDR_LEN: usize = 256;
 /// The bytes of an entry of the event log.
 pub const SEL_ENTRY_LEN: usize = 16;
-/// The bytes of a repository info, after the completion code.
+/// How many bytes Get SDR Repository Info and Get SEL Info answer after the completion code.
 pub const INFO_LEN: usize = 14;
 /// The most bytes of an inventory, whose size is a 16-bit number.
 pub const LARGEST_INVENTORY_LEN: usize = 0xFFFF;

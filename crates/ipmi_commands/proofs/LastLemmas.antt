@@ -265,7 +265,8 @@ module _ (n : ℕ) (start : Place) (tries : ℕ) where
   module _ (s s' s'' : Seen) (old mid new : List ℕ) (counted listed : Listed)
       (lists : ListsSpan of_last all_counted (change s s' old mid) counted)
       (is_done_ : counted.stop ≡ Stop.Done) (some : 1 ≤ n) (more : 0 < counted.count)
-      (second : ListsSpan of_last (listing_after (counted.count - n)) (change s' s'' mid new) listed) where
+      (second : ListsSpan of_last (listing_after (counted.count - n)) (change s' s'' mid new)
+      listed) where
     parts : s''.stores_added ≡ s.stores_added
         → (s'.stores_added ≡ s.stores_added) × (s''.stores_added ≡ s'.stores_added)
     parts = between s s' s'' lists.stays second.stays

@@ -135,7 +135,8 @@ module _ (t : Task) (tries : ℕ) (span : Span) (count : ℕ) (begun now : Curso
     (old new : List ℕ) (wrote : Bool) (shelf : now.shelf ≡ shelf_of t)
     (same_tries : now.tries ≡ tries) (some : 0 < begun.part → 0 < now.part)
     (within : IsWithin span.most count)
-    (has_written : Wrote wrote old new) (lists : ListsHonest t tries span count (course begun now s s' old new)) where
+    (has_written : Wrote wrote old new)
+    (lists : ListsHonest t tries span count (course begun now s s' old new)) where
   -- all that is wanted was listed, and that ends so
   finished : (next : CursorState) (s'' : Seen) (st : Stop) (run : RunEnd) (e : WalkEnd)
       → IsOutcome st (plan.Finished run) → StaysHonest s s'' → IsUnrefused s s''

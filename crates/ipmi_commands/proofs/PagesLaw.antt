@@ -49,7 +49,8 @@ module _ (walk_tail : TailIsWalk) where
   -- what is allowed by a plan is allowed by one with more items, where each spot after some of its items is one there
   module _ (t : Task) (store : Store) (p q : Plan) (more : List Item)
       (items_are : q.items ≡ p.items ++ more)
-      (spots_are : (spot : Spot) (rest : List Item) → IsAmong (spots_at rest p.end_spots) spot → IsAmong (spots_at (rest ++ more) q.end_spots) spot) (old new : List ℕ) where
+      (spots_are : (spot : Spot) (rest : List Item) → IsAmong (spots_at rest p.end_spots) spot
+      → IsAmong (spots_at (rest ++ more) q.end_spots) spot) (old new : List ℕ) where
     more_items : (done rest : List Item) → p.items ≡ done ++ rest → q.items ≡ done ++ (rest ++ more)
     more_items done rest is = items_are ∙ rw is (append_assoc done rest more)
 

@@ -164,7 +164,7 @@ fn dc_text(alloc: Global, kind: DcKind, bytes: &[u8]) -> Result<String, AllocErr
     )
 }
 
-/// The data of a management access record after its subtype, as text or in hex, as the subtype says.
+/// The data of a management access record after its subtype, as text or in hex, by its subtype.
 fn access_text(alloc: Global, bytes: &[u8]) -> Result<String, AllocError>
     requires { 1 ≤ length bytes.now }
     ensures { IfOk result (λ text. string_bytes text ≡ access_text bytes.now) }

@@ -21,15 +21,15 @@ first_row_id (row ∷ rows) = row.id
 abbrev pub next_field : ℕ → ℕ → List ℕ
 next_field following next = if next == following then codes "-" else hex_of 2 next
 
--- with this field for the next id
+-- a row's word, its id, this field for its next id, and its bytes
 abbrev pub fields_with_next : List ℕ → List ℕ → Row → List (List ℕ)
 fields_with_next word next row = word ∷ hex_of 2 row.id ∷ next ∷ encode_lower row.bytes ∷ []
 
--- before a row with this id
+-- the fields of a row before one with this id, which is FFFFh where none follows
 abbrev pub row_fields : List ℕ → ℕ → Row → List (List ℕ)
 row_fields word following row = fields_with_next word (next_field following row.next) row
 
--- of a single record, which no row follows
+-- of a record by itself, whose next id is written out, also where a row would have a dash
 abbrev pub record_fields : Row → List (List ℕ)
 record_fields row = fields_with_next (codes "sdr") (hex_of 2 row.next) row
 
@@ -68,7 +68,7 @@ info_lines word (Some bytes) = (codes "info" ∷ word ∷ encode_lower bytes ∷
 abbrev pub line_text : List (List ℕ) → List ℕ
 line_text fields = join_with_byte 32 fields ++ 10 ∷ []
 
--- the line of a single record
+-- the line that `sdr hex` prints for a record: `sdr ID NEXT HEX` and a line feed
 abbrev pub record_line_of : Row → List ℕ
 record_line_of row = line_text (record_fields row)
 

@@ -1,4 +1,4 @@
-//! The line of a single record, written into a buffer that takes no memory.
+//! The line of a single record, written with no memory taken.
 ghost use Rattle.std.specs.Prelude.{◌≡◌, ◌+◌, ◌*◌, ◌++◌, ◌≤◌, ◌∷◌, [], length};
 ghost use Rattle.hex.specs.Hex.{encode_lower};
 ghost use Rattle.ipmi_image.specs.Below.{row_of_record};
@@ -44,9 +44,9 @@ fn push_hex(line: &mut LineBuffer, bytes: &[u8])
     push(line, digits);
 }
 
-/// Makes of `line`, whatever is in it, the line of the record in an image: `sdr ID NEXT HEX` and a line feed, the ids in
-/// four hex digits and the bytes in hex, all of them in lower case. NEXT is never a dash, as no record follows. A record
-/// of at most 256 bytes has room, and no memory is taken.
+/// Writes into `line`, in place of what it holds, the line of a record as an image of version 1 has it:
+/// `sdr ID NEXT HEX` and a line feed, ids in four hex digits, all hex in lower case. NEXT is never a dash, so that the
+/// line says it by itself. A record of at most 256 bytes has room, and no memory is taken.
 pub fn record_line(lent: &Record<'_>, line: &mut LineBuffer)
     requires { length lent.now.bytes.now ≤ 256 }
     ensures { line.new.items ≡ record_line_of (row_of_record lent.now) }

@@ -37,7 +37,7 @@ fn push_name(alloc: Global, line: &mut String, view: &SdrView) -> Result<(), All
     }
 }
 
-/// Appends the name of a record in the width of its column.
+/// Appends the name of a record filled up to the width of its column.
 fn push_name_column(alloc: Global, line: &mut String, view: &SdrView) -> Result<(), AllocError>
     ensures { OnOk result
         (string_bytes line.new ≡ string_bytes line.old ++ padded_to 16 (printed_name view.now)) }
@@ -107,7 +107,7 @@ fn push_entity(line: &mut String, entity: Option<Entity>) -> Result<(), AllocErr
     }
 }
 
-/// Appends an entity in the width of its column, a dash where there is none.
+/// Appends an entity filled up to the width of its column, a dash where there is none.
 fn push_entity_column(line: &mut String, entity: Option<Entity>) -> Result<(), AllocError>
     ensures { OnOk result
         (string_bytes line.new ≡ string_bytes line.old ++ padded_to 5 (entity_or_dash entity)) }
@@ -117,7 +117,7 @@ fn push_entity_column(line: &mut String, entity: Option<Entity>) -> Result<(), A
     pad(line, start, ENTITY_WIDTH)
 }
 
-/// Appends a status in the width of its column.
+/// Appends a status filled up to the width of its column.
 fn push_status_column(line: &mut String, status: &str) -> Result<(), AllocError>
     ensures { OnOk result
         (string_bytes line.new ≡ string_bytes line.old ++ padded_to 3 status.now) }

@@ -8,13 +8,13 @@ use crate::id_string::IdString;
 use crate::sdr::OWN_ADDRESS;
 use crate::sensor::{Entity, LUN_BITS};
 
-/// The type of a generic device locator (section 43.7).
+/// The type of a generic device locator (IPMI v2.0, section 43.7).
 pub const GENERIC_TYPE: u8 = 0x10;
 
-/// The type of a FRU device locator (section 43.8).
+/// The type of a FRU device locator (IPMI v2.0, section 43.8).
 pub const FRU_TYPE: u8 = 0x11;
 
-/// The type of a management controller device locator (section 43.9).
+/// The type of a management controller device locator (IPMI v2.0, section 43.9).
 pub const CONTROLLER_TYPE: u8 = 0x12;
 
 /// The byte of a locator's ID string type/length, counted from 1. Each locator has it.
@@ -44,7 +44,7 @@ fn locator_in(bytes: &[u8]) -> Locator
     }
 }
 
-/// A generic device locator (section 43.7).
+/// A generic device locator (IPMI v2.0, section 43.7).
 pub type GenericLocator<'a> = AtLeast<'a, GENERIC_TYPE, LOCATOR_ID_PLACE>;
 
 impl<'a, const TYPE: u8> AtLeast<'a, TYPE, LOCATOR_ID_PLACE> {
@@ -63,7 +63,7 @@ impl<'a, const TYPE: u8> AtLeast<'a, TYPE, LOCATOR_ID_PLACE> {
     }
 }
 
-/// A FRU device locator (section 43.8).
+/// A FRU device locator (IPMI v2.0, section 43.8).
 pub type FruLocator<'a> = AtLeast<'a, FRU_TYPE, LOCATOR_ID_PLACE>;
 
 impl<'a> FruLocator<'a> {
@@ -100,5 +100,5 @@ impl<'a> FruLocator<'a> {
     }
 }
 
-/// A management controller device locator (section 43.9).
+/// A management controller device locator (IPMI v2.0, section 43.9).
 pub type ControllerLocator<'a> = AtLeast<'a, CONTROLLER_TYPE, LOCATOR_ID_PLACE>;

@@ -6,16 +6,16 @@ ghost use Rattle.ipmi_records.specs.Prelude.{signed, compact_id_place, event_onl
 use crate::at_least::AtLeast;
 use crate::bits::has_bit;
 use crate::id_string::IdString;
-use ipmi_text::{Factors, Units};
+use ipmi_text::{EXPONENT_HALF, FACTOR_HALF, Factors, Units};
 use std::fmt;
 
 /// The type of a full sensor record (IPMI v2.0, section 43.1).
 pub const FULL_TYPE: u8 = 0x01;
 
-/// The type of a compact sensor record (section 43.2).
+/// The type of a compact sensor record (IPMI v2.0, section 43.2).
 pub const COMPACT_TYPE: u8 = 0x02;
 
-/// The type of an event-only record (section 43.3).
+/// The type of an event-only record (IPMI v2.0, section 43.3).
 pub const EVENT_ONLY_TYPE: u8 = 0x03;
 
 /// The two bits of a LUN.
@@ -29,12 +29,6 @@ const LINEARIZATION_BITS: u8 = 0x7F;
 
 /// Bits 3:0 of a full record's byte 30: the exponent of B.
 const K1_BITS: u8 = 0x0F;
-
-/// How many numbers of the 10 bits of M and of B are below 0.
-const FACTOR_HALF: u16 = 512;
-
-/// How many of the 4 bits of an exponent are.
-const EXPONENT_HALF: u16 = 8;
 
 /// The byte of a full record's ID string type/length, counted from 1. Each full record has it.
 pub(crate) const FULL_ID_PLACE: usize = 48;

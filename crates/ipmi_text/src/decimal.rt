@@ -23,20 +23,20 @@ const UNSIGNED: u8 = 0;
 /// That of a reading in 1's complement.
 const ONES_COMPLEMENT: u8 = 1;
 
-/// That of a sensor without an analog reading, the last of the four.
+/// The analog data format of a sensor without an analog reading, the highest of the four.
 pub const NO_ANALOG_READING: u8 = 3;
 
 /// The linearization of a sensor whose formula is linear.
 const LINEAR: u8 = 0;
 
-/// The last linearization that its 7 bits can say.
-const LAST_LINEARIZATION: u8 = 0x7F;
+/// The highest linearization, a number of 7 bits.
+const LARGEST_LINEARIZATION: u8 = 0x7F;
 
-/// How many numbers of the 10 bits of M and of B are below 0.
-const FACTOR_HALF: u16 = 512;
+/// How many of the numbers in 10 bits, as M and B are, are below 0.
+pub const FACTOR_HALF: u16 = 512;
 
-/// How many of the 4 bits of an exponent are.
-const EXPONENT_HALF: u16 = 8;
+/// How many of the numbers in 4 bits, as an exponent is, are below 0.
+pub const EXPONENT_HALF: u16 = 8;
 
 /// The factors by which a full sensor record turns a raw reading into a value (IPMI v2.0, section
 /// 36.3 and table 43-1). Contracts see them as a record of their numbers.
@@ -71,7 +71,7 @@ impl Factors {
             { format = format; linear = linear; m = m; b = b; k1 = k1; k2 = k2 }) }
     {
         if format <= NO_ANALOG_READING
-            && linear <= LAST_LINEARIZATION
+            && linear <= LARGEST_LINEARIZATION
             && is_twos_complement(m, FACTOR_HALF)
             && is_twos_complement(b, FACTOR_HALF)
             && is_twos_complement(i16::from(k1), EXPONENT_HALF)
@@ -105,7 +105,7 @@ fn raw_number(format: u8, raw: u8) -> i32
     ensures value { result ≡ raw_number format raw }
     ensures size { unsigned_abs result ≤ 2 ^ 8 }
 {
-    // without its highest bit a byte is the same number in all formats
+    // a byte whose highest bit is 0 is the same number in all formats
     if format == UNSIGNED || raw < 128 {
         i32::from(raw)
     } else if format == ONES_COMPLEMENT {

@@ -16,7 +16,9 @@ mod two_digits;
 mod units;
 
 pub use chassis::chassis_text;
-pub use decimal::{Factors, Fixed, NO_ANALOG_READING, convert, fixed_text, push_fixed};
+pub use decimal::{
+    EXPONENT_HALF, FACTOR_HALF, Factors, Fixed, NO_ANALOG_READING, convert, fixed_text, push_fixed,
+};
 pub use events::{EventWords, THRESHOLD_EVENT_TYPE, event_text};
 pub use field_text::{ENGLISH, fru_text, push_sdr_text, sdr_text};
 pub use hex_digits::{ByteH, HexByte, HexWord, WordH};

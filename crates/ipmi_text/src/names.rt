@@ -19,7 +19,7 @@ pub(crate) fn entry_from_one(table: &[&'static str], code: u8) -> Option<&'stati
     entry(table, usize::from(code).checked_sub(1)?)
 }
 
-/// What a code of some kind stands for, printed as its name, or as `KIND 0xNN` where it has none.
+/// What a code of some kind means, printed as its name, or as `KIND 0xNN` where it has none.
 #[derive(Clone, Copy)]
 pub(crate) struct NameOrCode {
     pub(crate) name: Option<&'static str>,

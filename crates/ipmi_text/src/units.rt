@@ -48,7 +48,7 @@ const MODIFIER_USE_BITS: u8 = 0x03;
 /// The modifier use of a base unit that is divided by the modifier.
 const DIVIDED: u8 = 1;
 
-/// That of one that is multiplied by it.
+/// The modifier use of a base unit that is multiplied by the modifier.
 const MULTIPLIED: u8 = 2;
 
 /// Bits 5:3 of sensor units 1, shifted down: the rate.

@@ -10,7 +10,7 @@ invariant_of-result c =
     let k2 = c.is_twos_complement-then-is_twos_complement-3.ensures.0 c.if-is_twos_complement-4.true in
     record {
       format = c.if-format-le-NO_ANALOG_READING.true;
-      linear = c.if-linear-le-LAST_LINEARIZATION.true;
+      linear = c.if-linear-le-LARGEST_LINEARIZATION.true;
       m = (omega (arith, ints), omega (arith, ints));
       b = (omega (arith, ints), omega (arith, ints));
       k1 = (omega (arith, ints), omega (arith, ints));
