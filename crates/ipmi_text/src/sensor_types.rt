@@ -74,7 +74,7 @@ impl fmt::Display for SensorType {
             kind: "sensor type",
             code: self.0,
         };
-        write!(f, "{words}")
+        words.fmt(f)
     }
 }
 

@@ -104,7 +104,7 @@ impl fmt::Display for UnitName {
             kind: "unit",
             code: self.0,
         };
-        write!(f, "{words}")
+        words.fmt(f)
     }
 }
 
