@@ -43,8 +43,8 @@ end
 
 /// Images, each after a line with its name, with a line of dashes after each. The sensors are full sensor records, and
 /// the locators are those of FRU devices; the fault is a full sensor record that is too short. In a cycle the next id
-/// of each row is the other one's, and nowhere is the next id that no row has. What is another is as long as what it
-/// stands beside, and has the same ids.
+/// of each row is the other one's, and nowhere is the next id that no row has. What is called another is as long as
+/// what it takes the place of, and has the same ids.
 const IMAGES: &str = "sensor
 ipmi-image 1
 sdr 0001 ffff \
