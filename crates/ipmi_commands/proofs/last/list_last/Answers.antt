@@ -26,8 +26,6 @@ pub returns-clause-honest : goal.returns-clause-honest
 returns-clause-honest g c = λ h.
     let lists = rw c.requires.task at (c.list_span-counted.ensures.honest h) in
     let some = c.if-counted-eq0.false in
-    rw c.requires.task (second_performs c.args.wanted _ _ _ _ _ _
-    (g.O.Sink.taken c.list_span-counted.new.out) _ c.list_span-counted.result
-    c.list_span-listed.result lists
-    (done c.list_span-counted.result.stop (sym c.is_done.ensures ∙ c.if-not-is_done.false))
+    rw c.requires.task (second_performs c.args.wanted _ _ _ _ _ _ (g.O.Sink.taken c.list_span-counted.new.out) _ c.list_span-counted.result
+    c.list_span-listed.result lists (done c.list_span-counted.result.stop (sym c.is_done.ensures ∙ c.if-not-is_done.false))
     c.requires.some (omega (arith, some)) (rw (c.requires.task, c.before_last-skip.ensures) at (c.list_span-listed.ensures.honest lists.stays.honest)))

@@ -14,6 +14,5 @@ returns-clause-calls g c = page_calls c.args.cmd.now.task c.args.cmd.now.tries c
 pub returns-clause-honest : goal.returns-clause-honest
 returns-clause-honest g c =
     λ h. span_by_cursor (request_of c.args.cmd.now) c.args.span c.in-Ok.cursor
-    c.list_records.new.cursor _ _ _ _ c.list_records.result
-    (ap (λ (x : CursorState). x.reservation) c.in-Ok.ensures.fresh) c.in-Ok.ensures.some
+    c.list_records.new.cursor _ _ _ _ c.list_records.result (ap (λ (x : CursorState). x.reservation) c.in-Ok.ensures.fresh) c.in-Ok.ensures.some
     (rw (sym c.requires) at (rw c.from.ensures.value at c.in-Ok.ensures.stands)) (c.list_records.ensures.honest h)

@@ -33,10 +33,8 @@ pub returns-in-Err-clause-calls : goal.returns-in-Err-clause-calls
 returns-in-Err-clause-calls g c =
     let kept = c.records.invariant in
     let cmd = c.args.cmd.now in
-    called_ended cmd.tries (most_after cmd.task cmd.tries) (most_for_one cmd.task cmd.tries) _
-    (shelf_of cmd.task) _ c.records.cursor c.step.follows.lender-at-none _ _ _ refl kept.1
-    kept.2 kept.3 (Err c.in-Err.ended) tt
-    (rw c.in-Err.is at c.step.follows.holds-at-none)
+    called_ended cmd.tries (most_after cmd.task cmd.tries) (most_for_one cmd.task cmd.tries) _ (shelf_of cmd.task) _ c.records.cursor c.step.follows.lender-at-none _ _ _ refl kept.1
+    kept.2 kept.3 (Err c.in-Err.ended) tt (rw c.in-Err.is at c.step.follows.holds-at-none)
 
 pub returns-in-Err-clause-honest : goal.returns-in-Err-clause-honest
 returns-in-Err-clause-honest g c = λ h.
@@ -49,10 +47,8 @@ returns-in-Err-piece_in-clause-calls g c =
     let kept = c.records.invariant in
     let cmd = c.args.cmd.now in
     let step = rw (c.in-Ok-Some.is ∙ ap Ok c.in-Ok-Some.field-0-is) at c.step.follows.holds-at-none in
-    called_stopped _ _ _ c.step.follows.lender-at-none _ _
-    (called_more cmd.tries (most_after cmd.task cmd.tries) (most_for_one cmd.task cmd.tries) _
-    (shelf_of cmd.task) _ c.records.cursor _ _ _ _ refl kept.1 kept.2 kept.3 _
-    (row_of_record c.in-Ok-Some.record) step c.piece_in.ensures.calls)
+    called_stopped _ _ _ c.step.follows.lender-at-none _ _ (called_more cmd.tries (most_after cmd.task cmd.tries) (most_for_one cmd.task cmd.tries) _
+    (shelf_of cmd.task) _ c.records.cursor _ _ _ _ refl kept.1 kept.2 kept.3 _ (row_of_record c.in-Ok-Some.record) step c.piece_in.ensures.calls)
 
 pub returns-in-Err-piece_in-clause-honest : goal.returns-in-Err-piece_in-clause-honest
 returns-in-Err-piece_in-clause-honest g c = λ h.
@@ -60,8 +56,7 @@ returns-in-Err-piece_in-clause-honest g c = λ h.
     let step = rw (c.in-Ok-Some.is ∙ ap Ok c.in-Ok-Some.field-0-is) at c.step.follows.holds-at-none in
     let taken =
     listing_taken _ _ _ _ _ _ _ _ _ _ _ kept.1 kept.2 kept.3.some kept.4 kept.5 (kept.6 h)
-    c.step.follows.lender-at-none _ (sym c.is_reached.ensures ∙ c.if-is_reached.false)
-    (row_of_record c.in-Ok-Some.record) step in
+    c.step.follows.lender-at-none _ (sym c.is_reached.ensures ∙ c.if-is_reached.false) (row_of_record c.in-Ok-Some.record) step in
     listing_none _ _ _ _ _ _ _ _ _ _ _ _ step.same.part_not_zero taken c.in-Err-piece_in.stop (rw c.passing-passing.ensures at c.in-Err-piece_in.ensures.honest taken.stays.honest)
 
 pub returns-in-Err-write_all-clause-calls : goal.returns-in-Err-write_all-clause-calls
@@ -69,10 +64,8 @@ returns-in-Err-write_all-clause-calls g c =
     let kept = c.records.invariant in
     let cmd = c.args.cmd.now in
     let step = rw (c.in-Ok-Some.is ∙ ap Ok c.in-Ok-Some.field-0-is) at c.step.follows.holds-at-none in
-    called_stopped _ _ _ c.step.follows.lender-at-none _ _
-    (called_more cmd.tries (most_after cmd.task cmd.tries) (most_for_one cmd.task cmd.tries) _
-    (shelf_of cmd.task) _ c.records.cursor _ _ _ _ refl kept.1 kept.2 kept.3 _
-    (row_of_record c.in-Ok-Some.record) step c.piece_in.ensures.calls)
+    called_stopped _ _ _ c.step.follows.lender-at-none _ _ (called_more cmd.tries (most_after cmd.task cmd.tries) (most_for_one cmd.task cmd.tries) _
+    (shelf_of cmd.task) _ c.records.cursor _ _ _ _ refl kept.1 kept.2 kept.3 _ (row_of_record c.in-Ok-Some.record) step c.piece_in.ensures.calls)
 
 pub returns-in-Err-write_all-clause-honest : goal.returns-in-Err-write_all-clause-honest
 returns-in-Err-write_all-clause-honest g c = λ h.
@@ -80,8 +73,7 @@ returns-in-Err-write_all-clause-honest g c = λ h.
     let step = rw (c.in-Ok-Some.is ∙ ap Ok c.in-Ok-Some.field-0-is) at c.step.follows.holds-at-none in
     let taken =
     listing_taken _ _ _ _ _ _ _ _ _ _ _ kept.1 kept.2 kept.3.some kept.4 kept.5 (kept.6 h)
-    c.step.follows.lender-at-none _ (sym c.is_reached.ensures ∙ c.if-is_reached.false)
-    (row_of_record c.in-Ok-Some.record) step in
+    c.step.follows.lender-at-none _ (sym c.is_reached.ensures ∙ c.if-is_reached.false) (row_of_record c.in-Ok-Some.record) step in
     listing_cut _ _ _ _ _ _ _ _ _ _ (g.O.Sink.taken c.records.out) _ step.same.part_not_zero taken _ (rw c.passing-passing.ensures at c.in-Ok.ensures.honest taken.stays.honest) _
     (rw c.bytes-bytes.ensures at c.in-Err-write_all.ensures.some) (rw c.bytes-bytes.ensures at c.in-Err-write_all.ensures.err.0)
 
@@ -99,18 +91,15 @@ records-preserved g c =
       wrote.1 ∙ kept.0,
       step.same.shelf ∙ kept.1,
       step.same.tries ∙ kept.2,
-      called_more cmd.tries (most_after cmd.task cmd.tries) (most_for_one cmd.task cmd.tries) _
-          (shelf_of cmd.task) _ c.records.cursor _ _ _ _ refl kept.1 kept.2 kept.3 _
+      called_more cmd.tries (most_after cmd.task cmd.tries) (most_for_one cmd.task cmd.tries) _ (shelf_of cmd.task) _ c.records.cursor _ _ _ _ refl kept.1 kept.2 kept.3 _
           (row_of_record c.in-Ok-Some.record) step c.piece_in.ensures.calls,
       within_more _ _ kept.4 (sym c.is_reached.ensures ∙ c.if-is_reached.false),
       rw c.has_written-wrote.ensures (wrote_more c.records.wrote _ _ _ c.bytes-bytes.result.now kept.5 wrote.0),
       λ h.
           let taken =
           listing_taken _ _ _ _ _ _ _ _ _ _ _ kept.1 kept.2 kept.3.some kept.4 kept.5 (kept.6 h)
-          c.step.follows.lender-at-none _ (sym c.is_reached.ensures ∙ c.if-is_reached.false)
-          (row_of_record c.in-Ok-Some.record) step in
+          c.step.follows.lender-at-none _ (sym c.is_reached.ensures ∙ c.if-is_reached.false) (row_of_record c.in-Ok-Some.record) step in
           listing_more _ _ _ _ _ _ _ _ _ _ (g.O.Sink.taken c.records.out) _ step.same.part_not_zero
-          taken _ (rw c.passing-passing.ensures at c.in-Ok.ensures.honest taken.stays.honest) _
-          (wrote.0 ∙ ap (λ (l : List ℕ). g.O.Sink.taken c.records.out ++ l)
+          taken _ (rw c.passing-passing.ensures at c.in-Ok.ensures.honest taken.stays.honest) _ (wrote.0 ∙ ap (λ (l : List ℕ). g.O.Sink.taken c.records.out ++ l)
           c.bytes-bytes.ensures),
     )

@@ -10,9 +10,7 @@ returns-then-not-is_done-clause-calls g c = rw c.requires (omega (arith, c.inven
 
 pub returns-then-not-is_done-clause-honest : goal.returns-then-not-is_done-clause-honest
 returns-then-not-is_done-clause-honest g c = λ h.
-    rw c.requires
-    (first_performs _ c.args.cmd.now.tries _ c.write_found-first.result
-    (text_stops (Task.Fru None) (inventory_item 0) _ _ c.inventory_piece-found.result
+    rw c.requires (first_performs _ c.args.cmd.now.tries _ c.write_found-first.result (text_stops (Task.Fru None) (inventory_item 0) _ _ c.inventory_piece-found.result
     c.write_found-first.result (c.inventory_piece-found.ensures.honest h)
     c.write_found-first.ensures.text (sym c.is_done.ensures ∙ c.if-not-is_done.true)))
 
@@ -29,7 +27,6 @@ returns-clause-honest g c = λ h.
     let first = done c.write_found-first.result (sym c.is_done.ensures ∙ c.if-not-is_done.false) in
     let to = change (g.C.Controller.seen c.args.ctl.now) (g.C.Controller.seen c.inventory_piece-found.new.ctl) (g.O.Sink.taken c.args.out.now) (g.O.Sink.taken c.write_found-first.new.out) in
     let written = text_written (Task.Fru None) (inventory_item 0) c.args.cmd.now.tries to
-    c.inventory_piece-found.result (c.inventory_piece-found.ensures.honest h)
-    (rw first at c.write_found-first.ensures.text) in
+    c.inventory_piece-found.result (c.inventory_piece-found.ensures.honest h) (rw first at c.write_found-first.ensures.text) in
     let page = rw (c.first_place.ensures.value, c.requires) at (c.list_page.ensures.honest written.asks.stays.honest) in
     rw c.requires (rest_performs _ c.args.cmd.now.tries _ _ _ _ _ _ _ c.list_page.result.stop written page)

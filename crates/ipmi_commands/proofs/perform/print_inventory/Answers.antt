@@ -9,8 +9,5 @@ returns-clause-calls g c = rw c.requires (omega (arith, c.inventory_piece-found.
 
 pub returns-clause-honest : goal.returns-clause-honest
 returns-clause-honest g c = λ h.
-    rw c.requires
-    (one_text_performs (request (Task.Fru (Some c.args.id)) _ c.args.cmd.now.tries)
-    (inventory_item c.args.id) _ c.inventory_piece-found.result c.write_found.result
-    (λ store walk end. refl) (λ store walk end. omega arith)
-    (c.inventory_piece-found.ensures.honest h) c.write_found.ensures.text)
+    rw c.requires (one_text_performs (request (Task.Fru (Some c.args.id)) _ c.args.cmd.now.tries) (inventory_item c.args.id) _ c.inventory_piece-found.result c.write_found.result
+    (λ store walk end. refl) (λ store walk end. omega arith) (c.inventory_piece-found.ensures.honest h) c.write_found.ensures.text)

@@ -31,8 +31,7 @@ returns-in_ok-push-in-None c =
     let bytes : AreBytes c.args.bytes.now = All-from_get_or (λ b. b < 256) _ 0 (λ k lt. omega (arith, c.type_inv.bytes k)) in
     let new : map kept_inventory c.push.new.self
     ≡ with_bytes c.args.id c.args.bytes.now (map kept_inventory items) =
-    ap (map kept_inventory)
-    (was_put _ c.in_ok-push-in-None.field-0 _ c.in_ok-push-in-None.ensures.ok none)
+    ap (map kept_inventory) (was_put _ c.in_ok-push-in-None.field-0 _ c.in_ok-push-in-None.ensures.ok none)
     ∙ map-append kept_inventory items _ ∙ rw (c.in_ok-bytes-in-None.ensures.items_if_clones_equal (λ x y e. e)) (sym (with_bytes_new items c.args.id c.args.bytes.now none)) in
     record {
       keeps = subst AreInventories (sym new) (AreInventories-more _ c.args.id _ (sym c.in_default.ensures) (omega (arith, c.ranges.id)) bytes c.requires);

@@ -1,3 +1,4 @@
+use Rattle.std.proofs.Common.{rules}
 use Rattle.ipmi_bus.proofs.CursorLemmas.{look-whole_row, handed_row-whole, hands_out}
 use Rattle.ipmi_bus.proofs.cursor.Progress.advance.Goals as goal
 
@@ -29,3 +30,9 @@ returns-in-Ok-true-clause-honest g c = λ h.
           let after = read.plain p (record { held = holds.held }) in
           record { holds = record { held = rw out.retrieval after.holds.held }; fine = tt };
     }
+
+pub returns-else-eq-clause-leaves : goal.returns-else-eq-clause-leaves
+returns-else-eq-clause-leaves g c = search rules
+
+pub returns-else-eq-clause-honest : goal.returns-else-eq-clause-honest
+returns-else-eq-clause-honest g c = search rules

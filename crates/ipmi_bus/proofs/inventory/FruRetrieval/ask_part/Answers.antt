@@ -16,8 +16,7 @@ returns-in-Err-clause-answered g c =
 pub returns-in-Ok-clause-honest : goal.returns-in-Ok-clause-honest
 returns-in-Ok-clause-honest g c =
     λ s since. part_answers c.args.self.now c.request.new.self s _ _ c.asked_len-asked.result
-    c.in-Ok.got c.in-Ok.ensures.len c.in-Ok.ensures.front since c.requires.more
-    (c.in-Ok.ensures.honest since.stays.honest)
+    c.in-Ok.got c.in-Ok.ensures.len c.in-Ok.ensures.front since c.requires.more (c.in-Ok.ensures.honest since.stays.honest)
     c.take_part.new.self c.take_part.result c.request.ensures.bytes c.take_part.ensures.takes
 
 pub returns-in-Err-clause-honest : goal.returns-in-Err-clause-honest

@@ -1,4 +1,4 @@
-use Rattle.std.proofs.Common.{Ok, Err, refl}
+use Rattle.std.proofs.Common.{Ok, Err, refl, rules}
 use Rattle.std.proofs.lemmas.Result.{err_from_is_err_and}
 use Rattle.ipmi_bus.specs.Prelude.{Whole, Absent}
 use Rattle.ipmi_bus.proofs.SinceLemmas.{since_more, row_bound}
@@ -15,14 +15,12 @@ reading-preserved g c =
 pub returns-in-Whole-clause-row_calls : goal.returns-in-Whole-clause-row_calls
 returns-in-Whole-clause-row_calls g c =
     let call = c.make_call.ensures in row_bound c.args.self.now c.args.id c.reading.self
-    c.make_call.new.self _ _ _ c.reading.invariant call.counted call.stays
-    (rw c.in-Whole.is at c.in_ok-make_call.ensures.leaves).0
+    c.make_call.new.self _ _ _ c.reading.invariant call.counted call.stays (rw c.in-Whole.is at c.in_ok-make_call.ensures.leaves).0
 
 pub returns-in-Absent-clause-row_calls : goal.returns-in-Absent-clause-row_calls
 returns-in-Absent-clause-row_calls g c =
     let call = c.make_call.ensures in row_bound c.args.self.now c.args.id c.reading.self
-    c.make_call.new.self _ _ _ c.reading.invariant call.counted call.stays
-    (rw c.in-Absent.is at c.in_ok-make_call.ensures.leaves)
+    c.make_call.new.self _ _ _ c.reading.invariant call.counted call.stays (rw c.in-Absent.is at c.in_ok-make_call.ensures.leaves)
 
 pub returns-in_err-make_call-clause-row_calls : goal.returns-in_err-make_call-clause-row_calls
 returns-in_err-make_call-clause-row_calls g c =
@@ -38,3 +36,6 @@ pub returns-in_err-make_call-clause-ended : goal.returns-in_err-make_call-clause
 returns-in_err-make_call-clause-ended g c =
     let out = err_from_is_err_and c.from_residual.result c.from_residual.ensures.1 in
     rw (out.1, out.2) (record { last = c.reading.self; outcome = Err _; answered = c.in_err-make_call.ensures.answered; ends = refl })
+
+pub reading-init : goal.reading-init
+reading-init g c = search rules

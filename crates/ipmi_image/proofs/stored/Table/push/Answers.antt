@@ -15,8 +15,7 @@ invariant_of-self-in-Ok-None g c =
     let absent = sym (c.self.invariant.found (key c.args.item)) ∙ ap places (sym c.key-key.ensures) ∙ sym c.in-Ok-None.ensures.old ∙ c.in-Ok-None.field-0-is in
     let index = index_push key items c.args.item places (get nat_cmp c.insert.new.self) c.self.invariant c.requires absent
     (λ k. updates.0 k ∙ ap (λ n. cond (is_eq (nat_cmp (key c.args.item) k)) (Some n) (places k))
-    c.self.inside.items.ok.0 ∙ ap (λ b. cond b (Some (length items)) (places k))
-    (is_eq_nat_cmp (key c.args.item) k)) in
+    c.self.inside.items.ok.0 ∙ ap (λ b. cond b (Some (length items)) (places k)) (is_eq_nat_cmp (key c.args.item) k)) in
     rw c.in_ok-push.ensures.items index
 
 pub returns-in_err-push-clause-few : goal.returns-in_err-push-clause-few
