@@ -29,12 +29,11 @@ fn words_rule<'a>(alloc: Global) -> Arg<'a>
 fn command_line<'a>(alloc: Global) -> Result<Command<'a>, AllocError>
     ensures { IfOk result (λ c. app_of c ≡ command_line) }
 {
-    Command::new(alloc, "ipmitool")
-        .arg(option_rule(alloc, "image"))?
-        .arg(option_rule(alloc, "from"))?
-        .arg(option_rule(alloc, "part"))?
-        .arg(option_rule(alloc, "tries"))?
-        .arg(words_rule(alloc))
+    let mut line = Command::new(alloc, "ipmitool");
+    for name in ["image", "from", "part", "tries"] {
+        line = line.arg(option_rule(alloc, name))?;
+    }
+    line.arg(words_rule(alloc))
 }
 
 /// The options and words of a command line, the first word of which is the program's name.

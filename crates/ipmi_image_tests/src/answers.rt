@@ -14,6 +14,7 @@ fn each_call_is_answered_from_the_image(rt: HostRuntime) {
     let mut ctl = over(&rt, rt.alloc(), SAVED);
     are_answered(&rt, &mut ctl, ANSWERS);
     are_answered(&rt, &mut ctl, OF_THE_EVENT_LOG);
+    drop(ctl);
 }
 
 const EMPTY_ANSWERS: &str = "reserve sdr|0001
@@ -158,15 +159,21 @@ fru_part ff 0 1|code cb
 fru_part ff 1 1|code cb
 fru_part ff ffff 1|code cb";
 
+/// The controller, which has given reservation 1, has only the records of `SAVED`.
+fn has_no_other_records(rt: &impl Abort, ctl: &mut ImageController) {
+    has_no_record(rt, ctl, Shelf::Sdr, 0x0003);
+    has_no_record(rt, ctl, Shelf::Sdr, 0x0100);
+    has_no_record(rt, ctl, Shelf::Sdr, 0xFFFF);
+    has_no_record(rt, ctl, Shelf::Sel, 0x0002);
+}
+
 #[test]
 fn what_the_image_has_not_is_not_present(rt: HostRuntime) {
     let mut ctl = over(&rt, rt.alloc(), SAVED);
     is_answered(&rt, &mut ctl, "reserve sdr|0001");
-    has_no_record(&rt, &mut ctl, Shelf::Sdr, 0x0003);
-    has_no_record(&rt, &mut ctl, Shelf::Sdr, 0x0100);
-    has_no_record(&rt, &mut ctl, Shelf::Sdr, 0xFFFF);
-    has_no_record(&rt, &mut ctl, Shelf::Sel, 0x0002);
+    has_no_other_records(&rt, &mut ctl);
     are_answered(&rt, &mut ctl, ABSENT);
+    drop(ctl);
 }
 
 /// An image of a record of 256 bytes and an inventory of 300.
@@ -193,21 +200,33 @@ fn fru_part_has(rt: &impl Abort, ctl: &mut ImageController, offset: u16, wanted:
     assert!(rt; got == Ok(wanted), "{offset}: {got:?}");
 }
 
+/// Parts of the record have as many bytes as are there, and 254 at most.
+fn parts_have(rt: &impl Abort, ctl: &mut ImageController) {
+    for (offset, got) in [(0, 254), (1, 254), (2, 254), (3, 253), (255, 1)] {
+        part_has(rt, ctl, offset, got);
+    }
+}
+
+/// The same for parts of the inventory.
+fn fru_parts_have(rt: &impl Abort, ctl: &mut ImageController) {
+    for (offset, got) in [(0, 254), (46, 254), (47, 253), (256, 44), (299, 1)] {
+        fru_part_has(rt, ctl, offset, got);
+    }
+}
+
 #[test]
 fn the_longest_part_of_a_record_has_254_bytes(rt: HostRuntime) {
     let mut ctl = over(&rt, rt.alloc(), &long_image(&rt, rt.alloc()));
     is_answered(&rt, &mut ctl, "reserve sdr|0001");
-    for (offset, got) in [(0, 254), (1, 254), (2, 254), (3, 253), (255, 1)] {
-        part_has(&rt, &mut ctl, offset, got);
-    }
+    parts_have(&rt, &mut ctl);
+    drop(ctl);
 }
 
 #[test]
 fn the_longest_part_of_an_inventory_has_254_bytes(rt: HostRuntime) {
     let mut ctl = over(&rt, rt.alloc(), &long_image(&rt, rt.alloc()));
-    for (offset, got) in [(0, 254), (46, 254), (47, 253), (256, 44), (299, 1)] {
-        fru_part_has(&rt, &mut ctl, offset, got);
-    }
+    fru_parts_have(&rt, &mut ctl);
+    drop(ctl);
 }
 
 /// A reservation with this number is given, of the event log where three divide the number.
@@ -221,14 +240,20 @@ fn is_numbered(rt: &impl Abort, ctl: &mut ImageController, number: u16) {
     assert!(rt; given == Ok(number), "{number}: {given:?}");
 }
 
+/// The same for each number.
+fn are_numbered(rt: &impl Abort, ctl: &mut ImageController) {
+    for number in 1..=65_535 {
+        is_numbered(rt, ctl, number);
+    }
+}
+
 // The number after FFFFh is 1.
 #[test]
 fn reservations_are_numbered_over_both_shelves(rt: HostRuntime) {
     let mut ctl = over(&rt, rt.alloc(), SAVED);
-    for number in 1..=65_535 {
-        is_numbered(&rt, &mut ctl, number);
-    }
+    are_numbered(&rt, &mut ctl);
     are_answered(&rt, &mut ctl, "reserve sel|0001\nreserve sdr|0002");
+    drop(ctl);
 }
 
 const OF_OTHER_LINES: &str = "part sel 0 0 0 3|ffff 03 010002

@@ -1,7 +1,7 @@
 //! Calls as lines of text, and what a controller answers them. No memory is taken here.
 ghost use Rattle.std.specs.Prelude.{◌<◌, ◌≤◌};
 
-use ipmi_bus::{Code, Controller, Shelf};
+use ipmi_bus::{Code, Controller, Part, Shelf};
 use std::process::Abort;
 use std::str::SplitWhitespace;
 
@@ -75,10 +75,31 @@ impl Answer {
         answer
     }
 
-    /// The text.
-    pub fn text(&self, rt: &impl Abort) -> &str {
+    /// A part of a record, with the bytes that came and those after them.
+    fn of_part(part: Result<Part, Code>, into: &[u8]) -> Answer {
+        match part {
+            Ok(part) => Answer::of_three(&part.next.to_be_bytes(), &[part.got], into),
+            Err(code) => Answer::of_code(code),
+        }
+    }
+
+    /// The same for a part of an inventory.
+    fn of_fru_part(part: Result<u8, Code>, into: &[u8]) -> Answer {
+        match part {
+            Ok(got) => Answer::of_two(&[got], into),
+            Err(code) => Answer::of_code(code),
+        }
+    }
+
+    fn text(&self, rt: &impl Abort) -> &str {
         let text = self.text.get(..self.len).expect(rt, "a text");
         std::str::from_utf8(text).expect(rt, "text")
+    }
+
+    /// Compares the text with this one. A failure names the case.
+    fn has_text(&self, rt: &impl Abort, wanted: &str, case: &str) {
+        let text = self.text(rt);
+        assert!(rt; text == wanted, "{case}: got {text}");
     }
 }
 
@@ -144,11 +165,9 @@ fn part<C: Controller>(rt: &impl Abort, ctl: &mut C, words: &mut LineWords) -> A
     let id = words.next_number(rt);
     let offset = words.next_byte(rt);
     let len = words.next_len(rt);
-    let mut into = [0xEE; MOST];
-    match ctl.part(shelf, reservation, id, offset, &mut into[..len]) {
-        Ok(part) => Answer::of_three(&part.next.to_be_bytes(), &[part.got], &into[..len]),
-        Err(code) => Answer::of_code(code),
-    }
+    let into = &mut [0xEE; MOST][..len];
+    let got = ctl.part(shelf, reservation, id, offset, into);
+    Answer::of_part(got, into)
 }
 
 fn info<C: Controller>(rt: &impl Abort, ctl: &mut C, words: &mut LineWords) -> Answer {
@@ -183,11 +202,9 @@ fn fru_part<C: Controller>(rt: &impl Abort, ctl: &mut C, words: &mut LineWords) 
     let id = words.next_byte(rt);
     let offset = words.next_number(rt);
     let len = words.next_len(rt);
-    let mut into = [0xEE; MOST];
-    match ctl.fru_part(id, offset, &mut into[..len]) {
-        Ok(got) => Answer::of_two(&[got], &into[..len]),
-        Err(code) => Answer::of_code(code),
-    }
+    let into = &mut [0xEE; MOST][..len];
+    let got = ctl.fru_part(id, offset, into);
+    Answer::of_fru_part(got, into)
 }
 
 /// Makes the call of a line, whose numbers are in hex:
@@ -220,12 +237,15 @@ pub fn parts<'a>(rt: &impl Abort, line: &'a str) -> (&'a str, &'a str) {
     line.split_once('|').expect(rt, line)
 }
 
-/// Makes the call of a line, and compares its answer with the one after the bar.
-pub fn is_answered<C: Controller>(rt: &impl Abort, ctl: &mut C, line: &str) {
+/// Makes the call of a line, and compares its answer with the one after the bar. A failure names the case.
+pub fn case_is_answered<C: Controller>(rt: &impl Abort, ctl: &mut C, line: &str, case: &str) {
     let (call, wanted) = parts(rt, line);
-    let answer = ask(rt, ctl, call);
-    let text = answer.text(rt);
-    assert!(rt; text == wanted, "{line}: got {text}");
+    ask(rt, ctl, call).has_text(rt, wanted, case);
+}
+
+/// The same for a line that is the case.
+pub fn is_answered<C: Controller>(rt: &impl Abort, ctl: &mut C, line: &str) {
+    case_is_answered(rt, ctl, line, line);
 }
 
 /// The same for each of the lines.

@@ -1,6 +1,6 @@
 //! Images with a fault and without, by their lines.
 use crate::calls::parts;
-use ipmi_image::Image;
+use crate::images::fault_of;
 use std::alloc::Global;
 use std::process::Abort;
 
@@ -17,21 +17,26 @@ fn push_lines(rt: &impl Abort, image: &mut Vec<u8>, text: &str) {
     }
 }
 
-/// What is said of the image, and `read` where it has no fault.
-fn verdict(rt: &impl Abort, alloc: Global, image: &[u8]) -> String {
-    match Image::read(alloc, image) {
-        Ok(_) => String::from_str(alloc, "read").expect(rt, "memory"),
-        Err(fault) => fault.to_string(alloc).expect(rt, "memory"),
+/// The image of these lines, one text after the other.
+fn image_of(rt: &impl Abort, alloc: Global, first: &str, second: &str) -> Vec<u8> {
+    let mut image = Vec::new(alloc);
+    push_lines(rt, &mut image, first);
+    push_lines(rt, &mut image, second);
+    image
+}
+
+/// What is said of the image of these lines, and `read` where it has no fault.
+fn verdict(rt: &impl Abort, alloc: Global, first: &str, second: &str) -> String {
+    match fault_of(alloc, &image_of(rt, alloc, first, second)) {
+        Some(fault) => fault.to_string(alloc).expect(rt, "memory"),
+        None => String::from_str(alloc, "read").expect(rt, "memory"),
     }
 }
 
 /// Reads these lines and those of the case, and compares what is said of them with what comes after the bar.
 fn has_verdict(rt: &impl Abort, alloc: Global, before: &str, case: &str) {
     let (lines, wanted) = parts(rt, case);
-    let mut image = Vec::new(alloc);
-    push_lines(rt, &mut image, before);
-    push_lines(rt, &mut image, lines);
-    let got = verdict(rt, alloc, &image);
+    let got = verdict(rt, alloc, before, lines);
     assert!(rt; got.as_str() == wanted, "{case}: got {got}");
 }
 

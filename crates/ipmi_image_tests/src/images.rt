@@ -1,6 +1,6 @@
 //! Images that several files of tests read, and what a controller over one answers first.
 use crate::calls::are_answered;
-use ipmi_image::{Image, ImageController};
+use ipmi_image::{Image, ImageController, ImageFault};
 use std::alloc::Global;
 use std::process::Abort;
 
@@ -64,6 +64,18 @@ pub fn over(rt: &impl Abort, alloc: Global, text: &str) -> ImageController {
 }
 
 /// Asks a controller over the image the calls of these lines, each with its answer after a bar.
+pub fn image_itself_is_answered(rt: &impl Abort, image: Image, lines: &str) {
+    let mut ctl = ImageController::new(image);
+    are_answered(rt, &mut ctl, lines);
+    drop(ctl);
+}
+
+/// The same for the image that the text is.
 pub fn image_is_answered(rt: &impl Abort, alloc: Global, text: &str, lines: &str) {
-    are_answered(rt, &mut over(rt, alloc, text), lines);
+    image_itself_is_answered(rt, image(rt, alloc, text), lines);
+}
+
+/// What is wrong with an image, if anything is.
+pub fn fault_of(alloc: Global, image: &[u8]) -> Option<ImageFault> {
+    Image::read(alloc, image).err()
 }

@@ -1,14 +1,14 @@
 //! Images cut short, and records and inventories as long as they may be, and longer.
-use crate::images::{THREE_ROWS, image_is_answered};
+use crate::images::{THREE_ROWS, fault_of, image_is_answered};
 use crate::rewritten::has_text;
-use ipmi_image::{Image, ImageFault};
+use ipmi_image::ImageFault;
 use std::alloc::Global;
 use std::fmt::Write;
 use std::process::Abort;
 
 /// Compares the fault of the image, if it has one.
 fn has_fault(rt: &impl Abort, alloc: Global, image: &[u8], wanted: Option<ImageFault>) {
-    let fault = Image::read(alloc, image).err();
+    let fault = fault_of(alloc, image);
     assert!(rt; fault == wanted, "{} bytes: {fault:?}", image.len());
 }
 

@@ -1,4 +1,6 @@
 //! Tests of ipmi_image: images and their faults, both controllers, and images written again.
+//!
+//! A controller or an image is dropped by a call of `drop`: its parts are then dropped in one proof, not in each body.
 #![tactic(auto)]
 
 #[cfg(test)]

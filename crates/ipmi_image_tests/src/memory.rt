@@ -1,19 +1,18 @@
 //! What takes memory, read and written: that it is there, and that each want of it is answered.
-use crate::calls::are_answered;
-use crate::images::{ANSWERS, REWRITTEN, SAVED};
-use ipmi_image::{Image, ImageController, ImageFault, image_text};
+use crate::images::{ANSWERS, REWRITTEN, SAVED, image_itself_is_answered};
+use crate::rewritten::is_text;
+use ipmi_image::{Image, ImageFault, image_text};
 use std::alloc::AllocError;
 use std::process::Abort;
 
 /// Asserts that bytes are the text of `SAVED` written again.
 fn is_rewritten(rt: &impl Abort, bytes: &[u8]) {
-    let text = std::str::from_utf8(bytes).expect(rt, "a text");
-    assert!(rt; text == REWRITTEN, "got {text}");
+    is_text(rt, bytes, REWRITTEN, "SAVED");
 }
 
 /// Asserts that an image is `SAVED`, whole. It takes no memory.
 fn is_whole(rt: &impl Abort, image: Image) {
-    are_answered(rt, &mut ImageController::new(image), ANSWERS);
+    image_itself_is_answered(rt, image, ANSWERS);
 }
 
 /// Asserts that bytes are the text of `SAVED` written again, or that memory was refused.

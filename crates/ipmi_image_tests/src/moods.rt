@@ -1,9 +1,9 @@
 //! What a scripted controller makes of each call, mood by mood.
-use crate::calls::{LineWords, are_answered, ask, parts};
+use crate::calls::{LineWords, are_answered, case_is_answered, parts};
 use crate::images::{ANSWERS, OTHER, SAVED, image};
 use ipmi_bus::Code;
 use ipmi_image::{Mood, Scripted};
-use std::alloc::Global;
+use std::alloc::{AllocError, Global};
 use std::process::Abort;
 
 fn grant(rt: &impl Abort, words: &mut LineWords) -> Mood {
@@ -43,34 +43,26 @@ fn scripted(rt: &impl Abort, alloc: Global, moods: &str) -> Scripted {
     Scripted::new(image(rt, alloc, SAVED), list)
 }
 
-/// Compares the first answer of a controller that meets the call in this mood.
-fn is_met(rt: &impl Abort, alloc: Global, mood: &str, call: &str, wanted: &str) {
+/// Compares the first answer of a controller that meets a call. The line has the mood, the call and the answer.
+fn is_met(rt: &impl Abort, alloc: Global, line: &str) {
+    let (mood, call) = parts(rt, line);
     let mut ctl = scripted(rt, alloc, mood);
-    let answer = ask(rt, &mut ctl, call);
-    let text = answer.text(rt);
-    assert!(rt;
-        text == wanted,
-        "{mood}, {call}: got {text}, wanted {wanted}"
-    );
-}
-
-/// The same for a line of a mood, a call and the answer.
-fn line_is_met(rt: &impl Abort, alloc: Global, line: &str) {
-    let (mood, rest) = parts(rt, line);
-    let (call, wanted) = parts(rt, rest);
-    is_met(rt, alloc, mood, call, wanted);
+    case_is_answered(rt, &mut ctl, call, line);
+    drop(ctl);
 }
 
 /// The same for each of these lines.
 pub fn are_met(rt: &impl Abort, alloc: Global, lines: &str) {
     for line in lines.lines() {
-        line_is_met(rt, alloc, line);
+        is_met(rt, alloc, line);
     }
 }
 
 /// Asks the calls of these lines, the first of which meet these moods.
 pub fn moods_are_met(rt: &impl Abort, alloc: Global, moods: &str, lines: &str) {
-    are_answered(rt, &mut scripted(rt, alloc, moods), lines);
+    let mut ctl = scripted(rt, alloc, moods);
+    are_answered(rt, &mut ctl, lines);
+    drop(ctl);
 }
 
 /// A mood, the call that meets it, and its answer.
@@ -175,13 +167,19 @@ fn is_refusal(code: u8) -> bool {
     ![0x00, 0xC0, 0xC3, 0xC5, 0x81, 0xC7, 0xC8, 0xCA, 0xCB].contains(&code)
 }
 
+/// A refusal with this code, and the call of the line. Its answer is the code, or the plain one that the line has.
+fn refusal(rt: &impl Abort, alloc: Global, code: u8, line: &str) -> Result<String, AllocError> {
+    if !is_refusal(code) {
+        return format!(in alloc; "refuse {code:x}|{line}");
+    }
+    let (call, _) = parts(rt, line);
+    format!(in alloc; "refuse {code:x}|{call}|code {code:02x}")
+}
+
 /// The code is the answer to the call, or the call is answered plainly, as the line has it.
 fn refusal_is_met(rt: &impl Abort, alloc: Global, code: u8, line: &str) {
-    let (call, plain) = parts(rt, line);
-    let mood = format!(in alloc; "refuse {code:x}").expect(rt, "memory");
-    let refused = format!(in alloc; "code {code:02x}").expect(rt, "memory");
-    let wanted = if is_refusal(code) { &refused } else { plain };
-    is_met(rt, alloc, &mood, call, wanted);
+    let refused = refusal(rt, alloc, code, line).expect(rt, "memory");
+    is_met(rt, alloc, &refused);
 }
 
 /// The same for a call of each kind.

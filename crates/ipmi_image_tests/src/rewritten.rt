@@ -7,11 +7,23 @@ use ipmi_image::{LineBuffer, image_text, record_line};
 use std::alloc::Global;
 use std::process::Abort;
 
+/// Asserts that bytes are this text. A failure names the case.
+pub fn is_text(rt: &impl Abort, bytes: &[u8], wanted: &str, case: &str) {
+    let got = std::str::from_utf8(bytes).expect(rt, case);
+    assert!(rt; got == wanted, "{case}: got {got}");
+}
+
+/// The image that the text is, written again.
+fn written_again(rt: &impl Abort, alloc: Global, text: &str) -> Vec<u8> {
+    let image = image(rt, alloc, text);
+    let bytes = image_text(alloc, &image).expect(rt, "memory");
+    drop(image);
+    bytes
+}
+
 /// Compares the text of the image with this one.
 pub fn has_text(rt: &impl Abort, alloc: Global, text: &str, wanted: &str) {
-    let bytes = image_text(alloc, &image(rt, alloc, text)).expect(rt, "memory");
-    let got = std::str::from_utf8(&bytes).expect(rt, text);
-    assert!(rt; got == wanted, "{text}: got {got}");
+    is_text(rt, &written_again(rt, alloc, text), wanted, text);
 }
 
 /// The same, and compares the text of that text with itself.
@@ -148,8 +160,7 @@ fn has_line(rt: &impl Abort, line: &mut LineBuffer, lent: &Record<'_>, wanted: &
     requires { length lent.now.bytes.now ≤ 256 }
 {
     record_line(lent, line);
-    let got = std::str::from_utf8(line.as_slice()).expect(rt, "text");
-    assert!(rt; got == wanted, "{got}");
+    is_text(rt, line.as_slice(), wanted, wanted);
 }
 
 // One buffer is used for all. No next id is a dash, and of the first line nothing is left.

@@ -67,7 +67,6 @@ fn shown_of(sensor: &Sensor, reading: Option<Reading>) -> Shown
 }
 
 /// Appends the value of a raw byte with its units, or `raw 0xNN` where the record gives it none.
-#[tactic(auto, using(crate::proofs::ColumnLemmas::quantity_appended))]
 pub(crate) fn push_raw(text: &mut String, full: &FullSensor, raw: u8) -> Result<(), AllocError>
     ensures { OnOk result
         (Appends (IsRawText full.now raw) (string_bytes text.old) (string_bytes text.new)) }

@@ -2,8 +2,6 @@
 #![tactic(auto)]
 
 mod input;
-#[cfg(test)]
-mod tests;
 
 use input::{InputFault, read_input, words_of};
 pub use ipmi_command_line::{Command, Count, Kind, Task, UsageFault, Word, Words, command_of};
@@ -29,10 +27,8 @@ fn input_name(line: &Result<Command, UsageFault>) -> &str {
     }
 }
 
-/// Reads the command line and, where it is a command, the image; answers on buffered standard output, and gives
-/// the exit status.
+/// Reads the command line and, where it is a command, the image, and answers it; gives the exit status.
 fn program(rt: &HostRuntime) -> u8 {
-    let mut err = Written::new(rt.stderr());
     let line = match words_of(rt) {
         Ok(words) => command_of(rt.alloc(), &words),
         Err(fault) => Err(fault),
@@ -41,26 +37,32 @@ fn program(rt: &HostRuntime) -> u8 {
         Ok(command) => read_input(rt, command.image()),
         Err(_) => Ok(Vec::new(rt.alloc())),
     };
-    let image = match image {
-        Ok(image) => image,
-        Err(InputFault::Memory) => {
-            say(&mut err, Message::OutOfMemory);
-            return OUT_OF_MEMORY;
-        }
+    match image {
+        Ok(image) => answer_line(rt, &line, &image),
+        Err(InputFault::Memory) => fail(rt, Message::OutOfMemory, OUT_OF_MEMORY),
         Err(InputFault::Unreadable) => {
-            say(&mut err, Message::CannotRead(input_name(&line)));
-            return UNREADABLE;
+            fail(rt, Message::CannotRead(input_name(&line)), UNREADABLE)
         }
-    };
+    }
+}
+
+/// Answers the command line over the image on buffered standard output.
+fn answer_line(rt: &HostRuntime, line: &Result<Command, UsageFault>, image: &[u8]) -> u8 {
     let Ok(buffer) = BufWriter::new(rt.alloc(), io::writer(rt)) else {
-        say(&mut err, Message::OutOfMemory);
-        return OUT_OF_MEMORY;
+        return fail(rt, Message::OutOfMemory, OUT_OF_MEMORY);
     };
     let mut out = Written::new(buffer);
-    let status = answer(rt.alloc(), &line, &image, &mut out, &mut err);
+    let mut err = Written::new(rt.stderr());
+    let status = answer(rt.alloc(), line, image, &mut out, &mut err);
     if status != WRITE_FAULT && out.into_inner().flush().is_err() {
-        say(&mut err, Message::WriteFault);
-        return WRITE_FAULT;
+        return fail(rt, Message::WriteFault, WRITE_FAULT);
     }
+    status
+}
+
+/// Says the message on standard error, and gives the status.
+fn fail(rt: &HostRuntime, message: Message<'_>, status: u8) -> u8 {
+    let mut err = Written::new(rt.stderr());
+    say(&mut err, message);
     status
 }

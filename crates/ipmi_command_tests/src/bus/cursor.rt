@@ -119,7 +119,7 @@ const ENDINGS: [Case; 9] = [
 ];
 
 /// Asserts that a listing ended after so many calls and before its first line, and that this was said.
-fn is_ended(rt: &impl Abort, alloc: Global, left: &Left, case: &Case, name: &str) {
+fn is_ended(rt: &impl Abort, alloc: Global, left: Left, case: &Case, name: &str) {
     let calls = case.calls;
     let said = case.said;
     let wanted = format!(in alloc; "1 {calls}\n{said}--\n").expect(rt, "memory");
@@ -131,7 +131,7 @@ fn ends_by_name(rt: &impl Abort, alloc: Global, case: &Case) {
     let mut ctl = Counting::new(Replay::new(case.replies));
     let left = listed(alloc, &mut ctl, case.tries);
     let name = format!(in alloc; "{case:?}").expect(rt, "memory");
-    is_ended(rt, alloc, &left, case, name.as_str());
+    is_ended(rt, alloc, left, case, name.as_str());
 }
 
 #[test]
@@ -151,7 +151,7 @@ fn a_short_part_is_kept(rt: HostRuntime) {
     let mut ctl = Counting::new(Replay::new(&replies));
     let left = listed(rt.alloc(), &mut ctl, 5);
     let line = "sdr 0001 ffff 010051c000\n";
-    is_done(&rt, rt.alloc(), &left, line, 3, "a short part");
+    is_done(&rt, rt.alloc(), left, line, 3, "a short part");
     asked_last(&rt, &ctl.inner, 2, 3);
 }
 
@@ -164,9 +164,8 @@ fn longest_line(rt: &impl Abort, alloc: Global) -> String {
 /// Lists the record of this line in parts of one byte: it comes again, after so many calls.
 fn is_listed_again(rt: &impl Abort, alloc: Global, line: &str, calls: u32) {
     let image = format!(in alloc; "ipmi-image 1\n{line}end\n").expect(rt, "memory");
-    let mut ctl = over(rt, alloc, &image);
-    let left = listed_by_bytes(alloc, &mut ctl);
-    is_done(rt, alloc, &left, line, calls, "the longest record");
+    let left = listed_by_bytes(alloc, over(rt, alloc, &image));
+    is_done(rt, alloc, left, line, calls, "the longest record");
 }
 
 // A reservation, and a call for each of the 256 bytes.

@@ -10,8 +10,9 @@ use std::process::Abort;
 fn is_one_call_more(rt: &impl Abort, alloc: Global, call: u32, code: u8) {
     let mut ctl = interrupting(rt, alloc, THREE_ROWS, call, code);
     let left = listed(alloc, &mut ctl, 1);
+    drop(ctl);
     let case = format!(in alloc; "code {code:02X}h at call {call}").expect(rt, "memory");
-    is_done(rt, alloc, &left, THREE_LINES, 7, case.as_str());
+    is_done(rt, alloc, left, THREE_LINES, 7, case.as_str());
 }
 
 /// The same for each of the six calls: a reservation, and two calls for the first record, two for the second and one

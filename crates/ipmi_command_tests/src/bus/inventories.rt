@@ -50,6 +50,7 @@ fn is_read(rt: &impl Abort, alloc: Global, image: &str, part: u8, calls: u32)
     let is_whole = bytes.as_slice() == longest_inventory(rt, alloc).as_slice();
     assert!(rt; is_whole, "parts of {part}: {} bytes", bytes.len());
     assert!(rt; ctl.calls == calls, "parts of {part}: {} calls", ctl.calls);
+    drop(ctl);
 }
 
 // The size takes a call, 258 parts of 254 bytes are 65,532 bytes, and the last part has 3 bytes.

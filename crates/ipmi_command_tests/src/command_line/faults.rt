@@ -16,7 +16,7 @@ fn is_fault(rt: &impl Abort, got: &Result<Command, UsageFault>, wanted: UsageFau
 fn fails(rt: &impl Abort, alloc: Global, line: &str, fault: UsageFault) {
     let got = read_line(rt, alloc, line);
     is_fault(rt, &got, fault, line);
-    is_usage(rt, alloc, &got, line);
+    is_usage(rt, alloc, got, line);
 }
 
 /// The same for each of these lines.
@@ -31,7 +31,7 @@ fn all_fail(rt: &impl Abort, alloc: Global, lines: &str, fault: UsageFault) {
 fn no_command(rt: &impl Abort, alloc: Global, line: &str) {
     let got = read_words(rt, alloc, line);
     is_fault(rt, &got, UsageFault::Command, line);
-    is_usage(rt, alloc, &got, line);
+    is_usage(rt, alloc, got, line);
 }
 
 const OTHER_WORDS: &str = "hex

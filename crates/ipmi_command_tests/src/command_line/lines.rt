@@ -15,10 +15,12 @@ fn name_only(rt: &impl Abort, alloc: Global) -> Words {
 pub(crate) fn command_of_words(
     rt: &impl Abort,
     alloc: Global,
-    words: &Words,
+    words: Words,
 ) -> Result<Command, UsageFault> {
     assert!(rt; 0 < words.as_slice().len(), "no word");
-    command_of(alloc, words)
+    let command = command_of(alloc, &words);
+    drop(words);
+    command
 }
 
 /// The command of a line with all these words, which are split at spaces.
@@ -27,7 +29,7 @@ pub(crate) fn read_line(rt: &impl Abort, alloc: Global, line: &str) -> Result<Co
     for word in line.split_whitespace() {
         words.push(word).expect(rt, "memory");
     }
-    command_of_words(rt, alloc, &words)
+    command_of_words(rt, alloc, words)
 }
 
 /// The command of a line with all these words, which are split at commas.
@@ -40,7 +42,7 @@ pub(crate) fn read_words(
     for word in line.split(',') {
         words.push(word).expect(rt, "memory");
     }
-    command_of_words(rt, alloc, &words)
+    command_of_words(rt, alloc, words)
 }
 
 /// The command that these words are, which are split at spaces.

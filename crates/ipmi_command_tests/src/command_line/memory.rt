@@ -16,7 +16,7 @@ fn words(alloc: Global) -> Result<Words, AllocError> {
 
 fn command(rt: &impl Abort, alloc: Global) -> Result<Command, UsageFault> {
     let words = words(alloc)?;
-    command_of_words(rt, alloc, &words)
+    command_of_words(rt, alloc, words)
 }
 
 fn is_name(rt: &impl Abort, word: &Word) {

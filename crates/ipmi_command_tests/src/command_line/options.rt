@@ -37,26 +37,27 @@ fn options_text(rt: &impl Abort, alloc: Global, command: &Command) -> String {
 pub(super) fn is_command(
     rt: &impl Abort,
     alloc: Global,
-    command: &Command,
+    command: Command,
     task: &str,
     options: &str,
     case: &str,
 ) {
     let got = task_text(rt, alloc, command.task());
     assert!(rt; got.as_str() == task, "{case}: got {got}");
-    let got = options_text(rt, alloc, command);
+    let got = options_text(rt, alloc, &command);
+    drop(command);
     assert!(rt; got.as_str() == options, "{case}: got {got}");
 }
 
 /// Asserts that a command is of this task, with no option.
-pub(super) fn is_task(rt: &impl Abort, alloc: Global, command: &Command, task: &str, case: &str) {
+pub(super) fn is_task(rt: &impl Abort, alloc: Global, command: Command, task: &str, case: &str) {
     is_command(rt, alloc, command, task, "None 32 5 -", case);
 }
 
 /// Asserts that a line is `sdr hex` with options: those after its bar.
 fn is_hex(rt: &impl Abort, alloc: Global, case: &str) {
     let (words, options) = parts(rt, case);
-    is_command(rt, alloc, &command(rt, alloc, words), "Hex", options, case);
+    is_command(rt, alloc, command(rt, alloc, words), "Hex", options, case);
 }
 
 /// The same for each of these lines.
@@ -108,7 +109,7 @@ const STARTS: &str = "--from 0002|Hex
 fn starts_at_two(rt: &impl Abort, alloc: Global, case: &str) {
     let (words, task) = parts(rt, case);
     let command = command(rt, alloc, words);
-    is_command(rt, alloc, &command, task, "Some(2) 32 5 -", case);
+    is_command(rt, alloc, command, task, "Some(2) 32 5 -", case);
 }
 
 #[test]
@@ -133,5 +134,5 @@ fn whole_command(rt: &impl Abort, alloc: Global) -> Command {
 fn a_command_gives_what_it_was_made_of(rt: HostRuntime) {
     let command = whole_command(&rt, rt.alloc());
     let options = "Some(65534) 254 0 server.image";
-    is_command(&rt, rt.alloc(), &command, "Get(Fan 1)", options, "made");
+    is_command(&rt, rt.alloc(), command, "Get(Fan 1)", options, "made");
 }

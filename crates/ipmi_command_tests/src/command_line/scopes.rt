@@ -15,6 +15,7 @@ fn scope_text(rt: &impl Abort, alloc: Global, words: &str) -> String {
     let limit = count.limit();
     let takes = task.takes_from();
     let pages = task.is_listing();
+    drop(command);
     format!(in alloc; "{shelf:?} {start:?} {count:?} {limit:?} {takes} {pages}").expect(
         rt, "memory",
     )
@@ -55,6 +56,7 @@ fn has_name(rt: &impl Abort, alloc: Global, words: &str, wanted: &str) {
     let command = command(rt, alloc, words);
     let got = command.task().name();
     assert!(rt; got == wanted, "{words}: got {got}");
+    drop(command);
 }
 
 #[test]

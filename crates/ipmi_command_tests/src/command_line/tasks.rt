@@ -8,7 +8,7 @@ use std::process::Abort;
 /// Asserts that the words of a line, before its bar, are this task with no option.
 fn is_plain(rt: &impl Abort, alloc: Global, case: &str) {
     let (words, task) = parts(rt, case);
-    is_task(rt, alloc, &command(rt, alloc, words), task, case);
+    is_task(rt, alloc, command(rt, alloc, words), task, case);
 }
 
 /// The same for each of these lines.
@@ -78,7 +78,7 @@ sdr,get,--,--part|Get(--part)";
 fn is_plain_with_name(rt: &impl Abort, alloc: Global, case: &str) {
     let (words, task) = parts(rt, case);
     let command = read_words(rt, alloc, words).expect(rt, case);
-    is_task(rt, alloc, &command, task, case);
+    is_task(rt, alloc, command, task, case);
 }
 
 #[test]
@@ -154,7 +154,9 @@ image rewrite|false";
 /// Asserts whether the words of a line are a listing.
 fn is_listing(rt: &impl Abort, alloc: Global, case: &str) {
     let (words, wanted) = parts(rt, case);
-    let is_listing = command(rt, alloc, words).is_listing();
+    let command = command(rt, alloc, words);
+    let is_listing = command.is_listing();
+    drop(command);
     assert!(rt;
         is_listing == (wanted == "true"),
         "{case}: got {is_listing}"

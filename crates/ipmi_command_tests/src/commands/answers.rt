@@ -48,8 +48,9 @@ fn answered_text(rt: &impl Abort, alloc: Global, left: &Answered, case: &str) ->
 }
 
 /// Asserts that this was left, in the form of `answered_text`.
-pub(super) fn is_answer(rt: &impl Abort, alloc: Global, left: &Answered, wanted: &str, case: &str) {
-    let got = answered_text(rt, alloc, left, case);
+pub(super) fn is_answer(rt: &impl Abort, alloc: Global, left: Answered, wanted: &str, case: &str) {
+    let got = answered_text(rt, alloc, &left, case);
+    drop(left);
     assert!(rt; got.as_str() == wanted, "{case}: got {got}");
 }
 
@@ -57,20 +58,21 @@ pub(super) fn is_answer(rt: &impl Abort, alloc: Global, left: &Answered, wanted:
 pub(super) fn is_answered(
     rt: &impl Abort,
     alloc: Global,
-    line: &Result<Command, UsageFault>,
+    line: Result<Command, UsageFault>,
     image: &[u8],
     wanted: &str,
     case: &str,
 ) {
-    let left = left_by_answer(alloc, line, image);
-    is_answer(rt, alloc, &left, wanted, case);
+    let left = left_by_answer(alloc, &line, image);
+    drop(line);
+    is_answer(rt, alloc, left, wanted, case);
 }
 
 /// Asserts that the answer to a command line over three records is the usage line, with no output.
 pub(crate) fn is_usage(
     rt: &impl Abort,
     alloc: Global,
-    line: &Result<Command, UsageFault>,
+    line: Result<Command, UsageFault>,
     case: &str,
 ) {
     is_answered(rt, alloc, line, THREE_ROWS.as_bytes(), USAGE, case);
@@ -80,14 +82,14 @@ pub(crate) fn is_usage(
 fn is_answered_over(rt: &impl Abort, alloc: Global, words: &str, case: &str) {
     let (image, wanted) = case.split_once("--\n").expect(rt, case);
     let line = Ok(command(rt, alloc, words));
-    is_answered(rt, alloc, &line, image.as_bytes(), wanted, case);
+    is_answered(rt, alloc, line, image.as_bytes(), wanted, case);
 }
 
 /// Asserts what the words in the first line of the case leave over this image: the rest of the case.
 pub(super) fn words_are_answered(rt: &impl Abort, alloc: Global, image: &str, case: &str) {
     let (words, wanted) = first_line(rt, case);
     let line = read_line(rt, alloc, words);
-    is_answered(rt, alloc, &line, image.as_bytes(), wanted, case);
+    is_answered(rt, alloc, line, image.as_bytes(), wanted, case);
 }
 
 /// Asserts what the answer to these words leaves over the image of each case.

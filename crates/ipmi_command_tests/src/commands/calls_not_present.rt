@@ -1,5 +1,5 @@
 //! Each call of a command answered that what it asks for is not present.
-use super::left::{is_left, left_by};
+use super::left::one_leaves;
 use super::over_images::interrupting;
 use super::saved::image_named;
 use crate::cases::{case_of, number};
@@ -12,9 +12,9 @@ use std::process::Abort;
 fn is_left_without(rt: &impl Abort, alloc: Global, case: &str) {
     let case = case_of(rt, case);
     let call = number(rt, case.more);
-    let mut ctl = interrupting(rt, alloc, image_named(rt, case.image), call, 0xCB);
-    let left = left_by(alloc, &mut ctl, &command_of_case(rt, alloc, case.words));
-    is_left(rt, alloc, &left, case.wanted, case.line);
+    let ctl = interrupting(rt, alloc, image_named(rt, case.image), call, 0xCB);
+    let command = command_of_case(rt, alloc, case.words);
+    one_leaves(rt, alloc, ctl, command, case.wanted, case.line);
 }
 
 /// The same for each of these cases.

@@ -1,5 +1,5 @@
 //! Commands over an image that changes at a call, and how what they leave is compared with what is wanted.
-use super::left::{Left, is_left, left_by};
+use super::left::{Left, is_left, left_by_one};
 use super::over_images::{Two, changing};
 use super::saved::image_named;
 use crate::cases::{case_of, parts};
@@ -19,8 +19,8 @@ pub(super) fn left_over(
         first: image_named(rt, names.first),
         second: image_named(rt, names.second),
     };
-    let mut ctl = changing(rt, alloc, images, letters);
-    left_by(alloc, &mut ctl, &command_of_case(rt, alloc, words))
+    let ctl = changing(rt, alloc, images, letters);
+    left_by_one(alloc, ctl, command_of_case(rt, alloc, words))
 }
 
 /// Asserts what a command leaves over an image that changes. The first line of the case is the words, the names of the
@@ -33,7 +33,7 @@ fn is_left_over(rt: &impl Abort, alloc: Global, case: &str) {
         second,
     };
     let left = left_over(rt, alloc, case.words, names, letters);
-    is_left(rt, alloc, &left, case.wanted, case.line);
+    is_left(rt, alloc, left, case.wanted, case.line);
 }
 
 /// The same for each of these cases.

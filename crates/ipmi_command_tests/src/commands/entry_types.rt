@@ -85,7 +85,7 @@ fn is_listed(rt: &impl Abort, alloc: Global, case: &str) {
     let left = left_over(rt, alloc, words, log_of_all(rt, alloc).as_str());
     let lines = lines_between(rt, alloc, types);
     let wanted = format!(in alloc; "0 {calls}\n--\n{lines}").expect(rt, "memory");
-    is_left(rt, alloc, &left, wanted.as_str(), case);
+    is_left(rt, alloc, left, wanted.as_str(), case);
 }
 
 /// Words, the first and the last type that they list, and how many calls they make.

@@ -1,6 +1,6 @@
 //! A fault at each call of a command: a busy or a cancelled call that is outlived, one too many of them, a refusal, and
 //! a part that is too long.
-use super::left::{Left, is_left, left_by};
+use super::left::{Left, is_left, left_by_one};
 use super::outputs::{INFO, INVENTORIES, INVENTORY, LOCATOR_BLOCK, NEWEST, SENSOR_BLOCK};
 use super::over_images::scripted;
 use super::saved::image_named;
@@ -176,8 +176,8 @@ fn calls_of(course: &Course) -> u32 {
 fn left_of(rt: &impl Abort, alloc: Global, course: &Course, tries: u8, moods: &str) -> Left {
     let words = course.words;
     let words = format!(in alloc; "--tries,{tries},{words}").expect(rt, "memory");
-    let mut ctl = scripted(rt, alloc, image_named(rt, course.image), moods);
-    left_by(alloc, &mut ctl, &command_of_case(rt, alloc, words.as_str()))
+    let ctl = scripted(rt, alloc, image_named(rt, course.image), moods);
+    left_by_one(alloc, ctl, command_of_case(rt, alloc, words.as_str()))
 }
 
 /// All that the course leaves, after so many calls.
@@ -306,7 +306,7 @@ fn is_met(
     let wanted = wanted_of(rt, alloc, course, call, fault, meeting);
     let words = course.words;
     let case = format!(in alloc; "{words}: {moods}").expect(rt, "memory");
-    is_left(rt, alloc, &left, wanted.as_str(), case.as_str());
+    is_left(rt, alloc, left, wanted.as_str(), case.as_str());
 }
 
 /// The same for each call of the course.
@@ -329,7 +329,7 @@ fn all_are_met(rt: &impl Abort, alloc: Global, meeting: Meeting) {
 fn is_whole_without_faults(rt: &impl Abort, alloc: Global, course: &Course) {
     let left = left_of(rt, alloc, course, 0, "");
     let wanted = whole_text(rt, alloc, course, calls_of(course));
-    is_left(rt, alloc, &left, wanted.as_str(), course.words);
+    is_left(rt, alloc, left, wanted.as_str(), course.words);
 }
 
 #[test]

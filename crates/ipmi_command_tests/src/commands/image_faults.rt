@@ -120,7 +120,7 @@ fn padded(rt: &impl Abort, alloc: Global, before: &str, zeros: usize, after: &st
 /// Asserts what is left by a listing of an image in hex.
 fn is_listed(rt: &impl Abort, alloc: Global, image: &[u8], wanted: &str, case: &str) {
     let line = Ok(command(rt, alloc, "sdr hex"));
-    is_answered(rt, alloc, &line, image, wanted, case);
+    is_answered(rt, alloc, line, image, wanted, case);
 }
 
 // A record of 257 bytes, and an inventory of 65,536.

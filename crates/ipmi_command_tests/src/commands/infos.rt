@@ -1,5 +1,5 @@
 //! The infos of the two shelves: seven lines, none where there is no info, and what troubles and refusals make of them.
-use super::left::{is_left, left_by};
+use super::left::one_leaves;
 use super::over_images::interrupting;
 use super::printed::all_print;
 use super::saved::image_named;
@@ -165,9 +165,9 @@ fn an_info_is_asked_for_until_it_comes(rt: HostRuntime) {
 fn is_left_after(rt: &impl Abort, alloc: Global, case: &str) {
     let (digits, wanted) = first_line(rt, case);
     let image = image_named(rt, "log");
-    let mut ctl = interrupting(rt, alloc, image, 1, byte_of(rt, digits));
-    let left = left_by(alloc, &mut ctl, &command(rt, alloc, "--tries 0 sel"));
-    is_left(rt, alloc, &left, wanted, digits);
+    let ctl = interrupting(rt, alloc, image, 1, byte_of(rt, digits));
+    let command = command(rt, alloc, "--tries 0 sel");
+    one_leaves(rt, alloc, ctl, command, wanted, digits);
 }
 
 const CODES: &str = "c7

@@ -14,7 +14,7 @@ fn is_printed(rt: &impl Abort, alloc: Global, case: &str) {
     let image = format!(in alloc; "ipmi-image 1\nfru 00 {hex}\nend\n").expect(rt, "memory");
     let wanted = format!(in alloc; "0 2\n--\nFRU 0\n{text}\n").expect(rt, "memory");
     let left = left_over(rt, alloc, "fru print 0", image.as_str());
-    is_left(rt, alloc, &left, wanted.as_str(), hex);
+    is_left(rt, alloc, left, wanted.as_str(), hex);
 }
 
 /// The same for each of these cases.
@@ -152,7 +152,7 @@ fn is_not_present(rt: &impl Abort, alloc: Global, id: u8) {
     let words = format!(in alloc; "fru print {id}").expect(rt, "memory");
     let left = left_over(rt, alloc, words.as_str(), EMPTY);
     let wanted = format!(in alloc; "0 1\n--\nFRU {id}\nnot present\n\n").expect(rt, "memory");
-    is_left(rt, alloc, &left, wanted.as_str(), words.as_str());
+    is_left(rt, alloc, left, wanted.as_str(), words.as_str());
 }
 
 #[test]

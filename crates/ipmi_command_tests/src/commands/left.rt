@@ -33,6 +33,19 @@ pub(crate) fn left_by<C: Controller + Drop>(
     }
 }
 
+/// What one command leaves over the controller, which ends with it.
+pub(crate) fn left_by_one<C: Controller + Drop>(
+    alloc: Global,
+    ctl: Counting<C>,
+    command: Command,
+) -> Left {
+    let mut ctl = ctl;
+    let left = left_by(alloc, &mut ctl, &command);
+    drop(command);
+    drop(ctl);
+    left
+}
+
 pub(crate) fn text_of<'a>(rt: &impl Abort, bytes: &'a [u8], case: &str) -> &'a str {
     std::str::from_utf8(bytes).expect(rt, case)
 }
@@ -48,9 +61,22 @@ fn left_text(rt: &impl Abort, alloc: Global, left: &Left, case: &str) -> String 
 }
 
 /// Asserts that this was left, in the form of `left_text`.
-pub(crate) fn is_left(rt: &impl Abort, alloc: Global, left: &Left, wanted: &str, case: &str) {
-    let got = left_text(rt, alloc, left, case);
+pub(crate) fn is_left(rt: &impl Abort, alloc: Global, left: Left, wanted: &str, case: &str) {
+    let got = left_text(rt, alloc, &left, case);
+    drop(left);
     assert!(rt; got.as_str() == wanted, "{case}: got {got}");
+}
+
+/// Asserts what one command leaves over the controller, which ends with it, in the form of `left_text`.
+pub(crate) fn one_leaves<C: Controller + Drop>(
+    rt: &impl Abort,
+    alloc: Global,
+    ctl: Counting<C>,
+    command: Command,
+    wanted: &str,
+    case: &str,
+) {
+    is_left(rt, alloc, left_by_one(alloc, ctl, command), wanted, case);
 }
 
 /// What was left as a text: the status, the number of calls and the number of bytes, then a bar and the messages.

@@ -107,7 +107,7 @@ pub(super) fn has_parts(
     let calls = len.div_ceil(32).saturating_add(1);
     let text = text_of_parts(rt, alloc, parts);
     let wanted = format!(in alloc; "0 {calls}\n--\nFRU 0\n{text}\n").expect(rt, "memory");
-    is_left(rt, alloc, &left, wanted.as_str(), case);
+    is_left(rt, alloc, left, wanted.as_str(), case);
 }
 
 #[test]

@@ -1,5 +1,5 @@
 //! Listings of a record for each id.
-use super::left::{Left, has_numbers, left_by};
+use super::left::{Left, has_numbers, left_by_one};
 use super::over_images::left_over;
 use crate::command_line::lines::command;
 use crate::controllers::{Counting, Endless};
@@ -48,12 +48,13 @@ fn each_id_from_0001h_to_fffeh_may_have_a_row(rt: HostRuntime) {
     let left = left_over(&rt, rt.alloc(), "sdr hex", image.as_str());
     has_numbers(&rt, rt.alloc(), &left, "0 65535 1638350|", "rows");
     is_rising(&rt, rt.alloc(), &left, 1, "rows");
+    drop(left);
 }
 
 /// What a listing of records without a last one leaves.
 fn left_endless(rt: &impl Abort, alloc: Global) -> Left {
-    let mut ctl = Counting::new(Endless::new());
-    left_by(alloc, &mut ctl, &command(rt, alloc, "sdr hex"))
+    let ctl = Counting::new(Endless::new());
+    left_by_one(alloc, ctl, command(rt, alloc, "sdr hex"))
 }
 
 // 65,535 lines, one for each id from 0000 to fffe, of 25 bytes each: `sdr IIII NNNN `, ten digits and a line feed.
@@ -66,4 +67,5 @@ fn a_listing_without_a_last_record_ends(rt: HostRuntime) {
     assert!(rt; is_first, "another first line");
     let is_last = left.out.ends_with(b"sdr fffe ffff feff51c000\n");
     assert!(rt; is_last, "another last line");
+    drop(left);
 }

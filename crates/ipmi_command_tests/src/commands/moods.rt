@@ -1,5 +1,5 @@
 //! Listings of three records whose calls meet moods: troubles, refusals, short parts and changes.
-use super::left::{Left, has_numbers, left_by};
+use super::left::{Left, has_numbers, left_by_one};
 use super::over_images::scripted;
 use super::saved::{CHANGED_LINES, THREE_LINES, THREE_ROWS};
 use crate::cases::parts;
@@ -10,8 +10,8 @@ use std::process::Abort;
 /// What is left by a listing of three records with so many tries, whose calls meet these moods.
 fn met(rt: &impl Abort, alloc: Global, tries: &str, moods: &str) -> Left {
     let words = format!(in alloc; "--tries {tries} sdr hex").expect(rt, "memory");
-    let mut ctl = scripted(rt, alloc, THREE_ROWS, moods);
-    left_by(alloc, &mut ctl, &command(rt, alloc, words.as_str()))
+    let ctl = scripted(rt, alloc, THREE_ROWS, moods);
+    left_by_one(alloc, ctl, command(rt, alloc, words.as_str()))
 }
 
 /// The text with a line feed after its message, which is after a bar, where there is one.
@@ -21,10 +21,11 @@ fn with_line_feed(rt: &impl Abort, alloc: Global, text: &str) -> String {
 }
 
 /// Asserts that these numbers and this message were left, and no other bytes than the first ones of these lines.
-fn is_left_of(rt: &impl Abort, alloc: Global, left: &Left, lines: &str, wanted: &str, case: &str) {
+fn is_left_of(rt: &impl Abort, alloc: Global, left: Left, lines: &str, wanted: &str, case: &str) {
     let wanted = with_line_feed(rt, alloc, wanted);
-    has_numbers(rt, alloc, left, wanted.as_str(), case);
+    has_numbers(rt, alloc, &left, wanted.as_str(), case);
     assert!(rt; lines.as_bytes().starts_with(&left.out), "{case}: output");
+    drop(left);
 }
 
 /// Asserts what a listing leaves of these lines: the case has tries, moods, numbers and a message with bars between
@@ -33,7 +34,7 @@ fn lists(rt: &impl Abort, alloc: Global, lines: &str, case: &str) {
     let (tries, rest) = parts(rt, case);
     let (moods, wanted) = parts(rt, rest);
     let left = met(rt, alloc, tries, moods);
-    is_left_of(rt, alloc, &left, lines, wanted, case);
+    is_left_of(rt, alloc, left, lines, wanted, case);
 }
 
 /// The same for each of these cases, of the three records.

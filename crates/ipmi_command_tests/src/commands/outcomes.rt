@@ -1,6 +1,6 @@
 //! The outcomes of runs and of answers: the status, the messages and the output, and how many calls are made.
 use super::answers::{USAGE, is_answered, words_are_answered};
-use super::left::{is_left, left_by};
+use super::left::one_leaves;
 use super::over_images::over;
 use super::saved::THREE_ROWS;
 use crate::cases::first_line;
@@ -12,9 +12,8 @@ use std::process::Abort;
 /// Asserts what the words in the first line of a case leave over three records: the rest of the case.
 fn leaves(rt: &impl Abort, alloc: Global, case: &str) {
     let (words, wanted) = first_line(rt, case);
-    let mut ctl = over(rt, alloc, THREE_ROWS);
-    let left = left_by(alloc, &mut ctl, &command(rt, alloc, words));
-    is_left(rt, alloc, &left, wanted, words);
+    let ctl = over(rt, alloc, THREE_ROWS);
+    one_leaves(rt, alloc, ctl, command(rt, alloc, words), wanted, words);
 }
 
 const IN_ONE_RESERVATION: &str = "sdr hex
@@ -172,7 +171,7 @@ out of memory
 fn is_answered_without_image(
     rt: &impl Abort,
     alloc: Global,
-    line: &Result<Command, UsageFault>,
+    line: Result<Command, UsageFault>,
     wanted: &str,
     case: &str,
 ) {
@@ -182,7 +181,7 @@ fn is_answered_without_image(
 /// Asserts what the answer to a fault of the command line leaves where there is no image.
 fn looks_at_no_image(rt: &impl Abort, alloc: Global, fault: UsageFault, wanted: &str) {
     let case = format!(in alloc; "{fault:?}").expect(rt, "memory");
-    is_answered_without_image(rt, alloc, &Err(fault), wanted, case.as_str());
+    is_answered_without_image(rt, alloc, Err(fault), wanted, case.as_str());
 }
 
 #[test]
@@ -209,7 +208,7 @@ image rewrite";
 /// Asserts that these words are answered by the fault of what is no image.
 fn looks_at_the_image(rt: &impl Abort, alloc: Global, words: &str) {
     let line = read_line(rt, alloc, words);
-    is_answered_without_image(rt, alloc, &line, NO_IMAGE, words);
+    is_answered_without_image(rt, alloc, line, NO_IMAGE, words);
 }
 
 #[test]

@@ -1,5 +1,5 @@
 //! Controllers over saved images: plain ones, and those whose calls meet moods, each of which is written as a letter.
-use super::left::{Left, left_by};
+use super::left::{Left, left_by_one};
 use super::saved::{CHANGED_ROWS, EMPTY};
 use crate::command_line::lines::command_of_case;
 use crate::controllers::Counting;
@@ -91,6 +91,6 @@ pub(crate) fn scripted(
 
 /// What a command leaves over the image.
 pub(super) fn left_over(rt: &impl Abort, alloc: Global, words: &str, image: &str) -> Left {
-    let mut ctl = over(rt, alloc, image);
-    left_by(alloc, &mut ctl, &command_of_case(rt, alloc, words))
+    let ctl = over(rt, alloc, image);
+    left_by_one(alloc, ctl, command_of_case(rt, alloc, words))
 }

@@ -30,11 +30,13 @@ fn left_in_pages<C: Controller + Drop>(
     let mut out = Written::new(Vec::new(alloc));
     let mut err = Vec::new(alloc);
     let status = run_pages(alloc, &mut ctl, command, &mut out, &mut err, pages);
+    let calls = ctl.calls;
+    drop(ctl);
     Left {
         out: out.into_inner(),
         err,
         status,
-        calls: ctl.calls,
+        calls,
     }
 }
 
@@ -63,7 +65,8 @@ fn leaves_in_pages<C: Controller + Drop>(
         panic!(rt; "{}: no listing", case.line);
     }
     let left = left_in_pages(alloc, ctl, &command, &sizes(rt, alloc, case.more));
-    is_left(rt, alloc, &left, case.wanted, case.line);
+    drop(command);
+    is_left(rt, alloc, left, case.wanted, case.line);
 }
 
 /// Asserts what a listing leaves over an image in pages. The first line of the case is the words, the name of the image

@@ -1,5 +1,5 @@
 //! Listings in parts of other sizes than 32: the same lines, after other numbers of calls.
-use super::left::left_by;
+use super::left::left_by_one;
 use super::over_images::over;
 use super::saved::image_named;
 use crate::bus::listings::is_done;
@@ -21,9 +21,9 @@ fn lists_in_parts(
     let (size, calls) = part.split_once(':').expect(rt, part);
     let calls = number(rt, calls);
     let words = format!(in alloc; "--part {size} {words}").expect(rt, "memory");
-    let mut ctl = over(rt, alloc, image);
-    let left = left_by(alloc, &mut ctl, &command(rt, alloc, words.as_str()));
-    is_done(rt, alloc, &left, lines, calls, words.as_str());
+    let ctl = over(rt, alloc, image);
+    let left = left_by_one(alloc, ctl, command(rt, alloc, words.as_str()));
+    is_done(rt, alloc, left, lines, calls, words.as_str());
 }
 
 /// The same for each part in a text.

@@ -1,5 +1,5 @@
 //! What commands print over a saved image, and how many calls they make.
-use super::left::{is_left, left_by};
+use super::left::one_leaves;
 use super::over_images::scripted;
 use super::saved::image_named;
 use crate::cases::case_of;
@@ -11,9 +11,9 @@ use std::process::Abort;
 /// moods that the calls meet, with bars between them; the other lines are what is left.
 fn prints(rt: &impl Abort, alloc: Global, case: &str) {
     let case = case_of(rt, case);
-    let mut ctl = scripted(rt, alloc, image_named(rt, case.image), case.more);
-    let left = left_by(alloc, &mut ctl, &command_of_case(rt, alloc, case.words));
-    is_left(rt, alloc, &left, case.wanted, case.line);
+    let ctl = scripted(rt, alloc, image_named(rt, case.image), case.more);
+    let command = command_of_case(rt, alloc, case.words);
+    one_leaves(rt, alloc, ctl, command, case.wanted, case.line);
 }
 
 /// The same for each of these cases.

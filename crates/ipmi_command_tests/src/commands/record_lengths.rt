@@ -42,7 +42,7 @@ fn is_left_of_sensor(
     let (status, rest) = first_line(rt, wanted);
     let wanted = format!(in alloc; "{status} {calls}\n{rest}").expect(rt, "memory");
     let case = format!(in alloc; "{words}: {len} bytes").expect(rt, "memory");
-    is_left(rt, alloc, &left, wanted.as_str(), case.as_str());
+    is_left(rt, alloc, left, wanted.as_str(), case.as_str());
 }
 
 /// Asserts that a record without room for its body has a line and no name after so many calls, and that `fru`, after as
@@ -135,7 +135,7 @@ fn is_printed_of_locator(rt: &impl Abort, alloc: Global, len: usize, calls: u32,
     let wanted = format!(in alloc; "0 {calls}\n--\nFRU 0\nnot present\n\n{devices}").expect(
         rt, "memory",
     );
-    is_left(rt, alloc, &left, wanted.as_str(), image.as_str());
+    is_left(rt, alloc, left, wanted.as_str(), image.as_str());
 }
 
 /// Asserts that device 1 is printed with so much of its name as so many bytes have.
@@ -169,7 +169,7 @@ fru print 0";
 fn tells_the_fault(rt: &impl Abort, alloc: Global, image: &str, words: &str, wanted: &str) {
     let line = read_line(rt, alloc, words);
     let case = format!(in alloc; "{words}: {image}").expect(rt, "memory");
-    is_answered(rt, alloc, &line, image.as_bytes(), wanted, case.as_str());
+    is_answered(rt, alloc, line, image.as_bytes(), wanted, case.as_str());
 }
 
 /// Asserts that each of the commands tells the fault of an image that has only the record's first bytes, so many.

@@ -111,12 +111,16 @@ fn is_whole_or_refused(rt: &impl Abort, left: &Answered, printed: &Printed) {
 fn prints_all(rt: &impl Abort, alloc: Global, printed: Printed) {
     let left = left_of(rt, alloc, &printed);
     is_whole(rt, &left, &printed);
+    drop(left);
+    drop(printed);
 }
 
 /// Asserts that all is left of it, or first pieces.
 fn prints_pieces(rt: &impl Abort, alloc: Global, printed: Printed) {
     let left = left_of(rt, alloc, &printed);
     is_whole_or_refused(rt, &left, &printed);
+    drop(left);
+    drop(printed);
 }
 
 /// With ample memory each of them prints all.

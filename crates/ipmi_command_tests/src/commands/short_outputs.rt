@@ -21,7 +21,9 @@ fn answer_words<O: Sink, E: MessageSink>(
     err: &mut E,
 ) -> u8 {
     let line = Ok(command_of_case(rt, alloc, words));
-    answer(alloc, &line, image.as_bytes(), out, err)
+    let status = answer(alloc, &line, image.as_bytes(), out, err);
+    drop(line);
+    status
 }
 
 /// A command over an image with a name, and what it prints.
@@ -33,7 +35,7 @@ struct Printed<'a> {
 }
 
 /// Asserts that an output with so much room has got as many bytes of the text, and that the answer says so.
-fn is_cut(rt: &impl Abort, alloc: Global, left: &Answered, printed: &Printed, room: usize) {
+fn is_cut(rt: &impl Abort, alloc: Global, left: Answered, printed: &Printed, room: usize) {
     let len = printed.text.len();
     let part = printed.text.get(..room.min(len)).expect(rt, "a part");
     let said = if room < len { "4\nwrite fault" } else { "0" };
@@ -56,13 +58,13 @@ fn left_in(rt: &impl Abort, alloc: Global, printed: &Printed, writer: Limited) -
 /// Asserts what the words leave in an output that takes so many bytes, and then fails.
 fn is_cut_where_it_fails(rt: &impl Abort, alloc: Global, printed: &Printed, room: usize) {
     let left = left_in(rt, alloc, printed, Limited::failing_after(alloc, room));
-    is_cut(rt, alloc, &left, printed, room);
+    is_cut(rt, alloc, left, printed, room);
 }
 
 /// Asserts what the words leave in an output that takes so many bytes, and then none.
 fn is_cut_where_it_is_full(rt: &impl Abort, alloc: Global, printed: &Printed, room: usize) {
     let left = left_in(rt, alloc, printed, Limited::full_after(alloc, room));
-    is_cut(rt, alloc, &left, printed, room);
+    is_cut(rt, alloc, left, printed, room);
 }
 
 const PRINTED: [Printed<'static>; 10] = [
@@ -168,7 +170,7 @@ fn an_output_keeps_what_was_taken_before_its_fault(rt: HostRuntime) {
 /// Asserts what is left in an output that takes one byte a call.
 fn is_whole_by_bytes(rt: &impl Abort, alloc: Global, printed: &Printed) {
     let left = left_in(rt, alloc, printed, Limited::slow(alloc, 1));
-    is_cut(rt, alloc, &left, printed, printed.text.len());
+    is_cut(rt, alloc, left, printed, printed.text.len());
 }
 
 #[test]
@@ -190,7 +192,7 @@ fn a_fault_of_the_messages_changes_nothing(rt: HostRuntime) {
         status,
     };
     let wanted = "1\n--\nsdr 0001 0009 010051c000\n";
-    is_answer(&rt, rt.alloc(), &left, wanted, "no message");
+    is_answer(&rt, rt.alloc(), left, wanted, "no message");
 }
 
 /// What a listing over `TO_NOWHERE` leaves whose messages go to a slow writer that is a sink.
@@ -200,6 +202,8 @@ fn left_with_slow_messages(rt: &impl Abort, alloc: Global) -> Answered {
     let mut out = Written::new(Vec::new(alloc));
     let mut err = Written::new(Limited::slow(alloc, 3));
     let status = run_to_message_sink(alloc, &mut ctl, &hex, &mut out, &mut err);
+    drop(hex);
+    drop(ctl);
     let out = out.into_inner();
     let err = err.into_inner().got;
     Answered { out, err, status }
@@ -209,5 +213,5 @@ fn left_with_slow_messages(rt: &impl Abort, alloc: Global) -> Answered {
 fn a_slow_sink_gets_whole_messages(rt: HostRuntime) {
     let left = left_with_slow_messages(&rt, rt.alloc());
     let wanted = "1\nrecord 0009h not present\n--\nsdr 0001 0009 010051c000\n";
-    is_answer(&rt, rt.alloc(), &left, wanted, "slow messages");
+    is_answer(&rt, rt.alloc(), left, wanted, "slow messages");
 }

@@ -52,6 +52,7 @@ fn are_whole(rt: &impl Abort, alloc: Global, pieces: &Pieces, before: usize, bet
     assert!(rt; status < 2, "{case}: status {status}");
     let out = text_of(rt, &left.out, case);
     are_pieces(rt, out, pieces.end, pieces.texts, case);
+    drop(left);
 }
 
 /// The same for each number of calls before the change, and after it, up to twelve.

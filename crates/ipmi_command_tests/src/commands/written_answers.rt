@@ -1,5 +1,5 @@
 //! Commands over written answers, as no image gives them: empty parts, sizes in words, records that never end.
-use super::left::{is_left, left_by};
+use super::left::one_leaves;
 use crate::command_line::lines::command;
 use crate::controllers::{Counting, Endless, Replay, Reply};
 use ipmi_bus::FruSize;
@@ -21,10 +21,10 @@ const EIGHT: Reply = Reply::Has(FruSize {
 
 /// Asserts what the words leave over these answers.
 fn is_left_over_answers(rt: &impl Abort, alloc: Global, case: &Case) {
-    let mut ctl = Counting::new(Replay::new(case.replies));
-    let left = left_by(alloc, &mut ctl, &command(rt, alloc, case.words));
+    let ctl = Counting::new(Replay::new(case.replies));
+    let command = command(rt, alloc, case.words);
     let name = format!(in alloc; "{case:?}").expect(rt, "memory");
-    is_left(rt, alloc, &left, case.wanted, name.as_str());
+    one_leaves(rt, alloc, ctl, command, case.wanted, name.as_str());
 }
 
 /// The same for each of these cases.
@@ -358,9 +358,8 @@ fn a_sixth_cancelled_part_is_the_last(rt: HostRuntime) {
 
 /// Asserts what the words leave over records without a last one.
 fn is_left_endless(rt: &impl Abort, alloc: Global, words: &str, wanted: &str) {
-    let mut ctl = Counting::new(Endless::new());
-    let left = left_by(alloc, &mut ctl, &command(rt, alloc, words));
-    is_left(rt, alloc, &left, wanted, words);
+    let ctl = Counting::new(Endless::new());
+    one_leaves(rt, alloc, ctl, command(rt, alloc, words), wanted, words);
 }
 
 const NO_NAME: &str = "1 65536

@@ -1,2 +1,0 @@
-//! The words that the program is called with.
-mod input;
