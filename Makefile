@@ -1,10 +1,10 @@
-# `make demo` and `make test` are for every reader. The toolchain's command `rt` is all that they need.
+# `make demo` and `make test` are for every reader. They need the toolchain's command `rt`; the tests need bash, git and python3 too.
 PREFIX ?= /usr/local
 # The name that the program is installed under. It isn't `ipmitool`, which would come before the system's.
 NAME := serdimko
 PROGRAM := crates/ipmitool/out/ipmitool
 # What the program is built of: no test, must-fail edit or document is among it.
-SOURCES := crates.txt $(shell find crates \( -name out -o -name must-fail -o -name tests -o -name tests.rt -o -name '*_tests' -o -name own_controller \) -prune -o \( -name '*.rt' -o -name '*.antt' \) -print)
+SOURCES := crates.txt $(shell find crates \( -name out -o -name must-fail -o -name '*_tests' -o -name own_controller \) -prune -o \( -name '*.rt' -o -name '*.antt' \) -print)
 
 .PHONY: demo try test memory turns bench capture-test build install uninstall
 

@@ -71,22 +71,22 @@ cmp docs/serdimko.1 "$to/usr/local/share/man/man1/serdimko.1" || fault 'the inst
 run_make install DESTDIR="$to" || fault 'install again:' "$(cat "$work/err")"
 installed=$(files)
 echo 'of others' > "$to/usr/local/bin/ipmitool.old"
-run_make install DESTDIR="$to" PREFIX=/opt/x NAME=ipmitool || fault 'install NAME=ipmitool:' "$(cat "$work/err")"
-expect_files 'install NAME=ipmitool' "755 opt/x/bin/ipmitool
-644 opt/x/share/bash-completion/completions/ipmitool
-644 opt/x/share/man/man1/ipmitool.1
-644 opt/x/share/zsh/site-functions/_ipmitool
+run_make install DESTDIR="$to" PREFIX=/elsewhere NAME=ipmitool || fault 'install NAME=ipmitool:' "$(cat "$work/err")"
+expect_files 'install NAME=ipmitool' "755 elsewhere/bin/ipmitool
+644 elsewhere/share/bash-completion/completions/ipmitool
+644 elsewhere/share/man/man1/ipmitool.1
+644 elsewhere/share/zsh/site-functions/_ipmitool
 $(stat -c '%a' "$to/usr/local/bin/ipmitool.old") usr/local/bin/ipmitool.old
 $installed"
-if grep -rI serdimko "$to/opt"; then fault 'NAME=ipmitool: the first name is in a file'; fi
-grep -qx '.TH ipmitool 1 .*' "$to/opt/x/share/man/man1/ipmitool.1" || fault 'NAME=ipmitool: the page has another head'
-grep -qx 'complete -F _ipmitool ipmitool' "$to/opt/x/share/bash-completion/completions/ipmitool" || fault 'NAME=ipmitool: bash'
-grep -qx '#compdef ipmitool' "$to/opt/x/share/zsh/site-functions/_ipmitool" || fault 'NAME=ipmitool: zsh'
+if grep -rI serdimko "$to/elsewhere"; then fault 'NAME=ipmitool: the first name is in a file'; fi
+grep -qx '.TH ipmitool 1 .*' "$to/elsewhere/share/man/man1/ipmitool.1" || fault 'NAME=ipmitool: the page has another head'
+grep -qx 'complete -F _ipmitool ipmitool' "$to/elsewhere/share/bash-completion/completions/ipmitool" || fault 'NAME=ipmitool: bash'
+grep -qx '#compdef ipmitool' "$to/elsewhere/share/zsh/site-functions/_ipmitool" || fault 'NAME=ipmitool: zsh'
 
 # Uninstall removes what install put there and nothing else.
 run_make uninstall DESTDIR="$to" || fault 'uninstall:' "$(cat "$work/err")"
 run_make uninstall DESTDIR="$to" || fault 'uninstall again:' "$(cat "$work/err")"
-run_make uninstall DESTDIR="$to" PREFIX=/opt/x NAME=ipmitool || fault 'uninstall NAME=ipmitool:' "$(cat "$work/err")"
+run_make uninstall DESTDIR="$to" PREFIX=/elsewhere NAME=ipmitool || fault 'uninstall NAME=ipmitool:' "$(cat "$work/err")"
 expect_files 'uninstall' "$(stat -c '%a' "$to/usr/local/bin/ipmitool.old") usr/local/bin/ipmitool.old"
 rm "$to/usr/local/bin/ipmitool.old"
 
@@ -123,7 +123,7 @@ if [ -e "$work/called" ]; then fault 'the toolchain was called'; fi
 touch "$program"
 touch -d '2001-01-01' "$tree/crates.txt" "$tree/crates/ipmitool/src/main.rt"
 for file in ipmi_bus/must-fail/a.edit ipmi_bus/must-fail/a.rt ipmi_bus/must-fail/a.antt ipmi_format_tests/src/lib.rt \
-  own_controller/src/main.rt ipmitool/src/tests.rt ipmitool/src/tests/input.rt ipmi_bus/README.md; do
+  own_controller/src/main.rt ipmi_bus/README.md; do
   mkdir -p "$tree/crates/${file%/*}"
   touch -d '+1 hour' "$tree/crates/$file"
 done

@@ -1,7 +1,7 @@
 #!/usr/bin/env bash
 # What the program reads: the file of `--image` or standard input, up to 64 MiB and no byte more; nothing after a usage
-# fault; and the words of its command line where there are none, or where one is no text.
-# And that it says a write fault once.
+# fault; and the words of its command line where the first is empty, or where one is no text.
+# And that it says one message, after the last line.
 set -uo pipefail
 cd "$(dirname "$0")/.."
 make -s build || exit 1
@@ -65,6 +65,7 @@ expect 1 '' 'info not present' "$program" sel < "$small"
 
 # A first word that is empty is the program's name too, and a word that is no text is no word.
 expect 0 "$lines" '' bash -c 'exec -a "" "$0"' "$program" < "$small"
+expect 0 "$lines" '' bash -c 'exec -a "" "$0" sdr hex' "$program" < "$small"
 expect 2 '' "$usage" "$program" $'\xff' < "$small"
 expect 2 '' "$usage" "$program" --image $'a\xff' < "$small"
 
@@ -76,4 +77,9 @@ expect 2 '' "$usage" "$program" --image $'a\xff' < "$small"
 } > "$work/many"
 expect 4 '' 'write fault' bash -c '"$0" < "$1" > /dev/full' "$program" "$small"
 expect 4 '' 'write fault' bash -c '"$0" < "$1" > /dev/full' "$program" "$work/many"
+
+# A message comes after the last line. Where that can't be flushed, only the write fault is said.
+printf '%s\n' 'ipmi-image 1' 'sdr 0001 0002 010051c000' 'end' > "$work/missing"
+expect 1 $'sdr 0001 0002 010051c000\nrecord 0002h not present' '' bash -c '"$0" < "$1" 2>&1' "$program" "$work/missing"
+expect 4 '' 'write fault' bash -c '"$0" < "$1" > /dev/full' "$program" "$work/missing"
 exit "$failed"

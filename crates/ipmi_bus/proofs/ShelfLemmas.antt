@@ -2,7 +2,7 @@
 use Rattle.std.proofs.Common.{◌≡◌, ◌≢◌, ℕ, Bool, true, false, cond, nat_eq, ◌==◌, Some, List, [], ◌∷◌, ◌++◌, refl, subst, arith, eqb-true}
 use Rattle.std.proofs.lemmas.Bool.{eqb-false, or_parts}
 use Rattle.std.proofs.lemmas.Bool.Decides.{nat_tests}
-use Rattle.ipmi_bus.specs.Prelude.{Shelf, Row, IsRow, IsShelf, AllRows, DistinctIds, LacksId, id_in, look, row_with_id, first_row, has_id}
+use Rattle.ipmi_bus.specs.Prelude.{Shelf, Row, IsRow, IsShelf, AllRows, DistinctIds, LacksId, look, row_with_id, first_row, has_id}
 
 -- a row that is found is well formed, and has the id
 pub found_row : (shelf : Shelf) (rows : List Row) (n : ℕ) (row : Row) → AllRows shelf rows

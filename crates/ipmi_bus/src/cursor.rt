@@ -221,6 +221,8 @@ impl Cursor {
     /// Hands out the next record, lent out of the cursor until the next step; None means that there
     /// are no more. After an `Err` the cursor is where it was and holds no reservation, so that a
     /// later step tries again.
+    // An answer is the same search. These lemmas are for a wrong body, whose ways out have other names.
+    #[tactic(auto, using(crate::proofs::WalkLemmas::follows_walks, crate::proofs::WalkLemmas::asks_along))]
     pub fn step<C: Controller>(&mut self, ctl: &mut C) -> Result<Option<Record<'_>>, Ended>
         ensures* after { sem 𝓛 (CursorRests self.entry
             (λ new. IsStep self.old new (C.seen ctl.old) (C.seen ctl.new) (as_rows result))) }

@@ -10,6 +10,7 @@ use crate::table::task_of;
 use crate::task::Task;
 use crate::words::{Word, Words};
 use clap::ArgMatches;
+use ipmi_bus::LARGEST_PART;
 use std::alloc::{AllocError, Global};
 use std::marker::Model;
 use thiserror::Error;
@@ -22,9 +23,6 @@ pub(crate) const LAST_ID: u16 = 0xFFFE;
 
 /// How many bytes a request asks for, where `--part` is not given.
 const DEFAULT_PART: u8 = 32;
-
-/// The most bytes that a request may ask for.
-const LARGEST_PART: u8 = 254;
 
 /// How many troubles a step may meet, where `--tries` is not given.
 const DEFAULT_TRIES: u8 = 5;

@@ -31,9 +31,9 @@ pub enum Kind {
 pub enum Count {
     /// Every entry.
     All,
-    /// The oldest ones, so many.
+    /// This many of the oldest.
     First(u16),
-    /// The newest ones, so many.
+    /// This many of the newest.
     Last(u16),
 }
 

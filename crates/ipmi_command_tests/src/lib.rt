@@ -1,4 +1,7 @@
 //! Tests of what the commands use, and of the commands: the bus, the command line, output and messages, and listings.
+//!
+//! A controller, a command, words, or what a command left is dropped by a call of `drop`, or handed to a helper that makes it:
+//! its parts are then dropped in one proof, not in each body.
 #![tactic(auto)]
 
 #[cfg(test)]

@@ -6,7 +6,7 @@ ghost use Rattle.ipmi_commands.specs.Prelude.{faults_of, most_on_walk, IsPlace, 
 
 use crate::listing::{Span, is_reached, list_records, stop_at_end};
 use crate::stop::Stop;
-use ipmi_bus::{Controller, Cursor, Ended, Place};
+use ipmi_bus::{Controller, Cursor, Ended, FIRST_RECORD_ID, Place};
 use ipmi_command_line::{Command, Task};
 use ipmi_output::Sink;
 use std::alloc::{AllocError, Global};
@@ -35,7 +35,7 @@ fn start_at(task: &Task, place: Place) -> Result<Option<u16>, Stop>
 {
     match place {
         Place::First => Ok(None),
-        Place::Id(0) => Err(Stop::Ended(Ended::Cycle(0))),
+        Place::Id(FIRST_RECORD_ID) => Err(Stop::Ended(Ended::Cycle(FIRST_RECORD_ID))),
         Place::Id(id) => Ok(Some(id)),
         Place::End => Err(stop_at_end(task, false)),
     }

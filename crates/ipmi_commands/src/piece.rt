@@ -6,7 +6,7 @@ ghost use Rattle.ipmi_commands.specs.Prelude.{ReadsFor, bytes_of, faults_of, Fin
 
 use crate::inventory::locator_piece;
 use crate::stop::Stop;
-use ipmi_bus::{Controller, Ended, Record, read_reading};
+use ipmi_bus::{Controller, Ended, Record, SEL_ENTRY_LEN, read_reading};
 use ipmi_command_line::{Command, Kind, Task};
 use ipmi_image::{LineBuffer, record_line};
 use ipmi_records::{
@@ -26,11 +26,11 @@ pub(crate) enum Form {
 }
 
 /// The bytes of an entry of the event log.
-fn entry_bytes(bytes: &[u8]) -> [u8; 16]
+fn entry_bytes(bytes: &[u8]) -> [u8; SEL_ENTRY_LEN]
     requires { length bytes.now ≡ 16 }
     ensures { result ≡ bytes.now }
 {
-    *bytes.first_chunk::<16>().unwrap()
+    *bytes.first_chunk::<SEL_ENTRY_LEN>().unwrap()
 }
 
 /// The line of an entry of the event log.

@@ -4,7 +4,7 @@
 pub const DONE: u8 = 0;
 /// A message says what is missing, or why the run stopped.
 pub const INCOMPLETE: u8 = 1;
-/// The command line is none that can be run.
+/// The command line is not valid, or its command can't be run over a controller.
 pub const USAGE: u8 = 2;
 /// The image was not read.
 pub const UNREADABLE: u8 = 3;

@@ -16,7 +16,7 @@ pub(crate) const VERSION_BITS: u8 = 0x0F;
 /// Where the header has the offset of the multirecord area.
 const RECORDS_PLACE: usize = 5;
 
-/// Why bytes are no inventory. The first one that applies, in this order, is the answer.
+/// Why bytes are not an inventory. The first that applies, in this order, is the answer.
 #[derive(Clone, Copy, Debug, PartialEq, Eq, Error)]
 pub enum FruFault {
     /// There are fewer bytes than the eight of a header.

@@ -20,7 +20,7 @@ pub enum Mood {
     Busy,
     /// It answers CAh where more than one byte was asked for, otherwise plainly.
     TooLong,
-    /// It answers this code, but plainly where the code is 00h or no refusal.
+    /// It answers this code; if the code is 00h or not a refusal, it answers plainly.
     Refuse(Code),
     /// Its store becomes this image's, it forgets both reservations, and then it answers plainly.
     Change(Image),

@@ -159,7 +159,7 @@ fru_part ff 0 1|code cb
 fru_part ff 1 1|code cb
 fru_part ff ffff 1|code cb";
 
-/// The controller, which has given reservation 1, has only the records of `SAVED`.
+/// The controller, which has given reservation 1, has no record with one of these ids.
 fn has_no_other_records(rt: &impl Abort, ctl: &mut ImageController) {
     has_no_record(rt, ctl, Shelf::Sdr, 0x0003);
     has_no_record(rt, ctl, Shelf::Sdr, 0x0100);

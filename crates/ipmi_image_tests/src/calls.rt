@@ -165,7 +165,8 @@ fn part<C: Controller>(rt: &impl Abort, ctl: &mut C, words: &mut LineWords) -> A
     let id = words.next_number(rt);
     let offset = words.next_byte(rt);
     let len = words.next_len(rt);
-    let into = &mut [0xEE; MOST][..len];
+    let mut into = [0xEE; MOST];
+    let into = &mut into[..len];
     let got = ctl.part(shelf, reservation, id, offset, into);
     Answer::of_part(got, into)
 }
@@ -202,7 +203,8 @@ fn fru_part<C: Controller>(rt: &impl Abort, ctl: &mut C, words: &mut LineWords) 
     let id = words.next_byte(rt);
     let offset = words.next_number(rt);
     let len = words.next_len(rt);
-    let into = &mut [0xEE; MOST][..len];
+    let mut into = [0xEE; MOST];
+    let into = &mut into[..len];
     let got = ctl.fru_part(id, offset, into);
     Answer::of_fru_part(got, into)
 }

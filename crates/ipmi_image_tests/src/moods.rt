@@ -45,9 +45,9 @@ fn scripted(rt: &impl Abort, alloc: Global, moods: &str) -> Scripted {
 
 /// Compares the first answer of a controller that meets a call. The line has the mood, the call and the answer.
 fn is_met(rt: &impl Abort, alloc: Global, line: &str) {
-    let (mood, call) = parts(rt, line);
+    let (mood, rest) = parts(rt, line);
     let mut ctl = scripted(rt, alloc, mood);
-    case_is_answered(rt, &mut ctl, call, line);
+    case_is_answered(rt, &mut ctl, rest, line);
     drop(ctl);
 }
 
@@ -167,8 +167,14 @@ fn is_refusal(code: u8) -> bool {
     ![0x00, 0xC0, 0xC3, 0xC5, 0x81, 0xC7, 0xC8, 0xCA, 0xCB].contains(&code)
 }
 
-/// A refusal with this code, and the call of the line. Its answer is the code, or the plain one that the line has.
-fn refusal(rt: &impl Abort, alloc: Global, code: u8, line: &str) -> Result<String, AllocError> {
+/// The case in which the call of the line meets the mood to refuse with this code. Its answer is the code, or the plain one that
+/// the line has.
+fn refusal_case(
+    rt: &impl Abort,
+    alloc: Global,
+    code: u8,
+    line: &str,
+) -> Result<String, AllocError> {
     if !is_refusal(code) {
         return format!(in alloc; "refuse {code:x}|{line}");
     }
@@ -178,8 +184,8 @@ fn refusal(rt: &impl Abort, alloc: Global, code: u8, line: &str) -> Result<Strin
 
 /// The code is the answer to the call, or the call is answered plainly, as the line has it.
 fn refusal_is_met(rt: &impl Abort, alloc: Global, code: u8, line: &str) {
-    let refused = refusal(rt, alloc, code, line).expect(rt, "memory");
-    is_met(rt, alloc, &refused);
+    let case = refusal_case(rt, alloc, code, line).expect(rt, "memory");
+    is_met(rt, alloc, &case);
 }
 
 /// The same for a call of each kind.

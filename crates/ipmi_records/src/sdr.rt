@@ -27,7 +27,7 @@ const HEADER_LEN: usize = 5;
 /// The first of the types that have no view of their own.
 const OTHER_TYPE: u8 = 0x00;
 
-/// Why bytes are no sensor data record. The first one that applies, in this order, is the answer.
+/// Why bytes are not a sensor data record. The first that applies, in this order, is the answer.
 #[derive(Clone, Copy, Debug, PartialEq, Eq, Error)]
 pub enum SdrFault {
     /// There are fewer bytes than the five of a header.

@@ -90,17 +90,17 @@ pub struct Sensor {
 /// A threshold of a sensor.
 #[derive(Clone, Copy, Debug, PartialEq, Eq)]
 pub enum Threshold {
-    /// At it and above the reading is out of the range in which the hardware can work.
+    /// A reading at or above it is out of the range in which the hardware can work.
     UpperNonRecoverable,
-    /// At it and above the reading is critical.
+    /// A reading at or above it is critical.
     UpperCritical,
-    /// At it and above the reading is a warning.
+    /// A reading at or above it is a warning.
     UpperNonCritical,
-    /// At it and below the reading is out of the range in which the hardware can work.
+    /// A reading at or below it is out of the range in which the hardware can work.
     LowerNonRecoverable,
-    /// At it and below the reading is critical.
+    /// A reading at or below it is critical.
     LowerCritical,
-    /// At it and below the reading is a warning.
+    /// A reading at or below it is a warning.
     LowerNonCritical,
 }
 

@@ -7,7 +7,7 @@
 ghost use Rattle.std.specs.Prelude.{◌≡◌, ◌+◌, ◌≤◌, IfOk, OnErr, length, drop};
 ghost use Rattle.ipmi_bus.specs.Unclaimed.{calls_only};
 
-use ipmi_bus::{Code, Controller, Event, FruSize, Part, Shelf, Tally, read_fru};
+use ipmi_bus::{Code, Controller, Event, FruSize, NO_NEXT_ID, Part, Shelf, Tally, read_fru};
 use ipmi_command_line::{Command, Kind, Task};
 use ipmi_commands::status::WRITE_FAULT;
 use ipmi_fru::FruView;
@@ -88,7 +88,7 @@ impl Controller for Board {
         self.begin()?;
         let (next, record) = match (shelf, id) {
             (Shelf::Sdr, 0 | 1) => (2, SENSOR),
-            (Shelf::Sdr, 2) => (0xFFFF, LOCATOR),
+            (Shelf::Sdr, 2) => (NO_NEXT_ID, LOCATOR),
             _ => return Err(Code::NOT_PRESENT),
         };
         let got = copy_part(record, usize::from(at), into)?;

@@ -36,10 +36,9 @@ pub(crate) fn left_by<C: Controller + Drop>(
 /// What one command leaves over the controller, which ends with it.
 pub(crate) fn left_by_one<C: Controller + Drop>(
     alloc: Global,
-    ctl: Counting<C>,
+    mut ctl: Counting<C>,
     command: Command,
 ) -> Left {
-    let mut ctl = ctl;
     let left = left_by(alloc, &mut ctl, &command);
     drop(command);
     drop(ctl);

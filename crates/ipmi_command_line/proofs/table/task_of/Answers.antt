@@ -4,30 +4,30 @@ use Rattle.clap.specs.Words.{Text}
 use Rattle.ipmi_command_line.specs.Table.{task_of, task_of_four, task_of_one, task_of_three, task_of_two}
 use Rattle.ipmi_command_line.proofs.table.task_of.Goals as goal
 
--- the row of so many words
-one : (words : List (Bor Text)) (e : Bor Text) → 1 ≤ length words → length words < 2
+-- the table's rows of so many words
+one_word : (words : List (Bor Text)) (e : Bor Text) → 1 ≤ length words → length words < 2
     → task_of_one (get_or words 0 e).now ≡ task_of (map (λ word. word.now) words)
-one (a ∷ []) e h l = refl
-one _ e h l = absurd (omega arith)
+one_word (a ∷ []) e h l = refl
+one_word _ e h l = absurd (omega arith)
 
-two : (words : List (Bor Text)) (e f : Bor Text) → 2 ≤ length words → length words < 3
+two_words : (words : List (Bor Text)) (e f : Bor Text) → 2 ≤ length words → length words < 3
     → task_of_two (get_or words 0 e).now (get_or words 1 f).now
     ≡ task_of (map (λ word. word.now) words)
-two (a ∷ b ∷ []) e f h l = refl
-two _ e f h l = absurd (omega arith)
+two_words (a ∷ b ∷ []) e f h l = refl
+two_words _ e f h l = absurd (omega arith)
 
-three : (words : List (Bor Text)) (e f g : Bor Text) → 3 ≤ length words → length words < 4
+three_words : (words : List (Bor Text)) (e f g : Bor Text) → 3 ≤ length words → length words < 4
     → task_of_three (get_or words 0 e).now (get_or words 1 f).now (get_or words 2 g).now
     ≡ task_of (map (λ word. word.now) words)
-three (a ∷ b ∷ c ∷ []) e f g h l = refl
-three _ e f g h l = absurd (omega arith)
+three_words (a ∷ b ∷ c ∷ []) e f g h l = refl
+three_words _ e f g h l = absurd (omega arith)
 
-four : (words : List (Bor Text)) (e f g i : Bor Text) → 4 ≤ length words → length words < 5
+four_words : (words : List (Bor Text)) (e f g i : Bor Text) → 4 ≤ length words → length words < 5
     → task_of_four (get_or words 0 e).now (get_or words 1 f).now (get_or words 2 g).now
     (get_or words 3 i).now
     ≡ task_of (map (λ word. word.now) words)
-four (a ∷ b ∷ c ∷ d ∷ []) e f g i h l = refl
-four _ e f g i h l = absurd (omega arith)
+four_words (a ∷ b ∷ c ∷ d ∷ []) e f g i h l = refl
+four_words _ e f g i h l = absurd (omega arith)
 
 -- the table has no row of five words or more
 too_many : (words : List (Bor Text)) → 5 ≤ length words
@@ -36,17 +36,17 @@ too_many (a ∷ b ∷ c ∷ d ∷ e ∷ words) h = refl
 too_many _ h = absurd (omega arith)
 
 pub returns-in-len1-clause-value : goal.returns-in-len1-clause-value
-returns-in-len1-clause-value c = c.task_of_one.ensures.value ∙ one c.args.words.now _ c.in-len1.len_at_least c.in-len1.len_below
+returns-in-len1-clause-value c = c.task_of_one.ensures.value ∙ one_word c.args.words.now _ c.in-len1.len_at_least c.in-len1.len_below
 
 pub returns-in-len2-clause-value : goal.returns-in-len2-clause-value
-returns-in-len2-clause-value c = c.task_of_two.ensures.value ∙ two c.args.words.now _ _ c.in-len2.len_at_least c.in-len2.len_below
+returns-in-len2-clause-value c = c.task_of_two.ensures.value ∙ two_words c.args.words.now _ _ c.in-len2.len_at_least c.in-len2.len_below
 
 pub returns-in-len3-clause-value : goal.returns-in-len3-clause-value
 returns-in-len3-clause-value c =
-    IfOk-weaker c.task_of_three.result _ _ (λ t h. h ∙ three c.args.words.now _ _ _ c.in-len3.len_at_least c.in-len3.len_below) c.task_of_three.ensures.value
+    IfOk-weaker c.task_of_three.result _ _ (λ t h. h ∙ three_words c.args.words.now _ _ _ c.in-len3.len_at_least c.in-len3.len_below) c.task_of_three.ensures.value
 
 pub returns-in-len4-clause-value : goal.returns-in-len4-clause-value
-returns-in-len4-clause-value c = c.task_of_four.ensures.value ∙ four c.args.words.now _ _ _ _ c.in-len4.len_at_least c.in-len4.len_below
+returns-in-len4-clause-value c = c.task_of_four.ensures.value ∙ four_words c.args.words.now _ _ _ _ c.in-len4.len_at_least c.in-len4.len_below
 
 pub returns-in_default-clause-value : goal.returns-in_default-clause-value
 returns-in_default-clause-value c = too_many c.args.words.now c.in_default.len_at_least

@@ -1,4 +1,4 @@
-use Rattle.std.proofs.Common.{◌≡◌, ◌-◌, ap, sym, ◌∙◌, arith}
+use Rattle.std.proofs.Common.{ap, sym, ◌∙◌, arith}
 use Rattle.ipmi_commands.specs.Prelude.{is_done}
 use Rattle.ipmi_commands.proofs.LastLemmas.{first_performs, second_performs}
 use Rattle.ipmi_commands.proofs.PageLemmas.{done}

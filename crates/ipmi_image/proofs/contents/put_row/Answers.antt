@@ -1,4 +1,4 @@
-use Rattle.std.proofs.Common.{rules, ◌≡◌, ◌<◌, ap, sym, subst, ◌∙◌, List, arith, false, None, inr, is_some}
+use Rattle.std.proofs.Common.{rules, ◌≡◌, ◌<◌, ap, sym, subst, ◌∙◌, List, arith, None, inr, is_some}
 use Rattle.std.proofs.lemmas.List.Elements.{All-from_get_or}
 use Rattle.ipmi_image.specs.Below.{IsShelf}
 use Rattle.ipmi_image.specs.Prelude.{SavedRow, chained, row_fault}

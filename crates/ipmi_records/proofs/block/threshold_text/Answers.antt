@@ -4,11 +4,11 @@ use Rattle.ipmi_records.specs.Prelude.{IsRawText, Threshold, is_readable, thresh
 use Rattle.ipmi_records.specs.SdrText.{IsThresholdLine}
 use Rattle.ipmi_records.proofs.block.threshold_text.Goals as goal
 
-line_made : (bytes name empty named valued text : List ℕ) (threshold : Threshold) (raw : ℕ)
+threshold_line_made : (bytes name empty named valued text : List ℕ) (threshold : Threshold) (raw : ℕ)
     → empty ≡ [] → name ≡ threshold_name threshold → raw ≡ threshold_in threshold bytes
     → named ≡ empty ++ (name ++ codes ": ") → Appends (IsRawText bytes raw) named valued
     → text ≡ valued ++ codes "\n" → IsThresholdLine bytes threshold text
-line_made bytes name empty named valued text threshold raw empty_is name_is raw_is named_is h text_is = record {
+threshold_line_made bytes name empty named valued text threshold raw empty_is name_is raw_is named_is h text_is = record {
   value = h.part;
   is_value = rw raw_is at h.is_text;
   text_is = text_is ∙ rw (h.text_is, named_is, empty_is, name_is) (simp append_assoc);
@@ -17,4 +17,4 @@ line_made bytes name empty named valued text threshold raw empty_is name_is raw_
 pub returns : goal.returns
 returns c =
     let readable : is_readable c.args.threshold c.args.full.now ≡ true = cc in
-    rw readable (line_made c.args.full.now _ _ _ _ _ _ _ c.in_ok-text.ensures.bytes c.threshold_name-name.ensures c.threshold.ensures c.in_ok-write.ensures.bytes c.in_ok-push_raw.ensures c.in_ok-push_str.ensures.bytes)
+    rw readable (threshold_line_made c.args.full.now _ _ _ _ _ _ _ c.in_ok-text.ensures.bytes c.threshold_name-name.ensures c.threshold.ensures c.in_ok-write.ensures.bytes c.in_ok-push_raw.ensures c.in_ok-push_str.ensures.bytes)
