@@ -2,7 +2,7 @@
 use super::examples::BOARD;
 use crate::cases::{bytes_of, is_text, parts};
 use ipmi_fru::{AreaFault, AreaView, Field, FruFault, FruView, MultiFault};
-use std::alloc::Global;
+use std::alloc::{AllocError, Global};
 use std::process::Abort;
 
 /// The place of a field of the board, and the field.
@@ -42,15 +42,19 @@ fn head_of<'a>(area: Area<'a>) -> Option<Result<&'a [u8], AreaFault>> {
     }
 }
 
-/// Asserts the heads of an inventory's chassis, board and product.
-fn has_heads(rt: &impl Abort, alloc: Global, digits: &str, wanted: &str) {
-    let bytes = bytes_of(rt, alloc, digits);
-    let inventory = FruView::read(&bytes).expect(rt, digits);
+/// The heads of an inventory's chassis, board and product.
+fn heads_of(alloc: Global, inventory: &FruView<'_>) -> Result<String, AllocError> {
     let chassis = head_of(inventory.chassis());
     let board = head_of(inventory.board());
     let product = head_of(inventory.product());
-    let text = format!(in alloc; "{chassis:?} {board:?} {product:?}");
-    is_text(rt, text, wanted, digits);
+    format!(in alloc; "{chassis:?} {board:?} {product:?}")
+}
+
+/// Asserts them.
+fn has_heads(rt: &impl Abort, alloc: Global, digits: &str, wanted: &str) {
+    let bytes = bytes_of(rt, alloc, digits);
+    let inventory = FruView::read(&bytes).expect(rt, digits);
+    is_text(rt, heads_of(alloc, &inventory), wanted, digits);
 }
 
 fn has_field(rt: &impl Abort, alloc: Global, board: &AreaView<'_>, line: &str) {
@@ -60,23 +64,33 @@ fn has_field(rt: &impl Abort, alloc: Global, board: &AreaView<'_>, line: &str) {
     is_text(rt, format!(in alloc; "{field:?}"), wanted, line);
 }
 
-/// Asserts what the iterator over the fields of a board gives at each of five calls.
-fn lists_fields(rt: &impl Abort, alloc: Global, board: &AreaView<'_>, wanted: &str) {
+/// What the iterator over the fields of a board gives at each of five calls.
+fn five_fields<'a>(board: &AreaView<'a>) -> [Option<Field<'a>>; 5] {
     let mut fields = board.fields();
-    let first = [
+    [
         fields.next(),
         fields.next(),
         fields.next(),
         fields.next(),
         fields.next(),
-    ];
-    is_text(rt, format!(in alloc; "{first:?}"), wanted, "fields");
-    let second = Some(Field {
+    ]
+}
+
+/// Asserts that the second field of the board is this one, and the third another.
+fn is_second(rt: &impl Abort, second: &Option<Field<'_>>, third: &Option<Field<'_>>) {
+    let wanted = Some(Field {
         code: 1,
         bytes: &[18, 59],
     });
-    assert!(rt; first[1] == second, "the second field");
-    assert!(rt; first[2] != second, "the third field");
+    assert!(rt; *second == wanted, "the second field");
+    assert!(rt; *third != wanted, "the third field");
+}
+
+/// Asserts what the iterator over the fields of a board gives.
+fn lists_fields(rt: &impl Abort, alloc: Global, board: &AreaView<'_>, wanted: &str) {
+    let fields = five_fields(board);
+    is_text(rt, format!(in alloc; "{fields:?}"), wanted, "fields");
+    is_second(rt, &fields[1], &fields[2]);
 }
 
 /// Asserts what an inventory's iterator of records gives at each of four calls.
@@ -105,15 +119,26 @@ fn each_area_has_its_head(rt: HostRuntime) {
     );
 }
 
+fn board_of<'a>(rt: &impl Abort, bytes: &'a [u8]) -> AreaView<'a> {
+    let inventory = FruView::read(bytes).expect(rt, "an inventory");
+    inventory
+        .board()
+        .expect(rt, "an area")
+        .expect(rt, "a board")
+}
+
+/// Asserts the field of each line.
+fn has_fields(rt: &impl Abort, alloc: Global, board: &AreaView<'_>, lines: &str) {
+    for line in lines.lines() {
+        has_field(rt, alloc, board, line);
+    }
+}
+
 #[test]
 fn a_board_has_its_fields(rt: HostRuntime) {
     let bytes = bytes_of(&rt, rt.alloc(), BOARD);
-    let inventory = FruView::read(&bytes).expect(&rt, "an inventory");
-    let area = inventory.board().expect(&rt, "an area");
-    let board = area.expect(&rt, "a board");
-    for line in FIELDS.lines() {
-        has_field(&rt, rt.alloc(), &board, line);
-    }
+    let board = board_of(&rt, &bytes);
+    has_fields(&rt, rt.alloc(), &board, FIELDS);
     lists_fields(&rt, rt.alloc(), &board, LISTED);
 }
 
