@@ -1,11 +1,11 @@
 -- A record, an entry and an info have at most one text.
-use Rattle.std.proofs.Common.{◌≡◌, ◌∙◌, ℕ, Bool, true, false, Option, None, Some, ℤ, List, [], ◌∷◌, length, slice_index, ◌<◌, inl, inr, sym, arith}
+use Rattle.std.proofs.Common.{◌≡◌, ◌∙◌, ℕ, Bool, true, false, Option, None, Some, ℤ, List, [], ◌∷◌, length, slice_index, ◌==◌, if◌then◌else◌, ◌<◌, inl, inr, sym, arith}
 use Rattle.std.proofs.lemmas.Bool.{cases_lt}
 use Rattle.std.proofs.lemmas.List.{get_or_past}
 use Rattle.byteorder.specs.Endian.{little_from}
 use Rattle.byteorder.specs.Numbers.{little_from-lt}
 use Rattle.ipmi_records.specs.Below.{AreBytes, reading_value, IsUtcTextOf, Reading, DecimalIsUnique, UtcTextIsUnique}
-use Rattle.ipmi_records.specs.Prelude.{Shown, SdrView, SelView, Threshold, IsRawText, IsReadingColumn, IsSensorColumn, IsValueText, analog_of, shown_of, unit_text_in, IsInfoBlock, AreReadingLines, AreThresholdTexts, AreValueLines, IsExtendedLine, IsSdrBlock, IsSdrLine, IsThresholdText, thresholds_of, entry_bytes, AreFieldLines, IsSelBlock, IsSelLine, compact_sensor, factors_in, full_sensor, is_readable, threshold_in}
+use Rattle.ipmi_records.specs.Prelude.{Shown, SdrView, SelView, Threshold, IsRawText, IsReadingColumn, IsSensorColumn, IsValueText, analog_format, shown_of, unit_text_in, IsInfoBlock, AreReadingLines, AreThresholdTexts, AreValueLines, IsExtendedLine, IsSdrBlock, IsSdrLine, IsThresholdText, thresholds_of, entry_bytes, AreFieldLines, IsSelBlock, IsSelLine, factors_in, is_readable, sensor_in, threshold_in}
 
 -- ---- sensor data records
 
@@ -26,8 +26,8 @@ module _ (one_text : DecimalIsUnique) where
 
   one_column : (view : SdrView) (reading : Option Reading) (text other : List ℕ)
       → IsReadingColumn view reading text → IsReadingColumn view reading other → text ≡ other
-  one_column (SdrView.Full bytes) reading text other h k = one_sensor (shown_of (full_sensor bytes) reading) (analog_of bytes) text other h k
-  one_column (SdrView.Compact bytes) reading text other h k = one_sensor (shown_of (compact_sensor bytes) reading) None text other h k
+  one_column (SdrView.Full bytes) reading text other h k = one_sensor (shown_of (sensor_in bytes) reading) (if analog_format bytes == 3 then None else Some bytes) text other h k
+  one_column (SdrView.Compact bytes) reading text other h k = one_sensor (shown_of (sensor_in bytes) reading) None text other h k
   one_column _ reading text other h k = h ∙ sym k
 
   pub one_sdr_line : (view : SdrView) (reading : Option Reading) (text other : List ℕ)
@@ -58,7 +58,7 @@ module _ (one_text : DecimalIsUnique) where
   one_values : (view : SdrView) (reading : Option Reading) (text other : List ℕ)
       → AreValueLines view reading text → AreValueLines view reading other → text ≡ other
   one_values (SdrView.Full bytes) reading text other h k =
-      h.text_is ∙ rw (one_pair (SdrView.Full bytes) reading h.columns k.columns h.are_columns k.are_columns, one_list bytes (thresholds_of (full_sensor bytes)) h.thresholds k.thresholds h.are_thresholds k.are_thresholds) (sym k.text_is)
+      h.text_is ∙ rw (one_pair (SdrView.Full bytes) reading h.columns k.columns h.are_columns k.are_columns, one_list bytes (thresholds_of (sensor_in bytes)) h.thresholds k.thresholds h.are_thresholds k.are_thresholds) (sym k.text_is)
   one_values (SdrView.Compact bytes) reading text other h k = one_pair (SdrView.Compact bytes) reading text other h k
   one_values _ reading text other h k = h ∙ sym k
 

@@ -6,23 +6,23 @@ use Rattle.ipmi_records.specs.declared.column.Shown.{Shown}
 use Rattle.ipmi_records.specs.declared.sdr.SdrView.{SdrView}
 use Rattle.ipmi_records.specs.declared.sensor.Sensor.{Sensor}
 use Rattle.ipmi_records.specs.Bytes.{has_bit}
-use Rattle.ipmi_records.specs.Sdr.{fru_in, own_address, record_type}
-use Rattle.ipmi_records.specs.Sensor.{analog_format, compact_sensor, factors_in, full_sensor, locator_in, units_in}
+use Rattle.ipmi_records.specs.Sdr.{fru_in, record_type}
+use Rattle.ipmi_records.specs.Sensor.{analog_format, factors_in, locator_in, sensor_in, units_in}
 
 -- ---- what a sensor shows
 
 -- scanning is enabled (bit 6 of the flags), and the reading is not unavailable (bit 5)
-abbrev pub is_there : Reading → Bool
-is_there reading = has_bit 6 reading.flags && not (has_bit 5 reading.flags)
+abbrev pub is_available : Reading → Bool
+is_available reading = has_bit 6 reading.flags && not (has_bit 5 reading.flags)
 
 abbrev pub shown_reading : Option Reading → Shown
 shown_reading None = Shown.NoReading
-shown_reading (Some reading) = if is_there reading then Shown.Value reading else Shown.NoReading
+shown_reading (Some reading) = if is_available reading then Shown.Value reading else Shown.NoReading
 
--- the first that holds: the sensor is another controller's, it has no reading, it has one
+-- the first that holds: the sensor is another controller's, not that at 20h; it has no reading; it has one
 abbrev pub shown_of : Sensor → Option Reading → Shown
 shown_of sensor reading =
-    if sensor.owner == own_address then shown_reading reading else Shown.OtherOwner
+    if sensor.owner == 0x20 then shown_reading reading else Shown.OtherOwner
 
 -- ---- values
 
@@ -59,10 +59,6 @@ IsSensorColumn Shown.NoReading analog text = text ≡ codes "no reading"
 IsSensorColumn (Shown.Value reading) None text = text ≡ states_text reading
 IsSensorColumn (Shown.Value reading) (Some bytes) text = IsRawText bytes reading.raw text
 
--- a full record tells how a reading is a value, unless the analog format is 3
-abbrev pub analog_of : List ℕ → Option (List ℕ)
-analog_of bytes = if analog_format bytes == 3 then None else Some bytes
-
 -- of a FRU locator: the device, or that its inventory is not read
 abbrev pub fru_column : Option ℕ → List ℕ
 fru_column None = codes "elsewhere"
@@ -71,11 +67,13 @@ fru_column (Some fru) = codes "FRU " ++ decimal fru
 abbrev pub type_text : ℕ → List ℕ
 type_text type = codes "record type 0x" ++ hex_byte type
 
+-- a full record tells how a reading is a value, unless the analog format is 3
 abbrev pub IsReadingColumn : SdrView → Option Reading → List ℕ → Type 0
 IsReadingColumn (SdrView.Full bytes) reading text =
-    IsSensorColumn (shown_of (full_sensor bytes) reading) (analog_of bytes) text
+    IsSensorColumn (shown_of (sensor_in bytes) reading)
+    (if analog_format bytes == 3 then None else Some bytes) text
 IsReadingColumn (SdrView.Compact bytes) reading text =
-    IsSensorColumn (shown_of (compact_sensor bytes) reading) None text
+    IsSensorColumn (shown_of (sensor_in bytes) reading) None text
 IsReadingColumn (SdrView.EventOnly bytes) reading text = text ≡ codes "event only"
 IsReadingColumn (SdrView.Generic bytes) reading text = text ≡ codes "generic device"
 IsReadingColumn (SdrView.Fru bytes) reading text = text ≡ fru_column (fru_in bytes)
@@ -106,7 +104,7 @@ sensor_status sensor (Shown.Value reading) =
 
 abbrev pub status_of : SdrView → Option Reading → List ℕ
 status_of (SdrView.Full bytes) reading =
-    sensor_status (full_sensor bytes) (shown_of (full_sensor bytes) reading)
+    sensor_status (sensor_in bytes) (shown_of (sensor_in bytes) reading)
 status_of (SdrView.Compact bytes) reading =
-    sensor_status (compact_sensor bytes) (shown_of (compact_sensor bytes) reading)
+    sensor_status (sensor_in bytes) (shown_of (sensor_in bytes) reading)
 status_of _ reading = codes "na"

@@ -5,13 +5,13 @@ use Rattle.std.specs.List.{concat}
 use Rattle.ipmi_records.specs.Below.{byte_h, sensor_type_text_of, Reading, labelled, word_h}
 use Rattle.ipmi_records.specs.declared.sdr.SdrFault.{SdrFault}
 use Rattle.ipmi_records.specs.declared.sdr.SdrView.{SdrView}
-use Rattle.ipmi_records.specs.declared.sensor.Entity.{Entity}
+use Rattle.ipmi_records.specs.declared.entity.Entity.{Entity}
 use Rattle.ipmi_records.specs.declared.sensor.Sensor.{Sensor}
-use Rattle.ipmi_records.specs.declared.sensor.Threshold.{Threshold}
+use Rattle.ipmi_records.specs.declared.threshold.Threshold.{Threshold}
 use Rattle.ipmi_records.specs.declared.locator.Locator.{Locator}
 use Rattle.ipmi_records.specs.Bytes.{labelled_lines, columns_line, padded_to}
 use Rattle.ipmi_records.specs.Sdr.{locator_of, name_of, record_type, sensor_of}
-use Rattle.ipmi_records.specs.Sensor.{full_sensor, is_readable, threshold_in}
+use Rattle.ipmi_records.specs.Sensor.{is_readable, sensor_in, threshold_in}
 use Rattle.ipmi_records.specs.Columns.{IsRawText, IsReadingColumn, has_thresholds, status_of, type_text}
 
 -- ---- lines
@@ -21,14 +21,11 @@ abbrev pub printed_name : SdrView → List ℕ
 printed_name view = unwrap_or (name_of view) []
 
 -- name, reading and status
-abbrev pub line_text : List ℕ → List ℕ → List ℕ → List ℕ
-line_text name reading status =
-    columns_line (padded_to 16 name ∷ padded_to 17 reading ∷ status ∷ [])
-
 pub record IsSdrLine (view : SdrView) (reading : Option Reading) (text : List ℕ) : Type 0 where
   pub column : List ℕ
   pub is_column : IsReadingColumn view reading column
-  pub text_is : text ≡ line_text (printed_name view) column (status_of view reading)
+  pub text_is : text ≡ columns_line (padded_to 16 (printed_name view) ∷ padded_to 17 column
+      ∷ status_of view reading ∷ [])
 
 -- ---- extended lines
 
@@ -50,17 +47,6 @@ entity_column (Some sensor) locator = entity_text sensor.entity
 entity_column None (Some locator) = entity_text locator.entity
 entity_column None None = codes "-"
 
--- name, sensor number, status, entity and reading
-abbrev pub extended_text : SdrView → List ℕ → List ℕ → List ℕ
-extended_text view status reading =
-    columns_line (
-    padded_to 16 (printed_name view)
-    ∷ number_text (sensor_of view)
-    ∷ padded_to 3 status
-    ∷ padded_to 5 (entity_column (sensor_of view) (locator_of view))
-    ∷ reading
-    ∷ [])
-
 -- the columns between name and reading
 abbrev pub sensor_columns : SdrView → List ℕ → List ℕ
 sensor_columns view status =
@@ -69,10 +55,17 @@ sensor_columns view status =
     ++ (codes " | " ++ (padded_to 5 (entity_column (sensor_of view) (locator_of view))
     ++ codes " | ")))))
 
+-- name, sensor number, status, entity and reading
 pub record IsExtendedLine (view : SdrView) (reading : Option Reading) (text : List ℕ) : Type 0 where
   pub column : List ℕ
   pub is_column : IsReadingColumn view reading column
-  pub text_is : text ≡ extended_text view (status_of view reading) column
+  pub text_is : text ≡ columns_line (
+      padded_to 16 (printed_name view)
+      ∷ number_text (sensor_of view)
+      ∷ padded_to 3 (status_of view reading)
+      ∷ padded_to 5 (entity_column (sensor_of view) (locator_of view))
+      ∷ column
+      ∷ [])
 
 -- ---- the line of a fault
 
@@ -170,7 +163,7 @@ pub record AreFullLines (bytes : List ℕ) (reading : Option Reading) (text : Li
   pub columns : List ℕ
   pub thresholds : List ℕ
   pub are_columns : AreReadingLines (SdrView.Full bytes) reading columns
-  pub are_thresholds : AreThresholdTexts bytes (thresholds_of (full_sensor bytes)) thresholds
+  pub are_thresholds : AreThresholdTexts bytes (thresholds_of (sensor_in bytes)) thresholds
   pub text_is : text ≡ columns ++ thresholds
 
 -- what is known of the sensor's values: only of a full and of a compact record

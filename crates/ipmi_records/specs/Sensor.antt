@@ -1,9 +1,9 @@
 -- Where the fields of sensors and device locators are in a sensor data record (IPMI v2.0, section 43).
 use Rattle.std.specs.Prelude.{ℕ, ◌+◌, ◌*◌, ◌/◌, ◌%◌, Bool, ℤ, List}
 use Rattle.ipmi_records.specs.Below.{SensorFactors, Units}
-use Rattle.ipmi_records.specs.declared.sensor.Entity.{Entity}
+use Rattle.ipmi_records.specs.declared.entity.Entity.{Entity}
 use Rattle.ipmi_records.specs.declared.sensor.Sensor.{Sensor}
-use Rattle.ipmi_records.specs.declared.sensor.Threshold.{Threshold}
+use Rattle.ipmi_records.specs.declared.threshold.Threshold.{Threshold}
 use Rattle.ipmi_records.specs.declared.locator.Locator.{Locator}
 use Rattle.ipmi_records.specs.Bytes.{byte_at, has_bit, signed}
 
@@ -26,11 +26,8 @@ sensor_by sensor_type event_type bytes = record {
 }
 
 -- at bytes 13 and 14 of a full and of a compact record
-abbrev pub full_sensor : List ℕ → Sensor
-full_sensor bytes = sensor_by (byte_at 13 bytes) (byte_at 14 bytes) bytes
-
-abbrev pub compact_sensor : List ℕ → Sensor
-compact_sensor bytes = sensor_by (byte_at 13 bytes) (byte_at 14 bytes) bytes
+abbrev pub sensor_in : List ℕ → Sensor
+sensor_in bytes = sensor_by (byte_at 13 bytes) (byte_at 14 bytes) bytes
 
 -- at bytes 11 and 12 of an event-only record
 abbrev pub event_only_sensor : List ℕ → Sensor
@@ -113,15 +110,3 @@ locator_in bytes = record {
   address = byte_at 6 bytes;
   entity = entity_in (byte_at 13 bytes) (byte_at 14 bytes);
 }
-
--- of a FRU locator: the FRU device id
-abbrev pub fru_id : List ℕ → ℕ
-fru_id bytes = byte_at 7 bytes
-
--- bit 7 of byte 8: the device is logical, reached through a management controller
-abbrev pub is_logical : List ℕ → Bool
-is_logical bytes = has_bit 7 (byte_at 8 bytes)
-
--- bits 4:3 of byte 8
-abbrev pub access_lun : List ℕ → ℕ
-access_lun bytes = byte_at 8 bytes / 8 % 4

@@ -29,7 +29,7 @@ impl<'a, const TYPE: u8, const LEN: usize> AtLeast<'a, TYPE, LEN> {
 
     pub(crate) fn bytes(&self) -> &'a [u8]
         ensures value { result.now ≡ self.now }
-        ensures room { LEN ≤ length result.now }
+        ensures len { LEN ≤ length result.now }
     {
         self.bytes
     }

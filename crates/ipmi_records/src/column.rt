@@ -1,18 +1,20 @@
 //! The reading column and the status of a record.
-ghost use Rattle.std.specs.Prelude.{◌≡◌, ◌+◌, ◌*◌, ◌%◌, ◌++◌, OnOk, option_map, string_bytes, Some};
+ghost use Rattle.std.specs.Prelude.{◌≡◌, ◌+◌, ◌*◌, ◌%◌, ◌++◌, OnOk, option_map, string_bytes};
 ghost use Rattle.ipmi_records.specs.Below.{Appends};
-ghost use Rattle.ipmi_records.specs.Prelude.{IsRawText, IsReadingColumn, IsSensorColumn, fru_column, has_thresholds, is_there, sensor_status, shown_of, shown_reading, states_text, status_of, threshold_status, type_text};
+ghost use Rattle.ipmi_records.specs.Prelude.{IsRawText, IsReadingColumn, IsSensorColumn, fru_column, has_thresholds, is_available, sensor_status, shown_of, shown_reading, states_text, status_of, threshold_status};
 
 use crate::bits::has_bit;
+use crate::full::FullSensor;
+use crate::record_type::RecordType;
 use crate::sdr::SdrView::{Compact, Controller, EventOnly, Fru, Full, Generic, Other};
 use crate::sdr::{OWN_ADDRESS, SdrView};
-use crate::sensor::{FullSensor, Sensor, Threshold};
+use crate::sensor::Sensor;
+use crate::threshold::Threshold;
 use ipmi_text::{
     ByteH, HexByte, HexWord, NO_ANALOG_READING, Reading, THRESHOLD_EVENT_TYPE, convert, push_fixed,
     push_units,
 };
 use std::alloc::AllocError;
-use std::fmt;
 
 /// The bit of a reading's flags that says that the sensor is scanned.
 const SCANNING_ENABLED: u32 = 6;
@@ -34,9 +36,9 @@ pub(crate) enum Shown {
     Value(Reading),
 }
 
-/// Whether a reading is there: scanning is enabled, and the reading is not unavailable.
-fn is_there(reading: Reading) -> bool
-    ensures { result ≡ is_there reading }
+/// Whether a reading is available: scanning is enabled, and the reading is not unavailable.
+fn is_available(reading: Reading) -> bool
+    ensures { result ≡ is_available reading }
 {
     has_bit(reading.flags, SCANNING_ENABLED) && !has_bit(reading.flags, READING_UNAVAILABLE)
 }
@@ -48,7 +50,7 @@ fn shown_reading(reading: Option<Reading>) -> Shown
     let Some(reading) = reading else {
         return Shown::NoReading;
     };
-    if is_there(reading) {
+    if is_available(reading) {
         Shown::Value(reading)
     } else {
         Shown::NoReading
@@ -122,19 +124,6 @@ fn push_fru(text: &mut String, fru: Option<u8>) -> Result<(), AllocError>
     match fru {
         Some(fru) => write!(text, "FRU {fru}"),
         None => text.push_str("elsewhere"),
-    }
-}
-
-/// A record type without a name, printed as its number.
-#[derive(Clone, Copy)]
-pub(crate) struct RecordType(pub(crate) u8);
-
-impl fmt::Display for RecordType {
-    ghost output = { λ kind. Some (type_text kind.0) };
-
-    fn fmt<W: fmt::Write>(&self, f: &mut fmt::Formatter<W>) -> fmt::Result {
-        let kind = HexByte(self.0);
-        write!(f, "record type 0x{kind}")
     }
 }
 

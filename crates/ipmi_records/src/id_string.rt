@@ -1,5 +1,5 @@
 //! The ID string of a record.
-ghost use Rattle.std.specs.Prelude.{◌≡◌, ◌<◌, ◌≤◌, length};
+ghost use Rattle.std.specs.Prelude.{◌≡◌, ◌+◌, ◌<◌, length};
 ghost use Rattle.ipmi_records.specs.Prelude.{id_field_at, id_field_of};
 
 /// The ID string of a record, as its type/length byte and the bytes after it are (IPMI v2.0, section 43.15).
@@ -12,15 +12,14 @@ pub struct IdString<'a> {
 }
 
 impl<'a> IdString<'a> {
-    /// The ID string whose type/length byte has this place, counted from 1.
+    /// The ID string whose type/length byte has this place, counted from 0.
     pub(crate) fn at(bytes: &'a [u8], place: usize) -> IdString<'a>
-        requires low { 0 < place }
-        requires high { place ≤ length bytes.now }
-        ensures { id_field_of result ≡ id_field_at place bytes.now }
+        requires { place < length bytes.now }
+        ensures { id_field_of result ≡ id_field_at (place + 1) bytes.now }
     {
         IdString {
-            type_length: bytes[place - 1],
-            rest: &bytes[place..],
+            type_length: bytes[place],
+            rest: &bytes[place + 1..],
         }
     }
 }

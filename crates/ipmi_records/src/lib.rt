@@ -3,31 +3,37 @@
 
 mod at_least;
 mod bits;
-mod block;
 mod column;
+mod compact;
+mod entity;
+mod event_only;
+mod fru_locator;
+mod full;
 mod id_string;
 mod info;
 pub mod laws;
-mod line;
 mod locator;
-mod log;
 mod padding;
+mod record_type;
 mod sdr;
+mod sdr_blocks;
+mod sdr_lines;
 mod sel;
+mod sel_texts;
 mod sensor;
+mod threshold;
 
-pub use at_least::AtLeast;
-pub use block::sdr_block;
+pub use compact::CompactSensor;
+pub use entity::Entity;
+pub use event_only::EventOnlySensor;
+pub use full::FullSensor;
 pub use id_string::IdString;
 pub use info::info_block;
-pub use line::{sdr_eline, sdr_fault_line, sdr_line};
-pub use locator::{
-    CONTROLLER_TYPE, ControllerLocator, FRU_TYPE, FruLocator, GENERIC_TYPE, GenericLocator, Locator,
-};
-pub use log::{sel_block, sel_line};
+pub use locator::{FruLocator, GenericLocator, Locator, ManagementControllerLocator};
 pub use sdr::{OtherRecord, SdrFault, SdrView};
-pub use sel::{Entry, EventEntry, OemPlainEntry, OemTimedEntry, OtherEntry, SelView};
-pub use sensor::{
-    COMPACT_TYPE, CompactSensor, EVENT_ONLY_TYPE, Entity, EventOnlySensor, FULL_TYPE, FullSensor,
-    Sensor, Threshold,
-};
+pub use sdr_blocks::sdr_block;
+pub use sdr_lines::{sdr_eline, sdr_fault_line, sdr_line};
+pub use sel::{EventEntry, OemNonTimestampedEntry, OemTimestampedEntry, OtherEntry, SelView};
+pub use sel_texts::{sel_block, sel_line};
+pub use sensor::Sensor;
+pub use threshold::Threshold;

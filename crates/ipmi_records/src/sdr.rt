@@ -1,18 +1,18 @@
 //! Sensor data records as views that borrow their bytes (IPMI v2.0, section 43).
 ghost use Rattle.std.specs.Prelude.{◌≡◌, ◌≤◌, IfOk, length, option_map, string_bytes};
-ghost use Rattle.ipmi_records.specs.Prelude.{body_len, fru_of, id_field_of, id_string_of, key_of, least_len, locator_of, name_of, reading_of, record_bytes, record_id, record_type, record_version, sdr_view_by_type, sdr_view_of, sensor_of};
+ghost use Rattle.ipmi_records.specs.Prelude.{byte_at, fru_of, id_field_of, id_string_of, key_of, least_len, locator_of, name_of, number_at, reading_of, record_bytes, record_type, sdr_view_by_type, sdr_view_of, sensor_of};
 
 use crate::at_least::AtLeast;
+use crate::compact::{COMPACT_LEAST_LEN, COMPACT_TYPE, CompactSensor};
+use crate::event_only::{EVENT_ONLY_LEAST_LEN, EVENT_ONLY_TYPE, EventOnlySensor};
+use crate::full::{FULL_LEAST_LEN, FULL_TYPE, FullSensor};
 use crate::id_string::IdString;
 use crate::locator::{
-    CONTROLLER_TYPE, ControllerLocator, FRU_TYPE, FruLocator, GENERIC_TYPE, GenericLocator,
-    LOCATOR_ID_PLACE, Locator,
+    CONTROLLER_TYPE, FRU_TYPE, FruLocator, GENERIC_TYPE, GenericLocator, LOCATOR_LEAST_LEN,
+    Locator, ManagementControllerLocator,
 };
 use crate::sdr::SdrView::{Compact, Controller, EventOnly, Fru, Full, Generic, Other};
-use crate::sensor::{
-    COMPACT_ID_PLACE, COMPACT_TYPE, CompactSensor, EVENT_ONLY_ID_PLACE, EVENT_ONLY_TYPE,
-    EventOnlySensor, FULL_ID_PLACE, FULL_TYPE, FullSensor, Sensor,
-};
+use crate::sensor::Sensor;
 use byteorder::{ByteOrder, LittleEndian};
 use ipmi_text::{SDR_HEADER_LEN, sdr_len, sdr_text};
 use std::alloc::{AllocError, Global};
@@ -20,6 +20,15 @@ use thiserror::Error;
 
 /// The address of the controller that holds the records.
 pub(crate) const OWN_ADDRESS: u8 = 0x20;
+
+/// Where the header has the version of the record's format, counted from 0.
+const VERSION: usize = 2;
+
+/// Where it has the record type.
+const RECORD_TYPE: usize = 3;
+
+/// Where it has the record length: how many bytes follow the header.
+const RECORD_LENGTH: usize = 4;
 
 /// The first of the types that have no view of their own.
 const OTHER_TYPE: u8 = 0x00;
@@ -55,7 +64,7 @@ pub enum SdrView<'a> {
     /// Type 11h.
     Fru(FruLocator<'a>),
     /// Type 12h.
-    Controller(ControllerLocator<'a>),
+    Controller(ManagementControllerLocator<'a>),
     /// Any other type.
     Other(OtherRecord<'a>),
 }
@@ -65,10 +74,10 @@ fn least_len(kind: u8) -> usize
     ensures { result ≡ least_len kind }
 {
     match kind {
-        FULL_TYPE => FULL_ID_PLACE,
-        COMPACT_TYPE => COMPACT_ID_PLACE,
-        EVENT_ONLY_TYPE => EVENT_ONLY_ID_PLACE,
-        GENERIC_TYPE | FRU_TYPE | CONTROLLER_TYPE => LOCATOR_ID_PLACE,
+        FULL_TYPE => FULL_LEAST_LEN,
+        COMPACT_TYPE => COMPACT_LEAST_LEN,
+        EVENT_ONLY_TYPE => EVENT_ONLY_LEAST_LEN,
+        GENERIC_TYPE | FRU_TYPE | CONTROLLER_TYPE => LOCATOR_LEAST_LEN,
         _ => SDR_HEADER_LEN,
     }
 }
@@ -85,7 +94,7 @@ impl<'a> SdrView<'a> {
             EVENT_ONLY_TYPE => EventOnly(EventOnlySensor::new(bytes)),
             GENERIC_TYPE => Generic(GenericLocator::new(bytes)),
             FRU_TYPE => Fru(FruLocator::new(bytes)),
-            CONTROLLER_TYPE => Controller(ControllerLocator::new(bytes)),
+            CONTROLLER_TYPE => Controller(ManagementControllerLocator::new(bytes)),
             _ => Other(OtherRecord::new(bytes)),
         }
     }
@@ -100,7 +109,7 @@ impl<'a> SdrView<'a> {
         if bytes.len() != sdr_len(bytes) {
             return Err(SdrFault::Length);
         }
-        let kind = bytes[3];
+        let kind = bytes[RECORD_TYPE];
         if bytes.len() < least_len(kind) {
             return Err(SdrFault::BodyShort);
         }
@@ -110,7 +119,7 @@ impl<'a> SdrView<'a> {
     /// The bytes of the record.
     pub fn bytes(&self) -> &'a [u8]
         ensures value { result.now ≡ record_bytes self.now }
-        ensures room { 5 ≤ length result.now }
+        ensures header { 5 ≤ length result.now }
     {
         match self {
             Full(view) => view.bytes(),
@@ -125,30 +134,30 @@ impl<'a> SdrView<'a> {
 
     /// The record id in the header.
     pub fn id(&self) -> u16
-        ensures { result ≡ record_id (record_bytes self.now) }
+        ensures { result ≡ number_at 1 2 (record_bytes self.now) }
     {
         LittleEndian::read_u16(self.bytes())
     }
 
     /// The version of the record's format, 51h in IPMI v2.0.
     pub fn version(&self) -> u8
-        ensures { result ≡ record_version (record_bytes self.now) }
+        ensures { result ≡ byte_at 3 (record_bytes self.now) }
     {
-        self.bytes()[2]
+        self.bytes()[VERSION]
     }
 
     /// The type of the record.
     pub fn record_type(&self) -> u8
         ensures { result ≡ record_type (record_bytes self.now) }
     {
-        self.bytes()[3]
+        self.bytes()[RECORD_TYPE]
     }
 
     /// How many bytes follow the header.
     pub fn body_len(&self) -> u8
-        ensures { result ≡ body_len (record_bytes self.now) }
+        ensures { result ≡ byte_at 5 (record_bytes self.now) }
     {
-        self.bytes()[4]
+        self.bytes()[RECORD_LENGTH]
     }
 
     /// What the record tells of its sensor. None for a record that is not a sensor's.

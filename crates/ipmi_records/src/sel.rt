@@ -1,6 +1,6 @@
 //! Entries of the event log as views that borrow their bytes (IPMI v2.0, section 32).
 ghost use Rattle.std.specs.Prelude.{◌≡◌, ◌≤◌, length};
-ghost use Rattle.ipmi_records.specs.Prelude.{entry_bytes, entry_id, entry_type, event_data, event_type, generator, is_deasserted, manufacturer, oem_data, plain_data, revision, sel_view_of, sensor_number, sensor_type, time_stamp};
+ghost use Rattle.ipmi_records.specs.Prelude.{entry_bytes, entry_type, event_data, event_type, generator_id, is_deasserted, manufacturer_id, number_at, oem_data, data_after_type, revision, sel_view_of, sensor_number, sensor_type, time_stamp};
 
 use crate::bits::has_bit;
 use byteorder::{ByteOrder, LittleEndian};
@@ -9,19 +9,52 @@ use std::marker::Model;
 /// The type of an event.
 const EVENT: u8 = 0x02;
 
-/// The first type of an OEM record with a time stamp.
-const OEM_TIMED: u8 = 0xC0;
+/// The first type of an OEM timestamped record.
+const OEM_TIMESTAMPED: u8 = 0xC0;
 
 /// The last type of one.
-const LAST_OEM_TIMED: u8 = 0xDF;
+const LAST_OEM_TIMESTAMPED: u8 = 0xDF;
 
-/// The first type of an OEM record without a time stamp.
-const OEM_PLAIN: u8 = 0xE0;
+/// The first type of an OEM non-timestamped record.
+const OEM_NON_TIMESTAMPED: u8 = 0xE0;
 
 /// The first of all other types.
 const OTHER: u8 = 0x00;
 
-/// The bit of an event's byte 13 that says that it is a deassertion.
+/// Where an entry has its type, counted from 0.
+const ENTRY_TYPE: usize = 2;
+
+/// Where what follows its type begins.
+const AFTER_TYPE: usize = 3;
+
+/// Where an event and an OEM timestamped record have the time stamp.
+const TIME_STAMP: usize = 3;
+
+/// Where an event has the generator id.
+const GENERATOR_ID: usize = 7;
+
+/// Where it has the revision of the event message's format.
+const REVISION: usize = 9;
+
+/// Where it has the sensor type.
+const SENSOR_TYPE: usize = 10;
+
+/// Where it has the sensor's number.
+const SENSOR_NUMBER: usize = 11;
+
+/// Where it has its direction and the event/reading type.
+const EVENT_TYPE: usize = 12;
+
+/// Where it has the event data, up to the entry's end.
+const EVENT_DATA: usize = 13;
+
+/// Where an OEM timestamped record has the manufacturer id.
+const MANUFACTURER_ID: usize = 7;
+
+/// Where it has the data that the manufacturer gives a meaning, up to the entry's end.
+const OEM_DATA: usize = 10;
+
+/// The bit of an event's type byte that says that it is a deassertion.
 const DEASSERTED: u32 = 7;
 
 /// Bits 6:0 of that byte: the event/reading type.
@@ -65,15 +98,15 @@ fn time_stamp(bytes: &[u8]) -> u32
     requires { 7 ≤ length bytes.now }
     ensures { result ≡ time_stamp bytes.now }
 {
-    LittleEndian::read_u32(&bytes[3..])
+    LittleEndian::read_u32(&bytes[TIME_STAMP..])
 }
 
 /// The bytes after an entry's type.
-fn plain_data(bytes: &[u8]) -> &[u8]
+fn data_after_type(bytes: &[u8]) -> &[u8]
     requires { length bytes.now ≡ 16 }
-    ensures { result.now ≡ plain_data bytes.now }
+    ensures { result.now ≡ data_after_type bytes.now }
 {
-    &bytes[3..16]
+    &bytes[AFTER_TYPE..16]
 }
 
 /// An event (section 32.1).
@@ -88,45 +121,45 @@ impl<'a> EventEntry<'a> {
     }
 
     /// What made it: an address or a software id, with channel and LUN.
-    pub fn generator(&self) -> u16
-        ensures { result ≡ generator self.now }
+    pub fn generator_id(&self) -> u16
+        ensures { result ≡ generator_id self.now }
     {
-        LittleEndian::read_u16(&self.bytes[7..])
+        LittleEndian::read_u16(&self.bytes[GENERATOR_ID..])
     }
 
     /// The revision of the event message's format.
     pub fn revision(&self) -> u8
         ensures { result ≡ revision self.now }
     {
-        self.bytes[9]
+        self.bytes[REVISION]
     }
 
     /// The sensor type (table 42-3).
     pub fn sensor_type(&self) -> u8
         ensures { result ≡ sensor_type self.now }
     {
-        self.bytes[10]
+        self.bytes[SENSOR_TYPE]
     }
 
     /// The number of the sensor.
     pub fn sensor_number(&self) -> u8
         ensures { result ≡ sensor_number self.now }
     {
-        self.bytes[11]
+        self.bytes[SENSOR_NUMBER]
     }
 
     /// Whether this is a deassertion: what the event tells of has ended, and not begun.
     pub fn is_deasserted(&self) -> bool
         ensures { result ≡ is_deasserted self.now }
     {
-        has_bit(self.bytes[12], DEASSERTED)
+        has_bit(self.bytes[EVENT_TYPE], DEASSERTED)
     }
 
     /// The event/reading type (section 42.1), 01h for a threshold event.
     pub fn event_type(&self) -> u8
         ensures { result ≡ event_type self.now }
     {
-        self.bytes[12] & EVENT_TYPE_BITS
+        self.bytes[EVENT_TYPE] & EVENT_TYPE_BITS
     }
 
     /// The three bytes of event data. Bits 3:0 of the first are the offset.
@@ -134,14 +167,14 @@ impl<'a> EventEntry<'a> {
         ensures value { result.now ≡ event_data self.now }
         ensures len { length result.now ≡ 3 }
     {
-        &self.bytes[13..16]
+        &self.bytes[EVENT_DATA..16]
     }
 }
 
-/// An OEM record with a time stamp (section 32.2).
-pub type OemTimedEntry<'a> = Entry<'a, OEM_TIMED>;
+/// An OEM timestamped record (section 32.2).
+pub type OemTimestampedEntry<'a> = Entry<'a, OEM_TIMESTAMPED>;
 
-impl<'a> OemTimedEntry<'a> {
+impl<'a> OemTimestampedEntry<'a> {
     /// The time stamp in seconds, as `ipmi_text::UtcTime::of` reads it.
     pub fn time_stamp(&self) -> u32
         ensures { result ≡ time_stamp self.now }
@@ -149,30 +182,30 @@ impl<'a> OemTimedEntry<'a> {
         time_stamp(self.bytes)
     }
 
-    /// The manufacturer's number, 3 bytes.
-    pub fn manufacturer(&self) -> u32
-        ensures { result ≡ manufacturer self.now }
+    /// The manufacturer id, 3 bytes.
+    pub fn manufacturer_id(&self) -> u32
+        ensures { result ≡ manufacturer_id self.now }
     {
-        LittleEndian::read_u24(&self.bytes[7..])
+        LittleEndian::read_u24(&self.bytes[MANUFACTURER_ID..])
     }
 
     /// The six bytes that the manufacturer gives a meaning.
     pub fn data_bytes(&self) -> &'a [u8]
         ensures { result.now ≡ oem_data self.now }
     {
-        &self.bytes[10..16]
+        &self.bytes[OEM_DATA..16]
     }
 }
 
-/// An OEM record without a time stamp (section 32.3).
-pub type OemPlainEntry<'a> = Entry<'a, OEM_PLAIN>;
+/// An OEM non-timestamped record (section 32.3).
+pub type OemNonTimestampedEntry<'a> = Entry<'a, OEM_NON_TIMESTAMPED>;
 
-impl<'a> OemPlainEntry<'a> {
+impl<'a> OemNonTimestampedEntry<'a> {
     /// The thirteen bytes that the manufacturer gives a meaning.
     pub fn data_bytes(&self) -> &'a [u8]
-        ensures { result.now ≡ plain_data self.now }
+        ensures { result.now ≡ data_after_type self.now }
     {
-        plain_data(self.bytes)
+        data_after_type(self.bytes)
     }
 }
 
@@ -182,9 +215,9 @@ pub type OtherEntry<'a> = Entry<'a, OTHER>;
 impl<'a> OtherEntry<'a> {
     /// All bytes after the type.
     pub fn data_bytes(&self) -> &'a [u8]
-        ensures { result.now ≡ plain_data self.now }
+        ensures { result.now ≡ data_after_type self.now }
     {
-        plain_data(self.bytes)
+        data_after_type(self.bytes)
     }
 }
 
@@ -194,9 +227,9 @@ pub enum SelView<'a> {
     /// Type 02h.
     Event(EventEntry<'a>),
     /// Types C0h to DFh.
-    OemTimed(OemTimedEntry<'a>),
+    OemTimed(OemTimestampedEntry<'a>),
     /// Types E0h to FFh.
-    OemPlain(OemPlainEntry<'a>),
+    OemPlain(OemNonTimestampedEntry<'a>),
     /// Any other type.
     Other(OtherEntry<'a>),
 }
@@ -207,10 +240,12 @@ impl<'a> SelView<'a> {
         ensures { result ≡ sel_view_of bytes.now }
     {
         let bytes = bytes.as_slice();
-        match bytes[2] {
+        match bytes[ENTRY_TYPE] {
             EVENT => SelView::Event(EventEntry::new(bytes)),
-            OEM_TIMED..=LAST_OEM_TIMED => SelView::OemTimed(OemTimedEntry::new(bytes)),
-            OEM_PLAIN..=u8::MAX => SelView::OemPlain(OemPlainEntry::new(bytes)),
+            OEM_TIMESTAMPED..=LAST_OEM_TIMESTAMPED => SelView::OemTimed(OemTimestampedEntry::new(
+                bytes,
+            )),
+            OEM_NON_TIMESTAMPED..=u8::MAX => SelView::OemPlain(OemNonTimestampedEntry::new(bytes)),
             _ => SelView::Other(OtherEntry::new(bytes)),
         }
     }
@@ -230,7 +265,7 @@ impl<'a> SelView<'a> {
 
     /// The record id in the entry.
     pub fn id(&self) -> u16
-        ensures { result ≡ entry_id (entry_bytes self.now) }
+        ensures { result ≡ number_at 1 2 (entry_bytes self.now) }
     {
         LittleEndian::read_u16(self.bytes())
     }
@@ -239,6 +274,6 @@ impl<'a> SelView<'a> {
     pub fn entry_type(&self) -> u8
         ensures { result ≡ entry_type (entry_bytes self.now) }
     {
-        self.bytes()[2]
+        self.bytes()[ENTRY_TYPE]
     }
 }

@@ -1,6 +1,6 @@
 -- The names of chassis types (Platform Management FRU Information Storage Definition v1.0, section 10).
-use Rattle.std.specs.Prelude.{ℕ, List, [], ◌∷◌, codes, Option}
-use Rattle.ipmi_text.specs.Names.{entry_from_one, name_or_code}
+use Rattle.std.specs.Prelude.{ℕ, List, [], ◌∷◌, codes}
+use Rattle.ipmi_text.specs.Names.{name_from_one, name_or_code}
 
 -- the names, from type 01h on
 abbrev pub chassis_types : List (List ℕ)
@@ -29,10 +29,6 @@ chassis_types =
     codes "RAID Chassis" ∷
     codes "Rack Mount Chassis" ∷ []
 
--- the name of a type, if it has one
-abbrev pub chassis_name : ℕ → Option (List ℕ)
-chassis_name code = entry_from_one chassis_types code
-
--- the name, or else `type 0xNN`
+-- the name of a type, or else `type 0xNN`
 abbrev pub chassis_text_of : ℕ → List ℕ
-chassis_text_of code = name_or_code (chassis_name code) (codes "type") code
+chassis_text_of code = name_or_code (name_from_one chassis_types code) (codes "type") code

@@ -19,17 +19,13 @@ threshold_events =
     codes "Upper Non-recoverable going low" ∷
     codes "Upper Non-recoverable going high" ∷ []
 
--- the offset of an event: bits 3:0 of its first data byte
-abbrev pub event_offset : ℕ → ℕ
-event_offset data1 = data1 % 16
-
 -- the words of an event, which only threshold events (type 01h) have
 abbrev pub event_name : ℕ → ℕ → Option (List ℕ)
 event_name event offset = if event == 1 then slice_get threshold_events offset else None
 
--- the words, or else `event 0xTT offset 0xO`
+-- the words, or else `event 0xTT offset 0xO`; the offset is bits 3:0 of the event's first data byte
 abbrev pub event_text_of : ℕ → ℕ → List ℕ
 event_text_of event data1 =
-    unwrap_or (event_name event (event_offset data1))
+    unwrap_or (event_name event (data1 % 16))
     (codes "event 0x" ++ hex_byte event ++ codes " offset 0x"
-    ++ digit_glyph false (event_offset data1) ∷ [])
+    ++ digit_glyph false (data1 % 16) ∷ [])

@@ -56,20 +56,15 @@ fru_text_of code language bytes =
     else if (code == 3) && is_english language then latin1_text bytes
     else binary_text bytes
 
--- the kind of a sensor data record's ID string, bits 7:6 of its type/length byte, and the count, bits 4:0
-abbrev pub id_kind : ℕ → ℕ
-id_kind tl = tl / 64
-
-abbrev pub id_count : ℕ → ℕ
-id_count tl = tl % 32
-
--- how many bytes the count asks for: as many for Unicode and for 8-bit ASCII, four bits for each
+-- The type/length byte of a sensor data record's ID string has its type code in bits 7:6, and in bits 4:0 its length in
+-- characters.
+-- how many bytes the length asks for: as many for Unicode and for 8-bit ASCII, four bits for each
 -- character of BCD plus, six for each of 6-bit ASCII, rounded up to whole bytes
 abbrev pub bytes_wanted : ℕ → ℕ
 bytes_wanted tl =
-    if id_kind tl == 1 then (id_count tl + 1) / 2
-    else if id_kind tl == 2 then (6 * id_count tl + 7) / 8
-    else id_count tl
+    if tl / 64 == 1 then (tl % 32 + 1) / 2
+    else if tl / 64 == 2 then (6 * (tl % 32) + 7) / 8
+    else tl % 32
 
 -- the bytes that are used: as many as are wanted, at most 16, and no more than there are
 abbrev pub bytes_used : ℕ → List ℕ → List ℕ
@@ -78,7 +73,7 @@ bytes_used tl rest = take (min (bytes_wanted tl) 16) rest
 -- the text of a sensor data record's ID string by its type/length byte and the bytes after it
 abbrev pub sdr_text_of : ℕ → List ℕ → List ℕ
 sdr_text_of tl rest =
-    if id_kind tl == 0 then binary_text (bytes_used tl rest)
-    else if id_kind tl == 1 then take (id_count tl) (bcd_plus_text (bytes_used tl rest))
-    else if id_kind tl == 2 then take (id_count tl) (six_bit_text (bytes_used tl rest))
+    if tl / 64 == 0 then binary_text (bytes_used tl rest)
+    else if tl / 64 == 1 then take (tl % 32) (bcd_plus_text (bytes_used tl rest))
+    else if tl / 64 == 2 then take (tl % 32) (six_bit_text (bytes_used tl rest))
     else latin1_text (bytes_used tl rest)

@@ -3,8 +3,8 @@ use Rattle.std.specs.Prelude.{ℕ, ◌-◌, ◌==◌, List, ◌++◌, codes, Opt
 use Rattle.ipmi_text.specs.Hex.{hex_byte}
 
 -- the name of a code, in a table that begins with the name of code 1
-abbrev pub entry_from_one : List (List ℕ) → ℕ → Option (List ℕ)
-entry_from_one table code = if code == 0 then None else slice_get table (code - 1)
+abbrev pub name_from_one : List (List ℕ) → ℕ → Option (List ℕ)
+name_from_one table code = if code == 0 then None else slice_get table (code - 1)
 
 -- the name, or else the kind and the code, as `unit 0x19`
 abbrev pub name_or_code : Option (List ℕ) → List ℕ → ℕ → List ℕ

@@ -1,6 +1,6 @@
 -- The names of sensor types (IPMI v2.0, table 42-3).
-use Rattle.std.specs.Prelude.{ℕ, List, [], ◌∷◌, codes, Option}
-use Rattle.ipmi_text.specs.Names.{entry_from_one, name_or_code}
+use Rattle.std.specs.Prelude.{ℕ, List, [], ◌∷◌, codes}
+use Rattle.ipmi_text.specs.Names.{name_from_one, name_or_code}
 
 -- the names, from type 01h on, some of them shortened
 abbrev pub sensor_types : List (List ℕ)
@@ -50,10 +50,6 @@ sensor_types =
     codes "Version Change" ∷
     codes "FRU State" ∷ []
 
--- the name of a type, if it has one
-abbrev pub sensor_type_name : ℕ → Option (List ℕ)
-sensor_type_name code = entry_from_one sensor_types code
-
--- the name, or else `sensor type 0xNN`
+-- the name of a type, or else `sensor type 0xNN`
 abbrev pub sensor_type_text_of : ℕ → List ℕ
-sensor_type_text_of code = name_or_code (sensor_type_name code) (codes "sensor type") code
+sensor_type_text_of code = name_or_code (name_from_one sensor_types code) (codes "sensor type") code

@@ -4,8 +4,8 @@ use Rattle.jiff.specs.Words.{date_text, epoch_day}
 use Rattle.jiff.specs.declared.civil.Date.{Date}
 use Rattle.ipmi_text.specs.TwoDigits.{two_digits}
 use Rattle.ipmi_text.specs.declared.times.Moment.{Moment}
-use Rattle.ipmi_text.specs.declared.times.UtcTime.{UtcTime}
-use Rattle.ipmi_text.specs.declared.times.UtcTime.TheVariants.{Unspecified, SinceStart, At}
+use Rattle.ipmi_text.specs.declared.times.Meaning.{Meaning}
+use Rattle.ipmi_text.specs.declared.times.Meaning.TheVariants.{Unspecified, SinceStart, At}
 
 -- HH:MM of a minute of the day
 abbrev pub minute_text : ℕ → List ℕ
@@ -29,10 +29,10 @@ moment_text moment =
     ++ (codes ":" ++ (two_digits moment.minute.value
     ++ (codes ":" ++ two_digits moment.second.value)))))
 
-abbrev pub utc_time_text : UtcTime → List ℕ
-utc_time_text Unspecified = codes "unspecified"
-utc_time_text (SinceStart seconds) = codes "+" ++ (decimal seconds ++ codes " s")
-utc_time_text (At moment) = moment_text moment
+abbrev pub meaning_text : Meaning → List ℕ
+meaning_text Unspecified = codes "unspecified"
+meaning_text (SinceStart seconds) = codes "+" ++ (decimal seconds ++ codes " s")
+meaning_text (At moment) = moment_text moment
 
 -- a time stamp in seconds (IPMI v2.0, section 37): FFFFFFFFh is unspecified, those up to 20000000h count
 -- from the start of the controller's clock, and all others from 1970-01-01 00:00:00
@@ -42,13 +42,10 @@ pub record IsUtcTextOf (seconds : ℕ) (text : List ℕ) : Type 0 where
   pub moment : 0x2000_0000 < seconds → seconds < 0xffff_ffff
       → IsMoment (seconds / 86_400) (second_text (seconds % 86_400)) text
 
--- the day number of 1996-01-01: 26 years of 365 days, of which 6 were leap years
-abbrev pub first_fru_day : ℕ
-first_fru_day = 9496
-
 -- a time stamp in minutes from 1996-01-01 00:00, of which 0 is none (Platform Management FRU
--- Information Storage Definition v1.0, section 11)
+-- Information Storage Definition v1.0, section 11). The day number of that day is 9496: 26 years of
+-- 365 days, of which 6 were leap years
 pub record IsMinutesTextOf (minutes : ℕ) (text : List ℕ) : Type 0 where
   pub unspecified : minutes ≡ 0 → text ≡ codes "unspecified"
-  pub moment : 0 < minutes → IsMoment (first_fru_day + minutes / 1440)
+  pub moment : 0 < minutes → IsMoment (9496 + minutes / 1440)
       (minute_text (minutes % 1440)) text

@@ -33,13 +33,9 @@ units =
     codes "minute" ∷
     codes "hour" ∷ []
 
--- the name of a unit, if it has one
-abbrev pub unit_name : ℕ → Option (List ℕ)
-unit_name code = slice_get units code
-
 -- the name of a unit, or else `unit 0xNN`
 abbrev pub unit_name_or_code : ℕ → List ℕ
-unit_name_or_code code = name_or_code (unit_name code) (codes "unit") code
+unit_name_or_code code = name_or_code (slice_get units code) (codes "unit") code
 
 -- `%` where bit 0 of units 1 is set
 abbrev pub percent_part : ℕ → List ℕ
@@ -52,20 +48,17 @@ modifier_part units1 modifier =
     else if units1 / 2 % 4 == 2 then codes "*" ++ unit_name_or_code modifier
     else []
 
--- the rates, by bits 5:3 of units 1
-abbrev pub rates : List (List ℕ)
-rates =
-    [] ∷
+-- the rate, by bits 5:3 of units 1
+abbrev pub rate_part : ℕ → List ℕ
+rate_part units1 = unwrap_or (slice_get
+    ([] ∷
     codes "per us" ∷
     codes "per ms" ∷
     codes "per s" ∷
     codes "per min" ∷
     codes "per hour" ∷
     codes "per day" ∷
-    [] ∷ []
-
-abbrev pub rate_part : ℕ → List ℕ
-rate_part units1 = unwrap_or (slice_get rates (units1 / 8 % 8)) []
+    [] ∷ []) (units1 / 8 % 8)) []
 
 abbrev pub is_not_empty : List ℕ → Bool
 is_not_empty [] = false

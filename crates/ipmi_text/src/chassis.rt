@@ -2,12 +2,12 @@
 ghost use Rattle.std.specs.Prelude.{◌≡◌, IfOk, string_bytes};
 ghost use Rattle.ipmi_text.specs.Chassis.{chassis_text_of};
 
-use crate::names::{NameOrCode, entry_from_one};
-use crate::room::text_with_room;
+use crate::capacity::text_with_capacity;
+use crate::names::{NameOrCode, name_from_one};
 use std::alloc::{AllocError, Global};
 
-/// The room for the text of any chassis type.
-const ROOM: usize = 24;
+/// The capacity for the text of any chassis type.
+const CAPACITY: usize = 24;
 
 /// The names, from type 01h on (Platform Management FRU Information Storage Definition v1.0,
 /// section 10).
@@ -43,9 +43,9 @@ pub fn chassis_text(alloc: Global, code: u8) -> Result<String, AllocError>
     ensures { IfOk result (λ text. string_bytes text ≡ chassis_text_of code) }
 {
     let words = NameOrCode {
-        name: entry_from_one(CHASSIS_TYPES.as_slice(), code),
+        name: name_from_one(CHASSIS_TYPES.as_slice(), code),
         kind: "type",
         code,
     };
-    text_with_room(alloc, ROOM, words)
+    text_with_capacity(alloc, CAPACITY, words)
 }

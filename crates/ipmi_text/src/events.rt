@@ -2,14 +2,14 @@
 ghost use Rattle.std.specs.Prelude.{◌≡◌, IfOk, option_map, string_bytes};
 ghost use Rattle.ipmi_text.specs.Events.{event_name, event_text_of};
 
+use crate::capacity::text_with_capacity;
 use crate::hex_digits::{HexByte, HexDigit};
-use crate::names::entry;
-use crate::room::text_with_room;
+use crate::names::name_at;
 use std::alloc::{AllocError, Global};
 use std::fmt;
 
-/// The room for the words of any event.
-const ROOM: usize = 40;
+/// The capacity for the words of any event.
+const CAPACITY: usize = 40;
 
 /// The event/reading type of a sensor with thresholds (IPMI v2.0, section 42.1).
 pub const THRESHOLD_EVENT_TYPE: u8 = 0x01;
@@ -38,7 +38,7 @@ fn event_name(event: u8, offset: u8) -> Option<&'static str>
     ensures { option_map (λ s. s.now) result ≡ event_name event offset }
 {
     if event == THRESHOLD_EVENT_TYPE {
-        entry(THRESHOLD_EVENTS.as_slice(), usize::from(offset))
+        name_at(THRESHOLD_EVENTS.as_slice(), usize::from(offset))
     } else {
         None
     }
@@ -77,5 +77,5 @@ impl fmt::Display for EventWords {
 pub fn event_text(alloc: Global, event: u8, data1: u8) -> Result<String, AllocError>
     ensures { IfOk result (λ text. string_bytes text ≡ event_text_of event data1) }
 {
-    text_with_room(alloc, ROOM, EventWords { event, data1 })
+    text_with_capacity(alloc, CAPACITY, EventWords { event, data1 })
 }

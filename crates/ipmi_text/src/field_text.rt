@@ -1,6 +1,6 @@
 //! The texts of type/length fields.
-ghost use Rattle.std.specs.Prelude.{◌≡◌, ◌<◌, ◌≤◌, ◌++◌, ◌↔◌, IfOk, IfSome, IsAscii, IsTrue, OnOk, length, slice_index, string_bytes, take};
-ghost use Rattle.ipmi_text.specs.FieldText.{bcd_plus_character, bcd_plus_text, bytes_used, fru_text_of, id_count, id_kind, is_english, latin1_character, latin1_text, sdr_text_of, six_bit_character, six_bit_text};
+ghost use Rattle.std.specs.Prelude.{◌≡◌, ◌<◌, ◌≤◌, ◌/◌, ◌%◌, ◌++◌, ◌↔◌, IfOk, IfSome, IsAscii, IsTrue, OnOk, length, slice_index, string_bytes, take};
+ghost use Rattle.ipmi_text.specs.FieldText.{bcd_plus_character, bcd_plus_text, bytes_used, fru_text_of, is_english, latin1_character, latin1_text, sdr_text_of, six_bit_character, six_bit_text};
 
 use crate::hex_digits::nibbles;
 use std::alloc::{AllocError, Global};
@@ -163,16 +163,16 @@ pub fn fru_text(alloc: Global, code: u8, language: u8, bytes: &[u8]) -> Result<S
     }
 }
 
-/// How the bytes of an ID string are read: bits 7:6 of its type/length byte.
-fn id_kind(type_length: u8) -> u8
-    ensures { result ≡ id_kind type_length }
+/// How the bytes of an ID string are read: the type code in bits 7:6 of its type/length byte.
+fn type_code(type_length: u8) -> u8
+    ensures { result ≡ type_length / 64 }
 {
     type_length >> 6
 }
 
 /// How many characters an ID string has, by its type/length byte.
-fn id_count(type_length: u8) -> usize
-    ensures { result ≡ id_count type_length }
+fn character_count(type_length: u8) -> usize
+    ensures { result ≡ type_length % 32 }
 {
     usize::from(type_length & COUNT_BITS)
 }
@@ -182,8 +182,8 @@ fn id_count(type_length: u8) -> usize
 fn bytes_used(type_length: u8, rest: &[u8]) -> &[u8]
     ensures { result.now ≡ bytes_used type_length rest.now }
 {
-    let count = id_count(type_length);
-    let wanted = match id_kind(type_length) {
+    let count = character_count(type_length);
+    let wanted = match type_code(type_length) {
         BCD_PLUS => (count + 1) / 2,
         SIX_BIT => (6 * count + 7) / 8,
         _ => count,
@@ -209,8 +209,8 @@ pub fn sdr_text(alloc: Global, tl: u8, rest: &[u8]) -> Result<String, AllocError
     ensures { IfOk result (λ text. string_bytes text ≡ sdr_text_of tl rest.now) }
 {
     let bytes = bytes_used(tl, rest);
-    let count = id_count(tl);
-    match id_kind(tl) {
+    let count = character_count(tl);
+    match type_code(tl) {
         UNICODE => hex::encode(alloc, bytes),
         BCD_PLUS => Ok(first_characters(bcd_plus_text(alloc, bytes)?, count)),
         SIX_BIT => Ok(first_characters(six_bit_text(alloc, bytes)?, count)),
@@ -229,7 +229,7 @@ pub fn push_sdr_text(
         (string_bytes text.new ≡ string_bytes text.old ++ sdr_text_of type_length
         rest.now) }
 {
-    if id_kind(type_length) == LATIN1 {
+    if type_code(type_length) == LATIN1 {
         return push_latin1_text(text, bytes_used(type_length, rest));
     }
     let part = sdr_text(alloc, type_length, rest)?;

@@ -2,13 +2,13 @@
 ghost use Rattle.std.specs.Prelude.{◌≡◌, IfOk, string_bytes};
 ghost use Rattle.ipmi_text.specs.SensorTypes.{sensor_type_text_of};
 
-use crate::names::{NameOrCode, entry_from_one};
-use crate::room::text_with_room;
+use crate::capacity::text_with_capacity;
+use crate::names::{NameOrCode, name_from_one};
 use std::alloc::{AllocError, Global};
 use std::fmt;
 
-/// The room for the text of any sensor type.
-const ROOM: usize = 32;
+/// The capacity for the text of any sensor type.
+const CAPACITY: usize = 32;
 
 /// The names, from type 01h on, some of them shortened (IPMI v2.0, table 42-3).
 const SENSOR_TYPES: [&str; 44] = [
@@ -70,7 +70,7 @@ impl fmt::Display for SensorType {
 
     fn fmt<W: fmt::Write>(&self, f: &mut fmt::Formatter<W>) -> fmt::Result {
         let words = NameOrCode {
-            name: entry_from_one(SENSOR_TYPES.as_slice(), self.0),
+            name: name_from_one(SENSOR_TYPES.as_slice(), self.0),
             kind: "sensor type",
             code: self.0,
         };
@@ -82,5 +82,5 @@ impl fmt::Display for SensorType {
 pub fn sensor_type_text(alloc: Global, code: u8) -> Result<String, AllocError>
     ensures { IfOk result (λ text. string_bytes text ≡ sensor_type_text_of code) }
 {
-    text_with_room(alloc, ROOM, SensorType(code))
+    text_with_capacity(alloc, CAPACITY, SensorType(code))
 }

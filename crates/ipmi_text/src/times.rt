@@ -1,20 +1,21 @@
 //! The texts of points in time.
 ghost use Rattle.std.specs.Prelude.{◌≡◌, ◌+◌, ◌/◌, ◌%◌, ◌<◌, ◌≤◌, ◌^◌, IfOk, string_bytes, pos};
 ghost use Rattle.jiff.specs.Words.{epoch_day};
-ghost use Rattle.ipmi_text.specs.Times.{IsMinutesTextOf, IsMoment, IsUtcTextOf, first_fru_day, minute_text, moment_text, second_text, utc_time_text};
+ghost use Rattle.ipmi_text.specs.Times.{IsMinutesTextOf, IsMoment, IsUtcTextOf, minute_text, moment_text, second_text, meaning_text};
 
-use crate::room::text_with_room;
+use crate::capacity::text_with_capacity;
 use crate::two_digits::TwoDigits;
 use jiff::ToSpan;
 use jiff::civil::{Date, date};
 use std::alloc::{AllocError, Global};
 use std::fmt;
+use std::marker::Model;
 
 /// The day number of 1996-01-01, counted from 1970-01-01.
 const FIRST_FRU_DAY: u32 = 9496;
 
-/// The room for a text: more than its 19 bytes.
-const ROOM: usize = 24;
+/// The capacity for a text: more than its 19 bytes.
+const CAPACITY: usize = 24;
 
 const SECONDS_OF_DAY: u32 = 86_400;
 
@@ -25,7 +26,7 @@ const LAST_SINCE_START: u32 = 0x2000_0000;
 
 /// A date and a second of its day, printed as `YYYY-MM-DD HH:MM:SS`.
 #[derive(Clone, Copy, Debug)]
-pub struct Moment {
+struct Moment {
     date: Date,
     hour: TwoDigits,
     minute: TwoDigits,
@@ -47,9 +48,9 @@ impl fmt::Display for Moment {
     }
 }
 
-/// What a time stamp of the event log means (IPMI v2.0, section 37), printed as `utc_text` says.
+/// What a time stamp of the event log means (IPMI v2.0, section 37).
 #[derive(Clone, Copy, Debug)]
-pub enum UtcTime {
+enum Meaning {
     /// FFFFFFFFh: no time.
     Unspecified,
     /// Up to 20000000h: the seconds since the controller's clock began.
@@ -58,32 +59,55 @@ pub enum UtcTime {
     At(Moment),
 }
 
+/// A time stamp of the event log, printed as `utc_text` says. Contracts see it as its text.
+#[derive(Clone, Debug, Drop)]
+pub struct UtcTime {
+    meaning: Meaning,
+}
+
+impl Model for UtcTime {
+    ghost use Rattle.std.specs.Prelude.{List, ℕ};
+    ghost use Rattle.ipmi_text.specs.Times.{meaning_text};
+
+    ghost Value = { List ℕ };
+
+    ghost view = { λ time. meaning_text time.meaning };
+}
+
 impl UtcTime {
-    /// The meaning of a time stamp of so many seconds.
+    /// The time stamp of so many seconds.
     pub fn of(seconds: u32) -> UtcTime
-        ensures { IsUtcTextOf seconds (utc_time_text result) }
+        ensures { IsUtcTextOf seconds result }
     {
-        if seconds == u32::MAX {
-            UtcTime::Unspecified
-        } else if seconds <= LAST_SINCE_START {
-            UtcTime::SinceStart(seconds)
-        } else {
-            UtcTime::At(moment_of(seconds))
+        UtcTime {
+            meaning: meaning_of(seconds),
         }
+    }
+}
+
+/// The meaning of a time stamp of so many seconds.
+fn meaning_of(seconds: u32) -> Meaning
+    ensures { IsUtcTextOf seconds (meaning_text result) }
+{
+    if seconds == u32::MAX {
+        Meaning::Unspecified
+    } else if seconds <= LAST_SINCE_START {
+        Meaning::SinceStart(seconds)
+    } else {
+        Meaning::At(moment_of(seconds))
     }
 }
 
 impl fmt::Display for UtcTime {
     ghost use Rattle.std.specs.Prelude.{Some};
-    ghost use Rattle.ipmi_text.specs.Times.{utc_time_text};
 
-    ghost output = { λ time. Some (utc_time_text time) };
+    ghost output = { λ time. Some time };
 
     fn fmt<W: fmt::Write>(&self, f: &mut fmt::Formatter<W>) -> fmt::Result {
-        match self {
-            UtcTime::Unspecified => f.write_str("unspecified"),
-            UtcTime::SinceStart(seconds) => write!(f, "+{seconds} s"),
-            UtcTime::At(moment) => write!(f, "{moment}"),
+        match self.meaning {
+            Meaning::Unspecified => f.write_str("unspecified"),
+            Meaning::SinceStart(seconds) => write!(f, "+{seconds} s"),
+            Meaning::At(moment) => write!(f, "{moment}"),
         }
     }
 }
@@ -116,14 +140,14 @@ fn moment_of(seconds: u32) -> Moment
 /// `YYYY-MM-DD HH:MM` of so many minutes after 1996-01-01 00:00.
 fn text_to_minute(alloc: Global, minutes: u32) -> Result<String, AllocError>
     requires { minutes < 2 ^ 24 }
-    ensures { IfOk result (λ text. IsMoment (first_fru_day + minutes / 1440)
+    ensures { IfOk result (λ text. IsMoment (9496 + minutes / 1440)
         (minute_text (minutes % 1440)) (string_bytes text)) }
 {
     let date = date_of_day(FIRST_FRU_DAY + minutes / MINUTES_OF_DAY);
     let minute = minutes % MINUTES_OF_DAY;
     let hour = TwoDigits { value: minute / 60 };
     let minute = TwoDigits { value: minute % 60 };
-    text_with_room(alloc, ROOM, format_args!("{date} {hour}:{minute}"))
+    text_with_capacity(alloc, CAPACITY, format_args!("{date} {hour}:{minute}"))
 }
 
 /// The text of a time stamp of the event log, in seconds (IPMI v2.0, section 37): `unspecified` for
@@ -132,7 +156,7 @@ fn text_to_minute(alloc: Global, minutes: u32) -> Result<String, AllocError>
 pub fn utc_text(alloc: Global, seconds: u32) -> Result<String, AllocError>
     ensures { IfOk result (λ text. IsUtcTextOf seconds (string_bytes text)) }
 {
-    text_with_room(alloc, ROOM, UtcTime::of(seconds))
+    text_with_capacity(alloc, CAPACITY, UtcTime::of(seconds))
 }
 
 /// The text of a board's manufacturing date, in minutes from 1996-01-01 00:00 (Platform Management

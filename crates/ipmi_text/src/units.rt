@@ -1,9 +1,9 @@
 //! The units of a sensor's readings.
-ghost use Rattle.std.specs.Prelude.{◌≡◌, ◌/◌, ◌%◌, [], ◌++◌, ◌&&◌, IfOk, IfSome, OnOk, codes, if◌then◌else◌, option_map, string_bytes};
-ghost use Rattle.ipmi_text.specs.Units.{after_space, is_not_empty, modifier_part, percent_part, rate_part, unit_name, unit_name_or_code, unit_text_of};
+ghost use Rattle.std.specs.Prelude.{◌≡◌, ◌/◌, ◌%◌, [], ◌++◌, ◌&&◌, IfOk, IfSome, OnOk, codes, if◌then◌else◌, option_map, slice_get, string_bytes};
+ghost use Rattle.ipmi_text.specs.Units.{after_space, is_not_empty, modifier_part, percent_part, rate_part, unit_name_or_code, unit_text_of, units};
 
-use crate::names::{NameOrCode, entry};
-use crate::room::text_with_room;
+use crate::capacity::text_with_capacity;
+use crate::names::{NameOrCode, name_at};
 use std::alloc::{AllocError, Global};
 use std::fmt;
 
@@ -36,8 +36,8 @@ const UNITS: [&str; 25] = [
     "hour",
 ];
 
-/// The room for the text of most units.
-const ROOM: usize = 32;
+/// The capacity for the text of most units.
+const CAPACITY: usize = 32;
 
 /// Bits 5:0 of sensor units 1: rate, modifier use and percentage. Bits 7:6 are the analog format.
 const JOINED_BITS: u8 = 0x3F;
@@ -64,7 +64,7 @@ const RATES: [&str; 8] = [
 
 /// Whether a text is not empty.
 #[tactic(auto, using(crate::proofs::UnitLemmas::not_length_zero))]
-fn is_there(text: &str) -> bool
+fn is_not_empty(text: &str) -> bool
     ensures { result ≡ is_not_empty text.now }
 {
     !text.is_empty()
@@ -72,9 +72,9 @@ fn is_there(text: &str) -> bool
 
 /// The name of a unit, if it has one.
 fn unit_name(code: u8) -> Option<&'static str>
-    ensures { option_map (λ s. s.now) result ≡ unit_name code }
+    ensures { option_map (λ s. s.now) result ≡ slice_get units code }
 {
-    entry(UNITS.as_slice(), usize::from(code))
+    name_at(UNITS.as_slice(), usize::from(code))
 }
 
 /// A base or modifier unit, printed as its name, or as `unit 0xNN` where it has none.
@@ -82,11 +82,12 @@ fn unit_name(code: u8) -> Option<&'static str>
 struct UnitName(u8);
 
 impl UnitName {
-    fn is_there(self) -> bool
+    /// Whether it is printed as something.
+    fn prints_something(self) -> bool
         ensures { result ≡ is_not_empty (unit_name_or_code self.0) }
     {
         match unit_name(self.0) {
-            Some(name) => is_there(name),
+            Some(name) => is_not_empty(name),
             None => true,
         }
     }
@@ -114,13 +115,13 @@ struct BaseUnit(Units);
 
 impl BaseUnit {
     #[tactic(auto, using(crate::proofs::UnitLemmas::is_not_empty_append))]
-    fn is_there(self) -> bool
+    fn prints_something(self) -> bool
         ensures { result ≡ is_not_empty (unit_name_or_code self.0.base ++ modifier_part
             self.0.units1 self.0.modifier) }
     {
         match self.0.modifier_use() {
             DIVIDED | MULTIPLIED => true,
-            _ => UnitName(self.0.base).is_there(),
+            _ => UnitName(self.0.base).prints_something(),
         }
     }
 }
@@ -142,7 +143,7 @@ impl fmt::Display for BaseUnit {
     }
 }
 
-/// The space between two parts, where both are there.
+/// The space between two parts, where both are printed.
 fn gap(before: bool, after: bool) -> &'static str
     ensures { result.now ≡ (if before && after then codes " " else []) }
 {
@@ -192,7 +193,7 @@ impl Units {
     fn rate(self) -> &'static str
         ensures { result.now ≡ rate_part self.units1 }
     {
-        entry(RATES.as_slice(), usize::from(self.units1 >> 3 & RATE_BITS)).unwrap_or("")
+        name_at(RATES.as_slice(), usize::from(self.units1 >> 3 & RATE_BITS)).unwrap_or("")
     }
 
     /// What they print as, where that is the name of the base unit and no more.
@@ -210,10 +211,12 @@ impl Units {
 
     /// Whether they print as something.
     #[tactic(auto, using(crate::proofs::UnitLemmas::is_not_empty_join_with_byte))]
-    fn is_there(self) -> bool
+    fn prints_something(self) -> bool
         ensures { result ≡ is_not_empty (unit_text_of self.units1 self.base self.modifier) }
     {
-        is_there(self.percent()) || BaseUnit(self).is_there() || is_there(self.rate())
+        is_not_empty(self.percent())
+            || BaseUnit(self).prints_something()
+            || is_not_empty(self.rate())
     }
 }
 
@@ -228,10 +231,10 @@ impl fmt::Display for Units {
         let percent = self.percent();
         let unit = BaseUnit(*self);
         let rate = self.rate();
-        let has_percent = is_there(percent);
-        let has_unit = unit.is_there();
+        let has_percent = is_not_empty(percent);
+        let has_unit = unit.prints_something();
         let first = gap(has_percent, has_unit);
-        let second = gap(has_percent || has_unit, is_there(rate));
+        let second = gap(has_percent || has_unit, is_not_empty(rate));
         write!(f, "{percent}{first}{unit}{second}{rate}")
     }
 }
@@ -241,7 +244,7 @@ fn gap_before(units: Units) -> &'static str
     ensures { result.now ++ unit_text_of units.units1 units.base units.modifier ≡ after_space
         (unit_text_of units.units1 units.base units.modifier) }
 {
-    if units.is_there() { " " } else { "" }
+    if units.prints_something() { " " } else { "" }
 }
 
 /// Appends a space and a text, and nothing where that is empty.
@@ -250,7 +253,7 @@ fn push_after_space(text: &mut String, part: &str) -> Result<(), AllocError>
     ensures { OnOk result
         (string_bytes text.new ≡ string_bytes text.old ++ after_space part.now) }
 {
-    if !is_there(part) {
+    if !is_not_empty(part) {
         return Ok(());
     }
     text.push(' ')?;
@@ -277,9 +280,9 @@ pub fn push_units(text: &mut String, units: Units) -> Result<(), AllocError>
 pub fn unit_text(alloc: Global, units1: u8, base: u8, modifier: u8) -> Result<String, AllocError>
     ensures { IfOk result (λ text. string_bytes text ≡ unit_text_of units1 base modifier) }
 {
-    text_with_room(
+    text_with_capacity(
         alloc,
-        ROOM,
+        CAPACITY,
         Units {
             units1,
             base,

@@ -2,7 +2,7 @@
 use super::examples::EVENT;
 use crate::cases::{is_text, parts};
 use hex::FromHex;
-use ipmi_records::{EventEntry, OemTimedEntry, SelView};
+use ipmi_records::{EventEntry, OemTimestampedEntry, SelView};
 use std::alloc::Global;
 use std::process::Abort;
 
@@ -48,7 +48,7 @@ fn event_of<'a>(rt: &impl Abort, bytes: &'a [u8; 16]) -> EventEntry<'a> {
 }
 
 /// The view of an OEM entry with a time.
-fn oem_entry_of<'a>(rt: &impl Abort, bytes: &'a [u8; 16]) -> OemTimedEntry<'a> {
+fn oem_entry_of<'a>(rt: &impl Abort, bytes: &'a [u8; 16]) -> OemTimestampedEntry<'a> {
     match SelView::read(bytes) {
         SelView::OemTimed(entry) => entry,
         _ => panic!(rt; "no OEM entry with a time: {bytes:?}"),
@@ -59,7 +59,7 @@ fn oem_entry_of<'a>(rt: &impl Abort, bytes: &'a [u8; 16]) -> OemTimedEntry<'a> {
 fn numbers_of(event: &EventEntry<'_>) -> [u32; 6] {
     [
         event.time_stamp(),
-        event.generator() as u32,
+        event.generator_id() as u32,
         event.revision() as u32,
         event.sensor_type() as u32,
         event.sensor_number() as u32,
@@ -100,6 +100,6 @@ fn an_event_with_bit_7_clear_is_asserted(rt: HostRuntime) {
 fn an_oem_entry_has_its_time_and_manufacturer(rt: HostRuntime) {
     let bytes = [3, 0, 0xc0, 4, 5, 6, 7, 0x57, 0x13, 8, 1, 2, 3, 4, 5, 6];
     let entry = oem_entry_of(&rt, &bytes);
-    let got = (entry.time_stamp(), entry.manufacturer());
+    let got = (entry.time_stamp(), entry.manufacturer_id());
     assert!(rt; got == (0x0706_0504, 0x08_1357), "got {got:?}");
 }

@@ -1,6 +1,6 @@
 //! Bytes and words in hex digits: in lower case, and in upper case with an `h`.
 use crate::cases::{byte_of, id_of, is_text, three_parts};
-use ipmi_text::{ByteH, HexByte, HexWord, WordH, text_with_room};
+use ipmi_text::{ByteH, HexByte, HexWord, WordH};
 use std::alloc::Global;
 use std::process::Abort;
 
@@ -14,13 +14,14 @@ const BYTES: &str = "00|00|00h
 a0|a0|A0h
 FF|ff|FFh";
 
-/// Asserts how a byte is displayed, in room for it and in none.
+/// Asserts how a byte is displayed.
 fn is_byte(rt: &impl Abort, alloc: Global, line: &str) {
     let (digits, lower, upper) = three_parts(rt, line);
     let byte = byte_of(rt, digits);
-    is_text(rt, text_with_room(alloc, 2, HexByte(byte)), lower, line);
-    is_text(rt, text_with_room(alloc, 0, HexByte(byte)), lower, line);
-    is_text(rt, text_with_room(alloc, 3, ByteH(byte)), upper, line);
+    let displayed = HexByte(byte);
+    is_text(rt, format!(in alloc; "{displayed}"), lower, line);
+    let displayed = ByteH(byte);
+    is_text(rt, format!(in alloc; "{displayed}"), upper, line);
 }
 
 #[test]
@@ -42,8 +43,10 @@ FFFF|ffff|FFFFh";
 fn is_word(rt: &impl Abort, alloc: Global, line: &str) {
     let (digits, lower, upper) = three_parts(rt, line);
     let word = id_of(rt, digits);
-    is_text(rt, text_with_room(alloc, 4, HexWord(word)), lower, line);
-    is_text(rt, text_with_room(alloc, 5, WordH(word)), upper, line);
+    let displayed = HexWord(word);
+    is_text(rt, format!(in alloc; "{displayed}"), lower, line);
+    let displayed = WordH(word);
+    is_text(rt, format!(in alloc; "{displayed}"), upper, line);
 }
 
 #[test]

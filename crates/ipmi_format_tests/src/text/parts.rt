@@ -2,7 +2,6 @@
 use crate::cases::is_text;
 use ipmi_text::{
     EventWords, Fixed, SensorType, Units, UtcTime, push_fixed, push_sdr_text, push_units,
-    text_with_room,
 };
 use std::alloc::{AllocError, Global};
 
@@ -15,7 +14,7 @@ fn units(units1: u8, base: u8, modifier: u8) -> Units {
     }
 }
 
-/// One of each type that is displayed, in a text far past its room.
+/// One of each type that is displayed, in one text.
 fn displayed(alloc: Global) -> Result<String, AllocError> {
     let kind = SensorType(0x04);
     let words = EventWords {
@@ -24,17 +23,13 @@ fn displayed(alloc: Global) -> Result<String, AllocError> {
     };
     let time = UtcTime::of(0x22bb_5951);
     let units = units(0x18, 0x12, 0x00);
-    text_with_room(
-        alloc,
-        8,
-        format_args!("{kind} | {words} | {time} | {units}"),
-    )
+    format!(in alloc; "{kind} | {words} | {time} | {units}")
 }
 
 #[test]
-fn a_text_grows_past_its_room(rt: HostRuntime) {
+fn values_are_displayed_in_a_text(rt: HostRuntime) {
     let wanted = "Fan | Upper Critical going high | 1988-06-19 06:04:01 | RPM per s";
-    is_text(&rt, displayed(rt.alloc()), wanted, "past the room");
+    is_text(&rt, displayed(rt.alloc()), wanted, "displayed");
 }
 
 /// A decimal, units and ID strings after other texts.

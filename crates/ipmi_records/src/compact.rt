@@ -1,0 +1,49 @@
+//! The compact sensor record (IPMI v2.0, section 43.2). Bytes are counted from 0.
+ghost use Rattle.std.specs.Prelude.{◌≡◌};
+ghost use Rattle.ipmi_records.specs.Prelude.{id_field_at, id_field_of, sensor_in, units_in};
+
+use crate::at_least::AtLeast;
+use crate::id_string::IdString;
+use crate::sensor::{Sensor, sensor_by, units_in};
+use ipmi_text::Units;
+
+/// The type of a compact sensor record.
+pub(crate) const COMPACT_TYPE: u8 = 0x02;
+
+/// Where it has the sensor type.
+const SENSOR_TYPE: usize = 12;
+
+/// Where it has the event/reading type.
+const EVENT_TYPE: usize = 13;
+
+/// Where it has the type/length byte of its ID string.
+const ID_STRING: usize = 31;
+
+/// The fewest bytes that it has: as far as the type/length byte of its ID string.
+pub(crate) const COMPACT_LEAST_LEN: usize = ID_STRING + 1;
+
+/// A compact sensor record.
+pub type CompactSensor<'a> = AtLeast<'a, COMPACT_TYPE, COMPACT_LEAST_LEN>;
+
+impl<'a> CompactSensor<'a> {
+    /// The sensor; of several that share the record, the first.
+    pub fn sensor(&self) -> Sensor
+        ensures { result ≡ sensor_in self.now }
+    {
+        sensor_by(self.bytes[SENSOR_TYPE], self.bytes[EVENT_TYPE], self.bytes)
+    }
+
+    /// The units of its readings.
+    pub fn units(&self) -> Units
+        ensures { result ≡ units_in self.now }
+    {
+        units_in(self.bytes)
+    }
+
+    /// The ID string, at the record's end.
+    pub fn id_string(&self) -> IdString<'a>
+        ensures { id_field_of result ≡ id_field_at 32 self.now }
+    {
+        IdString::at(self.bytes, ID_STRING)
+    }
+}

@@ -1,0 +1,41 @@
+//! The event-only record (IPMI v2.0, section 43.3). Bytes are counted from 0.
+ghost use Rattle.std.specs.Prelude.{◌≡◌};
+ghost use Rattle.ipmi_records.specs.Prelude.{event_only_sensor, id_field_at, id_field_of};
+
+use crate::at_least::AtLeast;
+use crate::id_string::IdString;
+use crate::sensor::{Sensor, sensor_by};
+
+/// The type of an event-only record.
+pub(crate) const EVENT_ONLY_TYPE: u8 = 0x03;
+
+/// Where it has the sensor type.
+const SENSOR_TYPE: usize = 10;
+
+/// Where it has the event/reading type.
+const EVENT_TYPE: usize = 11;
+
+/// Where it has the type/length byte of its ID string.
+const ID_STRING: usize = 16;
+
+/// The fewest bytes that it has: as far as the type/length byte of its ID string.
+pub(crate) const EVENT_ONLY_LEAST_LEN: usize = ID_STRING + 1;
+
+/// An event-only record, whose sensor has no reading.
+pub type EventOnlySensor<'a> = AtLeast<'a, EVENT_ONLY_TYPE, EVENT_ONLY_LEAST_LEN>;
+
+impl<'a> EventOnlySensor<'a> {
+    /// The sensor; of several that share the record, the first.
+    pub fn sensor(&self) -> Sensor
+        ensures { result ≡ event_only_sensor self.now }
+    {
+        sensor_by(self.bytes[SENSOR_TYPE], self.bytes[EVENT_TYPE], self.bytes)
+    }
+
+    /// The ID string, at the record's end.
+    pub fn id_string(&self) -> IdString<'a>
+        ensures { id_field_of result ≡ id_field_at 17 self.now }
+    {
+        IdString::at(self.bytes, ID_STRING)
+    }
+}
