@@ -1,13 +1,13 @@
 -- The fields that bytes spell, field by field.
-use Rattle.std.proofs.Common.{◌≡◌, ◌≢◌, ℕ, zero, suc, ◌%◌, ◌≤◌, false, Option, None, Some, List, [], ◌∷◌, ◌++◌, length, drop, refl, sym, ap, subst, ◌∙◌, arith, inl, inr, option_map, is_some, ne_eqb, eq-eqb, true≢false, length-append, length-drop, length-take-le, take-append-drop}
+use Rattle.std.proofs.Common.{◌≡◌, ◌≢◌, ℕ, zero, suc, ◌/◌, ◌%◌, ◌≤◌, false, Option, None, Some, List, [], ◌∷◌, ◌++◌, length, take, drop, refl, sym, ap, subst, ◌∙◌, arith, inl, inr, option_map, is_some, ne_eqb, eq-eqb, true≢false, length-append, length-drop, length-take-le, take-append-drop}
 use Rattle.std.proofs.Math.Seq.{drop-append_seam, take-append_seam}
 use Rattle.std.proofs.lemmas.Bool.{cases_eq, cases_lt, le-ltb, lt-ltb}
-use Rattle.ipmi_fru.specs.Prelude.{AreaField, Spells, field_in, fields_from, fields_in}
+use Rattle.ipmi_fru.specs.Prelude.{AreaField, Spells, fields_from, fields_in}
 
 -- a field and what is after it
 fields_from-cons : (n byte : ℕ) (bytes : List ℕ) → byte ≢ 0xc1 → byte % 64 ≤ length bytes
     → fields_from (suc n) (byte ∷ bytes)
-    ≡ option_map (λ fields. field_in byte bytes ∷ fields) (fields_from n (drop (byte % 64) bytes))
+    ≡ option_map (λ fields. (record { code = byte / 64; bytes = take (byte % 64) bytes }) ∷ fields) (fields_from n (drop (byte % 64) bytes))
 fields_from-cons n byte bytes goes_on fits = rw (ne_eqb byte 0xc1 goes_on, le-ltb (length bytes) (byte % 64) fits) refl
 
 -- more steps than there are bytes change nothing
@@ -21,7 +21,7 @@ fields_from-enough (suc n) (suc m) (byte ∷ bytes) a b =
     rw (fields_from-enough n m (drop (byte % 64) bytes) (omega (arith, left, a)) (omega (arith, left, b))) refl
 
 pub fields_in-first : (bytes after rest : List ℕ) (byte : ℕ) (field : AreaField)
-    → bytes ≡ byte ∷ after → byte ≢ 0xc1 → byte % 64 ≤ length after → field ≡ field_in byte after
+    → bytes ≡ byte ∷ after → byte ≢ 0xc1 → byte % 64 ≤ length after → field ≡ record { code = byte / 64; bytes = take (byte % 64) after }
     → rest ≡ drop (byte % 64) after
     → fields_in bytes ≡ option_map (λ fields. field ∷ fields) (fields_in rest)
 fields_in-first bytes after rest byte field is no_end fits field_is rest_is =
@@ -66,7 +66,7 @@ found (suc n) (byte ∷ bytes) fields e = elim (cases_eq byte 0xc1) [
   | inr no_end ↦ elim (cases_lt (length bytes) (byte % 64)) [
     | inl long ↦ cc (rw (ne_eqb byte 0xc1 no_end, lt-ltb (length bytes) (byte % 64) long) at e)
     | inr fits ↦
-        let more = mapped (λ fields. field_in byte bytes ∷ fields) (fields_from n (drop (byte % 64) bytes)) fields
+        let more = mapped (λ fields. (record { code = byte / 64; bytes = take (byte % 64) bytes }) ∷ fields) (fields_from n (drop (byte % 64) bytes)) fields
         (sym (fields_from-cons n byte bytes no_end fits) ∙ e) in
         subst (Spells (byte ∷ bytes)) more.1.1 (
           drop (byte % 64) bytes,

@@ -1,7 +1,7 @@
 -- The records of the multirecord area, one after the other.
 use Rattle.std.proofs.Common.{◌≡◌, ℕ, zero, suc, ◌+◌, ◌<◌, ◌≤◌, Bool, true, false, cond, Option, None, Some, Result, Ok, List, [], ◌∷◌, length, drop, slice_index, refl, sym, ap, ◌∙◌, arith, length-drop}
 use Rattle.std.proofs.lemmas.Bool.Decides.{nat_tests}
-use Rattle.ipmi_fru.specs.Prelude.{MultiFault, offset_of, records_place, MultiRecord, RecordsEnd, IsRecordList, HasItems, items_of, record_in, record_fault, after_record, items_by, items_from, items_in}
+use Rattle.ipmi_fru.specs.Prelude.{MultiFault, offset_of, MultiRecord, IsRecordList, HasItems, items_of, record_in, record_fault, after_record, items_by, items_from, items_in}
 
 -- more steps than there are bytes change nothing
 pub items_from-enough : (n m : ℕ) (bytes : List ℕ) → length bytes < n → length bytes < m
@@ -25,7 +25,7 @@ items_in-more bytes fine r rest is rest_is last shorter =
 -- a list of records with these items
 pub record IsListed (bytes : List ℕ) (items : List (Result MultiRecord MultiFault)) : Type 0 where
   pub records : List MultiRecord
-  pub end : RecordsEnd
+  pub end : Option MultiFault
   pub is_list : IsRecordList bytes records end
   pub items_are : items ≡ items_of records end
 
@@ -56,7 +56,7 @@ listed (suc n) bytes lt = by (λ shorter. listed n (after_record bytes) shorter)
     by ih None is = last_or_more ih is r.last refl
 
 pub some_items : (bytes part : List ℕ) (items : List (Result MultiRecord MultiFault)) (offset : ℕ)
-    → offset_of records_place bytes ≡ Some offset → part ≡ drop offset bytes → items ≡ items_in part
+    → offset_of 5 bytes ≡ Some offset → part ≡ drop offset bytes → items ≡ items_in part
     → HasItems bytes items
 some_items bytes part items offset is part_is items_are =
     let found = listed (suc (length part)) part (omega arith) in
@@ -68,6 +68,6 @@ some_items bytes part items offset is part_is items_are =
     }
 
 pub no_items : (bytes : List ℕ) (items : List (Result MultiRecord MultiFault))
-    → offset_of records_place bytes ≡ None → items ≡ [] → HasItems bytes items
+    → offset_of 5 bytes ≡ None → items ≡ [] → HasItems bytes items
 no_items bytes items is items_are =
     record { records = []; end = None; are_records = rw is (refl, refl); items_are = items_are }

@@ -1,10 +1,10 @@
 -- The chassis, board and product areas (Platform Management FRU Information Storage Definition v1.0, sections 10 to
 -- 12).
-use Rattle.std.specs.Prelude.{◌≡◌, ℕ, ◌<◌, ◌+◌, ◌-◌, ◌*◌, ◌==◌, nat_lt, not, if◌then◌else◌, ◌⊎◌, IsTrue, is_some, Option, Some, None, unwrap_or, Result, Ok, Err, List, [], length, take, drop, slice_index, codes}
+use Rattle.std.specs.Prelude.{◌≡◌, ℕ, ◌<◌, ◌+◌, ◌-◌, ◌*◌, ◌%◌, ◌==◌, nat_lt, not, if◌then◌else◌, ◌⊎◌, IsTrue, is_some, Option, Some, None, unwrap_or, Result, Ok, Err, List, [], length, take, drop, slice_index, codes}
 use Rattle.ipmi_fru.specs.declared.area.AreaKind.{AreaKind}
 use Rattle.ipmi_fru.specs.declared.area.AreaKind.TheVariants.{Chassis, Board, Product}
 use Rattle.ipmi_fru.specs.declared.area.AreaFault.{AreaFault}
-use Rattle.ipmi_fru.specs.Header.{is_zero_sum, version_in, offset_of}
+use Rattle.ipmi_fru.specs.Header.{is_zero_sum, offset_of}
 use Rattle.ipmi_fru.specs.Field.{AreaField, Spells, fields_in}
 
 -- the place of the area's offset in the header
@@ -24,10 +24,6 @@ head_len Product = 1
 abbrev pub area_at : ℕ → List ℕ → List ℕ
 area_at offset bytes = take (8 * slice_index bytes (offset + 1)) (drop offset bytes)
 
--- the bytes between the length byte and the first field
-abbrev pub head_of : AreaKind → List ℕ → List ℕ
-head_of kind area = take (head_len kind) (drop 2 area)
-
 -- the bytes between the head and the checksum, which is the last byte
 abbrev pub field_bytes : AreaKind → List ℕ → List ℕ
 field_bytes kind area = drop (2 + head_len kind) (take (length area - 1) area)
@@ -36,7 +32,7 @@ field_bytes kind area = drop (2 + head_len kind) (take (length area - 1) area)
 abbrev pub area_fault : ℕ → List ℕ → Option AreaFault
 area_fault offset bytes =
     if nat_lt (length bytes) (offset + 2) then Some AreaFault.Outside
-    else if not (version_in (slice_index bytes offset) == 1) then Some AreaFault.Version
+    else if not (slice_index bytes offset % 16 == 1) then Some AreaFault.Version
     else if slice_index bytes (offset + 1) == 0 then Some AreaFault.Length
     else if nat_lt (length bytes) (offset + 8 * slice_index bytes (offset + 1))
     then Some AreaFault.Outside

@@ -29,11 +29,6 @@ Spells bytes [] = EndsFields bytes
 Spells bytes (field ∷ fields) =
     (rest : List ℕ) × (BeginsWithField bytes field rest × Spells rest fields)
 
--- the field that a type/length byte and the bytes after it are
-abbrev pub field_in : ℕ → List ℕ → AreaField
-field_in type_length bytes =
-    record { code = type_length / 64; bytes = take (type_length % 64) bytes }
-
 -- the fields that bytes spell, at most n, or none where they spell no list
 abbrev pub fields_from : ℕ → List ℕ → Option (List AreaField)
 fields_from n [] = Some []
@@ -41,7 +36,7 @@ fields_from zero (byte ∷ bytes) = None
 fields_from (suc n) (byte ∷ bytes) =
     if byte == 0xc1 then Some []
     else if nat_lt (length bytes) (byte % 64) then None
-    else option_map (λ fields. field_in byte bytes ∷ fields)
+    else option_map (λ fields. (record { code = byte / 64; bytes = take (byte % 64) bytes }) ∷ fields)
     (fields_from n (drop (byte % 64) bytes))
 
 -- with as many steps as there are bytes

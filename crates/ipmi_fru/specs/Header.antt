@@ -6,15 +6,12 @@ use Rattle.ipmi_fru.specs.declared.header.FruFault.{FruFault}
 abbrev pub is_zero_sum : List ℕ → Bool
 is_zero_sum bytes = sum bytes % 256 == 0
 
--- the format version of a header or an area, bits 3:0 of its first byte
-abbrev pub version_in : ℕ → ℕ
-version_in byte = byte % 16
-
--- why bytes are no inventory: too few for a header, another version, a header that does not sum to zero, in this order
+-- why bytes are no inventory: too few for a header, another format version (bits 3:0 of the first byte), a header that
+-- does not sum to zero, in this order
 abbrev pub header_fault : List ℕ → Option FruFault
 header_fault bytes =
     if nat_lt (length bytes) 8 then Some FruFault.Short
-    else if not (version_in (slice_index bytes 0) == 1) then Some FruFault.HeaderVersion
+    else if not (slice_index bytes 0 % 16 == 1) then Some FruFault.HeaderVersion
     else if not (is_zero_sum (take 8 bytes)) then Some FruFault.HeaderSum
     else None
 
@@ -25,10 +22,6 @@ fru_fault_name FruFault.HeaderVersion = codes "header version"
 fru_fault_name FruFault.HeaderSum = codes "header checksum"
 
 -- The header's bytes: version, the offsets of internal use, chassis, board, product and records, pad, checksum.
--- the place of the offset of the records
-abbrev pub records_place : ℕ
-records_place = 5
-
 -- where the area begins whose offset has this place in the header: offsets are in units of eight bytes, and 0 is no
 -- area
 abbrev pub offset_of : ℕ → List ℕ → Option ℕ

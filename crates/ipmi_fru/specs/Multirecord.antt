@@ -4,7 +4,7 @@ use Rattle.ipmi_fru.specs.declared.multirecord.MultiFault.{MultiFault}
 use Rattle.ipmi_fru.specs.declared.multirecord.MultiView.{MultiView}
 use Rattle.ipmi_fru.specs.declared.multirecord.Records.{Records}
 use Rattle.std.specs.Borrow.{Bor}
-use Rattle.ipmi_fru.specs.Header.{is_zero_sum, offset_of, records_place}
+use Rattle.ipmi_fru.specs.Header.{is_zero_sum, offset_of}
 
 -- a record: its type, the version of its format, whether it is the last one, its data
 pub record MultiRecord : Type 0 where
@@ -13,21 +13,17 @@ pub record MultiRecord : Type 0 where
   pub last : Bool
   pub bytes : List ℕ
 
--- a record's data come after the five bytes of its header, of which the third is their number
-abbrev pub data_in : List ℕ → List ℕ
-data_in bytes = take (slice_index bytes 2) (drop 5 bytes)
-
 -- what comes after the record
 abbrev pub after_record : List ℕ → List ℕ
 after_record bytes = drop (5 + slice_index bytes 2) bytes
 
--- the record that bytes begin with
+-- the record that bytes begin with: its data come after the five bytes of its header, of which the third is their number
 abbrev pub record_in : List ℕ → MultiRecord
 record_in bytes = record {
   kind = slice_index bytes 0;
   version = slice_index bytes 1 % 16;
   last = nat_le 128 (slice_index bytes 1);
-  bytes = data_in bytes;
+  bytes = take (slice_index bytes 2) (drop 5 bytes);
 }
 
 -- why bytes do not begin with a record; the fourth byte is the checksum of the data
@@ -36,7 +32,7 @@ record_fault bytes =
     if nat_lt (length bytes) 5 then Some MultiFault.Outside
     else if not (is_zero_sum (take 5 bytes)) then Some MultiFault.HeaderSum
     else if nat_lt (length bytes) (5 + slice_index bytes 2) then Some MultiFault.Outside
-    else if not (is_zero_sum (slice_index bytes 3 ∷ data_in bytes)) then Some MultiFault.DataSum
+    else if not (is_zero_sum (slice_index bytes 3 ∷ (record_in bytes).bytes)) then Some MultiFault.DataSum
     else None
 
 -- the name of a fault
@@ -45,17 +41,13 @@ multi_fault_name MultiFault.Outside = codes "outside"
 multi_fault_name MultiFault.HeaderSum = codes "header checksum"
 multi_fault_name MultiFault.DataSum = codes "data checksum"
 
--- how a list of records ends: with the last record, or with the first fault
-abbrev pub RecordsEnd : Type 0
-RecordsEnd = Option MultiFault
-
 -- the last record ends the list without a fault, whatever bytes follow; after any other the list goes on
-abbrev pub ContinuesBy : Bool → List MultiRecord → RecordsEnd → Type 0 → Type 0
+abbrev pub ContinuesBy : Bool → List MultiRecord → Option MultiFault → Type 0 → Type 0
 ContinuesBy true records end more = (records ≡ []) × (end ≡ None)
 ContinuesBy false records end more = more
 
--- the bytes are these records, one after the other, and the list ends so
-abbrev pub IsRecordList : List ℕ → List MultiRecord → RecordsEnd → Type 0
+-- the bytes are these records, one after the other, and the list ends with the last record, or with the first fault
+abbrev pub IsRecordList : List ℕ → List MultiRecord → Option MultiFault → Type 0
 IsRecordList bytes [] None = ⊥
 IsRecordList bytes [] (Some f) = record_fault bytes ≡ Some f
 IsRecordList bytes (r ∷ records) end =
@@ -64,20 +56,15 @@ IsRecordList bytes (r ∷ records) end =
     (IsRecordList (after_record bytes) records end))
 
 -- the records from an offset on, where there is one; without one no records and no fault
-abbrev pub AreRecordsAt : Option ℕ → List ℕ → List MultiRecord → RecordsEnd → Type 0
+abbrev pub AreRecordsAt : Option ℕ → List ℕ → List MultiRecord → Option MultiFault → Type 0
 AreRecordsAt None bytes records end = (records ≡ []) × (end ≡ None)
 AreRecordsAt (Some offset) bytes records end = IsRecordList (drop offset bytes) records end
 
 -- the records, and after them the fault, if there is one
-abbrev pub items_of : List MultiRecord → RecordsEnd → List (Result MultiRecord MultiFault)
+abbrev pub items_of : List MultiRecord → Option MultiFault → List (Result MultiRecord MultiFault)
 items_of [] None = []
 items_of [] (Some f) = Err f ∷ []
 items_of (r ∷ records) end = Ok r ∷ items_of records end
-
--- two lists of records with their ends are the same
-pub record SameList (a b : List MultiRecord) (e f : RecordsEnd) : Type 0 where
-  pub records : a ≡ b
-  pub ends : e ≡ f
 
 -- ---- how the records are found
 
@@ -119,9 +106,10 @@ items_after (Some bytes) = items_in bytes.now
 abbrev pub items_left : Records → List (Result MultiRecord MultiFault)
 items_left records = items_after records.left
 
--- items of the records that an inventory has
+-- the records of an inventory, and after them their fault, if there is one; the last offset in the header is that of the
+-- records
 pub record HasItems (bytes : List ℕ) (items : List (Result MultiRecord MultiFault)) : Type 0 where
   pub records : List MultiRecord
-  pub end : RecordsEnd
-  pub are_records : AreRecordsAt (offset_of records_place bytes) bytes records end
+  pub end : Option MultiFault
+  pub are_records : AreRecordsAt (offset_of 5 bytes) bytes records end
   pub items_are : items ≡ items_of records end

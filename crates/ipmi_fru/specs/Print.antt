@@ -18,10 +18,10 @@ use Rattle.ipmi_fru.specs.declared.record_text.DcKind.{DcKind}
 use Rattle.ipmi_fru.specs.declared.record_text.DcKind.TheVariants.{Output, Load}
 use Rattle.ipmi_fru.specs.declared.record_text.RecordForm.{RecordForm}
 use Rattle.ipmi_fru.specs.declared.record_text.RecordForm.TheVariants.{Dc, Access, Other}
-use Rattle.ipmi_fru.specs.Header.{header_fault, fru_fault_name, offset_of, records_place}
+use Rattle.ipmi_fru.specs.Header.{header_fault, fru_fault_name}
 use Rattle.ipmi_fru.specs.Field.{AreaField}
 use Rattle.ipmi_fru.specs.Area.{Area, IsFound, area_fault_name}
-use Rattle.ipmi_fru.specs.Multirecord.{MultiRecord, RecordsEnd, multi_fault_name, AreRecordsAt, items_of}
+use Rattle.ipmi_fru.specs.Multirecord.{MultiRecord, multi_fault_name, HasItems}
 
 -- ---- areas
 
@@ -49,10 +49,6 @@ labels_of Product =
     ∷ codes "Product Asset Tag"
     ∷ codes "Product FRU ID"
     ∷ []
-
--- the label of all further fields
-abbrev pub extra_label : AreaKind → List ℕ
-extra_label kind = area_name kind ++ codes " Extra"
 
 -- the language of an area's texts: that of a chassis is English
 abbrev pub language_of : AreaKind → List ℕ → ℕ
@@ -89,7 +85,7 @@ pub record IsAreaText (area : Area) (text : List ℕ) : Type 0 where
   pub lead : List ℕ
   pub is_lead : IsLead area.kind area.bytes lead
   pub text_is : text ≡ lead ++ field_lines (language_of area.kind area.bytes) (labels_of area.kind)
-      (extra_label area.kind) area.fields
+      (area_name area.kind ++ codes " Extra") area.fields
 
 -- what is printed for an area of a kind: nothing where the inventory has none, the lines of the area, or its fault
 abbrev pub IsTextFound : AreaKind → Option (Result Area AreaFault) → List ℕ → Type 0
@@ -105,21 +101,17 @@ pub record IsTextOfArea (kind : AreaKind) (bytes text : List ℕ) : Type 0 where
 
 -- ---- records
 
--- the number of two bytes from a place on
-abbrev pub number_at : ℕ → List ℕ → ℕ
-number_at place bytes = little_from place 2 bytes
-
 -- the volts of two bytes from a place on: a signed number of 10 mV
 abbrev pub IsVoltsAt : ℕ → List ℕ → List ℕ → Type 0
 IsVoltsAt place bytes text =
-    IsDecimalOf (twos_complement 2 (number_at place bytes) *ℤ pos (10 ^ 14)) text
+    IsDecimalOf (twos_complement 2 (little_from place 2 bytes) *ℤ pos (10 ^ 14)) text
 
 -- what follows the voltages: the ripple in mV, and the least and the greatest current in mA
 abbrev pub current_text : List ℕ → List ℕ
 current_text bytes =
-    codes "ripple " ++ (decimal (number_at 7 bytes)
-    ++ (codes " mV, current " ++ (decimal (number_at 9 bytes)
-    ++ (codes " to " ++ (decimal (number_at 11 bytes) ++ codes " mA\n")))))
+    codes "ripple " ++ (decimal (little_from 7 2 bytes)
+    ++ (codes " mV, current " ++ (decimal (little_from 9 2 bytes)
+    ++ (codes " to " ++ (decimal (little_from 11 2 bytes) ++ codes " mA\n")))))
 
 -- how the line of an output and that of a load begin
 abbrev pub dc_start : DcKind → List ℕ
@@ -182,13 +174,9 @@ IsTextInForm (Dc kind) r text = IsDcText kind r.bytes text
 IsTextInForm Access r text = text ≡ access_line r.bytes
 IsTextInForm Other r text = text ≡ other_line r
 
--- the line of a record
-abbrev pub IsRecordText : MultiRecord → List ℕ → Type 0
-IsRecordText r text = IsTextInForm (form_of r) r text
-
 -- the line of a record, or of the fault after the last one
 abbrev pub IsItemText : Result MultiRecord MultiFault → List ℕ → Type 0
-IsItemText (Ok r) text = IsRecordText r text
+IsItemText (Ok r) text = IsTextInForm (form_of r) r text
 IsItemText (Err f) text = text ≡ labelled (codes "Record fault") (multi_fault_name f)
 
 -- a line for each
@@ -200,10 +188,9 @@ AreItemTexts (item ∷ items) text =
 
 -- what is printed of the records: nothing where there are none
 pub record IsTextOfRecords (bytes text : List ℕ) : Type 0 where
-  pub records : List MultiRecord
-  pub end : RecordsEnd
-  pub are_records : AreRecordsAt (offset_of records_place bytes) bytes records end
-  pub are_texts : AreItemTexts (items_of records end) text
+  pub items : List (Result MultiRecord MultiFault)
+  pub are_items : HasItems bytes items
+  pub are_texts : AreItemTexts items text
 
 -- ---- the inventory
 

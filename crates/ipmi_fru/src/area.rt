@@ -1,7 +1,7 @@
 //! The chassis, board and product areas of an inventory.
-ghost use Rattle.std.specs.Prelude.{◌≡◌, ◌+◌, ◌<◌, ◌≤◌, IfSome, IfOk, IfErr, Some, None, slice_get, length, slice_index, option_map};
+ghost use Rattle.std.specs.Prelude.{◌≡◌, ◌+◌, ◌<◌, ◌≤◌, IfSome, IfOk, IfErr, Some, None, slice_get, length, take, drop, slice_index, option_map};
 ghost use Rattle.byteorder.specs.Endian.{little_from};
-ghost use Rattle.ipmi_fru.specs.Prelude.{language_of, Board, Chassis, field_of, Area, area_fault_name, place_of, head_len, area_at, head_of, field_bytes, area_fault, IsArea, IsAreaFault};
+ghost use Rattle.ipmi_fru.specs.Prelude.{language_of, Board, Chassis, field_of, Area, area_fault_name, place_of, head_len, area_at, field_bytes, area_fault, IsArea, IsAreaFault};
 
 use crate::field::{Field, Fields};
 use crate::header::{bytes_of, has_version_1, is_zero_sum};
@@ -9,6 +9,9 @@ use byteorder::{ByteOrder, LittleEndian};
 use ipmi_text::ENGLISH;
 use std::marker::Model;
 use thiserror::Error;
+
+/// Where an area has its length, in units of eight bytes, counted from 0. Its version comes first.
+const LENGTH: usize = 1;
 
 /// Where an area's head begins, after the bytes of its version and its length.
 const HEAD_START: usize = 2;
@@ -91,7 +94,7 @@ fn whole_area(bytes: &[u8], offset: usize) -> Result<&[u8], AreaFault>
     requires { offset ≤ 2040 }
     ensures ok { IfOk result (λ area. (area_fault offset bytes.now ≡ None) ×
         (area.now ≡ area_at offset bytes.now)) }
-    ensures room { IfOk result (λ area. 8 ≤ length area.now) }
+    ensures len { IfOk result (λ area. 8 ≤ length area.now) }
     ensures err { IfErr result (λ fault. area_fault offset bytes.now ≡ Some fault) }
 {
     if bytes.len() < offset + HEAD_START {
@@ -100,7 +103,7 @@ fn whole_area(bytes: &[u8], offset: usize) -> Result<&[u8], AreaFault>
     if !has_version_1(bytes[offset]) {
         return Err(AreaFault::Version);
     }
-    let units = bytes[offset + 1];
+    let units = bytes[offset + LENGTH];
     if units == 0 {
         return Err(AreaFault::Length);
     }
@@ -159,6 +162,7 @@ impl<'a> AreaView<'a> {
         Ok(AreaView { kind, bytes: area })
     }
 
+    /// Whose area it is.
     pub(crate) fn kind(&self) -> AreaKind
         ensures { result ≡ self.now.kind }
     {
@@ -196,7 +200,7 @@ impl<'a> AreaView<'a> {
     /// The bytes between the length byte and the first field. Chassis: its type; board: the language and the date in minutes,
     /// low byte first; product: the language.
     pub fn head(&self) -> &'a [u8]
-        ensures bytes { result.now ≡ head_of self.now.kind self.now.bytes }
+        ensures bytes { result.now ≡ take (head_len self.now.kind) (drop 2 self.now.bytes) }
         ensures len { length result.now ≡ head_len self.now.kind }
     {
         &self.bytes[HEAD_START..HEAD_START + self.kind.head_len()]

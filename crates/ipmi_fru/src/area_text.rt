@@ -1,8 +1,8 @@
 //! The lines of a chassis, a board and a product.
-ghost use Rattle.std.specs.Prelude.{◌≡◌, ◌++◌, OnOk, IfOk, map, string_bytes};
+ghost use Rattle.std.specs.Prelude.{◌≡◌, ◌++◌, OnOk, IfOk, codes, map, string_bytes};
 ghost use Rattle.ipmi_text.specs.FieldText.{fru_text_of};
 ghost use Rattle.ipmi_text.specs.Lines.{labelled};
-ghost use Rattle.ipmi_fru.specs.Prelude.{area_name, labels_of, extra_label, field_line, field_lines, language_of, IsLead, IsAreaText, IsTextFound};
+ghost use Rattle.ipmi_fru.specs.Prelude.{area_name, labels_of, field_line, field_lines, language_of, IsLead, IsAreaText, IsTextFound};
 
 use crate::area::{AreaFault, AreaKind, AreaView};
 use crate::field::Field;
@@ -17,10 +17,11 @@ struct Labels {
     extra: &'static str,
 }
 
+/// The labels of an area.
 fn labels_of(kind: AreaKind) -> Labels
     ensures area { result.area.now ≡ area_name kind }
     ensures fields { map (λ label. label.now) result.fields.now ≡ labels_of kind }
-    ensures extra { result.extra.now ≡ extra_label kind }
+    ensures extra { result.extra.now ≡ area_name kind ++ codes " Extra" }
 {
     match kind {
         AreaKind::Chassis => Labels {

@@ -1,6 +1,6 @@
 //! The common header of an inventory, which says where its areas begin.
 ghost use Rattle.std.specs.Prelude.{◌≡◌, ◌%◌, ◌≤◌, ◌*◌, ◌==◌, IfOk, IfErr, IfSome, Some, None, drop, sum};
-ghost use Rattle.ipmi_fru.specs.Prelude.{is_zero_sum, version_in, header_fault, fru_fault_name, offset_of, Chassis, Board, Product, IsFound, HasItems, items_left};
+ghost use Rattle.ipmi_fru.specs.Prelude.{is_zero_sum, header_fault, fru_fault_name, offset_of, Chassis, Board, Product, IsFound, HasItems, items_left};
 
 use crate::area::{AreaFault, AreaKind, AreaView};
 use crate::multirecord::Records;
@@ -12,6 +12,9 @@ const HEADER_LEN: usize = 8;
 
 /// Bits 3:0 of the first byte of a header or an area, and of the second byte of a record: its format version.
 pub(crate) const VERSION_BITS: u8 = 0x0F;
+
+/// Where the header has its format version, counted from 0.
+const VERSION: usize = 0;
 
 /// Where the header has the offset of the multirecord area.
 const RECORDS_PLACE: usize = 5;
@@ -53,7 +56,7 @@ pub(crate) fn bytes_of(units: u8) -> usize
 
 /// Whether the first byte of a header or an area has the format version 1, the only one.
 pub(crate) fn has_version_1(byte: u8) -> bool
-    ensures { result ≡ (version_in byte == 1) }
+    ensures { result ≡ (byte % 16 == 1) }
 {
     byte & VERSION_BITS == 1
 }
@@ -104,7 +107,7 @@ impl<'a> FruView<'a> {
         if bytes.len() < HEADER_LEN {
             return Err(FruFault::Short);
         }
-        if !has_version_1(bytes[0]) {
+        if !has_version_1(bytes[VERSION]) {
             return Err(FruFault::HeaderVersion);
         }
         if !is_zero_sum(&bytes[..HEADER_LEN]) {

@@ -1,6 +1,6 @@
 //! Laws of fields, records and texts, each the contract of a function that does nothing.
-ghost use Rattle.std.specs.Prelude.{◌≡◌, ℕ, List};
-ghost use Rattle.ipmi_fru.specs.Prelude.{AreaField, Spells, MultiRecord, RecordsEnd, IsRecordList, SameList, IsFruText};
+ghost use Rattle.std.specs.Prelude.{◌≡◌, ℕ, List, Option};
+ghost use Rattle.ipmi_fru.specs.Prelude.{AreaField, Spells, MultiFault, MultiRecord, IsRecordList, IsFruText};
 
 /// Bytes spell at most one list of fields.
 #[tactic(auto, using(crate::proofs::UniqueLemmas::one_list_of_fields))]
@@ -11,8 +11,8 @@ pub fn one_list_of_fields()
 /// Bytes are at most one list of records, with one end.
 #[tactic(auto, using(crate::proofs::UniqueLemmas::one_list_of_records))]
 pub fn one_list_of_records()
-    ensures { (bytes : List ℕ) (a b : List MultiRecord) (e f : RecordsEnd) →
-        IsRecordList bytes a e → IsRecordList bytes b f → SameList a b e f }
+    ensures { (bytes : List ℕ) (a b : List MultiRecord) (e f : Option MultiFault) →
+        IsRecordList bytes a e → IsRecordList bytes b f → (a ≡ b) × (e ≡ f) }
 {}
 
 /// An inventory has at most one text, so what `print_fru` gives is the only one.

@@ -8,6 +8,18 @@ use thiserror::Error;
 /// How many bytes a record's header has.
 const HEADER_LEN: usize = 5;
 
+/// Where the header has the record's type, counted from 0.
+const TYPE: usize = 0;
+
+/// Where it has the end of list and the format version.
+const END_AND_VERSION: usize = 1;
+
+/// Where it has the length of the data.
+const DATA_LENGTH: usize = 2;
+
+/// Where it has the checksum of the data.
+const DATA_CHECKSUM: usize = 3;
+
 /// Bit 7 of a record's second byte: the record is the last one.
 const LAST: u8 = 0x80;
 
@@ -66,18 +78,18 @@ fn read_record(bytes: &[u8]) -> Result<(MultiView<'_>, &[u8]), MultiFault>
     if !is_zero_sum(&bytes[..HEADER_LEN]) {
         return Err(MultiFault::HeaderSum);
     }
-    let end = HEADER_LEN + usize::from(bytes[2]);
+    let end = HEADER_LEN + usize::from(bytes[DATA_LENGTH]);
     if bytes.len() < end {
         return Err(MultiFault::Outside);
     }
     let data = &bytes[HEADER_LEN..end];
-    if bytes[3].wrapping_add(sum_of(data)) != 0 {
+    if bytes[DATA_CHECKSUM].wrapping_add(sum_of(data)) != 0 {
         return Err(MultiFault::DataSum);
     }
     let view = MultiView {
-        kind: bytes[0],
-        version: bytes[1] & VERSION_BITS,
-        last: bytes[1] & LAST != 0,
+        kind: bytes[TYPE],
+        version: bytes[END_AND_VERSION] & VERSION_BITS,
+        last: bytes[END_AND_VERSION] & LAST != 0,
         bytes: data,
     };
     Ok((view, &bytes[end..]))

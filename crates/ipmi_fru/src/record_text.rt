@@ -1,7 +1,7 @@
 //! The lines of multirecords.
 ghost use Rattle.std.specs.Prelude.{◌≡◌, ◌%◌, ◌≤◌, ◌+◌, IfOk, length, string_bytes};
-ghost use Rattle.byteorder.specs.Endian.{twos_complement};
-ghost use Rattle.ipmi_fru.specs.Prelude.{item_of, items_left, record_of, number_at, IsVoltsAt, current_text, dc_start, before_low, before_high, standby_text, IsDcText, access_text, access_line, other_line, form_of, IsRecordText, IsItemText, AreItemTexts};
+ghost use Rattle.byteorder.specs.Endian.{little_from, twos_complement};
+ghost use Rattle.ipmi_fru.specs.Prelude.{item_of, items_left, record_of, IsVoltsAt, current_text, dc_start, before_low, before_high, standby_text, IsDcText, access_text, access_line, other_line, form_of, IsTextInForm, IsItemText, AreItemTexts};
 
 use crate::multirecord::{MultiFault, MultiView, Records};
 use byteorder::{ByteOrder, LittleEndian};
@@ -28,6 +28,27 @@ const MANAGEMENT_ACCESS: u8 = 3;
 
 /// The least number of data bytes of a DC output and of a DC load.
 const DC_LEN: usize = 13;
+
+/// Where the data of a DC record have the number of the output or the load, counted from 0.
+const NUMBER: usize = 0;
+
+/// Where they have the nominal voltage.
+const NOMINAL_VOLTAGE: usize = 1;
+
+/// Where they have the negative deviation of an output, or the least voltage of a load.
+const LOW_VOLTAGE: usize = 3;
+
+/// Where they have the positive deviation of an output, or the greatest voltage of a load.
+const HIGH_VOLTAGE: usize = 5;
+
+/// Where they have the ripple.
+const RIPPLE: usize = 7;
+
+/// Where they have the least current.
+const LEAST_CURRENT: usize = 9;
+
+/// Where they have the greatest current.
+const GREATEST_CURRENT: usize = 11;
 
 /// Bit 7 of the first data byte of a DC output: it is a standby one.
 const STANDBY: u8 = 0x80;
@@ -64,7 +85,7 @@ enum RecordForm {
 /// The number of two data bytes from a place on.
 fn number_at(bytes: &[u8], place: usize) -> u16
     requires { place + 2 ≤ length bytes.now }
-    ensures { result ≡ number_at place bytes.now }
+    ensures { result ≡ little_from place 2 bytes.now }
 {
     LittleEndian::read_u16(&bytes[place..])
 }
@@ -72,7 +93,7 @@ fn number_at(bytes: &[u8], place: usize) -> u16
 /// The signed number of two data bytes from a place on.
 fn signed_at(bytes: &[u8], place: usize) -> i16
     requires { place + 2 ≤ length bytes.now }
-    ensures { result ≡ twos_complement 2 (number_at place bytes.now) }
+    ensures { result ≡ twos_complement 2 (little_from place 2 bytes.now) }
 {
     number_at(bytes, place).cast_signed()
 }
@@ -93,9 +114,9 @@ fn current_text(alloc: Global, bytes: &[u8]) -> Result<String, AllocError>
     requires { 13 ≤ length bytes.now }
     ensures { IfOk result (λ text. string_bytes text ≡ current_text bytes.now) }
 {
-    let ripple = number_at(bytes, 7);
-    let least = number_at(bytes, 9);
-    let most = number_at(bytes, 11);
+    let ripple = number_at(bytes, RIPPLE);
+    let least = number_at(bytes, LEAST_CURRENT);
+    let most = number_at(bytes, GREATEST_CURRENT);
     format!(in alloc; "ripple {ripple} mV, current {least} to {most} mA\n")
 }
 
@@ -106,6 +127,7 @@ struct DcWords {
     before_high: &'static str,
 }
 
+/// The words of the line of an output or a load.
 fn words_of(kind: DcKind) -> DcWords
     ensures start { result.start.now ≡ dc_start kind }
     ensures low { result.before_low.now ≡ before_low kind }
@@ -153,11 +175,11 @@ fn dc_text(alloc: Global, kind: DcKind, bytes: &[u8]) -> Result<String, AllocErr
         before_low,
         before_high,
     } = words_of(kind);
-    let number = number_of(bytes[0]);
-    let standby = standby_text(kind, bytes[0]);
-    let nominal = volts_text(alloc, bytes, 1)?;
-    let low = volts_text(alloc, bytes, 3)?;
-    let high = volts_text(alloc, bytes, 5)?;
+    let number = number_of(bytes[NUMBER]);
+    let standby = standby_text(kind, bytes[NUMBER]);
+    let nominal = volts_text(alloc, bytes, NOMINAL_VOLTAGE)?;
+    let low = volts_text(alloc, bytes, LOW_VOLTAGE)?;
+    let high = volts_text(alloc, bytes, HIGH_VOLTAGE)?;
     let current = current_text(alloc, bytes)?;
     format!(in alloc;
         "{start}{number}{standby}: nominal {nominal}{before_low}{low}{before_high}{high} V, {current}"
@@ -210,7 +232,8 @@ fn form_of(view: &MultiView) -> RecordForm
 
 /// The line of a record, by what it is printed as.
 fn record_text(alloc: Global, view: &MultiView) -> Result<String, AllocError>
-    ensures { IfOk result (λ text. IsRecordText (record_of view.now) (string_bytes text)) }
+    ensures { IfOk result (λ text. IsTextInForm (form_of (record_of view.now)) (record_of view.now)
+        (string_bytes text)) }
 {
     match form_of(view) {
         RecordForm::Dc(kind) => dc_text(alloc, kind, view.bytes),
