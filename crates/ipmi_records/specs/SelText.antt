@@ -46,15 +46,15 @@ pub record IsOemLine (id : ℕ) (bytes text : List ℕ) : Type 0 where
   pub text_is : text ≡ columns_line (hex_word id ∷ time ∷ oem_text (entry_type bytes)
       ∷ manufacturer_text (manufacturer_id bytes) ∷ binary_text (oem_data bytes) ∷ [])
 
-abbrev pub plain_line : ℕ → List ℕ → List ℕ → List ℕ
-plain_line id type bytes = columns_line (hex_word id ∷ type ∷ binary_text (data_after_type bytes) ∷ [])
-
 abbrev pub IsSelLine : ℕ → SelView → List ℕ → Type 0
 IsSelLine id (SelView.Event bytes) text = IsEventLine id bytes text
 IsSelLine id (SelView.OemTimed bytes) text = IsOemLine id bytes text
 IsSelLine id (SelView.OemPlain bytes) text =
-    text ≡ plain_line id (oem_text (entry_type bytes)) bytes
-IsSelLine id (SelView.Other bytes) text = text ≡ plain_line id (type_text (entry_type bytes)) bytes
+    text ≡ columns_line (
+    hex_word id ∷ oem_text (entry_type bytes) ∷ binary_text (data_after_type bytes) ∷ [])
+IsSelLine id (SelView.Other bytes) text =
+    text ≡ columns_line (
+    hex_word id ∷ type_text (entry_type bytes) ∷ binary_text (data_after_type bytes) ∷ [])
 
 -- ---- blocks
 

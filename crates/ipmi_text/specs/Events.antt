@@ -3,10 +3,12 @@ use Rattle.std.specs.Prelude.{ℕ, ◌%◌, ◌==◌, List, [], ◌∷◌, ◌++
 use Rattle.std.specs.Fmt.{digit_glyph}
 use Rattle.ipmi_text.specs.Hex.{hex_byte}
 
--- the offsets of a threshold event, from 0 on
-abbrev pub threshold_events : List (List ℕ)
-threshold_events =
-    codes "Lower Non-critical going low" ∷
+-- the words of an event, which only threshold events (type 01h) have, by its offset, from 0 on
+abbrev pub event_name : ℕ → ℕ → Option (List ℕ)
+event_name event offset =
+    if event == 1
+    then slice_get
+    (codes "Lower Non-critical going low" ∷
     codes "Lower Non-critical going high" ∷
     codes "Lower Critical going low" ∷
     codes "Lower Critical going high" ∷
@@ -17,11 +19,8 @@ threshold_events =
     codes "Upper Critical going low" ∷
     codes "Upper Critical going high" ∷
     codes "Upper Non-recoverable going low" ∷
-    codes "Upper Non-recoverable going high" ∷ []
-
--- the words of an event, which only threshold events (type 01h) have
-abbrev pub event_name : ℕ → ℕ → Option (List ℕ)
-event_name event offset = if event == 1 then slice_get threshold_events offset else None
+    codes "Upper Non-recoverable going high" ∷ []) offset
+    else None
 
 -- the words, or else `event 0xTT offset 0xO`; the offset is bits 3:0 of the event's first data byte
 abbrev pub event_text_of : ℕ → ℕ → List ℕ

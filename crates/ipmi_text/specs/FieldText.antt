@@ -5,6 +5,8 @@
 use Rattle.std.specs.Prelude.{ℕ, ◌+◌, ◌*◌, ◌/◌, ◌%◌, ◌^◌, ◌==◌, ◌&&◌, ◌||◌, min, nat_le, Bool, if◌then◌else◌, List, [], ◌∷◌, length, map, take, slice_index, encode_utf8_all, codes}
 use Rattle.std.specs.List.{before_first, range_with_len}
 use Rattle.hex.specs.Hex.{encode_lower}
+use Rattle.ipmi_text.specs.declared.field_text.TypeCode.{TypeCode}
+use Rattle.ipmi_text.specs.declared.field_text.TypeCode.TheVariants.{BcdPlus, Binary, Latin1, SixBit}
 
 -- two lower-case hex digits for each byte
 abbrev pub binary_text : List ℕ → List ℕ
@@ -47,6 +49,14 @@ latin1_text bytes = encode_utf8_all (map latin1_character (before_first (λ b. b
 -- English, by the two codes that the standard has for it
 abbrev pub is_english : ℕ → Bool
 is_english language = (language == 0) || (language == 25)
+
+-- the type code that two bits are: bits 7:6 of a type/length byte
+abbrev pub type_code_of : ℕ → TypeCode
+type_code_of bits =
+    if bits == 0 then Binary
+    else if bits == 1 then BcdPlus
+    else if bits == 2 then SixBit
+    else Latin1
 
 -- the text of a FRU field by bits 7:6 of its type/length byte
 abbrev pub fru_text_of : ℕ → ℕ → List ℕ → List ℕ

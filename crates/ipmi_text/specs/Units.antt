@@ -1,6 +1,6 @@
 -- The names of units (IPMI v2.0, table 43-15), and how a sensor's units are put together from them
 -- (table 43-1, sensor units 1 to 3).
-use Rattle.std.specs.Prelude.{ℕ, ◌/◌, ◌%◌, ◌==◌, Bool, true, false, List, [], ◌∷◌, ◌++◌, codes, Option, slice_get, unwrap_or, if◌then◌else◌, filter}
+use Rattle.std.specs.Prelude.{ℕ, ◌/◌, ◌%◌, ◌==◌, Bool, true, false, List, [], ◌∷◌, ◌++◌, codes, slice_get, unwrap_or, if◌then◌else◌, filter}
 use Rattle.std.specs.List.{join_with_byte}
 use Rattle.ipmi_text.specs.Names.{name_or_code}
 

@@ -1,6 +1,6 @@
 //! The texts of type/length fields.
 ghost use Rattle.std.specs.Prelude.{◌≡◌, ◌<◌, ◌≤◌, ◌/◌, ◌%◌, ◌++◌, ◌↔◌, IfOk, IfSome, IsAscii, IsTrue, OnOk, length, slice_index, string_bytes, take};
-ghost use Rattle.ipmi_text.specs.FieldText.{bcd_plus_character, bcd_plus_text, bytes_used, fru_text_of, is_english, latin1_character, latin1_text, sdr_text_of, six_bit_character, six_bit_text};
+ghost use Rattle.ipmi_text.specs.FieldText.{bcd_plus_character, bcd_plus_text, bytes_used, fru_text_of, is_english, latin1_character, latin1_text, sdr_text_of, six_bit_character, six_bit_text, type_code_of};
 
 use crate::hex_digits::nibbles;
 use std::alloc::{AllocError, Global};
@@ -8,17 +8,33 @@ use std::alloc::{AllocError, Global};
 /// The characters of BCD plus, by their nibble.
 const BCD_PLUS_CHARACTERS: &[u8; 16] = b"0123456789 -.:,_";
 
-/// Bits 7:6 of the type/length byte of an ID string in Unicode.
-const UNICODE: u8 = 0;
+/// How the data of a field or of an ID string are read, by the type code in bits 7:6 of its type/length byte.
+#[derive(Clone, Copy)]
+enum TypeCode {
+    /// Binary data of a field, and Unicode of an ID string.
+    Binary,
+    /// BCD plus.
+    BcdPlus,
+    /// 6-bit ASCII.
+    SixBit,
+    /// 8-bit ASCII and Latin-1 of an ID string, and of a field where its language is English.
+    Latin1,
+}
 
-/// Those of a field or an ID string in BCD plus.
-const BCD_PLUS: u8 = 1;
-
-/// Those of one in 6-bit ASCII.
-const SIX_BIT: u8 = 2;
-
-/// Those of an ID string in 8-bit ASCII and Latin-1, and of a field whose form the language decides.
-const LATIN1: u8 = 3;
+impl TypeCode {
+    /// The type code of two bits.
+    fn of(bits: u8) -> TypeCode
+        requires { bits < 4 }
+        ensures { result ≡ type_code_of bits }
+    {
+        match bits {
+            0 => TypeCode::Binary,
+            1 => TypeCode::BcdPlus,
+            2 => TypeCode::SixBit,
+            _ => TypeCode::Latin1,
+        }
+    }
+}
 
 /// The language code of English.
 pub const ENGLISH: u8 = 0;
@@ -155,19 +171,19 @@ pub fn fru_text(alloc: Global, code: u8, language: u8, bytes: &[u8]) -> Result<S
     requires { code < 4 }
     ensures { IfOk result (λ text. string_bytes text ≡ fru_text_of code language bytes.now) }
 {
-    match code {
-        BCD_PLUS => bcd_plus_text(alloc, bytes),
-        SIX_BIT => six_bit_text(alloc, bytes),
-        LATIN1 if is_english(language) => latin1_text(alloc, bytes),
-        _ => hex::encode(alloc, bytes),
+    match TypeCode::of(code) {
+        TypeCode::BcdPlus => bcd_plus_text(alloc, bytes),
+        TypeCode::SixBit => six_bit_text(alloc, bytes),
+        TypeCode::Latin1 if is_english(language) => latin1_text(alloc, bytes),
+        TypeCode::Binary | TypeCode::Latin1 => hex::encode(alloc, bytes),
     }
 }
 
-/// How the bytes of an ID string are read: the type code in bits 7:6 of its type/length byte.
-fn type_code(type_length: u8) -> u8
-    ensures { result ≡ type_length / 64 }
+/// The type code of an ID string, by its type/length byte.
+fn type_code(type_length: u8) -> TypeCode
+    ensures { result ≡ type_code_of (type_length / 64) }
 {
-    type_length >> 6
+    TypeCode::of(type_length >> 6)
 }
 
 /// How many characters an ID string has, by its type/length byte.
@@ -184,9 +200,9 @@ fn bytes_used(type_length: u8, rest: &[u8]) -> &[u8]
 {
     let count = character_count(type_length);
     let wanted = match type_code(type_length) {
-        BCD_PLUS => (count + 1) / 2,
-        SIX_BIT => (6 * count + 7) / 8,
-        _ => count,
+        TypeCode::BcdPlus => (count + 1) / 2,
+        TypeCode::SixBit => (6 * count + 7) / 8,
+        TypeCode::Binary | TypeCode::Latin1 => count,
     };
     &rest[..wanted.min(ID_BYTES).min(rest.len())]
 }
@@ -211,10 +227,10 @@ pub fn sdr_text(alloc: Global, tl: u8, rest: &[u8]) -> Result<String, AllocError
     let bytes = bytes_used(tl, rest);
     let count = character_count(tl);
     match type_code(tl) {
-        UNICODE => hex::encode(alloc, bytes),
-        BCD_PLUS => Ok(first_characters(bcd_plus_text(alloc, bytes)?, count)),
-        SIX_BIT => Ok(first_characters(six_bit_text(alloc, bytes)?, count)),
-        _ => latin1_text(alloc, bytes),
+        TypeCode::Binary => hex::encode(alloc, bytes),
+        TypeCode::BcdPlus => Ok(first_characters(bcd_plus_text(alloc, bytes)?, count)),
+        TypeCode::SixBit => Ok(first_characters(six_bit_text(alloc, bytes)?, count)),
+        TypeCode::Latin1 => latin1_text(alloc, bytes),
     }
 }
 
@@ -229,7 +245,7 @@ pub fn push_sdr_text(
         (string_bytes text.new ≡ string_bytes text.old ++ sdr_text_of type_length
         rest.now) }
 {
-    if type_code(type_length) == LATIN1 {
+    if let TypeCode::Latin1 = type_code(type_length) {
         return push_latin1_text(text, bytes_used(type_length, rest));
     }
     let part = sdr_text(alloc, type_length, rest)?;
