@@ -8,7 +8,7 @@ use crate::sensor::{Sensor, sensor_by, units_in};
 use ipmi_text::Units;
 
 /// The type of a compact sensor record.
-pub(crate) const COMPACT_TYPE: u8 = 0x02;
+pub const COMPACT_TYPE: u8 = 0x02;
 
 /// Where it has the sensor type.
 const SENSOR_TYPE: usize = 12;

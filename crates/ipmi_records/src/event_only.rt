@@ -7,7 +7,7 @@ use crate::id_string::IdString;
 use crate::sensor::{Sensor, sensor_by};
 
 /// The type of an event-only record.
-pub(crate) const EVENT_ONLY_TYPE: u8 = 0x03;
+pub const EVENT_ONLY_TYPE: u8 = 0x03;
 
 /// Where it has the sensor type.
 const SENSOR_TYPE: usize = 10;

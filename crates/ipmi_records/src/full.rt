@@ -10,7 +10,7 @@ use crate::threshold::Threshold;
 use ipmi_text::{Factors, Units};
 
 /// The type of a full sensor record.
-pub(crate) const FULL_TYPE: u8 = 0x01;
+pub const FULL_TYPE: u8 = 0x01;
 
 /// Where it has the sensor type.
 const SENSOR_TYPE: usize = 12;

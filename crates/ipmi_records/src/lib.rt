@@ -23,13 +23,16 @@ mod sel_texts;
 mod sensor;
 mod threshold;
 
-pub use compact::CompactSensor;
+pub use compact::{COMPACT_TYPE, CompactSensor};
 pub use entity::Entity;
-pub use event_only::EventOnlySensor;
-pub use full::FullSensor;
+pub use event_only::{EVENT_ONLY_TYPE, EventOnlySensor};
+pub use full::{FULL_TYPE, FullSensor};
 pub use id_string::IdString;
 pub use info::info_block;
-pub use locator::{FruLocator, GenericLocator, Locator, ManagementControllerLocator};
+pub use locator::{
+    CONTROLLER_TYPE, FRU_TYPE, FruLocator, GENERIC_TYPE, GenericLocator, Locator,
+    ManagementControllerLocator,
+};
 pub use sdr::{OtherRecord, SdrFault, SdrView};
 pub use sdr_blocks::sdr_block;
 pub use sdr_lines::{sdr_eline, sdr_fault_line, sdr_line};

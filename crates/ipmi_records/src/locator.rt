@@ -7,13 +7,13 @@ use crate::entity::Entity;
 use crate::id_string::IdString;
 
 /// The type of a generic device locator.
-pub(crate) const GENERIC_TYPE: u8 = 0x10;
+pub const GENERIC_TYPE: u8 = 0x10;
 
 /// The type of a FRU device locator.
-pub(crate) const FRU_TYPE: u8 = 0x11;
+pub const FRU_TYPE: u8 = 0x11;
 
 /// The type of a management controller device locator.
-pub(crate) const CONTROLLER_TYPE: u8 = 0x12;
+pub const CONTROLLER_TYPE: u8 = 0x12;
 
 /// Where a locator has the address.
 const ADDRESS: usize = 5;
