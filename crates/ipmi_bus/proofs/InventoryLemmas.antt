@@ -3,7 +3,7 @@ use Rattle.std.proofs.Common.{◌≡◌, ℕ, ◌+◌, ◌<◌, ◌≤◌, Bool,
 use Rattle.std.specs.declared.alloc.Global.{Global}
 use Rattle.std.proofs.lemmas.Bool.Decides.{nat_tests}
 use Rattle.std.proofs.Math.Seq.{take-length}
-use Rattle.ipmi_bus.specs.Prelude.{Code, CodeClass, SmallerPart, NotPresent, Refusal, FruEnded, Size, FruRetrieval, inventory_of, class_of, Seen, IsQuiet, IsTroubled, IsFinished, IsRefused, StaysHonest, stays_trans, HasMet, CountsPiece, FailsWith, BytesAnswers, BytesIsPlain, SameInventory, FruSince, FruEnds, FruNext, HasSize, InventoryCounts, InventoryIs, inventory_len, WithinTries, IsRefusedWith, digits, fru_call_bound}
+use Rattle.ipmi_bus.specs.Prelude.{Code, CodeClass, SmallerPart, NotPresent, Refusal, FruEnded, Size, FruRetrieval, inventory_of, class_of, Seen, IsQuiet, IsTroubled, IsFinished, IsRefused, StaysHonest, stays_trans, HasMet, CountsPiece, FailsWith, BytesAnswers, SameInventory, FruSince, FruEnds, FruNext, HasSize, InventoryCounts, InventoryIs, inventory_len, WithinTries, IsRefusedWith, digits, fru_call_bound}
 use Rattle.ipmi_bus.specs.FruRetrieval.{IsOpenInventory, CountsTrouble, MakesSmaller, PartFails, TakesInventoryPart, HasRead, calls_left}
 use Rattle.ipmi_bus.proofs.PartLemmas.{take-with_piece, calm_piece, smaller_some}
 
@@ -105,7 +105,7 @@ module _ (old : FruRetrieval) (bytes : Vec ℕ Global) (s s' s'' : Seen) (asked 
       let same = since.stays.plain_store p in
       let read = since.read same in
       let found : inventory_of old.id s'.store ≡ Some read.whole = ap (inventory_of old.id) (since.stays.store.stays same) ∙ read.found in
-      let plain = subst (λ (o : Option (List ℕ)). BytesIsPlain o old.have (Err code)) found (gave.plain (since.stays.plain p)) in
+      let plain = rw found at (gave.plain (since.stays.plain p)) in
       cc (plain (omega (arith, open_.more, read.size)))
 
   -- the call is to be made again

@@ -113,7 +113,7 @@ module _ (start old : Retrieval) (buffer : List ℕ) (s s' s'' : Seen) (n asked 
         stays = all;
         answers = (row, record { within = within; read = read; whole = wanted_whole old.shelf (old.have + part.got) buffer row ok read.bytes is });
         keeps = keeps_held;
-        plain = λ p h. record { holds = holds p h; fine = tt };
+        plain = λ p h. (holds p h, tt);
       } in
       rw takes.1 base
   piece_answers new (Err (Stalled id)) takes = absurd (omega (arith, takes.0, gives.piece.some))
@@ -198,9 +198,9 @@ module _ (start old new : Retrieval) (s s' s'' : Seen) (n asked : ℕ) (code : C
       let counts : HasMet 0 s' s'' = search (arith, finished) in
       let base : ReadIsHonest start old s s'' (Ok false) = record {
         stays = over_all;
-        answers = record { within = within_calm start old s s' s'' same since stays open_ counts; absent = rw (same.shelf, same.id) at absent };
+        answers = (within_calm start old s s' s'' same since stays open_ counts, rw (same.shelf, same.id) at absent);
         keeps = keeps_on old (omega (arith, finished.troubles)) refl;
-        plain = λ p h. record { holds = record { held = λ m e. parts.keeps.plain (since.stays.plain p) ∙ (since.plain p h).held m e }; fine = tt };
+        plain = λ p h. (record { held = λ m e. parts.keeps.plain (since.stays.plain p) ∙ (since.plain p h).held m e }, tt);
       } in
       rw (does.0, does.1) base
 

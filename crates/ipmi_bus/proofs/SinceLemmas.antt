@@ -1,7 +1,17 @@
 -- The reading of a record, call after call.
 use Rattle.std.proofs.Common.{◌≡◌, ℕ, ◌+◌, ◌*◌, ◌≤◌, Option, None, Some, Ok, refl, ap, ◌∙◌, arith, ◌-◌}
-use Rattle.ipmi_bus.specs.Prelude.{digits, step_call_bound, Again, Retrieval, largest_len, Seen, IsHonest, StaysHonest, row_len, SameRequest, CallLeaves, unreserved, begun, HonestSince, Since, ReadCalls}
-use Rattle.ipmi_bus.specs.Retrieval.{calls_left}
+use Rattle.ipmi_bus.specs.Prelude.{digits, step_call_bound, Again, Retrieval, largest_len, Seen, IsHonest, StaysHonest, row_len, SameRequest, CallLeaves, unreserved, begun, HonestSince, ReadCalls}
+use Rattle.ipmi_bus.specs.Retrieval.{IsOpenRecord, calls_left}
+
+-- what holds after each call but the last
+pub record Since (start now : Retrieval) (s s' : Seen) : Type 0 where
+  pub is_open : IsOpenRecord now
+  pub request : SameRequest start now
+  pub calls : s'.calls + calls_left (largest_len start.shelf) now
+      ≤ s.calls + calls_left (largest_len start.shelf) start
+  pub honest : IsHonest s → HonestSince start now s s'
+  pub row_calls : IsHonest s → s'.stores_added ≡ s.stores_added
+      → s'.calls + calls_left (row_len start s) now ≤ s.calls + calls_left (row_len start s) start
 
 same_request_trans : (a b c : Retrieval) → SameRequest a b → SameRequest b c → SameRequest a c
 same_request_trans a b c p q = record { shelf = q.shelf ∙ p.shelf; tries = q.tries ∙ p.tries; id = q.id ∙ p.id; part = omega (arith, p.part, q.part); some = q.some }

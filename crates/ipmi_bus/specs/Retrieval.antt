@@ -1,12 +1,12 @@
 -- A record that is being read in parts: what is there so far, and what one call may leave of it.
-use Rattle.std.specs.Prelude.{◌≡◌, ℕ, ◌+◌, ◌-◌, ◌*◌, ◌<◌, ◌≤◌, Bool, true, false, MatchResult, nat_lt, if◌then◌else◌, Option, None, Some, IsSome, Result, Ok, Err, List, length, take, slice_index}
+use Rattle.std.specs.Prelude.{◌≡◌, ℕ, min, ◌+◌, ◌-◌, ◌*◌, ◌<◌, ◌≤◌, Bool, true, false, MatchResult, nat_lt, if◌then◌else◌, Option, None, Some, IsSome, Result, Ok, Err, List, length, take, slice_index}
 use Rattle.ipmi_bus.specs.Types.{Absent, Again, Busy, CallOutcome, Cancelled, Code, CodeClass, Ended, GaveUp, Malformed, NotPresent, Part, Refusal, Refused, Retrieval, Sdr, Sel, Shelf, SmallerPart, Stalled, Whole}
 use Rattle.ipmi_bus.specs.Shelf.{Row, look, len_of, largest_len}
 use Rattle.ipmi_bus.specs.Store.{rows_of}
 use Rattle.ipmi_bus.specs.Seen.{Seen, current}
 use Rattle.ipmi_bus.specs.Answers.{Asked}
 use Rattle.ipmi_bus.specs.Bounds.{digits}
-use Rattle.ipmi_bus.specs.Calls.{asked_len, smaller_part}
+use Rattle.ipmi_bus.specs.Calls.{smaller_part}
 use Rattle.ipmi_bus.specs.Code.{class_of}
 
 -- how many bytes are asked for, by those that are there: of a sensor data record the header comes first
@@ -16,7 +16,7 @@ wanted_len Sel have buffer = 16
 
 -- how many bytes the next request asks for
 abbrev pub request_len : Retrieval → ℕ
-request_len r = asked_len r.part (wanted_len r.shelf r.have r.buffer - r.have)
+request_len r = min r.part (wanted_len r.shelf r.have r.buffer - r.have)
 
 -- a record that is not whole yet
 pub record IsOpenRecord (r : Retrieval) : Type 0 where
@@ -86,16 +86,12 @@ ReserveFails Cancelled code old new result = CountsTrouble false old new result
 ReserveFails Busy code old new result = CountsTrouble false old new result
 ReserveFails _ code old new result = IsRefusedBy code old new result
 
--- what the answer to a call for a reservation leaves
-abbrev pub TakesReservation : Result ℕ Code → Retrieval → Retrieval → Result CallOutcome Ended
-    → Type 0
-TakesReservation (Ok n) old new result =
-    (result ≡ Ok Again) × (new ≡ record old { reservation = Some n })
-TakesReservation (Err code) old new result = ReserveFails (class_of code.0) code old new result
-
 -- one call for a reservation was answered
 abbrev pub IsReserveAnswered : Retrieval → Retrieval → Result CallOutcome Ended → Type 0
-IsReserveAnswered old new result = (answer : Result ℕ Code) × TakesReservation answer old new result
+IsReserveAnswered old new result =
+    (answer : Result ℕ Code) × MatchResult answer
+    (λ n. (result ≡ Ok Again) × (new ≡ record old { reservation = Some n }))
+    (λ code. ReserveFails (class_of code.0) code old new result)
 
 -- a smaller part is to be asked for; a part of less than one byte can't be
 abbrev pub MakesSmaller : ℕ → Retrieval → Retrieval → Result CallOutcome Ended → Type 0
@@ -138,18 +134,13 @@ TakesRecordPart part old new (Err (Malformed id)) =
     × (new.have ≡ 5) × (0xFB < slice_index old.buffer 4)
 TakesRecordPart part old new _ = ⊥
 
--- what the answer to a request for so many bytes leaves, once its bytes are in the buffer
-abbrev pub TakesAnswer : Result Part Code → ℕ → Retrieval → Retrieval → Result CallOutcome Ended
-    → Type 0
-TakesAnswer (Ok part) asked old new result = TakesRecordPart part old new result
-TakesAnswer (Err code) asked old new result = PartFails (class_of code.0) code asked old new result
-
--- one request of `request_len` was answered
+-- one request of `request_len` was answered, and its bytes were put into the buffer
 pub record IsAnswered (old new : Retrieval) (result : Result CallOutcome Ended) : Type 0 where
   pub answer : Result Part Code
   pub filled : Retrieval
   pub buffer : filled ≡ record old { buffer = filled.buffer }
-  pub takes : TakesAnswer answer (request_len old) filled new result
+  pub takes : MatchResult answer (λ part. TakesRecordPart part filled new result)
+      (λ code. PartFails (class_of code.0) code (request_len old) filled new result)
 
 -- one call was answered: for a reservation where none is held, otherwise for a part
 abbrev pub CallIsAnswered : Option ℕ → Retrieval → Retrieval → Result CallOutcome Ended → Type 0

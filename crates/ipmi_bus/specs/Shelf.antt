@@ -1,5 +1,5 @@
 -- The two repositories of records, SDR and SEL, as lists of rows.
-use Rattle.std.specs.Prelude.{◌≡◌, ◌≢◌, ℕ, ◌+◌, ◌*◌, ◌<◌, ◌≤◌, ◌==◌, if◌then◌else◌, Option, Some, None, List, [], ◌∷◌, length, slice_index}
+use Rattle.std.specs.Prelude.{◌≡◌, ◌≢◌, ℕ, ◌+◌, ◌*◌, ◌<◌, ◌≤◌, ◌==◌, if◌then◌else◌, Option, Some, None, IfSome, List, [], ◌∷◌, length, drop, slice_index}
 use Rattle.ipmi_text.specs.Bytes.{AreBytes}
 use Rattle.ipmi_bus.specs.Types.{Sdr, Sel, Shelf}
 
@@ -64,21 +64,12 @@ DistinctIds (row ∷ rows) = LacksId row.id rows × DistinctIds rows
 abbrev pub id_in : List ℕ → ℕ
 id_in bytes = slice_index bytes 0 + 256 * slice_index bytes 1
 
--- the first row's bytes begin with its id
-abbrev pub BeginsWithId : List Row → Type 0
-BeginsWithId [] = Unit {0}
-BeginsWithId (row ∷ rows) = id_in row.bytes ≡ row.id
-
--- no row after the first has the id 0000h
-abbrev pub LaterHaveIds : List Row → Type 0
-LaterHaveIds [] = Unit {0}
-LaterHaveIds (row ∷ rows) = LacksId 0 rows
-
+-- the first row's bytes begin with its id, and no later row has the id 0000h
 pub record IsShelf (shelf : Shelf) (rows : List Row) : Type 0 where
   pub all : AllRows shelf rows
   pub distinct : DistinctIds rows
-  pub first : BeginsWithId rows
-  pub later : LaterHaveIds rows
+  pub first : IfSome (first_row rows) (λ row. id_in row.bytes ≡ row.id)
+  pub later : LacksId 0 (drop 1 rows)
 
 -- ---- a law
 

@@ -22,35 +22,19 @@ pub record HonestSince (start now : Retrieval) (s s' : Seen) : Type 0 where
   pub plain : IsTrue s.plain → HoldsCurrent start s → HoldsCurrent now s'
   pub within : s'.stores_added ≡ s.stores_added → now.have ≤ row_len start s
 
-pub record Since (start now : Retrieval) (s s' : Seen) : Type 0 where
-  pub is_open : IsOpenRecord now
-  pub request : SameRequest start now
-  pub calls : s'.calls + calls_left (largest_len start.shelf) now
-      ≤ s.calls + calls_left (largest_len start.shelf) start
-  pub honest : IsHonest s → HonestSince start now s s'
-  pub row_calls : IsHonest s → s'.stores_added ≡ s.stores_added
-      → s'.calls + calls_left (row_len start s) now ≤ s.calls + calls_left (row_len start s) start
-
 -- a whole row, of the store that the controller has now
 pub record ReadsRow (start new : Retrieval) (s s' : Seen) (row : Row) : Type 0 where
   pub within : WithinTries start.tries s s'
   pub read : HasRead new s' row
   pub whole : new.have ≡ length row.bytes
 
-pub record ReadsNone (start : Retrieval) (s s' : Seen) : Type 0 where
-  pub within : WithinTries start.tries s s'
-  pub absent : look (rows_of start.shelf s'.store) start.id ≡ None
-
 abbrev pub ReadAnswers : Retrieval → Retrieval → Seen → Seen → Result Bool Ended → Type 0
 ReadAnswers start new s s' (Ok true) = (row : Row) × ReadsRow start new s s' row
-ReadAnswers start new s s' (Ok false) = ReadsNone start s s'
+ReadAnswers start new s s' (Ok false) =
+    WithinTries start.tries s s' × (look (rows_of start.shelf s'.store) start.id ≡ None)
 ReadAnswers start new s s' (Err (GaveUp n)) = GivesUp start.tries s s'
 ReadAnswers start new s s' (Err (Refused n code)) = IsRefusedWith start.tries code.0 s s'
 ReadAnswers start new s s' _ = ⊥
-
-pub record ReadIsPlain (new : Retrieval) (s' : Seen) (result : Result Bool Ended) : Type 0 where
-  pub holds : HoldsCurrent new s'
-  pub fine : NotGivenUpOrRefused result
 
 -- over an honest controller: where a reservation is held and no trouble comes, none is asked for
 pub record ReadIsHonest (start new : Retrieval) (s s' : Seen)
@@ -58,7 +42,8 @@ pub record ReadIsHonest (start new : Retrieval) (s s' : Seen)
   pub stays : StaysHonest s s'
   pub answers : ReadAnswers start new s s' result
   pub keeps : IsSome start.reservation → s'.troubles ≡ s.troubles → KeepsHeld start new s s'
-  pub plain : IsTrue s.plain → HoldsCurrent start s → ReadIsPlain new s' result
+  pub plain : IsTrue s.plain → HoldsCurrent start s
+      → HoldsCurrent new s' × NotGivenUpOrRefused result
 
 -- what one more call leaves
 abbrev pub ReadNext : Retrieval → Retrieval → Seen → Seen → Result CallOutcome Ended → Type 0

@@ -129,18 +129,13 @@ StepAnswers old s s' _ = ⊥
 pub record CursorHoldsCurrent (c : CursorState) (seen : Seen) : Type 0 where
   pub held : (n : ℕ) → c.reservation ≡ Some n → current c.shelf seen ≡ Some n
 
--- over a plain controller
-pub record StepIsPlain (new : CursorState) (s' : Seen)
-    (result : Result (Option Row) Ended) : Type 0 where
-  pub holds : CursorHoldsCurrent new s'
-  pub fine : NotGivenUpOrRefused result
-
--- over an honest controller
+-- over an honest controller; a plain one refuses nothing, and has no troubles
 pub record StepIsHonest (old new : CursorState) (s s' : Seen)
     (result : Result (Option Row) Ended) : Type 0 where
   pub stays : StaysHonest s s'
   pub answers : StepAnswers old s s' result
-  pub plain : IsTrue s.plain → CursorHoldsCurrent old s → StepIsPlain new s' result
+  pub plain : IsTrue s.plain → CursorHoldsCurrent old s
+      → CursorHoldsCurrent new s' × NotGivenUpOrRefused result
   pub calls : s'.stores_added ≡ s.stores_added
       → StepCalls (len_of (look (rows_of old.shelf s.store) (asked_at old.place))) old new s s'
 

@@ -1,12 +1,12 @@
 -- The lines of a rewritten image are taken one after the other; the rows of a shelf.
-use Rattle.std.proofs.Common.{◌≡◌, ℕ, Bool, true, false, cond, not, nat_eq, None, Ok, List, [], ◌∷◌, ◌++◌, refl, sym, ap, subst, ◌∙◌, append_assoc, append-nil, arith, codes, fold, filter_map, eq-eqb, ne_eqb}
+use Rattle.std.proofs.Common.{◌≡◌, ℕ, Bool, true, false, cond, not, nat_eq, None, IfSome, Ok, List, [], ◌∷◌, ◌++◌, drop, refl, sym, ap, subst, ◌∙◌, append_assoc, append-nil, arith, codes, fold, filter_map, eq-eqb, ne_eqb}
 use Rattle.std.specs.List.{join_with_byte}
 use Rattle.std.proofs.lemmas.Bool.Decides.{nat_tests}
 use Rattle.std.proofs.lemmas.List.Elements.{filter_map-append}
 use Rattle.std.proofs.lemmas.List.Sums.{fold-append}
 use Rattle.byteorder.specs.Endian.{big_bytes}
 use Rattle.hex.specs.Hex.{encode_lower}
-use Rattle.ipmi_image.specs.Below.{Shelf, Sdr, Sel, Row, AllRows, LacksId, DistinctIds, BeginsWithId, LaterHaveIds, IsShelf, Store, Inventory, SensorReading, has_id}
+use Rattle.ipmi_image.specs.Below.{Shelf, Sdr, Sel, Row, AllRows, LacksId, DistinctIds, first_row, id_in, IsShelf, Store, Inventory, SensorReading, has_id}
 use Rattle.ipmi_image.specs.Prelude.{pieces, SavedRow, Line, a_row, line_of_fields, rows_on, first_id, chained, with_inventory_line, sensor_on, info_on, first_of, is_no_record, is_no_id, begins_with_another, row_fault, fault_in, line_judged, is_end, store_after, hex_of, first_row_id, next_field, rows_lines, lines_text}
 use Rattle.ipmi_image.proofs.TextLemmas.{pieces-more}
 use Rattle.ipmi_image.proofs.ReadLemmas.{store_after_line, line_judged-found}
@@ -96,7 +96,7 @@ others_next (t ∷ saved) s row rows others lacks =
 
 -- the first row of all begins with its id, and no other has the id 0000h
 abbrev FirstFits : List SavedRow → List Row → Type 0
-FirstFits [] rows = BeginsWithId rows × LaterHaveIds rows
+FirstFits [] rows = IfSome (first_row rows) (λ row. id_in row.bytes ≡ row.id) × LacksId 0 (drop 1 rows)
 FirstFits (s ∷ saved) rows = LacksId 0 rows
 
 -- these rows may come after the saved ones

@@ -28,7 +28,7 @@ returns-in-Ok-true-clause-honest g c = λ h.
       calls = λ same. rw (← asks.id, out.retrieval) (c.in-Ok-true.ensures.row_calls h same);
       plain = λ p holds.
           let after = read.plain p (record { held = holds.held }) in
-          record { holds = record { held = rw out.retrieval after.holds.held }; fine = tt };
+          (record { held = rw out.retrieval after.0.held }, tt);
     }
 
 pub returns-else-eq-clause-leaves : goal.returns-else-eq-clause-leaves
