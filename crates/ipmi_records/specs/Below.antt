@@ -8,6 +8,7 @@ pub use Rattle.ipmi_text.specs.Hex.{byte_h, hex_byte, hex_word, word_h}
 pub use Rattle.ipmi_text.specs.Laws.{DecimalIsUnique, UtcTextIsUnique}
 pub use Rattle.ipmi_text.specs.Lines.{labelled}
 pub use Rattle.ipmi_text.specs.ReadingValue.{IsTwosComplement, reading_value, SensorFactors}
+pub use Rattle.ipmi_text.specs.SdrHeader.{sdr_len}
 pub use Rattle.ipmi_text.specs.SensorTypes.{sensor_type_text_of}
 pub use Rattle.ipmi_text.specs.Times.{IsUtcTextOf}
 pub use Rattle.ipmi_text.specs.Units.{after_space, unit_text_of}

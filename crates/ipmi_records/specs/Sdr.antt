@@ -1,6 +1,6 @@
 -- Sensor data records as views (IPMI v2.0, section 43).
-use Rattle.std.specs.Prelude.{ℕ, ◌+◌, ◌==◌, ◌&&◌, nat_lt, not, if◌then◌else◌, Option, Some, None, option_map, Result, Ok, Err, List, length, drop}
-use Rattle.ipmi_records.specs.Below.{sdr_text_of}
+use Rattle.std.specs.Prelude.{ℕ, ◌==◌, ◌&&◌, nat_lt, not, if◌then◌else◌, Option, Some, None, option_map, Result, Ok, Err, List, length, drop}
+use Rattle.ipmi_records.specs.Below.{sdr_len, sdr_text_of}
 use Rattle.ipmi_records.specs.declared.sdr.SdrFault.{SdrFault}
 use Rattle.ipmi_records.specs.declared.sdr.SdrView.{SdrView}
 use Rattle.ipmi_records.specs.declared.sensor.Sensor.{Sensor}
@@ -68,7 +68,7 @@ sdr_view_by_type type bytes =
 abbrev pub sdr_view_of : List ℕ → Result SdrView SdrFault
 sdr_view_of bytes =
     if nat_lt (length bytes) 5 then Err SdrFault.Short
-    else if not (length bytes == 5 + body_len bytes) then Err SdrFault.Length
+    else if not (length bytes == sdr_len bytes) then Err SdrFault.Length
     else if nat_lt (length bytes) (least_len (record_type bytes)) then Err SdrFault.BodyShort
     else Ok (sdr_view_by_type (record_type bytes) bytes)
 

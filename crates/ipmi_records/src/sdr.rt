@@ -14,15 +14,12 @@ use crate::sensor::{
     EventOnlySensor, FULL_ID_PLACE, FULL_TYPE, FullSensor, Sensor,
 };
 use byteorder::{ByteOrder, LittleEndian};
-use ipmi_text::sdr_text;
+use ipmi_text::{SDR_HEADER_LEN, sdr_len, sdr_text};
 use std::alloc::{AllocError, Global};
 use thiserror::Error;
 
 /// The address of the controller that holds the records.
 pub(crate) const OWN_ADDRESS: u8 = 0x20;
-
-/// The bytes of a record's header.
-const HEADER_LEN: usize = 5;
 
 /// The first of the types that have no view of their own.
 const OTHER_TYPE: u8 = 0x00;
@@ -42,7 +39,7 @@ pub enum SdrFault {
 }
 
 /// A record of a type that has no view of its own.
-pub type OtherRecord<'a> = AtLeast<'a, OTHER_TYPE, HEADER_LEN>;
+pub type OtherRecord<'a> = AtLeast<'a, OTHER_TYPE, SDR_HEADER_LEN>;
 
 /// A sensor data record, by its type.
 #[derive(Clone, Debug, Drop)]
@@ -72,7 +69,7 @@ fn least_len(kind: u8) -> usize
         COMPACT_TYPE => COMPACT_ID_PLACE,
         EVENT_ONLY_TYPE => EVENT_ONLY_ID_PLACE,
         GENERIC_TYPE | FRU_TYPE | CONTROLLER_TYPE => LOCATOR_ID_PLACE,
-        _ => HEADER_LEN,
+        _ => SDR_HEADER_LEN,
     }
 }
 
@@ -97,10 +94,10 @@ impl<'a> SdrView<'a> {
     pub fn read(bytes: &'a [u8]) -> Result<SdrView<'a>, SdrFault>
         ensures { result ≡ sdr_view_of bytes.now }
     {
-        if bytes.len() < HEADER_LEN {
+        if bytes.len() < SDR_HEADER_LEN {
             return Err(SdrFault::Short);
         }
-        if bytes.len() != HEADER_LEN + usize::from(bytes[4]) {
+        if bytes.len() != sdr_len(bytes) {
             return Err(SdrFault::Length);
         }
         let kind = bytes[3];

@@ -9,6 +9,7 @@ pub mod Laws
 pub mod Lines
 pub mod Names
 pub mod ReadingValue
+pub mod SdrHeader
 pub mod SensorTypes
 pub mod Times
 pub mod TwoDigits
