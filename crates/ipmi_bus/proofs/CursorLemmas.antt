@@ -3,7 +3,7 @@ use Rattle.std.proofs.Common.{◌≡◌, ℕ, ◌+◌, ◌*◌, ◌<◌, ◌≤�
 use Rattle.std.specs.FinSet as set
 use Rattle.std.specs.FinSet.{contains-empty, len-empty}
 use Rattle.std.proofs.lemmas.Bool.Decides.{nat_tests}
-use Rattle.ipmi_bus.specs.Prelude.{Shelf, Place, First, Id, End, Retrieval, Handed, Progress, Row, IsShelf, id_in, whole_len, largest_len, look, first_row, place_after, rows_of, store_shelf, Seen, IsHonest, wanted_len, handed_id, IsAsked, cycle_at, HandsOut, HasIdAsked, CursorState}
+use Rattle.ipmi_bus.specs.Prelude.{Shelf, Place, First, Id, End, Retrieval, Handed, Progress, Row, IsShelf, id_in, whole_len, largest_len, look, first_row, place_after, rows_of, store_shelf, Seen, IsHonest, wanted_len, handed_id, IsAsked, cycle_at, asked_at, HandsOut, CursorState}
 use Rattle.ipmi_bus.specs.Retrieval.{HasRead}
 use Rattle.ipmi_bus.proofs.PartLemmas.{get_or-read}
 use Rattle.ipmi_bus.proofs.WalkLemmas.{id-row_at}
@@ -64,7 +64,7 @@ contains-handed_id place ids asked buffer first asks = grind (arith, nat_tests, 
 
 -- the row that is handed out has the id that was asked for
 has_id_asked : (place : Place) (ids : set.FinSet nat_cmp) (asked : ℕ) (r : Retrieval) → 5 ≤ r.have
-    → IsAsked place ids asked → HasIdAsked place (whole_row place asked r)
+    → IsAsked place ids asked → (whole_row place asked r).id ≡ handed_id place (asked_at place) (whole_row place asked r).bytes
 has_id_asked place ids asked r some asks = grind (arith, get_or-take)
 
 -- and is as long as its bytes say

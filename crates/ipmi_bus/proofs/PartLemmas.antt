@@ -2,7 +2,7 @@
 use Rattle.std.proofs.Common.{◌≡◌, ℕ, ◌+◌, ◌<◌, ◌≤◌, Bool, true, false, nat_eq, Option, None, Some, Result, Ok, Err, List, length, take, drop, get_or, slice_range, refl, sym, ap, subst, ◌∙◌, inl, inr, arith, IsTrue, IsSome, ne_eqb, get_or-take, take-take, take-add}
 use Rattle.std.proofs.lemmas.Bool.{cases_lt}
 use Rattle.std.proofs.lemmas.Bool.Decides.{nat_tests}
-use Rattle.ipmi_bus.specs.Prelude.{Shelf, Code, CodeClass, Cancelled, Busy, SmallerPart, NotPresent, Refusal, Part, Ended, Stalled, Malformed, CallOutcome, Again, Whole, Absent, Retrieval, Row, IsRow, look, whole_len, len_of, largest_len, rows_of, store_shelf, Seen, stays_trans, IsHonest, StaysHonest, MayLoseReservation, IsQuiet, IsFinished, current, CountsPiece, FailsWith, GivesPiece, PartIsPlain, PartAnswers, smaller_part, class_of, SameRequest, IsReading, HoldsCurrent, HasMet, KeepsHeld, HonestSince, ReadIsHonest, ReadNext, wanted_len, after_part, request_of}
+use Rattle.ipmi_bus.specs.Prelude.{Shelf, Code, CodeClass, Cancelled, Busy, SmallerPart, NotPresent, Refusal, Part, Ended, Stalled, Malformed, CallOutcome, Again, Over, Whole, Absent, Retrieval, Row, IsRow, look, whole_len, len_of, largest_len, rows_of, store_shelf, Seen, stays_trans, IsHonest, StaysHonest, MayLoseReservation, IsQuiet, IsFinished, current, CountsPiece, FailsWith, GivesPiece, PartIsPlain, PartAnswers, smaller_part, class_of, SameRequest, IsReading, HoldsCurrent, HasMet, KeepsHeld, HonestSince, ReadIsHonest, ReadNext, wanted_len, after_part, request_of}
 use Rattle.ipmi_bus.specs.Retrieval.{IsOpenRecord, HasRead, TakesRecordPart, MakesSmaller, PartFails}
 use Rattle.ipmi_bus.proofs.ShelfLemmas.{look_row}
 use Rattle.ipmi_bus.proofs.CallLemmas.{reading_kept, held_on, within_calm, trouble_answers, refusal_answers}
@@ -106,12 +106,12 @@ module _ (start old : Retrieval) (buffer : List ℕ) (s s' s'' : Seen) (n asked 
       → TakesRecordPart part (record old { buffer = buffer }) new result
       → ReadNext start new s s'' result
   piece_answers new (Ok Again) takes = rw takes.1 (piece_goes_on (rw takes.1 at takes.2))
-  piece_answers new (Ok Whole) takes =
+  piece_answers new (Ok (Over Whole)) takes =
       let is : old.have + part.got ≡ wanted_len old.shelf (old.have + part.got) buffer = rw takes.1 at takes.2 in
       let within = within_calm start old s s' s'' same since stays open_ calm in
-      let base : ReadIsHonest start (taken old buffer part) s s'' (Ok true) = record {
+      let base : ReadIsHonest start (taken old buffer part) s s'' (Ok Whole) = record {
         stays = all;
-        answers = (row, record { within = within; read = read; whole = wanted_whole old.shelf (old.have + part.got) buffer row ok read.bytes is });
+        answers = (within, (row, read, wanted_whole old.shelf (old.have + part.got) buffer row ok read.bytes is));
         keeps = keeps_held;
         plain = λ p h. (holds p h, tt);
       } in
@@ -193,10 +193,10 @@ module _ (start old new : Retrieval) (s s' s'' : Seen) (n asked : ℕ) (code : C
 
   absent_answers : (result : Result CallOutcome Ended)
       → look (rows_of old.shelf s''.store) old.id ≡ None → IsFinished s' s''
-      → (result ≡ Ok Absent) × (new ≡ old) → ReadNext start new s s'' result
+      → (result ≡ Ok (Over Absent)) × (new ≡ old) → ReadNext start new s s'' result
   absent_answers result absent finished does =
       let counts : HasMet 0 s' s'' = search (arith, finished) in
-      let base : ReadIsHonest start old s s'' (Ok false) = record {
+      let base : ReadIsHonest start old s s'' (Ok Absent) = record {
         stays = over_all;
         answers = (within_calm start old s s' s'' same since stays open_ counts, rw (same.shelf, same.id) at absent);
         keeps = keeps_on old (omega (arith, finished.troubles)) refl;

@@ -1,6 +1,6 @@
 -- The reading of a record, call after call.
 use Rattle.std.proofs.Common.{◌≡◌, ℕ, ◌+◌, ◌*◌, ◌≤◌, Option, None, Some, Ok, refl, ap, ◌∙◌, arith, ◌-◌}
-use Rattle.ipmi_bus.specs.Prelude.{digits, step_call_bound, Again, Retrieval, largest_len, Seen, IsHonest, StaysHonest, row_len, SameRequest, CallLeaves, unreserved, begun, HonestSince, ReadCalls}
+use Rattle.ipmi_bus.specs.Prelude.{AreWithin, digits, step_call_bound, Again, Retrieval, largest_len, Seen, IsHonest, StaysHonest, row_len, SameRequest, CallLeaves, unreserved, begun, HonestSince}
 use Rattle.ipmi_bus.specs.Retrieval.{IsOpenRecord, calls_left}
 
 -- what holds after each call but the last
@@ -58,7 +58,7 @@ module _ (old : Retrieval) (id : ℕ) (now new : Retrieval) (s s' s'' : Seen)
 
   -- the calls are within the bound by the row's length, with the digits that the part size lost, where the store stays
   pub row_bound : (IsHonest s' → StaysHonest s' s'') → new.part ≡ now.part → IsHonest s
-      → s''.stores_added ≡ s.stores_added → ReadCalls (row_len (begun old id) s) old new s s''
+      → s''.stores_added ≡ s.stores_added → AreWithin old.tries (row_len (begun old id) s) old.part new.part s s''
   row_bound stays same h e =
       let before = (since.honest h).stays in
       let len = row_len (begun old id) s in

@@ -96,15 +96,11 @@ pub record ValueAnswers {V : Type 0} (value : Store → Option V) (result : Resu
 -- ---- an inventory
 
 -- its size, in bytes, and that it is accessed by bytes: an inventory of a store always is; a size of 0 finishes it
-pub record GivesSize (size : FruSize) (old new : Seen) (bytes : List ℕ) : Type 0 where
-  pub size_is : size.size ≡ length bytes
-  pub no_words : size.words ≡ false
-  pub counts : CountsPiece (length bytes == 0) old new
-
 pub record SizeAnswers (id : ℕ) (result : Result FruSize Code) (old new : Seen) : Type 0 where
   pub change : IsChange old new
   pub gives : MatchResult result (λ size. (bytes : List ℕ) × (inventory_of id new.store ≡ Some bytes)
-      × GivesSize size old new bytes)
+      × (size.size ≡ length bytes) × (size.words ≡ false)
+      × CountsPiece (length bytes == 0) old new)
       (λ code. FailsWith ⊥ (inventory_of id new.store ≡ None) (class_of code.0) code.0 old new)
   pub sdr : MayLoseReservation Sdr old new
   pub sel : MayLoseReservation Sel old new
@@ -112,16 +108,12 @@ pub record SizeAnswers (id : ℕ) (result : Result FruSize Code) (old new : Seen
       → MatchOption (inventory_of id old.store) (result ≡ Err not_present) (λ bytes. IsOk result)
 
 -- data of it, from an offset on
-pub record GivesBytes (offset asked got : ℕ) (into : List ℕ) (old new : Seen)
-    (bytes : List ℕ) : Type 0 where
-  pub piece : IsPiece bytes offset asked got into
-  pub counts : CountsPiece (offset + got == length bytes) old new
-
 pub record BytesAnswers (id offset asked : ℕ) (result : Result ℕ Code) (into : List ℕ)
     (old new : Seen) : Type 0 where
   pub change : IsChange old new
   pub gives : MatchResult result (λ got. (bytes : List ℕ) × (inventory_of id new.store ≡ Some bytes)
-      × GivesBytes offset asked got into old new bytes)
+      × IsPiece bytes offset asked got into
+      × CountsPiece (offset + got == length bytes) old new)
       (λ code. FailsWith (1 < asked) (inventory_of id new.store ≡ None) (class_of code.0) code.0
       old new)
   pub sdr : MayLoseReservation Sdr old new

@@ -54,18 +54,13 @@ MakesSmaller asked old new (Ok u) =
 MakesSmaller asked old new (Err ended) =
     (ended ≡ FruEnded.Stalled) × (smaller_part asked ≡ None) × (new ≡ old)
 
--- refused with this code
-abbrev pub IsRefusedBy : Code → FruRetrieval → FruRetrieval → Result (Unit {0}) FruEnded
-    → Type 0
-IsRefusedBy code old new result = (result ≡ Err (FruEnded.Refused code)) × (new ≡ old)
-
 -- a failing call for a part of so many bytes, by the class of its code: CBh is a refusal
 abbrev pub PartFails : CodeClass → Code → ℕ → FruRetrieval → FruRetrieval
     → Result (Unit {0}) FruEnded → Type 0
 PartFails Cancelled code asked old new result = CountsTrouble old new result
 PartFails Busy code asked old new result = CountsTrouble old new result
 PartFails SmallerPart code asked old new result = MakesSmaller asked old new result
-PartFails _ code asked old new result = IsRefusedBy code old new result
+PartFails _ code asked old new result = (result ≡ Err (FruEnded.Refused code)) × (new ≡ old)
 
 -- so many bytes came, or none
 abbrev pub TakesInventoryPart : ℕ → FruRetrieval → FruRetrieval → Result (Unit {0}) FruEnded
@@ -80,11 +75,6 @@ pub record IsAnswered (old new : FruRetrieval) (result : Result (Unit {0}) FruEn
   pub bytes : filled ≡ record old { bytes = filled.bytes }
   pub takes : MatchResult answer (λ got. TakesInventoryPart got filled new result)
       (λ code. PartFails (class_of code.0) code (request_len old) filled new result)
-
--- the answer to the last request ended the reading so
-pub record IsEndedBy (new : FruRetrieval) (ended : FruEnded) : Type 0 where
-  pub last : FruRetrieval
-  pub answered : IsAnswered last new (Err ended)
 
 -- the bytes so far are the inventory's
 pub record HasRead (r : FruRetrieval) (s : Seen) : Type 0 where

@@ -2,7 +2,7 @@
 use Rattle.std.specs.Prelude.{◌≡◌, ◌≢◌, ℕ, ◌<◌, ◌⊎◌, List, Option, None, Some, IsSome, Result, Ok, Err, IsOk, take}
 use Rattle.std.specs.FinSet as set
 use Rattle.ipmi_bus.specs.Types.{End, Ended, First, Handed, Next, Place, Progress}
-use Rattle.ipmi_bus.specs.Shelf.{Row, id_in}
+use Rattle.ipmi_bus.specs.Shelf.{Row}
 use Rattle.ipmi_bus.specs.Seen.{Seen, current}
 use Rattle.ipmi_bus.specs.CursorState.{CursorState}
 use Rattle.ipmi_bus.specs.Step.{asked_at, cycle_at}
@@ -29,11 +29,6 @@ handed_result p (Ok (Some handed)) =
     Ok (Some (record { id = handed.id; next = handed.next; bytes = take handed.len p.retrieval.buffer }))
 handed_result p (Ok None) = Ok None
 handed_result p (Err ended) = Err ended
-
--- the id of a record: at the start the one that its bytes begin with, low first
-abbrev pub handed_id : Place → ℕ → List ℕ → ℕ
-handed_id First asked buffer = id_in buffer
-handed_id _ asked buffer = asked
 
 -- an id is asked for: 0000h at the start, and later one that was not handed out, for which there is room
 pub record IsAsked (place : Place) (ids : set.FinSet nat_cmp) (asked : ℕ) : Type 0 where

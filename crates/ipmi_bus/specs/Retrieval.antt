@@ -1,6 +1,7 @@
 -- A record that is being read in parts: what is there so far, and what one call may leave of it.
 use Rattle.std.specs.Prelude.{◌≡◌, ℕ, min, ◌+◌, ◌-◌, ◌*◌, ◌<◌, ◌≤◌, Bool, true, false, MatchResult, nat_lt, if◌then◌else◌, Option, None, Some, IsSome, Result, Ok, Err, List, length, take, slice_index}
-use Rattle.ipmi_bus.specs.Types.{Absent, Again, Busy, CallOutcome, Cancelled, Code, CodeClass, Ended, GaveUp, Malformed, NotPresent, Part, Refusal, Refused, Retrieval, Sdr, Sel, Shelf, SmallerPart, Stalled, Whole}
+use Rattle.ipmi_text.specs.SdrHeader.{sdr_len}
+use Rattle.ipmi_bus.specs.Types.{Absent, Again, Busy, CallOutcome, Cancelled, Code, CodeClass, Ended, GaveUp, Malformed, NotPresent, Over, Part, Refusal, Refused, Retrieval, Sdr, Sel, Shelf, SmallerPart, Stalled, Whole}
 use Rattle.ipmi_bus.specs.Shelf.{Row, look, len_of, largest_len}
 use Rattle.ipmi_bus.specs.Store.{rows_of}
 use Rattle.ipmi_bus.specs.Seen.{Seen, current}
@@ -11,7 +12,7 @@ use Rattle.ipmi_bus.specs.Code.{class_of}
 
 -- how many bytes are asked for, by those that are there: of a sensor data record the header comes first
 abbrev pub wanted_len : Shelf → ℕ → List ℕ → ℕ
-wanted_len Sdr have buffer = if nat_lt have 5 then 5 else 5 + slice_index buffer 4
+wanted_len Sdr have buffer = if nat_lt have 5 then 5 else sdr_len buffer
 wanted_len Sel have buffer = 16
 
 -- how many bytes the next request asks for
@@ -106,7 +107,7 @@ abbrev pub PartFails : CodeClass → Code → ℕ → Retrieval → Retrieval �
 PartFails Cancelled code asked old new result = CountsTrouble true old new result
 PartFails Busy code asked old new result = CountsTrouble false old new result
 PartFails SmallerPart code asked old new result = MakesSmaller asked old new result
-PartFails NotPresent code asked old new result = (result ≡ Ok Absent) × (new ≡ old)
+PartFails NotPresent code asked old new result = (result ≡ Ok (Over Absent)) × (new ≡ old)
 PartFails Refusal code asked old new result = IsRefusedBy code old new result
 
 -- a request for the bytes after those that are there
@@ -124,7 +125,7 @@ TakesRecordPart part old new (Ok Again) =
     (0 < part.got) × (new ≡ after_part part old)
     × (new.have < wanted_len new.shelf new.have new.buffer)
     × (wanted_len new.shelf new.have new.buffer ≤ largest_len new.shelf)
-TakesRecordPart part old new (Ok Whole) =
+TakesRecordPart part old new (Ok (Over Whole)) =
     (0 < part.got) × (new ≡ after_part part old)
     × (new.have ≡ wanted_len new.shelf new.have new.buffer) × (new.have ≤ largest_len new.shelf)
     × (5 ≤ new.have)
@@ -169,8 +170,8 @@ NamesId id shelf _ = ⊥
 abbrev pub CallLeaves : Retrieval → Retrieval → Result CallOutcome Ended → Type 0
 CallLeaves old new (Ok Again) =
     IsOpenRecord new × ((len : ℕ) → new.have ≤ len → calls_left len new + 1 ≤ calls_left len old)
-CallLeaves old new (Ok Whole) =
+CallLeaves old new (Ok (Over Whole)) =
     (new.part ≡ old.part) × (5 ≤ new.have) × (new.have ≤ largest_len new.shelf)
     × (new.have ≡ wanted_len new.shelf new.have new.buffer)
-CallLeaves old new (Ok Absent) = new.part ≡ old.part
+CallLeaves old new (Ok (Over Absent)) = new.part ≡ old.part
 CallLeaves old new (Err ended) = (new.part ≡ old.part) × NamesId old.id old.shelf ended

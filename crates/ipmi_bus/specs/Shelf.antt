@@ -1,6 +1,7 @@
 -- The two repositories of records, SDR and SEL, as lists of rows.
 use Rattle.std.specs.Prelude.{◌≡◌, ◌≢◌, ℕ, ◌+◌, ◌*◌, ◌<◌, ◌≤◌, ◌==◌, if◌then◌else◌, Option, Some, None, IfSome, List, [], ◌∷◌, length, drop, slice_index}
 use Rattle.ipmi_text.specs.Bytes.{AreBytes}
+use Rattle.ipmi_text.specs.SdrHeader.{sdr_len}
 use Rattle.ipmi_bus.specs.Types.{Sdr, Sel, Shelf}
 
 -- a record of a shelf: its id, the id of the next one (FFFFh where there is no more), its bytes
@@ -28,9 +29,9 @@ len_of (Some row) = length row.bytes
 
 -- ---- a well-formed shelf
 
--- how many bytes a whole record has: a sensor data record says in its fifth byte how many follow
+-- how many bytes a whole record has: a sensor data record says it in its header
 abbrev pub whole_len : Shelf → List ℕ → ℕ
-whole_len Sdr bytes = 5 + slice_index bytes 4
+whole_len Sdr bytes = sdr_len bytes
 whole_len Sel bytes = 16
 
 -- the most bytes that a record may have

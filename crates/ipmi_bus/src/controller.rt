@@ -11,12 +11,12 @@ pub const FIRST_RECORD_ID: u16 = 0;
 pub const NO_NEXT_ID: u16 = 0xFFFF;
 /// The most bytes that a part may have: a length of FFh would ask for the whole record.
 pub const LARGEST_PART: u8 = 254;
-/// The bytes of a sensor data record's header. Its last one says how many bytes follow.
-pub const SDR_HEADER_LEN: usize = 5;
 /// The most bytes of a sensor data record.
 pub const LARGEST_SDR_LEN: usize = 256;
 /// The bytes of an entry of the event log.
 pub const SEL_ENTRY_LEN: usize = 16;
+/// The id of the last FRU device that there can be: FFh is no device.
+pub const LAST_FRU_DEVICE_ID: u8 = 254;
 /// How many bytes Get SDR Repository Info and Get SEL Info answer after the completion code.
 pub const INFO_LEN: usize = 14;
 /// The most bytes of an inventory, whose size is a 16-bit number.

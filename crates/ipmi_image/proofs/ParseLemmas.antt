@@ -1,5 +1,5 @@
 -- The lines of a rewritten image, read again.
-use Rattle.std.proofs.Common.{◌≡◌, ℕ, zero, suc, ◌*◌, ◌^◌, ◌/◌, ◌%◌, ◌<◌, ◌≤◌, Bool, true, false, cond, nat_eq, nat_lt, ◌==◌, ◌||◌, None, Some, Ok, List, [], ◌∷◌, length, slice_index, drop, refl, ap, ◌∙◌, append-nil, arith, codes, option_map, if◌then◌else◌}
+use Rattle.std.proofs.Common.{◌≡◌, ℕ, zero, suc, ◌*◌, ◌^◌, ◌/◌, ◌%◌, ◌<◌, ◌≤◌, Bool, true, false, cond, nat_eq, nat_lt, ◌==◌, ◌||◌, None, Some, Ok, List, [], ◌∷◌, length, slice_index, drop, refl, ap, ◌∙◌, append-nil, arith, codes, option_map, if◌then◌else◌, ok_or, Err}
 use Rattle.std.specs.Result.{result_ok}
 use Rattle.std.specs.List.{AllPass, list_all, join_with_byte}
 use Rattle.std.proofs.lemmas.Bool.Decides.{nat_tests}
@@ -11,7 +11,7 @@ use Rattle.byteorder.specs.Numbers.{length-bytes_high_first, big_number-reads_ba
 use Rattle.hex.specs.Hex.{IsBytes, encode_lower, encode_with, decode_pairs, lower_digits}
 use Rattle.hex.proofs.HexLemmas.{decode_of-encode_lower, length-encode_with}
 use Rattle.ipmi_image.specs.Below.{Shelf, Sdr, Sel, AreBytes, Row, whole_len, IsRow, SensorReading, IsInfo, IsSensorReading}
-use Rattle.ipmi_image.specs.Prelude.{pieces, SavedRow, a_row, an_inventory, a_reading, an_info, is_some_text, bytes_in, number_in, digit_in, next_in, is_dash, row_line, info_line_of, line_of_fields, line_of, hex_of, next_field, row_fields, part_fields, reading_fields}
+use Rattle.ipmi_image.specs.Prelude.{pieces, SavedRow, a_row, an_inventory, a_reading, an_info, is_some_text, bytes_in, number_in, digit_in, next_in, is_dash, row_line, LineFault, line_of_fields, line_of, hex_of, next_field, row_fields, part_fields, reading_fields}
 use Rattle.ipmi_image.proofs.RewriteLemmas.{of_lun, drop_hex_of_lun}
 use Rattle.ipmi_image.proofs.TextLemmas.{Lacks, pieces-one, pieces-more}
 
@@ -160,6 +160,8 @@ pub line_of_fields-info : (shelf : Shelf) (bytes : List ℕ) → IsInfo bytes
 line_of_fields-info shelf bytes ok = let len = ok.len in by shelf ∙ rw (bytes_in-encode_lower bytes ok.all, is_some_text-encode_lower bytes (omega (arith, len))) refl
   where
     by : (s : Shelf) → line_of_fields true (codes "info" ∷ word_of s ∷ encode_lower bytes ∷ [])
-        ≡ info_line_of (Some s) (encode_lower bytes)
+        ≡ (if is_some_text (encode_lower bytes)
+        then ok_or (option_map (λ b. an_info s b) (bytes_in (encode_lower bytes))) LineFault.Hex
+        else Err LineFault.Line)
     by Sdr = refl
     by Sel = refl

@@ -1,8 +1,8 @@
 -- The lines of an image, one after the other.
-use Rattle.std.proofs.Common.{◌≡◌, ℕ, ◌+◌, Bool, true, cond, not, ◌==◌, Option, Some, Result, Ok, Err, List, [], ◌∷◌, ◌++◌, length, refl, sym, ap, ◌∙◌, arith}
+use Rattle.std.proofs.Common.{◌≡◌, ℕ, ◌+◌, Bool, true, cond, not, ◌==◌, Option, Some, Result, Ok, Err, List, [], ◌∷◌, ◌++◌, length, refl, sym, ap, ◌∙◌, arith, None}
 use Rattle.std.proofs.lemmas.Bool.Decides.{nat_tests}
 use Rattle.ipmi_image.specs.Below.{Store}
-use Rattle.ipmi_image.specs.Prelude.{LineFault, ImageFault, pieces, Line, the_end, line_of, store_of_lines, fault_in, unless_fault, line_judged, at_line, is_end, ends_here, store_after, dashes_in, store_of_pieces, store_of_image}
+use Rattle.ipmi_image.specs.Prelude.{LineFault, ImageFault, pieces, Line, the_end, line_of, store_of_lines, fault_in, line_judged, at_line, is_end, ends_here, store_after, dashes_in, store_of_pieces, store_of_image}
 use Rattle.ipmi_image.proofs.TextLemmas.{length_pieces}
 
 -- nothing comes after the last line feed exactly where no byte does
@@ -40,6 +40,11 @@ pub lines_after : (dashes : Bool) (before : List Line) (all text after : List �
     → given ≡ after_line dashes before (pieces 10 after) r
 lines_after dashes before all text after r given cut line was = sym was ∙ ap (store_after dashes before) cut ∙ store_after_line dashes before text after ∙ ap (after_line dashes before (pieces 10 after)) line
 
+-- the line, where it has no fault
+abbrev unless_fault : Option LineFault → Line → Result Line LineFault
+unless_fault None line = Ok line
+unless_fault (Some fault) line = Err fault
+
 module _ (dashes : Bool) (before : List Line) (text : List ℕ) where
   pub line_judged-err : (fault : LineFault) → line_of dashes text ≡ Err fault
       → line_judged dashes before text ≡ Err fault
@@ -48,7 +53,8 @@ module _ (dashes : Bool) (before : List Line) (text : List ℕ) where
   pub line_judged-found : (line : Line) (f : Option LineFault) → line_of dashes text ≡ Ok line
       → fault_in (store_of_lines before) line ≡ f
       → line_judged dashes before text ≡ unless_fault f line
-  line_judged-found line f e is = rw (line_judged, e, is) refl
+  line_judged-found line None e is = rw (line_judged, e, is) refl
+  line_judged-found line (Some fault) e is = rw (line_judged, e, is) refl
 
 pub end_is : (line : Line) → is_end line ≡ true → line ≡ the_end
 end_is line e = grind arith

@@ -1,5 +1,5 @@
 -- What the stores that images give have beside what every store has.
-use Rattle.std.proofs.Common.{◌≡◌, ℕ, ◌+◌, ◌<◌, ◌≤◌, Bool, true, false, cond, not, Option, None, Some, Result, Ok, Err, List, [], ◌∷◌, ◌++◌, length, map, refl, arith, codes, All, filter_map, unwrap_or, length-append, bytes_eq}
+use Rattle.std.proofs.Common.{◌≡◌, ℕ, ◌+◌, ◌<◌, ◌≤◌, Bool, true, false, cond, not, Option, None, Some, Result, Ok, Err, List, [], ◌∷◌, ◌++◌, length, map, refl, arith, codes, All, filter_map, unwrap_or, length-append, bytes_eq, fold}
 use Rattle.std.proofs.lemmas.List.{length-map}
 use Rattle.std.proofs.Math.ListN.{get_or-map}
 use Rattle.std.proofs.lemmas.List.Elements.{All-nil, All-cons, All-append, filter_map-append}
@@ -7,7 +7,7 @@ use Rattle.std.proofs.lemmas.List.Sums.{fold-append}
 use Rattle.hex.specs.Hex.{decode_of}
 use Rattle.hex.proofs.HexLemmas.{decode_of-ok}
 use Rattle.ipmi_image.specs.Below.{Shelf, Sdr, Sel, Store, Inventory, SensorReading, inventory_in}
-use Rattle.ipmi_image.specs.Prelude.{LineFault, ImageFault, pieces, Line, an_inventory, a_reading, is_some_text, with_two, with_three, row_line, inventory_line, reading_line, info_line, end_line, line_of_fields, line_of, with_inventory_line, inventories_of, sensor_on, store_of_lines, fault_in, line_judged, is_end, ends_here, store_after, dashes_in, store_of_pieces, store_of_image, StoredSensor, sensor_of, IsSaved}
+use Rattle.ipmi_image.specs.Prelude.{LineFault, ImageFault, pieces, Line, an_inventory, a_reading, is_some_text, with_two, with_three, row_line, inventory_line, reading_line, info_line, end_line, line_of_fields, line_of, with_inventory_line, sensor_on, store_of_lines, fault_in, line_judged, is_end, ends_here, store_after, dashes_in, store_of_pieces, store_of_image, StoredSensor, sensor_of, IsSaved}
 use Rattle.ipmi_image.proofs.ReadLemmas.{after_line}
 use Rattle.ipmi_image.proofs.StoreLemmas.{reading_fine, with_bytes_all}
 
@@ -91,10 +91,10 @@ line_of_says_some dashes text _ e = tt
 -- one more line keeps them so
 module _ (before : List Line) (saved : IsSaved (store_of_lines before)) where
   with_inventory_line_has_bytes : (line : Line) → SaysSome line
-      → All HasBytes (with_inventory_line (inventories_of before) line)
+      → All HasBytes (with_inventory_line (fold with_inventory_line [] before) line)
   with_inventory_line_has_bytes (an_inventory id bytes) some =
-      let len = length-append (unwrap_or (inventory_in (inventories_of before) id) []) bytes in
-      with_bytes_all HasBytes id bytes (inventories_of before) (omega (arith, some, len)) saved.some
+      let len = length-append (unwrap_or (inventory_in (fold with_inventory_line [] before) id) []) bytes in
+      with_bytes_all HasBytes id bytes (fold with_inventory_line [] before) (omega (arith, some, len)) saved.some
   with_inventory_line_has_bytes _ some = saved.some
 
   sensor_on_has_low_lun : (line : Line) → fault_in (store_of_lines before) line ≡ None

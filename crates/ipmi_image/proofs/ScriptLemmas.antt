@@ -3,7 +3,8 @@ use Rattle.std.proofs.Common.{◌≡◌, ℕ, Bool, true, false, Option, Result,
 use Rattle.std.specs.Vec.Iter.{into_iter_deque, into_iter_items, into_iter_len}
 use Rattle.std.proofs.lemmas.List.{nil_from_length}
 use Rattle.ipmi_image.specs.Below.{Shelf, Sdr, Sel, Part, FruSize, Code, CodeClass, Cancelled, Busy, SmallerPart, NotPresent, Refusal, class_of, Store, Seen, IsHonest, IsQuiet, IsFinished, IsChange, MayLoseReservation, current, Asked, other, FailsWith, CountsPiece, ReserveAnswers, PartAnswers, ValueAnswers, SizeAnswers, BytesAnswers}
-use Rattle.ipmi_image.specs.Prelude.{Prepares, Responder, Scripted, seen_as}
+use Rattle.ipmi_image.specs.declared.scripted.Turn.{Turn}
+use Rattle.ipmi_image.specs.Prelude.{Turns, Responder, Scripted, seen_as}
 
 -- where no mood is counted, none is left
 pub no_moods_left : (s : Scripted) → into_iter_len s.moods ≡ 0 → into_iter_items s.moods ≡ []
@@ -14,8 +15,8 @@ pub plainly : (r : Responder) → IsHonest (seen_as false r) → IsHonest (seen_
 plainly r honest = record { said = honest.said; store = honest.store }
 
 -- a plain controller's answer, from `mid` to `answered`, is one that is not plain too, from `old` to `new`
-module _ (old : Seen) (r r' : Responder) (plain : old.plain ≡ false)
-    (first : Prepares old (seen_as false r))
+module _ {asked most : ℕ} (old : Seen) (r r' : Responder) (plain : old.plain ≡ false)
+    (first : Turns asked (Turn.Answers most) old (seen_as false r))
     (change : IsChange (seen_as true r) (seen_as true r')) where
   abbrev mid : Seen
   mid = seen_as true r
@@ -29,11 +30,14 @@ module _ (old : Seen) (r r' : Responder) (plain : old.plain ≡ false)
   same : new.stores_added ≡ mid.stores_added
   same = change.stays.plain_store refl
 
+  calm : IsQuiet old (seen_as false r)
+  calm = first.gives
+
   quiet : IsQuiet mid answered → IsQuiet old new
-  quiet q = omega arith
+  quiet q = let c = calm in omega arith
 
   finished : IsFinished mid answered → IsFinished old new
-  finished q = omega arith
+  finished q = let c = calm in omega arith
 
   piece : (b : Bool) → CountsPiece b mid answered → CountsPiece b old new
   piece true h = finished h
@@ -41,11 +45,11 @@ module _ (old : Seen) (r r' : Responder) (plain : old.plain ≡ false)
 
   fails : (P Q : Type 0) (class : CodeClass) (code : ℕ) → FailsWith P Q class code mid answered
       → FailsWith P Q class code old new
-  fails P Q Cancelled code q = omega arith
-  fails P Q Busy code q = omega arith
+  fails P Q Cancelled code q = let c = calm in omega arith
+  fails P Q Busy code q = let c = calm in omega arith
   fails P Q SmallerPart code h = (h.0, quiet h.1)
   fails P Q NotPresent code h = (h.0, finished h.1)
-  fails P Q Refusal code q = omega arith
+  fails P Q Refusal code q = let c = calm in omega arith
 
   not_plain : {A : Type 0} → IsTrue old.plain → A
   not_plain {A} h = absurd (true≢false (sym h ∙ plain))
@@ -131,7 +135,7 @@ module _ (old : Seen) (r r' : Responder) (plain : old.plain ≡ false)
   after_size id result a = record {
     change = changed;
     gives = given _ _ result
-        (λ size g. (g.0, g.1, record { size_is = g.2.size_is; no_words = g.2.no_words; counts = piece _ g.2.counts })) a.gives;
+        (λ size g. (g.0, g.1, g.2, g.3, piece _ g.4)) a.gives;
     sdr = loses Sdr a.sdr;
     sel = loses Sel a.sel;
     plain = λ p. not_plain p;
@@ -142,7 +146,7 @@ module _ (old : Seen) (r r' : Responder) (plain : old.plain ≡ false)
       → BytesAnswers id offset asked result into old new
   after_bytes id offset asked result into a = record {
     change = changed;
-    gives = given _ _ result (λ got g. (g.0, g.1, record { piece = g.2.piece; counts = piece _ g.2.counts })) a.gives;
+    gives = given _ _ result (λ got g. (g.0, g.1, g.2, piece _ g.3)) a.gives;
     sdr = loses Sdr a.sdr;
     sel = loses Sel a.sel;
     plain = λ p. not_plain p;

@@ -1,9 +1,10 @@
 -- The rows of some lines as a shelf: what one more row changes.
-use Rattle.std.proofs.Common.{◌≡◌, ◌≢◌, ℕ, ◌<◌, Bool, true, false, not, nat_eq, nat_lt, ◌&&◌, None, Some, IfSome, List, [], ◌∷◌, ◌++◌, length, drop, refl, arith, eqb-true, unwrap_or}
+use Rattle.std.proofs.Common.{◌≡◌, ◌≢◌, ℕ, ◌<◌, Bool, true, false, not, nat_eq, nat_lt, ◌&&◌, is_some, None, Some, IfSome, List, [], ◌∷◌, ◌++◌, length, drop, refl, arith, eqb-true, unwrap_or}
 use Rattle.std.proofs.lemmas.Bool.{eqb-false, ltb-false, not-false, or_parts}
 use Rattle.std.proofs.lemmas.Bool.Decides.{nat_tests}
 use Rattle.ipmi_image.specs.Below.{Shelf, AreBytes, Row, whole_len, largest_len, IsRow, AllRows, LacksId, DistinctIds, first_row, id_in, IsShelf, has_id}
-use Rattle.ipmi_image.specs.Prelude.{SavedRow, LineFault, chained, row_before, is_empty, is_no_record, is_no_id, begins_with_another, first_fault, row_fault}
+use Rattle.ipmi_image.specs.Prelude.{SavedRow, LineFault, chained, is_no_record, is_no_id, begins_with_another, first_fault, row_fault}
+use Rattle.ipmi_image.proofs.TableLemmas.{row_before}
 
 -- a row stays one with another next id
 other_next : (shelf : Shelf) (row : SavedRow) (following : List SavedRow) (last : SavedRow)
@@ -70,7 +71,7 @@ pub shelf_with : (shelf : Shelf) (rows : List SavedRow) (row : SavedRow)
     → AreBytes row.bytes → IsShelf shelf (chained rows) → IsShelf shelf (chained (rows ++ row ∷ []))
 shelf_with shelf rows row fine id next bytes old =
     let parts = no_fault (is_no_id (chained rows) row.id) (has_id (chained rows) row.id) (is_no_record shelf row.bytes) (begins_with_another (chained rows) row) fine in
-    let ne = eqb-false row.id 65535 (or_parts (nat_eq row.id 0 && not (is_empty (chained rows))) (nat_eq row.id 65535) parts.0).1 in
+    let ne = eqb-false row.id 65535 (or_parts (nat_eq row.id 0 && is_some (first_row (chained rows))) (nat_eq row.id 65535) parts.0).1 in
     let sized = or_parts (not (nat_eq (length row.bytes) (whole_len shelf row.bytes))) (nat_lt (largest_len shelf) (length row.bytes)) parts.2 in
     record {
       all = AllRows-snoc shelf rows row old.all (record {

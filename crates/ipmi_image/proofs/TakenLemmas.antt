@@ -7,7 +7,7 @@ use Rattle.std.proofs.lemmas.List.Sums.{fold-append}
 use Rattle.byteorder.specs.Endian.{big_bytes}
 use Rattle.hex.specs.Hex.{encode_lower}
 use Rattle.ipmi_image.specs.Below.{Shelf, Sdr, Sel, Row, AllRows, LacksId, DistinctIds, first_row, id_in, IsShelf, Store, Inventory, SensorReading, has_id}
-use Rattle.ipmi_image.specs.Prelude.{pieces, SavedRow, Line, a_row, line_of_fields, rows_on, first_id, chained, with_inventory_line, sensor_on, info_on, first_of, is_no_record, is_no_id, begins_with_another, row_fault, fault_in, line_judged, is_end, store_after, hex_of, first_row_id, next_field, rows_lines, lines_text}
+use Rattle.ipmi_image.specs.Prelude.{pieces, SavedRow, Line, a_row, line_of_fields, row_on, first_id, chained, with_inventory_line, sensor_on, info_on, first_of, is_no_record, is_no_id, begins_with_another, row_fault, fault_in, line_judged, is_end, store_after, hex_of, first_row_id, next_field, rows_lines, lines_text}
 use Rattle.ipmi_image.proofs.TextLemmas.{pieces-more}
 use Rattle.ipmi_image.proofs.ReadLemmas.{store_after_line, line_judged-found}
 use Rattle.ipmi_image.proofs.ParseLemmas.{IsField, AreFields, a_word, a_hex, pieces-join_with_byte, line_of-fields, AreBytes-big_bytes, word_of, saved_row, line_of_fields-row_fields}
@@ -29,8 +29,8 @@ nothing = record { sdr = []; sel = []; inventories = []; readings = []; sdr_info
 -- and what more lines say
 abbrev pub kept_with : Kept → List Line → Kept
 kept_with kept lines = record {
-  sdr = kept.sdr ++ rows_on Sdr lines;
-  sel = kept.sel ++ rows_on Sel lines;
+  sdr = kept.sdr ++ filter_map (row_on Sdr) lines;
+  sel = kept.sel ++ filter_map (row_on Sel) lines;
   inventories = fold with_inventory_line kept.inventories lines;
   readings = kept.readings ++ filter_map sensor_on lines;
   sdr_info = kept.sdr_info ++ filter_map (info_on Sdr) lines;

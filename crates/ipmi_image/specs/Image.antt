@@ -1,6 +1,6 @@
 -- The text of an image: its lines, the first fault among them, and the store that they make.
 use Rattle.std.specs.Prelude.{ℕ, ◌+◌, ◌==◌, nat_lt, not, ◌&&◌, ◌||◌, Bool, true, false, if◌then◌else◌, is_some, Option, Some, None, unwrap_or, Result, Ok, Err, List, [], ◌∷◌, ◌++◌, length, slice_index, filter_map, fold, codes, bytes_eq}
-use Rattle.ipmi_image.specs.Below.{Reading, Shelf, Sdr, Sel, Row, whole_len, largest_len, id_in, Store, Inventory, SensorReading, rows_of, info_of, inventory_of, reading_of, has_id}
+use Rattle.ipmi_image.specs.Below.{Reading, first_row, Shelf, Sdr, Sel, Row, whole_len, largest_len, id_in, Store, Inventory, SensorReading, rows_of, info_of, inventory_of, reading_of, has_id}
 use Rattle.ipmi_image.specs.declared.line.LineFault.{LineFault}
 use Rattle.ipmi_image.specs.declared.image.ImageFault.{ImageFault}
 use Rattle.ipmi_image.specs.Text.{pieces}
@@ -14,22 +14,17 @@ row_on Sdr (a_row Sdr row) = Some row
 row_on Sel (a_row Sel row) = Some row
 row_on shelf line = None
 
-abbrev pub rows_on : Shelf → List Line → List SavedRow
-rows_on shelf lines = filter_map (row_on shelf) lines
-
 -- the first row's id, FFFFh where there is no row
 abbrev pub first_id : List SavedRow → ℕ
 first_id [] = 65535
 first_id (row ∷ rows) = row.id
 
-abbrev pub row_before : List SavedRow → SavedRow → Row
-row_before following row =
-    record { id = row.id; next = unwrap_or row.next (first_id following); bytes = row.bytes }
-
 -- each row with its next id: where its line has none it is the following row's, FFFFh for the last row
 abbrev pub chained : List SavedRow → List Row
 chained [] = []
-chained (row ∷ rows) = row_before rows row ∷ chained rows
+chained (row ∷ rows) =
+    record { id = row.id; next = unwrap_or row.next (first_id rows); bytes = row.bytes }
+    ∷ chained rows
 
 -- the inventories, with bytes put after those of the one with this id, or as a new one after all
 abbrev pub with_bytes : ℕ → List ℕ → List Inventory → List Inventory
@@ -42,9 +37,6 @@ with_bytes id bytes (inventory ∷ inventories) =
 abbrev pub with_inventory_line : List Inventory → Line → List Inventory
 with_inventory_line inventories (an_inventory id bytes) = with_bytes id bytes inventories
 with_inventory_line inventories line = inventories
-
-abbrev pub inventories_of : List Line → List Inventory
-inventories_of lines = fold with_inventory_line [] lines
 
 -- the four bytes of a reading
 abbrev pub reading_of_bytes : List ℕ → Reading
@@ -73,9 +65,9 @@ first_of (bytes ∷ rest) = Some bytes
 -- what these lines say, in their order
 abbrev pub store_of_lines : List Line → Store
 store_of_lines lines = record {
-  sdr = chained (rows_on Sdr lines);
-  sel = chained (rows_on Sel lines);
-  inventories = inventories_of lines;
+  sdr = chained (filter_map (row_on Sdr) lines);
+  sel = chained (filter_map (row_on Sel) lines);
+  inventories = fold with_inventory_line [] lines;
   readings = filter_map sensor_on lines;
   sdr_info = first_of (filter_map (info_on Sdr) lines);
   sel_info = first_of (filter_map (info_on Sel) lines);
@@ -88,10 +80,6 @@ abbrev pub first_fault : List (Bool × LineFault) → Option LineFault
 first_fault [] = None
 first_fault (condition ∷ rest) = if condition.0 then Some condition.1 else first_fault rest
 
-abbrev pub is_empty : List Row → Bool
-is_empty [] = true
-is_empty (row ∷ rows) = false
-
 -- no whole record of the shelf, or a longer one than it may have
 abbrev pub is_no_record : Shelf → List ℕ → Bool
 is_no_record shelf bytes =
@@ -99,11 +87,11 @@ is_no_record shelf bytes =
 
 -- no id of a row after these: 0000h is only the first row's, and FFFFh none's
 abbrev pub is_no_id : List Row → ℕ → Bool
-is_no_id rows id = ((id == 0) && not (is_empty rows)) || (id == 65535)
+is_no_id rows id = ((id == 0) && is_some (first_row rows)) || (id == 65535)
 
 -- the first row's bytes begin with another id than its own
 abbrev pub begins_with_another : List Row → SavedRow → Bool
-begins_with_another rows row = is_empty rows && not (id_in row.bytes == row.id)
+begins_with_another rows row = not (is_some (first_row rows)) && not (id_in row.bytes == row.id)
 
 -- a row after these: its id, an id that one of them has, its length, and the first bytes of the first one, in this
 -- order
@@ -145,15 +133,11 @@ fault_in store (a_reading lun number bytes) = reading_fault lun (reading_of lun 
 fault_in store (an_info shelf bytes) = info_fault (info_of shelf store) bytes
 fault_in store the_end = None
 
-abbrev pub unless_fault : Option LineFault → Line → Result Line LineFault
-unless_fault None line = Ok line
-unless_fault (Some fault) line = Err fault
-
 -- what the line says after these lines
 abbrev pub line_judged : Bool → List Line → List ℕ → Result Line LineFault
 line_judged dashes before text =
     elim (line_of dashes text) [
-      | Ok line ↦ unless_fault (fault_in (store_of_lines before) line) line
+      | Ok line ↦ elim (fault_in (store_of_lines before) line) [ None ↦ Ok line | Some fault ↦ Err fault ]
       | Err fault ↦ Err fault
     ]
 

@@ -94,14 +94,15 @@ reading_line lun number hex =
     else Err LineFault.Line
 
 -- `info sdr HEX28` and `info sel HEX28`
-abbrev pub info_line_of : Option Shelf → List ℕ → Result Line LineFault
-info_line_of (Some shelf) hex =
-    if is_some_text hex then ok_or (option_map (λ b. an_info shelf b) (bytes_in hex)) LineFault.Hex
-    else Err LineFault.Line
-info_line_of None hex = Err LineFault.Line
-
 abbrev pub info_line : List ℕ → List ℕ → Result Line LineFault
-info_line word hex = info_line_of (shelf_in word) hex
+info_line word hex =
+    elim (shelf_in word) [
+      | Some shelf ↦
+          if is_some_text hex
+          then ok_or (option_map (λ b. an_info shelf b) (bytes_in hex)) LineFault.Hex
+          else Err LineFault.Line
+      | None ↦ Err LineFault.Line
+    ]
 
 -- `end`
 abbrev pub end_line : List (List ℕ) → Result Line LineFault

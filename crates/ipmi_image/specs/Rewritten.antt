@@ -29,10 +29,6 @@ fields_with_next word next row = word ∷ hex_of 2 row.id ∷ next ∷ encode_lo
 abbrev pub row_fields : List ℕ → ℕ → Row → List (List ℕ)
 row_fields word following row = fields_with_next word (next_field following row.next) row
 
--- of a record by itself, whose next id is written out, also where a row would have a dash
-abbrev pub record_fields : Row → List (List ℕ)
-record_fields row = fields_with_next (codes "sdr") (hex_of 2 row.next) row
-
 abbrev pub rows_lines : List ℕ → List Row → List (List (List ℕ))
 rows_lines word [] = []
 rows_lines word (row ∷ rows) = row_fields word (first_row_id rows) row ∷ rows_lines word rows
@@ -68,9 +64,10 @@ info_lines word (Some bytes) = (codes "info" ∷ word ∷ encode_lower bytes ∷
 abbrev pub line_text : List (List ℕ) → List ℕ
 line_text fields = join_with_byte 32 fields ++ 10 ∷ []
 
--- the line that `sdr hex` prints for a record: `sdr ID NEXT HEX` and a line feed
+-- the line that `sdr hex` prints for a record: `sdr ID NEXT HEX` and a line feed; NEXT is written out, also where a row
+-- would have a dash
 abbrev pub record_line_of : Row → List ℕ
-record_line_of row = line_text (record_fields row)
+record_line_of row = line_text (fields_with_next (codes "sdr") (hex_of 2 row.next) row)
 
 abbrev pub lines_text : List (List (List ℕ)) → List ℕ
 lines_text lines = concat (map line_text lines)

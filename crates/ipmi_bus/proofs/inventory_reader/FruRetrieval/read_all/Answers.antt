@@ -2,7 +2,7 @@ use Rattle.std.proofs.Common.{arith}
 use Rattle.std.proofs.lemmas.Result.{err_from_is_err_and}
 use Rattle.ipmi_bus.specs.Prelude.{stays_trans}
 use Rattle.ipmi_bus.proofs.InventoryLemmas.{same_trans}
-use Rattle.ipmi_bus.proofs.inventory.FruRetrieval.read_all.Goals as goal
+use Rattle.ipmi_bus.proofs.inventory_reader.FruRetrieval.read_all.Goals as goal
 
 pub parts-preserved : goal.parts-preserved
 parts-preserved g c = (
@@ -21,4 +21,4 @@ returns-in_err-ask_part-clause-honest g c = λ s since.
 pub returns-in_err-ask_part-clause-ended : goal.returns-in_err-ask_part-clause-ended
 returns-in_err-ask_part-clause-ended g c =
     let out = err_from_is_err_and c.from_residual.result c.from_residual.ensures.1 in
-    rw (out.1, out.2) (record { last = c.parts.self; answered = c.in_err-ask_part.ensures.answered })
+    rw (out.1, out.2) (c.parts.self, c.in_err-ask_part.ensures.answered)

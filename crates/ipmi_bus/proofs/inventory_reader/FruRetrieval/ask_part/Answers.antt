@@ -1,7 +1,7 @@
 use Rattle.std.proofs.Common.{◌≡◌, ℕ, ◌-◌, min, Ok, Err, ap, ◌∙◌}
 use Rattle.ipmi_bus.specs.FruRetrieval.{request_len}
 use Rattle.ipmi_bus.proofs.InventoryLemmas.{part_answers, part_failed}
-use Rattle.ipmi_bus.proofs.inventory.FruRetrieval.ask_part.Goals as goal
+use Rattle.ipmi_bus.proofs.inventory_reader.FruRetrieval.ask_part.Goals as goal
 
 pub returns-in-Ok-clause-answered : goal.returns-in-Ok-clause-answered
 returns-in-Ok-clause-answered g c = record { answer = Ok c.in-Ok.got; filled = c.request.new.self; bytes = c.request.ensures.bytes; takes = c.take_part.ensures.takes }

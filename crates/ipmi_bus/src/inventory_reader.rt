@@ -30,7 +30,7 @@ pub enum FruEnded {
 }
 
 impl From<AllocError> for FruEnded {
-    ghost use Rattle.ipmi_bus.specs.declared.inventory.FruEnded.{FruEnded};
+    ghost use Rattle.ipmi_bus.specs.declared.inventory_reader.FruEnded.{FruEnded};
 
     ghost from_gives = { λ _ e. e ≡ FruEnded.Memory };
 
@@ -56,7 +56,7 @@ struct FruRetrieval {
 }
 
 impl FruRetrieval {
-    ghost use Rattle.ipmi_bus.specs.FruRetrieval.{IsBegun, IsOpenInventory, SameInventory, request_len, TakesInventoryPart, PartFails, IsAnswered, IsEndedBy, FruSince, FruNext, calls_left};
+    ghost use Rattle.ipmi_bus.specs.FruRetrieval.{IsBegun, IsOpenInventory, SameInventory, request_len, TakesInventoryPart, PartFails, IsAnswered, FruSince, FruNext, calls_left};
 
     /// Asks for some of the bytes that are missing, into their place.
     fn request<C: Controller>(&mut self, ctl: &mut C, asked: usize) -> Result<u8, Code>
@@ -141,7 +141,7 @@ impl FruRetrieval {
         requires { IsBegun self.old }
         ensures same { SameInventory self.old self.new }
         ensures whole { OnOk result (self.new.have ≡ length self.new.bytes.items) }
-        ensures ended { IfErr result (λ ended. IsEndedBy self.new ended) }
+        ensures ended { IfErr result (λ ended. (last : FruRetrieval) × IsAnswered last self.new (Err ended)) }
         ensures calls { (C.seen ctl.new).calls + 1 ≤ (C.seen ctl.old).calls + calls_left self.old }
         ensures stays { IsHonest (C.seen ctl.old) → StaysHonest (C.seen ctl.old) (C.seen ctl.new) }
         ensures honest { (s : Seen) → FruSince self.old s (C.seen ctl.old) →

@@ -1,7 +1,7 @@
 use Rattle.std.proofs.Common.{◌+◌, ◌≤◌}
 use Rattle.ipmi_bus.specs.Prelude.{Seen, IsHonest, StaysHonest, SameInventory, FruSince}
 use Rattle.ipmi_bus.specs.FruRetrieval.{calls_left}
-use Rattle.ipmi_bus.proofs.inventory.FruRetrieval.read_all.Given as goal
+use Rattle.ipmi_bus.proofs.inventory_reader.FruRetrieval.read_all.Given as goal
 
 abbrev pub invariant-parts : goal.invariant-parts
 invariant-parts g l =

@@ -1,7 +1,7 @@
 use Rattle.std.proofs.Common.{rules, ◌≡◌, length}
 use Rattle.std.proofs.lemmas.Result.{err_from_is_err_and}
 use Rattle.ipmi_bus.proofs.InventoryLemmas.{since_size, bound_is, inventory_counted, inventory_read}
-use Rattle.ipmi_bus.proofs.inventory.read_fru.Goals as goal
+use Rattle.ipmi_bus.proofs.inventory_reader.read_fru.Goals as goal
 
 pub returns-in_err-read_all-clause-honest : goal.returns-in_err-read_all-clause-honest
 returns-in_err-read_all-clause-honest g c = λ h.
