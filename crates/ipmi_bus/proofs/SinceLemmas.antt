@@ -1,7 +1,11 @@
 -- The reading of a record, call after call.
 use Rattle.std.proofs.Common.{◌≡◌, ℕ, ◌+◌, ◌*◌, ◌≤◌, Option, None, Some, Ok, refl, ap, ◌∙◌, arith, ◌-◌}
-use Rattle.ipmi_bus.specs.Prelude.{AreWithin, digits, step_call_bound, Again, Retrieval, largest_len, Seen, IsHonest, StaysHonest, row_len, SameRequest, CallLeaves, unreserved, begun, HonestSince}
+use Rattle.ipmi_bus.specs.Prelude.{AreWithin, digits, step_call_bound, Again, Retrieval, largest_len, Seen, IsHonest, StaysHonest, SameRequest, CallLeaves, unreserved, begun, HonestSince, len_of, look, rows_of}
 use Rattle.ipmi_bus.specs.Retrieval.{IsOpenRecord, calls_left}
+
+-- how many bytes the row has that is asked for, 0 where there is none
+abbrev row_len : Retrieval → Seen → ℕ
+row_len r seen = len_of (look (rows_of r.shelf seen.store) r.id)
 
 -- what holds after each call but the last
 pub record Since (start now : Retrieval) (s s' : Seen) : Type 0 where

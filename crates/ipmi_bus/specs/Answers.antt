@@ -46,6 +46,16 @@ pub record Asked : Type 0 where
   pub offset : ℕ
   pub len : ℕ
 
+-- as a call has it
+abbrev pub part_asked : Shelf → ℕ → ℕ → ℕ → ℕ → Asked
+part_asked shelf reservation id offset len = record {
+  shelf = shelf;
+  reservation = reservation;
+  id = id;
+  offset = offset;
+  len = len;
+}
+
 -- bytes of these, at least one and no more than asked, from the offset on
 pub record IsPiece (whole : List ℕ) (offset asked got : ℕ) (into : List ℕ) : Type 0 where
   pub some : 0 < got
@@ -63,13 +73,8 @@ pub record GivesPiece (ask : Asked) (part : Part) (into : List ℕ) (old new : S
   pub reserved : 0 < ask.offset → current ask.shelf new ≡ Some ask.reservation
   pub counts : CountsPiece (ask.offset + part.got == length row.bytes) old new
 
--- a plain controller gives what is there, and says CBh of what is not
-pub record PartIsPlain (ask : Asked) (result : Result Part Code) (old : Seen) : Type 0 where
-  pub found : (row : Row) → look (rows_of ask.shelf old.store) ask.id ≡ Some row
-      → ask.offset < length row.bytes
-      → ((0 < ask.offset) → current ask.shelf old ≡ Some ask.reservation) → IsOk result
-  pub absent : look (rows_of ask.shelf old.store) ask.id ≡ None → result ≡ Err not_present
-
+-- a plain controller gives what is there, past the first byte under the current reservation, and says CBh of what is
+-- not
 pub record PartAnswers (ask : Asked) (result : Result Part Code) (into : List ℕ)
     (old new : Seen) : Type 0 where
   pub change : IsChange old new
@@ -78,7 +83,10 @@ pub record PartAnswers (ask : Asked) (result : Result Part Code) (into : List �
       (class_of code.0) code.0 old new)
   pub keeps : MayLoseReservation ask.shelf old new
   pub beside : MayLoseReservation (other ask.shelf) old new
-  pub plain : IsTrue old.plain → PartIsPlain ask result old
+  pub plain : IsTrue old.plain → MatchOption (look (rows_of ask.shelf old.store) ask.id)
+      (result ≡ Err not_present)
+      (λ row. ask.offset < length row.bytes
+      → (0 < ask.offset → current ask.shelf old ≡ Some ask.reservation) → IsOk result)
 
 -- ---- a value: an info, a reading
 
@@ -98,7 +106,8 @@ pub record ValueAnswers {V : Type 0} (value : Store → Option V) (result : Resu
 -- its size, in bytes, and that it is accessed by bytes: an inventory of a store always is; a size of 0 finishes it
 pub record SizeAnswers (id : ℕ) (result : Result FruSize Code) (old new : Seen) : Type 0 where
   pub change : IsChange old new
-  pub gives : MatchResult result (λ size. (bytes : List ℕ) × (inventory_of id new.store ≡ Some bytes)
+  pub gives : MatchResult result
+      (λ size. (bytes : List ℕ) × (inventory_of id new.store ≡ Some bytes)
       × (size.size ≡ length bytes) × (size.words ≡ false)
       × CountsPiece (length bytes == 0) old new)
       (λ code. FailsWith ⊥ (inventory_of id new.store ≡ None) (class_of code.0) code.0 old new)
@@ -111,7 +120,8 @@ pub record SizeAnswers (id : ℕ) (result : Result FruSize Code) (old new : Seen
 pub record BytesAnswers (id offset asked : ℕ) (result : Result ℕ Code) (into : List ℕ)
     (old new : Seen) : Type 0 where
   pub change : IsChange old new
-  pub gives : MatchResult result (λ got. (bytes : List ℕ) × (inventory_of id new.store ≡ Some bytes)
+  pub gives : MatchResult result
+      (λ got. (bytes : List ℕ) × (inventory_of id new.store ≡ Some bytes)
       × IsPiece bytes offset asked got into
       × CountsPiece (offset + got == length bytes) old new)
       (λ code. FailsWith (1 < asked) (inventory_of id new.store ≡ None) (class_of code.0) code.0

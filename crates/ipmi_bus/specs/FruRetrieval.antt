@@ -138,7 +138,3 @@ pub record HasSize (id : ℕ) (size : Size) (s s' : Seen) : Type 0 where
   pub met : HasMet size.troubles s s'
   pub fresh_troubles : 0 < size.bytes → s'.fresh_troubles ≡ s.fresh_troubles + size.troubles
   pub plain : IsTrue s.plain → (size.troubles ≡ 0) × KeepsReservations s s'
-
-abbrev pub SizeNext : ℕ → ℕ → Seen → Seen → Result Size FruEnded → Type 0
-SizeNext id tries s s' (Ok size) = HasSize id size s s'
-SizeNext id tries s s' (Err ended) = FruEnds id tries s s' ended

@@ -26,7 +26,11 @@ pub record IsCursor (p : Progress) : Type 0 where
 -- a step's answer, with the row that was handed out
 abbrev pub handed_result : Progress → Result (Option Handed) Ended → Result (Option Row) Ended
 handed_result p (Ok (Some handed)) =
-    Ok (Some (record { id = handed.id; next = handed.next; bytes = take handed.len p.retrieval.buffer }))
+    Ok (Some (record {
+      id = handed.id;
+      next = handed.next;
+      bytes = take handed.len p.retrieval.buffer;
+    }))
 handed_result p (Ok None) = Ok None
 handed_result p (Err ended) = Err ended
 

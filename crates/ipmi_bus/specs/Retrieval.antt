@@ -56,10 +56,6 @@ pub record KeepsHeld (old new : Retrieval) (s s' : Seen) : Type 0 where
   pub held : new.reservation ≡ old.reservation
   pub none_given : (n : ℕ) → current old.shelf s' ≡ Some n → current old.shelf s ≡ Some n
 
--- how many bytes the row has that is asked for, 0 where there is none
-abbrev pub row_len : Retrieval → Seen → ℕ
-row_len r seen = len_of (look (rows_of r.shelf seen.store) r.id)
-
 -- the retrieval after one more trouble; where that cancelled the reservation, without it and without the bytes so far
 abbrev pub after_trouble : Bool → Retrieval → Retrieval
 after_trouble is_cancelled r =
@@ -109,11 +105,6 @@ PartFails Busy code asked old new result = CountsTrouble false old new result
 PartFails SmallerPart code asked old new result = MakesSmaller asked old new result
 PartFails NotPresent code asked old new result = (result ≡ Ok (Over Absent)) × (new ≡ old)
 PartFails Refusal code asked old new result = IsRefusedBy code old new result
-
--- a request for the bytes after those that are there
-abbrev pub request_of : Retrieval → ℕ → ℕ → Asked
-request_of r reservation len =
-    record { shelf = r.shelf; reservation = reservation; id = r.id; offset = r.have; len = len }
 
 -- with a part taken
 abbrev pub after_part : Part → Retrieval → Retrieval

@@ -1,12 +1,12 @@
 -- What holds since the reading of a record began, and when it ends.
 use Rattle.std.specs.Prelude.{◌≡◌, ℕ, ◌+◌, ◌≤◌, IsTrue, IsSome, None, Result, Ok, Err, MatchResult, length}
 use Rattle.ipmi_bus.specs.Types.{Absent, Again, CallOutcome, Ended, Found, GaveUp, Over, Refused, Retrieval, Whole}
-use Rattle.ipmi_bus.specs.Shelf.{Row, look, largest_len}
+use Rattle.ipmi_bus.specs.Shelf.{Row, look, largest_len, len_of}
 use Rattle.ipmi_bus.specs.Store.{rows_of}
 use Rattle.ipmi_bus.specs.Seen.{Seen, IsHonest, StaysHonest}
 use Rattle.ipmi_bus.specs.Tries.{WithinTries, GivesUp, IsRefusedWith, NotGivenUpOrRefused}
 use Rattle.ipmi_bus.specs.Failures.{HasMet}
-use Rattle.ipmi_bus.specs.Retrieval.{IsOpenRecord, SameRequest, HasRead, IsReading, HoldsCurrent, KeepsHeld, CallIsAnswered, calls_left, row_len, wanted_len, NamesId}
+use Rattle.ipmi_bus.specs.Retrieval.{IsOpenRecord, SameRequest, HasRead, IsReading, HoldsCurrent, KeepsHeld, CallIsAnswered, calls_left, wanted_len, NamesId}
 
 -- a retrieval at the start of a record
 abbrev pub begun : Retrieval → ℕ → Retrieval
@@ -19,12 +19,14 @@ pub record HonestSince (start now : Retrieval) (s s' : Seen) : Type 0 where
   pub met : HasMet now.troubles s s'
   pub fresh_troubles : s'.fresh_troubles ≡ s.fresh_troubles + now.troubles
   pub plain : IsTrue s.plain → HoldsCurrent start s → HoldsCurrent now s'
-  pub within : s'.stores_added ≡ s.stores_added → now.have ≤ row_len start s
+  pub within : s'.stores_added ≡ s.stores_added
+      → now.have ≤ len_of (look (rows_of start.shelf s.store) start.id)
 
 -- a whole row, of the store that the controller has now, or none where that store has none
 abbrev pub ReadAnswers : Retrieval → Retrieval → Seen → Seen → Result Found Ended → Type 0
 ReadAnswers start new s s' (Ok Whole) =
-    WithinTries start.tries s s' × ((row : Row) × HasRead new s' row × (new.have ≡ length row.bytes))
+    WithinTries start.tries s s'
+    × ((row : Row) × HasRead new s' row × (new.have ≡ length row.bytes))
 ReadAnswers start new s s' (Ok Absent) =
     WithinTries start.tries s s' × (look (rows_of start.shelf s'.store) start.id ≡ None)
 ReadAnswers start new s s' (Err (GaveUp n)) = GivesUp start.tries s s'

@@ -94,10 +94,6 @@ AsksAlong c s =
     → AsksNothing c ⊎ (len_of (look (rows_of c.shelf s.store) (asked_at c.place))
     ≡ len_of (first_row (drop k walk)))
 
--- a cursor that asks for a record has handed out fewer than all ids
-abbrev pub HasRoom : CursorState → Type 0
-HasRoom c = AsksNothing c ⊎ (set.len c.ids < 65536)
-
 -- ---- over an honest controller, whatever its store does
 
 -- there is nothing more: the cursor is at the end, or at the start of an empty shelf
@@ -123,27 +119,33 @@ StepAnswers old s s' _ = ⊥
 pub record CursorHoldsCurrent (c : CursorState) (seen : Seen) : Type 0 where
   pub held : (n : ℕ) → c.reservation ≡ Some n → current c.shelf seen ≡ Some n
 
--- over an honest controller; a plain one refuses nothing, and has no troubles
+-- over a plain controller
+pub record StepIsPlain (new : CursorState) (s' : Seen)
+    (result : Result (Option Row) Ended) : Type 0 where
+  pub holds : CursorHoldsCurrent new s'
+  pub fine : NotGivenUpOrRefused result
+
+-- over an honest controller
 pub record StepIsHonest (old new : CursorState) (s s' : Seen)
     (result : Result (Option Row) Ended) : Type 0 where
   pub stays : StaysHonest s s'
   pub answers : StepAnswers old s s' result
-  pub plain : IsTrue s.plain → CursorHoldsCurrent old s
-      → CursorHoldsCurrent new s' × NotGivenUpOrRefused result
+  pub plain : IsTrue s.plain → CursorHoldsCurrent old s → StepIsPlain new s' result
   pub calls : s'.stores_added ≡ s.stores_added
       → AreWithin old.tries (len_of (look (rows_of old.shelf s.store) (asked_at old.place)))
       old.part new.part s s'
 
 -- ---- all of it
 
--- a step, by the cursor and the controller before and after it
+-- a step, by the cursor and the controller before and after it; a cursor that asks for a record has handed out fewer
+-- than all ids
 pub record IsStep (old new : CursorState) (s s' : Seen)
     (result : Result (Option Row) Ended) : Type 0 where
   pub same : KeepsSettings old new
   pub leaves : StepLeaves old new result
   pub calls : AreWithin old.tries (largest_len old.shelf) old.part new.part s s'
   pub no_call : AsksNothing old → s' ≡ s
-  pub room : HasRoom old
+  pub room : AsksNothing old ⊎ (set.len old.ids < 65536)
   pub honest : IsHonest s → StepIsHonest old new s s' result
   pub asks : IsHonest s → AsksAlong old s
   pub walks : IsHonest s → FollowsWalks old new s s' result

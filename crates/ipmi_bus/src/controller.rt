@@ -1,6 +1,6 @@
 //! A management controller as a retrieval asks it, with all that is promised of its answers.
 ghost use Rattle.std.specs.Prelude.{◌≡◌, ◌+◌, ◌<◌, ◌≤◌, IfOk, OnErr, length, drop};
-ghost use Rattle.ipmi_bus.specs.Prelude.{Seen, IsHonest, info_of, reading_of, ReserveAnswers, PartAnswers, ValueAnswers, SizeAnswers, BytesAnswers};
+ghost use Rattle.ipmi_bus.specs.Prelude.{Seen, IsHonest, info_of, reading_of, ReserveAnswers, PartAnswers, ValueAnswers, SizeAnswers, BytesAnswers, part_asked};
 
 use crate::code::Code;
 use ipmi_text::Reading;
@@ -81,15 +81,8 @@ pub trait Controller {
         ensures rest { IfOk result (λ part. drop part.got into.new ≡ drop part.got into.old) }
         ensures err { OnErr result (into.new ≡ into.old) }
         ensures honest { IsHonest (seen self.old) →
-            PartAnswers (record {
-              shelf = shelf;
-              reservation = reservation;
-              id = id;
-              offset =
-                  offset;
-              len = length into.old;
-            })
-            result into.new (seen self.old) (seen self.new) };
+            PartAnswers (part_asked shelf reservation id offset (length into.old)) result into.new
+            (seen self.old) (seen self.new) };
 
     /// Get SDR Repository Info or Get SEL Info (IPMI v2.0, sections 33.9 and 31.2): the 14 bytes after the
     /// completion code.

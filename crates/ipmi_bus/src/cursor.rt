@@ -1,9 +1,9 @@
 //! Hands out the records of a shelf, one a step, along their next ids.
-ghost use Rattle.std.specs.Prelude.{◌≡◌, ◌<◌, ◌≤◌, Ok, Err, Some, None, IfOk, IfSome, List, length};
+ghost use Rattle.std.specs.Prelude.{◌≡◌, ◌<◌, ◌≤◌, Ok, Err, Some, None, IfOk, IfSome, List, length, ◌⊎◌};
 ghost use Rattle.std.specs.FinSet as set;
 ghost use Rattle.std.specs.Option.{ForSome};
 ghost use Rattle.std.specs.Borrow.{sem};
-ghost use Rattle.ipmi_bus.specs.Prelude.{End, IsHonest, StaysHonest, Row, whole_len, largest_len, place_after, AreWithin, KeepsSettings, StepLeaves, StepIsHonest, StepAnswers, AsksNothing, HasRoom, StandsAt, IsStep, start_of, state_of, IsCursor, handed_result, handed_id, IsNext, KeepsReservation};
+ghost use Rattle.ipmi_bus.specs.Prelude.{End, IsHonest, StaysHonest, Row, whole_len, largest_len, place_after, AreWithin, KeepsSettings, StepLeaves, StepIsHonest, StepAnswers, AsksNothing, StandsAt, IsStep, start_of, state_of, IsCursor, handed_result, handed_id, IsNext, KeepsReservation};
 
 use crate::controller::{Controller, FIRST_RECORD_ID, LARGEST_SDR_LEN, NO_NEXT_ID, Shelf};
 use crate::id_table::IdTable;
@@ -112,7 +112,7 @@ impl Progress {
         ensures calls { AreWithin self.old.retrieval.tries (largest_len self.old.retrieval.shelf)
             self.old.retrieval.part self.new.retrieval.part (C.seen ctl.old) (C.seen ctl.new) }
         ensures no_call { AsksNothing (state_of self.old) → C.seen ctl.new ≡ C.seen ctl.old }
-        ensures room { HasRoom (state_of self.old) }
+        ensures room { AsksNothing (state_of self.old) ⊎ (set.len self.old.ids < 65536) }
         ensures honest { IsHonest (C.seen ctl.old) →
             StepIsHonest (state_of self.old) (state_of self.new) (C.seen ctl.old) (C.seen ctl.new)
             (handed_result self.new result) }

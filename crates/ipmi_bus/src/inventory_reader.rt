@@ -1,6 +1,6 @@
 //! Reads a FRU inventory in parts.
-ghost use Rattle.std.specs.Prelude.{◌≡◌, ◌+◌, ◌<◌, ◌≤◌, Ok, Err, IfOk, OnErr, OnOk, IfErr, length, take, slice_range, vec_len};
-ghost use Rattle.ipmi_bus.specs.Prelude.{Seen, IsHonest, StaysHonest, BytesAnswers, ReadsInventory, as_inventory, class_of, SizeFails, TakesSize, IsSizeAnswered, SizeNext, fru_call_bound};
+ghost use Rattle.std.specs.Prelude.{◌≡◌, ◌+◌, ◌<◌, ◌≤◌, Ok, Err, IfOk, OnErr, OnOk, IfErr, length, take, slice_range, vec_len, MatchResult};
+ghost use Rattle.ipmi_bus.specs.Prelude.{Seen, IsHonest, StaysHonest, BytesAnswers, ReadsInventory, as_inventory, class_of, SizeFails, TakesSize, IsSizeAnswered, fru_call_bound, HasSize, FruEnds};
 
 use crate::calls::{Failure, after_failure, asked_len, smaller_part};
 use crate::code::Code;
@@ -141,7 +141,8 @@ impl FruRetrieval {
         requires { IsBegun self.old }
         ensures same { SameInventory self.old self.new }
         ensures whole { OnOk result (self.new.have ≡ length self.new.bytes.items) }
-        ensures ended { IfErr result (λ ended. (last : FruRetrieval) × IsAnswered last self.new (Err ended)) }
+        ensures ended { IfErr result
+            (λ ended. (last : FruRetrieval) × IsAnswered last self.new (Err ended)) }
         ensures calls { (C.seen ctl.new).calls + 1 ≤ (C.seen ctl.old).calls + calls_left self.old }
         ensures stays { IsHonest (C.seen ctl.old) → StaysHonest (C.seen ctl.old) (C.seen ctl.new) }
         ensures honest { (s : Seen) → FruSince self.old s (C.seen ctl.old) →
@@ -190,8 +191,9 @@ fn read_size<C: Controller>(ctl: &mut C, id: u8, tries: u8) -> Result<Size, FruE
         ((C.seen ctl.new).calls ≡ (C.seen ctl.old).calls + size.troubles + 1)) }
     ensures err { OnErr result ((C.seen ctl.new).calls ≤ (C.seen ctl.old).calls + tries + 1) }
     ensures answered { IsSizeAnswered tries result }
-    ensures honest { IsHonest (C.seen ctl.old) → SizeNext id tries (C.seen ctl.old) (C.seen ctl.new)
-        result }
+    ensures honest { IsHonest (C.seen ctl.old) → MatchResult result
+        (λ size. HasSize id size (C.seen ctl.old) (C.seen ctl.new))
+        (λ ended. FruEnds id tries (C.seen ctl.old) (C.seen ctl.new) ended) }
 {
     let mut troubles = 0;
     'asking: loop {

@@ -1,6 +1,6 @@
 //! Reads one record in parts (IPMI v2.0, section 33.12): of a sensor data record the header first, then the rest.
 ghost use Rattle.std.specs.Prelude.{◌≡◌, ◌+◌, ◌<◌, ◌≤◌, None, Some, Ok, OnOk, OnErr, IfOk, IsOk, length, take, slice_range};
-ghost use Rattle.ipmi_bus.specs.Prelude.{Retrieval, Seen, IsHonest, StaysHonest, PartAnswers, class_of, largest_len, AreWithin};
+ghost use Rattle.ipmi_bus.specs.Prelude.{Retrieval, Seen, IsHonest, StaysHonest, PartAnswers, class_of, largest_len, AreWithin, part_asked, len_of, look, rows_of};
 
 use crate::calls::{Failure, after_failure, asked_len, smaller_part};
 use crate::code::Code;
@@ -47,7 +47,7 @@ pub(crate) struct Retrieval {
 }
 
 impl Retrieval {
-    ghost use Rattle.ipmi_bus.specs.Retrieval.{IsOpenRecord, SameRequest, row_len, wanted_len, request_len, ReserveFails, IsReserveAnswered, PartFails, TakesRecordPart, IsAnswered, CallIsAnswered, request_of, CallLeaves};
+    ghost use Rattle.ipmi_bus.specs.Retrieval.{IsOpenRecord, SameRequest, wanted_len, request_len, ReserveFails, IsReserveAnswered, PartFails, TakesRecordPart, IsAnswered, CallIsAnswered, CallLeaves};
     ghost use Rattle.ipmi_bus.specs.Since.{begun, HonestSince, IsEnded, ReadIsHonest, ReadLeaves, ReadNext};
 
     /// How many bytes are asked for in all, as far as the bytes that are there tell.
@@ -146,7 +146,8 @@ impl Retrieval {
         ensures front { take self.old.have self.new.buffer ≡ take self.old.have self.old.buffer }
         ensures err { OnErr result (self.new ≡ self.old) }
         ensures honest { IsHonest (C.seen ctl.old) →
-            PartAnswers (request_of self.old reservation asked) result
+            PartAnswers (part_asked self.old.shelf reservation self.old.id self.old.have asked)
+            result
             (slice_range self.new.buffer self.old.have (self.old.have + asked))
             (C.seen ctl.old) (C.seen ctl.new) }
     {
@@ -236,7 +237,8 @@ impl Retrieval {
             self.new.part (C.seen ctl.old) (C.seen ctl.new) }
         ensures row_calls { IsHonest (C.seen ctl.old) →
             (C.seen ctl.new).stores_added ≡ (C.seen ctl.old).stores_added →
-            AreWithin self.old.tries (row_len (begun self.old id) (C.seen ctl.old)) self.old.part
+            AreWithin self.old.tries
+            (len_of (look (rows_of self.old.shelf (C.seen ctl.old).store) id)) self.old.part
             self.new.part (C.seen ctl.old) (C.seen ctl.new) }
         ensures leaves { ReadLeaves id self.new result }
         ensures ended { IsEnded self.new result }

@@ -11,7 +11,7 @@ use Rattle.byteorder.specs.Numbers.{length-bytes_high_first, big_number-reads_ba
 use Rattle.hex.specs.Hex.{IsBytes, encode_lower, encode_with, decode_pairs, lower_digits}
 use Rattle.hex.proofs.HexLemmas.{decode_of-encode_lower, length-encode_with}
 use Rattle.ipmi_image.specs.Below.{Shelf, Sdr, Sel, AreBytes, Row, whole_len, IsRow, SensorReading, IsInfo, IsSensorReading}
-use Rattle.ipmi_image.specs.Prelude.{pieces, SavedRow, a_row, an_inventory, a_reading, an_info, is_some_text, bytes_in, number_in, digit_in, next_in, is_dash, row_line, LineFault, line_of_fields, line_of, hex_of, next_field, row_fields, part_fields, reading_fields}
+use Rattle.ipmi_image.specs.Prelude.{pieces, SavedRow, a_row, an_inventory, a_reading, an_info, is_some_text, bytes_in, number_in, next_in, is_dash, row_line, LineFault, line_of_fields, line_of, hex_of, next_field, row_fields, part_fields, reading_fields}
 use Rattle.ipmi_image.proofs.RewriteLemmas.{of_lun, drop_hex_of_lun}
 use Rattle.ipmi_image.proofs.TextLemmas.{Lacks, pieces-one, pieces-more}
 
@@ -142,9 +142,9 @@ AreBytes-bytes_of_reading sensor ok =
     let r = sensor.reading in
     cons r.raw (r.flags ∷ r.status ∷ r.more ∷ []) ok.raw (cons r.flags (r.status ∷ r.more ∷ []) ok.flags (cons r.status (r.more ∷ []) ok.status (cons r.more [] ok.more (All-nil (λ (b : ℕ). b < 256)))))
 
-digit_in-lun : (lun : ℕ) → lun ≤ 3 → digit_in (drop 1 (hex_of 1 lun)) ≡ Some lun
+number_in-lun : (lun : ℕ) → lun ≤ 3 → number_in 1 (48 ∷ drop 1 (hex_of 1 lun)) ≡ Some lun
 unfolding decode_pairs encode_with
-digit_in-lun = of_lun (λ lun. digit_in (drop 1 (hex_of 1 lun)) ≡ Some lun) refl refl refl refl
+number_in-lun = of_lun (λ lun. number_in 1 (48 ∷ drop 1 (hex_of 1 lun)) ≡ Some lun) refl refl refl refl
 
 pub line_of_fields-reading_fields : (sensor : SensorReading) → sensor.lun ≤ 3
     → IsSensorReading sensor → line_of_fields true (reading_fields sensor)
@@ -152,7 +152,7 @@ pub line_of_fields-reading_fields : (sensor : SensorReading) → sensor.lun ≤ 
 line_of_fields-reading_fields sensor le ok =
     let bytes = bytes_of_reading sensor in
     let len : length (drop 1 (hex_of 1 sensor.lun)) ≡ 1 = ap length (drop_hex_of_lun sensor.lun le) in
-    rw (digit_in-lun sensor.lun le, number_in-hex_of 1 sensor.number ok.number, bytes_in-encode_lower bytes (AreBytes-bytes_of_reading sensor ok), len, length-hex_of 1 sensor.number, is_some_text-encode_lower bytes (omega arith)) refl
+    rw (number_in-lun sensor.lun le, number_in-hex_of 1 sensor.number ok.number, bytes_in-encode_lower bytes (AreBytes-bytes_of_reading sensor ok), len, length-hex_of 1 sensor.number, is_some_text-encode_lower bytes (omega arith)) refl
 
 pub line_of_fields-info : (shelf : Shelf) (bytes : List ℕ) → IsInfo bytes
     → line_of_fields true (codes "info" ∷ word_of shelf ∷ encode_lower bytes ∷ [])

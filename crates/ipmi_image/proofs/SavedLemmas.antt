@@ -7,7 +7,7 @@ use Rattle.std.proofs.lemmas.List.Sums.{fold-append}
 use Rattle.hex.specs.Hex.{decode_of}
 use Rattle.hex.proofs.HexLemmas.{decode_of-ok}
 use Rattle.ipmi_image.specs.Below.{Shelf, Sdr, Sel, Store, Inventory, SensorReading, inventory_in}
-use Rattle.ipmi_image.specs.Prelude.{LineFault, ImageFault, pieces, Line, an_inventory, a_reading, is_some_text, with_two, with_three, row_line, inventory_line, reading_line, info_line, end_line, line_of_fields, line_of, with_inventory_line, sensor_on, store_of_lines, fault_in, line_judged, is_end, ends_here, store_after, dashes_in, store_of_pieces, store_of_image, StoredSensor, sensor_of, IsSaved}
+use Rattle.ipmi_image.specs.Prelude.{LineFault, ImageFault, pieces, Line, an_inventory, a_reading, is_some_text, with_two, with_three, row_line, inventory_line, reading_line, info_line, line_of_fields, line_of, with_inventory_line, sensor_on, store_of_lines, fault_in, line_judged, is_end, ends_here, store_after, dashes_in, store_of_pieces, store_of_image, StoredSensor, sensor_of, IsSaved, the_end}
 use Rattle.ipmi_image.proofs.ReadLemmas.{after_line}
 use Rattle.ipmi_image.proofs.StoreLemmas.{reading_fine, with_bytes_all}
 
@@ -61,7 +61,7 @@ module _ (dashes : Bool) (id : ℕ) (bytes : List ℕ) where
           (cond b (with_three (row_line dashes Sel) fields)
           (cond c (with_two inventory_line fields)
           (cond d (with_three reading_line fields)
-          (cond e (with_two info_line fields) (cond f (end_line fields) (Err LineFault.Line))))))
+          (cond e (with_two info_line fields) (cond f (elim fields [ [] ↦ Ok the_end | field ∷ more ↦ Err LineFault.Line ]) (Err LineFault.Line))))))
           ≡ Ok (an_inventory id bytes) → 0 < length bytes
       by true b c d e f h = with_three_has_bytes (row_line dashes Sdr) (row_line_has_bytes Sdr) fields h
       by false true c d e f h = with_three_has_bytes (row_line dashes Sel) (row_line_has_bytes Sel) fields h

@@ -62,7 +62,7 @@ is_empty_chained (row ∷ rows) = grind (arith, nat_tests)
 
 -- a row before these
 abbrev pub row_before : List SavedRow → SavedRow → Row
-row_before following row = record { id = row.id; next = unwrap_or row.next (first_id following); bytes = row.bytes }
+row_before following row = record { id = row.id; next = unwrap_or row.next (first_id id_of following); bytes = row.bytes }
 
 -- the row at a place, with the next id that it has there
 abbrev pub row_at : List SavedRow → ℕ → Option Row

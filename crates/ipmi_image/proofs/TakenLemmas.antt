@@ -7,7 +7,7 @@ use Rattle.std.proofs.lemmas.List.Sums.{fold-append}
 use Rattle.byteorder.specs.Endian.{big_bytes}
 use Rattle.hex.specs.Hex.{encode_lower}
 use Rattle.ipmi_image.specs.Below.{Shelf, Sdr, Sel, Row, AllRows, LacksId, DistinctIds, first_row, id_in, IsShelf, Store, Inventory, SensorReading, has_id}
-use Rattle.ipmi_image.specs.Prelude.{pieces, SavedRow, Line, a_row, line_of_fields, row_on, first_id, chained, with_inventory_line, sensor_on, info_on, first_of, is_no_record, is_no_id, begins_with_another, row_fault, fault_in, line_judged, is_end, store_after, hex_of, first_row_id, next_field, rows_lines, lines_text}
+use Rattle.ipmi_image.specs.Prelude.{pieces, SavedRow, Line, a_row, line_of_fields, row_on, first_id, chained, with_inventory_line, sensor_on, info_on, first_of, is_no_record, is_no_id, begins_with_another, row_fault, fault_in, line_judged, is_end, store_after, hex_of, next_field, rows_lines, lines_text, id_of}
 use Rattle.ipmi_image.proofs.TextLemmas.{pieces-more}
 use Rattle.ipmi_image.proofs.ReadLemmas.{store_after_line, line_judged-found}
 use Rattle.ipmi_image.proofs.ParseLemmas.{IsField, AreFields, a_word, a_hex, pieces-join_with_byte, line_of-fields, AreBytes-big_bytes, word_of, saved_row, line_of_fields-row_fields}
@@ -68,11 +68,15 @@ line_gives store kept first fields line rest are says more fine give = λ before
 
 -- ---- rows
 
+-- the id of the first of these rows, FFFFh where there is none
+abbrev pub first_row_id : List Row → ℕ
+first_row_id rows = first_id (λ (row : Row). row.id) rows
+
 abbrev pub saved_rows : List Row → List SavedRow
 saved_rows [] = []
 saved_rows (row ∷ rows) = saved_row (first_row_id rows) row ∷ saved_rows rows
 
-first_id-saved_rows : (rows : List Row) → first_id (saved_rows rows) ≡ first_row_id rows
+first_id-saved_rows : (rows : List Row) → first_id id_of (saved_rows rows) ≡ first_row_id rows
 first_id-saved_rows [] = refl
 first_id-saved_rows (row ∷ rows) = refl
 

@@ -1,7 +1,7 @@
 -- The words of the crates below that this crate cites, passed on from one place. Declares nothing.
 pub use Rattle.ipmi_text.specs.Bytes.{AreBytes}
 pub use Rattle.ipmi_text.specs.declared.reading.Reading.{Reading}
-pub use Rattle.ipmi_bus.specs.Answers.{Asked, BytesAnswers, CountsPiece, FailsWith, IsPiece, not_present, other, PartAnswers, ReserveAnswers, SizeAnswers, ValueAnswers}
+pub use Rattle.ipmi_bus.specs.Answers.{Asked, BytesAnswers, CountsPiece, FailsWith, IsPiece, not_present, other, PartAnswers, ReserveAnswers, SizeAnswers, ValueAnswers, part_asked}
 pub use Rattle.ipmi_bus.specs.Code.{class_of}
 pub use Rattle.ipmi_bus.specs.Lent.{row_of_record}
 pub use Rattle.ipmi_bus.specs.Seen.{current, IsChange, IsFinished, IsHonest, IsPlain, IsQuiet, MayLoseReservation, Seen}

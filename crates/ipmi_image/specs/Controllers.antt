@@ -33,7 +33,8 @@ abbrev pub TurnCounts : Turn → Seen → Seen → Type 0
 TurnCounts (Turn.Answers most) old new = (0 < most) × (new.calls ≡ old.calls)
 TurnCounts (Turn.Failed code) old new = new.calls ≡ old.calls + 1
 
--- what a mood makes of a call for so many bytes: the answer is still to come, with so many bytes at most, or it has failed
+-- what a mood makes of a call for so many bytes: the answer is still to come, of so many bytes at most, or it has
+-- failed
 abbrev pub TurnGives : ℕ → Turn → Seen → Seen → Type 0
 TurnGives asked (Turn.Answers most) old new = IsQuiet old new
 TurnGives asked (Turn.Failed code) old new =

@@ -4,7 +4,7 @@ use Rattle.ipmi_image.specs.Below.{Reading, first_row, Shelf, Sdr, Sel, Row, who
 use Rattle.ipmi_image.specs.declared.line.LineFault.{LineFault}
 use Rattle.ipmi_image.specs.declared.image.ImageFault.{ImageFault}
 use Rattle.ipmi_image.specs.Text.{pieces}
-use Rattle.ipmi_image.specs.Line.{SavedRow, Line, a_row, an_inventory, a_reading, an_info, the_end, line_of}
+use Rattle.ipmi_image.specs.Line.{SavedRow, Line, a_row, an_inventory, a_reading, an_info, the_end, line_of, id_of}
 
 -- ---- the store of some lines
 
@@ -15,15 +15,15 @@ row_on Sel (a_row Sel row) = Some row
 row_on shelf line = None
 
 -- the first row's id, FFFFh where there is no row
-abbrev pub first_id : List SavedRow → ℕ
-first_id [] = 65535
-first_id (row ∷ rows) = row.id
+abbrev pub first_id : {R : Type 0} → (R → ℕ) → List R → ℕ
+first_id id [] = 65535
+first_id id (row ∷ rows) = id row
 
 -- each row with its next id: where its line has none it is the following row's, FFFFh for the last row
 abbrev pub chained : List SavedRow → List Row
 chained [] = []
 chained (row ∷ rows) =
-    record { id = row.id; next = unwrap_or row.next (first_id rows); bytes = row.bytes }
+    record { id = row.id; next = unwrap_or row.next (first_id id_of rows); bytes = row.bytes }
     ∷ chained rows
 
 -- the inventories, with bytes put after those of the one with this id, or as a new one after all
@@ -137,7 +137,8 @@ fault_in store the_end = None
 abbrev pub line_judged : Bool → List Line → List ℕ → Result Line LineFault
 line_judged dashes before text =
     elim (line_of dashes text) [
-      | Ok line ↦ elim (fault_in (store_of_lines before) line) [ None ↦ Ok line | Some fault ↦ Err fault ]
+      | Ok line ↦
+          elim (fault_in (store_of_lines before) line) [ None ↦ Ok line | Some fault ↦ Err fault ]
       | Err fault ↦ Err fault
     ]
 

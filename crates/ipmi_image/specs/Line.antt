@@ -13,6 +13,10 @@ pub record SavedRow : Type 0 where
   pub next : Option ℕ
   pub bytes : List ℕ
 
+-- what a row is found by
+abbrev pub id_of : SavedRow → ℕ
+id_of row = row.id
+
 -- what a line says
 pub data Line : Type 0 where
   a_row : Shelf → SavedRow → Line
@@ -34,10 +38,6 @@ bytes_in hex = result_ok (decode_of hex)
 -- the number that two hex digits for each of n bytes are, the highest first
 abbrev pub number_in : ℕ → List ℕ → Option ℕ
 number_in n hex = option_map (big_number n) (bytes_in hex)
-
--- the number that one hex digit is, as the low one of two
-abbrev pub digit_in : List ℕ → Option ℕ
-digit_in digit = number_in 1 (48 ∷ digit)
 
 abbrev pub is_dash : List ℕ → Bool
 is_dash field = bytes_eq field (codes "-")
@@ -84,13 +84,13 @@ inventory_line id hex =
     (number_in 1 id)) LineFault.Hex
     else Err LineFault.Line
 
--- `reading LUN NUM HEX8`
+-- `reading LUN NUM HEX8`; LUN is one digit, the low one of two
 abbrev pub reading_line : List ℕ → List ℕ → List ℕ → Result Line LineFault
 reading_line lun number hex =
     if (length lun == 1) && ((length number == 2) && is_some_text hex)
     then ok_or (option_and_then
     (λ l. option_and_then (λ n. option_map (λ b. a_reading l n b) (bytes_in hex))
-    (number_in 1 number)) (digit_in lun)) LineFault.Hex
+    (number_in 1 number)) (number_in 1 (48 ∷ lun))) LineFault.Hex
     else Err LineFault.Line
 
 -- `info sdr HEX28` and `info sel HEX28`
@@ -104,11 +104,6 @@ info_line word hex =
       | None ↦ Err LineFault.Line
     ]
 
--- `end`
-abbrev pub end_line : List (List ℕ) → Result Line LineFault
-end_line [] = Ok the_end
-end_line (field ∷ fields) = Err LineFault.Line
-
 abbrev pub line_of_fields : Bool → List (List ℕ) → Result Line LineFault
 line_of_fields dashes [] = Err LineFault.Line
 line_of_fields dashes (word ∷ fields) =
@@ -117,7 +112,8 @@ line_of_fields dashes (word ∷ fields) =
     else if bytes_eq word (codes "fru") then with_two inventory_line fields
     else if bytes_eq word (codes "reading") then with_three reading_line fields
     else if bytes_eq word (codes "info") then with_two info_line fields
-    else if bytes_eq word (codes "end") then end_line fields
+    else if bytes_eq word (codes "end")
+    then elim fields [ [] ↦ Ok the_end | field ∷ more ↦ Err LineFault.Line ]
     else Err LineFault.Line
 
 -- single spaces separate the fields

@@ -2,9 +2,8 @@
 use Rattle.std.specs.Prelude.{◌≡◌, ℕ, ◌+◌, ◌-◌, ◌≤◌, ◌==◌, nat_lt, nat_le, min, if◌then◌else◌, Bool, true, false, ◌&&◌, not, Option, None, Some, Result, Ok, Err, List, [], ◌∷◌, length, drop}
 use Rattle.ipmi_image.specs.Below.{Code, FruSize, Part, Shelf, Sdr, Sel, Row, Seen, Asked, IsPiece, not_present}
 use Rattle.ipmi_image.specs.declared.responder.Responder.{Responder}
-use Rattle.ipmi_image.specs.Line.{SavedRow}
+use Rattle.ipmi_image.specs.Line.{SavedRow, id_of}
 use Rattle.ipmi_image.specs.Table.{place_of}
-use Rattle.ipmi_image.specs.Rows.{id_of}
 
 -- the place of the record that the id asks for: 0000h asks for the first
 abbrev pub place_asked : ℕ → List SavedRow → Option ℕ
@@ -41,16 +40,6 @@ is_stale offset reservation (Some last) = nat_lt 0 offset && not (last == reserv
 
 -- ---- parts: CBh for what is not there comes before C5h for a stale reservation, and that before
 -- C9h for an offset at or past the end
-
--- a request for so many bytes, as a call has it
-abbrev pub part_asked : Shelf → ℕ → ℕ → ℕ → ℕ → Asked
-part_asked shelf reservation id offset len = record {
-  shelf = shelf;
-  reservation = reservation;
-  id = id;
-  offset = offset;
-  len = len;
-}
 
 abbrev pub cancelled : Code
 cancelled = record { 0 = 0xC5 }

@@ -1,7 +1,7 @@
 //! What an image answers to a controller's calls.
 ghost use Rattle.std.specs.Prelude.{◌≡◌, ◌+◌, ◌<◌, ◌≤◌, ◌≢◌, true, false, MatchBool, IfOk, OnErr, Ok, ok_or, Some, None, length, drop, option_map, unwrap_or};
-ghost use Rattle.ipmi_image.specs.Below.{look, current, not_present, row_of_record, class_of, IsStore, rows_of, info_of, reading_of, inventory_of, IsHonest, FailsWith, ReserveAnswers, PartAnswers, ValueAnswers, SizeAnswers, BytesAnswers};
-ghost use Rattle.ipmi_image.specs.Prelude.{chained, first_id, seen_as, place_asked, IsCopied, number_after, with_reservation, out_of_range, part_asked, part_answer, fru_answer, size_answer};
+ghost use Rattle.ipmi_image.specs.Below.{look, current, not_present, row_of_record, class_of, IsStore, rows_of, info_of, reading_of, inventory_of, IsHonest, FailsWith, ReserveAnswers, PartAnswers, ValueAnswers, SizeAnswers, BytesAnswers, part_asked};
+ghost use Rattle.ipmi_image.specs.Prelude.{chained, first_id, seen_as, place_asked, IsCopied, number_after, with_reservation, out_of_range, part_answer, fru_answer, size_answer, id_of};
 
 use crate::image::Image;
 use crate::rows::Rows;
@@ -27,7 +27,7 @@ fn place_of(rows: &Rows, near: usize, id: u16) -> Option<usize>
 /// The next id of the record at the place: the following record's where it has none.
 fn next_of(rows: &Rows, place: usize, next: Option<u16>) -> u16
     requires { place < 65535 }
-    ensures { result ≡ unwrap_or next (first_id (drop (place + 1) rows.now)) }
+    ensures { result ≡ unwrap_or next (first_id id_of (drop (place + 1) rows.now)) }
 {
     next.unwrap_or_else(|| rows.id_at(place + 1))
 }

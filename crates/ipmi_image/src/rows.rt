@@ -103,7 +103,7 @@ impl Rows {
     /// The id of the record at the place, FFFFh where there is none.
     #[tactic(auto, using(crate::proofs::RowsLemmas::first_id_at, std::proofs::lemmas::Option::slice_get_cases))]
     pub(crate) fn id_at(&self, place: usize) -> u16
-        ensures { result ≡ first_id (drop place self.now) }
+        ensures { result ≡ first_id id_of (drop place self.now) }
     {
         let head = self.heads.as_slice().get(place);
         head.map_or(NO_NEXT_ID, |head| head.id)

@@ -1,7 +1,7 @@
 //! A management controller that follows a script.
 ghost use Rattle.std.specs.Prelude.{◌≡◌, ◌+◌, ◌<◌, ◌≤◌, false, IfOk, OnErr, Ok, ok_or, None, length, drop};
-ghost use Rattle.ipmi_image.specs.Below.{look, not_present, rows_of, info_of, reading_of, inventory_of, IsHonest, current, ReserveAnswers, PartAnswers, ValueAnswers, SizeAnswers, BytesAnswers};
-ghost use Rattle.ipmi_image.specs.Prelude.{seen_as, number_after, part_asked, part_answer, fru_answer, size_answer, script_seen, script_last_number, moods_left, seen_after_mood, script_answer, StaysAfterMood, ReservesAfterMood, TurnCounts, Turns, mood_turn, after_mood, next_mood};
+ghost use Rattle.ipmi_image.specs.Below.{look, not_present, rows_of, info_of, reading_of, inventory_of, IsHonest, current, ReserveAnswers, PartAnswers, ValueAnswers, SizeAnswers, BytesAnswers, part_asked};
+ghost use Rattle.ipmi_image.specs.Prelude.{seen_as, number_after, part_answer, fru_answer, size_answer, script_seen, script_last_number, moods_left, seen_after_mood, script_answer, StaysAfterMood, ReservesAfterMood, TurnCounts, Turns, mood_turn, after_mood, next_mood};
 
 use crate::image::Image;
 use crate::responder::Responder;

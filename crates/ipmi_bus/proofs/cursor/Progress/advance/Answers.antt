@@ -28,7 +28,7 @@ returns-in-Ok-Whole-clause-honest g c = λ h.
       calls = λ same. rw (← asks.id, out.retrieval) (c.in-Ok-Whole.ensures.row_calls h same);
       plain = λ p holds.
           let after = read.plain p (record { held = holds.held }) in
-          (record { held = rw out.retrieval after.0.held }, tt);
+          record { holds = record { held = rw out.retrieval after.0.held }; fine = tt };
     }
 
 pub returns-else-eq-clause-leaves : goal.returns-else-eq-clause-leaves

@@ -15,10 +15,7 @@ returns-then-not-is_reserved-clause-answers c = λ h.
       gives = search rules;
       keeps = search rules;
       beside = search rules;
-      plain = λ p. record {
-        found = λ r e lt reserved. absurd (other.1 (current-same c.args.shelf _ (seen_as true c.args.self.now) refl refl ∙ reserved other.0));
-        absent = λ e. absurd (none-some _ (sym e ∙ found));
-      };
+      plain = λ p. rw found (λ lt reserved. absurd (other.1 (current-same c.args.shelf _ (seen_as true c.args.self.now) refl refl ∙ reserved other.0)));
     }
 
 pub returns-then-from-row-clause-answers : goal.returns-then-from-row-clause-answers
@@ -39,7 +36,7 @@ returns-then-from-row-clause-answers c = λ h.
       );
       keeps = search rules;
       beside = search rules;
-      plain = λ p. record { found = λ r e lt reserved. refl; absent = λ e. absurd (none-some _ (sym e ∙ found)) };
+      plain = λ p. rw found (λ lt reserved. refl);
     }
 
 pub returns-else-from-row-clause-answers : goal.returns-else-from-row-clause-answers
@@ -60,5 +57,5 @@ returns-else-from-row-clause-answers c = λ h.
       );
       keeps = search rules;
       beside = search rules;
-      plain = λ p. record { found = λ r e lt reserved. refl; absent = λ e. absurd (none-some _ (sym e ∙ found)) };
+      plain = λ p. rw found (λ lt reserved. refl);
     }
