@@ -1,5 +1,5 @@
 -- Items found by their keys.
-use Rattle.std.proofs.Common.{◌≡◌, ℕ, zero, suc, ◌<◌, ◌≤◌, Bool, true, false, cond, nat_eq, ◌&&◌, Option, None, Some, IfSome, List, [], ◌∷◌, ◌++◌, length, drop, get_or, set, map, refl, sym, ap, subst, ◌∙◌, option_map, arith, option_and_then, is_some, slice_get, All, MatchBool, is_eq, nat_cmp, not, unwrap_or}
+use Rattle.std.proofs.Common.{◌≡◌, ℕ, zero, suc, ◌<◌, ◌≤◌, Bool, true, false, cond, nat_eq, ◌&&◌, Option, None, Some, IfSome, List, [], ◌∷◌, ◌++◌, length, drop, get_or, set, map, refl, sym, ap, subst, ◌∙◌, option_map, arith, option_and_then, is_some, slice_get, All, MatchBool, is_eq, nat_cmp, not, unwrap_or, true≢false}
 use Rattle.std.specs.Option.{option_or}
 use Rattle.std.specs.List.{list_any, IsDistinct}
 use Rattle.std.proofs.lemmas.Option.{none-some}
@@ -158,11 +158,9 @@ index_push key items item old new index lt absent puts = record {
   below = λ q place is. grind (arith, nat_tests, index.below q place, place_of_snoc key q items item);
 }
 
--- what was put, where none had its key
-pub was_put : {P : Type 0} (Q : Type 0) (is_new : Bool) (o : Option ℕ)
-    → MatchBool is_new ((o ≡ None) × P) ((is_some o ≡ true) × Q) → o ≡ None → P
-was_put Q true o m none = m.1
-was_put Q false o m none = let there = m.0 in cc
+-- what is not there is not found
+pub not_found : {o : Option ℕ} → o ≡ None → is_some o ≡ true → ⊥
+not_found none found = true≢false (sym found ∙ ap is_some none)
 
 -- an item in another's place, with its key, is found where that was
 place_of_set : {T : Type 0} (key : T → ℕ) (q : ℕ) (items : List T) (place : ℕ) (item d : T)

@@ -7,7 +7,7 @@ use Rattle.std.proofs.lemmas.List.Sums.{fold-append}
 use Rattle.byteorder.specs.Endian.{big_bytes}
 use Rattle.hex.specs.Hex.{encode_lower}
 use Rattle.ipmi_image.specs.Below.{Shelf, Sdr, Sel, Row, AllRows, LacksId, DistinctIds, first_row, id_in, IsShelf, Store, Inventory, SensorReading, has_id}
-use Rattle.ipmi_image.specs.Prelude.{pieces, SavedRow, Line, a_row, line_of_fields, row_on, first_id, chained, with_inventory_line, sensor_on, info_on, first_of, is_no_record, is_no_id, begins_with_another, row_fault, fault_in, line_judged, is_end, store_after, hex_of, next_field, rows_lines, lines_text, id_of}
+use Rattle.ipmi_image.specs.Prelude.{pieces, SavedRow, Line, a_row, line_of_fields, row_on, first_id, chained, with_inventory_line, sensor_on, info_on, first_of, is_no_record, is_no_id, begins_with_another, row_fault, fault_in, line_judged, is_end, store_after, hex_of, next_field, rows_lines, lines_text, id_of, Version}
 use Rattle.ipmi_image.proofs.TextLemmas.{pieces-more}
 use Rattle.ipmi_image.proofs.ReadLemmas.{store_after_line, line_judged-found}
 use Rattle.ipmi_image.proofs.ParseLemmas.{IsField, AreFields, a_word, a_hex, pieces-join_with_byte, line_of-fields, AreBytes-big_bytes, word_of, saved_row, line_of_fields-row_fields}
@@ -53,17 +53,17 @@ kept_with-one lines line = simp (filter_map-append, fold-append)
 
 -- after lines of which this is kept, lines of these fields give the store
 abbrev pub Gives : Store → Kept → List (List (List ℕ)) → Type 0
-Gives store kept lines = (before : List Line) → kept_with nothing before ≡ kept → store_after true before (pieces 10 (lines_text lines)) ≡ Ok store
+Gives store kept lines = (before : List Line) → kept_with nothing before ≡ kept → store_after Version.Two before (pieces 10 (lines_text lines)) ≡ Ok store
 
 pub line_gives : (store : Store) (kept : Kept) (first : List ℕ) (fields : List (List ℕ))
     (line : Line) (rest : List (List (List ℕ))) → AreFields (first ∷ fields)
-    → line_of_fields true (first ∷ fields) ≡ Ok line
+    → line_of_fields Version.Two (first ∷ fields) ≡ Ok line
     → is_end line ≡ false → fault_in (store_kept kept) line ≡ None
     → Gives store (kept_with kept (line ∷ [])) rest → Gives store kept ((first ∷ fields) ∷ rest)
 line_gives store kept first fields line rest are says more fine give = λ before is.
     let text = join_with_byte 32 (first ∷ fields) in
-    let found : line_judged true before text ≡ Ok line = line_judged-found true before text line None (line_of-fields first fields are ∙ says) (ap (λ (k : Kept). fault_in (store_kept k) line) is ∙ fine) in
-    rw (append_assoc text (10 ∷ []) (lines_text rest), pieces-more 10 text (lines_text rest) (pieces-join_with_byte first fields are).0, store_after_line true before text (lines_text rest), found, more)
+    let found : line_judged Version.Two before text ≡ Ok line = line_judged-found Version.Two before text line None (line_of-fields first fields are ∙ says) (ap (λ (k : Kept). fault_in (store_kept k) line) is ∙ fine) in
+    rw (append_assoc text (10 ∷ []) (lines_text rest), pieces-more 10 text (lines_text rest) (pieces-join_with_byte first fields are).0, store_after_line Version.Two before text (lines_text rest), found, more)
     (give (before ++ line ∷ []) (kept_with-one before line ∙ ap (λ (k : Kept). kept_with k (line ∷ [])) is))
 
 -- ---- rows

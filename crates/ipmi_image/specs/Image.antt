@@ -1,8 +1,9 @@
 -- The text of an image: its lines, the first fault among them, and the store that they make.
 use Rattle.std.specs.Prelude.{ℕ, ◌+◌, ◌==◌, nat_lt, not, ◌&&◌, ◌||◌, Bool, true, false, if◌then◌else◌, is_some, Option, Some, None, unwrap_or, Result, Ok, Err, List, [], ◌∷◌, ◌++◌, length, slice_index, filter_map, fold, codes, bytes_eq}
 use Rattle.ipmi_image.specs.Below.{Reading, first_row, Shelf, Sdr, Sel, Row, whole_len, largest_len, id_in, Store, Inventory, SensorReading, rows_of, info_of, inventory_of, reading_of, has_id}
-use Rattle.ipmi_image.specs.declared.line.LineFault.{LineFault}
+use Rattle.ipmi_image.specs.declared.image_line.LineFault.{LineFault}
 use Rattle.ipmi_image.specs.declared.image.ImageFault.{ImageFault}
+use Rattle.ipmi_image.specs.declared.version.Version.{Version}
 use Rattle.ipmi_image.specs.Text.{pieces}
 use Rattle.ipmi_image.specs.Line.{SavedRow, Line, a_row, an_inventory, a_reading, an_info, the_end, line_of, id_of}
 
@@ -134,9 +135,9 @@ fault_in store (an_info shelf bytes) = info_fault (info_of shelf store) bytes
 fault_in store the_end = None
 
 -- what the line says after these lines
-abbrev pub line_judged : Bool → List Line → List ℕ → Result Line LineFault
-line_judged dashes before text =
-    elim (line_of dashes text) [
+abbrev pub line_judged : Version → List Line → List ℕ → Result Line LineFault
+line_judged version before text =
+    elim (line_of version text) [
       | Ok line ↦
           elim (fault_in (store_of_lines before) line) [ None ↦ Ok line | Some fault ↦ Err fault ]
       | Err fault ↦ Err fault
@@ -166,28 +167,28 @@ ends_here more = false
 
 -- the store of the lines before and of these up to `end`, the last one; of the pieces of a text the last is no whole
 -- line
-unfoldable pub store_after : Bool → List Line → List (List ℕ) → Result Store ImageFault
-store_after dashes before (text ∷ (following ∷ rest)) =
-    elim (line_judged dashes before text) [
+unfoldable pub store_after : Version → List Line → List (List ℕ) → Result Store ImageFault
+store_after version before (text ∷ (following ∷ rest)) =
+    elim (line_judged version before text) [
       | Ok line ↦
-          if not (is_end line) then store_after dashes (before ++ line ∷ []) (following ∷ rest)
+          if not (is_end line) then store_after version (before ++ line ∷ []) (following ∷ rest)
           else if ends_here (following ∷ rest) then Ok (store_of_lines before)
           else Err (ImageFault.AfterEnd (length before + 3))
       | Err fault ↦ Err (at_line (length before + 2) fault)
     ]
-store_after dashes before rest = Err ImageFault.NoEnd
+store_after version before rest = Err ImageFault.NoEnd
 
--- the first line says the version, and whether it takes dashes
-abbrev pub dashes_in : List ℕ → Option Bool
-dashes_in first =
-    if bytes_eq first (codes "ipmi-image 1") then Some false
-    else if bytes_eq first (codes "ipmi-image 2") then Some true
+-- the first line says the version
+abbrev pub version_in : List ℕ → Option Version
+version_in first =
+    if bytes_eq first (codes "ipmi-image 1") then Some Version.One
+    else if bytes_eq first (codes "ipmi-image 2") then Some Version.Two
     else None
 
 abbrev pub store_of_pieces : List (List ℕ) → Result Store ImageFault
 store_of_pieces (first ∷ (following ∷ rest)) =
-    elim (dashes_in first) [
-      | Some dashes ↦ store_after dashes [] (following ∷ rest)
+    elim (version_in first) [
+      | Some version ↦ store_after version [] (following ∷ rest)
       | None ↦ Err ImageFault.Header
     ]
 store_of_pieces rest = Err ImageFault.Header

@@ -4,7 +4,8 @@ use Rattle.std.specs.Result.{result_ok}
 use Rattle.byteorder.specs.Endian.{big_number}
 use Rattle.hex.specs.Hex.{decode_of}
 use Rattle.ipmi_image.specs.Below.{Shelf, Sdr, Sel}
-use Rattle.ipmi_image.specs.declared.line.LineFault.{LineFault}
+use Rattle.ipmi_image.specs.declared.image_line.LineFault.{LineFault}
+use Rattle.ipmi_image.specs.declared.version.Version.{Version}
 use Rattle.ipmi_image.specs.Text.{pieces}
 
 -- a row as its line has it: no next id stands for the id of the following row, or for FFFFh where none follows
@@ -66,10 +67,15 @@ abbrev pub with_three : (List ℕ → List ℕ → List ℕ → Result Line Line
 with_three line (first ∷ second ∷ third ∷ []) = line first second third
 with_three line fields = Err LineFault.Line
 
+-- a dash may stand for a next id
+abbrev pub takes_dashes : Version → Bool
+takes_dashes Version.One = false
+takes_dashes Version.Two = true
+
 -- `sdr ID NEXT HEX` and `sel ID NEXT HEX`; NEXT may be a dash where dashes are taken
-abbrev pub row_line : Bool → Shelf → List ℕ → List ℕ → List ℕ → Result Line LineFault
-row_line dashes shelf id next hex =
-    if (length id == 4) && (((length next == 4) || (dashes && is_dash next)) && is_some_text hex)
+abbrev pub row_line : Version → Shelf → List ℕ → List ℕ → List ℕ → Result Line LineFault
+row_line version shelf id next hex =
+    if (length id == 4) && (((length next == 4) || (takes_dashes version && is_dash next)) && is_some_text hex)
     then ok_or (option_and_then
     (λ i. option_and_then
     (λ n. option_map (λ b. a_row shelf (record { id = i; next = n; bytes = b })) (bytes_in hex))
@@ -104,11 +110,11 @@ info_line word hex =
       | None ↦ Err LineFault.Line
     ]
 
-abbrev pub line_of_fields : Bool → List (List ℕ) → Result Line LineFault
-line_of_fields dashes [] = Err LineFault.Line
-line_of_fields dashes (word ∷ fields) =
-    if bytes_eq word (codes "sdr") then with_three (row_line dashes Sdr) fields
-    else if bytes_eq word (codes "sel") then with_three (row_line dashes Sel) fields
+abbrev pub line_of_fields : Version → List (List ℕ) → Result Line LineFault
+line_of_fields version [] = Err LineFault.Line
+line_of_fields version (word ∷ fields) =
+    if bytes_eq word (codes "sdr") then with_three (row_line version Sdr) fields
+    else if bytes_eq word (codes "sel") then with_three (row_line version Sel) fields
     else if bytes_eq word (codes "fru") then with_two inventory_line fields
     else if bytes_eq word (codes "reading") then with_three reading_line fields
     else if bytes_eq word (codes "info") then with_two info_line fields
@@ -117,5 +123,5 @@ line_of_fields dashes (word ∷ fields) =
     else Err LineFault.Line
 
 -- single spaces separate the fields
-unfoldable pub line_of : Bool → List ℕ → Result Line LineFault
-line_of dashes text = line_of_fields dashes (pieces 32 text)
+unfoldable pub line_of : Version → List ℕ → Result Line LineFault
+line_of version text = line_of_fields version (pieces 32 text)

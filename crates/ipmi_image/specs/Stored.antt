@@ -2,8 +2,8 @@
 use Rattle.std.specs.Prelude.{ℕ, ◌≡◌, ◌≢◌, ◌⊎◌, ◌++◌, ◌∷◌, [], Option, Some, None, Result, Ok, Err, MatchResult, List, map, filter_map, fold, All, AllPairs}
 use Rattle.ipmi_image.specs.Below.{Sdr, Sel, Store, Inventory, SensorReading, IsInventory, IsSensorReading, OtherSensor}
 use Rattle.ipmi_image.specs.declared.contents.Contents.{Contents}
-use Rattle.ipmi_image.specs.declared.line.Line.{Line as ReadLine}
-use Rattle.ipmi_image.specs.declared.line.LineFault.{LineFault}
+use Rattle.ipmi_image.specs.declared.image_line.Line.{Line as ReadLine}
+use Rattle.ipmi_image.specs.declared.image_line.LineFault.{LineFault}
 use Rattle.ipmi_image.specs.declared.stored.StoredSensor.{StoredSensor}
 use Rattle.ipmi_image.specs.Table.{kept_inventory}
 use Rattle.ipmi_image.specs.Line.{Line, a_row, an_inventory, a_reading, an_info, the_end}

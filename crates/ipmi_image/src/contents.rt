@@ -4,9 +4,10 @@ ghost use Rattle.ipmi_image.specs.Below.{IsShelf, IsStore, IsInfo, inventory_in,
 ghost use Rattle.ipmi_image.specs.Line as lines;
 ghost use Rattle.ipmi_image.specs.Prelude.{chained, fault_in, store_of_lines, is_no_record, is_no_id, begins_with_another, first_fault, row_fault, inventory_fault, reading_fault, info_fault, reading_of_bytes, with_bytes, kept_inventory, row_of, sensor_of, said, store_of, AreInventories, AreReadings, HoldsLines, Puts};
 
-use crate::line::{Line, LineFault};
+use crate::image_line::{Line, LineFault};
 use crate::rows::{Rows, StoredRow};
-use crate::stored::{StoredInventory, StoredSensor, Table, sensor_key};
+use crate::stored::{StoredInventory, StoredSensor, sensor_key};
+use crate::table::Table;
 use ipmi_bus::{
     FIRST_RECORD_ID, INFO_LEN, LARGEST_INVENTORY_LEN, LARGEST_SDR_LEN, LAST_FRU_DEVICE_ID,
     NO_NEXT_ID, SEL_ENTRY_LEN, Shelf, record_id,
@@ -101,11 +102,8 @@ fn put_row(
             fault
         });
     }
-    if rows.push(&row)? {
-        Ok(())
-    } else {
-        Err(LineFault::Twice)
-    }
+    rows.push(&row)?;
+    Ok(())
 }
 
 /// How many bytes the inventory has so far.

@@ -2,7 +2,7 @@
 ghost use Rattle.std.specs.Prelude.{◌≡◌, ◌⊎◌, [], ◌∷◌, ◌<◌, MatchOption, MatchResult, IfSome, Some, None, length};
 ghost use Rattle.ipmi_image.specs.Prelude.{pieces, bytes_in, number_in};
 
-use crate::line::LineFault;
+use crate::image_line::LineFault;
 use byteorder::{BigEndian, ByteOrder};
 use hex::FromHex;
 use memchr::memchr;

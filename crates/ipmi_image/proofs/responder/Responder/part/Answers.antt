@@ -1,5 +1,4 @@
 use Rattle.std.proofs.Common.{rules, ◌≡◌, ◌+◌, nat_eq, true, false, sym, ◌∙◌, arith, Some, length, refl}
-use Rattle.std.proofs.lemmas.Option.{none-some}
 use Rattle.std.proofs.lemmas.Bool.Decides.{nat_tests}
 use Rattle.ipmi_image.specs.Below.{look, row_of_record, rows_of}
 use Rattle.ipmi_image.specs.Prelude.{seen_as}

@@ -1,9 +1,10 @@
-//! What one line of an image says.
-ghost use Rattle.ipmi_image.specs.declared.line.LineFault.{LineFault};
+//! What one line of an image says, and how it is read.
+ghost use Rattle.ipmi_image.specs.declared.image_line.LineFault.{LineFault};
 ghost use Rattle.std.specs.Prelude.{◌≡◌, ℕ, List, ◌==◌, ◌&&◌, ◌||◌, [], ◌∷◌, MatchOption, IsTrue, Some, None, Ok, Err, ok_or, length};
 ghost use Rattle.ipmi_image.specs.Prelude.{pieces, is_dash, next_in, shelf_in, with_two, with_three, row_line, inventory_line, reading_line, info_line, line_of, is_end, said, IsRead};
 
 use crate::text::{cut, read_bytes, read_digit, read_u8, read_u16};
+use crate::version::Version;
 use ipmi_bus::Shelf;
 use std::alloc::AllocError;
 
@@ -109,14 +110,14 @@ fn parse_shelf(word: &[u8]) -> Option<Shelf>
 /// Reads `ID NEXT HEX` after the name of a shelf.
 fn parse_row(
     bytes: &mut Vec<u8>,
-    dashes: bool,
+    version: Version,
     shelf: Shelf,
     fields: &[u8],
 ) -> Result<Line, LineFault>
-    ensures { IsRead (with_three (row_line dashes shelf) (pieces 32 fields.now)) bytes.new.items result }
+    ensures { IsRead (with_three (row_line version shelf) (pieces 32 fields.now)) bytes.new.items result }
 {
     let (id, next, hex) = three(fields).ok_or(LineFault::Line)?;
-    let is_next = next.len() == 4 || (dashes && matches!(next, b"-"));
+    let is_next = next.len() == 4 || (version.takes_dashes() && matches!(next, b"-"));
     if id.len() != 4 || !is_next || hex.is_empty() {
         return Err(LineFault::Line);
     }
@@ -168,8 +169,12 @@ fn parse_info(bytes: &mut Vec<u8>, fields: &[u8]) -> Result<Line, LineFault>
 
 /// Reads a line without its line feed, and the bytes that it has; in version 2 a row's NEXT may be a dash.
 #[tactic(auto, using(crate::proofs::TextLemmas::length_pieces), unfolding(crate::specs::Line::line_of))]
-pub(crate) fn read_line(bytes: &mut Vec<u8>, dashes: bool, line: &[u8]) -> Result<Line, LineFault>
-    ensures { IsRead (line_of dashes line.now) bytes.new.items result }
+pub(crate) fn read_line(
+    bytes: &mut Vec<u8>,
+    version: Version,
+    line: &[u8],
+) -> Result<Line, LineFault>
+    ensures { IsRead (line_of version line.now) bytes.new.items result }
 {
     let Some((word, fields)) = cut(line, b' ') else {
         if matches!(line, b"end") {
@@ -179,9 +184,9 @@ pub(crate) fn read_line(bytes: &mut Vec<u8>, dashes: bool, line: &[u8]) -> Resul
     };
     // a match on these words has 18 default arms, each with a goal of its own
     if word == b"sdr".as_slice() {
-        parse_row(bytes, dashes, Shelf::Sdr, fields)
+        parse_row(bytes, version, Shelf::Sdr, fields)
     } else if word == b"sel".as_slice() {
-        parse_row(bytes, dashes, Shelf::Sel, fields)
+        parse_row(bytes, version, Shelf::Sel, fields)
     } else if word == b"fru".as_slice() {
         parse_inventory(bytes, fields)
     } else if word == b"reading".as_slice() {

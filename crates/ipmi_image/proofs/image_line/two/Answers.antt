@@ -1,7 +1,7 @@
 use Rattle.std.proofs.Common.{◌∷◌, ap, ◌∙◌}
 use Rattle.ipmi_image.specs.Prelude.{with_two}
 use Rattle.ipmi_image.proofs.LineLemmas.{with_two_more}
-use Rattle.ipmi_image.proofs.line.two.Goals as goal
+use Rattle.ipmi_image.proofs.image_line.two.Goals as goal
 
 pub returns-in-Some : goal.returns-in-Some
 returns-in-Some c = λ line.

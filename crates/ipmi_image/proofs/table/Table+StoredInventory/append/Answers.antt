@@ -2,7 +2,7 @@ use Rattle.std.proofs.Common.{◌≡◌, ap, sym, ◌∙◌, ◌++◌, List, ℕ
 use Rattle.ipmi_image.specs.Below.{Inventory}
 use Rattle.ipmi_image.specs.Prelude.{kept_inventory, StoredInventory, place_of}
 use Rattle.ipmi_image.proofs.TableLemmas.{index_set, with_bytes_set}
-use Rattle.ipmi_image.proofs.stored.Table+StoredInventory.append.Goals as goal
+use Rattle.ipmi_image.proofs.table.Table+StoredInventory.append.Goals as goal
 
 pub invariant_of-self : goal.invariant_of-self
 invariant_of-self c =
