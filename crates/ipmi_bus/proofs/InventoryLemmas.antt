@@ -3,7 +3,7 @@ use Rattle.std.proofs.Common.{◌≡◌, ℕ, ◌+◌, ◌<◌, ◌≤◌, Bool,
 use Rattle.std.specs.declared.alloc.Global.{Global}
 use Rattle.std.proofs.lemmas.Bool.Decides.{nat_tests}
 use Rattle.std.proofs.Math.Seq.{take-length}
-use Rattle.ipmi_bus.specs.Prelude.{Code, CodeClass, SmallerPart, NotPresent, Refusal, FruEnded, Size, FruRetrieval, inventory_of, class_of, Seen, IsQuiet, IsTroubled, IsFinished, IsRefused, StaysHonest, stays_trans, HasMet, CountsPiece, FailsWith, BytesAnswers, SameInventory, FruSince, FruEnds, FruNext, HasSize, InventoryCounts, InventoryIs, inventory_len, WithinTries, IsRefusedWith, digits, fru_call_bound}
+use Rattle.ipmi_bus.specs.Prelude.{Code, CodeClass, SmallerPart, NotPresent, Refusal, FruEnded, Size, FruRetrieval, inventory_of, class_of, Seen, IsQuiet, IsTroubled, IsFinished, IsRefused, StaysHonest, stays_trans, HasMet, CountsPiece, FailsWith, BytesAnswers, SameInventory, FruSince, FruEnds, FruNext, HasSize, InventoryCounts, InventoryIs, inventory_len, WithinTries, IsRefusedWith, digits, fru_call_bound, digits_most}
 use Rattle.ipmi_bus.specs.FruRetrieval.{IsOpenInventory, CountsTrouble, MakesSmaller, PartFails, TakesInventoryPart, HasRead, calls_left}
 use Rattle.ipmi_bus.proofs.PartLemmas.{take-with_piece, calm_piece, smaller_some}
 
@@ -189,10 +189,6 @@ pub same_trans : (a b c : FruRetrieval) → SameInventory a b → SameInventory 
 same_trans a b c p q = record { id = q.id ∙ p.id; tries = q.tries ∙ p.tries; size = q.size ∙ p.size; some = q.some; fits = q.fits; have = q.have; troubles = q.troubles }
 
 -- ---- the whole reading
-
--- a part size has at most eight digits
-pub digits_most : (n : ℕ) → digits n ≤ 8
-digits_most n = grind (arith, nat_tests)
 
 -- the size was told, and no byte is there
 module _ (id part tries : ℕ) (size : Size) (bytes : Vec ℕ Global) (s s' : Seen)

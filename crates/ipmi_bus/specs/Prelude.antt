@@ -1,6 +1,6 @@
 -- The words of this crate that its code and proofs cite, passed on from one place. Declares nothing.
 pub use Rattle.ipmi_bus.specs.Answers.{BytesAnswers, CountsPiece, FailsWith, GivesPiece, PartAnswers, ReserveAnswers, SizeAnswers, ValueAnswers, Asked, part_asked, not_present}
-pub use Rattle.ipmi_bus.specs.Bounds.{AreWithin, digits, fru_call_bound, step_call_bound}
+pub use Rattle.ipmi_bus.specs.Bounds.{AreWithin, digits, fru_call_bound, step_call_bound, digits_most}
 pub use Rattle.ipmi_bus.specs.Calls.{FailureIs, smaller_part}
 pub use Rattle.ipmi_bus.specs.Code.{class_of}
 pub use Rattle.ipmi_bus.specs.CursorState.{CursorState, start_of}
@@ -11,7 +11,7 @@ pub use Rattle.ipmi_bus.specs.Handed.{handed_result, IsAsked, IsCursor, IsNext, 
 pub use Rattle.ipmi_bus.specs.IdTable.{has_id_bit}
 unfoldable pub use Rattle.ipmi_bus.specs.IdTable.{ids_below, ids_in}
 pub use Rattle.ipmi_bus.specs.Readers.{as_inventory, EndsUnder, inventory_len, InventoryCounts, InventoryIs, KeepsReservations, ReadsInventory, ReadsValue}
-pub use Rattle.ipmi_bus.specs.Retrieval.{after_part, after_trouble, CallLeaves, HoldsCurrent, IsReading, IsRefusedBy, KeepsHeld, ReserveFails, SameRequest, unreserved, wanted_len}
+pub use Rattle.ipmi_bus.specs.Retrieval.{after_part, after_trouble, CallLeaves, HoldsCurrent, IsReading, KeepsHeld, ReserveFails, SameRequest, unreserved, wanted_len}
 pub use Rattle.ipmi_bus.specs.Seen.{current, IsFinished, IsHonest, IsQuiet, IsRefused, IsTroubled, KeepsStore, MayLoseReservation, Seen, stays_trans, StaysHonest}
 pub use Rattle.ipmi_bus.specs.Shelf.{AllRows, DistinctIds, first_row, FoundIsRow, id_in, IsRow, IsShelf, LacksId, largest_len, len_of, look, Row, row_with_id, whole_len}
 pub use Rattle.ipmi_bus.specs.Since.{begun, HonestSince, ReadIsHonest, ReadNext}

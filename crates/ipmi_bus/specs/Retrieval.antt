@@ -72,16 +72,12 @@ CountsTrouble is_cancelled old new result = MatchResult result
     (λ turn. (turn ≡ Again) × (new ≡ after_trouble is_cancelled old) × (old.troubles < old.tries))
     (λ ended. (ended ≡ GaveUp old.id) × (new ≡ old) × (old.troubles ≡ old.tries))
 
--- refused with this code
-abbrev pub IsRefusedBy : Code → Retrieval → Retrieval → Result CallOutcome Ended → Type 0
-IsRefusedBy code old new result = (result ≡ Err (Refused old.id code)) × (new ≡ old)
-
 -- a failing call for a reservation, by the class of its code: CBh and a smaller part are refusals
 abbrev pub ReserveFails : CodeClass → Code → Retrieval → Retrieval → Result CallOutcome Ended
     → Type 0
 ReserveFails Cancelled code old new result = CountsTrouble false old new result
 ReserveFails Busy code old new result = CountsTrouble false old new result
-ReserveFails _ code old new result = IsRefusedBy code old new result
+ReserveFails _ code old new result = (result ≡ Err (Refused old.id code)) × (new ≡ old)
 
 -- one call for a reservation was answered
 abbrev pub IsReserveAnswered : Retrieval → Retrieval → Result CallOutcome Ended → Type 0
@@ -104,7 +100,8 @@ PartFails Cancelled code asked old new result = CountsTrouble true old new resul
 PartFails Busy code asked old new result = CountsTrouble false old new result
 PartFails SmallerPart code asked old new result = MakesSmaller asked old new result
 PartFails NotPresent code asked old new result = (result ≡ Ok (Over Absent)) × (new ≡ old)
-PartFails Refusal code asked old new result = IsRefusedBy code old new result
+PartFails Refusal code asked old new result =
+    (result ≡ Err (Refused old.id code)) × (new ≡ old)
 
 -- with a part taken
 abbrev pub after_part : Part → Retrieval → Retrieval

@@ -70,7 +70,7 @@ impl Progress {
         ensures next_fits { result.next < 65536 }
         ensures len { result.len ≡ self.old.retrieval.have }
         ensures retrieval { self.new.retrieval ≡ self.old.retrieval }
-        ensures room { length self.new.retrieval.buffer ≡ 256 }
+        ensures buffer_len { length self.new.retrieval.buffer ≡ 256 }
     {
         let id = match self.place {
             Place::First => record_id(&self.retrieval.buffer),
@@ -112,7 +112,7 @@ impl Progress {
         ensures calls { AreWithin self.old.retrieval.tries (largest_len self.old.retrieval.shelf)
             self.old.retrieval.part self.new.retrieval.part (C.seen ctl.old) (C.seen ctl.new) }
         ensures no_call { AsksNothing (state_of self.old) → C.seen ctl.new ≡ C.seen ctl.old }
-        ensures room { AsksNothing (state_of self.old) ⊎ (set.len self.old.ids < 65536) }
+        ensures ids_not_full { AsksNothing (state_of self.old) ⊎ (set.len self.old.ids < 65536) }
         ensures honest { IsHonest (C.seen ctl.old) →
             StepIsHonest (state_of self.old) (state_of self.new) (C.seen ctl.old) (C.seen ctl.new)
             (handed_result self.new result) }

@@ -7,7 +7,7 @@ use Rattle.ipmi_image.specs.declared.responder.Responder.{Responder}
 use Rattle.ipmi_image.specs.declared.scripted.Mood.{Mood}
 use Rattle.ipmi_image.specs.declared.scripted.Scripted.{Scripted}
 use Rattle.ipmi_image.specs.declared.scripted.Turn.{Turn}
-use Rattle.ipmi_image.specs.Responder.{cancelled, with_reservation, seen_as}
+use Rattle.ipmi_image.specs.Responder.{with_reservation, seen_as}
 
 -- a controller over an image is honest, and plain
 abbrev pub seen_of : ImageController → Seen
@@ -56,7 +56,7 @@ is_refusal code = elim (class_of code) [ Refusal ↦ not (code == 0) | _ ↦ fal
 -- what a mood makes of a call for so many bytes
 abbrev pub mood_turn : ℕ → Mood → Turn
 mood_turn asked (Mood.Grant most) = Turn.Answers (max most 1)
-mood_turn asked Mood.Cancel = Turn.Failed cancelled
+mood_turn asked Mood.Cancel = Turn.Failed (record { 0 = 0xC5 })
 mood_turn asked Mood.Busy = Turn.Failed (record { 0 = 0xC0 })
 mood_turn asked Mood.TooLong =
     if nat_lt 1 asked then Turn.Failed (record { 0 = 0xCA }) else Turn.Answers 254

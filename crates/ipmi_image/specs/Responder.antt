@@ -41,9 +41,6 @@ is_stale offset reservation (Some last) = nat_lt 0 offset && not (last == reserv
 -- ---- parts: CBh for what is not there comes before C5h for a stale reservation, and that before
 -- C9h for an offset at or past the end
 
-abbrev pub cancelled : Code
-cancelled = record { 0 = 0xC5 }
-
 abbrev pub out_of_range : Code
 out_of_range = record { 0 = 0xC9 }
 
@@ -52,7 +49,7 @@ out_of_range = record { 0 = 0xC9 }
 abbrev pub part_answer : Asked → ℕ → Option ℕ → Option Row → Result Part Code
 part_answer ask most last None = Err not_present
 part_answer ask most last (Some row) =
-    if is_stale ask.offset ask.reservation last then Err cancelled
+    if is_stale ask.offset ask.reservation last then Err (record { 0 = 0xC5 })
     else if nat_le (length row.bytes) ask.offset then Err out_of_range
     else Ok (record { next = row.next; got = len_given ask.len most ask.offset (length row.bytes) })
 

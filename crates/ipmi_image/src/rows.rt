@@ -81,8 +81,8 @@ impl Rows {
         self.heads.as_slice().len()
     }
 
-    /// The room that lines of these take in an image, at most: 15 characters beside the bytes of each.
-    pub(crate) fn line_room(&self) -> usize
+    /// The bytes that lines of these take in an image, at most: 15 beside the hex of each.
+    pub(crate) fn line_bytes(&self) -> usize
         ensures few { result ≤ 2 ^ 26 }
     {
         self.len() * 15 + self.bytes.len() * 2
