@@ -1,6 +1,6 @@
 -- What the answers of an honest controller leave of a record that is being read.
 use Rattle.std.proofs.Common.{◌≡◌, ℕ, ◌+◌, ◌<◌, Bool, true, false, Option, None, Some, Result, Ok, Err, refl, sym, ap, ◌∙◌, arith, ◌≤◌, IsTrue, IsSome}
-use Rattle.ipmi_bus.specs.Prelude.{Code, CodeClass, Cancelled, Busy, Refusal, Refused, Shelf, Ended, CallOutcome, Retrieval, Row, Store, look, rows_of, class_of, FailsWith, ReserveAnswers, Seen, stays_trans, KeepsStore, MayLoseReservation, IsTroubled, IsRefused, current, StaysHonest, SameRequest, IsReading, HoldsCurrent, HasMet, KeepsHeld, HonestSince, ReadIsHonest, ReadNext, WithinTries, after_trouble, IsRefusedBy, ReserveFails}
+use Rattle.ipmi_bus.specs.Prelude.{Code, CodeClass, Cancelled, Busy, Refusal, Refused, Shelf, Ended, CallOutcome, Retrieval, Row, Store, look, rows_of, class_of, FailsWith, ReserveAnswers, Seen, stays_trans, KeepsStore, MayLoseReservation, IsTroubled, IsRefused, current, StaysHonest, SameRequest, IsReading, HoldsCurrent, HasMet, KeepsHeld, HonestSince, ReadIsHonest, ReadNext, WithinTries, after_trouble, ReserveFails}
 use Rattle.ipmi_bus.specs.Retrieval.{IsOpenRecord, HasRead, CountsTrouble}
 
 -- where a reservation is current, it was so before, and the store is the same
@@ -82,7 +82,7 @@ module _ (start old : Retrieval) (s s' s'' : Seen) (same : SameRequest start old
   -- a call that an honest controller refused
   pub refusal_answers : (new : Retrieval) (code : Code) (result : Result CallOutcome Ended)
       → IsOpenRecord old → MayLoseReservation old.shelf s' s'' → IsRefused code.0 s' s''
-      → IsRefusedBy code old new result
+      → (result ≡ Err (Refused old.id code)) × (new ≡ old)
       → (IsTrue s.plain → HoldsCurrent start s → ⊥) → ReadNext start new s s'' result
   refusal_answers new code result open_ keeps refused does not_plain =
       let base : ReadIsHonest start old s s'' (Err (Refused old.id code)) = record {

@@ -1,15 +1,24 @@
 -- The record that a cursor hands out is the row that it asked for.
-use Rattle.std.proofs.Common.{◌≡◌, ℕ, ◌+◌, ◌*◌, ◌<◌, ◌≤◌, false, nat_eq, None, Some, List, length, take, get_or, refl, sym, ◌∙◌, arith, nat_cmp, take_all, get_or-take, length-take}
+use Rattle.std.proofs.Common.{◌≡◌, ℕ, ◌+◌, ◌*◌, ◌<◌, ◌≤◌, false, nat_eq, None, Some, IfSome, List, length, take, get_or, refl, sym, ◌∙◌, arith, nat_cmp, take_all, get_or-take, length-take}
 use Rattle.std.specs.FinSet as set
 use Rattle.std.specs.FinSet.{contains-empty, len-empty}
 use Rattle.std.proofs.lemmas.Bool.Decides.{nat_tests}
-use Rattle.ipmi_bus.specs.Prelude.{Shelf, Place, First, Id, End, Retrieval, Handed, Progress, Row, IsShelf, BeginsWithId, whole_len, largest_len, look, first_row, place_after, rows_of, store_shelf, Seen, IsHonest, wanted_len, handed_row, handed_id, whole_row, IsAsked, cycle_at, HandsOut, HasIdAsked, CursorState}
+use Rattle.ipmi_bus.specs.Prelude.{Shelf, Place, First, Id, End, Retrieval, Handed, Progress, Row, IsShelf, id_in, whole_len, largest_len, look, first_row, place_after, rows_of, store_shelf, Seen, IsHonest, wanted_len, handed_id, IsAsked, cycle_at, asked_at, HandsOut, CursorState}
 use Rattle.ipmi_bus.specs.Retrieval.{HasRead}
 use Rattle.ipmi_bus.proofs.PartLemmas.{get_or-read}
 use Rattle.ipmi_bus.proofs.WalkLemmas.{id-row_at}
 
+-- the row that is whole in the buffer, where this id was asked for
+abbrev pub whole_row : Place → ℕ → Retrieval → Row
+whole_row place asked r = record { id = handed_id place asked r.buffer; next = r.next; bytes = take r.have r.buffer }
+
+-- the row that was handed out
+abbrev handed_row : Progress → Handed → Row
+handed_row p handed = record { id = handed.id; next = handed.next; bytes = take handed.len p.retrieval.buffer }
+
 -- the id that is handed out is the row's
-begins : (rows : List Row) (row : Row) → BeginsWithId rows → first_row rows ≡ Some row
+begins : (rows : List Row) (row : Row) → IfSome (first_row rows) (λ r. id_in r.bytes ≡ r.id)
+    → first_row rows ≡ Some row
     → get_or row.bytes 0 0 + 256 * get_or row.bytes 1 0 ≡ row.id
 begins rows row ok found = grind arith
 
@@ -55,7 +64,7 @@ contains-handed_id place ids asked buffer first asks = grind (arith, nat_tests, 
 
 -- the row that is handed out has the id that was asked for
 has_id_asked : (place : Place) (ids : set.FinSet nat_cmp) (asked : ℕ) (r : Retrieval) → 5 ≤ r.have
-    → IsAsked place ids asked → HasIdAsked place (whole_row place asked r)
+    → IsAsked place ids asked → (whole_row place asked r).id ≡ handed_id place (asked_at place) (whole_row place asked r).bytes
 has_id_asked place ids asked r some asks = grind (arith, get_or-take)
 
 -- and is as long as its bytes say

@@ -3,7 +3,7 @@ use Rattle.std.proofs.Common.{◌≡◌, ℕ, ◌+◌, ◌<◌, ◌≤◌, Bool,
 use Rattle.std.specs.declared.alloc.Global.{Global}
 use Rattle.std.proofs.lemmas.Bool.Decides.{nat_tests}
 use Rattle.std.proofs.Math.Seq.{take-length}
-use Rattle.ipmi_bus.specs.Prelude.{Code, CodeClass, SmallerPart, NotPresent, Refusal, FruEnded, Size, FruRetrieval, inventory_of, class_of, Seen, IsQuiet, IsTroubled, IsFinished, IsRefused, StaysHonest, stays_trans, HasMet, CountsPiece, FailsWith, BytesAnswers, BytesIsPlain, SameInventory, FruSince, FruEnds, FruNext, HasSize, InventoryCounts, InventoryIs, inventory_len, WithinTries, IsRefusedWith, digits, fru_call_bound}
+use Rattle.ipmi_bus.specs.Prelude.{Code, CodeClass, SmallerPart, NotPresent, Refusal, FruEnded, Size, FruRetrieval, inventory_of, class_of, Seen, IsQuiet, IsTroubled, IsFinished, IsRefused, StaysHonest, stays_trans, HasMet, CountsPiece, FailsWith, BytesAnswers, SameInventory, FruSince, FruEnds, FruNext, HasSize, InventoryCounts, InventoryIs, inventory_len, WithinTries, IsRefusedWith, digits, fru_call_bound, digits_most}
 use Rattle.ipmi_bus.specs.FruRetrieval.{IsOpenInventory, CountsTrouble, MakesSmaller, PartFails, TakesInventoryPart, HasRead, calls_left}
 use Rattle.ipmi_bus.proofs.PartLemmas.{take-with_piece, calm_piece, smaller_some}
 
@@ -28,7 +28,7 @@ module _ (old r : FruRetrieval) (s s' s'' : Seen) (asked got : ℕ)
       cc (here, before)
 
   calm : HasMet 0 s' s''
-  calm = calm_piece _ s' s'' gave.gives.2.counts
+  calm = calm_piece _ s' s'' gave.gives.3
 
   -- with the bytes that came in
   abbrev taken : FruRetrieval
@@ -37,7 +37,7 @@ module _ (old r : FruRetrieval) (s s' s'' : Seen) (asked got : ℕ)
   read_more : s''.stores_added ≡ s.stores_added → HasRead taken s
   read_more same =
       let before = since.read (first same) in
-      let piece = gave.gives.2.piece in
+      let piece = gave.gives.2 in
       record {
         whole = before.whole;
         found = before.found;
@@ -57,7 +57,7 @@ module _ (old r : FruRetrieval) (s s' s'' : Seen) (asked got : ℕ)
       let size = (since.read (first same)).size in
       let whole = ap (length {A = ℕ}) (whole_is same) in
       let flag : nat_eq (old.have + got) (length gave.gives.0) ≡ false = ne_eqb _ _ (λ (e : old.have + got ≡ length gave.gives.0). absurd (omega (arith, len))) in
-      let quiet : IsQuiet s' s'' = subst (λ (b : Bool). CountsPiece b s' s'') flag gave.gives.2.counts in
+      let quiet : IsQuiet s' s'' = subst (λ (b : Bool). CountsPiece b s' s'') flag gave.gives.3 in
       quiet.fresh_troubles ∙ since.fresh (first same) more
 
   part_taken : FruSince taken s s''
@@ -65,7 +65,7 @@ module _ (old r : FruRetrieval) (s s' s'' : Seen) (asked got : ℕ)
     stays = all;
     read = read_more;
     met = search (arith, calm);
-    fresh_most = λ left. fresh_most _ gave.gives.2.counts;
+    fresh_most = λ left. fresh_most _ gave.gives.3;
     found = λ all. subst IsSome (sym gave.gives.1) refl;
     fresh = fresh_more;
     plain = λ p.
@@ -79,7 +79,7 @@ module _ (old r : FruRetrieval) (s s' s'' : Seen) (asked got : ℕ)
       → r ≡ record old { bytes = r.bytes } → TakesInventoryPart got r new result
       → FruNext old new s s'' result
   part_answers new (Ok u) is takes = subst (λ (x : FruRetrieval). FruSince x s s'') (sym takes.1) (subst (λ (x : FruRetrieval). FruSince (record x { have = x.have + got }) s s'') (sym is) part_taken)
-  part_answers new (Err ended) is takes = absurd (omega (arith, takes.0, gave.gives.2.piece.some))
+  part_answers new (Err ended) is takes = absurd (omega (arith, takes.0, gave.gives.2.some))
 
 -- CBh says that nothing is there, and no refusal does
 nat_eq-cbh : (code : ℕ) → class_of code ≡ NotPresent → nat_eq code 0xCB ≡ true
@@ -105,7 +105,7 @@ module _ (old : FruRetrieval) (bytes : Vec ℕ Global) (s s' s'' : Seen) (asked 
       let same = since.stays.plain_store p in
       let read = since.read same in
       let found : inventory_of old.id s'.store ≡ Some read.whole = ap (inventory_of old.id) (since.stays.store.stays same) ∙ read.found in
-      let plain = subst (λ (o : Option (List ℕ)). BytesIsPlain o old.have (Err code)) found (gave.plain (since.stays.plain p)) in
+      let plain = rw found at (gave.plain (since.stays.plain p)) in
       cc (plain (omega (arith, open_.more, read.size)))
 
   -- the call is to be made again
@@ -189,10 +189,6 @@ pub same_trans : (a b c : FruRetrieval) → SameInventory a b → SameInventory 
 same_trans a b c p q = record { id = q.id ∙ p.id; tries = q.tries ∙ p.tries; size = q.size ∙ p.size; some = q.some; fits = q.fits; have = q.have; troubles = q.troubles }
 
 -- ---- the whole reading
-
--- a part size has at most eight digits
-pub digits_most : (n : ℕ) → digits n ≤ 8
-digits_most n = grind (arith, nat_tests)
 
 -- the size was told, and no byte is there
 module _ (id part tries : ℕ) (size : Size) (bytes : Vec ℕ Global) (s s' : Seen)

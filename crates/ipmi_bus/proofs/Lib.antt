@@ -1,3 +1,4 @@
+pub mod Asking
 pub mod CallLemmas
 pub mod CursorLemmas
 pub mod IdTableLemmas

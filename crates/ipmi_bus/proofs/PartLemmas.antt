@@ -1,11 +1,15 @@
 -- What a part of an honest controller leaves of a record that is being read.
-use Rattle.std.proofs.Common.{◌≡◌, ℕ, ◌+◌, ◌<◌, ◌≤◌, Bool, true, false, nat_eq, Option, None, Some, Result, Ok, Err, List, length, take, drop, get_or, slice_range, refl, sym, ap, subst, ◌∙◌, inl, inr, arith, IsTrue, IsSome, ne_eqb, get_or-take, take-take, take-add}
+use Rattle.std.proofs.Common.{◌≡◌, ℕ, ◌+◌, ◌<◌, ◌≤◌, Bool, true, false, nat_eq, Option, None, Some, Result, Ok, Err, List, length, take, drop, get_or, slice_range, refl, sym, ap, subst, ◌∙◌, inl, inr, arith, IsTrue, IsSome, ne_eqb, get_or-take, take-take, take-add, MatchOption, IsOk}
 use Rattle.std.proofs.lemmas.Bool.{cases_lt}
 use Rattle.std.proofs.lemmas.Bool.Decides.{nat_tests}
-use Rattle.ipmi_bus.specs.Prelude.{Shelf, Code, CodeClass, Cancelled, Busy, SmallerPart, NotPresent, Refusal, Part, Ended, Stalled, Malformed, CallOutcome, Again, Whole, Absent, Retrieval, Row, IsRow, look, whole_len, len_of, largest_len, rows_of, store_shelf, Seen, stays_trans, IsHonest, StaysHonest, MayLoseReservation, IsQuiet, IsFinished, current, CountsPiece, FailsWith, GivesPiece, PartIsPlain, PartAnswers, smaller_part, class_of, SameRequest, IsReading, HoldsCurrent, HasMet, KeepsHeld, HonestSince, ReadIsHonest, ReadNext, wanted_len, after_part, request_of}
+use Rattle.ipmi_bus.specs.Prelude.{Shelf, Code, CodeClass, Cancelled, Busy, SmallerPart, NotPresent, Refusal, Part, Ended, Stalled, Malformed, CallOutcome, Again, Over, Whole, Absent, Retrieval, Row, IsRow, look, whole_len, len_of, largest_len, rows_of, store_shelf, Seen, stays_trans, IsHonest, StaysHonest, MayLoseReservation, IsQuiet, IsFinished, current, CountsPiece, FailsWith, GivesPiece, PartAnswers, smaller_part, class_of, SameRequest, IsReading, HoldsCurrent, HasMet, KeepsHeld, HonestSince, ReadIsHonest, ReadNext, wanted_len, after_part, Asked, part_asked, not_present}
 use Rattle.ipmi_bus.specs.Retrieval.{IsOpenRecord, HasRead, TakesRecordPart, MakesSmaller, PartFails}
 use Rattle.ipmi_bus.proofs.ShelfLemmas.{look_row}
 use Rattle.ipmi_bus.proofs.CallLemmas.{reading_kept, held_on, within_calm, trouble_answers, refusal_answers}
+
+-- a request for the bytes after those that are there
+abbrev request_of : Retrieval → ℕ → ℕ → Asked
+request_of r reservation len = part_asked r.shelf reservation r.id r.have len
 
 -- the byte at a place that is read
 pub get_or-read : (have i : ℕ) (buffer bytes : List ℕ) → i < have
@@ -106,14 +110,14 @@ module _ (start old : Retrieval) (buffer : List ℕ) (s s' s'' : Seen) (n asked 
       → TakesRecordPart part (record old { buffer = buffer }) new result
       → ReadNext start new s s'' result
   piece_answers new (Ok Again) takes = rw takes.1 (piece_goes_on (rw takes.1 at takes.2))
-  piece_answers new (Ok Whole) takes =
+  piece_answers new (Ok (Over Whole)) takes =
       let is : old.have + part.got ≡ wanted_len old.shelf (old.have + part.got) buffer = rw takes.1 at takes.2 in
       let within = within_calm start old s s' s'' same since stays open_ calm in
-      let base : ReadIsHonest start (taken old buffer part) s s'' (Ok true) = record {
+      let base : ReadIsHonest start (taken old buffer part) s s'' (Ok Whole) = record {
         stays = all;
-        answers = (row, record { within = within; read = read; whole = wanted_whole old.shelf (old.have + part.got) buffer row ok read.bytes is });
+        answers = (within, (row, read, wanted_whole old.shelf (old.have + part.got) buffer row ok read.bytes is));
         keeps = keeps_held;
-        plain = λ p h. record { holds = holds p h; fine = tt };
+        plain = λ p h. (holds p h, tt);
       } in
       rw takes.1 base
   piece_answers new (Err (Stalled id)) takes = absurd (omega (arith, takes.0, gives.piece.some))
@@ -141,17 +145,23 @@ honest_part start old r new s s' s'' n asked part result same since open_ is fro
 
 module _ (old : Retrieval) (s : Seen) (n asked : ℕ) (honest : IsHonest s) (open_ : IsOpenRecord old)
     (reading : IsReading old s) (holds : HoldsCurrent old s) (held : old.reservation ≡ Some n) where
+  abbrev failed : Code → Result Part Code
+  failed code = Err code
+
   -- a plain controller answers a request for more with data, or that there is no such row
-  pub plain_code : (code : Code) → PartIsPlain (request_of old n asked) (Err code) s → code.0 ≡ 0xCB
+  pub plain_code : (code : Code) → MatchOption (look (rows_of old.shelf s.store) old.id)
+      (failed code ≡ Err not_present)
+      (λ row. old.have < length row.bytes → (0 < old.have → current old.shelf s ≡ Some n)
+      → IsOk (failed code)) → code.0 ≡ 0xCB
   plain_code code plain = by_row (look (rows_of old.shelf s.store) old.id) refl
     where
       by_row : (o : Option Row) → look (rows_of old.shelf s.store) old.id ≡ o → code.0 ≡ 0xCB
-      by_row None found = let is = plain.absent found in let e : code ≡ record { 0 = 0xCB } = cc is in rw e refl
+      by_row None found = let is = rw found at plain in let e : code ≡ record { 0 = 0xCB } = cc is in rw e refl
       by_row (Some row) found =
           let ok : IsRow old.shelf row = look_row old.shelf _ old.id row (store_shelf old.shelf s.store honest.store) found in
           let same = take-before old s row reading (λ some. holds.held n held ∙ sym held) found in
           let within = wanted_within old.shelf old.have old.buffer row ok same in
-          cc (plain.found row found (omega (arith, open_.more)) (λ some. holds.held n held))
+          cc ((rw found at plain) (omega (arith, open_.more)) (λ some. holds.held n held))
 
 -- more than one byte has a smaller part
 pub smaller_some : (asked : ℕ) → 1 < asked → smaller_part asked ≡ None → ⊥
@@ -193,14 +203,14 @@ module _ (start old new : Retrieval) (s s' s'' : Seen) (n asked : ℕ) (code : C
 
   absent_answers : (result : Result CallOutcome Ended)
       → look (rows_of old.shelf s''.store) old.id ≡ None → IsFinished s' s''
-      → (result ≡ Ok Absent) × (new ≡ old) → ReadNext start new s s'' result
+      → (result ≡ Ok (Over Absent)) × (new ≡ old) → ReadNext start new s s'' result
   absent_answers result absent finished does =
       let counts : HasMet 0 s' s'' = search (arith, finished) in
-      let base : ReadIsHonest start old s s'' (Ok false) = record {
+      let base : ReadIsHonest start old s s'' (Ok Absent) = record {
         stays = over_all;
-        answers = record { within = within_calm start old s s' s'' same since stays open_ counts; absent = rw (same.shelf, same.id) at absent };
+        answers = (within_calm start old s s' s'' same since stays open_ counts, rw (same.shelf, same.id) at absent);
         keeps = keeps_on old (omega (arith, finished.troubles)) refl;
-        plain = λ p h. record { holds = record { held = λ m e. parts.keeps.plain (since.stays.plain p) ∙ (since.plain p h).held m e }; fine = tt };
+        plain = λ p h. (record { held = λ m e. parts.keeps.plain (since.stays.plain p) ∙ (since.plain p h).held m e }, tt);
       } in
       rw (does.0, does.1) base
 

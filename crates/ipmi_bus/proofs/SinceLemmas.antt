@@ -1,7 +1,21 @@
 -- The reading of a record, call after call.
 use Rattle.std.proofs.Common.{◌≡◌, ℕ, ◌+◌, ◌*◌, ◌≤◌, Option, None, Some, Ok, refl, ap, ◌∙◌, arith, ◌-◌}
-use Rattle.ipmi_bus.specs.Prelude.{digits, step_call_bound, Again, Retrieval, largest_len, Seen, IsHonest, StaysHonest, row_len, SameRequest, CallLeaves, unreserved, begun, HonestSince, Since, ReadCalls}
-use Rattle.ipmi_bus.specs.Retrieval.{calls_left}
+use Rattle.ipmi_bus.specs.Prelude.{AreWithin, digits, step_call_bound, Again, Retrieval, largest_len, Seen, IsHonest, StaysHonest, SameRequest, CallLeaves, unreserved, begun, HonestSince, len_of, look, rows_of}
+use Rattle.ipmi_bus.specs.Retrieval.{IsOpenRecord, calls_left}
+
+-- how many bytes the row has that is asked for, 0 where there is none
+abbrev row_len : Retrieval → Seen → ℕ
+row_len r seen = len_of (look (rows_of r.shelf seen.store) r.id)
+
+-- what holds after each call but the last
+pub record Since (start now : Retrieval) (s s' : Seen) : Type 0 where
+  pub is_open : IsOpenRecord now
+  pub request : SameRequest start now
+  pub calls : s'.calls + calls_left (largest_len start.shelf) now
+      ≤ s.calls + calls_left (largest_len start.shelf) start
+  pub honest : IsHonest s → HonestSince start now s s'
+  pub row_calls : IsHonest s → s'.stores_added ≡ s.stores_added
+      → s'.calls + calls_left (row_len start s) now ≤ s.calls + calls_left (row_len start s) start
 
 same_request_trans : (a b c : Retrieval) → SameRequest a b → SameRequest b c → SameRequest a c
 same_request_trans a b c p q = record { shelf = q.shelf ∙ p.shelf; tries = q.tries ∙ p.tries; id = q.id ∙ p.id; part = omega (arith, p.part, q.part); some = q.some }
@@ -48,7 +62,7 @@ module _ (old : Retrieval) (id : ℕ) (now new : Retrieval) (s s' s'' : Seen)
 
   -- the calls are within the bound by the row's length, with the digits that the part size lost, where the store stays
   pub row_bound : (IsHonest s' → StaysHonest s' s'') → new.part ≡ now.part → IsHonest s
-      → s''.stores_added ≡ s.stores_added → ReadCalls (row_len (begun old id) s) old new s s''
+      → s''.stores_added ≡ s.stores_added → AreWithin old.tries (row_len (begun old id) s) old.part new.part s s''
   row_bound stays same h e =
       let before = (since.honest h).stays in
       let len = row_len (begun old id) s in

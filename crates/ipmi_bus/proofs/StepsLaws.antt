@@ -1,6 +1,6 @@
 -- The rest of a walk, and steps along one.
 use Rattle.std.proofs.Common.{◌≡◌, ◌≢◌, ℕ, suc, add-one, ◌+◌, ◌≤◌, Option, None, Some, Result, Ok, Err, List, [], ◌∷◌, ◌++◌, take, drop, refl, sym, ap, subst, ◌∙◌, arith, drop-drop}
-use Rattle.ipmi_bus.specs.Prelude.{Shelf, Place, Id, Ended, Cycle, Missing, Row, IsShelf, first_row, rows_of, IsWalk, WalkEnd, Done, EndsBy, place_after, Seen, IsHonest, CursorState, StandsAt, WalkStep, Stepped, AreSteps, cursor_after, seen_after, with_handed, handed_out, HandsOutPrefix, Refused, GaveUp}
+use Rattle.ipmi_bus.specs.Prelude.{Shelf, Place, Id, Ended, Cycle, Missing, Row, IsShelf, first_row, rows_of, IsWalk, WalkEnd, Done, EndsBy, place_after, Seen, IsHonest, CursorState, StandsAt, WalkStep, Stepped, AreSteps, cursor_after, seen_after, with_handed, handed_out, Refused, GaveUp}
 use Rattle.ipmi_bus.proofs.WalkLemmas.{walk_tail, row_at-id}
 
 -- ---- the rest of a walk
@@ -92,11 +92,11 @@ pub steps_follow : (c : CursorState) (s : Seen) (steps : List Stepped) (start : 
     → EndsBy (rows_of c.shelf s.store) start walk end
     → StandsAt (rows_of c.shelf s.store) start walk 0 c → AreSteps c s steps
     → (seen_after s steps).stores_added ≡ s.stores_added
-    → HandsOutPrefix (rows_of c.shelf s.store) start walk (cursor_after c steps) (handed_out steps)
+    → (count : ℕ) × (handed_out steps ≡ take count walk)
+    × StandsAt (rows_of c.shelf s.store) start walk count (cursor_after c steps)
 steps_follow c s steps start walk end honest w ends stands made same =
-    let all = steps_from (rows_of c.shelf s.store) start walk end w ends 0 c s steps honest refl stands made same in
-    record {
-      count = all.count;
-      handed_are = all.handed_are;
-      stands = subst (λ (n : ℕ). StandsAt (rows_of c.shelf s.store) start walk n (cursor_after c steps)) {x = 0 + all.count} (omega arith) all.stands;
-    }
+    let all = steps_from (rows_of c.shelf s.store) start walk end w ends 0 c s steps honest refl stands made same in (
+      all.count,
+      all.handed_are,
+      subst (λ (n : ℕ). StandsAt (rows_of c.shelf s.store) start walk n (cursor_after c steps)) {x = 0 + all.count} (omega arith) all.stands,
+    )

@@ -5,7 +5,7 @@ use Rattle.std.specs.FinSet.{contains-insert, contains-empty}
 use Rattle.std.specs.Cmp.{nat_cmp_total, unsigned_tied}
 use Rattle.std.proofs.Math.Bool.{or-false}
 use Rattle.std.proofs.lemmas.Bool.Decides.{nat_tests}
-use Rattle.ipmi_bus.specs.Prelude.{Shelf, Place, First, Id, End, Row, IsShelf, look, row_with_id, first_row, row_at, Links, AllOf, IsWalk, place_after, place_after_rows, has_id, WalkEnd, Done, CycleAt, MissingAt, EndsBy, EndsAfter, EndsEmpty, last_next, HasWalk}
+use Rattle.ipmi_bus.specs.Prelude.{Shelf, Place, First, Id, End, Row, IsShelf, look, row_with_id, first_row, row_at, Links, AllOf, IsWalk, place_after, place_after_rows, has_id, WalkEnd, Done, CycleAt, MissingAt, EndsBy, EndsAfter, EndsEmpty, last_next}
 use Rattle.ipmi_bus.proofs.ShelfLemmas.{DistinctIds-snoc}
 use Rattle.ipmi_bus.proofs.WalkLemmas.{row_at-next, has_id-next, look-asked_at, cycle_at-none, end_facts, place_after_rows-last, id-row_at, has_id-append}
 
@@ -172,6 +172,10 @@ ends_here shelf rows start (d ∷ walk) ok none =
           let id = linked shelf next rows row ok is in
           let h = sym (ap (has_id (d ∷ walk)) id.0 ∙ stands) ∙ fresh in cc h)),
     )
+
+-- a walk from the place that has an end
+abbrev HasWalk : List Row → Place → Type 0
+HasWalk rows start = (walk : List Row) × (end : WalkEnd) × IsWalk rows start walk × EndsBy rows start walk end
 
 decide : (shelf : Shelf) (rows : List Row) (start : Place) (done : List Row) → IsShelf shelf rows
     → IsWalk rows start done

@@ -1,5 +1,5 @@
 -- What an honest controller may answer to each call, and what a plain one has to.
-use Rattle.std.specs.Prelude.{◌≡◌, ℕ, ◌+◌, ◌<◌, ◌≤◌, ◌==◌, Bool, true, false, IsTrue, Option, None, Some, Result, Ok, Err, IsOk, List, length, take, drop}
+use Rattle.std.specs.Prelude.{◌≡◌, ℕ, ◌+◌, ◌<◌, ◌≤◌, ◌==◌, Bool, true, false, IsTrue, Option, None, Some, MatchOption, Result, Ok, Err, IsOk, MatchResult, List, length, take, drop}
 use Rattle.ipmi_bus.specs.Types.{Busy, Cancelled, Code, CodeClass, FruSize, NotPresent, Part, Refusal, Sdr, Sel, Shelf, SmallerPart}
 use Rattle.ipmi_bus.specs.Shelf.{Row, look}
 use Rattle.ipmi_bus.specs.Store.{Store, rows_of, inventory_of}
@@ -28,14 +28,11 @@ not_present = record { 0 = 0xCB }
 
 -- ---- a reservation
 
-abbrev pub ReserveGives : Shelf → Result ℕ Code → Seen → Seen → Type 0
-ReserveGives shelf (Ok r) old new = IsQuiet old new × (current shelf new ≡ Some r)
-ReserveGives shelf (Err code) old new =
-    FailsWith ⊥ ⊥ (class_of code.0) code.0 old new × MayLoseReservation shelf old new
-
+-- its number, which becomes current
 pub record ReserveAnswers (shelf : Shelf) (result : Result ℕ Code) (old new : Seen) : Type 0 where
   pub change : IsChange old new
-  pub gives : ReserveGives shelf result old new
+  pub gives : MatchResult result (λ r. IsQuiet old new × (current shelf new ≡ Some r))
+      (λ code. FailsWith ⊥ ⊥ (class_of code.0) code.0 old new × MayLoseReservation shelf old new)
   pub beside : MayLoseReservation (other shelf) old new
   pub plain : IsTrue old.plain → IsOk result
 
@@ -48,6 +45,16 @@ pub record Asked : Type 0 where
   pub id : ℕ
   pub offset : ℕ
   pub len : ℕ
+
+-- as a call has it
+abbrev pub part_asked : Shelf → ℕ → ℕ → ℕ → ℕ → Asked
+part_asked shelf reservation id offset len = record {
+  shelf = shelf;
+  reservation = reservation;
+  id = id;
+  offset = offset;
+  len = len;
+}
 
 -- bytes of these, at least one and no more than asked, from the offset on
 pub record IsPiece (whole : List ℕ) (offset asked got : ℕ) (into : List ℕ) : Type 0 where
@@ -66,94 +73,60 @@ pub record GivesPiece (ask : Asked) (part : Part) (into : List ℕ) (old new : S
   pub reserved : 0 < ask.offset → current ask.shelf new ≡ Some ask.reservation
   pub counts : CountsPiece (ask.offset + part.got == length row.bytes) old new
 
-abbrev pub PartGives : Asked → Result Part Code → List ℕ → Seen → Seen → Type 0
-PartGives ask (Ok part) into old new = (row : Row) × GivesPiece ask part into old new row
-PartGives ask (Err code) into old new =
-    FailsWith (1 < ask.len) (look (rows_of ask.shelf new.store) ask.id ≡ None) (class_of code.0)
-    code.0 old new
-
--- a plain controller gives what is there, and says CBh of what is not
-pub record PartIsPlain (ask : Asked) (result : Result Part Code) (old : Seen) : Type 0 where
-  pub found : (row : Row) → look (rows_of ask.shelf old.store) ask.id ≡ Some row
-      → ask.offset < length row.bytes
-      → ((0 < ask.offset) → current ask.shelf old ≡ Some ask.reservation) → IsOk result
-  pub absent : look (rows_of ask.shelf old.store) ask.id ≡ None → result ≡ Err not_present
-
+-- a plain controller gives what is there, past the first byte under the current reservation, and says CBh of what is
+-- not
 pub record PartAnswers (ask : Asked) (result : Result Part Code) (into : List ℕ)
     (old new : Seen) : Type 0 where
   pub change : IsChange old new
-  pub gives : PartGives ask result into old new
+  pub gives : MatchResult result (λ part. (row : Row) × GivesPiece ask part into old new row)
+      (λ code. FailsWith (1 < ask.len) (look (rows_of ask.shelf new.store) ask.id ≡ None)
+      (class_of code.0) code.0 old new)
   pub keeps : MayLoseReservation ask.shelf old new
   pub beside : MayLoseReservation (other ask.shelf) old new
-  pub plain : IsTrue old.plain → PartIsPlain ask result old
+  pub plain : IsTrue old.plain → MatchOption (look (rows_of ask.shelf old.store) ask.id)
+      (result ≡ Err not_present)
+      (λ row. ask.offset < length row.bytes
+      → (0 < ask.offset → current ask.shelf old ≡ Some ask.reservation) → IsOk result)
 
 -- ---- a value: an info, a reading
 
-abbrev pub ValueGives : {V : Type 0} → (Store → Option V) → Result V Code → Seen → Seen → Type 0
-ValueGives value (Ok v) old new = (value new.store ≡ Some v) × IsFinished old new
-ValueGives value (Err code) old new =
-    FailsWith ⊥ (value new.store ≡ None) (class_of code.0) code.0 old new
-
--- a plain controller gives the value that is there, and says CBh of one that is not
-abbrev pub ValueIsPlain : {V : Type 0} → Option V → Result V Code → Type 0
-ValueIsPlain (Some v) result = result ≡ Ok v
-ValueIsPlain None result = result ≡ Err not_present
-
--- the answer to a request for a value of the store
+-- the answer to a request for a value of the store; a plain controller gives what is there, and says CBh of what is not
 pub record ValueAnswers {V : Type 0} (value : Store → Option V) (result : Result V Code)
     (old new : Seen) : Type 0 where
   pub change : IsChange old new
-  pub gives : ValueGives value result old new
+  pub gives : MatchResult result (λ v. (value new.store ≡ Some v) × IsFinished old new)
+      (λ code. FailsWith ⊥ (value new.store ≡ None) (class_of code.0) code.0 old new)
   pub sdr : MayLoseReservation Sdr old new
   pub sel : MayLoseReservation Sel old new
-  pub plain : IsTrue old.plain → ValueIsPlain (value old.store) result
+  pub plain : IsTrue old.plain → MatchOption (value old.store) (result ≡ Err not_present)
+      (λ v. result ≡ Ok v)
 
 -- ---- an inventory
 
 -- its size, in bytes, and that it is accessed by bytes: an inventory of a store always is; a size of 0 finishes it
-pub record GivesSize (size : FruSize) (old new : Seen) (bytes : List ℕ) : Type 0 where
-  pub size_is : size.size ≡ length bytes
-  pub no_words : size.words ≡ false
-  pub counts : CountsPiece (length bytes == 0) old new
-
-abbrev pub SizeGives : ℕ → Result FruSize Code → Seen → Seen → Type 0
-SizeGives id (Ok size) old new =
-    (bytes : List ℕ) × (inventory_of id new.store ≡ Some bytes) × GivesSize size old new bytes
-SizeGives id (Err code) old new =
-    FailsWith ⊥ (inventory_of id new.store ≡ None) (class_of code.0) code.0 old new
-
-abbrev pub SizeIsPlain : Option (List ℕ) → Result FruSize Code → Type 0
-SizeIsPlain (Some bytes) result = IsOk result
-SizeIsPlain None result = result ≡ Err not_present
-
 pub record SizeAnswers (id : ℕ) (result : Result FruSize Code) (old new : Seen) : Type 0 where
   pub change : IsChange old new
-  pub gives : SizeGives id result old new
+  pub gives : MatchResult result
+      (λ size. (bytes : List ℕ) × (inventory_of id new.store ≡ Some bytes)
+      × (size.size ≡ length bytes) × (size.words ≡ false)
+      × CountsPiece (length bytes == 0) old new)
+      (λ code. FailsWith ⊥ (inventory_of id new.store ≡ None) (class_of code.0) code.0 old new)
   pub sdr : MayLoseReservation Sdr old new
   pub sel : MayLoseReservation Sel old new
-  pub plain : IsTrue old.plain → SizeIsPlain (inventory_of id old.store) result
+  pub plain : IsTrue old.plain
+      → MatchOption (inventory_of id old.store) (result ≡ Err not_present) (λ bytes. IsOk result)
 
 -- data of it, from an offset on
-pub record GivesBytes (offset asked got : ℕ) (into : List ℕ) (old new : Seen)
-    (bytes : List ℕ) : Type 0 where
-  pub piece : IsPiece bytes offset asked got into
-  pub counts : CountsPiece (offset + got == length bytes) old new
-
-abbrev pub BytesGives : ℕ → ℕ → ℕ → Result ℕ Code → List ℕ → Seen → Seen → Type 0
-BytesGives id offset asked (Ok got) into old new =
-    (bytes : List ℕ) × (inventory_of id new.store ≡ Some bytes)
-    × GivesBytes offset asked got into old new bytes
-BytesGives id offset asked (Err code) into old new =
-    FailsWith (1 < asked) (inventory_of id new.store ≡ None) (class_of code.0) code.0 old new
-
-abbrev pub BytesIsPlain : Option (List ℕ) → ℕ → Result ℕ Code → Type 0
-BytesIsPlain (Some bytes) offset result = offset < length bytes → IsOk result
-BytesIsPlain None offset result = result ≡ Err not_present
-
 pub record BytesAnswers (id offset asked : ℕ) (result : Result ℕ Code) (into : List ℕ)
     (old new : Seen) : Type 0 where
   pub change : IsChange old new
-  pub gives : BytesGives id offset asked result into old new
+  pub gives : MatchResult result
+      (λ got. (bytes : List ℕ) × (inventory_of id new.store ≡ Some bytes)
+      × IsPiece bytes offset asked got into
+      × CountsPiece (offset + got == length bytes) old new)
+      (λ code. FailsWith (1 < asked) (inventory_of id new.store ≡ None) (class_of code.0) code.0
+      old new)
   pub sdr : MayLoseReservation Sdr old new
   pub sel : MayLoseReservation Sel old new
-  pub plain : IsTrue old.plain → BytesIsPlain (inventory_of id old.store) offset result
+  pub plain : IsTrue old.plain → MatchOption (inventory_of id old.store)
+      (result ≡ Err not_present) (λ bytes. offset < length bytes → IsOk result)

@@ -1,10 +1,6 @@
--- How many bytes a call asks for, and what is to be done after one that failed.
-use Rattle.std.specs.Prelude.{◌≡◌, ℕ, min, ◌/◌, ◌<◌, ◌≤◌, ◌⊎◌, nat_lt, if◌then◌else◌, Option, None, Some}
+-- What is to be done after a call that failed.
+use Rattle.std.specs.Prelude.{◌≡◌, ℕ, ◌/◌, ◌<◌, ◌≤◌, ◌⊎◌, nat_lt, if◌then◌else◌, Option, None, Some}
 use Rattle.ipmi_bus.specs.Types.{Busy, Cancelled, CodeClass, Failure, NotPresent, Refusal, SmallerPart}
-
--- the smaller of the part size and what is missing
-abbrev pub asked_len : ℕ → ℕ → ℕ
-asked_len part missing = min part missing
 
 -- half of what was asked for, rounded down; none where that was one byte
 abbrev pub smaller_part : ℕ → Option ℕ

@@ -1,12 +1,12 @@
 -- An inventory that is being read in parts: what is there so far, and what one call may leave of it.
-use Rattle.std.specs.Prelude.{◌≡◌, ℕ, ◌+◌, ◌-◌, ◌<◌, ◌≤◌, true, false, IsTrue, None, Some, IsSome, Result, Ok, Err, List, length, take}
+use Rattle.std.specs.Prelude.{◌≡◌, ℕ, min, ◌+◌, ◌-◌, ◌<◌, ◌≤◌, true, false, IsTrue, None, Some, IsSome, Result, Ok, Err, MatchResult, List, length, take}
 use Rattle.ipmi_bus.specs.Types.{Busy, Cancelled, Code, CodeClass, FruEnded, FruRetrieval, FruSize, Size, SmallerPart}
 use Rattle.ipmi_bus.specs.Store.{inventory_of}
 use Rattle.ipmi_bus.specs.Seen.{Seen, StaysHonest}
 use Rattle.ipmi_bus.specs.Readers.{KeepsReservations, InventoryCounts, InventoryIs, PlainMayAnswer}
-use Rattle.ipmi_bus.specs.Failures.{HasMet}
+use Rattle.ipmi_bus.specs.Failures.{HasMet, TroubleIs}
 use Rattle.ipmi_bus.specs.Bounds.{digits}
-use Rattle.ipmi_bus.specs.Calls.{asked_len, smaller_part}
+use Rattle.ipmi_bus.specs.Calls.{smaller_part}
 use Rattle.ipmi_bus.specs.Code.{class_of}
 
 -- an inventory of which some bytes are there
@@ -24,7 +24,7 @@ pub record IsOpenInventory (r : FruRetrieval) : Type 0 where
 
 -- how many bytes the next request asks for
 abbrev pub request_len : FruRetrieval → ℕ
-request_len r = asked_len r.part (length r.bytes.items - r.have)
+request_len r = min r.part (length r.bytes.items - r.have)
 
 -- what stays over a call
 pub record SameInventory (old new : FruRetrieval) : Type 0 where
@@ -54,18 +54,13 @@ MakesSmaller asked old new (Ok u) =
 MakesSmaller asked old new (Err ended) =
     (ended ≡ FruEnded.Stalled) × (smaller_part asked ≡ None) × (new ≡ old)
 
--- refused with this code
-abbrev pub IsRefusedBy : Code → FruRetrieval → FruRetrieval → Result (Unit {0}) FruEnded
-    → Type 0
-IsRefusedBy code old new result = (result ≡ Err (FruEnded.Refused code)) × (new ≡ old)
-
 -- a failing call for a part of so many bytes, by the class of its code: CBh is a refusal
 abbrev pub PartFails : CodeClass → Code → ℕ → FruRetrieval → FruRetrieval
     → Result (Unit {0}) FruEnded → Type 0
 PartFails Cancelled code asked old new result = CountsTrouble old new result
 PartFails Busy code asked old new result = CountsTrouble old new result
 PartFails SmallerPart code asked old new result = MakesSmaller asked old new result
-PartFails _ code asked old new result = IsRefusedBy code old new result
+PartFails _ code asked old new result = (result ≡ Err (FruEnded.Refused code)) × (new ≡ old)
 
 -- so many bytes came, or none
 abbrev pub TakesInventoryPart : ℕ → FruRetrieval → FruRetrieval → Result (Unit {0}) FruEnded
@@ -73,23 +68,13 @@ abbrev pub TakesInventoryPart : ℕ → FruRetrieval → FruRetrieval → Result
 TakesInventoryPart got old new (Ok u) = (0 < got) × (new ≡ record old { have = old.have + got })
 TakesInventoryPart got old new (Err ended) = (got ≡ 0) × (ended ≡ FruEnded.Stalled) × (new ≡ old)
 
--- what the answer to a request for so many bytes leaves, once its bytes are in their place
-abbrev pub TakesAnswer : Result ℕ Code → ℕ → FruRetrieval → FruRetrieval
-    → Result (Unit {0}) FruEnded → Type 0
-TakesAnswer (Ok got) asked old new result = TakesInventoryPart got old new result
-TakesAnswer (Err code) asked old new result = PartFails (class_of code.0) code asked old new result
-
--- one request of `request_len` was answered
+-- one request of `request_len` was answered, and its bytes were put in their place
 pub record IsAnswered (old new : FruRetrieval) (result : Result (Unit {0}) FruEnded) : Type 0 where
   pub answer : Result ℕ Code
   pub filled : FruRetrieval
   pub bytes : filled ≡ record old { bytes = filled.bytes }
-  pub takes : TakesAnswer answer (request_len old) filled new result
-
--- the answer to the last request ended the reading so
-pub record IsEndedBy (new : FruRetrieval) (ended : FruEnded) : Type 0 where
-  pub last : FruRetrieval
-  pub answered : IsAnswered last new (Err ended)
+  pub takes : MatchResult answer (λ got. TakesInventoryPart got filled new result)
+      (λ code. PartFails (class_of code.0) code (request_len old) filled new result)
 
 -- the bytes so far are the inventory's
 pub record HasRead (r : FruRetrieval) (s : Seen) : Type 0 where
@@ -124,15 +109,11 @@ FruNext old new s s' (Err ended) = FruEnds old.id old.tries s s' ended
 
 -- ---- its size
 
--- a trouble before the size was told: it is asked for again, or it was one too many
-abbrev pub SizeTroubleIs : ℕ → ℕ → Result (Unit {0}) FruEnded → Type 0
-SizeTroubleIs troubles tries (Ok u) = troubles < tries
-SizeTroubleIs troubles tries (Err ended) = (ended ≡ FruEnded.GaveUp) × (tries ≤ troubles)
-
--- a failing call for the size, by the class of its code: CBh and a smaller part are refusals
+-- a failing call for the size, by the class of its code: CBh and a smaller part are refusals; Ok where it is asked for
+-- again
 abbrev pub SizeFails : CodeClass → Code → ℕ → ℕ → Result (Unit {0}) FruEnded → Type 0
-SizeFails Cancelled code troubles tries result = SizeTroubleIs troubles tries result
-SizeFails Busy code troubles tries result = SizeTroubleIs troubles tries result
+SizeFails Cancelled code troubles tries result = TroubleIs tt FruEnded.GaveUp troubles tries result
+SizeFails Busy code troubles tries result = TroubleIs tt FruEnded.GaveUp troubles tries result
 SizeFails _ code troubles tries result = result ≡ Err (FruEnded.Refused code)
 
 -- a size that was told, unless the device is accessed by words
@@ -141,18 +122,13 @@ TakesSize told troubles (Ok size) =
     (told.words ≡ false) × (size ≡ record { bytes = told.size; troubles = troubles })
 TakesSize told troubles (Err ended) = (told.words ≡ true) × (ended ≡ FruEnded.Words)
 
--- what the last answer to a call for the size leaves
-abbrev pub TakesSizeAnswer : Result FruSize Code → ℕ → ℕ → Result Size FruEnded → Type 0
-TakesSizeAnswer (Ok told) troubles tries result = TakesSize told troubles result
-TakesSizeAnswer (Err code) troubles tries (Ok size) = ⊥
-TakesSizeAnswer (Err code) troubles tries (Err ended) =
-    SizeFails (class_of code.0) code troubles tries (Err ended)
-
 -- the last call for the size was answered, after so many troubles
 pub record IsSizeAnswered (tries : ℕ) (result : Result Size FruEnded) : Type 0 where
   pub answer : Result FruSize Code
   pub troubles : ℕ
-  pub takes : TakesSizeAnswer answer troubles tries result
+  pub takes : MatchResult answer (λ told. TakesSize told troubles result)
+      (λ code. MatchResult result (λ size. ⊥)
+      (λ ended. SizeFails (class_of code.0) code troubles tries (Err ended)))
 
 -- the size is that of the inventory which the store has when the call returns
 pub record HasSize (id : ℕ) (size : Size) (s s' : Seen) : Type 0 where
@@ -162,7 +138,3 @@ pub record HasSize (id : ℕ) (size : Size) (s s' : Seen) : Type 0 where
   pub met : HasMet size.troubles s s'
   pub fresh_troubles : 0 < size.bytes → s'.fresh_troubles ≡ s.fresh_troubles + size.troubles
   pub plain : IsTrue s.plain → (size.troubles ≡ 0) × KeepsReservations s s'
-
-abbrev pub SizeNext : ℕ → ℕ → Seen → Seen → Result Size FruEnded → Type 0
-SizeNext id tries s s' (Ok size) = HasSize id size s s'
-SizeNext id tries s s' (Err ended) = FruEnds id tries s s' ended

@@ -1,8 +1,8 @@
 -- A cursor's fields as contracts see them, and what it hands out.
 use Rattle.std.specs.Prelude.{◌≡◌, ◌≢◌, ℕ, ◌<◌, ◌⊎◌, List, Option, None, Some, IsSome, Result, Ok, Err, IsOk, take}
 use Rattle.std.specs.FinSet as set
-use Rattle.ipmi_bus.specs.Types.{End, Ended, First, Handed, Next, Place, Progress, Retrieval}
-use Rattle.ipmi_bus.specs.Shelf.{Row, id_in}
+use Rattle.ipmi_bus.specs.Types.{End, Ended, First, Handed, Next, Place, Progress}
+use Rattle.ipmi_bus.specs.Shelf.{Row}
 use Rattle.ipmi_bus.specs.Seen.{Seen, current}
 use Rattle.ipmi_bus.specs.CursorState.{CursorState}
 use Rattle.ipmi_bus.specs.Step.{asked_at, cycle_at}
@@ -23,25 +23,16 @@ pub record IsCursor (p : Progress) : Type 0 where
   pub fits : p.retrieval.part < 255
   pub first : p.place ≡ First → p.ids ≡ set.empty
 
--- the row that was handed out
-abbrev pub handed_row : Progress → Handed → Row
-handed_row p handed =
-    record { id = handed.id; next = handed.next; bytes = take handed.len p.retrieval.buffer }
-
+-- a step's answer, with the row that was handed out
 abbrev pub handed_result : Progress → Result (Option Handed) Ended → Result (Option Row) Ended
-handed_result p (Ok (Some handed)) = Ok (Some (handed_row p handed))
+handed_result p (Ok (Some handed)) =
+    Ok (Some (record {
+      id = handed.id;
+      next = handed.next;
+      bytes = take handed.len p.retrieval.buffer;
+    }))
 handed_result p (Ok None) = Ok None
 handed_result p (Err ended) = Err ended
-
--- the id of a record: at the start the one that its bytes begin with, low first
-abbrev pub handed_id : Place → ℕ → List ℕ → ℕ
-handed_id First asked buffer = id_in buffer
-handed_id _ asked buffer = asked
-
--- the row that is whole in the buffer, where this id was asked for
-abbrev pub whole_row : Place → ℕ → Retrieval → Row
-whole_row place asked r =
-    record { id = handed_id place asked r.buffer; next = r.next; bytes = take r.have r.buffer }
 
 -- an id is asked for: 0000h at the start, and later one that was not handed out, for which there is room
 pub record IsAsked (place : Place) (ids : set.FinSet nat_cmp) (asked : ℕ) : Type 0 where
@@ -55,15 +46,10 @@ IsNext place ids Next.End = place ≡ End
 IsNext place ids (Next.Cycle n) = cycle_at place ids ≡ Some n
 IsNext place ids (Next.Asks asked) = IsAsked place ids asked
 
--- no reservation became current, and the one that is held is kept, unless the step fails
-abbrev pub StepKeeps : CursorState → CursorState → Seen → Seen → Result (Option Row) Ended
-    → Type 0
-StepKeeps old new s s' result =
-    ((n : ℕ) → current old.shelf s' ≡ Some n → current old.shelf s ≡ Some n)
-    × (IsOk result → new.reservation ≡ old.reservation)
-
--- the step keeps the reservation where one is held and no trouble comes
+-- where a reservation is held and no trouble comes, none became current, and it is kept unless the step fails
 abbrev pub KeepsReservation : CursorState → CursorState → Seen → Seen
     → Result (Option Row) Ended → Type 0
 KeepsReservation old new s s' result =
-    IsSome old.reservation → s'.troubles ≡ s.troubles → StepKeeps old new s s' result
+    IsSome old.reservation → s'.troubles ≡ s.troubles
+    → ((n : ℕ) → current old.shelf s' ≡ Some n → current old.shelf s ≡ Some n)
+    × (IsOk result → new.reservation ≡ old.reservation)

@@ -1,24 +1,24 @@
 -- The words of this crate that its code and proofs cite, passed on from one place. Declares nothing.
-pub use Rattle.ipmi_bus.specs.Answers.{BytesAnswers, BytesIsPlain, CountsPiece, FailsWith, GivesPiece, PartAnswers, PartIsPlain, ReserveAnswers, SizeAnswers, ValueAnswers}
-pub use Rattle.ipmi_bus.specs.Bounds.{digits, fru_call_bound, step_call_bound}
-pub use Rattle.ipmi_bus.specs.Calls.{asked_len, FailureIs, smaller_part}
+pub use Rattle.ipmi_bus.specs.Answers.{BytesAnswers, CountsPiece, FailsWith, GivesPiece, PartAnswers, ReserveAnswers, SizeAnswers, ValueAnswers, Asked, part_asked, not_present}
+pub use Rattle.ipmi_bus.specs.Bounds.{AreWithin, digits, fru_call_bound, step_call_bound, digits_most}
+pub use Rattle.ipmi_bus.specs.Calls.{FailureIs, smaller_part}
 pub use Rattle.ipmi_bus.specs.Code.{class_of}
 pub use Rattle.ipmi_bus.specs.CursorState.{CursorState, start_of}
 pub use Rattle.ipmi_bus.specs.Events.{counts_after, zero_counts}
-pub use Rattle.ipmi_bus.specs.Failures.{HasMet, IsAsking, ValueFailureIs}
-pub use Rattle.ipmi_bus.specs.FruRetrieval.{FruEnds, FruNext, FruSince, HasSize, IsAnswered, IsSizeAnswered, SameInventory, SizeFails, SizeNext, TakesSize}
-pub use Rattle.ipmi_bus.specs.Handed.{handed_id, handed_result, handed_row, IsAsked, IsCursor, IsNext, KeepsReservation, state_of, whole_row}
+pub use Rattle.ipmi_bus.specs.Failures.{HasMet, ValueFailureIs}
+pub use Rattle.ipmi_bus.specs.FruRetrieval.{FruEnds, FruNext, FruSince, HasSize, IsAnswered, IsSizeAnswered, SameInventory, SizeFails, TakesSize}
+pub use Rattle.ipmi_bus.specs.Handed.{handed_result, IsAsked, IsCursor, IsNext, KeepsReservation, state_of}
 pub use Rattle.ipmi_bus.specs.IdTable.{has_id_bit}
 unfoldable pub use Rattle.ipmi_bus.specs.IdTable.{ids_below, ids_in}
-pub use Rattle.ipmi_bus.specs.Readers.{as_inventory, EndsUnder, inventory_len, InventoryCounts, InventoryIs, ReadsInventory, ReadsValue}
-pub use Rattle.ipmi_bus.specs.Retrieval.{after_part, after_trouble, CallLeaves, HoldsCurrent, IsReading, IsRefusedBy, KeepsHeld, request_of, ReserveFails, row_len, SameRequest, unreserved, wanted_len}
+pub use Rattle.ipmi_bus.specs.Readers.{as_inventory, EndsUnder, inventory_len, InventoryCounts, InventoryIs, KeepsReservations, ReadsInventory, ReadsValue}
+pub use Rattle.ipmi_bus.specs.Retrieval.{after_part, after_trouble, CallLeaves, HoldsCurrent, IsReading, KeepsHeld, ReserveFails, SameRequest, unreserved, wanted_len}
 pub use Rattle.ipmi_bus.specs.Seen.{current, IsFinished, IsHonest, IsQuiet, IsRefused, IsTroubled, KeepsStore, MayLoseReservation, Seen, stays_trans, StaysHonest}
-pub use Rattle.ipmi_bus.specs.Shelf.{AllRows, BeginsWithId, DistinctIds, first_row, FoundIsRow, id_in, IsRow, IsShelf, LacksId, largest_len, len_of, look, Row, row_with_id, whole_len}
-pub use Rattle.ipmi_bus.specs.Since.{begun, HonestSince, ReadCalls, ReadIsHonest, ReadNext, Since}
+pub use Rattle.ipmi_bus.specs.Shelf.{AllRows, DistinctIds, first_row, FoundIsRow, id_in, IsRow, IsShelf, LacksId, largest_len, len_of, look, Row, row_with_id, whole_len}
+pub use Rattle.ipmi_bus.specs.Since.{begun, HonestSince, ReadIsHonest, ReadNext}
 pub use Rattle.ipmi_bus.specs.Standing.{FollowsWalks, MayFail, StandsAt, WalkStep}
-pub use Rattle.ipmi_bus.specs.Step.{asked_at, AsksAlong, AsksNothing, cycle_at, HandsOut, HasIdAsked, HasRoom, IsStep, KeepsSettings, StaysThere, StepAnswers, StepCalls, StepIsHonest, StepLeaves}
-pub use Rattle.ipmi_bus.specs.Steps.{AreSteps, cursor_after, handed_out, HandsOutPrefix, seen_after, Stepped, StepsFollowWalk, with_handed}
+pub use Rattle.ipmi_bus.specs.Step.{asked_at, AsksAlong, AsksNothing, cycle_at, handed_id, HandsOut, IsStep, KeepsSettings, StaysThere, StepAnswers, StepIsHonest, StepLeaves}
+pub use Rattle.ipmi_bus.specs.Steps.{AreSteps, cursor_after, handed_out, seen_after, Stepped, StepsFollowWalk, with_handed}
 pub use Rattle.ipmi_bus.specs.Store.{info_of, inventory_of, reading_of, rows_of, Store, store_shelf}
 pub use Rattle.ipmi_bus.specs.Tries.{IsRefusedWith, WithinTries}
-pub use Rattle.ipmi_bus.specs.Types.{Absent, Again, Busy, CallOutcome, Cancelled, Code, CodeClass, Cycle, End, Ended, First, FruEnded, FruRetrieval, GaveUp, Handed, Id, Malformed, Missing, NotPresent, Part, Place, Progress, Refusal, Refused, Retrieval, Shelf, Size, SmallerPart, Stalled, Whole}
-pub use Rattle.ipmi_bus.specs.Walk.{AllOf, CycleAt, Done, EndsAfter, EndsBy, EndsEmpty, has_id, HasWalk, IsWalk, last_next, Links, MissingAt, place_after, place_after_rows, RestIsWalk, row_at, TailIsWalk, WalkEnd, WalkExists, WalkIsUnique}
+pub use Rattle.ipmi_bus.specs.Types.{Absent, Again, Busy, CallOutcome, Cancelled, Code, CodeClass, Cycle, End, Ended, First, Found, FruEnded, FruRetrieval, GaveUp, Handed, Id, Malformed, Missing, NotPresent, Over, Part, Place, Progress, Refusal, Refused, Retrieval, Shelf, Size, SmallerPart, Stalled, Whole}
+pub use Rattle.ipmi_bus.specs.Walk.{AllOf, CycleAt, Done, EndsAfter, EndsBy, EndsEmpty, has_id, IsWalk, last_next, Links, MissingAt, place_after, place_after_rows, RestIsWalk, row_at, TailIsWalk, WalkEnd, WalkExists, WalkIsUnique}

@@ -1,22 +1,23 @@
 -- A record that is being read in parts: what is there so far, and what one call may leave of it.
-use Rattle.std.specs.Prelude.{◌≡◌, ℕ, ◌+◌, ◌-◌, ◌*◌, ◌<◌, ◌≤◌, Bool, true, false, MatchResult, nat_lt, if◌then◌else◌, Option, None, Some, IsSome, Result, Ok, Err, List, length, take, slice_index}
-use Rattle.ipmi_bus.specs.Types.{Absent, Again, Busy, CallOutcome, Cancelled, Code, CodeClass, Ended, GaveUp, Malformed, NotPresent, Part, Refusal, Refused, Retrieval, Sdr, Sel, Shelf, SmallerPart, Stalled, Whole}
+use Rattle.std.specs.Prelude.{◌≡◌, ℕ, min, ◌+◌, ◌-◌, ◌*◌, ◌<◌, ◌≤◌, Bool, true, false, MatchResult, nat_lt, if◌then◌else◌, Option, None, Some, IsSome, Result, Ok, Err, List, length, take, slice_index}
+use Rattle.ipmi_text.specs.SdrHeader.{sdr_len}
+use Rattle.ipmi_bus.specs.Types.{Absent, Again, Busy, CallOutcome, Cancelled, Code, CodeClass, Ended, GaveUp, Malformed, NotPresent, Over, Part, Refusal, Refused, Retrieval, Sdr, Sel, Shelf, SmallerPart, Stalled, Whole}
 use Rattle.ipmi_bus.specs.Shelf.{Row, look, len_of, largest_len}
 use Rattle.ipmi_bus.specs.Store.{rows_of}
 use Rattle.ipmi_bus.specs.Seen.{Seen, current}
 use Rattle.ipmi_bus.specs.Answers.{Asked}
 use Rattle.ipmi_bus.specs.Bounds.{digits}
-use Rattle.ipmi_bus.specs.Calls.{asked_len, smaller_part}
+use Rattle.ipmi_bus.specs.Calls.{smaller_part}
 use Rattle.ipmi_bus.specs.Code.{class_of}
 
 -- how many bytes are asked for, by those that are there: of a sensor data record the header comes first
 abbrev pub wanted_len : Shelf → ℕ → List ℕ → ℕ
-wanted_len Sdr have buffer = if nat_lt have 5 then 5 else 5 + slice_index buffer 4
+wanted_len Sdr have buffer = if nat_lt have 5 then 5 else sdr_len buffer
 wanted_len Sel have buffer = 16
 
 -- how many bytes the next request asks for
 abbrev pub request_len : Retrieval → ℕ
-request_len r = asked_len r.part (wanted_len r.shelf r.have r.buffer - r.have)
+request_len r = min r.part (wanted_len r.shelf r.have r.buffer - r.have)
 
 -- a record that is not whole yet
 pub record IsOpenRecord (r : Retrieval) : Type 0 where
@@ -55,10 +56,6 @@ pub record KeepsHeld (old new : Retrieval) (s s' : Seen) : Type 0 where
   pub held : new.reservation ≡ old.reservation
   pub none_given : (n : ℕ) → current old.shelf s' ≡ Some n → current old.shelf s ≡ Some n
 
--- how many bytes the row has that is asked for, 0 where there is none
-abbrev pub row_len : Retrieval → Seen → ℕ
-row_len r seen = len_of (look (rows_of r.shelf seen.store) r.id)
-
 -- the retrieval after one more trouble; where that cancelled the reservation, without it and without the bytes so far
 abbrev pub after_trouble : Bool → Retrieval → Retrieval
 after_trouble is_cancelled r =
@@ -75,27 +72,19 @@ CountsTrouble is_cancelled old new result = MatchResult result
     (λ turn. (turn ≡ Again) × (new ≡ after_trouble is_cancelled old) × (old.troubles < old.tries))
     (λ ended. (ended ≡ GaveUp old.id) × (new ≡ old) × (old.troubles ≡ old.tries))
 
--- refused with this code
-abbrev pub IsRefusedBy : Code → Retrieval → Retrieval → Result CallOutcome Ended → Type 0
-IsRefusedBy code old new result = (result ≡ Err (Refused old.id code)) × (new ≡ old)
-
 -- a failing call for a reservation, by the class of its code: CBh and a smaller part are refusals
 abbrev pub ReserveFails : CodeClass → Code → Retrieval → Retrieval → Result CallOutcome Ended
     → Type 0
 ReserveFails Cancelled code old new result = CountsTrouble false old new result
 ReserveFails Busy code old new result = CountsTrouble false old new result
-ReserveFails _ code old new result = IsRefusedBy code old new result
-
--- what the answer to a call for a reservation leaves
-abbrev pub TakesReservation : Result ℕ Code → Retrieval → Retrieval → Result CallOutcome Ended
-    → Type 0
-TakesReservation (Ok n) old new result =
-    (result ≡ Ok Again) × (new ≡ record old { reservation = Some n })
-TakesReservation (Err code) old new result = ReserveFails (class_of code.0) code old new result
+ReserveFails _ code old new result = (result ≡ Err (Refused old.id code)) × (new ≡ old)
 
 -- one call for a reservation was answered
 abbrev pub IsReserveAnswered : Retrieval → Retrieval → Result CallOutcome Ended → Type 0
-IsReserveAnswered old new result = (answer : Result ℕ Code) × TakesReservation answer old new result
+IsReserveAnswered old new result =
+    (answer : Result ℕ Code) × MatchResult answer
+    (λ n. (result ≡ Ok Again) × (new ≡ record old { reservation = Some n }))
+    (λ code. ReserveFails (class_of code.0) code old new result)
 
 -- a smaller part is to be asked for; a part of less than one byte can't be
 abbrev pub MakesSmaller : ℕ → Retrieval → Retrieval → Result CallOutcome Ended → Type 0
@@ -110,13 +99,9 @@ abbrev pub PartFails : CodeClass → Code → ℕ → Retrieval → Retrieval �
 PartFails Cancelled code asked old new result = CountsTrouble true old new result
 PartFails Busy code asked old new result = CountsTrouble false old new result
 PartFails SmallerPart code asked old new result = MakesSmaller asked old new result
-PartFails NotPresent code asked old new result = (result ≡ Ok Absent) × (new ≡ old)
-PartFails Refusal code asked old new result = IsRefusedBy code old new result
-
--- a request for the bytes after those that are there
-abbrev pub request_of : Retrieval → ℕ → ℕ → Asked
-request_of r reservation len =
-    record { shelf = r.shelf; reservation = reservation; id = r.id; offset = r.have; len = len }
+PartFails NotPresent code asked old new result = (result ≡ Ok (Over Absent)) × (new ≡ old)
+PartFails Refusal code asked old new result =
+    (result ≡ Err (Refused old.id code)) × (new ≡ old)
 
 -- with a part taken
 abbrev pub after_part : Part → Retrieval → Retrieval
@@ -128,7 +113,7 @@ TakesRecordPart part old new (Ok Again) =
     (0 < part.got) × (new ≡ after_part part old)
     × (new.have < wanted_len new.shelf new.have new.buffer)
     × (wanted_len new.shelf new.have new.buffer ≤ largest_len new.shelf)
-TakesRecordPart part old new (Ok Whole) =
+TakesRecordPart part old new (Ok (Over Whole)) =
     (0 < part.got) × (new ≡ after_part part old)
     × (new.have ≡ wanted_len new.shelf new.have new.buffer) × (new.have ≤ largest_len new.shelf)
     × (5 ≤ new.have)
@@ -138,18 +123,13 @@ TakesRecordPart part old new (Err (Malformed id)) =
     × (new.have ≡ 5) × (0xFB < slice_index old.buffer 4)
 TakesRecordPart part old new _ = ⊥
 
--- what the answer to a request for so many bytes leaves, once its bytes are in the buffer
-abbrev pub TakesAnswer : Result Part Code → ℕ → Retrieval → Retrieval → Result CallOutcome Ended
-    → Type 0
-TakesAnswer (Ok part) asked old new result = TakesRecordPart part old new result
-TakesAnswer (Err code) asked old new result = PartFails (class_of code.0) code asked old new result
-
--- one request of `request_len` was answered
+-- one request of `request_len` was answered, and its bytes were put into the buffer
 pub record IsAnswered (old new : Retrieval) (result : Result CallOutcome Ended) : Type 0 where
   pub answer : Result Part Code
   pub filled : Retrieval
   pub buffer : filled ≡ record old { buffer = filled.buffer }
-  pub takes : TakesAnswer answer (request_len old) filled new result
+  pub takes : MatchResult answer (λ part. TakesRecordPart part filled new result)
+      (λ code. PartFails (class_of code.0) code (request_len old) filled new result)
 
 -- one call was answered: for a reservation where none is held, otherwise for a part
 abbrev pub CallIsAnswered : Option ℕ → Retrieval → Retrieval → Result CallOutcome Ended → Type 0
@@ -178,8 +158,8 @@ NamesId id shelf _ = ⊥
 abbrev pub CallLeaves : Retrieval → Retrieval → Result CallOutcome Ended → Type 0
 CallLeaves old new (Ok Again) =
     IsOpenRecord new × ((len : ℕ) → new.have ≤ len → calls_left len new + 1 ≤ calls_left len old)
-CallLeaves old new (Ok Whole) =
+CallLeaves old new (Ok (Over Whole)) =
     (new.part ≡ old.part) × (5 ≤ new.have) × (new.have ≤ largest_len new.shelf)
     × (new.have ≡ wanted_len new.shelf new.have new.buffer)
-CallLeaves old new (Ok Absent) = new.part ≡ old.part
+CallLeaves old new (Ok (Over Absent)) = new.part ≡ old.part
 CallLeaves old new (Err ended) = (new.part ≡ old.part) × NamesId old.id old.shelf ended

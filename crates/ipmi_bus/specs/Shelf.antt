@@ -1,6 +1,7 @@
 -- The two repositories of records, SDR and SEL, as lists of rows.
-use Rattle.std.specs.Prelude.{◌≡◌, ◌≢◌, ℕ, ◌+◌, ◌*◌, ◌<◌, ◌≤◌, ◌==◌, if◌then◌else◌, Option, Some, None, List, [], ◌∷◌, length, slice_index}
+use Rattle.std.specs.Prelude.{◌≡◌, ◌≢◌, ℕ, ◌+◌, ◌*◌, ◌<◌, ◌≤◌, ◌==◌, if◌then◌else◌, Option, Some, None, IfSome, List, [], ◌∷◌, length, drop, slice_index}
 use Rattle.ipmi_text.specs.Bytes.{AreBytes}
+use Rattle.ipmi_text.specs.SdrHeader.{sdr_len}
 use Rattle.ipmi_bus.specs.Types.{Sdr, Sel, Shelf}
 
 -- a record of a shelf: its id, the id of the next one (FFFFh where there is no more), its bytes
@@ -28,9 +29,9 @@ len_of (Some row) = length row.bytes
 
 -- ---- a well-formed shelf
 
--- how many bytes a whole record has: a sensor data record says in its fifth byte how many follow
+-- how many bytes a whole record has: a sensor data record says it in its header
 abbrev pub whole_len : Shelf → List ℕ → ℕ
-whole_len Sdr bytes = 5 + slice_index bytes 4
+whole_len Sdr bytes = sdr_len bytes
 whole_len Sel bytes = 16
 
 -- the most bytes that a record may have
@@ -64,21 +65,12 @@ DistinctIds (row ∷ rows) = LacksId row.id rows × DistinctIds rows
 abbrev pub id_in : List ℕ → ℕ
 id_in bytes = slice_index bytes 0 + 256 * slice_index bytes 1
 
--- the first row's bytes begin with its id
-abbrev pub BeginsWithId : List Row → Type 0
-BeginsWithId [] = Unit {0}
-BeginsWithId (row ∷ rows) = id_in row.bytes ≡ row.id
-
--- no row after the first has the id 0000h
-abbrev pub LaterHaveIds : List Row → Type 0
-LaterHaveIds [] = Unit {0}
-LaterHaveIds (row ∷ rows) = LacksId 0 rows
-
+-- the first row's bytes begin with its id, and no later row has the id 0000h
 pub record IsShelf (shelf : Shelf) (rows : List Row) : Type 0 where
   pub all : AllRows shelf rows
   pub distinct : DistinctIds rows
-  pub first : BeginsWithId rows
-  pub later : LaterHaveIds rows
+  pub first : IfSome (first_row rows) (λ row. id_in row.bytes ≡ row.id)
+  pub later : LacksId 0 (drop 1 rows)
 
 -- ---- a law
 

@@ -1,13 +1,12 @@
 -- What holds since the reading of a record began, and when it ends.
-use Rattle.std.specs.Prelude.{◌≡◌, ℕ, ◌+◌, ◌≤◌, Bool, true, false, IsTrue, IsSome, None, Result, Ok, Err, length}
-use Rattle.ipmi_bus.specs.Types.{Absent, Again, CallOutcome, Ended, GaveUp, Refused, Retrieval, Whole}
-use Rattle.ipmi_bus.specs.Shelf.{Row, look, largest_len}
+use Rattle.std.specs.Prelude.{◌≡◌, ℕ, ◌+◌, ◌≤◌, IsTrue, IsSome, None, Result, Ok, Err, MatchResult, length}
+use Rattle.ipmi_bus.specs.Types.{Absent, Again, CallOutcome, Ended, Found, GaveUp, Over, Refused, Retrieval, Whole}
+use Rattle.ipmi_bus.specs.Shelf.{Row, look, largest_len, len_of}
 use Rattle.ipmi_bus.specs.Store.{rows_of}
 use Rattle.ipmi_bus.specs.Seen.{Seen, IsHonest, StaysHonest}
 use Rattle.ipmi_bus.specs.Tries.{WithinTries, GivesUp, IsRefusedWith, NotGivenUpOrRefused}
 use Rattle.ipmi_bus.specs.Failures.{HasMet}
-use Rattle.ipmi_bus.specs.Bounds.{digits, step_call_bound}
-use Rattle.ipmi_bus.specs.Retrieval.{IsOpenRecord, SameRequest, HasRead, IsReading, HoldsCurrent, KeepsHeld, CallIsAnswered, calls_left, row_len, wanted_len, NamesId}
+use Rattle.ipmi_bus.specs.Retrieval.{IsOpenRecord, SameRequest, HasRead, IsReading, HoldsCurrent, KeepsHeld, CallIsAnswered, calls_left, wanted_len, NamesId}
 
 -- a retrieval at the start of a record
 abbrev pub begun : Retrieval → ℕ → Retrieval
@@ -20,76 +19,46 @@ pub record HonestSince (start now : Retrieval) (s s' : Seen) : Type 0 where
   pub met : HasMet now.troubles s s'
   pub fresh_troubles : s'.fresh_troubles ≡ s.fresh_troubles + now.troubles
   pub plain : IsTrue s.plain → HoldsCurrent start s → HoldsCurrent now s'
-  pub within : s'.stores_added ≡ s.stores_added → now.have ≤ row_len start s
+  pub within : s'.stores_added ≡ s.stores_added
+      → now.have ≤ len_of (look (rows_of start.shelf s.store) start.id)
 
-pub record Since (start now : Retrieval) (s s' : Seen) : Type 0 where
-  pub is_open : IsOpenRecord now
-  pub request : SameRequest start now
-  pub calls : s'.calls + calls_left (largest_len start.shelf) now
-      ≤ s.calls + calls_left (largest_len start.shelf) start
-  pub honest : IsHonest s → HonestSince start now s s'
-  pub row_calls : IsHonest s → s'.stores_added ≡ s.stores_added
-      → s'.calls + calls_left (row_len start s) now ≤ s.calls + calls_left (row_len start s) start
-
--- a whole row, of the store that the controller has now
-pub record ReadsRow (start new : Retrieval) (s s' : Seen) (row : Row) : Type 0 where
-  pub within : WithinTries start.tries s s'
-  pub read : HasRead new s' row
-  pub whole : new.have ≡ length row.bytes
-
-pub record ReadsNone (start : Retrieval) (s s' : Seen) : Type 0 where
-  pub within : WithinTries start.tries s s'
-  pub absent : look (rows_of start.shelf s'.store) start.id ≡ None
-
-abbrev pub ReadAnswers : Retrieval → Retrieval → Seen → Seen → Result Bool Ended → Type 0
-ReadAnswers start new s s' (Ok true) = (row : Row) × ReadsRow start new s s' row
-ReadAnswers start new s s' (Ok false) = ReadsNone start s s'
+-- a whole row, of the store that the controller has now, or none where that store has none
+abbrev pub ReadAnswers : Retrieval → Retrieval → Seen → Seen → Result Found Ended → Type 0
+ReadAnswers start new s s' (Ok Whole) =
+    WithinTries start.tries s s'
+    × ((row : Row) × HasRead new s' row × (new.have ≡ length row.bytes))
+ReadAnswers start new s s' (Ok Absent) =
+    WithinTries start.tries s s' × (look (rows_of start.shelf s'.store) start.id ≡ None)
 ReadAnswers start new s s' (Err (GaveUp n)) = GivesUp start.tries s s'
 ReadAnswers start new s s' (Err (Refused n code)) = IsRefusedWith start.tries code.0 s s'
 ReadAnswers start new s s' _ = ⊥
 
-pub record ReadIsPlain (new : Retrieval) (s' : Seen) (result : Result Bool Ended) : Type 0 where
-  pub holds : HoldsCurrent new s'
-  pub fine : NotGivenUpOrRefused result
-
 -- over an honest controller: where a reservation is held and no trouble comes, none is asked for
 pub record ReadIsHonest (start new : Retrieval) (s s' : Seen)
-    (result : Result Bool Ended) : Type 0 where
+    (result : Result Found Ended) : Type 0 where
   pub stays : StaysHonest s s'
   pub answers : ReadAnswers start new s s' result
   pub keeps : IsSome start.reservation → s'.troubles ≡ s.troubles → KeepsHeld start new s s'
-  pub plain : IsTrue s.plain → HoldsCurrent start s → ReadIsPlain new s' result
+  pub plain : IsTrue s.plain → HoldsCurrent start s
+      → HoldsCurrent new s' × NotGivenUpOrRefused result
 
 -- what one more call leaves
 abbrev pub ReadNext : Retrieval → Retrieval → Seen → Seen → Result CallOutcome Ended → Type 0
 ReadNext start new s s' (Ok Again) = HonestSince start new s s'
-ReadNext start new s s' (Ok Whole) = ReadIsHonest start new s s' (Ok true)
-ReadNext start new s s' (Ok Absent) = ReadIsHonest start new s s' (Ok false)
+ReadNext start new s s' (Ok (Over found)) = ReadIsHonest start new s s' (Ok found)
 ReadNext start new s s' (Err ended) = ReadIsHonest start new s s' (Err ended)
 
--- no more calls than the bound for a record of this length, but for those that made the part size fall
-abbrev pub ReadCalls : ℕ → Retrieval → Retrieval → Seen → Seen → Type 0
-ReadCalls len old new s s' =
-    s'.calls + digits new.part ≤ s.calls + step_call_bound old.tries len + digits old.part
-
--- what the last call left is what the reading gives
-abbrev pub EndsRead : Result CallOutcome Ended → Result Bool Ended → Type 0
-EndsRead (Ok Again) result = ⊥
-EndsRead (Ok Whole) result = result ≡ Ok true
-EndsRead (Ok Absent) result = result ≡ Ok false
-EndsRead (Err ended) result = result ≡ Err ended
-
 -- the answer to the last call ended the reading so
-pub record IsEnded (new : Retrieval) (result : Result Bool Ended) : Type 0 where
+pub record IsEnded (new : Retrieval) (result : Result Found Ended) : Type 0 where
   pub last : Retrieval
-  pub outcome : Result CallOutcome Ended
-  pub answered : CallIsAnswered last.reservation last new outcome
-  pub ends : EndsRead outcome result
+  pub answered : MatchResult result
+      (λ found. CallIsAnswered last.reservation last new (Ok (Over found)))
+      (λ ended. CallIsAnswered last.reservation last new (Err ended))
 
 -- what a reading leaves over any controller
-abbrev pub ReadLeaves : ℕ → Retrieval → Result Bool Ended → Type 0
-ReadLeaves id new (Ok true) =
+abbrev pub ReadLeaves : ℕ → Retrieval → Result Found Ended → Type 0
+ReadLeaves id new (Ok Whole) =
     (5 ≤ new.have) × (new.have ≤ largest_len new.shelf)
     × (new.have ≡ wanted_len new.shelf new.have new.buffer)
-ReadLeaves id new (Ok false) = Unit {0}
+ReadLeaves id new (Ok Absent) = Unit {0}
 ReadLeaves id new (Err ended) = NamesId id new.shelf ended

@@ -8,7 +8,7 @@ use Rattle.ipmi_bus.specs.Store.{rows_of}
 use Rattle.ipmi_bus.specs.Walk.{IsWalk, WalkEnd, EndsBy, place_after}
 use Rattle.ipmi_bus.specs.Seen.{Seen, IsHonest, StaysHonest, current}
 use Rattle.ipmi_bus.specs.Tries.{WithinTries, GivesUp, IsRefusedWith, NotGivenUpOrRefused}
-use Rattle.ipmi_bus.specs.Bounds.{step_call_bound, digits}
+use Rattle.ipmi_bus.specs.Bounds.{AreWithin}
 use Rattle.ipmi_bus.specs.CursorState.{CursorState}
 use Rattle.ipmi_bus.specs.Standing.{StandsAt, FollowsWalks}
 
@@ -32,11 +32,10 @@ pub record KeepsSettings (old new : CursorState) : Type 0 where
   pub part : new.part ≤ old.part
   pub part_not_zero : 0 < new.part
 
--- the id is the one asked for, or at the start the one with which the bytes begin
-abbrev pub HasIdAsked : Place → Row → Type 0
-HasIdAsked First row = row.id ≡ id_in row.bytes
-HasIdAsked (Id n) row = row.id ≡ n
-HasIdAsked End row = ⊥
+-- the id of a record that was asked for by this id: at the start the one with which its bytes begin
+abbrev pub handed_id : Place → ℕ → List ℕ → ℕ
+handed_id First asked bytes = id_in bytes
+handed_id _ asked bytes = asked
 
 -- the cursor is after a record that it handed out, and that it had not handed out before
 pub record HandsOut (old new : CursorState) (row : Row) : Type 0 where
@@ -44,7 +43,7 @@ pub record HandsOut (old new : CursorState) (row : Row) : Type 0 where
   pub ids : new.ids ≡ set.insert old.ids row.id
   pub unseen : set.contains old.ids row.id ≡ false
   pub at_most : set.len new.ids ≤ 65536
-  pub id : HasIdAsked old.place row
+  pub id : row.id ≡ handed_id old.place (asked_at old.place) row.bytes
   pub whole : length row.bytes ≡ whole_len old.shelf row.bytes
   pub fits : length row.bytes ≤ largest_len old.shelf
   pub not_at_end : old.place ≢ End
@@ -95,15 +94,6 @@ AsksAlong c s =
     → AsksNothing c ⊎ (len_of (look (rows_of c.shelf s.store) (asked_at c.place))
     ≡ len_of (first_row (drop k walk)))
 
--- a cursor that asks for a record has handed out fewer than all ids
-abbrev pub HasRoom : CursorState → Type 0
-HasRoom c = AsksNothing c ⊎ (set.len c.ids < 65536)
-
--- no more calls than the bound for a record of this length, but for those that made the part size fall
-abbrev pub StepCalls : ℕ → CursorState → CursorState → Seen → Seen → Type 0
-StepCalls len old new s s' =
-    s'.calls + digits new.part ≤ s.calls + step_call_bound old.tries len + digits old.part
-
 -- ---- over an honest controller, whatever its store does
 
 -- there is nothing more: the cursor is at the end, or at the start of an empty shelf
@@ -142,18 +132,20 @@ pub record StepIsHonest (old new : CursorState) (s s' : Seen)
   pub answers : StepAnswers old s s' result
   pub plain : IsTrue s.plain → CursorHoldsCurrent old s → StepIsPlain new s' result
   pub calls : s'.stores_added ≡ s.stores_added
-      → StepCalls (len_of (look (rows_of old.shelf s.store) (asked_at old.place))) old new s s'
+      → AreWithin old.tries (len_of (look (rows_of old.shelf s.store) (asked_at old.place)))
+      old.part new.part s s'
 
 -- ---- all of it
 
--- a step, by the cursor and the controller before and after it
+-- a step, by the cursor and the controller before and after it; a cursor that asks for a record has handed out fewer
+-- than all ids
 pub record IsStep (old new : CursorState) (s s' : Seen)
     (result : Result (Option Row) Ended) : Type 0 where
   pub same : KeepsSettings old new
   pub leaves : StepLeaves old new result
-  pub calls : StepCalls (largest_len old.shelf) old new s s'
+  pub calls : AreWithin old.tries (largest_len old.shelf) old.part new.part s s'
   pub no_call : AsksNothing old → s' ≡ s
-  pub room : HasRoom old
+  pub room : AsksNothing old ⊎ (set.len old.ids < 65536)
   pub honest : IsHonest s → StepIsHonest old new s s' result
   pub asks : IsHonest s → AsksAlong old s
   pub walks : IsHonest s → FollowsWalks old new s s' result

@@ -41,13 +41,6 @@ abbrev pub handed_out : List Stepped → List Row
 handed_out [] = []
 handed_out (step ∷ steps) = with_handed step.result (handed_out steps)
 
--- the first rows of the walk were handed out, and the cursor is after them
-pub record HandsOutPrefix (rows : List Row) (start : Place) (walk : List Row) (c : CursorState)
-    (handed : List Row) : Type 0 where
-  pub count : ℕ
-  pub handed_are : handed ≡ take count walk
-  pub stands : StandsAt rows start walk count c
-
 -- over an honest controller, while no store is added, steps hand out the first rows of the walk, none left out and none
 -- twice, whatever gave up or was refused, and whatever else was asked of the controller, between them
 abbrev pub StepsFollowWalk : Type 0
@@ -56,4 +49,5 @@ StepsFollowWalk = (c : CursorState) (s : Seen) (steps : List Stepped) (start : P
     → EndsBy (rows_of c.shelf s.store) start walk end
     → StandsAt (rows_of c.shelf s.store) start walk 0 c → AreSteps c s steps
     → (seen_after s steps).stores_added ≡ s.stores_added
-    → HandsOutPrefix (rows_of c.shelf s.store) start walk (cursor_after c steps) (handed_out steps)
+    → (count : ℕ) × (handed_out steps ≡ take count walk)
+    × StandsAt (rows_of c.shelf s.store) start walk count (cursor_after c steps)

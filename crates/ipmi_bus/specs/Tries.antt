@@ -33,12 +33,7 @@ pub record IsRefusedWith (tries code : ℕ) (old new : Seen) : Type 0 where
   pub refusals : new.refusals ≡ old.refusals + 1
   pub last_code : new.last_code ≡ code
 
--- neither given up nor refused
-abbrev pub EndsFine : Ended → Type 0
-EndsFine (GaveUp id) = ⊥
-EndsFine (Refused id code) = ⊥
-EndsFine _ = Unit {0}
-
 abbrev pub NotGivenUpOrRefused : {V : Type 0} → Result V Ended → Type 0
-NotGivenUpOrRefused (Ok v) = Unit {0}
-NotGivenUpOrRefused (Err ended) = EndsFine ended
+NotGivenUpOrRefused (Err (GaveUp id)) = ⊥
+NotGivenUpOrRefused (Err (Refused id code)) = ⊥
+NotGivenUpOrRefused _ = Unit {0}

@@ -10,12 +10,14 @@ pub use Rattle.ipmi_bus.specs.declared.controller.Shelf.TheVariants.{Sdr, Sel}
 pub use Rattle.ipmi_bus.specs.declared.cursor.Handed.{Handed}
 pub use Rattle.ipmi_bus.specs.declared.cursor.Next.{Next}
 pub use Rattle.ipmi_bus.specs.declared.cursor.Progress.{Progress}
-pub use Rattle.ipmi_bus.specs.declared.inventory.FruEnded.{FruEnded}
-pub use Rattle.ipmi_bus.specs.declared.inventory.FruRetrieval.{FruRetrieval}
-pub use Rattle.ipmi_bus.specs.declared.inventory.Size.{Size}
+pub use Rattle.ipmi_bus.specs.declared.inventory_reader.FruEnded.{FruEnded}
+pub use Rattle.ipmi_bus.specs.declared.inventory_reader.FruRetrieval.{FruRetrieval}
+pub use Rattle.ipmi_bus.specs.declared.inventory_reader.Size.{Size}
 pub use Rattle.ipmi_bus.specs.declared.readers.ValueFailure.{ValueFailure}
 pub use Rattle.ipmi_bus.specs.declared.retrieval.CallOutcome.{CallOutcome}
-pub use Rattle.ipmi_bus.specs.declared.retrieval.CallOutcome.TheVariants.{Absent, Again, Whole}
+pub use Rattle.ipmi_bus.specs.declared.retrieval.CallOutcome.TheVariants.{Again, Over}
+pub use Rattle.ipmi_bus.specs.declared.retrieval.Found.{Found}
+pub use Rattle.ipmi_bus.specs.declared.retrieval.Found.TheVariants.{Absent, Whole}
 pub use Rattle.ipmi_bus.specs.declared.retrieval.Retrieval.{Retrieval}
 pub use Rattle.ipmi_bus.specs.declared.step.Ended.{Ended}
 pub use Rattle.ipmi_bus.specs.declared.step.Ended.TheVariants.{Cycle, GaveUp, Malformed, Missing, Refused, Stalled}

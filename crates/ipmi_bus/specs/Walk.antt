@@ -77,11 +77,6 @@ EndsBy rows start (row ∷ walk) end = EndsAfter rows (row ∷ walk) (last_next 
 
 -- ---- laws
 
--- a walk from the place that has an end
-abbrev pub HasWalk : List Row → Place → Type 0
-HasWalk rows start = (walk : List Row) × (end : WalkEnd) × IsWalk rows start walk
-    × EndsBy rows start walk end
-
 -- on a well-formed shelf the rest of a walk after its first row is a walk from the place after that
 abbrev pub TailIsWalk : Type 0
 TailIsWalk =
@@ -89,10 +84,10 @@ TailIsWalk =
     → IsShelf shelf rows
     → IsWalk rows start (row ∷ walk) → IsWalk rows (place_after row.next) walk
 
--- on each well-formed shelf there is one from each place
+-- on each well-formed shelf there is a walk with an end from each place
 abbrev pub WalkExists : Type 0
 WalkExists = (shelf : Shelf) (rows : List Row) (start : Place) → IsShelf shelf rows
-    → HasWalk rows start
+    → (walk : List Row) × (end : WalkEnd) × IsWalk rows start walk × EndsBy rows start walk end
 
 -- and no other, with one end
 abbrev pub WalkIsUnique : Type 0

@@ -1,12 +1,12 @@
 //! How many bytes a call asks for, and what is to be done after one that failed.
-ghost use Rattle.std.specs.Prelude.{◌≡◌, ◌<◌};
-ghost use Rattle.ipmi_bus.specs.Prelude.{class_of, asked_len, smaller_part, FailureIs};
+ghost use Rattle.std.specs.Prelude.{◌≡◌, ◌<◌, min};
+ghost use Rattle.ipmi_bus.specs.Prelude.{class_of, smaller_part, FailureIs};
 
 use crate::code::{Code, CodeClass};
 
 /// How many bytes to ask for, with this part size, where so many are missing.
 pub(crate) fn asked_len(part: u8, missing: usize) -> usize
-    ensures { result ≡ asked_len part missing }
+    ensures { result ≡ min part missing }
 {
     usize::from(part).min(missing)
 }

@@ -1,6 +1,6 @@
 //! A management controller as a retrieval asks it, with all that is promised of its answers.
 ghost use Rattle.std.specs.Prelude.{◌≡◌, ◌+◌, ◌<◌, ◌≤◌, IfOk, OnErr, length, drop};
-ghost use Rattle.ipmi_bus.specs.Prelude.{Seen, IsHonest, info_of, reading_of, ReserveAnswers, PartAnswers, ValueAnswers, SizeAnswers, BytesAnswers};
+ghost use Rattle.ipmi_bus.specs.Prelude.{Seen, IsHonest, info_of, reading_of, ReserveAnswers, PartAnswers, ValueAnswers, SizeAnswers, BytesAnswers, part_asked};
 
 use crate::code::Code;
 use ipmi_text::Reading;
@@ -11,12 +11,12 @@ pub const FIRST_RECORD_ID: u16 = 0;
 pub const NO_NEXT_ID: u16 = 0xFFFF;
 /// The most bytes that a part may have: a length of FFh would ask for the whole record.
 pub const LARGEST_PART: u8 = 254;
-/// The bytes of a sensor data record's header. Its last one says how many bytes follow.
-pub const SDR_HEADER_LEN: usize = 5;
 /// The most bytes of a sensor data record.
 pub const LARGEST_SDR_LEN: usize = 256;
 /// The bytes of an entry of the event log.
 pub const SEL_ENTRY_LEN: usize = 16;
+/// The id of the last FRU device that there can be: FFh is no device.
+pub const LAST_FRU_DEVICE_ID: u8 = 254;
 /// How many bytes Get SDR Repository Info and Get SEL Info answer after the completion code.
 pub const INFO_LEN: usize = 14;
 /// The most bytes of an inventory, whose size is a 16-bit number.
@@ -81,15 +81,8 @@ pub trait Controller {
         ensures rest { IfOk result (λ part. drop part.got into.new ≡ drop part.got into.old) }
         ensures err { OnErr result (into.new ≡ into.old) }
         ensures honest { IsHonest (seen self.old) →
-            PartAnswers (record {
-              shelf = shelf;
-              reservation = reservation;
-              id = id;
-              offset =
-                  offset;
-              len = length into.old;
-            })
-            result into.new (seen self.old) (seen self.new) };
+            PartAnswers (part_asked shelf reservation id offset (length into.old)) result into.new
+            (seen self.old) (seen self.new) };
 
     /// Get SDR Repository Info or Get SEL Info (IPMI v2.0, sections 33.9 and 31.2): the 14 bytes after the
     /// completion code.

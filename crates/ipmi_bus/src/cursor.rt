@@ -1,15 +1,14 @@
 //! Hands out the records of a shelf, one a step, along their next ids.
-ghost use Rattle.std.specs.Prelude.{◌≡◌, ◌<◌, ◌≤◌, Ok, Err, Some, None, IfOk, IfSome, List, length};
+ghost use Rattle.std.specs.Prelude.{◌≡◌, ◌<◌, ◌≤◌, Ok, Err, Some, None, IfOk, IfSome, List, length, ◌⊎◌};
 ghost use Rattle.std.specs.FinSet as set;
 ghost use Rattle.std.specs.Option.{ForSome};
 ghost use Rattle.std.specs.Borrow.{sem};
-ghost use Rattle.ipmi_bus.specs.Prelude.{End, IsHonest, StaysHonest, Row, whole_len, largest_len, place_after, KeepsSettings, StepLeaves, StepCalls, StepIsHonest, StepAnswers, AsksNothing, HasRoom, StandsAt, IsStep, start_of, state_of, IsCursor, handed_result, handed_id, IsNext, KeepsReservation};
+ghost use Rattle.ipmi_bus.specs.Prelude.{End, IsHonest, StaysHonest, Row, whole_len, largest_len, place_after, AreWithin, KeepsSettings, StepLeaves, StepIsHonest, StepAnswers, AsksNothing, StandsAt, IsStep, start_of, state_of, IsCursor, handed_result, handed_id, IsNext, KeepsReservation};
 
 use crate::controller::{Controller, FIRST_RECORD_ID, LARGEST_SDR_LEN, NO_NEXT_ID, Shelf};
 use crate::id_table::IdTable;
-use crate::retrieval::Retrieval;
-use crate::step::{Ended, Place, Record};
-use byteorder::{ByteOrder, LittleEndian};
+use crate::retrieval::{Found, Retrieval};
+use crate::step::{Ended, Place, Record, record_id};
 use std::alloc::{AllocError, Global};
 use std::marker::Model;
 
@@ -71,10 +70,10 @@ impl Progress {
         ensures next_fits { result.next < 65536 }
         ensures len { result.len ≡ self.old.retrieval.have }
         ensures retrieval { self.new.retrieval ≡ self.old.retrieval }
-        ensures room { length self.new.retrieval.buffer ≡ 256 }
+        ensures buffer_len { length self.new.retrieval.buffer ≡ 256 }
     {
         let id = match self.place {
-            Place::First => LittleEndian::read_u16(&self.retrieval.buffer),
+            Place::First => record_id(&self.retrieval.buffer),
             Place::Id(_) | Place::End => asked,
         };
         self.ids.insert(id);
@@ -110,10 +109,10 @@ impl Progress {
         ensures fits { IfOk result (λ o. IfSome o (λ handed. handed.len ≤ 256)) }
         ensures leaves { StepLeaves (state_of self.old) (state_of self.new)
             (handed_result self.new result) }
-        ensures calls { StepCalls (largest_len self.old.retrieval.shelf) (state_of self.old)
-            (state_of self.new) (C.seen ctl.old) (C.seen ctl.new) }
+        ensures calls { AreWithin self.old.retrieval.tries (largest_len self.old.retrieval.shelf)
+            self.old.retrieval.part self.new.retrieval.part (C.seen ctl.old) (C.seen ctl.new) }
         ensures no_call { AsksNothing (state_of self.old) → C.seen ctl.new ≡ C.seen ctl.old }
-        ensures room { HasRoom (state_of self.old) }
+        ensures ids_not_full { AsksNothing (state_of self.old) ⊎ (set.len self.old.ids < 65536) }
         ensures honest { IsHonest (C.seen ctl.old) →
             StepIsHonest (state_of self.old) (state_of self.new) (C.seen ctl.old) (C.seen ctl.new)
             (handed_result self.new result) }
@@ -127,8 +126,8 @@ impl Progress {
             Next::Asks(id) => id,
         };
         match self.retrieval.read(ctl, asked) {
-            Ok(true) => Ok(Some(self.hand_out(asked))),
-            Ok(false) => {
+            Ok(Found::Whole) => Ok(Some(self.hand_out(asked))),
+            Ok(Found::Absent) => {
                 if self.place == Place::First {
                     self.place = Place::End;
                     return Ok(None);

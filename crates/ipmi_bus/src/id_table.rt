@@ -43,7 +43,7 @@ impl IdTable {
     /// Whether the table has the id.
     pub(crate) fn contains(&self, id: u16) -> bool
         ensures is { result ≡ set.contains self.now id }
-        ensures room { result ≡ false → set.len self.now < 65536 }
+        ensures not_full { result ≡ false → set.len self.now < 65536 }
     {
         (self.bytes[usize::from(id / 8)] >> (id % 8)) & 1 == 1
     }

@@ -6,7 +6,7 @@ mod code;
 mod controller;
 mod cursor;
 mod id_table;
-mod inventory;
+mod inventory_reader;
 pub mod laws;
 mod readers;
 mod retrieval;
@@ -16,10 +16,10 @@ mod tally;
 pub use code::{Code, CodeClass};
 pub use controller::{
     Controller, FIRST_RECORD_ID, FruSize, INFO_LEN, LARGEST_INVENTORY_LEN, LARGEST_PART,
-    LARGEST_SDR_LEN, NO_NEXT_ID, Part, SDR_HEADER_LEN, SEL_ENTRY_LEN, Shelf,
+    LARGEST_SDR_LEN, LAST_FRU_DEVICE_ID, NO_NEXT_ID, Part, SEL_ENTRY_LEN, Shelf,
 };
 pub use cursor::Cursor;
-pub use inventory::{FruEnded, read_fru};
+pub use inventory_reader::{FruEnded, read_fru};
 pub use readers::{read_info, read_reading};
-pub use step::{Ended, Place, Record};
+pub use step::{Ended, Place, Record, record_id};
 pub use tally::{Event, Tally};

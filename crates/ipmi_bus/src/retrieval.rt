@@ -1,21 +1,29 @@
 //! Reads one record in parts (IPMI v2.0, section 33.12): of a sensor data record the header first, then the rest.
 ghost use Rattle.std.specs.Prelude.{◌≡◌, ◌+◌, ◌<◌, ◌≤◌, None, Some, Ok, OnOk, OnErr, IfOk, IsOk, length, take, slice_range};
-ghost use Rattle.ipmi_bus.specs.Prelude.{Retrieval, Seen, IsHonest, StaysHonest, PartAnswers, class_of, largest_len};
+ghost use Rattle.ipmi_bus.specs.Prelude.{Retrieval, Seen, IsHonest, StaysHonest, PartAnswers, class_of, largest_len, AreWithin, part_asked, len_of, look, rows_of};
 
 use crate::calls::{Failure, after_failure, asked_len, smaller_part};
 use crate::code::Code;
-use crate::controller::{Controller, LARGEST_SDR_LEN, Part, SDR_HEADER_LEN, SEL_ENTRY_LEN, Shelf};
+use crate::controller::{Controller, LARGEST_SDR_LEN, Part, SEL_ENTRY_LEN, Shelf};
 use crate::step::Ended;
+use ipmi_text::{SDR_HEADER_LEN, sdr_len};
+
+/// What the reading of a record found.
+#[derive(Clone, Copy)]
+pub(crate) enum Found {
+    /// The record, which is whole.
+    Whole,
+    /// That there is no such record.
+    Absent,
+}
 
 /// What a call brought.
 #[derive(Clone, Copy)]
 pub(crate) enum CallOutcome {
     /// There is more to ask for.
     Again,
-    /// The record is whole.
-    Whole,
-    /// There is no such record.
-    Absent,
+    /// The reading is over, and found this.
+    Over(Found),
 }
 
 /// A record that is being read, and what is kept from record to record.
@@ -39,8 +47,8 @@ pub(crate) struct Retrieval {
 }
 
 impl Retrieval {
-    ghost use Rattle.ipmi_bus.specs.Retrieval.{IsOpenRecord, SameRequest, row_len, wanted_len, request_len, ReserveFails, IsReserveAnswered, PartFails, TakesRecordPart, IsAnswered, CallIsAnswered, request_of, CallLeaves};
-    ghost use Rattle.ipmi_bus.specs.Since.{begun, HonestSince, IsEnded, ReadCalls, ReadIsHonest, ReadLeaves, ReadNext};
+    ghost use Rattle.ipmi_bus.specs.Retrieval.{IsOpenRecord, SameRequest, wanted_len, request_len, ReserveFails, IsReserveAnswered, PartFails, TakesRecordPart, IsAnswered, CallIsAnswered, CallLeaves};
+    ghost use Rattle.ipmi_bus.specs.Since.{begun, HonestSince, IsEnded, ReadIsHonest, ReadLeaves, ReadNext};
 
     /// How many bytes are asked for in all, as far as the bytes that are there tell.
     fn wanted(&self) -> usize
@@ -51,7 +59,7 @@ impl Retrieval {
                 if self.have < SDR_HEADER_LEN {
                     SDR_HEADER_LEN
                 } else {
-                    SDR_HEADER_LEN + usize::from(self.buffer[4])
+                    sdr_len(&self.buffer)
                 }
             }
             Shelf::Sel => SEL_ENTRY_LEN,
@@ -115,7 +123,7 @@ impl Retrieval {
             return Err(Ended::Malformed(self.id));
         }
         if self.have == wanted {
-            Ok(CallOutcome::Whole)
+            Ok(CallOutcome::Over(Found::Whole))
         } else {
             Ok(CallOutcome::Again)
         }
@@ -138,7 +146,8 @@ impl Retrieval {
         ensures front { take self.old.have self.new.buffer ≡ take self.old.have self.old.buffer }
         ensures err { OnErr result (self.new ≡ self.old) }
         ensures honest { IsHonest (C.seen ctl.old) →
-            PartAnswers (request_of self.old reservation asked) result
+            PartAnswers (part_asked self.old.shelf reservation self.old.id self.old.have asked)
+            result
             (slice_range self.new.buffer self.old.have (self.old.have + asked))
             (C.seen ctl.old) (C.seen ctl.new) }
     {
@@ -171,7 +180,7 @@ impl Retrieval {
                 self.part = smaller_part(asked).ok_or(Ended::Stalled(self.id))?;
                 Ok(CallOutcome::Again)
             }
-            Failure::Absent => Ok(CallOutcome::Absent),
+            Failure::Absent => Ok(CallOutcome::Over(Found::Absent)),
             Failure::GiveUp => Err(Ended::GaveUp(self.id)),
             Failure::Refuse => Err(Ended::Refused(self.id, code)),
         }
@@ -219,17 +228,18 @@ impl Retrieval {
         }
     }
 
-    /// Reads the record with this id, whole, and answers whether it is there.
-    pub(crate) fn read<C: Controller>(&mut self, ctl: &mut C, id: u16) -> Result<bool, Ended>
+    /// Reads the record with this id, whole, where it is there.
+    pub(crate) fn read<C: Controller>(&mut self, ctl: &mut C, id: u16) -> Result<Found, Ended>
         requires some { 0 < self.old.part }
         requires fits { self.old.part < 255 }
         ensures request { SameRequest (begun self.old id) self.new }
-        ensures calls { ReadCalls (largest_len self.old.shelf) self.old self.new (C.seen ctl.old)
-            (C.seen ctl.new) }
+        ensures calls { AreWithin self.old.tries (largest_len self.old.shelf) self.old.part
+            self.new.part (C.seen ctl.old) (C.seen ctl.new) }
         ensures row_calls { IsHonest (C.seen ctl.old) →
             (C.seen ctl.new).stores_added ≡ (C.seen ctl.old).stores_added →
-            ReadCalls (row_len (begun self.old id) (C.seen ctl.old)) self.old self.new
-            (C.seen ctl.old) (C.seen ctl.new) }
+            AreWithin self.old.tries
+            (len_of (look (rows_of self.old.shelf (C.seen ctl.old).store) id)) self.old.part
+            self.new.part (C.seen ctl.old) (C.seen ctl.new) }
         ensures leaves { ReadLeaves id self.new result }
         ensures ended { IsEnded self.new result }
         ensures honest { IsHonest (C.seen ctl.old) →
@@ -241,8 +251,7 @@ impl Retrieval {
         'reading: loop {
             match self.make_call(ctl)? {
                 CallOutcome::Again => {}
-                CallOutcome::Whole => return Ok(true),
-                CallOutcome::Absent => return Ok(false),
+                CallOutcome::Over(found) => return Ok(found),
             }
         }
     }

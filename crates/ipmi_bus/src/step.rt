@@ -1,6 +1,9 @@
 //! Where a step of a cursor begins, and what it gives.
+ghost use Rattle.std.specs.Prelude.{◌≡◌, ◌≤◌, length};
+ghost use Rattle.ipmi_bus.specs.Shelf.{id_in};
 
 use crate::code::Code;
+use byteorder::{ByteOrder, LittleEndian};
 use thiserror::Error;
 
 /// Where a cursor is.
@@ -23,6 +26,14 @@ pub struct Record<'a> {
     pub next: u16,
     /// All bytes of the record, its header first.
     pub bytes: &'a [u8],
+}
+
+/// The record id that a sensor data record or an entry of the event log begins with.
+pub fn record_id(bytes: &[u8]) -> u16
+    requires { 2 ≤ length bytes.now }
+    ensures { result ≡ id_in bytes.now }
+{
+    LittleEndian::read_u16(bytes)
 }
 
 /// Why a step gave no record. Each names the id that was to be asked for: 0000h for the first record.

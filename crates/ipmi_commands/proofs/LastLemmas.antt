@@ -5,7 +5,7 @@ use Rattle.std.proofs.Math.Seq.{drop-nil}
 use Rattle.ipmi_commands.specs.Below.{CursorState, Place, Seen, IsHonest, stays_refl, stays_trans, Row, StandsAt, asked_at, Store, rows_of, WalkEnd, Done, place_after, place_after_rows, Count, Task, shelf_of}
 use Rattle.ipmi_commands.specs.Prelude.{Listed, Span, Stop, ListsSpan, SpanAlong, course, item_in, span_items, span_plan, IsListing, IsOutcome, walk_call_bound, second_walk_bound, Request, request, Change, change, OnWalk, Plan, Item, Passed, Spot, AtRecord, RunEnd, WalkEnds, row_items, run_end, spots_along, spots_of_walk, end_spots, spots_at, last_items, last_plan, with_first_spots, end_spots_of_last, Printed, Outcome, IsAllowed, IsAmong, Performs}
 use Rattle.ipmi_commands.specs.Plan as plan
-use Rattle.ipmi_bus.proofs.InventoryLemmas.{digits_most}
+use Rattle.ipmi_bus.specs.Bounds.{digits_most}
 use Rattle.ipmi_commands.proofs.ItemLemmas.{none_printed, no_text, Carried, allowed_carried}
 use Rattle.ipmi_commands.proofs.ListingLemmas.{between, counts_since, stopped_otherwise}
 use Rattle.ipmi_commands.proofs.PerformLemmas.{same_printed}

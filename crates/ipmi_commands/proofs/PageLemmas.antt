@@ -5,7 +5,7 @@ use Rattle.std.proofs.lemmas.List.{take_min, at_drop_more}
 use Rattle.ipmi_commands.specs.Below.{Place, First, Id, End, Cycle, Row, rows_of, row_at, IsWalk, WalkEnd, Done, CycleAt, MissingAt, EndsBy, place_after_rows, Seen, IsHonest, stays_refl, CursorState, start_of, StandsAt, Task, shelf_of}
 use Rattle.ipmi_commands.specs.Prelude.{Stop, Listed, is_done, is_reached, stop_at_end, first_plan, up_to, most_for_one, most_on_walk, IsOutcome, IsListing, ListingCalls, course, Request, OnWalk, Outcome, IsAllowed, CountsSo, IsFine, RunEnd, first_rows, first_end, WalkEnds, row_items, run_end, done_end, request, change, start_at, GoesOn, IsPage, IsStopped, ArePages, pages_made}
 use Rattle.ipmi_commands.specs.Plan as plan
-use Rattle.ipmi_bus.proofs.InventoryLemmas.{digits_most}
+use Rattle.ipmi_bus.specs.Bounds.{digits_most}
 use Rattle.ipmi_commands.proofs.ItemLemmas.{none_printed}
 use Rattle.ipmi_commands.proofs.ListingLemmas.{first_end-none}
 use Rattle.ipmi_commands.proofs.NameLemmas.{done_by, end_is}

@@ -24,7 +24,7 @@ pub use Rattle.ipmi_bus.specs.Tries.{WithinTries}
 pub use Rattle.ipmi_bus.specs.Walk.{AllOf, CycleAt, Done, EndsAfter, EndsBy, EndsEmpty, has_id, IsWalk, last_next, MissingAt, place_after, place_after_rows, row_at, TailIsWalk, WalkEnd, WalkExists}
 pub use Rattle.ipmi_bus.specs.declared.controller.Shelf.{Shelf}
 pub use Rattle.ipmi_bus.specs.declared.controller.Shelf.TheVariants.{Sdr, Sel}
-pub use Rattle.ipmi_bus.specs.declared.inventory.FruEnded.{FruEnded}
+pub use Rattle.ipmi_bus.specs.declared.inventory_reader.FruEnded.{FruEnded}
 pub use Rattle.ipmi_bus.specs.declared.step.Ended.{Ended}
 pub use Rattle.ipmi_bus.specs.declared.step.Ended.TheVariants.{Cycle, GaveUp, Malformed, Missing, Refused, Stalled}
 pub use Rattle.ipmi_bus.specs.declared.step.Place.{Place}

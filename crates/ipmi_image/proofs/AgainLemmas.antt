@@ -8,7 +8,7 @@ use Rattle.std.proofs.lemmas.List.Elements.{All-head, All-tail, All-take, All-dr
 use Rattle.byteorder.specs.Endian.{big_bytes}
 use Rattle.hex.specs.Hex.{encode_lower}
 use Rattle.ipmi_image.specs.Below.{Shelf, Sdr, Sel, AreBytes, Store, Inventory, SensorReading, IsInventory, IsInfo, IsSensorReading, OtherSensor, IsStore, inventory_in, reading_in}
-use Rattle.ipmi_image.specs.Prelude.{pieces, an_inventory, a_reading, an_info, the_end, first_of, with_bytes, info_fault, fault_in, store_of_image, hex_of, rows_lines, first_parts, part_fields, inventory_lines, reading_fields, info_lines, other_lines, lines_text, image_text_of, IsSaved}
+use Rattle.ipmi_image.specs.Prelude.{pieces, an_inventory, a_reading, an_info, the_end, first_of, with_bytes, info_fault, fault_in, store_of_image, hex_of, rows_lines, first_parts, part_fields, inventory_lines, reading_fields, info_lines, other_lines, lines_text, image_text_of, IsSaved, Version}
 use Rattle.ipmi_image.proofs.TextLemmas.{Lacks, pieces-more}
 use Rattle.ipmi_image.proofs.ReadLemmas.{line_judged-found, store_after_line, store_of_image-lines}
 use Rattle.ipmi_image.proofs.ParseLemmas.{a_word, a_hex, pieces-join_with_byte, line_of-fields, AreBytes-big_bytes, word_of, line_of_fields-part_fields, bytes_of_reading, AreBytes-bytes_of_reading, line_of_fields-reading_fields, line_of_fields-info}
@@ -207,8 +207,8 @@ end_gives : (store : Store) (kept : Kept) → store_kept kept ≡ store
     → Gives store kept ((codes "end" ∷ []) ∷ [])
 unfolding pieces
 end_gives store kept same = λ before is.
-    let found = line_judged-found true before (codes "end") the_end None (line_of-fields (codes "end") [] (a_word (codes "end") refl, tt)) refl in
-    rw (pieces-more 10 (codes "end") [] (pieces-join_with_byte (codes "end") [] (a_word (codes "end") refl, tt)).0, store_after_line true before (codes "end") [], found) (ap Ok (ap store_kept is ∙ same))
+    let found = line_judged-found Version.Two before (codes "end") the_end None (line_of-fields (codes "end") [] (a_word (codes "end") refl, tt)) refl in
+    rw (pieces-more 10 (codes "end") [] (pieces-join_with_byte (codes "end") [] (a_word (codes "end") refl, tt)).0, store_after_line Version.Two before (codes "end") [], found) (ap Ok (ap store_kept is ∙ same))
 
 pub store_of_image_image_text_of : (store : Store) → IsStore store → IsSaved store
     → store_of_image (image_text_of store) ≡ Ok store
@@ -227,7 +227,7 @@ store_of_image_image_text_of store is saved =
     (readings_give store inventories store.readings _ is.readings saved.luns
     is.distinct_readings infos) in
     let lines = rows_lines (codes "sdr") store.sdr ++ (rows_lines (codes "sel") store.sel ++ other_lines store) in
-    store_of_image-lines _ (codes "ipmi-image 2") (lines_text lines) true (pieces-more 10 (codes "ipmi-image 2") (lines_text lines) header) refl
+    store_of_image-lines _ (codes "ipmi-image 2") (lines_text lines) Version.Two (pieces-more 10 (codes "ipmi-image 2") (lines_text lines) header) refl
     ∙ shelf_gives store Sdr nothing store.sdr _ is.sdr (shelf_gives store Sel (with_rows Sdr nothing (saved_rows store.sdr)) store.sel _ is.sel others) [] refl
   where
     header : Lacks 10 (codes "ipmi-image 2")

@@ -1,5 +1,5 @@
 -- The lines of a rewritten image, read again.
-use Rattle.std.proofs.Common.{◌≡◌, ℕ, zero, suc, ◌*◌, ◌^◌, ◌/◌, ◌%◌, ◌<◌, ◌≤◌, Bool, true, false, cond, nat_eq, nat_lt, ◌==◌, ◌||◌, None, Some, Ok, List, [], ◌∷◌, length, slice_index, drop, refl, ap, ◌∙◌, append-nil, arith, codes, option_map, if◌then◌else◌}
+use Rattle.std.proofs.Common.{◌≡◌, ℕ, zero, suc, ◌*◌, ◌^◌, ◌/◌, ◌%◌, ◌<◌, ◌≤◌, Bool, true, false, cond, nat_eq, nat_lt, ◌==◌, ◌||◌, None, Some, Ok, List, [], ◌∷◌, length, slice_index, drop, refl, ap, ◌∙◌, append-nil, arith, codes, option_map, if◌then◌else◌, ok_or, Err}
 use Rattle.std.specs.Result.{result_ok}
 use Rattle.std.specs.List.{AllPass, list_all, join_with_byte}
 use Rattle.std.proofs.lemmas.Bool.Decides.{nat_tests}
@@ -11,7 +11,7 @@ use Rattle.byteorder.specs.Numbers.{length-bytes_high_first, big_number-reads_ba
 use Rattle.hex.specs.Hex.{IsBytes, encode_lower, encode_with, decode_pairs, lower_digits}
 use Rattle.hex.proofs.HexLemmas.{decode_of-encode_lower, length-encode_with}
 use Rattle.ipmi_image.specs.Below.{Shelf, Sdr, Sel, AreBytes, Row, whole_len, IsRow, SensorReading, IsInfo, IsSensorReading}
-use Rattle.ipmi_image.specs.Prelude.{pieces, SavedRow, a_row, an_inventory, a_reading, an_info, is_some_text, bytes_in, number_in, digit_in, next_in, is_dash, row_line, info_line_of, line_of_fields, line_of, hex_of, next_field, row_fields, part_fields, reading_fields}
+use Rattle.ipmi_image.specs.Prelude.{pieces, SavedRow, a_row, an_inventory, a_reading, an_info, is_some_text, bytes_in, number_in, next_in, is_dash, row_line, LineFault, line_of_fields, line_of, hex_of, next_field, row_fields, part_fields, reading_fields, Version}
 use Rattle.ipmi_image.proofs.RewriteLemmas.{of_lun, drop_hex_of_lun}
 use Rattle.ipmi_image.proofs.TextLemmas.{Lacks, pieces-one, pieces-more}
 
@@ -56,9 +56,9 @@ pieces-join_with_byte first (second ∷ fields) are =
     )
 
 pub line_of-fields : (first : List ℕ) (fields : List (List ℕ)) → AreFields (first ∷ fields)
-    → line_of true (join_with_byte 32 (first ∷ fields)) ≡ line_of_fields true (first ∷ fields)
+    → line_of Version.Two (join_with_byte 32 (first ∷ fields)) ≡ line_of_fields Version.Two (first ∷ fields)
 unfolding line_of
-line_of-fields first fields are = ap (line_of_fields true) (pieces-join_with_byte first fields are).1
+line_of-fields first fields are = ap (line_of_fields Version.Two) (pieces-join_with_byte first fields are).1
 
 -- ---- numbers and bytes
 
@@ -113,7 +113,7 @@ next_in-next_field following next lt = by (nat_eq next following)
 
 -- a row has bytes
 pub line_of_fields-row_fields : (shelf : Shelf) (following : ℕ) (row : Row) → IsRow shelf row
-    → line_of_fields true (row_fields (word_of shelf) following row)
+    → line_of_fields Version.Two (row_fields (word_of shelf) following row)
     ≡ Ok (a_row shelf (saved_row following row))
 line_of_fields-row_fields shelf following row ok =
     let whole = ok.whole in
@@ -121,14 +121,14 @@ line_of_fields-row_fields shelf following row ok =
     let next = next_in-next_field following row.next ok.next in
     (by shelf).0 ∙ rw (number_in-hex_of 2 row.id (omega (arith, id)), next.1, bytes_in-encode_lower row.bytes ok.bytes, length-hex_of 2 row.id, next.0, is_some_text-encode_lower row.bytes (omega (arith, whole, (by shelf).1))) refl
   where
-    by : (s : Shelf) → (line_of_fields true (row_fields (word_of s) following row)
-        ≡ row_line true s (hex_of 2 row.id) (next_field following row.next)
+    by : (s : Shelf) → (line_of_fields Version.Two (row_fields (word_of s) following row)
+        ≡ row_line Version.Two s (hex_of 2 row.id) (next_field following row.next)
         (encode_lower row.bytes)) × (0 < whole_len s row.bytes)
     by Sdr = (refl, omega arith)
     by Sel = (refl, omega arith)
 
 pub line_of_fields-part_fields : (id : ℕ) (part : List ℕ) → id ≤ 254 → 0 < length part
-    → AreBytes part → line_of_fields true (part_fields id part) ≡ Ok (an_inventory id part)
+    → AreBytes part → line_of_fields Version.Two (part_fields id part) ≡ Ok (an_inventory id part)
 line_of_fields-part_fields id part le some bytes = rw (number_in-hex_of 1 id (omega (arith, le)), bytes_in-encode_lower part bytes, length-hex_of 1 id, is_some_text-encode_lower part some) refl
 
 -- the four bytes of a reading
@@ -142,24 +142,26 @@ AreBytes-bytes_of_reading sensor ok =
     let r = sensor.reading in
     cons r.raw (r.flags ∷ r.status ∷ r.more ∷ []) ok.raw (cons r.flags (r.status ∷ r.more ∷ []) ok.flags (cons r.status (r.more ∷ []) ok.status (cons r.more [] ok.more (All-nil (λ (b : ℕ). b < 256)))))
 
-digit_in-lun : (lun : ℕ) → lun ≤ 3 → digit_in (drop 1 (hex_of 1 lun)) ≡ Some lun
+number_in-lun : (lun : ℕ) → lun ≤ 3 → number_in 1 (48 ∷ drop 1 (hex_of 1 lun)) ≡ Some lun
 unfolding decode_pairs encode_with
-digit_in-lun = of_lun (λ lun. digit_in (drop 1 (hex_of 1 lun)) ≡ Some lun) refl refl refl refl
+number_in-lun = of_lun (λ lun. number_in 1 (48 ∷ drop 1 (hex_of 1 lun)) ≡ Some lun) refl refl refl refl
 
 pub line_of_fields-reading_fields : (sensor : SensorReading) → sensor.lun ≤ 3
-    → IsSensorReading sensor → line_of_fields true (reading_fields sensor)
+    → IsSensorReading sensor → line_of_fields Version.Two (reading_fields sensor)
     ≡ Ok (a_reading sensor.lun sensor.number (bytes_of_reading sensor))
 line_of_fields-reading_fields sensor le ok =
     let bytes = bytes_of_reading sensor in
     let len : length (drop 1 (hex_of 1 sensor.lun)) ≡ 1 = ap length (drop_hex_of_lun sensor.lun le) in
-    rw (digit_in-lun sensor.lun le, number_in-hex_of 1 sensor.number ok.number, bytes_in-encode_lower bytes (AreBytes-bytes_of_reading sensor ok), len, length-hex_of 1 sensor.number, is_some_text-encode_lower bytes (omega arith)) refl
+    rw (number_in-lun sensor.lun le, number_in-hex_of 1 sensor.number ok.number, bytes_in-encode_lower bytes (AreBytes-bytes_of_reading sensor ok), len, length-hex_of 1 sensor.number, is_some_text-encode_lower bytes (omega arith)) refl
 
 pub line_of_fields-info : (shelf : Shelf) (bytes : List ℕ) → IsInfo bytes
-    → line_of_fields true (codes "info" ∷ word_of shelf ∷ encode_lower bytes ∷ [])
+    → line_of_fields Version.Two (codes "info" ∷ word_of shelf ∷ encode_lower bytes ∷ [])
     ≡ Ok (an_info shelf bytes)
 line_of_fields-info shelf bytes ok = let len = ok.len in by shelf ∙ rw (bytes_in-encode_lower bytes ok.all, is_some_text-encode_lower bytes (omega (arith, len))) refl
   where
-    by : (s : Shelf) → line_of_fields true (codes "info" ∷ word_of s ∷ encode_lower bytes ∷ [])
-        ≡ info_line_of (Some s) (encode_lower bytes)
+    by : (s : Shelf) → line_of_fields Version.Two (codes "info" ∷ word_of s ∷ encode_lower bytes ∷ [])
+        ≡ (if is_some_text (encode_lower bytes)
+        then ok_or (option_map (λ b. an_info s b) (bytes_in (encode_lower bytes))) LineFault.Hex
+        else Err LineFault.Line)
     by Sdr = refl
     by Sel = refl

@@ -1,7 +1,8 @@
 -- The row that an id asks for.
-use Rattle.std.proofs.Common.{◌≡◌, ℕ, List, [], ◌∷◌, refl, arith, option_and_then}
+use Rattle.std.proofs.Common.{◌≡◌, ◌≢◌, ◌==◌, ℕ, None, Some, List, [], ◌∷◌, length, refl, arith, option_and_then, if◌then◌else◌}
+use Rattle.std.proofs.lemmas.Bool.Decides.{nat_tests}
 use Rattle.ipmi_image.specs.Below.{Shelf, Sdr, Sel, Seen, current, look}
-use Rattle.ipmi_image.specs.Prelude.{SavedRow, chained, place_asked, of_shelf}
+use Rattle.ipmi_image.specs.Prelude.{SavedRow, chained, place_asked, place_of, id_of}
 use Rattle.ipmi_image.proofs.TableLemmas.{row_at, row_with_id_chained}
 
 pub look_chained : (rows : List SavedRow) (id : ℕ)
@@ -9,7 +10,19 @@ pub look_chained : (rows : List SavedRow) (id : ℕ)
 look_chained [] id = grind arith
 look_chained (row ∷ rows) id = grind (arith, row_with_id_chained (row ∷ rows) id)
 
-pub current_of_shelf : (shelf : Shelf) (seen : Seen)
-    → current shelf seen ≡ of_shelf shelf seen.sdr_reservation seen.sel_reservation
-current_of_shelf Sdr seen = refl
-current_of_shelf Sel seen = refl
+-- what is current depends on nothing but the reservations
+pub current-same : (shelf : Shelf) (a b : Seen) → a.sdr_reservation ≡ b.sdr_reservation
+    → a.sel_reservation ≡ b.sel_reservation → current shelf a ≡ current shelf b
+current-same Sdr a b sdr sel = sdr
+current-same Sel a b sdr sel = sel
+
+-- a record is asked for by its id, but the first one by 0000h
+pub place_asked_id : (id : ℕ) (rows : List SavedRow) → id ≢ 0
+    → place_asked id rows ≡ place_of id_of id rows
+place_asked_id id [] some = refl
+place_asked_id id (row ∷ rows) some = grind (arith, nat_tests)
+
+pub place_asked_first : (rows : List SavedRow)
+    → place_asked 0 rows ≡ (if length rows == 0 then None else Some 0)
+place_asked_first [] = refl
+place_asked_first (row ∷ rows) = grind (arith, nat_tests)

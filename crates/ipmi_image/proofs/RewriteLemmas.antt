@@ -3,7 +3,8 @@ use Rattle.std.proofs.Common.{◌≡◌, ℕ, zero, suc, ◌+◌, ◌/◌, ◌�
 use Rattle.std.proofs.lemmas.List.{map-append, drop_more, take_min, drop_min}
 use Rattle.std.proofs.lemmas.List.Folds.{concat-append}
 use Rattle.hex.specs.Hex.{encode_with}
-use Rattle.ipmi_image.specs.Prelude.{SavedRow, chained, first_id, hex_of, parts_of, first_row_id}
+use Rattle.ipmi_image.specs.Below.{Row}
+use Rattle.ipmi_image.specs.Prelude.{SavedRow, chained, first_id, hex_of, parts_of, id_of}
 use Rattle.ipmi_image.proofs.RowsLemmas.{drop-past, found_below}
 
 -- what holds of each LUN
@@ -26,9 +27,10 @@ parts_of_more bytes some = rw count refl
     count : (length bytes + 63) / 64 ≡ suc ((length (drop 64 bytes) + 63) / 64)
     count = let len = length-drop 64 bytes in rw len (omega (arith, some))
 
-pub first_row_id-chained : (rows : List SavedRow) → first_row_id (chained rows) ≡ first_id rows
-first_row_id-chained [] = refl
-first_row_id-chained (row ∷ rows) = refl
+pub first_id-chained : (rows : List SavedRow)
+    → first_id (λ (row : Row). row.id) (chained rows) ≡ first_id id_of rows
+first_id-chained [] = refl
+first_id-chained (row ∷ rows) = refl
 
 -- texts one after the other
 pub ruleset texts = (map-append, concat-append, append_assoc, append-nil, drop_more, take_min, drop_min)

@@ -15,7 +15,7 @@ place_of_row_in bytes id (head ∷ heads) = rw (place_of_row_in bytes id heads) 
 
 -- the id of the row at a place
 pub first_id_at : (bytes : List ℕ) (heads : List RowHead) (place : ℕ)
-    → first_id (drop place (map (row_in bytes) heads))
+    → first_id id_of (drop place (map (row_in bytes) heads))
     ≡ unwrap_or (option_map head_id (slice_get heads place)) 65535
 first_id_at bytes [] zero = refl
 first_id_at bytes [] (suc place) = refl

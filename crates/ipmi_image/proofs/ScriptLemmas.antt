@@ -1,9 +1,10 @@
 -- An answer after what a mood did, and an answer that a mood made.
-use Rattle.std.proofs.Common.{◌≡◌, ℕ, Bool, true, false, Option, Result, Ok, Err, List, [], refl, sym, ◌∙◌, arith, IsTrue, true≢false}
+use Rattle.std.proofs.Common.{◌≡◌, ℕ, Bool, true, false, Option, Result, Ok, Err, List, [], refl, sym, ◌∙◌, arith, IsTrue, true≢false, MatchResult}
 use Rattle.std.specs.Vec.Iter.{into_iter_deque, into_iter_items, into_iter_len}
 use Rattle.std.proofs.lemmas.List.{nil_from_length}
-use Rattle.ipmi_image.specs.Below.{Shelf, Sdr, Sel, Part, FruSize, Code, CodeClass, Cancelled, Busy, SmallerPart, NotPresent, Refusal, class_of, Store, Seen, IsHonest, IsQuiet, IsFinished, IsChange, MayLoseReservation, current, Asked, other, FailsWith, CountsPiece, ReserveAnswers, PartGives, PartAnswers, ValueGives, ValueAnswers, SizeGives, SizeAnswers, BytesGives, BytesAnswers}
-use Rattle.ipmi_image.specs.Prelude.{Prepares, Responder, Scripted, seen_as}
+use Rattle.ipmi_image.specs.Below.{Shelf, Sdr, Sel, Part, FruSize, Code, CodeClass, Cancelled, Busy, SmallerPart, NotPresent, Refusal, class_of, Store, Seen, IsHonest, IsQuiet, IsFinished, IsChange, MayLoseReservation, current, Asked, other, FailsWith, CountsPiece, ReserveAnswers, PartAnswers, ValueAnswers, SizeAnswers, BytesAnswers}
+use Rattle.ipmi_image.specs.declared.scripted.Turn.{Turn}
+use Rattle.ipmi_image.specs.Prelude.{Turns, Responder, Scripted, seen_as}
 
 -- where no mood is counted, none is left
 pub no_moods_left : (s : Scripted) → into_iter_len s.moods ≡ 0 → into_iter_items s.moods ≡ []
@@ -14,8 +15,8 @@ pub plainly : (r : Responder) → IsHonest (seen_as false r) → IsHonest (seen_
 plainly r honest = record { said = honest.said; store = honest.store }
 
 -- a plain controller's answer, from `mid` to `answered`, is one that is not plain too, from `old` to `new`
-module _ (old : Seen) (r r' : Responder) (plain : old.plain ≡ false)
-    (first : Prepares old (seen_as false r))
+module _ {asked most : ℕ} (old : Seen) (r r' : Responder) (plain : old.plain ≡ false)
+    (first : Turns asked (Turn.Answers most) old (seen_as false r))
     (change : IsChange (seen_as true r) (seen_as true r')) where
   abbrev mid : Seen
   mid = seen_as true r
@@ -29,11 +30,14 @@ module _ (old : Seen) (r r' : Responder) (plain : old.plain ≡ false)
   same : new.stores_added ≡ mid.stores_added
   same = change.stays.plain_store refl
 
+  calm : IsQuiet old (seen_as false r)
+  calm = first.gives
+
   quiet : IsQuiet mid answered → IsQuiet old new
-  quiet q = omega arith
+  quiet q = let c = calm in omega arith
 
   finished : IsFinished mid answered → IsFinished old new
-  finished q = omega arith
+  finished q = let c = calm in omega arith
 
   piece : (b : Bool) → CountsPiece b mid answered → CountsPiece b old new
   piece true h = finished h
@@ -41,11 +45,11 @@ module _ (old : Seen) (r r' : Responder) (plain : old.plain ≡ false)
 
   fails : (P Q : Type 0) (class : CodeClass) (code : ℕ) → FailsWith P Q class code mid answered
       → FailsWith P Q class code old new
-  fails P Q Cancelled code q = omega arith
-  fails P Q Busy code q = omega arith
+  fails P Q Cancelled code q = let c = calm in omega arith
+  fails P Q Busy code q = let c = calm in omega arith
   fails P Q SmallerPart code h = (h.0, quiet h.1)
   fails P Q NotPresent code h = (h.0, finished h.1)
-  fails P Q Refusal code q = omega arith
+  fails P Q Refusal code q = let c = calm in omega arith
 
   not_plain : {A : Type 0} → IsTrue old.plain → A
   not_plain {A} h = absurd (true≢false (sym h ∙ plain))
@@ -80,6 +84,13 @@ module _ (old : Seen) (r r' : Responder) (plain : old.plain ≡ false)
     plain = λ p. not_plain p;
   }
 
+  given : {V : Type 0} {Gave Gives : V → Type 0} (P Q : Type 0) (result : Result V Code)
+      → ((v : V) → Gave v → Gives v)
+      → MatchResult result Gave (λ code. FailsWith P Q (class_of code.0) code.0 mid answered)
+      → MatchResult result Gives (λ code. FailsWith P Q (class_of code.0) code.0 old new)
+  given P Q (Ok v) goes gave = goes v gave
+  given P Q (Err code) goes gave = fails P Q (class_of code.0) code.0 gave
+
   pub after_reserve : (shelf : Shelf) (number : ℕ) → ReserveAnswers shelf (Ok number) mid answered
       → ReserveAnswers shelf (Ok number) old new
   after_reserve shelf number a = record {
@@ -93,38 +104,50 @@ module _ (old : Seen) (r r' : Responder) (plain : old.plain ≡ false)
       → PartAnswers ask result into mid answered → PartAnswers ask result into old new
   after_part ask result into a = record {
     change = changed;
-    gives = by result a.gives;
+    gives = given _ _ result
+        (λ part g. (
+          g.0,
+          record {
+            found = g.1.found;
+            piece = g.1.piece;
+            next = g.1.next;
+            reserved = λ some. sym (reserved ask.shelf) ∙ g.1.reserved some;
+            counts = piece _ g.1.counts;
+          },
+        )) a.gives;
     keeps = loses ask.shelf a.keeps;
     beside = loses (other ask.shelf) a.beside;
     plain = λ p. not_plain p;
   }
-    where
-      by : (r : Result Part Code) → PartGives ask r into mid answered → PartGives ask r into old new
-      by (Ok part) g = (g.0, record { found = g.1.found; piece = g.1.piece; next = g.1.next; reserved = λ some. sym (reserved ask.shelf) ∙ g.1.reserved some; counts = piece _ g.1.counts })
-      by (Err code) g = fails _ _ (class_of code.0) code.0 g
 
   pub after_value : {V : Type 0} (value : Store → Option V) (result : Result V Code)
       → ValueAnswers value result mid answered → ValueAnswers value result old new
-  after_value {V} value result a = record { change = changed; gives = by result a.gives; sdr = loses Sdr a.sdr; sel = loses Sel a.sel; plain = λ p. not_plain p }
-    where
-      by : (r : Result V Code) → ValueGives value r mid answered → ValueGives value r old new
-      by (Ok v) g = (g.0, finished g.1)
-      by (Err code) g = fails _ _ (class_of code.0) code.0 g
+  after_value value result a = record {
+    change = changed;
+    gives = given _ _ result (λ v g. (g.0, finished g.1)) a.gives;
+    sdr = loses Sdr a.sdr;
+    sel = loses Sel a.sel;
+    plain = λ p. not_plain p;
+  }
 
   pub after_size : (id : ℕ) (result : Result FruSize Code) → SizeAnswers id result mid answered
       → SizeAnswers id result old new
-  after_size id result a = record { change = changed; gives = by result a.gives; sdr = loses Sdr a.sdr; sel = loses Sel a.sel; plain = λ p. not_plain p }
-    where
-      by : (r : Result FruSize Code) → SizeGives id r mid answered → SizeGives id r old new
-      by (Ok size) g = (g.0, g.1, record { size_is = g.2.size_is; no_words = g.2.no_words; counts = piece _ g.2.counts })
-      by (Err code) g = fails _ _ (class_of code.0) code.0 g
+  after_size id result a = record {
+    change = changed;
+    gives = given _ _ result
+        (λ size g. (g.0, g.1, g.2, g.3, piece _ g.4)) a.gives;
+    sdr = loses Sdr a.sdr;
+    sel = loses Sel a.sel;
+    plain = λ p. not_plain p;
+  }
 
   pub after_bytes : (id offset asked : ℕ) (result : Result ℕ Code) (into : List ℕ)
       → BytesAnswers id offset asked result into mid answered
       → BytesAnswers id offset asked result into old new
-  after_bytes id offset asked result into a = record { change = changed; gives = by result a.gives; sdr = loses Sdr a.sdr; sel = loses Sel a.sel; plain = λ p. not_plain p }
-    where
-      by : (r : Result ℕ Code) → BytesGives id offset asked r into mid answered
-          → BytesGives id offset asked r into old new
-      by (Ok got) g = (g.0, g.1, record { piece = g.2.piece; counts = piece _ g.2.counts })
-      by (Err code) g = fails _ _ (class_of code.0) code.0 g
+  after_bytes id offset asked result into a = record {
+    change = changed;
+    gives = given _ _ result (λ got g. (g.0, g.1, g.2, piece _ g.3)) a.gives;
+    sdr = loses Sdr a.sdr;
+    sel = loses Sel a.sel;
+    plain = λ p. not_plain p;
+  }

@@ -1,9 +1,10 @@
 -- The rows of some lines as a shelf: what one more row changes.
-use Rattle.std.proofs.Common.{◌≡◌, ◌≢◌, ℕ, ◌<◌, Bool, true, false, not, nat_eq, nat_lt, ◌&&◌, None, Some, List, [], ◌∷◌, ◌++◌, length, refl, arith, eqb-true, unwrap_or}
+use Rattle.std.proofs.Common.{◌≡◌, ◌≢◌, ℕ, ◌<◌, Bool, true, false, not, nat_eq, nat_lt, ◌&&◌, is_some, None, Some, IfSome, List, [], ◌∷◌, ◌++◌, length, drop, refl, arith, eqb-true, unwrap_or}
 use Rattle.std.proofs.lemmas.Bool.{eqb-false, ltb-false, not-false, or_parts}
 use Rattle.std.proofs.lemmas.Bool.Decides.{nat_tests}
-use Rattle.ipmi_image.specs.Below.{Shelf, AreBytes, Row, whole_len, largest_len, IsRow, AllRows, LacksId, DistinctIds, BeginsWithId, LaterHaveIds, IsShelf, has_id}
-use Rattle.ipmi_image.specs.Prelude.{SavedRow, LineFault, chained, row_before, is_empty, is_no_record, is_no_id, begins_with_another, first_fault, row_fault}
+use Rattle.ipmi_image.specs.Below.{Shelf, AreBytes, Row, whole_len, largest_len, IsRow, AllRows, LacksId, DistinctIds, first_row, id_in, IsShelf, has_id}
+use Rattle.ipmi_image.specs.Prelude.{SavedRow, LineFault, chained, is_no_record, is_no_id, begins_with_another, first_fault, row_fault}
+use Rattle.ipmi_image.proofs.TableLemmas.{row_before}
 
 -- a row stays one with another next id
 other_next : (shelf : Shelf) (row : SavedRow) (following : List SavedRow) (last : SavedRow)
@@ -30,15 +31,19 @@ DistinctIds-snoc (r ∷ rows) row h new =
     let parts = or_parts (nat_eq row.id r.id) (has_id (chained rows) row.id) new in
     (LacksId-snoc r.id rows row h.0 (eqb-false row.id r.id parts.0), DistinctIds-snoc rows row h.1 parts.1)
 
-BeginsWithId-snoc : (rows : List SavedRow) (row : SavedRow) → BeginsWithId (chained rows)
-    → begins_with_another (chained rows) row ≡ false → BeginsWithId (chained (rows ++ row ∷ []))
+-- the first row's bytes begin with its id
+abbrev BeginsWithId : List SavedRow → Type 0
+BeginsWithId rows = IfSome (first_row (chained rows)) (λ r. id_in r.bytes ≡ r.id)
+
+BeginsWithId-snoc : (rows : List SavedRow) (row : SavedRow) → BeginsWithId rows
+    → begins_with_another (chained rows) row ≡ false → BeginsWithId (rows ++ row ∷ [])
 BeginsWithId-snoc [] row h own = eqb-true _ _ (not-false _ own)
 BeginsWithId-snoc (r ∷ rows) row h own = h
 
-LaterHaveIds-snoc : (rows : List SavedRow) (row : SavedRow) → LaterHaveIds (chained rows)
-    → is_no_id (chained rows) row.id ≡ false → LaterHaveIds (chained (rows ++ row ∷ []))
-LaterHaveIds-snoc [] row h is_id = tt
-LaterHaveIds-snoc (r ∷ rows) row h is_id = LacksId-snoc 0 rows row h (λ zero. grind (arith, nat_tests))
+later-snoc : (rows : List SavedRow) (row : SavedRow) → LacksId 0 (drop 1 (chained rows))
+    → is_no_id (chained rows) row.id ≡ false → LacksId 0 (drop 1 (chained (rows ++ row ∷ [])))
+later-snoc [] row h is_id = tt
+later-snoc (r ∷ rows) row h is_id = LacksId-snoc 0 rows row h (λ zero. grind (arith, nat_tests))
 
 -- ---- a row whose id was looked for last
 
@@ -66,7 +71,7 @@ pub shelf_with : (shelf : Shelf) (rows : List SavedRow) (row : SavedRow)
     → AreBytes row.bytes → IsShelf shelf (chained rows) → IsShelf shelf (chained (rows ++ row ∷ []))
 shelf_with shelf rows row fine id next bytes old =
     let parts = no_fault (is_no_id (chained rows) row.id) (has_id (chained rows) row.id) (is_no_record shelf row.bytes) (begins_with_another (chained rows) row) fine in
-    let ne = eqb-false row.id 65535 (or_parts (nat_eq row.id 0 && not (is_empty (chained rows))) (nat_eq row.id 65535) parts.0).1 in
+    let ne = eqb-false row.id 65535 (or_parts (nat_eq row.id 0 && is_some (first_row (chained rows))) (nat_eq row.id 65535) parts.0).1 in
     let sized = or_parts (not (nat_eq (length row.bytes) (whole_len shelf row.bytes))) (nat_lt (largest_len shelf) (length row.bytes)) parts.2 in
     record {
       all = AllRows-snoc shelf rows row old.all (record {
@@ -78,5 +83,5 @@ shelf_with shelf rows row fine id next bytes old =
       });
       distinct = DistinctIds-snoc rows row old.distinct parts.1;
       first = BeginsWithId-snoc rows row old.first parts.3;
-      later = LaterHaveIds-snoc rows row old.later parts.0;
+      later = later-snoc rows row old.later parts.0;
     }

@@ -6,7 +6,7 @@ use Rattle.std.proofs.lemmas.List.Quantifiers.{all_pairs_push}
 use Rattle.std.proofs.lemmas.List.Elements.{All-cons, All-append, All-push, filter_map-append}
 use Rattle.std.proofs.lemmas.List.Sums.{fold-append}
 use Rattle.ipmi_image.specs.Below.{Reading, Sdr, Sel, AreBytes, Store, Inventory, SensorReading, IsInventory, IsSensorReading, OtherSensor, inventory_in, reading_in}
-use Rattle.ipmi_image.specs.Prelude.{LineFault, Contents, StoredInventory, StoredSensor, SavedRow, Line, a_row, an_inventory, a_reading, an_info, the_end, kept_inventory, row_on, chained, with_bytes, with_inventory_line, reading_of_bytes, sensor_on, info_on, first_of, store_of_lines, row_fault, inventory_fault, reading_fault, info_fault, fault_in, sensor_of, store_of, HoldsLines, Puts, IsPut, AreInventories, AreReadings}
+use Rattle.ipmi_image.specs.Prelude.{LineFault, Contents, StoredInventory, StoredSensor, SavedRow, Line, a_row, an_inventory, a_reading, an_info, the_end, kept_inventory, row_on, chained, with_bytes, with_inventory_line, reading_of_bytes, sensor_on, info_on, first_of, store_of_lines, row_fault, inventory_fault, reading_fault, info_fault, fault_in, sensor_of, store_of, HoldsLines, Puts, AreInventories, AreReadings}
 
 -- ---- one more line
 
@@ -47,6 +47,10 @@ puts_as : (f f' : Option LineFault) (P P' : Type 0) (r : Result (Unit {0}) LineF
     → (f ≡ None → P → P') → Puts f P r → Puts f' P' r
 puts_as f f' P P' (Ok done) e to put = (e ∙ put.0, to put.0 put.1)
 puts_as f f' P P' (Err x) e to put = elim put [ inl memory ↦ inl memory | inr is ↦ inr (e ∙ is) ]
+
+-- a line was put after these, or may not come there, or no memory was left
+abbrev pub IsPut : Contents → List Line → Line → Result (Unit {0}) LineFault → Type 0
+IsPut new before line result = Puts (fault_in (store_of_lines before) line) (HoldsLines new (before ++ line ∷ [])) result
 
 module _ (old : Contents) (before : List Line) (holds : HoldsLines old before) where
   fault_in-store_of_lines : (line : Line)

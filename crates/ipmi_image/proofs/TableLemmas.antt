@@ -1,5 +1,5 @@
 -- Items found by their keys.
-use Rattle.std.proofs.Common.{◌≡◌, ℕ, zero, suc, ◌<◌, ◌≤◌, Bool, true, false, cond, nat_eq, ◌&&◌, Option, None, Some, IfSome, List, [], ◌∷◌, ◌++◌, length, drop, get_or, set, map, refl, sym, ap, subst, ◌∙◌, option_map, arith, option_and_then, is_some, slice_get, All, MatchBool, is_eq, nat_cmp}
+use Rattle.std.proofs.Common.{◌≡◌, ℕ, zero, suc, ◌<◌, ◌≤◌, Bool, true, false, cond, nat_eq, ◌&&◌, Option, None, Some, IfSome, List, [], ◌∷◌, ◌++◌, length, drop, get_or, set, map, refl, sym, ap, subst, ◌∙◌, option_map, arith, option_and_then, is_some, slice_get, All, MatchBool, is_eq, nat_cmp, not, unwrap_or, true≢false}
 use Rattle.std.specs.Option.{option_or}
 use Rattle.std.specs.List.{list_any, IsDistinct}
 use Rattle.std.proofs.lemmas.Option.{none-some}
@@ -10,8 +10,8 @@ use Rattle.std.proofs.lemmas.Map.Steps.{length-le_from_distinct_below}
 use Rattle.std.proofs.lemmas.Bool.Decides.{nat_tests}
 use Rattle.std.proofs.Math.ListN.{get_or-map}
 use Rattle.std.proofs.Math.Seq.{map-set_same}
-use Rattle.ipmi_image.specs.Below.{Row, row_with_id, IsSensorReading, inventory_in, reading_in, has_id}
-use Rattle.ipmi_image.specs.Prelude.{SavedRow, StoredInventory, StoredSensor, id_of, place_of, IsIndex, sensor_key, kept_inventory, chained, row_before, is_empty, with_bytes, sensor_of}
+use Rattle.ipmi_image.specs.Below.{Row, first_row, row_with_id, IsSensorReading, inventory_in, reading_in, has_id}
+use Rattle.ipmi_image.specs.Prelude.{SavedRow, StoredInventory, StoredSensor, id_of, place_of, IsIndex, sensor_key, kept_inventory, chained, first_id, with_bytes, sensor_of}
 
 -- a last item is found where none before it has the key
 pub place_of_snoc : {T : Type 0} (key : T → ℕ) (q : ℕ) (items : List T) (item : T)
@@ -55,9 +55,14 @@ pub has_id_chained : (rows : List SavedRow) (id : ℕ)
 has_id_chained [] id = refl
 has_id_chained (row ∷ rows) id = grind (arith, nat_tests, has_id_chained rows id)
 
-pub is_empty_chained : (rows : List SavedRow) → is_empty (chained rows) ≡ nat_eq (length rows) 0
+pub is_empty_chained : (rows : List SavedRow)
+    → is_some (first_row (chained rows)) ≡ not (nat_eq (length rows) 0)
 is_empty_chained [] = refl
 is_empty_chained (row ∷ rows) = grind (arith, nat_tests)
+
+-- a row before these
+abbrev pub row_before : List SavedRow → SavedRow → Row
+row_before following row = record { id = row.id; next = unwrap_or row.next (first_id id_of following); bytes = row.bytes }
 
 -- the row at a place, with the next id that it has there
 abbrev pub row_at : List SavedRow → ℕ → Option Row
@@ -153,11 +158,9 @@ index_push key items item old new index lt absent puts = record {
   below = λ q place is. grind (arith, nat_tests, index.below q place, place_of_snoc key q items item);
 }
 
--- what was put, where none had its key
-pub was_put : {P : Type 0} (Q : Type 0) (is_new : Bool) (o : Option ℕ)
-    → MatchBool is_new ((o ≡ None) × P) ((is_some o ≡ true) × Q) → o ≡ None → P
-was_put Q true o m none = m.1
-was_put Q false o m none = let there = m.0 in cc
+-- what is not there is not found
+pub not_found : {o : Option ℕ} → o ≡ None → is_some o ≡ true → ⊥
+not_found none found = true≢false (sym found ∙ ap is_some none)
 
 -- an item in another's place, with its key, is found where that was
 place_of_set : {T : Type 0} (key : T → ℕ) (q : ℕ) (items : List T) (place : ℕ) (item d : T)

@@ -1,13 +1,13 @@
 -- The lines of a rewritten image are taken one after the other; the rows of a shelf.
-use Rattle.std.proofs.Common.{◌≡◌, ℕ, Bool, true, false, cond, not, nat_eq, None, Ok, List, [], ◌∷◌, ◌++◌, refl, sym, ap, subst, ◌∙◌, append_assoc, append-nil, arith, codes, fold, filter_map, eq-eqb, ne_eqb}
+use Rattle.std.proofs.Common.{◌≡◌, ℕ, Bool, true, false, cond, not, nat_eq, None, IfSome, Ok, List, [], ◌∷◌, ◌++◌, drop, refl, sym, ap, subst, ◌∙◌, append_assoc, append-nil, arith, codes, fold, filter_map, eq-eqb, ne_eqb}
 use Rattle.std.specs.List.{join_with_byte}
 use Rattle.std.proofs.lemmas.Bool.Decides.{nat_tests}
 use Rattle.std.proofs.lemmas.List.Elements.{filter_map-append}
 use Rattle.std.proofs.lemmas.List.Sums.{fold-append}
 use Rattle.byteorder.specs.Endian.{big_bytes}
 use Rattle.hex.specs.Hex.{encode_lower}
-use Rattle.ipmi_image.specs.Below.{Shelf, Sdr, Sel, Row, AllRows, LacksId, DistinctIds, BeginsWithId, LaterHaveIds, IsShelf, Store, Inventory, SensorReading, has_id}
-use Rattle.ipmi_image.specs.Prelude.{pieces, SavedRow, Line, a_row, line_of_fields, rows_on, first_id, chained, with_inventory_line, sensor_on, info_on, first_of, is_no_record, is_no_id, begins_with_another, row_fault, fault_in, line_judged, is_end, store_after, hex_of, first_row_id, next_field, rows_lines, lines_text}
+use Rattle.ipmi_image.specs.Below.{Shelf, Sdr, Sel, Row, AllRows, LacksId, DistinctIds, first_row, id_in, IsShelf, Store, Inventory, SensorReading, has_id}
+use Rattle.ipmi_image.specs.Prelude.{pieces, SavedRow, Line, a_row, line_of_fields, row_on, first_id, chained, with_inventory_line, sensor_on, info_on, first_of, is_no_record, is_no_id, begins_with_another, row_fault, fault_in, line_judged, is_end, store_after, hex_of, next_field, rows_lines, lines_text, id_of, Version}
 use Rattle.ipmi_image.proofs.TextLemmas.{pieces-more}
 use Rattle.ipmi_image.proofs.ReadLemmas.{store_after_line, line_judged-found}
 use Rattle.ipmi_image.proofs.ParseLemmas.{IsField, AreFields, a_word, a_hex, pieces-join_with_byte, line_of-fields, AreBytes-big_bytes, word_of, saved_row, line_of_fields-row_fields}
@@ -29,8 +29,8 @@ nothing = record { sdr = []; sel = []; inventories = []; readings = []; sdr_info
 -- and what more lines say
 abbrev pub kept_with : Kept → List Line → Kept
 kept_with kept lines = record {
-  sdr = kept.sdr ++ rows_on Sdr lines;
-  sel = kept.sel ++ rows_on Sel lines;
+  sdr = kept.sdr ++ filter_map (row_on Sdr) lines;
+  sel = kept.sel ++ filter_map (row_on Sel) lines;
   inventories = fold with_inventory_line kept.inventories lines;
   readings = kept.readings ++ filter_map sensor_on lines;
   sdr_info = kept.sdr_info ++ filter_map (info_on Sdr) lines;
@@ -53,26 +53,30 @@ kept_with-one lines line = simp (filter_map-append, fold-append)
 
 -- after lines of which this is kept, lines of these fields give the store
 abbrev pub Gives : Store → Kept → List (List (List ℕ)) → Type 0
-Gives store kept lines = (before : List Line) → kept_with nothing before ≡ kept → store_after true before (pieces 10 (lines_text lines)) ≡ Ok store
+Gives store kept lines = (before : List Line) → kept_with nothing before ≡ kept → store_after Version.Two before (pieces 10 (lines_text lines)) ≡ Ok store
 
 pub line_gives : (store : Store) (kept : Kept) (first : List ℕ) (fields : List (List ℕ))
     (line : Line) (rest : List (List (List ℕ))) → AreFields (first ∷ fields)
-    → line_of_fields true (first ∷ fields) ≡ Ok line
+    → line_of_fields Version.Two (first ∷ fields) ≡ Ok line
     → is_end line ≡ false → fault_in (store_kept kept) line ≡ None
     → Gives store (kept_with kept (line ∷ [])) rest → Gives store kept ((first ∷ fields) ∷ rest)
 line_gives store kept first fields line rest are says more fine give = λ before is.
     let text = join_with_byte 32 (first ∷ fields) in
-    let found : line_judged true before text ≡ Ok line = line_judged-found true before text line None (line_of-fields first fields are ∙ says) (ap (λ (k : Kept). fault_in (store_kept k) line) is ∙ fine) in
-    rw (append_assoc text (10 ∷ []) (lines_text rest), pieces-more 10 text (lines_text rest) (pieces-join_with_byte first fields are).0, store_after_line true before text (lines_text rest), found, more)
+    let found : line_judged Version.Two before text ≡ Ok line = line_judged-found Version.Two before text line None (line_of-fields first fields are ∙ says) (ap (λ (k : Kept). fault_in (store_kept k) line) is ∙ fine) in
+    rw (append_assoc text (10 ∷ []) (lines_text rest), pieces-more 10 text (lines_text rest) (pieces-join_with_byte first fields are).0, store_after_line Version.Two before text (lines_text rest), found, more)
     (give (before ++ line ∷ []) (kept_with-one before line ∙ ap (λ (k : Kept). kept_with k (line ∷ [])) is))
 
 -- ---- rows
+
+-- the id of the first of these rows, FFFFh where there is none
+abbrev pub first_row_id : List Row → ℕ
+first_row_id rows = first_id (λ (row : Row). row.id) rows
 
 abbrev pub saved_rows : List Row → List SavedRow
 saved_rows [] = []
 saved_rows (row ∷ rows) = saved_row (first_row_id rows) row ∷ saved_rows rows
 
-first_id-saved_rows : (rows : List Row) → first_id (saved_rows rows) ≡ first_row_id rows
+first_id-saved_rows : (rows : List Row) → first_id id_of (saved_rows rows) ≡ first_row_id rows
 first_id-saved_rows [] = refl
 first_id-saved_rows (row ∷ rows) = refl
 
@@ -96,7 +100,7 @@ others_next (t ∷ saved) s row rows others lacks =
 
 -- the first row of all begins with its id, and no other has the id 0000h
 abbrev FirstFits : List SavedRow → List Row → Type 0
-FirstFits [] rows = BeginsWithId rows × LaterHaveIds rows
+FirstFits [] rows = IfSome (first_row rows) (λ row. id_in row.bytes ≡ row.id) × LacksId 0 (drop 1 rows)
 FirstFits (s ∷ saved) rows = LacksId 0 rows
 
 -- these rows may come after the saved ones

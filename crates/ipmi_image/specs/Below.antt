@@ -1,11 +1,11 @@
 -- The words of the crates below that this crate cites, passed on from one place. Declares nothing.
 pub use Rattle.ipmi_text.specs.Bytes.{AreBytes}
 pub use Rattle.ipmi_text.specs.declared.reading.Reading.{Reading}
-pub use Rattle.ipmi_bus.specs.Answers.{Asked, BytesAnswers, BytesGives, CountsPiece, FailsWith, IsPiece, not_present, other, PartAnswers, PartGives, ReserveAnswers, SizeAnswers, SizeGives, ValueAnswers, ValueGives}
+pub use Rattle.ipmi_bus.specs.Answers.{Asked, BytesAnswers, CountsPiece, FailsWith, IsPiece, not_present, other, PartAnswers, ReserveAnswers, SizeAnswers, ValueAnswers, part_asked}
 pub use Rattle.ipmi_bus.specs.Code.{class_of}
 pub use Rattle.ipmi_bus.specs.Lent.{row_of_record}
 pub use Rattle.ipmi_bus.specs.Seen.{current, IsChange, IsFinished, IsHonest, IsPlain, IsQuiet, MayLoseReservation, Seen}
-pub use Rattle.ipmi_bus.specs.Shelf.{AllRows, BeginsWithId, DistinctIds, id_in, IsRow, IsShelf, LacksId, largest_len, LaterHaveIds, look, Row, row_with_id, whole_len}
+pub use Rattle.ipmi_bus.specs.Shelf.{AllRows, DistinctIds, first_row, id_in, IsRow, IsShelf, LacksId, largest_len, look, Row, row_with_id, whole_len}
 pub use Rattle.ipmi_bus.specs.Store.{info_of, Inventory, inventory_in, inventory_of, IsInfo, IsInventory, IsSensorReading, IsStore, OtherSensor, reading_in, reading_of, rows_of, SensorReading, Store}
 pub use Rattle.ipmi_bus.specs.Walk.{has_id}
 pub use Rattle.ipmi_bus.specs.declared.code.Code.{Code}

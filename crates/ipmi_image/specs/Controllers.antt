@@ -7,7 +7,7 @@ use Rattle.ipmi_image.specs.declared.responder.Responder.{Responder}
 use Rattle.ipmi_image.specs.declared.scripted.Mood.{Mood}
 use Rattle.ipmi_image.specs.declared.scripted.Scripted.{Scripted}
 use Rattle.ipmi_image.specs.declared.scripted.Turn.{Turn}
-use Rattle.ipmi_image.specs.Responder.{cancelled, with_reservation, seen_as}
+use Rattle.ipmi_image.specs.Responder.{with_reservation, seen_as}
 
 -- a controller over an image is honest, and plain
 abbrev pub seen_of : ImageController → Seen
@@ -28,44 +28,35 @@ script_last_number s = s.responder.given
 abbrev pub moods_left : Scripted → List Mood
 moods_left s = into_iter_items s.moods
 
--- before its answer the controller may change its store and lose its reservations
-pub record Prepares (old new : Seen) : Type 0 where
-  pub change : IsChange old new
-  pub quiet : IsQuiet old new
-  pub sdr : MayLoseReservation Sdr old new
-  pub sel : MayLoseReservation Sel old new
-
--- a call for so many bytes fails with this code
-pub record Fails (asked code : ℕ) (old new : Seen) : Type 0 where
-  pub change : IsChange old new
-  pub gives : FailsWith (1 < asked) ⊥ (class_of code) code old new
-  pub sdr : MayLoseReservation Sdr old new
-  pub sel : MayLoseReservation Sel old new
-
 -- the calls that a mood has counted
 abbrev pub TurnCounts : Turn → Seen → Seen → Type 0
 TurnCounts (Turn.Answers most) old new = (0 < most) × (new.calls ≡ old.calls)
 TurnCounts (Turn.Failed code) old new = new.calls ≡ old.calls + 1
 
--- what a mood makes of a call: the answer is still to come, with so many bytes at most, or it has failed
-abbrev pub Turns : ℕ → Turn → Seen → Seen → Type 0
-Turns asked (Turn.Answers most) old new = Prepares old new
-Turns asked (Turn.Failed code) old new = Fails asked code.0 old new
+-- what a mood makes of a call for so many bytes: the answer is still to come, of so many bytes at most, or it has
+-- failed
+abbrev pub TurnGives : ℕ → Turn → Seen → Seen → Type 0
+TurnGives asked (Turn.Answers most) old new = IsQuiet old new
+TurnGives asked (Turn.Failed code) old new =
+    FailsWith (1 < asked) ⊥ (class_of code.0) code.0 old new
+
+-- before the answer the controller may change its store and lose its reservations
+pub record Turns (asked : ℕ) (turn : Turn) (old new : Seen) : Type 0 where
+  pub change : IsChange old new
+  pub gives : TurnGives asked turn old new
+  pub sdr : MayLoseReservation Sdr old new
+  pub sel : MayLoseReservation Sel old new
 
 -- ---- what each mood makes of a call
 
-abbrev pub is_refusal_class : CodeClass → Bool
-is_refusal_class Refusal = true
-is_refusal_class class = false
-
 -- after it no caller asks again or goes on; 00h is no failure
 abbrev pub is_refusal : ℕ → Bool
-is_refusal code = not (code == 0) && is_refusal_class (class_of code)
+is_refusal code = elim (class_of code) [ Refusal ↦ not (code == 0) | _ ↦ false ]
 
 -- what a mood makes of a call for so many bytes
 abbrev pub mood_turn : ℕ → Mood → Turn
 mood_turn asked (Mood.Grant most) = Turn.Answers (max most 1)
-mood_turn asked Mood.Cancel = Turn.Failed cancelled
+mood_turn asked Mood.Cancel = Turn.Failed (record { 0 = 0xC5 })
 mood_turn asked Mood.Busy = Turn.Failed (record { 0 = 0xC0 })
 mood_turn asked Mood.TooLong =
     if nat_lt 1 asked then Turn.Failed (record { 0 = 0xCA }) else Turn.Answers 254
@@ -80,33 +71,29 @@ after_mood (Mood.Change image) r =
     record r { image = image; sdr_reservation = None; sel_reservation = None }
 after_mood other r = r
 
--- what the next mood makes of a call; where no mood is left, the call is answered plainly
-abbrev pub next_turn : ℕ → List Mood → Turn
-next_turn asked [] = Turn.Answers 254
-next_turn asked (next ∷ moods) = mood_turn asked next
-
-abbrev pub after_next : List Mood → Responder → Responder
-after_next [] r = r
-after_next (next ∷ moods) r = after_mood next r
+-- where no mood is left, the call is answered plainly
+abbrev pub next_mood : List Mood → Mood
+next_mood [] = Mood.Grant 254
+next_mood (next ∷ moods) = next
 
 -- ---- what a scripted controller answers, and what its next mood makes of it before the answer
 
 abbrev pub seen_after_mood : Scripted → Seen
-seen_after_mood s = seen_as false (after_next (moods_left s) s.responder)
+seen_after_mood s = seen_as false (after_mood (next_mood (moods_left s)) s.responder)
 
--- the plain answer, of so many bytes at most, or the code that the call fails with
-abbrev pub after_turn : {V : Type 0} → Turn → (ℕ → Result V Code) → Result V Code
-after_turn (Turn.Answers most) plain = plain most
-after_turn (Turn.Failed code) plain = Err code
-
--- the answer to a call for so many bytes
+-- the answer to a call for so many bytes: the plain one, of as many bytes at most as the next mood lets it have, or the
+-- code that the call fails with
 abbrev pub script_answer : {V : Type 0} → ℕ → Scripted → (ℕ → Result V Code) → Result V Code
-script_answer asked s plain = after_turn (next_turn asked (moods_left s)) plain
+script_answer asked s plain =
+    elim (mood_turn asked (next_mood (moods_left s))) [
+      | Turn.Answers most ↦ plain most
+      | Turn.Failed code ↦ Err code
+    ]
 
 -- but for what it counts, and for the place where it looks first, the controller is as its next mood left it
 abbrev pub StaysAfterMood : Scripted → Scripted → Type 0
 StaysAfterMood old new = new.responder ≡
-    record (after_next (moods_left old) old.responder) {
+    record (after_mood (next_mood (moods_left old)) old.responder) {
       near = new.responder.near;
       tally = new.responder.tally;
     }
@@ -114,7 +101,7 @@ StaysAfterMood old new = new.responder ≡
 -- the same, with the reservation that was given
 abbrev pub ReservesAfterMood : Shelf → Result ℕ Code → Scripted → Scripted → Type 0
 ReservesAfterMood shelf (Ok number) old new = new.responder ≡
-    record (with_reservation shelf number (after_next (moods_left old) old.responder)) {
+    record (with_reservation shelf number (after_mood (next_mood (moods_left old)) old.responder)) {
       near = new.responder.near;
       tally = new.responder.tally;
     }

@@ -1,10 +1,11 @@
 -- The text of an image: its lines, the first fault among them, and the store that they make.
 use Rattle.std.specs.Prelude.{ℕ, ◌+◌, ◌==◌, nat_lt, not, ◌&&◌, ◌||◌, Bool, true, false, if◌then◌else◌, is_some, Option, Some, None, unwrap_or, Result, Ok, Err, List, [], ◌∷◌, ◌++◌, length, slice_index, filter_map, fold, codes, bytes_eq}
-use Rattle.ipmi_image.specs.Below.{Reading, Shelf, Sdr, Sel, Row, whole_len, largest_len, id_in, Store, Inventory, SensorReading, rows_of, info_of, inventory_of, reading_of, has_id}
-use Rattle.ipmi_image.specs.declared.line.LineFault.{LineFault}
+use Rattle.ipmi_image.specs.Below.{Reading, first_row, Shelf, Sdr, Sel, Row, whole_len, largest_len, id_in, Store, Inventory, SensorReading, rows_of, info_of, inventory_of, reading_of, has_id}
+use Rattle.ipmi_image.specs.declared.image_line.LineFault.{LineFault}
 use Rattle.ipmi_image.specs.declared.image.ImageFault.{ImageFault}
+use Rattle.ipmi_image.specs.declared.version.Version.{Version}
 use Rattle.ipmi_image.specs.Text.{pieces}
-use Rattle.ipmi_image.specs.Line.{SavedRow, Line, a_row, an_inventory, a_reading, an_info, the_end, line_of}
+use Rattle.ipmi_image.specs.Line.{SavedRow, Line, a_row, an_inventory, a_reading, an_info, the_end, line_of, id_of}
 
 -- ---- the store of some lines
 
@@ -14,22 +15,17 @@ row_on Sdr (a_row Sdr row) = Some row
 row_on Sel (a_row Sel row) = Some row
 row_on shelf line = None
 
-abbrev pub rows_on : Shelf → List Line → List SavedRow
-rows_on shelf lines = filter_map (row_on shelf) lines
-
 -- the first row's id, FFFFh where there is no row
-abbrev pub first_id : List SavedRow → ℕ
-first_id [] = 65535
-first_id (row ∷ rows) = row.id
-
-abbrev pub row_before : List SavedRow → SavedRow → Row
-row_before following row =
-    record { id = row.id; next = unwrap_or row.next (first_id following); bytes = row.bytes }
+abbrev pub first_id : {R : Type 0} → (R → ℕ) → List R → ℕ
+first_id id [] = 65535
+first_id id (row ∷ rows) = id row
 
 -- each row with its next id: where its line has none it is the following row's, FFFFh for the last row
 abbrev pub chained : List SavedRow → List Row
 chained [] = []
-chained (row ∷ rows) = row_before rows row ∷ chained rows
+chained (row ∷ rows) =
+    record { id = row.id; next = unwrap_or row.next (first_id id_of rows); bytes = row.bytes }
+    ∷ chained rows
 
 -- the inventories, with bytes put after those of the one with this id, or as a new one after all
 abbrev pub with_bytes : ℕ → List ℕ → List Inventory → List Inventory
@@ -42,9 +38,6 @@ with_bytes id bytes (inventory ∷ inventories) =
 abbrev pub with_inventory_line : List Inventory → Line → List Inventory
 with_inventory_line inventories (an_inventory id bytes) = with_bytes id bytes inventories
 with_inventory_line inventories line = inventories
-
-abbrev pub inventories_of : List Line → List Inventory
-inventories_of lines = fold with_inventory_line [] lines
 
 -- the four bytes of a reading
 abbrev pub reading_of_bytes : List ℕ → Reading
@@ -73,9 +66,9 @@ first_of (bytes ∷ rest) = Some bytes
 -- what these lines say, in their order
 abbrev pub store_of_lines : List Line → Store
 store_of_lines lines = record {
-  sdr = chained (rows_on Sdr lines);
-  sel = chained (rows_on Sel lines);
-  inventories = inventories_of lines;
+  sdr = chained (filter_map (row_on Sdr) lines);
+  sel = chained (filter_map (row_on Sel) lines);
+  inventories = fold with_inventory_line [] lines;
   readings = filter_map sensor_on lines;
   sdr_info = first_of (filter_map (info_on Sdr) lines);
   sel_info = first_of (filter_map (info_on Sel) lines);
@@ -88,10 +81,6 @@ abbrev pub first_fault : List (Bool × LineFault) → Option LineFault
 first_fault [] = None
 first_fault (condition ∷ rest) = if condition.0 then Some condition.1 else first_fault rest
 
-abbrev pub is_empty : List Row → Bool
-is_empty [] = true
-is_empty (row ∷ rows) = false
-
 -- no whole record of the shelf, or a longer one than it may have
 abbrev pub is_no_record : Shelf → List ℕ → Bool
 is_no_record shelf bytes =
@@ -99,11 +88,11 @@ is_no_record shelf bytes =
 
 -- no id of a row after these: 0000h is only the first row's, and FFFFh none's
 abbrev pub is_no_id : List Row → ℕ → Bool
-is_no_id rows id = ((id == 0) && not (is_empty rows)) || (id == 65535)
+is_no_id rows id = ((id == 0) && is_some (first_row rows)) || (id == 65535)
 
 -- the first row's bytes begin with another id than its own
 abbrev pub begins_with_another : List Row → SavedRow → Bool
-begins_with_another rows row = is_empty rows && not (id_in row.bytes == row.id)
+begins_with_another rows row = not (is_some (first_row rows)) && not (id_in row.bytes == row.id)
 
 -- a row after these: its id, an id that one of them has, its length, and the first bytes of the first one, in this
 -- order
@@ -145,15 +134,12 @@ fault_in store (a_reading lun number bytes) = reading_fault lun (reading_of lun 
 fault_in store (an_info shelf bytes) = info_fault (info_of shelf store) bytes
 fault_in store the_end = None
 
-abbrev pub unless_fault : Option LineFault → Line → Result Line LineFault
-unless_fault None line = Ok line
-unless_fault (Some fault) line = Err fault
-
 -- what the line says after these lines
-abbrev pub line_judged : Bool → List Line → List ℕ → Result Line LineFault
-line_judged dashes before text =
-    elim (line_of dashes text) [
-      | Ok line ↦ unless_fault (fault_in (store_of_lines before) line) line
+abbrev pub line_judged : Version → List Line → List ℕ → Result Line LineFault
+line_judged version before text =
+    elim (line_of version text) [
+      | Ok line ↦
+          elim (fault_in (store_of_lines before) line) [ None ↦ Ok line | Some fault ↦ Err fault ]
       | Err fault ↦ Err fault
     ]
 
@@ -181,28 +167,28 @@ ends_here more = false
 
 -- the store of the lines before and of these up to `end`, the last one; of the pieces of a text the last is no whole
 -- line
-unfoldable pub store_after : Bool → List Line → List (List ℕ) → Result Store ImageFault
-store_after dashes before (text ∷ (following ∷ rest)) =
-    elim (line_judged dashes before text) [
+unfoldable pub store_after : Version → List Line → List (List ℕ) → Result Store ImageFault
+store_after version before (text ∷ (following ∷ rest)) =
+    elim (line_judged version before text) [
       | Ok line ↦
-          if not (is_end line) then store_after dashes (before ++ line ∷ []) (following ∷ rest)
+          if not (is_end line) then store_after version (before ++ line ∷ []) (following ∷ rest)
           else if ends_here (following ∷ rest) then Ok (store_of_lines before)
           else Err (ImageFault.AfterEnd (length before + 3))
       | Err fault ↦ Err (at_line (length before + 2) fault)
     ]
-store_after dashes before rest = Err ImageFault.NoEnd
+store_after version before rest = Err ImageFault.NoEnd
 
--- the first line says the version, and whether it takes dashes
-abbrev pub dashes_in : List ℕ → Option Bool
-dashes_in first =
-    if bytes_eq first (codes "ipmi-image 1") then Some false
-    else if bytes_eq first (codes "ipmi-image 2") then Some true
+-- the first line says the version
+abbrev pub version_in : List ℕ → Option Version
+version_in first =
+    if bytes_eq first (codes "ipmi-image 1") then Some Version.One
+    else if bytes_eq first (codes "ipmi-image 2") then Some Version.Two
     else None
 
 abbrev pub store_of_pieces : List (List ℕ) → Result Store ImageFault
 store_of_pieces (first ∷ (following ∷ rest)) =
-    elim (dashes_in first) [
-      | Some dashes ↦ store_after dashes [] (following ∷ rest)
+    elim (version_in first) [
+      | Some version ↦ store_after version [] (following ∷ rest)
       | None ↦ Err ImageFault.Header
     ]
 store_of_pieces rest = Err ImageFault.Header

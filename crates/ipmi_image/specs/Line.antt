@@ -4,7 +4,8 @@ use Rattle.std.specs.Result.{result_ok}
 use Rattle.byteorder.specs.Endian.{big_number}
 use Rattle.hex.specs.Hex.{decode_of}
 use Rattle.ipmi_image.specs.Below.{Shelf, Sdr, Sel}
-use Rattle.ipmi_image.specs.declared.line.LineFault.{LineFault}
+use Rattle.ipmi_image.specs.declared.image_line.LineFault.{LineFault}
+use Rattle.ipmi_image.specs.declared.version.Version.{Version}
 use Rattle.ipmi_image.specs.Text.{pieces}
 
 -- a row as its line has it: no next id stands for the id of the following row, or for FFFFh where none follows
@@ -12,6 +13,10 @@ pub record SavedRow : Type 0 where
   pub id : ℕ
   pub next : Option ℕ
   pub bytes : List ℕ
+
+-- what a row is found by
+abbrev pub id_of : SavedRow → ℕ
+id_of row = row.id
 
 -- what a line says
 pub data Line : Type 0 where
@@ -34,10 +39,6 @@ bytes_in hex = result_ok (decode_of hex)
 -- the number that two hex digits for each of n bytes are, the highest first
 abbrev pub number_in : ℕ → List ℕ → Option ℕ
 number_in n hex = option_map (big_number n) (bytes_in hex)
-
--- the number that one hex digit is, as the low one of two
-abbrev pub digit_in : List ℕ → Option ℕ
-digit_in digit = number_in 1 (48 ∷ digit)
 
 abbrev pub is_dash : List ℕ → Bool
 is_dash field = bytes_eq field (codes "-")
@@ -66,10 +67,15 @@ abbrev pub with_three : (List ℕ → List ℕ → List ℕ → Result Line Line
 with_three line (first ∷ second ∷ third ∷ []) = line first second third
 with_three line fields = Err LineFault.Line
 
+-- a dash may stand for a next id
+abbrev pub takes_dashes : Version → Bool
+takes_dashes Version.One = false
+takes_dashes Version.Two = true
+
 -- `sdr ID NEXT HEX` and `sel ID NEXT HEX`; NEXT may be a dash where dashes are taken
-abbrev pub row_line : Bool → Shelf → List ℕ → List ℕ → List ℕ → Result Line LineFault
-row_line dashes shelf id next hex =
-    if (length id == 4) && (((length next == 4) || (dashes && is_dash next)) && is_some_text hex)
+abbrev pub row_line : Version → Shelf → List ℕ → List ℕ → List ℕ → Result Line LineFault
+row_line version shelf id next hex =
+    if (length id == 4) && (((length next == 4) || (takes_dashes version && is_dash next)) && is_some_text hex)
     then ok_or (option_and_then
     (λ i. option_and_then
     (λ n. option_map (λ b. a_row shelf (record { id = i; next = n; bytes = b })) (bytes_in hex))
@@ -84,41 +90,38 @@ inventory_line id hex =
     (number_in 1 id)) LineFault.Hex
     else Err LineFault.Line
 
--- `reading LUN NUM HEX8`
+-- `reading LUN NUM HEX8`; LUN is one digit, the low one of two
 abbrev pub reading_line : List ℕ → List ℕ → List ℕ → Result Line LineFault
 reading_line lun number hex =
     if (length lun == 1) && ((length number == 2) && is_some_text hex)
     then ok_or (option_and_then
     (λ l. option_and_then (λ n. option_map (λ b. a_reading l n b) (bytes_in hex))
-    (number_in 1 number)) (digit_in lun)) LineFault.Hex
+    (number_in 1 number)) (number_in 1 (48 ∷ lun))) LineFault.Hex
     else Err LineFault.Line
 
 -- `info sdr HEX28` and `info sel HEX28`
-abbrev pub info_line_of : Option Shelf → List ℕ → Result Line LineFault
-info_line_of (Some shelf) hex =
-    if is_some_text hex then ok_or (option_map (λ b. an_info shelf b) (bytes_in hex)) LineFault.Hex
-    else Err LineFault.Line
-info_line_of None hex = Err LineFault.Line
-
 abbrev pub info_line : List ℕ → List ℕ → Result Line LineFault
-info_line word hex = info_line_of (shelf_in word) hex
+info_line word hex =
+    elim (shelf_in word) [
+      | Some shelf ↦
+          if is_some_text hex
+          then ok_or (option_map (λ b. an_info shelf b) (bytes_in hex)) LineFault.Hex
+          else Err LineFault.Line
+      | None ↦ Err LineFault.Line
+    ]
 
--- `end`
-abbrev pub end_line : List (List ℕ) → Result Line LineFault
-end_line [] = Ok the_end
-end_line (field ∷ fields) = Err LineFault.Line
-
-abbrev pub line_of_fields : Bool → List (List ℕ) → Result Line LineFault
-line_of_fields dashes [] = Err LineFault.Line
-line_of_fields dashes (word ∷ fields) =
-    if bytes_eq word (codes "sdr") then with_three (row_line dashes Sdr) fields
-    else if bytes_eq word (codes "sel") then with_three (row_line dashes Sel) fields
+abbrev pub line_of_fields : Version → List (List ℕ) → Result Line LineFault
+line_of_fields version [] = Err LineFault.Line
+line_of_fields version (word ∷ fields) =
+    if bytes_eq word (codes "sdr") then with_three (row_line version Sdr) fields
+    else if bytes_eq word (codes "sel") then with_three (row_line version Sel) fields
     else if bytes_eq word (codes "fru") then with_two inventory_line fields
     else if bytes_eq word (codes "reading") then with_three reading_line fields
     else if bytes_eq word (codes "info") then with_two info_line fields
-    else if bytes_eq word (codes "end") then end_line fields
+    else if bytes_eq word (codes "end")
+    then elim fields [ [] ↦ Ok the_end | field ∷ more ↦ Err LineFault.Line ]
     else Err LineFault.Line
 
 -- single spaces separate the fields
-unfoldable pub line_of : Bool → List ℕ → Result Line LineFault
-line_of dashes text = line_of_fields dashes (pieces 32 text)
+unfoldable pub line_of : Version → List ℕ → Result Line LineFault
+line_of version text = line_of_fields version (pieces 32 text)

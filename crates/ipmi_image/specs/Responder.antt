@@ -2,17 +2,13 @@
 use Rattle.std.specs.Prelude.{◌≡◌, ℕ, ◌+◌, ◌-◌, ◌≤◌, ◌==◌, nat_lt, nat_le, min, if◌then◌else◌, Bool, true, false, ◌&&◌, not, Option, None, Some, Result, Ok, Err, List, [], ◌∷◌, length, drop}
 use Rattle.ipmi_image.specs.Below.{Code, FruSize, Part, Shelf, Sdr, Sel, Row, Seen, Asked, IsPiece, not_present}
 use Rattle.ipmi_image.specs.declared.responder.Responder.{Responder}
-use Rattle.ipmi_image.specs.Line.{SavedRow}
+use Rattle.ipmi_image.specs.Line.{SavedRow, id_of}
 use Rattle.ipmi_image.specs.Table.{place_of}
-use Rattle.ipmi_image.specs.Rows.{id_of}
-
-abbrev pub first_place : List SavedRow → Option ℕ
-first_place [] = None
-first_place (row ∷ rows) = Some 0
 
 -- the place of the record that the id asks for: 0000h asks for the first
 abbrev pub place_asked : ℕ → List SavedRow → Option ℕ
-place_asked id rows = if id == 0 then first_place rows else place_of id_of id rows
+place_asked id [] = None
+place_asked id (row ∷ rows) = if id == 0 then Some 0 else place_of id_of id (row ∷ rows)
 
 -- how many bytes come: the least of what is asked for, of what may be given at most, and of what is
 -- left after the offset
@@ -25,11 +21,6 @@ IsCopied bytes offset most old new None = (length bytes ≤ offset) × (new ≡ 
 IsCopied bytes offset most old new (Some got) =
     (got ≡ len_given (length old) most offset (length bytes))
     × IsPiece bytes offset (length old) got new × (drop got new ≡ drop got old)
-
--- the shelf's reservation, of both
-abbrev pub of_shelf : Shelf → Option ℕ → Option ℕ → Option ℕ
-of_shelf Sdr sdr sel = sdr
-of_shelf Sel sdr sel = sel
 
 -- ---- reservations
 
@@ -50,19 +41,6 @@ is_stale offset reservation (Some last) = nat_lt 0 offset && not (last == reserv
 -- ---- parts: CBh for what is not there comes before C5h for a stale reservation, and that before
 -- C9h for an offset at or past the end
 
--- a request for so many bytes, as a call has it
-abbrev pub part_asked : Shelf → ℕ → ℕ → ℕ → ℕ → Asked
-part_asked shelf reservation id offset len = record {
-  shelf = shelf;
-  reservation = reservation;
-  id = id;
-  offset = offset;
-  len = len;
-}
-
-abbrev pub cancelled : Code
-cancelled = record { 0 = 0xC5 }
-
 abbrev pub out_of_range : Code
 out_of_range = record { 0 = 0xC9 }
 
@@ -71,7 +49,7 @@ out_of_range = record { 0 = 0xC9 }
 abbrev pub part_answer : Asked → ℕ → Option ℕ → Option Row → Result Part Code
 part_answer ask most last None = Err not_present
 part_answer ask most last (Some row) =
-    if is_stale ask.offset ask.reservation last then Err cancelled
+    if is_stale ask.offset ask.reservation last then Err (record { 0 = 0xC5 })
     else if nat_le (length row.bytes) ask.offset then Err out_of_range
     else Ok (record { next = row.next; got = len_given ask.len most ask.offset (length row.bytes) })
 
@@ -82,14 +60,7 @@ fru_answer offset asked most (Some bytes) =
     if nat_le (length bytes) offset then Err out_of_range
     else Ok (len_given asked most offset (length bytes))
 
--- ---- other answers: CBh for what is not there
-
--- of an info or a reading
-abbrev pub value_answer : {V : Type 0} → Option V → Result V Code
-value_answer None = Err not_present
-value_answer (Some value) = Ok value
-
--- of the size of an inventory, which is accessed by bytes
+-- the answer to a request for the size of the inventory, which is accessed by bytes
 abbrev pub size_answer : Option (List ℕ) → Result FruSize Code
 size_answer None = Err not_present
 size_answer (Some bytes) = Ok (record { size = length bytes; words = false })

@@ -4,18 +4,13 @@ use Rattle.std.specs.List.{concat, join_with_byte}
 use Rattle.byteorder.specs.Endian.{big_bytes}
 use Rattle.hex.specs.Hex.{encode_lower}
 use Rattle.ipmi_image.specs.Below.{Row, Store, Inventory, SensorReading, IsStore}
-use Rattle.ipmi_image.specs.Image.{store_of_image}
+use Rattle.ipmi_image.specs.Image.{first_id, store_of_image}
 
 -- a number in the hex digits of n bytes, the highest first
 abbrev pub hex_of : ℕ → ℕ → List ℕ
 hex_of n x = encode_lower (big_bytes n x)
 
 -- ---- the fields of each line
-
--- the id of the first of these rows, FFFFh where there is none
-abbrev pub first_row_id : List Row → ℕ
-first_row_id [] = 65535
-first_row_id (row ∷ rows) = row.id
 
 -- a dash where the next id is that of the following row
 abbrev pub next_field : ℕ → ℕ → List ℕ
@@ -29,13 +24,10 @@ fields_with_next word next row = word ∷ hex_of 2 row.id ∷ next ∷ encode_lo
 abbrev pub row_fields : List ℕ → ℕ → Row → List (List ℕ)
 row_fields word following row = fields_with_next word (next_field following row.next) row
 
--- of a record by itself, whose next id is written out, also where a row would have a dash
-abbrev pub record_fields : Row → List (List ℕ)
-record_fields row = fields_with_next (codes "sdr") (hex_of 2 row.next) row
-
 abbrev pub rows_lines : List ℕ → List Row → List (List (List ℕ))
 rows_lines word [] = []
-rows_lines word (row ∷ rows) = row_fields word (first_row_id rows) row ∷ rows_lines word rows
+rows_lines word (row ∷ rows) =
+    row_fields word (first_id (λ following. following.id) rows) row ∷ rows_lines word rows
 
 -- the first n parts, of 64 bytes or as many as are left
 abbrev pub first_parts : ℕ → List ℕ → List (List ℕ)
@@ -68,9 +60,10 @@ info_lines word (Some bytes) = (codes "info" ∷ word ∷ encode_lower bytes ∷
 abbrev pub line_text : List (List ℕ) → List ℕ
 line_text fields = join_with_byte 32 fields ++ 10 ∷ []
 
--- the line that `sdr hex` prints for a record: `sdr ID NEXT HEX` and a line feed
+-- the line that `sdr hex` prints for a record: `sdr ID NEXT HEX` and a line feed; NEXT is written out, also where a row
+-- would have a dash
 abbrev pub record_line_of : Row → List ℕ
-record_line_of row = line_text (record_fields row)
+record_line_of row = line_text (fields_with_next (codes "sdr") (hex_of 2 row.next) row)
 
 abbrev pub lines_text : List (List (List ℕ)) → List ℕ
 lines_text lines = concat (map line_text lines)
@@ -83,14 +76,11 @@ other_lines store =
     ++ (codes "end" ∷ []) ∷ [])))
 
 -- the first line, the rows of each shelf in their order, and the others
-abbrev pub lines_of : Store → List (List (List ℕ))
-lines_of store =
-    (codes "ipmi-image" ∷ codes "2" ∷ [])
-    ∷ (rows_lines (codes "sdr") store.sdr
-    ++ (rows_lines (codes "sel") store.sel ++ other_lines store))
-
 unfoldable pub image_text_of : Store → List ℕ
-image_text_of store = lines_text (lines_of store)
+image_text_of store =
+    lines_text ((codes "ipmi-image" ∷ codes "2" ∷ [])
+    ∷ (rows_lines (codes "sdr") store.sdr
+    ++ (rows_lines (codes "sel") store.sel ++ other_lines store)))
 
 -- ---- which stores an image gives
 

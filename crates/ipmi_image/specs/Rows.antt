@@ -4,10 +4,6 @@ use Rattle.ipmi_image.specs.declared.rows.RowHead.{RowHead}
 use Rattle.ipmi_image.specs.declared.rows.StoredRow.{StoredRow}
 use Rattle.ipmi_image.specs.Line.{SavedRow}
 
--- what a record is found by
-abbrev pub id_of : SavedRow → ℕ
-id_of row = row.id
-
 abbrev pub row_of : StoredRow → SavedRow
 row_of row = record { id = row.id; next = row.next; bytes = row.bytes.now }
 

@@ -1,13 +1,13 @@
 -- What an image keeps, as contracts see it.
-use Rattle.std.specs.Prelude.{ℕ, ◌≡◌, ◌≢◌, ◌⊎◌, ◌++◌, ◌∷◌, [], Option, Some, None, Result, Ok, Err, MatchResult, List, map, filter_map, All, AllPairs}
+use Rattle.std.specs.Prelude.{ℕ, ◌≡◌, ◌≢◌, ◌⊎◌, ◌++◌, ◌∷◌, [], Option, Some, None, Result, Ok, Err, MatchResult, List, map, filter_map, fold, All, AllPairs}
 use Rattle.ipmi_image.specs.Below.{Sdr, Sel, Store, Inventory, SensorReading, IsInventory, IsSensorReading, OtherSensor}
 use Rattle.ipmi_image.specs.declared.contents.Contents.{Contents}
-use Rattle.ipmi_image.specs.declared.line.Line.{Line as ReadLine}
-use Rattle.ipmi_image.specs.declared.line.LineFault.{LineFault}
+use Rattle.ipmi_image.specs.declared.image_line.Line.{Line as ReadLine}
+use Rattle.ipmi_image.specs.declared.image_line.LineFault.{LineFault}
 use Rattle.ipmi_image.specs.declared.stored.StoredSensor.{StoredSensor}
 use Rattle.ipmi_image.specs.Table.{kept_inventory}
 use Rattle.ipmi_image.specs.Line.{Line, a_row, an_inventory, a_reading, an_info, the_end}
-use Rattle.ipmi_image.specs.Image.{chained, rows_on, inventories_of, sensor_on, info_on, first_of, store_of_lines, fault_in}
+use Rattle.ipmi_image.specs.Image.{chained, row_on, with_inventory_line, sensor_on, info_on, first_of}
 
 abbrev pub sensor_of : StoredSensor → SensorReading
 sensor_of sensor = record { lun = sensor.lun; number = sensor.number; reading = sensor.reading }
@@ -49,9 +49,9 @@ pub record AreReadings (readings : List SensorReading) : Type 0 where
 
 -- the contents are what these lines say
 pub record HoldsLines (contents : Contents) (lines : List Line) : Type 0 where
-  pub sdr : contents.sdr ≡ rows_on Sdr lines
-  pub sel : contents.sel ≡ rows_on Sel lines
-  pub inventories : map kept_inventory contents.inventories ≡ inventories_of lines
+  pub sdr : contents.sdr ≡ filter_map (row_on Sdr) lines
+  pub sel : contents.sel ≡ filter_map (row_on Sel) lines
+  pub inventories : map kept_inventory contents.inventories ≡ fold with_inventory_line [] lines
   pub readings : map sensor_of contents.sensors ≡ filter_map sensor_on lines
   pub sdr_info : contents.sdr_info ≡ first_of (filter_map (info_on Sdr) lines)
   pub sel_info : contents.sel_info ≡ first_of (filter_map (info_on Sel) lines)
@@ -61,8 +61,3 @@ abbrev pub Puts : Option LineFault → Type 0 → Result (Unit {0}) LineFault �
 Puts fault Done result =
     MatchResult result (λ done. (fault ≡ None) × Done)
     (λ e. (e ≡ LineFault.Memory) ⊎ (fault ≡ Some e))
-
--- a line was put after these, or may not come there, or no memory was left
-abbrev pub IsPut : Contents → List Line → Line → Result (Unit {0}) LineFault → Type 0
-IsPut new before line result =
-    Puts (fault_in (store_of_lines before) line) (HoldsLines new (before ++ line ∷ [])) result

@@ -2,21 +2,18 @@
 ghost use Rattle.std.specs.Prelude.{◌≡◌, ◌++◌, ◌∷◌, [], ◌≤◌, List, not, IsTrue, IfErr, IfSome, OnOk, Some, None, unwrap_or, is_some, length, map};
 ghost use Rattle.ipmi_image.specs.Below.{IsShelf, IsStore, IsInfo, inventory_in, reading_in};
 ghost use Rattle.ipmi_image.specs.Line as lines;
-ghost use Rattle.ipmi_image.specs.Prelude.{chained, is_no_record, is_no_id, begins_with_another, first_fault, row_fault, inventory_fault, reading_fault, info_fault, reading_of_bytes, with_bytes, kept_inventory, row_of, sensor_of, said, store_of, AreInventories, AreReadings, HoldsLines, IsPut, Puts};
+ghost use Rattle.ipmi_image.specs.Prelude.{chained, fault_in, store_of_lines, is_no_record, is_no_id, begins_with_another, first_fault, row_fault, inventory_fault, reading_fault, info_fault, reading_of_bytes, with_bytes, kept_inventory, row_of, sensor_of, said, store_of, AreInventories, AreReadings, HoldsLines, Puts};
 
-use crate::line::{Line, LineFault};
+use crate::image_line::{Line, LineFault};
 use crate::rows::{Rows, StoredRow};
-use crate::stored::{StoredInventory, StoredSensor, Table, sensor_key};
-use byteorder::{ByteOrder, LittleEndian};
+use crate::stored::{StoredInventory, StoredSensor, sensor_key};
+use crate::table::Table;
 use ipmi_bus::{
-    FIRST_RECORD_ID, INFO_LEN, LARGEST_INVENTORY_LEN, LARGEST_SDR_LEN, NO_NEXT_ID, SDR_HEADER_LEN,
-    SEL_ENTRY_LEN, Shelf,
+    FIRST_RECORD_ID, INFO_LEN, LARGEST_INVENTORY_LEN, LARGEST_SDR_LEN, LAST_FRU_DEVICE_ID,
+    NO_NEXT_ID, SEL_ENTRY_LEN, Shelf, record_id,
 };
-use ipmi_text::Reading;
+use ipmi_text::{Reading, SDR_HEADER_LEN, sdr_len};
 use std::alloc::Global;
-
-/// An id that no FRU device has.
-const NO_DEVICE_ID: u8 = 0xFF;
 
 /// The highest LUN, which is a number of two bits.
 const LARGEST_LUN: u8 = 3;
@@ -43,7 +40,7 @@ fn is_whole(shelf: Shelf, bytes: &[u8]) -> bool
     let len = bytes.len();
     match shelf {
         Shelf::Sdr if len < SDR_HEADER_LEN => false,
-        Shelf::Sdr => len == SDR_HEADER_LEN + usize::from(bytes[4]) && len <= LARGEST_SDR_LEN,
+        Shelf::Sdr => len == sdr_len(bytes) && len <= LARGEST_SDR_LEN,
         Shelf::Sel => len == SEL_ENTRY_LEN,
     }
 }
@@ -62,7 +59,7 @@ fn begins_with_another(rows: &Rows, row: &StoredRow) -> bool
     requires { 2 ≤ length row.now.bytes.now }
     ensures { result ≡ begins_with_another (chained rows.now) (row_of row.now) }
 {
-    rows.is_empty() && LittleEndian::read_u16(row.bytes) != row.id
+    rows.is_empty() && record_id(row.bytes) != row.id
 }
 
 /// Why the bytes of the record do not fit: their number, or the id that they begin with.
@@ -105,11 +102,8 @@ fn put_row(
             fault
         });
     }
-    if rows.push(&row)? {
-        Ok(())
-    } else {
-        Err(LineFault::Twice)
-    }
+    rows.push(&row)?;
+    Ok(())
 }
 
 /// How many bytes the inventory has so far.
@@ -130,7 +124,7 @@ fn inventory_fault(inventories: &Table<StoredInventory>, id: u8, bytes: &[u8]) -
     ensures { result ≡ inventory_fault id (inventory_in (map kept_inventory inventories.now) id)
         bytes.now }
 {
-    if id == NO_DEVICE_ID {
+    if id > LAST_FRU_DEVICE_ID {
         return Some(LineFault::Id);
     }
     if inventory_len(inventories, id) + bytes.len() > LARGEST_INVENTORY_LEN {
@@ -265,7 +259,8 @@ impl Contents {
         requires { IsStore (store_of self.old) }
         ensures keeps { OnOk result (IsStore (store_of self.new)) }
         ensures lines { (before : List lines.Line) → HoldsLines self.old before →
-            IsPut self.new before (said bytes.now line) result }
+            Puts (fault_in (store_of_lines before) (said bytes.now line))
+            (HoldsLines self.new (before ++ said bytes.now line ∷ [])) result }
     {
         match line {
             Line::Row { shelf, id, next } => match shelf {

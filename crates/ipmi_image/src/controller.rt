@@ -1,7 +1,7 @@
 //! A management controller that answers from an image.
-ghost use Rattle.std.specs.Prelude.{◌≡◌, ◌+◌, ◌<◌, ◌≤◌, IfOk, OnErr, Ok, None, length, drop};
-ghost use Rattle.ipmi_image.specs.Below.{look, rows_of, info_of, reading_of, inventory_of, IsHonest, IsPlain, current, ReserveAnswers, PartAnswers, ValueAnswers, SizeAnswers, BytesAnswers};
-ghost use Rattle.ipmi_image.specs.Prelude.{number_after, part_asked, part_answer, fru_answer, value_answer, size_answer, seen_of, last_number};
+ghost use Rattle.std.specs.Prelude.{◌≡◌, ◌+◌, ◌<◌, ◌≤◌, IfOk, OnErr, Ok, ok_or, None, length, drop};
+ghost use Rattle.ipmi_image.specs.Below.{look, not_present, rows_of, info_of, reading_of, inventory_of, IsHonest, IsPlain, current, ReserveAnswers, PartAnswers, ValueAnswers, SizeAnswers, BytesAnswers, part_asked};
+ghost use Rattle.ipmi_image.specs.Prelude.{number_after, part_answer, fru_answer, size_answer, seen_of, last_number};
 
 use crate::image::Image;
 use crate::responder::Responder;
@@ -78,7 +78,7 @@ impl Controller for ImageController {
         ensures counted { (seen_of self.new).calls ≡ (seen_of self.old).calls + 1 }
         ensures honest { IsHonest (seen_of self.old) →
             ValueAnswers (info_of shelf) result (seen_of self.old) (seen_of self.new) }
-        ensures exact { result ≡ value_answer (info_of shelf (seen_of self.old).store) }
+        ensures exact { result ≡ ok_or (info_of shelf (seen_of self.old).store) not_present }
         ensures last { last_number self.new ≡ last_number self.old }
     {
         self.responder.info(shelf)
@@ -88,7 +88,8 @@ impl Controller for ImageController {
         ensures counted { (seen_of self.new).calls ≡ (seen_of self.old).calls + 1 }
         ensures honest { IsHonest (seen_of self.old) →
             ValueAnswers (reading_of lun number) result (seen_of self.old) (seen_of self.new) }
-        ensures exact { result ≡ value_answer (reading_of lun number (seen_of self.old).store) }
+        ensures exact { result ≡
+            ok_or (reading_of lun number (seen_of self.old).store) not_present }
         ensures last { last_number self.new ≡ last_number self.old }
     {
         self.responder.reading(lun, number)

@@ -1,13 +1,14 @@
 //! A saved image of a management controller, read from its text.
 ghost use Rattle.std.specs.Prelude.{◌≡◌, ◌⊎◌, [], ◌≤◌, All, IfOk, IfErr, IfSome, Ok, Err, length, option_map};
 ghost use Rattle.ipmi_image.specs.Below.{IsStore, rows_of, inventory_of, reading_of, info_of};
-ghost use Rattle.ipmi_image.specs.Prelude.{pieces, chained, at_line, dashes_in, store_after, store_of_image, IsSaved, store_of};
+ghost use Rattle.ipmi_image.specs.Prelude.{pieces, chained, at_line, store_after, store_of_image, IsSaved, store_of};
 
 use crate::contents::Contents;
-use crate::line::{LineFault, read_line};
+use crate::image_line::{LineFault, read_line};
 use crate::rows::Rows;
 use crate::stored::sensor_key;
 use crate::text::cut;
+use crate::version::{Version, read_version};
 use ipmi_bus::{INFO_LEN, Shelf};
 use ipmi_text::Reading;
 use std::alloc::Global;
@@ -71,27 +72,12 @@ impl LineFault {
     }
 }
 
-/// Whether the image's rows may have a dash for their next id, by the image's first line. None
-/// where that is not the first line of an image.
-fn read_version(line: &[u8]) -> Option<bool>
-    ensures { result ≡ dashes_in line.now }
-{
-    // a match on these texts has goals that the search does not prove
-    if line == b"ipmi-image 1".as_slice() {
-        return Some(false);
-    }
-    if line == b"ipmi-image 2".as_slice() {
-        return Some(true);
-    }
-    None
-}
-
 /// What the lines after the first one say, up to `end`, the last one.
-fn read_lines(alloc: Global, dashes: bool, text: &[u8]) -> Result<Contents, ImageFault>
+fn read_lines(alloc: Global, version: Version, text: &[u8]) -> Result<Contents, ImageFault>
     ensures ok { IfOk result (λ contents. IsStore (store_of contents) ×
-        (store_after dashes [] (pieces 10 text.now) ≡ Ok (store_of contents))) }
+        (store_after version [] (pieces 10 text.now) ≡ Ok (store_of contents))) }
     ensures err { IfErr result (λ e. (e ≡ ImageFault.Memory) ⊎
-        (store_after dashes [] (pieces 10 text.now) ≡ Err e)) }
+        (store_after version [] (pieces 10 text.now) ≡ Err e)) }
 {
     let mut contents = Contents::new(alloc);
     let mut number = 2;
@@ -101,7 +87,7 @@ fn read_lines(alloc: Global, dashes: bool, text: &[u8]) -> Result<Contents, Imag
         let Some((line, after)) = cut(rest, b'\n') else {
             return Err(ImageFault::NoEnd);
         };
-        let line = match read_line(&mut bytes, dashes, line) {
+        let line = match read_line(&mut bytes, version, line) {
             Ok(line) => line,
             Err(fault) => return Err(fault.at(number)),
         };
@@ -150,11 +136,11 @@ impl Image {
         let Some((first, rest)) = cut(bytes, b'\n') else {
             return Err(ImageFault::Header);
         };
-        let Some(dashes) = read_version(first) else {
+        let Some(version) = read_version(first) else {
             return Err(ImageFault::Header);
         };
         Ok(Image {
-            contents: read_lines(alloc, dashes, rest)?,
+            contents: read_lines(alloc, version, rest)?,
         })
     }
 

@@ -4,15 +4,17 @@
 mod contents;
 mod controller;
 mod image;
+mod image_line;
 pub mod laws;
-mod line;
 mod line_buffer;
 mod responder;
 mod rewrite;
 mod rows;
 mod scripted;
 mod stored;
+mod table;
 mod text;
+mod version;
 
 pub use controller::ImageController;
 pub use image::{Image, ImageFault};

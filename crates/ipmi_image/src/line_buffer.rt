@@ -34,7 +34,7 @@ fn push_id(line: &mut LineBuffer, id: u16)
 /// Appends the bytes of a record in hex.
 fn push_hex(line: &mut LineBuffer, bytes: &[u8])
     requires record { length bytes.now ≤ 256 }
-    requires room { length line.old.items + 2 * length bytes.now ≤ 527 }
+    requires fits { length line.old.items + 2 * length bytes.now ≤ 527 }
     ensures items { line.new.items ≡ line.old.items ++ encode_lower bytes.now }
     ensures len { length line.new.items ≡ length line.old.items + 2 * length bytes.now }
 {

@@ -1,7 +1,7 @@
 //! What an image answers to a controller's calls.
-ghost use Rattle.std.specs.Prelude.{◌≡◌, ◌+◌, ◌<◌, ◌≤◌, ◌≢◌, true, false, MatchBool, IfOk, OnErr, Ok, Some, None, length, drop, option_map, unwrap_or};
-ghost use Rattle.ipmi_image.specs.Below.{look, row_of_record, class_of, IsStore, rows_of, info_of, reading_of, inventory_of, IsHonest, FailsWith, ReserveAnswers, PartAnswers, ValueAnswers, SizeAnswers, BytesAnswers};
-ghost use Rattle.ipmi_image.specs.Prelude.{chained, first_id, seen_as, of_shelf, place_asked, IsCopied, number_after, with_reservation, out_of_range, part_asked, part_answer, fru_answer, value_answer, size_answer};
+ghost use Rattle.std.specs.Prelude.{◌≡◌, ◌+◌, ◌<◌, ◌≤◌, ◌≢◌, true, false, MatchBool, IfOk, OnErr, Ok, ok_or, Some, None, length, drop, option_map, unwrap_or};
+ghost use Rattle.ipmi_image.specs.Below.{look, current, not_present, row_of_record, class_of, IsStore, rows_of, info_of, reading_of, inventory_of, IsHonest, FailsWith, ReserveAnswers, PartAnswers, ValueAnswers, SizeAnswers, BytesAnswers, part_asked};
+ghost use Rattle.ipmi_image.specs.Prelude.{chained, first_id, seen_as, place_asked, IsCopied, number_after, with_reservation, out_of_range, part_answer, fru_answer, size_answer, id_of};
 
 use crate::image::Image;
 use crate::rows::Rows;
@@ -11,6 +11,7 @@ use ipmi_bus::{
 use ipmi_text::Reading;
 
 /// The place of the record that the id asks for: 0000h asks for the first. It is looked for near a place first.
+#[tactic(auto, using(crate::proofs::RespondLemmas::place_asked_id, crate::proofs::RespondLemmas::place_asked_first))]
 fn place_of(rows: &Rows, near: usize, id: u16) -> Option<usize>
     ensures { result ≡ place_asked id rows.now }
 {
@@ -26,7 +27,7 @@ fn place_of(rows: &Rows, near: usize, id: u16) -> Option<usize>
 /// The next id of the record at the place: the following record's where it has none.
 fn next_of(rows: &Rows, place: usize, next: Option<u16>) -> u16
     requires { place < 65535 }
-    ensures { result ≡ unwrap_or next (first_id (drop (place + 1) rows.now)) }
+    ensures { result ≡ unwrap_or next (first_id id_of (drop (place + 1) rows.now)) }
 {
     next.unwrap_or_else(|| rows.id_at(place + 1))
 }
@@ -170,10 +171,9 @@ impl Responder {
     /// Whether bytes from the offset on may be asked for under the reservation: past the first byte it has to be
     /// the last one given for the shelf.
     fn is_reserved(&self, shelf: Shelf, reservation: u16, offset: u8) -> bool
-        ensures { MatchBool result (0 < offset → of_shelf shelf self.now.sdr_reservation
-            self.now.sel_reservation ≡ Some reservation)
-            ((0 < offset) × (of_shelf shelf self.now.sdr_reservation self.now.sel_reservation ≢ Some
-            reservation)) }
+        ensures { MatchBool result
+            (0 < offset → current shelf (seen_as true self.now) ≡ Some reservation)
+            ((0 < offset) × (current shelf (seen_as true self.now) ≢ Some reservation)) }
     {
         let last = match shelf {
             Shelf::Sdr => self.sdr_reservation,
@@ -205,7 +205,7 @@ impl Responder {
         ensures same { self.new ≡ record self.old { near = self.new.near; tally = self.new.tally } }
         ensures exact { result ≡ part_answer
             (part_asked shelf reservation id offset (length into.old))
-            most (of_shelf shelf self.old.sdr_reservation self.old.sel_reservation)
+            most (current shelf (seen_as true self.old))
             (look (rows_of shelf self.old.image) id) }
     {
         self.tally.count(Event::Called);
@@ -237,7 +237,7 @@ impl Responder {
         ensures answers { IsHonest (seen_as true self.old) →
             ValueAnswers (info_of shelf) result (seen_as true self.old) (seen_as true self.new) }
         ensures same { self.new ≡ record self.old { tally = self.new.tally } }
-        ensures exact { result ≡ value_answer (info_of shelf self.old.image) }
+        ensures exact { result ≡ ok_or (info_of shelf self.old.image) not_present }
     {
         self.tally.count(Event::Called);
         self.tally.count(Event::Finished);
@@ -251,7 +251,7 @@ impl Responder {
             ValueAnswers (reading_of lun number) result (seen_as true self.old)
             (seen_as true self.new) }
         ensures same { self.new ≡ record self.old { tally = self.new.tally } }
-        ensures exact { result ≡ value_answer (reading_of lun number self.old.image) }
+        ensures exact { result ≡ ok_or (reading_of lun number self.old.image) not_present }
     {
         self.tally.count(Event::Called);
         self.tally.count(Event::Finished);

@@ -13,8 +13,8 @@ use std::alloc::{AllocError, Global};
 /// The most bytes of an inventory on one line.
 const LINE_BYTES: usize = 64;
 
-/// The room of a text for its first and last line, and for what most images say beside their records.
-const OTHER_ROOM: usize = 4096;
+/// The bytes of the first and the last line of a text, and of what most images say beside their records.
+const OTHER_BYTES: usize = 4096;
 
 /// A text that grows.
 #[derive(Drop)]
@@ -248,9 +248,9 @@ pub fn image_text(alloc: Global, image: &Image) -> Result<Vec<u8>, AllocError>
     ensures again { IfOk result (λ text. store_of_image text.items ≡ Ok image.now) }
 {
     let contents = image.contents();
-    let room = contents.sdr.line_room() + contents.sel.line_room() + OTHER_ROOM;
+    let capacity = contents.sdr.line_bytes() + contents.sel.line_bytes() + OTHER_BYTES;
     let mut text = Text {
-        bytes: Vec::with_capacity(alloc, room)?,
+        bytes: Vec::with_capacity(alloc, capacity)?,
     };
     text.push_image(contents)?;
     Ok(text.bytes)

@@ -1,10 +1,12 @@
 //! The records of a shelf, with their bytes one after the other.
-ghost use Rattle.std.specs.Prelude.{◌≡◌, ◌≤◌, ◌<◌, ◌==◌, ◌^◌, ◌++◌, ◌∷◌, [], MatchBool, IfOk, IfSome, None, true, is_some, option_map, length, drop, slice_get};
+ghost use Rattle.ipmi_image.specs.declared.image_line.LineFault.{LineFault};
+ghost use Rattle.std.specs.Prelude.{◌≡◌, ◌≤◌, ◌<◌, ◌==◌, ◌^◌, ◌++◌, ◌∷◌, [], MatchBool, IfOk, IfSome, None, true, is_some, option_map, length, drop, slice_get, MatchResult, ◌⊎◌};
 ghost use Rattle.ipmi_image.specs.Prelude.{first_id, place_of, id_of, row_of};
 
-use crate::stored::{Keyed, Table};
+use crate::image_line::LineFault;
+use crate::table::{Table, TableItem};
 use ipmi_bus::NO_NEXT_ID;
-use std::alloc::{AllocError, Global};
+use std::alloc::Global;
 use std::marker::Model;
 
 /// A record of a shelf. Where `next` is None, its next id is that of the following record, or
@@ -25,7 +27,7 @@ pub(crate) struct RowHead {
     len: u16,
 }
 
-impl Keyed for RowHead {
+impl TableItem for RowHead {
     ghost key = { λ head. head.id };
 
     fn key(&self) -> u16 {
@@ -41,6 +43,7 @@ pub(crate) struct Rows {
 }
 
 impl Model for Rows {
+    ghost use Rattle.ipmi_image.specs.declared.image_line.LineFault.{LineFault};
     ghost use Rattle.std.specs.Prelude.{List, map};
     ghost use Rattle.ipmi_image.specs.Line.{SavedRow};
     ghost use Rattle.ipmi_image.specs.Rows.{row_in, AreHeads};
@@ -78,8 +81,8 @@ impl Rows {
         self.heads.as_slice().len()
     }
 
-    /// The room that lines of these take in an image, at most: 15 characters beside the bytes of each.
-    pub(crate) fn line_room(&self) -> usize
+    /// The bytes that lines of these take in an image, at most: 15 beside the hex of each.
+    pub(crate) fn line_bytes(&self) -> usize
         ensures few { result ≤ 2 ^ 26 }
     {
         self.len() * 15 + self.bytes.len() * 2
@@ -103,7 +106,7 @@ impl Rows {
     /// The id of the record at the place, FFFFh where there is none.
     #[tactic(auto, using(crate::proofs::RowsLemmas::first_id_at, std::proofs::lemmas::Option::slice_get_cases))]
     pub(crate) fn id_at(&self, place: usize) -> u16
-        ensures { result ≡ first_id (drop place self.now) }
+        ensures { result ≡ first_id id_of (drop place self.now) }
     {
         let head = self.heads.as_slice().get(place);
         head.map_or(NO_NEXT_ID, |head| head.id)
@@ -125,15 +128,15 @@ impl Rows {
         self.heads.place_near(id, near)
     }
 
-    /// Puts a record at the end, where none has its id, and says whether it did.
+    /// Puts a record at the end. Err says that one has its id already, or that no memory was left.
     #[tactic(auto, using(crate::proofs::RowsLemmas::place_of_row_in))]
-    pub(crate) fn push(&mut self, row: &StoredRow) -> Result<bool, AllocError>
+    pub(crate) fn push(&mut self, row: &StoredRow) -> Result<(), LineFault>
         requires id { row.now.id < 65535 }
         requires fits { length row.now.bytes.now ≤ 256 }
-        ensures { IfOk result (λ is_new. MatchBool is_new
-            ((place_of id_of row.now.id self.old ≡ None) ×
+        ensures { MatchResult result (λ done. (place_of id_of row.now.id self.old ≡ None) ×
             (self.new ≡ self.old ++ row_of row.now ∷ []))
-            (is_some (place_of id_of row.now.id self.old) ≡ true)) }
+            (λ e. (e ≡ LineFault.Memory) ⊎ ((e ≡ LineFault.Twice) ×
+            (is_some (place_of id_of row.now.id self.old) ≡ true))) }
     {
         let start = self.bytes.len();
         self.bytes.extend_from_slice(row.bytes)?;
@@ -143,16 +146,10 @@ impl Rows {
             start: start as u32,
             len: row.bytes.len() as u16,
         };
-        match self.heads.push(head) {
-            Ok(true) => Ok(true),
-            Ok(false) => {
-                self.bytes.truncate(start);
-                Ok(false)
-            }
-            Err(error) => {
-                self.bytes.truncate(start);
-                Err(error)
-            }
+        if let Err(fault) = self.heads.push(head) {
+            self.bytes.truncate(start);
+            return Err(fault);
         }
+        Ok(())
     }
 }

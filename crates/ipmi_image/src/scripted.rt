@@ -1,7 +1,7 @@
 //! A management controller that follows a script.
-ghost use Rattle.std.specs.Prelude.{◌≡◌, ◌+◌, ◌<◌, ◌≤◌, false, IfOk, OnErr, Ok, None, length, drop};
-ghost use Rattle.ipmi_image.specs.Below.{look, rows_of, info_of, reading_of, inventory_of, IsHonest, current, ReserveAnswers, PartAnswers, ValueAnswers, SizeAnswers, BytesAnswers};
-ghost use Rattle.ipmi_image.specs.Prelude.{seen_as, number_after, part_asked, part_answer, fru_answer, value_answer, size_answer, script_seen, script_last_number, moods_left, seen_after_mood, script_answer, StaysAfterMood, ReservesAfterMood, TurnCounts, Turns, mood_turn, after_mood, next_turn};
+ghost use Rattle.std.specs.Prelude.{◌≡◌, ◌+◌, ◌<◌, ◌≤◌, false, IfOk, OnErr, Ok, ok_or, None, length, drop};
+ghost use Rattle.ipmi_image.specs.Below.{look, not_present, rows_of, info_of, reading_of, inventory_of, IsHonest, current, ReserveAnswers, PartAnswers, ValueAnswers, SizeAnswers, BytesAnswers, part_asked};
+ghost use Rattle.ipmi_image.specs.Prelude.{seen_as, number_after, part_answer, fru_answer, size_answer, script_seen, script_last_number, moods_left, seen_after_mood, script_answer, StaysAfterMood, ReservesAfterMood, TurnCounts, Turns, mood_turn, after_mood, next_mood};
 
 use crate::image::Image;
 use crate::responder::Responder;
@@ -100,7 +100,7 @@ impl Scripted {
         ensures turns { IsHonest (script_seen self.old) →
             Turns asked result (script_seen self.old) (script_seen self.new) }
         ensures used { moods_left self.new ≡ drop 1 (moods_left self.old) }
-        ensures exact { result ≡ next_turn asked (moods_left self.old) }
+        ensures exact { result ≡ mood_turn asked (next_mood (moods_left self.old)) }
         ensures leaves { StaysAfterMood self.old self.new }
     {
         match self.moods.next() {
@@ -165,7 +165,7 @@ impl Controller for Scripted {
         ensures honest { IsHonest (script_seen self.old) →
             ValueAnswers (info_of shelf) result (script_seen self.old) (script_seen self.new) }
         ensures exact { result ≡ script_answer 1 self.old
-            (λ most. value_answer (info_of shelf (seen_after_mood self.old).store)) }
+            (λ most. ok_or (info_of shelf (seen_after_mood self.old).store) not_present) }
         ensures used { moods_left self.new ≡ drop 1 (moods_left self.old) }
         ensures leaves { StaysAfterMood self.old self.new }
     {
@@ -181,7 +181,7 @@ impl Controller for Scripted {
             ValueAnswers (reading_of lun number) result
             (script_seen self.old) (script_seen self.new) }
         ensures exact { result ≡ script_answer 1 self.old
-            (λ most. value_answer (reading_of lun number (seen_after_mood self.old).store)) }
+            (λ most. ok_or (reading_of lun number (seen_after_mood self.old).store) not_present) }
         ensures used { moods_left self.new ≡ drop 1 (moods_left self.old) }
         ensures leaves { StaysAfterMood self.old self.new }
     {

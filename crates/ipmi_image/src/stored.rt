@@ -1,19 +1,9 @@
-//! What an image keeps, in the order of its lines, and an index to find it by.
-ghost use Rattle.std.specs.Prelude.{◌≡◌, ℕ, ◌==◌, ◌<◌, ◌≤◌, ◌++◌, ◌∷◌, [], List, None, Some, true, MatchBool, IsTrue, IfOk, OnErr, OnOk, is_some, map, option_map, option_and_then, slice_get, length};
-ghost use Rattle.ipmi_image.specs.Prelude.{place_of, sensor_key, kept_inventory, with_bytes};
+//! The inventories and readings that an image keeps.
+ghost use Rattle.std.specs.Prelude.{◌≡◌};
+ghost use Rattle.ipmi_image.specs.Prelude.{sensor_key};
 
+use crate::table::TableItem;
 use ipmi_text::Reading;
-use std::alloc::{AllocError, Global};
-use std::collections::BTreeMap;
-use std::marker::Model;
-
-/// What is found by a number of its own.
-pub(crate) trait Keyed {
-    ghost key: { Self → ℕ };
-
-    fn key(&self) -> u16
-        ensures { result ≡ key self.now };
-}
 
 /// The inventory of a FRU device.
 #[derive(Drop)]
@@ -22,7 +12,7 @@ pub(crate) struct StoredInventory {
     pub(crate) bytes: Vec<u8>,
 }
 
-impl Keyed for StoredInventory {
+impl TableItem for StoredInventory {
     ghost key = { λ inventory. inventory.id };
 
     fn key(&self) -> u16 {
@@ -38,7 +28,7 @@ pub(crate) struct StoredSensor {
     pub(crate) reading: Reading,
 }
 
-impl Keyed for StoredSensor {
+impl TableItem for StoredSensor {
     ghost key = { λ sensor. sensor_key sensor.lun sensor.number };
 
     fn key(&self) -> u16 {
@@ -51,130 +41,4 @@ pub(crate) fn sensor_key(lun: u8, number: u8) -> u16
     ensures { result ≡ sensor_key lun number }
 {
     u16::from_be_bytes([lun, number])
-}
-
-/// Items in their order, found by their keys in logarithmic time.
-#[derive(Drop)]
-pub(crate) struct Table<T: Keyed + Drop> {
-    items: Vec<T>,
-    /// The place of each key's item.
-    places: BTreeMap<u16, u16>,
-}
-
-impl<T: Keyed + Drop> Model for Table<T> {
-    ghost use Rattle.std.specs.Prelude.{List};
-    ghost use Rattle.std.specs.Ordering.{nat_cmp};
-    ghost use Rattle.std.specs.BTreeMap.{get};
-    ghost use Rattle.ipmi_image.specs.Table.{IsIndex};
-
-    ghost Value = { List T };
-
-    ghost view = { λ t. t.items.items };
-
-    ghost invariant = { λ t. IsIndex T.key t.items.items (get nat_cmp t.places) };
-}
-
-impl<T: Keyed + Drop> Table<T> {
-    /// No items yet.
-    pub(crate) fn new(alloc: Global) -> Table<T>
-        ensures { result ≡ [] }
-    {
-        Table {
-            items: Vec::new(alloc),
-            places: BTreeMap::new(alloc),
-        }
-    }
-
-    /// The items, in their order.
-    pub(crate) fn as_slice(&self) -> &[T]
-        ensures { result.now ≡ self.now }
-    {
-        self.items.as_slice()
-    }
-
-    /// The place of the item with this key.
-    pub(crate) fn place(&self, key: u16) -> Option<usize>
-        ensures { result ≡ place_of T.key key self.now }
-    {
-        self.places.get(&key).copied().map(usize::from)
-    }
-
-    /// Whether the item at the place has this key. It says so exactly where that is the item's place.
-    #[tactic(auto, using(crate::proofs::TableLemmas::place_of_at))]
-    fn is_at(&self, place: usize, key: u16) -> bool
-        ensures yes { IsTrue result → place_of T.key key self.now ≡ Some place }
-        ensures no { place_of T.key key self.now ≡ Some place → IsTrue result }
-    {
-        match self.items.get(place) {
-            Some(item) => item.key() == key,
-            None => false,
-        }
-    }
-
-    /// The place of the item with this key. It is looked for at a place and next to it before it is looked up.
-    pub(crate) fn place_near(&self, key: u16, near: usize) -> Option<usize>
-        ensures { result ≡ place_of T.key key self.now }
-    {
-        if self.is_at(near, key) {
-            return Some(near);
-        }
-        let after = near.wrapping_add(1);
-        if self.is_at(after, key) {
-            return Some(after);
-        }
-        let before = near.wrapping_sub(1);
-        if self.is_at(before, key) {
-            return Some(before);
-        }
-        self.place(key)
-    }
-
-    /// The item with this key.
-    #[tactic(auto, using(std::proofs::lemmas::Option::slice_get_cases))]
-    pub(crate) fn get(&self, key: u16) -> Option<&T>
-        ensures { option_map (λ item. item.now) result ≡
-            option_and_then (slice_get self.now) (place_of T.key key self.now) }
-    {
-        let place = self.place(key)?;
-        self.items.get(place)
-    }
-
-    /// Puts an item at the end, where none has its key, and says whether it did.
-    pub(crate) fn push(&mut self, item: T) -> Result<bool, AllocError>
-        requires { T.key item < 65535 }
-        ensures ok { IfOk result (λ is_new. MatchBool is_new
-            ((place_of T.key (T.key item) self.old ≡ None) × (self.new ≡ self.old ++ item ∷ []))
-            ((is_some (place_of T.key (T.key item) self.old) ≡ true) × (self.new ≡ self.old))) }
-        ensures err { OnErr result (self.new ≡ self.old) }
-        ensures few { length self.new ≤ 65535 }
-    {
-        let key = item.key();
-        let place = self.items.len() as u16;
-        self.items.push(item)?;
-        match self.places.insert(key, place) {
-            Ok(None) => Ok(true),
-            Ok(Some(first)) => {
-                self.items.pop();
-                self.places.insert(key, first)?;
-                Ok(false)
-            }
-            Err(_) => {
-                self.items.pop();
-                Err(AllocError)
-            }
-        }
-    }
-}
-
-impl Table<StoredInventory> {
-    /// Puts the bytes after those of the inventory at this place.
-    pub(crate) fn append(&mut self, place: usize, bytes: &[u8]) -> Result<(), AllocError>
-        requires { place < length self.old }
-        ensures { (id : ℕ) → place_of (λ inventory. inventory.id) id self.old ≡ Some place →
-            OnOk result (map kept_inventory self.new ≡ with_bytes id bytes.now
-            (map kept_inventory self.old)) }
-    {
-        self.items[place].bytes.extend_from_slice(bytes)?;
-        Ok(())
-    }
 }

@@ -1,8 +1,8 @@
 //! Lines of a text and fields of a line, over the borrowed bytes, and numbers in hex.
 ghost use Rattle.std.specs.Prelude.{◌≡◌, ◌⊎◌, [], ◌∷◌, ◌<◌, MatchOption, MatchResult, IfSome, Some, None, length};
-ghost use Rattle.ipmi_image.specs.Prelude.{pieces, bytes_in, number_in, digit_in};
+ghost use Rattle.ipmi_image.specs.Prelude.{pieces, bytes_in, number_in};
 
-use crate::line::LineFault;
+use crate::image_line::LineFault;
 use byteorder::{BigEndian, ByteOrder};
 use hex::FromHex;
 use memchr::memchr;
@@ -38,7 +38,7 @@ pub(crate) fn read_u8(digits: &[u8]) -> Option<u8>
 /// The number that one hex digit is.
 pub(crate) fn read_digit(digit: &[u8]) -> Option<u8>
     requires { length digit.now ≡ 1 }
-    ensures { result ≡ digit_in digit.now }
+    ensures { result ≡ number_in 1 (48 ∷ digit.now) }
 {
     read_u8(&[b'0', digit[0]])
 }

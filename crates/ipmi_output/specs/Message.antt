@@ -2,7 +2,7 @@
 use Rattle.std.specs.Prelude.{ℕ, List, [], ◌∷◌, ◌++◌, flat_map, codes, if◌then◌else◌, decimal}
 use Rattle.std.specs.Char.{is_ascii_control}
 use Rattle.std.specs.Borrow.{Bor}
-use Rattle.ipmi_bus.specs.declared.inventory.FruEnded.{FruEnded}
+use Rattle.ipmi_bus.specs.declared.inventory_reader.FruEnded.{FruEnded}
 use Rattle.ipmi_bus.specs.declared.step.Ended.{Ended}
 use Rattle.ipmi_image.specs.declared.image.ImageFault.{ImageFault}
 use Rattle.ipmi_text.specs.Hex.{byte_h, upper_byte, word_h}

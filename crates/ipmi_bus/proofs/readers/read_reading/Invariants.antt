@@ -1,5 +1,5 @@
 use Rattle.std.proofs.Common.{◌-◌}
-use Rattle.ipmi_bus.specs.Prelude.{IsAsking}
+use Rattle.ipmi_bus.proofs.Asking.{IsAsking}
 use Rattle.ipmi_bus.proofs.readers.read_reading.Given as goal
 
 abbrev pub invariant-asking : goal.invariant-asking

@@ -3,7 +3,7 @@ use Rattle.std.proofs.lemmas.List.{map-append}
 use Rattle.std.proofs.lemmas.List.Elements.{All-from_get_or}
 use Rattle.ipmi_image.specs.Below.{AreBytes}
 use Rattle.ipmi_image.specs.Prelude.{StoredInventory, place_of, kept_inventory, with_bytes, AreInventories}
-use Rattle.ipmi_image.proofs.TableLemmas.{place_below, was_put, with_bytes_new}
+use Rattle.ipmi_image.proofs.TableLemmas.{place_below, with_bytes_new}
 use Rattle.ipmi_image.proofs.StoreLemmas.{AreInventories-more}
 use Rattle.ipmi_image.proofs.contents.put_inventory.Goals as goal
 
@@ -31,7 +31,7 @@ returns-in_ok-push-in-None c =
     let bytes : AreBytes c.args.bytes.now = All-from_get_or (λ b. b < 256) _ 0 (λ k lt. omega (arith, c.type_inv.bytes k)) in
     let new : map kept_inventory c.push.new.self
     ≡ with_bytes c.args.id c.args.bytes.now (map kept_inventory items) =
-    ap (map kept_inventory) (was_put _ c.in_ok-push-in-None.field-0 _ c.in_ok-push-in-None.ensures.ok none)
+    ap (map kept_inventory) c.in_ok-push-in-None.ensures.put.1
     ∙ map-append kept_inventory items _ ∙ rw (c.in_ok-bytes-in-None.ensures.items_if_clones_equal (λ x y e. e)) (sym (with_bytes_new items c.args.id c.args.bytes.now none)) in
     record {
       keeps = subst AreInventories (sym new) (AreInventories-more _ c.args.id _ (sym c.in_default.ensures) (omega (arith, c.ranges.id)) bytes c.requires);

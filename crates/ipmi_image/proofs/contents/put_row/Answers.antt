@@ -1,4 +1,5 @@
-use Rattle.std.proofs.Common.{rules, ◌≡◌, ◌<◌, ap, sym, subst, ◌∙◌, List, arith, None, inr, is_some}
+use Rattle.std.proofs.Common.{rules, ◌≡◌, ◌<◌, ap, sym, subst, ◌∙◌, List, arith, None, Some, inl, inr, is_some}
+use Rattle.std.proofs.lemmas.Result.{err_from_is_err_and}
 use Rattle.std.proofs.lemmas.List.Elements.{All-from_get_or}
 use Rattle.ipmi_image.specs.Below.{IsShelf}
 use Rattle.ipmi_image.specs.Prelude.{SavedRow, chained, row_fault}
@@ -6,11 +7,11 @@ use Rattle.ipmi_image.proofs.TableLemmas.{has_id_chained}
 use Rattle.ipmi_image.proofs.ShelfLemmas.{row_fault-new, row_fault-twice, shelf_with}
 use Rattle.ipmi_image.proofs.contents.put_row.Goals as goal
 
-pub returns-then-branch : goal.returns-then-branch
-returns-then-branch c =
+pub returns : goal.returns
+returns c =
     let rows = c.args.rows.now in
     let row : SavedRow = record { id = c.args.id; next = c.args.next; bytes = c.args.bytes.now } in
-    let added = rw c.if-branch.true at c.in_ok-push.ensures in
+    let added = c.in_ok-push.ensures in
     let fine : row_fault c.args.shelf (chained rows) row ≡ None =
     row_fault-new c.args.shelf (chained rows) row (sym c.is_no_id.ensures ∙ c.if-is_no_id.false) (has_id_chained rows c.args.id ∙ ap is_some added.0) ∙ sym c.in_default.ensures in
     record {
@@ -19,8 +20,11 @@ returns-then-branch c =
       put = (fine, added.1);
     }
 
-pub returns-else-branch-clause-put : goal.returns-else-branch-clause-put
-returns-else-branch-clause-put c =
+pub returns-in_err-push-clause-put : goal.returns-in_err-push-clause-put
+returns-in_err-push-clause-put c =
+    let out = err_from_is_err_and c.from_residual.result c.from_residual.ensures.1 in
     let row : SavedRow = record { id = c.args.id; next = c.args.next; bytes = c.args.bytes.now } in
-    let there = rw c.if-branch.false at c.in_ok-push.ensures in
-    inr (row_fault-twice c.args.shelf (chained c.args.rows.now) row (sym c.is_no_id.ensures ∙ c.if-is_no_id.false) (has_id_chained c.args.rows.now c.args.id ∙ there))
+    rw (out.1, out.2) (elim c.in_err-push.ensures [
+      | inl memory ↦ inl memory
+      | inr twice ↦ inr (row_fault-twice c.args.shelf (chained c.args.rows.now) row (sym c.is_no_id.ensures ∙ c.if-is_no_id.false) (has_id_chained c.args.rows.now c.args.id ∙ twice.1) ∙ ap Some (sym twice.0))
+    ])

@@ -8,7 +8,7 @@ abbrev pub invariant-lines : goal.invariant-lines
 invariant-lines l =
     IsStore (store_of l.contents)
     × ((before : List Line) × HoldsLines l.contents before × (length before + 2 ≡ l.number)
-    × (store_after l.dashes before (pieces 10 l.rest) ≡ store_after l.dashes [] (pieces 10 l.text)))
+    × (store_after l.version before (pieces 10 l.rest) ≡ store_after l.version [] (pieces 10 l.text)))
     × (l.number + length l.rest ≤ length l.text + 2)
 
 abbrev pub decreases-lines : goal.decreases-lines

@@ -19,8 +19,8 @@ returns-clause-is c =
     ∙ sym (contains-ids_in bytes c.args.id)
     ∙ ap (λ s. set.contains s c.args.id) c.self.view_is
 
-pub returns-clause-room : goal.returns-clause-room
-returns-clause-room c = λ lacks.
+pub returns-clause-not_full : goal.returns-clause-not_full
+returns-clause-not_full c = λ lacks.
     let len : length c.self.inside.bytes.items ≡ 8192 = search rules in
     let unseen = ap (λ s. set.contains s c.args.id) c.self.view_is ∙ sym (returns-clause-is c) ∙ lacks in
     subst (λ s. set.len s < 65536) c.self.view_is (room_left c.self.inside.bytes.items c.args.id len c.ranges.id.fits unseen)

@@ -1,5 +1,4 @@
-use Rattle.std.proofs.Common.{◌≡◌, ℕ, ◌-◌, Ok, Err, ap, ◌∙◌}
-use Rattle.ipmi_bus.specs.Prelude.{asked_len}
+use Rattle.std.proofs.Common.{◌≡◌, ℕ, ◌-◌, min, Ok, Err, ap, ◌∙◌}
 use Rattle.ipmi_bus.specs.Retrieval.{request_len}
 use Rattle.ipmi_bus.proofs.PartLemmas.{honest_part, part_failed}
 use Rattle.ipmi_bus.proofs.retrieval.Retrieval.ask_part.Goals as goal
@@ -10,7 +9,7 @@ returns-in-Ok-clause-answered g c = record { answer = Ok c.in-Ok.part; filled = 
 pub returns-in-Err-clause-answered : goal.returns-in-Err-clause-answered
 returns-in-Err-clause-answered g c =
     let old = c.args.self.now in
-    let len : c.asked_len-asked.result ≡ request_len old = c.asked_len-asked.ensures ∙ ap (λ (n : ℕ). asked_len old.part (n - old.have)) c.wanted.ensures in
+    let len : c.asked_len-asked.result ≡ request_len old = c.asked_len-asked.ensures ∙ ap (λ (n : ℕ). min old.part (n - old.have)) c.wanted.ensures in
     record { answer = Err c.in-Err.code; filled = c.request.new.self; buffer = c.request.ensures.buffer; takes = rw len at c.fail_part.ensures.fails }
 
 pub returns-in-Ok-clause-honest : goal.returns-in-Ok-clause-honest

@@ -1,6 +1,6 @@
-use Rattle.std.proofs.Common.{Ok, Err, refl, rules}
+use Rattle.std.proofs.Common.{◌≡◌, Ok, rules}
 use Rattle.std.proofs.lemmas.Result.{err_from_is_err_and}
-use Rattle.ipmi_bus.specs.Prelude.{Whole, Absent}
+use Rattle.ipmi_bus.specs.Prelude.{Found, Over, Whole, Absent, CallLeaves}
 use Rattle.ipmi_bus.proofs.SinceLemmas.{since_more, row_bound}
 use Rattle.ipmi_bus.proofs.retrieval.Retrieval.read.Goals as goal
 
@@ -12,30 +12,26 @@ reading-preserved g c =
     let honest = rw c.in-Again.is at c.in_ok-make_call.ensures.honest in
     since_more _ _ _ _ _ _ since call.request call.counted leaves call.stays (λ h. honest _ _ since.request (since.honest h))
 
-pub returns-in-Whole-clause-row_calls : goal.returns-in-Whole-clause-row_calls
-returns-in-Whole-clause-row_calls g c =
-    let call = c.make_call.ensures in row_bound c.args.self.now c.args.id c.reading.self
-    c.make_call.new.self _ _ _ c.reading.invariant call.counted call.stays (rw c.in-Whole.is at c.in_ok-make_call.ensures.leaves).0
-
-pub returns-in-Absent-clause-row_calls : goal.returns-in-Absent-clause-row_calls
-returns-in-Absent-clause-row_calls g c =
-    let call = c.make_call.ensures in row_bound c.args.self.now c.args.id c.reading.self
-    c.make_call.new.self _ _ _ c.reading.invariant call.counted call.stays (rw c.in-Absent.is at c.in_ok-make_call.ensures.leaves)
+pub returns-in-Over-clause-row_calls : goal.returns-in-Over-clause-row_calls
+returns-in-Over-clause-row_calls g c =
+    let call = c.make_call.ensures in
+    row_bound c.args.self.now c.args.id c.reading.self c.make_call.new.self _ _ _ c.reading.invariant call.counted call.stays (same_part c.in-Over.found (rw c.in-Over.is at c.in_ok-make_call.ensures.leaves))
+  where
+    same_part : (found : Found) → CallLeaves c.reading.self c.make_call.new.self (Ok (Over found)) → c.make_call.new.self.part ≡ c.reading.self.part
+    same_part Whole leaves = leaves.0
+    same_part Absent leaves = leaves
 
 pub returns-in_err-make_call-clause-row_calls : goal.returns-in_err-make_call-clause-row_calls
 returns-in_err-make_call-clause-row_calls g c =
     let call = c.make_call.ensures in row_bound c.args.self.now c.args.id c.reading.self c.make_call.new.self _ _ _ c.reading.invariant call.counted call.stays c.in_err-make_call.ensures.leaves.0
 
-pub returns-in-Whole-clause-ended : goal.returns-in-Whole-clause-ended
-returns-in-Whole-clause-ended g c = record { last = c.reading.self; outcome = Ok Whole; answered = rw c.in-Whole.is at c.in_ok-make_call.ensures.answered; ends = refl }
-
-pub returns-in-Absent-clause-ended : goal.returns-in-Absent-clause-ended
-returns-in-Absent-clause-ended g c = record { last = c.reading.self; outcome = Ok Absent; answered = rw c.in-Absent.is at c.in_ok-make_call.ensures.answered; ends = refl }
+pub returns-in-Over-clause-ended : goal.returns-in-Over-clause-ended
+returns-in-Over-clause-ended g c = record { last = c.reading.self; answered = rw c.in-Over.is at c.in_ok-make_call.ensures.answered }
 
 pub returns-in_err-make_call-clause-ended : goal.returns-in_err-make_call-clause-ended
 returns-in_err-make_call-clause-ended g c =
     let out = err_from_is_err_and c.from_residual.result c.from_residual.ensures.1 in
-    rw (out.1, out.2) (record { last = c.reading.self; outcome = Err _; answered = c.in_err-make_call.ensures.answered; ends = refl })
+    rw (out.1, out.2) (record { last = c.reading.self; answered = c.in_err-make_call.ensures.answered })
 
 pub reading-init : goal.reading-init
 reading-init g c = search rules

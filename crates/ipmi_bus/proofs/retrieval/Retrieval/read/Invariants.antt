@@ -1,5 +1,6 @@
-use Rattle.ipmi_bus.specs.Prelude.{largest_len, Since, begun}
+use Rattle.ipmi_bus.specs.Prelude.{largest_len, begun}
 use Rattle.ipmi_bus.specs.Retrieval.{calls_left}
+use Rattle.ipmi_bus.proofs.SinceLemmas.{Since}
 use Rattle.ipmi_bus.proofs.retrieval.Retrieval.read.Given as goal
 
 abbrev pub invariant-reading : goal.invariant-reading

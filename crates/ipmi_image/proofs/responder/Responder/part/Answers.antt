@@ -1,9 +1,8 @@
 use Rattle.std.proofs.Common.{rules, ◌≡◌, ◌+◌, nat_eq, true, false, sym, ◌∙◌, arith, Some, length, refl}
-use Rattle.std.proofs.lemmas.Option.{none-some}
 use Rattle.std.proofs.lemmas.Bool.Decides.{nat_tests}
 use Rattle.ipmi_image.specs.Below.{look, row_of_record, rows_of}
 use Rattle.ipmi_image.specs.Prelude.{seen_as}
-use Rattle.ipmi_image.proofs.RespondLemmas.{current_of_shelf}
+use Rattle.ipmi_image.proofs.RespondLemmas.{current-same}
 use Rattle.ipmi_image.proofs.responder.Responder.part.Goals as goal
 
 pub returns-then-not-is_reserved-clause-answers : goal.returns-then-not-is_reserved-clause-answers
@@ -15,10 +14,7 @@ returns-then-not-is_reserved-clause-answers c = λ h.
       gives = search rules;
       keeps = search rules;
       beside = search rules;
-      plain = λ p. record {
-        found = λ r e lt reserved. absurd (other.1 (sym (current_of_shelf c.args.shelf (seen_as true c.args.self.now)) ∙ reserved other.0));
-        absent = λ e. absurd (none-some _ (sym e ∙ found));
-      };
+      plain = λ p. rw found (λ lt reserved. absurd (other.1 (current-same c.args.shelf _ (seen_as true c.args.self.now) refl refl ∙ reserved other.0)));
     }
 
 pub returns-then-from-row-clause-answers : goal.returns-then-from-row-clause-answers
@@ -33,13 +29,13 @@ returns-then-from-row-clause-answers c = λ h.
           found = found;
           piece = search rules;
           next = refl;
-          reserved = λ some. current_of_shelf c.args.shelf (seen_as true (record c.args.self.now { tally = c.count-then-from-row.new.self })) ∙ c.if-not-is_reserved.ensures some;
+          reserved = λ some. current-same c.args.shelf _ (seen_as true (record c.args.self.now { tally = c.count.new.self })) refl refl ∙ c.if-not-is_reserved.ensures some;
           counts = rw flag (search rules);
         },
       );
       keeps = search rules;
       beside = search rules;
-      plain = λ p. record { found = λ r e lt reserved. refl; absent = λ e. absurd (none-some _ (sym e ∙ found)) };
+      plain = λ p. rw found (λ lt reserved. refl);
     }
 
 pub returns-else-from-row-clause-answers : goal.returns-else-from-row-clause-answers
@@ -54,11 +50,11 @@ returns-else-from-row-clause-answers c = λ h.
           found = found;
           piece = search rules;
           next = refl;
-          reserved = λ some. current_of_shelf c.args.shelf (seen_as true (record c.args.self.now { tally = c.count.new.self })) ∙ c.if-not-is_reserved.ensures some;
+          reserved = λ some. current-same c.args.shelf _ (seen_as true (record c.args.self.now { tally = c.count.new.self })) refl refl ∙ c.if-not-is_reserved.ensures some;
           counts = rw flag (search rules);
         },
       );
       keeps = search rules;
       beside = search rules;
-      plain = λ p. record { found = λ r e lt reserved. refl; absent = λ e. absurd (none-some _ (sym e ∙ found)) };
+      plain = λ p. rw found (λ lt reserved. refl);
     }

@@ -6,9 +6,9 @@ use Rattle.ipmi_image.proofs.rows.Rows.push.Goals as goal
 pub overflow_cast-head : goal.overflow_cast-head
 overflow_cast-head c = omega (arith, c.self.invariant.size, c.self.invariant.few, c.self.inside.bytes.ok.0, c.len-start.ensures)
 
-pub returns-in-Ok-true : goal.returns-in-Ok-true
-returns-in-Ok-true c =
-    let put = rw c.in-Ok-true.field-0-test at c.in-Ok-true.ensures.ok in
+pub returns : goal.returns
+returns c =
+    let put = c.in_default.ensures.put in
     let bytes = c.self.inside.bytes.items in
     let heads = c.self.inside.heads in
     let more = c.args.row.now.bytes.now in

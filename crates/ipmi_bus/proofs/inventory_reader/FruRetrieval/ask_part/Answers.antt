@@ -1,0 +1,24 @@
+use Rattle.std.proofs.Common.{◌≡◌, ℕ, ◌-◌, min, Ok, Err, ap, ◌∙◌}
+use Rattle.ipmi_bus.specs.FruRetrieval.{request_len}
+use Rattle.ipmi_bus.proofs.InventoryLemmas.{part_answers, part_failed}
+use Rattle.ipmi_bus.proofs.inventory_reader.FruRetrieval.ask_part.Goals as goal
+
+pub returns-in-Ok-clause-answered : goal.returns-in-Ok-clause-answered
+returns-in-Ok-clause-answered g c = record { answer = Ok c.in-Ok.got; filled = c.request.new.self; bytes = c.request.ensures.bytes; takes = c.take_part.ensures.takes }
+
+pub returns-in-Err-clause-answered : goal.returns-in-Err-clause-answered
+returns-in-Err-clause-answered g c =
+    let old = c.args.self.now in
+    let len : c.asked_len-asked.result ≡ request_len old = c.asked_len-asked.ensures ∙ ap (λ (n : ℕ). min old.part (n - old.have)) (c.len.ensures ∙ old.bytes.ok.0) in
+    record { answer = Err c.in-Err.code; filled = c.request.new.self; bytes = c.request.ensures.bytes; takes = rw len at c.fail_part.ensures.fails }
+
+pub returns-in-Ok-clause-honest : goal.returns-in-Ok-clause-honest
+returns-in-Ok-clause-honest g c =
+    λ s since. part_answers c.args.self.now c.request.new.self s _ _ c.asked_len-asked.result
+    c.in-Ok.got c.in-Ok.ensures.len c.in-Ok.ensures.front since c.requires.more (c.in-Ok.ensures.honest since.stays.honest)
+    c.take_part.new.self c.take_part.result c.request.ensures.bytes c.take_part.ensures.takes
+
+pub returns-in-Err-clause-honest : goal.returns-in-Err-clause-honest
+returns-in-Err-clause-honest g c =
+    λ s since. part_failed c.args.self.now c.request.new.self.bytes s _ _ c.asked_len-asked.result c.in-Err.code _ c.in-Err.ensures.err c.requires since (c.in-Err.ensures.honest since.stays.honest)
+    c.request.new.self c.fail_part.new.self c.fail_part.result c.request.ensures.bytes c.fail_part.ensures.fails
