@@ -21,11 +21,11 @@ pub(crate) const FIRST_ID: u16 = 1;
 /// The greatest one; FFFFh says that there is no next record.
 pub(crate) const LAST_ID: u16 = 0xFFFE;
 
-/// How many bytes a request asks for, where `--part` is not given.
-const DEFAULT_PART: u8 = 32;
+/// The most bytes that a request asks for, where `--part` is not given.
+pub const DEFAULT_PART: u8 = 32;
 
-/// How many troubles a step may meet, where `--tries` is not given.
-const DEFAULT_TRIES: u8 = 5;
+/// How often a request is tried again for one record, reading, info or inventory, where `--tries` is not given.
+pub const DEFAULT_TRIES: u8 = 5;
 
 /// Why a command line is no command.
 #[derive(Clone, Copy, Debug, PartialEq, Eq, Error)]

@@ -8,6 +8,6 @@ mod table;
 mod task;
 mod words;
 
-pub use command::{Command, UsageFault, command_of};
+pub use command::{Command, DEFAULT_PART, DEFAULT_TRIES, UsageFault, command_of};
 pub use task::{Count, Kind, Task};
 pub use words::{Word, Words};

@@ -7,11 +7,8 @@ use crate::command::{FIRST_ID, LAST_ID};
 use crate::number::number;
 use crate::task::{Count, Kind, Task};
 use crate::words::Word;
-use ipmi_bus::Shelf;
+use ipmi_bus::{LAST_FRU_DEVICE_ID, Shelf};
 use std::alloc::{AllocError, Global};
-
-/// The greatest id of a FRU device.
-const LAST_DEVICE: u16 = 254;
 
 /// The kind of sensor data record that a word names.
 fn kind_of(word: &str) -> Option<Kind>
@@ -50,7 +47,7 @@ fn inventory_of(word: &str) -> Option<Task>
     ensures value { result ≡ inventory_of word.now }
     ensures range { IfSome result IsTask }
 {
-    let id = number(word, 0, LAST_DEVICE)?;
+    let id = number(word, 0, u16::from(LAST_FRU_DEVICE_ID))?;
     Some(Task::Fru(Some(id as u8)))
 }
 

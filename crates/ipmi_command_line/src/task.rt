@@ -1,9 +1,9 @@
-//! What is to be done, and what it goes along.
+//! What is to be done.
 ghost use Rattle.std.specs.Prelude.{◌≡◌};
-ghost use Rattle.ipmi_command_line.specs.Task.{count_of, is_listing, limit_of, name_of, shelf_of, start_by, takes_from};
+ghost use Rattle.ipmi_command_line.specs.Task.{is_listing, takes_from};
 
 use crate::words::Word;
-use ipmi_bus::{Place, Shelf};
+use ipmi_bus::Shelf;
 
 /// Which sensor data records are listed, by their type.
 #[derive(Clone, Copy, Debug, PartialEq, Eq)]
@@ -60,80 +60,7 @@ pub enum Task {
     Rewrite,
 }
 
-impl Count {
-    /// After how many records a listing stops, where there is such a limit; the newest entries have none.
-    pub fn limit(&self) -> Option<u32>
-        ensures { result ≡ limit_of self.now }
-    {
-        match self {
-            Count::First(n) => Some(u32::from(*n)),
-            Count::All | Count::Last(_) => None,
-        }
-    }
-}
-
 impl Task {
-    /// The shelf whose records the task is about.
-    pub fn shelf(&self) -> Shelf
-        ensures { result ≡ shelf_of self.now }
-    {
-        match self {
-            Task::SelList(_) | Task::SelGet(_) => Shelf::Sel,
-            Task::Info(shelf) => *shelf,
-            Task::Hex
-            | Task::List(_)
-            | Task::Elist(_)
-            | Task::Get(_)
-            | Task::Fru(_)
-            | Task::Rewrite => Shelf::Sdr,
-        }
-    }
-
-    /// Where its listing begins: at its own id, where it has one; otherwise at the id that is given, or at the first record.
-    pub fn start(&self, from: Option<u16>) -> Place
-        ensures { result ≡ start_by self.now from }
-    {
-        match (self, from) {
-            (Task::SelGet(id), _) => Place::Id(*id),
-            (_, Some(id)) => Place::Id(id),
-            (_, None) => Place::First,
-        }
-    }
-
-    /// How many of the shelf's records it asks for.
-    pub fn count(&self) -> Count
-        ensures { result ≡ count_of self.now }
-    {
-        match self {
-            Task::SelList(entries) => *entries,
-            Task::SelGet(_) => Count::First(1),
-            Task::Hex
-            | Task::List(_)
-            | Task::Elist(_)
-            | Task::Get(_)
-            | Task::Info(_)
-            | Task::Fru(_)
-            | Task::Rewrite => Count::All,
-        }
-    }
-
-    /// The name that `sdr get` asks for; empty for every other task.
-    pub fn name(&self) -> &str
-        ensures { result.now ≡ name_of self.now }
-    {
-        match self {
-            Task::Get(name) => name.as_str(),
-            Task::Hex
-            | Task::List(_)
-            | Task::Elist(_)
-            | Task::SelList(_)
-            | Task::SelGet(_)
-            | Task::Info(_)
-            | Task::Fru(_)
-            | Task::Rewrite => "",
-        }
-    }
-
     /// Whether the task may be given an id to start from, `--from`.
     pub fn takes_from(&self) -> bool
         ensures { result ≡ takes_from self.now }

@@ -1,3 +1,3 @@
 //! Tests of messages and of sinks.
-pub(crate) mod message;
+pub(crate) mod failure;
 pub(crate) mod sink;

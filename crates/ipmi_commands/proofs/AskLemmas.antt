@@ -1,25 +1,24 @@
 -- What the reading that is asked for on account of a record leaves.
 use Rattle.std.proofs.Common.{◌≡◌, inl, ℕ, ◌+◌, ◌≤◌, ◌==◌, Bool, true, false, codes, Option, None, Result, Ok, Err, List, [], ◌∷◌, refl, sym, ap, subst, ◌∙◌, arith, IsErrAnd}
-use Rattle.ipmi_commands.specs.Below.{Ended, Refused, GaveUp, FruEnded, EndsUnder, ReadsValue, ValueIs, ReadsInventory, InventoryCounts, IsRefusedInventory, IsRefusedOverChange, IsFruText, Seen, IsHonest, stays_refl, Store, inventory_of}
-use Rattle.ipmi_commands.specs.Prelude.{Stop, is_absent, EndsAmong, AsksAt, FindsNone, FindsText, calls_at_spots, IsInventoryText, Spot, AtRecord, AtInventory}
-use Rattle.ipmi_commands.specs.Plan as plan
+use Rattle.ipmi_commands.specs.Below.{Ended, FruEnded, EndsUnder, ReadsValue, ValueIs, ReadsInventory, InventoryCounts, IsRefusedInventory, IsRefusedOverChange, IsFruText, Seen, IsHonest, stays_refl, Store, inventory_of}
+use Rattle.ipmi_commands.specs.Prelude.{Unread, cause_of_unread, Cause, NoMemory, is_absent, EndsAmong, AsksAt, FindsNone, FindsText, calls_at_spots, IsInventoryText, Spot, AtRecord, AtInventory}
 
--- the stop is passed up
-pub passed : {T : Type 0} (result : Result T Stop) (st : Stop) → IsErrAnd result (λ e. e ≡ st)
-    → result ≡ Err st
-passed (Ok found) st is = absurd is
-passed (Err e) st is = rw is refl
+-- why it was not read is passed up
+pub passed : {T : Type 0} (result : Result T Unread) (unread : Unread)
+    → IsErrAnd result (λ e. e ≡ unread) → result ≡ Err unread
+passed (Ok found) unread is = absurd is
+passed (Err e) unread is = rw is refl
 
 -- ---- no memory is left
 
 no_memory : (spots : List Spot) (tries : ℕ) (s s' : Seen) → AsksAt spots tries s s'
-    → s'.refusals ≡ s.refusals → FindsNone spots tries s s' Stop.Memory
-no_memory spots tries s s' asks refusals = record { asks = asks; outcome = plan.OutOfMemory; outcome_is = refl; counts = refusals; there = tt; plain = λ p. tt }
+    → s'.refusals ≡ s.refusals → FindsNone spots tries s s' NoMemory
+no_memory spots tries s s' asks refusals = record { asks = asks; counts = refusals; there = tt; plain = λ p. tt }
 
 -- a text was found, and no memory is left for what is made of it
 pub out_after_text : (IsText : Store → List ℕ → Type 0) (spots : List Spot) (tries : ℕ)
     (s s' : Seen) (text : List ℕ) → FindsText IsText spots tries s s' text
-    → FindsNone spots tries s s' Stop.Memory
+    → FindsNone spots tries s s' NoMemory
 out_after_text IsText spots tries s s' text finds = no_memory spots tries s s' finds.asks finds.refusals
 
 -- nothing was asked for
@@ -27,7 +26,7 @@ pub asks_nothing : (spots : List Spot) (tries : ℕ) (s : Seen) → IsHonest s �
 asks_nothing spots tries s honest = record { stays = stays_refl s honest; grows = omega arith; calls = λ same. omega arith; plain = λ p. record { sdr = refl; sel = refl } }
 
 pub out_of_memory : (spots : List Spot) (tries : ℕ) (s : Seen) → IsHonest s
-    → FindsNone spots tries s s Stop.Memory
+    → FindsNone spots tries s s NoMemory
 out_of_memory spots tries s honest = no_memory spots tries s s (asks_nothing spots tries s honest) refl
 
 -- ---- a value: the reading of a record, or the info of a shelf
@@ -35,8 +34,8 @@ out_of_memory spots tries s honest = no_memory spots tries s s (asks_nothing spo
 value_grows : {V : Type 0} (value : Store → Option V) (tries : ℕ) (s s' : Seen)
     (result : Result (Option V) Ended) → ValueIs value tries s s' result → s.troubles ≤ s'.troubles
 value_grows value tries s s' (Ok o) is = is.0.grows
-value_grows value tries s s' (Err (GaveUp n)) is = omega (arith, is.troubles)
-value_grows value tries s s' (Err (Refused n code)) is = is.grows
+value_grows value tries s s' (Err (Ended.GaveUp n)) is = omega (arith, is.troubles)
+value_grows value tries s s' (Err (Ended.Refused n code)) is = is.grows
 value_grows value tries s s' (Err _) is = absurd is
 
 module _ {V : Type 0} (value : Store → Option V) (spots : List Spot) (tries : ℕ) (s s' : Seen)
@@ -46,24 +45,20 @@ module _ {V : Type 0} (value : Store → Option V) (spots : List Spot) (tries : 
   asks_value result r = record { stays = r.stays; grows = value_grows value tries s s' result r.is; calls = λ same. calls; plain = λ p. (r.plain p).1 }
 
   pub out_after_value : (o : Option V) → ReadsValue value tries s s' (Ok o)
-      → FindsNone spots tries s s' Stop.Memory
+      → FindsNone spots tries s s' NoMemory
   out_after_value o r = no_memory spots tries s s' (asks_value (Ok o) r) r.is.0.refusals
 
   -- it is given up or refused at one of the spots
   pub fails_at_value : (ended : Ended) → ReadsValue value tries s s' (Err ended)
-      → EndsAmong {V = Option V} spots (Err ended) → FindsNone spots tries s s' (Stop.Ended ended)
-  fails_at_value (GaveUp n) r there = record {
-    asks = asks_value (Err (GaveUp n)) r;
-    outcome = plan.GaveUp (AtRecord n);
-    outcome_is = refl;
+      → EndsAmong {V = Option V} spots (Err ended) → FindsNone spots tries s s' (cause_of_unread (Unread.Ended ended))
+  fails_at_value (Ended.GaveUp n) r there = record {
+    asks = asks_value (Err (Ended.GaveUp n)) r;
     counts = (r.is.refusals, omega (arith, r.is.troubles), omega (arith, r.is.fresh_troubles));
     there = there;
     plain = λ p. let h = (r.plain p).0 in cc h;
   }
-  fails_at_value (Refused n code) r there = record {
-    asks = asks_value (Err (Refused n code)) r;
-    outcome = plan.Refused (AtRecord n) code.0;
-    outcome_is = refl;
+  fails_at_value (Ended.Refused n code) r there = record {
+    asks = asks_value (Err (Ended.Refused n code)) r;
     counts = (r.is.refusals, r.is.last_code);
     there = there;
     plain = λ p. let h = (r.plain p).0 in cc h;
@@ -73,8 +68,8 @@ module _ {V : Type 0} (value : Store → Option V) (spots : List Spot) (tries : 
 -- the spot of an info is that of the record 0000h
 pub at_info : (ended : Ended) → EndsUnder {V = Option (List ℕ)} 0 (Err ended)
     → EndsAmong {V = Option (List ℕ)} (AtRecord 0 ∷ []) (Err ended)
-at_info (GaveUp n) under = inl (ap AtRecord under)
-at_info (Refused n code) under = inl (ap AtRecord under)
+at_info (Ended.GaveUp n) under = inl (ap AtRecord under)
+at_info (Ended.Refused n code) under = inl (ap AtRecord under)
 at_info _ under = absurd under
 
 pub calls_for_info : (tries calls calls' : ℕ) → calls' ≤ calls + (tries + 1)
@@ -118,7 +113,7 @@ module _ (id tries : ℕ) (s s' : Seen) where
   }
 
   pub out_after_bytes : (bytes : List ℕ) → ReadsInventory id tries s s' (Ok bytes)
-      → FindsNone (AtInventory id ∷ []) tries s s' Stop.Memory
+      → FindsNone (AtInventory id ∷ []) tries s s' NoMemory
   out_after_bytes bytes r = no_memory _ tries s s' (asks_inventory (Ok bytes) r) r.counts.0.refusals
 
   -- there is none
@@ -143,29 +138,25 @@ module _ (id tries : ℕ) (s s' : Seen) where
 
   pub out_after_absence : (ended : FruEnded) → is_absent ended ≡ true
       → ReadsInventory id tries s s' (Err ended)
-      → FindsNone (AtInventory id ∷ []) tries s s' Stop.Memory
+      → FindsNone (AtInventory id ∷ []) tries s s' NoMemory
   out_after_absence ended absent r = no_memory _ tries s s' (asks_inventory (Err ended) r) (absent_is ended absent r).0
 
   -- or it was not read
   pub fails_at_inventory : (ended : FruEnded) → is_absent ended ≡ false
       → ReadsInventory id tries s s' (Err ended)
-      → FindsNone (AtInventory id ∷ []) tries s s' (Stop.Inventory id ended)
+      → FindsNone (AtInventory id ∷ []) tries s s' (cause_of_unread (Unread.Inventory id ended))
   fails_at_inventory FruEnded.Memory present r =
-      record { asks = asks_inventory (Err FruEnded.Memory) r; outcome = plan.OutOfMemory; outcome_is = refl; counts = r.counts.0.refusals; there = tt; plain = λ p. tt }
+      record { asks = asks_inventory (Err FruEnded.Memory) r; counts = r.counts.0.refusals; there = tt; plain = λ p. tt }
   fails_at_inventory (FruEnded.Refused code) present r =
       let counts = subst (λ (b : Bool). IsRefusedOverChange b id tries code.0 s s') present r.counts in
       record {
         asks = asks_inventory (Err (FruEnded.Refused code)) r;
-        outcome = plan.Refused (AtInventory id) code.0;
-        outcome_is = refl;
         counts = (counts.refusals, counts.last_code);
         there = inl refl;
         plain = λ p. let h = sym (ap (λ (n : ℕ). n == 0xCB) (r.plain p).0) ∙ present in cc h;
       }
   fails_at_inventory FruEnded.GaveUp present r = record {
     asks = asks_inventory (Err FruEnded.GaveUp) r;
-    outcome = plan.GaveUp (AtInventory id);
-    outcome_is = refl;
     counts = (r.counts.refusals, omega (arith, r.counts.troubles), (r.counts.some_fresh, λ same. omega (arith, (r.is same).fresh_troubles)));
     there = inl refl;
     plain = λ p. (r.plain p).0;

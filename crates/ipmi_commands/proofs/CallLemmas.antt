@@ -1,13 +1,13 @@
--- How many calls a listing makes.
-use Rattle.std.proofs.Common.{◌≡◌, inl, inr, ℕ, zero, suc, ◌+◌, ◌*◌, ◌<◌, ◌≤◌, Option, None, Some, Result, Ok, List, [], ◌∷◌, ◌++◌, take, drop, refl, sym, ap, ◌∙◌, arith, take-append-drop}
+-- How many calls a listing makes, and the rows of a walk that are wanted.
+use Rattle.std.proofs.Common.{◌≡◌, inl, inr, ℕ, zero, suc, ◌+◌, ◌*◌, ◌<◌, ◌≤◌, ◌==◌, false, true, Option, None, Some, Result, Ok, Err, List, [], ◌∷◌, ◌++◌, length, take, drop, refl, sym, ap, ◌∙◌, arith, take-append-drop, take_all, length-drop, length-take}
 use Rattle.std.specs.FinSet as set
 use Rattle.std.specs.FinSet.{len-insert}
 use Rattle.std.specs.Cmp.{nat_cmp_total}
 use Rattle.std.proofs.lemmas.Bool.Decides.{nat_tests}
 use Rattle.std.proofs.lemmas.Nat.{mul-le}
-use Rattle.std.proofs.Math.Seq.{take-nil}
-use Rattle.ipmi_commands.specs.Below.{step_call_bound, digits, Shelf, Ended, Row, first_row, len_of, largest_len, place_after, Seen, CursorState, IsStep, StepLeaves, HandsOut, Store, Task}
-use Rattle.ipmi_commands.specs.Prelude.{calls_for, IsPlace, HasCalled, ListingCalls, first_rows}
+use Rattle.std.proofs.Math.Seq.{take-nil, drop-nil}
+use Rattle.ipmi_commands.specs.Below.{step_call_bound, digits, Shelf, Ended, Row, first_row, len_of, largest_len, place_after, Place, place_after_rows, Seen, CursorState, IsStep, StepLeaves, HandsOut, Store, WalkEnd, Done}
+use Rattle.ipmi_commands.specs.Prelude.{calls_for, Form, is_reached, IsPlace, ListingCalls, PassingCalls, first_end, first_rows}
 
 -- ---- digits
 
@@ -15,12 +15,79 @@ use Rattle.ipmi_commands.specs.Prelude.{calls_for, IsPlace, HasCalled, ListingCa
 pub digits_some : (n : ℕ) → 0 < n → 1 ≤ digits n
 digits_some n some = grind (arith, nat_tests)
 
--- fewer than are wanted
+-- ---- limits
+
+-- no more than are wanted, and fewer
+abbrev pub IsWithin : Option ℕ → ℕ → Type 0
+IsWithin None count = Unit {0}
+IsWithin (Some n) count = count ≤ n
+
 abbrev pub IsBelow : Option ℕ → ℕ → Type 0
 IsBelow None count = Unit {0}
 IsBelow (Some n) count = count < n
 
+-- as many were handed out as are wanted
+pub at_limit : (most : Option ℕ) (count : ℕ) → is_reached most count ≡ true → most ≡ Some count
+at_limit most count reached = grind (arith, nat_tests)
+
+pub not_at_limit : (most : Option ℕ) (count : ℕ) → is_reached most count ≡ false
+    → most ≡ Some count → ⊥
+not_at_limit (Some n) count more is = let e : n ≡ count = cc is in let h : (n == count) ≡ true = rw e (search arith) in cc (sym h ∙ more)
+not_at_limit None count more is = cc is
+
+-- otherwise one more is wanted
+pub one_wanted : (most : Option ℕ) (count : ℕ) → IsWithin most count
+    → is_reached most count ≡ false → IsBelow most count
+one_wanted most count within more = grind (arith, nat_tests)
+
+pub within_more : (most : Option ℕ) (count : ℕ) → IsWithin most count
+    → is_reached most count ≡ false → IsWithin most (count + 1)
+within_more most count within more = grind (arith, nat_tests)
+
+-- all rows are wanted where more are wanted than there are
+pub first_rows-all : (most : Option ℕ) (rows : List Row) → IsBelow most (length rows)
+    → first_rows most rows ≡ rows
+first_rows-all most rows below = grind (arith, take_all)
+
+pub first_end-all : (most : Option ℕ) (rows : List Row) (end : WalkEnd) → IsBelow most (length rows)
+    → first_end most rows end ≡ end
+first_end-all most rows end below = grind (arith, nat_tests)
+
+-- and the end is none where no more are wanted
+pub first_end-none : (count : ℕ) (rows : List Row) (end : WalkEnd) → count ≤ length rows
+    → first_end (Some count) rows end ≡ Done
+first_end-none count rows end within = grind (arith, nat_tests)
+
+-- no row is left where no more are wanted
+pub none_left : (most : Option ℕ) (count : ℕ) (rows : List Row) → IsBelow most count
+    → drop count (first_rows most rows) ≡ [] → length rows ≤ count
+none_left most count rows below none = grind (arith, length-drop, length-take, ap length none)
+
+-- the next row is wanted where more are
+pub first_row-first_rows : (most : Option ℕ) (k : ℕ) (walk : List Row) → IsBelow most k
+    → first_row (drop k (first_rows most walk)) ≡ first_row (drop k walk)
+first_row-first_rows None k walk below = refl
+first_row-first_rows (Some n) k walk below = fewer n k walk below
+  where
+    fewer : (n k : ℕ) (walk : List Row) → k < n
+        → first_row (drop k (take n walk)) ≡ first_row (drop k walk)
+    fewer n k [] below = rw (take-nil n) refl
+    fewer zero k (first ∷ walk) below = absurd (omega (arith, below))
+    fewer (suc n) zero (first ∷ walk) below = refl
+    fewer (suc n) (suc k) (first ∷ walk) below = fewer n k walk (omega (arith, below))
+
 -- ---- over any controller
+
+-- since a listing began: for no more calls than for the records that were handed out
+pub record HasCalled (each count : ℕ) (begun now : CursorState) (s s' : Seen) : Type 0 where
+  pub passing : PassingCalls each begun now s s'
+  pub ids : set.len now.ids ≡ set.len begun.ids + count
+  pub room : set.len now.ids ≤ 65536
+  pub place : IsPlace begun.place → IsPlace now.place
+
+pub has_called_none : (each : ℕ) (begun : CursorState) (s : Seen) → set.len begun.ids ≤ 65536
+    → HasCalled each 0 begun begun s s
+has_called_none each begun s room = record { passing = record { calls = omega arith; some = λ some. some }; ids = omega arith; room = room; place = λ place. place }
 
 -- each record that is handed out is one id more
 pub len-next_ids : (now next : CursorState) (row : Row) → HandsOut now next row
@@ -39,7 +106,7 @@ at_most_all rows bound most = mul-le rows bound 65536 bound most (omega arith)
 pub called_stopped : (each count : ℕ) (begun now : CursorState) (s s' : Seen)
     → HasCalled each count begun now s s' → ListingCalls each begun now s s'
 called_stopped each count begun now s s' called = record {
-  calls = λ some. omega (arith, at_most_all count each called.most, called.calls, digits_some now.part (called.some some));
+  calls = λ some. omega (arith, at_most_all (set.len now.ids) each called.room, called.passing.calls, digits_some now.part (called.passing.some some));
   place = called.place;
 }
 
@@ -52,6 +119,10 @@ place_kept : (now next : CursorState) (result : Result (Option Row) Ended) → H
     → StepLeaves now next result → IsPlace now.place → IsPlace next.place
 place_kept now next result none leaves place = grind arith
 
+ids_kept : (now next : CursorState) (result : Result (Option Row) Ended) → HandsNothing result
+    → StepLeaves now next result → next.ids ≡ now.ids
+ids_kept now next result none leaves = grind arith
+
 -- a step of a listing over this shelf, with these tries, where each record takes so many calls at most
 module _ (tries later each count : ℕ) (shelf : Shelf) (begun now next : CursorState)
     (s s' s'' : Seen) (each_is : each ≡ step_call_bound tries (largest_len shelf) + later)
@@ -63,12 +134,11 @@ module _ (tries later each count : ℕ) (shelf : Shelf) (begun now next : Cursor
   called_more last row step asked =
       let hands = step.leaves.1 in
       let more = len-next_ids now next row hands in
-      let one : (count + 1) * each ≡ count * each + each = omega arith in
+      let one : (set.len now.ids + 1) * each ≡ set.len now.ids * each + each = omega arith in
       record {
-        within = omega (arith, more, called.within);
-        most = omega (arith, more, called.within, hands.at_most);
-        calls = omega (arith, called.calls, rw (same_shelf, same_tries) at step.calls, asked, each_is, one);
-        some = λ some. step.same.part_not_zero;
+        passing = record { calls = rw more (omega (arith, called.passing.calls, rw (same_shelf, same_tries) at step.calls, asked, each_is, one)); some = λ some. step.same.part_not_zero };
+        ids = omega (arith, more, called.ids);
+        room = hands.at_most;
         place = λ place. rw hands.place (is_place row.next hands.next);
       }
 
@@ -77,43 +147,53 @@ module _ (tries later each count : ℕ) (shelf : Shelf) (begun now next : Cursor
       → IsStep now next s' s'' result → ListingCalls each begun next s s''
   called_ended result none step = record {
     calls = λ some.
-        let one : (count + 1) * each ≡ count * each + each = omega arith in
+        let one : (set.len now.ids + 1) * each ≡ set.len now.ids * each + each = omega arith in
         elim step.room [
-          | inl asks ↦ omega (arith, at_most_all count each called.most, called.calls, digits_some now.part (called.some some), ap (λ (x : Seen). x.calls) (step.no_call asks))
-          | inr room ↦ omega (arith, at_most_all (count + 1) each (omega (arith, room, called.within)), one, called.calls, rw (same_shelf, same_tries) at step.calls, digits_some next.part step.same.part_not_zero, each_is)
+          | inl asks ↦ omega (arith, at_most_all (set.len now.ids) each called.room, called.passing.calls, digits_some now.part (called.passing.some some), ap (λ (x : Seen). x.calls) (step.no_call asks))
+          | inr room ↦ omega (arith, at_most_all (set.len now.ids + 1) each (omega (arith, room)), one, called.passing.calls, rw (same_shelf, same_tries) at step.calls, digits_some next.part step.same.part_not_zero, each_is)
         ];
     place = λ place. place_kept now next result none step.leaves (called.place place);
   }
 
+  -- and it has as many ids as before
+  pub room_ended : (result : Result (Option Row) Ended) → HandsNothing result
+      → IsStep now next s' s'' result → set.len next.ids ≤ 65536
+  room_ended result none step = rw (ids_kept now next result none step.leaves) called.room
+
 -- ---- along a walk
 
--- the next row is wanted where more are
-pub first_row-first_rows : (most : Option ℕ) (k : ℕ) (walk : List Row) → IsBelow most k
-    → first_row (drop k (first_rows most walk)) ≡ first_row (drop k walk)
-first_row-first_rows None k walk below = refl
-first_row-first_rows (Some n) k walk below = fewer n k walk below
-  where
-    fewer : (n k : ℕ) (walk : List Row) → k < n
-        → first_row (drop k (take n walk)) ≡ first_row (drop k walk)
-    fewer n k [] below = rw (take-nil n) refl
-    fewer zero k (first ∷ walk) below = absurd (omega (arith, below))
-    fewer (suc n) zero (first ∷ walk) below = refl
-    fewer (suc n) (suc k) (first ∷ walk) below = fewer n k walk (omega (arith, below))
-
-module _ (t : Task) (store : Store) (tries : ℕ) where
-  calls_for-append : (done rest : List Row)
-      → calls_for t store tries (done ++ rest)
-      ≡ calls_for t store tries done + calls_for t store tries rest
+module _ (form : Form) (store : Store) (tries : ℕ) where
+  pub calls_for-append : (done rest : List Row)
+      → calls_for form store tries (done ++ rest)
+      ≡ calls_for form store tries done + calls_for form store tries rest
   calls_for-append [] rest = omega arith
   calls_for-append (d ∷ done) rest = omega (arith, calls_for-append done rest)
 
   -- those for the first rows, and for the rows after them
   pub calls_split : (size : ℕ) (walk : List Row)
-      → calls_for t store tries (take size walk) + calls_for t store tries (drop size walk)
-      ≡ calls_for t store tries walk
-  calls_split size walk = sym (calls_for-append (take size walk) (drop size walk)) ∙ ap (calls_for t store tries) (take-append-drop size walk)
+      → calls_for form store tries (take size walk) + calls_for form store tries (drop size walk)
+      ≡ calls_for form store tries walk
+  calls_split size walk = sym (calls_for-append (take size walk) (drop size walk)) ∙ ap (calls_for form store tries) (take-append-drop size walk)
 
   -- a step for the next row, or one that finds none
   pub next_calls : (rows : List Row) → step_call_bound tries (len_of (first_row rows))
-      ≤ calls_for t store tries rows + step_call_bound tries 0
+      ≤ calls_for form store tries rows + step_call_bound tries 0
   next_calls rows = grind arith
+
+-- ---- rows
+
+-- the place after some rows, and then after more
+pub place_after_rows-append : (start : Place) (done rest : List Row)
+    → place_after_rows start (done ++ rest) ≡ place_after_rows (place_after_rows start done) rest
+place_after_rows-append start [] rest = refl
+place_after_rows-append start (d ∷ done) rest = place_after_rows-append (place_after d.next) done rest
+
+-- the next of some rows: those after it, and the place after it
+pub next_one : (rows : List Row) (k : ℕ) (row : Row) → first_row (drop k rows) ≡ Some row
+    → (drop k rows ≡ row ∷ drop (k + 1) rows)
+    × ((start : Place) → place_after_rows start (take (k + 1) rows) ≡ place_after row.next)
+next_one [] k row next = let none = rw drop-nil at next in cc none
+next_one (first ∷ rows) zero row next = let same : first ≡ row = cc next in (rw same refl, λ start. rw same refl)
+next_one (first ∷ rows) (suc k) row next =
+    let later = next_one rows k row next in
+    let one_on : suc k + 1 ≡ suc (k + 1) = omega arith in (rw one_on later.0, λ start. rw one_on (later.1 (place_after first.next)))

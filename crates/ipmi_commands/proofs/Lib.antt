@@ -1,11 +1,14 @@
-pub mod AskLemmas
-pub mod CallLemmas
-pub mod ItemLemmas
-pub mod LastLemmas
-pub mod ListingLemmas
-pub mod NameLemmas
-pub mod PageLemmas
-pub mod PagesLaw
-pub mod PerformLemmas
-pub mod PlanLemmas
-pub mod UniqueLemmas
+mod AskLemmas
+mod CallLemmas
+mod ItemLemmas
+mod LastLemmas
+mod ListingLemmas
+mod NameLemmas
+mod PageLemmas
+mod PagesLaw
+mod PassLemmas
+mod PerformLemmas
+mod RunLemmas
+mod SpotLemmas
+mod StepLemmas
+mod UniqueLemmas

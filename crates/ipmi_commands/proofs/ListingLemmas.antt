@@ -1,449 +1,274 @@
 -- A listing, one step of its cursor after another, and the piece of each record.
-use Rattle.std.proofs.Common.{◌≡◌, ◌≢◌, ◌⊎◌, inl, inr, ℕ, ◌+◌, ◌<◌, ◌≤◌, true, false, IsTrue, Option, None, Some, Result, Ok, Err, List, [], ◌∷◌, length, take, drop, refl, sym, ap, ◌∙◌, arith, take_all, length-drop, length-take, length-take-le, ◌++◌, Bool}
-use Rattle.std.proofs.lemmas.Bool.Decides.{nat_tests}
-use Rattle.std.proofs.lemmas.List.{drop_all}
-use Rattle.ipmi_commands.specs.Below.{step_call_bound, digits, Shelf, Place, First, End, Ended, Cycle, Missing, Refused, GaveUp, KeepsReservations, Row, first_row, look, len_of, Store, rows_of, IsWalk, WalkEnd, Done, CycleAt, MissingAt, EndsBy, place_after_rows, Seen, IsHonest, StaysHonest, current, stays_refl, stays_trans, CursorState, StandsAt, WalkStep, MayFail, IsStep, StepLeaves, FailsAt, AsksNothing, CursorHoldsCurrent, asked_at, WithinTries, Task, TakesPart, shelf_of}
-use Rattle.ipmi_commands.specs.Prelude.{IsStopped, Stop, Span, IsWithin, is_reached, passing, shown_rows, span_items, span_plan, left_rows, left_plan, item_in, subject_in, spots_in, stop_at_end, IsOutcome, IsUnrefused, calls_for, calls_at_spots, AsksAt, FindsText, FindsNone, MayStopAt, HasListed, OnEachWalk, GoesAlong, ListsHonest, IsListing, Course, course, first_rows, first_end, Item, IsItemText, Spot, AtRecord, RunEnd, WalkEnds, run_end, Printed, Outcome, IsAllowed, CountsSo, IsFine, IsAmong, spots_at, spots_after, request}
-use Rattle.ipmi_commands.specs.Plan as plan
-use Rattle.ipmi_commands.proofs.CallLemmas.{IsBelow, digits_some, next_calls, first_row-first_rows}
-use Rattle.ipmi_commands.proofs.ItemLemmas.{next_one, span_items-nil, passing-none, left_items-next, asked_first, none_printed, one_printed, first_cut, after_items, stops_after, leaves_joined, end_spot}
-use Rattle.ipmi_commands.proofs.NameLemmas.{Wrote, done_by, done_by-wrote, end_is}
+use Rattle.std.proofs.Common.{◌≡◌, inl, inr, ℕ, ◌+◌, ◌<◌, ◌≤◌, true, false, IsTrue, Option, None, Some, Result, Ok, Err, List, [], ◌∷◌, ◌++◌, length, take, drop, refl, sym, ap, subst, ◌∙◌, arith, take_all, length-drop, take-add, take-append-drop, Bool}
+use Rattle.std.proofs.lemmas.List.{take-take}
+use Rattle.ipmi_bus.specs.declared.code.Code.{Code}
+use Rattle.ipmi_commands.specs.Below.{step_call_bound, digits, Place, Ended, Row, Store, rows_of, EndsBy, WalkEnd, Done, CycleAt, MissingAt, place_after_rows, Seen, IsHonest, StaysHonest, stays_trans, CursorState, CursorHoldsCurrent, IsStep, asked_at, TakesPart, Ending, Failure}
+use Rattle.ipmi_commands.specs.Prelude.{AsksAt, AtEnd, AtRecord, CallsAlong, calls_at_spots, calls_for, Cause, cause_of, Change, change, CountsSo, end_of, end_spots, EndsFor, FindsNone, FindsText, first_end, first_rows, Form, GaveUp, HasFirstItems, IsAllowed, IsAmong, IsFine, is_reached, IsTextOver, IsRowText, Leaves, listing, listing_plan, Lists, ListsAlong, MayStopAt, NoMemory, NoOutput, OnEachWalk, Printed, Refused, row_items, rows_end, shelf_of, Spot, spots_after, spots_at}
+use Rattle.ipmi_commands.proofs.CallLemmas.{IsBelow, IsWithin, digits_some, first_end-all, none_left, one_wanted, place_after_rows-append}
+use Rattle.ipmi_commands.proofs.ItemLemmas.{cut_after, none_printed, one_printed, printed_joined, row_item, row_items-next, row_items-split, stops_after}
+use Rattle.ipmi_commands.proofs.NameLemmas.{end_of-wrote, Wrote}
+use Rattle.ipmi_commands.proofs.SpotLemmas.{asked_first, end_spot, end_spots-joined}
+use Rattle.ipmi_commands.proofs.StepLemmas.{AtItsEnd, Failed, Reached, Taken, Went, at_cycle, at_missing, at_none, between, counts_since, current-kept, gave_up, reached_limit, taken, was_refused, went_none}
 
--- ---- limits
+-- ---- the rows that are listed, where the cursor was after k rows of a walk
 
--- as many were listed as are wanted
-at_limit : (most : Option ℕ) (count : ℕ) → is_reached most count ≡ true → most ≡ Some count
-at_limit most count reached = grind (arith, nat_tests)
+-- where the first of them is asked for, and they
+abbrev from_here : Place → List Row → ℕ → Place
+from_here start walk k = place_after_rows start (take k walk)
 
--- otherwise one more is wanted
-one_wanted : (most : Option ℕ) (count : ℕ) → IsWithin most count → is_reached most count ≡ false
-    → IsBelow most count
-one_wanted most count within more = grind (arith, nat_tests)
+abbrev used : Option ℕ → List Row → ℕ → List Row
+used most walk k = first_rows most (drop k walk)
 
-pub within_more : (most : Option ℕ) (count : ℕ) → IsWithin most count
-    → is_reached most count ≡ false → IsWithin most (count + 1)
-within_more most count within more = grind (arith, nat_tests)
+-- the first ones of them
+take_used : (most : Option ℕ) (count : ℕ) (rows : List Row) → IsWithin most count
+    → take count (first_rows most rows) ≡ take count rows
+take_used None count rows within = refl
+take_used (Some n) count rows within = take-take count n rows within
 
--- all rows are wanted where more are wanted than there are
-first_rows-all : (most : Option ℕ) (walk : List Row) → IsBelow most (length walk)
-    → first_rows most walk ≡ walk
-first_rows-all most walk below = grind (arith, take_all)
+-- the place after these
+place_here : (most : Option ℕ) (count : ℕ) (start : Place) (walk : List Row) (k : ℕ)
+    → IsWithin most count → place_after_rows (from_here start walk k) (take count (used most walk k))
+    ≡ place_after_rows start (take (k + count) walk)
+place_here most count start walk k within =
+    rw (take_used most count (drop k walk) within, take-add k count walk) (sym (place_after_rows-append start (take k walk) (take count (drop k walk))))
 
-first_end-all : (most : Option ℕ) (walk : List Row) (end : WalkEnd) → IsBelow most (length walk)
-    → first_end most walk end ≡ end
-first_end-all most walk end below = grind (arith, nat_tests)
+-- the texts of the first rows were printed
+abbrev pub PrintsRows : Form → Option ℕ → ℕ → CursorState → Seen → Seen → List ℕ → List ℕ → Type 0
+PrintsRows form most count begun s s' old new =
+    s'.stores_added ≡ s.stores_added → OnEachWalk (shelf_of form) begun s.store
+    (λ start walk end k. Printed (IsTextOver s.store)
+    (row_items form (from_here start walk k) (take count (used most walk k))) old new)
 
--- and the end is none where no more are wanted
-pub first_end-none : (count : ℕ) (walk : List Row) (end : WalkEnd) → count ≤ length walk
-    → first_end (Some count) walk end ≡ Done
-first_end-none count walk end within = grind (arith, nat_tests)
+-- ---- endings
 
--- no row is left where no more are wanted
-none_left : (most : Option ℕ) (k : ℕ) (walk : List Row) → IsBelow most k
-    → drop k (first_rows most walk) ≡ [] → length walk ≤ k
-none_left most k walk below none = grind (arith, length-drop, length-take, ap length none)
+module _ (form : Form) (tries : ℕ) (most : Option ℕ) (count : ℕ) (begun now : CursorState)
+    (s s' : Seen) (old new : List ℕ) (ending : Ending) where
+  abbrev c : Change
+  c = change s s' old new
 
--- ---- how it stopped
+  -- all that is wanted was listed
+  finished : (e : WalkEnd) → cause_of ending ≡ AtEnd
+      → ((start : Place) (rows : List Row)
+      → Printed (IsTextOver s.store) (row_items form start rows) old new
+      → ending ≡ rows_end form rows e)
+      → PrintsRows form most count begun s s' old new
+      → AtItsEnd form tries most count e begun now s s'
+      → Lists form tries most begun now c ending
+  finished e cause ends_so prints at = record {
+    ends = rw cause (record { stays = at.stays; grows = at.unrefused.troubles; counts = at.unrefused.refusals; plain = λ p. tt });
+    along = λ same start walk end k w ends stands.
+        let there = at.along same start walk end k w ends stands in
+        let rows = used most walk k in
+        let printed = rw (take_all count rows (omega (arith, there.count_is))) at (prints same start walk end k w ends stands) in
+        record {
+          leaves = rw (cause, there.end_is) (printed, ends_so (from_here start walk k) rows printed);
+          calls = there.calls;
+          goes_on = λ done. rw there.count_is at there.stands;
+        };
+  }
 
--- one that is not done did not stop by that
-pub stopped_otherwise : (result : Stop) (outcome : Outcome) → IsStopped result
-    → IsOutcome result outcome → outcome ≡ plan.Finished (WalkEnds Done) → ⊥
-stopped_otherwise result outcome stopped is done = grind arith
+  -- or it stopped before that
+  stopped : EndsFor tries (IsTrue s.plain × CursorHoldsCurrent begun s) s s' (cause_of ending)
+      → (ending ≡ Ok tt → ⊥)
+      → (s'.stores_added ≡ s.stores_added → OnEachWalk (shelf_of form) begun s.store
+      (λ start walk end k. IsAllowed (IsTextOver s.store)
+      (listing_plan (listing form (from_here start walk k) most) (drop k walk) end) old new ending
+      × CallsAlong form tries (used most walk k) begun s s'))
+      → Lists form tries most begun now c ending
+  stopped ends not_done along = record {
+    ends = ends;
+    along = λ same start walk end k w ends stands.
+        let there = along same start walk end k w ends stands in
+        record { leaves = there.0; calls = there.1; goes_on = λ done. absurd (not_done done) };
+  }
 
--- ---- what was counted
+  -- the items of the rows that were printed, and of those that were not
+  abbrev first_items : (start : Place) (walk : List Row) (end : WalkEnd) (k : ℕ)
+      → Printed (IsTextOver s.store)
+      (row_items form (from_here start walk k) (take count (used most walk k))) old new
+      → HasFirstItems (IsTextOver s.store)
+      (listing_plan (listing form (from_here start walk k) most) (drop k walk) end) old new
+  first_items start walk end k printed = record {
+    done = row_items form (from_here start walk k) (take count (used most walk k));
+    rest = row_items form (place_after_rows (from_here start walk k) (take count (used most walk k))) (drop count (used most walk k));
+    items_are = row_items-split form (from_here start walk k) (used most walk k) count;
+    printed = printed;
+  }
 
-unrefused_more : (tries : ℕ) (s s' s'' : Seen) → IsUnrefused s s' → WithinTries tries s' s''
-    → IsUnrefused s s''
-unrefused_more tries s s' s'' before step = record { refusals = step.refusals ∙ before.refusals; troubles = omega (arith, before.troubles, step.grows) }
-
--- where no store is added in all, none is added in either part
-pub between : (s s' s'' : Seen) → StaysHonest s s' → StaysHonest s' s''
-    → s''.stores_added ≡ s.stores_added
-    → (s'.stores_added ≡ s.stores_added) × (s''.stores_added ≡ s'.stores_added)
-between s s' s'' before later same = omega (arith, before.store.grows, later.store.grows, same)
-
--- what an outcome counts, it counts since before
-module _ (tries : ℕ) (s s' s'' : Seen)
-    (later : s''.stores_added ≡ s.stores_added → s''.stores_added ≡ s'.stores_added) where
-  pub counts_since : (outcome : Outcome) → IsUnrefused s s' → CountsSo tries s' s'' outcome
-      → CountsSo tries s s'' outcome
-  counts_since outcome before counts = grind arith
-
--- a step that handed out a record asked for it
-asks_something : (now next : CursorState) (row : Row) → StepLeaves now next (Ok (Some row))
-    → AsksNothing now → ⊥
-asks_something now next row leaves asks = grind arith
-
--- the place at which a step failed is on the walk
-on_walk : (rows : List Row) (start now there : Place)
-    → (now ≡ there) ⊎ ((now ≡ End) × (start ≡ First) × (first_row rows ≡ None)) → now ≢ End
-    → now ≡ there
-on_walk rows start now there at not_end = grind arith
-
-current-kept : (shelf : Shelf) (s s' : Seen) → KeepsReservations s s'
-    → current shelf s' ≡ current shelf s
-current-kept shelf s s' keeps = grind arith
-
--- ---- a listing that begins, and one that stops
-
--- at the start of a walk all of the plan is left
-pub listing_begins : (t : Task) (tries : ℕ) (span : Span) (begun : CursorState) (s : Seen)
-    (old : List ℕ) → IsHonest s → ListsHonest t tries span 0 (course begun begun s s old old)
-listing_begins t tries span begun s old honest = record {
-  stays = stays_refl s honest;
-  unrefused = record { refusals = refl; troubles = omega arith };
-  along = λ same start walk end w ends stands. record { stands = stands; leads = λ outcome new allowed. rw passing-none at allowed; calls = omega arith };
-  plain = λ p holds. holds;
-}
-
--- the calls of a listing that stopped, along a walk
-abbrev InAll : Task → ℕ → Span → CursorState → Seen → Seen → List Row → Type 0
-InAll t tries span begun s s' walk = s'.calls + 1 ≤ s.calls + calls_for t s.store tries (first_rows span.most walk) + step_call_bound tries 0 + digits begun.part
-
--- one that did not come to its end
-stopped : (t : Task) (tries : ℕ) (span : Span) (count : ℕ) (begun now : CursorState) (s s' : Seen)
-    (old new : List ℕ) (st : Stop) (outcome : Outcome) → IsOutcome st outcome → (st ≡ Stop.Done → ⊥)
-    → StaysHonest s s' → CountsSo tries s s' outcome → s.troubles ≤ s'.troubles
-    → (IsTrue s.plain → CursorHoldsCurrent begun s → IsFine outcome)
-    → (s'.stores_added ≡ s.stores_added
-    → OnEachWalk t begun s.store
-    (λ start walk end. IsAllowed t s.store (span_plan span t start walk end) old new outcome
-    × (0 < begun.part → InAll t tries span begun s s' walk)))
-    → IsListing t tries span (course begun now s s' old new) (record { stop = st; count = count })
-stopped t tries span count begun now s s' old new st outcome is not_done stays counts grows plain along = record {
-  outcome = outcome;
-  outcome_is = is;
-  stays = stays;
-  counts = counts;
-  grows = grows;
-  along = λ same start walk end w ends stands.
-      let there = along same start walk end w ends stands in
-      record { leaves = there.0; calls = there.1; goes_on = λ done. absurd (not_done done); count = λ done. absurd (not_done done) };
-  plain = plain;
-}
+  -- nothing came for the id that is asked for
+  failed : (n : ℕ) (cause : Cause) → cause_of ending ≡ cause → (ending ≡ Ok tt → ⊥)
+      → ((spots : List Spot) → IsAmong spots (AtRecord n) → MayStopAt spots cause)
+      → IsWithin most count → is_reached most count ≡ false
+      → PrintsRows form most count begun s s' old new
+      → Failed form tries most count n cause begun s s'
+      → Lists form tries most begun now c ending
+  failed n cause is not_done may_stop within wanted prints fails = stopped (rw is fails.ends) not_done
+      (λ same start walk end k w ends stands.
+      let there = fails.along same start walk end k w ends stands in
+      let below = one_wanted most count within wanted in
+      let at = from_here start walk k in
+      let rest = drop k walk in
+      let place = place_here most count start walk k within in
+      let past : drop count (used most walk k) ≡ [] → IsAmong (end_spots at rest (first_end most rest end)) (AtRecord (asked_at (place_after_rows at (take count (used most walk k))))) = λ none.
+      let least = none_left most count rest below none in
+      let all : k + count ≡ length walk = omega (arith, least, there.within, length-drop k walk) in
+      let beyond : IsBelow most (length rest) = let size : length rest ≡ count = omega (arith, all, length-drop k walk) in rw size below in
+      let whole = take_all (k + count) walk (omega (arith, all)) in
+      let joined : end_spots at rest end ≡ end_spots start walk end = end_spots-joined start (take k walk) rest end ∙ ap (λ (l : List Row). end_spots start l end) (take-append-drop k walk) in
+      rw (first_end-all most rest end beyond, joined, place, whole) (end_spot (rows_of (shelf_of form) s.store) start walk end ends (rw whole at (there.at_end all))) in
+      let asked : AtRecord n ≡ AtRecord (asked_at (place_after_rows at (take count (used most walk k)))) = ap AtRecord (there.asked ∙ ap asked_at (sym place)) in (
+        rw is (stops_after (IsTextOver s.store) (listing_plan (listing form at most) rest end) old new ending cause (first_items start walk end k (prints same start walk end k w ends stands))
+            (may_stop _ (rw asked (asked_first form (place_after_rows at (take count (used most walk k))) (drop count (used most walk k)) (end_spots at rest (first_end most rest end)) past)))),
+        there.calls,
+      ))
 
 -- ---- one step
 
--- a record was handed out, before its piece: what is left is its item, and then what comes after it
-abbrev pub Taken : Task → ℕ → Span → ℕ → Row → Course → Type 0
-Taken t tries span count row c = GoesAlong t c
-    (λ start walk end. HasListed (request t start tries) c.seen.store walk end span (count + 1)
-    (after_items (item_in (passing span.skip count) t (place_after_rows start (take count walk)) row ∷ []) (left_plan span (count + 1) t start walk end))
-    (calls_at_spots tries c.seen.store (spots_after t row) + calls_for t c.seen.store tries (left_rows span (count + 1) walk)) c)
-
-module _ (t : Task) (tries : ℕ) (span : Span) (count : ℕ) (begun now : CursorState) (s s' : Seen)
-    (old new : List ℕ) (wrote : Bool) (shelf : now.shelf ≡ shelf_of t)
+module _ (form : Form) (tries : ℕ) (most : Option ℕ) (count : ℕ) (begun now : CursorState)
+    (s s' : Seen) (old new : List ℕ) (wrote : Bool) (shelf : now.shelf ≡ shelf_of form)
     (same_tries : now.tries ≡ tries) (some : 0 < begun.part → 0 < now.part)
-    (within : IsWithin span.most count)
-    (has_written : Wrote wrote old new)
-    (lists : ListsHonest t tries span count (course begun now s s' old new)) where
-  -- all that is wanted was listed, and that ends so
-  finished : (next : CursorState) (s'' : Seen) (st : Stop) (run : RunEnd) (e : WalkEnd)
-      → IsOutcome st (plan.Finished run) → StaysHonest s s'' → IsUnrefused s s''
-      → (s''.stores_added ≡ s.stores_added → s'.stores_added ≡ s.stores_added)
-      → ((store : Store) (start : Place) (rows : List Row)
-      → Printed t store (span_items span.skip t start rows) old new
-      → run ≡ run_end t (shown_rows span.skip rows) e)
-      → (s''.stores_added ≡ s.stores_added
-      → OnEachWalk t begun s.store (λ start walk end. (count ≡ length (first_rows span.most walk))
-      × (first_end span.most walk end ≡ e)
-      × StandsAt (rows_of (shelf_of t) s.store) start walk count next
-      × (0 < begun.part → InAll t tries span begun s s'' walk)))
-      → IsListing t tries span (course begun next s s'' old new)
-      (record { stop = st; count = count })
-  finished next s'' st run e is stays unrefused first ends_so along = record {
-    outcome = plan.Finished run;
-    outcome_is = is;
-    stays = stays;
-    counts = unrefused.refusals;
-    grows = unrefused.troubles;
-    along = λ same start walk end w ends stands.
-        let there = along same start walk end w ends stands in
-        let listed = lists.along (first same) start walk end w ends stands in
-        let none : left_rows span count walk ≡ [] = drop_all count (first_rows span.most walk) (omega (arith, there.0)) in
-        let printed = (listed.leads (plan.Finished (span_plan span t start walk end).end) new (rw (none, span_items-nil) (none_printed t s.store new), refl)).0 in
-        record {
-          leaves = (printed, rw there.1 (ends_so s.store start (first_rows span.most walk) printed));
-          calls = there.3;
-          goes_on = λ done. rw there.0 at there.2;
-          count = λ done. there.0;
-        };
-    plain = λ p holds. tt;
-  }
+    (within : IsWithin most count) (has_written : Wrote wrote old new)
+    (went : Went form tries most count begun now s s')
+    (prints : PrintsRows form most count begun s s' old new) where
+  end_cause : (w : Bool) → cause_of (end_of form w) ≡ AtEnd
+  end_cause w = grind arith
 
   -- as many were listed as are wanted
-  pub listing_full : is_reached span.most count ≡ true
-      → IsListing t tries span (course begun now s s' old new)
-      (record { stop = stop_at_end t wrote; count = count })
-  listing_full full = finished now s' (stop_at_end t wrote) (done_by t wrote) Done (end_is t wrote)
-      lists.stays lists.unrefused (λ same. same)
-      (λ store start rows printed. done_by-wrote t wrote store span.skip start rows old new printed
-      has_written)
-      (λ same start walk end w ends stands.
-      let listed = lists.along same start walk end w ends stands in
-      let reached = at_limit span.most count full in
-      (rw reached (sym (length-take-le count walk listed.stands.within)), rw reached (first_end-none count walk end listed.stands.within), listed.stands, λ part. omega (arith, listed.calls, digits_some now.part (some part))))
+  pub listing_full : is_reached most count ≡ true
+      → Lists form tries most begun now (change s s' old new) (end_of form wrote)
+  listing_full full = finished form tries most count begun now s s' old new (end_of form wrote) Done (end_cause wrote)
+      (λ start rows printed. end_of-wrote form wrote s.store start rows old new printed has_written) prints
+      (reached_limit form tries most count begun now s s' shelf same_tries some within went full)
 
-  module _ (next : CursorState) (s'' : Seen) (wanted : is_reached span.most count ≡ false) where
-    below : IsBelow span.most count
-    below = one_wanted span.most count within wanted
-
-    module _ (result : Result (Option Row) Ended) (step : IsStep now next s' s'' result) where
-      stepped : StaysHonest s' s''
-      stepped = (step.honest lists.stays.honest).stays
-
-      stays : StaysHonest s s''
-      stays = stays_trans s s' s'' lists.stays stepped
-
-      parts : s''.stores_added ≡ s.stores_added
-          → (s'.stores_added ≡ s.stores_added) × (s''.stores_added ≡ s'.stores_added)
-      parts = between s s' s'' lists.stays stepped
-
-      same_rows : s''.stores_added ≡ s.stores_added
-          → rows_of now.shelf s'.store ≡ rows_of (shelf_of t) s.store
-      same_rows same = rw shelf (ap (rows_of (shelf_of t)) (lists.stays.store.stays (parts same).0))
-
-      -- the step along the walk of the listing
-      along : s''.stores_added ≡ s.stores_added
-          → OnEachWalk t begun s.store
-          (λ start walk end. WalkStep (rows_of (shelf_of t) s.store) start walk end count now next
-          result)
-      along same = λ start walk end w ends stands.
-          (rw (same_rows same) at ((step.walks lists.stays.honest).follows (parts same).1 start walk end count)) w ends (lists.along (parts same).0 start walk end w ends stands).stands
-
-      module _ (same : s''.stores_added ≡ s.stores_added) (start : Place) (walk : List Row)
-          (end : WalkEnd) (w : IsWalk (rows_of (shelf_of t) s.store) start walk)
-          (ends : EndsBy (rows_of (shelf_of t) s.store) start walk end)
-          (stands : StandsAt (rows_of (shelf_of t) s.store) start walk 0 begun) where
-        -- it asks for the next row, or for none, or asks nothing
-        asks : AsksNothing now
-            ⊎ (len_of (look (rows_of (shelf_of t) s.store) (asked_at now.place))
-            ≡ len_of (first_row (drop count walk)))
-        asks = (rw (same_rows same) at (step.asks lists.stays.honest start walk end count)) w ends (lists.along (parts same).0 start walk end w ends stands).stands
-
-        -- for as many calls as the next row, or none, may take
-        for_next : len_of (look (rows_of (shelf_of t) s.store) (asked_at now.place))
-            ≡ len_of (first_row (drop count walk))
-            → s''.calls + digits next.part ≤ s'.calls
-            + step_call_bound tries (len_of (first_row (drop count walk))) + digits now.part
-        for_next is = rw (same_rows same, same_tries, is) at ((step.honest lists.stays.honest).calls (parts same).1)
-
-        -- and so all of the listing
-        in_all : 0 < begun.part → InAll t tries span begun s s'' walk
-        in_all part =
-            let calls = (lists.along (parts same).0 start walk end w ends stands).calls in
-            let next_one = rw (first_row-first_rows span.most count walk below) at (next_calls t s.store tries (left_rows span count walk)) in
-            elim asks [
-              | inl nothing ↦ omega (arith, next_one, calls, ap (λ (x : Seen). x.calls) (step.no_call nothing), digits_some now.part (some part))
-              | inr is ↦ omega (arith, next_one, calls, for_next is, digits_some next.part step.same.part_not_zero)
-            ]
-
-      -- the walk is at its end
-      at_end : (st : Stop) (run : RunEnd) (e : WalkEnd) → IsOutcome st (plan.Finished run)
-          → IsUnrefused s s''
-          → ((store : Store) (start : Place) (rows : List Row)
-          → Printed t store (span_items span.skip t start rows) old new
-          → run ≡ run_end t (shown_rows span.skip rows) e)
-          → (s''.stores_added ≡ s.stores_added
-          → OnEachWalk t begun s.store (λ start walk end. (count ≡ length walk) × (end ≡ e)
-          × StandsAt (rows_of (shelf_of t) s.store) start walk count next))
-          → IsListing t tries span (course begun next s s'' old new)
-          (record { stop = st; count = count })
-      at_end st run e is unrefused ends_so ended = finished next s'' st run e is stays unrefused (λ same. (parts same).0) ends_so
-          (λ same start walk end w ends stands.
-          let there = ended same start walk end w ends stands in
-          let all : IsBelow span.most (length walk) = rw there.0 at below in
-          (rw (first_rows-all span.most walk all) there.0, first_end-all span.most walk end all ∙ there.1, there.2, in_all same start walk end w ends stands))
-
-      -- nothing came for the id that is asked for
-      failed : (n : ℕ) (st : Stop) (outcome : Outcome) → IsOutcome st outcome → (st ≡ Stop.Done → ⊥)
-          → CountsSo tries s s'' outcome → s.troubles ≤ s''.troubles
-          → (IsTrue s.plain → CursorHoldsCurrent begun s → IsFine outcome)
-          → FailsAt n now next → ((spots : List Spot) → IsAmong spots (AtRecord n)
-          → MayStopAt spots outcome)
-          → (s''.stores_added ≡ s.stores_added
-          → OnEachWalk t begun s.store (λ start walk end. count ≡ length walk
-          → MayFail end now.place))
-          → IsListing t tries span (course begun next s s'' old new)
-          (record { stop = st; count = count })
-      failed n st outcome is not_done counts grows plain fails may_stop may = stopped t tries span count begun next s s'' old new st outcome is not_done stays counts grows plain
-          (λ same start walk end w ends stands.
-          let listed = lists.along (parts same).0 start walk end w ends stands in
-          let place = on_walk (rows_of (shelf_of t) s.store) start now.place (place_after_rows start (take count walk)) listed.stands.place fails.not_at_end in
-          let left = left_plan span count t start walk end in
-          let past : left_rows span count walk ≡ [] → IsAmong left.end_spots (AtRecord (asked_at (place_after_rows start (take count walk)))) = λ none.
-          let least = none_left span.most count walk below none in
-          let there : count ≡ length walk = omega (arith, least, listed.stands.within) in
-          let whole = take_all count walk least in
-          rw (first_end-all span.most walk end (rw there at below), whole) (end_spot (rows_of (shelf_of t) s.store) start walk end ends (rw (place, whole) at (may same start walk end w ends stands there))) in
-          let asked : AtRecord n ≡ AtRecord (asked_at (place_after_rows start (take count walk))) = ap AtRecord (fails.asked ∙ ap asked_at place) in (
-            listed.leads outcome new (stops_after t s.store left [] left.items new new outcome refl (none_printed t s.store new)
-                (may_stop (spots_at left.items left.end_spots) (rw asked (asked_first (passing span.skip count) t (place_after_rows start (take count walk)) (left_rows span count walk) left.end_spots past)))),
-            in_all same start walk end w ends stands,
-          ))
+  module _ (next : CursorState) (s'' : Seen) (wanted : is_reached most count ≡ false) where
+    -- what was printed over a store that stays
+    still : StaysHonest s' s'' → PrintsRows form most count begun s s'' old new
+    still later = λ same. prints (between s s' s'' went.stays later same).0
 
     pub listing_done : IsStep now next s' s'' (Ok None)
-        → IsListing t tries span (course begun next s s'' old new)
-        (record { stop = stop_at_end t wrote; count = count })
-    listing_done step = at_end (Ok None) step (stop_at_end t wrote) (done_by t wrote) Done (end_is t wrote) (unrefused_more now.tries s s' s'' lists.unrefused (step.honest lists.stays.honest).answers.0)
-        (λ store start rows printed. done_by-wrote t wrote store span.skip start rows old new printed has_written) (along (Ok None) step)
+        → Lists form tries most begun next (change s s'' old new) (end_of form wrote)
+    listing_done step = finished form tries most count begun next s s'' old new (end_of form wrote) Done (end_cause wrote)
+        (λ start rows printed. end_of-wrote form wrote s.store start rows old new printed has_written)
+        (still (step.honest went.stays.honest).stays)
+        (at_none form tries most count begun now s s' shelf same_tries some within went next s'' wanted step)
 
     -- the cursor gave no record, for this reason
     pub listing_ended : (ended : Ended) → IsStep now next s' s'' (Err ended)
-        → IsListing t tries span (course begun next s s'' old new)
-        (record { stop = Stop.Ended ended; count = count })
-    listing_ended (Cycle n) step = at_end (Err (Cycle n)) step (Stop.Ended (Cycle n)) (WalkEnds (CycleAt n)) (CycleAt n) refl (rw (step.honest lists.stays.honest).answers lists.unrefused)
-        (λ store start rows printed. refl) (along (Err (Cycle n)) step)
-    listing_ended (Missing n) step =
-        at_end (Err (Missing n)) step (Stop.Ended (Missing n)) (WalkEnds (MissingAt n))
-        (MissingAt n) refl (unrefused_more now.tries s s' s'' lists.unrefused
-        (step.honest lists.stays.honest).answers.0)
-        (λ store start rows printed. refl) (along (Err (Missing n)) step)
-    listing_ended (GaveUp n) step =
-        let answer = (step.honest lists.stays.honest).answers in
-        let counts = counts_since tries s s' s'' (λ same. (parts (Err (GaveUp n)) step same).1)
-        (plan.GaveUp (AtRecord n)) lists.unrefused
-        (answer.refusals, omega (arith, answer.troubles, same_tries), omega (arith, answer.fresh_troubles, same_tries)) in
-        failed (Err (GaveUp n)) step n (Stop.Ended (GaveUp n)) (plan.GaveUp (AtRecord n)) refl (λ e. cc e) counts (omega (arith, counts.1))
-        (λ p holds. ((step.honest lists.stays.honest).plain (lists.stays.plain p) (lists.plain p holds)).fine) step.leaves.1 (λ spots among. among)
-        (λ same start walk end w ends stands. (along (Err (GaveUp n)) step same start walk end w ends stands).1)
-    listing_ended (Refused n code) step =
-        let answer = (step.honest lists.stays.honest).answers in
-        failed (Err (Refused n code)) step n (Stop.Ended (Refused n code)) (plan.Refused (AtRecord n) code.0) refl (λ e. cc e)
-        (counts_since tries s s' s'' (λ same. (parts (Err (Refused n code)) step same).1)
-        (plan.Refused (AtRecord n) code.0) lists.unrefused (answer.refusals, answer.last_code))
-        (omega (arith, lists.unrefused.troubles, answer.grows))
-        (λ p holds. ((step.honest lists.stays.honest).plain (lists.stays.plain p) (lists.plain p holds)).fine) step.leaves.1 (λ spots among. among)
-        (λ same start walk end w ends stands. (along (Err (Refused n code)) step same start walk end w ends stands).1)
-    listing_ended _ step = absurd ((step.honest lists.stays.honest).answers)
+        → Lists form tries most begun next (change s s'' old new) (Err (Failure.Ended ended))
+    listing_ended (Ended.Cycle n) step = finished form tries most count begun next s s'' old new (Err (Failure.Ended (Ended.Cycle n))) (CycleAt n) refl
+        (λ start rows printed. refl) (still (step.honest went.stays.honest).stays)
+        (at_cycle form tries most count begun now s s' shelf same_tries some within went next s'' wanted n step)
+    listing_ended (Ended.Missing n) step = finished form tries most count begun next s s'' old new (Err (Failure.Ended (Ended.Missing n))) (MissingAt n) refl
+        (λ start rows printed. refl) (still (step.honest went.stays.honest).stays)
+        (at_missing form tries most count begun now s s' shelf same_tries some within went next s'' wanted n step)
+    listing_ended (Ended.GaveUp n) step = failed form tries most count begun next s s'' old new (Err (Failure.Ended (Ended.GaveUp n))) n (GaveUp (AtRecord n)) refl (λ e. cc e)
+        (λ spots among. among) within wanted (still (step.honest went.stays.honest).stays)
+        (gave_up form tries most count begun now s s' shelf same_tries some within went next s'' wanted n step)
+    listing_ended (Ended.Refused n code) step = failed form tries most count begun next s s'' old new (Err (Failure.Ended (Ended.Refused n code))) n (Refused (AtRecord n) code.0) refl (λ e. cc e)
+        (λ spots among. among) within wanted (still (step.honest went.stays.honest).stays)
+        (was_refused form tries most count begun now s s' shelf same_tries some within went next s'' wanted n code step)
+    listing_ended _ step = absurd ((step.honest went.stays.honest).answers)
 
-    -- a record was handed out
     pub listing_taken : (row : Row) → IsStep now next s' s'' (Ok (Some row))
-        → Taken t tries span count row (course begun next s s'' old new)
-    listing_taken row step = record {
-      stays = stays (Ok (Some row)) step;
-      unrefused = unrefused_more now.tries s s' s'' lists.unrefused (step.honest lists.stays.honest).answers.0;
-      along = λ same start walk end w ends stands.
-          let listed = lists.along (parts (Ok (Some row)) step same).0 start walk end w ends stands in
-          let more = along (Ok (Some row)) step same start walk end w ends stands in
-          let left : left_rows span count walk ≡ row ∷ left_rows span (count + 1) walk = (next_one (first_rows span.most walk) count row (first_row-first_rows span.most count walk below ∙ more.0)).0 in
-          record {
-            stands = more.1;
-            leads = λ outcome text allowed. listed.leads outcome text (rw (left_items-next span t start walk count row more.0 left) allowed);
-            calls = elim (asks (Ok (Some row)) step same start walk end w ends stands) [
-              | inl nothing ↦ absurd (asks_something now next row step.leaves nothing)
-              | inr there ↦ omega (arith, rw left at listed.calls, rw more.0 at (for_next (Ok (Some row)) step same start walk end w ends stands there))
-            ];
-          };
-      plain = λ p holds. ((step.honest lists.stays.honest).plain (lists.stays.plain p) (lists.plain p holds)).holds;
-    }
+        → Taken form tries most count row begun next s s'' × PrintsRows form most count begun s s'' old new
+    listing_taken row step = (
+      taken form tries most count begun now s s' shelf same_tries some within went next s'' wanted row step,
+      still (step.honest went.stays.honest).stays,
+    )
 
 -- ---- its piece
 
--- what is asked for because of a row is within what its task may ask for
-asked_within : (skip : Option ℕ) (tries : ℕ) (t : Task) (store : Store) (row : Row)
-    → calls_at_spots tries store (spots_in skip t row)
-    ≤ calls_at_spots tries store (spots_after t row)
-asked_within skip tries t store row = grind arith
-
 -- a spot of what comes later
-may_later : (first : Spot) (spots : List Spot) (outcome : Outcome) → MayStopAt spots outcome
-    → MayStopAt (first ∷ spots) outcome
-may_later first spots outcome may = grind arith
+may_later : (first : Spot) (spots : List Spot) (cause : Cause) → MayStopAt spots cause
+    → MayStopAt (first ∷ spots) cause
+may_later first spots cause may = grind arith
 
-module _ (t : Task) (tries : ℕ) (span : Span) (count : ℕ) (begun next : CursorState)
+-- what may stop for want of a text does not end a listing
+not_done : (ending : Ending) (spots : List Spot) → MayStopAt spots (cause_of ending) → ending ≡ Ok tt → ⊥
+not_done ending spots may done = rw done at may
+
+module _ (form : Form) (tries : ℕ) (most : Option ℕ) (count : ℕ) (begun next : CursorState)
     (s s' s'' : Seen) (old new : List ℕ) (row : Row) (some : 0 < next.part)
-    (taken : Taken t tries span count row (course begun next s s' old new)) where
-  -- the spots of the row, and its text
-  abbrev spots : List Spot
-  spots = spots_in (passing span.skip count) t row
-
-  abbrev IsText : Store → List ℕ → Type 0
-  IsText store text = IsItemText t store (subject_in (passing span.skip count) row) text
-
-  abbrev item : Place → List Row → Item
-  item start walk = item_in (passing span.skip count) t (place_after_rows start (take count walk)) row
-
-  module _ (asks : AsksAt spots tries s' s'') where
+    (taken_ : Taken form tries most count row begun next s s')
+    (prints : PrintsRows form most count begun s s' old new) where
+  module _ (asks : AsksAt (spots_after form row) tries s' s'') where
     stays_on : StaysHonest s s''
-    stays_on = stays_trans s s' s'' taken.stays asks.stays
+    stays_on = stays_trans s s' s'' taken_.stays asks.stays
 
     since : s''.stores_added ≡ s.stores_added
         → (s'.stores_added ≡ s.stores_added) × (s''.stores_added ≡ s'.stores_added)
-    since = between s s' s'' taken.stays asks.stays
+    since = between s s' s'' taken_.stays asks.stays
 
     asked_calls : s''.stores_added ≡ s.stores_added
-        → s''.calls ≤ s'.calls + calls_at_spots tries s.store (spots_after t row)
-    asked_calls same = omega (arith, rw (taken.stays.store.stays (since same).0) at (asks.calls (since same).1), asked_within (passing span.skip count) tries t s.store row)
+        → s''.calls ≤ s'.calls + calls_at_spots tries s.store (spots_after form row)
+    asked_calls same = rw (taken_.stays.store.stays (since same).0) at (asks.calls (since same).1)
 
     -- a listing that stops at it
-    stopped_there : (st : Stop) (outcome : Outcome) (text : List ℕ) → IsOutcome st outcome
-        → (st ≡ Stop.Done → ⊥) → CountsSo tries s' s'' outcome → (IsTrue s'.plain → IsFine outcome)
-        → (s''.stores_added ≡ s.stores_added → (start : Place) (walk : List Row) (end : WalkEnd)
-        → IsAllowed t s.store
-        (after_items (item start walk ∷ []) (left_plan span (count + 1) t start walk end)) new text
-        outcome)
-        → IsListing t tries span (course begun next s s'' old text)
-        (record { stop = st; count = count })
-    stopped_there st outcome text is not_done counts fine leaves =
-        stopped t tries span count begun next s s'' old text st outcome is not_done stays_on
-        (counts_since tries s s' s'' (λ same. (since same).1) outcome taken.unrefused counts)
-        (omega (arith, taken.unrefused.troubles, asks.grows)) (λ p holds. fine (taken.stays.plain p))
-        (λ same start walk end w ends stands.
-        let there = taken.along (since same).0 start walk end w ends stands in
-        (there.leads outcome text (leaves same start walk end), λ part. omega (arith, there.calls, asked_calls same, digits_some next.part some)))
+    stopped_there : (text : List ℕ) (ending : Ending) → (ending ≡ Ok tt → ⊥)
+        → CountsSo tries s' s'' (cause_of ending) → (IsTrue s'.plain → IsFine (cause_of ending))
+        → ((start : Place) (walk : List Row) (end : WalkEnd) (k : ℕ)
+        → s''.stores_added ≡ s.stores_added
+        → (first : HasFirstItems (IsTextOver s.store) (listing_plan (listing form (from_here start walk k) most) (drop k walk) end) old new)
+        → first.rest ≡ row_item form (place_after_rows (from_here start walk k) (take count (used most walk k))) row
+        ∷ row_items form (place_after_rows (from_here start walk k) (take (count + 1) (used most walk k))) (drop (count + 1) (used most walk k))
+        → IsAllowed (IsTextOver s.store) (listing_plan (listing form (from_here start walk k) most) (drop k walk) end) old text ending)
+        → Lists form tries most begun next (change s s'' old text) ending
+    stopped_there text ending not_done counts fine leaves = stopped form tries most count begun next s s'' old text ending
+        (record {
+          stays = stays_on;
+          grows = omega (arith, taken_.unrefused.troubles, asks.grows);
+          counts = counts_since tries s s' s'' (λ same. (since same).1) (cause_of ending) taken_.unrefused counts;
+          plain = λ p. fine (taken_.stays.plain p.0);
+        })
+        not_done
+        (λ same start walk end k w ends stands.
+        let there = taken_.along (since same).0 start walk end k w ends stands in
+        let first = first_items form tries most count begun next s s' old new ending start walk end k (prints (since same).0 start walk end k w ends stands) in (
+          leaves start walk end k same first (rw (there.row_is, there.place_is) refl),
+          λ part. omega (arith, there.went.calls, asked_calls same, digits_some next.part some),
+        ))
 
   -- the piece was not found
-  pub listing_none : (result : Stop) → FindsNone spots tries s' s'' result
-      → IsListing t tries span (course begun next s s'' old new)
-      (record { stop = result; count = count })
-  listing_none result none = stopped_there none.asks result none.outcome new none.outcome_is never none.counts none.plain
-      (λ same start walk end. stops_after t s.store
-      (after_items (item start walk ∷ []) (left_plan span (count + 1) t start walk end)) []
-      (item start walk ∷ (left_plan span (count + 1) t start walk end).items) new new
-      none.outcome refl (none_printed t s.store new)
-      (may_later (AtRecord (asked_at (place_after_rows start (take count walk)))) spots none.outcome none.there))
-    where
-      never : result ≡ Stop.Done → ⊥
-      never done = let ended = rw done at none.outcome_is in rw ended at none.there
+  pub listing_none : (ending : Ending) → FindsNone (spots_after form row) tries s' s'' (cause_of ending)
+      → Lists form tries most begun next (change s s'' old new) ending
+  listing_none ending none = stopped_there none.asks new ending (not_done ending (spots_after form row) none.there) none.counts none.plain
+      (λ start walk end k same first is. stops_after (IsTextOver s.store) (listing_plan (listing form (from_here start walk k) most) (drop k walk) end) old new ending (cause_of ending) first
+      (rw is (may_later (AtRecord _) (spots_after form row) (cause_of ending) none.there)))
 
-  module _ (piece_text : List ℕ) (finds : FindsText IsText spots tries s' s'' piece_text) where
+  module _ (piece_text : List ℕ)
+      (finds : FindsText (λ store text. IsRowText store form row text) (spots_after form row) tries s' s'' piece_text) where
     -- it is a text of the row over the store of the beginning
-    is_text : s''.stores_added ≡ s.stores_added → IsText s.store piece_text
-    is_text same = rw (taken.stays.store.stays (since finds.asks same).0) at (finds.is (since finds.asks same).1)
+    is_text : s''.stores_added ≡ s.stores_added → IsRowText s.store form row piece_text
+    is_text same = rw (taken_.stays.store.stays (since finds.asks same).0) at (finds.is (since finds.asks same).1)
 
     -- the piece was written in part
     pub listing_cut : (text : List ℕ) → 0 < length piece_text → TakesPart new text piece_text
-        → IsListing t tries span (course begun next s s'' old text)
-        (record { stop = Stop.WriteFault; count = count })
-    listing_cut text some part = stopped_there finds.asks Stop.WriteFault plan.WriteFault text refl (λ done. cc done) finds.refusals (λ p. tt)
-        (λ same start walk end. first_cut t s.store
-        (after_items (item start walk ∷ []) (left_plan span (count + 1) t start walk end))
-        (item start walk) (left_plan span (count + 1) t start walk end).items piece_text new
-        text refl (is_text same) some part)
+        → Lists form tries most begun next (change s s'' old text) (Err Failure.WriteFault)
+    listing_cut text some_ part = stopped_there finds.asks text (Err Failure.WriteFault) (λ done. cc done) finds.refusals (λ p. tt)
+        (λ start walk end k same first is. cut_after (IsTextOver s.store) (listing_plan (listing form (from_here start walk k) most) (drop k walk) end) old new text (Err Failure.WriteFault) first _ _ piece_text is (is_text same) some_ part)
 
     -- the piece was written
     pub listing_more : (text : List ℕ) → text ≡ new ++ piece_text
-        → ListsHonest t tries span (count + 1) (course begun next s s'' old text)
-    listing_more text wrote = record {
-      stays = stays_on finds.asks;
-      unrefused = record { refusals = finds.refusals ∙ taken.unrefused.refusals; troubles = omega (arith, taken.unrefused.troubles, finds.asks.grows) };
-      along = λ same start walk end w ends stands.
-          let there = taken.along (since finds.asks same).0 start walk end w ends stands in
-          record {
-            stands = there.stands;
-            leads = λ outcome last allowed.
-                there.leads outcome last
-                (leaves_joined t s.store (item start walk ∷ [])
-                (left_plan span (count + 1) t start walk end) new text
-                (one_printed t s.store (item start walk) piece_text new text (is_text same) wrote)
-                last outcome allowed);
-            calls = omega (arith, there.calls, asked_calls finds.asks same);
-          };
-      plain = λ p holds.
-          let held = taken.plain p holds in
-          record {
-            held = λ n is. current-kept next.shelf s' s''
-                (finds.asks.plain (taken.stays.plain p)) ∙ held.held n is;
-          };
-    }
+        → Went form tries most (count + 1) begun next s s'' × PrintsRows form most (count + 1) begun s s'' old text
+    listing_more text wrote = (
+      record {
+        stays = stays_on finds.asks;
+        unrefused = record { refusals = finds.refusals ∙ taken_.unrefused.refusals; troubles = omega (arith, taken_.unrefused.troubles, finds.asks.grows) };
+        along = λ same start walk end k w ends stands.
+            let there = (taken_.along (since finds.asks same).0 start walk end k w ends stands).went in
+            record { stands = there.stands; calls = omega (arith, there.calls, asked_calls finds.asks same) };
+        plain = λ p holds.
+            let held = taken_.plain p holds in
+            record {
+              held = λ n is. current-kept next.shelf s' s''
+                  (finds.asks.plain (taken_.stays.plain p)) ∙ held.held n is;
+            };
+      },
+      λ same start walk end k w ends stands.
+          let there = taken_.along (since finds.asks same).0 start walk end k w ends stands in
+          let at = from_here start walk k in
+          rw (row_items-next form at (used most walk k) count row _ there.row_is)
+          (printed_joined (IsTextOver s.store) (row_items form at (take count (used most walk k))) _ old new text
+          (prints (since finds.asks same).0 start walk end k w ends stands)
+          (one_printed (IsTextOver s.store) (row_item form (place_after_rows at (take count (used most walk k))) row) piece_text new text (is_text same) wrote)),
+    )

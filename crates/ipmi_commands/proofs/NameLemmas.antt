@@ -1,7 +1,7 @@
 -- Whether a record of a name was found, by whether anything was written.
-use Rattle.std.proofs.Common.{◌≡◌, ℕ, zero, suc, ◌<◌, ◌==◌, ◌||◌, not, Bool, true, false, if◌then◌else◌, Option, None, Some, Result, List, [], ◌∷◌, ◌++◌, length, refl, ap, ◌∙◌, append-nil, arith, length-append}
-use Rattle.ipmi_commands.specs.Below.{Place, Row, Store, Done, place_after, SdrFault, SdrView, sdr_view_of, IsSdrBlock, Task}
-use Rattle.ipmi_commands.specs.Prelude.{shown_rows, span_items, stop_at_end, IsOutcome, IfChosen, IsBlockOfName, reading_for, AreTexts, Printed, RunEnd, WalkEnds, NoName, Finished, done_end, view_has_name, some_has_name}
+use Rattle.std.proofs.Common.{◌≡◌, ℕ, suc, ◌<◌, ◌==◌, ◌||◌, not, Bool, true, false, if◌then◌else◌, Result, Ok, Err, List, [], ◌∷◌, ◌++◌, length, refl, ap, ◌∙◌, append-nil, arith, length-append}
+use Rattle.ipmi_commands.specs.Below.{Ending, Failure, Place, Row, Store, Done, place_after, SdrFault, SdrView, sdr_view_of, IsSdrBlock}
+use Rattle.ipmi_commands.specs.Prelude.{AreTexts, end_of, Form, IfChosen, IsBlockOfName, IsTextOver, Printed, reading_for, row_items, rows_end, some_has_name, view_has_name}
 
 -- ---- whether anything was written
 
@@ -21,16 +21,6 @@ same_wrote : (a b : Bool) (old text new : List ℕ) → Wrote a old new → Wrot
     → new ≡ old ++ text → a ≡ b
 same_wrote a b old text new one two is = grind (arith, length-append, ap length is)
 
--- ---- the end that is told from it
-
-abbrev pub done_by : Task → Bool → RunEnd
-done_by (Task.Get name) wrote = if wrote then WalkEnds Done else NoName
-done_by _ wrote = WalkEnds Done
-
-pub end_is : (t : Task) (wrote : Bool)
-    → IsOutcome (stop_at_end t wrote) (Finished (done_by t wrote))
-end_is t wrote = grind arith
-
 -- ---- texts of records with a name
 
 module _ (name : List ℕ) (store : Store) where
@@ -48,25 +38,29 @@ module _ (name : List ℕ) (store : Store) where
       → Wrote (a || b) [] (first ++ rest)
   both_wrote a b first rest one two = grind (arith, length-append)
 
-  -- something is printed where a row that is not passed has the name
-  name_wrote : (skip : Option ℕ) (start : Place) (rows : List Row) (text : List ℕ)
-      → AreTexts (Task.Get name) store (span_items skip (Task.Get name) start rows) text
-      → Wrote (some_has_name name (shown_rows skip rows)) [] text
-  name_wrote None start [] text are = are
-  name_wrote None start (row ∷ rows) text are = rw (are.joined, are.is_first) (name_wrote None (place_after row.next) rows are.rest are.is_rest)
-  name_wrote (Some zero) start [] text are = are
-  name_wrote (Some zero) start (row ∷ rows) text are =
+  -- something is printed where a row has the name
+  name_wrote : (start : Place) (rows : List Row) (text : List ℕ)
+      → AreTexts (IsTextOver store) (row_items (Form.Block name) start rows) text
+      → Wrote (some_has_name name rows) [] text
+  name_wrote start [] text are = are
+  name_wrote start (row ∷ rows) text are =
       rw are.joined (both_wrote (view_has_name name (sdr_view_of row.bytes))
       (some_has_name name rows) are.first are.rest
       (block_wrote row.id (sdr_view_of row.bytes) are.first are.is_first)
-      (name_wrote (Some zero) (place_after row.next) rows are.rest are.is_rest))
-  name_wrote (Some (suc n)) start [] text are = are
-  name_wrote (Some (suc n)) start (row ∷ rows) text are = rw (are.joined, are.is_first) (name_wrote (Some n) (place_after row.next) rows are.rest are.is_rest)
+      (name_wrote (place_after row.next) rows are.rest are.is_rest))
+
+-- what a listing of a name ends by, by whether it is there
+abbrev named_end : List ℕ → Bool → Ending
+named_end name found = if found then Ok tt else Err (Failure.NoName name)
+
+end_of-block : (name : List ℕ) (wrote : Bool) → end_of (Form.Block name) wrote ≡ named_end name wrote
+end_of-block name true = refl
+end_of-block name false = refl
 
 -- what was written tells how the listing of the rows ends
-pub done_by-wrote : (t : Task) (wrote : Bool) (store : Store) (skip : Option ℕ) (start : Place)
-    (rows : List Row) (old new : List ℕ) → Printed t store (span_items skip t start rows) old new
-    → Wrote wrote old new → done_by t wrote ≡ done_end t (shown_rows skip rows)
-done_by-wrote (Task.Get name) wrote store skip start rows old new printed has =
-    ap (done_by (Task.Get name)) (same_wrote wrote (some_has_name name (shown_rows skip rows)) old printed.text new has (name_wrote name store skip start rows printed.text printed.are) printed.new_is)
-done_by-wrote _ wrote store skip start rows old new printed has = refl
+pub end_of-wrote : (form : Form) (wrote : Bool) (store : Store) (start : Place) (rows : List Row)
+    (old new : List ℕ) → Printed (IsTextOver store) (row_items form start rows) old new
+    → Wrote wrote old new → end_of form wrote ≡ rows_end form rows Done
+end_of-wrote (Form.Block name) wrote store start rows old new printed has =
+    end_of-block name wrote ∙ ap (named_end name) (same_wrote wrote (some_has_name name rows) old printed.text new has (name_wrote name store start rows printed.text printed.are) printed.new_is)
+end_of-wrote _ wrote store start rows old new printed has = refl

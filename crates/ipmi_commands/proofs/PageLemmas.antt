@@ -1,14 +1,31 @@
 -- Pages of a listing.
-use Rattle.std.proofs.Common.{◌≡◌, inl, inr, ℕ, zero, suc, ◌+◌, ◌*◌, ◌<◌, ◌≤◌, ◌==◌, nat_le, true, false, Option, None, Some, Ok, Err, List, [], ◌∷◌, length, take, drop, get_or, refl, sym, ap, subst, ◌∙◌, arith, take_all, length-take}
+use Rattle.std.proofs.Common.{◌≡◌, inl, inr, ℕ, zero, suc, ◌+◌, ◌*◌, ◌<◌, ◌≤◌, ◌==◌, nat_le, Bool, true, false, Option, None, Some, IfOk, Result, Ok, Err, List, [], ◌∷◌, length, take, drop, get_or, refl, sym, ap, subst, ◌∙◌, arith, take_all, length-take}
+use Rattle.std.specs.FinSet as set
+use Rattle.std.specs.Ordering.{nat_cmp}
 use Rattle.std.proofs.Math.Seq.{take-nil}
 use Rattle.std.proofs.lemmas.List.{take_min, at_drop_more}
-use Rattle.ipmi_commands.specs.Below.{Place, First, Id, End, Cycle, Row, rows_of, row_at, IsWalk, WalkEnd, Done, CycleAt, MissingAt, EndsBy, place_after_rows, Seen, IsHonest, stays_refl, CursorState, start_of, StandsAt, Task, shelf_of}
-use Rattle.ipmi_commands.specs.Prelude.{Stop, Listed, is_done, is_reached, stop_at_end, first_plan, up_to, most_for_one, most_on_walk, IsOutcome, IsListing, ListingCalls, course, Request, OnWalk, Outcome, IsAllowed, CountsSo, IsFine, RunEnd, first_rows, first_end, WalkEnds, row_items, run_end, done_end, request, change, start_at, GoesOn, IsPage, IsStopped, ArePages, pages_made}
-use Rattle.ipmi_commands.specs.Plan as plan
-use Rattle.ipmi_bus.specs.Bounds.{digits_most}
-use Rattle.ipmi_commands.proofs.ItemLemmas.{none_printed}
-use Rattle.ipmi_commands.proofs.ListingLemmas.{first_end-none}
-use Rattle.ipmi_commands.proofs.NameLemmas.{done_by, end_is}
+use Rattle.ipmi_commands.specs.Below.{digits_most, Place, First, Id, End, Ended, Row, first_row, rows_of, row_at, IsWalk, WalkEnd, Done, CycleAt, MissingAt, EndsBy, place_after_rows, Seen, IsHonest, stays_refl, CursorState, StandsAt, Ending, Failure}
+use Rattle.ipmi_commands.specs.Prelude.{ArePages, AtEnd, calls_for, cause_of, Change, change, CountsSo, end_of, ending_of, first_end, first_rows, Form, GoesOn, IsAllowed, IsFine, IsPage, IsTextOver, listing, listing_plan, ListingCalls, Lists, most_for_one, most_on_walk, OnWalk, pages_made, rows_end, shelf_of, then_at}
+use Rattle.ipmi_commands.proofs.CallLemmas.{first_end-none}
+use Rattle.ipmi_commands.proofs.ItemLemmas.{no_items, none_printed}
+
+-- ---- endings
+
+pub ending_of-then_at : (ending : Ending) (place : Place) → ending_of (then_at ending place) ≡ ending
+ending_of-then_at (Ok done) place = refl
+ending_of-then_at (Err failure) place = refl
+
+then_at-place : (ending : Ending) (place : Place) → IfOk (then_at ending place) (λ next. next ≡ place)
+then_at-place (Ok done) place = refl
+then_at-place (Err failure) place = tt
+
+pub end_cause : (form : Form) (wrote : Bool) → cause_of (end_of form wrote) ≡ AtEnd
+end_cause form wrote = grind arith
+
+-- what a listing of no rows ends by
+end_of-none : (form : Form) → end_of form false ≡ rows_end form [] Done
+end_of-none (Form.Block name) = refl
+end_of-none _ = refl
 
 -- ---- nothing is asked for
 
@@ -16,45 +33,36 @@ first_rows-nil : (most : Option ℕ) → first_rows most [] ≡ []
 first_rows-nil None = refl
 first_rows-nil (Some n) = take-nil n
 
--- what a listing of no rows ends by
-done_by-none : (t : Task) → done_by t false ≡ done_end t []
-done_by-none (Task.Get name) = refl
-done_by-none _ = refl
-
--- a page that asks for nothing
-quiet_page : (r : Request) (most : Option ℕ) (s : Seen) (text : List ℕ) (outcome : Outcome)
-    (result : Stop) → IsHonest s → IsOutcome result outcome → CountsSo r.tries s s outcome
-    → IsFine outcome
-    → OnWalk r s.store (λ walk end. IsAllowed r.task s.store
-    (first_plan most r.task r.start walk end) text text outcome
-    × (result ≡ Stop.Done → GoesOn (rows_of (shelf_of r.task) s.store) r.start
-    (first_rows most walk) r.start))
-    → IsPage r most r.start (change s s text text) result
-quiet_page r most s text outcome result honest is counts fine along = record {
-  outcome = outcome;
-  outcome_is = is;
-  stays = stays_refl s honest;
-  counts = counts;
-  grows = omega arith;
-  none = λ zero_. refl;
-  along = λ same walk end w ends. record { leaves = (along walk end w ends).0; calls = omega arith; goes_on = (along walk end w ends).1 };
-  plain = λ p. fine;
-}
-
--- as no row is wanted, or none is there
-page_of_no_rows : (r : Request) (most : Option ℕ) (s : Seen) (text : List ℕ) (run : RunEnd)
-    (result : Stop) → IsHonest s → IsOutcome result (plan.Finished run)
-    → OnWalk r s.store (λ walk end. (first_rows most walk ≡ [])
-    × (run ≡ run_end r.task [] (first_end most walk end)))
-    → IsPage r most r.start (change s s text text) result
-page_of_no_rows r most s text run result honest is empty = quiet_page r most s text (plan.Finished run) result honest is refl tt
-    (λ walk end w ends. rw (empty walk end w ends).0 ((none_printed r.task s.store text, (empty walk end w ends).1), λ done. inl refl))
+-- a page that asks for nothing, as no row is wanted, or none is there
+page_of_no_rows : (form : Form) (place : Place) (tries : ℕ) (most : Option ℕ) (s : Seen)
+    (text : List ℕ) (ending : Ending) → IsHonest s → cause_of ending ≡ AtEnd
+    → OnWalk (shelf_of form) place s.store (λ walk end. (first_rows most walk ≡ [])
+    × (ending ≡ rows_end form [] (first_end most walk end)))
+    → IsPage form place tries most (change s s text text) (then_at ending place)
+page_of_no_rows form place tries most s text ending honest cause empty =
+    let same = ending_of-then_at ending place in
+    record {
+      ends = rw (same, cause) (record { stays = stays_refl s honest; grows = omega arith; counts = refl; plain = λ p. tt });
+      none = λ zero_. refl;
+      along = λ same_ walk end w ends.
+          let none = empty walk end w ends in
+          record {
+            leaves = rw (same, cause, none.0) (none_printed (IsTextOver s.store) text, none.1);
+            calls = omega arith;
+            goes_on = at_place (then_at ending place) (then_at-place ending place) (rows_of (shelf_of form) s.store) (first_rows most walk) none.0;
+          };
+    }
+  where
+    at_place : (result : Result Place Failure) → IfOk result (λ next. next ≡ place) → (rows : List Row)
+        → (used : List Row) → used ≡ [] → IfOk result (λ next. GoesOn rows place used next)
+    at_place (Ok next) is rows used none = inl (rw none is)
+    at_place (Err failure) is rows used none = tt
 
 -- a page of no record
-pub page_of_none : (t : Task) (start : Place) (tries : ℕ) (s : Seen) (text : List ℕ) → IsHonest s
-    → IsPage (request t start tries) (Some 0) start (change s s text text) (stop_at_end t false)
-page_of_none t start tries s text honest = page_of_no_rows (request t start tries) (Some 0) s text (done_by t false) (stop_at_end t false) honest (end_is t false)
-    (λ walk end w ends. (refl, done_by-none t ∙ ap (run_end t []) (sym (first_end-none 0 walk end (omega arith)))))
+pub page_of_none : (form : Form) (place : Place) (tries : ℕ) (s : Seen) (text : List ℕ) → IsHonest s
+    → IsPage form place tries (Some 0) (change s s text text) (then_at (end_of form false) place)
+page_of_none form place tries s text honest = page_of_no_rows form place tries (Some 0) s text (end_of form false) honest (end_cause form false)
+    (λ walk end w ends. (refl, end_of-none form ∙ ap (rows_end form []) (sym (first_end-none 0 walk end (omega arith)))))
 
 -- no walk goes from where no row is
 pub no_walk : (rows : List Row) (start : Place) (walk : List Row) → row_at start rows ≡ None
@@ -79,121 +87,107 @@ first_end-nil (Some zero) end some = absurd (some refl)
 first_end-nil (Some (suc n)) end some = let e : nat_le (suc n) 0 ≡ false = search arith in rw e refl
 
 -- from where no row is, and no walk has another end
-no_rows : (t : Task) (most : Option ℕ) (rows : List Row) (start : Place) (only : WalkEnd)
+no_rows : (form : Form) (most : Option ℕ) (rows : List Row) (start : Place) (only : WalkEnd)
     (walk : List Row) (end : WalkEnd) → (most ≡ Some 0 → ⊥) → row_at start rows ≡ None
     → ((e : WalkEnd) → EndsBy rows start [] e → e ≡ only) → IsWalk rows start walk
     → EndsBy rows start walk end → (first_rows most walk ≡ [])
-    × (run_end t [] only ≡ run_end t [] (first_end most walk end))
-no_rows t most rows start only walk end some none one w ends =
+    × (rows_end form [] only ≡ rows_end form [] (first_end most walk end))
+no_rows form most rows start only walk end some none one w ends =
     let empty = no_walk rows start walk none w in
     let is : end ≡ only = one end (rw empty at ends) in
-    rw (empty, is) (first_rows-nil most, ap (run_end t []) (sym (first_end-nil most only some)))
+    rw (empty, is) (first_rows-nil most, ap (rows_end form []) (sym (first_end-nil most only some)))
 
-pub some_wanted : (most : Option ℕ) → is_reached most 0 ≡ false → most ≡ Some 0 → ⊥
-some_wanted most some none = let h = sym (ap (λ (o : Option ℕ). is_reached o 0) none) ∙ some in cc h
+-- a page where no cursor is needed: at the end, and at the id 0000h
+pub page_at_end : (form : Form) (tries : ℕ) (most : Option ℕ) (s : Seen) (text : List ℕ)
+    → (most ≡ Some 0 → ⊥) → IsHonest s
+    → IsPage form End tries most (change s s text text) (then_at (end_of form false) End)
+page_at_end form tries most s text some honest = page_of_no_rows form End tries most s text (end_of form false) honest (end_cause form false)
+    (λ walk end w ends.
+    let empty = no_rows form most (rows_of (shelf_of form) s.store) End Done walk end some refl (done_there (rows_of (shelf_of form) s.store)) w ends in (empty.0, end_of-none form ∙ empty.1))
 
-pub none_wanted : (most : Option ℕ) → is_reached most 0 ≡ true → most ≡ Some 0
-none_wanted None none = cc none
-none_wanted (Some n) none = let zero_ : n ≡ 0 = search arith in ap Some zero_
-
--- a page where no cursor is needed: at the id 0000h, and at the end
-pub page_without : (t : Task) (most : Option ℕ) (place : Place) (tries : ℕ) (s : Seen)
-    (text : List ℕ) (st : Stop) → (most ≡ Some 0 → ⊥) → start_at t place ≡ Err st → IsHonest s
-    → IsPage (request t place tries) most place (change s s text text) st
-page_without t most First tries s text st some starts honest = cc starts
-page_without t most (Id zero) tries s text st some starts honest =
-    let is : st ≡ Stop.Ended (Cycle 0) = cc starts in
-    rw is (page_of_no_rows (request t (Id 0) tries) most s text (WalkEnds (CycleAt 0)) (Stop.Ended (Cycle 0)) honest refl
-    (λ walk end w ends. no_rows t most (rows_of (shelf_of t) s.store) (Id 0) (CycleAt 0) walk end some refl (cycle_there (rows_of (shelf_of t) s.store)) w ends))
-page_without t most (Id (suc n)) tries s text st some starts honest = let none : (suc n == 0) ≡ false = search arith in let h = rw none at starts in cc h
-page_without t most End tries s text st some starts honest =
-    let is : st ≡ stop_at_end t false = cc starts in
-    rw is (page_of_no_rows (request t End tries) most s text (done_by t false) (stop_at_end t false) honest (end_is t false) (λ walk end w ends.
-    let empty = no_rows t most (rows_of (shelf_of t) s.store) End Done walk end some refl (done_there (rows_of (shelf_of t) s.store)) w ends in (empty.0, done_by-none t ∙ empty.1)))
+pub page_at_zero : (form : Form) (tries : ℕ) (most : Option ℕ) (s : Seen) (text : List ℕ)
+    → (most ≡ Some 0 → ⊥) → IsHonest s
+    → IsPage form (Id 0) tries most (change s s text text) (Err (Failure.Ended (Ended.Cycle 0)))
+page_at_zero form tries most s text some honest = page_of_no_rows form (Id 0) tries most s text (Err (Failure.Ended (Ended.Cycle 0))) honest refl
+    (λ walk end w ends. no_rows form most (rows_of (shelf_of form) s.store) (Id 0) (CycleAt 0) walk end some refl (cycle_there (rows_of (shelf_of form) s.store)) w ends)
 
 -- a page for whose cursor no memory was left
-pub page_without_memory : (t : Task) (most : Option ℕ) (place : Place) (tries : ℕ) (s : Seen)
-    (text : List ℕ) → IsHonest s → IsPage (request t place tries) most place (change s s text text)
-    Stop.Memory
-page_without_memory t most place tries s text honest = quiet_page (request t place tries) most s text plan.OutOfMemory Stop.Memory honest refl refl tt
-    (λ walk end w ends. (record { done = []; rest = row_items t place (first_rows most walk); items_are = refl; printed = none_printed t s.store text }, λ done. cc done))
+pub page_without_memory : (form : Form) (place : Place) (tries : ℕ) (most : Option ℕ) (s : Seen)
+    (text : List ℕ) → IsHonest s
+    → IsPage form place tries most (change s s text text) (Err Failure.OutOfMemory)
+page_without_memory form place tries most s text honest = record {
+  ends = record { stays = stays_refl s honest; grows = omega arith; counts = refl; plain = λ p. tt };
+  none = λ zero_. refl;
+  along = λ same walk end w ends. record { leaves = no_items (IsTextOver s.store) (listing_plan (listing form place most) walk end) text; calls = omega arith; goes_on = tt };
+}
 
 -- ---- a page by a cursor
 
-pub start_of-place : (t : Task) (place : Place) (from : Option ℕ) → start_at t place ≡ Ok from
-    → start_of from ≡ place
-start_of-place t First from starts = let is : None ≡ from = cc starts in ap start_of (sym is)
-start_of-place t (Id zero) from starts = cc starts
-start_of-place t (Id (suc n)) from starts =
-    let some : (suc n == 0) ≡ false = search arith in let h = rw some at starts in let is : Some (suc n) ≡ from = cc h in ap start_of (sym is)
-start_of-place t End from starts = cc starts
-
 -- the first rows are as many as there are of them
-pub take-length-first_rows : (most : Option ℕ) (walk : List Row)
+take-length-first_rows : (most : Option ℕ) (walk : List Row)
     → take (length (first_rows most walk)) walk ≡ first_rows most walk
 take-length-first_rows None walk = take_all (length walk) walk (omega arith)
 take-length-first_rows (Some n) walk = rw (length-take n walk) (take_min n walk)
 
-pub page_by_cursor : (t : Task) (most : Option ℕ) (place : Place) (tries : ℕ)
-    (begun now : CursorState) (s s' : Seen) (text text' : List ℕ) (result : Listed)
+pub page_by_cursor : (form : Form) (place : Place) (tries : ℕ) (most : Option ℕ)
+    (begun now : CursorState) (s s' : Seen) (text text' : List ℕ) (ending : Ending)
     → (most ≡ Some 0 → ⊥) → begun.reservation ≡ None → 0 < begun.part
     → ((rows walk : List Row) → StandsAt rows place walk 0 begun)
-    → IsListing t tries (up_to most) (course begun now s s' text text') result
-    → IsPage (request t place tries) most now.place (change s s' text text') result.stop
-page_by_cursor t most place tries begun now s s' text text' result some none part stands listing = record {
-  outcome = listing.outcome;
-  outcome_is = listing.outcome_is;
-  stays = listing.stays;
-  counts = listing.counts;
-  grows = listing.grows;
-  none = λ zero_. absurd (some zero_);
-  along = λ same walk end w ends.
-      let along = listing.along same place walk end w ends (stands (rows_of (shelf_of t) s.store) walk) in
-      let calls = along.calls part in
-      let eight = digits_most begun.part in
-      record {
-        leaves = along.leaves;
-        calls = omega (arith, calls, eight);
-        goes_on = λ done. elim (along.goes_on done).place [ inl there ↦ inl (there ∙ ap (place_after_rows place) (take-length-first_rows most walk)) | inr empty ↦ inr empty ];
-      };
-  plain = λ p. listing.plain p (record { held = λ n held. let h = sym none ∙ held in cc h });
-}
+    → Lists form tries most begun now (change s s' text text') ending
+    → IsPage form place tries most (change s s' text text') (then_at ending now.place)
+page_by_cursor form place tries most begun now s s' text text' ending some none part stands lists =
+    let same = ending_of-then_at ending now.place in
+    record {
+      ends = rw same (record { stays = lists.ends.stays; grows = lists.ends.grows; counts = lists.ends.counts; plain = λ p. lists.ends.plain (p, record { held = λ n held. let h = sym none ∙ held in cc h }) });
+      none = λ zero_. absurd (some zero_);
+      along = λ same_ walk end w ends.
+          let along = lists.along same_ place walk end 0 w ends (stands (rows_of (shelf_of form) s.store) walk) in
+          record {
+            leaves = rw same along.leaves;
+            calls = omega (arith, along.calls part, digits_most begun.part);
+            goes_on = goes ending walk along.goes_on;
+          };
+    }
+  where
+    goes : (e : Ending) (walk : List Row)
+        → (e ≡ Ok tt → StandsAt (rows_of (shelf_of form) s.store) place walk (0 + length (first_rows most walk)) now)
+        → IfOk (then_at e now.place) (λ next. GoesOn (rows_of (shelf_of form) s.store) place (first_rows most walk) next)
+    goes (Ok done) walk stood =
+        let none_before : 0 + length (first_rows most walk) ≡ length (first_rows most walk) = omega arith in
+        elim (stood refl).place [ inl there ↦ inl (there ∙ ap (place_after_rows place) (ap (λ (n : ℕ). take n walk) none_before ∙ take-length-first_rows most walk)) | inr empty ↦ inr empty ]
+    goes (Err failure) walk stood = tt
 
 -- over any controller
-pub page_calls : (t : Task) (tries : ℕ) (begun now : CursorState) (s s' : Seen) → 0 < begun.part
-    → ListingCalls (most_for_one t tries) begun now s s' → s'.calls ≤ s.calls + most_on_walk t tries
-page_calls t tries begun now s s' part listing = let eight = digits_most begun.part in let calls = listing.calls part in omega (arith, calls, eight)
+pub page_calls : (form : Form) (tries : ℕ) (begun now : CursorState) (s s' : Seen) → 0 < begun.part
+    → begun.ids ≡ set.empty → ListingCalls (most_for_one form tries) begun now s s'
+    → s'.calls ≤ s.calls + most_on_walk form tries
+page_calls form tries begun now s s' part none calls = let made = rw (none, set.len-empty nat_cmp) at (calls.calls part) in omega (arith, made, digits_most begun.part)
 
 -- ---- pages, one after another
 
 -- what the pages that are left do is what all of them do
-abbrev pub LeadsTo : Task → List ℕ → List ℕ → Place → Place → ℕ → Seen → Seen → List ℕ → List ℕ
+abbrev pub LeadsTo : Form → ℕ → List ℕ → List ℕ → Place → Place → Seen → Seen → List ℕ → List ℕ
     → Type 0
-LeadsTo t all left start now tries s s' old text =
-    (s'' : Seen) (new : List ℕ) (result : Stop)
-    → ArePages (request t now tries) left (change s' s'' text new) result
-    → ArePages (request t start tries) all (change s s'' old new) result
+LeadsTo form tries all left start now s s' old text =
+    (s'' : Seen) (new : List ℕ) (ending : Ending)
+    → ArePages form tries now left (change s' s'' text new) ending
+    → ArePages form tries start all (change s s'' old new) ending
 
-module _ (t : Task) (all : List ℕ) (k : ℕ) (start now next : Place) (tries : ℕ) (s s' s'' : Seen)
+module _ (form : Form) (tries : ℕ) (all : List ℕ) (k : ℕ) (start now : Place) (s s' s'' : Seen)
     (old text text' : List ℕ) (there : k < length all)
-    (leads : LeadsTo t all (drop k all) start now tries s s' old text) where
-  leads_here : LeadsTo t all (get_or all k 0 ∷ drop (k + 1) all) start now tries s s' old text
-  leads_here = subst (λ (l : List ℕ). LeadsTo t all l start now tries s s' old text) (at_drop_more (λ (l : List ℕ). l) all k 0 there) leads
+    (leads : LeadsTo form tries all (drop k all) start now s s' old text) where
+  leads_here : LeadsTo form tries all (get_or all k 0 ∷ drop (k + 1) all) start now s s' old text
+  leads_here = subst (λ (l : List ℕ). LeadsTo form tries all l start now s s' old text) (at_drop_more (λ (l : List ℕ). l) all k 0 there) leads
 
-  pub page_leads : IsPage (request t now tries) (Some (get_or all k 0)) next
-      (change s' s'' text text') Stop.Done
-      → LeadsTo t all (drop (k + 1) all) start next tries s s'' old text'
-  page_leads page = λ last new result rest. leads_here last new result (inr (record { next = next; seen = s''; text = text'; page = page; rest = rest }))
+  pub page_leads : (next : Place)
+      → IsPage form now tries (Some (get_or all k 0)) (change s' s'' text text') (Ok next)
+      → LeadsTo form tries all (drop (k + 1) all) start next s s'' old text'
+  page_leads next page = λ last new ending rest. leads_here last new ending (inr (record { next = next; seen = s''; text = text'; page = page; rest = rest }))
 
-  pub last_leads : (result : Stop) → IsPage (request t now tries) (Some (get_or all k 0)) next
-      (change s' s'' text text') result → IsStopped result
-      → ArePages (request t start tries) all (change s s'' old text') result
-  last_leads result page stopped = leads_here s'' text' result (inl (record { next = next; page = page }, stopped))
-
--- a listing that is done is done after its last record
-pub done : (result : Stop) → is_done result ≡ true → result ≡ Stop.Done
-done Stop.Done is = refl
-done _ is = cc is
+  pub last_leads : (failure : Failure)
+      → IsPage form now tries (Some (get_or all k 0)) (change s' s'' text text') (Err failure)
+      → ArePages form tries start all (change s s'' old text') (Err failure)
+  last_leads failure page = leads_here s'' text' (Err failure) (inl (failure, refl, page))
 
 -- the calls of a page, none where it wants no record, and of those after it
 pub calls_of_page : (size : ℕ) (sizes : List ℕ) (more most : ℕ) (s s' : Seen)

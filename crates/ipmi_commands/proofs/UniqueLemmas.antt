@@ -1,8 +1,8 @@
 -- What is printed has one text, and so has a finished run.
 use Rattle.std.proofs.Common.{◌≡◌, ℕ, ◌-◌, ◌==◌, not, Bool, true, false, cond, Option, None, Some, IfSome, Result, Ok, Err, List, [], ◌∷◌, ◌++◌, length, take, drop, refl, sym, subst, ◌∙◌, take-append-drop}
-use Rattle.ipmi_commands.specs.Below.{Shelf, Sdr, Sel, Place, Row, IsShelf, FoundIsRow, AreBytes, Reading, Store, IsStore, IsInfo, inventory_of, rows_of, store_shelf, AllOf, WalkExists, WalkEnd, Done, place_after, place_after_rows, IsFruText, SdrFault, SdrView, Event, OemTimed, OemPlain, Other, IsInfoBlock, fru_of, sdr_view_of, IsSdrBlock, entry_bytes, sel_view_of, SdrLineIsUnique, ExtendedLineIsUnique, SelLineIsUnique, SelBlockIsUnique, Kind, Count, Task, most_of, shelf_of}
+use Rattle.ipmi_commands.specs.Below.{Shelf, Sdr, Sel, Place, First, start_of, Row, IsShelf, FoundIsRow, AreBytes, Reading, Store, IsStore, IsInfo, info_of, inventory_of, rows_of, store_shelf, AllOf, WalkExists, WalkEnd, Done, place_after, place_after_rows, IsFruText, SdrFault, SdrView, Event, OemTimed, OemPlain, Other, IsInfoBlock, fru_of, sdr_view_of, IsSdrBlock, entry_bytes, sel_view_of, SdrLineIsUnique, ExtendedLineIsUnique, SelLineIsUnique, SelBlockIsUnique, Kind, Ending}
 use Rattle.ipmi_records.specs.Sdr.{name_of}
-use Rattle.ipmi_commands.specs.Prelude.{Form, IfChosen, IsBlockOfName, IsDevicePiece, IsInventoryPiece, IsInventoryText, IsListed, IsListedOfKind, IsLocatorPiece, is_name, name_of_locator, reading_for, row_is_of_kind, Request, Subject, OfRow, OfInventory, OfInfo, Item, Spot, IsOfBytes, AreOfBytes, RunEnd, Finished, IsRowPiece, IsItemText, AreTexts, first_rows, last_rows, last_items, row_items, spots_of_walk, with_first_spots, info_plan, plan_of, AllowsAll}
+use Rattle.ipmi_commands.specs.Prelude.{AreOfBytes, AreTexts, Detail, first_rows, FinishedRunsAreOne, Form, IfChosen, info_plan, inventories_plan, inventory_plan, is_name, IsBlockOfName, IsDevicePiece, IsInventoryPiece, IsInventoryText, IsListed, IsListedOfKind, IsLocatorPiece, IsOfBytes, IsRowText, IsTextOver, Item, ItemsHaveOneText, Job, last_items, last_plan, last_rows, listing_plan, name_of_locator, no_plan, OfInfo, OfInventory, OfRow, Plan, PrintsAll, reading_for, row_is_of_kind, row_items, shelf_of, Spot, spots_of_walk, Subject, with_first_spots}
 
 -- what the laws of blocks and of inventories say
 abbrev SdrBlockIsUnique : Type 0
@@ -24,15 +24,15 @@ module _ (one_sdr_line : SdrLineIsUnique) (one_extended_line : ExtendedLineIsUni
   one_chosen true IsText one a b x y = one a b x y
   one_chosen false IsText one a b x y = x ∙ sym y
 
-  one_listed : (form : Form) (store : Store) (id : ℕ) (view : Result SdrView SdrFault)
-      (a b : List ℕ) → IsListed form store id view a → IsListed form store id view b → a ≡ b
-  one_listed Form.Short store id (Ok view) a b x y = one_sdr_line view (reading_for store view) a b x y
-  one_listed Form.Extended store id (Ok view) a b x y = one_extended_line view (reading_for store view) a b x y
-  one_listed form store id (Err fault) a b x y = x ∙ sym y
+  one_listed : (detail : Detail) (store : Store) (id : ℕ) (view : Result SdrView SdrFault)
+      (a b : List ℕ) → IsListed detail store id view a → IsListed detail store id view b → a ≡ b
+  one_listed Detail.Short store id (Ok view) a b x y = one_sdr_line view (reading_for store view) a b x y
+  one_listed Detail.Extended store id (Ok view) a b x y = one_extended_line view (reading_for store view) a b x y
+  one_listed detail store id (Err fault) a b x y = x ∙ sym y
 
-  one_of_kind : (form : Form) (kind : Kind) (store : Store) (row : Row) (a b : List ℕ)
-      → IsListedOfKind form kind store row a → IsListedOfKind form kind store row b → a ≡ b
-  one_of_kind form kind store row a b x y = one_chosen (row_is_of_kind kind row) (λ l. IsListed form store row.id (sdr_view_of row.bytes) l) (one_listed form store row.id (sdr_view_of row.bytes)) a b x y
+  one_of_kind : (detail : Detail) (kind : Kind) (store : Store) (row : Row) (a b : List ℕ)
+      → IsListedOfKind detail kind store row a → IsListedOfKind detail kind store row b → a ≡ b
+  one_of_kind detail kind store row a b x y = one_chosen (row_is_of_kind kind row) (λ l. IsListed detail store row.id (sdr_view_of row.bytes) l) (one_listed detail store row.id (sdr_view_of row.bytes)) a b x y
 
   -- the bytes of an entry's view
   same_bytes : (event timed plain : Bool) (bytes : List ℕ)
@@ -72,40 +72,35 @@ module _ (one_sdr_line : SdrLineIsUnique) (one_extended_line : ExtendedLineIsUni
   one_locator store (Ok (SdrView.Fru bytes)) a b x y = one_device store (SdrView.Fru bytes) (fru_of (SdrView.Fru bytes)) a b x y
   one_locator store _ a b x y = x ∙ sym y
 
-  one_piece : (t : Task) (store : Store) (row : Row) (a b : List ℕ) → AreBytes row.bytes
-      → IsRowPiece t store row a → IsRowPiece t store row b → a ≡ b
-  one_piece (Task.List kind) store row a b are x y = one_of_kind Form.Short kind store row a b x y
-  one_piece (Task.Elist kind) store row a b are x y = one_of_kind Form.Extended kind store row a b x y
-  one_piece (Task.Get name) store row a b are x y = one_block_of_name name store row.id (sdr_view_of row.bytes) a b x y
-  one_piece (Task.SelList entries) store row a b are x y = one_sel_line row.id (sel_view_of row.bytes) a b (entry_are_bytes row.bytes are) x y
-  one_piece (Task.SelGet id) store row a b are x y = one_sel_block row.id (sel_view_of row.bytes) a b (entry_are_bytes row.bytes are) x y
-  one_piece (Task.Fru id) store row a b are x y = one_locator store (sdr_view_of row.bytes) a b x y
-  one_piece _ store row a b are x y = x ∙ sym y
+  one_row : (form : Form) (store : Store) (row : Row) (a b : List ℕ) → AreBytes row.bytes
+      → IsRowText store form row a → IsRowText store form row b → a ≡ b
+  one_row Form.Raw store row a b are x y = x ∙ sym y
+  one_row (Form.Line detail kind) store row a b are x y = one_of_kind detail kind store row a b x y
+  one_row (Form.Block name) store row a b are x y = one_block_of_name name store row.id (sdr_view_of row.bytes) a b x y
+  one_row Form.Device store row a b are x y = one_locator store (sdr_view_of row.bytes) a b x y
+  one_row Form.EntryLine store row a b are x y = one_sel_line row.id (sel_view_of row.bytes) a b (entry_are_bytes row.bytes are) x y
+  one_row Form.EntryBlock store row a b are x y = one_sel_block row.id (sel_view_of row.bytes) a b (entry_are_bytes row.bytes are) x y
 
-  one_item : (t : Task) (store : Store) (subject : Subject) (a b : List ℕ) → IsOfBytes subject
-      → IsItemText t store subject a → IsItemText t store subject b → a ≡ b
-  one_item t store (OfRow row) a b bytes x y = one_piece t store row a b bytes x y
-  one_item t store (OfInventory id) a b bytes x y = one_inventory store id [] a b x y
-  one_item t store (OfInfo info) a b bytes x y = one_info_block info a b bytes x y
-  one_item t store _ a b bytes x y = x ∙ sym y
+  one_item : (store : Store) (subject : Subject) (a b : List ℕ) → IsOfBytes subject
+      → IsTextOver store subject a → IsTextOver store subject b → a ≡ b
+  one_item store (OfRow form row) a b bytes x y = one_row form store row a b bytes x y
+  one_item store (OfInventory id) a b bytes x y = one_inventory store id [] a b x y
+  one_item store (OfInfo info) a b bytes x y = one_info_block info a b bytes x y
+  one_item store _ a b bytes x y = x ∙ sym y
 
   -- texts of items are one text
-  pub one_text : (t : Task) (store : Store) (items : List Item) (a b : List ℕ) → AreOfBytes items
-      → AreTexts t store items a → AreTexts t store items b → a ≡ b
-  one_text t store [] a b bytes x y = x ∙ sym y
-  one_text t store (item ∷ items) a b bytes x y =
-      x.joined ∙ rw (one_item t store item.subject x.first y.first bytes.0 x.is_first y.is_first, one_text t store items x.rest y.rest bytes.1 x.is_rest y.is_rest) (sym y.joined)
+  pub one_text : ItemsHaveOneText
+  one_text store [] a b bytes x y = x ∙ sym y
+  one_text store (item ∷ items) a b bytes x y =
+      x.joined ∙ rw (one_item store item.subject x.first y.first bytes.0 x.is_first y.is_first, one_text store items x.rest y.rest bytes.1 x.is_rest y.is_rest) (sym y.joined)
 
--- ---- one output
+-- ---- what is to be printed is of bytes
 
--- what the law of items says
-abbrev TextIsOne : Type 0
-TextIsOne = (t : Task) (store : Store) (items : List Item) (a b : List ℕ) → AreOfBytes items → AreTexts t store items a → AreTexts t store items b → a ≡ b
-
-rows_are_bytes : FoundIsRow → (t : Task) (shelf : Shelf) (rows : List Row) (start : Place)
-    (walk : List Row) → IsShelf shelf rows → AllOf rows walk → AreOfBytes (row_items t start walk)
-rows_are_bytes look_row t shelf rows start [] ok all = tt
-rows_are_bytes look_row t shelf rows start (row ∷ walk) ok all = ((look_row shelf rows row.id row ok all.0).bytes, rows_are_bytes look_row t shelf rows (place_after row.next) walk ok all.1)
+rows_are_bytes : FoundIsRow → (form : Form) (shelf : Shelf) (rows : List Row) (start : Place)
+    (walk : List Row) → IsShelf shelf rows → AllOf rows walk
+    → AreOfBytes (row_items form start walk)
+rows_are_bytes look_row form shelf rows start [] ok all = tt
+rows_are_bytes look_row form shelf rows start (row ∷ walk) ok all = ((look_row shelf rows row.id row ok all.0).bytes, rows_are_bytes look_row form shelf rows (place_after row.next) walk ok all.1)
 
 both_of_shelf : (rows done rest : List Row) → AllOf rows (done ++ rest)
     → AllOf rows done × AllOf rows rest
@@ -135,32 +130,38 @@ info_bytes : (o : Option (List ℕ)) → IfSome o IsInfo → AreOfBytes (info_pl
 info_bytes None are = tt
 info_bytes (Some info) are = (are.all, tt)
 
-module _ (look_row : FoundIsRow) (store : Store) (ok : IsStore store) (start : Place)
-    (walk : List Row) (end : WalkEnd) where
-  -- what a task is to print is of bytes
-  plan_bytes : (t : Task) → AllOf (rows_of (shelf_of t) store) walk
-      → AreOfBytes (plan_of t store start walk end).items
-  plan_bytes (Task.Fru None) all = (tt, rows_are_bytes look_row (Task.Fru None) Sdr store.sdr start walk ok.sdr all)
-  plan_bytes (Task.Fru (Some id)) all = (tt, tt)
-  plan_bytes (Task.Info Sdr) all = info_bytes store.sdr_info ok.sdr_info
-  plan_bytes (Task.Info Sel) all = info_bytes store.sel_info ok.sel_info
-  plan_bytes (Task.SelList (Count.Last n)) all =
-      first_kept (spots_of_walk start walk end) (last_items n (Task.SelList (Count.Last n)) start walk end)
-      (rows_are_bytes look_row (Task.SelList (Count.Last n)) Sel store.sel (place_after_rows start (take (length walk - n) walk)) (last_rows n walk end) ok.sel (last_of_shelf n store.sel walk end all))
-  plan_bytes Task.Rewrite all = (tt, tt)
-  plan_bytes t all = rows_are_bytes look_row t (shelf_of t) (rows_of (shelf_of t) store) start
-      (first_rows (most_of t) walk) (store_shelf (shelf_of t) store ok)
-      (first_of_shelf (most_of t) (rows_of (shelf_of t) store) walk all)
+infos_bytes : (store : Store) → IsStore store → (shelf : Shelf)
+    → AreOfBytes (info_plan (info_of shelf store)).items
+infos_bytes store ok Sdr = info_bytes store.sdr_info ok.sdr_info
+infos_bytes store ok Sel = info_bytes store.sel_info ok.sel_info
 
-pub one_output : TextIsOne → WalkExists → FoundIsRow
-    → (r : Request) (store : Store) (old a b : List ℕ) (e f : RunEnd) → IsStore store
-    → AllowsAll r store old a (Finished e) → AllowsAll r store old b (Finished f)
-    → (a ≡ b) × (e ≡ f)
-one_output one exists look_row r store old a b e f ok allows other =
-    let rows = rows_of (shelf_of r.task) store in
-    let there = exists (shelf_of r.task) rows r.start (store_shelf (shelf_of r.task) store ok) in
-    let x = allows there.0 there.1 there.2 there.3 in
-    let y = other there.0 there.1 there.2 there.3 in
-    let items = (plan_of r.task store r.start there.0 there.1).items in
-    let bytes = plan_bytes look_row store ok r.start there.0 there.1 r.task there.2.of_shelf in
-    (x.0.new_is ∙ rw (one r.task store items x.0.text y.0.text bytes x.0.are y.0.are) (sym y.0.new_is), x.1 ∙ sym y.1)
+-- ---- one output
+
+module _ (one : ItemsHaveOneText) (exists : WalkExists) (look_row : FoundIsRow) where
+  one_plan : (store : Store) (plan : Plan) (old a b : List ℕ) (e f : Ending)
+      → AreOfBytes plan.items → PrintsAll (IsTextOver store) plan old a e
+      → PrintsAll (IsTextOver store) plan old b f → (a ≡ b) × (e ≡ f)
+  one_plan store plan old a b e f bytes x y =
+      (x.0.new_is ∙ rw (one store plan.items x.0.text y.0.text bytes x.0.are y.0.are) (sym y.0.new_is), x.1 ∙ sym y.1)
+
+  pub one_output : FinishedRunsAreOne
+  one_output (Job.Records l) store old a b e f ok x y =
+      let rows = rows_of (shelf_of l.form) store in
+      let there = exists (shelf_of l.form) rows l.start (store_shelf (shelf_of l.form) store ok) in
+      one_plan store (listing_plan l there.0 there.1) old a b e f
+      (rows_are_bytes look_row l.form (shelf_of l.form) rows l.start (first_rows l.most there.0) (store_shelf (shelf_of l.form) store ok) (first_of_shelf l.most rows there.0 there.2.of_shelf))
+      (x there.0 there.1 there.2 there.3) (y there.0 there.1 there.2 there.3)
+  one_output (Job.Last n from) store old a b e f ok x y =
+      let start = start_of from in
+      let there = exists Sel store.sel start ok.sel in
+      one_plan store (last_plan n start there.0 there.1) old a b e f
+      (first_kept (spots_of_walk start there.0 there.1) (last_items n start there.0 there.1)
+      (rows_are_bytes look_row Form.EntryLine Sel store.sel (place_after_rows start (take (length there.0 - n) there.0)) (last_rows n there.0 there.1) ok.sel (last_of_shelf n store.sel there.0 there.1 there.2.of_shelf)))
+      (x there.0 there.1 there.2 there.3) (y there.0 there.1 there.2 there.3)
+  one_output (Job.Info shelf) store old a b e f ok x y = one_plan store (info_plan (info_of shelf store)) old a b e f (infos_bytes store ok shelf) x y
+  one_output (Job.Inventory id) store old a b e f ok x y = one_plan store (inventory_plan id) old a b e f (tt, tt) x y
+  one_output Job.AllInventories store old a b e f ok x y =
+      let there = exists Sdr store.sdr First ok.sdr in
+      one_plan store (inventories_plan there.0 there.1) old a b e f (tt, rows_are_bytes look_row Form.Device Sdr store.sdr First there.0 ok.sdr there.2.of_shelf)
+      (x there.0 there.1 there.2 there.3) (y there.0 there.1 there.2 there.3)
+  one_output Job.Rewrite store old a b e f ok x y = one_plan store no_plan old a b e f tt x y

@@ -11,7 +11,7 @@ pub use Rattle.ipmi_records.specs.SelText.{IsSelBlock, IsSelLine}
 pub use Rattle.ipmi_records.specs.declared.sdr.SdrFault.{SdrFault}
 pub use Rattle.ipmi_records.specs.declared.sdr.SdrView.{SdrView}
 pub use Rattle.ipmi_records.specs.declared.sel.SelView.TheVariants.{Event, OemPlain, OemTimed, Other}
-pub use Rattle.ipmi_bus.specs.Bounds.{digits, fru_call_bound, step_call_bound}
+pub use Rattle.ipmi_bus.specs.Bounds.{digits, digits_most, fru_call_bound, step_call_bound}
 pub use Rattle.ipmi_bus.specs.CursorState.{CursorState, start_of}
 pub use Rattle.ipmi_bus.specs.Lent.{row_of_record}
 pub use Rattle.ipmi_bus.specs.Readers.{EndsUnder, inventory_len, InventoryCounts, IsRefusedInventory, IsRefusedOverChange, KeepsReservations, ReadsInventory, ReadsValue, ValueIs}
@@ -34,13 +34,12 @@ pub use Rattle.ipmi_image.specs.Rewritten.{record_line_of}
 unfoldable pub use Rattle.ipmi_image.specs.Rewritten.{image_text_of}
 pub use Rattle.ipmi_image.specs.declared.image.ImageFault.{ImageFault}
 pub use Rattle.ipmi_command_line.specs.Command.{CommandState}
-pub use Rattle.ipmi_command_line.specs.Task.{is_listing, most_of, shelf_of, start_by}
+pub use Rattle.ipmi_command_line.specs.Task.{is_listing}
 pub use Rattle.ipmi_command_line.specs.declared.task.Count.{Count}
 pub use Rattle.ipmi_command_line.specs.declared.task.Kind.{Kind}
 pub use Rattle.ipmi_command_line.specs.declared.task.Task.{Task}
 pub use Rattle.ipmi_command_line.specs.declared.command.UsageFault.{UsageFault}
-pub use Rattle.ipmi_output.specs.Message.{ended_text, inventory_text, message_text, no_info_text, no_name_text, refused_inventory_text, refused_text}
+pub use Rattle.ipmi_output.specs.Failure.{Ending, failure_of_image, failure_of_usage, said_of, status_of, write_faults}
 pub use Rattle.ipmi_output.specs.Received.{of_writer, Received, ReceivesText}
 pub use Rattle.ipmi_output.specs.Sink.{TakesPart}
-pub use Rattle.ipmi_output.specs.declared.message.Message.{Message}
-pub use Rattle.ipmi_output.specs.declared.message.Message.TheVariants.{Image, OutOfMemory, Usage, WriteFault}
+pub use Rattle.ipmi_output.specs.declared.failure.Failure.{Failure}

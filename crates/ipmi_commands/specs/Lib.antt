@@ -1,9 +1,11 @@
+pub mod Allowed
 pub mod Asking
 pub mod Below
-pub mod Last
+pub mod Job
+pub mod Laws
 pub mod Listing
 pub mod Pages
-pub mod Pieces
 pub mod Plan
 pub mod Prelude
 pub mod Run
+pub mod Texts

@@ -1,21 +1,18 @@
 -- A listing in pages: each page has a cursor of its own, from where the page before it stopped.
-use Rattle.std.specs.Prelude.{◌≡◌, ℕ, ◌+◌, ◌≤◌, ◌==◌, if◌then◌else◌, ◌⊎◌, false, IsTrue, Option, None, Some, Result, Ok, Err, List, [], ◌∷◌}
-use Rattle.ipmi_commands.specs.Below.{Place, First, Id, End, Cycle, Row, first_row, Store, rows_of, WalkEnd, CycleAt, place_after_rows, CursorState, start_of, Seen, StaysHonest, CommandState, Task, shelf_of}
+use Rattle.std.specs.Prelude.{◌≡◌, ℕ, ◌+◌, ◌*◌, ◌≤◌, ◌==◌, if◌then◌else◌, ◌⊎◌, IsTrue, Option, None, Some, IfOk, Result, Ok, Err, List, [], ◌∷◌}
 use Rattle.std.specs.FinSet as set
-use Rattle.ipmi_commands.specs.declared.stop.Stop.{Stop}
-use Rattle.ipmi_commands.specs.Listing.{is_done, stop_at_end, first_plan, IsOutcome, walk_call_bound}
-use Rattle.ipmi_commands.specs.Plan.{first_rows, Request, request, Change, change, OnWalk, Outcome, IsAllowed, CountsSo, IsFine}
-
--- the id that a cursor starts from; after the last record, and at the id 0000h, no cursor is needed
-abbrev pub start_at : Task → Place → Result (Option ℕ) Stop
-start_at t First = Ok None
-start_at t (Id n) = if n == 0 then Err (Stop.Ended (Cycle 0)) else Ok (Some n)
-start_at t End = Err (stop_at_end t false)
+use Rattle.ipmi_commands.specs.Below.{step_call_bound, Place, First, End, Row, first_row, Store, rows_of, WalkEnd, CycleAt, place_after_rows, CursorState, start_of, Seen, CommandState, Ending, Failure}
+use Rattle.ipmi_commands.specs.declared.job.Form.{Form}
+use Rattle.ipmi_commands.specs.Allowed.{IsAllowed, ending_of, EndsFor, cause_of, Change, change}
+use Rattle.ipmi_commands.specs.Asking.{calls_for, walk_call_bound}
+use Rattle.ipmi_commands.specs.Job.{shelf_of, listing}
+use Rattle.ipmi_commands.specs.Plan.{OnWalk, first_rows, listing_plan}
+use Rattle.ipmi_commands.specs.Texts.{IsTextOver}
 
 -- the cursor of a listing as it starts, from the id or from the first record: it has the command's part size and tries
-abbrev pub listing_cursor : CommandState → Option ℕ → CursorState
-listing_cursor command from = record {
-  shelf = shelf_of command.task;
+abbrev pub listing_cursor : CommandState → Form → Option ℕ → CursorState
+listing_cursor command form from = record {
+  shelf = shelf_of form;
   place = start_of from;
   part = command.part;
   tries = command.tries;
@@ -23,64 +20,59 @@ listing_cursor command from = record {
   reservation = None;
 }
 
+-- ---- a page
+
+-- where the next page begins, after one that ended so at this place
+abbrev pub then_at : Ending → Place → Result Place Failure
+then_at (Ok done) place = Ok place
+then_at (Err failure) place = Err failure
+
 -- where a listing goes on after these rows; on an empty shelf the end will do in place of the start
 abbrev pub GoesOn : List Row → Place → List Row → Place → Type 0
 GoesOn rows start used next =
     (next ≡ place_after_rows start used)
     ⊎ ((next ≡ End) × (start ≡ First) × (first_row rows ≡ None))
 
--- ---- a page
-
 -- along the walk from its place: what it leaves, its calls, and where the next page begins
-pub record PageAlong (r : Request) (store : Store) (most : Option ℕ) (walk : List Row)
-    (end : WalkEnd) (next : Place) (c : Change) (outcome : Outcome) (result : Stop) : Type 0 where
-  pub leaves : IsAllowed r.task store (first_plan most r.task r.start walk end) c.old c.new outcome
+pub record PageAlong (form : Form) (start : Place) (tries : ℕ) (most : Option ℕ) (c : Change)
+    (result : Result Place Failure) (walk : List Row) (end : WalkEnd) : Type 0 where
+  pub leaves : IsAllowed (IsTextOver c.seen.store)
+      (listing_plan (listing form start most) walk end) c.old c.new (ending_of result)
   pub calls : c.seen'.calls ≤ c.seen.calls
-      + walk_call_bound r.task store r.tries (first_rows most walk)
-  pub goes_on : result ≡ Stop.Done → GoesOn (rows_of (shelf_of r.task) store) r.start
-      (first_rows most walk) next
+      + walk_call_bound form c.seen.store tries (first_rows most walk)
+  pub goes_on : IfOk result (λ next. GoesOn (rows_of (shelf_of form) c.seen.store) start
+      (first_rows most walk) next)
 
 -- of so many records at most, over an honest controller
-pub record IsPage (r : Request) (most : Option ℕ) (next : Place) (c : Change)
-    (result : Stop) : Type 0 where
-  pub outcome : Outcome
-  pub outcome_is : IsOutcome result outcome
-  pub stays : StaysHonest c.seen c.seen'
-  pub counts : CountsSo r.tries c.seen c.seen' outcome
-  pub grows : c.seen.troubles ≤ c.seen'.troubles
+pub record IsPage (form : Form) (start : Place) (tries : ℕ) (most : Option ℕ) (c : Change)
+    (result : Result Place Failure) : Type 0 where
+  pub ends : EndsFor tries (IsTrue c.seen.plain) c.seen c.seen' (cause_of (ending_of result))
   pub none : most ≡ Some 0 → c.seen' ≡ c.seen
   pub along : c.seen'.stores_added ≡ c.seen.stores_added
-      → OnWalk r c.seen.store
-      (λ walk end. PageAlong r c.seen.store most walk end next c outcome result)
-  pub plain : IsTrue c.seen.plain → IsFine outcome
+      → OnWalk (shelf_of form) start c.seen.store
+      (λ walk end. PageAlong form start tries most c result walk end)
 
 -- ---- pages
 
-abbrev pub IsStopped : Stop → Type 0
-IsStopped result = is_done result ≡ false
-
--- a page with which the listing ends
-pub record LastPage (r : Request) (most : Option ℕ) (c : Change) (result : Stop) : Type 0 where
-  pub next : Place
-  pub page : IsPage r most next c result
-
 -- a page after which the listing goes on
-pub record PageThen (r : Request) (size : ℕ) (s : Seen) (old : List ℕ)
+pub record PageThen (form : Form) (start : Place) (tries size : ℕ) (s : Seen) (old : List ℕ)
     (Rest : Place → Seen → List ℕ → Type 0) : Type 0 where
   pub next : Place
   pub seen : Seen
   pub text : List ℕ
-  pub page : IsPage r (Some size) next (change s seen old text) Stop.Done
+  pub page : IsPage form start tries (Some size) (change s seen old text) (Ok next)
   pub rest : Rest next seen text
 
--- pages of these sizes, and then one without a limit; a page that ends by name, or for want of memory or by a write
--- fault, ends all
-abbrev pub ArePages : Request → List ℕ → Change → Stop → Type 0
-ArePages r [] c result = LastPage r None c result
-ArePages r (size ∷ sizes) c result =
-    (LastPage r (Some size) c result × IsStopped result)
-    ⊎ PageThen r size c.seen c.old (λ next seen text.
-    ArePages (request r.task next r.tries) sizes (change seen c.seen' text c.new) result)
+-- pages of these sizes, and then one without a limit; a page that ends by a failure ends all
+abbrev pub ArePages : Form → ℕ → Place → List ℕ → Change → Ending → Type 0
+ArePages form tries start [] c ending =
+    (result : Result Place Failure) × (ending ≡ ending_of result)
+    × IsPage form start tries None c result
+ArePages form tries start (size ∷ sizes) c ending =
+    ((failure : Failure) × (ending ≡ Err failure)
+    × IsPage form start tries (Some size) c (Err failure))
+    ⊎ PageThen form start tries size c.seen c.old (λ next seen text.
+    ArePages form tries next sizes (change seen c.seen' text c.new) ending)
 
 -- how many pages may make calls: each that wants a record, and the last one
 abbrev pub pages_made : List ℕ → ℕ
@@ -93,3 +85,13 @@ pages_made (size ∷ sizes) = if size == 0 then pages_made sizes else pages_made
 abbrev pub IsOpen : WalkEnd → Type 0
 IsOpen (CycleAt n) = ⊥
 IsOpen _ = Unit {0}
+
+-- along a walk that does not end by a cycle the pages leave what one listing may leave, for no more calls than for the
+-- rows and for each page that may make calls
+abbrev pub IsOneListing : Form → Place → ℕ → List ℕ → Change → Ending → Type 0
+IsOneListing form start tries sizes c ending =
+    OnWalk (shelf_of form) start c.seen.store (λ walk end. IsOpen end
+    → IsAllowed (IsTextOver c.seen.store) (listing_plan (listing form start None) walk end)
+    c.old c.new ending
+    × (c.seen'.calls ≤ c.seen.calls + calls_for form c.seen.store tries walk
+    + pages_made sizes * (step_call_bound tries 0 + 7)))

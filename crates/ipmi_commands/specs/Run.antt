@@ -1,256 +1,152 @@
--- What a run of a command leaves, and its exit status.
-use Rattle.std.specs.Prelude.{◌≡◌, ◌⊎◌, ℕ, ◌+◌, ◌*◌, ◌<◌, ◌≤◌, Bool, true, false, IsTrue, Result, Ok, Err, String, string_bytes, List, [], ◌++◌, length}
-use Rattle.std.specs.declared.alloc.Global.{Global}
-use Rattle.ipmi_commands.specs.Below.{FruEnded, Cycle, Missing, GaveUp, step_call_bound, Store, Seen, IsHonest, StaysHonest, ImageFault, Count, Task, UsageFault, Message, Usage, Image, WriteFault, OutOfMemory, CommandState, ended_text, refused_text, inventory_text, refused_inventory_text, no_name_text, no_info_text, message_text, Received, ReceivesText, TakesPart, start_by}
-use Rattle.ipmi_bus.specs.Walk as walk_end
-use Rattle.ipmi_commands.specs.declared.stop.Stop.{Stop}
-use Rattle.ipmi_commands.specs.Listing.{IsOutcome, calls_for, run_call_bound, most_calls}
-use Rattle.ipmi_output.specs.Message.{line_text}
-use Rattle.ipmi_commands.specs.Pages.{ArePages, pages_made, IsOpen}
-use Rattle.ipmi_commands.specs.Plan.{Request, Change, change, OnWalk, plan_of, rewrite_plan, Outcome, IsAllowed, CountsSo, IsFine}
-use Rattle.ipmi_command_line.specs.Task.{name_of}
-use Rattle.ipmi_commands.specs.Plan as plan
+-- What a run of a command promises: over any controller, over an honest one, in pages, and over an image.
+use Rattle.std.specs.Prelude.{◌≡◌, ◌⊎◌, ℕ, ◌+◌, ◌*◌, ◌<◌, ◌≤◌, Bool, true, false, IsTrue, Option, None, Result, Ok, Err, String, string_bytes, List, [], ◌++◌, length}
+use Rattle.ipmi_commands.specs.Below.{fru_call_bound, start_of, Place, First, Shelf, Sdr, Sel, Row, Store, info_of, WalkEnd, Seen, IsHonest, ImageFault, Task, UsageFault, CommandState, Received, ReceivesText, TakesPart, Ending, Failure, failure_of_usage, said_of, status_of}
+use Rattle.ipmi_commands.specs.declared.job.Form.{Form}
+use Rattle.ipmi_commands.specs.declared.job.Job.{Job}
+use Rattle.ipmi_commands.specs.Allowed.{NoMemory, cause_of, EndsFor, IsAllowed, IsFine, Change, change}
+use Rattle.ipmi_commands.specs.Asking.{calls_at, walk_call_bound, most_on_walk}
+use Rattle.ipmi_commands.specs.Job.{shelf_of, is_rewrite, job_of, listing}
+use Rattle.ipmi_commands.specs.Listing.{EndsListing}
+use Rattle.ipmi_commands.specs.Pages.{ArePages, IsOneListing, pages_made}
+use Rattle.ipmi_commands.specs.Plan.{OnWalk, AtInventory, Plan, first_rows, last_rows, listing_plan, last_plan, inventory_plan, inventories_plan, info_plan, rewrite_plan, no_plan}
+use Rattle.ipmi_commands.specs.Texts.{IsTextOver}
 
--- the task that writes an image again is answered, and not run
-abbrev pub is_rewrite : Task → Bool
-is_rewrite Task.Rewrite = true
-is_rewrite _ = false
+-- ---- over any controller
 
--- the tasks that go along one walk, and ask for nothing before it
-abbrev pub lists_once : Task → Bool
-lists_once Task.Hex = true
-lists_once (Task.List kind) = true
-lists_once (Task.Elist kind) = true
-lists_once (Task.Get name) = true
-lists_once (Task.SelList Count.All) = true
-lists_once (Task.SelList (Count.First n)) = true
-lists_once (Task.SelGet id) = true
-lists_once _ = false
+-- at most so many calls, where an inventory has at most 65,535 bytes
+abbrev pub most_calls : Job → ℕ → ℕ
+most_calls (Job.Records l) tries = most_on_walk l.form tries
+most_calls (Job.Last n from) tries =
+    most_on_walk Form.EntryLine tries + most_on_walk Form.EntryLine tries
+most_calls (Job.Info shelf) tries = tries + 1
+most_calls (Job.Inventory id) tries = fru_call_bound tries 65535
+most_calls Job.AllInventories tries = fru_call_bound tries 65535 + most_on_walk Form.Device tries
+most_calls Job.Rewrite tries = 0
 
--- ---- over a controller
+-- a name is missing only where it is asked for, and an info only where that is; no run over a controller writes an image
+-- again: it does nothing
+abbrev pub MayEnd : Job → Change → Ending → Type 0
+MayEnd (Job.Records l) c ending = EndsListing l.form ending
+MayEnd (Job.Last n from) c ending = EndsListing Form.EntryLine ending
+MayEnd (Job.Info shelf) c (Err Failure.NoInfo) = Unit {0}
+MayEnd (Job.Info shelf) c ending = EndsListing Form.Raw ending
+MayEnd (Job.Inventory id) c ending = EndsListing Form.Device ending
+MayEnd Job.AllInventories c ending = EndsListing Form.Device ending
+MayEnd Job.Rewrite c ending =
+    (ending ≡ Err Failure.Usage) × (c.seen' ≡ c.seen) × (c.new ≡ c.old)
 
--- the exit status by how a listing stopped, and by the outcome of a run
-abbrev pub stop_status : Stop → ℕ
-stop_status Stop.Done = 0
-stop_status Stop.Memory = 5
-stop_status (Stop.Inventory id FruEnded.Memory) = 5
-stop_status Stop.WriteFault = 4
-stop_status _ = 1
+-- ---- over an honest controller
 
-abbrev pub status_of : Outcome → ℕ
-status_of (plan.Finished (plan.WalkEnds walk_end.Done)) = 0
-status_of plan.OutOfMemory = 5
-status_of plan.WriteFault = 4
-status_of _ = 1
+-- the last entries are listed on a second walk, where there are any
+abbrev pub second_walk_bound : ℕ → List Row → ℕ
+second_walk_bound bound [] = 0
+second_walk_bound bound _ = bound
 
--- a text that is written, by how that stopped
-abbrev pub WritesText : List ℕ → List ℕ → List ℕ → Stop → Type 0
-WritesText text old new Stop.Done = new ≡ old ++ text
-WritesText text old new Stop.WriteFault = (0 < length text) × TakesPart old new text
-WritesText text old new _ = ⊥
+abbrev pub last_call_bound : ℕ → Store → ℕ → List Row → WalkEnd → ℕ
+last_call_bound n store tries walk end =
+    walk_call_bound Form.EntryLine store tries walk
+    + second_walk_bound (walk_call_bound Form.EntryLine store tries walk) (last_rows n walk end)
 
--- a text that was found, or nothing where it was not, for that reason
-abbrev pub WritesFound : Result (String Global) Stop → List ℕ → List ℕ → Stop → Type 0
-WritesFound (Ok text) old new result = WritesText (string_bytes text) old new result
-WritesFound (Err e) old new result = (result ≡ e) × (new ≡ old)
+-- this holds of the plan over a store, and of the most calls that it takes: of a listing along the walk from its start
+abbrev pub OnPlan : Job → ℕ → Store → (Plan → ℕ → Type 0) → Type 0
+OnPlan (Job.Records l) tries store Holds =
+    OnWalk (shelf_of l.form) l.start store (λ walk end. Holds (listing_plan l walk end)
+    (walk_call_bound l.form store tries (first_rows l.most walk)))
+OnPlan (Job.Last n from) tries store Holds =
+    OnWalk Sel (start_of from) store (λ walk end. Holds (last_plan n (start_of from) walk end)
+    (last_call_bound n store tries walk end))
+OnPlan (Job.Info shelf) tries store Holds = Holds (info_plan (info_of shelf store)) (tries + 1)
+OnPlan (Job.Inventory id) tries store Holds =
+    Holds (inventory_plan id) (calls_at tries store (AtInventory id))
+OnPlan Job.AllInventories tries store Holds =
+    OnWalk Sdr First store (λ walk end. Holds (inventories_plan walk end)
+    (calls_at tries store (AtInventory 0) + walk_call_bound Form.Device store tries walk))
+OnPlan Job.Rewrite tries store Holds = Holds no_plan 0
 
--- what is said of how a listing of a task stopped: a line, or nothing where it is done
-abbrev pub stop_text : Task → Stop → List ℕ
-stop_text t Stop.Done = []
-stop_text t (Stop.Ended e) = line_text (ended_text e)
-stop_text t (Stop.Inventory id e) = line_text (inventory_text id e)
-stop_text t Stop.NoName = line_text (no_name_text (name_of t))
-stop_text t Stop.NoInfo = line_text no_info_text
-stop_text t Stop.Memory = line_text (message_text OutOfMemory)
-stop_text t Stop.WriteFault = line_text (message_text WriteFault)
-
--- what is said of an outcome
-abbrev pub outcome_text : Task → Outcome → List ℕ
-outcome_text t (plan.Finished (plan.WalkEnds walk_end.Done)) = []
-outcome_text t (plan.Finished (plan.WalkEnds (walk_end.CycleAt n))) =
-    line_text (ended_text (Cycle n))
-outcome_text t (plan.Finished (plan.WalkEnds (walk_end.MissingAt n))) =
-    line_text (ended_text (Missing n))
-outcome_text t (plan.Finished plan.NoName) = line_text (no_name_text (name_of t))
-outcome_text t (plan.Finished plan.NoInfo) = line_text no_info_text
-outcome_text t (plan.GaveUp (plan.AtRecord n)) = line_text (ended_text (GaveUp n))
-outcome_text t (plan.GaveUp (plan.AtInventory id)) = line_text (inventory_text id FruEnded.GaveUp)
-outcome_text t (plan.Refused (plan.AtRecord n) code) = line_text (refused_text n code)
-outcome_text t (plan.Refused (plan.AtInventory id) code) =
-    line_text (refused_inventory_text id code)
-outcome_text t plan.OutOfMemory = line_text (message_text OutOfMemory)
-outcome_text t plan.WriteFault = line_text (message_text WriteFault)
-
--- ---- what is asked of a run, and what it leaves
-
--- the request of a command
-abbrev pub request_of : CommandState → Request
-request_of command = record {
-  task = command.task;
-  start = start_by command.task command.from;
-  tries = command.tries;
-}
-
--- what the output had taken and what was said before, and after
-pub record Effect : Type 0 where
-  pub old : List ℕ
-  pub new : List ℕ
-  pub said : Received
-  pub said' : Received
-
-abbrev pub effect : List ℕ → List ℕ → Received → Received → Effect
-effect old new said said' = record { old = old; new = new; said = said; said' = said' }
-
--- this status is given, and this message is said
-abbrev pub Says : Received → Received → ℕ → Message → ℕ → Type 0
-Says said said' status message n =
-    (status ≡ n) × ReceivesText said said' (line_text (message_text message))
-
--- the same, and nothing is written
-abbrev pub OnlySays : Effect → ℕ → Message → ℕ → Type 0
-OnlySays e status message n = (e.new ≡ e.old) × Says e.said e.said' status message n
+-- what was printed of the plan, by how the run ended, for at most so many calls
+abbrev pub Prints : Job → ℕ → Change → Ending → Type 0
+Prints job tries c ending =
+    OnPlan job tries c.seen.store (λ plan calls.
+    IsAllowed (IsTextOver c.seen.store) plan c.old c.new ending
+    × (c.seen'.calls ≤ c.seen.calls + calls))
 
 -- ---- a run
 
--- the output is allowed for the outcome by the plan of the task over a store
-abbrev pub AllowsAll : Request → Store → List ℕ → List ℕ → Outcome → Type 0
-AllowsAll r store old new outcome =
-    OnWalk r store (λ walk end. IsAllowed r.task store (plan_of r.task store r.start walk end) old
-    new outcome)
+-- over any controller: how many calls at most, and how it may end; over an honest one: why it ended so, and, if no store was
+-- added, what it printed. Where one was added, or the controller is not honest, nothing is said of the output
+pub record Runs (job : Job) (tries : ℕ) (c : Change) (ending : Ending) : Type 0 where
+  pub calls : c.seen'.calls ≤ c.seen.calls + most_calls job tries
+  pub ends : MayEnd job c ending
+  pub why : IsHonest c.seen → EndsFor tries (IsTrue c.seen.plain) c.seen c.seen' (cause_of ending)
+  pub prints : IsHonest c.seen → c.seen'.stores_added ≡ c.seen.stores_added
+      → Prints job tries c ending
 
--- the calls are within the task's bound
-abbrev pub CallsWithin : Request → Store → ℕ → ℕ → Type 0
-CallsWithin r store before after =
-    OnWalk r store (λ walk end. after ≤ before + run_call_bound r.task store r.tries walk end)
+-- what a command is to do
+abbrev pub job_of_command : CommandState → Job
+job_of_command command = job_of command.task command.from
 
--- a task over an honest controller: how it stopped, and while no store is added what it leaves and how many calls it
--- makes
-pub record Performs (r : Request) (c : Change) (result : Stop) : Type 0 where
-  pub outcome : Outcome
-  pub outcome_is : IsOutcome result outcome
-  pub stays : StaysHonest c.seen c.seen'
-  pub counts : CountsSo r.tries c.seen c.seen' outcome
-  pub plain : IsTrue c.seen.plain → IsFine outcome
-  pub allowed : c.seen'.stores_added ≡ c.seen.stores_added
-      → AllowsAll r c.seen.store c.old c.new outcome
-  pub calls : c.seen'.stores_added ≡ c.seen.stores_added
-      → CallsWithin r c.seen.store c.seen.calls c.seen'.calls
+-- the same for a listing in pages of these sizes: each page by itself is a listing from its place, of at most as many rows
+-- as its size, and along a walk that does not end by a cycle all of them print what one listing may print
+pub record RunsInPages (form : Form) (start : Place) (tries : ℕ) (sizes : List ℕ) (c : Change)
+    (ending : Ending) : Type 0 where
+  pub calls : c.seen'.calls ≤ c.seen.calls + pages_made sizes * most_on_walk form tries
+  pub ends : EndsListing form ending
+  pub why : IsHonest c.seen → EndsFor tries (IsTrue c.seen.plain) c.seen c.seen' (cause_of ending)
+  pub pages : IsHonest c.seen → ArePages form tries start sizes c ending
+  pub prints : IsHonest c.seen → c.seen'.stores_added ≡ c.seen.stores_added
+      → IsOneListing form start tries sizes c ending
 
--- over any controller a run ends as a listing may stop, and says so
-pub record EndsSo (t : Task) (e : Effect) (status : ℕ) : Type 0 where
-  pub result : Stop
-  pub status_is : status ≡ stop_status result
-  pub message : ReceivesText e.said e.said' (stop_text t result)
+-- of a command that lists all records of a shelf
+pub record RunsPaged (command : CommandState) (sizes : List ℕ) (c : Change)
+    (ending : Ending) : Type 0 where
+  pub form : Form
+  pub is : job_of_command command ≡ Job.Records (listing form (start_of command.from) None)
+  pub runs : RunsInPages form (start_of command.from) command.tries sizes c ending
 
--- how a run ended over an honest controller, whatever stores were added: what is said and what is counted, and that
--- nothing is given up or refused over a plain one
-pub record HasEnded (r : Request) (s s' : Seen) (e : Effect) (result : Stop) (outcome : Outcome)
-    (status : ℕ) : Type 0 where
-  pub outcome_is : IsOutcome result outcome
-  pub status_is : status ≡ status_of outcome
-  pub message : ReceivesText e.said e.said' (outcome_text r.task outcome)
-  pub stays : StaysHonest s s'
-  pub counts : CountsSo r.tries s s' outcome
-  pub plain : IsTrue s.plain → IsFine outcome
-
--- a run over an honest controller: how it ended, and while no store is added what it leaves and how many calls it makes
-pub record IsRun (r : Request) (s s' : Seen) (e : Effect) (status : ℕ) : Type 0 where
-  pub result : Stop
-  pub outcome : Outcome
-  pub ended : HasEnded r s s' e result outcome status
-  pub allowed : s'.stores_added ≡ s.stores_added → AllowsAll r s.store e.old e.new outcome
-  pub calls : s'.stores_added ≡ s.stores_added → CallsWithin r s.store s.calls s'.calls
-
--- what every run promises: its calls and its end over any controller, and what it is over an honest one; that of the
--- task that writes an image again only says how the program is called
-pub record Runs (command : CommandState) (s s' : Seen) (e : Effect) (status : ℕ) : Type 0 where
-  pub calls : s'.calls ≤ s.calls + most_calls command.task command.tries
-  pub ends : is_rewrite command.task ≡ false → EndsSo command.task e status
-  pub honest : is_rewrite command.task ≡ false → IsHonest s
-      → IsRun (request_of command) s s' e status
-  pub rewrite : is_rewrite command.task ≡ true → (s' ≡ s) × OnlySays e status Usage 2
-
--- ---- a run in pages
-
--- the same as of one run, over each walk that does not end by a cycle
-abbrev pub AllowsOpen : Request → Store → List ℕ → List ℕ → Outcome → Type 0
-AllowsOpen r store old new outcome =
-    OnWalk r store (λ walk end. IsOpen end
-    → IsAllowed r.task store (plan_of r.task store r.start walk end) old new outcome)
-
--- the calls are within the bounds for the rows of such a walk, and for each page that may make calls
-abbrev pub PagesWithin : Request → Store → List ℕ → ℕ → ℕ → Type 0
-PagesWithin r store sizes before after =
-    OnWalk r store (λ walk end. IsOpen end
-    → after ≤ before + calls_for r.task store r.tries walk
-    + pages_made sizes * (step_call_bound r.tries 0 + 7))
-
--- a run in pages of these sizes: each page by itself is the listing from its place, of at most as many rows as its
--- size, and where the chain does not end by a cycle all of them leave what one run may leave
-pub record IsPagedRun (r : Request) (sizes : List ℕ) (s s' : Seen) (e : Effect)
-    (status : ℕ) : Type 0 where
-  pub result : Stop
-  pub outcome : Outcome
-  pub ended : HasEnded r s s' e result outcome status
-  pub pages : ArePages r sizes (change s s' e.old e.new) result
-  pub allowed : s'.stores_added ≡ s.stores_added → AllowsOpen r s.store e.old e.new outcome
-  pub calls : s'.stores_added ≡ s.stores_added → PagesWithin r s.store sizes s.calls s'.calls
+-- a text that is written
+abbrev pub WritesText : List ℕ → List ℕ → List ℕ → Ending → Type 0
+WritesText text old new (Ok done) = new ≡ old ++ text
+WritesText text old new (Err Failure.WriteFault) = (0 < length text) × TakesPart old new text
+WritesText text old new (Err failure) = ⊥
 
 -- ---- over an image
 
--- over the program's own controller nothing is refused, nor given up
-pub record IsRunOverStore (r : Request) (store : Store) (e : Effect) (status : ℕ) : Type 0 where
-  pub outcome : Outcome
-  pub status_is : status ≡ status_of outcome
-  pub message : ReceivesText e.said e.said' (outcome_text r.task outcome)
-  pub allowed : AllowsAll r store e.old e.new outcome
-  pub fine : IsFine outcome
-
--- of bytes that are no image: the fault, or want of memory, which may come before it
-abbrev pub fault_status : ImageFault → ℕ
-fault_status ImageFault.Memory = 5
-fault_status _ = 3
-
-abbrev pub FailsToRead : ImageFault → Effect → ℕ → Type 0
-FailsToRead fault e status =
-    (e.new ≡ e.old) × (Says e.said e.said' status (Image fault) (fault_status fault)
-    ⊎ Says e.said e.said' status OutOfMemory 5)
-
--- the text of an image, by how writing it stopped
-abbrev pub WritesImage : List ℕ → List ℕ → List ℕ → Stop → Type 0
-WritesImage text old new Stop.Memory = new ≡ old
-WritesImage text old new result = WritesText text old new result
+-- the fault for which the bytes are no image, or want of memory, which may come before it; nothing is written
+abbrev pub FailsToRead : ImageFault → List ℕ → List ℕ → Ending → Type 0
+FailsToRead fault old new ending =
+    (new ≡ old) × ((ending ≡ Err (Failure.Image fault)) ⊎ (ending ≡ Err Failure.OutOfMemory))
 
 -- an image written again; nothing of it where memory runs out
-pub record IsRewriting (store : Store) (e : Effect) (status : ℕ) : Type 0 where
-  pub outcome : Outcome
-  pub status_is : status ≡ status_of outcome
-  pub message : ReceivesText e.said e.said' (outcome_text Task.Rewrite outcome)
-  pub allowed : IsAllowed Task.Rewrite store rewrite_plan e.old e.new outcome
-  pub unwritten : outcome ≡ plan.OutOfMemory → e.new ≡ e.old
-  pub fine : IsFine outcome
+pub record IsRewriting (store : Store) (old new : List ℕ) (ending : Ending) : Type 0 where
+  pub allowed : IsAllowed (IsTextOver store) rewrite_plan old new ending
+  pub unwritten : cause_of ending ≡ NoMemory → new ≡ old
 
--- with the store of an image, or the fault for which it is none
-abbrev pub AnswersRewrite : Result Store ImageFault → Effect → ℕ → Type 0
-AnswersRewrite (Ok store) e status = IsRewriting store e status
-AnswersRewrite (Err fault) e status = FailsToRead fault e status
+-- what is to be done over the store of an image, by whether the image is written again: otherwise nothing is refused, nor
+-- given up
+abbrev pub RunsOver : Bool → Job → Store → List ℕ → List ℕ → Ending → Type 0
+RunsOver true job store old new ending = IsRewriting store old new ending
+RunsOver false job store old new ending =
+    OnPlan job 0 store (λ plan calls. IsAllowed (IsTextOver store) plan old new ending)
+    × IsFine (cause_of ending)
 
-abbrev pub AnswersImage : Request → Result Store ImageFault → Effect → ℕ → Type 0
-AnswersImage r (Ok store) e status = IsRunOverStore r store e status
-AnswersImage r (Err fault) e status = FailsToRead fault e status
+-- by what the image gives
+abbrev pub AnswersCommand : CommandState → Result Store ImageFault → List ℕ → List ℕ → Ending → Type 0
+AnswersCommand command (Ok store) old new ending =
+    RunsOver (is_rewrite (job_of_command command)) (job_of_command command) store old new ending
+AnswersCommand command (Err fault) old new ending = FailsToRead fault old new ending
 
--- by whether the task writes the image again
-abbrev pub AnswersTask : Bool → Request → Result Store ImageFault → Effect → ℕ → Type 0
-AnswersTask true r image e status = AnswersRewrite image e status
-AnswersTask false r image e status = AnswersImage r image e status
+-- the answer to a command line over an image
+abbrev pub AnswersLine : Result CommandState UsageFault → Result Store ImageFault → List ℕ → List ℕ
+    → Ending → Type 0
+AnswersLine (Ok command) image old new ending = AnswersCommand command image old new ending
+AnswersLine (Err fault) image old new ending =
+    (ending ≡ Err (failure_of_usage fault)) × (new ≡ old)
 
-abbrev pub AnswersCommand : CommandState → Result Store ImageFault → Effect → ℕ → Type 0
-AnswersCommand command image e status =
-    AnswersTask (is_rewrite command.task) (request_of command) image e status
+-- ---- what is said
 
--- the answer to a command line over an image, by what the image gives
-abbrev pub AnswersLine : Result CommandState UsageFault → Result Store ImageFault → Effect → ℕ
-    → Type 0
-AnswersLine (Ok command) image e status = AnswersCommand command image e status
-AnswersLine (Err UsageFault.Memory) image e status = OnlySays e status OutOfMemory 5
-AnswersLine (Err _) image e status = OnlySays e status Usage 2
+-- there is an ending of which this holds, and the status and the message are its own
+pub record Says (said said' : Received) (status : ℕ) (Holds : Ending → Type 0) : Type 0 where
+  pub ending : Ending
+  pub holds : Holds ending
+  pub status_is : status ≡ status_of ending
+  pub message : ReceivesText said said' (said_of ending)

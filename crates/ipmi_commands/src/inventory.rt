@@ -1,9 +1,9 @@
 //! Prints the inventories of FRU devices.
-ghost use Rattle.std.specs.Prelude.{◌≡◌, ℕ, ◌+◌, ◌≤◌, ◌∷◌, [], None, Err, IfErr, IfOk, string_bytes};
+ghost use Rattle.std.specs.Prelude.{◌≡◌, ℕ, ◌+◌, ◌≤◌, ◌∷◌, [], None, Err, IfOk, string_bytes};
 ghost use Rattle.ipmi_commands.specs.Below.{fru_call_bound, row_of_record, ReadsInventory, Seen, IsHonest, Store, inventory_of, fru_of, sdr_view_of};
-ghost use Rattle.ipmi_commands.specs.Prelude.{is_absent, faults_of, Finds, IsDevicePiece, IsInventoryPiece, IsInventoryText, IsLocatorPiece, name_of_locator, AtInventory, device_spots, locator_spots};
+ghost use Rattle.ipmi_commands.specs.Prelude.{is_absent, Finds, IsDevicePiece, IsInventoryPiece, IsInventoryText, IsLocatorPiece, name_of_locator, AtInventory, device_spots, locator_spots};
 
-use crate::stop::Stop;
+use crate::unread::Unread;
 use ipmi_bus::{Code, Controller, FruEnded, Record, read_fru};
 use ipmi_command_line::Command;
 use ipmi_fru::print_fru;
@@ -17,15 +17,14 @@ fn is_absent(ended: FruEnded) -> bool
     ended == FruEnded::Refused(Code::NOT_PRESENT)
 }
 
-/// The text for an inventory that was not read: `not present` where the controller has none. For any other reason the run stops.
-fn unread_text(alloc: Global, id: u8, ended: FruEnded) -> Result<String, Stop>
-    ensures unwritten { IfErr result (λ stop. faults_of stop ≡ 0) }
-    ensures read { (tries : ℕ) (s s' : Seen) → ReadsInventory id tries s s' (Err ended) →
+/// The text for an inventory that was not read: `not present` where the controller has none. Any other reason is passed on.
+fn unread_text(alloc: Global, id: u8, ended: FruEnded) -> Result<String, Unread>
+    ensures { (tries : ℕ) (s s' : Seen) → ReadsInventory id tries s s' (Err ended) →
         Finds (λ store text. IsInventoryText (inventory_of id store) text) (AtInventory id ∷ [])
         tries s s' result }
 {
     if !is_absent(ended) {
-        return Err(Stop::Inventory(id, ended));
+        return Err(Unread::Inventory(id, ended));
     }
     Ok(String::from_str(alloc, "not present\n")?)
 }
@@ -36,10 +35,9 @@ fn inventory_text<C: Controller>(
     ctl: &mut C,
     cmd: &Command,
     id: u8,
-) -> Result<String, Stop>
+) -> Result<String, Unread>
     ensures calls { (C.seen ctl.new).calls ≤ (C.seen ctl.old).calls + fru_call_bound cmd.now.tries
         65535 }
-    ensures unwritten { IfErr result (λ stop. faults_of stop ≡ 0) }
     ensures honest { IsHonest (C.seen ctl.old) →
         Finds (λ store text. IsInventoryText (inventory_of id store) text) (AtInventory id ∷ [])
         cmd.now.tries (C.seen ctl.old) (C.seen ctl.new) result }
@@ -57,10 +55,9 @@ pub(crate) fn inventory_piece<C: Controller>(
     cmd: &Command,
     id: u8,
     name: &str,
-) -> Result<String, Stop>
+) -> Result<String, Unread>
     ensures calls { (C.seen ctl.new).calls ≤ (C.seen ctl.old).calls + fru_call_bound cmd.now.tries
         65535 }
-    ensures unwritten { IfErr result (λ stop. faults_of stop ≡ 0) }
     ensures honest { IsHonest (C.seen ctl.old) →
         Finds (λ store text. IsInventoryPiece store id name.now text) (AtInventory id ∷ [])
         cmd.now.tries (C.seen ctl.old) (C.seen ctl.new) result }
@@ -96,10 +93,9 @@ fn device_piece<C: Controller>(
     ctl: &mut C,
     cmd: &Command,
     view: &SdrView<'_>,
-) -> Result<String, Stop>
+) -> Result<String, Unread>
     ensures calls { (C.seen ctl.new).calls ≤ (C.seen ctl.old).calls + fru_call_bound cmd.now.tries
         65535 }
-    ensures unwritten { IfErr result (λ stop. faults_of stop ≡ 0) }
     ensures honest { IsHonest (C.seen ctl.old) →
         Finds (λ store text. IsDevicePiece store view.now (fru_of view.now) text)
         (device_spots (fru_of view.now)) cmd.now.tries (C.seen ctl.old) (C.seen ctl.new) result }
@@ -120,17 +116,24 @@ pub(crate) fn locator_piece<C: Controller>(
     ctl: &mut C,
     cmd: &Command,
     lent: &Record<'_>,
-) -> Result<String, Stop>
+) -> Result<String, Unread>
     ensures calls { (C.seen ctl.new).calls ≤ (C.seen ctl.old).calls + fru_call_bound cmd.now.tries
         65535 }
-    ensures unwritten { IfErr result (λ stop. faults_of stop ≡ 0) }
     ensures honest { let row = row_of_record lent.now in IsHonest (C.seen ctl.old) →
         Finds (λ store text. IsLocatorPiece store (sdr_view_of row.bytes) text)
         (locator_spots (sdr_view_of row.bytes)) cmd.now.tries (C.seen ctl.old) (C.seen ctl.new)
         result }
 {
-    match SdrView::read(lent.bytes) {
-        Ok(SdrView::Fru(locator)) => device_piece(alloc, ctl, cmd, &SdrView::Fru(locator)),
-        Ok(_) | Err(_) => Ok(String::new(alloc)),
+    let Ok(view) = SdrView::read(lent.bytes) else {
+        return Ok(String::new(alloc));
+    };
+    match &view {
+        SdrView::Fru(_) => device_piece(alloc, ctl, cmd, &view),
+        SdrView::Full(_)
+        | SdrView::Compact(_)
+        | SdrView::EventOnly(_)
+        | SdrView::Generic(_)
+        | SdrView::Controller(_)
+        | SdrView::Other(_) => Ok(String::new(alloc)),
     }
 }

@@ -1,39 +1,71 @@
-//! Lists the last entries of a shelf, on a second walk after one that counts them.
+//! Lists the last entries of the event log, on a second walk after one that counts them.
 ghost use Rattle.std.specs.Prelude.{◌≡◌, ◌+◌, ◌-◌, ◌≤◌};
-ghost use Rattle.ipmi_commands.specs.Below.{start_of, IsHonest, start_by, Count, Task};
-ghost use Rattle.ipmi_commands.specs.Prelude.{ListsSpan, faults_of, most_calls, most_on_walk, change, request_of, Performs};
+ghost use Rattle.ipmi_commands.specs.Below.{start_of, IsHonest, write_faults};
+ghost use Rattle.ipmi_commands.specs.declared.job.Form.{Form};
+ghost use Rattle.ipmi_commands.specs.declared.job.Job.{Job};
+ghost use Rattle.ipmi_commands.specs.Prelude.{change, CountsEntries, ending_of, EndsListing, IsFrom, ListsAfter, most_on_walk, Runs};
 
-use crate::listing::{Listed, Span, list_records};
+use crate::job::Form;
+use crate::listing::{list_records, pass_entries};
 use crate::pages::start_cursor;
-use crate::stop::Stop;
 use ipmi_bus::Controller;
 use ipmi_command_line::Command;
-use ipmi_output::Sink;
+use ipmi_output::{Failure, Sink};
 use std::alloc::Global;
 
-/// Lists the records of a span from where the command says, with a cursor of its own.
-fn list_span<C: Controller, O: Sink>(
+/// Counts the entries from this id on or from the first.
+fn count_entries<'a, C: Controller>(
     alloc: Global,
     ctl: &mut C,
     cmd: &Command,
-    span: Span,
-    out: &mut O,
-) -> Listed
-    requires { start_by cmd.now.task cmd.now.from ≡ start_of cmd.now.from }
-    ensures faults { O.faults out.new ≡ O.faults out.old + faults_of result.stop }
-    ensures calls { (C.seen ctl.new).calls ≤ (C.seen ctl.old).calls + most_on_walk cmd.now.task
+    from: Option<u16>,
+) -> Result<u32, Failure<'a>>
+    requires { IsFrom from }
+    ensures quiet { write_faults (ending_of result) ≡ 0 }
+    ensures ends { EndsListing Form.EntryLine (ending_of result) }
+    ensures calls { (C.seen ctl.new).calls ≤ (C.seen ctl.old).calls + most_on_walk Form.EntryLine
         cmd.now.tries }
     ensures honest { IsHonest (C.seen ctl.old) →
-        ListsSpan (request_of cmd.now) span
-        (change (C.seen ctl.old) (C.seen ctl.new) (O.taken out.old) (O.taken out.new)) result }
+        CountsEntries (start_of from) cmd.now.tries (C.seen ctl.old) (C.seen ctl.new) result }
 {
-    let Ok(mut cursor) = start_cursor(alloc, cmd, cmd.from()) else {
-        return Listed {
-            stop: Stop::Memory,
-            count: 0,
-        };
+    let Ok(mut cursor) = start_cursor(alloc, cmd, &Form::EntryLine, from) else {
+        return Err(Failure::OutOfMemory);
     };
-    list_records(alloc, &mut cursor, ctl, cmd, span, out)
+    match pass_entries(&mut cursor, ctl, None) {
+        Ok(count) => Ok(count),
+        Err(ended) => Err(Failure::Ended(ended)),
+    }
+}
+
+/// Passes so many entries from this id on or from the first, and lists those after them.
+fn list_after<'a, C: Controller, O: Sink>(
+    alloc: Global,
+    ctl: &mut C,
+    cmd: &Command,
+    from: Option<u16>,
+    passed: u32,
+    out: &mut O,
+) -> Result<(), Failure<'a>>
+    requires { IsFrom from }
+    ensures faults { O.faults out.new ≡ O.faults out.old + write_faults result }
+    ensures ends { EndsListing Form.EntryLine result }
+    ensures calls { (C.seen ctl.new).calls ≤ (C.seen ctl.old).calls + most_on_walk Form.EntryLine
+        cmd.now.tries }
+    ensures honest { IsHonest (C.seen ctl.old) →
+        ListsAfter (start_of from) passed cmd.now.tries (change (C.seen ctl.old) (C.seen ctl.new)
+        (O.taken out.old) (O.taken out.new)) result }
+{
+    let Ok(mut cursor) = start_cursor(alloc, cmd, &Form::EntryLine, from) else {
+        return Err(Failure::OutOfMemory);
+    };
+    match pass_entries(&mut cursor, ctl, Some(passed)) {
+        Ok(count) if count == passed => {
+            list_records(alloc, &mut cursor, ctl, cmd, &Form::EntryLine, None, out)
+        }
+        // the log has become shorter
+        Ok(_) => Ok(()),
+        Err(ended) => Err(Failure::Ended(ended)),
+    }
 }
 
 /// How many of so many entries come before the last ones.
@@ -44,38 +76,23 @@ fn before_last(count: u32, wanted: u16) -> u32
 }
 
 /// Lists the last `wanted` entries: it counts them all, and passes those before them on a second walk.
-pub(crate) fn list_last<C: Controller, O: Sink>(
+pub(crate) fn list_last<'a, C: Controller, O: Sink>(
     alloc: Global,
     ctl: &mut C,
     cmd: &Command,
     wanted: u16,
+    from: Option<u16>,
     out: &mut O,
-) -> Stop
-    requires task { cmd.now.task ≡ Task.SelList (Count.Last wanted) }
+) -> Result<(), Failure<'a>>
     requires some { 1 ≤ wanted }
-    ensures faults { O.faults out.new ≡ O.faults out.old + faults_of result }
-    ensures calls { (C.seen ctl.new).calls ≤ (C.seen ctl.old).calls + most_calls cmd.now.task
-        cmd.now.tries }
-    ensures honest { IsHonest (C.seen ctl.old) →
-        Performs (request_of cmd.now)
+    requires from { IsFrom from }
+    ensures faults { O.faults out.new ≡ O.faults out.old + write_faults result }
+    ensures runs { Runs (Job.Last wanted from) cmd.now.tries
         (change (C.seen ctl.old) (C.seen ctl.new) (O.taken out.old) (O.taken out.new)) result }
 {
-    let all = Span {
-        skip: None,
-        most: None,
-    };
-    let counted = list_span(alloc, ctl, cmd, all, out);
-    if !counted.stop.is_done() {
-        return counted.stop;
+    match count_entries(alloc, ctl, cmd, from) {
+        Ok(0) => Ok(()),
+        Ok(count) => list_after(alloc, ctl, cmd, from, before_last(count, wanted), out),
+        Err(failure) => Err(failure),
     }
-    if counted.count == 0 {
-        return counted.stop;
-    }
-    let skip = before_last(counted.count, wanted);
-    let last = Span {
-        skip: Some(skip),
-        most: None,
-    };
-    let listed = list_span(alloc, ctl, cmd, last, out);
-    listed.stop
 }

@@ -1,12 +1,9 @@
 //! What follows from the definitions of plans by themselves, each the contract of a function that does nothing.
-ghost use Rattle.std.specs.Prelude.{◌≡◌, ℕ, List};
-ghost use Rattle.ipmi_commands.specs.Below.{Store, IsStore, Task};
-ghost use Rattle.ipmi_commands.specs.Prelude.{Item, AreOfBytes, Request, RunEnd, Finished, AreTexts, AllowsAll};
+ghost use Rattle.ipmi_commands.specs.Prelude.{FinishedRunsAreOne, ItemsHaveOneText};
 
-/// The texts that a task prints for items are one text.
+/// The texts of items, over a store, are one text.
 pub fn items_have_one_text()
-    ensures { (t : Task) (store : Store) (items : List Item) (a b : List ℕ) → AreOfBytes items →
-        AreTexts t store items a → AreTexts t store items b → a ≡ b }
+    ensures { ItemsHaveOneText }
 {
     ipmi_records::laws::one_sdr_line();
     ipmi_records::laws::one_extended_line();
@@ -19,9 +16,7 @@ pub fn items_have_one_text()
 
 /// So over a well-formed store a finished run leaves one output, and ends in one way.
 pub fn finished_runs_are_one()
-    ensures { (r : Request) (store : Store) (old a b : List ℕ) (e f : RunEnd) →
-        IsStore store → AllowsAll r store old a (Finished e) →
-        AllowsAll r store old b (Finished f) → (a ≡ b) × (e ≡ f) }
+    ensures { FinishedRunsAreOne }
 {
     items_have_one_text();
     ipmi_bus::laws::one_walk_has_an_end();

@@ -3,6 +3,7 @@
 
 mod info;
 mod inventory;
+mod job;
 mod last;
 pub mod laws;
 mod listing;
@@ -10,7 +11,7 @@ mod pages;
 mod perform;
 mod piece;
 mod runs;
-pub mod status;
-mod stop;
+mod unread;
 
-pub use runs::{answer, run, run_pages, run_to_message_sink};
+pub use perform::{execute, execute_pages};
+pub use runs::{answer, execute_image, report, run, run_pages};

@@ -1,137 +1,133 @@
 //! Lists records in pages, each with a cursor of its own.
-ghost use Rattle.std.specs.Prelude.{◌≡◌, ◌+◌, ◌*◌, ◌<◌, ◌≤◌, List, Some, IfOk, IfErr};
-ghost use Rattle.std.specs.Option.{ForSome};
-ghost use Rattle.ipmi_commands.specs.Below.{start_of, IsHonest, Row, StandsAt, start_by};
-ghost use Rattle.ipmi_commands.specs.Prelude.{faults_of, most_on_walk, IsPlace, listing_cursor, start_at, pages_made, IsPage, ArePages, request, change};
+ghost use Rattle.std.specs.Prelude.{◌≡◌, ◌≢◌, ◌+◌, ◌*◌, ◌<◌, ◌≤◌, List, Ok, Some, IfOk, false};
+ghost use Rattle.ipmi_commands.specs.Below.{start_of, IsHonest, Row, StandsAt, write_faults};
+ghost use Rattle.ipmi_commands.specs.Prelude.{ArePages, change, end_of, ending_of, EndsListing, IsFrom, IsPage, IsPlace, listing_cursor, most_on_walk, pages_made, then_at};
 
-use crate::listing::{Span, is_reached, list_records, stop_at_end};
-use crate::stop::Stop;
+use crate::job::Form;
+use crate::listing::{is_reached, list_records};
 use ipmi_bus::{Controller, Cursor, Ended, FIRST_RECORD_ID, Place};
-use ipmi_command_line::{Command, Task};
-use ipmi_output::Sink;
+use ipmi_command_line::Command;
+use ipmi_output::{Failure, Sink};
 use std::alloc::{AllocError, Global};
 
-/// How a page stopped, and where the next one begins.
-#[derive(Clone, Copy)]
-pub(crate) struct Page {
-    pub(crate) stop: Stop,
-    pub(crate) resume_at: Place,
-}
-
-/// Where the command's listing begins.
-pub(crate) fn first_place(cmd: &Command) -> Place
-    ensures value { result ≡ start_by cmd.now.task cmd.now.from }
-    ensures range { IsPlace result }
-{
-    cmd.task().start(cmd.from())
-}
-
-/// The id that a cursor starts from at the place, or how a listing from there ends without one.
-fn start_at(task: &Task, place: Place) -> Result<Option<u16>, Stop>
-    requires { IsPlace place }
-    ensures value { result ≡ start_at task.now place }
-    ensures unwritten { IfErr result (λ stop. faults_of stop ≡ 0) }
-    ensures range { IfOk result (λ from. ForSome from (λ id. (0 < id) × (id < 65535))) }
-{
-    match place {
-        Place::First => Ok(None),
-        Place::Id(FIRST_RECORD_ID) => Err(Stop::Ended(Ended::Cycle(FIRST_RECORD_ID))),
-        Place::Id(id) => Ok(Some(id)),
-        Place::End => Err(stop_at_end(task, false)),
-    }
-}
-
-/// A cursor over the records that the command lists, from this id on or from the first. It asks for parts, and tries again, as
-/// the command says.
+/// A cursor over the records that are printed in this form, from this id on or from the first. It asks for parts, and tries
+/// again, as the command says.
 pub(crate) fn start_cursor(
     alloc: Global,
     cmd: &Command,
+    form: &Form<'_>,
     from: Option<u16>,
 ) -> Result<Cursor, AllocError>
-    requires { ForSome from (λ id. (0 < id) × (id < 65535)) }
+    requires { IsFrom from }
     ensures stands { IfOk result (λ cursor. (rows walk : List Row) →
         StandsAt rows (start_of from) walk 0 cursor) }
-    ensures fresh { IfOk result (λ cursor. cursor ≡ listing_cursor cmd.now from) }
+    ensures fresh { IfOk result (λ cursor. cursor ≡ listing_cursor cmd.now form.now from) }
     ensures some { IfOk result (λ cursor. 0 < cursor.part) }
 {
-    Cursor::start(alloc, cmd.task().shelf(), from, cmd.part(), cmd.tries())
+    Cursor::start(alloc, form.shelf(), from, cmd.part(), cmd.tries())
 }
 
-/// Lists the records of the command's shelf from the place, so many at most where there is a limit, with a cursor of its own.
-pub(crate) fn list_page<C: Controller, O: Sink>(
+/// Lists the records from this id on or from the first, so many at most where there is a limit, with a cursor of its own, and
+/// says where the next page begins.
+fn list_from<'a, C: Controller, O: Sink>(
     alloc: Global,
     ctl: &mut C,
     cmd: &Command,
+    form: &Form<'a>,
+    from: Option<u16>,
+    most: Option<u32>,
+    out: &mut O,
+) -> Result<Place, Failure<'a>>
+    requires { IsFrom from }
+    ensures faults { O.faults out.new ≡ O.faults out.old + write_faults (ending_of result) }
+    ensures ends { EndsListing form.now (ending_of result) }
+    ensures place { IfOk result (λ next. IsPlace next) }
+    ensures calls { (C.seen ctl.new).calls ≤ (C.seen ctl.old).calls + most_on_walk form.now
+        cmd.now.tries }
+    ensures honest { most ≢ Some 0 → IsHonest (C.seen ctl.old) →
+        IsPage form.now (start_of from) cmd.now.tries most (change (C.seen ctl.old) (C.seen ctl.new)
+        (O.taken out.old) (O.taken out.new)) result }
+{
+    let Ok(mut cursor) = start_cursor(alloc, cmd, form, from) else {
+        return Err(Failure::OutOfMemory);
+    };
+    match list_records(alloc, &mut cursor, ctl, cmd, form, most, out) {
+        Ok(()) => Ok(cursor.resume_at()),
+        Err(failure) => Err(failure),
+    }
+}
+
+/// Where a page that asks for nothing stops.
+fn stop_there<'a>(form: &Form<'a>, place: Place) -> Result<Place, Failure<'a>>
+    ensures { result ≡ then_at (end_of form.now false) place }
+{
+    match form.end(false) {
+        Ok(()) => Ok(place),
+        Err(failure) => Err(failure),
+    }
+}
+
+/// Lists the records from the place, so many at most where there is a limit, with a cursor of its own, and says where the next
+/// page begins.
+pub(crate) fn list_page<'a, C: Controller, O: Sink>(
+    alloc: Global,
+    ctl: &mut C,
+    cmd: &Command,
+    form: &Form<'a>,
     place: Place,
     most: Option<u32>,
     out: &mut O,
-) -> Page
+) -> Result<Place, Failure<'a>>
     requires { IsPlace place }
-    ensures faults { O.faults out.new ≡ O.faults out.old + faults_of result.stop }
-    ensures place { IsPlace result.resume_at }
-    ensures calls { (C.seen ctl.new).calls ≤ (C.seen ctl.old).calls + most_on_walk cmd.now.task
+    ensures faults { O.faults out.new ≡ O.faults out.old + write_faults (ending_of result) }
+    ensures ends { EndsListing form.now (ending_of result) }
+    ensures place { IfOk result (λ next. IsPlace next) }
+    ensures calls { (C.seen ctl.new).calls ≤ (C.seen ctl.old).calls + most_on_walk form.now
         cmd.now.tries }
     ensures none { most ≡ Some 0 → C.seen ctl.new ≡ C.seen ctl.old }
     ensures honest { IsHonest (C.seen ctl.old) →
-        IsPage (request cmd.now.task place cmd.now.tries) most result.resume_at
-        (change (C.seen ctl.old) (C.seen ctl.new) (O.taken out.old) (O.taken out.new)) result.stop }
+        IsPage form.now place cmd.now.tries most (change (C.seen ctl.old) (C.seen ctl.new)
+        (O.taken out.old) (O.taken out.new)) result }
 {
-    let task = cmd.task();
     if is_reached(most, 0) {
-        let stop = stop_at_end(task, false);
-        return Page {
-            stop,
-            resume_at: place,
-        };
+        return stop_there(form, place);
     }
-    let from = match start_at(task, place) {
-        Ok(from) => from,
-        Err(stop) => {
-            return Page {
-                stop,
-                resume_at: place,
-            };
-        }
-    };
-    let Ok(mut cursor) = start_cursor(alloc, cmd, from) else {
-        return Page {
-            stop: Stop::Memory,
-            resume_at: place,
-        };
-    };
-    let span = Span {
-        skip: Some(0),
-        most,
-    };
-    let listed = list_records(alloc, &mut cursor, ctl, cmd, span, out);
-    Page {
-        stop: listed.stop,
-        resume_at: cursor.resume_at(),
+    match place {
+        Place::First => list_from(alloc, ctl, cmd, form, None, most, out),
+        Place::Id(FIRST_RECORD_ID) => Err(Failure::Ended(Ended::Cycle(FIRST_RECORD_ID))),
+        Place::Id(id) => list_from(alloc, ctl, cmd, form, Some(id), most, out),
+        Place::End => stop_there(form, place),
     }
 }
 
-/// Lists the records from where the command says, in pages of these sizes and then one without a limit.
-pub(crate) fn list_pages<C: Controller, O: Sink>(
+/// Lists the records from the place in pages of these sizes, and then in one without a limit.
+pub(crate) fn list_pages<'a, C: Controller, O: Sink>(
     alloc: Global,
     ctl: &mut C,
     cmd: &Command,
+    form: &Form<'a>,
+    start: Place,
     sizes: &[u32],
     out: &mut O,
-) -> Stop
-    ensures faults { O.faults out.new ≡ O.faults out.old + faults_of result }
+) -> Result<(), Failure<'a>>
+    requires { IsPlace start }
+    ensures faults { O.faults out.new ≡ O.faults out.old + write_faults result }
+    ensures ends { EndsListing form.now result }
     ensures calls { (C.seen ctl.new).calls ≤ (C.seen ctl.old).calls + pages_made sizes.now *
-        most_on_walk cmd.now.task cmd.now.tries }
+        most_on_walk form.now cmd.now.tries }
     ensures honest { IsHonest (C.seen ctl.old) →
-        ArePages (request cmd.now.task (start_by cmd.now.task cmd.now.from) cmd.now.tries) sizes.now
-        (change (C.seen ctl.old) (C.seen ctl.new) (O.taken out.old) (O.taken out.new)) result }
+        ArePages form.now cmd.now.tries start sizes.now (change (C.seen ctl.old) (C.seen ctl.new)
+        (O.taken out.old) (O.taken out.new)) result }
 {
-    let mut place = first_place(cmd);
+    let mut place = start;
     'pages: for size in sizes {
-        let page = list_page(alloc, ctl, cmd, place, Some(*size), out);
-        if !page.stop.is_done() {
-            return page.stop;
+        match list_page(alloc, ctl, cmd, form, place, Some(*size), out) {
+            Ok(next) => place = next,
+            Err(failure) => return Err(failure),
         }
-        place = page.resume_at;
     }
-    list_page(alloc, ctl, cmd, place, None, out).stop
+    match list_page(alloc, ctl, cmd, form, place, None, out) {
+        Ok(_) => Ok(()),
+        Err(failure) => Err(failure),
+    }
 }

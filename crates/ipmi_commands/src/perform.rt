@@ -1,139 +1,153 @@
-//! Does what a command's task asks for, over any controller.
-ghost use Rattle.std.specs.Prelude.{◌≡◌, ◌+◌, ◌≤◌, true, false, IfErr, None, Some};
-ghost use Rattle.ipmi_commands.specs.Below.{IsHonest, Task};
-ghost use Rattle.ipmi_commands.specs.Prelude.{faults_of, most_calls, change, is_rewrite, lists_once, request_of, Performs, WritesFound, WritesText};
+//! Does what a command asks for, over any controller.
+ghost use Rattle.std.specs.Prelude.{◌≡◌, ◌+◌, true};
+ghost use Rattle.ipmi_commands.specs.Below.{is_listing, write_faults};
+ghost use Rattle.ipmi_commands.specs.declared.job.Job.{Job};
+ghost use Rattle.ipmi_commands.specs.declared.job.Listing.{Listing};
+ghost use Rattle.ipmi_commands.specs.Prelude.{change, IsPlace, job_of_command, Runs, RunsPaged, WritesText};
 
-use crate::info::info_piece;
+use crate::info::info_text;
 use crate::inventory::inventory_piece;
+use crate::job::{Form, Job, Listing};
 use crate::last::list_last;
-use crate::pages::{first_place, list_page};
-use crate::stop::Stop;
-use ipmi_bus::{Controller, Shelf};
-use ipmi_command_line::{Command, Count, Task};
-use ipmi_output::{Sink, write_all};
+use crate::pages::{list_page, list_pages};
+use ipmi_bus::{Controller, Place, Shelf};
+use ipmi_command_line::Command;
+use ipmi_output::{Failure, Sink, write_all};
 use std::alloc::Global;
 
-/// Writes a text, and says how that stopped.
-pub(crate) fn write_text<O: Sink>(text: &[u8], out: &mut O) -> Stop
-    ensures faults { O.faults out.new ≡ O.faults out.old + faults_of result }
+/// Writes a text.
+pub(crate) fn write_text<'a, O: Sink>(text: &[u8], out: &mut O) -> Result<(), Failure<'a>>
+    ensures faults { O.faults out.new ≡ O.faults out.old + write_faults result }
     ensures text { WritesText text.now (O.taken out.old) (O.taken out.new) result }
 {
     match write_all(out, text) {
-        Ok(()) => Stop::Done,
-        Err(_) => Stop::WriteFault,
+        Ok(()) => Ok(()),
+        Err(_) => Err(Failure::WriteFault),
     }
 }
 
-/// Writes a text, where it was found.
-fn write_found<O: Sink>(found: Result<String, Stop>, out: &mut O) -> Stop
-    requires { IfErr found (λ stop. faults_of stop ≡ 0) }
-    ensures faults { O.faults out.new ≡ O.faults out.old + faults_of result }
-    ensures text { WritesFound found (O.taken out.old) (O.taken out.new) result }
+/// Lists records along one walk.
+fn list<'a, C: Controller, O: Sink>(
+    alloc: Global,
+    ctl: &mut C,
+    cmd: &Command,
+    listing: &Listing<'a>,
+    out: &mut O,
+) -> Result<(), Failure<'a>>
+    requires { IsPlace listing.now.start }
+    ensures faults { O.faults out.new ≡ O.faults out.old + write_faults result }
+    ensures runs { Runs (Job.Records listing.now) cmd.now.tries
+        (change (C.seen ctl.old) (C.seen ctl.new) (O.taken out.old) (O.taken out.new)) result }
 {
-    match found {
-        Ok(text) => write_text(text.as_bytes(), out),
-        Err(stop) => stop,
+    match list_page(
+        alloc,
+        ctl,
+        cmd,
+        &listing.form,
+        listing.start,
+        listing.most,
+        out,
+    ) {
+        Ok(_) => Ok(()),
+        Err(failure) => Err(failure),
     }
 }
 
 /// Prints the info of the shelf.
-fn print_info<C: Controller, O: Sink>(
+fn print_info<'a, C: Controller, O: Sink>(
     alloc: Global,
     ctl: &mut C,
     cmd: &Command,
     shelf: Shelf,
     out: &mut O,
-) -> Stop
-    requires { cmd.now.task ≡ Task.Info shelf }
-    ensures faults { O.faults out.new ≡ O.faults out.old + faults_of result }
-    ensures calls { (C.seen ctl.new).calls ≤ (C.seen ctl.old).calls + most_calls cmd.now.task
-        cmd.now.tries }
-    ensures honest { IsHonest (C.seen ctl.old) → Performs (request_of cmd.now)
+) -> Result<(), Failure<'a>>
+    ensures faults { O.faults out.new ≡ O.faults out.old + write_faults result }
+    ensures runs { Runs (Job.Info shelf) cmd.now.tries
         (change (C.seen ctl.old) (C.seen ctl.new) (O.taken out.old) (O.taken out.new)) result }
 {
-    let found = info_piece(alloc, ctl, shelf, cmd.tries());
-    write_found(found, out)
+    match info_text(alloc, ctl, shelf, cmd.tries()) {
+        Ok(Some(text)) => write_text(text.as_bytes(), out),
+        Ok(None) => Err(Failure::NoInfo),
+        Err(unread) => Err(Failure::from(unread)),
+    }
 }
 
 /// Prints the inventory of one device.
-fn print_inventory<C: Controller, O: Sink>(
+fn print_inventory<'a, C: Controller, O: Sink>(
     alloc: Global,
     ctl: &mut C,
     cmd: &Command,
     id: u8,
     out: &mut O,
-) -> Stop
-    requires { cmd.now.task ≡ Task.Fru (Some id) }
-    ensures faults { O.faults out.new ≡ O.faults out.old + faults_of result }
-    ensures calls { (C.seen ctl.new).calls ≤ (C.seen ctl.old).calls + most_calls cmd.now.task
-        cmd.now.tries }
-    ensures honest { IsHonest (C.seen ctl.old) → Performs (request_of cmd.now)
+) -> Result<(), Failure<'a>>
+    ensures faults { O.faults out.new ≡ O.faults out.old + write_faults result }
+    ensures runs { Runs (Job.Inventory id) cmd.now.tries
         (change (C.seen ctl.old) (C.seen ctl.new) (O.taken out.old) (O.taken out.new)) result }
 {
-    let found = inventory_piece(alloc, ctl, cmd, id, "");
-    write_found(found, out)
+    match inventory_piece(alloc, ctl, cmd, id, "") {
+        Ok(text) => write_text(text.as_bytes(), out),
+        Err(unread) => Err(Failure::from(unread)),
+    }
 }
 
 /// Prints all inventories: that of device 0, and then the locators.
-fn print_inventories<C: Controller, O: Sink>(
+fn print_inventories<'a, C: Controller, O: Sink>(
     alloc: Global,
     ctl: &mut C,
     cmd: &Command,
     out: &mut O,
-) -> Stop
-    requires { cmd.now.task ≡ Task.Fru None }
-    ensures faults { O.faults out.new ≡ O.faults out.old + faults_of result }
-    ensures calls { (C.seen ctl.new).calls ≤ (C.seen ctl.old).calls + most_calls cmd.now.task
-        cmd.now.tries }
-    ensures honest { IsHonest (C.seen ctl.old) → Performs (request_of cmd.now)
+) -> Result<(), Failure<'a>>
+    ensures faults { O.faults out.new ≡ O.faults out.old + write_faults result }
+    ensures runs { Runs Job.AllInventories cmd.now.tries
         (change (C.seen ctl.old) (C.seen ctl.new) (O.taken out.old) (O.taken out.new)) result }
 {
-    let found = inventory_piece(alloc, ctl, cmd, 0, "");
-    let first = write_found(found, out);
-    if !first.is_done() {
-        return first;
+    match print_inventory(alloc, ctl, cmd, 0, out) {
+        Ok(()) => {}
+        Err(failure) => return Err(failure),
     }
-    list_page(alloc, ctl, cmd, first_place(cmd), None, out).stop
+    match list_page(alloc, ctl, cmd, &Form::Device, Place::First, None, out) {
+        Ok(_) => Ok(()),
+        Err(failure) => Err(failure),
+    }
 }
 
-/// Lists the records that the command asks for, where that takes one walk.
-fn list_once<C: Controller, O: Sink>(alloc: Global, ctl: &mut C, cmd: &Command, out: &mut O) -> Stop
-    requires { lists_once cmd.now.task ≡ true }
-    ensures faults { O.faults out.new ≡ O.faults out.old + faults_of result }
-    ensures calls { (C.seen ctl.new).calls ≤ (C.seen ctl.old).calls + most_calls cmd.now.task
-        cmd.now.tries }
-    ensures honest { IsHonest (C.seen ctl.old) → Performs (request_of cmd.now)
-        (change (C.seen ctl.old) (C.seen ctl.new) (O.taken out.old) (O.taken out.new)) result }
-{
-    let most = cmd.task().count().limit();
-    list_page(alloc, ctl, cmd, first_place(cmd), most, out).stop
-}
-
-/// Does what the command's task asks for.
-pub(crate) fn perform<C: Controller, O: Sink>(
+/// Does what the command asks for over the controller, and says why it did not finish. `image rewrite` is
+/// [`Failure::Usage`], as only an image can be written again ([`execute_image`](crate::execute_image)).
+pub fn execute<'a, C: Controller, O: Sink>(
     alloc: Global,
     ctl: &mut C,
-    cmd: &Command,
+    cmd: &'a Command,
     out: &mut O,
-) -> Stop
-    requires { is_rewrite cmd.now.task ≡ false }
-    ensures faults { O.faults out.new ≡ O.faults out.old + faults_of result }
-    ensures calls { (C.seen ctl.new).calls ≤ (C.seen ctl.old).calls + most_calls cmd.now.task
-        cmd.now.tries }
-    ensures honest { IsHonest (C.seen ctl.old) → Performs (request_of cmd.now)
+) -> Result<(), Failure<'a>>
+    ensures faults { O.faults out.new ≡ O.faults out.old + write_faults result }
+    ensures runs { Runs (job_of_command cmd.now) cmd.now.tries
         (change (C.seen ctl.old) (C.seen ctl.new) (O.taken out.old) (O.taken out.new)) result }
 {
-    match cmd.task() {
-        Task::Info(shelf) => print_info(alloc, ctl, cmd, *shelf, out),
-        Task::Fru(Some(id)) => print_inventory(alloc, ctl, cmd, *id, out),
-        Task::Fru(None) => print_inventories(alloc, ctl, cmd, out),
-        Task::SelList(Count::Last(wanted)) => list_last(alloc, ctl, cmd, *wanted, out),
-        Task::Hex
-        | Task::List(_)
-        | Task::Elist(_)
-        | Task::Get(_)
-        | Task::SelList(Count::All | Count::First(_))
-        | Task::SelGet(_) => list_once(alloc, ctl, cmd, out),
-        Task::Rewrite => unreachable!(),
+    match Job::of(cmd) {
+        Job::Records(listing) => list(alloc, ctl, cmd, &listing, out),
+        Job::Last(wanted, from) => list_last(alloc, ctl, cmd, wanted, from, out),
+        Job::Info(shelf) => print_info(alloc, ctl, cmd, shelf, out),
+        Job::Inventory(id) => print_inventory(alloc, ctl, cmd, id, out),
+        Job::AllInventories => print_inventories(alloc, ctl, cmd, out),
+        Job::Rewrite => Err(Failure::Usage),
     }
+}
+
+/// As [`execute`], for a listing in pages: each hands out at most as many records as its number says, by a cursor of its own,
+/// from where the page before it stopped, and after the last one comes a page without a limit.
+pub fn execute_pages<'a, C: Controller, O: Sink>(
+    alloc: Global,
+    ctl: &mut C,
+    cmd: &'a Command,
+    out: &mut O,
+    pages: &[u32],
+) -> Result<(), Failure<'a>>
+    requires { is_listing cmd.now.task ≡ true }
+    ensures faults { O.faults out.new ≡ O.faults out.old + write_faults result }
+    ensures runs { RunsPaged cmd.now pages.now
+        (change (C.seen ctl.old) (C.seen ctl.new) (O.taken out.old) (O.taken out.new)) result }
+{
+    ipmi_bus::laws::the_tail_is_a_walk();
+    let listing = Job::of(cmd).listing().unwrap();
+    list_pages(alloc, ctl, cmd, &listing.form, listing.start, pages, out)
 }

@@ -1,13 +1,14 @@
 //! What a command prints for a record. Where the text needs a reading, it is asked for here, while the record is lent.
-ghost use Rattle.std.specs.Prelude.{◌≡◌, ◌+◌, ◌≤◌, IfOk, IfErr, IsOk, length, string_bytes};
-ghost use Rattle.ipmi_commands.specs.Below.{row_of_record, IsHonest, largest_len, whole_len, Task, sdr_view_of, sel_view_of, IsSelBlock, IsSelLine, shelf_of};
+ghost use Rattle.std.specs.Prelude.{◌≡◌, ◌+◌, ◌≤◌, IfOk, length, option_map, string_bytes};
+ghost use Rattle.ipmi_commands.specs.Below.{row_of_record, IsHonest, largest_len, whole_len, sdr_view_of, sel_view_of, IsSelBlock, IsSelLine};
 ghost use Rattle.ipmi_records.specs.Sdr.{name_of};
-ghost use Rattle.ipmi_commands.specs.Prelude.{ReadsFor, bytes_of, faults_of, Finds, FindsIn, FindsPiece, is_name, is_of_kind, IsBlockOfName, IsLineOf, IsListedOfKind, listed_spots, most_after, named_spots};
+ghost use Rattle.ipmi_commands.specs.Prelude.{ReadsFor, bytes_of, Finds, FindsPiece, is_name, is_of_kind, IsBlockOfName, IsLineOf, IsListedOfKind, listed_spots, most_after, named_spots, shelf_of};
 
 use crate::inventory::locator_piece;
-use crate::stop::Stop;
+use crate::job::{Detail, Form};
+use crate::unread::Unread;
 use ipmi_bus::{Controller, Ended, Record, SEL_ENTRY_LEN, read_reading};
-use ipmi_command_line::{Command, Kind, Task};
+use ipmi_command_line::{Command, Kind};
 use ipmi_image::{LineBuffer, record_line};
 use ipmi_records::{
     COMPACT_TYPE, CONTROLLER_TYPE, EVENT_ONLY_TYPE, FRU_TYPE, FULL_TYPE, GENERIC_TYPE, SdrView,
@@ -15,15 +16,6 @@ use ipmi_records::{
 };
 use ipmi_text::Reading;
 use std::alloc::{AllocError, Global};
-
-/// The two forms in which a sensor data record is listed.
-#[derive(Clone, Copy)]
-pub(crate) enum Form {
-    /// The line of `sdr list`.
-    Short,
-    /// The longer one of `sdr elist`.
-    Extended,
-}
 
 /// The bytes of an entry of the event log.
 fn entry_bytes(bytes: &[u8]) -> [u8; SEL_ENTRY_LEN]
@@ -86,18 +78,18 @@ fn reading_for<C: Controller>(
     }
 }
 
-/// The line of a record with its reading, in this form.
+/// The line of a record with its reading, short or extended.
 fn line_of(
     alloc: Global,
-    form: Form,
+    detail: Detail,
     view: &SdrView<'_>,
     reading: Option<Reading>,
 ) -> Result<String, AllocError>
-    ensures { IfOk result (λ text. IsLineOf form view.now reading (string_bytes text)) }
+    ensures { IfOk result (λ text. IsLineOf detail view.now reading (string_bytes text)) }
 {
-    match form {
-        Form::Short => sdr_line(alloc, view, reading),
-        Form::Extended => sdr_eline(alloc, view, reading),
+    match detail {
+        Detail::Short => sdr_line(alloc, view, reading),
+        Detail::Extended => sdr_eline(alloc, view, reading),
     }
 }
 
@@ -105,16 +97,15 @@ fn line_of(
 fn listed_line<C: Controller>(
     alloc: Global,
     ctl: &mut C,
-    form: Form,
+    detail: Detail,
     kind: Kind,
     tries: u8,
     lent: &Record<'_>,
-) -> Result<String, Stop>
+) -> Result<String, Unread>
     requires { 5 ≤ length lent.now.bytes.now }
     ensures calls { (C.seen ctl.new).calls ≤ (C.seen ctl.old).calls + (tries + 1) }
-    ensures unwritten { IfErr result (λ stop. faults_of stop ≡ 0) }
     ensures honest { let row = row_of_record lent.now in IsHonest (C.seen ctl.old) →
-        Finds (λ store text. IsListedOfKind form kind store row text) (listed_spots kind row) tries
+        Finds (λ store text. IsListedOfKind detail kind store row text) (listed_spots kind row) tries
         (C.seen ctl.old) (C.seen ctl.new) result }
 {
     if !is_of_kind(kind, lent.bytes[3]) {
@@ -125,16 +116,16 @@ fn listed_line<C: Controller>(
         Err(fault) => return Ok(sdr_fault_line(alloc, lent.id, fault)?),
     };
     let reading = reading_for(ctl, lent.id, &view, tries)?;
-    Ok(line_of(alloc, form, &view, reading)?)
+    Ok(line_of(alloc, detail, &view, reading)?)
 }
 
-/// Whether the record has this printed name.
-fn has_name(alloc: Global, view: &SdrView<'_>, name: &str) -> Result<bool, AllocError>
-    ensures { IfOk result (λ has. has ≡ is_name name.now (name_of view.now)) }
+/// Whether a record of this printed name has the one that is asked for.
+fn is_name(name: &str, own: &Option<String>) -> bool
+    ensures { result ≡ is_name name.now (option_map (λ text. string_bytes text) own.now) }
 {
-    match view.name(alloc)? {
-        Some(own) => Ok(name == own.as_str()),
-        None => Ok(false),
+    match own {
+        Some(own) => name == own.as_str(),
+        None => false,
     }
 }
 
@@ -145,9 +136,8 @@ fn named_block<C: Controller>(
     name: &str,
     tries: u8,
     lent: &Record<'_>,
-) -> Result<String, Stop>
+) -> Result<String, Unread>
     ensures calls { (C.seen ctl.new).calls ≤ (C.seen ctl.old).calls + (tries + 1) }
-    ensures unwritten { IfErr result (λ stop. faults_of stop ≡ 0) }
     ensures honest { let row = row_of_record lent.now in IsHonest (C.seen ctl.old) →
         Finds (λ store text. IsBlockOfName name.now store row.id (sdr_view_of row.bytes) text)
         (named_spots name.now row.id (sdr_view_of row.bytes)) tries (C.seen ctl.old)
@@ -156,8 +146,8 @@ fn named_block<C: Controller>(
     let Ok(view) = SdrView::read(lent.bytes) else {
         return Ok(String::new(alloc));
     };
-    let is_named = has_name(alloc, &view, name)?;
-    if !is_named {
+    let own = view.name(alloc)?;
+    if !is_name(name, &own) {
         return Ok(String::new(alloc));
     }
     let id = lent.id;
@@ -186,69 +176,36 @@ impl Piece {
     }
 }
 
-/// What the command prints for the record, nothing for one that it leaves out.
-fn record_piece<C: Controller>(
+/// What is printed of the record in this form, nothing of one that is left out.
+pub(crate) fn record_piece<C: Controller>(
     alloc: Global,
     ctl: &mut C,
     cmd: &Command,
+    form: &Form<'_>,
     lent: &Record<'_>,
     line: &mut LineBuffer,
-) -> Result<Piece, Stop>
-    requires whole { length lent.now.bytes.now ≡ whole_len (shelf_of cmd.now.task)
-        lent.now.bytes.now }
-    requires fits { length lent.now.bytes.now ≤ largest_len (shelf_of cmd.now.task) }
-    ensures calls { (C.seen ctl.new).calls ≤ (C.seen ctl.old).calls + most_after cmd.now.task
+) -> Result<Piece, Unread>
+    requires whole { length lent.now.bytes.now ≡ whole_len (shelf_of form.now) lent.now.bytes.now }
+    requires fits { length lent.now.bytes.now ≤ largest_len (shelf_of form.now) }
+    ensures calls { (C.seen ctl.new).calls ≤ (C.seen ctl.old).calls + most_after form.now
         cmd.now.tries }
-    ensures unwritten { IfErr result (λ stop. faults_of stop ≡ 0) }
-    ensures no_memory { cmd.now.task ≡ Task.Hex → IsOk result }
     ensures honest { IsHonest (C.seen ctl.old) →
-        FindsPiece cmd.now.task cmd.now.tries (row_of_record lent.now) (C.seen ctl.old)
-        (C.seen ctl.new) line.new.items result }
+        FindsPiece form.now cmd.now.tries (row_of_record lent.now) (C.seen ctl.old) (C.seen ctl.new)
+        line.new.items result }
 {
     let tries = cmd.tries();
-    match cmd.task() {
-        Task::Hex => {
+    match form {
+        Form::Raw => {
             record_line(lent, line);
             Ok(Piece::Line)
         }
-        Task::Fru(_) => Ok(Piece::Text(locator_piece(alloc, ctl, cmd, lent)?)),
-        Task::List(kind) => {
-            let text = listed_line(alloc, ctl, Form::Short, *kind, tries, lent)?;
+        Form::Line(detail, kind) => {
+            let text = listed_line(alloc, ctl, *detail, *kind, tries, lent)?;
             Ok(Piece::Text(text))
         }
-        Task::Elist(kind) => {
-            let text = listed_line(alloc, ctl, Form::Extended, *kind, tries, lent)?;
-            Ok(Piece::Text(text))
-        }
-        Task::Get(name) => Ok(Piece::Text(named_block(alloc, ctl, name.as_str(), tries, lent)?)),
-        Task::SelList(_) => Ok(Piece::Text(entry_line(alloc, lent)?)),
-        Task::SelGet(_) => Ok(Piece::Text(entry_block(alloc, lent)?)),
-        Task::Info(_) | Task::Rewrite => Ok(Piece::Text(String::new(alloc))),
-    }
-}
-
-/// What the command prints for the record, or nothing where it is still to be passed: `passing` says how many are, and None that all are.
-pub(crate) fn piece_in<C: Controller>(
-    alloc: Global,
-    ctl: &mut C,
-    cmd: &Command,
-    passing: Option<u32>,
-    lent: &Record<'_>,
-    line: &mut LineBuffer,
-) -> Result<Piece, Stop>
-    requires whole { length lent.now.bytes.now ≡ whole_len (shelf_of cmd.now.task)
-        lent.now.bytes.now }
-    requires fits { length lent.now.bytes.now ≤ largest_len (shelf_of cmd.now.task) }
-    ensures calls { (C.seen ctl.new).calls ≤ (C.seen ctl.old).calls + most_after cmd.now.task
-        cmd.now.tries }
-    ensures unwritten { IfErr result (λ stop. faults_of stop ≡ 0) }
-    ensures no_memory { cmd.now.task ≡ Task.Hex → IsOk result }
-    ensures honest { IsHonest (C.seen ctl.old) →
-        FindsIn passing cmd.now.task cmd.now.tries (row_of_record lent.now) (C.seen ctl.old)
-        (C.seen ctl.new) line.new.items result }
-{
-    match passing {
-        Some(0) => record_piece(alloc, ctl, cmd, lent, line),
-        Some(_) | None => Ok(Piece::Text(String::new(alloc))),
+        Form::Block(name) => Ok(Piece::Text(named_block(alloc, ctl, name.as_str(), tries, lent)?)),
+        Form::Device => Ok(Piece::Text(locator_piece(alloc, ctl, cmd, lent)?)),
+        Form::EntryLine => Ok(Piece::Text(entry_line(alloc, lent)?)),
+        Form::EntryBlock => Ok(Piece::Text(entry_block(alloc, lent)?)),
     }
 }

@@ -4,8 +4,9 @@ use Rattle.std.proofs.Math.Seq.{take-append-add}
 use Rattle.std.proofs.lemmas.List.{take-append-le, take_rest}
 use Rattle.std.proofs.lemmas.List.Concat.{flat_map-append}
 use Rattle.std.specs.Io.KnownBytes.{Appends, Keeps}
-use Rattle.ipmi_output.specs.Received.{Received, ReceivesAll, ReceivesPart, WritesAll, ReceivesText, Whole, CutShort}
-use Rattle.ipmi_output.specs.Message.{joined_parts}
+use Rattle.ipmi_output.specs.Received.{Received, ReceivesAll, ReceivesPart, WritesAll}
+use Rattle.ipmi_output.specs.Failure.{joined_pieces, piece_text}
+use Rattle.ipmi_output.specs.declared.message.Piece.{Piece}
 
 -- the first i bytes and the next n of them
 pub take-next : (i n : ℕ) (bytes : List ℕ)
@@ -53,30 +54,25 @@ ReceivesPart-after old mid new xs ys first part = (
   part.3 ∙ rw first.1 refl,
 )
 
--- the parts before part i, that part, and those after it
-joined_parts-split : (parts : List (Bor (List ℕ))) (i : ℕ) (d : Bor (List ℕ)) → i < length parts
-    → joined_parts (take i parts) ++ ((get_or parts i d).now ++ joined_parts (drop (suc i) parts))
-    ≡ joined_parts parts
-joined_parts-split parts i d within =
-    cc (drop-cons parts i d within, flat_map-append (λ (part : Bor (List ℕ)). part.now) (take i parts) (drop i parts), take-append-drop i parts)
+-- the pieces before piece i, that piece, and those after it
+joined_pieces-split : (pieces : List Piece) (i : ℕ) (d : Piece) → i < length pieces
+    → joined_pieces (take i pieces)
+    ++ (piece_text (get_or pieces i d) ++ joined_pieces (drop (suc i) pieces))
+    ≡ joined_pieces pieces
+joined_pieces-split pieces i d within =
+    cc (drop-cons pieces i d within, flat_map-append piece_text (take i pieces) (drop i pieces), take-append-drop i pieces)
 
--- the parts before part i, and then a part of that one
-pub ReceivesPart-in_part : (old mid new : Received) (parts : List (Bor (List ℕ))) (i : ℕ)
-    (d : Bor (List ℕ)) → i < length parts
-    → ReceivesAll old mid (joined_parts (take i parts))
-    → ReceivesPart mid new (get_or parts i d).now → ReceivesPart old new (joined_parts parts)
-ReceivesPart-in_part old mid new parts i d within first part =
-    subst (λ (t : List ℕ). ReceivesPart old new t) (joined_parts-split parts i d within)
-    (ReceivesPart-after old mid new _ _ first (ReceivesPart-before mid new _ (joined_parts (drop (suc i) parts)) part))
+-- the pieces before piece i, and then a part of that one
+pub ReceivesPart-in_piece : (old mid new : Received) (pieces : List Piece) (i : ℕ) (d : Piece)
+    → i < length pieces → ReceivesAll old mid (joined_pieces (take i pieces))
+    → ReceivesPart mid new (piece_text (get_or pieces i d))
+    → ReceivesPart old new (joined_pieces pieces)
+ReceivesPart-in_piece old mid new pieces i d within first part =
+    subst (λ (t : List ℕ). ReceivesPart old new t) (joined_pieces-split pieces i d within)
+    (ReceivesPart-after old mid new _ _ first (ReceivesPart-before mid new _ (joined_pieces (drop (suc i) pieces)) part))
 
 -- some bytes, and then what a call writes of those after them
 pub WritesAll-after : {T E : Type 0} (old mid new : Received) (r : Result T E) (xs ys : List ℕ)
     → ReceivesAll old mid xs → WritesAll mid new r ys → WritesAll old new r (xs ++ ys)
 WritesAll-after old mid new (Ok v) xs ys first all = ReceivesAll-both old mid new xs ys first all
 WritesAll-after old mid new (Err e) xs ys first part = ReceivesPart-after old mid new xs ys first part
-
--- in either case the text was written
-pub ReceivesText-any : {T E : Type 0} (old new : Received) (r : Result T E) (bytes : List ℕ)
-    → WritesAll old new r bytes → ReceivesText old new bytes
-ReceivesText-any old new (Ok v) bytes all = Whole all
-ReceivesText-any old new (Err e) bytes part = CutShort part

@@ -1,3 +1,3 @@
-pub mod Message
+pub mod Failure
 pub mod Received
 pub mod Sink

@@ -1,5 +1,5 @@
 -- What a message sink took of a text, and how many of its calls were faults.
-use Rattle.std.specs.Prelude.{ℕ, ◌≡◌, ◌<◌, ◌+◌, List, Option, None, Result, MatchResult, length, take, option_map}
+use Rattle.std.specs.Prelude.{ℕ, ◌≡◌, ◌<◌, ◌+◌, List, Option, None, Result, MatchResult, length, take, option_map, ◌⊎◌}
 use Rattle.std.specs.Io.KnownBytes.{Appends, WriteAppends}
 use Rattle.ipmi_output.specs.Sink.{faults_by}
 
@@ -33,7 +33,6 @@ abbrev pub WritesAll : {T E : Type 0} → Received → Received → Result T E �
 WritesAll old new result bytes =
     MatchResult result (λ _. ReceivesAll old new bytes) (λ _. ReceivesPart old new bytes)
 
--- a text was written to it: all of it, or a part before a fault
-pub data ReceivesText (old new : Received) (text : List ℕ) : Type 0 where
-  Whole : ReceivesAll old new text → ReceivesText old new text
-  CutShort : ReceivesPart old new text → ReceivesText old new text
+-- whatever the answer was: all of the text was taken, or a part before a fault
+abbrev pub ReceivesText : Received → Received → List ℕ → Type 0
+ReceivesText old new text = ReceivesAll old new text ⊎ ReceivesPart old new text

@@ -1,11 +1,13 @@
-//! Where a command's output and messages go, and the text of each message.
+//! Where a command's output and messages go, and why a run did not finish: its message and its exit status.
 #![tactic(auto)]
 
+mod failure;
 mod history;
 mod message;
 mod message_sink;
 mod sink;
 
-pub use message::{Message, say, write_message};
+pub use failure::{Failure, Name};
+pub use message::{say, say_unreadable};
 pub use message_sink::MessageSink;
 pub use sink::{Sink, SinkFault, Written, write_all};

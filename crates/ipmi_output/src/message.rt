@@ -1,80 +1,69 @@
-//! What the program says on standard error. Each message is one line, written part by part and not made as a whole text
-//! first: so none of them takes memory, and the want of memory can be told as well.
-ghost use Rattle.std.specs.Prelude.{◌≡◌, ◌<◌, ◌++◌, codes, true, decimal};
+//! Says why a run did not finish. A message is one line, written piece by piece and not made as a whole text first: so none
+//! takes memory, and the want of memory can be told as well.
+ghost use Rattle.std.specs.Prelude.{◌≡◌, ◌<◌, ◌++◌, codes, true};
 ghost use Rattle.std.specs.Fmt.{digit_glyph};
 ghost use Rattle.ipmi_text.specs.Hex.{byte_h, upper_byte, word_h};
-ghost use Rattle.ipmi_output.specs.Received.{ReceivesText, WritesAll};
-ghost use Rattle.ipmi_output.specs.Message.{ended_text, escaped_name, image_fault_text, inventory_text, joined_parts, line_fault_text, line_text, message_text};
+ghost use Rattle.ipmi_output.specs.Received.{WritesAll};
+ghost use Rattle.ipmi_output.specs.Failure.{escaped_name, failure_text, joined_pieces, line_text, piece_text, unreadable_text};
 
+use crate::failure::Failure;
 use crate::message_sink::{MessageSink, offer_all};
 use crate::sink::SinkFault;
-use ipmi_bus::{Ended, FruEnded};
-use ipmi_image::ImageFault;
+use ipmi_text::{ByteH, WordH};
 use itoa::Buffer;
+use std::fmt;
 
-/// A message. None of them takes memory.
-#[derive(Clone, Copy, Debug, PartialEq, Eq)]
-pub enum Message<'a> {
-    /// How the program is called.
-    Usage,
-    /// What is named could not be read, or is too long. A control byte of the name, below 20h or 7Fh, is printed as `\x` and
-    /// two upper-case hex digits, so that the message stays one line; all others are printed as they are.
-    CannotRead(&'a str),
-    /// The input is no image.
-    Image(ImageFault),
-    /// A record, a reading or an info was not read, for this reason.
-    Ended(Ended),
-    /// The inventory of the FRU device with this id was not read, for this reason.
-    Inventory(u8, FruEnded),
-    /// No record has this name.
-    NoName(&'a str),
-    /// The controller has no such info.
-    NoInfo,
-    /// The output took no more.
-    WriteFault,
-    /// No memory was left.
-    OutOfMemory,
+/// A piece of a message.
+#[derive(Clone, Copy, Debug)]
+pub(crate) enum Piece<'a> {
+    /// A text as it is.
+    Text(&'a str),
+    /// A number in decimal.
+    Number(usize),
+    /// A number of two bytes as four upper-case hex digits and an `h`.
+    Word(u16),
+    /// A byte as two upper-case hex digits and an `h`.
+    Byte(u8),
 }
 
-/// Writes the message as a line. A sink that does not take all of it is no error here, as there is
-/// nowhere left to tell it.
-pub fn say<E: MessageSink>(err: &mut E, message: Message<'_>)
-    ensures { ReceivesText (E.received err.old) (E.received err.new)
-        (line_text (message_text message.entry)) }
-{
-    let _ = write_message(err, message);
-}
+impl<'a> fmt::Display for Piece<'a> {
+    ghost use Rattle.std.specs.Prelude.{Some};
 
-/// Writes the message and a line feed.
-pub fn write_message<E: MessageSink>(err: &mut E, message: Message<'_>) -> Result<(), SinkFault>
-    ensures { WritesAll (E.received err.old) (E.received err.new) result
-        (line_text (message_text message.entry)) }
-{
-    match message {
-        Message::Usage => write_line(
-            err,
-            &[
-                b"usage: ipmitool [--image FILE] [--from HEX4] [--part N] [--tries N] fru|sdr|sel WORDS",
-            ],
-        ),
-        Message::CannotRead(name) => write_cannot_read(err, name.as_bytes()),
-        Message::Image(fault) => write_image_fault(err, fault),
-        Message::Ended(ended) => write_ended(err, ended),
-        Message::Inventory(id, ended) => write_inventory(err, id, ended),
-        Message::NoName(name) => write_line(err, &[b"no record named ", name.as_bytes()]),
-        Message::NoInfo => write_line(err, &[b"info not present"]),
-        Message::WriteFault => write_line(err, &[b"write fault"]),
-        Message::OutOfMemory => write_line(err, &[b"out of memory"]),
+    ghost output = { λ piece. Some (piece_text piece) };
+
+    fn fmt<W: fmt::Write>(&self, f: &mut fmt::Formatter<W>) -> fmt::Result {
+        match self {
+            Piece::Text(text) => f.write_str(text),
+            Piece::Number(number) => write!(f, "{number}"),
+            Piece::Word(word) => {
+                let word = WordH(*word);
+                write!(f, "{word}")
+            }
+            Piece::Byte(byte) => {
+                let byte = ByteH(*byte);
+                write!(f, "{byte}")
+            }
+        }
     }
 }
 
-/// Writes that what has this name can't be read.
-fn write_cannot_read<E: MessageSink>(err: &mut E, name: &[u8]) -> Result<(), SinkFault>
+/// Writes the message of the failure as a line. Where the sink does not take all of it, it has a first part.
+pub fn say<E: MessageSink>(err: &mut E, failure: &Failure<'_>) -> Result<(), SinkFault>
     ensures { WritesAll (E.received err.old) (E.received err.new) result
-        (line_text (codes "cannot read " ++ escaped_name name.now)) }
+        (line_text (failure_text failure.now)) }
+{
+    write_pieces(err, &failure.pieces())?;
+    offer_all(err, b"\n")
+}
+
+/// Writes, as a line, that what has this name could not be read, or is too long. A control byte of the name, below 20h or 7Fh,
+/// is written as `\x` and two upper-case hex digits, so that the message stays one line; all others are written as they are.
+pub fn say_unreadable<E: MessageSink>(err: &mut E, name: &str) -> Result<(), SinkFault>
+    ensures { WritesAll (E.received err.old) (E.received err.new) result
+        (line_text (unreadable_text name.now)) }
 {
     offer_all(err, b"cannot read ")?;
-    write_escaped(err, name)?;
+    write_escaped(err, name.as_bytes())?;
     offer_all(err, b"\n")
 }
 
@@ -104,110 +93,34 @@ fn write_before_control<E: MessageSink>(
     ensures { WritesAll (E.received err.old) (E.received err.new) result
         (before.now ++ (codes "\\x" ++ upper_byte control)) }
 {
-    write_parts(err, &[before, b"\\x", &upper_byte(control)])
+    offer_all(err, before)?;
+    offer_all(err, b"\\x")?;
+    offer_all(err, &upper_byte(control))
 }
 
-/// Writes why a listing ended.
-fn write_ended<E: MessageSink>(err: &mut E, ended: Ended) -> Result<(), SinkFault>
-    ensures { WritesAll (E.received err.old) (E.received err.new) result
-        (line_text (ended_text ended)) }
+/// Writes the pieces, one after another.
+fn write_pieces<E: MessageSink>(err: &mut E, pieces: &[Piece<'_>]) -> Result<(), SinkFault>
+    ensures { WritesAll (E.received err.old) (E.received err.new) result (joined_pieces pieces.now) }
 {
-    match ended {
-        Ended::Cycle(id) => write_line(err, &[b"cycle at ", &word_h(id)]),
-        Ended::Missing(id) => write_line(err, &[b"record ", &word_h(id), b" not present"]),
-        Ended::Refused(id, code) => write_line(
-            err,
-            &[
-                b"record ",
-                &word_h(id),
-                b" refused with code ",
-                &byte_h(code.0),
-            ],
-        ),
-        Ended::GaveUp(id) => write_line(err, &[b"gave up at ", &word_h(id)]),
-        Ended::Stalled(id) => write_line(err, &[b"stalled at ", &word_h(id)]),
-        Ended::Malformed(id) => write_line(err, &[b"malformed record ", &word_h(id)]),
-    }
-}
-
-/// Writes why an inventory was not read.
-fn write_inventory<E: MessageSink>(err: &mut E, id: u8, ended: FruEnded) -> Result<(), SinkFault>
-    ensures { WritesAll (E.received err.old) (E.received err.new) result
-        (line_text (inventory_text id ended)) }
-{
-    match ended {
-        FruEnded::Memory => write_line(err, &[b"out of memory"]),
-        FruEnded::Refused(code) => {
-            write_about_inventory(err, id, b" refused with code ", &byte_h(code.0))
-        }
-        FruEnded::GaveUp => write_about_inventory(err, id, b" gave up", b""),
-        FruEnded::Stalled => write_about_inventory(err, id, b" stalled", b""),
-        FruEnded::Words => write_about_inventory(err, id, b" uses words", b""),
-    }
-}
-
-/// Writes this about an inventory, with a code where there is one.
-fn write_about_inventory<E: MessageSink>(
-    err: &mut E,
-    id: u8,
-    what: &[u8],
-    code: &[u8],
-) -> Result<(), SinkFault>
-    ensures { WritesAll (E.received err.old) (E.received err.new) result
-        (line_text (codes "fru " ++ (decimal id ++ (what.now ++ code.now)))) }
-{
-    let mut buffer = Buffer::new();
-    let number = buffer.format(id).as_bytes();
-    write_line(err, &[b"fru ", number, what, code])
-}
-
-/// Writes why the input is no image.
-fn write_image_fault<E: MessageSink>(err: &mut E, fault: ImageFault) -> Result<(), SinkFault>
-    ensures { WritesAll (E.received err.old) (E.received err.new) result
-        (line_text (image_fault_text fault)) }
-{
-    match fault {
-        ImageFault::Memory => write_line(err, &[b"out of memory"]),
-        ImageFault::Header => write_line(err, &[b"image: header"]),
-        ImageFault::Line(line) => write_line_fault(err, line, b"not a line"),
-        ImageFault::Hex(line) => write_line_fault(err, line, b"hex"),
-        ImageFault::Id(line) => write_line_fault(err, line, b"id"),
-        ImageFault::Twice(line) => write_line_fault(err, line, b"twice"),
-        ImageFault::Length(line) => write_line_fault(err, line, b"length"),
-        ImageFault::FirstId(line) => write_line_fault(err, line, b"first id"),
-        ImageFault::NoEnd => write_line(err, &[b"image: no end"]),
-        ImageFault::AfterEnd(line) => write_line_fault(err, line, b"after end"),
-        ImageFault::TooMany(line) => write_line_fault(err, line, b"too many bytes"),
-    }
-}
-
-/// Writes what is wrong with this line of an image.
-fn write_line_fault<E: MessageSink>(err: &mut E, line: usize, what: &[u8]) -> Result<(), SinkFault>
-    ensures { WritesAll (E.received err.old) (E.received err.new) result
-        (line_text (line_fault_text line what.now)) }
-{
-    let mut buffer = Buffer::new();
-    let number = buffer.format(line).as_bytes();
-    write_line(err, &[b"image line ", number, b": ", what])
-}
-
-/// Writes the parts and a line feed.
-fn write_line<E: MessageSink>(err: &mut E, parts: &[&[u8]]) -> Result<(), SinkFault>
-    ensures { WritesAll (E.received err.old) (E.received err.new) result
-        (line_text (joined_parts parts.now)) }
-{
-    write_parts(err, parts)?;
-    offer_all(err, b"\n")
-}
-
-/// Writes the parts, one after another.
-fn write_parts<E: MessageSink>(err: &mut E, parts: &[&[u8]]) -> Result<(), SinkFault>
-    ensures { WritesAll (E.received err.old) (E.received err.new) result (joined_parts parts.now) }
-{
-    for part in parts {
-        offer_all(err, part)?;
+    for piece in pieces {
+        write_piece(err, piece)?;
     }
     Ok(())
+}
+
+/// Writes a piece.
+fn write_piece<E: MessageSink>(err: &mut E, piece: &Piece<'_>) -> Result<(), SinkFault>
+    ensures { WritesAll (E.received err.old) (E.received err.new) result (piece_text piece.now) }
+{
+    match piece {
+        Piece::Text(text) => offer_all(err, text.as_bytes()),
+        Piece::Number(number) => {
+            let mut buffer = Buffer::new();
+            offer_all(err, buffer.format(*number).as_bytes())
+        }
+        Piece::Word(word) => offer_all(err, &word_h(*word)),
+        Piece::Byte(byte) => offer_all(err, &byte_h(*byte)),
+    }
 }
 
 /// A number of two bytes as four upper-case hex digits and an `h`.

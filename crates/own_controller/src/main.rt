@@ -7,13 +7,17 @@
 ghost use Rattle.std.specs.Prelude.{◌≡◌, ◌+◌, ◌≤◌, IfOk, OnErr, length, drop};
 ghost use Rattle.ipmi_bus.specs.Unclaimed.{calls_only};
 
-use ipmi_bus::{Code, Controller, Event, FruSize, NO_NEXT_ID, Part, Shelf, Tally, read_fru};
-use ipmi_command_line::{Command, Kind, Task};
-use ipmi_commands::status::WRITE_FAULT;
-use ipmi_fru::FruView;
-use ipmi_output::Written;
+use ipmi_bus::{
+    Code, Controller, Ended, Event, FruEnded, FruSize, NO_NEXT_ID, Part, Shelf, Tally, read_fru,
+};
+use ipmi_command_line::{Command, DEFAULT_PART, DEFAULT_TRIES, Kind, Task};
+use ipmi_commands::execute;
+use ipmi_fru::{AreaFault, FruFault, FruView};
+use ipmi_output::{Failure, Written};
 use ipmi_text::{Reading, fru_text};
-use std::alloc::Global;
+use std::alloc::{AllocError, Global};
+use std::io;
+use thiserror::Error;
 
 /// A full sensor record, a temperature with the name `Temp`.
 const SENSOR: &[u8] =
@@ -28,12 +32,6 @@ const INVENTORY: &[u8] =
 
 /// The most bytes that one answer has.
 const MOST: usize = 8;
-
-/// How many bytes a request asks for.
-const PART: u8 = 32;
-
-/// How many troubles each record, reading or inventory may meet.
-const TRIES: u8 = 5;
 
 /// The controller, which counts its calls and claims nothing else.
 #[derive(Drop)]
@@ -133,27 +131,72 @@ impl Controller for Board {
     }
 }
 
-/// The serial number of the board of device 0: the third field of its board area.
-fn board_serial<C: Controller>(alloc: Global, ctl: &mut C) -> Option<String> {
-    let bytes = read_fru(alloc, ctl, 0, PART, TRIES).ok()?;
-    let board = FruView::read(&bytes).ok()?.board()?.ok()?;
-    let language = *board.head().first()?;
-    let serial = board.field(2)?;
-    fru_text(alloc, serial.code, language, serial.bytes).ok()
+/// Why the serial number was not found.
+#[derive(Clone, Copy, Debug, Error)]
+enum SerialError {
+    /// The inventory was not read.
+    #[error("the inventory was not read")]
+    Unread(#[from] FruEnded),
+    /// It is no inventory.
+    #[error("the inventory has no valid header")]
+    Header(#[from] FruFault),
+    /// Its board area is damaged.
+    #[error("the board area is damaged")]
+    Area(#[from] AreaFault),
+    /// It has no board area, or one without a serial number.
+    #[error("the inventory has no serial number")]
+    Missing,
+    /// No memory was left.
+    #[error("memory ran out")]
+    Memory(#[from] AllocError),
 }
 
-fn main(rt: HostRuntime) -> std::process::ExitCode {
+/// The serial number of the board of device 0: the third field of its board area.
+fn board_serial<C: Controller>(alloc: Global, ctl: &mut C) -> Result<String, SerialError> {
+    let bytes = read_fru(alloc, ctl, 0, DEFAULT_PART, DEFAULT_TRIES)?;
+    let board = FruView::read(&bytes)?.board().ok_or(SerialError::Missing)??;
+    let language = *board.head().first().ok_or(SerialError::Missing)?;
+    let serial = board.field(2).ok_or(SerialError::Missing)?;
+    Ok(fru_text(alloc, serial.code, language, serial.bytes)?)
+}
+
+/// Prints why the listing is not whole.
+fn explain<R: Print>(rt: &R, failure: &Failure<'_>) -> io::Result<()> {
+    match failure {
+        Failure::Ended(Ended::GaveUp(id)) => {
+            println!(rt; "The list ends early: the board stayed busy at record {id}.")
+        }
+        Failure::Ended(Ended::Missing(id)) => {
+            println!(rt; "The list ends early: there is no record {id}.")
+        }
+        Failure::OutOfMemory => println!(rt; "The list ends early: memory ran out."),
+        failure => println!(rt; "The list ends early: {failure}."),
+    }
+}
+
+/// Lists all records, and then prints the serial number.
+fn program(rt: &HostRuntime) -> io::Result<()> {
     let mut ctl = Board {
         tally: Tally::new(),
         turn: 0,
     };
-    let command = Command::new(Task::List(Kind::All), None, PART, TRIES, None);
-    let mut out = Written::new(std::io::writer(&rt));
-    let status = ipmi_commands::run(rt.alloc(), &mut ctl, &command, &mut out, &mut rt.stderr());
-    if let Some(serial) = board_serial(rt.alloc(), &mut ctl) {
-        if println!(rt; "Board serial: {serial}").is_err() {
-            return WRITE_FAULT.into();
-        }
+    let command = Command::new(
+        Task::List(Kind::All),
+        None,
+        DEFAULT_PART,
+        DEFAULT_TRIES,
+        None,
+    );
+    let mut out = Written::new(io::writer(rt));
+    if let Err(failure) = execute(rt.alloc(), &mut ctl, &command, &mut out) {
+        explain(rt, &failure)?;
     }
-    status.into()
+    match board_serial(rt.alloc(), &mut ctl) {
+        Ok(serial) => println!(rt; "Board serial: {serial}"),
+        Err(error) => println!(rt; "No board serial: {error}"),
+    }
+}
+
+fn main(rt: HostRuntime) -> io::Result<()> {
+    program(&rt)
 }

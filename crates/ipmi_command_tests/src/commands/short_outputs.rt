@@ -5,7 +5,7 @@ use super::over_images::image_of;
 use super::saved::{THREE_LINES, TO_NOWHERE, image_named};
 use crate::command_line::lines::{command, command_of_case};
 use crate::writers::Limited;
-use ipmi_commands::{answer, run_to_message_sink};
+use ipmi_commands::{answer, execute, report};
 use ipmi_image::ImageController;
 use ipmi_output::{MessageSink, Sink, Written};
 use std::alloc::Global;
@@ -201,7 +201,8 @@ fn left_with_slow_messages(rt: &impl Abort, alloc: Global) -> Answered {
     let mut ctl = ImageController::new(image_of(rt, alloc, TO_NOWHERE));
     let mut out = Written::new(Vec::new(alloc));
     let mut err = Written::new(Limited::slow(alloc, 3));
-    let status = run_to_message_sink(alloc, &mut ctl, &hex, &mut out, &mut err);
+    let ending = execute(alloc, &mut ctl, &hex, &mut out);
+    let status = report(ending, &mut err);
     drop(hex);
     drop(ctl);
     let out = out.into_inner();

@@ -9,4 +9,4 @@ returns-in_ok-print_fru-in-Ok-clause-honest g c = λ h.
     inventory_read c.args.id _ _ _ _ _ (rw c.tries.ensures at c.in-Ok.ensures.honest h) (rw c.deref.ensures.value at c.in_ok-print_fru-in-Ok.ensures)
 
 pub returns-in-Err-clause-honest : goal.returns-in-Err-clause-honest
-returns-in-Err-clause-honest g c = λ h. c.unread_text.ensures.read _ _ _ (rw c.tries.ensures at c.in-Err.ensures.honest h)
+returns-in-Err-clause-honest g c = λ h. c.unread_text.ensures _ _ _ (rw c.tries.ensures at c.in-Err.ensures.honest h)

@@ -1,31 +1,31 @@
-use Rattle.std.proofs.Common.{ap, sym, ◌∙◌, arith}
-use Rattle.ipmi_commands.specs.Prelude.{is_done}
-use Rattle.ipmi_commands.proofs.LastLemmas.{first_performs, second_performs}
-use Rattle.ipmi_commands.proofs.PageLemmas.{done}
+use Rattle.std.proofs.Common.{Ok, Err, ◌∙◌, ap, sym, arith}
+use Rattle.ipmi_commands.proofs.LastLemmas.{last_prints, last_prints_none, some_entries}
+use Rattle.ipmi_commands.proofs.StepLemmas.{between, ends_since}
 use Rattle.ipmi_commands.proofs.last.list_last.Goals as goal
 
-pub returns-then-not-is_done-clause-calls : goal.returns-then-not-is_done-clause-calls
-returns-then-not-is_done-clause-calls g c = rw c.requires.task (omega (arith, rw c.requires.task at c.list_span-counted.ensures.calls))
+pub returns-in-Ok-clause-runs : goal.returns-in-Ok-clause-runs
+returns-in-Ok-clause-runs g c =
+    let counts = rw c.in-Ok.is at c.count_entries.ensures.honest in
+    record {
+      calls = omega (arith, c.count_entries.ensures.calls, c.list_after.ensures.calls);
+      ends = c.list_after.ensures.ends;
+      why = λ h.
+          let first = counts h in
+          let lists = c.list_after.ensures.honest first.ends.stays.honest in
+          ends_since _ _ _ _ _ _ _ first.ends.stays (record { refusals = first.ends.counts; troubles = first.ends.grows }) first.ends.stays.plain lists.ends;
+      prints = λ h same.
+          let first = counts h in
+          let lists = rw c.before_last.ensures at (c.list_after.ensures.honest first.ends.stays.honest) in
+          let since = between _ _ _ first.ends.stays lists.ends.stays same in
+          last_prints c.args.wanted c.args.from _ c.requires.some _ _ _ _ _ c.in-Ok.count _ (some_entries _ c.in-Ok.count-test.1) first.ends.stays since.0 since.1 first lists;
+    }
 
-pub returns-then-not-is_done-clause-honest : goal.returns-then-not-is_done-clause-honest
-returns-then-not-is_done-clause-honest g c = λ h.
-    rw c.requires.task (first_performs c.args.wanted _ _ _ c.list_span-counted.result (rw c.requires.task at (c.list_span-counted.ensures.honest h))
-    (λ is. let e = sym (ap is_done is) ∙ sym c.is_done.ensures ∙ c.if-not-is_done.true in cc e))
-
-pub returns-then-counted-eq0-clause-calls : goal.returns-then-counted-eq0-clause-calls
-returns-then-counted-eq0-clause-calls g c = rw c.requires.task (omega (arith, rw c.requires.task at c.list_span-counted.ensures.calls))
-
-pub returns-then-counted-eq0-clause-honest : goal.returns-then-counted-eq0-clause-honest
-returns-then-counted-eq0-clause-honest g c = λ h.
-    rw c.requires.task (first_performs c.args.wanted _ _ _ c.list_span-counted.result (rw c.requires.task at (c.list_span-counted.ensures.honest h)) (λ is. c.if-counted-eq0.true))
-
-pub returns-clause-calls : goal.returns-clause-calls
-returns-clause-calls g c = rw c.requires.task (omega (arith, rw c.requires.task at c.list_span-counted.ensures.calls, rw c.requires.task at c.list_span-listed.ensures.calls))
-
-pub returns-clause-honest : goal.returns-clause-honest
-returns-clause-honest g c = λ h.
-    let lists = rw c.requires.task at (c.list_span-counted.ensures.honest h) in
-    let some = c.if-counted-eq0.false in
-    rw c.requires.task (second_performs c.args.wanted _ _ _ _ _ _ (g.O.Sink.taken c.list_span-counted.new.out) _ c.list_span-counted.result
-    c.list_span-listed.result lists (done c.list_span-counted.result.stop (sym c.is_done.ensures ∙ c.if-not-is_done.false))
-    c.requires.some (omega (arith, some)) (rw (c.requires.task, c.before_last-skip.ensures) at (c.list_span-listed.ensures.honest lists.stays.honest)))
+pub returns-in-Err-clause-runs : goal.returns-in-Err-clause-runs
+returns-in-Err-clause-runs g c =
+    let counts = rw c.in-Err.is at c.count_entries.ensures.honest in
+    record {
+      calls = omega (arith, c.count_entries.ensures.calls);
+      ends = rw c.in-Err.is at c.count_entries.ensures.ends;
+      why = λ h. (counts h).ends;
+      prints = λ h same. last_prints_none c.args.wanted c.args.from _ c.requires.some _ _ _ c.in-Err.failure same (counts h);
+    }

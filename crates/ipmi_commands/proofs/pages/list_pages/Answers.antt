@@ -1,35 +1,31 @@
 use Rattle.std.proofs.Common.{arith, sym, ap, ◌∙◌}
-use Rattle.ipmi_commands.specs.Prelude.{faults_of, most_on_walk}
-use Rattle.ipmi_commands.specs.Below.{start_by}
-use Rattle.ipmi_commands.proofs.PageLemmas.{page_leads, last_leads, done, calls_after_page}
+use Rattle.ipmi_commands.specs.Prelude.{most_on_walk}
+use Rattle.ipmi_commands.proofs.PageLemmas.{page_leads, last_leads, calls_after_page}
 use Rattle.ipmi_commands.proofs.pages.list_pages.Goals as goal
 
-pub returns-then-not-is_done : goal.returns-then-not-is_done
-returns-then-not-is_done g c =
+pub returns-in-Err-clause-calls : goal.returns-in-Err-clause-calls
+returns-in-Err-clause-calls g c =
     let kept = c.pages.invariant in
-    let page = c.list_page-page.ensures in
-    let cmd = c.args.cmd.now in
-    let after = calls_after_page c.args.sizes.now c.pages.size-index (most_on_walk cmd.task cmd.tries) _ _ (g.C.Controller.seen c.list_page-page.new.ctl) c.pages-test.true page.calls page.none kept.2 in
-    record {
-      faults = rw kept.0 at page.faults;
-      calls = omega (arith, after);
-      honest = λ h.
-          last_leads cmd.task c.args.sizes.now c.pages.size-index (start_by cmd.task cmd.from) c.pages.place _ cmd.tries _ _ _ _ _ _ c.pages-test.true (kept.3 h).1
-          c.list_page-page.result.stop (page.honest (kept.3 h).0) (sym c.is_done.ensures ∙ c.if-not-is_done.true);
-    }
+    let page = c.list_page.ensures in
+    let after = calls_after_page c.args.sizes.now c.pages.size-index (most_on_walk c.args.form.now c.args.cmd.now.tries) _ _ (g.C.Controller.seen c.list_page.new.ctl) c.pages-test.true page.calls page.none kept.2 in
+    omega (arith, after)
+
+pub returns-in-Err-clause-honest : goal.returns-in-Err-clause-honest
+returns-in-Err-clause-honest g c = λ h.
+    let kept = c.pages.invariant in
+    last_leads c.args.form.now c.args.cmd.now.tries c.args.sizes.now c.pages.size-index c.args.start c.pages.place _ _ _ _ _ _ c.pages-test.true (kept.3 h).1
+    c.in-Err.failure (rw c.in-Err.is at c.list_page.ensures.honest (kept.3 h).0)
 
 pub pages-preserved : goal.pages-preserved
 pages-preserved g c =
-    let is_done = done c.list_page-page.result.stop (sym c.is_done.ensures ∙ c.if-not-is_done.false) in
     let kept = c.pages.invariant in
-    let page = c.list_page-page.ensures in
-    let cmd = c.args.cmd.now in (
-      omega (arith, ap faults_of is_done, page.faults, kept.0),
-      page.place,
-      calls_after_page c.args.sizes.now c.pages.size-index (most_on_walk cmd.task cmd.tries) _ _ (g.C.Controller.seen c.list_page-page.new.ctl) c.pages-test.true page.calls page.none kept.2,
+    let page = c.list_page.ensures in (
+      omega (arith, rw c.in-Ok.is at page.faults, kept.0),
+      rw c.in-Ok.is at page.place,
+      calls_after_page c.args.sizes.now c.pages.size-index (most_on_walk c.args.form.now c.args.cmd.now.tries) _ _ (g.C.Controller.seen c.list_page.new.ctl) c.pages-test.true page.calls page.none kept.2,
       λ h.
-          let page_done = rw is_done at (page.honest (kept.3 h).0) in (
-            page_done.stays.honest,
-            page_leads cmd.task c.args.sizes.now c.pages.size-index (start_by cmd.task cmd.from) c.pages.place _ cmd.tries _ _ _ _ _ _ c.pages-test.true (kept.3 h).1 page_done,
+          let done = rw c.in-Ok.is at page.honest (kept.3 h).0 in (
+            done.ends.stays.honest,
+            page_leads c.args.form.now c.args.cmd.now.tries c.args.sizes.now c.pages.size-index c.args.start c.pages.place _ _ _ _ _ _ c.pages-test.true (kept.3 h).1 c.in-Ok.next done,
           ),
     )

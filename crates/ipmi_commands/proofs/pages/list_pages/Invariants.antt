@@ -1,5 +1,5 @@
 use Rattle.std.proofs.Common.{◌≡◌, ◌+◌, ◌*◌, ◌≤◌, drop}
-use Rattle.ipmi_commands.specs.Below.{IsHonest, start_by}
+use Rattle.ipmi_commands.specs.Below.{IsHonest}
 use Rattle.ipmi_commands.specs.Prelude.{most_on_walk, IsPlace, pages_made}
 use Rattle.ipmi_commands.proofs.PageLemmas.{LeadsTo}
 use Rattle.ipmi_commands.proofs.pages.list_pages.Given as goal
@@ -10,11 +10,9 @@ invariant-pages g l =
     (g.O.Sink.faults l.out ≡ g.O.Sink.faults l.fn.out)
     × IsPlace l.place
     × ((g.C.Controller.seen l.ctl).calls
-    + pages_made (drop l.size-index l.sizes) * most_on_walk l.cmd.task l.cmd.tries
-    ≤ (g.C.Controller.seen l.fn.ctl).calls
-    + pages_made l.fn.sizes * most_on_walk l.cmd.task l.cmd.tries)
+    + pages_made (drop l.size-index l.sizes) * most_on_walk l.form l.cmd.tries
+    ≤ (g.C.Controller.seen l.fn.ctl).calls + pages_made l.fn.sizes * most_on_walk l.form l.cmd.tries)
     × (IsHonest (g.C.Controller.seen l.fn.ctl)
     → IsHonest (g.C.Controller.seen l.ctl)
-    × LeadsTo l.cmd.task l.fn.sizes (drop l.size-index l.sizes) (start_by l.cmd.task l.cmd.from)
-    l.place l.cmd.tries (g.C.Controller.seen l.fn.ctl) (g.C.Controller.seen l.ctl)
-    (g.O.Sink.taken l.fn.out) (g.O.Sink.taken l.out))
+    × LeadsTo l.form l.cmd.tries l.fn.sizes (drop l.size-index l.sizes) l.fn.start l.place
+    (g.C.Controller.seen l.fn.ctl) (g.C.Controller.seen l.ctl) (g.O.Sink.taken l.fn.out) (g.O.Sink.taken l.out))

@@ -1,10 +1,16 @@
-use Rattle.std.proofs.Common.{arith}
-use Rattle.ipmi_commands.proofs.PerformLemmas.{info_performs}
+use Rattle.std.proofs.Common.{ap, ◌+◌, ℕ}
+use Rattle.ipmi_commands.proofs.PerformLemmas.{info_found, info_lacking, info_unread}
 use Rattle.ipmi_commands.proofs.perform.print_info.Goals as goal
 
-pub returns-clause-calls : goal.returns-clause-calls
-returns-clause-calls g c = rw c.requires (omega (arith, c.info_piece-found.ensures.calls, c.tries.ensures))
+pub returns-in-Ok-Some-clause-runs : goal.returns-in-Ok-Some-clause-runs
+returns-in-Ok-Some-clause-runs g c =
+    rw (← c.tries.ensures) (info_found c.args.shelf _ _ _ c.info_text.ensures.calls _ _ c.in-Ok-Some.text c.write_text.result (rw (c.in-Ok-Some.is, c.in-Ok-Some.field-0-is) at c.info_text.ensures.honest)
+    (rw c.as_bytes.ensures.value at c.write_text.ensures.text))
 
-pub returns-clause-honest : goal.returns-clause-honest
-returns-clause-honest g c = λ h.
-    rw c.requires (info_performs c.args.shelf _ _ _ c.info_piece-found.result c.write_found.result (rw c.tries.ensures at c.info_piece-found.ensures.honest h) c.write_found.ensures.text)
+pub returns-in-Ok-None-clause-runs : goal.returns-in-Ok-None-clause-runs
+returns-in-Ok-None-clause-runs g c =
+    rw (← c.tries.ensures) (info_lacking c.args.shelf _ _ _ c.info_text.ensures.calls _ (rw (c.in-Ok-None.is, c.in-Ok-None.field-0-is) at c.info_text.ensures.honest))
+
+pub returns-in-Err-clause-runs : goal.returns-in-Err-clause-runs
+returns-in-Err-clause-runs g c =
+    rw (← c.tries.ensures, c.from.ensures) (info_unread c.args.shelf _ _ _ c.info_text.ensures.calls _ c.in-Err.unread (rw c.in-Err.is at c.info_text.ensures.honest))

@@ -4,7 +4,7 @@ use Rattle.std.proofs.lemmas.List.{at_drop_more, get_or-drop, take_more}
 use Rattle.std.proofs.lemmas.Result.{MatchResult-from_err}
 use Rattle.std.specs.Char.{is_ascii_control}
 use Rattle.ipmi_text.specs.Hex.{upper_byte}
-use Rattle.ipmi_output.specs.Message.{escaped_name}
+use Rattle.ipmi_output.specs.Failure.{escaped_name}
 use Rattle.ipmi_output.proofs.MessageLemmas.{ReceivesAll-both, ReceivesPart-before, ReceivesPart-after, WritesAll-after}
 use Rattle.ipmi_output.proofs.message.write_escaped.Goals as goal
 use Rattle.ipmi_output.proofs.message.write_escaped.Goals.{then-is_ascii_control+in_ok-write_before_control, else-is_ascii_control}

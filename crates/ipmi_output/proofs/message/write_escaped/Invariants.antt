@@ -1,7 +1,7 @@
 -- So far the bytes before `begun` were taken, escaped, and no call is known to have been a fault; those from there to
 -- `at` are printed as they are.
 use Rattle.std.proofs.Common.{◌≡◌, ◌≤◌, ◌-◌, ◌++◌, ℕ, List, length, take, drop}
-use Rattle.ipmi_output.specs.Message.{escaped_name}
+use Rattle.ipmi_output.specs.Failure.{escaped_name}
 use Rattle.ipmi_output.specs.Received.{ReceivesAll}
 use Rattle.ipmi_output.proofs.message.write_escaped.Given as goal
 

@@ -1,0 +1,30 @@
+-- What follows from the definitions of plans by themselves.
+use Rattle.std.specs.Prelude.{◌≡◌, ℕ, List, [], ◌∷◌}
+use Rattle.ipmi_commands.specs.Below.{AreBytes, Store, IsStore, Ending}
+use Rattle.ipmi_commands.specs.declared.job.Job.{Job}
+use Rattle.ipmi_commands.specs.Allowed.{AreTexts, PrintsAll}
+use Rattle.ipmi_commands.specs.Plan.{Item}
+use Rattle.ipmi_commands.specs.Run.{OnPlan}
+use Rattle.ipmi_commands.specs.Texts.{Subject, OfRow, OfInfo, IsTextOver}
+
+-- its numbers are bytes, as in a well-formed store
+abbrev pub IsOfBytes : Subject → Type 0
+IsOfBytes (OfRow form row) = AreBytes row.bytes
+IsOfBytes (OfInfo info) = AreBytes info
+IsOfBytes _ = Unit {0}
+
+abbrev pub AreOfBytes : List Item → Type 0
+AreOfBytes [] = Unit {0}
+AreOfBytes (item ∷ items) = IsOfBytes item.subject × AreOfBytes items
+
+-- the texts of items over a store are one text
+abbrev pub ItemsHaveOneText : Type 0
+ItemsHaveOneText = (store : Store) (items : List Item) (a b : List ℕ) → AreOfBytes items
+    → AreTexts (IsTextOver store) items a → AreTexts (IsTextOver store) items b → a ≡ b
+
+-- over a well-formed store a finished run leaves one output, and ends in one way
+abbrev pub FinishedRunsAreOne : Type 0
+FinishedRunsAreOne = (job : Job) (store : Store) (old a b : List ℕ) (e f : Ending) → IsStore store
+    → OnPlan job 0 store (λ plan calls. PrintsAll (IsTextOver store) plan old a e)
+    → OnPlan job 0 store (λ plan calls. PrintsAll (IsTextOver store) plan old b f)
+    → (a ≡ b) × (e ≡ f)

@@ -1,0 +1,155 @@
+//! What each command is to do: each command once, in the few shapes that differ.
+ghost use Rattle.std.specs.Prelude.{◌≡◌};
+ghost use Rattle.ipmi_commands.specs.Below.{start_of};
+ghost use Rattle.ipmi_commands.specs.Job.{IsFrom, IsJob, is_rewrite, job_of, listing, listing_in, shelf_of};
+ghost use Rattle.ipmi_commands.specs.declared.job.Job.{Job};
+ghost use Rattle.ipmi_commands.specs.Listing.{end_of};
+
+use ipmi_bus::{Place, Shelf};
+use ipmi_command_line::{Command, Count, Kind, Task};
+use ipmi_output::{Failure, Name};
+
+/// How much is printed of a sensor data record that is listed.
+#[derive(Clone, Copy)]
+pub(crate) enum Detail {
+    /// The line of `sdr list`.
+    Short,
+    /// The longer one of `sdr elist`.
+    Extended,
+}
+
+/// What is printed for each record of a listing.
+#[derive(Drop)]
+pub(crate) enum Form<'a> {
+    /// Its image line.
+    Raw,
+    /// The line of a sensor data record of the kind.
+    Line(Detail, Kind),
+    /// The block of a sensor data record with this printed name.
+    Block(Name<'a>),
+    /// The inventory that a FRU device locator names.
+    Device,
+    /// The line of an entry of the event log.
+    EntryLine,
+    /// The block of an entry.
+    EntryBlock,
+}
+
+/// A listing of the records from a place on, so many at most where there is a limit.
+#[derive(Drop)]
+pub(crate) struct Listing<'a> {
+    pub(crate) form: Form<'a>,
+    pub(crate) start: Place,
+    pub(crate) most: Option<u32>,
+}
+
+/// What a command is to do.
+#[derive(Drop)]
+pub(crate) enum Job<'a> {
+    /// Lists records along one walk.
+    Records(Listing<'a>),
+    /// Lists the last entries of the event log, so many, of those from this id on or from the first.
+    Last(u16, Option<u16>),
+    /// Prints the info of the shelf.
+    Info(Shelf),
+    /// Prints the inventory of this device.
+    Inventory(u8),
+    /// Prints the inventory of device 0 and of each device that a locator names.
+    AllInventories,
+    /// Writes the image again.
+    Rewrite,
+}
+
+impl<'a> Form<'a> {
+    /// The shelf whose records are printed so.
+    pub(crate) fn shelf(&self) -> Shelf
+        ensures { result ≡ shelf_of self.now }
+    {
+        match self {
+            Form::EntryLine | Form::EntryBlock => Shelf::Sel,
+            Form::Raw | Form::Line(_, _) | Form::Block(_) | Form::Device => Shelf::Sdr,
+        }
+    }
+
+    /// How a listing ends after its last record, by whether it wrote anything: a name that is asked for has to be found.
+    pub(crate) fn end(&self, wrote: bool) -> Result<(), Failure<'a>>
+        ensures { result ≡ end_of self.now wrote }
+    {
+        match self {
+            Form::Block(name) if !wrote => Err(Failure::NoName(Name::new(name.as_str()))),
+            Form::Block(_)
+            | Form::Raw
+            | Form::Line(_, _)
+            | Form::Device
+            | Form::EntryLine
+            | Form::EntryBlock => Ok(()),
+        }
+    }
+}
+
+impl<'a> Job<'a> {
+    /// The records from an id on, or from the first one.
+    fn records(form: Form<'a>, from: Option<u16>, most: Option<u32>) -> Job<'a>
+        requires { IsFrom from }
+        ensures value { result ≡ Job.Records (listing form.entry (start_of from) most) }
+        ensures range { IsJob result }
+    {
+        let start = match from {
+            Some(id) => Place::Id(id),
+            None => Place::First,
+        };
+        Job::Records(Listing { form, start, most })
+    }
+
+    /// What the command is to do.
+    pub(crate) fn of(cmd: &'a Command) -> Job<'a>
+        ensures value { result ≡ job_of cmd.now.task cmd.now.from }
+        ensures range { IsJob result }
+    {
+        let from = cmd.from();
+        match cmd.task() {
+            Task::Hex => Job::records(Form::Raw, from, None),
+            Task::List(kind) => Job::records(Form::Line(Detail::Short, *kind), from, None),
+            Task::Elist(kind) => Job::records(Form::Line(Detail::Extended, *kind), from, None),
+            Task::Get(name) => Job::records(Form::Block(Name::new(name.as_str())), from, None),
+            Task::SelList(Count::All) => Job::records(Form::EntryLine, from, None),
+            Task::SelList(Count::First(n)) => {
+                Job::records(Form::EntryLine, from, Some(u32::from(*n)))
+            }
+            Task::SelList(Count::Last(n)) => Job::Last(*n, from),
+            Task::SelGet(id) => Job::records(Form::EntryBlock, Some(*id), Some(1)),
+            Task::Info(shelf) => Job::Info(*shelf),
+            Task::Fru(None) => Job::AllInventories,
+            Task::Fru(Some(id)) => Job::Inventory(*id),
+            Task::Rewrite => Job::Rewrite,
+        }
+    }
+
+    /// Whether the image is to be written again, which no run over a controller can do.
+    pub(crate) fn is_rewrite(&self) -> bool
+        ensures { result ≡ is_rewrite self.now }
+    {
+        match self {
+            Job::Rewrite => true,
+            Job::Records(_)
+            | Job::Last(_, _)
+            | Job::Info(_)
+            | Job::Inventory(_)
+            | Job::AllInventories => false,
+        }
+    }
+
+    /// The listing, where it is one.
+    pub(crate) fn listing(self) -> Option<Listing<'a>>
+        ensures { result ≡ listing_in self.entry }
+    {
+        match self {
+            Job::Records(listing) => Some(listing),
+            Job::Last(_, _)
+            | Job::Info(_)
+            | Job::Inventory(_)
+            | Job::AllInventories
+            | Job::Rewrite => None,
+        }
+    }
+}

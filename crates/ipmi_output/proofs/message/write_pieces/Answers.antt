@@ -1,0 +1,9 @@
+-- The parts before this one, and then a part of it.
+use Rattle.std.proofs.lemmas.Result.{MatchResult-from_err}
+use Rattle.ipmi_output.proofs.MessageLemmas.{ReceivesPart-in_piece}
+use Rattle.ipmi_output.proofs.message.write_pieces.Goals as goal
+
+pub returns-in_err-write_piece : goal.returns-in_err-write_piece
+returns-in_err-write_piece g c =
+    MatchResult-from_err c.from_residual.result _ _ c.from_residual.ensures.0
+    (λ e. ReceivesPart-in_piece _ _ _ _ _ _ c.loop-piece-test.true c.loop-piece.invariant c.in_err-write_piece.ensures)
