@@ -1,6 +1,6 @@
 -- What holds while the same call for a value is made again.
 use Rattle.std.proofs.Common.{◌≡◌, ℕ, ◌+◌, ◌≤◌, IsTrue}
-use Rattle.ipmi_bus.specs.Prelude.{Seen, IsHonest, StaysHonest, HasMet, KeepsReservations}
+use Rattle.ipmi_bus.specs.Prelude.{Seen, AsksAtMost, IsHonest, StaysHonest, HasMet, KeepsReservations}
 
 -- so many troubles came since the first call, and nothing else
 pub record HasAsked (troubles : ℕ) (s s' : Seen) : Type 0 where
@@ -12,4 +12,5 @@ pub record HasAsked (troubles : ℕ) (s s' : Seen) : Type 0 where
 -- the same call was made so often, each time with a trouble
 abbrev pub IsAsking : ℕ → ℕ → Seen → Seen → Type 0
 IsAsking troubles tries s s' =
-    (troubles ≤ tries) × (s'.calls ≡ s.calls + troubles) × (IsHonest s → HasAsked troubles s s')
+    (troubles ≤ tries) × (s'.calls ≡ s.calls + troubles) × AsksAtMost 0 s s'
+    × (IsHonest s → HasAsked troubles s s')

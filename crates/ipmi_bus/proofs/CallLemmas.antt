@@ -105,7 +105,7 @@ module _ (start old : Retrieval) (s s' s'' : Seen) (same : SameRequest start old
         keeps = λ some e. let held = (since.keeps some (omega (arith, quiet.troubles))).held in cc (held, none, some);
         met = search arith;
         fresh_troubles = quiet.fresh_troubles ∙ since.fresh_troubles;
-        plain = λ p holds. record { held = λ m e. answers.gives.1 ∙ e };
+        plain = λ p holds. record { holds = record { held = λ m e. answers.gives.1 ∙ e }; part = (since.plain p holds).part };
         within = λ e. since.within (first e);
       }
 

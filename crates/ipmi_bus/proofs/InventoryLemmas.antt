@@ -186,7 +186,7 @@ module _ (old : FruRetrieval) (bytes : Vec ℕ Global) (s s' s'' : Seen) (asked 
       part_by_class (class_of code.0) new result refl gave.gives (subst (λ (x : FruRetrieval). PartFails (class_of code.0) code asked x new result) is fails)
 
 pub same_trans : (a b c : FruRetrieval) → SameInventory a b → SameInventory b c → SameInventory a c
-same_trans a b c p q = record { id = q.id ∙ p.id; tries = q.tries ∙ p.tries; size = q.size ∙ p.size; some = q.some; fits = q.fits; have = q.have; troubles = q.troubles }
+same_trans a b c p q = record { id = q.id ∙ p.id; tries = q.tries ∙ p.tries; size = q.size ∙ p.size; part = omega (arith, p.part, q.part); some = q.some; fits = q.fits; have = q.have; troubles = q.troubles }
 
 -- ---- the whole reading
 

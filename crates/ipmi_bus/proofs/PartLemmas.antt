@@ -2,7 +2,7 @@
 use Rattle.std.proofs.Common.{◌≡◌, ℕ, ◌+◌, ◌<◌, ◌≤◌, Bool, true, false, nat_eq, Option, None, Some, Result, Ok, Err, List, length, take, drop, get_or, slice_range, refl, sym, ap, subst, ◌∙◌, inl, inr, arith, IsTrue, IsSome, ne_eqb, get_or-take, take-take, take-add, MatchOption, IsOk}
 use Rattle.std.proofs.lemmas.Bool.{cases_lt}
 use Rattle.std.proofs.lemmas.Bool.Decides.{nat_tests}
-use Rattle.ipmi_bus.specs.Prelude.{Shelf, Code, CodeClass, Cancelled, Busy, SmallerPart, NotPresent, Refusal, Part, Ended, Stalled, Malformed, CallOutcome, Again, Over, Whole, Absent, Retrieval, Row, IsRow, look, whole_len, len_of, largest_len, rows_of, store_shelf, Seen, stays_trans, IsHonest, StaysHonest, MayLoseReservation, IsQuiet, IsFinished, current, CountsPiece, FailsWith, GivesPiece, PartAnswers, smaller_part, class_of, SameRequest, IsReading, HoldsCurrent, HasMet, KeepsHeld, HonestSince, ReadIsHonest, ReadNext, wanted_len, after_part, Asked, part_asked, not_present}
+use Rattle.ipmi_bus.specs.Prelude.{Shelf, Code, CodeClass, Cancelled, Busy, SmallerPart, NotPresent, Refusal, Part, Ended, Stalled, Malformed, CallOutcome, Again, Over, Whole, Absent, Retrieval, Row, IsRow, look, whole_len, len_of, largest_len, rows_of, store_shelf, Seen, stays_trans, IsHonest, StaysHonest, MayLoseReservation, IsQuiet, IsFinished, current, CountsPiece, FailsWith, GivesPiece, PartAnswers, smaller_part, class_of, SameRequest, IsReading, HoldsCurrent, HasMet, KeepsHeld, HonestSince, IsPlainSince, ReadIsHonest, ReadNext, wanted_len, after_part, Asked, part_asked, not_present}
 use Rattle.ipmi_bus.specs.Retrieval.{IsOpenRecord, HasRead, TakesRecordPart, MakesSmaller, PartFails}
 use Rattle.ipmi_bus.proofs.ShelfLemmas.{look_row}
 use Rattle.ipmi_bus.proofs.CallLemmas.{reading_kept, held_on, within_calm, trouble_answers, refusal_answers}
@@ -87,8 +87,11 @@ module _ (start old : Retrieval) (buffer : List ℕ) (s s' s'' : Seen) (n asked 
       → KeepsHeld start (taken old buffer part) s s''
   keeps_held = held_on start old s s' s'' same since stays (taken old buffer part) keeps (omega (arith, calm.troubles_are)) refl
 
-  holds : IsTrue s.plain → HoldsCurrent start s → HoldsCurrent (taken old buffer part) s''
-  holds p h = record { held = λ m e. keeps.plain (since.stays.plain p) ∙ (since.plain p h).held m e }
+  holds : IsTrue s.plain → HoldsCurrent start s → IsPlainSince start (taken old buffer part) s''
+  holds p h = record {
+    holds = record { held = λ m e. keeps.plain (since.stays.plain p) ∙ (since.plain p h).holds.held m e };
+    part = (since.plain p h).part;
+  }
 
   piece_goes_on : old.have + part.got < wanted_len old.shelf (old.have + part.got) buffer
       → HonestSince start (taken old buffer part) s s''
@@ -210,7 +213,13 @@ module _ (start old new : Retrieval) (s s' s'' : Seen) (n asked : ℕ) (code : C
         stays = over_all;
         answers = (within_calm start old s s' s'' same since stays open_ counts, rw (same.shelf, same.id) at absent);
         keeps = keeps_on old (omega (arith, finished.troubles)) refl;
-        plain = λ p h. (record { held = λ m e. parts.keeps.plain (since.stays.plain p) ∙ (since.plain p h).held m e }, tt);
+        plain = λ p h. (
+          record {
+            holds = record { held = λ m e. parts.keeps.plain (since.stays.plain p) ∙ (since.plain p h).holds.held m e };
+            part = (since.plain p h).part;
+          },
+          tt,
+        );
       } in
       rw (does.0, does.1) base
 
@@ -229,4 +238,4 @@ module _ (start old new : Retrieval) (s s' s'' : Seen) (n asked : ℕ) (code : C
   part_failed result fails = part_by_class (class_of code.0) result not_plain parts.gives fails
     where
       not_plain : (class_of code.0 ≡ NotPresent → ⊥) → IsTrue s.plain → HoldsCurrent start s → ⊥
-      not_plain other p h = other (ap class_of (plain_code old s' n asked since.stays.honest open_ since.reading (since.plain p h) held code (parts.plain (since.stays.plain p))))
+      not_plain other p h = other (ap class_of (plain_code old s' n asked since.stays.honest open_ since.reading (since.plain p h).holds held code (parts.plain (since.stays.plain p))))

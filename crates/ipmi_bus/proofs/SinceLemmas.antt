@@ -1,6 +1,6 @@
 -- The reading of a record, call after call.
 use Rattle.std.proofs.Common.{◌≡◌, ℕ, ◌+◌, ◌*◌, ◌≤◌, Option, None, Some, Ok, refl, ap, ◌∙◌, arith, ◌-◌}
-use Rattle.ipmi_bus.specs.Prelude.{AreWithin, digits, step_call_bound, Again, Retrieval, largest_len, Seen, IsHonest, StaysHonest, SameRequest, CallLeaves, unreserved, begun, HonestSince, len_of, look, rows_of}
+use Rattle.ipmi_bus.specs.Prelude.{AreWithin, AsksAtMost, digits, step_call_bound, Again, Retrieval, largest_len, Seen, IsHonest, StaysHonest, SameRequest, CallLeaves, unreserved, begun, HonestSince, len_of, look, rows_of}
 use Rattle.ipmi_bus.specs.Retrieval.{IsOpenRecord, calls_left}
 
 -- how many bytes the row has that is asked for, 0 where there is none
@@ -11,6 +11,7 @@ row_len r seen = len_of (look (rows_of r.shelf seen.store) r.id)
 pub record Since (start now : Retrieval) (s s' : Seen) : Type 0 where
   pub is_open : IsOpenRecord now
   pub request : SameRequest start now
+  pub asked : AsksAtMost start.part s s'
   pub calls : s'.calls + calls_left (largest_len start.shelf) now
       ≤ s.calls + calls_left (largest_len start.shelf) start
   pub honest : IsHonest s → HonestSince start now s s'
@@ -23,6 +24,7 @@ same_request_trans a b c p q = record { shelf = q.shelf ∙ p.shelf; tries = q.t
 -- one call more
 module _ (start now new : Retrieval) (s s' s'' : Seen) (since : Since start now s s')
     (request : SameRequest now new) (counted : s''.calls ≡ s'.calls + 1)
+    (asked : AsksAtMost now.part s' s'')
     (leaves : CallLeaves now new (Ok Again)) where
   -- one call is spent
   chain : (a b c : ℕ) → a + 1 ≤ b → s'.calls + b ≤ s.calls + c → s''.calls + a ≤ s.calls + c
@@ -38,6 +40,7 @@ module _ (start now new : Retrieval) (s s' s'' : Seen) (since : Since start now 
   since_more stays honest = record {
     is_open = leaves.0;
     request = same_request_trans start now new since.request request;
+    asked = omega (arith, asked, since.asked, since.request.part);
     calls = calls_more (largest_len start.shelf) (omega (arith, leaves.0.more, leaves.0.fits, ap largest_len (request.shelf ∙ since.request.shelf))) since.calls;
     honest = honest;
     row_calls = λ h e.

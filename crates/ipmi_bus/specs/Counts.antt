@@ -1,8 +1,10 @@
 -- Numbers that clauses see of a controller, without a greatest value.
-use Rattle.std.specs.Prelude.{ℕ}
+use Rattle.std.specs.Prelude.{ℕ, Option}
 
 pub record Counts : Type 0 where
   pub calls : ℕ
+  pub most_asked : ℕ
+  pub last_failure : Option ℕ
   pub troubles : ℕ
   pub fresh_troubles : ℕ
   pub refusals : ℕ

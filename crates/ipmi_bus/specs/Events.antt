@@ -1,19 +1,36 @@
-use Rattle.std.specs.Prelude.{◌+◌}
+-- What an event adds to the counts.
+use Rattle.std.specs.Prelude.{ℕ, ◌+◌, max, None, Some}
+use Rattle.ipmi_bus.specs.Code.{class_of}
 use Rattle.ipmi_bus.specs.Counts.{Counts}
-use Rattle.ipmi_bus.specs.Types.{Event}
+use Rattle.ipmi_bus.specs.Types.{Busy, Cancelled, CodeClass, Event, NotPresent, Refusal, SmallerPart}
+
+-- the counts after a code of this class
+abbrev pub with_failure : CodeClass → ℕ → Counts → Counts
+with_failure Cancelled code c =
+    record c { troubles = c.troubles + 1; fresh_troubles = c.fresh_troubles + 1 }
+with_failure Busy code c =
+    record c { troubles = c.troubles + 1; fresh_troubles = c.fresh_troubles + 1 }
+with_failure SmallerPart code c = c
+with_failure NotPresent code c = record c { fresh_troubles = 0 }
+with_failure Refusal code c = record c { refusals = c.refusals + 1; last_code = code }
 
 -- the counts after an event
 abbrev pub counts_after : Counts → Event → Counts
-counts_after c Event.Called = record c { calls = c.calls + 1 }
-counts_after c Event.Troubled =
-    record c { troubles = c.troubles + 1; fresh_troubles = c.fresh_troubles + 1 }
-counts_after c (Event.Refused code) = record c { refusals = c.refusals + 1; last_code = code }
+counts_after c (Event.Called asked) = record c {
+  calls = c.calls + 1;
+  most_asked = max c.most_asked asked;
+  last_failure = None;
+}
+counts_after c (Event.Failed code) =
+    record (with_failure (class_of code.0) code.0 c) { last_failure = Some code.0 }
 counts_after c Event.Finished = record c { fresh_troubles = 0 }
 counts_after c Event.Stored = record c { stores_added = c.stores_added + 1 }
 
 abbrev pub zero_counts : Counts
 zero_counts = record {
   calls = 0;
+  most_asked = 0;
+  last_failure = None;
   troubles = 0;
   fresh_troubles = 0;
   refusals = 0;

@@ -31,6 +31,7 @@ pub record SameInventory (old new : FruRetrieval) : Type 0 where
   pub id : new.id ≡ old.id
   pub tries : new.tries ≡ old.tries
   pub size : length new.bytes.items ≡ length old.bytes.items
+  pub part : new.part ≤ old.part
   pub some : 0 < new.part
   pub fits : new.part < 255
   pub have : new.have ≤ length new.bytes.items
@@ -67,14 +68,6 @@ abbrev pub TakesInventoryPart : ℕ → FruRetrieval → FruRetrieval → Result
     → Type 0
 TakesInventoryPart got old new (Ok u) = (0 < got) × (new ≡ record old { have = old.have + got })
 TakesInventoryPart got old new (Err ended) = (got ≡ 0) × (ended ≡ FruEnded.Stalled) × (new ≡ old)
-
--- one request of `request_len` was answered, and its bytes were put in their place
-pub record IsAnswered (old new : FruRetrieval) (result : Result (Unit {0}) FruEnded) : Type 0 where
-  pub answer : Result ℕ Code
-  pub filled : FruRetrieval
-  pub bytes : filled ≡ record old { bytes = filled.bytes }
-  pub takes : MatchResult answer (λ got. TakesInventoryPart got filled new result)
-      (λ code. PartFails (class_of code.0) code (request_len old) filled new result)
 
 -- the bytes so far are the inventory's
 pub record HasRead (r : FruRetrieval) (s : Seen) : Type 0 where
@@ -121,14 +114,6 @@ abbrev pub TakesSize : FruSize → ℕ → Result Size FruEnded → Type 0
 TakesSize told troubles (Ok size) =
     (told.words ≡ false) × (size ≡ record { bytes = told.size; troubles = troubles })
 TakesSize told troubles (Err ended) = (told.words ≡ true) × (ended ≡ FruEnded.Words)
-
--- the last call for the size was answered, after so many troubles
-pub record IsSizeAnswered (tries : ℕ) (result : Result Size FruEnded) : Type 0 where
-  pub answer : Result FruSize Code
-  pub troubles : ℕ
-  pub takes : MatchResult answer (λ told. TakesSize told troubles result)
-      (λ code. MatchResult result (λ size. ⊥)
-      (λ ended. SizeFails (class_of code.0) code troubles tries (Err ended)))
 
 -- the size is that of the inventory which the store has when the call returns
 pub record HasSize (id : ℕ) (size : Size) (s s' : Seen) : Type 0 where

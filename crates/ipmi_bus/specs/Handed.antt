@@ -1,9 +1,8 @@
 -- A cursor's fields as contracts see them, and what it hands out.
-use Rattle.std.specs.Prelude.{◌≡◌, ◌≢◌, ℕ, ◌<◌, ◌⊎◌, List, Option, None, Some, IsSome, Result, Ok, Err, IsOk, take}
+use Rattle.std.specs.Prelude.{◌≡◌, ◌≢◌, ℕ, ◌<◌, ◌⊎◌, List, Option, None, Some, Result, Ok, Err, take}
 use Rattle.std.specs.FinSet as set
 use Rattle.ipmi_bus.specs.Types.{End, Ended, First, Handed, Next, Place, Progress}
 use Rattle.ipmi_bus.specs.Shelf.{Row}
-use Rattle.ipmi_bus.specs.Seen.{Seen, current}
 use Rattle.ipmi_bus.specs.CursorState.{CursorState}
 use Rattle.ipmi_bus.specs.Step.{asked_at, cycle_at}
 use Rattle.std.specs.Ordering.{nat_cmp}
@@ -45,11 +44,3 @@ abbrev pub IsNext : Place → set.FinSet nat_cmp → Next → Type 0
 IsNext place ids Next.End = place ≡ End
 IsNext place ids (Next.Cycle n) = cycle_at place ids ≡ Some n
 IsNext place ids (Next.Asks asked) = IsAsked place ids asked
-
--- where a reservation is held and no trouble comes, none became current, and it is kept unless the step fails
-abbrev pub KeepsReservation : CursorState → CursorState → Seen → Seen
-    → Result (Option Row) Ended → Type 0
-KeepsReservation old new s s' result =
-    IsSome old.reservation → s'.troubles ≡ s.troubles
-    → ((n : ℕ) → current old.shelf s' ≡ Some n → current old.shelf s ≡ Some n)
-    × (IsOk result → new.reservation ≡ old.reservation)

@@ -1,11 +1,11 @@
 -- What the readers of infos, sensor readings and inventories leave.
 use Rattle.std.specs.Prelude.{◌≡◌, ℕ, ◌+◌, ◌≤◌, ◌==◌, Bool, true, false, IsTrue, Option, None, Some, IsSome, unwrap_or, Result, Ok, Err, List, [], length, Vec}
 use Rattle.std.specs.declared.alloc.Global.{Global}
-use Rattle.ipmi_bus.specs.Types.{Ended, FruEnded, GaveUp, Refused, Sdr, Sel}
+use Rattle.ipmi_bus.specs.Types.{Ended, FruEnded, GaveUp, NotPresent, Refused, Sdr, Sel}
 use Rattle.ipmi_bus.specs.Store.{Store, inventory_of}
-use Rattle.ipmi_bus.specs.Seen.{Seen, StaysHonest, current}
+use Rattle.ipmi_bus.specs.Seen.{Seen, FailedBy, StaysHonest, current}
 use Rattle.ipmi_bus.specs.Bounds.{fru_call_bound}
-use Rattle.ipmi_bus.specs.Tries.{WithinTries, GivesUp, GivesUpOverChange, IsRefusedWith}
+use Rattle.ipmi_bus.specs.Tries.{LastCallSays, WithinTries, GivesUp, GivesUpOverChange, IsRefusedWith}
 
 -- ---- a value: an info, a reading
 
@@ -15,6 +15,12 @@ EndsUnder id (Ok o) = Unit {0}
 EndsUnder id (Err (GaveUp n)) = n ≡ id
 EndsUnder id (Err (Refused n code)) = n ≡ id
 EndsUnder id _ = ⊥
+
+-- the last call was such as the answer says: a value came, or there is none
+abbrev pub ValueSays : {V : Type 0} → Result (Option V) Ended → Option ℕ → Type 0
+ValueSays (Ok (Some v)) failure = failure ≡ None
+ValueSays (Ok None) failure = FailedBy NotPresent failure
+ValueSays (Err ended) failure = LastCallSays ended failure
 
 -- over an honest controller it is the value that the store has when the call returns, or none where that store has none
 abbrev pub ValueIs : {V : Type 0} → (Store → Option V) → ℕ → Seen → Seen → Result (Option V) Ended

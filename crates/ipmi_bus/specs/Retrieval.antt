@@ -4,7 +4,8 @@ use Rattle.ipmi_text.specs.SdrHeader.{sdr_len}
 use Rattle.ipmi_bus.specs.Types.{Absent, Again, Busy, CallOutcome, Cancelled, Code, CodeClass, Ended, GaveUp, Malformed, NotPresent, Over, Part, Refusal, Refused, Retrieval, Sdr, Sel, Shelf, SmallerPart, Stalled, Whole}
 use Rattle.ipmi_bus.specs.Shelf.{Row, look, len_of, largest_len}
 use Rattle.ipmi_bus.specs.Store.{rows_of}
-use Rattle.ipmi_bus.specs.Seen.{Seen, current}
+use Rattle.ipmi_bus.specs.Seen.{Seen, FailedBy, current}
+use Rattle.ipmi_bus.specs.Tries.{LastCallSays}
 use Rattle.ipmi_bus.specs.Answers.{Asked}
 use Rattle.ipmi_bus.specs.Bounds.{digits}
 use Rattle.ipmi_bus.specs.Calls.{smaller_part}
@@ -79,13 +80,6 @@ ReserveFails Cancelled code old new result = CountsTrouble false old new result
 ReserveFails Busy code old new result = CountsTrouble false old new result
 ReserveFails _ code old new result = (result ≡ Err (Refused old.id code)) × (new ≡ old)
 
--- one call for a reservation was answered
-abbrev pub IsReserveAnswered : Retrieval → Retrieval → Result CallOutcome Ended → Type 0
-IsReserveAnswered old new result =
-    (answer : Result ℕ Code) × MatchResult answer
-    (λ n. (result ≡ Ok Again) × (new ≡ record old { reservation = Some n }))
-    (λ code. ReserveFails (class_of code.0) code old new result)
-
 -- a smaller part is to be asked for; a part of less than one byte can't be
 abbrev pub MakesSmaller : ℕ → Retrieval → Retrieval → Result CallOutcome Ended → Type 0
 MakesSmaller asked old new result = MatchResult result
@@ -123,18 +117,12 @@ TakesRecordPart part old new (Err (Malformed id)) =
     × (new.have ≡ 5) × (0xFB < slice_index old.buffer 4)
 TakesRecordPart part old new _ = ⊥
 
--- one request of `request_len` was answered, and its bytes were put into the buffer
-pub record IsAnswered (old new : Retrieval) (result : Result CallOutcome Ended) : Type 0 where
-  pub answer : Result Part Code
-  pub filled : Retrieval
-  pub buffer : filled ≡ record old { buffer = filled.buffer }
-  pub takes : MatchResult answer (λ part. TakesRecordPart part filled new result)
-      (λ code. PartFails (class_of code.0) code (request_len old) filled new result)
-
--- one call was answered: for a reservation where none is held, otherwise for a part
-abbrev pub CallIsAnswered : Option ℕ → Retrieval → Retrieval → Result CallOutcome Ended → Type 0
-CallIsAnswered None old new result = IsReserveAnswered old new result
-CallIsAnswered (Some n) old new result = IsAnswered old new result
+-- the call was such as its outcome says: the last part came, or there is no such record
+abbrev pub CallSays : Result CallOutcome Ended → Option ℕ → Type 0
+CallSays (Ok Again) failure = Unit {0}
+CallSays (Ok (Over Whole)) failure = failure ≡ None
+CallSays (Ok (Over Absent)) failure = FailedBy NotPresent failure
+CallSays (Err ended) failure = LastCallSays ended failure
 
 -- one call, for a reservation, where none is held
 abbrev pub unreserved : Option ℕ → ℕ

@@ -1,11 +1,13 @@
 -- What contracts see of a management controller, and which controllers are honest and plain.
 use Rattle.std.proofs.Common.{◌∙◌, arith}
-use Rattle.std.specs.Prelude.{◌≡◌, ℕ, ◌+◌, ◌<◌, ◌≤◌, Bool, IsTrue, Option, None, Some, refl}
-use Rattle.ipmi_bus.specs.Types.{Sdr, Sel, Shelf}
+use Rattle.std.specs.Prelude.{◌≡◌, ℕ, ◌+◌, ◌<◌, ◌≤◌, max, Bool, IsTrue, Option, None, Some, Result, Ok, Err, refl}
+use Rattle.ipmi_bus.specs.Types.{Code, CodeClass, Sdr, Sel, Shelf}
+use Rattle.ipmi_bus.specs.Code.{class_of}
 use Rattle.ipmi_bus.specs.Store.{Store, IsStore}
 
--- The numbers have no greatest value. Fresh troubles are those since something was finished; the last code is that of
--- the last refusal; a store is added where another one takes the place of the store.
+-- The numbers have no greatest value. `most_asked` is the most bytes that a part was asked for; the last failure is the code
+-- with which the last call failed, if it did. Fresh troubles are those since something was finished; the last code is that
+-- of the last refusal; a store is added where another one takes the place of the store.
 pub record Seen : Type 0 where
   pub store : Store
   pub honest : Bool
@@ -13,6 +15,8 @@ pub record Seen : Type 0 where
   pub sdr_reservation : Option ℕ
   pub sel_reservation : Option ℕ
   pub calls : ℕ
+  pub most_asked : ℕ
+  pub last_failure : Option ℕ
   pub troubles : ℕ
   pub fresh_troubles : ℕ
   pub refusals : ℕ
@@ -33,6 +37,27 @@ pub record IsHonest (seen : Seen) : Type 0 where
 pub record IsPlain (seen : Seen) : Type 0 where
   pub said : IsTrue seen.plain
   pub honest : IsHonest seen
+
+-- ---- what each call counts, of any controller
+
+-- the code with which a call failed, if it did
+abbrev pub failing_code : {T : Type 0} → Result T Code → Option ℕ
+failing_code (Ok answer) = None
+failing_code (Err code) = Some code.0
+
+-- a call that asked for a part of so many bytes, 0 where it asked for none
+pub record IsCall (asked : ℕ) (old new : Seen) : Type 0 where
+  pub calls : new.calls ≡ old.calls + 1
+  pub most_asked : new.most_asked ≡ max old.most_asked asked
+
+-- no part of more bytes than these was asked for
+abbrev pub AsksAtMost : ℕ → Seen → Seen → Type 0
+AsksAtMost part old new = new.most_asked ≤ max old.most_asked part
+
+-- it failed with a code of this class
+abbrev pub FailedBy : CodeClass → Option ℕ → Type 0
+FailedBy class None = ⊥
+FailedBy class (Some code) = class_of code ≡ class
 
 -- ---- what an answer counts, beside the call
 

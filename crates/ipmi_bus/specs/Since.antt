@@ -1,16 +1,21 @@
 -- What holds since the reading of a record began, and when it ends.
-use Rattle.std.specs.Prelude.{◌≡◌, ℕ, ◌+◌, ◌≤◌, IsTrue, IsSome, None, Result, Ok, Err, MatchResult, length}
+use Rattle.std.specs.Prelude.{◌≡◌, ℕ, ◌+◌, ◌≤◌, IsTrue, Option, IsSome, None, Result, Ok, Err, MatchResult, length}
 use Rattle.ipmi_bus.specs.Types.{Absent, Again, CallOutcome, Ended, Found, GaveUp, Over, Refused, Retrieval, Whole}
 use Rattle.ipmi_bus.specs.Shelf.{Row, look, largest_len, len_of}
 use Rattle.ipmi_bus.specs.Store.{rows_of}
 use Rattle.ipmi_bus.specs.Seen.{Seen, IsHonest, StaysHonest}
 use Rattle.ipmi_bus.specs.Tries.{WithinTries, GivesUp, IsRefusedWith, NotGivenUpOrRefused}
 use Rattle.ipmi_bus.specs.Failures.{HasMet}
-use Rattle.ipmi_bus.specs.Retrieval.{IsOpenRecord, SameRequest, HasRead, IsReading, HoldsCurrent, KeepsHeld, CallIsAnswered, calls_left, wanted_len, NamesId}
+use Rattle.ipmi_bus.specs.Retrieval.{IsOpenRecord, SameRequest, HasRead, IsReading, HoldsCurrent, KeepsHeld, CallSays, calls_left, wanted_len, NamesId}
 
 -- a retrieval at the start of a record
 abbrev pub begun : Retrieval → ℕ → Retrieval
 begun r id = record r { id = id; troubles = 0; have = 0 }
+
+-- over a plain controller a reservation that is held is current, and the part size is that of the start
+pub record IsPlainSince (start now : Retrieval) (seen : Seen) : Type 0 where
+  pub holds : HoldsCurrent now seen
+  pub part : now.part ≡ start.part
 
 pub record HonestSince (start now : Retrieval) (s s' : Seen) : Type 0 where
   pub stays : StaysHonest s s'
@@ -18,7 +23,7 @@ pub record HonestSince (start now : Retrieval) (s s' : Seen) : Type 0 where
   pub keeps : IsSome start.reservation → s'.troubles ≡ s.troubles → KeepsHeld start now s s'
   pub met : HasMet now.troubles s s'
   pub fresh_troubles : s'.fresh_troubles ≡ s.fresh_troubles + now.troubles
-  pub plain : IsTrue s.plain → HoldsCurrent start s → HoldsCurrent now s'
+  pub plain : IsTrue s.plain → HoldsCurrent start s → IsPlainSince start now s'
   pub within : s'.stores_added ≡ s.stores_added
       → now.have ≤ len_of (look (rows_of start.shelf s.store) start.id)
 
@@ -40,7 +45,7 @@ pub record ReadIsHonest (start new : Retrieval) (s s' : Seen)
   pub answers : ReadAnswers start new s s' result
   pub keeps : IsSome start.reservation → s'.troubles ≡ s.troubles → KeepsHeld start new s s'
   pub plain : IsTrue s.plain → HoldsCurrent start s
-      → HoldsCurrent new s' × NotGivenUpOrRefused result
+      → IsPlainSince start new s' × NotGivenUpOrRefused result
 
 -- what one more call leaves
 abbrev pub ReadNext : Retrieval → Retrieval → Seen → Seen → Result CallOutcome Ended → Type 0
@@ -48,12 +53,10 @@ ReadNext start new s s' (Ok Again) = HonestSince start new s s'
 ReadNext start new s s' (Ok (Over found)) = ReadIsHonest start new s s' (Ok found)
 ReadNext start new s s' (Err ended) = ReadIsHonest start new s s' (Err ended)
 
--- the answer to the last call ended the reading so
-pub record IsEnded (new : Retrieval) (result : Result Found Ended) : Type 0 where
-  pub last : Retrieval
-  pub answered : MatchResult result
-      (λ found. CallIsAnswered last.reservation last new (Ok (Over found)))
-      (λ ended. CallIsAnswered last.reservation last new (Err ended))
+-- the last call was such as the end of the reading says
+abbrev pub ReadSays : Result Found Ended → Option ℕ → Type 0
+ReadSays (Ok found) failure = CallSays (Ok (Over found)) failure
+ReadSays (Err ended) failure = CallSays (Err ended) failure
 
 -- what a reading leaves over any controller
 abbrev pub ReadLeaves : ℕ → Retrieval → Result Found Ended → Type 0

@@ -1,13 +1,13 @@
 -- One step of a cursor: what it leaves over any controller, and what it answers over an honest one.
-use Rattle.std.specs.Prelude.{◌≡◌, ◌≢◌, ℕ, ◌+◌, ◌<◌, ◌≤◌, ◌==◌, ◌||◌, false, IsTrue, if◌then◌else◌, Option, None, Some, IsSome, ◌⊎◌, Result, Ok, Err, List, length, drop}
+use Rattle.std.specs.Prelude.{◌≡◌, ◌≢◌, ℕ, ◌+◌, ◌<◌, ◌≤◌, ◌==◌, ◌||◌, false, IsTrue, if◌then◌else◌, Option, None, Some, IsSome, ◌⊎◌, Result, Ok, Err, IsOk, List, length, drop}
 use Rattle.std.specs.FinSet as set
 use Rattle.std.specs.Ordering.{nat_cmp}
-use Rattle.ipmi_bus.specs.Types.{Cycle, End, Ended, First, GaveUp, Id, Malformed, Missing, Place, Refused, Sdr, Shelf, Stalled}
+use Rattle.ipmi_bus.specs.Types.{Cycle, End, Ended, First, GaveUp, Id, Malformed, Missing, NotPresent, Place, Refused, Sdr, Shelf, Stalled}
 use Rattle.ipmi_bus.specs.Shelf.{Row, first_row, look, len_of, largest_len, whole_len, id_in}
 use Rattle.ipmi_bus.specs.Store.{rows_of}
 use Rattle.ipmi_bus.specs.Walk.{IsWalk, WalkEnd, EndsBy, place_after}
-use Rattle.ipmi_bus.specs.Seen.{Seen, IsHonest, StaysHonest, current}
-use Rattle.ipmi_bus.specs.Tries.{WithinTries, GivesUp, IsRefusedWith, NotGivenUpOrRefused}
+use Rattle.ipmi_bus.specs.Seen.{Seen, AsksAtMost, FailedBy, IsHonest, StaysHonest, current}
+use Rattle.ipmi_bus.specs.Tries.{WithinTries, GivesUp, IsRefusedWith, LastCallSays, NotGivenUpOrRefused}
 use Rattle.ipmi_bus.specs.Bounds.{AreWithin}
 use Rattle.ipmi_bus.specs.CursorState.{CursorState}
 use Rattle.ipmi_bus.specs.Standing.{StandsAt, FollowsWalks}
@@ -80,6 +80,12 @@ StepLeaves old new (Err (Stalled n)) = (cycle_at old.place old.ids ≡ None) × 
 StepLeaves old new (Err (Malformed n)) =
     (cycle_at old.place old.ids ≡ None) × FailsAt n old new × (old.shelf ≡ Sdr)
 
+-- the last call was such as the answer says: a record came, or at the start there is none
+abbrev pub IsAnsweredSo : Place → Result (Option Row) Ended → Option ℕ → Type 0
+IsAnsweredSo place (Ok (Some row)) failure = failure ≡ None
+IsAnsweredSo place (Ok None) failure = place ≡ First → FailedBy NotPresent failure
+IsAnsweredSo place (Err ended) failure = LastCallSays ended failure
+
 -- a step from here asks nothing of the controller: the cursor is at the end, or the chain closes
 abbrev pub AsksNothing : CursorState → Type 0
 AsksNothing c = (c.place ≡ End) ⊎ IsSome (cycle_at c.place c.ids)
@@ -119,18 +125,28 @@ StepAnswers old s s' _ = ⊥
 pub record CursorHoldsCurrent (c : CursorState) (seen : Seen) : Type 0 where
   pub held : (n : ℕ) → c.reservation ≡ Some n → current c.shelf seen ≡ Some n
 
--- over a plain controller
-pub record StepIsPlain (new : CursorState) (s' : Seen)
+-- over a plain controller the part size stays
+pub record StepIsPlain (old new : CursorState) (s' : Seen)
     (result : Result (Option Row) Ended) : Type 0 where
   pub holds : CursorHoldsCurrent new s'
+  pub part : new.part ≡ old.part
   pub fine : NotGivenUpOrRefused result
+
+-- where a reservation is held and no trouble comes, none became current, and it is kept unless the step fails
+abbrev pub KeepsReservation : CursorState → CursorState → Seen → Seen
+    → Result (Option Row) Ended → Type 0
+KeepsReservation old new s s' result =
+    IsSome old.reservation → s'.troubles ≡ s.troubles
+    → ((n : ℕ) → current old.shelf s' ≡ Some n → current old.shelf s ≡ Some n)
+    × (IsOk result → new.reservation ≡ old.reservation)
 
 -- over an honest controller
 pub record StepIsHonest (old new : CursorState) (s s' : Seen)
     (result : Result (Option Row) Ended) : Type 0 where
   pub stays : StaysHonest s s'
   pub answers : StepAnswers old s s' result
-  pub plain : IsTrue s.plain → CursorHoldsCurrent old s → StepIsPlain new s' result
+  pub keeps : KeepsReservation old new s s' result
+  pub plain : IsTrue s.plain → CursorHoldsCurrent old s → StepIsPlain old new s' result
   pub calls : s'.stores_added ≡ s.stores_added
       → AreWithin old.tries (len_of (look (rows_of old.shelf s.store) (asked_at old.place)))
       old.part new.part s s'
@@ -144,6 +160,8 @@ pub record IsStep (old new : CursorState) (s s' : Seen)
   pub same : KeepsSettings old new
   pub leaves : StepLeaves old new result
   pub calls : AreWithin old.tries (largest_len old.shelf) old.part new.part s s'
+  pub asked : AsksAtMost old.part s s'
+  pub answered : IsAnsweredSo old.place result s'.last_failure
   pub no_call : AsksNothing old → s' ≡ s
   pub room : AsksNothing old ⊎ (set.len old.ids < 65536)
   pub honest : IsHonest s → StepIsHonest old new s s' result

@@ -1,10 +1,11 @@
 -- What contracts see of a controller that counts its calls and claims nothing else.
-use Rattle.std.specs.Prelude.{ℕ, false, None, []}
+use Rattle.std.specs.Prelude.{false, None, []}
+use Rattle.ipmi_bus.specs.Counts.{Counts}
 use Rattle.ipmi_bus.specs.Seen.{Seen}
 
 -- it doesn't say that it is honest, so nothing is known of its answers
-abbrev pub calls_only : ℕ → Seen
-calls_only calls = record {
+abbrev pub calls_only : Counts → Seen
+calls_only counts = record {
   store = record {
     sdr = [];
     sel = [];
@@ -17,7 +18,9 @@ calls_only calls = record {
   plain = false;
   sdr_reservation = None;
   sel_reservation = None;
-  calls = calls;
+  calls = counts.calls;
+  most_asked = counts.most_asked;
+  last_failure = counts.last_failure;
   troubles = 0;
   fresh_troubles = 0;
   refusals = 0;

@@ -1,6 +1,6 @@
 //! A management controller as a retrieval asks it, with all that is promised of its answers.
-ghost use Rattle.std.specs.Prelude.{◌≡◌, ◌+◌, ◌<◌, ◌≤◌, IfOk, OnErr, length, drop};
-ghost use Rattle.ipmi_bus.specs.Prelude.{Seen, IsHonest, info_of, reading_of, ReserveAnswers, PartAnswers, ValueAnswers, SizeAnswers, BytesAnswers, part_asked};
+ghost use Rattle.std.specs.Prelude.{◌≡◌, ◌<◌, ◌≤◌, IfOk, OnErr, length, drop};
+ghost use Rattle.ipmi_bus.specs.Prelude.{Seen, IsCall, failing_code, IsHonest, info_of, reading_of, ReserveAnswers, PartAnswers, ValueAnswers, SizeAnswers, BytesAnswers, part_asked};
 
 use crate::code::Code;
 use ipmi_text::Reading;
@@ -59,7 +59,8 @@ pub trait Controller {
 
     /// Reserve SDR Repository or Reserve SEL (IPMI v2.0, sections 33.11 and 31.4): the reservation's number.
     fn reserve(&mut self, shelf: Shelf) -> Result<u16, Code>
-        ensures counted { (seen self.new).calls ≡ (seen self.old).calls + 1 }
+        ensures counted { IsCall 0 (seen self.old) (seen self.new) }
+        ensures failure { (seen self.new).last_failure ≡ failing_code result }
         ensures honest { IsHonest (seen self.old) →
             ReserveAnswers shelf result (seen self.old) (seen self.new) };
 
@@ -76,7 +77,8 @@ pub trait Controller {
     ) -> Result<Part, Code>
         requires some { 0 < length into.old }
         requires fits { length into.old < 255 }
-        ensures counted { (seen self.new).calls ≡ (seen self.old).calls + 1 }
+        ensures counted { IsCall (length into.old) (seen self.old) (seen self.new) }
+        ensures failure { (seen self.new).last_failure ≡ failing_code result }
         ensures fits { IfOk result (λ part. part.got ≤ length into.old) }
         ensures rest { IfOk result (λ part. drop part.got into.new ≡ drop part.got into.old) }
         ensures err { OnErr result (into.new ≡ into.old) }
@@ -87,19 +89,22 @@ pub trait Controller {
     /// Get SDR Repository Info or Get SEL Info (IPMI v2.0, sections 33.9 and 31.2): the 14 bytes after the
     /// completion code.
     fn info(&mut self, shelf: Shelf) -> Result<[u8; 14], Code>
-        ensures counted { (seen self.new).calls ≡ (seen self.old).calls + 1 }
+        ensures counted { IsCall 0 (seen self.old) (seen self.new) }
+        ensures failure { (seen self.new).last_failure ≡ failing_code result }
         ensures honest { IsHonest (seen self.old) →
             ValueAnswers (info_of shelf) result (seen self.old) (seen self.new) };
 
     /// Get Sensor Reading (IPMI v2.0, section 35.14) of the sensor with this number at this LUN.
     fn reading(&mut self, lun: u8, number: u8) -> Result<Reading, Code>
-        ensures counted { (seen self.new).calls ≡ (seen self.old).calls + 1 }
+        ensures counted { IsCall 0 (seen self.old) (seen self.new) }
+        ensures failure { (seen self.new).last_failure ≡ failing_code result }
         ensures honest { IsHonest (seen self.old) →
             ValueAnswers (reading_of lun number) result (seen self.old) (seen self.new) };
 
     /// Get FRU Inventory Area Info (IPMI v2.0, section 34.1) of the FRU device with this id.
     fn fru_size(&mut self, id: u8) -> Result<FruSize, Code>
-        ensures counted { (seen self.new).calls ≡ (seen self.old).calls + 1 }
+        ensures counted { IsCall 0 (seen self.old) (seen self.new) }
+        ensures failure { (seen self.new).last_failure ≡ failing_code result }
         ensures honest { IsHonest (seen self.old) →
             SizeAnswers id result (seen self.old) (seen self.new) };
 
@@ -109,7 +114,8 @@ pub trait Controller {
     fn fru_part(&mut self, id: u8, offset: u16, into: &mut [u8]) -> Result<u8, Code>
         requires some { 0 < length into.old }
         requires fits { length into.old < 255 }
-        ensures counted { (seen self.new).calls ≡ (seen self.old).calls + 1 }
+        ensures counted { IsCall (length into.old) (seen self.old) (seen self.new) }
+        ensures failure { (seen self.new).last_failure ≡ failing_code result }
         ensures fits { IfOk result (λ got. got ≤ length into.old) }
         ensures rest { IfOk result (λ got. drop got into.new ≡ drop got into.old) }
         ensures err { OnErr result (into.new ≡ into.old) }

@@ -1,6 +1,6 @@
 //! Reads a FRU inventory in parts.
 ghost use Rattle.std.specs.Prelude.{◌≡◌, ◌+◌, ◌<◌, ◌≤◌, Ok, Err, IfOk, OnErr, OnOk, IfErr, length, take, slice_range, vec_len, MatchResult};
-ghost use Rattle.ipmi_bus.specs.Prelude.{Seen, IsHonest, StaysHonest, BytesAnswers, ReadsInventory, as_inventory, class_of, SizeFails, TakesSize, IsSizeAnswered, fru_call_bound, HasSize, FruEnds};
+ghost use Rattle.ipmi_bus.specs.Prelude.{Seen, AsksAtMost, IsCall, failing_code, IsHonest, StaysHonest, BytesAnswers, LastFruCallSays, ReadsInventory, as_inventory, class_of, SizeFails, TakesSize, fru_call_bound, HasSize, FruEnds};
 
 use crate::calls::{Failure, after_failure, asked_len, smaller_part};
 use crate::code::Code;
@@ -56,7 +56,7 @@ struct FruRetrieval {
 }
 
 impl FruRetrieval {
-    ghost use Rattle.ipmi_bus.specs.FruRetrieval.{IsBegun, IsOpenInventory, SameInventory, request_len, TakesInventoryPart, PartFails, IsAnswered, FruSince, FruNext, calls_left};
+    ghost use Rattle.ipmi_bus.specs.FruRetrieval.{IsBegun, IsOpenInventory, SameInventory, request_len, TakesInventoryPart, PartFails, FruSince, FruNext, calls_left};
 
     /// Asks for some of the bytes that are missing, into their place.
     fn request<C: Controller>(&mut self, ctl: &mut C, asked: usize) -> Result<u8, Code>
@@ -65,7 +65,8 @@ impl FruRetrieval {
         requires within { self.old.have + asked ≤ vec_len self.old.bytes }
         requires short { vec_len self.old.bytes ≤ 65535 }
         requires len { asked ≡ request_len self.old }
-        ensures counted { (C.seen ctl.new).calls ≡ (C.seen ctl.old).calls + 1 }
+        ensures counted { IsCall (request_len self.old) (C.seen ctl.old) (C.seen ctl.new) }
+        ensures failure { (C.seen ctl.new).last_failure ≡ failing_code result }
         ensures got { IfOk result (λ got. got ≤ asked) }
         ensures bytes { self.new ≡ record self.old { bytes = self.new.bytes } }
         ensures len { length self.new.bytes.items ≡ length self.old.bytes.items }
@@ -121,10 +122,10 @@ impl FruRetrieval {
     /// Makes one call for the bytes that are missing.
     fn ask_part<C: Controller>(&mut self, ctl: &mut C) -> Result<(), FruEnded>
         requires { IsOpenInventory self.old }
-        ensures counted { (C.seen ctl.new).calls ≡ (C.seen ctl.old).calls + 1 }
+        ensures counted { IsCall (request_len self.old) (C.seen ctl.old) (C.seen ctl.new) }
+        ensures says { IfErr result (λ ended. LastFruCallSays ended (C.seen ctl.new).last_failure) }
         ensures same { SameInventory self.old self.new }
         ensures leaves { OnOk result (calls_left self.new < calls_left self.old) }
-        ensures answered { IsAnswered self.old self.new result }
         ensures stays { IsHonest (C.seen ctl.old) → StaysHonest (C.seen ctl.old) (C.seen ctl.new) }
         ensures honest { (s : Seen) → FruSince self.old s (C.seen ctl.old) →
             FruNext self.old self.new s (C.seen ctl.new) result }
@@ -141,8 +142,8 @@ impl FruRetrieval {
         requires { IsBegun self.old }
         ensures same { SameInventory self.old self.new }
         ensures whole { OnOk result (self.new.have ≡ length self.new.bytes.items) }
-        ensures ended { IfErr result
-            (λ ended. (last : FruRetrieval) × IsAnswered last self.new (Err ended)) }
+        ensures asked { AsksAtMost self.old.part (C.seen ctl.old) (C.seen ctl.new) }
+        ensures says { IfErr result (λ ended. LastFruCallSays ended (C.seen ctl.new).last_failure) }
         ensures calls { (C.seen ctl.new).calls + 1 ≤ (C.seen ctl.old).calls + calls_left self.old }
         ensures stays { IsHonest (C.seen ctl.old) → StaysHonest (C.seen ctl.old) (C.seen ctl.new) }
         ensures honest { (s : Seen) → FruSince self.old s (C.seen ctl.old) →
@@ -190,7 +191,8 @@ fn read_size<C: Controller>(ctl: &mut C, id: u8, tries: u8) -> Result<Size, FruE
     ensures ok { IfOk result (λ size. (size.troubles ≤ tries) ×
         ((C.seen ctl.new).calls ≡ (C.seen ctl.old).calls + size.troubles + 1)) }
     ensures err { OnErr result ((C.seen ctl.new).calls ≤ (C.seen ctl.old).calls + tries + 1) }
-    ensures answered { IsSizeAnswered tries result }
+    ensures asked { AsksAtMost 0 (C.seen ctl.old) (C.seen ctl.new) }
+    ensures says { IfErr result (λ ended. LastFruCallSays ended (C.seen ctl.new).last_failure) }
     ensures honest { IsHonest (C.seen ctl.old) → MatchResult result
         (λ size. HasSize id size (C.seen ctl.old) (C.seen ctl.new))
         (λ ended. FruEnds id tries (C.seen ctl.old) (C.seen ctl.new) ended) }
@@ -218,6 +220,8 @@ pub fn read_fru<C: Controller>(
     requires fits { part < 255 }
     ensures fits { IfOk result (λ bytes. vec_len bytes ≤ 65535) }
     ensures calls { (C.seen ctl.new).calls ≤ (C.seen ctl.old).calls + fru_call_bound tries 65535 }
+    ensures asked { AsksAtMost part (C.seen ctl.old) (C.seen ctl.new) }
+    ensures says { IfErr result (λ ended. LastFruCallSays ended (C.seen ctl.new).last_failure) }
     ensures honest { IsHonest (C.seen ctl.old) → ReadsInventory id tries (C.seen ctl.old)
         (C.seen ctl.new) (as_inventory result) }
 {

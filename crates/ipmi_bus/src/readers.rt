@@ -1,6 +1,6 @@
 //! Reads single values: sensor readings and repository infos.
 ghost use Rattle.std.specs.Prelude.{◌≡◌, ◌+◌, ◌≤◌};
-ghost use Rattle.ipmi_bus.specs.Prelude.{IsHonest, info_of, reading_of, class_of, EndsUnder, ReadsValue, ValueFailureIs};
+ghost use Rattle.ipmi_bus.specs.Prelude.{AsksAtMost, IsHonest, info_of, reading_of, class_of, EndsUnder, ReadsValue, ValueFailureIs, ValueSays};
 
 use crate::calls::{Failure, after_failure};
 use crate::code::Code;
@@ -40,7 +40,9 @@ pub fn read_reading<C: Controller>(
     tries: u8,
 ) -> Result<Option<Reading>, Ended>
     ensures calls { (C.seen ctl.new).calls ≤ (C.seen ctl.old).calls + (tries + 1) }
+    ensures asked { AsksAtMost 0 (C.seen ctl.old) (C.seen ctl.new) }
     ensures ends { EndsUnder id result }
+    ensures says { ValueSays result (C.seen ctl.new).last_failure }
     ensures honest { IsHonest (C.seen ctl.old) → ReadsValue (reading_of lun number) tries
         (C.seen ctl.old) (C.seen ctl.new) result }
 {
@@ -64,7 +66,9 @@ pub fn read_info<C: Controller>(
     tries: u8,
 ) -> Result<Option<[u8; 14]>, Ended>
     ensures calls { (C.seen ctl.new).calls ≤ (C.seen ctl.old).calls + (tries + 1) }
+    ensures asked { AsksAtMost 0 (C.seen ctl.old) (C.seen ctl.new) }
     ensures ends { EndsUnder 0 result }
+    ensures says { ValueSays result (C.seen ctl.new).last_failure }
     ensures honest { IsHonest (C.seen ctl.old) → ReadsValue (info_of shelf) tries (C.seen ctl.old)
         (C.seen ctl.new) result }
 {

@@ -1,6 +1,6 @@
 //! Reads one record in parts (IPMI v2.0, section 33.12): of a sensor data record the header first, then the rest.
 ghost use Rattle.std.specs.Prelude.{◌≡◌, ◌+◌, ◌<◌, ◌≤◌, None, Some, Ok, OnOk, OnErr, IfOk, IsOk, length, take, slice_range};
-ghost use Rattle.ipmi_bus.specs.Prelude.{Retrieval, Seen, IsHonest, StaysHonest, PartAnswers, class_of, largest_len, AreWithin, part_asked, len_of, look, rows_of};
+ghost use Rattle.ipmi_bus.specs.Prelude.{Retrieval, Seen, AsksAtMost, IsCall, failing_code, IsHonest, StaysHonest, PartAnswers, class_of, largest_len, AreWithin, part_asked, len_of, look, rows_of};
 
 use crate::calls::{Failure, after_failure, asked_len, smaller_part};
 use crate::code::Code;
@@ -47,8 +47,8 @@ pub(crate) struct Retrieval {
 }
 
 impl Retrieval {
-    ghost use Rattle.ipmi_bus.specs.Retrieval.{IsOpenRecord, SameRequest, wanted_len, request_len, ReserveFails, IsReserveAnswered, PartFails, TakesRecordPart, IsAnswered, CallIsAnswered, CallLeaves};
-    ghost use Rattle.ipmi_bus.specs.Since.{begun, HonestSince, IsEnded, ReadIsHonest, ReadLeaves, ReadNext};
+    ghost use Rattle.ipmi_bus.specs.Retrieval.{IsOpenRecord, SameRequest, wanted_len, request_len, ReserveFails, PartFails, TakesRecordPart, CallSays, CallLeaves};
+    ghost use Rattle.ipmi_bus.specs.Since.{begun, HonestSince, ReadIsHonest, ReadLeaves, ReadNext, ReadSays};
 
     /// How many bytes are asked for in all, as far as the bytes that are there tell.
     fn wanted(&self) -> usize
@@ -88,10 +88,10 @@ impl Retrieval {
     fn ask_reservation<C: Controller>(&mut self, ctl: &mut C) -> Result<CallOutcome, Ended>
         requires is_open { IsOpenRecord self.old }
         requires none { self.old.reservation ≡ None }
-        ensures counted { (C.seen ctl.new).calls ≡ (C.seen ctl.old).calls + 1 }
+        ensures counted { IsCall 0 (C.seen ctl.old) (C.seen ctl.new) }
+        ensures says { CallSays result (C.seen ctl.new).last_failure }
         ensures request { SameRequest self.old self.new }
         ensures leaves { CallLeaves self.old self.new result }
-        ensures answered { IsReserveAnswered self.old self.new result }
         ensures stays { IsHonest (C.seen ctl.old) → StaysHonest (C.seen ctl.old) (C.seen ctl.new) }
         ensures honest { (start : Retrieval) (s : Seen) → SameRequest start self.old →
             HonestSince start self.old s (C.seen ctl.old) →
@@ -140,7 +140,8 @@ impl Retrieval {
         requires fits { asked < 255 }
         requires within { self.old.have + asked ≤ 256 }
         requires len { asked ≡ request_len self.old }
-        ensures counted { (C.seen ctl.new).calls ≡ (C.seen ctl.old).calls + 1 }
+        ensures counted { IsCall (request_len self.old) (C.seen ctl.old) (C.seen ctl.new) }
+        ensures failure { (C.seen ctl.new).last_failure ≡ failing_code result }
         ensures got { IfOk result (λ part. part.got ≤ asked) }
         ensures buffer { self.new ≡ record self.old { buffer = self.new.buffer } }
         ensures front { take self.old.have self.new.buffer ≡ take self.old.have self.old.buffer }
@@ -194,10 +195,10 @@ impl Retrieval {
     ) -> Result<CallOutcome, Ended>
         requires is_open { IsOpenRecord self.old }
         requires reserved { self.old.reservation ≡ Some reservation }
-        ensures counted { (C.seen ctl.new).calls ≡ (C.seen ctl.old).calls + 1 }
+        ensures counted { IsCall (request_len self.old) (C.seen ctl.old) (C.seen ctl.new) }
+        ensures says { CallSays result (C.seen ctl.new).last_failure }
         ensures request { SameRequest self.old self.new }
         ensures leaves { CallLeaves self.old self.new result }
-        ensures answered { IsAnswered self.old self.new result }
         ensures stays { IsHonest (C.seen ctl.old) → StaysHonest (C.seen ctl.old) (C.seen ctl.new) }
         ensures honest { (start : Retrieval) (s : Seen) → SameRequest start self.old →
             HonestSince start self.old s (C.seen ctl.old) →
@@ -214,9 +215,10 @@ impl Retrieval {
     fn make_call<C: Controller>(&mut self, ctl: &mut C) -> Result<CallOutcome, Ended>
         requires { IsOpenRecord self.old }
         ensures counted { (C.seen ctl.new).calls ≡ (C.seen ctl.old).calls + 1 }
+        ensures asked { AsksAtMost self.old.part (C.seen ctl.old) (C.seen ctl.new) }
+        ensures says { CallSays result (C.seen ctl.new).last_failure }
         ensures request { SameRequest self.old self.new }
         ensures leaves { CallLeaves self.old self.new result }
-        ensures answered { CallIsAnswered self.old.reservation self.old self.new result }
         ensures stays { IsHonest (C.seen ctl.old) → StaysHonest (C.seen ctl.old) (C.seen ctl.new) }
         ensures honest { (start : Retrieval) (s : Seen) → SameRequest start self.old →
             HonestSince start self.old s (C.seen ctl.old) →
@@ -233,6 +235,7 @@ impl Retrieval {
         requires some { 0 < self.old.part }
         requires fits { self.old.part < 255 }
         ensures request { SameRequest (begun self.old id) self.new }
+        ensures asked { AsksAtMost self.old.part (C.seen ctl.old) (C.seen ctl.new) }
         ensures calls { AreWithin self.old.tries (largest_len self.old.shelf) self.old.part
             self.new.part (C.seen ctl.old) (C.seen ctl.new) }
         ensures row_calls { IsHonest (C.seen ctl.old) →
@@ -241,7 +244,7 @@ impl Retrieval {
             (len_of (look (rows_of self.old.shelf (C.seen ctl.old).store) id)) self.old.part
             self.new.part (C.seen ctl.old) (C.seen ctl.new) }
         ensures leaves { ReadLeaves id self.new result }
-        ensures ended { IsEnded self.new result }
+        ensures says { ReadSays result (C.seen ctl.new).last_failure }
         ensures honest { IsHonest (C.seen ctl.old) →
             ReadIsHonest (begun self.old id) self.new (C.seen ctl.old) (C.seen ctl.new) result }
     {

@@ -3,17 +3,16 @@ ghost use Rattle.std.specs.Prelude.{◌≡◌};
 ghost use Rattle.std.specs.Borrow.{ftrue};
 ghost use Rattle.ipmi_bus.specs.Counts.{Counts};
 
+use crate::code::Code;
 use std::marker::Model;
 
 /// What a controller counts.
 #[derive(Clone, Copy, Debug, PartialEq, Eq)]
 pub enum Event {
-    /// A call came in.
-    Called,
-    /// A trouble was answered: C0h, C3h, C5h or 81h.
-    Troubled,
-    /// This code was answered, which is a refusal.
-    Refused(u8),
+    /// A call came in, for a part of so many bytes, or 0 for anything else.
+    Called(u8),
+    /// The call failed with this code: by its class that is a trouble, a refusal or the end of what was asked for.
+    Failed(Code),
     /// An answer finished something, such as data up to the last byte of a record.
     Finished,
     /// Another store took the place of the one before.
@@ -33,6 +32,7 @@ impl Model for Tally {
 
 impl Tally {
     ghost use Rattle.ipmi_bus.specs.Events.{counts_after, zero_counts};
+    ghost use Rattle.ipmi_bus.specs.declared.tally.Event.{Event};
 
     /// Nothing was counted yet.
     pub fn new() -> Tally
@@ -52,5 +52,14 @@ impl Tally {
         ensures { self.new.counts ≡ counts_after self.old.counts event }
     {
         *self = Tally::after(self, &event);
+    }
+
+    /// Counts that the call fails with this code, and gives it back.
+    pub fn fail(&mut self, code: Code) -> Code
+        ensures counts { self.new.counts ≡ counts_after self.old.counts (Event.Failed code) }
+        ensures code { result ≡ code }
+    {
+        self.count(Event::Failed(code));
+        code
     }
 }

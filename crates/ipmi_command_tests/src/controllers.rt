@@ -1,6 +1,7 @@
 //! Controllers for tests: one counts the calls of another and may answer one of them with a code, one replays a written
 //! list of answers, and one has a record for every id. None of them claims to be honest.
-ghost use Rattle.std.specs.Prelude.{◌≡◌, ◌+◌, ◌≤◌, length, drop};
+ghost use Rattle.std.specs.Prelude.{◌≡◌, ◌<◌, ◌≤◌, None, length, drop};
+ghost use Rattle.ipmi_bus.specs.Seen.{IsCall, failing_code};
 ghost use Rattle.ipmi_bus.specs.Unclaimed.{calls_only};
 
 use ipmi_bus::{Code, Controller, Event, FruSize, Part, Shelf, Tally};
@@ -36,26 +37,30 @@ impl<C: Controller + Drop> Counting<C> {
         }
     }
 
-    /// Counts a call, which fails where it is the interrupted one.
-    fn count_call(&mut self) -> Result<(), Code>
-        ensures { self.new.tally.counts.calls ≡ self.old.tally.counts.calls + 1 }
+    /// Counts a call for a part of so many bytes, 0 for anything else. It fails where it is the interrupted one.
+    fn count_call(&mut self, asked: u8) -> Result<(), Code>
+        ensures counted { IsCall asked (calls_only self.old.tally.counts)
+            (calls_only self.new.tally.counts) }
+        ensures failure { self.new.tally.counts.last_failure ≡ failing_code result }
     {
-        self.tally.count(Event::Called);
+        self.tally.count(Event::Called(asked));
         self.calls = self.calls.saturating_add(1);
         if self.calls == self.interrupted {
-            Err(Code(self.code))
-        } else {
-            Ok(())
+            return Err(self.tally.fail(Code(self.code)));
         }
+        Ok(())
     }
 }
 
 impl<C: Controller + Drop> Controller for Counting<C> {
-    ghost seen = { λ c. calls_only c.tally.counts.calls };
+    ghost seen = { λ c. calls_only c.tally.counts };
 
     fn reserve(&mut self, shelf: Shelf) -> Result<u16, Code> {
-        self.count_call()?;
-        self.inner.reserve(shelf)
+        self.count_call(0)?;
+        match self.inner.reserve(shelf) {
+            Ok(answer) => Ok(answer),
+            Err(code) => Err(self.tally.fail(code)),
+        }
     }
 
     fn part(
@@ -66,28 +71,43 @@ impl<C: Controller + Drop> Controller for Counting<C> {
         offset: u8,
         into: &mut [u8],
     ) -> Result<Part, Code> {
-        self.count_call()?;
-        self.inner.part(shelf, reservation, id, offset, into)
+        self.count_call(into.len() as u8)?;
+        match self.inner.part(shelf, reservation, id, offset, into) {
+            Ok(answer) => Ok(answer),
+            Err(code) => Err(self.tally.fail(code)),
+        }
     }
 
     fn info(&mut self, shelf: Shelf) -> Result<[u8; 14], Code> {
-        self.count_call()?;
-        self.inner.info(shelf)
+        self.count_call(0)?;
+        match self.inner.info(shelf) {
+            Ok(answer) => Ok(answer),
+            Err(code) => Err(self.tally.fail(code)),
+        }
     }
 
     fn reading(&mut self, lun: u8, number: u8) -> Result<Reading, Code> {
-        self.count_call()?;
-        self.inner.reading(lun, number)
+        self.count_call(0)?;
+        match self.inner.reading(lun, number) {
+            Ok(answer) => Ok(answer),
+            Err(code) => Err(self.tally.fail(code)),
+        }
     }
 
     fn fru_size(&mut self, id: u8) -> Result<FruSize, Code> {
-        self.count_call()?;
-        self.inner.fru_size(id)
+        self.count_call(0)?;
+        match self.inner.fru_size(id) {
+            Ok(answer) => Ok(answer),
+            Err(code) => Err(self.tally.fail(code)),
+        }
     }
 
     fn fru_part(&mut self, id: u8, offset: u16, into: &mut [u8]) -> Result<u8, Code> {
-        self.count_call()?;
-        self.inner.fru_part(id, offset, into)
+        self.count_call(into.len() as u8)?;
+        match self.inner.fru_part(id, offset, into) {
+            Ok(answer) => Ok(answer),
+            Err(code) => Err(self.tally.fail(code)),
+        }
     }
 }
 
@@ -139,11 +159,14 @@ impl<'a> Replay<'a> {
         }
     }
 
-    /// Counts a call, and gives its reply, which is used up unless it is the last.
-    fn next_reply(&mut self) -> Reply
-        ensures { self.new.tally.counts.calls ≡ self.old.tally.counts.calls + 1 }
+    /// Counts a call for a part of so many bytes, 0 for anything else, and gives its reply, which is used up unless it is
+    /// the last.
+    fn next_reply(&mut self, asked: u8) -> Reply
+        ensures counted { IsCall asked (calls_only self.old.tally.counts)
+            (calls_only self.new.tally.counts) }
+        ensures failure { self.new.tally.counts.last_failure ≡ None }
     {
-        self.tally.count(Event::Called);
+        self.tally.count(Event::Called(asked));
         self.calls = self.calls.saturating_add(1);
         match self.replies {
             [] => Reply::Fails(NO_ANSWER.0),
@@ -157,11 +180,14 @@ impl<'a> Replay<'a> {
 
     /// The same for a part from this offset on, of so many bytes.
     fn next_part(&mut self, offset: u16, room: usize) -> Reply
-        ensures { self.new.tally.counts.calls ≡ self.old.tally.counts.calls + 1 }
+        requires { room < 255 }
+        ensures counted { IsCall room (calls_only self.old.tally.counts)
+            (calls_only self.new.tally.counts) }
+        ensures failure { self.new.tally.counts.last_failure ≡ None }
     {
         self.offset = offset;
         self.room = room;
-        self.next_reply()
+        self.next_reply(room as u8)
     }
 }
 
@@ -184,12 +210,12 @@ fn give(bytes: &[u8], into: &mut [u8]) -> usize
 }
 
 impl Controller for Replay<'_> {
-    ghost seen = { λ c. calls_only c.tally.counts.calls };
+    ghost seen = { λ c. calls_only c.tally.counts };
 
     fn reserve(&mut self, _shelf: Shelf) -> Result<u16, Code> {
-        match self.next_reply() {
+        match self.next_reply(0) {
             Reply::Reserves(reservation) => Ok(reservation),
-            other => Err(other.code()),
+            other => Err(self.tally.fail(other.code())),
         }
     }
 
@@ -206,35 +232,35 @@ impl Controller for Replay<'_> {
                 next,
                 got: give(bytes, into) as u8,
             }),
-            other => Err(other.code()),
+            other => Err(self.tally.fail(other.code())),
         }
     }
 
     fn info(&mut self, _shelf: Shelf) -> Result<[u8; 14], Code> {
-        match self.next_reply() {
+        match self.next_reply(0) {
             Reply::Tells(info) => Ok(info),
-            other => Err(other.code()),
+            other => Err(self.tally.fail(other.code())),
         }
     }
 
     fn reading(&mut self, _lun: u8, _number: u8) -> Result<Reading, Code> {
-        match self.next_reply() {
+        match self.next_reply(0) {
             Reply::Reads(reading) => Ok(reading),
-            other => Err(other.code()),
+            other => Err(self.tally.fail(other.code())),
         }
     }
 
     fn fru_size(&mut self, _id: u8) -> Result<FruSize, Code> {
-        match self.next_reply() {
+        match self.next_reply(0) {
             Reply::Has(size) => Ok(size),
-            other => Err(other.code()),
+            other => Err(self.tally.fail(other.code())),
         }
     }
 
     fn fru_part(&mut self, _id: u8, offset: u16, into: &mut [u8]) -> Result<u8, Code> {
         match self.next_part(offset, into.len()) {
             Reply::Gives(bytes, _) => Ok(give(bytes, into) as u8),
-            other => Err(other.code()),
+            other => Err(self.tally.fail(other.code())),
         }
     }
 }
@@ -255,20 +281,22 @@ impl Endless {
         }
     }
 
-    /// Counts a call for a reservation or a part.
-    fn count_call(&mut self)
-        ensures { self.new.tally.counts.calls ≡ self.old.tally.counts.calls + 1 }
+    /// Counts a call for a reservation, or for a part of so many bytes.
+    fn count_call(&mut self, asked: u8)
+        ensures counted { IsCall asked (calls_only self.old.tally.counts)
+            (calls_only self.new.tally.counts) }
+        ensures failure { self.new.tally.counts.last_failure ≡ None }
     {
-        self.tally.count(Event::Called);
+        self.tally.count(Event::Called(asked));
         self.calls = self.calls.saturating_add(1);
     }
 }
 
 impl Controller for Endless {
-    ghost seen = { λ c. calls_only c.tally.counts.calls };
+    ghost seen = { λ c. calls_only c.tally.counts };
 
     fn reserve(&mut self, _shelf: Shelf) -> Result<u16, Code> {
-        self.count_call();
+        self.count_call(0);
         Ok(1)
     }
 
@@ -280,7 +308,7 @@ impl Controller for Endless {
         _offset: u8,
         into: &mut [u8],
     ) -> Result<Part, Code> {
-        self.count_call();
+        self.count_call(into.len() as u8);
         let id_bytes = id.to_le_bytes();
         let record = [id_bytes[0], id_bytes[1], 0x51, 0xC0, 0x00];
         Ok(Part {
@@ -290,22 +318,22 @@ impl Controller for Endless {
     }
 
     fn info(&mut self, _shelf: Shelf) -> Result<[u8; 14], Code> {
-        self.tally.count(Event::Called);
-        Err(NO_ANSWER)
+        self.tally.count(Event::Called(0));
+        Err(self.tally.fail(NO_ANSWER))
     }
 
     fn reading(&mut self, _lun: u8, _number: u8) -> Result<Reading, Code> {
-        self.tally.count(Event::Called);
-        Err(NO_ANSWER)
+        self.tally.count(Event::Called(0));
+        Err(self.tally.fail(NO_ANSWER))
     }
 
     fn fru_size(&mut self, _id: u8) -> Result<FruSize, Code> {
-        self.tally.count(Event::Called);
-        Err(NO_ANSWER)
+        self.tally.count(Event::Called(0));
+        Err(self.tally.fail(NO_ANSWER))
     }
 
-    fn fru_part(&mut self, _id: u8, _offset: u16, _into: &mut [u8]) -> Result<u8, Code> {
-        self.tally.count(Event::Called);
-        Err(NO_ANSWER)
+    fn fru_part(&mut self, _id: u8, _offset: u16, into: &mut [u8]) -> Result<u8, Code> {
+        self.tally.count(Event::Called(into.len() as u8));
+        Err(self.tally.fail(NO_ANSWER))
     }
 }

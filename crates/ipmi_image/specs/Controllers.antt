@@ -1,7 +1,7 @@
 -- What contracts see of the controllers over an image, and what a mood may make of a call.
-use Rattle.std.specs.Prelude.{◌≡◌, ℕ, ◌+◌, ◌<◌, ◌==◌, nat_lt, max, if◌then◌else◌, Bool, true, false, ◌&&◌, not, None, Result, Ok, Err, List, [], ◌∷◌}
+use Rattle.std.specs.Prelude.{◌≡◌, ℕ, ◌<◌, ◌==◌, nat_lt, max, if◌then◌else◌, Bool, true, false, ◌&&◌, not, None, Some, Result, Ok, Err, List, [], ◌∷◌}
 use Rattle.std.specs.Vec.Iter.{into_iter_items}
-use Rattle.ipmi_image.specs.Below.{Code, CodeClass, Refusal, Shelf, Sdr, Sel, class_of, Seen, IsQuiet, IsChange, MayLoseReservation, FailsWith}
+use Rattle.ipmi_image.specs.Below.{Code, CodeClass, Refusal, Shelf, Sdr, Sel, class_of, Seen, IsCall, IsQuiet, IsChange, MayLoseReservation, FailsWith}
 use Rattle.ipmi_image.specs.declared.controller.ImageController.{ImageController}
 use Rattle.ipmi_image.specs.declared.responder.Responder.{Responder}
 use Rattle.ipmi_image.specs.declared.scripted.Mood.{Mood}
@@ -28,10 +28,12 @@ script_last_number s = s.responder.given
 abbrev pub moods_left : Scripted → List Mood
 moods_left s = into_iter_items s.moods
 
--- the calls that a mood has counted
-abbrev pub TurnCounts : Turn → Seen → Seen → Type 0
-TurnCounts (Turn.Answers most) old new = (0 < most) × (new.calls ≡ old.calls)
-TurnCounts (Turn.Failed code) old new = new.calls ≡ old.calls + 1
+-- what a mood has counted of a call for so many bytes: nothing yet, or the call, which failed
+abbrev pub TurnCounts : ℕ → Turn → Seen → Seen → Type 0
+TurnCounts asked (Turn.Answers most) old new =
+    (0 < most) × (new.calls ≡ old.calls) × (new.most_asked ≡ old.most_asked)
+TurnCounts asked (Turn.Failed code) old new =
+    IsCall asked old new × (new.last_failure ≡ Some code.0)
 
 -- what a mood makes of a call for so many bytes: the answer is still to come, of so many bytes at most, or it has
 -- failed

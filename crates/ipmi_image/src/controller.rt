@@ -1,6 +1,6 @@
 //! A management controller that answers from an image.
-ghost use Rattle.std.specs.Prelude.{◌≡◌, ◌+◌, ◌<◌, ◌≤◌, IfOk, OnErr, Ok, ok_or, None, length, drop};
-ghost use Rattle.ipmi_image.specs.Below.{look, not_present, rows_of, info_of, reading_of, inventory_of, IsHonest, IsPlain, current, ReserveAnswers, PartAnswers, ValueAnswers, SizeAnswers, BytesAnswers, part_asked};
+ghost use Rattle.std.specs.Prelude.{◌≡◌, ◌<◌, ◌≤◌, IfOk, OnErr, Ok, ok_or, None, length, drop};
+ghost use Rattle.ipmi_image.specs.Below.{IsCall, failing_code, look, not_present, rows_of, info_of, reading_of, inventory_of, IsHonest, IsPlain, current, ReserveAnswers, PartAnswers, ValueAnswers, SizeAnswers, BytesAnswers, part_asked};
 ghost use Rattle.ipmi_image.specs.Prelude.{number_after, part_answer, fru_answer, size_answer, seen_of, last_number};
 
 use crate::image::Image;
@@ -38,7 +38,8 @@ impl Controller for ImageController {
     ghost seen = { seen_of };
 
     fn reserve(&mut self, shelf: Shelf) -> Result<u16, Code>
-        ensures counted { (seen_of self.new).calls ≡ (seen_of self.old).calls + 1 }
+        ensures counted { IsCall 0 (seen_of self.old) (seen_of self.new) }
+        ensures failure { (seen_of self.new).last_failure ≡ failing_code result }
         ensures honest { IsHonest (seen_of self.old) →
             ReserveAnswers shelf result (seen_of self.old) (seen_of self.new) }
         ensures exact { result ≡ Ok (number_after (last_number self.old)) }
@@ -57,7 +58,8 @@ impl Controller for ImageController {
     ) -> Result<Part, Code>
         requires some { 0 < length into.old }
         requires fits { length into.old < 255 }
-        ensures counted { (seen_of self.new).calls ≡ (seen_of self.old).calls + 1 }
+        ensures counted { IsCall (length into.old) (seen_of self.old) (seen_of self.new) }
+        ensures failure { (seen_of self.new).last_failure ≡ failing_code result }
         ensures fits { IfOk result (λ part. part.got ≤ length into.old) }
         ensures rest { IfOk result (λ part. drop part.got into.new ≡ drop part.got into.old) }
         ensures err { OnErr result (into.new ≡ into.old) }
@@ -75,7 +77,8 @@ impl Controller for ImageController {
     }
 
     fn info(&mut self, shelf: Shelf) -> Result<[u8; 14], Code>
-        ensures counted { (seen_of self.new).calls ≡ (seen_of self.old).calls + 1 }
+        ensures counted { IsCall 0 (seen_of self.old) (seen_of self.new) }
+        ensures failure { (seen_of self.new).last_failure ≡ failing_code result }
         ensures honest { IsHonest (seen_of self.old) →
             ValueAnswers (info_of shelf) result (seen_of self.old) (seen_of self.new) }
         ensures exact { result ≡ ok_or (info_of shelf (seen_of self.old).store) not_present }
@@ -85,7 +88,8 @@ impl Controller for ImageController {
     }
 
     fn reading(&mut self, lun: u8, number: u8) -> Result<Reading, Code>
-        ensures counted { (seen_of self.new).calls ≡ (seen_of self.old).calls + 1 }
+        ensures counted { IsCall 0 (seen_of self.old) (seen_of self.new) }
+        ensures failure { (seen_of self.new).last_failure ≡ failing_code result }
         ensures honest { IsHonest (seen_of self.old) →
             ValueAnswers (reading_of lun number) result (seen_of self.old) (seen_of self.new) }
         ensures exact { result ≡
@@ -96,7 +100,8 @@ impl Controller for ImageController {
     }
 
     fn fru_size(&mut self, id: u8) -> Result<FruSize, Code>
-        ensures counted { (seen_of self.new).calls ≡ (seen_of self.old).calls + 1 }
+        ensures counted { IsCall 0 (seen_of self.old) (seen_of self.new) }
+        ensures failure { (seen_of self.new).last_failure ≡ failing_code result }
         ensures honest { IsHonest (seen_of self.old) →
             SizeAnswers id result (seen_of self.old) (seen_of self.new) }
         ensures exact { result ≡ size_answer (inventory_of id (seen_of self.old).store) }
@@ -108,7 +113,8 @@ impl Controller for ImageController {
     fn fru_part(&mut self, id: u8, offset: u16, into: &mut [u8]) -> Result<u8, Code>
         requires some { 0 < length into.old }
         requires fits { length into.old < 255 }
-        ensures counted { (seen_of self.new).calls ≡ (seen_of self.old).calls + 1 }
+        ensures counted { IsCall (length into.old) (seen_of self.old) (seen_of self.new) }
+        ensures failure { (seen_of self.new).last_failure ≡ failing_code result }
         ensures fits { IfOk result (λ got. got ≤ length into.old) }
         ensures rest { IfOk result (λ got. drop got into.new ≡ drop got into.old) }
         ensures err { OnErr result (into.new ≡ into.old) }

@@ -1,12 +1,12 @@
 //! What an image answers to a controller's calls.
 ghost use Rattle.std.specs.Prelude.{◌≡◌, ◌+◌, ◌<◌, ◌≤◌, ◌≢◌, true, false, MatchBool, IfOk, OnErr, Ok, ok_or, Some, None, length, drop, option_map, unwrap_or};
-ghost use Rattle.ipmi_image.specs.Below.{look, current, not_present, row_of_record, class_of, IsStore, rows_of, info_of, reading_of, inventory_of, IsHonest, FailsWith, ReserveAnswers, PartAnswers, ValueAnswers, SizeAnswers, BytesAnswers, part_asked};
-ghost use Rattle.ipmi_image.specs.Prelude.{chained, first_id, seen_as, place_asked, IsCopied, number_after, with_reservation, out_of_range, part_answer, fru_answer, size_answer, id_of};
+ghost use Rattle.ipmi_image.specs.Below.{IsCall, failing_code, look, current, not_present, row_of_record, class_of, IsStore, rows_of, info_of, reading_of, inventory_of, IsHonest, FailsWith, ReserveAnswers, PartAnswers, ValueAnswers, SizeAnswers, BytesAnswers, part_asked};
+ghost use Rattle.ipmi_image.specs.Prelude.{chained, first_id, seen_as, place_asked, IsCopied, number_after, with_reservation, part_answer, fru_answer, size_answer, id_of};
 
 use crate::image::Image;
 use crate::rows::Rows;
 use ipmi_bus::{
-    Code, CodeClass, Event, FIRST_RECORD_ID, FruSize, INFO_LEN, Part, Record, Shelf, Tally,
+    Code, Event, FIRST_RECORD_ID, FruSize, INFO_LEN, Part, Record, Shelf, Tally,
 };
 use ipmi_text::Reading;
 
@@ -62,17 +62,6 @@ fn copy_piece(bytes: &[u8], offset: usize, most: u8, into: &mut [u8]) -> Option<
     Some(got as u8)
 }
 
-/// Counts that a part begins at the end or past it, and gives the code that says so.
-fn past_the_end(tally: &mut Tally) -> Code
-    ensures code { result ≡ out_of_range }
-    ensures refused { tally.new.counts ≡ record tally.old.counts
-        { refusals = tally.old.counts.refusals + 1; last_code = out_of_range.0 } }
-{
-    let code = Code::OUT_OF_RANGE;
-    tally.count(Event::Refused(code.0));
-    code
-}
-
 /// An image that answers calls, and counts them.
 #[derive(Drop)]
 pub(crate) struct Responder {
@@ -125,28 +114,24 @@ impl Responder {
         self.tally.count(Event::Stored);
     }
 
-    /// Counts a call that fails with this code, by its class.
-    pub(crate) fn fail(&mut self, code: Code) -> Code
+    /// Counts a call for so many bytes that fails with this code.
+    pub(crate) fn fail(&mut self, asked: u8, code: Code) -> Code
         ensures code { result ≡ code }
         ensures same { self.new ≡ record self.old { tally = self.new.tally } }
-        ensures counted { self.new.tally.counts.calls ≡ self.old.tally.counts.calls + 1 }
+        ensures counted { IsCall asked (seen_as false self.old) (seen_as false self.new) }
+        ensures failure { self.new.tally.counts.last_failure ≡ Some code.0 }
         ensures no_store { self.new.tally.counts.stores_added ≡ self.old.tally.counts.stores_added }
         ensures counts { FailsWith (Unit {0}) (Unit {0}) (class_of code.0) code.0
             (seen_as false self.old) (seen_as false self.new) }
     {
-        self.tally.count(Event::Called);
-        match code.class() {
-            CodeClass::Cancelled | CodeClass::Busy => self.tally.count(Event::Troubled),
-            CodeClass::SmallerPart => {}
-            CodeClass::NotPresent => self.tally.count(Event::Finished),
-            CodeClass::Refusal => self.tally.count(Event::Refused(code.0)),
-        }
-        code
+        self.tally.count(Event::Called(asked));
+        self.tally.fail(code)
     }
 
     /// Gives the next reservation number. 1 comes again after FFFFh.
     pub(crate) fn reserve(&mut self, shelf: Shelf) -> u16
-        ensures counted { self.new.tally.counts.calls ≡ self.old.tally.counts.calls + 1 }
+        ensures counted { IsCall 0 (seen_as true self.old) (seen_as true self.new) }
+        ensures failure { self.new.tally.counts.last_failure ≡ None }
         ensures answers { IsHonest (seen_as true self.old) →
             ReserveAnswers shelf (Ok result) (seen_as true self.old) (seen_as true self.new) }
         ensures number { result ≡ number_after self.old.given }
@@ -154,7 +139,7 @@ impl Responder {
         ensures kept { self.new ≡
             record (with_reservation shelf result self.old) { tally = self.new.tally } }
     {
-        self.tally.count(Event::Called);
+        self.tally.count(Event::Called(0));
         let number = if self.given == u16::MAX {
             1
         } else {
@@ -195,7 +180,8 @@ impl Responder {
         requires some { 0 < length into.old }
         requires fits { length into.old < 255 }
         requires one { 0 < most }
-        ensures counted { self.new.tally.counts.calls ≡ self.old.tally.counts.calls + 1 }
+        ensures counted { IsCall (length into.old) (seen_as true self.old) (seen_as true self.new) }
+        ensures failure { self.new.tally.counts.last_failure ≡ failing_code result }
         ensures fits { IfOk result (λ part. part.got ≤ length into.old) }
         ensures rest { IfOk result (λ part. drop part.got into.new ≡ drop part.got into.old) }
         ensures err { OnErr result (into.new ≡ into.old) }
@@ -208,19 +194,17 @@ impl Responder {
             most (current shelf (seen_as true self.old))
             (look (rows_of shelf self.old.image) id) }
     {
-        self.tally.count(Event::Called);
+        self.tally.count(Event::Called(into.len() as u8));
         let is_reserved = self.is_reserved(shelf, reservation, offset);
         let Some((place, row)) = look_up(self.image.rows(shelf), self.near, id) else {
-            self.tally.count(Event::Finished);
-            return Err(Code::NOT_PRESENT);
+            return Err(self.tally.fail(Code::NOT_PRESENT));
         };
         self.near = place;
         if !is_reserved {
-            self.tally.count(Event::Troubled);
-            return Err(Code::CANCELLED);
+            return Err(self.tally.fail(Code::CANCELLED));
         }
         let Some(got) = copy_piece(row.bytes, usize::from(offset), most, into) else {
-            return Err(past_the_end(&mut self.tally));
+            return Err(self.tally.fail(Code::OUT_OF_RANGE));
         };
         if usize::from(offset) + usize::from(got) == row.bytes.len() {
             self.tally.count(Event::Finished);
@@ -233,43 +217,51 @@ impl Responder {
 
     /// The info of a shelf.
     pub(crate) fn info(&mut self, shelf: Shelf) -> Result<[u8; INFO_LEN], Code>
-        ensures counted { self.new.tally.counts.calls ≡ self.old.tally.counts.calls + 1 }
+        ensures counted { IsCall 0 (seen_as true self.old) (seen_as true self.new) }
+        ensures failure { self.new.tally.counts.last_failure ≡ failing_code result }
         ensures answers { IsHonest (seen_as true self.old) →
             ValueAnswers (info_of shelf) result (seen_as true self.old) (seen_as true self.new) }
         ensures same { self.new ≡ record self.old { tally = self.new.tally } }
         ensures exact { result ≡ ok_or (info_of shelf self.old.image) not_present }
     {
-        self.tally.count(Event::Called);
+        self.tally.count(Event::Called(0));
+        let Some(info) = self.image.info(shelf) else {
+            return Err(self.tally.fail(Code::NOT_PRESENT));
+        };
         self.tally.count(Event::Finished);
-        self.image.info(shelf).ok_or(Code::NOT_PRESENT)
+        Ok(info)
     }
 
     /// The reading of a sensor.
     pub(crate) fn reading(&mut self, lun: u8, number: u8) -> Result<Reading, Code>
-        ensures counted { self.new.tally.counts.calls ≡ self.old.tally.counts.calls + 1 }
+        ensures counted { IsCall 0 (seen_as true self.old) (seen_as true self.new) }
+        ensures failure { self.new.tally.counts.last_failure ≡ failing_code result }
         ensures answers { IsHonest (seen_as true self.old) →
             ValueAnswers (reading_of lun number) result (seen_as true self.old)
             (seen_as true self.new) }
         ensures same { self.new ≡ record self.old { tally = self.new.tally } }
         ensures exact { result ≡ ok_or (reading_of lun number self.old.image) not_present }
     {
-        self.tally.count(Event::Called);
+        self.tally.count(Event::Called(0));
+        let Some(reading) = self.image.reading(lun, number) else {
+            return Err(self.tally.fail(Code::NOT_PRESENT));
+        };
         self.tally.count(Event::Finished);
-        self.image.reading(lun, number).ok_or(Code::NOT_PRESENT)
+        Ok(reading)
     }
 
     /// The size of an inventory.
     pub(crate) fn fru_size(&mut self, id: u8) -> Result<FruSize, Code>
-        ensures counted { self.new.tally.counts.calls ≡ self.old.tally.counts.calls + 1 }
+        ensures counted { IsCall 0 (seen_as true self.old) (seen_as true self.new) }
+        ensures failure { self.new.tally.counts.last_failure ≡ failing_code result }
         ensures answers { IsHonest (seen_as true self.old) →
             SizeAnswers id result (seen_as true self.old) (seen_as true self.new) }
         ensures same { self.new ≡ record self.old { tally = self.new.tally } }
         ensures exact { result ≡ size_answer (inventory_of id self.old.image) }
     {
-        self.tally.count(Event::Called);
+        self.tally.count(Event::Called(0));
         let Some(bytes) = self.image.inventory(id) else {
-            self.tally.count(Event::Finished);
-            return Err(Code::NOT_PRESENT);
+            return Err(self.tally.fail(Code::NOT_PRESENT));
         };
         let size = bytes.len() as u16;
         if size == 0 {
@@ -289,7 +281,8 @@ impl Responder {
         requires some { 0 < length into.old }
         requires fits { length into.old < 255 }
         requires one { 0 < most }
-        ensures counted { self.new.tally.counts.calls ≡ self.old.tally.counts.calls + 1 }
+        ensures counted { IsCall (length into.old) (seen_as true self.old) (seen_as true self.new) }
+        ensures failure { self.new.tally.counts.last_failure ≡ failing_code result }
         ensures fits { IfOk result (λ got. got ≤ length into.old) }
         ensures rest { IfOk result (λ got. drop got into.new ≡ drop got into.old) }
         ensures err { OnErr result (into.new ≡ into.old) }
@@ -300,13 +293,12 @@ impl Responder {
         ensures exact { result ≡
             fru_answer offset (length into.old) most (inventory_of id self.old.image) }
     {
-        self.tally.count(Event::Called);
+        self.tally.count(Event::Called(into.len() as u8));
         let Some(bytes) = self.image.inventory(id) else {
-            self.tally.count(Event::Finished);
-            return Err(Code::NOT_PRESENT);
+            return Err(self.tally.fail(Code::NOT_PRESENT));
         };
         let Some(got) = copy_piece(bytes, usize::from(offset), most, into) else {
-            return Err(past_the_end(&mut self.tally));
+            return Err(self.tally.fail(Code::OUT_OF_RANGE));
         };
         if usize::from(offset) + usize::from(got) == bytes.len() {
             self.tally.count(Event::Finished);

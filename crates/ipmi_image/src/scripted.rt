@@ -1,6 +1,6 @@
 //! A management controller that follows a script.
-ghost use Rattle.std.specs.Prelude.{◌≡◌, ◌+◌, ◌<◌, ◌≤◌, false, IfOk, OnErr, Ok, ok_or, None, length, drop};
-ghost use Rattle.ipmi_image.specs.Below.{look, not_present, rows_of, info_of, reading_of, inventory_of, IsHonest, current, ReserveAnswers, PartAnswers, ValueAnswers, SizeAnswers, BytesAnswers, part_asked};
+ghost use Rattle.std.specs.Prelude.{◌≡◌, ◌<◌, ◌≤◌, false, IfOk, OnErr, Ok, ok_or, None, length, drop};
+ghost use Rattle.ipmi_image.specs.Below.{IsCall, failing_code, look, not_present, rows_of, info_of, reading_of, inventory_of, IsHonest, current, ReserveAnswers, PartAnswers, ValueAnswers, SizeAnswers, BytesAnswers, part_asked};
 ghost use Rattle.ipmi_image.specs.Prelude.{seen_as, number_after, part_answer, fru_answer, size_answer, script_seen, script_last_number, moods_left, seen_after_mood, script_answer, StaysAfterMood, ReservesAfterMood, TurnCounts, Turns, mood_turn, after_mood, next_mood};
 
 use crate::image::Image;
@@ -43,8 +43,8 @@ pub struct Scripted {
 }
 
 /// Makes of a call for so many bytes what the mood says.
-fn mood_turn(responder: &mut Responder, mood: Mood, asked: usize) -> Turn
-    ensures counts { TurnCounts result (seen_as false responder.old) (seen_as false responder.new) }
+fn mood_turn(responder: &mut Responder, mood: Mood, asked: u8) -> Turn
+    ensures counts { TurnCounts asked result (seen_as false responder.old) (seen_as false responder.new) }
     ensures turns { IsHonest (seen_as false responder.old) →
         Turns asked result (seen_as false responder.old) (seen_as false responder.new) }
     ensures exact { result ≡ mood_turn asked mood }
@@ -55,18 +55,18 @@ fn mood_turn(responder: &mut Responder, mood: Mood, asked: usize) -> Turn
         Mood::Grant(most) => Turn::Answers(most.max(1)),
         Mood::Cancel => {
             responder.forget();
-            Turn::Failed(responder.fail(Code::CANCELLED))
+            Turn::Failed(responder.fail(asked, Code::CANCELLED))
         }
-        Mood::Busy => Turn::Failed(responder.fail(Code::NODE_BUSY)),
+        Mood::Busy => Turn::Failed(responder.fail(asked, Code::NODE_BUSY)),
         Mood::TooLong => {
             if asked > 1 {
-                return Turn::Failed(responder.fail(Code::TOO_MANY_BYTES));
+                return Turn::Failed(responder.fail(asked, Code::TOO_MANY_BYTES));
             }
             Turn::Answers(LARGEST_PART)
         }
         Mood::Refuse(code) => {
             if code.0 != 0 && code.class() == CodeClass::Refusal {
-                return Turn::Failed(responder.fail(code));
+                return Turn::Failed(responder.fail(asked, code));
             }
             Turn::Answers(LARGEST_PART)
         }
@@ -93,10 +93,10 @@ impl Scripted {
         }
     }
 
-    /// Uses up a mood on a call for `asked` bytes. Calls that name no number of bytes are given 1.
+    /// Uses up a mood on a call for `asked` bytes. Calls for no part are given 0.
     #[tactic(auto, using(crate::proofs::ScriptLemmas::no_moods_left))]
-    fn turn(&mut self, asked: usize) -> Turn
-        ensures counts { TurnCounts result (script_seen self.old) (script_seen self.new) }
+    fn turn(&mut self, asked: u8) -> Turn
+        ensures counts { TurnCounts asked result (script_seen self.old) (script_seen self.new) }
         ensures turns { IsHonest (script_seen self.old) →
             Turns asked result (script_seen self.old) (script_seen self.new) }
         ensures used { moods_left self.new ≡ drop 1 (moods_left self.old) }
@@ -114,15 +114,16 @@ impl Controller for Scripted {
     ghost seen = { script_seen };
 
     fn reserve(&mut self, shelf: Shelf) -> Result<u16, Code>
-        ensures counted { (script_seen self.new).calls ≡ (script_seen self.old).calls + 1 }
+        ensures counted { IsCall 0 (script_seen self.old) (script_seen self.new) }
+        ensures failure { (script_seen self.new).last_failure ≡ failing_code result }
         ensures honest { IsHonest (script_seen self.old) →
             ReserveAnswers shelf result (script_seen self.old) (script_seen self.new) }
-        ensures exact { result ≡ script_answer 1 self.old
+        ensures exact { result ≡ script_answer 0 self.old
             (λ most. Ok (number_after (script_last_number self.old))) }
         ensures used { moods_left self.new ≡ drop 1 (moods_left self.old) }
         ensures leaves { ReservesAfterMood shelf result self.old self.new }
     {
-        match self.turn(1) {
+        match self.turn(0) {
             Turn::Answers(_) => Ok(self.responder.reserve(shelf)),
             Turn::Failed(code) => Err(code),
         }
@@ -138,7 +139,8 @@ impl Controller for Scripted {
     ) -> Result<Part, Code>
         requires some { 0 < length into.old }
         requires fits { length into.old < 255 }
-        ensures counted { (script_seen self.new).calls ≡ (script_seen self.old).calls + 1 }
+        ensures counted { IsCall (length into.old) (script_seen self.old) (script_seen self.new) }
+        ensures failure { (script_seen self.new).last_failure ≡ failing_code result }
         ensures fits { IfOk result (λ part. part.got ≤ length into.old) }
         ensures rest { IfOk result (λ part. drop part.got into.new ≡ drop part.got into.old) }
         ensures err { OnErr result (into.new ≡ into.old) }
@@ -152,7 +154,7 @@ impl Controller for Scripted {
         ensures used { moods_left self.new ≡ drop 1 (moods_left self.old) }
         ensures leaves { StaysAfterMood self.old self.new }
     {
-        match self.turn(into.len()) {
+        match self.turn(into.len() as u8) {
             Turn::Answers(most) => self
                 .responder
                 .part(shelf, reservation, id, offset, most, into),
@@ -161,46 +163,49 @@ impl Controller for Scripted {
     }
 
     fn info(&mut self, shelf: Shelf) -> Result<[u8; 14], Code>
-        ensures counted { (script_seen self.new).calls ≡ (script_seen self.old).calls + 1 }
+        ensures counted { IsCall 0 (script_seen self.old) (script_seen self.new) }
+        ensures failure { (script_seen self.new).last_failure ≡ failing_code result }
         ensures honest { IsHonest (script_seen self.old) →
             ValueAnswers (info_of shelf) result (script_seen self.old) (script_seen self.new) }
-        ensures exact { result ≡ script_answer 1 self.old
+        ensures exact { result ≡ script_answer 0 self.old
             (λ most. ok_or (info_of shelf (seen_after_mood self.old).store) not_present) }
         ensures used { moods_left self.new ≡ drop 1 (moods_left self.old) }
         ensures leaves { StaysAfterMood self.old self.new }
     {
-        match self.turn(1) {
+        match self.turn(0) {
             Turn::Answers(_) => self.responder.info(shelf),
             Turn::Failed(code) => Err(code),
         }
     }
 
     fn reading(&mut self, lun: u8, number: u8) -> Result<Reading, Code>
-        ensures counted { (script_seen self.new).calls ≡ (script_seen self.old).calls + 1 }
+        ensures counted { IsCall 0 (script_seen self.old) (script_seen self.new) }
+        ensures failure { (script_seen self.new).last_failure ≡ failing_code result }
         ensures honest { IsHonest (script_seen self.old) →
             ValueAnswers (reading_of lun number) result
             (script_seen self.old) (script_seen self.new) }
-        ensures exact { result ≡ script_answer 1 self.old
+        ensures exact { result ≡ script_answer 0 self.old
             (λ most. ok_or (reading_of lun number (seen_after_mood self.old).store) not_present) }
         ensures used { moods_left self.new ≡ drop 1 (moods_left self.old) }
         ensures leaves { StaysAfterMood self.old self.new }
     {
-        match self.turn(1) {
+        match self.turn(0) {
             Turn::Answers(_) => self.responder.reading(lun, number),
             Turn::Failed(code) => Err(code),
         }
     }
 
     fn fru_size(&mut self, id: u8) -> Result<FruSize, Code>
-        ensures counted { (script_seen self.new).calls ≡ (script_seen self.old).calls + 1 }
+        ensures counted { IsCall 0 (script_seen self.old) (script_seen self.new) }
+        ensures failure { (script_seen self.new).last_failure ≡ failing_code result }
         ensures honest { IsHonest (script_seen self.old) →
             SizeAnswers id result (script_seen self.old) (script_seen self.new) }
-        ensures exact { result ≡ script_answer 1 self.old
+        ensures exact { result ≡ script_answer 0 self.old
             (λ most. size_answer (inventory_of id (seen_after_mood self.old).store)) }
         ensures used { moods_left self.new ≡ drop 1 (moods_left self.old) }
         ensures leaves { StaysAfterMood self.old self.new }
     {
-        match self.turn(1) {
+        match self.turn(0) {
             Turn::Answers(_) => self.responder.fru_size(id),
             Turn::Failed(code) => Err(code),
         }
@@ -209,7 +214,8 @@ impl Controller for Scripted {
     fn fru_part(&mut self, id: u8, offset: u16, into: &mut [u8]) -> Result<u8, Code>
         requires some { 0 < length into.old }
         requires fits { length into.old < 255 }
-        ensures counted { (script_seen self.new).calls ≡ (script_seen self.old).calls + 1 }
+        ensures counted { IsCall (length into.old) (script_seen self.old) (script_seen self.new) }
+        ensures failure { (script_seen self.new).last_failure ≡ failing_code result }
         ensures fits { IfOk result (λ got. got ≤ length into.old) }
         ensures rest { IfOk result (λ got. drop got into.new ≡ drop got into.old) }
         ensures err { OnErr result (into.new ≡ into.old) }
@@ -222,7 +228,7 @@ impl Controller for Scripted {
         ensures used { moods_left self.new ≡ drop 1 (moods_left self.old) }
         ensures leaves { StaysAfterMood self.old self.new }
     {
-        match self.turn(into.len()) {
+        match self.turn(into.len() as u8) {
             Turn::Answers(most) => self.responder.fru_part(id, offset, most, into),
             Turn::Failed(code) => Err(code),
         }

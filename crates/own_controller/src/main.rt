@@ -4,7 +4,8 @@
 //! of the board, both by calls of the libraries.
 #![tactic(auto)]
 
-ghost use Rattle.std.specs.Prelude.{◌≡◌, ◌+◌, ◌≤◌, IfOk, OnErr, length, drop};
+ghost use Rattle.std.specs.Prelude.{◌≡◌, ◌≤◌, MatchOption, length, drop};
+ghost use Rattle.ipmi_bus.specs.Seen.{IsCall, failing_code};
 ghost use Rattle.ipmi_bus.specs.Unclaimed.{calls_only};
 
 use ipmi_bus::{
@@ -41,37 +42,37 @@ struct Board {
 }
 
 impl Board {
-    /// Counts a call, and answers whether the board can serve it.
-    fn begin(&mut self) -> Result<(), Code>
-        ensures { self.new.tally.counts.calls ≡ self.old.tally.counts.calls + 1 }
+    /// Counts a call for a part of so many bytes, 0 for anything else, and answers whether the board can serve it.
+    fn begin(&mut self, asked: u8) -> Result<(), Code>
+        ensures counted { IsCall asked (calls_only self.old.tally.counts)
+            (calls_only self.new.tally.counts) }
+        ensures failure { self.new.tally.counts.last_failure ≡ failing_code result }
     {
-        self.tally.count(Event::Called);
+        self.tally.count(Event::Called(asked));
         self.turn = self.turn.wrapping_add(1);
         if self.turn % 3 == 0 {
-            Err(Code::NODE_BUSY)
-        } else {
-            Ok(())
+            return Err(self.tally.fail(Code::NODE_BUSY));
         }
+        Ok(())
     }
 }
 
 /// Bytes from the offset on, as many as there is room for, and at most eight.
-fn copy_part(bytes: &[u8], offset: usize, into: &mut [u8]) -> Result<u8, Code>
-    ensures fits { IfOk result (λ got. got ≤ length into.old) }
-    ensures rest { IfOk result (λ got. drop got into.new ≡ drop got into.old) }
-    ensures err { OnErr result (into.new ≡ into.old) }
+fn copy_part(bytes: &[u8], offset: usize, into: &mut [u8]) -> Option<u8>
+    ensures { MatchOption result (into.new ≡ into.old)
+        (λ got. (got ≤ length into.old) × (drop got into.new ≡ drop got into.old)) }
 {
-    let rest = bytes.get(offset..).ok_or(Code::OUT_OF_RANGE)?;
+    let rest = bytes.get(offset..)?;
     let got = rest.len().min(into.len()).min(MOST);
     into[..got].copy_from_slice(&rest[..got]);
-    Ok(got as u8)
+    Some(got as u8)
 }
 
 impl Controller for Board {
-    ghost seen = { λ board. calls_only board.tally.counts.calls };
+    ghost seen = { λ board. calls_only board.tally.counts };
 
     fn reserve(&mut self, _: Shelf) -> Result<u16, Code> {
-        self.begin()?;
+        self.begin(0)?;
         Ok(1)
     }
 
@@ -83,25 +84,27 @@ impl Controller for Board {
         at: u8,
         into: &mut [u8],
     ) -> Result<Part, Code> {
-        self.begin()?;
+        self.begin(into.len() as u8)?;
         let (next, record) = match (shelf, id) {
             (Shelf::Sdr, 0 | 1) => (2, SENSOR),
             (Shelf::Sdr, 2) => (NO_NEXT_ID, LOCATOR),
-            _ => return Err(Code::NOT_PRESENT),
+            _ => return Err(self.tally.fail(Code::NOT_PRESENT)),
         };
-        let got = copy_part(record, usize::from(at), into)?;
-        Ok(Part { next, got })
+        match copy_part(record, usize::from(at), into) {
+            Some(got) => Ok(Part { next, got }),
+            None => Err(self.tally.fail(Code::OUT_OF_RANGE)),
+        }
     }
 
     fn info(&mut self, _: Shelf) -> Result<[u8; 14], Code> {
-        self.begin()?;
-        Err(Code::NOT_PRESENT)
+        self.begin(0)?;
+        Err(self.tally.fail(Code::NOT_PRESENT))
     }
 
     fn reading(&mut self, lun: u8, number: u8) -> Result<Reading, Code> {
-        self.begin()?;
+        self.begin(0)?;
         if lun != 0 || number != 1 {
-            return Err(Code::NOT_PRESENT);
+            return Err(self.tally.fail(Code::NOT_PRESENT));
         }
         Ok(Reading {
             raw: 45,
@@ -112,9 +115,9 @@ impl Controller for Board {
     }
 
     fn fru_size(&mut self, id: u8) -> Result<FruSize, Code> {
-        self.begin()?;
+        self.begin(0)?;
         if id != 0 {
-            return Err(Code::NOT_PRESENT);
+            return Err(self.tally.fail(Code::NOT_PRESENT));
         }
         Ok(FruSize {
             size: INVENTORY.len() as u16,
@@ -123,11 +126,14 @@ impl Controller for Board {
     }
 
     fn fru_part(&mut self, id: u8, at: u16, into: &mut [u8]) -> Result<u8, Code> {
-        self.begin()?;
+        self.begin(into.len() as u8)?;
         if id != 0 {
-            return Err(Code::NOT_PRESENT);
+            return Err(self.tally.fail(Code::NOT_PRESENT));
         }
-        copy_part(INVENTORY, usize::from(at), into)
+        match copy_part(INVENTORY, usize::from(at), into) {
+            Some(got) => Ok(got),
+            None => Err(self.tally.fail(Code::OUT_OF_RANGE)),
+        }
     }
 }
 

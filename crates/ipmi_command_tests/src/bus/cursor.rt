@@ -30,7 +30,7 @@ fn every_code_has_its_class(rt: HostRuntime) {
 #[test]
 fn a_tally_takes_no_room(rt: HostRuntime) {
     let mut tally = Tally::new();
-    tally.count(Event::Called);
+    tally.count(Event::Called(1));
     let size = size_of::<Tally>();
     assert!(rt; size == 0, "{size} bytes");
 }

@@ -25,10 +25,11 @@ returns-in-Ok-Whole-clause-honest g c = λ h.
     record {
       stays = read.stays;
       answers = (answers.0, rw (row, ← asks.id, ← c.read.ensures.request.shelf) found);
+      keeps = λ some none. let kept = read.keeps some none in rw out.retrieval (kept.none_given, λ ok. kept.held);
       calls = λ same. rw (← asks.id, out.retrieval) (c.in-Ok-Whole.ensures.row_calls h same);
       plain = λ p holds.
           let after = read.plain p (record { held = holds.held }) in
-          record { holds = record { held = rw out.retrieval after.0.held }; fine = tt };
+          record { holds = record { held = rw out.retrieval after.0.holds.held }; part = rw out.retrieval after.0.part; fine = tt };
     }
 
 pub returns-else-eq-clause-leaves : goal.returns-else-eq-clause-leaves

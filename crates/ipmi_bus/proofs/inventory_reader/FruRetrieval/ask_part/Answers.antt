@@ -3,15 +3,6 @@ use Rattle.ipmi_bus.specs.FruRetrieval.{request_len}
 use Rattle.ipmi_bus.proofs.InventoryLemmas.{part_answers, part_failed}
 use Rattle.ipmi_bus.proofs.inventory_reader.FruRetrieval.ask_part.Goals as goal
 
-pub returns-in-Ok-clause-answered : goal.returns-in-Ok-clause-answered
-returns-in-Ok-clause-answered g c = record { answer = Ok c.in-Ok.got; filled = c.request.new.self; bytes = c.request.ensures.bytes; takes = c.take_part.ensures.takes }
-
-pub returns-in-Err-clause-answered : goal.returns-in-Err-clause-answered
-returns-in-Err-clause-answered g c =
-    let old = c.args.self.now in
-    let len : c.asked_len-asked.result ≡ request_len old = c.asked_len-asked.ensures ∙ ap (λ (n : ℕ). min old.part (n - old.have)) (c.len.ensures ∙ old.bytes.ok.0) in
-    record { answer = Err c.in-Err.code; filled = c.request.new.self; bytes = c.request.ensures.bytes; takes = rw len at c.fail_part.ensures.fails }
-
 pub returns-in-Ok-clause-honest : goal.returns-in-Ok-clause-honest
 returns-in-Ok-clause-honest g c =
     λ s since. part_answers c.args.self.now c.request.new.self s _ _ c.asked_len-asked.result

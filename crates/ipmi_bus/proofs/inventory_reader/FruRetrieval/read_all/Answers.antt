@@ -7,18 +7,14 @@ use Rattle.ipmi_bus.proofs.inventory_reader.FruRetrieval.read_all.Goals as goal
 pub parts-preserved : goal.parts-preserved
 parts-preserved g c = (
   same_trans _ _ _ c.parts.invariant.0 c.in_ok-ask_part.ensures.same,
-  (let before = c.parts.invariant.1 in let fewer = c.in_ok-ask_part.ensures.leaves in let counted = c.in_ok-ask_part.ensures.counted in omega arith),
-  λ h. stays_trans _ _ _ (c.parts.invariant.2 h) (c.in_ok-ask_part.ensures.stays (c.parts.invariant.2 h).honest),
-  λ s since. c.in_ok-ask_part.ensures.honest s (c.parts.invariant.3 s since),
+  omega (arith, c.parts.invariant.1, c.parts.invariant.0.part, c.in_ok-ask_part.ensures.counted.most_asked),
+  omega (arith, c.parts.invariant.2, c.in_ok-ask_part.ensures.leaves, c.in_ok-ask_part.ensures.counted.calls),
+  λ h. stays_trans _ _ _ (c.parts.invariant.3 h) (c.in_ok-ask_part.ensures.stays (c.parts.invariant.3 h).honest),
+  λ s since. c.in_ok-ask_part.ensures.honest s (c.parts.invariant.4 s since),
 )
 
 pub returns-in_err-ask_part-clause-honest : goal.returns-in_err-ask_part-clause-honest
 returns-in_err-ask_part-clause-honest g c = λ s since.
     let out = err_from_is_err_and c.from_residual.result c.from_residual.ensures.1 in
     let same = c.parts.invariant.0 in
-    rw (out.1, out.2, ← same.id, ← same.tries) (c.in_err-ask_part.ensures.honest s (c.parts.invariant.3 s since))
-
-pub returns-in_err-ask_part-clause-ended : goal.returns-in_err-ask_part-clause-ended
-returns-in_err-ask_part-clause-ended g c =
-    let out = err_from_is_err_and c.from_residual.result c.from_residual.ensures.1 in
-    rw (out.1, out.2) (c.parts.self, c.in_err-ask_part.ensures.answered)
+    rw (out.1, out.2, ← same.id, ← same.tries) (c.in_err-ask_part.ensures.honest s (c.parts.invariant.4 s since))

@@ -3,15 +3,6 @@ use Rattle.ipmi_bus.specs.Retrieval.{request_len}
 use Rattle.ipmi_bus.proofs.PartLemmas.{honest_part, part_failed}
 use Rattle.ipmi_bus.proofs.retrieval.Retrieval.ask_part.Goals as goal
 
-pub returns-in-Ok-clause-answered : goal.returns-in-Ok-clause-answered
-returns-in-Ok-clause-answered g c = record { answer = Ok c.in-Ok.part; filled = c.request.new.self; buffer = c.request.ensures.buffer; takes = c.take_part.ensures.takes }
-
-pub returns-in-Err-clause-answered : goal.returns-in-Err-clause-answered
-returns-in-Err-clause-answered g c =
-    let old = c.args.self.now in
-    let len : c.asked_len-asked.result ≡ request_len old = c.asked_len-asked.ensures ∙ ap (λ (n : ℕ). min old.part (n - old.have)) c.wanted.ensures in
-    record { answer = Err c.in-Err.code; filled = c.request.new.self; buffer = c.request.ensures.buffer; takes = rw len at c.fail_part.ensures.fails }
-
 pub returns-in-Ok-clause-honest : goal.returns-in-Ok-clause-honest
 returns-in-Ok-clause-honest g c =
     λ start s same since. honest_part start c.args.self.now c.request.new.self c.take_part.new.self s _ _ c.args.reservation c.asked_len-asked.result c.in-Ok.part c.take_part.result

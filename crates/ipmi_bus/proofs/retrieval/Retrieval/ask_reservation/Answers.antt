@@ -2,12 +2,6 @@ use Rattle.std.proofs.Common.{Ok, Err, refl}
 use Rattle.ipmi_bus.proofs.CallLemmas.{reserve_given, reserve_failed}
 use Rattle.ipmi_bus.proofs.retrieval.Retrieval.ask_reservation.Goals as goal
 
-pub returns-in-Ok-clause-answered : goal.returns-in-Ok-clause-answered
-returns-in-Ok-clause-answered g c = (Ok c.in-Ok.reservation, (refl, refl))
-
-pub returns-in-Err-clause-answered : goal.returns-in-Err-clause-answered
-returns-in-Err-clause-answered g c = (Err c.in-Err.code, c.fail_reserve.ensures.fails)
-
 pub returns-in-Ok-clause-honest : goal.returns-in-Ok-clause-honest
 returns-in-Ok-clause-honest g c = λ start s same since.
     let answers = c.in-Ok.ensures.honest since.stays.honest in

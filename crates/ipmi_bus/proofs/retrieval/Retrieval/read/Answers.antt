@@ -10,7 +10,7 @@ reading-preserved g c =
     let call = c.make_call.ensures in
     let leaves = rw c.in-Again.is at c.in_ok-make_call.ensures.leaves in
     let honest = rw c.in-Again.is at c.in_ok-make_call.ensures.honest in
-    since_more _ _ _ _ _ _ since call.request call.counted leaves call.stays (λ h. honest _ _ since.request (since.honest h))
+    since_more _ _ _ _ _ _ since call.request call.counted call.asked leaves call.stays (λ h. honest _ _ since.request (since.honest h))
 
 pub returns-in-Over-clause-row_calls : goal.returns-in-Over-clause-row_calls
 returns-in-Over-clause-row_calls g c =
@@ -24,14 +24,6 @@ returns-in-Over-clause-row_calls g c =
 pub returns-in_err-make_call-clause-row_calls : goal.returns-in_err-make_call-clause-row_calls
 returns-in_err-make_call-clause-row_calls g c =
     let call = c.make_call.ensures in row_bound c.args.self.now c.args.id c.reading.self c.make_call.new.self _ _ _ c.reading.invariant call.counted call.stays c.in_err-make_call.ensures.leaves.0
-
-pub returns-in-Over-clause-ended : goal.returns-in-Over-clause-ended
-returns-in-Over-clause-ended g c = record { last = c.reading.self; answered = rw c.in-Over.is at c.in_ok-make_call.ensures.answered }
-
-pub returns-in_err-make_call-clause-ended : goal.returns-in_err-make_call-clause-ended
-returns-in_err-make_call-clause-ended g c =
-    let out = err_from_is_err_and c.from_residual.result c.from_residual.ensures.1 in
-    rw (out.1, out.2) (record { last = c.reading.self; answered = c.in_err-make_call.ensures.answered })
 
 pub reading-init : goal.reading-init
 reading-init g c = search rules
