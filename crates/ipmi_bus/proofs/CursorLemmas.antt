@@ -1,5 +1,5 @@
 -- The record that a cursor hands out is the row that it asked for.
-use Rattle.std.proofs.Common.{◌≡◌, ℕ, ◌+◌, ◌*◌, ◌<◌, ◌≤◌, false, nat_eq, None, Some, IfSome, List, length, take, get_or, refl, sym, ◌∙◌, arith, nat_cmp, take_all, get_or-take, length-take}
+use Rattle.std.proofs.Common.{◌≡◌, ℕ, ◌+◌, ◌*◌, ◌<◌, ◌≤◌, false, nat_eq, None, Some, IfSome, IsSome, List, length, take, get_or, refl, sym, ◌∙◌, arith, nat_cmp, take_all, get_or-take, length-take}
 use Rattle.std.specs.FinSet as set
 use Rattle.std.specs.FinSet.{contains-empty, len-empty}
 use Rattle.std.proofs.lemmas.Bool.Decides.{nat_tests}
@@ -83,8 +83,8 @@ pub hands_out : (old new : CursorState) (asked : ℕ) (r : Retrieval) (row : Row
     → new.ids ≡ set.insert old.ids row.id
     → set.len new.ids ≤ 65536 → row.next < 65536 → r.shelf ≡ old.shelf → length r.buffer ≡ 256
     → 5 ≤ r.have → r.have ≤ largest_len r.shelf → r.have ≡ wanted_len r.shelf r.have r.buffer
-    → HandsOut old new row
-hands_out old new asked r row is asks first place ids at_most next shelf room some fits whole =
+    → IsSome new.reservation → HandsOut old new row
+hands_out old new asked r row is asks first place ids at_most next shelf room some fits whole reserved =
     let within : r.have ≤ length r.buffer = omega (arith, largest_fits r.shelf) in
     record {
       place = place;
@@ -96,6 +96,7 @@ hands_out old new asked r row is asks first place ids at_most next shelf room so
       fits = rw (is, ← shelf) (omega (arith, length-take r.have r.buffer));
       not_at_end = asks.not_at_end;
       next = next;
+      reserved = reserved;
     }
 
 -- where no id was handed out, there is room for each

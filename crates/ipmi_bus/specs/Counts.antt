@@ -4,6 +4,7 @@ use Rattle.std.specs.Prelude.{ℕ, Option}
 pub record Counts : Type 0 where
   pub calls : ℕ
   pub most_asked : ℕ
+  pub last_asked : ℕ
   pub last_failure : Option ℕ
   pub troubles : ℕ
   pub fresh_troubles : ℕ

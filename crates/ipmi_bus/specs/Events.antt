@@ -19,6 +19,7 @@ abbrev pub counts_after : Counts → Event → Counts
 counts_after c (Event.Called asked) = record c {
   calls = c.calls + 1;
   most_asked = max c.most_asked asked;
+  last_asked = asked;
   last_failure = None;
 }
 counts_after c (Event.Failed code) =
@@ -30,6 +31,7 @@ abbrev pub zero_counts : Counts
 zero_counts = record {
   calls = 0;
   most_asked = 0;
+  last_asked = 0;
   last_failure = None;
   troubles = 0;
   fresh_troubles = 0;

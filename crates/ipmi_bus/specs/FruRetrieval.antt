@@ -1,5 +1,5 @@
 -- An inventory that is being read in parts: what is there so far, and what one call may leave of it.
-use Rattle.std.specs.Prelude.{◌≡◌, ℕ, min, ◌+◌, ◌-◌, ◌<◌, ◌≤◌, true, false, IsTrue, None, Some, IsSome, Result, Ok, Err, MatchResult, List, length, take}
+use Rattle.std.specs.Prelude.{◌≡◌, ℕ, min, ◌+◌, ◌-◌, ◌<◌, ◌≤◌, true, false, IsTrue, None, Some, IsSome, Result, Ok, Err, List, length, take}
 use Rattle.ipmi_bus.specs.Types.{Busy, Cancelled, Code, CodeClass, FruEnded, FruRetrieval, FruSize, Size, SmallerPart}
 use Rattle.ipmi_bus.specs.Store.{inventory_of}
 use Rattle.ipmi_bus.specs.Seen.{Seen, StaysHonest}
@@ -7,7 +7,6 @@ use Rattle.ipmi_bus.specs.Readers.{KeepsReservations, InventoryCounts, Inventory
 use Rattle.ipmi_bus.specs.Failures.{HasMet, TroubleIs}
 use Rattle.ipmi_bus.specs.Bounds.{digits}
 use Rattle.ipmi_bus.specs.Calls.{smaller_part}
-use Rattle.ipmi_bus.specs.Code.{class_of}
 
 -- an inventory of which some bytes are there
 pub record IsBegun (r : FruRetrieval) : Type 0 where

@@ -1,5 +1,5 @@
 -- A cursor's fields as contracts see them, and what it hands out.
-use Rattle.std.specs.Prelude.{◌≡◌, ◌≢◌, ℕ, ◌<◌, ◌⊎◌, List, Option, None, Some, Result, Ok, Err, take}
+use Rattle.std.specs.Prelude.{◌≡◌, ◌≢◌, ℕ, ◌<◌, ◌⊎◌, Option, None, Some, Result, Ok, Err, take}
 use Rattle.std.specs.FinSet as set
 use Rattle.ipmi_bus.specs.Types.{End, Ended, First, Handed, Next, Place, Progress}
 use Rattle.ipmi_bus.specs.Shelf.{Row}

@@ -12,13 +12,13 @@ pub use Rattle.ipmi_bus.specs.IdTable.{has_id_bit}
 unfoldable pub use Rattle.ipmi_bus.specs.IdTable.{ids_below, ids_in}
 pub use Rattle.ipmi_bus.specs.Readers.{as_inventory, EndsUnder, inventory_len, InventoryCounts, InventoryIs, KeepsReservations, ReadsInventory, ReadsValue, ValueSays}
 pub use Rattle.ipmi_bus.specs.Retrieval.{after_part, after_trouble, CallLeaves, HoldsCurrent, IsReading, KeepsHeld, ReserveFails, SameRequest, unreserved, wanted_len}
-pub use Rattle.ipmi_bus.specs.Seen.{AsksAtMost, current, FailedBy, failing_code, IsCall, IsFinished, IsHonest, IsQuiet, IsRefused, IsTroubled, KeepsStore, MayLoseReservation, Seen, stays_trans, StaysHonest}
+pub use Rattle.ipmi_bus.specs.Seen.{AsksAtMost, current, failing_code, IsCall, IsFinished, IsHonest, IsQuiet, IsRefused, IsTroubled, KeepsStore, MayLoseReservation, Seen, stays_trans, StaysHonest}
 pub use Rattle.ipmi_bus.specs.Shelf.{AllRows, DistinctIds, first_row, FoundIsRow, id_in, IsRow, IsShelf, LacksId, largest_len, len_of, look, Row, row_with_id, whole_len}
 pub use Rattle.ipmi_bus.specs.Since.{begun, HonestSince, IsPlainSince, ReadIsHonest, ReadNext}
 pub use Rattle.ipmi_bus.specs.Standing.{FollowsWalks, MayFail, StandsAt, WalkStep}
-pub use Rattle.ipmi_bus.specs.Step.{asked_at, AsksAlong, AsksNothing, cycle_at, handed_id, HandsOut, IsAnsweredSo, IsStep, KeepsReservation, KeepsSettings, StaysThere, StepAnswers, StepIsHonest, StepLeaves}
+pub use Rattle.ipmi_bus.specs.Step.{asked_at, AsksAlong, AsksNothing, cycle_at, handed_id, HandsOut, IsStep, KeepsReservation, KeepsSettings, StaysThere, StepAnswers, StepIsHonest, StepLeaves, StepSays}
 pub use Rattle.ipmi_bus.specs.Steps.{AreSteps, cursor_after, handed_out, seen_after, Stepped, StepsFollowWalk, with_handed}
 pub use Rattle.ipmi_bus.specs.Store.{info_of, inventory_of, reading_of, rows_of, Store, store_shelf}
-pub use Rattle.ipmi_bus.specs.Tries.{FailedByTrouble, FailedWith, GaveNothing, IsRefusedWith, LastCallSays, LastFruCallSays, WithinTries}
+pub use Rattle.ipmi_bus.specs.Tries.{IsRefusedWith, IsTrouble, LastCallSays, LastFailed, LastFruCallSays, LastGaveNothing, RefusesInventory, RefusesRecord, RefusesValue, WithinTries}
 pub use Rattle.ipmi_bus.specs.Types.{Absent, Again, Busy, CallOutcome, Cancelled, Code, CodeClass, Cycle, End, Ended, First, Found, FruEnded, FruRetrieval, GaveUp, Handed, Id, Malformed, Missing, NotPresent, Over, Part, Place, Progress, Refusal, Refused, Retrieval, Shelf, Size, SmallerPart, Stalled, Whole}
 pub use Rattle.ipmi_bus.specs.Walk.{AllOf, CycleAt, Done, EndsAfter, EndsBy, EndsEmpty, has_id, IsWalk, last_next, Links, MissingAt, place_after, place_after_rows, RestIsWalk, row_at, TailIsWalk, WalkEnd, WalkExists, WalkIsUnique}

@@ -3,9 +3,9 @@ use Rattle.std.specs.Prelude.{◌≡◌, ℕ, ◌+◌, ◌≤◌, ◌==◌, Bool
 use Rattle.std.specs.declared.alloc.Global.{Global}
 use Rattle.ipmi_bus.specs.Types.{Ended, FruEnded, GaveUp, NotPresent, Refused, Sdr, Sel}
 use Rattle.ipmi_bus.specs.Store.{Store, inventory_of}
-use Rattle.ipmi_bus.specs.Seen.{Seen, FailedBy, StaysHonest, current}
+use Rattle.ipmi_bus.specs.Seen.{Seen, StaysHonest, current}
 use Rattle.ipmi_bus.specs.Bounds.{fru_call_bound}
-use Rattle.ipmi_bus.specs.Tries.{LastCallSays, WithinTries, GivesUp, GivesUpOverChange, IsRefusedWith}
+use Rattle.ipmi_bus.specs.Tries.{LastCallSays, LastFailed, RefusesValue, WithinTries, GivesUp, GivesUpOverChange, IsRefusedWith}
 
 -- ---- a value: an info, a reading
 
@@ -17,10 +17,10 @@ EndsUnder id (Err (Refused n code)) = n ≡ id
 EndsUnder id _ = ⊥
 
 -- the last call was such as the answer says: a value came, or there is none
-abbrev pub ValueSays : {V : Type 0} → Result (Option V) Ended → Option ℕ → Type 0
-ValueSays (Ok (Some v)) failure = failure ≡ None
-ValueSays (Ok None) failure = FailedBy NotPresent failure
-ValueSays (Err ended) failure = LastCallSays ended failure
+abbrev pub ValueSays : {V : Type 0} → Result (Option V) Ended → Seen → Type 0
+ValueSays (Ok (Some v)) seen = seen.last_failure ≡ None
+ValueSays (Ok None) seen = LastFailed (λ class. class ≡ NotPresent) seen
+ValueSays (Err ended) seen = LastCallSays RefusesValue ended seen
 
 -- over an honest controller it is the value that the store has when the call returns, or none where that store has none
 abbrev pub ValueIs : {V : Type 0} → (Store → Option V) → ℕ → Seen → Seen → Result (Option V) Ended

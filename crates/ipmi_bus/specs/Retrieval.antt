@@ -2,14 +2,12 @@
 use Rattle.std.specs.Prelude.{◌≡◌, ℕ, min, ◌+◌, ◌-◌, ◌*◌, ◌<◌, ◌≤◌, Bool, true, false, MatchResult, nat_lt, if◌then◌else◌, Option, None, Some, IsSome, Result, Ok, Err, List, length, take, slice_index}
 use Rattle.ipmi_text.specs.SdrHeader.{sdr_len}
 use Rattle.ipmi_bus.specs.Types.{Absent, Again, Busy, CallOutcome, Cancelled, Code, CodeClass, Ended, GaveUp, Malformed, NotPresent, Over, Part, Refusal, Refused, Retrieval, Sdr, Sel, Shelf, SmallerPart, Stalled, Whole}
-use Rattle.ipmi_bus.specs.Shelf.{Row, look, len_of, largest_len}
+use Rattle.ipmi_bus.specs.Shelf.{Row, look, largest_len}
 use Rattle.ipmi_bus.specs.Store.{rows_of}
-use Rattle.ipmi_bus.specs.Seen.{Seen, FailedBy, current}
-use Rattle.ipmi_bus.specs.Tries.{LastCallSays}
-use Rattle.ipmi_bus.specs.Answers.{Asked}
+use Rattle.ipmi_bus.specs.Seen.{Seen, current}
+use Rattle.ipmi_bus.specs.Tries.{LastCallSays, LastFailed, RefusesRecord}
 use Rattle.ipmi_bus.specs.Bounds.{digits}
 use Rattle.ipmi_bus.specs.Calls.{smaller_part}
-use Rattle.ipmi_bus.specs.Code.{class_of}
 
 -- how many bytes are asked for, by those that are there: of a sensor data record the header comes first
 abbrev pub wanted_len : Shelf → ℕ → List ℕ → ℕ
@@ -118,11 +116,12 @@ TakesRecordPart part old new (Err (Malformed id)) =
 TakesRecordPart part old new _ = ⊥
 
 -- the call was such as its outcome says: the last part came, or there is no such record
-abbrev pub CallSays : Result CallOutcome Ended → Option ℕ → Type 0
-CallSays (Ok Again) failure = Unit {0}
-CallSays (Ok (Over Whole)) failure = failure ≡ None
-CallSays (Ok (Over Absent)) failure = FailedBy NotPresent failure
-CallSays (Err ended) failure = LastCallSays ended failure
+abbrev pub CallSays : Result CallOutcome Ended → Seen → Type 0
+CallSays (Ok Again) seen = Unit {0}
+CallSays (Ok (Over Whole)) seen = (0 < seen.last_asked) × (seen.last_failure ≡ None)
+CallSays (Ok (Over Absent)) seen =
+    (0 < seen.last_asked) × LastFailed (λ class. class ≡ NotPresent) seen
+CallSays (Err ended) seen = LastCallSays RefusesRecord ended seen
 
 -- one call, for a reservation, where none is held
 abbrev pub unreserved : Option ℕ → ℕ
@@ -148,6 +147,6 @@ CallLeaves old new (Ok Again) =
     IsOpenRecord new × ((len : ℕ) → new.have ≤ len → calls_left len new + 1 ≤ calls_left len old)
 CallLeaves old new (Ok (Over Whole)) =
     (new.part ≡ old.part) × (5 ≤ new.have) × (new.have ≤ largest_len new.shelf)
-    × (new.have ≡ wanted_len new.shelf new.have new.buffer)
+    × (new.have ≡ wanted_len new.shelf new.have new.buffer) × IsSome new.reservation
 CallLeaves old new (Ok (Over Absent)) = new.part ≡ old.part
 CallLeaves old new (Err ended) = (new.part ≡ old.part) × NamesId old.id old.shelf ended

@@ -1,13 +1,12 @@
 -- What contracts see of a management controller, and which controllers are honest and plain.
 use Rattle.std.proofs.Common.{◌∙◌, arith}
 use Rattle.std.specs.Prelude.{◌≡◌, ℕ, ◌+◌, ◌<◌, ◌≤◌, max, Bool, IsTrue, Option, None, Some, Result, Ok, Err, refl}
-use Rattle.ipmi_bus.specs.Types.{Code, CodeClass, Sdr, Sel, Shelf}
-use Rattle.ipmi_bus.specs.Code.{class_of}
+use Rattle.ipmi_bus.specs.Types.{Code, Sdr, Sel, Shelf}
 use Rattle.ipmi_bus.specs.Store.{Store, IsStore}
 
--- The numbers have no greatest value. `most_asked` is the most bytes that a part was asked for; the last failure is the code
--- with which the last call failed, if it did. Fresh troubles are those since something was finished; the last code is that
--- of the last refusal; a store is added where another one takes the place of the store.
+-- The numbers have no greatest value. Parts were asked for of at most so many bytes, and the last call asked for one of so
+-- many, 0 where it asked for none, and failed with this code, if it did. Fresh troubles are those since something was
+-- finished; the last code is that of the last refusal; a store is added where another one takes the place of the store.
 pub record Seen : Type 0 where
   pub store : Store
   pub honest : Bool
@@ -16,6 +15,7 @@ pub record Seen : Type 0 where
   pub sel_reservation : Option ℕ
   pub calls : ℕ
   pub most_asked : ℕ
+  pub last_asked : ℕ
   pub last_failure : Option ℕ
   pub troubles : ℕ
   pub fresh_troubles : ℕ
@@ -49,15 +49,11 @@ failing_code (Err code) = Some code.0
 pub record IsCall (asked : ℕ) (old new : Seen) : Type 0 where
   pub calls : new.calls ≡ old.calls + 1
   pub most_asked : new.most_asked ≡ max old.most_asked asked
+  pub last_asked : new.last_asked ≡ asked
 
 -- no part of more bytes than these was asked for
 abbrev pub AsksAtMost : ℕ → Seen → Seen → Type 0
 AsksAtMost part old new = new.most_asked ≤ max old.most_asked part
-
--- it failed with a code of this class
-abbrev pub FailedBy : CodeClass → Option ℕ → Type 0
-FailedBy class None = ⊥
-FailedBy class (Some code) = class_of code ≡ class
 
 -- ---- what an answer counts, beside the call
 

@@ -1,12 +1,12 @@
 -- What holds since the reading of a record began, and when it ends.
-use Rattle.std.specs.Prelude.{◌≡◌, ℕ, ◌+◌, ◌≤◌, IsTrue, Option, IsSome, None, Result, Ok, Err, MatchResult, length}
+use Rattle.std.specs.Prelude.{◌≡◌, ℕ, ◌+◌, ◌≤◌, IsTrue, IsSome, None, Result, Ok, Err, length}
 use Rattle.ipmi_bus.specs.Types.{Absent, Again, CallOutcome, Ended, Found, GaveUp, Over, Refused, Retrieval, Whole}
 use Rattle.ipmi_bus.specs.Shelf.{Row, look, largest_len, len_of}
 use Rattle.ipmi_bus.specs.Store.{rows_of}
-use Rattle.ipmi_bus.specs.Seen.{Seen, IsHonest, StaysHonest}
+use Rattle.ipmi_bus.specs.Seen.{Seen, StaysHonest}
 use Rattle.ipmi_bus.specs.Tries.{WithinTries, GivesUp, IsRefusedWith, NotGivenUpOrRefused}
 use Rattle.ipmi_bus.specs.Failures.{HasMet}
-use Rattle.ipmi_bus.specs.Retrieval.{IsOpenRecord, SameRequest, HasRead, IsReading, HoldsCurrent, KeepsHeld, CallSays, calls_left, wanted_len, NamesId}
+use Rattle.ipmi_bus.specs.Retrieval.{HasRead, IsReading, HoldsCurrent, KeepsHeld, CallSays, wanted_len, NamesId}
 
 -- a retrieval at the start of a record
 abbrev pub begun : Retrieval → ℕ → Retrieval
@@ -54,14 +54,14 @@ ReadNext start new s s' (Ok (Over found)) = ReadIsHonest start new s s' (Ok foun
 ReadNext start new s s' (Err ended) = ReadIsHonest start new s s' (Err ended)
 
 -- the last call was such as the end of the reading says
-abbrev pub ReadSays : Result Found Ended → Option ℕ → Type 0
-ReadSays (Ok found) failure = CallSays (Ok (Over found)) failure
-ReadSays (Err ended) failure = CallSays (Err ended) failure
+abbrev pub ReadSays : Result Found Ended → Seen → Type 0
+ReadSays (Ok found) seen = CallSays (Ok (Over found)) seen
+ReadSays (Err ended) seen = CallSays (Err ended) seen
 
 -- what a reading leaves over any controller
 abbrev pub ReadLeaves : ℕ → Retrieval → Result Found Ended → Type 0
 ReadLeaves id new (Ok Whole) =
     (5 ≤ new.have) × (new.have ≤ largest_len new.shelf)
-    × (new.have ≡ wanted_len new.shelf new.have new.buffer)
+    × (new.have ≡ wanted_len new.shelf new.have new.buffer) × IsSome new.reservation
 ReadLeaves id new (Ok Absent) = Unit {0}
 ReadLeaves id new (Err ended) = NamesId id new.shelf ended

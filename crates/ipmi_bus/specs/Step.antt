@@ -1,13 +1,13 @@
 -- One step of a cursor: what it leaves over any controller, and what it answers over an honest one.
-use Rattle.std.specs.Prelude.{◌≡◌, ◌≢◌, ℕ, ◌+◌, ◌<◌, ◌≤◌, ◌==◌, ◌||◌, false, IsTrue, if◌then◌else◌, Option, None, Some, IsSome, ◌⊎◌, Result, Ok, Err, IsOk, List, length, drop}
+use Rattle.std.specs.Prelude.{◌≡◌, ◌≢◌, ℕ, ◌<◌, ◌≤◌, ◌==◌, ◌||◌, false, IsTrue, if◌then◌else◌, Option, None, Some, IsSome, ◌⊎◌, Result, Ok, Err, IsOk, List, length, drop}
 use Rattle.std.specs.FinSet as set
 use Rattle.std.specs.Ordering.{nat_cmp}
 use Rattle.ipmi_bus.specs.Types.{Cycle, End, Ended, First, GaveUp, Id, Malformed, Missing, NotPresent, Place, Refused, Sdr, Shelf, Stalled}
 use Rattle.ipmi_bus.specs.Shelf.{Row, first_row, look, len_of, largest_len, whole_len, id_in}
 use Rattle.ipmi_bus.specs.Store.{rows_of}
 use Rattle.ipmi_bus.specs.Walk.{IsWalk, WalkEnd, EndsBy, place_after}
-use Rattle.ipmi_bus.specs.Seen.{Seen, AsksAtMost, FailedBy, IsHonest, StaysHonest, current}
-use Rattle.ipmi_bus.specs.Tries.{WithinTries, GivesUp, IsRefusedWith, LastCallSays, NotGivenUpOrRefused}
+use Rattle.ipmi_bus.specs.Seen.{Seen, AsksAtMost, IsHonest, StaysHonest, current}
+use Rattle.ipmi_bus.specs.Tries.{WithinTries, GivesUp, IsRefusedWith, LastCallSays, LastFailed, NotGivenUpOrRefused, RefusesRecord}
 use Rattle.ipmi_bus.specs.Bounds.{AreWithin}
 use Rattle.ipmi_bus.specs.CursorState.{CursorState}
 use Rattle.ipmi_bus.specs.Standing.{StandsAt, FollowsWalks}
@@ -48,6 +48,7 @@ pub record HandsOut (old new : CursorState) (row : Row) : Type 0 where
   pub fits : length row.bytes ≤ largest_len old.shelf
   pub not_at_end : old.place ≢ End
   pub next : row.next < 65536
+  pub reserved : IsSome new.reservation
 
 -- the cursor is where it was, without a reservation
 pub record StaysThere (old new : CursorState) : Type 0 where
@@ -80,11 +81,12 @@ StepLeaves old new (Err (Stalled n)) = (cycle_at old.place old.ids ≡ None) × 
 StepLeaves old new (Err (Malformed n)) =
     (cycle_at old.place old.ids ≡ None) × FailsAt n old new × (old.shelf ≡ Sdr)
 
--- the last call was such as the answer says: a record came, or at the start there is none
-abbrev pub IsAnsweredSo : Place → Result (Option Row) Ended → Option ℕ → Type 0
-IsAnsweredSo place (Ok (Some row)) failure = failure ≡ None
-IsAnsweredSo place (Ok None) failure = place ≡ First → FailedBy NotPresent failure
-IsAnsweredSo place (Err ended) failure = LastCallSays ended failure
+-- the last call was such as the answer says: a part came, or at the start there is none
+abbrev pub StepSays : Place → Result (Option Row) Ended → Seen → Type 0
+StepSays place (Ok (Some row)) seen = (0 < seen.last_asked) × (seen.last_failure ≡ None)
+StepSays place (Ok None) seen =
+    place ≡ First → (0 < seen.last_asked) × LastFailed (λ class. class ≡ NotPresent) seen
+StepSays place (Err ended) seen = LastCallSays RefusesRecord ended seen
 
 -- a step from here asks nothing of the controller: the cursor is at the end, or the chain closes
 abbrev pub AsksNothing : CursorState → Type 0
@@ -161,7 +163,7 @@ pub record IsStep (old new : CursorState) (s s' : Seen)
   pub leaves : StepLeaves old new result
   pub calls : AreWithin old.tries (largest_len old.shelf) old.part new.part s s'
   pub asked : AsksAtMost old.part s s'
-  pub answered : IsAnsweredSo old.place result s'.last_failure
+  pub says : StepSays old.place result s'
   pub no_call : AsksNothing old → s' ≡ s
   pub room : AsksNothing old ⊎ (set.len old.ids < 65536)
   pub honest : IsHonest s → StepIsHonest old new s s' result

@@ -1,8 +1,8 @@
 -- How many troubles and refusals a record, a reading, an info or an inventory met, by how its retrieval ended.
-use Rattle.std.specs.Prelude.{◌≡◌, ℕ, ◌+◌, ◌<◌, ◌≤◌, ◌⊎◌, Option, None, Some, Result, Ok, Err}
-use Rattle.ipmi_bus.specs.Types.{Busy, Cancelled, CodeClass, Cycle, Ended, FruEnded, GaveUp, Malformed, Missing, NotPresent, Refused, SmallerPart, Stalled}
+use Rattle.std.specs.Prelude.{◌≡◌, ℕ, ◌+◌, ◌<◌, ◌≤◌, ◌⊎◌, None, Some, IsSomeAnd, Result, Err}
+use Rattle.ipmi_bus.specs.Types.{Busy, Cancelled, CodeClass, Cycle, Ended, FruEnded, GaveUp, Malformed, Missing, NotPresent, Refusal, Refused, SmallerPart, Stalled}
 use Rattle.ipmi_bus.specs.Code.{class_of}
-use Rattle.ipmi_bus.specs.Seen.{Seen, FailedBy}
+use Rattle.ipmi_bus.specs.Seen.{Seen}
 
 -- no more troubles than the tries, and no refusal
 pub record WithinTries (tries : ℕ) (old new : Seen) : Type 0 where
@@ -42,37 +42,54 @@ NotGivenUpOrRefused _ = Unit {0}
 -- ---- over any controller: the last call was such as the ending says
 
 abbrev pub IsTrouble : CodeClass → Type 0
-IsTrouble Busy = Unit {0}
 IsTrouble Cancelled = Unit {0}
+IsTrouble Busy = Unit {0}
 IsTrouble _ = ⊥
 
--- it failed with a trouble
-abbrev pub FailedByTrouble : Option ℕ → Type 0
-FailedByTrouble None = ⊥
-FailedByTrouble (Some code) = IsTrouble (class_of code)
+-- the codes that refuse a call for so many bytes: 0 of a record is a reservation, and of an inventory its size
+abbrev pub RefusesRecord : ℕ → CodeClass → Type 0
+RefusesRecord asked Refusal = Unit {0}
+RefusesRecord asked NotPresent = asked ≡ 0
+RefusesRecord asked SmallerPart = asked ≡ 0
+RefusesRecord asked _ = ⊥
 
--- it failed with this code, which is no trouble
-pub record FailedWith (code : ℕ) (failure : Option ℕ) : Type 0 where
-  pub is : failure ≡ Some code
-  pub no_trouble : IsTrouble (class_of code) → ⊥
+abbrev pub RefusesValue : ℕ → CodeClass → Type 0
+RefusesValue asked Refusal = Unit {0}
+RefusesValue asked SmallerPart = Unit {0}
+RefusesValue asked _ = ⊥
 
--- it gave no byte, or asked for a smaller part where there is none
-abbrev pub GaveNothing : Option ℕ → Type 0
-GaveNothing failure = (failure ≡ None) ⊎ FailedBy SmallerPart failure
+abbrev pub RefusesInventory : ℕ → CodeClass → Type 0
+RefusesInventory asked Refusal = Unit {0}
+RefusesInventory asked NotPresent = Unit {0}
+RefusesInventory asked SmallerPart = asked ≡ 0
+RefusesInventory asked _ = ⊥
+
+-- the last call failed with a code of such a class
+abbrev pub LastFailed : (CodeClass → Type 0) → Seen → Type 0
+LastFailed Is seen = IsSomeAnd seen.last_failure (λ code. Is (class_of code))
+
+-- the last call was for a part, and gave no byte, as far as its code tells, or asked for less than one byte
+abbrev pub LastGaveNothing : Seen → Type 0
+LastGaveNothing seen =
+    (0 < seen.last_asked) × ((seen.last_failure ≡ None)
+    ⊎ (LastFailed (λ class. class ≡ SmallerPart) seen × (seen.last_asked ≡ 1)))
 
 -- a cycle is found without a call
-abbrev pub LastCallSays : Ended → Option ℕ → Type 0
-LastCallSays (Cycle n) failure = Unit {0}
-LastCallSays (Missing n) failure = FailedBy NotPresent failure
-LastCallSays (GaveUp n) failure = FailedByTrouble failure
-LastCallSays (Refused n code) failure = FailedWith code.0 failure
-LastCallSays (Stalled n) failure = GaveNothing failure
-LastCallSays (Malformed n) failure = failure ≡ None
+abbrev pub LastCallSays : (ℕ → CodeClass → Type 0) → Ended → Seen → Type 0
+LastCallSays Refuses (Cycle n) seen = Unit {0}
+LastCallSays Refuses (Missing n) seen =
+    (0 < seen.last_asked) × LastFailed (λ class. class ≡ NotPresent) seen
+LastCallSays Refuses (Refused n code) seen =
+    (seen.last_failure ≡ Some code.0) × Refuses seen.last_asked (class_of code.0)
+LastCallSays Refuses (GaveUp n) seen = LastFailed IsTrouble seen
+LastCallSays Refuses (Stalled n) seen = LastGaveNothing seen
+LastCallSays Refuses (Malformed n) seen = (0 < seen.last_asked) × (seen.last_failure ≡ None)
 
 -- memory runs out between calls
-abbrev pub LastFruCallSays : FruEnded → Option ℕ → Type 0
-LastFruCallSays FruEnded.Memory failure = Unit {0}
-LastFruCallSays (FruEnded.Refused code) failure = FailedWith code.0 failure
-LastFruCallSays FruEnded.GaveUp failure = FailedByTrouble failure
-LastFruCallSays FruEnded.Stalled failure = GaveNothing failure
-LastFruCallSays FruEnded.Words failure = failure ≡ None
+abbrev pub LastFruCallSays : FruEnded → Seen → Type 0
+LastFruCallSays FruEnded.Memory seen = Unit {0}
+LastFruCallSays (FruEnded.Refused code) seen =
+    (seen.last_failure ≡ Some code.0) × RefusesInventory seen.last_asked (class_of code.0)
+LastFruCallSays FruEnded.GaveUp seen = LastFailed IsTrouble seen
+LastFruCallSays FruEnded.Stalled seen = LastGaveNothing seen
+LastFruCallSays FruEnded.Words seen = (seen.last_asked ≡ 0) × (seen.last_failure ≡ None)

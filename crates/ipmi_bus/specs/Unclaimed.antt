@@ -1,4 +1,4 @@
--- What contracts see of a controller that counts its calls and claims nothing else.
+-- What contracts see of a controller that says what it was asked for and how its calls failed, and claims nothing else.
 use Rattle.std.specs.Prelude.{false, None, []}
 use Rattle.ipmi_bus.specs.Counts.{Counts}
 use Rattle.ipmi_bus.specs.Seen.{Seen}
@@ -20,6 +20,7 @@ calls_only counts = record {
   sel_reservation = None;
   calls = counts.calls;
   most_asked = counts.most_asked;
+  last_asked = counts.last_asked;
   last_failure = counts.last_failure;
   troubles = 0;
   fresh_troubles = 0;

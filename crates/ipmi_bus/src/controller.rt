@@ -52,7 +52,8 @@ pub struct FruSize {
 /// A management controller.
 ///
 /// The clauses `honest` speak only of honest controllers, the others of every controller: it counts its
-/// calls, and keeps within the buffer that it is given.
+/// calls and what they ask for, keeps the code with which the last one failed, and keeps within the buffer that
+/// it is given.
 pub trait Controller {
     /// What contracts see of it. It costs nothing when the program runs.
     ghost seen: { Self → Seen };

@@ -3,7 +3,7 @@ ghost use Rattle.std.specs.Prelude.{◌≡◌, ◌<◌, ◌≤◌, Ok, Err, Some
 ghost use Rattle.std.specs.FinSet as set;
 ghost use Rattle.std.specs.Option.{ForSome};
 ghost use Rattle.std.specs.Borrow.{sem};
-ghost use Rattle.ipmi_bus.specs.Prelude.{End, IsHonest, StaysHonest, Row, whole_len, largest_len, place_after, AreWithin, KeepsSettings, StepLeaves, StepIsHonest, StepAnswers, AsksNothing, StandsAt, IsStep, start_of, state_of, IsCursor, handed_result, handed_id, AsksAtMost, IsAnsweredSo, IsNext};
+ghost use Rattle.ipmi_bus.specs.Prelude.{End, IsHonest, StaysHonest, Row, whole_len, largest_len, place_after, AreWithin, KeepsSettings, StepLeaves, StepIsHonest, StepAnswers, AsksNothing, StandsAt, IsStep, start_of, state_of, IsCursor, handed_result, handed_id, AsksAtMost, IsNext, StepSays};
 
 use crate::controller::{Controller, FIRST_RECORD_ID, LARGEST_SDR_LEN, NO_NEXT_ID, Shelf};
 use crate::id_table::IdTable;
@@ -112,8 +112,7 @@ impl Progress {
         ensures calls { AreWithin self.old.retrieval.tries (largest_len self.old.retrieval.shelf)
             self.old.retrieval.part self.new.retrieval.part (C.seen ctl.old) (C.seen ctl.new) }
         ensures asked { AsksAtMost self.old.retrieval.part (C.seen ctl.old) (C.seen ctl.new) }
-        ensures answered { IsAnsweredSo self.old.place (handed_result self.new result)
-            (C.seen ctl.new).last_failure }
+        ensures says { StepSays self.old.place (handed_result self.new result) (C.seen ctl.new) }
         ensures no_call { AsksNothing (state_of self.old) → C.seen ctl.new ≡ C.seen ctl.old }
         ensures ids_not_full { AsksNothing (state_of self.old) ⊎ (set.len self.old.ids < 65536) }
         ensures honest { IsHonest (C.seen ctl.old) →

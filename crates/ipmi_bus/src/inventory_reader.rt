@@ -123,7 +123,7 @@ impl FruRetrieval {
     fn ask_part<C: Controller>(&mut self, ctl: &mut C) -> Result<(), FruEnded>
         requires { IsOpenInventory self.old }
         ensures counted { IsCall (request_len self.old) (C.seen ctl.old) (C.seen ctl.new) }
-        ensures says { IfErr result (λ ended. LastFruCallSays ended (C.seen ctl.new).last_failure) }
+        ensures says { IfErr result (λ ended. LastFruCallSays ended (C.seen ctl.new)) }
         ensures same { SameInventory self.old self.new }
         ensures leaves { OnOk result (calls_left self.new < calls_left self.old) }
         ensures stays { IsHonest (C.seen ctl.old) → StaysHonest (C.seen ctl.old) (C.seen ctl.new) }
@@ -143,7 +143,7 @@ impl FruRetrieval {
         ensures same { SameInventory self.old self.new }
         ensures whole { OnOk result (self.new.have ≡ length self.new.bytes.items) }
         ensures asked { AsksAtMost self.old.part (C.seen ctl.old) (C.seen ctl.new) }
-        ensures says { IfErr result (λ ended. LastFruCallSays ended (C.seen ctl.new).last_failure) }
+        ensures says { IfErr result (λ ended. LastFruCallSays ended (C.seen ctl.new)) }
         ensures calls { (C.seen ctl.new).calls + 1 ≤ (C.seen ctl.old).calls + calls_left self.old }
         ensures stays { IsHonest (C.seen ctl.old) → StaysHonest (C.seen ctl.old) (C.seen ctl.new) }
         ensures honest { (s : Seen) → FruSince self.old s (C.seen ctl.old) →
@@ -192,7 +192,7 @@ fn read_size<C: Controller>(ctl: &mut C, id: u8, tries: u8) -> Result<Size, FruE
         ((C.seen ctl.new).calls ≡ (C.seen ctl.old).calls + size.troubles + 1)) }
     ensures err { OnErr result ((C.seen ctl.new).calls ≤ (C.seen ctl.old).calls + tries + 1) }
     ensures asked { AsksAtMost 0 (C.seen ctl.old) (C.seen ctl.new) }
-    ensures says { IfErr result (λ ended. LastFruCallSays ended (C.seen ctl.new).last_failure) }
+    ensures says { IfErr result (λ ended. LastFruCallSays ended (C.seen ctl.new)) }
     ensures honest { IsHonest (C.seen ctl.old) → MatchResult result
         (λ size. HasSize id size (C.seen ctl.old) (C.seen ctl.new))
         (λ ended. FruEnds id tries (C.seen ctl.old) (C.seen ctl.new) ended) }
@@ -221,7 +221,7 @@ pub fn read_fru<C: Controller>(
     ensures fits { IfOk result (λ bytes. vec_len bytes ≤ 65535) }
     ensures calls { (C.seen ctl.new).calls ≤ (C.seen ctl.old).calls + fru_call_bound tries 65535 }
     ensures asked { AsksAtMost part (C.seen ctl.old) (C.seen ctl.new) }
-    ensures says { IfErr result (λ ended. LastFruCallSays ended (C.seen ctl.new).last_failure) }
+    ensures says { IfErr result (λ ended. LastFruCallSays ended (C.seen ctl.new)) }
     ensures honest { IsHonest (C.seen ctl.old) → ReadsInventory id tries (C.seen ctl.old)
         (C.seen ctl.new) (as_inventory result) }
 {

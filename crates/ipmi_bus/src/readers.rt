@@ -42,7 +42,7 @@ pub fn read_reading<C: Controller>(
     ensures calls { (C.seen ctl.new).calls ≤ (C.seen ctl.old).calls + (tries + 1) }
     ensures asked { AsksAtMost 0 (C.seen ctl.old) (C.seen ctl.new) }
     ensures ends { EndsUnder id result }
-    ensures says { ValueSays result (C.seen ctl.new).last_failure }
+    ensures says { ValueSays result (C.seen ctl.new) }
     ensures honest { IsHonest (C.seen ctl.old) → ReadsValue (reading_of lun number) tries
         (C.seen ctl.old) (C.seen ctl.new) result }
 {
@@ -68,7 +68,7 @@ pub fn read_info<C: Controller>(
     ensures calls { (C.seen ctl.new).calls ≤ (C.seen ctl.old).calls + (tries + 1) }
     ensures asked { AsksAtMost 0 (C.seen ctl.old) (C.seen ctl.new) }
     ensures ends { EndsUnder 0 result }
-    ensures says { ValueSays result (C.seen ctl.new).last_failure }
+    ensures says { ValueSays result (C.seen ctl.new) }
     ensures honest { IsHonest (C.seen ctl.old) → ReadsValue (info_of shelf) tries (C.seen ctl.old)
         (C.seen ctl.new) result }
 {

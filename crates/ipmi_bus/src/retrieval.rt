@@ -89,7 +89,7 @@ impl Retrieval {
         requires is_open { IsOpenRecord self.old }
         requires none { self.old.reservation ≡ None }
         ensures counted { IsCall 0 (C.seen ctl.old) (C.seen ctl.new) }
-        ensures says { CallSays result (C.seen ctl.new).last_failure }
+        ensures says { CallSays result (C.seen ctl.new) }
         ensures request { SameRequest self.old self.new }
         ensures leaves { CallLeaves self.old self.new result }
         ensures stays { IsHonest (C.seen ctl.old) → StaysHonest (C.seen ctl.old) (C.seen ctl.new) }
@@ -196,7 +196,7 @@ impl Retrieval {
         requires is_open { IsOpenRecord self.old }
         requires reserved { self.old.reservation ≡ Some reservation }
         ensures counted { IsCall (request_len self.old) (C.seen ctl.old) (C.seen ctl.new) }
-        ensures says { CallSays result (C.seen ctl.new).last_failure }
+        ensures says { CallSays result (C.seen ctl.new) }
         ensures request { SameRequest self.old self.new }
         ensures leaves { CallLeaves self.old self.new result }
         ensures stays { IsHonest (C.seen ctl.old) → StaysHonest (C.seen ctl.old) (C.seen ctl.new) }
@@ -216,7 +216,7 @@ impl Retrieval {
         requires { IsOpenRecord self.old }
         ensures counted { (C.seen ctl.new).calls ≡ (C.seen ctl.old).calls + 1 }
         ensures asked { AsksAtMost self.old.part (C.seen ctl.old) (C.seen ctl.new) }
-        ensures says { CallSays result (C.seen ctl.new).last_failure }
+        ensures says { CallSays result (C.seen ctl.new) }
         ensures request { SameRequest self.old self.new }
         ensures leaves { CallLeaves self.old self.new result }
         ensures stays { IsHonest (C.seen ctl.old) → StaysHonest (C.seen ctl.old) (C.seen ctl.new) }
@@ -244,7 +244,7 @@ impl Retrieval {
             (len_of (look (rows_of self.old.shelf (C.seen ctl.old).store) id)) self.old.part
             self.new.part (C.seen ctl.old) (C.seen ctl.new) }
         ensures leaves { ReadLeaves id self.new result }
-        ensures says { ReadSays result (C.seen ctl.new).last_failure }
+        ensures says { ReadSays result (C.seen ctl.new) }
         ensures honest { IsHonest (C.seen ctl.old) →
             ReadIsHonest (begun self.old id) self.new (C.seen ctl.old) (C.seen ctl.new) result }
     {

@@ -11,7 +11,8 @@ use std::marker::Model;
 pub enum Event {
     /// A call came in, for a part of so many bytes, or 0 for anything else.
     Called(u8),
-    /// The call failed with this code: by its class that is a trouble, a refusal or the end of what was asked for.
+    /// The call failed with this code, which by its class is a trouble, a refusal, that a smaller part is wanted, or that
+    /// nothing is there.
     Failed(Code),
     /// An answer finished something, such as data up to the last byte of a record.
     Finished,

@@ -1,5 +1,5 @@
 -- The lines of an image, one after the other.
-use Rattle.std.proofs.Common.{◌≡◌, ℕ, ◌+◌, Bool, true, cond, not, ◌==◌, Option, Some, Result, Ok, Err, List, [], ◌∷◌, ◌++◌, length, refl, sym, ap, ◌∙◌, arith, None}
+use Rattle.std.proofs.Common.{◌≡◌, ℕ, ◌+◌, true, cond, not, ◌==◌, Option, Some, Result, Ok, Err, List, [], ◌∷◌, ◌++◌, length, refl, sym, ap, ◌∙◌, arith, None}
 use Rattle.std.proofs.lemmas.Bool.Decides.{nat_tests}
 use Rattle.ipmi_image.specs.Below.{Store}
 use Rattle.ipmi_image.specs.Prelude.{LineFault, ImageFault, pieces, Line, the_end, line_of, store_of_lines, fault_in, line_judged, at_line, is_end, ends_here, store_after, version_in, store_of_pieces, store_of_image, Version}

@@ -1,5 +1,5 @@
 -- Items found by their keys.
-use Rattle.std.proofs.Common.{◌≡◌, ℕ, zero, suc, ◌<◌, ◌≤◌, Bool, true, false, cond, nat_eq, ◌&&◌, Option, None, Some, IfSome, List, [], ◌∷◌, ◌++◌, length, drop, get_or, set, map, refl, sym, ap, subst, ◌∙◌, option_map, arith, option_and_then, is_some, slice_get, All, MatchBool, is_eq, nat_cmp, not, unwrap_or, true≢false}
+use Rattle.std.proofs.Common.{◌≡◌, ℕ, zero, suc, ◌<◌, ◌≤◌, Bool, true, false, cond, nat_eq, ◌&&◌, Option, None, Some, IfSome, List, [], ◌∷◌, ◌++◌, length, drop, get_or, set, map, refl, sym, ap, subst, ◌∙◌, option_map, arith, option_and_then, is_some, slice_get, All, is_eq, nat_cmp, not, unwrap_or, true≢false}
 use Rattle.std.specs.Option.{option_or}
 use Rattle.std.specs.List.{list_any, IsDistinct}
 use Rattle.std.proofs.lemmas.Option.{none-some}

@@ -1,7 +1,7 @@
 -- What contracts see of the controllers over an image, and what a mood may make of a call.
-use Rattle.std.specs.Prelude.{◌≡◌, ℕ, ◌<◌, ◌==◌, nat_lt, max, if◌then◌else◌, Bool, true, false, ◌&&◌, not, None, Some, Result, Ok, Err, List, [], ◌∷◌}
+use Rattle.std.specs.Prelude.{◌≡◌, ℕ, ◌<◌, ◌==◌, nat_lt, max, if◌then◌else◌, Bool, true, false, not, None, Some, Result, Ok, Err, List, [], ◌∷◌}
 use Rattle.std.specs.Vec.Iter.{into_iter_items}
-use Rattle.ipmi_image.specs.Below.{Code, CodeClass, Refusal, Shelf, Sdr, Sel, class_of, Seen, IsCall, IsQuiet, IsChange, MayLoseReservation, FailsWith}
+use Rattle.ipmi_image.specs.Below.{Code, Refusal, Shelf, Sdr, Sel, class_of, Seen, IsCall, IsQuiet, IsChange, MayLoseReservation, FailsWith}
 use Rattle.ipmi_image.specs.declared.controller.ImageController.{ImageController}
 use Rattle.ipmi_image.specs.declared.responder.Responder.{Responder}
 use Rattle.ipmi_image.specs.declared.scripted.Mood.{Mood}

@@ -75,6 +75,7 @@ seen_as plain r = record {
   sel_reservation = r.sel_reservation;
   calls = r.tally.counts.calls;
   most_asked = r.tally.counts.most_asked;
+  last_asked = r.tally.counts.last_asked;
   last_failure = r.tally.counts.last_failure;
   troubles = r.tally.counts.troubles;
   fresh_troubles = r.tally.counts.fresh_troubles;

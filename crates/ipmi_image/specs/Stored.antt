@@ -1,5 +1,5 @@
 -- What an image keeps, as contracts see it.
-use Rattle.std.specs.Prelude.{ℕ, ◌≡◌, ◌≢◌, ◌⊎◌, ◌++◌, ◌∷◌, [], Option, Some, None, Result, Ok, Err, MatchResult, List, map, filter_map, fold, All, AllPairs}
+use Rattle.std.specs.Prelude.{ℕ, ◌≡◌, ◌≢◌, ◌⊎◌, [], Option, Some, None, Result, Ok, Err, MatchResult, List, map, filter_map, fold, All, AllPairs}
 use Rattle.ipmi_image.specs.Below.{Sdr, Sel, Store, Inventory, SensorReading, IsInventory, IsSensorReading, OtherSensor}
 use Rattle.ipmi_image.specs.declared.contents.Contents.{Contents}
 use Rattle.ipmi_image.specs.declared.image_line.Line.{Line as ReadLine}

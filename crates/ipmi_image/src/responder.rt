@@ -5,9 +5,7 @@ ghost use Rattle.ipmi_image.specs.Prelude.{chained, first_id, seen_as, place_ask
 
 use crate::image::Image;
 use crate::rows::Rows;
-use ipmi_bus::{
-    Code, Event, FIRST_RECORD_ID, FruSize, INFO_LEN, Part, Record, Shelf, Tally,
-};
+use ipmi_bus::{Code, Event, FIRST_RECORD_ID, FruSize, INFO_LEN, Part, Record, Shelf, Tally};
 use ipmi_text::Reading;
 
 /// The place of the record that the id asks for: 0000h asks for the first. It is looked for near a place first.

@@ -10,7 +10,7 @@ returns-in-Ok-Whole-clause-leaves g c =
     let row = handed_row-whole c.hand_out.new.self c.hand_out.result c.args.self.now.place c.in-Asks.id c.read.new.self out.id out.next out.len out.retrieval in
     let room = rw out.retrieval at out.buffer_len in
     let shelf = c.read.ensures.request.shelf in
-    (asks.none, hands_out _ _ c.in-Asks.id c.read.new.self _ row asks c.requires.first out.place out.ids out.at_most out.next_fits shelf room leaves.0 leaves.1 leaves.2)
+    (asks.none, hands_out _ _ c.in-Asks.id c.read.new.self _ row asks c.requires.first out.place out.ids out.at_most out.next_fits shelf room leaves.0 leaves.1 leaves.2 (rw out.retrieval leaves.3))
 
 pub returns-in-Ok-Whole-clause-honest : goal.returns-in-Ok-Whole-clause-honest
 returns-in-Ok-Whole-clause-honest g c = λ h.

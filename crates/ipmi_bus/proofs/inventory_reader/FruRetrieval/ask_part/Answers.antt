@@ -1,5 +1,3 @@
-use Rattle.std.proofs.Common.{◌≡◌, ℕ, ◌-◌, min, Ok, Err, ap, ◌∙◌}
-use Rattle.ipmi_bus.specs.FruRetrieval.{request_len}
 use Rattle.ipmi_bus.proofs.InventoryLemmas.{part_answers, part_failed}
 use Rattle.ipmi_bus.proofs.inventory_reader.FruRetrieval.ask_part.Goals as goal
 

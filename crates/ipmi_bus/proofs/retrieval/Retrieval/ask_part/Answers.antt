@@ -1,5 +1,3 @@
-use Rattle.std.proofs.Common.{◌≡◌, ℕ, ◌-◌, min, Ok, Err, ap, ◌∙◌}
-use Rattle.ipmi_bus.specs.Retrieval.{request_len}
 use Rattle.ipmi_bus.proofs.PartLemmas.{honest_part, part_failed}
 use Rattle.ipmi_bus.proofs.retrieval.Retrieval.ask_part.Goals as goal
 

@@ -1,4 +1,3 @@
-use Rattle.std.proofs.Common.{Ok, Err, refl}
 use Rattle.ipmi_bus.proofs.CallLemmas.{reserve_given, reserve_failed}
 use Rattle.ipmi_bus.proofs.retrieval.Retrieval.ask_reservation.Goals as goal
 

@@ -1,5 +1,4 @@
 use Rattle.std.proofs.Common.{◌≡◌, Ok, rules}
-use Rattle.std.proofs.lemmas.Result.{err_from_is_err_and}
 use Rattle.ipmi_bus.specs.Prelude.{Found, Over, Whole, Absent, CallLeaves}
 use Rattle.ipmi_bus.proofs.SinceLemmas.{since_more, row_bound}
 use Rattle.ipmi_bus.proofs.retrieval.Retrieval.read.Goals as goal
