@@ -2,6 +2,7 @@
 ghost use Rattle.std.specs.Prelude.{◌≡◌, ℕ, List};
 ghost use Rattle.std.specs.Borrow.{ftrue};
 
+use crate::sink::SinkFault;
 use std::marker::Model;
 
 /// What all calls of a sink did so far.
@@ -17,29 +18,27 @@ impl Model for History {
     ghost also_owns = { λ _. ftrue };
 }
 
-/// What one call of a sink did.
+/// A call of a sink.
 #[derive(Clone, Copy)]
-pub(crate) struct Taking<'a> {
-    /// The bytes that it took.
-    pub(crate) bytes: &'a [u8],
-    /// Whether it took none, or failed.
-    pub(crate) is_fault: bool,
+pub(crate) struct Call<'h, 'b> {
+    /// What all calls before it did; none where there was no call.
+    pub(crate) before: Option<&'h History>,
+    /// The bytes that were offered.
+    pub(crate) bytes: &'b [u8],
+    /// The answer.
+    pub(crate) answer: Result<usize, SinkFault>,
 }
 
 impl History {
-    ghost use Rattle.std.specs.Prelude.{◌+◌, ◌++◌, [], if◌then◌else◌};
+    ghost use Rattle.std.specs.Prelude.{◌+◌, ◌++◌, [], option_map, unwrap_or};
+    ghost use Rattle.ipmi_output.specs.Sink.{faults_by, taken_by};
 
-    /// Nothing was taken yet.
-    pub(crate) fn new() -> History
-        ensures { (result.taken ≡ []) × (result.faults ≡ 0) }
-    {
-        History {}
-    }
-
-    /// What was taken before, and then this.
-    pub(crate) fn after(_before: &History, _taking: &Taking<'_>) -> History
-        ensures { (result.taken ≡ _before.now.taken ++ _taking.now.bytes.now)
-            × (result.faults ≡ _before.now.faults + (if _taking.now.is_fault then 1 else 0)) }
+    /// What was taken before the call, and then by it.
+    pub(crate) fn after(_call: &Call<'_, '_>) -> History
+        ensures { (result.taken ≡ unwrap_or (option_map (λ h. h.now.taken) _call.now.before) []
+            ++ taken_by _call.now.answer _call.now.bytes.now)
+            × (result.faults ≡ unwrap_or (option_map (λ h. h.now.faults) _call.now.before) 0
+            + faults_by _call.now.answer) }
     {
         History {}
     }

@@ -2,7 +2,7 @@
 ghost use Rattle.std.specs.Prelude.{◌≡◌, ℕ, ◌≤◌, ◌<◌, ◌+◌, List, [], ◌++◌, length, IfOk, OnOk, OnErr, IsSome, Some, unwrap_or};
 ghost use Rattle.ipmi_output.specs.Sink.{taken_by, faults_by, TakesPart};
 
-use crate::history::{History, Taking};
+use crate::history::{Call, History};
 use std::io::Write;
 use std::snapshot::Snapshot;
 use thiserror::Error;
@@ -44,24 +44,14 @@ impl<W: Write> Sink for Written<W> {
     ghost faults = { λ s. s.history.faults };
 
     fn write(&mut self, bytes: &[u8]) -> Result<usize, SinkFault> {
-        match self.writer.write(bytes) {
-            Ok(n) => {
-                let taking = Taking {
-                    bytes: &bytes[..n],
-                    is_fault: n == 0,
-                };
-                self.history = History::after(&self.history, &taking);
-                Ok(n)
-            }
-            Err(_) => {
-                let taking = Taking {
-                    bytes: &[],
-                    is_fault: true,
-                };
-                self.history = History::after(&self.history, &taking);
-                Err(SinkFault)
-            }
-        }
+        let answer = self.writer.write(bytes).or(Err(SinkFault));
+        let before = Some(&self.history);
+        self.history = History::after(&Call {
+            before,
+            bytes,
+            answer,
+        });
+        answer
     }
 }
 
@@ -76,7 +66,12 @@ impl<W: Write> Written<W> {
         Written {
             writer,
             begun,
-            history: History::new(),
+            // before the first call: one that took none of no bytes, and was no fault
+            history: History::after(&Call {
+                before: None,
+                bytes: &[],
+                answer: Ok(1),
+            }),
         }
     }
 
@@ -86,12 +81,7 @@ impl<W: Write> Written<W> {
         ensures { ((w : W) → IsSome (W.contents w)) →
             W.contents result ≡ Some (⟦<Written<W> as Sink>⟧.taken self) }
     {
-        let Written {
-            writer,
-            begun: _,
-            history: _,
-        } = self;
-        writer
+        self.writer
     }
 }
 
