@@ -1,57 +1,44 @@
--- What `parse` reads of a number on a command line.
-use Rattle.std.proofs.Common.{◌≡◌, ◌≢◌, ◌∙◌, ℕ, ◌<◌, ◌≤◌, ◌^◌, true, false, List, [], ◌∷◌, length, ap, sym, refl, rules, arith, inl, inr, Some, None, Err, ◌==◌}
-use Rattle.std.specs.Char.{digit_value, is_ascii_digit, is_ascii_hexdigit}
+-- What `from_str_radix` reads of a number on a command line.
+use Rattle.std.proofs.Common.{◌≡◌, ◌≢◌, ◌∙◌, ℕ, ◌<◌, ◌≤◌, ◌^◌, true, false, List, [], ◌∷◌, length, refl, arith, inl, inr, Some, None, Result, Ok, Err, ◌==◌, ap, sym, get_or}
+use Rattle.std.specs.Prelude.{nat_lt}
+use Rattle.std.specs.Result.{result_ok}
+use Rattle.std.specs.Char.{is_digit}
 use Rattle.std.specs.List.{list_all}
 use Rattle.std.specs.Str.Parse.{AllDigits, ParsesUnsigned, digits_value}
-use Rattle.std.proofs.Math.Nat.{pow-le-pow_right}
-use Rattle.std.proofs.lemmas.Bool.{cases_lt, and_parts}
+use Rattle.std.proofs.lemmas.Bool.{cases_Bool, cases_lt, and_parts}
 use Rattle.std.proofs.lemmas.Bool.Decides.{nat_tests}
-use Rattle.std.proofs.lemmas.Int.Digits.{digits_value-lt}
-use Rattle.std.proofs.lemmas.Str.Parse.{IsDigitsTest, IsNumeralModel, numerals_by_value, parse_digits, without_leading_plus_none}
-use Rattle.ipmi_command_line.specs.Number.{decimal_of, has_leading_zero, within}
+use Rattle.std.proofs.lemmas.Str.Parse.{without_leading_plus_none}
+use Rattle.ipmi_command_line.specs.Number.{digits_of, within}
 
-tells : IsDigitsTest (λ ds. list_all is_ascii_digit ds ≡ true)
-tells = search rules
+all_from : (radix : ℕ) (bs : List ℕ) → list_all (λ c. is_digit c radix) bs ≡ true → AllDigits radix bs
+all_from radix [] h = tt
+all_from radix (c ∷ cs) h = let p = and_parts (is_digit c radix) (list_all (λ c. is_digit c radix) cs) h in (grind (arith, nat_tests), all_from radix cs p.1)
 
-own : IsNumeralModel (λ ds. list_all is_ascii_digit ds ≡ true) (digits_value 10)
-own = numerals_by_value _ tells
+all_tested : (radix : ℕ) (bs : List ℕ) → AllDigits radix bs → list_all (λ c. is_digit c radix) bs ≡ true
+all_tested radix [] h = refl
+all_tested radix (c ∷ cs) h = grind (arith, nat_tests, all_tested radix cs h.1, h.0)
 
 -- a number past the type is past the range
-pub within-too_large : (low high n : ℕ) → high < n → within low high (Some n) ≡ None
+within-too_large : (low high n : ℕ) → high < n → within low high (Some n) ≡ None
 within-too_large low high n h = grind (arith, nat_tests)
 
-pub decimal_unread : {E : Type 0} (e : E) (bs : List ℕ) (low high : ℕ) → high < 2 ^ 16
-    → (length bs == 0) ≡ false → has_leading_zero bs ≡ false → list_all is_ascii_digit bs ≡ true
-    → ParsesUnsigned 16 10 bs (Err e) → None ≡ within low high (decimal_of bs)
-decimal_unread e bs low high small some spare ds h =
-    let out = parse_digits own 16 bs (Err e) h ds in
-    let read : decimal_of bs ≡ Some (digits_value 10 bs) = rw (some, spare, ds) refl in
-    sym (ap (within low high) read ∙ elim (cases_lt (digits_value 10 bs) (2 ^ 16)) [
-      | inl lt ↦ absurd (out (grind (arith, nat_tests), lt))
-      | inr ge ↦ within-too_large low high (digits_value 10 bs) (omega arith)
-    ])
+some_digits : (radix : ℕ) (bs : List ℕ) → 0 < length bs → list_all (λ c. is_digit c radix) bs ≡ true
+    → digits_of radix bs ≡ Some (digits_value radix bs)
+some_digits radix bs some all = let first : nat_lt 0 (length bs) ≡ true = grind (arith, nat_tests) in rw (first, all) refl
 
-hex_digit : (c : ℕ) → is_ascii_hexdigit c ≡ true → digit_value c < 16
-hex_digit c h = grind (arith, nat_tests)
-
-all_hex : (bs : List ℕ) → list_all is_ascii_hexdigit bs ≡ true → AllDigits 16 bs
-all_hex [] h = tt
-all_hex (c ∷ cs) h = let p = and_parts (is_ascii_hexdigit c) (list_all is_ascii_hexdigit cs) h in (hex_digit c p.0, all_hex cs p.1)
-
-not_plus : (c : ℕ) → is_ascii_hexdigit c ≡ true → c ≢ 43
-not_plus c h = grind (arith, nat_tests)
-
-below_four : (n len : ℕ) → len ≤ 4 → n < 16 ^ len → n < 2 ^ 16
-below_four n len four h = let most : 16 ^ len ≤ 16 ^ 4 = pow-le-pow_right {n = 16} (omega arith) four in omega arith
-
--- one to four hex digits are always read
-pub hex_read : {E : Type 0} (e : E) (bs : List ℕ) → 0 < length bs → length bs ≤ 4
-    → list_all is_ascii_hexdigit bs ≡ true → ParsesUnsigned 16 16 bs (Err e) → ⊥
-hex_read e [] some four ds h = absurd (omega arith)
-hex_read e (c ∷ cs) some four ds h =
-    let no_plus : c ≢ 43 = not_plus c (and_parts (is_ascii_hexdigit c) (list_all is_ascii_hexdigit cs) ds).0 in
-    let same = without_leading_plus_none (c ∷ cs) no_plus in
-    let hex = all_hex (c ∷ cs) ds in
-    let below : digits_value 16 (c ∷ cs) < 16 ^ length (c ∷ cs) = digits_value-lt 16 (c ∷ cs) hex in
-    let small : digits_value 16 (c ∷ cs) < 2 ^ 16 = below_four (digits_value 16 (c ∷ cs)) (length (c ∷ cs)) four below in
-    rw same at h ((omega arith, hex), small)
+-- what is read, in a range of the type, is the number of the digits
+pub digits_read : {E : Type 0} (r : Result ℕ E) (radix : ℕ) (bs : List ℕ) (low high : ℕ) → 0 < length bs
+    → get_or bs 0 0 ≢ 43 → high < 2 ^ 16 → ParsesUnsigned 16 radix bs r
+    → within low high (result_ok r) ≡ within low high (digits_of radix bs)
+digits_read (Ok n) radix bs low high some no_plus small h =
+    let read = rw (without_leading_plus_none bs no_plus) at h in
+    rw (some_digits radix bs some (all_tested radix bs read.0.0.1), read.1) refl
+digits_read (Err e) radix bs low high some no_plus small h =
+    let unread = rw (without_leading_plus_none bs no_plus) at h in
+    elim (cases_Bool (list_all (λ c. is_digit c radix) bs)) [
+      | inl all ↦ rw (some_digits radix bs some all) (elim (cases_lt (digits_value radix bs) (2 ^ 16)) [
+        | inl lt ↦ absurd (unread ((some, all_from radix bs all), lt))
+        | inr ge ↦ sym (within-too_large low high (digits_value radix bs) (omega arith))
+      ])
+      | inr none ↦ let first : nat_lt 0 (length bs) ≡ true = grind (arith, nat_tests) in rw (first, none) refl
+    ]

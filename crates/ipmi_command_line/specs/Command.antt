@@ -61,18 +61,14 @@ part_of = number_or 32 1 254
 abbrev pub tries_of : Option (List ℕ) → Option ℕ
 tries_of = number_or 5 0 255
 
--- an id to start from is given to a task that takes none
-abbrev pub is_stray : Task → Option ℕ → Bool
-is_stray task from = is_some from && not (takes_from task)
-
--- a task with its options, `--from` before `--part` before `--tries`
+-- a task with its options, `--from` before `--part` before `--tries`; an id to start from is given only to one that takes it
 abbrev pub with_options : Option (List ℕ) → Task → Option (Option ℕ) → Option ℕ → Option ℕ
     → Result CommandState UsageFault
 with_options image task None part tries = Err UsageFault.Option
 with_options image task (Some from) None tries = Err UsageFault.Option
 with_options image task (Some from) (Some part) None = Err UsageFault.Option
 with_options image task (Some from) (Some part) (Some tries) =
-    if is_stray task from then Err UsageFault.Option
+    if is_some from && not (takes_from task) then Err UsageFault.Option
     else Ok (record { task = task; from = from; part = part; tries = tries; image = image })
 
 -- ---- the command

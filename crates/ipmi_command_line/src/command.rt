@@ -1,13 +1,13 @@
 //! What a command line asks for.
 ghost use Rattle.std.specs.Prelude.{◌≡◌, ◌≤◌, ◌<◌, ◌⊎◌, Err, IfOk, IfSome, IsSome, IsTrue, MatchResult, None, Ok, Some, length, option_map};
 ghost use Rattle.clap.specs.Words.{found_of, rows_of};
-ghost use Rattle.ipmi_command_line.specs.Command.{IsCommand, IsTask, command_of_matches, command_of_task, is_stray, meaning_of, number_or, start_of_text};
+ghost use Rattle.ipmi_command_line.specs.Command.{IsCommand, IsTask, command_of_matches, command_of_task, meaning_of, number_or, start_of_text};
 ghost use Rattle.ipmi_command_line.specs.Task.{is_listing, takes_from};
 
 use crate::arguments::{arguments, value};
 use crate::number::{decimal, four_hex};
 use crate::table::task_of;
-use crate::task::Task;
+use crate::task::{Count, Task};
 use crate::words::{Word, Words};
 use clap::ArgMatches;
 use ipmi_bus::LARGEST_PART;
@@ -78,14 +78,8 @@ impl Command {
     /// A command. The numbers have to be in their ranges, and the task has to take `from`, if there is one.
     pub fn new(task: Task, from: Option<u16>, part: u8, tries: u8, image: Option<Word>) -> Command
         requires { IsCommand task from part }
-        ensures { result ≡ record {
-          task = task;
-          from = from;
-          part = part;
-          tries = tries;
-          image =
-              image;
-        } }
+        ensures { result ≡
+            record { task = task; from = from; part = part; tries = tries; image = image } }
     {
         Command {
             task,
@@ -132,7 +126,10 @@ impl Command {
     pub fn is_listing(&self) -> bool
         ensures { result ≡ is_listing self.now.task }
     {
-        self.task.is_listing()
+        matches!(
+            self.task,
+            Task::Hex | Task::List(_) | Task::Elist(_) | Task::SelList(Count::All)
+        )
     }
 
     /// The file that the image is in, `--image`; None for standard input.
@@ -143,24 +140,18 @@ impl Command {
     }
 }
 
-/// Whether an id to start from is given to a task that takes none.
-fn is_stray(task: &Task, from: Option<u16>) -> bool
-    ensures { result ≡ is_stray task.now from }
-{
-    from.is_some() && !task.takes_from()
-}
-
 /// The id that the text of `--from` names: four hex digits, neither `0000` nor `FFFF`; None where the option is not given.
 fn start_of_text(text: Option<&str>) -> Result<Option<u16>, UsageFault>
     ensures value { let meant = start_of_text (option_map (λ t. t.now) text.entry) in
         MatchResult result (λ from. meant ≡ Some from) (λ e. (e ≡ UsageFault.Option) × (meant ≡ None)) }
     ensures range { IfOk result (λ from. IfSome from (λ id. (1 ≤ id) × (id ≤ 65534))) }
 {
-    let Some(text) = text else {
-        return Ok(None);
-    };
-    let id = four_hex(text, FIRST_ID, LAST_ID).ok_or(UsageFault::Option)?;
-    Ok(Some(id))
+    match text {
+        Some(text) => four_hex(text, FIRST_ID, LAST_ID)
+            .map(Some)
+            .ok_or(UsageFault::Option),
+        None => Ok(None),
+    }
 }
 
 /// The number of an option, in decimal from `low` to `high`, or `default` where there is no such option.
@@ -200,7 +191,7 @@ fn command_of_task(
     let from = start_of_text(value(matches, "from"))?;
     let part = number_or(value(matches, "part"), DEFAULT_PART, 1, LARGEST_PART)?;
     let tries = number_or(value(matches, "tries"), DEFAULT_TRIES, 0, u8::MAX)?;
-    if is_stray(&task, from) {
+    if from.is_some() && !task.takes_from() {
         return Err(UsageFault::Option);
     }
     let image = owned(alloc, value(matches, "image"))?;

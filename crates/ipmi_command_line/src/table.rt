@@ -1,7 +1,7 @@
 //! The table of commands: what is to be done by the words of a command line.
 ghost use Rattle.std.specs.Prelude.{◌≡◌, IfOk, IfSome, map};
-ghost use Rattle.ipmi_command_line.specs.Command.{IsCount, IsTask};
-ghost use Rattle.ipmi_command_line.specs.Table.{elist_of, entry_of, inventory_of, kind_of, list_of, newest, newest_of, oldest, oldest_of, task_of, task_of_four, task_of_one, task_of_three, task_of_two};
+ghost use Rattle.ipmi_command_line.specs.Command.{IsTask};
+ghost use Rattle.ipmi_command_line.specs.Table.{inventory_of, kind_of, newest_of, oldest_of, task_of, task_of_four, task_of_one, task_of_three, task_of_two};
 
 use crate::command::{FIRST_ID, LAST_ID};
 use crate::number::number;
@@ -26,22 +26,6 @@ fn kind_of(word: &str) -> Option<Kind>
     }
 }
 
-/// So many of the oldest entries, or all of them for 0.
-fn oldest(n: u16) -> Count
-    ensures value { result ≡ oldest n }
-    ensures range { IsCount result }
-{
-    if n == 0 { Count::All } else { Count::First(n) }
-}
-
-/// So many of the newest entries, or all of them for 0.
-fn newest(n: u16) -> Count
-    ensures value { result ≡ newest n }
-    ensures range { IsCount result }
-{
-    if n == 0 { Count::All } else { Count::Last(n) }
-}
-
 /// `fru print ID`.
 fn inventory_of(word: &str) -> Option<Task>
     ensures value { result ≡ inventory_of word.now }
@@ -51,31 +35,15 @@ fn inventory_of(word: &str) -> Option<Task>
     Some(Task::Fru(Some(id as u8)))
 }
 
-/// `sdr list KIND`.
-fn list_of(word: &str) -> Option<Task>
-    ensures value { result ≡ list_of word.now }
-    ensures range { IfSome result IsTask }
-{
-    let kind = kind_of(word)?;
-    Some(Task::List(kind))
-}
-
-/// `sdr elist KIND`.
-fn elist_of(word: &str) -> Option<Task>
-    ensures value { result ≡ elist_of word.now }
-    ensures range { IfSome result IsTask }
-{
-    let kind = kind_of(word)?;
-    Some(Task::Elist(kind))
-}
-
 /// `sel list N` and `sel list first N`.
 fn oldest_of(word: &str) -> Option<Task>
     ensures value { result ≡ oldest_of word.now }
     ensures range { IfSome result IsTask }
 {
-    let n = number(word, 0, u16::MAX)?;
-    Some(Task::SelList(oldest(n)))
+    match number(word, 0, u16::MAX)? {
+        0 => Some(Task::SelList(Count::All)),
+        n => Some(Task::SelList(Count::First(n))),
+    }
 }
 
 /// `sel list last N`.
@@ -83,17 +51,10 @@ fn newest_of(word: &str) -> Option<Task>
     ensures value { result ≡ newest_of word.now }
     ensures range { IfSome result IsTask }
 {
-    let n = number(word, 0, u16::MAX)?;
-    Some(Task::SelList(newest(n)))
-}
-
-/// `sel get ID`.
-fn entry_of(word: &str) -> Option<Task>
-    ensures value { result ≡ entry_of word.now }
-    ensures range { IfSome result IsTask }
-{
-    let id = number(word, FIRST_ID, LAST_ID)?;
-    Some(Task::SelGet(id))
+    match number(word, 0, u16::MAX)? {
+        0 => Some(Task::SelList(Count::All)),
+        n => Some(Task::SelList(Count::Last(n))),
+    }
 }
 
 fn task_of_one(a: &str) -> Option<Task>
@@ -131,11 +92,11 @@ fn task_of_three(alloc: Global, a: &str, b: &str, c: &str) -> Result<Option<Task
 {
     Ok(match (a, b) {
         ("fru", "print") => inventory_of(c),
-        ("sdr", "list") => list_of(c),
-        ("sdr", "elist") => elist_of(c),
+        ("sdr", "list") => kind_of(c).map(Task::List),
+        ("sdr", "elist") => kind_of(c).map(Task::Elist),
         ("sdr", "get") => Some(Task::Get(Word::new(alloc, c)?)),
         ("sel", "list") => oldest_of(c),
-        ("sel", "get") => entry_of(c),
+        ("sel", "get") => number(c, FIRST_ID, LAST_ID).map(Task::SelGet),
         _ => None,
     })
 }
