@@ -26,14 +26,9 @@ IsCount (Count.Last n) = 1 ≤ n
 
 abbrev pub IsTask : Task → Type 0
 IsTask (Task.Fru id) = IfSome id (λ n. n ≤ 254)
-IsTask Task.Hex = ⊤
-IsTask (Task.List kind) = ⊤
-IsTask (Task.Elist kind) = ⊤
-IsTask (Task.Get name) = ⊤
-IsTask (Task.Info shelf) = ⊤
 IsTask (Task.SelList entries) = IsCount entries
 IsTask (Task.SelGet id) = (1 ≤ id) × (id ≤ 65534)
-IsTask Task.Rewrite = ⊤
+IsTask _ = ⊤
 
 pub record IsCommand (task : Task) (from : Option ℕ) (part : ℕ) : Type 0 where
   pub in_range : IsTask task
@@ -55,29 +50,22 @@ abbrev pub number_or : ℕ → ℕ → ℕ → Option (List ℕ) → Option ℕ
 number_or default low high None = Some default
 number_or default low high (Some text) = within low high (decimal_of text)
 
-abbrev pub part_of : Option (List ℕ) → Option ℕ
-part_of = number_or 32 1 254
-
-abbrev pub tries_of : Option (List ℕ) → Option ℕ
-tries_of = number_or 5 0 255
-
 -- a task with its options, `--from` before `--part` before `--tries`; an id to start from is given only to one that takes it
 abbrev pub with_options : Option (List ℕ) → Task → Option (Option ℕ) → Option ℕ → Option ℕ
     → Result CommandState UsageFault
-with_options image task None part tries = Err UsageFault.Option
-with_options image task (Some from) None tries = Err UsageFault.Option
-with_options image task (Some from) (Some part) None = Err UsageFault.Option
 with_options image task (Some from) (Some part) (Some tries) =
     if is_some from && not (takes_from task) then Err UsageFault.Option
     else Ok (record { task = task; from = from; part = part; tries = tries; image = image })
+with_options image task from part tries = Err UsageFault.Option
 
 -- ---- the command
 
 abbrev pub command_of_task : List Row → Option Task → Result CommandState UsageFault
 command_of_task rows None = Err UsageFault.Command
 command_of_task rows (Some task) = with_options (first_of (codes "image") rows) task
-    (start_of_text (first_of (codes "from") rows)) (part_of (first_of (codes "part") rows))
-    (tries_of (first_of (codes "tries") rows))
+    (start_of_text (first_of (codes "from") rows))
+    (number_or 32 1 254 (first_of (codes "part") rows))
+    (number_or 5 0 255 (first_of (codes "tries") rows))
 
 -- the command of what `clap` made of the words, or why they are none
 abbrev pub command_of_matches : List Row → Result CommandState UsageFault

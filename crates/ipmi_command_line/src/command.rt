@@ -199,6 +199,7 @@ fn command_of_task(
 }
 
 /// The command of the options and words that were given.
+#[tactic(auto, using(crate::proofs::ArgumentLemmas::free_words_are))]
 fn command_of_matches(alloc: Global, matches: &ArgMatches<'_>) -> Result<Command, UsageFault>
     ensures { let meant = command_of_matches (rows_of (found_of matches.now)) in
         MatchResult result (λ c. meant ≡ Ok c) (λ e. (e ≡ UsageFault.Memory) ⊎ (meant ≡ Err e)) }

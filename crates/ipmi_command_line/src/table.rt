@@ -114,6 +114,7 @@ fn task_of_four(a: &str, b: &str, c: &str, d: &str) -> Option<Task>
 
 /// The task that the words name, without the program's name and the options; None where they name
 /// none. Without any words it is `sdr hex`.
+#[tactic(auto, using(crate::proofs::TableLemmas::rows))]
 pub(crate) fn task_of(alloc: Global, words: &[&str]) -> Result<Option<Task>, AllocError>
     ensures value { IfOk result (λ task. task ≡ task_of (map (λ word. word.now) words.now)) }
     ensures range { IfOk result (λ task. IfSome task IsTask) }

@@ -1,6 +1,7 @@
 use Rattle.std.proofs.Common.{◌∙◌, ap, ap₂, inl, inr, refl, sym, map-id}
 use Rattle.clap.specs.Words.{fault_of, is_simple, is_simple_and_free, matches_of}
-use Rattle.ipmi_command_line.specs.Arguments.{is_empty, is_taken, rows_of_words}
+use Rattle.ipmi_command_line.specs.Arguments.{is_taken, rows_of_words}
+use Rattle.clap.specs.Walk.{is_empty}
 use Rattle.ipmi_command_line.proofs.ArgumentLemmas.{is_empty-kinds, is_simple_and_free-command_line, is_simple-command_line}
 use Rattle.ipmi_command_line.proofs.arguments.arguments.Goals as goal
 
