@@ -2,6 +2,7 @@
 use Rattle.std.proofs.Common.{◌≡◌, ◌≢◌, ◌∙◌, suc, arith, length, ne_eqb, true, false, List, [], ◌∷◌, ap, codes, refl, map, Option, None, Some, option_map, unwrap_or, Bor}
 use Rattle.clap.specs.Words.{IsAmong, Kinds, Text, is_simple, is_simple_and_free, matched_of, raw_values, rows_of}
 use Rattle.clap.specs.declared.parser.matches.Found.{Found}
+pub use Rattle.clap.proofs.WalkLemmas.{first_value-rows}
 use Rattle.clap.proofs.WalkLemmas.{raw_values-rows}
 use Rattle.clap.proofs.OnLiterals.{clap_on_literals}
 use Rattle.clap.specs.declared.error.kind.ErrorKind.{ErrorKind}
@@ -30,3 +31,5 @@ free_words_are None d f none given =
     ap (map (λ (v : Bor Text). v.now)) none ∙ ap (λ (w : Option (List Text)). unwrap_or w []) (given ∙ raw_values-rows f (codes "words"))
 free_words_are (Some s) d f none given =
     ap (λ (w : Option (List Text)). unwrap_or w []) (given ∙ raw_values-rows f (codes "words"))
+
+pub ruleset values = (first_value-rows)

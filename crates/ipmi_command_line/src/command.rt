@@ -211,6 +211,7 @@ fn command_of_matches(alloc: Global, matches: &ArgMatches<'_>) -> Result<Command
 }
 
 /// The command that the words mean, or why they mean none; `Memory` may come in place of either. The first word is the program's name.
+#[tactic(auto, unfolding(crate::specs::Command::meaning_of))]
 pub fn command_of(alloc: Global, words: &Words) -> Result<Command, UsageFault>
     requires { 0 < length words.now }
     ensures { MatchResult result (λ c. meaning_of words.now ≡ Ok c)
