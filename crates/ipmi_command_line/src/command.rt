@@ -1,7 +1,8 @@
 //! What a command line asks for.
 ghost use Rattle.std.specs.Prelude.{◌≡◌, ◌≤◌, ◌<◌, ◌⊎◌, Err, IfOk, IfSome, IsSome, IsTrue, MatchResult, None, Ok, Some, length, option_map};
 ghost use Rattle.clap.specs.Words.{found_of, rows_of};
-ghost use Rattle.ipmi_command_line.specs.Command.{IsCommand, IsTask, command_of_matches, command_of_task, meaning_of, number_or, start_of_text};
+ghost use Rattle.ipmi_command_line.specs.Command.{CommandState, IsCommand, IsTask, command_of_matches, command_of_task, meaning_of, number_or, start_of_text};
+ghost use Rattle.ipmi_command_line.specs.declared.command.UsageFault.{UsageFault};
 ghost use Rattle.ipmi_command_line.specs.Task.{is_listing, takes_from};
 
 use crate::arguments::{arguments, value};
@@ -45,8 +46,6 @@ pub enum UsageFault {
 }
 
 impl From<AllocError> for UsageFault {
-    ghost use Rattle.ipmi_command_line.specs.declared.command.UsageFault.{UsageFault};
-
     ghost from_gives = { λ _ e. e ≡ UsageFault.Memory };
 
     fn from(_error: AllocError) -> UsageFault {
@@ -65,8 +64,6 @@ pub struct Command {
 }
 
 impl Model for Command {
-    ghost use Rattle.ipmi_command_line.specs.Command.{CommandState, IsCommand};
-
     ghost Value = { CommandState };
 
     ghost view = { λ c. record { task = c.task; from = c.from; part = c.part; tries = c.tries; image = c.image } };

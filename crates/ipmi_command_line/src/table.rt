@@ -1,7 +1,7 @@
 //! The table of commands: what is to be done by the words of a command line.
 ghost use Rattle.std.specs.Prelude.{◌≡◌, IfOk, IfSome, map};
-ghost use Rattle.ipmi_command_line.specs.Command.{IsTask};
-ghost use Rattle.ipmi_command_line.specs.Table.{inventory_of, kind_of, newest_of, oldest_of, task_of, task_of_four, task_of_one, task_of_three, task_of_two};
+ghost use Rattle.ipmi_command_line.specs.Command.{IsCount, IsTask};
+ghost use Rattle.ipmi_command_line.specs.Table.{inventory_of, kind_of, newest, oldest, task_of, task_of_four, task_of_one, task_of_three, task_of_two};
 
 use crate::command::{FIRST_ID, LAST_ID};
 use crate::number::number;
@@ -35,26 +35,20 @@ fn inventory_of(word: &str) -> Option<Task>
     Some(Task::Fru(Some(id as u8)))
 }
 
-/// `sel list N` and `sel list first N`.
-fn oldest_of(word: &str) -> Option<Task>
-    ensures value { result ≡ oldest_of word.now }
-    ensures range { IfSome result IsTask }
+/// So many of the oldest entries, or all of them for 0.
+fn oldest(n: u16) -> Count
+    ensures value { result ≡ oldest n }
+    ensures range { IsCount result }
 {
-    match number(word, 0, u16::MAX)? {
-        0 => Some(Task::SelList(Count::All)),
-        n => Some(Task::SelList(Count::First(n))),
-    }
+    if n == 0 { Count::All } else { Count::First(n) }
 }
 
-/// `sel list last N`.
-fn newest_of(word: &str) -> Option<Task>
-    ensures value { result ≡ newest_of word.now }
-    ensures range { IfSome result IsTask }
+/// So many of the newest entries, or all of them for 0.
+fn newest(n: u16) -> Count
+    ensures value { result ≡ newest n }
+    ensures range { IsCount result }
 {
-    match number(word, 0, u16::MAX)? {
-        0 => Some(Task::SelList(Count::All)),
-        n => Some(Task::SelList(Count::Last(n))),
-    }
+    if n == 0 { Count::All } else { Count::Last(n) }
 }
 
 fn task_of_one(a: &str) -> Option<Task>
@@ -95,7 +89,7 @@ fn task_of_three(alloc: Global, a: &str, b: &str, c: &str) -> Result<Option<Task
         ("sdr", "list") => kind_of(c).map(Task::List),
         ("sdr", "elist") => kind_of(c).map(Task::Elist),
         ("sdr", "get") => Some(Task::Get(Word::new(alloc, c)?)),
-        ("sel", "list") => oldest_of(c),
+        ("sel", "list") => number(c, 0, u16::MAX).map(|n| Task::SelList(oldest(n))),
         ("sel", "get") => number(c, FIRST_ID, LAST_ID).map(Task::SelGet),
         _ => None,
     })
@@ -106,8 +100,8 @@ fn task_of_four(a: &str, b: &str, c: &str, d: &str) -> Option<Task>
     ensures range { IfSome result IsTask }
 {
     match (a, b, c) {
-        ("sel", "list", "first") => oldest_of(d),
-        ("sel", "list", "last") => newest_of(d),
+        ("sel", "list", "first") => number(d, 0, u16::MAX).map(|n| Task::SelList(oldest(n))),
+        ("sel", "list", "last") => number(d, 0, u16::MAX).map(|n| Task::SelList(newest(n))),
         _ => None,
     }
 }
