@@ -1,5 +1,5 @@
 -- What `from_str_radix` reads of a number on a command line.
-use Rattle.std.proofs.Common.{◌≡◌, ◌≢◌, ◌∙◌, ℕ, ◌<◌, ◌≤◌, ◌^◌, true, false, List, [], ◌∷◌, length, refl, arith, inl, inr, Some, None, Result, Ok, Err, ◌==◌, ap, sym, get_or}
+use Rattle.std.proofs.Common.{◌≡◌, ◌≢◌, ℕ, ◌<◌, ◌^◌, true, List, [], ◌∷◌, length, refl, arith, inl, inr, Some, None, Result, Ok, Err, sym, get_or}
 use Rattle.std.specs.Prelude.{nat_lt}
 use Rattle.std.specs.Result.{result_ok}
 use Rattle.std.specs.Char.{is_digit}

@@ -1,11 +1,11 @@
 -- What a command line means.
-use Rattle.std.specs.Prelude.{◌≤◌, ℕ, Bool, ◌&&◌, not, List, Option, Some, None, option_map, is_some, Result, Ok, Err, ⊤, codes, IfSome, OnSome, IsTrue, if◌then◌else◌}
+use Rattle.std.specs.Prelude.{◌≤◌, ◌==◌, ℕ, length, ◌&&◌, not, List, Option, Some, None, option_map, is_some, Result, Ok, Err, ⊤, codes, IfSome, OnSome, IsTrue, if◌then◌else◌}
 use Rattle.clap.specs.Words.{Row, first_of}
 use Rattle.ipmi_command_line.specs.declared.task.Count.{Count}
 use Rattle.ipmi_command_line.specs.declared.task.Task.{Task}
 use Rattle.ipmi_command_line.specs.declared.command.UsageFault.{UsageFault}
 use Rattle.ipmi_command_line.specs.Arguments.{free_words, is_taken, rows_of_words}
-use Rattle.ipmi_command_line.specs.Number.{decimal_of, four_hex_of, within}
+use Rattle.ipmi_command_line.specs.Number.{decimal_of, digits_of, within}
 use Rattle.ipmi_command_line.specs.Table.{task_of}
 use Rattle.ipmi_command_line.specs.Task.{takes_from}
 
@@ -40,10 +40,11 @@ pub record IsCommand (task : Task) (from : Option ℕ) (part : ℕ) : Type 0 whe
 
 -- ---- the options
 
--- without `--from` Some None; where its text is no id from 0001 to FFFE, None
+-- without `--from` Some None; where its text is not four hex digits from 0001 to FFFE, None
 abbrev pub start_of_text : Option (List ℕ) → Option (Option ℕ)
 start_of_text None = Some None
-start_of_text (Some text) = option_map (λ id. Some id) (within 1 65534 (four_hex_of text))
+start_of_text (Some text) =
+    if length text == 4 then option_map (λ id. Some id) (within 1 65534 (digits_of 16 text)) else None
 
 -- the number of an option, in decimal, or its default where the option is not given; None out of its range
 abbrev pub number_or : ℕ → ℕ → ℕ → Option (List ℕ) → Option ℕ

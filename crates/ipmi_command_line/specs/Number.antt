@@ -21,16 +21,9 @@ decimal_of text = if has_leading_zero text then None else digits_of 10 text
 abbrev pub hex_of : List ℕ → Option ℕ
 hex_of text = if nat_le (length text) 4 then digits_of 16 text else None
 
--- four of them
-abbrev pub four_hex_of : List ℕ → Option ℕ
-four_hex_of text = if length text == 4 then digits_of 16 text else None
-
-abbrev pub begins_0x : List ℕ → Bool
-begins_0x text = bytes_eq (take 2 text) (codes "0x")
-
 -- decimal, or `0x` and hex digits
 abbrev pub number_of : List ℕ → Option ℕ
-number_of text = if begins_0x text then hex_of (drop 2 text) else decimal_of text
+number_of text = if bytes_eq (take 2 text) (codes "0x") then hex_of (drop 2 text) else decimal_of text
 
 -- the number, where there is one from low to high
 abbrev pub within : ℕ → ℕ → Option ℕ → Option ℕ

@@ -6,7 +6,7 @@ ghost use Rattle.ipmi_command_line.specs.declared.command.UsageFault.{UsageFault
 ghost use Rattle.ipmi_command_line.specs.Task.{is_listing, takes_from};
 
 use crate::arguments::{arguments, value};
-use crate::number::{decimal, four_hex};
+use crate::number::{decimal, digits};
 use crate::table::task_of;
 use crate::task::{Count, Task};
 use crate::words::{Word, Words};
@@ -144,9 +144,10 @@ fn start_of_text(text: Option<&str>) -> Result<Option<u16>, UsageFault>
     ensures range { IfOk result (λ from. IfSome from (λ id. (1 ≤ id) × (id ≤ 65534))) }
 {
     match text {
-        Some(text) => four_hex(text, FIRST_ID, LAST_ID)
+        Some(text) if text.len() == 4 => digits(text, 16, FIRST_ID, LAST_ID)
             .map(Some)
             .ok_or(UsageFault::Option),
+        Some(_) => Err(UsageFault::Option),
         None => Ok(None),
     }
 }

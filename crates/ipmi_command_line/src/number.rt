@@ -1,6 +1,6 @@
 //! Numbers on a command line.
 ghost use Rattle.std.specs.Prelude.{◌≡◌, ◌≤◌, ◌⊎◌, IfSome, Some};
-ghost use Rattle.ipmi_command_line.specs.Number.{decimal_of, digits_of, four_hex_of, has_leading_zero, hex_of, number_of, within};
+ghost use Rattle.ipmi_command_line.specs.Number.{decimal_of, digits_of, has_leading_zero, hex_of, number_of, within};
 
 /// The number, if it is from `low` to `high`.
 fn in_range(n: u16, low: u16, high: u16) -> Option<u16>
@@ -11,7 +11,7 @@ fn in_range(n: u16, low: u16, high: u16) -> Option<u16>
 }
 
 /// Digits of this radix, as a number from `low` to `high`.
-fn digits(text: &str, radix: u32, low: u16, high: u16) -> Option<u16>
+pub(crate) fn digits(text: &str, radix: u32, low: u16, high: u16) -> Option<u16>
     requires { (radix ≡ 10) ⊎ (radix ≡ 16) }
     ensures value { result ≡ within low high (digits_of radix text.now) }
     ensures range { IfSome result (λ n. (low ≤ n) × (n ≤ high)) }
@@ -40,17 +40,6 @@ pub(crate) fn decimal(text: &str, low: u16, high: u16) -> Option<u16>
         return None;
     }
     digits(text, 10, low, high)
-}
-
-/// Four hex digits, as a number from `low` to `high`.
-pub(crate) fn four_hex(text: &str, low: u16, high: u16) -> Option<u16>
-    ensures value { result ≡ within low high (four_hex_of text.now) }
-    ensures range { IfSome result (λ n. (low ≤ n) × (n ≤ high)) }
-{
-    if text.len() != 4 {
-        return None;
-    }
-    digits(text, 16, low, high)
 }
 
 /// A number from `low` to `high`, in decimal or after `0x` in at most four hex digits.
