@@ -1,5 +1,6 @@
 -- What a message sink took once parts were written to it one after another.
-use Rattle.std.proofs.Common.{◌≡◌, ◌∙◌, ℕ, ◌<◌, ◌==◌, if◌then◌else◌, suc, List, [], ◌++◌, ◌+◌, ◌-◌, Option, None, Some, Ok, Err, Result, Bor, get_or, length, length-append, take, drop, refl, sym, ap, subst, append_assoc, arith, ne_eqb, drop-cons, take-add, append-nil, take-append-drop, option_map, flat_map}
+pub use Rattle.std.proofs.Common.{append_assoc}
+use Rattle.std.proofs.Common.{◌≡◌, ◌∙◌, ℕ, ◌<◌, ◌==◌, if◌then◌else◌, suc, List, [], ◌++◌, ◌+◌, ◌-◌, Option, None, Some, Ok, Err, Result, Bor, get_or, length, length-append, take, drop, refl, sym, ap, subst, arith, ne_eqb, drop-cons, take-add, append-nil, take-append-drop, option_map, flat_map}
 use Rattle.std.proofs.Math.Seq.{take-append-add}
 use Rattle.std.proofs.lemmas.List.{take-append-le, take_rest}
 use Rattle.std.proofs.lemmas.List.Concat.{flat_map-append}
@@ -7,9 +8,11 @@ use Rattle.std.specs.Io.KnownBytes.{Appends, Keeps}
 use Rattle.ipmi_output.specs.Received.{Received, ReceivesAll, ReceivesPart, WritesAll}
 
 -- the first i bytes and the next n of them
-pub take-next : (i n : ℕ) (bytes : List ℕ)
-    → take i bytes ++ take n (take (length bytes - i) (drop i bytes)) ≡ take (i + n) bytes
-take-next i n bytes = rw (take_rest bytes i) (sym (take-add i n bytes))
+pub take_next : (i n : ℕ) (bytes : List ℕ)
+    → take (i + n) bytes ≡ take i bytes ++ take n (take (length bytes - i) (drop i bytes))
+take_next i n bytes = rw (take_rest bytes i) (take-add i n bytes)
+
+pub ruleset next_bytes = (take_next, append_assoc)
 
 -- to append some and then more is to append both
 pub Appends-both : (old mid new : Option (List ℕ)) (xs ys : List ℕ) → Appends old mid xs
@@ -61,9 +64,3 @@ ReceivesPart-in_item f old mid new xs i d within first part =
     cc (drop-cons xs i d within, flat_map-append f (take i xs) (drop i xs), take-append-drop i xs) in
     subst (λ (t : List ℕ). ReceivesPart old new t) split
     (ReceivesPart-after old mid new _ _ first (ReceivesPart-before mid new _ (flat_map f (drop (suc i) xs)) part))
-
--- some bytes, and then what a call writes of those after them
-pub WritesAll-after : {T E : Type 0} (old mid new : Received) (r : Result T E) (xs ys : List ℕ)
-    → ReceivesAll old mid xs → WritesAll mid new r ys → WritesAll old new r (xs ++ ys)
-WritesAll-after old mid new (Ok v) xs ys first all = ReceivesAll-both old mid new xs ys first all
-WritesAll-after old mid new (Err e) xs ys first part = ReceivesPart-after old mid new xs ys first part

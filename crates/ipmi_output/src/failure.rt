@@ -1,5 +1,5 @@
 //! Why a run did not finish: the message of each failure, and its exit status.
-ghost use Rattle.std.specs.Prelude.{◌≡◌};
+ghost use Rattle.std.specs.Prelude.{◌≡◌, Some};
 ghost use Rattle.ipmi_output.specs.Failure.{ended_text, failure_of_image, failure_of_usage, failure_text, image_fault_text, inventory_text, line_fault_text, message_text, status_of_failure};
 ghost use Rattle.ipmi_output.specs.declared.failure.Failure.{Failure};
 
@@ -103,8 +103,6 @@ impl<'a> Failure<'a> {
 }
 
 impl<'a> fmt::Display for Failure<'a> {
-    ghost use Rattle.std.specs.Prelude.{Some};
-
     ghost output = { λ failure. Some (failure_text failure) };
 
     fn fmt<W: fmt::Write>(&self, f: &mut fmt::Formatter<W>) -> fmt::Result {

@@ -1,6 +1,6 @@
 //! Says why a run did not finish. A message is one line, written piece by piece and not made as a whole text first: so none
 //! takes memory, and the want of memory can be told as well.
-ghost use Rattle.std.specs.Prelude.{◌≡◌, ◌<◌, true};
+ghost use Rattle.std.specs.Prelude.{◌≡◌, ◌<◌, Some, true};
 ghost use Rattle.std.specs.Fmt.{digit_glyph};
 ghost use Rattle.ipmi_text.specs.Hex.{byte_h, upper_byte, word_h};
 ghost use Rattle.ipmi_output.specs.Received.{WritesAll};
@@ -27,16 +27,9 @@ pub(crate) enum Piece<'a> {
 }
 
 /// A message, as the texts and pieces that it has one after another.
-pub(crate) struct Message<'a>(
-    pub(crate) &'a str,
-    pub(crate) Piece<'a>,
-    pub(crate) &'a str,
-    pub(crate) Piece<'a>,
-);
+pub(crate) struct Message<'a>(pub &'a str, pub Piece<'a>, pub &'a str, pub Piece<'a>);
 
 impl<'a> fmt::Display for Piece<'a> {
-    ghost use Rattle.std.specs.Prelude.{Some};
-
     ghost output = { λ piece. Some (piece_text piece) };
 
     fn fmt<W: fmt::Write>(&self, f: &mut fmt::Formatter<W>) -> fmt::Result {

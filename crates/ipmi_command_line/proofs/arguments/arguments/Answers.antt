@@ -1,9 +1,22 @@
-use Rattle.std.proofs.Common.{◌∙◌, ap, ap₂, inl, inr, refl, sym, map-id}
-use Rattle.clap.specs.Words.{fault_of, is_simple, is_simple_and_free, matches_of}
-use Rattle.ipmi_command_line.specs.Arguments.{is_taken, rows_of_words}
+use Rattle.std.proofs.Common.{◌≡◌, ◌≢◌, ◌∙◌, suc, arith, length, ne_eqb, true, false, [], ◌∷◌, ap, ap₂, inl, inr, refl, sym, map-id}
+use Rattle.clap.proofs.OnLiterals.{clap_on_literals}
+use Rattle.clap.specs.declared.error.kind.ErrorKind.{ErrorKind}
+use Rattle.clap.specs.Words.{IsAmong, Kinds, fault_of, is_simple, is_simple_and_free, matches_of}
+use Rattle.ipmi_command_line.specs.Arguments.{command_line, is_taken, rows_of_words}
 use Rattle.clap.specs.Walk.{is_empty}
-use Rattle.ipmi_command_line.proofs.ArgumentLemmas.{is_empty-kinds, is_simple_and_free-command_line, is_simple-command_line}
 use Rattle.ipmi_command_line.proofs.arguments.arguments.Goals as goal
+
+is_simple-command_line : is_simple command_line ≡ true
+unfolding clap_on_literals
+is_simple-command_line = refl
+
+is_simple_and_free-command_line : is_simple_and_free command_line ≡ true
+unfolding clap_on_literals
+is_simple_and_free-command_line = refl
+
+is_empty-kinds : (k : ErrorKind) (ks : Kinds) → IsAmong k ks → is_empty ks ≡ false
+is_empty-kinds k [] h = elim h [ ]
+is_empty-kinds k (x ∷ xs) h = let some : suc (length xs) ≢ 0 = omega arith in ne_eqb _ 0 some
 
 pub returns-in-Ok-clause-ok : goal.returns-in-Ok-clause-ok
 unfolding is_taken rows_of_words

@@ -17,12 +17,12 @@ use denote.Shadow.{pure_i}
 use denote.Signature.{plain, types_at, named_lft}
 use denote.Triple.Entry.{alive}
 use denote.Triple.Walked.{says, stay_none_ref, Stays, walk_of, ends_at, Goes-none_ref}
-use Rattle.ipmi_output.specs.contracts.history.Call as call
-use Rattle.ipmi_output.specs.contracts.history.History as history
-use Rattle.ipmi_output.specs.contracts.history.History.after as f
+use Rattle.ipmi_output.specs.contracts.sink.Call as call
+use Rattle.ipmi_output.specs.contracts.sink.History as history
+use Rattle.ipmi_output.specs.contracts.sink.History.after as f
 use Rattle.ipmi_output.specs.Sink.{faults_by, taken_by}
-use Rattle.ipmi_output.proofs.history.History.after.Statement.{statement}
-use Rattle.ipmi_output.proofs.history.History.after.Code as code
+use Rattle.ipmi_output.proofs.sink.History.after.Statement.{statement}
+use Rattle.ipmi_output.proofs.sink.History.after.Code as code
 
 abbrev stayed : Stays f.ended.signature.params f.ended.kept
 stayed = (stay_none_ref (0 ∷ []) tt (plain (λ κs. call.the_row (named_lft 3 1 tt κs) (named_lft 3 2 tt κs))) yes, tt)
@@ -38,8 +38,8 @@ after_spec 𝓤 𝓛 𝓜 𝓡 wired =
     let y : W.Ghost = ((κs, qs, bounds, a, (vptr a.0.ref_ptr.0 a.0.ref_ptr.1 ∷ [], tt)), tt) in
     let it = a.0.now in
     let made : history.the_row.Denot = record {
-      taken = unwrap_or (option_map (λ h. h.now.taken) it.before) [] ++ taken_by it.answer it.bytes.now;
-      faults = unwrap_or (option_map (λ h. h.now.faults) it.before) 0 + faults_by it.answer;
+      taken = unwrap_or (option_map (λ h. h.now.taken) it.0) [] ++ taken_by it.2 it.1.now;
+      faults = unwrap_or (option_map (λ h. h.now.faults) it.0) 0 + faults_by it.2;
     } in
     qed 𝓛 ((raw (alive 𝓛 f.signature κs qs) ⊛ ‵ (owns (types_at f.signature.params κs) a y.0.4)) ∷ ‵ ftrue ∷ []) ∵ move ! (1 ∷ []) $ drop ! $ split ! $
     enter ! _ _ _ _ _ $ alloc_all ! (λ l. pass_all ! refl ((tt, tt), tt) $
