@@ -162,8 +162,7 @@ fn number_or(text: Option<&str>, default: u8, low: u8, high: u8) -> Result<u8, U
     let Some(text) = text else {
         return Ok(default);
     };
-    let n = decimal(text, u16::from(low), u16::from(high)).ok_or(UsageFault::Option)?;
-    Ok(n as u8)
+    Ok(decimal(text, u16::from(low), u16::from(high)).ok_or(UsageFault::Option)? as u8)
 }
 
 /// A copy of the text, if there is one.

@@ -35,8 +35,7 @@ pub(crate) fn read_image<R: Read + Drop>(alloc: Global, reader: R) -> io::Result
     ensures { IfOk result (λ bytes. vec_len bytes ≤ 67108864) }
 {
     let mut bytes = Vec::new(alloc);
-    let mut limited = reader.take(MOST_BYTES + 1);
-    limited.read_to_end(&mut bytes)?;
+    reader.take(MOST_BYTES + 1).read_to_end(&mut bytes)?;
     if bytes.len() as u64 > MOST_BYTES {
         return Err(ErrorKind::FileTooLarge.into());
     }

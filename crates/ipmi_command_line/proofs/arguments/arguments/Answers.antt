@@ -27,15 +27,12 @@ returns-in-Ok-clause-ok c =
       (c.in-Ok.ensures.matches (ap is_simple app_is ∙ is_simple-command_line)).0 ∙ ap₂ matches_of app_is words_are,
     )
 
-pub returns : goal.returns
+pub returns-clause-err : goal.returns-clause-err
 unfolding is_taken
-returns c =
+returns-clause-err c =
     let app_is = c.in_ok-command_line.ensures in
     let words_are = map-id c.as_slice.result.now ∙ c.as_slice.ensures in
-    record {
-      ok = tt;
-      err = elim (c.in-Err.ensures.kinds (ap is_simple_and_free app_is ∙ is_simple_and_free-command_line)) [
-        | inl h ↦ absurd (c.in_default.not-OutOfMemory (c.kind.ensures ∙ h))
-        | inr h ↦ inr (refl, ap is_empty (sym (ap₂ fault_of app_is words_are)) ∙ is_empty-kinds _ _ h)
-      ];
-    }
+    elim (c.in-Err.ensures.kinds (ap is_simple_and_free app_is ∙ is_simple_and_free-command_line)) [
+      | inl h ↦ absurd (c.in_default.not-OutOfMemory (c.kind.ensures ∙ h))
+      | inr h ↦ inr (refl, ap is_empty (sym (ap₂ fault_of app_is words_are)) ∙ is_empty-kinds _ _ h)
+    ]
