@@ -1,5 +1,6 @@
 -- A command line as `clap` reads it: four options, each with one value, and a list of words.
-use Rattle.std.specs.Prelude.{List, [], ◌∷◌, Some, Bool, true, false, codes, unwrap_or}
+use Rattle.std.specs.Prelude.{List, [], Some, Bool, codes, unwrap_or}
+use Rattle.clap.specs.Walk.{is_empty}
 use Rattle.clap.specs.Words.{App, Row, Rule, Text, all_of, fault_of, matches_of, new_app, new_rule, with_rule}
 use Rattle.clap.specs.declared.builder.ArgAction.TheVariants.{Append}
 
@@ -17,10 +18,6 @@ command_line =
     with_rule (with_rule (with_rule (with_rule (with_rule (new_app (codes "ipmitool"))
     (option_rule (codes "image"))) (option_rule (codes "from"))) (option_rule (codes "part")))
     (option_rule (codes "tries"))) words_rule
-
-abbrev pub is_empty : {X : Type 0} → List X → Bool
-is_empty [] = true
-is_empty (x ∷ xs) = false
 
 -- `clap` takes the words, the first of which is the program's name
 unfoldable pub is_taken : List Text → Bool

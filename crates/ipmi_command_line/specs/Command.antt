@@ -1,11 +1,11 @@
 -- What a command line means.
-use Rattle.std.specs.Prelude.{◌≤◌, ℕ, Bool, ◌&&◌, not, List, Option, Some, None, option_map, is_some, Result, Ok, Err, ⊤, codes, IfSome, OnSome, IsTrue, if◌then◌else◌}
+use Rattle.std.specs.Prelude.{◌≤◌, ◌==◌, ℕ, length, ◌&&◌, not, List, Option, Some, None, option_map, is_some, Result, Ok, Err, ⊤, codes, IfSome, OnSome, IsTrue, if◌then◌else◌}
 use Rattle.clap.specs.Words.{Row, first_of}
 use Rattle.ipmi_command_line.specs.declared.task.Count.{Count}
 use Rattle.ipmi_command_line.specs.declared.task.Task.{Task}
 use Rattle.ipmi_command_line.specs.declared.command.UsageFault.{UsageFault}
 use Rattle.ipmi_command_line.specs.Arguments.{free_words, is_taken, rows_of_words}
-use Rattle.ipmi_command_line.specs.Number.{decimal_of, four_hex_of, within}
+use Rattle.ipmi_command_line.specs.Number.{decimal_of, digits_of, within}
 use Rattle.ipmi_command_line.specs.Table.{task_of}
 use Rattle.ipmi_command_line.specs.Task.{takes_from}
 
@@ -26,14 +26,9 @@ IsCount (Count.Last n) = 1 ≤ n
 
 abbrev pub IsTask : Task → Type 0
 IsTask (Task.Fru id) = IfSome id (λ n. n ≤ 254)
-IsTask Task.Hex = ⊤
-IsTask (Task.List kind) = ⊤
-IsTask (Task.Elist kind) = ⊤
-IsTask (Task.Get name) = ⊤
-IsTask (Task.Info shelf) = ⊤
 IsTask (Task.SelList entries) = IsCount entries
 IsTask (Task.SelGet id) = (1 ≤ id) × (id ≤ 65534)
-IsTask Task.Rewrite = ⊤
+IsTask _ = ⊤
 
 pub record IsCommand (task : Task) (from : Option ℕ) (part : ℕ) : Type 0 where
   pub in_range : IsTask task
@@ -45,43 +40,33 @@ pub record IsCommand (task : Task) (from : Option ℕ) (part : ℕ) : Type 0 whe
 
 -- ---- the options
 
--- without `--from` Some None; where its text is no id from 0001 to FFFE, None
+-- without `--from` Some None; where its text is not four hex digits from 0001 to FFFE, None
 abbrev pub start_of_text : Option (List ℕ) → Option (Option ℕ)
 start_of_text None = Some None
-start_of_text (Some text) = option_map (λ id. Some id) (within 1 65534 (four_hex_of text))
+start_of_text (Some text) =
+    if length text == 4 then option_map (λ id. Some id) (within 1 65534 (digits_of 16 text)) else None
 
 -- the number of an option, in decimal, or its default where the option is not given; None out of its range
 abbrev pub number_or : ℕ → ℕ → ℕ → Option (List ℕ) → Option ℕ
 number_or default low high None = Some default
 number_or default low high (Some text) = within low high (decimal_of text)
 
-abbrev pub part_of : Option (List ℕ) → Option ℕ
-part_of = number_or 32 1 254
-
-abbrev pub tries_of : Option (List ℕ) → Option ℕ
-tries_of = number_or 5 0 255
-
--- an id to start from is given to a task that takes none
-abbrev pub is_stray : Task → Option ℕ → Bool
-is_stray task from = is_some from && not (takes_from task)
-
--- a task with its options, `--from` before `--part` before `--tries`
+-- a task with its options, `--from` before `--part` before `--tries`; an id to start from is given only to one that takes it
 abbrev pub with_options : Option (List ℕ) → Task → Option (Option ℕ) → Option ℕ → Option ℕ
     → Result CommandState UsageFault
-with_options image task None part tries = Err UsageFault.Option
-with_options image task (Some from) None tries = Err UsageFault.Option
-with_options image task (Some from) (Some part) None = Err UsageFault.Option
 with_options image task (Some from) (Some part) (Some tries) =
-    if is_stray task from then Err UsageFault.Option
+    if is_some from && not (takes_from task) then Err UsageFault.Option
     else Ok (record { task = task; from = from; part = part; tries = tries; image = image })
+with_options image task from part tries = Err UsageFault.Option
 
 -- ---- the command
 
 abbrev pub command_of_task : List Row → Option Task → Result CommandState UsageFault
 command_of_task rows None = Err UsageFault.Command
 command_of_task rows (Some task) = with_options (first_of (codes "image") rows) task
-    (start_of_text (first_of (codes "from") rows)) (part_of (first_of (codes "part") rows))
-    (tries_of (first_of (codes "tries") rows))
+    (start_of_text (first_of (codes "from") rows))
+    (number_or 32 1 254 (first_of (codes "part") rows))
+    (number_or 5 0 255 (first_of (codes "tries") rows))
 
 -- the command of what `clap` made of the words, or why they are none
 abbrev pub command_of_matches : List Row → Result CommandState UsageFault

@@ -1,8 +1,13 @@
 -- Numbers on a command line.
-use Rattle.std.specs.Prelude.{ℕ, Bool, ◌&&◌, not, ◌==◌, nat_le, nat_lt, List, length, slice_index, take, drop, Option, Some, None, codes, if◌then◌else◌, bytes_eq}
-use Rattle.std.specs.Char.{is_ascii_digit, is_ascii_hexdigit}
+use Rattle.std.specs.Prelude.{ℕ, Bool, ◌&&◌, ◌==◌, nat_le, nat_lt, List, length, slice_index, take, drop, Option, Some, None, codes, if◌then◌else◌, bytes_eq}
+use Rattle.std.specs.Char.{is_digit}
 use Rattle.std.specs.List.{list_all}
 use Rattle.std.specs.Str.Parse.{digits_value}
+
+-- one digit or more of this radix, letters of either case, and nothing else
+abbrev pub digits_of : ℕ → List ℕ → Option ℕ
+digits_of radix text = if nat_lt 0 (length text) && list_all (λ c. is_digit c radix) text
+    then Some (digits_value radix text) else None
 
 -- a zero before other digits
 abbrev pub has_leading_zero : List ℕ → Bool
@@ -10,26 +15,15 @@ has_leading_zero text = nat_lt 1 (length text) && slice_index text 0 == 48
 
 -- decimal digits without a leading zero; `0` itself is one
 abbrev pub decimal_of : List ℕ → Option ℕ
-decimal_of text = if not (length text == 0)
-    && (not (has_leading_zero text) && list_all is_ascii_digit text)
-    then Some (digits_value 10 text) else None
+decimal_of text = if has_leading_zero text then None else digits_of 10 text
 
--- one to four hex digits of either case
+-- one to four hex digits
 abbrev pub hex_of : List ℕ → Option ℕ
-hex_of text = if nat_lt 0 (length text)
-    && (nat_le (length text) 4 && list_all is_ascii_hexdigit text) then Some (digits_value 16 text)
-    else None
-
--- four of them
-abbrev pub four_hex_of : List ℕ → Option ℕ
-four_hex_of text = if length text == 4 then hex_of text else None
-
-abbrev pub begins_0x : List ℕ → Bool
-begins_0x text = bytes_eq (take 2 text) (codes "0x")
+hex_of text = if nat_le (length text) 4 then digits_of 16 text else None
 
 -- decimal, or `0x` and hex digits
 abbrev pub number_of : List ℕ → Option ℕ
-number_of text = if begins_0x text then hex_of (drop 2 text) else decimal_of text
+number_of text = if bytes_eq (take 2 text) (codes "0x") then hex_of (drop 2 text) else decimal_of text
 
 -- the number, where there is one from low to high
 abbrev pub within : ℕ → ℕ → Option ℕ → Option ℕ

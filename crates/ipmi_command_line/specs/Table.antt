@@ -38,20 +38,9 @@ newest (suc n) = Count.Last (suc n)
 abbrev pub inventory_of : List ℕ → Option Task
 inventory_of word = option_map (λ id. Task.Fru (Some id)) (within 0 254 (number_of word))
 
-abbrev pub list_of : List ℕ → Option Task
-list_of word = option_map (λ kind. Task.List kind) (kind_of word)
-
-abbrev pub elist_of : List ℕ → Option Task
-elist_of word = option_map (λ kind. Task.Elist kind) (kind_of word)
-
-abbrev pub oldest_of : List ℕ → Option Task
-oldest_of word = option_map (λ n. Task.SelList (oldest n)) (within 0 65535 (number_of word))
-
-abbrev pub newest_of : List ℕ → Option Task
-newest_of word = option_map (λ n. Task.SelList (newest n)) (within 0 65535 (number_of word))
-
-abbrev pub entry_of : List ℕ → Option Task
-entry_of word = option_map (λ id. Task.SelGet id) (within 1 65534 (number_of word))
+-- that many entries are listed
+abbrev pub entries_of : (ℕ → Count) → List ℕ → Option Task
+entries_of listed word = option_map (λ n. Task.SelList (listed n)) (within 0 65535 (number_of word))
 
 -- ---- the rows
 
@@ -77,17 +66,17 @@ task_of_two a b =
 abbrev pub task_of_three : List ℕ → List ℕ → List ℕ → Option Task
 task_of_three a b c =
     if are a b (codes "fru") (codes "print") then inventory_of c
-    else (if are a b (codes "sdr") (codes "list") then list_of c
-    else (if are a b (codes "sdr") (codes "elist") then elist_of c
+    else (if are a b (codes "sdr") (codes "list") then option_map (λ kind. Task.List kind) (kind_of c)
+    else (if are a b (codes "sdr") (codes "elist") then option_map (λ kind. Task.Elist kind) (kind_of c)
     else (if are a b (codes "sdr") (codes "get") then Some (Task.Get c)
-    else (if are a b (codes "sel") (codes "list") then oldest_of c
-    else (if are a b (codes "sel") (codes "get") then entry_of c
+    else (if are a b (codes "sel") (codes "list") then entries_of oldest c
+    else (if are a b (codes "sel") (codes "get") then option_map (λ id. Task.SelGet id) (within 1 65534 (number_of c))
     else None)))))
 
 abbrev pub task_of_four : List ℕ → List ℕ → List ℕ → List ℕ → Option Task
 task_of_four a b c d =
-    if are a b (codes "sel") (codes "list") && bytes_eq c (codes "first") then oldest_of d
-    else (if are a b (codes "sel") (codes "list") && bytes_eq c (codes "last") then newest_of d
+    if are a b (codes "sel") (codes "list") && bytes_eq c (codes "first") then entries_of oldest d
+    else (if are a b (codes "sel") (codes "list") && bytes_eq c (codes "last") then entries_of newest d
     else None)
 
 -- no words are `sdr hex`, and more than four are nothing

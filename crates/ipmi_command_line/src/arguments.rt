@@ -29,11 +29,12 @@ fn words_rule<'a>(alloc: Global) -> Arg<'a>
 fn command_line<'a>(alloc: Global) -> Result<Command<'a>, AllocError>
     ensures { IfOk result (λ c. app_of c ≡ command_line) }
 {
-    let mut line = Command::new(alloc, "ipmitool");
-    for name in ["image", "from", "part", "tries"] {
-        line = line.arg(option_rule(alloc, name))?;
-    }
-    line.arg(words_rule(alloc))
+    Command::new(alloc, "ipmitool")
+        .arg(option_rule(alloc, "image"))?
+        .arg(option_rule(alloc, "from"))?
+        .arg(option_rule(alloc, "part"))?
+        .arg(option_rule(alloc, "tries"))?
+        .arg(words_rule(alloc))
 }
 
 /// The options and words of a command line, the first word of which is the program's name.
@@ -53,6 +54,7 @@ pub(crate) fn arguments<'a>(alloc: Global, words: &'a Words) -> Result<ArgMatche
 }
 
 /// The value of the option of this name, if it was given.
+#[tactic(auto, using(crate::proofs::ArgumentLemmas::values))]
 pub(crate) fn value<'a>(matches: &ArgMatches<'a>, name: &str) -> Option<&'a str>
     ensures { option_map (λ t. t.now) result ≡ first_of name.now (rows_of (found_of matches.now)) }
 {

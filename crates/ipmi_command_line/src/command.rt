@@ -1,13 +1,14 @@
 //! What a command line asks for.
 ghost use Rattle.std.specs.Prelude.{◌≡◌, ◌≤◌, ◌<◌, ◌⊎◌, Err, IfOk, IfSome, IsSome, IsTrue, MatchResult, None, Ok, Some, length, option_map};
 ghost use Rattle.clap.specs.Words.{found_of, rows_of};
-ghost use Rattle.ipmi_command_line.specs.Command.{IsCommand, IsTask, command_of_matches, command_of_task, is_stray, meaning_of, number_or, start_of_text};
+ghost use Rattle.ipmi_command_line.specs.Command.{CommandState, IsCommand, IsTask, command_of_matches, command_of_task, meaning_of, number_or, start_of_text};
+ghost use Rattle.ipmi_command_line.specs.declared.command.UsageFault.{UsageFault};
 ghost use Rattle.ipmi_command_line.specs.Task.{is_listing, takes_from};
 
 use crate::arguments::{arguments, value};
-use crate::number::{decimal, four_hex};
+use crate::number::{decimal, digits};
 use crate::table::task_of;
-use crate::task::Task;
+use crate::task::{Count, Task};
 use crate::words::{Word, Words};
 use clap::ArgMatches;
 use ipmi_bus::LARGEST_PART;
@@ -45,8 +46,6 @@ pub enum UsageFault {
 }
 
 impl From<AllocError> for UsageFault {
-    ghost use Rattle.ipmi_command_line.specs.declared.command.UsageFault.{UsageFault};
-
     ghost from_gives = { λ _ e. e ≡ UsageFault.Memory };
 
     fn from(_error: AllocError) -> UsageFault {
@@ -65,8 +64,6 @@ pub struct Command {
 }
 
 impl Model for Command {
-    ghost use Rattle.ipmi_command_line.specs.Command.{CommandState, IsCommand};
-
     ghost Value = { CommandState };
 
     ghost view = { λ c. record { task = c.task; from = c.from; part = c.part; tries = c.tries; image = c.image } };
@@ -78,14 +75,8 @@ impl Command {
     /// A command. The numbers have to be in their ranges, and the task has to take `from`, if there is one.
     pub fn new(task: Task, from: Option<u16>, part: u8, tries: u8, image: Option<Word>) -> Command
         requires { IsCommand task from part }
-        ensures { result ≡ record {
-          task = task;
-          from = from;
-          part = part;
-          tries = tries;
-          image =
-              image;
-        } }
+        ensures { result ≡
+            record { task = task; from = from; part = part; tries = tries; image = image } }
     {
         Command {
             task,
@@ -132,7 +123,10 @@ impl Command {
     pub fn is_listing(&self) -> bool
         ensures { result ≡ is_listing self.now.task }
     {
-        self.task.is_listing()
+        matches!(
+            self.task,
+            Task::Hex | Task::List(_) | Task::Elist(_) | Task::SelList(Count::All)
+        )
     }
 
     /// The file that the image is in, `--image`; None for standard input.
@@ -143,24 +137,19 @@ impl Command {
     }
 }
 
-/// Whether an id to start from is given to a task that takes none.
-fn is_stray(task: &Task, from: Option<u16>) -> bool
-    ensures { result ≡ is_stray task.now from }
-{
-    from.is_some() && !task.takes_from()
-}
-
 /// The id that the text of `--from` names: four hex digits, neither `0000` nor `FFFF`; None where the option is not given.
 fn start_of_text(text: Option<&str>) -> Result<Option<u16>, UsageFault>
     ensures value { let meant = start_of_text (option_map (λ t. t.now) text.entry) in
         MatchResult result (λ from. meant ≡ Some from) (λ e. (e ≡ UsageFault.Option) × (meant ≡ None)) }
     ensures range { IfOk result (λ from. IfSome from (λ id. (1 ≤ id) × (id ≤ 65534))) }
 {
-    let Some(text) = text else {
-        return Ok(None);
-    };
-    let id = four_hex(text, FIRST_ID, LAST_ID).ok_or(UsageFault::Option)?;
-    Ok(Some(id))
+    match text {
+        Some(text) if text.len() == 4 => digits(text, 16, FIRST_ID, LAST_ID)
+            .map(Some)
+            .ok_or(UsageFault::Option),
+        Some(_) => Err(UsageFault::Option),
+        None => Ok(None),
+    }
 }
 
 /// The number of an option, in decimal from `low` to `high`, or `default` where there is no such option.
@@ -173,8 +162,7 @@ fn number_or(text: Option<&str>, default: u8, low: u8, high: u8) -> Result<u8, U
     let Some(text) = text else {
         return Ok(default);
     };
-    let n = decimal(text, u16::from(low), u16::from(high)).ok_or(UsageFault::Option)?;
-    Ok(n as u8)
+    Ok(decimal(text, u16::from(low), u16::from(high)).ok_or(UsageFault::Option)? as u8)
 }
 
 /// A copy of the text, if there is one.
@@ -200,7 +188,7 @@ fn command_of_task(
     let from = start_of_text(value(matches, "from"))?;
     let part = number_or(value(matches, "part"), DEFAULT_PART, 1, LARGEST_PART)?;
     let tries = number_or(value(matches, "tries"), DEFAULT_TRIES, 0, u8::MAX)?;
-    if is_stray(&task, from) {
+    if from.is_some() && !task.takes_from() {
         return Err(UsageFault::Option);
     }
     let image = owned(alloc, value(matches, "image"))?;
@@ -208,6 +196,7 @@ fn command_of_task(
 }
 
 /// The command of the options and words that were given.
+#[tactic(auto, using(crate::proofs::ArgumentLemmas::free_words_are))]
 fn command_of_matches(alloc: Global, matches: &ArgMatches<'_>) -> Result<Command, UsageFault>
     ensures { let meant = command_of_matches (rows_of (found_of matches.now)) in
         MatchResult result (λ c. meant ≡ Ok c) (λ e. (e ≡ UsageFault.Memory) ⊎ (meant ≡ Err e)) }
@@ -219,6 +208,7 @@ fn command_of_matches(alloc: Global, matches: &ArgMatches<'_>) -> Result<Command
 }
 
 /// The command that the words mean, or why they mean none; `Memory` may come in place of either. The first word is the program's name.
+#[tactic(auto, unfolding(crate::specs::Command::meaning_of))]
 pub fn command_of(alloc: Global, words: &Words) -> Result<Command, UsageFault>
     requires { 0 < length words.now }
     ensures { MatchResult result (λ c. meaning_of words.now ≡ Ok c)

@@ -1,7 +1,7 @@
 //! The table of commands: what is to be done by the words of a command line.
 ghost use Rattle.std.specs.Prelude.{◌≡◌, IfOk, IfSome, map};
 ghost use Rattle.ipmi_command_line.specs.Command.{IsCount, IsTask};
-ghost use Rattle.ipmi_command_line.specs.Table.{elist_of, entry_of, inventory_of, kind_of, list_of, newest, newest_of, oldest, oldest_of, task_of, task_of_four, task_of_one, task_of_three, task_of_two};
+ghost use Rattle.ipmi_command_line.specs.Table.{inventory_of, kind_of, newest, oldest, task_of, task_of_four, task_of_one, task_of_three, task_of_two};
 
 use crate::command::{FIRST_ID, LAST_ID};
 use crate::number::number;
@@ -26,6 +26,15 @@ fn kind_of(word: &str) -> Option<Kind>
     }
 }
 
+/// `fru print ID`.
+fn inventory_of(word: &str) -> Option<Task>
+    ensures value { result ≡ inventory_of word.now }
+    ensures range { IfSome result IsTask }
+{
+    let id = number(word, 0, u16::from(LAST_FRU_DEVICE_ID))?;
+    Some(Task::Fru(Some(id as u8)))
+}
+
 /// So many of the oldest entries, or all of them for 0.
 fn oldest(n: u16) -> Count
     ensures value { result ≡ oldest n }
@@ -40,60 +49,6 @@ fn newest(n: u16) -> Count
     ensures range { IsCount result }
 {
     if n == 0 { Count::All } else { Count::Last(n) }
-}
-
-/// `fru print ID`.
-fn inventory_of(word: &str) -> Option<Task>
-    ensures value { result ≡ inventory_of word.now }
-    ensures range { IfSome result IsTask }
-{
-    let id = number(word, 0, u16::from(LAST_FRU_DEVICE_ID))?;
-    Some(Task::Fru(Some(id as u8)))
-}
-
-/// `sdr list KIND`.
-fn list_of(word: &str) -> Option<Task>
-    ensures value { result ≡ list_of word.now }
-    ensures range { IfSome result IsTask }
-{
-    let kind = kind_of(word)?;
-    Some(Task::List(kind))
-}
-
-/// `sdr elist KIND`.
-fn elist_of(word: &str) -> Option<Task>
-    ensures value { result ≡ elist_of word.now }
-    ensures range { IfSome result IsTask }
-{
-    let kind = kind_of(word)?;
-    Some(Task::Elist(kind))
-}
-
-/// `sel list N` and `sel list first N`.
-fn oldest_of(word: &str) -> Option<Task>
-    ensures value { result ≡ oldest_of word.now }
-    ensures range { IfSome result IsTask }
-{
-    let n = number(word, 0, u16::MAX)?;
-    Some(Task::SelList(oldest(n)))
-}
-
-/// `sel list last N`.
-fn newest_of(word: &str) -> Option<Task>
-    ensures value { result ≡ newest_of word.now }
-    ensures range { IfSome result IsTask }
-{
-    let n = number(word, 0, u16::MAX)?;
-    Some(Task::SelList(newest(n)))
-}
-
-/// `sel get ID`.
-fn entry_of(word: &str) -> Option<Task>
-    ensures value { result ≡ entry_of word.now }
-    ensures range { IfSome result IsTask }
-{
-    let id = number(word, FIRST_ID, LAST_ID)?;
-    Some(Task::SelGet(id))
 }
 
 fn task_of_one(a: &str) -> Option<Task>
@@ -131,11 +86,11 @@ fn task_of_three(alloc: Global, a: &str, b: &str, c: &str) -> Result<Option<Task
 {
     Ok(match (a, b) {
         ("fru", "print") => inventory_of(c),
-        ("sdr", "list") => list_of(c),
-        ("sdr", "elist") => elist_of(c),
+        ("sdr", "list") => kind_of(c).map(Task::List),
+        ("sdr", "elist") => kind_of(c).map(Task::Elist),
         ("sdr", "get") => Some(Task::Get(Word::new(alloc, c)?)),
-        ("sel", "list") => oldest_of(c),
-        ("sel", "get") => entry_of(c),
+        ("sel", "list") => number(c, 0, u16::MAX).map(|n| Task::SelList(oldest(n))),
+        ("sel", "get") => number(c, FIRST_ID, LAST_ID).map(Task::SelGet),
         _ => None,
     })
 }
@@ -145,14 +100,15 @@ fn task_of_four(a: &str, b: &str, c: &str, d: &str) -> Option<Task>
     ensures range { IfSome result IsTask }
 {
     match (a, b, c) {
-        ("sel", "list", "first") => oldest_of(d),
-        ("sel", "list", "last") => newest_of(d),
+        ("sel", "list", "first") => number(d, 0, u16::MAX).map(|n| Task::SelList(oldest(n))),
+        ("sel", "list", "last") => number(d, 0, u16::MAX).map(|n| Task::SelList(newest(n))),
         _ => None,
     }
 }
 
 /// The task that the words name, without the program's name and the options; None where they name
 /// none. Without any words it is `sdr hex`.
+#[tactic(auto, using(crate::proofs::TableLemmas::rows))]
 pub(crate) fn task_of(alloc: Global, words: &[&str]) -> Result<Option<Task>, AllocError>
     ensures value { IfOk result (λ task. task ≡ task_of (map (λ word. word.now) words.now)) }
     ensures range { IfOk result (λ task. IfSome task IsTask) }

@@ -1,6 +1,6 @@
 //! What is to be done.
 ghost use Rattle.std.specs.Prelude.{◌≡◌};
-ghost use Rattle.ipmi_command_line.specs.Task.{is_listing, takes_from};
+ghost use Rattle.ipmi_command_line.specs.Task.{takes_from};
 
 use crate::words::Word;
 use ipmi_bus::Shelf;
@@ -65,24 +65,9 @@ impl Task {
     pub fn takes_from(&self) -> bool
         ensures { result ≡ takes_from self.now }
     {
-        match self {
-            Task::Hex | Task::List(_) | Task::Elist(_) | Task::Get(_) | Task::SelList(_) => true,
-            Task::Info(_) | Task::SelGet(_) | Task::Fru(_) | Task::Rewrite => false,
-        }
-    }
-
-    /// Whether it is a listing of a shelf that no count and no name limits, so that it can be done in pages.
-    pub fn is_listing(&self) -> bool
-        ensures { result ≡ is_listing self.now }
-    {
-        match self {
-            Task::Hex | Task::List(_) | Task::Elist(_) | Task::SelList(Count::All) => true,
-            Task::SelList(Count::First(_) | Count::Last(_))
-            | Task::Get(_)
-            | Task::Info(_)
-            | Task::SelGet(_)
-            | Task::Fru(_)
-            | Task::Rewrite => false,
-        }
+        matches!(
+            self,
+            Task::Hex | Task::List(_) | Task::Elist(_) | Task::Get(_) | Task::SelList(_)
+        )
     }
 }

@@ -1,5 +1,5 @@
 //! The words of a command line, each an owned text.
-ghost use Rattle.std.specs.Prelude.{◌≡◌, ◌∷◌, ◌++◌, [], OnOk, OnErr, IfOk};
+ghost use Rattle.std.specs.Prelude.{◌≡◌, ℕ, List, ◌∷◌, ◌++◌, [], OnOk, OnErr, IfOk, string_bytes};
 
 use std::alloc::{AllocError, Global};
 use std::convert::AsStr;
@@ -12,8 +12,6 @@ pub struct Word {
 }
 
 impl Model for Word {
-    ghost use Rattle.std.specs.Prelude.{List, ℕ, string_bytes};
-
     ghost Value = { List ℕ };
 
     ghost view = { λ w. string_bytes w.text };
@@ -52,8 +50,6 @@ pub struct Words {
 }
 
 impl Model for Words {
-    ghost use Rattle.std.specs.Prelude.{List, ℕ};
-
     ghost Value = { List (List ℕ) };
 
     ghost view = { λ w. w.items.items };

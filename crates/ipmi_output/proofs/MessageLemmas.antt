@@ -1,17 +1,18 @@
 -- What a message sink took once parts were written to it one after another.
-use Rattle.std.proofs.Common.{◌≡◌, ◌∙◌, ℕ, ◌<◌, ◌==◌, if◌then◌else◌, suc, List, [], ◌++◌, ◌+◌, ◌-◌, Option, None, Some, Ok, Err, Result, Bor, get_or, length, length-append, take, drop, refl, sym, ap, subst, append_assoc, arith, ne_eqb, drop-cons, take-add, append-nil, take-append-drop, option_map}
+pub use Rattle.std.proofs.Common.{append_assoc}
+use Rattle.std.proofs.Common.{◌≡◌, ◌∙◌, ℕ, ◌<◌, ◌==◌, if◌then◌else◌, suc, List, [], ◌++◌, ◌+◌, ◌-◌, Option, None, Some, Ok, Err, Result, Bor, get_or, length, length-append, take, drop, refl, sym, ap, subst, arith, ne_eqb, drop-cons, take-add, append-nil, take-append-drop, option_map, flat_map}
 use Rattle.std.proofs.Math.Seq.{take-append-add}
 use Rattle.std.proofs.lemmas.List.{take-append-le, take_rest}
 use Rattle.std.proofs.lemmas.List.Concat.{flat_map-append}
 use Rattle.std.specs.Io.KnownBytes.{Appends, Keeps}
 use Rattle.ipmi_output.specs.Received.{Received, ReceivesAll, ReceivesPart, WritesAll}
-use Rattle.ipmi_output.specs.Failure.{joined_pieces, piece_text}
-use Rattle.ipmi_output.specs.declared.message.Piece.{Piece}
 
 -- the first i bytes and the next n of them
-pub take-next : (i n : ℕ) (bytes : List ℕ)
-    → take i bytes ++ take n (take (length bytes - i) (drop i bytes)) ≡ take (i + n) bytes
-take-next i n bytes = rw (take_rest bytes i) (sym (take-add i n bytes))
+pub take_next : (i n : ℕ) (bytes : List ℕ)
+    → take (i + n) bytes ≡ take i bytes ++ take n (take (length bytes - i) (drop i bytes))
+take_next i n bytes = rw (take_rest bytes i) (take-add i n bytes)
+
+pub ruleset next_bytes = (take_next, append_assoc)
 
 -- to append some and then more is to append both
 pub Appends-both : (old mid new : Option (List ℕ)) (xs ys : List ℕ) → Appends old mid xs
@@ -54,25 +55,12 @@ ReceivesPart-after old mid new xs ys first part = (
   part.3 ∙ rw first.1 refl,
 )
 
--- the pieces before piece i, that piece, and those after it
-joined_pieces-split : (pieces : List Piece) (i : ℕ) (d : Piece) → i < length pieces
-    → joined_pieces (take i pieces)
-    ++ (piece_text (get_or pieces i d) ++ joined_pieces (drop (suc i) pieces))
-    ≡ joined_pieces pieces
-joined_pieces-split pieces i d within =
-    cc (drop-cons pieces i d within, flat_map-append piece_text (take i pieces) (drop i pieces), take-append-drop i pieces)
-
--- the pieces before piece i, and then a part of that one
-pub ReceivesPart-in_piece : (old mid new : Received) (pieces : List Piece) (i : ℕ) (d : Piece)
-    → i < length pieces → ReceivesAll old mid (joined_pieces (take i pieces))
-    → ReceivesPart mid new (piece_text (get_or pieces i d))
-    → ReceivesPart old new (joined_pieces pieces)
-ReceivesPart-in_piece old mid new pieces i d within first part =
-    subst (λ (t : List ℕ). ReceivesPart old new t) (joined_pieces-split pieces i d within)
-    (ReceivesPart-after old mid new _ _ first (ReceivesPart-before mid new _ (joined_pieces (drop (suc i) pieces)) part))
-
--- some bytes, and then what a call writes of those after them
-pub WritesAll-after : {T E : Type 0} (old mid new : Received) (r : Result T E) (xs ys : List ℕ)
-    → ReceivesAll old mid xs → WritesAll mid new r ys → WritesAll old new r (xs ++ ys)
-WritesAll-after old mid new (Ok v) xs ys first all = ReceivesAll-both old mid new xs ys first all
-WritesAll-after old mid new (Err e) xs ys first part = ReceivesPart-after old mid new xs ys first part
+-- the texts of the items before item i, and then a part of its own
+pub ReceivesPart-in_item : {X : Type 0} (f : X → List ℕ) (old mid new : Received) (xs : List X)
+    (i : ℕ) (d : X) → i < length xs → ReceivesAll old mid (flat_map f (take i xs))
+    → ReceivesPart mid new (f (get_or xs i d)) → ReceivesPart old new (flat_map f xs)
+ReceivesPart-in_item f old mid new xs i d within first part =
+    let split : flat_map f (take i xs) ++ (f (get_or xs i d) ++ flat_map f (drop (suc i) xs)) ≡ flat_map f xs =
+    cc (drop-cons xs i d within, flat_map-append f (take i xs) (drop i xs), take-append-drop i xs) in
+    subst (λ (t : List ℕ). ReceivesPart old new t) split
+    (ReceivesPart-after old mid new _ _ first (ReceivesPart-before mid new _ (flat_map f (drop (suc i) xs)) part))

@@ -7,6 +7,7 @@ use Rattle.ipmi_command_line.specs.declared.command.UsageFault.{UsageFault}
 use Rattle.ipmi_image.specs.declared.image.ImageFault.{ImageFault}
 use Rattle.ipmi_text.specs.Hex.{byte_h, upper_byte, word_h}
 use Rattle.ipmi_output.specs.declared.failure.Failure.{Failure}
+use Rattle.ipmi_output.specs.declared.message.Message.{Message}
 use Rattle.ipmi_output.specs.declared.message.Piece.{Piece}
 
 -- why a record, a reading or an info was not read, with its id
@@ -111,6 +112,10 @@ piece_text (Piece.Byte byte) = byte_h byte
 
 abbrev pub joined_pieces : List Piece → List ℕ
 joined_pieces pieces = flat_map piece_text pieces
+
+abbrev pub message_text : Message → List ℕ
+message_text message =
+    message.0.now ++ (piece_text message.1 ++ (message.2.now ++ piece_text message.3))
 
 -- ---- a file that can't be read
 

@@ -1,8 +1,10 @@
 //! Why a run did not finish: the message of each failure, and its exit status.
-ghost use Rattle.std.specs.Prelude.{◌≡◌};
-ghost use Rattle.ipmi_output.specs.Failure.{ended_text, failure_text, image_fault_text, inventory_text, joined_pieces, line_fault_text, status_of_failure};
+ghost use Rattle.std.specs.Prelude.{◌≡◌, Some};
+ghost use Rattle.ipmi_output.specs.Failure.{ended_text, failure_of_image, failure_of_usage, failure_text, image_fault_text, inventory_text, line_fault_text, message_text, status_of_failure};
+ghost use Rattle.ipmi_output.specs.declared.failure.Failure.{Failure};
 
-use crate::message::Piece;
+use crate::message::Message;
+use crate::message::Piece::{self, Byte, Number, Text, Word};
 use crate::sink::SinkFault;
 use ipmi_bus::{Ended, FruEnded};
 use ipmi_command_line::UsageFault;
@@ -82,22 +84,17 @@ impl<'a> Failure<'a> {
     }
 
     /// The message, in pieces.
-    pub(crate) fn pieces(&self) -> [Piece<'a>; 4]
-        ensures { joined_pieces result ≡ failure_text self.now }
+    pub(crate) fn message(&self) -> Message<'a>
+        ensures { message_text result ≡ failure_text self.now }
     {
         match self {
             Failure::Usage => text(
                 "usage: ipmitool [--image FILE] [--from HEX4] [--part N] [--tries N] fru|sdr|sel WORDS",
             ),
-            Failure::Image(fault) => image_pieces(*fault),
-            Failure::Ended(ended) => ended_pieces(*ended),
-            Failure::Inventory(id, ended) => inventory_pieces(*id, *ended),
-            Failure::NoName(name) => [
-                Piece::Text("no record named "),
-                Piece::Text(name.as_str()),
-                NONE,
-                NONE,
-            ],
+            Failure::Image(fault) => of_image(*fault),
+            Failure::Ended(ended) => of_record(*ended),
+            Failure::Inventory(id, ended) => of_inventory(*id, *ended),
+            Failure::NoName(name) => Message("no record named ", Text(name.as_str()), "", NONE),
             Failure::NoInfo => text("info not present"),
             Failure::WriteFault => text("write fault"),
             Failure::OutOfMemory => text("out of memory"),
@@ -106,21 +103,17 @@ impl<'a> Failure<'a> {
 }
 
 impl<'a> fmt::Display for Failure<'a> {
-    ghost use Rattle.std.specs.Prelude.{Some};
-
     ghost output = { λ failure. Some (failure_text failure) };
 
     fn fmt<W: fmt::Write>(&self, f: &mut fmt::Formatter<W>) -> fmt::Result {
-        let [first, second, third, fourth] = self.pieces();
-        write!(f, "{first}{second}{third}{fourth}")
+        let Message(before, subject, after, last) = self.message();
+        write!(f, "{before}{subject}{after}{last}")
     }
 }
 
 impl<'a> Error for Failure<'a> {}
 
 impl From<AllocError> for Failure<'_> {
-    ghost use Rattle.ipmi_output.specs.declared.failure.Failure.{Failure};
-
     ghost from_gives = { λ _ failure. failure ≡ Failure.OutOfMemory };
 
     fn from(_error: AllocError) -> Self {
@@ -129,8 +122,6 @@ impl From<AllocError> for Failure<'_> {
 }
 
 impl From<SinkFault> for Failure<'_> {
-    ghost use Rattle.ipmi_output.specs.declared.failure.Failure.{Failure};
-
     ghost from_gives = { λ _ failure. failure ≡ Failure.WriteFault };
 
     fn from(_fault: SinkFault) -> Self {
@@ -139,8 +130,6 @@ impl From<SinkFault> for Failure<'_> {
 }
 
 impl From<Ended> for Failure<'_> {
-    ghost use Rattle.ipmi_output.specs.declared.failure.Failure.{Failure};
-
     ghost from_gives = { λ ended failure. failure ≡ Failure.Ended ended };
 
     fn from(ended: Ended) -> Self {
@@ -149,8 +138,6 @@ impl From<Ended> for Failure<'_> {
 }
 
 impl From<ImageFault> for Failure<'_> {
-    ghost use Rattle.ipmi_output.specs.Failure.{failure_of_image};
-
     ghost from_gives = { λ fault failure. failure ≡ failure_of_image fault };
 
     fn from(fault: ImageFault) -> Self {
@@ -162,8 +149,6 @@ impl From<ImageFault> for Failure<'_> {
 }
 
 impl From<UsageFault> for Failure<'_> {
-    ghost use Rattle.ipmi_output.specs.Failure.{failure_of_usage};
-
     ghost from_gives = { λ fault failure. failure ≡ failure_of_usage fault };
 
     fn from(fault: UsageFault) -> Self {
@@ -175,95 +160,67 @@ impl From<UsageFault> for Failure<'_> {
 }
 
 /// No piece.
-const NONE: Piece<'static> = Piece::Text("");
+const NONE: Piece<'static> = Text("");
 
 /// A message of one piece.
-fn text<'a>(text: &'a str) -> [Piece<'a>; 4]
-    ensures { joined_pieces result ≡ text.now }
+fn text<'a>(text: &'a str) -> Message<'a>
+    ensures { message_text result ≡ text.now }
 {
-    [Piece::Text(text), NONE, NONE, NONE]
+    Message(text, NONE, "", NONE)
 }
 
 /// Why a record, a reading or an info was not read.
-fn ended_pieces<'a>(ended: Ended) -> [Piece<'a>; 4]
-    ensures { joined_pieces result ≡ ended_text ended }
+fn of_record<'a>(ended: Ended) -> Message<'a>
+    ensures { message_text result ≡ ended_text ended }
 {
     match ended {
-        Ended::Cycle(id) => [Piece::Text("cycle at "), Piece::Word(id), NONE, NONE],
-        Ended::Missing(id) => [
-            Piece::Text("record "),
-            Piece::Word(id),
-            Piece::Text(" not present"),
-            NONE,
-        ],
-        Ended::Refused(id, code) => [
-            Piece::Text("record "),
-            Piece::Word(id),
-            Piece::Text(" refused with code "),
-            Piece::Byte(code.0),
-        ],
-        Ended::GaveUp(id) => [Piece::Text("gave up at "), Piece::Word(id), NONE, NONE],
-        Ended::Stalled(id) => [Piece::Text("stalled at "), Piece::Word(id), NONE, NONE],
-        Ended::Malformed(id) => [
-            Piece::Text("malformed record "),
-            Piece::Word(id),
-            NONE,
-            NONE,
-        ],
+        Ended::Cycle(id) => Message("cycle at ", Word(id), "", NONE),
+        Ended::Missing(id) => Message("record ", Word(id), " not present", NONE),
+        Ended::Refused(id, code) => {
+            Message("record ", Word(id), " refused with code ", Byte(code.0))
+        }
+        Ended::GaveUp(id) => Message("gave up at ", Word(id), "", NONE),
+        Ended::Stalled(id) => Message("stalled at ", Word(id), "", NONE),
+        Ended::Malformed(id) => Message("malformed record ", Word(id), "", NONE),
     }
 }
 
 /// Why the inventory of a device was not read.
-fn inventory_pieces<'a>(id: u8, ended: FruEnded) -> [Piece<'a>; 4]
-    ensures { joined_pieces result ≡ inventory_text id ended }
+fn of_inventory<'a>(id: u8, ended: FruEnded) -> Message<'a>
+    ensures { message_text result ≡ inventory_text id ended }
 {
-    let number = Piece::Number(usize::from(id));
+    let id = Number(usize::from(id));
     match ended {
         FruEnded::Memory => text("out of memory"),
-        FruEnded::Refused(code) => [
-            Piece::Text("fru "),
-            number,
-            Piece::Text(" refused with code "),
-            Piece::Byte(code.0),
-        ],
-        FruEnded::GaveUp => [Piece::Text("fru "), number, Piece::Text(" gave up"), NONE],
-        FruEnded::Stalled => [Piece::Text("fru "), number, Piece::Text(" stalled"), NONE],
-        FruEnded::Words => [
-            Piece::Text("fru "),
-            number,
-            Piece::Text(" uses words"),
-            NONE,
-        ],
+        FruEnded::Refused(code) => Message("fru ", id, " refused with code ", Byte(code.0)),
+        FruEnded::GaveUp => Message("fru ", id, " gave up", NONE),
+        FruEnded::Stalled => Message("fru ", id, " stalled", NONE),
+        FruEnded::Words => Message("fru ", id, " uses words", NONE),
     }
 }
 
 /// Why the input is no image.
-fn image_pieces<'a>(fault: ImageFault) -> [Piece<'a>; 4]
-    ensures { joined_pieces result ≡ image_fault_text fault }
+fn of_image<'a>(fault: ImageFault) -> Message<'a>
+    ensures { message_text result ≡ image_fault_text fault }
 {
     match fault {
         ImageFault::Memory => text("out of memory"),
         ImageFault::Header => text("image: header"),
-        ImageFault::Line(line) => line_pieces(line, "not a line"),
-        ImageFault::Hex(line) => line_pieces(line, "hex"),
-        ImageFault::Id(line) => line_pieces(line, "id"),
-        ImageFault::Twice(line) => line_pieces(line, "twice"),
-        ImageFault::Length(line) => line_pieces(line, "length"),
-        ImageFault::FirstId(line) => line_pieces(line, "first id"),
+        ImageFault::Line(line) => of_line(line, "not a line"),
+        ImageFault::Hex(line) => of_line(line, "hex"),
+        ImageFault::Id(line) => of_line(line, "id"),
+        ImageFault::Twice(line) => of_line(line, "twice"),
+        ImageFault::Length(line) => of_line(line, "length"),
+        ImageFault::FirstId(line) => of_line(line, "first id"),
         ImageFault::NoEnd => text("image: no end"),
-        ImageFault::AfterEnd(line) => line_pieces(line, "after end"),
-        ImageFault::TooMany(line) => line_pieces(line, "too many bytes"),
+        ImageFault::AfterEnd(line) => of_line(line, "after end"),
+        ImageFault::TooMany(line) => of_line(line, "too many bytes"),
     }
 }
 
 /// What is wrong with this line of an image.
-fn line_pieces<'a>(line: usize, what: &'a str) -> [Piece<'a>; 4]
-    ensures { joined_pieces result ≡ line_fault_text line what.now }
+fn of_line<'a>(line: usize, what: &'a str) -> Message<'a>
+    ensures { message_text result ≡ line_fault_text line what.now }
 {
-    [
-        Piece::Text("image line "),
-        Piece::Number(line),
-        Piece::Text(": "),
-        Piece::Text(what),
-    ]
+    Message("image line ", Number(line), ": ", Text(what))
 }

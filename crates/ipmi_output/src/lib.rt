@@ -2,7 +2,6 @@
 #![tactic(auto)]
 
 mod failure;
-mod history;
 mod message;
 mod message_sink;
 mod sink;

@@ -1,10 +1,10 @@
 //! Says why a run did not finish. A message is one line, written piece by piece and not made as a whole text first: so none
 //! takes memory, and the want of memory can be told as well.
-ghost use Rattle.std.specs.Prelude.{◌≡◌, ◌<◌, ◌++◌, codes, true};
+ghost use Rattle.std.specs.Prelude.{◌≡◌, ◌<◌, Some, true};
 ghost use Rattle.std.specs.Fmt.{digit_glyph};
 ghost use Rattle.ipmi_text.specs.Hex.{byte_h, upper_byte, word_h};
 ghost use Rattle.ipmi_output.specs.Received.{WritesAll};
-ghost use Rattle.ipmi_output.specs.Failure.{escaped_name, failure_text, joined_pieces, line_text, piece_text, unreadable_text};
+ghost use Rattle.ipmi_output.specs.Failure.{escaped_byte, escaped_name, failure_text, joined_pieces, line_text, piece_text, unreadable_text};
 
 use crate::failure::Failure;
 use crate::message_sink::{MessageSink, offer_all};
@@ -26,23 +26,18 @@ pub(crate) enum Piece<'a> {
     Byte(u8),
 }
 
-impl<'a> fmt::Display for Piece<'a> {
-    ghost use Rattle.std.specs.Prelude.{Some};
+/// A message, as the texts and pieces that it has one after another.
+pub(crate) struct Message<'a>(pub &'a str, pub Piece<'a>, pub &'a str, pub Piece<'a>);
 
+impl<'a> fmt::Display for Piece<'a> {
     ghost output = { λ piece. Some (piece_text piece) };
 
     fn fmt<W: fmt::Write>(&self, f: &mut fmt::Formatter<W>) -> fmt::Result {
         match self {
             Piece::Text(text) => f.write_str(text),
-            Piece::Number(number) => write!(f, "{number}"),
-            Piece::Word(word) => {
-                let word = WordH(*word);
-                write!(f, "{word}")
-            }
-            Piece::Byte(byte) => {
-                let byte = ByteH(*byte);
-                write!(f, "{byte}")
-            }
+            Piece::Number(number) => fmt::Display::fmt(number, f),
+            Piece::Word(word) => fmt::Display::fmt(&WordH(*word), f),
+            Piece::Byte(byte) => fmt::Display::fmt(&ByteH(*byte), f),
         }
     }
 }
@@ -52,8 +47,12 @@ pub fn say<E: MessageSink>(err: &mut E, failure: &Failure<'_>) -> Result<(), Sin
     ensures { WritesAll (E.received err.old) (E.received err.new) result
         (line_text (failure_text failure.now)) }
 {
-    write_pieces(err, &failure.pieces())?;
-    offer_all(err, b"\n")
+    let Message(before, subject, after, last) = failure.message();
+    let end = Piece::Text("\n");
+    write_pieces(
+        err,
+        &[Piece::Text(before), subject, Piece::Text(after), last, end],
+    )
 }
 
 /// Writes, as a line, that what has this name could not be read, or is too long. A control byte of the name, below 20h or 7Fh,
@@ -67,35 +66,26 @@ pub fn say_unreadable<E: MessageSink>(err: &mut E, name: &str) -> Result<(), Sin
     offer_all(err, b"\n")
 }
 
-/// Writes a name with its control bytes escaped. The bytes between two of them go out together.
+/// Writes a name with its control bytes escaped.
 fn write_escaped<E: MessageSink>(err: &mut E, name: &[u8]) -> Result<(), SinkFault>
     ensures { WritesAll (E.received err.old) (E.received err.new) result (escaped_name name.now) }
 {
-    let mut begun = 0;
-    let mut at = 0;
-    while at < name.len() {
-        let byte = name[at];
-        if byte.is_ascii_control() {
-            write_before_control(err, &name[begun..at], byte)?;
-            begun = at + 1;
-        }
-        at += 1;
+    for byte in name {
+        write_byte(err, *byte)?;
     }
-    offer_all(err, &name[begun..])
+    Ok(())
 }
 
-/// Writes these bytes as they are, and after them a control byte, escaped.
-fn write_before_control<E: MessageSink>(
-    err: &mut E,
-    before: &[u8],
-    control: u8,
-) -> Result<(), SinkFault>
-    ensures { WritesAll (E.received err.old) (E.received err.new) result
-        (before.now ++ (codes "\\x" ++ upper_byte control)) }
+/// Writes a byte of a name, escaped if it is a control byte.
+fn write_byte<E: MessageSink>(err: &mut E, byte: u8) -> Result<(), SinkFault>
+    ensures { WritesAll (E.received err.old) (E.received err.new) result (escaped_byte byte) }
 {
-    offer_all(err, before)?;
-    offer_all(err, b"\\x")?;
-    offer_all(err, &upper_byte(control))
+    if byte.is_ascii_control() {
+        let [high, low] = upper_byte(byte);
+        offer_all(err, &[b'\\', b'x', high, low])
+    } else {
+        offer_all(err, &[byte])
+    }
 }
 
 /// Writes the pieces, one after another.
@@ -114,10 +104,7 @@ fn write_piece<E: MessageSink>(err: &mut E, piece: &Piece<'_>) -> Result<(), Sin
 {
     match piece {
         Piece::Text(text) => offer_all(err, text.as_bytes()),
-        Piece::Number(number) => {
-            let mut buffer = Buffer::new();
-            offer_all(err, buffer.format(*number).as_bytes())
-        }
+        Piece::Number(number) => offer_all(err, Buffer::new().format(*number).as_bytes()),
         Piece::Word(word) => offer_all(err, &word_h(*word)),
         Piece::Byte(byte) => offer_all(err, &byte_h(*byte)),
     }
@@ -148,13 +135,9 @@ fn upper_byte(byte: u8) -> [u8; 2]
 }
 
 /// An upper-case hex digit.
-fn upper_digit(digit: u8) -> u8
-    requires { digit < 16 }
-    ensures { result ≡ digit_glyph true digit }
+fn upper_digit(n: u8) -> u8
+    requires { n < 16 }
+    ensures { result ≡ digit_glyph true n }
 {
-    if digit < 10 {
-        b'0' + digit
-    } else {
-        b'A' + (digit - 10)
-    }
+    if n < 10 { b'0' + n } else { b'A' + (n - 10) }
 }

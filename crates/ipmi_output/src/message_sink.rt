@@ -22,10 +22,7 @@ impl<W: Write> MessageSink for W {
     ghost received = { λ w. of_writer (W.contents w) };
 
     fn offer(&mut self, bytes: &[u8]) -> Result<usize, SinkFault> {
-        match self.write(bytes) {
-            Ok(n) => Ok(n),
-            Err(_) => Err(SinkFault),
-        }
+        self.write(bytes).or(Err(SinkFault))
     }
 }
 

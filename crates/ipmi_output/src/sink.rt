@@ -1,9 +1,10 @@
 //! Where output goes: a sink, any writer as one, and writing a whole text to one.
-ghost use Rattle.std.specs.Prelude.{◌≡◌, ℕ, ◌≤◌, ◌<◌, ◌+◌, List, [], ◌++◌, length, IfOk, OnOk, OnErr, IsSome, Some, unwrap_or};
+ghost use Rattle.std.specs.Prelude.{◌≡◌, ℕ, ◌≤◌, ◌<◌, ◌+◌, List, [], ◌++◌, length, IfOk, OnOk, OnErr, IsSome, Some, option_map, unwrap_or};
+ghost use Rattle.std.specs.Borrow.{ftrue};
 ghost use Rattle.ipmi_output.specs.Sink.{taken_by, faults_by, TakesPart};
 
-use crate::history::{History, Taking};
 use std::io::Write;
+use std::marker::Model;
 use std::snapshot::Snapshot;
 use thiserror::Error;
 
@@ -28,6 +29,35 @@ pub trait Sink {
         ensures count { faults self.new ≡ faults self.old + faults_by result };
 }
 
+/// What all calls of a sink did so far. Only contracts see it, so it costs no memory and no time.
+#[derive(Drop)]
+struct History {
+    /// The bytes taken so far, in their order.
+    pub ghost taken: { List ℕ },
+    /// How many calls took none or failed.
+    pub ghost faults: { ℕ },
+}
+
+impl Model for History {
+    ghost also_owns = { λ _. ftrue };
+}
+
+/// A call of a sink: what all calls before it did, if there was one; the bytes that were offered; and the answer.
+#[derive(Clone, Copy)]
+struct Call<'h, 'b>(Option<&'h History>, &'b [u8], Result<usize, SinkFault>);
+
+impl History {
+    /// What was taken before the call, and then by it.
+    fn after(_call: &Call<'_, '_>) -> History
+        ensures { (result.taken ≡ unwrap_or (option_map (λ h. h.now.taken) _call.now.0) []
+            ++ taken_by _call.now.2 _call.now.1.now)
+            × (result.faults ≡ unwrap_or (option_map (λ h. h.now.faults) _call.now.0) 0
+            + faults_by _call.now.2) }
+    {
+        History {}
+    }
+}
+
 /// A writer as a sink: each call is one call of the writer.
 #[derive(Drop)]
 pub struct Written<W: Write> {
@@ -44,30 +74,15 @@ impl<W: Write> Sink for Written<W> {
     ghost faults = { λ s. s.history.faults };
 
     fn write(&mut self, bytes: &[u8]) -> Result<usize, SinkFault> {
-        match self.writer.write(bytes) {
-            Ok(n) => {
-                let taking = Taking {
-                    bytes: &bytes[..n],
-                    is_fault: n == 0,
-                };
-                self.history = History::after(&self.history, &taking);
-                Ok(n)
-            }
-            Err(_) => {
-                let taking = Taking {
-                    bytes: &[],
-                    is_fault: true,
-                };
-                self.history = History::after(&self.history, &taking);
-                Err(SinkFault)
-            }
-        }
+        let answer = self.writer.write(bytes).or(Err(SinkFault));
+        let before = Some(&self.history);
+        self.history = History::after(&Call(before, bytes, answer));
+        answer
     }
 }
 
 impl<W: Write> Written<W> {
-    /// A sink over the writer. What the writer holds already counts as taken, and no fault is
-    /// counted yet.
+    /// A sink over the writer. What the writer holds already counts as taken, and no fault is counted yet.
     pub fn new(writer: W) -> Written<W>
         ensures taken { ⟦<Written<W> as Sink>⟧.taken result ≡ unwrap_or (W.contents writer) [] }
         ensures faults { ⟦<Written<W> as Sink>⟧.faults result ≡ 0 }
@@ -76,26 +91,22 @@ impl<W: Write> Written<W> {
         Written {
             writer,
             begun,
-            history: History::new(),
+            // before the first call: one that took none of no bytes, and was no fault
+            history: History::after(&Call(None, &[], Ok(1))),
         }
     }
 
-    /// Gives back the writer. Where contracts see what a writer holds, as of a `Vec<u8>`, it holds
-    /// the bytes taken.
+    /// Gives back the writer. Where contracts see what a writer holds, as of a `Vec<u8>`, it holds the bytes taken.
     pub fn into_inner(self) -> W
         ensures { ((w : W) → IsSome (W.contents w)) →
             W.contents result ≡ Some (⟦<Written<W> as Sink>⟧.taken self) }
     {
-        let Written {
-            writer,
-            begun: _,
-            history: _,
-        } = self;
-        writer
+        self.writer
     }
 }
 
 /// Writes all the bytes, by as many calls as it takes, until one fails or takes none.
+#[tactic(auto, using(crate::proofs::MessageLemmas::next_bytes))]
 pub fn write_all<O: Sink>(out: &mut O, bytes: &[u8]) -> Result<(), SinkFault>
     ensures ok { OnOk result ((O.taken out.new ≡ O.taken out.old ++ bytes.now) ×
         (O.faults out.new ≡ O.faults out.old)) }

@@ -5,19 +5,10 @@ use ipmi_command_line::{UsageFault, Word, Words};
 use std::alloc::Global;
 use std::env::{self, Env};
 use std::fs::{File, Files};
-use std::io::{ErrorKind, Input, Read};
+use std::io::{self, ErrorKind, Input, Read};
 
 /// The most bytes of an image that are read: 64 MiB.
 pub(crate) const MOST_BYTES: u64 = 64 * 1024 * 1024;
-
-/// Why an image was not read.
-#[derive(Clone, Copy)]
-pub(crate) enum InputFault {
-    /// No memory was left.
-    Memory,
-    /// There is no such file, a read failed, or there are more bytes than are read.
-    Unreadable,
-}
 
 /// The words of the command line, the program's name first. Without any word that name is
 /// `ipmitool`. A word that is no text is `UsageFault::Line`.
@@ -39,37 +30,29 @@ pub(crate) fn words_of<R: Env + AllocGlobal>(rt: &R) -> Result<Words, UsageFault
     Ok(words)
 }
 
-/// All bytes up to the first empty read, at most 64 MiB.
-pub(crate) fn read_image<R: Read + Drop>(alloc: Global, reader: R) -> Result<Vec<u8>, InputFault>
+/// All bytes up to the first empty read; where there are more than 64 MiB, an error.
+pub(crate) fn read_image<R: Read + Drop>(alloc: Global, reader: R) -> io::Result<Vec<u8>>
     ensures { IfOk result (λ bytes. vec_len bytes ≤ 67108864) }
 {
     let mut bytes = Vec::new(alloc);
-    let mut limited = reader.take(MOST_BYTES + 1);
-    match limited.read_to_end(&mut bytes) {
-        Ok(_) if bytes.len() as u64 <= MOST_BYTES => {
-            // The reader has filled all room of the buffer with zeros, of which up to half is not needed.
-            bytes.shrink_to_fit();
-            Ok(bytes)
-        }
-        Ok(_) => Err(InputFault::Unreadable),
-        Err(error) if error.kind() == ErrorKind::OutOfMemory => Err(InputFault::Memory),
-        Err(_) => Err(InputFault::Unreadable),
+    reader.take(MOST_BYTES + 1).read_to_end(&mut bytes)?;
+    if bytes.len() as u64 > MOST_BYTES {
+        return Err(ErrorKind::FileTooLarge.into());
     }
+    // The reader has filled all room of the buffer with zeros, of which up to half is not needed.
+    bytes.shrink_to_fit();
+    Ok(bytes)
 }
 
 /// All bytes of the file, or of standard input where none is named, at most 64 MiB.
 pub(crate) fn read_input<R: Files + Input + AllocGlobal>(
     rt: &R,
     file: Option<&Word>,
-) -> Result<Vec<u8>, InputFault>
+) -> io::Result<Vec<u8>>
     ensures { IfOk result (λ bytes. vec_len bytes ≤ 67108864) }
 {
-    let Some(file) = file else {
-        return read_image(rt.alloc(), rt.reader());
-    };
-    match File::open(rt, file.as_str()) {
-        Ok(opened) => read_image(rt.alloc(), opened),
-        Err(error) if error.kind() == ErrorKind::OutOfMemory => Err(InputFault::Memory),
-        Err(_) => Err(InputFault::Unreadable),
+    match file {
+        Some(file) => read_image(rt.alloc(), File::open(rt, file.as_str())?),
+        None => read_image(rt.alloc(), rt.reader()),
     }
 }

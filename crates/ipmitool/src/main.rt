@@ -3,11 +3,11 @@
 
 mod input;
 
-use input::{InputFault, read_input, words_of};
+use input::{read_input, words_of};
 pub use ipmi_command_line::{Command, Count, Kind, Task, UsageFault, Word, Words, command_of};
 pub use ipmi_commands::{answer, execute, execute_image, execute_pages, report, run, run_pages};
 pub use ipmi_output::{Failure, MessageSink, Sink, SinkFault, Written, say, say_unreadable};
-use std::io::{self, BufWriter, Input, Write};
+use std::io::{self, BufWriter, ErrorKind, Input, Write};
 use std::process::ExitCode;
 
 /// The exit status where the image can't be read.
@@ -19,47 +19,40 @@ fn main(rt: HostRuntime) -> ExitCode {
 
 /// Reads the command line and the image, does what is asked for, says why that was not done in full, and gives the exit status.
 fn program(rt: &HostRuntime) -> u8 {
-    let line = match words_of(rt) {
-        Ok(words) => command_of(rt.alloc(), &words),
-        Err(fault) => Err(fault),
-    };
-    let command = match line {
+    let mut err = Written::new(rt.stderr());
+    let command = match read_command(rt) {
         Ok(command) => command,
-        Err(fault) => return report(Err(Failure::from(fault)), &mut Written::new(rt.stderr())),
+        Err(fault) => return report(Err(Failure::from(fault)), &mut err),
     };
     match read_input(rt, command.image()) {
-        Ok(image) => report(print(rt, &command, &image), &mut Written::new(rt.stderr())),
-        Err(InputFault::Memory) => {
-            report(Err(Failure::OutOfMemory), &mut Written::new(rt.stderr()))
+        Ok(image) => report(print(rt, &command, &image), &mut err),
+        Err(error) if error.kind() == ErrorKind::OutOfMemory => {
+            report(Err(Failure::OutOfMemory), &mut err)
         }
-        Err(InputFault::Unreadable) => {
+        Err(_) => {
+            let name = command
+                .image()
+                .map_or("standard input", |file| file.as_str());
             // there is nowhere left to tell that this failed
-            let _ = say_unreadable(&mut Written::new(rt.stderr()), input_name(&command));
+            let _ = say_unreadable(&mut err, name);
             UNREADABLE
         }
     }
 }
 
-/// What the image is read from.
-fn input_name(command: &Command) -> &str {
-    match command.image() {
-        Some(file) => file.as_str(),
-        None => "standard input",
-    }
+/// The command of the program's words.
+fn read_command(rt: &HostRuntime) -> Result<Command, UsageFault> {
+    command_of(rt.alloc(), &words_of(rt)?)
 }
 
 /// Does what the command asks for over the image, on buffered standard output.
 fn print<'a>(rt: &HostRuntime, command: &'a Command, image: &[u8]) -> Result<(), Failure<'a>> {
-    let Ok(buffer) = BufWriter::new(rt.alloc(), io::writer(rt)) else {
-        return Err(Failure::OutOfMemory);
-    };
+    let buffer = BufWriter::new(rt.alloc(), io::writer(rt)).or(Err(Failure::OutOfMemory))?;
     let mut out = Written::new(buffer);
     let ending = execute_image(rt.alloc(), command, image, &mut out);
     if matches!(ending, Err(Failure::WriteFault)) {
         return ending;
     }
-    match out.into_inner().flush() {
-        Ok(()) => ending,
-        Err(_) => Err(Failure::WriteFault),
-    }
+    out.into_inner().flush().or(Err(Failure::WriteFault))?;
+    ending
 }

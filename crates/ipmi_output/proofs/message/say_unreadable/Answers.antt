@@ -1,8 +1,8 @@
 -- A part of the name, or of what comes before it, is a part of the line.
 use Rattle.std.proofs.Common.{◌++◌, codes}
 use Rattle.ipmi_output.specs.Failure.{escaped_name}
-use Rattle.std.proofs.lemmas.Result.{MatchResult-from_err}
-use Rattle.ipmi_output.proofs.MessageLemmas.{ReceivesAll-both, ReceivesPart-before, ReceivesPart-after, WritesAll-after}
+use Rattle.std.proofs.lemmas.Result.{MatchResult-from_err, MatchResult-weaker}
+use Rattle.ipmi_output.proofs.MessageLemmas.{ReceivesAll-both, ReceivesPart-before, ReceivesPart-after}
 use Rattle.ipmi_output.proofs.message.say_unreadable.Goals as goal
 
 pub returns-in_err-offer_all : goal.returns-in_err-offer_all
@@ -17,5 +17,6 @@ returns-in_err-write_escaped g c =
 
 pub returns : goal.returns
 returns g c =
-    WritesAll-after _ (g.E.MessageSink.received c.write_escaped.new.err) _ c.offer_all-2.result (codes "cannot read " ++ escaped_name c.args.name.now) (codes "\n")
-    (ReceivesAll-both _ _ _ _ _ c.in_ok-offer_all.ensures (rw c.as_bytes.ensures.value at c.in_ok-write_escaped.ensures)) c.offer_all-2.ensures
+    let named = ReceivesAll-both _ _ _ _ _ c.in_ok-offer_all.ensures (rw c.as_bytes.ensures.value at c.in_ok-write_escaped.ensures) in
+    MatchResult-weaker c.offer_all-2.result c.offer_all-2.ensures
+    (λ v all. ReceivesAll-both _ _ _ _ _ named all) (λ e part. ReceivesPart-after _ _ _ _ _ named part)

@@ -4,7 +4,7 @@ use Rattle.std.proofs.lemmas.Grind.{common_steps}
 use Rattle.std.proofs.lemmas.Result.{MatchResult-from_err}
 use Rattle.std.specs.Io.KnownBytes.{Appends}
 use Rattle.ipmi_output.specs.Received.{Received, ReceivesAll, ReceivesPart}
-use Rattle.ipmi_output.proofs.MessageLemmas.{Appends-both, Appends-kept, option_map-kept, take-next}
+use Rattle.ipmi_output.proofs.MessageLemmas.{Appends-both, Appends-kept, option_map-kept, take_next}
 use Rattle.ipmi_output.proofs.message_sink.offer_all.Goals as goal
 
 -- the part before `done`, where the next call took none
@@ -22,7 +22,7 @@ pub loop-done-preserved : goal.loop-done-preserved
 loop-done-preserved g c = (
   grind (arith, common_steps),
   (
-    rw (take-next c.loop-done.done c.in_ok-taken.taken c.args.bytes.now) at (Appends-both _ _ _ _ _ c.loop-done.invariant.1.0 c.in_ok-taken.ensures.received.0),
+    rw (← take_next c.loop-done.done c.in_ok-taken.taken c.args.bytes.now) at (Appends-both _ _ _ _ _ c.loop-done.invariant.1.0 c.in_ok-taken.ensures.received.0),
     c.in_ok-taken.ensures.received.1 ∙ option_map-kept _ c.in_ok-taken.taken c.if-taken-eq0.false ∙ c.loop-done.invariant.1.1,
   ),
 )

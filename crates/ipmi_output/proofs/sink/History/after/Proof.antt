@@ -1,10 +1,10 @@
--- The history after a call is an empty struct, and what it has taken is chosen by what the call took.
+-- The history after a call is an empty struct, and what it has taken is chosen by the call.
 use mathlib.Core.Path.{refl}
 use mathlib.Core.List.{[], ◌∷◌}
 use mir.Syntax.{named}
 use mir.Val.{vptr, vstruct, vnil}
 use base.Fml.{ftrue}
-use Rattle.std.proofs.Common.{◌+◌, ◌++◌, if◌then◌else◌}
+use Rattle.std.proofs.Common.{◌+◌, ◌++◌, option_map, unwrap_or}
 use Rattle.std.proofs.raw_atomic.Walks.{proved}
 use types.Kit.{‵, raw, ◌⊛◌, ◌$◌, ◌∵◌, !, qed, move, drop, split, suffices, done}
 use types.Run.{no_more, returns, enter}
@@ -17,34 +17,35 @@ use denote.Shadow.{pure_i}
 use denote.Signature.{plain, types_at, named_lft}
 use denote.Triple.Entry.{alive}
 use denote.Triple.Walked.{says, stay_none_ref, Stays, walk_of, ends_at, Goes-none_ref}
-use Rattle.ipmi_output.specs.contracts.history.Taking as taking
-use Rattle.ipmi_output.specs.contracts.history.History as history
-use Rattle.ipmi_output.specs.contracts.history.History.after as f
-use Rattle.ipmi_output.proofs.history.History.after.Statement.{statement}
-use Rattle.ipmi_output.proofs.history.History.after.Code as code
+use Rattle.ipmi_output.specs.contracts.sink.Call as call
+use Rattle.ipmi_output.specs.contracts.sink.History as history
+use Rattle.ipmi_output.specs.contracts.sink.History.after as f
+use Rattle.ipmi_output.specs.Sink.{faults_by, taken_by}
+use Rattle.ipmi_output.proofs.sink.History.after.Statement.{statement}
+use Rattle.ipmi_output.proofs.sink.History.after.Code as code
 
 abbrev stayed : Stays f.ended.signature.params f.ended.kept
-stayed = (stay_none_ref (0 ∷ []) tt (plain (λ _. history.the_row)) yes, (stay_none_ref (1 ∷ []) tt (plain (λ κs. taking.the_row (named_lft 3 2 tt κs))) yes, tt))
+stayed = (stay_none_ref (0 ∷ []) tt (plain (λ κs. call.the_row (named_lft 3 1 tt κs) (named_lft 3 2 tt κs))) yes, tt)
 
 pub after_spec : {M : Type 1} → statement M
 after_spec 𝓤 𝓛 𝓜 𝓡 wired =
     let c = f.clauses 𝓛 𝓜.mem 𝓡.returns in let W = walk_of 𝓛 f.ended stayed c in
     proved 𝓛 f.ended stayed c 𝓜 𝓡
-    (Goes-none_ref 𝓛 3 (0 ∷ []) tt (plain (λ _. history.the_row)) yes, (Goes-none_ref 𝓛 3 (1 ∷ []) tt (plain (λ κs. taking.the_row (named_lft 3 2 tt κs))) yes, tt))
+    (Goes-none_ref 𝓛 3 (0 ∷ []) tt (plain (λ κs. call.the_row (named_lft 3 1 tt κs) (named_lft 3 2 tt κs))) yes, tt)
     f.Key.name code.function (code.unfolded 𝓤 𝓛.H 𝓜 𝓡 wired)
-    (λ κs. (shr_vals, (shr_vals, tt)))
-    (λ κs. (shr_Tells (named 0) κs.0 history.the_row, (shr_Tells (named 1) κs.1.0 (taking.the_row (named_lft 3 2 tt κs)), tt))) (λ κs qs bounds a _ are.
-    let before = vptr a.0.ref_ptr.0 a.0.ref_ptr.1 in let call = vptr a.1.0.ref_ptr.0 a.1.0.ref_ptr.1 in
-    let y : W.Ghost = ((κs, qs, bounds, a, (before ∷ [], (call ∷ [], tt))), tt) in
+    (λ κs. (shr_vals, tt))
+    (λ κs. (shr_Tells (named 0) κs.0 (call.the_row (named_lft 3 1 tt κs) (named_lft 3 2 tt κs)), tt)) (λ κs qs bounds a _ are.
+    let y : W.Ghost = ((κs, qs, bounds, a, (vptr a.0.ref_ptr.0 a.0.ref_ptr.1 ∷ [], tt)), tt) in
+    let it = a.0.now in
     let made : history.the_row.Denot = record {
-      taken = a.0.now.taken ++ a.1.0.now.bytes.now;
-      faults = a.0.now.faults + (if a.1.0.now.is_fault then 1 else 0);
+      taken = unwrap_or (option_map (λ h. h.now.taken) it.0) [] ++ taken_by it.2 it.1.now;
+      faults = unwrap_or (option_map (λ h. h.now.faults) it.0) 0 + faults_by it.2;
     } in
     qed 𝓛 ((raw (alive 𝓛 f.signature κs qs) ⊛ ‵ (owns (types_at f.signature.params κs) a y.0.4)) ∷ ‵ ftrue ∷ []) ∵ move ! (1 ∷ []) $ drop ! $ split ! $
-    enter ! _ _ _ _ _ $ alloc_all ! (λ l. pass_all ! refl ((tt, tt), ((tt, tt), tt)) $
+    enter ! _ _ _ _ _ $ alloc_all ! (λ l. pass_all ! refl ((tt, tt), tt) $
     sets ! (agg ! (no_more !)) refl (tt, tt) $
     returns ! (look_at ! 0 refl) $ free_all ! refl $
-    suffices ! _ (ends_at 𝓛 f.ended stayed c y (vstruct vnil) made (tt, (tt, tt)) (tt, (tt, tt))) $ says ! (refl, refl) $
+    suffices ! _ (ends_at 𝓛 f.ended stayed c y (vstruct vnil) made (tt, tt) (tt, tt)) $ says ! (refl, refl) $
     -- [what the history owns; the tokens; the parameters]
     pure_i ! (history.the_row.own_val made (vstruct vnil ∷ [])) ((λ vss. (tt, tt)), tt) ((tt, (refl, tt)), tt) $
     move ! (1 ∷ 2 ∷ 0 ∷ []) $ done !))
