@@ -1,6 +1,8 @@
 //! Says why a run did not finish. A message is one line, written piece by piece and not made as a whole text first: so none
 //! takes memory, and the want of memory can be told as well.
-ghost use Rattle.std.specs.Prelude.{◌≡◌, ◌<◌, Some, true};
+ghost use Rattle.std.specs.Prelude.{◌≡◌, ◌<◌, Some, not, true};
+ghost use Rattle.std.specs.Char.{is_ascii_control};
+ghost use Rattle.std.specs.List.{list_all};
 ghost use Rattle.std.specs.Fmt.{digit_glyph};
 ghost use Rattle.ipmi_text.specs.Hex.{byte_h, upper_byte, word_h};
 ghost use Rattle.ipmi_output.specs.Received.{WritesAll};
@@ -66,10 +68,20 @@ pub fn say_unreadable<E: MessageSink>(err: &mut E, name: &str) -> Result<(), Sin
     offer_all(err, b"\n")
 }
 
+/// Whether the name has no control byte.
+fn is_plain(name: &[u8]) -> bool
+    ensures { result ≡ list_all (λ byte. not (is_ascii_control byte)) name.now }
+{
+    name.iter().all(|byte| !byte.is_ascii_control())
+}
+
 /// Writes a name with its control bytes escaped.
 fn write_escaped<E: MessageSink>(err: &mut E, name: &[u8]) -> Result<(), SinkFault>
     ensures { WritesAll (E.received err.old) (E.received err.new) result (escaped_name name.now) }
 {
+    if is_plain(name) {
+        return offer_all(err, name);
+    }
     for byte in name {
         write_byte(err, *byte)?;
     }
