@@ -8,7 +8,7 @@ use Rattle.ipmi_commands.proofs.CallLemmas.{calls_split}
 use Rattle.ipmi_commands.proofs.ItemLemmas.{after_items, leaves_joined, leaves_longer, row_items-append, row_items-split}
 use Rattle.ipmi_commands.proofs.PageLemmas.{calls_of_page, no_walk}
 use Rattle.ipmi_commands.proofs.SpotLemmas.{end_spots-joined}
-use Rattle.ipmi_commands.proofs.StepLemmas.{between, ends_since}
+use Rattle.ipmi_commands.proofs.CountLemmas.{between, ends_since}
 
 -- a listing in this form ends as its walk does, whatever its rows are
 abbrev pub NamesNone : Form → Type 0
@@ -109,7 +109,7 @@ module _ (walk_tail : TailIsWalk) where
       → IsAllowed (IsTextOver store) (plan_from form First None [] end) text new ending
   from_first form store end text new ending allowed =
       leaves_longer (IsTextOver store) (plan_from form End None [] end) (plan_from form First None [] end) [] refl (there end) text new ending (cause_of ending)
-      (λ at_end all. rw at_end all) allowed
+      (λ at_end all. all) allowed
     where
       there : (e : WalkEnd) (spot : Spot) (rest : List Item)
           → IsAmong (spots_at rest (end_spots End [] e)) spot
@@ -181,7 +181,7 @@ module _ (walk_tail : TailIsWalk) where
       let later = pages_are_one form tries more.next sizes more.seen s' more.text new ending none done page.ends.stays.honest more.rest in
       let since = between s more.seen s' page.ends.stays later.ends.stays in
       record {
-        ends = ends_since tries (IsTrue s.plain) (IsTrue more.seen.plain) s more.seen s' (cause_of ending) page.ends.stays (record { refusals = page.ends.counts; troubles = page.ends.grows }) page.ends.stays.plain later.ends;
+        ends = ends_since page.ends page.ends.stays.plain later.ends;
         along = λ same walk end w ends open_.
             let first = (since same).0 in
             let along = page.along first walk end w ends in

@@ -36,32 +36,6 @@ pub among_after : (spots ends : List Spot) (spot : Spot) → IsAmong ends spot
 among_after [] ends spot among = among
 among_after (first ∷ spots) ends spot among = inr (among_after spots ends spot among)
 
--- an id that is asked for along the rows
-along_spot : (start : Place) (walk : List Row) (ends : List Spot) (j : ℕ) → j < length walk
-    → IsAmong (spots_along start walk ++ ends)
-    (AtRecord (asked_at (place_after_rows start (take j walk))))
-along_spot start [] ends j within = absurd (omega (arith, within))
-along_spot start (row ∷ walk) ends zero within = inl refl
-along_spot start (row ∷ walk) ends (suc j) within = inr (along_spot (place_after row.next) walk ends j (omega (arith, within)))
-
--- or at its end
-pub walk_spot : (rows : List Row) (start : Place) (walk : List Row) (end : WalkEnd) (j : ℕ)
-    → EndsBy rows start walk end → j ≤ length walk
-    → (j ≡ length walk → MayFail end (place_after_rows start (take j walk)))
-    → IsAmong (spots_of_walk start walk end)
-    (AtRecord (asked_at (place_after_rows start (take j walk))))
-walk_spot rows start walk end j ends within may = by_place (nat_lt j (length walk)) refl
-  where
-    by_place : (b : Bool) → nat_lt j (length walk) ≡ b
-        → IsAmong (spots_of_walk start walk end)
-        (AtRecord (asked_at (place_after_rows start (take j walk))))
-    by_place true before = along_spot start walk (end_spots start walk end) j (search arith)
-    by_place false past =
-        let least : length walk ≤ j = search arith in
-        let all : j ≡ length walk = omega (arith, least, within) in
-        let whole = take_all j walk least in
-        rw whole (among_after (spots_along start walk) (end_spots start walk end) _ (end_spot rows start walk end ends (rw whole at (may all))))
-
 -- the id that is asked for first is a spot of what comes first
 pub asked_first : (form : Form) (place : Place) (rows : List Row) (ends : List Spot)
     → (rows ≡ [] → IsAmong ends (AtRecord (asked_at place)))

@@ -5,4 +5,4 @@ use Rattle.ipmi_commands.proofs.pages.list_page.Goals as goal
 
 pub returns-then-is_reached-clause-honest : goal.returns-then-is_reached-clause-honest
 returns-then-is_reached-clause-honest g c = λ h.
-    rw (at_limit c.args.most 0 (sym c.is_reached.ensures ∙ c.if-is_reached.true), c.stop_there.ensures) (page_of_none _ _ _ _ _ h)
+    rw (at_limit c.args.most 0 (sym c.is_reached.ensures ∙ c.if-is_reached.true), c.end.ensures) (page_of_none _ _ _ _ _ h)
