@@ -1,5 +1,5 @@
 -- What is known after a reading, an info or an inventory was asked for.
-use Rattle.std.proofs.Common.{◌≡◌, inl, ℕ, ◌+◌, ◌≤◌, ◌==◌, Bool, true, false, codes, Option, None, Some, Result, Ok, Err, List, [], ◌∷◌, refl, sym, ap, subst, ◌∙◌, arith, IsErrAnd, IsTrue}
+use Rattle.std.proofs.Common.{◌≡◌, inl, ℕ, ◌+◌, ◌≤◌, ◌==◌, Bool, true, false, codes, Option, None, Result, Ok, Err, List, [], ◌∷◌, refl, sym, ap, subst, ◌∙◌, arith, IsErrAnd, IsTrue}
 use Rattle.ipmi_commands.specs.Below.{Ended, FruEnded, EndsUnder, ReadsValue, ReadsInventory, IsRefusedInventory, IsRefusedOverChange, Seen, IsHonest, Store, inventory_of, IsFruText}
 use Rattle.ipmi_commands.specs.Prelude.{Unread, cause_of_unread, AtEnd, Cause, NoMemory, CountsSo, IsFine, is_absent, AsksAt, FindsIt, FindsNone, IsInventoryText, Spot, AtRecord, AtInventory}
 use Rattle.ipmi_commands.proofs.CountLemmas.{ends_as, ends_here}
@@ -7,15 +7,16 @@ use Rattle.ipmi_commands.proofs.CountLemmas.{ends_as, ends_here}
 -- why it failed is passed up
 pub passed : {T E : Type 0} (result : Result T E) (error : E) → IsErrAnd result (λ e. e ≡ error)
     → result ≡ Err error
-passed (Ok found) error is = absurd is
-passed (Err e) error is = rw is refl
+passed result error is = grind arith
 
 -- nothing was asked for
-pub asks_nothing : (spots : List Spot) (tries : ℕ) (s : Seen) → IsHonest s → AsksAt spots tries s s AtEnd
+pub asks_nothing : (spots : List Spot) (tries : ℕ) (s : Seen) → IsHonest s
+    → AsksAt spots tries s s AtEnd
 asks_nothing spots tries s honest = record { ends = ends_here honest refl tt; calls = λ same. omega arith; keeps = λ p. record { sdr = refl; sel = refl } }
 
 -- what was found may lead to this too
-pub asks_as : {spots : List Spot} {tries : ℕ} {s s' : Seen} {cause : Cause} → AsksAt spots tries s s' AtEnd
+pub asks_as : {spots : List Spot} {tries : ℕ} {s s' : Seen} {cause : Cause}
+    → AsksAt spots tries s s' AtEnd
     → CountsSo tries s s' cause → IsFine cause → AsksAt spots tries s s' cause
 asks_as asks counts fine = record { ends = ends_as asks.ends counts fine; calls = asks.calls; keeps = asks.keeps }
 
@@ -32,7 +33,8 @@ out_of_memory spots tries s honest = out_after spots tries s s (asks_nothing spo
 
 module _ {V : Type 0} (value : Store → Option V) (id tries : ℕ) (s s' : Seen)
     (calls : s'.calls ≤ s.calls + (tries + 1)) where
-  asks_value : (result : Result (Option V) Ended) (cause : Cause) → ReadsValue value tries s s' result
+  asks_value : (result : Result (Option V) Ended) (cause : Cause)
+      → ReadsValue value tries s s' result
       → s.troubles ≤ s'.troubles → CountsSo tries s s' cause → (IsTrue s.plain → IsFine cause)
       → AsksAt (AtRecord id ∷ []) tries s s' cause
   asks_value result cause r grows counts fine = record { ends = record { stays = r.stays; grows = grows; counts = counts; plain = fine }; calls = λ same. omega (arith, calls); keeps = λ p. (r.plain p).1 }
@@ -80,7 +82,8 @@ module _ (id tries : ℕ) (s s' : Seen) where
   out_after_bytes bytes r = out_after _ tries s s' (inventory_asked bytes r)
 
   -- there is none
-  absence_asked : (ended : FruEnded) → is_absent ended ≡ true → ReadsInventory id tries s s' (Err ended)
+  absence_asked : (ended : FruEnded) → is_absent ended ≡ true
+      → ReadsInventory id tries s s' (Err ended)
       → AsksAt (AtInventory id ∷ []) tries s s' AtEnd
       × (s'.stores_added ≡ s.stores_added → inventory_of id s.store ≡ None)
   absence_asked (FruEnded.Refused code) absent r =
@@ -91,7 +94,8 @@ module _ (id tries : ℕ) (s s' : Seen) where
   absence_asked _ absent r = cc absent
 
   pub inventory_absent : (ended : FruEnded) (text : List ℕ) → is_absent ended ≡ true
-      → ReadsInventory id tries s s' (Err ended) → text ≡ codes "not present\n" → FindsInventory text
+      → ReadsInventory id tries s s' (Err ended) → text ≡ codes "not present\n"
+      → FindsInventory text
   inventory_absent ended text absent r is = let none = absence_asked ended absent r in record { asks = none.0; is = λ same. rw (none.1 same) is }
 
   pub out_after_absence : (ended : FruEnded) → is_absent ended ≡ true

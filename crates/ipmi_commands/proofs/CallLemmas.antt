@@ -1,11 +1,12 @@
 -- How many calls a listing makes, and the rows of a walk that are wanted.
-use Rattle.std.proofs.Common.{◌≡◌, inl, inr, ℕ, zero, suc, ◌+◌, ◌*◌, ◌<◌, ◌≤◌, ◌==◌, false, true, Option, None, Some, IfOk, Result, Ok, Err, List, [], ◌∷◌, ◌++◌, length, take, drop, refl, sym, ap, ◌∙◌, arith, take-append-drop, take_all, length-drop, length-take}
+use Rattle.std.proofs.Common.{◌≡◌, inl, inr, ℕ, zero, suc, ◌+◌, ◌*◌, ◌<◌, ◌≤◌, false, true, Option, None, Some, IfOk, Result, Ok, Err, List, [], ◌∷◌, ◌++◌, length, take, drop, refl, sym, ap, ◌∙◌, arith, take-append-drop, take_all, length-drop, length-take}
 use Rattle.std.specs.FinSet as set
 use Rattle.std.specs.FinSet.{len-insert}
 use Rattle.std.specs.Cmp.{nat_cmp_total}
 use Rattle.std.proofs.lemmas.Bool.Decides.{nat_tests}
+use Rattle.std.proofs.lemmas.List.{drop-drop}
 use Rattle.std.proofs.lemmas.Nat.{mul-le}
-use Rattle.std.proofs.Math.Seq.{take-nil, drop-nil}
+use Rattle.std.proofs.Math.Seq.{take-nil}
 use Rattle.ipmi_commands.specs.Below.{step_call_bound, digits, Shelf, Ended, Row, first_row, len_of, largest_len, place_after, Place, place_after_rows, Seen, CursorState, IsStep, StepLeaves, HandsOut, Store, WalkEnd, Done, Failure}
 use Rattle.ipmi_commands.specs.Prelude.{calls_for, Form, is_reached, IsPlace, KeepsListing, ListingCalls, first_end, first_rows}
 
@@ -17,14 +18,10 @@ digits_some n some = grind (arith, nat_tests)
 
 -- ---- limits
 
--- no more than are wanted, and fewer
+-- no more than are wanted
 abbrev pub IsWithin : Option ℕ → ℕ → Type 0
 IsWithin None count = Unit {0}
 IsWithin (Some n) count = count ≤ n
-
-abbrev pub IsBelow : Option ℕ → ℕ → Type 0
-IsBelow None count = Unit {0}
-IsBelow (Some n) count = count < n
 
 -- as many were handed out as are wanted
 pub at_limit : (most : Option ℕ) (count : ℕ) → is_reached most count ≡ true → most ≡ Some count
@@ -32,24 +29,20 @@ at_limit most count reached = grind (arith, nat_tests)
 
 pub not_at_limit : (most : Option ℕ) (count : ℕ) → is_reached most count ≡ false
     → most ≡ Some count → ⊥
-not_at_limit (Some n) count more is = let e : n ≡ count = cc is in let h : (n == count) ≡ true = rw e (search arith) in cc (sym h ∙ more)
-not_at_limit None count more is = cc is
+not_at_limit most count more is = grind (arith, nat_tests)
 
 -- otherwise one more is wanted
-pub one_wanted : (most : Option ℕ) (count : ℕ) → IsWithin most count
-    → is_reached most count ≡ false → IsBelow most count
-one_wanted most count within more = grind (arith, nat_tests)
-
 pub within_more : (most : Option ℕ) (count : ℕ) → IsWithin most count
     → is_reached most count ≡ false → IsWithin most (count + 1)
 within_more most count within more = grind (arith, nat_tests)
 
 -- all rows are wanted where more are wanted than there are
-pub first_rows-all : (most : Option ℕ) (rows : List Row) → IsBelow most (length rows)
+pub first_rows-all : (most : Option ℕ) (rows : List Row) → IsWithin most (length rows + 1)
     → first_rows most rows ≡ rows
 first_rows-all most rows below = grind (arith, take_all)
 
-pub first_end-all : (most : Option ℕ) (rows : List Row) (end : WalkEnd) → IsBelow most (length rows)
+pub first_end-all : (most : Option ℕ) (rows : List Row) (end : WalkEnd)
+    → IsWithin most (length rows + 1)
     → first_end most rows end ≡ end
 first_end-all most rows end below = grind (arith, nat_tests)
 
@@ -59,17 +52,17 @@ pub first_end-none : (count : ℕ) (rows : List Row) (end : WalkEnd) → count �
 first_end-none count rows end within = grind (arith, nat_tests)
 
 -- no row is left where no more are wanted
-pub none_left : (most : Option ℕ) (count : ℕ) (rows : List Row) → IsBelow most count
+pub none_left : (most : Option ℕ) (count : ℕ) (rows : List Row) → IsWithin most (count + 1)
     → drop count (first_rows most rows) ≡ [] → length rows ≤ count
 none_left most count rows below none = grind (arith, length-drop, length-take, ap length none)
 
 -- the next row is wanted where more are
-pub first_row-first_rows : (most : Option ℕ) (k : ℕ) (walk : List Row) → IsBelow most k
+pub first_row-first_rows : (most : Option ℕ) (k : ℕ) (walk : List Row) → IsWithin most (k + 1)
     → first_row (drop k (first_rows most walk)) ≡ first_row (drop k walk)
 first_row-first_rows None k walk below = refl
 first_row-first_rows (Some n) k walk below = fewer n k walk below
   where
-    fewer : (n k : ℕ) (walk : List Row) → k < n
+    fewer : (n k : ℕ) (walk : List Row) → k + 1 ≤ n
         → first_row (drop k (take n walk)) ≡ first_row (drop k walk)
     fewer n k [] below = rw (take-nil n) refl
     fewer zero k (first ∷ walk) below = absurd (omega (arith, below))
@@ -102,7 +95,8 @@ is_place next fits = grind (arith, nat_tests)
 at_most_all : (rows bound : ℕ) → rows ≤ 65536 → rows * bound ≤ 65536 * bound
 at_most_all rows bound most = mul-le rows bound 65536 bound most (omega arith)
 
-if_ok : {T E : Type 0} {P : T → Type 0} (result : Result T E) → ((value : T) → P value) → IfOk result P
+if_ok : {T E : Type 0} {P : T → Type 0} (result : Result T E) → ((value : T) → P value)
+    → IfOk result P
 if_ok (Ok value) holds = holds value
 if_ok (Err e) holds = tt
 
@@ -134,7 +128,8 @@ module _ (later : ℕ) {tries each count : ℕ} {shelf : Shelf} {begun now next 
     (each_is : each ≡ step_call_bound tries (largest_len shelf) + later)
     (same_shelf : now.shelf ≡ shelf) (same_tries : now.tries ≡ tries)
     (called : HasCalled each count begun now s s') (step : IsStep now next s' s'' result) where
-  kept_on : set.len next.ids ≤ 65536 → (IsPlace now.place → IsPlace next.place) → KeepsListing begun next
+  kept_on : set.len next.ids ≤ 65536 → (IsPlace now.place → IsPlace next.place)
+      → KeepsListing begun next
   kept_on room place = record {
     shelf = step.same.shelf ∙ called.keeps.shelf;
     tries = step.same.tries ∙ called.keeps.tries;
@@ -144,7 +139,8 @@ module _ (later : ℕ) {tries each count : ℕ} {shelf : Shelf} {begun now next 
   }
 
   -- after a record, and what is asked for on account of it
-  pub called_more : {row : Row} → (last : Seen) → result ≡ Ok (Some row) → last.calls ≤ s''.calls + later
+  pub called_more : {row : Row} → (last : Seen) → result ≡ Ok (Some row)
+      → last.calls ≤ s''.calls + later
       → HasCalled each (count + 1) begun next s last
   called_more last is asked =
       let hands = (rw is at step.leaves).1 in
@@ -202,12 +198,10 @@ pub place_after_rows-append : (start : Place) (done rest : List Row)
 place_after_rows-append start [] rest = refl
 place_after_rows-append start (d ∷ done) rest = place_after_rows-append (place_after d.next) done rest
 
--- the next of some rows: those after it, and the place after it
+-- the next of some rows, and those after it
+first_is : (rows : List Row) (row : Row) → first_row rows ≡ Some row → rows ≡ row ∷ drop 1 rows
+first_is rows row is = grind arith
+
 pub next_one : (rows : List Row) (k : ℕ) (row : Row) → first_row (drop k rows) ≡ Some row
-    → (drop k rows ≡ row ∷ drop (k + 1) rows)
-    × ((start : Place) → place_after_rows start (take (k + 1) rows) ≡ place_after row.next)
-next_one [] k row next = let none = rw drop-nil at next in cc none
-next_one (first ∷ rows) zero row next = let same : first ≡ row = cc next in (rw same refl, λ start. rw same refl)
-next_one (first ∷ rows) (suc k) row next =
-    let later = next_one rows k row next in
-    let one_on : suc k + 1 ≡ suc (k + 1) = omega arith in (rw one_on later.0, λ start. rw one_on (later.1 (place_after first.next)))
+    → drop k rows ≡ row ∷ drop (k + 1) rows
+next_one rows k row next = rw (← drop-drop 1 k rows) (first_is (drop k rows) row next)

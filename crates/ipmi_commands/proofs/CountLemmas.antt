@@ -1,5 +1,5 @@
 -- What an honest controller counts over several stretches of calls.
-use Rattle.std.proofs.Common.{◌≡◌, ℕ, ◌+◌, ◌≤◌, refl, arith, IsTrue}
+use Rattle.std.proofs.Common.{◌≡◌, ℕ, ◌≤◌, arith}
 use Rattle.ipmi_commands.specs.Below.{Seen, IsHonest, StaysHonest, stays_refl, stays_trans}
 use Rattle.ipmi_commands.specs.Prelude.{AtEnd, Cause, CountsSo, EndsFor, IsFine}
 
@@ -9,7 +9,8 @@ pub ends_here : {tries : ℕ} {IsPlain : Type 0} {s : Seen} {cause : Cause} → 
 ends_here {s = s} honest counts fine = record { stays = stays_refl s honest; grows = omega arith; counts = counts; plain = λ p. fine }
 
 -- what went well may end by this too
-pub ends_as : {tries : ℕ} {IsPlain : Type 0} {s s' : Seen} {cause : Cause} → EndsFor tries IsPlain s s' AtEnd
+pub ends_as : {tries : ℕ} {IsPlain : Type 0} {s s' : Seen} {cause : Cause}
+    → EndsFor tries IsPlain s s' AtEnd
     → CountsSo tries s s' cause → IsFine cause → EndsFor tries IsPlain s s' cause
 ends_as ends counts fine = record { stays = ends.stays; grows = ends.grows; counts = counts; plain = λ p. fine }
 

@@ -1,8 +1,7 @@
 -- The items of a plan, their texts, and what may be left where a run stops before or at one of them.
-use Rattle.std.proofs.Common.{◌≡◌, ℕ, zero, suc, ◌+◌, ◌<◌, Bool, true, false, Option, Some, List, [], ◌∷◌, ◌++◌, length, take, drop, refl, sym, ap, ◌∙◌, append_assoc, append-nil, arith, take-append-drop}
-use Rattle.std.proofs.Math.Seq.{drop-nil}
+use Rattle.std.proofs.Common.{◌≡◌, ℕ, ◌+◌, ◌<◌, List, [], ◌∷◌, ◌++◌, length, take, drop, refl, sym, ap, ◌∙◌, append_assoc, append-nil, take-add, take-append-drop}
 use Rattle.ipmi_commands.specs.Below.{Place, Row, place_after, place_after_rows, asked_at, TakesPart, Ending}
-use Rattle.ipmi_commands.specs.Prelude.{AreTexts, AtEnd, AtRecord, Cause, Dishonest, Form, GaveUp, HasFirstItems, IsAmong, Item, Leaves, MayStopAt, NoMemory, NoOutput, OfRow, Plan, Printed, PrintsAll, Refused, row_items, Spot, spots_after, spots_at, StopsAt, Subject}
+use Rattle.ipmi_commands.specs.Prelude.{AreTexts, AtEnd, AtRecord, Cause, Dishonest, Form, GaveUp, HasFirstItems, IsAmong, Item, Leaves, MayStopAt, NoMemory, NoOutput, OfRow, Plan, Printed, PrintsAll, Refused, row_items, Spot, spots_after, spots_at, Subject}
 
 -- ---- items and rows
 
@@ -18,20 +17,13 @@ abbrev pub row_item : Form → Place → Row → Item
 row_item form place row =
     record { subject = OfRow form row; spots = AtRecord (asked_at place) ∷ spots_after form row }
 
-take_one : (rows : List Row) (count : ℕ) (row : Row) (rest : List Row)
-    → drop count rows ≡ row ∷ rest → take (count + 1) rows ≡ take count rows ++ row ∷ []
-take_one [] count row rest is = let none = rw drop-nil at is in cc none
-take_one (first ∷ rows) zero row rest is = let same : first ≡ row = cc is in rw same refl
-take_one (first ∷ rows) (suc count) row rest is =
-    let on : suc count + 1 ≡ suc (count + 1) = omega arith in rw (on, take_one rows count row rest is) refl
-
 -- of the first rows, and the next one
 pub row_items-next : (form : Form) (at : Place) (rows : List Row) (count : ℕ) (row : Row)
     (rest : List Row) → drop count rows ≡ row ∷ rest
     → row_items form at (take (count + 1) rows)
     ≡ row_items form at (take count rows)
     ++ row_item form (place_after_rows at (take count rows)) row ∷ []
-row_items-next form at rows count row rest is = rw (take_one rows count row rest is) (row_items-append form at (take count rows) (row ∷ []))
+row_items-next form at rows count row rest is = rw (take-add count 1 rows, is) (row_items-append form at (take count rows) (row ∷ []))
 
 -- and of those after the first ones
 pub row_items-split : (form : Form) (at : Place) (rows : List Row) (count : ℕ)
@@ -95,7 +87,7 @@ module _ (IsText : Subject → List ℕ → Type 0) where
       → first.rest ≡ item ∷ later → IsText item.subject text → 0 < length text
       → TakesPart whole new text → Leaves IsText p old new ending NoOutput
   cut_after p old whole new ending first item later text next is some part =
-      record { whole = whole; first = first; item = item; later = later; next = next; text = text; is_text = is; some = some; bytes = part.0; new_is = part.1 }
+      record { whole = whole; first = first; item = item; later = later; next = next; text = text; is_text = is; some = some; part = part }
 
 -- ---- what is left by one plan is left by another
 
@@ -132,15 +124,15 @@ leaves_carried IsText p q old old' new ending NoOutput carry all leaves =
       text = leaves.text;
       is_text = rw next.3 leaves.is_text;
       some = leaves.some;
-      bytes = leaves.bytes;
-      new_is = leaves.new_is;
+      part = leaves.part;
     }
 leaves_carried IsText p q old old' new ending Dishonest carry all leaves = absurd leaves
 
 -- after some items that were printed
 pub leaves_joined : (IsText : Subject → List ℕ → Type 0) (done : List Item) (p : Plan)
     (old text new : List ℕ) (ending : Ending) (cause : Cause) → Printed IsText done old text
-    → Leaves IsText p text new ending cause → Leaves IsText (after_items done p) old new ending cause
+    → Leaves IsText p text new ending cause → Leaves IsText
+    (after_items done p) old new ending cause
 leaves_joined IsText done p old text new ending cause before leaves = leaves_carried IsText p (after_items done p) text old new ending cause
     (λ whole first. record {
       first = record {

@@ -1,9 +1,9 @@
 -- The last entries of a shelf: a walk that counts them, and a second one that passes those before them.
-use Rattle.std.proofs.Common.{◌≡◌, inl, inr, ℕ, zero, suc, ◌+◌, ◌-◌, ◌<◌, ◌≤◌, true, false, IsTrue, Option, None, Some, IfOk, Result, Ok, Err, List, [], ◌∷◌, ◌++◌, length, take, drop, refl, sym, ap, subst, ◌∙◌, append_assoc, append-nil, arith, length-append, length-drop, length-take-le, take-append-drop}
+use Rattle.std.proofs.Common.{◌≡◌, inl, inr, ℕ, zero, suc, ◌+◌, ◌-◌, ◌<◌, ◌≤◌, Option, None, Some, IfOk, Result, Ok, Err, List, [], ◌∷◌, ◌++◌, length, take, drop, refl, sym, ap, subst, ◌∙◌, append_assoc, append-nil, arith, length-append, length-drop, length-take-le, take-append-drop}
 use Rattle.std.proofs.lemmas.List.{nil_from_length}
 use Rattle.std.proofs.Math.Seq.{drop-nil}
-use Rattle.ipmi_commands.specs.Below.{digits_most, Place, Sel, Row, Store, rows_of, WalkEnd, Done, CycleAt, MissingAt, place_after, place_after_rows, Seen, IsHonest, StaysHonest, CommandState, CursorState, CursorHoldsCurrent, StandsAt, start_of, asked_at, Ending, Failure}
-use Rattle.ipmi_commands.specs.Prelude.{AreTexts, AtEnd, AtRecord, calls_for, Cause, cause_of, Change, change, Counted, CountsEntries, Dishonest, end_spots, end_spots_of_last, ending_of, EndsFor, first_end, first_rows, Form, GaveUp, HasFirstItems, IsAllowed, IsAmong, IsFresh, IsOnWalk, IsTextOver, Item, Job, last_call_bound, last_items, last_plan, Leaves, listing, listing_plan, Lists, ListsAfter, ListsHonestly, most_on_walk, NoMemory, NoOutput, OfRow, OnWalk, ListsAlong, Plan, Printed, PrintsAll, Refused, row_items, rows_end, second_walk_bound, Spot, spots_along, spots_at, spots_of_walk, StopsAt, Subject, walk_call_bound, with_first_spots}
+use Rattle.ipmi_commands.specs.Below.{digits_most, Place, Sel, Row, Store, rows_of, WalkEnd, Done, place_after, place_after_rows, Seen, IsHonest, StaysHonest, CommandState, CursorState, StandsAt, start_of, asked_at, Ending, Failure}
+use Rattle.ipmi_commands.specs.Prelude.{AreTexts, AtEnd, AtRecord, calls_for, Cause, cause_of, Change, change, Counted, CountsEntries, Dishonest, end_spots, end_spots_of_last, ending_of, first_end, first_rows, Form, GaveUp, IsAllowed, IsAmong, IsFresh, IsTextOver, Item, last_call_bound, last_plan, Leaves, listing, listing_plan, Lists, ListsAfter, ListsHonestly, most_on_walk, NoMemory, NoOutput, OfRow, OnWalk, ListsAlong, Plan, Printed, PrintsAll, Refused, row_items, rows_end, second_walk_bound, Spot, spots_along, spots_at, spots_of_walk, StopsAt, Subject, walk_call_bound, with_first_spots}
 use Rattle.ipmi_commands.proofs.CallLemmas.{calls_split}
 use Rattle.ipmi_commands.proofs.CountLemmas.{between, ends_here, ends_since}
 use Rattle.ipmi_commands.proofs.ItemLemmas.{IsCarried, leaves_carried, no_items, none_printed, texts_joined}
@@ -29,7 +29,7 @@ first_there : (start : Place) (rows : List Row) (ends : List Spot) (spot : Spot)
     → IsAmong (spots_at (row_items Form.EntryLine start rows) ends) spot
     → IsAmong (spots_along start rows ++ ends) spot
 first_there start [] ends spot among = among
-first_there start (row ∷ rows) ends spot among = elim among [ inl is ↦ inl is | inr none ↦ absurd none ]
+first_there start (row ∷ rows) ends spot among = grind arith
 
 -- ---- plans whose first item has other spots
 
@@ -41,8 +41,7 @@ module _ (IsText : Subject → List ℕ → Type 0) (spots : List Spot) (p : Pla
 
   kept_printed : (items : List Item) (old new : List ℕ) → Printed IsText items old new
       → Printed IsText (with_first_spots spots items) old new
-  kept_printed [] old new printed = printed
-  kept_printed (item ∷ items) old new printed = record { text = printed.text; are = printed.are; new_is = printed.new_is }
+  kept_printed items old new printed = grind arith
 
   widened : (old new : List ℕ) (done rest : List Item) → p.items ≡ done ++ rest
       → Printed IsText done old new → IsCarried IsText p q old new rest
@@ -90,7 +89,8 @@ calls_for-passed store tries (row ∷ rows) = rw (calls_for-passed store tries r
 
 -- nothing is printed of them
 no_text : (store : Store) (rows : List Row) (start : Place) (done rest : List Item) (text : List ℕ)
-    → row_items Form.Passed start rows ≡ done ++ rest → AreTexts (IsTextOver store) done text → text ≡ []
+    → row_items Form.Passed start rows ≡ done ++ rest → AreTexts (IsTextOver store) done text
+    → text ≡ []
 no_text store rows start [] rest text is are = are
 no_text store [] start (d ∷ done) rest text is are = cc is
 no_text store (row ∷ rows) start (d ∷ done) rest text is are =
@@ -99,7 +99,8 @@ no_text store (row ∷ rows) start (d ∷ done) rest text is are =
     are.joined ∙ rw (none, no_text store rows (place_after row.next) done rest are.rest (cc is) are.is_rest) refl
 
 -- the spots of what comes next, or after them, are spots of theirs
-passed_spot : (rows : List Row) (start : Place) (done rest : List Item) (ends more : List Spot) (spot : Spot)
+passed_spot : (rows : List Row) (start : Place) (done rest : List Item) (ends more : List Spot)
+    (spot : Spot)
     → row_items Form.Passed start rows ≡ done ++ rest → (IsAmong ends spot → IsAmong more spot)
     → IsAmong (spots_at rest ends) spot → IsAmong (spots_along start rows ++ more) spot
 passed_spot [] start [] rest ends more spot is wide among = let none : rest ≡ [] = cc is in wide (rw none at among)
@@ -107,7 +108,8 @@ passed_spot [] start (d ∷ done) rest ends more spot is wide among = cc is
 passed_spot (row ∷ rows) start [] rest ends more spot is wide among = elim (rw (← is) at among) [ inl at ↦ inl at | inr none ↦ absurd none ]
 passed_spot (row ∷ rows) start (d ∷ done) rest ends more spot is wide among = inr (passed_spot rows (place_after row.next) done rest ends more spot (cc is) wide among)
 
-passed_there : (most : Option ℕ) (start : Place) (walk : List Row) (done rest : List Item) (ends : List Spot)
+passed_there : (most : Option ℕ) (start : Place) (walk : List Row) (done rest : List Item)
+    (ends : List Spot)
     (spot : Spot) → row_items Form.Passed start (first_rows most walk) ≡ done ++ rest
     → IsAmong (spots_at rest ends) spot → IsAmong (spots_along start walk ++ ends) spot
 passed_there None start walk done rest ends spot is among = passed_spot walk start done rest ends ends spot is (λ there. there) among
@@ -116,12 +118,15 @@ passed_there (Some m) start walk done rest ends spot is among =
     rw (spots_along-split m start walk ends) (passed_spot (take m walk) start done rest ends (later ++ ends) spot is (λ there. among_after later ends spot there) among)
 
 -- the first of them were passed
-nothing : (store : Store) (most : Option ℕ) (start : Place) (walk : List Row) (done rest : List Item) (old new : List ℕ)
-    → row_items Form.Passed start (first_rows most walk) ≡ done ++ rest → Printed (IsTextOver store) done old new → new ≡ old
+nothing : (store : Store) (most : Option ℕ) (start : Place) (walk : List Row)
+    (done rest : List Item) (old new : List ℕ)
+    → row_items Form.Passed start (first_rows most walk) ≡ done ++ rest
+    → Printed (IsTextOver store) done old new → new ≡ old
 nothing store most start walk done rest old new is printed = printed.new_is ∙ rw (no_text store (first_rows most walk) start done rest printed.text is printed.are) (append-nil old)
 
 all_nothing : (store : Store) (most : Option ℕ) (start : Place) (walk : List Row) (old new : List ℕ)
-    → Printed (IsTextOver store) (row_items Form.Passed start (first_rows most walk)) old new → new ≡ old
+    → Printed (IsTextOver store) (row_items Form.Passed start (first_rows most walk)) old new
+    → new ≡ old
 all_nothing store most start walk old new printed = nothing store most start walk (row_items Form.Passed start (first_rows most walk)) [] old new (sym (append-nil _)) printed
 
 -- a run that ends while they are passed
@@ -132,9 +137,7 @@ module _ (store : Store) (n : ℕ) (most : Option ℕ) (start : Place) (walk : L
 
   ends_so : (e : WalkEnd) → Err failure ≡ rows_end Form.Passed (first_rows most walk) e → new ≡ old
       → PrintsAll (IsTextOver store) (last_plan n start walk e) old new (Err failure)
-  ends_so Done is same = cc is
-  ends_so (CycleAt m) is same = (none_printed (IsTextOver store) old new same, is)
-  ends_so (MissingAt m) is same = (none_printed (IsTextOver store) old new same, is)
+  ends_so e is same = grind (arith, none_printed)
 
   stops_there : (spot : Spot) → StopsAt spot (IsTextOver store) passing old new
       → StopsAt spot (IsTextOver store) (last_plan n start walk end) old new
@@ -160,10 +163,12 @@ module _ (store : Store) (n : ℕ) (most : Option ℕ) (start : Place) (walk : L
 
 -- ---- entries are counted
 
-rows_end-done : (rows : List Row) (end : WalkEnd) → Ok tt ≡ rows_end Form.Passed rows end → end ≡ Done
+rows_end-done : (rows : List Row) (end : WalkEnd) → Ok tt ≡ rows_end Form.Passed rows end
+    → end ≡ Done
 rows_end-done rows end is = grind arith
 
-module _ {command : CommandState} {from : Option ℕ} {tries : ℕ} {begun now : CursorState} {c : Change}
+module _ {command : CommandState} {from : Option ℕ} {tries : ℕ} {begun now : CursorState}
+    {c : Change}
     (fresh : IsFresh command Form.Passed from begun) where
   counts : (result : Result ℕ Failure) (walk : List Row) (end : WalkEnd)
       → ListsAlong Form.Passed tries None begun now c result (start_of from) walk end 0
@@ -171,7 +176,8 @@ module _ {command : CommandState} {from : Option ℕ} {tries : ℕ} {begun now :
   counts (Ok count) walk end along = (along.all.count_is, rows_end-done walk end along.leaves.1, all_nothing c.seen.store None (start_of from) walk c.old c.new along.leaves.0)
   counts (Err failure) walk end along = λ n. passing_failed c.seen.store n None (start_of from) walk end refl c.old c.new failure (cause_of (Err failure)) along.leaves
 
-  pub counted : (result : Result ℕ Failure) → ListsHonestly Form.Passed tries None begun now c result
+  pub counted : (result : Result ℕ Failure)
+      → ListsHonestly Form.Passed tries None begun now c result
       → CountsEntries (start_of from) tries c result
   counted result lists = record {
     ends = fresh_ends fresh lists;
@@ -197,9 +203,9 @@ after_without_memory tries start passed s text honest = record {
 }
 
 -- a done walk has no other end
-first_end-done : (most : Option ℕ) (rows : List Row) (end : WalkEnd) → end ≡ Done → first_end most rows end ≡ end
-first_end-done None rows end done = refl
-first_end-done (Some n) rows end done = rw done (grind arith)
+first_end-done : (most : Option ℕ) (rows : List Row) (end : WalkEnd) → end ≡ Done
+    → first_end most rows end ≡ end
+first_end-done most rows end done = grind arith
 
 module _ {command : CommandState} {from : Option ℕ} {tries passed : ℕ} {begun mid : CursorState}
     {s s' : Seen} {old text : List ℕ} (fresh : IsFresh command Form.Passed from begun) where
@@ -228,7 +234,8 @@ module _ {command : CommandState} {from : Option ℕ} {tries passed : ℕ} {begu
 
   -- those after them were listed
   pub after_passed : (now : CursorState) (s'' : Seen) (new : List ℕ) (result : Result ℕ Failure)
-      → 0 < mid.part → ListsHonestly Form.Passed tries (Some passed) begun mid (change s s' old text) (Ok passed)
+      → 0 < mid.part → ListsHonestly Form.Passed tries (Some passed) begun mid
+      (change s s' old text) (Ok passed)
       → ListsHonestly Form.EntryLine tries None mid now (change s' s'' text new) result
       → ListsAfter (start_of from) passed tries (change s s'' old new) (ending_of result)
   after_passed now s'' new result some passes lists = record {
@@ -247,9 +254,11 @@ module _ {command : CommandState} {from : Option ℕ} {tries passed : ℕ} {begu
   }
 
 -- over any controller
-pub after_calls : {command : CommandState} {from : Option ℕ} {tries passed : ℕ} {begun mid now : CursorState}
+pub after_calls : {command : CommandState} {from : Option ℕ} {tries passed : ℕ}
+    {begun mid now : CursorState}
     {c d : Change} {result : Result ℕ Failure} → IsFresh command Form.Passed from begun → d.seen ≡ c.seen'
-    → Lists Form.Passed tries (Some passed) begun mid c (Ok passed) → Lists Form.EntryLine tries None mid now d result
+    → Lists Form.Passed tries (Some passed) begun mid c (Ok passed)
+    → Lists Form.EntryLine tries None mid now d result
     → d.seen'.calls ≤ c.seen.calls + most_on_walk Form.EntryLine tries
 after_calls {begun = begun} fresh is passes lists =
     let first = rw (no_ids fresh) at (passes.calls.some refl) in
@@ -261,10 +270,12 @@ second_walk_bound-some : (bound : ℕ) (rows : List Row) → 0 < length rows
     → second_walk_bound bound rows ≡ bound
 second_walk_bound-some bound rows some = grind arith
 
-module _ (n : ℕ) (from : Option ℕ) (tries : ℕ) (some : 1 ≤ n) (s s' : Seen) (old text : List ℕ) where
+module _ (n : ℕ) (from : Option ℕ) (tries : ℕ) (some : 1 ≤ n) (s s' : Seen)
+    (old text : List ℕ) where
   -- entries could not be counted, or there is none
   pub last_prints_none : (result : Result ℕ Failure) → IfOk result (λ count. count ≡ 0)
-      → s'.stores_added ≡ s.stores_added → CountsEntries (start_of from) tries (change s s' old text) result
+      → s'.stores_added ≡ s.stores_added → CountsEntries (start_of from) tries
+      (change s s' old text) result
       → OnWalk Sel (start_of from) s.store (λ walk end.
       IsAllowed (IsTextOver s.store) (last_plan n (start_of from) walk end) old text (ending_of result)
       × (s'.calls ≤ s.calls + last_call_bound n s.store tries walk end))
@@ -276,7 +287,7 @@ module _ (n : ℕ) (from : Option ℕ) (tries : ℕ) (some : 1 ≤ n) (s s' : Se
       let along = counts.along same walk end w ends in (along.0 n, omega (arith, along.1))
 
   -- those after the passed ones were listed
-  pub last_prints : (s'' : Seen) (new : List ℕ) (count : ℕ) (ending : Ending) → 0 < count
+  pub last_prints : (s'' : Seen) (new : List ℕ) (count : ℕ) (ending : Ending) → (count ≡ 0 → ⊥)
       → StaysHonest s s' → s'.stores_added ≡ s.stores_added → s''.stores_added ≡ s'.stores_added
       → CountsEntries (start_of from) tries (change s s' old text) (Ok count)
       → ListsAfter (start_of from) (count - n) tries (change s' s'' text new) ending
@@ -288,7 +299,3 @@ module _ (n : ℕ) (from : Option ℕ) (tries : ℕ) (some : 1 ≤ n) (s s' : Se
       let later = (rw (stays.store.stays same) at (lists.along same' walk end)) w ends n along.0.1 (rw along.0.0 refl) in
       let twice = second_walk_bound-some (walk_call_bound Form.EntryLine s.store tries walk) (drop (length walk - n) walk) (omega (arith, length-drop (length walk - n) walk, along.0.0, some, more)) in
       (rw along.0.2 at later.0, rw along.0.1 (omega (arith, along.1, later.1, twice)))
-
-pub some_entries : (count : ℕ) → (count ≡ 0 → ⊥) → 0 < count
-some_entries zero none = absurd (none refl)
-some_entries (suc count) none = omega arith

@@ -4,11 +4,11 @@ use Rattle.std.proofs.lemmas.List.{drop-drop, take-take}
 use Rattle.std.specs.FinSet as set
 use Rattle.std.specs.FinSet.{len-empty}
 use Rattle.std.specs.Ordering.{nat_cmp}
-use Rattle.ipmi_commands.specs.Below.{step_call_bound, digits, End, First, first_row, KeepsReservations, len_of, look, Shelf, current, Place, Ended, Row, Store, rows_of, MayFail, WalkEnd, WalkStep, Done, CycleAt, MissingAt, place_after, place_after_rows, Seen, IsHonest, AsksNothing, CursorState, CursorHoldsCurrent, StandsAt, FailsAt, IsStep, NotGivenUpOrRefused, StepAnswers, StepIsHonest, StepLeaves, asked_at, TakesPart, Failure, CommandState, digits_most, start_of}
-use Rattle.ipmi_commands.specs.Prelude.{AsksAt, AtEnd, AtRecord, CallsAlong, calls_at_spots, calls_for, Cause, cause_of, cause_of_unread, Change, change, CountsSo, end_of, end_spots, ending_of, EndsFor, failure_of, FindsIt, FindsNone, first_end, first_rows, Form, HasFirstItems, IsAllowed, IsAmong, IsFine, IsFresh, IsOnWalk, is_reached, most_on_walk, OnWalk, walk_call_bound, IsTextOver, IsRowText, KeepsListing, listing, listing_plan, Lists, ListingCalls, ListsAll, ListsAlong, ListsHonestly, Item, MayStopAt, most_after, most_for_one, OnEachWalk, Plan, Printed, row_items, rows_end, shelf_of, Spot, spots_after, spots_at, StopsAt, Unread}
+use Rattle.ipmi_commands.specs.Below.{step_call_bound, digits, End, First, first_row, KeepsReservations, len_of, look, Shelf, current, Place, Ended, Row, Store, rows_of, MayFail, WalkEnd, WalkStep, Done, CycleAt, MissingAt, place_after, place_after_rows, Seen, IsHonest, AsksNothing, CursorState, CursorHoldsCurrent, StandsAt, FailsAt, IsStep, NotGivenUpOrRefused, StepAnswers, StepIsHonest, StepLeaves, asked_at, TakesPart, Ending, Failure, CommandState, digits_most, start_of}
+use Rattle.ipmi_commands.specs.Prelude.{AsksAt, AtEnd, AtRecord, CallsAlong, calls_for, Cause, cause_of, cause_of_unread, Change, change, CountsSo, end_of, end_spots, ending_of, EndsFor, failure_of, FindsIt, FindsNone, first_end, first_rows, Form, HasFirstItems, IsAllowed, IsAmong, IsFine, IsFresh, IsOnWalk, is_reached, most_on_walk, OnWalk, walk_call_bound, IsTextOver, IsRowText, listing, listing_plan, Lists, ListsAlong, ListsHonestly, Item, MayStopAt, most_after, most_for_one, OnEachWalk, Plan, Printed, row_items, rows_end, shelf_of, Spot, spots_after, StopsAt, Unread}
 use Rattle.ipmi_commands.proofs.AskLemmas.{asks_as}
-use Rattle.ipmi_commands.proofs.CallLemmas.{HandsNothing, HasCalled, IsBelow, IsWithin, at_limit, called_ended, called_more, called_stopped, calls_ended, digits_some, first_end-all, first_end-none, first_row-first_rows, first_rows-all, next_calls, next_one, none_left, not_at_limit, one_wanted, place_after_rows-append, within_more}
-use Rattle.ipmi_commands.proofs.CountLemmas.{between, ends_as, ends_here, ends_since}
+use Rattle.ipmi_commands.proofs.CallLemmas.{HasCalled, IsWithin, at_limit, called_ended, called_more, called_stopped, calls_ended, digits_some, first_end-all, first_end-none, first_row-first_rows, first_rows-all, next_calls, next_one, none_left, not_at_limit, place_after_rows-append, within_more}
+use Rattle.ipmi_commands.proofs.CountLemmas.{between, ends_here, ends_since}
 use Rattle.ipmi_commands.proofs.ItemLemmas.{cut_after, none_printed, one_printed, printed_joined, row_item, row_items-next, row_items-split, stops_after}
 use Rattle.ipmi_commands.proofs.NameLemmas.{end_of-wrote, Wrote, wrote_more}
 use Rattle.ipmi_commands.proofs.SpotLemmas.{asked_first, end_spot, end_spots-joined}
@@ -53,9 +53,11 @@ left_rows most count walk k = drop count (used most walk k)
 -- over an honest controller
 pub record Went (form : Form) (tries : ℕ) (most : Option ℕ) (count : ℕ) (begun now : CursorState)
     (c : Change) : Type 0 where
-  pub ends : EndsFor tries (IsTrue c.seen.plain × CursorHoldsCurrent begun c.seen) c.seen c.seen' AtEnd
+  pub ends : EndsFor tries (IsTrue c.seen.plain
+      × CursorHoldsCurrent begun c.seen) c.seen c.seen' AtEnd
   pub holds : IsTrue c.seen.plain → CursorHoldsCurrent begun c.seen → CursorHoldsCurrent now c.seen'
-  pub along : c.seen'.stores_added ≡ c.seen.stores_added → OnEachWalk (shelf_of form) begun c.seen.store
+  pub along : c.seen'.stores_added ≡ c.seen.stores_added
+      → OnEachWalk (shelf_of form) begun c.seen.store
       (λ start walk end k. WentAlong form tries most count count
       (calls_for form c.seen.store tries (left_rows most count walk k)) begun now c start walk k)
 
@@ -69,7 +71,8 @@ pub record Listed (form : Form) (tries : ℕ) (most : Option ℕ) (count : ℕ) 
   pub has_written : Wrote wrote c.old c.new
   pub went : IsHonest c.seen → Went form tries most count begun now c
 
-pub listed_none : (form : Form) (tries : ℕ) (most : Option ℕ) (begun : CursorState) (s : Seen) (text : List ℕ)
+pub listed_none : (form : Form) (tries : ℕ) (most : Option ℕ) (begun : CursorState) (s : Seen)
+    (text : List ℕ)
     → begun.shelf ≡ shelf_of form → begun.tries ≡ tries
     → HasCalled (most_for_one form tries) 0 begun begun s s
     → Listed form tries most 0 false begun begun (change s s text text)
@@ -89,8 +92,7 @@ listed_none form tries most begun s text shelf tries_are called = record {
 }
   where
     within_none : (limit : Option ℕ) → IsWithin limit 0
-    within_none None = tt
-    within_none (Some n) = omega arith
+    within_none limit = grind arith
 
 -- ---- a step
 
@@ -100,14 +102,9 @@ step_cause (Ok row) = AtEnd
 step_cause (Err ended) = cause_of (Err (Failure.Ended ended))
 
 step_counts : (old : CursorState) (s s' : Seen) (result : Result (Option Row) Ended)
-    → StepAnswers old s s' result → (s.troubles ≤ s'.troubles) × CountsSo old.tries s s' (step_cause result)
-step_counts old s s' (Ok (Some row)) answers = (answers.0.grows, answers.0.refusals)
-step_counts old s s' (Ok None) answers = (answers.0.grows, answers.0.refusals)
-step_counts old s s' (Err (Ended.Cycle n)) answers = rw answers (omega arith, refl)
-step_counts old s s' (Err (Ended.Missing n)) answers = (answers.0.grows, answers.0.refusals)
-step_counts old s s' (Err (Ended.GaveUp n)) answers = (omega (arith, answers.troubles), (answers.refusals, omega (arith, answers.troubles), omega (arith, answers.fresh_troubles)))
-step_counts old s s' (Err (Ended.Refused n code)) answers = (answers.grows, (answers.refusals, answers.last_code))
-step_counts old s s' (Err _) answers = absurd answers
+    → StepAnswers old s s' result → (s.troubles ≤ s'.troubles)
+    × CountsSo old.tries s s' (step_cause result)
+step_counts old s s' result answers = grind arith
 
 step_ends : (tries : ℕ) (old new : CursorState) (s s' : Seen) (result : Result (Option Row) Ended)
     → old.tries ≡ tries → StepIsHonest old new s s' result
@@ -147,9 +144,19 @@ may_later first spots cause may = grind arith
 abbrev plan_here : Form → Option ℕ → Place → List Row → WalkEnd → ℕ → Plan
 plan_here form most start walk end k = listing_plan (listing form (from_here start walk k) most) (drop k walk) end
 
--- the items of the rows that were printed, and of those that were not
-abbrev first_items : (form : Form) (store : Store) (most : Option ℕ) (count : ℕ) (start : Place) (walk : List Row)
-    (end : WalkEnd) (k : ℕ) (old new : List ℕ) → Printed (IsTextOver store) (row_items form (from_here start walk k) (take count (used most walk k))) old new
+abbrev LeavesHere : Store → Form → Option ℕ → Place → List Row → WalkEnd → ℕ → List ℕ → List ℕ
+    → Ending
+    → Type 0
+LeavesHere store form most start walk end k old new ending = IsAllowed (IsTextOver store) (plan_here form most start walk end k) old new ending
+
+-- so many of the rows were printed
+abbrev PrintsFirst : Store → Form → Option ℕ → ℕ → Place → List Row → ℕ → List ℕ → List ℕ → Type 0
+PrintsFirst store form most count start walk k old new = Printed (IsTextOver store) (row_items form (from_here start walk k) (take count (used most walk k))) old new
+
+-- their items, and those of the others
+abbrev first_items : (form : Form) (store : Store) (most : Option ℕ) (count : ℕ) (start : Place)
+    (walk : List Row) (end : WalkEnd) (k : ℕ) (old new : List ℕ)
+    → PrintsFirst store form most count start walk k old new
     → HasFirstItems (IsTextOver store) (plan_here form most start walk end k) old new
 first_items form store most count start walk end k old new printed = record {
   done = row_items form (from_here start walk k) (take count (used most walk k));
@@ -158,26 +165,28 @@ first_items form store most count start walk end k old new printed = record {
   printed = printed;
 }
 
-end_cause : (form : Form) (wrote : Bool) (count : ℕ) → cause_of (ending_of (end_of form wrote count)) ≡ AtEnd
+end_cause : (form : Form) (wrote : Bool) (count : ℕ) → cause_of
+    (ending_of (end_of form wrote count)) ≡ AtEnd
 end_cause form wrote count = grind arith
 
 pub ok_end : {T : Type 0} (P : T → Type 0) (form : Form) (wrote : Bool) (value : T) → P value
     → IfOk (end_of form wrote value) P
-ok_end P (Form.Block name) true value holds = holds
-ok_end P (Form.Block name) false value holds = tt
-ok_end P _ wrote value holds = holds
+ok_end P form wrote value holds = grind arith
 
 module _ {form : Form} {tries : ℕ} {most : Option ℕ} {count : ℕ} {wrote : Bool}
     {begun now : CursorState} {s s' : Seen} {old new : List ℕ}
     (kept : Listed form tries most count wrote begun now (change s s' old new)) where
   -- all that is wanted was listed
-  all_listed : (store : Store) (start : Place) (walk : List Row) (end : WalkEnd) (k : ℕ) (e : WalkEnd)
-      (result : Result ℕ Failure) → count ≡ length (used most walk k) → first_end most (drop k walk) end ≡ e
+  all_listed : (store : Store) (start : Place) (walk : List Row) (end : WalkEnd) (k : ℕ)
+      (e : WalkEnd)
+      (result : Result ℕ Failure) → count ≡ length (used most walk k)
+      → first_end most (drop k walk) end ≡ e
       → cause_of (ending_of result) ≡ AtEnd
-      → ((rows : List Row) → Printed (IsTextOver store) (row_items form (from_here start walk k) rows) old new
+      → ((rows : List Row)
+      → Printed (IsTextOver store) (row_items form (from_here start walk k) rows) old new
       → ending_of result ≡ rows_end form rows e)
-      → Printed (IsTextOver store) (row_items form (from_here start walk k) (take count (used most walk k))) old new
-      → IsAllowed (IsTextOver store) (plan_here form most start walk end k) old new (ending_of result)
+      → PrintsFirst store form most count start walk k old new
+      → LeavesHere store form most start walk end k old new (ending_of result)
   all_listed store start walk end k e result count_is end_is cause ends_so printed =
       let all = rw (take_all count (used most walk k) (omega (arith, count_is))) at printed in rw (cause, end_is) (all, ends_so (used most walk k) all)
 
@@ -212,21 +221,24 @@ module _ {form : Form} {tries : ℕ} {most : Option ℕ} {count : ℕ} {wrote : 
 
   module _ {next : CursorState} {s'' : Seen} {result : Result (Option Row) Ended}
       (wanted : is_reached most count ≡ false) (step : IsStep now next s' s'' result) where
-    below : IsBelow most count
-    below = one_wanted most count kept.within wanted
+    below : IsWithin most (count + 1)
+    below = within_more most count kept.within wanted
 
     honest_step : IsHonest s → StepIsHonest now next s' s'' result
     honest_step h = step.honest (kept.went h).ends.stays.honest
 
-    all_ends : IsHonest s → EndsFor tries (IsTrue s.plain × CursorHoldsCurrent begun s) s s'' (step_cause result)
+    all_ends : IsHonest s → EndsFor tries (IsTrue s.plain × CursorHoldsCurrent begun s) s s''
+        (step_cause result)
     all_ends h =
         let went = kept.went h in
         ends_since went.ends (λ p. (went.ends.stays.plain p.0, went.holds p.0 p.1)) (step_ends tries now next s' s'' result kept.tries_are (honest_step h))
 
-    holds_on : IsHonest s → IsTrue s.plain → CursorHoldsCurrent begun s → CursorHoldsCurrent next s''
+    holds_on : IsHonest s → IsTrue s.plain → CursorHoldsCurrent begun s
+        → CursorHoldsCurrent next s''
     holds_on h p held = let went = kept.went h in ((honest_step h).plain (went.ends.stays.plain p) (went.holds p held)).holds
 
-    module _ (h : IsHonest s) (same : s''.stores_added ≡ s.stores_added) {start : Place} {walk : List Row}
+    module _ (h : IsHonest s) (same : s''.stores_added ≡ s.stores_added) {start : Place}
+        {walk : List Row}
         {end : WalkEnd} {k : ℕ} (on : IsOnWalk (rows_of (shelf_of form) s.store) start walk end k begun) where
       parts : (s'.stores_added ≡ s.stores_added) × (s''.stores_added ≡ s'.stores_added)
       parts = between s s' s'' (kept.went h).ends.stays (honest_step h).stays same
@@ -239,7 +251,8 @@ module _ {form : Form} {tries : ℕ} {most : Option ℕ} {count : ℕ} {wrote : 
       same_rows = rw kept.shelf (ap (rows_of (shelf_of form)) ((kept.went h).ends.stays.store.stays parts.0))
 
       -- the step along the walk
-      stepped : WalkStep (rows_of (shelf_of form) s.store) start walk end (k + count) now next result
+      stepped : WalkStep (rows_of (shelf_of form) s.store) start walk end
+          (k + count) now next result
       stepped = (rw same_rows at ((step.walks (kept.went h).ends.stays.honest).follows parts.1 start walk end (k + count))) on.walks on.ends there.stands
 
       -- it asks for the next row, or for none, or asks nothing
@@ -274,9 +287,10 @@ module _ {form : Form} {tries : ℕ} {most : Option ℕ} {count : ℕ} {wrote : 
 
       at_its_end : (e : WalkEnd) (listed : Result ℕ Failure) → k + count ≡ length walk → end ≡ e
           → cause_of (ending_of listed) ≡ AtEnd
-          → ((rows : List Row) → Printed (IsTextOver s.store) (row_items form (from_here start walk k) rows) old new
+          → ((rows : List Row)
+          → Printed (IsTextOver s.store) (row_items form (from_here start walk k) rows) old new
           → ending_of listed ≡ rows_end form rows e)
-          → IsAllowed (IsTextOver s.store) (plan_here form most start walk end k) old new (ending_of listed)
+          → LeavesHere s.store form most start walk end k old new (ending_of listed)
       at_its_end e listed all is cause ends_so =
           let rest : length (drop k walk) ≡ count = omega (arith, length-drop k walk, all) in
           all_listed s.store start walk end k e listed (count_all all) (first_end-all most (drop k walk) end (rw rest below) ∙ is) cause ends_so there.are_printed
@@ -293,7 +307,7 @@ module _ {form : Form} {tries : ℕ} {most : Option ℕ} {count : ℕ} {wrote : 
           let past : left_rows most count walk k ≡ [] → IsAmong (end_spots at rest (first_end most rest end)) (AtRecord (asked_at (place_after_rows at (take count (used most walk k))))) = λ none.
           let least = none_left most count rest below none in
           let all : k + count ≡ length walk = omega (arith, least, there.stands.within, length-drop k walk) in
-          let beyond : IsBelow most (length rest) = let size : length rest ≡ count = omega (arith, all, length-drop k walk) in rw size below in
+          let beyond : IsWithin most (length rest + 1) = let size : length rest ≡ count = omega (arith, all, length-drop k walk) in rw size below in
           let whole = take_all (k + count) walk (omega (arith, all)) in
           let joined : end_spots at rest end ≡ end_spots start walk end = end_spots-joined start (take k walk) rest end ∙ ap (λ (l : List Row). end_spots start l end) (take-append-drop k walk) in
           rw (first_end-all most rest end beyond, joined, place, whole) (end_spot rows start walk end on.ends (rw (now_is, whole) at (may all))) in
@@ -317,9 +331,11 @@ module _ {form : Form} {tries : ℕ} {most : Option ℕ} {count : ℕ} {wrote : 
       };
     }
       where
-        leaves : (h : IsHonest s) → s''.stores_added ≡ s.stores_added → {start : Place} {walk : List Row} {end : WalkEnd} {k : ℕ}
-            → IsOnWalk (rows_of (shelf_of form) s.store) start walk end k begun → (e : Ended) → IsStep now next s' s'' (Err e)
-            → IsAllowed (IsTextOver s.store) (plan_here form most start walk end k) old new (Err (Failure.Ended e))
+        leaves : (h : IsHonest s) → s''.stores_added ≡ s.stores_added
+            → {start : Place} {walk : List Row} {end : WalkEnd} {k : ℕ}
+            → IsOnWalk (rows_of (shelf_of form) s.store) start walk end k begun → (e : Ended)
+            → IsStep now next s' s'' (Err e)
+            → LeavesHere s.store form most start walk end k old new (Err (Failure.Ended e))
         leaves h same on (Ended.Cycle n) step = let at = stepped wanted step h same on in at_its_end wanted step h same on (CycleAt n) (Err (Failure.Ended (Ended.Cycle n))) at.0 at.1 refl (λ rows printed. refl)
         leaves h same on (Ended.Missing n) step = let at = stepped wanted step h same on in at_its_end wanted step h same on (MissingAt n) (Err (Failure.Ended (Ended.Missing n))) at.0 at.1 refl (λ rows printed. refl)
         leaves h same on (Ended.GaveUp n) step = where_asked wanted step h same on n step.leaves.1 (stepped wanted step h same on).1
@@ -351,25 +367,29 @@ module _ {form : Form} {tries : ℕ} {most : Option ℕ} {count : ℕ} {wrote : 
       more_called : HasCalled (most_for_one form tries) (count + 1) begun next s last
       more_called = called_more (most_after form tries) refl kept.shelf kept.tries_are kept.called step last refl asked
 
-      module _ {cause : Cause} (asks : IsHonest s'' → AsksAt (spots_after form row) tries s'' last cause) (h : IsHonest s) where
+      module _ {cause : Cause} (asks : IsHonest s''
+          → AsksAt (spots_after form row) tries s'' last cause) (h : IsHonest s) where
         piece_asked : AsksAt (spots_after form row) tries s'' last cause
         piece_asked = asks (honest_step wanted step h).stays.honest
 
         piece_ends : EndsFor tries (IsTrue s.plain × CursorHoldsCurrent begun s) s last cause
         piece_ends = ends_since (all_ends wanted step h) (λ p. (all_ends wanted step h).stays.plain p.0) piece_asked.ends
 
-        apart : last.stores_added ≡ s.stores_added → (s''.stores_added ≡ s.stores_added) × (last.stores_added ≡ s''.stores_added)
+        apart : last.stores_added ≡ s.stores_added → (s''.stores_added ≡ s.stores_added)
+            × (last.stores_added ≡ s''.stores_added)
         apart same = between s s'' last (all_ends wanted step h).stays piece_asked.ends.stays same
 
         store_is : last.stores_added ≡ s.stores_added → s''.store ≡ s.store
         store_is same = (all_ends wanted step h).stays.store.stays (apart same).0
 
-        module _ (same : last.stores_added ≡ s.stores_added) {start : Place} {walk : List Row} {end : WalkEnd}
+        module _ (same : last.stores_added ≡ s.stores_added) {start : Place} {walk : List Row}
+            {end : WalkEnd}
             {k : ℕ} (on : IsOnWalk (rows_of (shelf_of form) s.store) start walk end k begun) where
           row_is : left_rows most count walk k ≡ row ∷ left_rows most (count + 1) walk k
-          row_is = (next_one (used most walk k) count row (next_row wanted step h (apart same).0 on ∙ (stepped wanted step h (apart same).0 on).0)).0
+          row_is = next_one (used most walk k) count row (next_row wanted step h (apart same).0 on ∙ (stepped wanted step h (apart same).0 on).0)
 
-          calls_on : last.calls + digits next.part + calls_for form s.store tries (left_rows most (count + 1) walk k)
+          calls_on : last.calls + digits next.part + calls_for form s.store tries
+              (left_rows most (count + 1) walk k)
               ≤ s.calls + calls_for form s.store tries (used most walk k) + digits begun.part
           calls_on =
               let first = (apart same).0 in
@@ -380,19 +400,22 @@ module _ {form : Form} {tries : ℕ} {most : Option ℕ} {count : ℕ} {wrote : 
               ]
 
           -- what was printed before it
-          abbrev before : HasFirstItems (IsTextOver s.store) (plan_here form most start walk end k) old new
+          abbrev before : HasFirstItems (IsTextOver s.store)
+              (plan_here form most start walk end k) old new
           before = first_items form s.store most count start walk end k old new (there wanted step h (apart same).0 on).are_printed
 
-          at_item : before.rest ≡ row_item form (place_after_rows (from_here start walk k) (take count (used most walk k))) row
+          at_item : before.rest ≡ row_item form
+              (place_after_rows (from_here start walk k) (take count (used most walk k))) row
               ∷ row_items form (place_after row.next) (left_rows most (count + 1) walk k)
           at_item = rw row_is refl
 
       -- a listing that stops at it
-      stopped : (failure : Failure) (text : List ℕ) → (IsHonest s'' → AsksAt (spots_after form row) tries s'' last (cause_of (Err failure)))
-          → ((start : Place) (walk : List Row) (end : WalkEnd) (k : ℕ) (store : Store) → IsHonest s → last.stores_added ≡ s.stores_added → s.store ≡ store
-          → (first : HasFirstItems (IsTextOver store) (plan_here form most start walk end k) old new) → (place : Place) (later : List Item)
+      stopped : (failure : Failure) (text : List ℕ) → (IsHonest s''
+          → AsksAt (spots_after form row) tries s'' last (cause_of (Err failure)))
+          → (IsHonest s → last.stores_added ≡ s.stores_added → (p : Plan)
+          (first : HasFirstItems (IsTextOver s.store) p old new) (place : Place) (later : List Item)
           → first.rest ≡ row_item form place row ∷ later
-          → IsAllowed (IsTextOver store) (plan_here form most start walk end k) old text (Err failure))
+          → IsAllowed (IsTextOver s.store) p old text (Err failure))
           → Lists form tries most begun next (change s last old text) (Err failure)
       stopped failure text asks leaves = record {
         keeps = more_called.keeps;
@@ -401,7 +424,7 @@ module _ {form : Form} {tries : ℕ} {most : Option ℕ} {count : ℕ} {wrote : 
           ends = piece_ends asks h;
           holds = tt;
           along = λ same start walk end k on. record {
-            leaves = leaves start walk end k s.store h same refl (before asks h same on) (place_after_rows (from_here start walk k) (take count (used most walk k)))
+            leaves = leaves h same (plan_here form most start walk end k) (before asks h same on) (place_after_rows (from_here start walk k) (take count (used most walk k)))
                 (row_items form (place_after row.next) (left_rows most (count + 1) walk k)) (at_item asks h same on);
             calls = λ part. omega (arith, calls_on asks h same on, digits_some next.part step.same.part_not_zero);
             all = tt;
@@ -410,30 +433,35 @@ module _ {form : Form} {tries : ℕ} {most : Option ℕ} {count : ℕ} {wrote : 
       }
 
       -- the piece was not found
-      pub listing_none : (unread : Unread) → (IsHonest s'' → FindsNone (spots_after form row) tries s'' last (cause_of_unread unread))
+      pub listing_none : (unread : Unread) → (IsHonest s''
+          → FindsNone (spots_after form row) tries s'' last (cause_of_unread unread))
           → Lists form tries most begun next (change s last old new) (Err (failure_of unread))
-      listing_none unread none = stopped (failure_of unread) new (λ h. (none h).asks) (λ start walk end k store h same is first place later at.
-          stops_after (IsTextOver store) (plan_here form most start walk end k) old new (Err (failure_of unread)) (cause_of_unread unread) first
+      listing_none unread none = stopped (failure_of unread) new (λ h. (none h).asks) (λ h same p first place later at.
+          stops_after (IsTextOver s.store) p old new (Err (failure_of unread)) (cause_of_unread unread) first
           (rw at (may_later (AtRecord (asked_at place)) (spots_after form row) (cause_of_unread unread) (none (honest_step wanted step h).stays.honest).there)))
 
-      module _ (piece_text : List ℕ) (finds : IsHonest s'' → FindsIt (λ store. IsRowText store form row piece_text) (spots_after form row) tries s'' last) where
-        is_text : IsHonest s → last.stores_added ≡ s.stores_added → IsRowText s.store form row piece_text
+      module _ (piece_text : List ℕ) (finds : IsHonest s''
+          → FindsIt (λ store. IsRowText store form row piece_text)
+          (spots_after form row) tries s'' last) where
+        is_text : IsHonest s → last.stores_added ≡ s.stores_added
+            → IsRowText s.store form row piece_text
         is_text h same = let found = finds (honest_step wanted step h).stays.honest in rw (store_is (λ h. (finds h).asks) h same) at (found.is (apart (λ h. (finds h).asks) h same).1)
 
         -- the piece was written in part
         pub listing_cut : (text : List ℕ) → 0 < length piece_text → TakesPart new text piece_text
             → Lists form tries most begun next (change s last old text) (Err Failure.WriteFault)
-        listing_cut text some part = stopped Failure.WriteFault text (λ h. asks_as (finds h).asks (finds h).asks.ends.counts tt) (λ start walk end k store h same is first place later at.
-            cut_after (IsTextOver store) (plan_here form most start walk end k) old new text (Err Failure.WriteFault) first (row_item form place row) later piece_text at (rw is at (is_text h same)) some part)
+        listing_cut text some part = stopped Failure.WriteFault text (λ h. asks_as (finds h).asks (finds h).asks.ends.counts tt) (λ h same p first place later at.
+            cut_after (IsTextOver s.store) p old new text (Err Failure.WriteFault) first (row_item form place row) later piece_text at (is_text h same) some part)
 
         -- the piece was written
         pub listing_more : (text : List ℕ) → text ≡ new ++ piece_text
-            → Listed form tries most (count + 1) (wrote || not (length piece_text == 0)) begun next (change s last old text)
+            → Listed form tries most (count + 1) (wrote || not (length piece_text == 0)) begun next
+            (change s last old text)
         listing_more text is = record {
           shelf = step.same.shelf ∙ kept.shelf;
           tries_are = step.same.tries ∙ kept.tries_are;
           called = more_called;
-          within = within_more most count kept.within wanted;
+          within = below wanted step;
           has_written = wrote_more wrote old new text piece_text kept.has_written is;
           went = λ h.
               let asks = λ (h' : IsHonest s''). (finds h').asks in
@@ -469,22 +497,26 @@ module _ {command : CommandState} {form : Form} {from : Option ℕ} {begun : Cur
   pub fresh_room : set.len begun.ids ≤ 65536
   fresh_room = rw no_ids (omega arith)
 
-module _ {command : CommandState} {form : Form} {from : Option ℕ} {begun now : CursorState} {tries : ℕ} {most : Option ℕ}
+module _ {command : CommandState} {form : Form} {from : Option ℕ} {begun now : CursorState}
+    {tries : ℕ} {most : Option ℕ}
     {c : Change} {result : Result ℕ Failure} (fresh : IsFresh command form from begun) where
   pub fresh_ends : ListsHonestly form tries most begun now c result
       → EndsFor tries (IsTrue c.seen.plain) c.seen c.seen' (cause_of (ending_of result))
   fresh_ends lists = record { stays = lists.ends.stays; grows = lists.ends.grows; counts = lists.ends.counts; plain = λ p. lists.ends.plain (p, holds_none fresh c.seen) }
 
-  pub fresh_along : ListsHonestly form tries most begun now c result → c.seen'.stores_added ≡ c.seen.stores_added
+  pub fresh_along : ListsHonestly form tries most begun now c result
+      → c.seen'.stores_added ≡ c.seen.stores_added
       → OnWalk (shelf_of form) (start_of from) c.seen.store (λ walk end.
       ListsAlong form tries most begun now c result (start_of from) walk end 0
-      × (c.seen'.calls ≤ c.seen.calls + walk_call_bound form c.seen.store tries (first_rows most walk)))
+      × (c.seen'.calls ≤ c.seen.calls
+      + walk_call_bound form c.seen.store tries (first_rows most walk)))
   fresh_along lists same walk end w ends =
       let along = lists.along same (start_of from) walk end 0 (record { walks = w; ends = ends; stands = fresh.stands _ walk }) in
       (along, omega (arith, along.calls fresh.some, digits_most begun.part))
 
   -- over any controller
-  pub fresh_calls : Lists form tries most begun now c result → c.seen'.calls ≤ c.seen.calls + most_on_walk form tries
+  pub fresh_calls : Lists form tries most begun now c result
+      → c.seen'.calls ≤ c.seen.calls + most_on_walk form tries
   fresh_calls lists =
       let all = rw (no_ids fresh) at (lists.calls.all fresh.some) in
       omega (arith, all, digits_most begun.part)

@@ -1,6 +1,6 @@
 -- Whether a record of a name was found, by whether anything was written.
 use Rattle.std.proofs.Common.{◌≡◌, ℕ, suc, ◌<◌, ◌==◌, ◌||◌, not, Bool, true, false, if◌then◌else◌, Result, Ok, Err, List, [], ◌∷◌, ◌++◌, length, refl, ap, ◌∙◌, append-nil, arith, length-append}
-use Rattle.ipmi_commands.specs.Below.{Ending, Failure, Place, Row, Store, Done, place_after, SdrFault, SdrView, sdr_view_of, IsSdrBlock}
+use Rattle.ipmi_commands.specs.Below.{Failure, Place, Row, Store, Done, place_after, SdrFault, SdrView, sdr_view_of, IsSdrBlock}
 use Rattle.ipmi_commands.specs.Prelude.{AreTexts, end_of, ending_of, Form, IfChosen, IsBlockOfName, IsTextOver, Printed, reading_for, row_items, rows_end, some_has_name, view_has_name}
 
 -- ---- whether anything was written
@@ -59,6 +59,5 @@ end_of-wrote (Form.Block name) wrote count store start rows old new printed has 
   where
     by_name : (b : Bool) → ending_of (end_of (Form.Block name) b count)
         ≡ (if b then Ok tt else Err (Failure.NoName name))
-    by_name true = refl
-    by_name false = refl
+    by_name b = grind arith
 end_of-wrote _ wrote count store start rows old new printed has = refl

@@ -1,9 +1,9 @@
 -- Pages of a listing.
-use Rattle.std.proofs.Common.{◌≡◌, inl, inr, ℕ, zero, suc, ◌+◌, ◌*◌, ◌<◌, ◌≤◌, ◌==◌, nat_le, false, Option, None, Some, IfOk, Result, Ok, Err, List, [], ◌∷◌, length, take, drop, get_or, refl, sym, ap, subst, ◌∙◌, arith, take_all, length-take}
+use Rattle.std.proofs.Common.{◌≡◌, inl, inr, ℕ, zero, suc, ◌+◌, ◌*◌, ◌<◌, ◌≤◌, ◌==◌, false, Option, None, Some, IfOk, Result, Ok, Err, List, [], ◌∷◌, length, take, drop, get_or, refl, sym, ap, subst, ◌∙◌, arith, take_all, length-take}
 use Rattle.std.proofs.lemmas.Bool.Decides.{nat_tests}
 use Rattle.std.proofs.Math.Seq.{take-nil}
 use Rattle.std.proofs.lemmas.List.{take_min, at_drop_more}
-use Rattle.ipmi_commands.specs.Below.{Place, First, Id, End, Ended, Row, rows_of, row_at, IsWalk, WalkEnd, Done, CycleAt, MissingAt, EndsBy, place_after_rows, Seen, IsHonest, CommandState, CursorState, start_of, Ending, Failure}
+use Rattle.ipmi_commands.specs.Below.{Place, Id, End, Ended, Row, rows_of, row_at, IsWalk, WalkEnd, Done, CycleAt, EndsBy, place_after_rows, Seen, IsHonest, CommandState, CursorState, start_of, Ending, Failure}
 use Rattle.ipmi_commands.specs.Prelude.{ArePages, AtEnd, cause_of, Change, change, end_of, ending_of, first_end, first_rows, Form, GoesOn, IsFresh, IsPage, IsTextOver, listing, listing_plan, ListsHonestly, OnWalk, pages_made, rows_end, shelf_of}
 use Rattle.ipmi_commands.proofs.CallLemmas.{first_end-none}
 use Rattle.ipmi_commands.proofs.CountLemmas.{ends_here}
@@ -14,7 +14,8 @@ use Rattle.ipmi_commands.proofs.ListingLemmas.{fresh_along, fresh_ends}
 
 -- a page that asks for nothing, as no row is wanted, or none is there
 page_of_no_rows : (form : Form) (place : Place) (tries : ℕ) (most : Option ℕ) (s : Seen)
-    (text : List ℕ) (result : Result Place Failure) → IsHonest s → cause_of (ending_of result) ≡ AtEnd
+    (text : List ℕ) (result : Result Place Failure) → IsHonest s
+    → cause_of (ending_of result) ≡ AtEnd
     → IfOk result (λ next. next ≡ place)
     → OnWalk (shelf_of form) place s.store (λ walk end. (first_rows most walk ≡ [])
     × (ending_of result ≡ rows_end form [] (first_end most walk end)))
@@ -33,15 +34,13 @@ page_of_no_rows form place tries most s text result honest cause stays empty = r
   where
     at_place : (r : Result Place Failure) → IfOk r (λ next. next ≡ place) → (rows : List Row)
         → (used : List Row) → used ≡ [] → IfOk r (λ next. GoesOn rows place used next)
-    at_place (Ok next) is rows used none = inl (rw none is)
-    at_place (Err failure) is rows used none = tt
+    at_place r is rows used none = grind arith
 
 -- such a page ends by this
 end_is : (form : Form) (place : Place) → (cause_of (ending_of (end_of form false place)) ≡ AtEnd)
     × IfOk (end_of form false place) (λ next. next ≡ place)
     × (ending_of (end_of form false place) ≡ rows_end form [] Done)
-end_is (Form.Block name) place = (refl, tt, refl)
-end_is _ place = (refl, refl, refl)
+end_is form place = grind arith
 
 -- a page of no record
 pub page_of_none : (form : Form) (place : Place) (tries : ℕ) (s : Seen) (text : List ℕ) → IsHonest s
@@ -53,8 +52,7 @@ page_of_none form place tries s text honest = let is = end_is form place in
 -- no walk goes from where no row is
 pub no_walk : (rows : List Row) (start : Place) (walk : List Row) → row_at start rows ≡ None
     → IsWalk rows start walk → walk ≡ []
-no_walk rows start [] none w = refl
-no_walk rows start (row ∷ walk) none w = let h = sym none ∙ w.first in cc h
+no_walk rows start walk none w = grind arith
 
 done_there : (rows : List Row) (end : WalkEnd) → EndsBy rows End [] end → end ≡ Done
 done_there rows end ends = grind arith
@@ -111,15 +109,15 @@ page_without_memory form place tries most s text honest = record {
 -- the first rows are as many as there are of them
 take-length-first_rows : (most : Option ℕ) (walk : List Row)
     → take (length (first_rows most walk)) walk ≡ first_rows most walk
-take-length-first_rows None walk = take_all (length walk) walk (omega arith)
-take-length-first_rows (Some n) walk = rw (length-take n walk) (take_min n walk)
+take-length-first_rows most walk = grind (arith, take_all, length-take, take_min)
 
 -- where the next page begins
 abbrev pub page_result : Place → Result ℕ Failure → Result Place Failure
 page_result next (Ok count) = Ok next
 page_result next (Err failure) = Err failure
 
-pub page_by_cursor : {command : CommandState} {form : Form} {from : Option ℕ} {tries : ℕ} {most : Option ℕ}
+pub page_by_cursor : {command : CommandState} {form : Form} {from : Option ℕ} {tries : ℕ}
+    {most : Option ℕ}
     {begun now : CursorState} {c : Change} (result : Result ℕ Failure) → IsFresh command form from begun
     → (most ≡ Some 0 → ⊥) → ListsHonestly form tries most begun now c result
     → IsPage form (start_of from) tries most c (page_result now.place result)

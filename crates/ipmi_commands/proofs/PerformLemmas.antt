@@ -1,43 +1,26 @@
 -- A task of one text, and all inventories: a text and then a listing.
-use Rattle.std.proofs.Common.{◌≡◌, ℕ, ◌+◌, ◌<◌, ◌≤◌, IsTrue, Option, None, Some, Result, Ok, Err, String, string_bytes, Global, List, [], ◌∷◌, ◌++◌, option_map, length, refl, arith}
+use Rattle.std.proofs.Common.{◌≡◌, ℕ, ◌+◌, ◌≤◌, IsTrue, Option, None, Some, Result, Ok, Err, String, string_bytes, Global, List, [], ◌∷◌, ◌++◌, option_map, refl, arith}
 use Rattle.ipmi_commands.specs.Below.{fru_call_bound, Shelf, Place, First, Seen, IsHonest, Row, Store, info_of, WalkEnd, Ending, Failure}
-use Rattle.ipmi_commands.specs.Prelude.{AsksAt, AtEnd, AtRecord, cause_of, change, ending_of, end_spots, EndsFor, EndsListing, failure_of, Finds, Form, info_plan, inventories_plan, AtInventory, inventory_item, inventory_plan, IsInventoryPiece, most_on_walk, IsAllowed, IsAmong, IsInfoText, IsPage, IsTextOver, Item, Job, MayEnd, listing, listing_plan, MayStopAt, OfInfo, Plan, Printed, row_items, Runs, Spot, spots_at, Subject, Unread, WritesText}
+use Rattle.ipmi_commands.specs.Prelude.{AtEnd, AtRecord, cause_of, change, ending_of, end_spots, EndsFor, EndsListing, failure_of, Finds, Form, info_plan, inventories_plan, AtInventory, inventory_item, inventory_plan, IsInventoryPiece, most_on_walk, IsAllowed, IsAmong, IsInfoText, IsPage, IsTextOver, Item, Job, listing, listing_plan, MayStopAt, OfInfo, OfInventory, Plan, row_items, Runs, Spot, spots_at, Subject, text_plan, Unread, WritesText}
 use Rattle.ipmi_commands.proofs.CountLemmas.{between, ends_as, ends_since}
 use Rattle.ipmi_commands.proofs.ItemLemmas.{cut_after, leaves_joined, leaves_longer, no_items, none_printed, one_printed, stops_after}
 
 -- ---- a text that is found and written
 
--- by how writing it ended: a text of the first item of a plan, after which nothing is left where it is the only one
-pub text_leaves : (IsText : Subject → List ℕ → Type 0) (p : Plan) (item : Item) (old new : List ℕ)
-    (text : List ℕ) (ending : Ending) → p.items ≡ item ∷ [] → p.end ≡ Ok tt → IsText item.subject text
-    → WritesText text old new ending → IsAllowed IsText p old new ending
-text_leaves IsText p item old new text (Ok done) items end is writes = rw (items, end) (one_printed IsText item text old new is writes, refl)
-text_leaves IsText p item old new text (Err Failure.WriteFault) items end is writes =
-    cut_after IsText p old old new (Err Failure.WriteFault) (no_items IsText p old old refl) item [] text items is writes.0 writes.1
-text_leaves IsText p item old new text (Err _) items end is writes = absurd writes
+-- by how writing it ended
+pub text_leaves : (IsText : Subject → List ℕ → Type 0) (subject : Subject) (spots : List Spot)
+    (old new text : List ℕ) (ending : Ending) → IsText subject text
+    → WritesText text old new ending → IsAllowed IsText (text_plan subject spots) old new ending
+text_leaves IsText subject spots old new text (Ok done) is writes = (one_printed IsText (record { subject = subject; spots = spots }) text old new is writes, refl)
+text_leaves IsText subject spots old new text (Err Failure.WriteFault) is writes =
+    let p = text_plan subject spots in cut_after IsText p old old new (Err Failure.WriteFault) (no_items IsText p old old refl) _ [] text refl is writes.0 writes.1
+text_leaves IsText subject spots old new text (Err _) is writes = absurd writes
 
 -- that it was written, or not, is why it ended so
 text_ends : (tries : ℕ) (IsPlain : Type 0) (s s' : Seen) (text old new : List ℕ) (ending : Ending)
     → EndsFor tries IsPlain s s' AtEnd → WritesText text old new ending
     → EndsFor tries IsPlain s s' (cause_of ending)
-text_ends tries IsPlain s s' text old new (Ok done) ends writes = ends
-text_ends tries IsPlain s s' text old new (Err Failure.WriteFault) ends writes = ends_as ends ends.counts tt
-text_ends tries IsPlain s s' text old new (Err _) ends writes = absurd writes
-
--- what a job of one text may end by
-abbrev EndsText : Ending → Type 0
-EndsText ending = (shelf : Shelf) (s s' : Seen) (old new : List ℕ)
-    → MayEnd (Job.Info shelf) (change s s' old new) ending × EndsListing Form.Device ending
-
-text_may_end : (text old new : List ℕ) (ending : Ending) → WritesText text old new ending → EndsText ending
-text_may_end text old new (Ok done) writes = λ shelf s s' old new. (tt, tt)
-text_may_end text old new (Err Failure.WriteFault) writes = λ shelf s s' old new. (tt, tt)
-text_may_end text old new (Err _) writes = absurd writes
-
-none_may_end : (unread : Unread) → EndsText (Err (failure_of unread))
-none_may_end (Unread.Ended ended) = λ shelf s s' old new. (tt, tt)
-none_may_end (Unread.Inventory id ended) = λ shelf s s' old new. (tt, tt)
-none_may_end Unread.Memory = λ shelf s s' old new. (tt, tt)
+text_ends tries IsPlain s s' text old new ending ends writes = grind (arith, ends_as)
 
 -- what was not found is given up or refused before anything is printed, or memory is wanted
 none_leaves : (IsText : Subject → List ℕ → Type 0) (p : Plan) (text : List ℕ) (ending : Ending)
@@ -51,12 +34,11 @@ info_leaves : (store : Store) (o : Option (List ℕ)) (text old new : List ℕ) 
     → IsAllowed (IsTextOver store) (info_plan o) old new ending
 info_leaves store None text old new ending is writes = absurd is
 info_leaves store (Some info) text old new ending is writes =
-    text_leaves (IsTextOver store) (info_plan (Some info)) (record { subject = OfInfo info; spots = AtRecord 0 ∷ [] }) old new text ending refl refl is writes
+    text_leaves (IsTextOver store) (OfInfo info) (AtRecord 0 ∷ []) old new text ending is writes
 
 info_lacks : (store : Store) (o : Option (List ℕ)) (text : List ℕ) → IsInfoText o None
     → IsAllowed (IsTextOver store) (info_plan o) text text (Err Failure.NoInfo)
-info_lacks store None text is = (none_printed (IsTextOver store) text text refl, refl)
-info_lacks store (Some info) text is = absurd is
+info_lacks store o text is = grind (arith, none_printed)
 
 info_spots : (o : Option (List ℕ)) → spots_at (info_plan o).items (info_plan o).end_spots ≡ AtRecord 0 ∷ []
 info_spots o = grind arith
@@ -66,12 +48,13 @@ module _ (shelf : Shelf) (tries : ℕ) (s s' : Seen) (calls : s'.calls ≤ s.cal
   abbrev FoundInfo : Result (Option (String Global)) Unread → Type 0
   FoundInfo result = IsHonest s → Finds (λ store found. IsInfoText (info_of shelf store) (option_map (λ text. string_bytes text) found)) (AtRecord 0 ∷ []) tries s s' result
 
-  pub info_found : (old new : List ℕ) (text : String Global) (ending : Ending) → FoundInfo (Ok (Some text))
+  pub info_found : (old new : List ℕ) (text : String Global) (ending : Ending)
+      → FoundInfo (Ok (Some text))
       → WritesText (string_bytes text) old new ending
       → Runs (Job.Info shelf) tries (change s s' old new) ending
   info_found old new text ending finds writes = record {
     calls = calls;
-    ends = (text_may_end (string_bytes text) old new ending writes shelf s s' old new).0;
+    ends = grind arith;
     why = λ h. text_ends tries (IsTrue s.plain) s s' (string_bytes text) old new ending (finds h).asks.ends writes;
     prints = λ h same. (info_leaves s.store (info_of shelf s.store) (string_bytes text) old new ending ((finds h).is same) writes, calls);
   }
@@ -89,7 +72,7 @@ module _ (shelf : Shelf) (tries : ℕ) (s s' : Seen) (calls : s'.calls ≤ s.cal
       → Runs (Job.Info shelf) tries (change s s' text text) (Err (failure_of unread))
   info_unread text unread none = record {
     calls = calls;
-    ends = (none_may_end unread shelf s s' text text).0;
+    ends = grind arith;
     why = λ h. (none h).asks.ends;
     prints = λ h same. (none_leaves (IsTextOver s.store) (info_plan (info_of shelf s.store)) text (Err (failure_of unread)) (rw info_spots (none h).there), calls);
   }
@@ -100,15 +83,16 @@ module _ (id tries : ℕ) (s s' : Seen) (calls : s'.calls ≤ s.calls + fru_call
   abbrev FoundInventory : Result (String Global) Unread → Type 0
   FoundInventory result = IsHonest s → Finds (λ store text. IsInventoryPiece store id [] (string_bytes text)) (AtInventory id ∷ []) tries s s' result
 
-  pub inventory_found : (old new : List ℕ) (text : String Global) (ending : Ending) → FoundInventory (Ok text)
+  pub inventory_found : (old new : List ℕ) (text : String Global) (ending : Ending)
+      → FoundInventory (Ok text)
       → WritesText (string_bytes text) old new ending
       → Runs (Job.Inventory id) tries (change s s' old new) ending
   inventory_found old new text ending finds writes = record {
     calls = calls;
-    ends = (text_may_end (string_bytes text) old new ending writes Shelf.Sdr s s' old new).1;
+    ends = grind arith;
     why = λ h. text_ends tries (IsTrue s.plain) s s' (string_bytes text) old new ending (finds h).asks.ends writes;
     prints = λ h same. (
-      text_leaves (IsTextOver s.store) (inventory_plan id) (inventory_item id) old new (string_bytes text) ending refl refl ((finds h).is same) writes,
+      text_leaves (IsTextOver s.store) (OfInventory id) (AtInventory id ∷ []) old new (string_bytes text) ending ((finds h).is same) writes,
       omega (arith, (finds h).asks.calls same),
     );
   }
@@ -117,7 +101,7 @@ module _ (id tries : ℕ) (s s' : Seen) (calls : s'.calls ≤ s.calls + fru_call
       → Runs (Job.Inventory id) tries (change s s' text text) (Err (failure_of unread))
   inventory_unread text unread none = record {
     calls = calls;
-    ends = (none_may_end unread Shelf.Sdr s s' text text).1;
+    ends = grind arith;
     why = λ h. (none h).asks.ends;
     prints = λ h same. (
       none_leaves (IsTextOver s.store) (inventory_plan id) text (Err (failure_of unread)) (none h).there,
@@ -137,8 +121,7 @@ first_leaves store walk end old new failure allowed =
   where
     there : (spot : Spot) (rest : List Item) → IsAmong (spots_at rest []) spot
         → IsAmong (spots_at (rest ++ row_items Form.Device First walk) (end_spots First walk end)) spot
-    there spot [] among = absurd among
-    there spot (item ∷ rest) among = among
+    there spot rest among = grind arith
 
 pub first_run : (tries : ℕ) (s s' : Seen) (old new : List ℕ) (failure : Failure)
     → Runs (Job.Inventory 0) tries (change s s' old new) (Err failure)

@@ -1,7 +1,7 @@
 -- The spots of a walk and of its rows.
-use Rattle.std.proofs.Common.{◌≡◌, ◌≢◌, inl, inr, ℕ, zero, suc, ◌<◌, ◌≤◌, ◌==◌, nat_lt, Bool, true, false, cond, List, [], ◌∷◌, ◌++◌, length, take, drop, refl, sym, ap, ◌∙◌, arith, ne_eqb, take_all}
+use Rattle.std.proofs.Common.{◌≡◌, ◌≢◌, inl, inr, ℕ, ◌==◌, Bool, true, false, cond, List, [], ◌∷◌, ◌++◌, refl, ap, arith, ne_eqb}
 use Rattle.ipmi_commands.specs.Below.{Place, First, Id, End, Row, WalkEnd, Done, EndsBy, place_after, place_after_rows, last_next, MayFail, asked_at}
-use Rattle.ipmi_commands.specs.Prelude.{AtRecord, end_spots, Form, IsAmong, Item, row_items, Spot, spots_along, spots_at, spots_of_walk}
+use Rattle.ipmi_commands.specs.Prelude.{AtRecord, end_spots, Form, IsAmong, row_items, Spot, spots_at}
 
 -- after a row a walk does not stand at the start
 pub not_first : (n : ℕ) (rows : List Row) → place_after_rows (place_after n) rows ≢ First
@@ -27,9 +27,7 @@ no_end_spot place rows moved = grind arith
 pub end_spots-joined : (start : Place) (done rest : List Row) (end : WalkEnd)
     → end_spots (place_after_rows start done) rest end ≡ end_spots start (done ++ rest) end
 end_spots-joined start [] rest end = refl
-end_spots-joined First (d ∷ done) rest Done = no_end_spot (place_after_rows (place_after d.next) done) rest (not_first d.next done)
-end_spots-joined _ (d ∷ done) rest Done = no_end_spot (place_after_rows (place_after d.next) done) rest (not_first d.next done)
-end_spots-joined start (d ∷ done) rest _ = refl
+end_spots-joined start (d ∷ done) rest end = grind (arith, no_end_spot (place_after_rows (place_after d.next) done) rest (not_first d.next done))
 
 pub among_after : (spots ends : List Spot) (spot : Spot) → IsAmong ends spot
     → IsAmong (spots ++ ends) spot

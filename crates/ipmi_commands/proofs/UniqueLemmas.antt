@@ -1,8 +1,7 @@
 -- What is printed has one text, and so has a finished run.
-use Rattle.std.proofs.Common.{◌≡◌, ℕ, ◌-◌, ◌==◌, not, Bool, true, false, cond, Option, None, Some, IfSome, Result, Ok, Err, List, [], ◌∷◌, ◌++◌, length, take, drop, refl, sym, subst, ◌∙◌, arith, take-append-drop}
-use Rattle.ipmi_commands.specs.Below.{Shelf, Sdr, Sel, Place, First, start_of, Row, IsShelf, FoundIsRow, AreBytes, Reading, Store, IsStore, IsInfo, info_of, inventory_of, rows_of, store_shelf, AllOf, WalkExists, WalkEnd, Done, place_after, place_after_rows, IsFruText, SdrFault, SdrView, Event, OemTimed, OemPlain, Other, IsInfoBlock, fru_of, sdr_view_of, IsSdrBlock, entry_bytes, sel_view_of, SdrLineIsUnique, ExtendedLineIsUnique, SelLineIsUnique, SelBlockIsUnique, Kind, Ending}
-use Rattle.ipmi_records.specs.Sdr.{name_of}
-use Rattle.ipmi_commands.specs.Prelude.{AreOfBytes, AreTexts, Detail, first_rows, FinishedRunsAreOne, Form, IfChosen, info_plan, inventories_plan, inventory_plan, is_name, IsBlockOfName, IsDevicePiece, IsInventoryPiece, IsInventoryText, IsListed, IsListedOfKind, IsLocatorPiece, IsOfBytes, IsRowText, IsTextOver, Item, ItemsHaveOneText, Job, last_items, last_plan, last_rows, listing_plan, name_of_locator, no_plan, OfInfo, OfInventory, OfRow, Plan, PrintsAll, reading_for, row_is_of_kind, row_items, shelf_of, Spot, spots_of_walk, Subject, with_first_spots}
+use Rattle.std.proofs.Common.{◌≡◌, ℕ, ◌-◌, Bool, true, false, cond, Option, None, Some, IfSome, Result, List, [], ◌∷◌, ◌++◌, length, take, drop, sym, subst, ◌∙◌, arith, take-append-drop}
+use Rattle.ipmi_commands.specs.Below.{Shelf, Sdr, Sel, Place, First, start_of, Row, IsShelf, FoundIsRow, AreBytes, Reading, Store, IsStore, IsInfo, info_of, inventory_of, rows_of, store_shelf, AllOf, WalkExists, WalkEnd, place_after, place_after_rows, IsFruText, SdrFault, SdrView, Event, OemTimed, OemPlain, Other, IsInfoBlock, IsSdrBlock, entry_bytes, sel_view_of, SdrLineIsUnique, ExtendedLineIsUnique, SelLineIsUnique, SelBlockIsUnique, Ending}
+use Rattle.ipmi_commands.specs.Prelude.{AreOfBytes, Detail, first_rows, FinishedRunsAreOne, Form, IfChosen, info_plan, inventories_plan, inventory_plan, IsBlockOfName, IsDevicePiece, IsInventoryPiece, IsInventoryText, IsListed, IsLocatorPiece, IsOfBytes, IsRowText, IsTextOver, Item, ItemsHaveOneText, Job, last_items, last_plan, last_rows, listing_plan, no_plan, Plan, PrintsAll, row_items, shelf_of, Spot, spots_of_walk, Subject, with_first_spots}
 
 -- there is one such text at most
 abbrev IsOne : (List ℕ → Type 0) → Type 0
@@ -11,7 +10,8 @@ IsOne IsText = (a b : List ℕ) → IsText a → IsText b → a ≡ b
 one_equation : (text : List ℕ) → IsOne (λ t. t ≡ text)
 one_equation text a b x y = x ∙ sym y
 
-one_chosen : (chosen : Bool) (IsText : List ℕ → Type 0) → IsOne IsText → IsOne (IfChosen chosen IsText)
+one_chosen : (chosen : Bool) (IsText : List ℕ → Type 0) → IsOne IsText
+    → IsOne (IfChosen chosen IsText)
 one_chosen true IsText one = one
 one_chosen false IsText one = one_equation []
 
@@ -40,14 +40,11 @@ module _ (one_sdr_line : SdrLineIsUnique) (one_extended_line : ExtendedLineIsUni
     (one_fru_text : FruTextIsUnique) where
   one_listed : (detail : Detail) (store : Store) (id : ℕ) (view : Result SdrView SdrFault)
       → IsOne (IsListed detail store id view)
-  one_listed Detail.Short store id (Ok view) = one_sdr_line view (reading_for store view)
-  one_listed Detail.Extended store id (Ok view) = one_extended_line view (reading_for store view)
-  one_listed detail store id (Err fault) = one_equation _
+  one_listed detail store id view = grind (arith, one_sdr_line, one_extended_line)
 
   one_block_of_name : (name : List ℕ) (store : Store) (id : ℕ) (view : Result SdrView SdrFault)
       → IsOne (IsBlockOfName name store id view)
-  one_block_of_name name store id (Ok view) = one_chosen (is_name name (name_of view)) _ (one_sdr_block id view (reading_for store view))
-  one_block_of_name name store id (Err fault) = one_equation []
+  one_block_of_name name store id view = grind (arith, one_chosen, one_sdr_block)
 
   one_inventory_text : (o : Option (List ℕ)) → IsOne (IsInventoryText o)
   one_inventory_text None = one_equation _
@@ -57,28 +54,20 @@ module _ (one_sdr_line : SdrLineIsUnique) (one_extended_line : ExtendedLineIsUni
   one_inventory store id name a b x y =
       x.text_is ∙ rw (one_inventory_text (inventory_of id store) x.inventory y.inventory x.is_inventory y.is_inventory) (sym y.text_is)
 
-  one_device : (store : Store) (view : SdrView) (id : Option ℕ) → IsOne (IsDevicePiece store view id)
-  one_device store view None = one_equation _
-  one_device store view (Some id) = one_chosen (not (id == 0)) _ (one_inventory store id (name_of_locator view))
+  one_device : (store : Store) (view : SdrView) (id : Option ℕ)
+      → IsOne (IsDevicePiece store view id)
+  one_device store view id = grind (arith, one_chosen, one_inventory)
 
   one_locator : (store : Store) (view : Result SdrView SdrFault) → IsOne (IsLocatorPiece store view)
-  one_locator store (Ok (SdrView.Fru bytes)) = one_device store (SdrView.Fru bytes) (fru_of (SdrView.Fru bytes))
-  one_locator store _ = one_equation []
+  one_locator store view = grind (arith, one_device)
 
-  one_row : (form : Form) (store : Store) (row : Row) → AreBytes row.bytes → IsOne (IsRowText store form row)
-  one_row Form.Raw store row are = one_equation _
-  one_row (Form.Line detail kind) store row are = one_chosen (row_is_of_kind kind row) _ (one_listed detail store row.id (sdr_view_of row.bytes))
-  one_row (Form.Block name) store row are = one_block_of_name name store row.id (sdr_view_of row.bytes)
-  one_row Form.Device store row are = one_locator store (sdr_view_of row.bytes)
-  one_row Form.EntryLine store row are = λ a b. one_sel_line row.id (sel_view_of row.bytes) a b (entry_are_bytes row.bytes are)
-  one_row Form.EntryBlock store row are = λ a b. one_sel_block row.id (sel_view_of row.bytes) a b (entry_are_bytes row.bytes are)
-  one_row Form.Passed store row are = one_equation []
+  one_row : (form : Form) (store : Store) (row : Row) → AreBytes row.bytes
+      → IsOne (IsRowText store form row)
+  one_row form store row are = grind (arith, one_chosen, one_listed, one_block_of_name, one_locator, one_sel_line, one_sel_block, entry_are_bytes)
 
-  one_item : (store : Store) (subject : Subject) → IsOfBytes subject → IsOne (IsTextOver store subject)
-  one_item store (OfRow form row) bytes = one_row form store row bytes
-  one_item store (OfInventory id) bytes = one_inventory store id []
-  one_item store (OfInfo info) bytes = λ a b. one_info_block info a b bytes
-  one_item store _ bytes = one_equation _
+  one_item : (store : Store) (subject : Subject) → IsOfBytes subject
+      → IsOne (IsTextOver store subject)
+  one_item store subject bytes = grind (arith, one_row, one_inventory, one_info_block)
 
   -- texts of items are one text
   pub one_text : ItemsHaveOneText
@@ -105,27 +94,22 @@ parts_of_shelf n rows walk all = both_of_shelf rows (take n walk) (drop n walk) 
 
 first_of_shelf : (most : Option ℕ) (rows walk : List Row) → AllOf rows walk
     → AllOf rows (first_rows most walk)
-first_of_shelf None rows walk all = all
-first_of_shelf (Some n) rows walk all = (parts_of_shelf n rows walk all).0
+first_of_shelf most rows walk all = grind (arith, parts_of_shelf)
 
 last_of_shelf : (n : ℕ) (rows walk : List Row) (end : WalkEnd) → AllOf rows walk
     → AllOf rows (last_rows n walk end)
-last_of_shelf n rows walk Done all = (parts_of_shelf (length walk - n) rows walk all).1
-last_of_shelf n rows walk _ all = tt
+last_of_shelf n rows walk end all = grind (arith, parts_of_shelf (length walk - n) rows walk all)
 
 first_kept : (spots : List Spot) (items : List Item) → AreOfBytes items
     → AreOfBytes (with_first_spots spots items)
-first_kept spots [] are = tt
-first_kept spots (item ∷ items) are = are
+first_kept spots items are = grind arith
 
 info_bytes : (o : Option (List ℕ)) → IfSome o IsInfo → AreOfBytes (info_plan o).items
-info_bytes None are = tt
-info_bytes (Some info) are = (are.all, tt)
+info_bytes o are = grind arith
 
 infos_bytes : (store : Store) → IsStore store → (shelf : Shelf)
     → AreOfBytes (info_plan (info_of shelf store)).items
-infos_bytes store ok Sdr = info_bytes store.sdr_info ok.sdr_info
-infos_bytes store ok Sel = info_bytes store.sel_info ok.sel_info
+infos_bytes store ok shelf = grind (arith, info_bytes)
 
 -- ---- one output
 

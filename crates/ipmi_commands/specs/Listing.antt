@@ -3,7 +3,6 @@ use Rattle.std.specs.Prelude.{◌≡◌, Bool, false, ℕ, ◌+◌, ◌-◌, ◌
 use Rattle.std.specs.FinSet as set
 use Rattle.ipmi_commands.specs.Below.{step_call_bound, digits, Place, Row, Shelf, Sel, Store, rows_of, IsWalk, WalkEnd, Done, EndsBy, place_after_rows, Seen, IsHonest, CursorState, StandsAt, CursorHoldsCurrent, Ending, Failure}
 use Rattle.ipmi_commands.specs.declared.job.Form.{Form}
-use Rattle.ipmi_commands.specs.declared.job.Listing.{Listing}
 use Rattle.ipmi_commands.specs.Allowed.{ending_of, IsAllowed, EndsFor, cause_of, Change}
 use Rattle.ipmi_commands.specs.Asking.{calls_for, most_for_one, walk_call_bound}
 use Rattle.ipmi_commands.specs.Job.{shelf_of, listing, IsPlace}
@@ -110,7 +109,8 @@ pub record Lists (form : Form) (tries : ℕ) (most : Option ℕ) (begun now : Cu
 -- ---- the last entries
 
 -- all entries were counted, and nothing was printed; or the run ends so, whatever number of the last ones is wanted
-abbrev pub Counted : Store → Place → List Row → WalkEnd → List ℕ → List ℕ → Result ℕ Failure → Type 0
+abbrev pub Counted : Store → Place → List Row → WalkEnd → List ℕ → List ℕ → Result ℕ Failure
+    → Type 0
 Counted store start walk end old new (Ok count) =
     (count ≡ length walk) × (end ≡ Done) × (new ≡ old)
 Counted store start walk end old new (Err failure) =

@@ -5,7 +5,7 @@ pub use Rattle.ipmi_commands.specs.Job.{IsFrom, IsJob, IsPlace, is_rewrite, job_
 pub use Rattle.ipmi_commands.specs.Laws.{AreOfBytes, FinishedRunsAreOne, IsOfBytes, ItemsHaveOneText}
 pub use Rattle.ipmi_commands.specs.Listing.{CallsAlong, Counted, CountsEntries, end_of, EndsListing, IsOnWalk, is_reached, KeepsListing, ListingCalls, Lists, ListsAfter, ListsAll, ListsAlong, ListsHonestly, OnEachWalk}
 pub use Rattle.ipmi_commands.specs.Pages.{ArePages, GoesOn, IsFresh, IsOneListing, IsOpen, IsPage, listing_cursor, PageAlong, pages_made, PageThen}
-pub use Rattle.ipmi_commands.specs.Plan.{AtInventory, AtRecord, device_spots, end_spots, end_spots_of_last, first_end, first_rows, info_plan, inventories_plan, inventory_item, inventory_plan, Item, last_items, last_plan, last_rows, listed_spots, listing_plan, locator_spots, named_spots, no_plan, OnWalk, Plan, reading_spots, rewrite_plan, row_items, rows_end, some_has_name, Spot, spots_after, spots_along, spots_of_walk, view_has_name, with_first_spots}
+pub use Rattle.ipmi_commands.specs.Plan.{AtInventory, AtRecord, device_spots, end_spots, end_spots_of_last, first_end, first_rows, info_plan, inventories_plan, inventory_item, inventory_plan, Item, last_items, last_plan, last_rows, listed_spots, listing_plan, locator_spots, named_spots, no_plan, OnWalk, Plan, reading_spots, rewrite_plan, row_items, rows_end, some_has_name, Spot, spots_after, spots_along, spots_of_walk, text_plan, view_has_name, with_first_spots}
 pub use Rattle.ipmi_commands.specs.Run.{AnswersCommand, AnswersLine, FailsToRead, IsRewriting, job_of_command, last_call_bound, MayEnd, most_calls, OnPlan, Prints, Runs, RunsInPages, RunsOver, RunsPaged, Says, second_walk_bound, WritesText}
 pub use Rattle.ipmi_commands.specs.Texts.{IfChosen, is_name, is_of_kind, IsBlockOfName, IsDevicePiece, IsInventoryPiece, IsInventoryText, IsLineOf, IsListed, IsListedOfKind, IsLocatorPiece, IsRowText, IsTextOver, name_of_locator, OfImage, OfInfo, OfInventory, OfRow, reading_by, reading_for, row_is_of_kind, Subject}
 pub use Rattle.ipmi_commands.specs.declared.job.Detail.{Detail}

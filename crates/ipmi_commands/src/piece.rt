@@ -1,6 +1,6 @@
 //! What a command prints for a record. Where the text needs a reading, it is asked for here, while the record is lent.
 ghost use Rattle.std.specs.Prelude.{◌≡◌, ◌+◌, ◌≤◌, IfOk, length, Ok, option_map, string_bytes};
-ghost use Rattle.ipmi_commands.specs.Below.{row_of_record, IsHonest, largest_len, whole_len, sdr_view_of, sel_view_of, IsSelBlock, IsSelLine};
+ghost use Rattle.ipmi_commands.specs.Below.{row_of_record, IsHonest, largest_len, whole_len, sdr_view_of};
 ghost use Rattle.ipmi_records.specs.Sdr.{name_of};
 ghost use Rattle.ipmi_commands.specs.Prelude.{bytes_of, Finds, is_name, is_of_kind, IsBlockOfName, IsLineOf, IsListedOfKind, IsRowText, listed_spots, most_after, named_spots, reading_for, reading_spots, shelf_of, spots_after};
 
@@ -18,31 +18,11 @@ use ipmi_text::Reading;
 use std::alloc::{AllocError, Global};
 
 /// The bytes of an entry of the event log.
-fn entry_bytes(bytes: &[u8]) -> [u8; SEL_ENTRY_LEN]
+fn entry_bytes(bytes: &[u8]) -> &[u8; SEL_ENTRY_LEN]
     requires { length bytes.now ≡ 16 }
-    ensures { result ≡ bytes.now }
+    ensures { result.now ≡ bytes.now }
 {
-    *bytes.first_chunk::<SEL_ENTRY_LEN>().unwrap()
-}
-
-/// The line of an entry of the event log.
-fn entry_line(alloc: Global, lent: &Record<'_>) -> Result<String, AllocError>
-    requires { length lent.now.bytes.now ≡ 16 }
-    ensures { IfOk result (λ text. IsSelLine lent.now.id (sel_view_of lent.now.bytes.now)
-        (string_bytes text)) }
-{
-    let entry = entry_bytes(lent.bytes);
-    sel_line(alloc, lent.id, &SelView::read(&entry))
-}
-
-/// The block of an entry of the event log.
-fn entry_block(alloc: Global, lent: &Record<'_>) -> Result<String, AllocError>
-    requires { length lent.now.bytes.now ≡ 16 }
-    ensures { IfOk result (λ text. IsSelBlock lent.now.id (sel_view_of lent.now.bytes.now)
-        (string_bytes text)) }
-{
-    let entry = entry_bytes(lent.bytes);
-    sel_block(alloc, lent.id, &SelView::read(&entry))
+    bytes.first_chunk::<SEL_ENTRY_LEN>().unwrap()
 }
 
 /// Whether a record is of the kind, by its type byte.
@@ -201,13 +181,18 @@ pub(crate) fn record_piece<C: Controller>(
             Ok(Piece::Line)
         }
         Form::Line(detail, kind) => {
-            let text = listed_line(alloc, ctl, *detail, *kind, tries, lent)?;
-            Ok(Piece::Text(text))
+            Ok(Piece::Text(listed_line(alloc, ctl, *detail, *kind, tries, lent)?))
         }
         Form::Block(name) => Ok(Piece::Text(named_block(alloc, ctl, name.as_str(), tries, lent)?)),
         Form::Device => Ok(Piece::Text(locator_piece(alloc, ctl, cmd, lent)?)),
-        Form::EntryLine => Ok(Piece::Text(entry_line(alloc, lent)?)),
-        Form::EntryBlock => Ok(Piece::Text(entry_block(alloc, lent)?)),
+        Form::EntryLine => {
+            let entry = SelView::read(entry_bytes(lent.bytes));
+            Ok(Piece::Text(sel_line(alloc, lent.id, &entry)?))
+        }
+        Form::EntryBlock => {
+            let entry = SelView::read(entry_bytes(lent.bytes));
+            Ok(Piece::Text(sel_block(alloc, lent.id, &entry)?))
+        }
         Form::Passed => Ok(Piece::Text(String::new(alloc))),
     }
 }

@@ -1,6 +1,5 @@
-use Rattle.std.proofs.Common.{Ok, Err, ◌∙◌, ap, sym, refl}
 use Rattle.ipmi_commands.proofs.AskLemmas.{passed}
-use Rattle.ipmi_commands.proofs.LastLemmas.{after_calls, after_failed, after_fewer, after_passed, after_without_memory}
+use Rattle.ipmi_commands.proofs.LastLemmas.{after_failed, after_fewer, after_passed, after_without_memory}
 use Rattle.ipmi_commands.proofs.ListingLemmas.{fresh_room}
 use Rattle.ipmi_commands.proofs.last.list_after.Goals as goal
 

@@ -1,6 +1,6 @@
-use Rattle.std.proofs.Common.{Ok, Err, ap, sym, arith}
+use Rattle.std.proofs.Common.{Err, arith}
 use Rattle.ipmi_commands.proofs.CountLemmas.{between, ends_since}
-use Rattle.ipmi_commands.proofs.LastLemmas.{last_prints, last_prints_none, some_entries}
+use Rattle.ipmi_commands.proofs.LastLemmas.{last_prints, last_prints_none}
 use Rattle.ipmi_commands.proofs.last.list_last.Goals as goal
 
 pub returns-in-Ok-clause-runs : goal.returns-in-Ok-clause-runs
@@ -16,7 +16,7 @@ returns-in-Ok-clause-runs g c =
           let first = counts h in
           let lists = rw (c.saturating_sub-passed.ensures, c.from.ensures) at (c.list_after.ensures.honest first.ends.stays.honest) in
           let since = between _ _ _ first.ends.stays lists.ends.stays same in
-          last_prints c.args.wanted c.args.from _ c.requires.some _ _ _ _ _ _ c.in-Ok.count _ (some_entries _ c.in-Ok.count-test.1) first.ends.stays since.0 since.1 first lists;
+          last_prints c.args.wanted c.args.from _ c.requires.some _ _ _ _ _ _ c.in-Ok.count _ c.in-Ok.count-test.1 first.ends.stays since.0 since.1 first lists;
     }
 
 pub returns-in-Err-clause-runs : goal.returns-in-Err-clause-runs

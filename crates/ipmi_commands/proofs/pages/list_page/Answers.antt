@@ -1,4 +1,4 @@
-use Rattle.std.proofs.Common.{Some, ◌≡◌, sym, ◌∙◌}
+use Rattle.std.proofs.Common.{sym, ◌∙◌}
 use Rattle.ipmi_commands.proofs.CallLemmas.{at_limit}
 use Rattle.ipmi_commands.proofs.PageLemmas.{page_of_none}
 use Rattle.ipmi_commands.proofs.pages.list_page.Goals as goal

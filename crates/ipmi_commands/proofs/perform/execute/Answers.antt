@@ -1,4 +1,4 @@
-use Rattle.std.proofs.Common.{Err, refl, ◌∙◌, sym, arith}
+use Rattle.std.proofs.Common.{refl, ◌∙◌, sym, arith}
 use Rattle.ipmi_commands.specs.Prelude.{IsTextOver}
 use Rattle.ipmi_commands.proofs.CountLemmas.{ends_here}
 use Rattle.ipmi_commands.proofs.ItemLemmas.{none_printed}
