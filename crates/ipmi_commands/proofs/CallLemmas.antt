@@ -1,13 +1,14 @@
 -- How many calls a listing makes, and the rows of a walk that are wanted.
-use Rattle.std.proofs.Common.{◌≡◌, inl, inr, ℕ, zero, suc, ◌+◌, ◌*◌, ◌<◌, ◌≤◌, ◌==◌, false, true, Option, None, Some, Result, Ok, Err, List, [], ◌∷◌, ◌++◌, length, take, drop, refl, sym, ap, ◌∙◌, arith, take-append-drop, take_all, length-drop, length-take}
+use Rattle.std.proofs.Common.{◌≡◌, inl, inr, ℕ, zero, suc, ◌+◌, ◌*◌, ◌<◌, ◌≤◌, false, true, Option, None, Some, IfOk, Result, Ok, Err, List, [], ◌∷◌, ◌++◌, length, take, drop, refl, sym, ap, ◌∙◌, arith, take-append-drop, take_all, length-drop, length-take}
 use Rattle.std.specs.FinSet as set
 use Rattle.std.specs.FinSet.{len-insert}
 use Rattle.std.specs.Cmp.{nat_cmp_total}
 use Rattle.std.proofs.lemmas.Bool.Decides.{nat_tests}
+use Rattle.std.proofs.lemmas.List.{drop-drop}
 use Rattle.std.proofs.lemmas.Nat.{mul-le}
-use Rattle.std.proofs.Math.Seq.{take-nil, drop-nil}
-use Rattle.ipmi_commands.specs.Below.{step_call_bound, digits, Shelf, Ended, Row, first_row, len_of, largest_len, place_after, Place, place_after_rows, Seen, CursorState, IsStep, StepLeaves, HandsOut, Store, WalkEnd, Done}
-use Rattle.ipmi_commands.specs.Prelude.{calls_for, Form, is_reached, IsPlace, ListingCalls, PassingCalls, first_end, first_rows}
+use Rattle.std.proofs.Math.Seq.{take-nil}
+use Rattle.ipmi_commands.specs.Below.{step_call_bound, digits, Shelf, Ended, Row, first_row, len_of, largest_len, place_after, Place, place_after_rows, Seen, CursorState, IsStep, StepLeaves, HandsOut, Store, WalkEnd, Done, Failure}
+use Rattle.ipmi_commands.specs.Prelude.{calls_for, Form, is_reached, IsPlace, KeepsListing, ListingCalls, first_end, first_rows}
 
 -- ---- digits
 
@@ -17,14 +18,10 @@ digits_some n some = grind (arith, nat_tests)
 
 -- ---- limits
 
--- no more than are wanted, and fewer
+-- no more than are wanted
 abbrev pub IsWithin : Option ℕ → ℕ → Type 0
 IsWithin None count = Unit {0}
 IsWithin (Some n) count = count ≤ n
-
-abbrev pub IsBelow : Option ℕ → ℕ → Type 0
-IsBelow None count = Unit {0}
-IsBelow (Some n) count = count < n
 
 -- as many were handed out as are wanted
 pub at_limit : (most : Option ℕ) (count : ℕ) → is_reached most count ≡ true → most ≡ Some count
@@ -32,24 +29,20 @@ at_limit most count reached = grind (arith, nat_tests)
 
 pub not_at_limit : (most : Option ℕ) (count : ℕ) → is_reached most count ≡ false
     → most ≡ Some count → ⊥
-not_at_limit (Some n) count more is = let e : n ≡ count = cc is in let h : (n == count) ≡ true = rw e (search arith) in cc (sym h ∙ more)
-not_at_limit None count more is = cc is
+not_at_limit most count more is = grind (arith, nat_tests)
 
 -- otherwise one more is wanted
-pub one_wanted : (most : Option ℕ) (count : ℕ) → IsWithin most count
-    → is_reached most count ≡ false → IsBelow most count
-one_wanted most count within more = grind (arith, nat_tests)
-
 pub within_more : (most : Option ℕ) (count : ℕ) → IsWithin most count
     → is_reached most count ≡ false → IsWithin most (count + 1)
 within_more most count within more = grind (arith, nat_tests)
 
 -- all rows are wanted where more are wanted than there are
-pub first_rows-all : (most : Option ℕ) (rows : List Row) → IsBelow most (length rows)
+pub first_rows-all : (most : Option ℕ) (rows : List Row) → IsWithin most (length rows + 1)
     → first_rows most rows ≡ rows
 first_rows-all most rows below = grind (arith, take_all)
 
-pub first_end-all : (most : Option ℕ) (rows : List Row) (end : WalkEnd) → IsBelow most (length rows)
+pub first_end-all : (most : Option ℕ) (rows : List Row) (end : WalkEnd)
+    → IsWithin most (length rows + 1)
     → first_end most rows end ≡ end
 first_end-all most rows end below = grind (arith, nat_tests)
 
@@ -59,17 +52,17 @@ pub first_end-none : (count : ℕ) (rows : List Row) (end : WalkEnd) → count �
 first_end-none count rows end within = grind (arith, nat_tests)
 
 -- no row is left where no more are wanted
-pub none_left : (most : Option ℕ) (count : ℕ) (rows : List Row) → IsBelow most count
+pub none_left : (most : Option ℕ) (count : ℕ) (rows : List Row) → IsWithin most (count + 1)
     → drop count (first_rows most rows) ≡ [] → length rows ≤ count
 none_left most count rows below none = grind (arith, length-drop, length-take, ap length none)
 
 -- the next row is wanted where more are
-pub first_row-first_rows : (most : Option ℕ) (k : ℕ) (walk : List Row) → IsBelow most k
+pub first_row-first_rows : (most : Option ℕ) (k : ℕ) (walk : List Row) → IsWithin most (k + 1)
     → first_row (drop k (first_rows most walk)) ≡ first_row (drop k walk)
 first_row-first_rows None k walk below = refl
 first_row-first_rows (Some n) k walk below = fewer n k walk below
   where
-    fewer : (n k : ℕ) (walk : List Row) → k < n
+    fewer : (n k : ℕ) (walk : List Row) → k + 1 ≤ n
         → first_row (drop k (take n walk)) ≡ first_row (drop k walk)
     fewer n k [] below = rw (take-nil n) refl
     fewer zero k (first ∷ walk) below = absurd (omega (arith, below))
@@ -80,14 +73,14 @@ first_row-first_rows (Some n) k walk below = fewer n k walk below
 
 -- since a listing began: for no more calls than for the records that were handed out
 pub record HasCalled (each count : ℕ) (begun now : CursorState) (s s' : Seen) : Type 0 where
-  pub passing : PassingCalls each begun now s s'
+  pub keeps : KeepsListing begun now
+  pub calls : s'.calls + set.len begun.ids * each + digits now.part
+      ≤ s.calls + set.len now.ids * each + digits begun.part
   pub ids : set.len now.ids ≡ set.len begun.ids + count
-  pub room : set.len now.ids ≤ 65536
-  pub place : IsPlace begun.place → IsPlace now.place
 
 pub has_called_none : (each : ℕ) (begun : CursorState) (s : Seen) → set.len begun.ids ≤ 65536
     → HasCalled each 0 begun begun s s
-has_called_none each begun s room = record { passing = record { calls = omega arith; some = λ some. some }; ids = omega arith; room = room; place = λ place. place }
+has_called_none each begun s room = record { keeps = record { shelf = refl; tries = refl; part = λ some. some; room = room; place = λ place. place }; calls = omega arith; ids = omega arith }
 
 -- each record that is handed out is one id more
 pub len-next_ids : (now next : CursorState) (row : Row) → HandsOut now next row
@@ -102,15 +95,21 @@ is_place next fits = grind (arith, nat_tests)
 at_most_all : (rows bound : ℕ) → rows ≤ 65536 → rows * bound ≤ 65536 * bound
 at_most_all rows bound most = mul-le rows bound 65536 bound most (omega arith)
 
--- a listing that stopped after a record
-pub called_stopped : (each count : ℕ) (begun now : CursorState) (s s' : Seen)
-    → HasCalled each count begun now s s' → ListingCalls each begun now s s'
-called_stopped each count begun now s s' called = record {
-  calls = λ some. omega (arith, at_most_all (set.len now.ids) each called.room, called.passing.calls, digits_some now.part (called.passing.some some));
-  place = called.place;
+if_ok : {T E : Type 0} {P : T → Type 0} (result : Result T E) → ((value : T) → P value)
+    → IfOk result P
+if_ok (Ok value) holds = holds value
+if_ok (Err e) holds = tt
+
+-- a listing that stops after a record
+pub called_stopped : (each count : ℕ) (most : Option ℕ) (begun now : CursorState) (s s' : Seen)
+    (result : Result ℕ Failure) → HasCalled each count begun now s s'
+    → ListingCalls each most begun now s s' result
+called_stopped each count most begun now s s' result called = record {
+  all = λ some. omega (arith, at_most_all (set.len now.ids) each called.keeps.room, called.calls, digits_some now.part (called.keeps.part some));
+  some = if_ok result (λ n limit. called.calls);
 }
 
--- the place after a step that handed out nothing
+-- a step that hands out nothing
 abbrev pub HandsNothing : Result (Option Row) Ended → Type 0
 HandsNothing (Ok (Some row)) = ⊥
 HandsNothing _ = Unit {0}
@@ -124,41 +123,52 @@ ids_kept : (now next : CursorState) (result : Result (Option Row) Ended) → Han
 ids_kept now next result none leaves = grind arith
 
 -- a step of a listing over this shelf, with these tries, where each record takes so many calls at most
-module _ (tries later each count : ℕ) (shelf : Shelf) (begun now next : CursorState)
-    (s s' s'' : Seen) (each_is : each ≡ step_call_bound tries (largest_len shelf) + later)
+module _ (later : ℕ) {tries each count : ℕ} {shelf : Shelf} {begun now next : CursorState}
+    {s s' s'' : Seen} {result : Result (Option Row) Ended}
+    (each_is : each ≡ step_call_bound tries (largest_len shelf) + later)
     (same_shelf : now.shelf ≡ shelf) (same_tries : now.tries ≡ tries)
-    (called : HasCalled each count begun now s s') where
+    (called : HasCalled each count begun now s s') (step : IsStep now next s' s'' result) where
+  kept_on : set.len next.ids ≤ 65536 → (IsPlace now.place → IsPlace next.place)
+      → KeepsListing begun next
+  kept_on room place = record {
+    shelf = step.same.shelf ∙ called.keeps.shelf;
+    tries = step.same.tries ∙ called.keeps.tries;
+    part = λ some. step.same.part_not_zero;
+    room = room;
+    place = λ from. place (called.keeps.place from);
+  }
+
   -- after a record, and what is asked for on account of it
-  pub called_more : (last : Seen) (row : Row) → IsStep now next s' s'' (Ok (Some row))
-      → last.calls ≤ s''.calls + later → HasCalled each (count + 1) begun next s last
-  called_more last row step asked =
-      let hands = step.leaves.1 in
-      let more = len-next_ids now next row hands in
+  pub called_more : {row : Row} → (last : Seen) → result ≡ Ok (Some row)
+      → last.calls ≤ s''.calls + later
+      → HasCalled each (count + 1) begun next s last
+  called_more last is asked =
+      let hands = (rw is at step.leaves).1 in
+      let more = len-next_ids now next _ hands in
       let one : (set.len now.ids + 1) * each ≡ set.len now.ids * each + each = omega arith in
       record {
-        passing = record { calls = rw more (omega (arith, called.passing.calls, rw (same_shelf, same_tries) at step.calls, asked, each_is, one)); some = λ some. step.same.part_not_zero };
+        keeps = kept_on hands.at_most (λ from. rw hands.place (is_place _ hands.next));
+        calls = rw more (omega (arith, called.calls, rw (same_shelf, same_tries) at step.calls, asked, each_is, one));
         ids = omega (arith, more, called.ids);
-        room = hands.at_most;
-        place = λ place. rw hands.place (is_place row.next hands.next);
       }
 
   -- a listing whose last step handed out nothing
-  pub called_ended : (result : Result (Option Row) Ended) → HandsNothing result
-      → IsStep now next s' s'' result → ListingCalls each begun next s s''
-  called_ended result none step = record {
-    calls = λ some.
+  pub called_ended : HandsNothing result → KeepsListing begun next
+  called_ended none = kept_on (rw (ids_kept now next result none step.leaves) called.keeps.room) (place_kept now next result none step.leaves)
+
+  pub calls_ended : (most : Option ℕ) (listed : Result ℕ Failure) → HandsNothing result
+      → IfOk listed (λ n. most ≡ Some n → s''.calls + set.len begun.ids * each + digits next.part
+      ≤ s.calls + set.len next.ids * each + digits begun.part)
+      → ListingCalls each most begun next s s'' listed
+  calls_ended most listed none limited = record {
+    all = λ some.
         let one : (set.len now.ids + 1) * each ≡ set.len now.ids * each + each = omega arith in
         elim step.room [
-          | inl asks ↦ omega (arith, at_most_all (set.len now.ids) each called.room, called.passing.calls, digits_some now.part (called.passing.some some), ap (λ (x : Seen). x.calls) (step.no_call asks))
-          | inr room ↦ omega (arith, at_most_all (set.len now.ids + 1) each (omega (arith, room)), one, called.passing.calls, rw (same_shelf, same_tries) at step.calls, digits_some next.part step.same.part_not_zero, each_is)
+          | inl asks ↦ omega (arith, at_most_all (set.len now.ids) each called.keeps.room, called.calls, digits_some now.part (called.keeps.part some), ap (λ (x : Seen). x.calls) (step.no_call asks))
+          | inr room ↦ omega (arith, at_most_all (set.len now.ids + 1) each (omega (arith, room)), one, called.calls, rw (same_shelf, same_tries) at step.calls, digits_some next.part step.same.part_not_zero, each_is)
         ];
-    place = λ place. place_kept now next result none step.leaves (called.place place);
+    some = limited;
   }
-
-  -- and it has as many ids as before
-  pub room_ended : (result : Result (Option Row) Ended) → HandsNothing result
-      → IsStep now next s' s'' result → set.len next.ids ≤ 65536
-  room_ended result none step = rw (ids_kept now next result none step.leaves) called.room
 
 -- ---- along a walk
 
@@ -188,12 +198,10 @@ pub place_after_rows-append : (start : Place) (done rest : List Row)
 place_after_rows-append start [] rest = refl
 place_after_rows-append start (d ∷ done) rest = place_after_rows-append (place_after d.next) done rest
 
--- the next of some rows: those after it, and the place after it
+-- the next of some rows, and those after it
+first_is : (rows : List Row) (row : Row) → first_row rows ≡ Some row → rows ≡ row ∷ drop 1 rows
+first_is rows row is = grind arith
+
 pub next_one : (rows : List Row) (k : ℕ) (row : Row) → first_row (drop k rows) ≡ Some row
-    → (drop k rows ≡ row ∷ drop (k + 1) rows)
-    × ((start : Place) → place_after_rows start (take (k + 1) rows) ≡ place_after row.next)
-next_one [] k row next = let none = rw drop-nil at next in cc none
-next_one (first ∷ rows) zero row next = let same : first ≡ row = cc next in (rw same refl, λ start. rw same refl)
-next_one (first ∷ rows) (suc k) row next =
-    let later = next_one rows k row next in
-    let one_on : suc k + 1 ≡ suc (k + 1) = omega arith in (rw one_on later.0, λ start. rw one_on (later.1 (place_after first.next)))
+    → drop k rows ≡ row ∷ drop (k + 1) rows
+next_one rows k row next = rw (← drop-drop 1 k rows) (first_is (drop k rows) row next)

@@ -1,8 +1,7 @@
 -- The items of a plan, their texts, and what may be left where a run stops before or at one of them.
-use Rattle.std.proofs.Common.{◌≡◌, ℕ, zero, suc, ◌+◌, ◌<◌, Bool, true, false, Option, Some, List, [], ◌∷◌, ◌++◌, length, take, drop, refl, sym, ap, ◌∙◌, append_assoc, append-nil, arith, take-append-drop}
-use Rattle.std.proofs.Math.Seq.{drop-nil}
+use Rattle.std.proofs.Common.{◌≡◌, ℕ, ◌+◌, ◌<◌, List, [], ◌∷◌, ◌++◌, length, take, drop, refl, sym, ap, ◌∙◌, append_assoc, append-nil, take-add, take-append-drop}
 use Rattle.ipmi_commands.specs.Below.{Place, Row, place_after, place_after_rows, asked_at, TakesPart, Ending}
-use Rattle.ipmi_commands.specs.Prelude.{AreTexts, AtEnd, AtRecord, Cause, Dishonest, Form, GaveUp, HasFirstItems, IsAmong, Item, Leaves, MayStopAt, NoMemory, NoOutput, OfRow, Plan, Printed, PrintsAll, Refused, row_items, Spot, spots_after, spots_at, StopsAt, Subject}
+use Rattle.ipmi_commands.specs.Prelude.{AreTexts, AtEnd, AtRecord, Cause, Dishonest, Form, GaveUp, HasFirstItems, IsAmong, Item, Leaves, MayStopAt, NoMemory, NoOutput, OfRow, Plan, Printed, PrintsAll, Refused, row_items, Spot, spots_after, spots_at, Subject}
 
 -- ---- items and rows
 
@@ -18,20 +17,13 @@ abbrev pub row_item : Form → Place → Row → Item
 row_item form place row =
     record { subject = OfRow form row; spots = AtRecord (asked_at place) ∷ spots_after form row }
 
-take_one : (rows : List Row) (count : ℕ) (row : Row) (rest : List Row)
-    → drop count rows ≡ row ∷ rest → take (count + 1) rows ≡ take count rows ++ row ∷ []
-take_one [] count row rest is = let none = rw drop-nil at is in cc none
-take_one (first ∷ rows) zero row rest is = let same : first ≡ row = cc is in rw same refl
-take_one (first ∷ rows) (suc count) row rest is =
-    let on : suc count + 1 ≡ suc (count + 1) = omega arith in rw (on, take_one rows count row rest is) refl
-
 -- of the first rows, and the next one
 pub row_items-next : (form : Form) (at : Place) (rows : List Row) (count : ℕ) (row : Row)
     (rest : List Row) → drop count rows ≡ row ∷ rest
     → row_items form at (take (count + 1) rows)
     ≡ row_items form at (take count rows)
     ++ row_item form (place_after_rows at (take count rows)) row ∷ []
-row_items-next form at rows count row rest is = rw (take_one rows count row rest is) (row_items-append form at (take count rows) (row ∷ []))
+row_items-next form at rows count row rest is = rw (take-add count 1 rows, is) (row_items-append form at (take count rows) (row ∷ []))
 
 -- and of those after the first ones
 pub row_items-split : (form : Form) (at : Place) (rows : List Row) (count : ℕ)
@@ -47,7 +39,7 @@ abbrev pub after_items : List Item → Plan → Plan
 after_items first p = record { items = first ++ p.items; end = p.end; end_spots = p.end_spots }
 
 module _ (IsText : Subject → List ℕ → Type 0) where
-  texts_joined : (items more : List Item) (a b : List ℕ) → AreTexts IsText items a
+  pub texts_joined : (items more : List Item) (a b : List ℕ) → AreTexts IsText items a
       → AreTexts IsText more b → AreTexts IsText (items ++ more) (a ++ b)
   texts_joined [] more a b are rest = rw are rest
   texts_joined (item ∷ items) more a b are rest = record {
@@ -68,15 +60,15 @@ module _ (IsText : Subject → List ℕ → Type 0) where
     new_is = two.new_is ∙ rw one.new_is (append_assoc old one.text two.text);
   }
 
-  pub none_printed : (old : List ℕ) → Printed IsText [] old old
-  none_printed old = record { text = []; are = refl; new_is = sym (append-nil old) }
+  pub none_printed : (old new : List ℕ) → new ≡ old → Printed IsText [] old new
+  none_printed old new same = record { text = []; are = refl; new_is = same ∙ sym (append-nil old) }
 
   pub one_printed : (item : Item) (text old new : List ℕ) → IsText item.subject text
       → new ≡ old ++ text → Printed IsText (item ∷ []) old new
   one_printed item text old new is new_is = record { text = text; are = record { first = text; rest = []; is_first = is; is_rest = refl; joined = sym (append-nil text) }; new_is = new_is }
 
-  abbrev pub no_items : (p : Plan) (old : List ℕ) → HasFirstItems IsText p old old
-  no_items p old = record { done = []; rest = p.items; items_are = refl; printed = none_printed old }
+  abbrev pub no_items : (p : Plan) (old new : List ℕ) → new ≡ old → HasFirstItems IsText p old new
+  no_items p old new same = record { done = []; rest = p.items; items_are = refl; printed = none_printed old new same }
 
   -- ---- where a run stops
 
@@ -95,67 +87,77 @@ module _ (IsText : Subject → List ℕ → Type 0) where
       → first.rest ≡ item ∷ later → IsText item.subject text → 0 < length text
       → TakesPart whole new text → Leaves IsText p old new ending NoOutput
   cut_after p old whole new ending first item later text next is some part =
-      record { whole = whole; first = first; item = item; later = later; next = next; text = text; is_text = is; some = some; bytes = part.0; new_is = part.1 }
+      record { whole = whole; first = first; item = item; later = later; next = next; text = text; is_text = is; some = some; part = part }
 
-  -- the first items of a plan after some that were printed
-  abbrev first_joined : (done : List Item) (p : Plan) (old text new : List ℕ)
-      → Printed IsText done old text → HasFirstItems IsText p text new
-      → HasFirstItems IsText (after_items done p) old new
-  first_joined done p old text new before first = record {
-    done = done ++ first.done;
-    rest = first.rest;
-    items_are = rw first.items_are (sym (append_assoc done first.done first.rest));
-    printed = printed_joined done first.done old text new before first.printed;
-  }
+-- ---- what is left by one plan is left by another
 
-  -- what is left after some items is left after them all
-  pub leaves_joined : (done : List Item) (p : Plan) (old text new : List ℕ) (ending : Ending)
-      (cause : Cause) → Printed IsText done old text → Leaves IsText p text new ending cause
-      → Leaves IsText (after_items done p) old new ending cause
-  leaves_joined done p old text new ending AtEnd before leaves = (printed_joined done p.items old text new before leaves.0, leaves.1)
-  leaves_joined done p old text new ending (GaveUp spot) before leaves = record { first = first_joined done p old text new before leaves.first; there = leaves.there }
-  leaves_joined done p old text new ending (Refused spot code) before leaves = record { first = first_joined done p old text new before leaves.first; there = leaves.there }
-  leaves_joined done p old text new ending NoMemory before leaves = first_joined done p old text new before leaves
-  leaves_joined done p old text new ending NoOutput before leaves = record {
-    whole = leaves.whole;
-    first = first_joined done p old text leaves.whole before leaves.first;
-    item = leaves.item;
-    later = leaves.later;
-    next = leaves.next;
-    text = leaves.text;
-    is_text = leaves.is_text;
-    some = leaves.some;
-    bytes = leaves.bytes;
-    new_is = leaves.new_is;
-  }
-  leaves_joined done p old text new ending Dishonest before leaves = absurd leaves
+-- the first items of the one were printed: so were the first of the other, and what comes next has the same text, at these
+-- spots and perhaps more
+pub record IsCarried (IsText : Subject → List ℕ → Type 0) (p q : Plan) (old new : List ℕ)
+    (rest : List Item) : Type 0 where
+  pub first : HasFirstItems IsText q old new
+  pub spots : (spot : Spot) → IsAmong (spots_at rest p.end_spots) spot
+      → IsAmong (spots_at first.rest q.end_spots) spot
+  pub next : (item : Item) (later : List Item) → rest ≡ item ∷ later
+      → (item' : Item) × (later' : List Item) × (first.rest ≡ item' ∷ later')
+      × (item'.subject ≡ item.subject)
 
--- what is left by one plan is left by a longer one, where each spot after some of its items is one there
-module _ (IsText : Subject → List ℕ → Type 0) (p q : Plan) (more : List Item)
-    (items_are : q.items ≡ p.items ++ more)
-    (spots_are : (spot : Spot) (rest : List Item) → IsAmong (spots_at rest p.end_spots) spot
-    → IsAmong (spots_at (rest ++ more) q.end_spots) spot) where
-  abbrev first_longer : (old new : List ℕ) → HasFirstItems IsText p old new
-      → HasFirstItems IsText q old new
-  first_longer old new first = record { done = first.done; rest = first.rest ++ more; items_are = items_are ∙ rw first.items_are (append_assoc first.done first.rest more); printed = first.printed }
+pub leaves_carried : (IsText : Subject → List ℕ → Type 0) (p q : Plan) (old old' new : List ℕ)
+    (ending : Ending) (cause : Cause)
+    → ((whole : List ℕ) (first : HasFirstItems IsText p old whole)
+    → IsCarried IsText p q old' whole first.rest)
+    → (cause ≡ AtEnd → PrintsAll IsText p old new ending → PrintsAll IsText q old' new ending)
+    → Leaves IsText p old new ending cause → Leaves IsText q old' new ending cause
+leaves_carried IsText p q old old' new ending AtEnd carry all leaves = all refl leaves
+leaves_carried IsText p q old old' new ending (GaveUp spot) carry all leaves = let at = carry new leaves.first in record { first = at.first; there = at.spots spot leaves.there }
+leaves_carried IsText p q old old' new ending (Refused spot code) carry all leaves = let at = carry new leaves.first in record { first = at.first; there = at.spots spot leaves.there }
+leaves_carried IsText p q old old' new ending NoMemory carry all leaves = (carry new leaves).first
+leaves_carried IsText p q old old' new ending NoOutput carry all leaves =
+    let at = carry leaves.whole leaves.first in
+    let next = at.next leaves.item leaves.later leaves.next in
+    record {
+      whole = leaves.whole;
+      first = at.first;
+      item = next.0;
+      later = next.1;
+      next = next.2;
+      text = leaves.text;
+      is_text = rw next.3 leaves.is_text;
+      some = leaves.some;
+      part = leaves.part;
+    }
+leaves_carried IsText p q old old' new ending Dishonest carry all leaves = absurd leaves
 
-  pub leaves_longer : (old new : List ℕ) (ending : Ending) (cause : Cause)
-      → (cause ≡ AtEnd → PrintsAll IsText p old new ending → Leaves IsText q old new ending cause)
-      → Leaves IsText p old new ending cause → Leaves IsText q old new ending cause
-  leaves_longer old new ending AtEnd whole leaves = whole refl leaves
-  leaves_longer old new ending (GaveUp spot) whole leaves = record { first = first_longer old new leaves.first; there = spots_are spot leaves.first.rest leaves.there }
-  leaves_longer old new ending (Refused spot code) whole leaves = record { first = first_longer old new leaves.first; there = spots_are spot leaves.first.rest leaves.there }
-  leaves_longer old new ending NoMemory whole leaves = first_longer old new leaves
-  leaves_longer old new ending NoOutput whole leaves = record {
-    whole = leaves.whole;
-    first = first_longer old leaves.whole leaves.first;
-    item = leaves.item;
-    later = leaves.later ++ more;
-    next = rw leaves.next refl;
-    text = leaves.text;
-    is_text = leaves.is_text;
-    some = leaves.some;
-    bytes = leaves.bytes;
-    new_is = leaves.new_is;
-  }
-  leaves_longer old new ending Dishonest whole leaves = absurd leaves
+-- after some items that were printed
+pub leaves_joined : (IsText : Subject → List ℕ → Type 0) (done : List Item) (p : Plan)
+    (old text new : List ℕ) (ending : Ending) (cause : Cause) → Printed IsText done old text
+    → Leaves IsText p text new ending cause → Leaves IsText
+    (after_items done p) old new ending cause
+leaves_joined IsText done p old text new ending cause before leaves = leaves_carried IsText p (after_items done p) text old new ending cause
+    (λ whole first. record {
+      first = record {
+        done = done ++ first.done;
+        rest = first.rest;
+        items_are = rw first.items_are (sym (append_assoc done first.done first.rest));
+        printed = printed_joined IsText done first.done old text whole before first.printed;
+      };
+      spots = λ spot among. among;
+      next = λ item later next. (item, later, next, refl);
+    })
+    (λ is all. (printed_joined IsText done p.items old text new before all.0, all.1)) leaves
+
+-- by a longer one, where each spot after some of its items is one there
+pub leaves_longer : (IsText : Subject → List ℕ → Type 0) (p q : Plan) (more : List Item)
+    → q.items ≡ p.items ++ more
+    → ((spot : Spot) (rest : List Item) → IsAmong (spots_at rest p.end_spots) spot
+    → IsAmong (spots_at (rest ++ more) q.end_spots) spot)
+    → (old new : List ℕ) (ending : Ending) (cause : Cause)
+    → (cause ≡ AtEnd → PrintsAll IsText p old new ending → PrintsAll IsText q old new ending)
+    → Leaves IsText p old new ending cause → Leaves IsText q old new ending cause
+leaves_longer IsText p q more items_are spots_are old new ending cause whole leaves = leaves_carried IsText p q old old new ending cause
+    (λ whole first. record {
+      first = record { done = first.done; rest = first.rest ++ more; items_are = items_are ∙ rw first.items_are (append_assoc first.done first.rest more); printed = first.printed };
+      spots = λ spot among. spots_are spot first.rest among;
+      next = λ item later next. (item, later ++ more, rw next refl, refl);
+    })
+    whole leaves

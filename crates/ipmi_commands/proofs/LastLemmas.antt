@@ -1,15 +1,14 @@
 -- The last entries of a shelf: a walk that counts them, and a second one that passes those before them.
-use Rattle.std.proofs.Common.{◌≡◌, inl, inr, ℕ, zero, suc, ◌+◌, ◌-◌, ◌*◌, ◌<◌, ◌≤◌, nat_le, Bool, true, false, IsTrue, Option, None, Some, Result, Ok, Err, List, [], ◌∷◌, ◌++◌, length, take, drop, refl, sym, ap, subst, ◌∙◌, arith, length-drop, length-take-le, take-append-drop}
+use Rattle.std.proofs.Common.{◌≡◌, inl, inr, ℕ, zero, suc, ◌+◌, ◌-◌, ◌<◌, ◌≤◌, Option, None, Some, IfOk, Result, Ok, Err, List, [], ◌∷◌, ◌++◌, length, take, drop, refl, sym, ap, subst, ◌∙◌, append_assoc, append-nil, arith, length-append, length-drop, length-take-le, take-append-drop}
 use Rattle.std.proofs.lemmas.List.{nil_from_length}
 use Rattle.std.proofs.Math.Seq.{drop-nil}
-use Rattle.std.specs.FinSet as set
-use Rattle.std.specs.Ordering.{nat_cmp}
-use Rattle.ipmi_commands.specs.Below.{digits, digits_most, Ended, Place, Sel, Row, Store, rows_of, WalkEnd, Done, place_after, place_after_rows, asked_at, Seen, IsHonest, StaysHonest, stays_refl, CursorState, CursorHoldsCurrent, StandsAt, start_of, Ending, Failure}
-use Rattle.ipmi_commands.specs.Prelude.{AtEnd, AtRecord, CallsAlong, calls_for, Cause, cause_of, Change, change, Counted, CountsEntries, Dishonest, end_spots, end_spots_of_last, ending_of, EndsFor, first_end, first_rows, Form, GaveUp, HasFirstItems, IsAllowed, IsAmong, IsTextOver, Item, Job, last_call_bound, last_items, last_plan, Leaves, listing, listing_plan, ListingCalls, Lists, ListsAfter, most_for_one, most_on_walk, NoMemory, NoOutput, OnWalk, Passes, PassesAlong, passing_end, PassingCalls, Plan, Printed, Refused, row_items, Runs, second_walk_bound, Spot, spots_along, spots_at, spots_of_walk, StopsAt, Subject, walk_call_bound, with_first_spots}
+use Rattle.ipmi_commands.specs.Below.{digits_most, Place, Sel, Row, Store, rows_of, WalkEnd, Done, place_after, place_after_rows, Seen, IsHonest, StaysHonest, CommandState, CursorState, StandsAt, start_of, asked_at, Ending, Failure}
+use Rattle.ipmi_commands.specs.Prelude.{AreTexts, AtEnd, AtRecord, calls_for, Cause, cause_of, Change, change, Counted, CountsEntries, Dishonest, end_spots, end_spots_of_last, ending_of, first_end, first_rows, Form, GaveUp, IsAllowed, IsAmong, IsFresh, IsTextOver, Item, last_call_bound, last_plan, Leaves, listing, listing_plan, Lists, ListsAfter, ListsHonestly, most_on_walk, NoMemory, NoOutput, OfRow, OnWalk, ListsAlong, Plan, Printed, PrintsAll, Refused, row_items, rows_end, second_walk_bound, Spot, spots_along, spots_at, spots_of_walk, StopsAt, Subject, walk_call_bound, with_first_spots}
 use Rattle.ipmi_commands.proofs.CallLemmas.{calls_split}
-use Rattle.ipmi_commands.proofs.ItemLemmas.{no_items, none_printed}
+use Rattle.ipmi_commands.proofs.CountLemmas.{between, ends_here, ends_since}
+use Rattle.ipmi_commands.proofs.ItemLemmas.{IsCarried, leaves_carried, no_items, none_printed, texts_joined}
+use Rattle.ipmi_commands.proofs.ListingLemmas.{fresh_along, fresh_ends, holds_none, no_ids}
 use Rattle.ipmi_commands.proofs.SpotLemmas.{among_after, end_spots-joined}
-use Rattle.ipmi_commands.proofs.StepLemmas.{IsUnrefused, between, ends_since}
 
 -- ---- the spots of what comes first
 
@@ -30,7 +29,7 @@ first_there : (start : Place) (rows : List Row) (ends : List Spot) (spot : Spot)
     → IsAmong (spots_at (row_items Form.EntryLine start rows) ends) spot
     → IsAmong (spots_along start rows ++ ends) spot
 first_there start [] ends spot among = among
-first_there start (row ∷ rows) ends spot among = elim among [ inl is ↦ inl is | inr none ↦ absurd none ]
+first_there start (row ∷ rows) ends spot among = grind arith
 
 -- ---- plans whose first item has other spots
 
@@ -40,61 +39,33 @@ module _ (IsText : Subject → List ℕ → Type 0) (spots : List Spot) (p : Pla
   abbrev q : Plan
   q = record { items = with_first_spots spots p.items; end = p.end; end_spots = end_spots_of_last spots p.items at_end }
 
-  -- the first items of the one are those of the other
-  pub record Widened (old new : List ℕ) (rest : List Item) : Type 0 where
-    pub first : HasFirstItems IsText q old new
-    pub spots_wide : (spot : Spot) → IsAmong (spots_at rest p.end_spots) spot
-        → IsAmong (spots_at first.rest q.end_spots) spot
-    pub next : (item : Item) (later : List Item) → rest ≡ item ∷ later
-        → (item' : Item) × (first.rest ≡ item' ∷ later) × (item'.subject ≡ item.subject)
-
   kept_printed : (items : List Item) (old new : List ℕ) → Printed IsText items old new
       → Printed IsText (with_first_spots spots items) old new
-  kept_printed [] old new printed = printed
-  kept_printed (item ∷ items) old new printed = record { text = printed.text; are = printed.are; new_is = printed.new_is }
+  kept_printed items old new printed = grind arith
 
   widened : (old new : List ℕ) (done rest : List Item) → p.items ≡ done ++ rest
-      → Printed IsText done old new → Widened old new rest
+      → Printed IsText done old new → IsCarried IsText p q old new rest
   widened old new [] rest is printed = record {
     first = record { done = []; rest = with_first_spots spots p.items; items_are = refl; printed = printed };
-    spots_wide = λ spot among. rw spots_at-first (wide spot (rw is among));
-    next = λ item later next. (record { subject = item.subject; spots = spots }, ap (with_first_spots spots) (is ∙ next), refl);
+    spots = λ spot among. rw spots_at-first (wide spot (rw is among));
+    next = λ item later next. (record { subject = item.subject; spots = spots }, later, ap (with_first_spots spots) (is ∙ next), refl);
   }
   widened old new (d ∷ done) rest is printed = record {
     first = record {
-      done = record { subject = d.subject; spots = spots } ∷ done;
+      done = with_first_spots spots (d ∷ done);
       rest = rest;
       items_are = ap (with_first_spots spots) is;
-      printed = record { text = printed.text; are = printed.are; new_is = printed.new_is };
+      printed = kept_printed (d ∷ done) old new printed;
     };
-    spots_wide = λ spot among. rw is (rw ends_are at among);
-    next = λ item later next. (item, next, refl);
+    spots = λ spot among. rw is (rw ends_are at among);
+    next = λ item later next. (item, later, next, refl);
   }
 
-  pub leaves_wide : (old new : List ℕ) (ending : Ending) (cause : Cause)
+  leaves_wide : (old new : List ℕ) (ending : Ending) (cause : Cause)
       → Leaves IsText p old new ending cause → Leaves IsText q old new ending cause
-  leaves_wide old new ending AtEnd leaves = (kept_printed p.items old new leaves.0, leaves.1)
-  leaves_wide old new ending (GaveUp spot) leaves =
-      let w = widened old new leaves.first.done leaves.first.rest leaves.first.items_are leaves.first.printed in record { first = w.first; there = w.spots_wide spot leaves.there }
-  leaves_wide old new ending (Refused spot code) leaves =
-      let w = widened old new leaves.first.done leaves.first.rest leaves.first.items_are leaves.first.printed in record { first = w.first; there = w.spots_wide spot leaves.there }
-  leaves_wide old new ending NoMemory leaves = (widened old new leaves.done leaves.rest leaves.items_are leaves.printed).first
-  leaves_wide old new ending NoOutput leaves =
-      let w = widened old leaves.whole leaves.first.done leaves.first.rest leaves.first.items_are leaves.first.printed in
-      let next = w.next leaves.item leaves.later leaves.next in
-      record {
-        whole = leaves.whole;
-        first = w.first;
-        item = next.0;
-        later = leaves.later;
-        next = next.1;
-        text = leaves.text;
-        is_text = rw next.2 leaves.is_text;
-        some = leaves.some;
-        bytes = leaves.bytes;
-        new_is = leaves.new_is;
-      }
-  leaves_wide old new ending Dishonest leaves = absurd leaves
+  leaves_wide old new ending cause leaves = leaves_carried IsText p q old old new ending cause
+      (λ whole first. widened old whole first.done first.rest first.items_are first.printed)
+      (λ is all. (kept_printed p.items old new all.0, all.1)) leaves
 
 -- the listing of the last entries leaves what the plan allows
 last_leaves : (store : Store) (n k : ℕ) (start : Place) (walk : List Row) (old new : List ℕ)
@@ -109,62 +80,117 @@ last_leaves store n k start walk old new ending is allowed =
     (λ spot among. rw (spots_along-split k start walk ends) (among_after (spots_along start (take k walk)) (spots_along place (drop k walk) ++ ends) spot (first_there place (drop k walk) ends spot (rw joined at among))))
     old new ending (cause_of ending) allowed)
 
--- it stops before anything is printed, at a spot of the walk
-stops_first : (store : Store) (n : ℕ) (start : Place) (walk : List Row) (end : WalkEnd)
-    (text : List ℕ) (spot : Spot) → IsAmong (spots_of_walk start walk end) spot
-    → StopsAt spot (IsTextOver store) (last_plan n start walk end) text text
-stops_first store n start walk end text spot among = record { first = no_items (IsTextOver store) (last_plan n start walk end) text; there = rw spots_at-first among }
+-- ---- passed entries
 
--- by a cursor with these tries
-pub with_tries : (tries : ℕ) (most : Option ℕ) (begun now : CursorState) (s s' : Seen)
-    (given result : Result ℕ Ended) → begun.tries ≡ tries → given ≡ result
-    → Passes begun.tries most begun now s s' given → Passes tries most begun now s s' result
-with_tries tries most begun now s s' given result same is passes =
-    subst (λ (n : ℕ). Passes n most begun now s s' result) same (subst (Passes begun.tries most begun now s s') is passes)
+calls_for-passed : (store : Store) (tries : ℕ) (rows : List Row)
+    → calls_for Form.Passed store tries rows ≡ calls_for Form.EntryLine store tries rows
+calls_for-passed store tries [] = refl
+calls_for-passed store tries (row ∷ rows) = rw (calls_for-passed store tries rows) refl
+
+-- nothing is printed of them
+no_text : (store : Store) (rows : List Row) (start : Place) (done rest : List Item) (text : List ℕ)
+    → row_items Form.Passed start rows ≡ done ++ rest → AreTexts (IsTextOver store) done text
+    → text ≡ []
+no_text store rows start [] rest text is are = are
+no_text store [] start (d ∷ done) rest text is are = cc is
+no_text store (row ∷ rows) start (d ∷ done) rest text is are =
+    let item : d ≡ record { subject = OfRow Form.Passed row; spots = AtRecord (asked_at start) ∷ [] } = cc is in
+    let none : are.first ≡ [] = subst (λ (i : Item). IsTextOver store i.subject are.first) item are.is_first in
+    are.joined ∙ rw (none, no_text store rows (place_after row.next) done rest are.rest (cc is) are.is_rest) refl
+
+-- the spots of what comes next, or after them, are spots of theirs
+passed_spot : (rows : List Row) (start : Place) (done rest : List Item) (ends more : List Spot)
+    (spot : Spot)
+    → row_items Form.Passed start rows ≡ done ++ rest → (IsAmong ends spot → IsAmong more spot)
+    → IsAmong (spots_at rest ends) spot → IsAmong (spots_along start rows ++ more) spot
+passed_spot [] start [] rest ends more spot is wide among = let none : rest ≡ [] = cc is in wide (rw none at among)
+passed_spot [] start (d ∷ done) rest ends more spot is wide among = cc is
+passed_spot (row ∷ rows) start [] rest ends more spot is wide among = elim (rw (← is) at among) [ inl at ↦ inl at | inr none ↦ absurd none ]
+passed_spot (row ∷ rows) start (d ∷ done) rest ends more spot is wide among = inr (passed_spot rows (place_after row.next) done rest ends more spot (cc is) wide among)
+
+passed_there : (most : Option ℕ) (start : Place) (walk : List Row) (done rest : List Item)
+    (ends : List Spot)
+    (spot : Spot) → row_items Form.Passed start (first_rows most walk) ≡ done ++ rest
+    → IsAmong (spots_at rest ends) spot → IsAmong (spots_along start walk ++ ends) spot
+passed_there None start walk done rest ends spot is among = passed_spot walk start done rest ends ends spot is (λ there. there) among
+passed_there (Some m) start walk done rest ends spot is among =
+    let later = spots_along (place_after_rows start (take m walk)) (drop m walk) in
+    rw (spots_along-split m start walk ends) (passed_spot (take m walk) start done rest ends (later ++ ends) spot is (λ there. among_after later ends spot there) among)
+
+-- the first of them were passed
+nothing : (store : Store) (most : Option ℕ) (start : Place) (walk : List Row)
+    (done rest : List Item) (old new : List ℕ)
+    → row_items Form.Passed start (first_rows most walk) ≡ done ++ rest
+    → Printed (IsTextOver store) done old new → new ≡ old
+nothing store most start walk done rest old new is printed = printed.new_is ∙ rw (no_text store (first_rows most walk) start done rest printed.text is printed.are) (append-nil old)
+
+all_nothing : (store : Store) (most : Option ℕ) (start : Place) (walk : List Row) (old new : List ℕ)
+    → Printed (IsTextOver store) (row_items Form.Passed start (first_rows most walk)) old new
+    → new ≡ old
+all_nothing store most start walk old new printed = nothing store most start walk (row_items Form.Passed start (first_rows most walk)) [] old new (sym (append-nil _)) printed
+
+-- a run that ends while they are passed
+module _ (store : Store) (n : ℕ) (most : Option ℕ) (start : Place) (walk : List Row) (end : WalkEnd)
+    (end_is : first_end most walk end ≡ end) (old new : List ℕ) (failure : Failure) where
+  abbrev passing : Plan
+  passing = listing_plan (listing Form.Passed start most) walk end
+
+  ends_so : (e : WalkEnd) → Err failure ≡ rows_end Form.Passed (first_rows most walk) e → new ≡ old
+      → PrintsAll (IsTextOver store) (last_plan n start walk e) old new (Err failure)
+  ends_so e is same = grind (arith, none_printed)
+
+  stops_there : (spot : Spot) → StopsAt spot (IsTextOver store) passing old new
+      → StopsAt spot (IsTextOver store) (last_plan n start walk end) old new
+  stops_there spot stops = record {
+    first = no_items (IsTextOver store) (last_plan n start walk end) old new (nothing store most start walk stops.first.done stops.first.rest old new stops.first.items_are stops.first.printed);
+    there = rw spots_at-first (passed_there most start walk stops.first.done stops.first.rest (end_spots start walk end) spot stops.first.items_are (rw end_is at stops.there));
+  }
+
+  passing_failed : (cause : Cause) → Leaves (IsTextOver store) passing old new (Err failure) cause
+      → Leaves (IsTextOver store) (last_plan n start walk end) old new (Err failure) cause
+  passing_failed AtEnd leaves = ends_so end (rw end_is at leaves.1) (all_nothing store most start walk old new leaves.0)
+  passing_failed (GaveUp spot) leaves = stops_there spot leaves
+  passing_failed (Refused spot code) leaves = stops_there spot leaves
+  passing_failed NoMemory leaves = no_items (IsTextOver store) (last_plan n start walk end) old new (nothing store most start walk leaves.done leaves.rest old new leaves.items_are leaves.printed)
+  passing_failed NoOutput leaves =
+      let first = leaves.first in
+      let text = first.printed.text ++ leaves.text in
+      let is : row_items Form.Passed start (first_rows most walk) ≡ (first.done ++ leaves.item ∷ []) ++ leaves.later = first.items_are ∙ rw leaves.next (sym (append_assoc first.done (leaves.item ∷ []) leaves.later)) in
+      let one : AreTexts (IsTextOver store) (leaves.item ∷ []) leaves.text = record { first = leaves.text; rest = []; is_first = leaves.is_text; is_rest = refl; joined = sym (append-nil leaves.text) } in
+      let none : text ≡ [] = no_text store (first_rows most walk) start (first.done ++ leaves.item ∷ []) leaves.later text is (texts_joined (IsTextOver store) first.done (leaves.item ∷ []) first.printed.text leaves.text first.printed.are one) in
+      absurd (omega (arith, leaves.some, ap length none, length-append first.printed.text leaves.text))
+  passing_failed Dishonest leaves = absurd leaves
 
 -- ---- entries are counted
 
--- why it failed, as a failure of the run
-abbrev pub counted : Result ℕ Ended → Result ℕ Failure
-counted (Ok count) = Ok count
-counted (Err ended) = Err (Failure.Ended ended)
+rows_end-done : (rows : List Row) (end : WalkEnd) → Ok tt ≡ rows_end Form.Passed rows end
+    → end ≡ Done
+rows_end-done rows end is = grind arith
 
-counted_cause : (result : Result ℕ Ended)
-    → cause_of (ending_of (counted result)) ≡ cause_of (passing_end result)
-counted_cause (Ok count) = refl
-counted_cause (Err ended) = refl
+module _ {command : CommandState} {from : Option ℕ} {tries : ℕ} {begun now : CursorState}
+    {c : Change}
+    (fresh : IsFresh command Form.Passed from begun) where
+  counts : (result : Result ℕ Failure) (walk : List Row) (end : WalkEnd)
+      → ListsAlong Form.Passed tries None begun now c result (start_of from) walk end 0
+      → Counted c.seen.store (start_of from) walk end c.old c.new result
+  counts (Ok count) walk end along = (along.all.count_is, rows_end-done walk end along.leaves.1, all_nothing c.seen.store None (start_of from) walk c.old c.new along.leaves.0)
+  counts (Err failure) walk end along = λ n. passing_failed c.seen.store n None (start_of from) walk end refl c.old c.new failure (cause_of (Err failure)) along.leaves
 
-counted_along : (tries : ℕ) (begun now : CursorState) (s s' : Seen) (start : Place)
-    (walk : List Row) (end : WalkEnd) (result : Result ℕ Ended)
-    → PassesAlong tries None begun now s s' result start walk end
-    → Counted s.store start walk end (counted result)
-counted_along tries begun now s s' start walk end (Ok count) along = (along.to.0, along.to.1)
-counted_along tries begun now s s' start walk end (Err (Ended.Cycle n)) along = λ m text. rw along.to (none_printed (IsTextOver s.store) text, refl)
-counted_along tries begun now s s' start walk end (Err (Ended.Missing n)) along = λ m text. rw along.to (none_printed (IsTextOver s.store) text, refl)
-counted_along tries begun now s s' start walk end (Err (Ended.GaveUp n)) along = λ m text. stops_first s.store m start walk end text (AtRecord n) along.to
-counted_along tries begun now s s' start walk end (Err (Ended.Refused n code)) along = λ m text. stops_first s.store m start walk end text (AtRecord n) along.to
-counted_along tries begun now s s' start walk end (Err _) along = absurd along.to
+  pub counted : (result : Result ℕ Failure)
+      → ListsHonestly Form.Passed tries None begun now c result
+      → CountsEntries (start_of from) tries c result
+  counted result lists = record {
+    ends = fresh_ends fresh lists;
+    along = λ same walk end w ends.
+        let along = fresh_along fresh lists same walk end w ends in
+        (counts result walk end along.0, rw (← calls_for-passed c.seen.store tries walk) along.1);
+  }
 
--- a cursor that holds no reservation holds none that is not current
-holds_none : (begun : CursorState) (s : Seen) → begun.reservation ≡ None → CursorHoldsCurrent begun s
-holds_none begun s none = record { held = λ n held. let h = sym none ∙ held in cc h }
-
-pub counted_by_cursor : (tries : ℕ) (start : Place) (begun now : CursorState) (s s' : Seen)
-    (result : Result ℕ Ended) → begun.reservation ≡ None → 0 < begun.part
-    → ((rows walk : List Row) → StandsAt rows start walk 0 begun)
-    → Passes tries None begun now s s' result → CountsEntries start tries s s' (counted result)
-counted_by_cursor tries start begun now s s' result none part stands passes = record {
-  ends = rw (counted_cause result) (record { stays = passes.ends.stays; grows = passes.ends.grows; counts = passes.ends.counts; plain = λ p. passes.ends.plain (p, holds_none begun s none) });
-  along = λ same walk end w ends.
-      let along = passes.along same start walk end 0 w ends (stands (rows_of Sel s.store) walk) refl in
-      (counted_along tries begun now s s' start walk end result along, omega (arith, along.calls part, digits_most begun.part));
-}
-
-pub counted_without_memory : (tries : ℕ) (start : Place) (s : Seen) → IsHonest s
-    → CountsEntries start tries s s (Err Failure.OutOfMemory)
-counted_without_memory tries start s honest = record {
-  ends = record { stays = stays_refl s honest; grows = omega arith; counts = refl; plain = λ p. tt };
-  along = λ same walk end w ends. (λ n text. no_items (IsTextOver s.store) (last_plan n start walk end) text, omega arith);
+pub counted_without_memory : (tries : ℕ) (start : Place) (s : Seen) (text : List ℕ) → IsHonest s
+    → CountsEntries start tries (change s s text text) (Err Failure.OutOfMemory)
+counted_without_memory tries start s text honest = record {
+  ends = ends_here honest refl tt;
+  along = λ same walk end w ends. (λ n. no_items (IsTextOver s.store) (last_plan n start walk end) text text refl, omega arith);
 }
 
 -- ---- entries are passed, and those after them listed
@@ -172,78 +198,71 @@ counted_without_memory tries start s honest = record {
 pub after_without_memory : (tries : ℕ) (start : Place) (passed : ℕ) (s : Seen) (text : List ℕ)
     → IsHonest s → ListsAfter start passed tries (change s s text text) (Err Failure.OutOfMemory)
 after_without_memory tries start passed s text honest = record {
-  ends = record { stays = stays_refl s honest; grows = omega arith; counts = refl; plain = λ p. tt };
-  along = λ same walk end w ends n done is. (no_items (IsTextOver s.store) (last_plan n start walk end) text, omega arith);
+  ends = ends_here honest refl tt;
+  along = λ same walk end w ends n done is. (no_items (IsTextOver s.store) (last_plan n start walk end) text text refl, omega arith);
 }
 
 -- a done walk has no other end
-first_end-done : (most : Option ℕ) (rows : List Row) → first_end most rows Done ≡ Done
-first_end-done None rows = refl
-first_end-done (Some n) rows = grind arith
+first_end-done : (most : Option ℕ) (rows : List Row) (end : WalkEnd) → end ≡ Done
+    → first_end most rows end ≡ end
+first_end-done most rows end done = grind arith
 
-module _ (tries : ℕ) (start : Place) (passed : ℕ) (begun mid : CursorState) (s s' : Seen)
-    (none : begun.reservation ≡ None) (part : 0 < begun.part)
-    (stands : (rows walk : List Row) → StandsAt rows start walk 0 begun) where
-  -- entries could not be passed
-  after_failed : (ended : Ended) (walk : List Row) (end : WalkEnd) (n : ℕ) (text : List ℕ)
-      → PassesAlong tries (Some passed) begun mid s s' (Err ended) start walk end → end ≡ Done
-      → IsAllowed (IsTextOver s.store) (last_plan n start walk end) text text (Err (Failure.Ended ended))
-  after_failed (Ended.Cycle m) walk end n text along done = let h = sym (first_end-done (Some passed) walk) ∙ rw done at along.to in cc h
-  after_failed (Ended.Missing m) walk end n text along done = let h = sym (first_end-done (Some passed) walk) ∙ rw done at along.to in cc h
-  after_failed (Ended.GaveUp m) walk end n text along done = stops_first s.store n start walk end text (AtRecord m) along.to
-  after_failed (Ended.Refused m code) walk end n text along done = stops_first s.store n start walk end text (AtRecord m) along.to
-  after_failed _ walk end n text along done = absurd along.to
-
-  pub after_ended : (ended : Ended) (text : List ℕ)
-      → Passes tries (Some passed) begun mid s s' (Err ended)
-      → ListsAfter start passed tries (change s s' text text) (Err (Failure.Ended ended))
-  after_ended ended text passes = record {
-    ends = record { stays = passes.ends.stays; grows = passes.ends.grows; counts = passes.ends.counts; plain = λ p. passes.ends.plain (p, holds_none begun s none) };
+module _ {command : CommandState} {from : Option ℕ} {tries passed : ℕ} {begun mid : CursorState}
+    {s s' : Seen} {old text : List ℕ} (fresh : IsFresh command Form.Passed from begun) where
+  -- they could not be passed
+  pub after_failed : (failure : Failure)
+      → ListsHonestly Form.Passed tries (Some passed) begun mid (change s s' old text) (Err failure)
+      → ListsAfter (start_of from) passed tries (change s s' old text) (Err failure)
+  after_failed failure lists = record {
+    ends = fresh_ends fresh lists;
     along = λ same walk end w ends n done is.
-        let along = passes.along same start walk end 0 w ends (stands (rows_of Sel s.store) walk) refl in (
-          after_failed ended walk end n text along done,
-          omega (arith, along.calls part, digits_most begun.part, calls_split Form.EntryLine s.store tries passed walk),
+        let along = fresh_along fresh lists same walk end w ends in (
+          passing_failed s.store n (Some passed) (start_of from) walk end (first_end-done (Some passed) walk end done) old text failure (cause_of (Err failure)) along.0.leaves,
+          omega (arith, rw calls_for-passed at along.1, calls_split Form.EntryLine s.store tries passed walk),
         );
   }
 
   -- there are fewer entries than were counted
-  pub after_fewer : (count : ℕ) (text : List ℕ) → (count ≡ passed → ⊥)
-      → Passes tries (Some passed) begun mid s s' (Ok count)
-      → ListsAfter start passed tries (change s s' text text) (Ok tt)
-  after_fewer count text fewer passes = record {
-    ends = record { stays = passes.ends.stays; grows = passes.ends.grows; counts = passes.ends.counts; plain = λ p. passes.ends.plain (p, holds_none begun s none) };
+  pub after_fewer : (count : ℕ) → (count ≡ passed → ⊥)
+      → ListsHonestly Form.Passed tries (Some passed) begun mid (change s s' old text) (Ok count)
+      → ListsAfter (start_of from) passed tries (change s s' old text) (Ok tt)
+  after_fewer count fewer lists = record {
+    ends = fresh_ends fresh lists;
     along = λ same walk end w ends n done is.
-        let along = passes.along same start walk end 0 w ends (stands (rows_of Sel s.store) walk) refl in
-        absurd (fewer (along.to.0 ∙ length-take-le passed walk (omega (arith, is))));
+        absurd (fewer ((fresh_along fresh lists same walk end w ends).0.all.count_is ∙ length-take-le passed walk (omega (arith, is))));
   }
 
   -- those after them were listed
-  pub after_passed : (now : CursorState) (s'' : Seen) (old new : List ℕ) (ending : Ending)
-      → 0 < mid.part → Passes tries (Some passed) begun mid s s' (Ok passed)
-      → Lists Form.EntryLine tries None mid now (change s' s'' old new) ending
-      → ListsAfter start passed tries (change s s'' old new) ending
-  after_passed now s'' old new ending some passes lists =
-      let since = between s s' s'' passes.ends.stays lists.ends.stays in
-      record {
-        ends = ends_since tries (IsTrue s.plain) (IsTrue s'.plain × CursorHoldsCurrent mid s') s s' s'' (cause_of ending) passes.ends.stays (record { refusals = passes.ends.counts; troubles = passes.ends.grows })
-            (λ p. (passes.ends.stays.plain p, passes.holds p (holds_none begun s none) passed refl)) lists.ends;
-        along = λ same walk end w ends n done is.
-            let first = passes.along (since same).0 start walk end 0 w ends (stands (rows_of Sel s.store) walk) refl in
-            let stays = passes.ends.stays.store.stays (since same).0 in
-            let later = (rw stays at (lists.along (since same).1 start walk end passed)) w ends first.to.2 in (
-              rw done (last_leaves s.store n passed start walk old new ending is (rw done at later.leaves)),
-              omega (arith, later.calls some, first.calls_of_some passed refl refl, digits_most begun.part, calls_split Form.EntryLine s.store tries passed walk),
-            );
-      }
+  pub after_passed : (now : CursorState) (s'' : Seen) (new : List ℕ) (result : Result ℕ Failure)
+      → 0 < mid.part → ListsHonestly Form.Passed tries (Some passed) begun mid
+      (change s s' old text) (Ok passed)
+      → ListsHonestly Form.EntryLine tries None mid now (change s' s'' text new) result
+      → ListsAfter (start_of from) passed tries (change s s'' old new) (ending_of result)
+  after_passed now s'' new result some passes lists = record {
+    ends = ends_since (fresh_ends fresh passes) (λ p. (passes.ends.stays.plain p, passes.holds p (holds_none fresh s))) lists.ends;
+    along = λ same walk end w ends n done is.
+        let since = between s s' s'' passes.ends.stays lists.ends.stays same in
+        let first = (fresh_along fresh passes since.0 walk end w ends).0 in
+        let stays = passes.ends.stays.store.stays since.0 in
+        let here : 0 + passed ≡ passed = omega arith in
+        let stands : StandsAt (rows_of Sel s.store) (start_of from) walk passed mid = rw here at first.all.stands in
+        let later = (rw stays at (lists.along since.1 (start_of from) walk end passed)) (record { walks = w; ends = ends; stands = stands }) in
+        let none = all_nothing s.store (Some passed) (start_of from) walk old text first.leaves.0 in (
+          rw done (last_leaves s.store n passed (start_of from) walk old new (ending_of result) is (rw (done, none) at later.leaves)),
+          omega (arith, later.calls some, rw calls_for-passed at (first.all.calls refl), digits_most begun.part, calls_split Form.EntryLine s.store tries passed walk),
+        );
+  }
 
 -- over any controller
-pub after_calls : (tries : ℕ) (begun mid now : CursorState) (s s' s'' : Seen) → 0 < begun.part
-    → begun.ids ≡ set.empty → PassingCalls (most_for_one Form.EntryLine tries) begun mid s s'
-    → ListingCalls (most_for_one Form.EntryLine tries) mid now s' s''
-    → s''.calls ≤ s.calls + most_on_walk Form.EntryLine tries
-after_calls tries begun mid now s s' s'' part none passed listed =
-    let first = rw (none, set.len-empty nat_cmp) at passed.calls in
-    omega (arith, first, listed.calls (passed.some part), digits_most begun.part)
+pub after_calls : {command : CommandState} {from : Option ℕ} {tries passed : ℕ}
+    {begun mid now : CursorState}
+    {c d : Change} {result : Result ℕ Failure} → IsFresh command Form.Passed from begun → d.seen ≡ c.seen'
+    → Lists Form.Passed tries (Some passed) begun mid c (Ok passed)
+    → Lists Form.EntryLine tries None mid now d result
+    → d.seen'.calls ≤ c.seen.calls + most_on_walk Form.EntryLine tries
+after_calls {begun = begun} fresh is passes lists =
+    let first = rw (no_ids fresh) at (passes.calls.some refl) in
+    omega (arith, first, rw is at (lists.calls.all (passes.keeps.part fresh.some)), digits_most begun.part)
 
 -- ---- the last entries
 
@@ -251,41 +270,32 @@ second_walk_bound-some : (bound : ℕ) (rows : List Row) → 0 < length rows
     → second_walk_bound bound rows ≡ bound
 second_walk_bound-some bound rows some = grind arith
 
-module _ (n : ℕ) (from : Option ℕ) (tries : ℕ) (some : 1 ≤ n) where
-  -- entries could not be counted
-  pub last_prints_none : (s s' : Seen) (text : List ℕ) (failure : Failure)
-      → s'.stores_added ≡ s.stores_added → CountsEntries (start_of from) tries s s' (Err failure)
+module _ (n : ℕ) (from : Option ℕ) (tries : ℕ) (some : 1 ≤ n) (s s' : Seen)
+    (old text : List ℕ) where
+  -- entries could not be counted, or there is none
+  pub last_prints_none : (result : Result ℕ Failure) → IfOk result (λ count. count ≡ 0)
+      → s'.stores_added ≡ s.stores_added → CountsEntries (start_of from) tries
+      (change s s' old text) result
       → OnWalk Sel (start_of from) s.store (λ walk end.
-      IsAllowed (IsTextOver s.store) (last_plan n (start_of from) walk end) text text (Err failure)
+      IsAllowed (IsTextOver s.store) (last_plan n (start_of from) walk end) old text (ending_of result)
       × (s'.calls ≤ s.calls + last_call_bound n s.store tries walk end))
-  last_prints_none s s' text failure same counts = λ walk end w ends.
-      let along = counts.along same walk end w ends in (along.0 n text, omega (arith, along.1))
-
-  -- there is none
-  pub last_prints_no_entry : (s s' : Seen) (text : List ℕ)
-      → s'.stores_added ≡ s.stores_added → CountsEntries (start_of from) tries s s' (Ok 0)
-      → OnWalk Sel (start_of from) s.store (λ walk end.
-      IsAllowed (IsTextOver s.store) (last_plan n (start_of from) walk end) text text (Ok tt)
-      × (s'.calls ≤ s.calls + last_call_bound n s.store tries walk end))
-  last_prints_no_entry s s' text same counts = λ walk end w ends.
+  last_prints_none (Ok count) none same counts = λ walk end w ends.
       let along = counts.along same walk end w ends in
-      let empty = nil_from_length walk (sym along.0.0) in
-      (rw (along.0.1, empty, drop-nil) (none_printed (IsTextOver s.store) text, refl), omega (arith, along.1))
+      let empty = nil_from_length walk (sym along.0.0 ∙ none) in
+      (rw (along.0.1, empty, drop-nil) (none_printed (IsTextOver s.store) old text along.0.2, refl), omega (arith, along.1))
+  last_prints_none (Err failure) none same counts = λ walk end w ends.
+      let along = counts.along same walk end w ends in (along.0 n, omega (arith, along.1))
 
   -- those after the passed ones were listed
-  pub last_prints : (s s' s'' : Seen) (old new : List ℕ) (count : ℕ) (ending : Ending) → 0 < count
+  pub last_prints : (s'' : Seen) (new : List ℕ) (count : ℕ) (ending : Ending) → (count ≡ 0 → ⊥)
       → StaysHonest s s' → s'.stores_added ≡ s.stores_added → s''.stores_added ≡ s'.stores_added
-      → CountsEntries (start_of from) tries s s' (Ok count)
-      → ListsAfter (start_of from) (count - n) tries (change s' s'' old new) ending
+      → CountsEntries (start_of from) tries (change s s' old text) (Ok count)
+      → ListsAfter (start_of from) (count - n) tries (change s' s'' text new) ending
       → OnWalk Sel (start_of from) s.store (λ walk end.
       IsAllowed (IsTextOver s.store) (last_plan n (start_of from) walk end) old new ending
       × (s''.calls ≤ s.calls + last_call_bound n s.store tries walk end))
-  last_prints s s' s'' old new count ending more stays same same' counts lists = λ walk end w ends.
+  last_prints s'' new count ending more stays same same' counts lists = λ walk end w ends.
       let along = counts.along same walk end w ends in
       let later = (rw (stays.store.stays same) at (lists.along same' walk end)) w ends n along.0.1 (rw along.0.0 refl) in
       let twice = second_walk_bound-some (walk_call_bound Form.EntryLine s.store tries walk) (drop (length walk - n) walk) (omega (arith, length-drop (length walk - n) walk, along.0.0, some, more)) in
-      (later.0, rw along.0.1 (omega (arith, along.1, later.1, twice)))
-
-pub some_entries : (count : ℕ) → (count ≡ 0 → ⊥) → 0 < count
-some_entries zero none = absurd (none refl)
-some_entries (suc count) none = omega arith
+      (rw along.0.2 at later.0, rw along.0.1 (omega (arith, along.1, later.1, twice)))

@@ -1,14 +1,13 @@
 mod AskLemmas
 mod CallLemmas
+mod CountLemmas
 mod ItemLemmas
 mod LastLemmas
 mod ListingLemmas
 mod NameLemmas
 mod PageLemmas
 mod PagesLaw
-mod PassLemmas
 mod PerformLemmas
 mod RunLemmas
 mod SpotLemmas
-mod StepLemmas
 mod UniqueLemmas

@@ -1,14 +1,17 @@
 -- A listing, one step of its cursor after another, and the piece of each record.
-use Rattle.std.proofs.Common.{◌≡◌, inl, inr, ℕ, ◌+◌, ◌<◌, ◌≤◌, true, false, IsTrue, Option, None, Some, Result, Ok, Err, List, [], ◌∷◌, ◌++◌, length, take, drop, refl, sym, ap, subst, ◌∙◌, arith, take_all, length-drop, take-add, take-append-drop, Bool}
-use Rattle.std.proofs.lemmas.List.{take-take}
-use Rattle.ipmi_bus.specs.declared.code.Code.{Code}
-use Rattle.ipmi_commands.specs.Below.{step_call_bound, digits, Place, Ended, Row, Store, rows_of, EndsBy, WalkEnd, Done, CycleAt, MissingAt, place_after_rows, Seen, IsHonest, StaysHonest, stays_trans, CursorState, CursorHoldsCurrent, IsStep, asked_at, TakesPart, Ending, Failure}
-use Rattle.ipmi_commands.specs.Prelude.{AsksAt, AtEnd, AtRecord, CallsAlong, calls_at_spots, calls_for, Cause, cause_of, Change, change, CountsSo, end_of, end_spots, EndsFor, FindsNone, FindsText, first_end, first_rows, Form, GaveUp, HasFirstItems, IsAllowed, IsAmong, IsFine, is_reached, IsTextOver, IsRowText, Leaves, listing, listing_plan, Lists, ListsAlong, MayStopAt, NoMemory, NoOutput, OnEachWalk, Printed, Refused, row_items, rows_end, shelf_of, Spot, spots_after, spots_at}
-use Rattle.ipmi_commands.proofs.CallLemmas.{IsBelow, IsWithin, digits_some, first_end-all, none_left, one_wanted, place_after_rows-append}
+use Rattle.std.proofs.Common.{◌≡◌, ◌≢◌, ◌⊎◌, inl, inr, ℕ, ◌+◌, ◌<◌, ◌≤◌, true, false, IsTrue, Option, None, Some, IfOk, Result, Ok, Err, List, [], ◌∷◌, ◌++◌, ◌==◌, ◌||◌, not, length, take, drop, refl, sym, ap, ◌∙◌, arith, take_all, length-drop, length-take-le, take-add, take-append-drop, Bool}
+use Rattle.std.proofs.lemmas.List.{drop-drop, take-take}
+use Rattle.std.specs.FinSet as set
+use Rattle.std.specs.FinSet.{len-empty}
+use Rattle.std.specs.Ordering.{nat_cmp}
+use Rattle.ipmi_commands.specs.Below.{step_call_bound, digits, End, First, first_row, KeepsReservations, len_of, look, Shelf, current, Place, Ended, Row, Store, rows_of, MayFail, WalkEnd, WalkStep, Done, CycleAt, MissingAt, place_after, place_after_rows, Seen, IsHonest, AsksNothing, CursorState, CursorHoldsCurrent, StandsAt, FailsAt, IsStep, NotGivenUpOrRefused, StepAnswers, StepIsHonest, StepLeaves, asked_at, TakesPart, Ending, Failure, CommandState, digits_most, start_of}
+use Rattle.ipmi_commands.specs.Prelude.{AsksAt, AtEnd, AtRecord, CallsAlong, calls_for, Cause, cause_of, cause_of_unread, Change, change, CountsSo, end_of, end_spots, ending_of, EndsFor, failure_of, FindsIt, FindsNone, first_end, first_rows, Form, HasFirstItems, IsAllowed, IsAmong, IsFine, IsFresh, IsOnWalk, is_reached, most_on_walk, OnWalk, walk_call_bound, IsTextOver, IsRowText, listing, listing_plan, Lists, ListsAlong, ListsHonestly, Item, MayStopAt, most_after, most_for_one, OnEachWalk, Plan, Printed, row_items, rows_end, shelf_of, Spot, spots_after, StopsAt, Unread}
+use Rattle.ipmi_commands.proofs.AskLemmas.{asks_as}
+use Rattle.ipmi_commands.proofs.CallLemmas.{HasCalled, IsWithin, at_limit, called_ended, called_more, called_stopped, calls_ended, digits_some, first_end-all, first_end-none, first_row-first_rows, first_rows-all, next_calls, next_one, none_left, not_at_limit, place_after_rows-append, within_more}
+use Rattle.ipmi_commands.proofs.CountLemmas.{between, ends_here, ends_since}
 use Rattle.ipmi_commands.proofs.ItemLemmas.{cut_after, none_printed, one_printed, printed_joined, row_item, row_items-next, row_items-split, stops_after}
-use Rattle.ipmi_commands.proofs.NameLemmas.{end_of-wrote, Wrote}
+use Rattle.ipmi_commands.proofs.NameLemmas.{end_of-wrote, Wrote, wrote_more}
 use Rattle.ipmi_commands.proofs.SpotLemmas.{asked_first, end_spot, end_spots-joined}
-use Rattle.ipmi_commands.proofs.StepLemmas.{AtItsEnd, Failed, Reached, Taken, Went, at_cycle, at_missing, at_none, between, counts_since, current-kept, gave_up, reached_limit, taken, was_refused, went_none}
 
 -- ---- the rows that are listed, where the cursor was after k rows of a walk
 
@@ -32,243 +35,488 @@ place_here : (most : Option ℕ) (count : ℕ) (start : Place) (walk : List Row)
 place_here most count start walk k within =
     rw (take_used most count (drop k walk) within, take-add k count walk) (sym (place_after_rows-append start (take k walk) (take count (drop k walk))))
 
--- the texts of the first rows were printed
-abbrev pub PrintsRows : Form → Option ℕ → ℕ → CursorState → Seen → Seen → List ℕ → List ℕ → Type 0
-PrintsRows form most count begun s s' old new =
-    s'.stores_added ≡ s.stores_added → OnEachWalk (shelf_of form) begun s.store
-    (λ start walk end k. Printed (IsTextOver s.store)
-    (row_items form (from_here start walk k) (take count (used most walk k))) old new)
+-- ---- what holds so far
 
--- ---- endings
+-- along a walk: the cursor is after so many rows more, of which so many are printed, and so many calls are left
+pub record WentAlong (form : Form) (tries : ℕ) (most : Option ℕ) (passed printed calls_left : ℕ)
+    (begun now : CursorState) (c : Change) (start : Place) (walk : List Row) (k : ℕ) : Type 0 where
+  pub stands : StandsAt (rows_of (shelf_of form) c.seen.store) start walk (k + passed) now
+  pub calls : c.seen'.calls + digits now.part + calls_left
+      ≤ c.seen.calls + calls_for form c.seen.store tries (used most walk k) + digits begun.part
+  pub are_printed : Printed (IsTextOver c.seen.store)
+      (row_items form (from_here start walk k) (take printed (used most walk k))) c.old c.new
 
-module _ (form : Form) (tries : ℕ) (most : Option ℕ) (count : ℕ) (begun now : CursorState)
-    (s s' : Seen) (old new : List ℕ) (ending : Ending) where
-  abbrev c : Change
-  c = change s s' old new
+-- the rows that are wanted and not handed out
+abbrev left_rows : Option ℕ → ℕ → List Row → ℕ → List Row
+left_rows most count walk k = drop count (used most walk k)
 
-  -- all that is wanted was listed
-  finished : (e : WalkEnd) → cause_of ending ≡ AtEnd
-      → ((start : Place) (rows : List Row)
-      → Printed (IsTextOver s.store) (row_items form start rows) old new
-      → ending ≡ rows_end form rows e)
-      → PrintsRows form most count begun s s' old new
-      → AtItsEnd form tries most count e begun now s s'
-      → Lists form tries most begun now c ending
-  finished e cause ends_so prints at = record {
-    ends = rw cause (record { stays = at.stays; grows = at.unrefused.troubles; counts = at.unrefused.refusals; plain = λ p. tt });
-    along = λ same start walk end k w ends stands.
-        let there = at.along same start walk end k w ends stands in
-        let rows = used most walk k in
-        let printed = rw (take_all count rows (omega (arith, there.count_is))) at (prints same start walk end k w ends stands) in
-        record {
-          leaves = rw (cause, there.end_is) (printed, ends_so (from_here start walk k) rows printed);
-          calls = there.calls;
-          goes_on = λ done. rw there.count_is at there.stands;
-        };
-  }
+-- over an honest controller
+pub record Went (form : Form) (tries : ℕ) (most : Option ℕ) (count : ℕ) (begun now : CursorState)
+    (c : Change) : Type 0 where
+  pub ends : EndsFor tries (IsTrue c.seen.plain
+      × CursorHoldsCurrent begun c.seen) c.seen c.seen' AtEnd
+  pub holds : IsTrue c.seen.plain → CursorHoldsCurrent begun c.seen → CursorHoldsCurrent now c.seen'
+  pub along : c.seen'.stores_added ≡ c.seen.stores_added
+      → OnEachWalk (shelf_of form) begun c.seen.store
+      (λ start walk end k. WentAlong form tries most count count
+      (calls_for form c.seen.store tries (left_rows most count walk k)) begun now c start walk k)
 
-  -- or it stopped before that
-  stopped : EndsFor tries (IsTrue s.plain × CursorHoldsCurrent begun s) s s' (cause_of ending)
-      → (ending ≡ Ok tt → ⊥)
-      → (s'.stores_added ≡ s.stores_added → OnEachWalk (shelf_of form) begun s.store
-      (λ start walk end k. IsAllowed (IsTextOver s.store)
-      (listing_plan (listing form (from_here start walk k) most) (drop k walk) end) old new ending
-      × CallsAlong form tries (used most walk k) begun s s'))
-      → Lists form tries most begun now c ending
-  stopped ends not_done along = record {
-    ends = ends;
-    along = λ same start walk end k w ends stands.
-        let there = along same start walk end k w ends stands in
-        record { leaves = there.0; calls = there.1; goes_on = λ done. absurd (not_done done) };
-  }
+-- a listing that goes on
+pub record Listed (form : Form) (tries : ℕ) (most : Option ℕ) (count : ℕ) (wrote : Bool)
+    (begun now : CursorState) (c : Change) : Type 0 where
+  pub shelf : now.shelf ≡ shelf_of form
+  pub tries_are : now.tries ≡ tries
+  pub called : HasCalled (most_for_one form tries) count begun now c.seen c.seen'
+  pub within : IsWithin most count
+  pub has_written : Wrote wrote c.old c.new
+  pub went : IsHonest c.seen → Went form tries most count begun now c
 
-  -- the items of the rows that were printed, and of those that were not
-  abbrev first_items : (start : Place) (walk : List Row) (end : WalkEnd) (k : ℕ)
-      → Printed (IsTextOver s.store)
-      (row_items form (from_here start walk k) (take count (used most walk k))) old new
-      → HasFirstItems (IsTextOver s.store)
-      (listing_plan (listing form (from_here start walk k) most) (drop k walk) end) old new
-  first_items start walk end k printed = record {
-    done = row_items form (from_here start walk k) (take count (used most walk k));
-    rest = row_items form (place_after_rows (from_here start walk k) (take count (used most walk k))) (drop count (used most walk k));
-    items_are = row_items-split form (from_here start walk k) (used most walk k) count;
-    printed = printed;
-  }
+pub listed_none : (form : Form) (tries : ℕ) (most : Option ℕ) (begun : CursorState) (s : Seen)
+    (text : List ℕ)
+    → begun.shelf ≡ shelf_of form → begun.tries ≡ tries
+    → HasCalled (most_for_one form tries) 0 begun begun s s
+    → Listed form tries most 0 false begun begun (change s s text text)
+listed_none form tries most begun s text shelf tries_are called = record {
+  shelf = shelf;
+  tries_are = tries_are;
+  called = called;
+  within = within_none most;
+  has_written = refl;
+  went = λ honest. record {
+    ends = ends_here honest refl tt;
+    holds = λ p held. held;
+    along = λ same start walk end k on.
+        let here : k + 0 ≡ k = omega arith in
+        record { stands = rw here on.stands; calls = omega arith; are_printed = none_printed (IsTextOver s.store) text text refl };
+  };
+}
+  where
+    within_none : (limit : Option ℕ) → IsWithin limit 0
+    within_none limit = grind arith
 
-  -- nothing came for the id that is asked for
-  failed : (n : ℕ) (cause : Cause) → cause_of ending ≡ cause → (ending ≡ Ok tt → ⊥)
-      → ((spots : List Spot) → IsAmong spots (AtRecord n) → MayStopAt spots cause)
-      → IsWithin most count → is_reached most count ≡ false
-      → PrintsRows form most count begun s s' old new
-      → Failed form tries most count n cause begun s s'
-      → Lists form tries most begun now c ending
-  failed n cause is not_done may_stop within wanted prints fails = stopped (rw is fails.ends) not_done
-      (λ same start walk end k w ends stands.
-      let there = fails.along same start walk end k w ends stands in
-      let below = one_wanted most count within wanted in
-      let at = from_here start walk k in
-      let rest = drop k walk in
-      let place = place_here most count start walk k within in
-      let past : drop count (used most walk k) ≡ [] → IsAmong (end_spots at rest (first_end most rest end)) (AtRecord (asked_at (place_after_rows at (take count (used most walk k))))) = λ none.
-      let least = none_left most count rest below none in
-      let all : k + count ≡ length walk = omega (arith, least, there.within, length-drop k walk) in
-      let beyond : IsBelow most (length rest) = let size : length rest ≡ count = omega (arith, all, length-drop k walk) in rw size below in
-      let whole = take_all (k + count) walk (omega (arith, all)) in
-      let joined : end_spots at rest end ≡ end_spots start walk end = end_spots-joined start (take k walk) rest end ∙ ap (λ (l : List Row). end_spots start l end) (take-append-drop k walk) in
-      rw (first_end-all most rest end beyond, joined, place, whole) (end_spot (rows_of (shelf_of form) s.store) start walk end ends (rw whole at (there.at_end all))) in
-      let asked : AtRecord n ≡ AtRecord (asked_at (place_after_rows at (take count (used most walk k)))) = ap AtRecord (there.asked ∙ ap asked_at (sym place)) in (
-        rw is (stops_after (IsTextOver s.store) (listing_plan (listing form at most) rest end) old new ending cause (first_items start walk end k (prints same start walk end k w ends stands))
-            (may_stop _ (rw asked (asked_first form (place_after_rows at (take count (used most walk k))) (drop count (used most walk k)) (end_spots at rest (first_end most rest end)) past)))),
-        there.calls,
-      ))
+-- ---- a step
 
--- ---- one step
+-- what comes of its answer
+abbrev step_cause : Result (Option Row) Ended → Cause
+step_cause (Ok row) = AtEnd
+step_cause (Err ended) = cause_of (Err (Failure.Ended ended))
 
-module _ (form : Form) (tries : ℕ) (most : Option ℕ) (count : ℕ) (begun now : CursorState)
-    (s s' : Seen) (old new : List ℕ) (wrote : Bool) (shelf : now.shelf ≡ shelf_of form)
-    (same_tries : now.tries ≡ tries) (some : 0 < begun.part → 0 < now.part)
-    (within : IsWithin most count) (has_written : Wrote wrote old new)
-    (went : Went form tries most count begun now s s')
-    (prints : PrintsRows form most count begun s s' old new) where
-  end_cause : (w : Bool) → cause_of (end_of form w) ≡ AtEnd
-  end_cause w = grind arith
+step_counts : (old : CursorState) (s s' : Seen) (result : Result (Option Row) Ended)
+    → StepAnswers old s s' result → (s.troubles ≤ s'.troubles)
+    × CountsSo old.tries s s' (step_cause result)
+step_counts old s s' result answers = grind arith
 
-  -- as many were listed as are wanted
-  pub listing_full : is_reached most count ≡ true
-      → Lists form tries most begun now (change s s' old new) (end_of form wrote)
-  listing_full full = finished form tries most count begun now s s' old new (end_of form wrote) Done (end_cause wrote)
-      (λ start rows printed. end_of-wrote form wrote s.store start rows old new printed has_written) prints
-      (reached_limit form tries most count begun now s s' shelf same_tries some within went full)
+step_ends : (tries : ℕ) (old new : CursorState) (s s' : Seen) (result : Result (Option Row) Ended)
+    → old.tries ≡ tries → StepIsHonest old new s s' result
+    → EndsFor tries (IsTrue s.plain × CursorHoldsCurrent old s) s s' (step_cause result)
+step_ends tries old new s s' result tries_are step = let counts = step_counts old s s' result step.answers in record {
+  stays = step.stays;
+  grows = counts.0;
+  counts = rw tries_are at counts.1;
+  plain = λ p. fine result (step.plain p.0 p.1).fine;
+}
+  where
+    fine : (r : Result (Option Row) Ended) → NotGivenUpOrRefused r → IsFine (step_cause r)
+    fine r is = grind arith
 
-  module _ (next : CursorState) (s'' : Seen) (wanted : is_reached most count ≡ false) where
-    -- what was printed over a store that stays
-    still : StaysHonest s' s'' → PrintsRows form most count begun s s'' old new
-    still later = λ same. prints (between s s' s'' went.stays later same).0
+-- a step that handed out a record asked for it
+asks_something : (now next : CursorState) (row : Row) → StepLeaves now next (Ok (Some row))
+    → AsksNothing now → ⊥
+asks_something now next row leaves asks = grind arith
 
-    pub listing_done : IsStep now next s' s'' (Ok None)
-        → Lists form tries most begun next (change s s'' old new) (end_of form wrote)
-    listing_done step = finished form tries most count begun next s s'' old new (end_of form wrote) Done (end_cause wrote)
-        (λ start rows printed. end_of-wrote form wrote s.store start rows old new printed has_written)
-        (still (step.honest went.stays.honest).stays)
-        (at_none form tries most count begun now s s' shelf same_tries some within went next s'' wanted step)
+-- the place at which a step failed is on the walk
+on_walk : (rows : List Row) (start now there : Place)
+    → (now ≡ there) ⊎ ((now ≡ End) × (start ≡ First) × (first_row rows ≡ None)) → now ≢ End
+    → now ≡ there
+on_walk rows start now there at not_end = grind arith
 
-    -- the cursor gave no record, for this reason
-    pub listing_ended : (ended : Ended) → IsStep now next s' s'' (Err ended)
-        → Lists form tries most begun next (change s s'' old new) (Err (Failure.Ended ended))
-    listing_ended (Ended.Cycle n) step = finished form tries most count begun next s s'' old new (Err (Failure.Ended (Ended.Cycle n))) (CycleAt n) refl
-        (λ start rows printed. refl) (still (step.honest went.stays.honest).stays)
-        (at_cycle form tries most count begun now s s' shelf same_tries some within went next s'' wanted n step)
-    listing_ended (Ended.Missing n) step = finished form tries most count begun next s s'' old new (Err (Failure.Ended (Ended.Missing n))) (MissingAt n) refl
-        (λ start rows printed. refl) (still (step.honest went.stays.honest).stays)
-        (at_missing form tries most count begun now s s' shelf same_tries some within went next s'' wanted n step)
-    listing_ended (Ended.GaveUp n) step = failed form tries most count begun next s s'' old new (Err (Failure.Ended (Ended.GaveUp n))) n (GaveUp (AtRecord n)) refl (λ e. cc e)
-        (λ spots among. among) within wanted (still (step.honest went.stays.honest).stays)
-        (gave_up form tries most count begun now s s' shelf same_tries some within went next s'' wanted n step)
-    listing_ended (Ended.Refused n code) step = failed form tries most count begun next s s'' old new (Err (Failure.Ended (Ended.Refused n code))) n (Refused (AtRecord n) code.0) refl (λ e. cc e)
-        (λ spots among. among) within wanted (still (step.honest went.stays.honest).stays)
-        (was_refused form tries most count begun now s s' shelf same_tries some within went next s'' wanted n code step)
-    listing_ended _ step = absurd ((step.honest went.stays.honest).answers)
+current-kept : (shelf : Shelf) (s s' : Seen) → KeepsReservations s s'
+    → current shelf s' ≡ current shelf s
+current-kept shelf s s' keeps = grind arith
 
-    pub listing_taken : (row : Row) → IsStep now next s' s'' (Ok (Some row))
-        → Taken form tries most count row begun next s s'' × PrintsRows form most count begun s s'' old new
-    listing_taken row step = (
-      taken form tries most count begun now s s' shelf same_tries some within went next s'' wanted row step,
-      still (step.honest went.stays.honest).stays,
-    )
-
--- ---- its piece
-
--- a spot of what comes later
+-- what may stop at a spot of what comes later
 may_later : (first : Spot) (spots : List Spot) (cause : Cause) → MayStopAt spots cause
     → MayStopAt (first ∷ spots) cause
 may_later first spots cause may = grind arith
 
--- what may stop for want of a text does not end a listing
-not_done : (ending : Ending) (spots : List Spot) → MayStopAt spots (cause_of ending) → ending ≡ Ok tt → ⊥
-not_done ending spots may done = rw done at may
+-- ---- the end of a listing
 
-module _ (form : Form) (tries : ℕ) (most : Option ℕ) (count : ℕ) (begun next : CursorState)
-    (s s' s'' : Seen) (old new : List ℕ) (row : Row) (some : 0 < next.part)
-    (taken_ : Taken form tries most count row begun next s s')
-    (prints : PrintsRows form most count begun s s' old new) where
-  module _ (asks : AsksAt (spots_after form row) tries s' s'') where
-    stays_on : StaysHonest s s''
-    stays_on = stays_trans s s' s'' taken_.stays asks.stays
+abbrev plan_here : Form → Option ℕ → Place → List Row → WalkEnd → ℕ → Plan
+plan_here form most start walk end k = listing_plan (listing form (from_here start walk k) most) (drop k walk) end
 
-    since : s''.stores_added ≡ s.stores_added
-        → (s'.stores_added ≡ s.stores_added) × (s''.stores_added ≡ s'.stores_added)
-    since = between s s' s'' taken_.stays asks.stays
+abbrev LeavesHere : Store → Form → Option ℕ → Place → List Row → WalkEnd → ℕ → List ℕ → List ℕ
+    → Ending
+    → Type 0
+LeavesHere store form most start walk end k old new ending = IsAllowed (IsTextOver store) (plan_here form most start walk end k) old new ending
 
-    asked_calls : s''.stores_added ≡ s.stores_added
-        → s''.calls ≤ s'.calls + calls_at_spots tries s.store (spots_after form row)
-    asked_calls same = rw (taken_.stays.store.stays (since same).0) at (asks.calls (since same).1)
+-- so many of the rows were printed
+abbrev PrintsFirst : Store → Form → Option ℕ → ℕ → Place → List Row → ℕ → List ℕ → List ℕ → Type 0
+PrintsFirst store form most count start walk k old new = Printed (IsTextOver store) (row_items form (from_here start walk k) (take count (used most walk k))) old new
 
-    -- a listing that stops at it
-    stopped_there : (text : List ℕ) (ending : Ending) → (ending ≡ Ok tt → ⊥)
-        → CountsSo tries s' s'' (cause_of ending) → (IsTrue s'.plain → IsFine (cause_of ending))
-        → ((start : Place) (walk : List Row) (end : WalkEnd) (k : ℕ)
-        → s''.stores_added ≡ s.stores_added
-        → (first : HasFirstItems (IsTextOver s.store) (listing_plan (listing form (from_here start walk k) most) (drop k walk) end) old new)
-        → first.rest ≡ row_item form (place_after_rows (from_here start walk k) (take count (used most walk k))) row
-        ∷ row_items form (place_after_rows (from_here start walk k) (take (count + 1) (used most walk k))) (drop (count + 1) (used most walk k))
-        → IsAllowed (IsTextOver s.store) (listing_plan (listing form (from_here start walk k) most) (drop k walk) end) old text ending)
-        → Lists form tries most begun next (change s s'' old text) ending
-    stopped_there text ending not_done counts fine leaves = stopped form tries most count begun next s s'' old text ending
-        (record {
-          stays = stays_on;
-          grows = omega (arith, taken_.unrefused.troubles, asks.grows);
-          counts = counts_since tries s s' s'' (λ same. (since same).1) (cause_of ending) taken_.unrefused counts;
-          plain = λ p. fine (taken_.stays.plain p.0);
-        })
-        not_done
-        (λ same start walk end k w ends stands.
-        let there = taken_.along (since same).0 start walk end k w ends stands in
-        let first = first_items form tries most count begun next s s' old new ending start walk end k (prints (since same).0 start walk end k w ends stands) in (
-          leaves start walk end k same first (rw (there.row_is, there.place_is) refl),
-          λ part. omega (arith, there.went.calls, asked_calls same, digits_some next.part some),
-        ))
+-- their items, and those of the others
+abbrev first_items : (form : Form) (store : Store) (most : Option ℕ) (count : ℕ) (start : Place)
+    (walk : List Row) (end : WalkEnd) (k : ℕ) (old new : List ℕ)
+    → PrintsFirst store form most count start walk k old new
+    → HasFirstItems (IsTextOver store) (plan_here form most start walk end k) old new
+first_items form store most count start walk end k old new printed = record {
+  done = row_items form (from_here start walk k) (take count (used most walk k));
+  rest = row_items form (place_after_rows (from_here start walk k) (take count (used most walk k))) (left_rows most count walk k);
+  items_are = row_items-split form (from_here start walk k) (used most walk k) count;
+  printed = printed;
+}
 
-  -- the piece was not found
-  pub listing_none : (ending : Ending) → FindsNone (spots_after form row) tries s' s'' (cause_of ending)
-      → Lists form tries most begun next (change s s'' old new) ending
-  listing_none ending none = stopped_there none.asks new ending (not_done ending (spots_after form row) none.there) none.counts none.plain
-      (λ start walk end k same first is. stops_after (IsTextOver s.store) (listing_plan (listing form (from_here start walk k) most) (drop k walk) end) old new ending (cause_of ending) first
-      (rw is (may_later (AtRecord _) (spots_after form row) (cause_of ending) none.there)))
+end_cause : (form : Form) (wrote : Bool) (count : ℕ) → cause_of
+    (ending_of (end_of form wrote count)) ≡ AtEnd
+end_cause form wrote count = grind arith
 
-  module _ (piece_text : List ℕ)
-      (finds : FindsText (λ store text. IsRowText store form row text) (spots_after form row) tries s' s'' piece_text) where
-    -- it is a text of the row over the store of the beginning
-    is_text : s''.stores_added ≡ s.stores_added → IsRowText s.store form row piece_text
-    is_text same = rw (taken_.stays.store.stays (since finds.asks same).0) at (finds.is (since finds.asks same).1)
+pub ok_end : {T : Type 0} (P : T → Type 0) (form : Form) (wrote : Bool) (value : T) → P value
+    → IfOk (end_of form wrote value) P
+ok_end P form wrote value holds = grind arith
 
-    -- the piece was written in part
-    pub listing_cut : (text : List ℕ) → 0 < length piece_text → TakesPart new text piece_text
-        → Lists form tries most begun next (change s s'' old text) (Err Failure.WriteFault)
-    listing_cut text some_ part = stopped_there finds.asks text (Err Failure.WriteFault) (λ done. cc done) finds.refusals (λ p. tt)
-        (λ start walk end k same first is. cut_after (IsTextOver s.store) (listing_plan (listing form (from_here start walk k) most) (drop k walk) end) old new text (Err Failure.WriteFault) first _ _ piece_text is (is_text same) some_ part)
+module _ {form : Form} {tries : ℕ} {most : Option ℕ} {count : ℕ} {wrote : Bool}
+    {begun now : CursorState} {s s' : Seen} {old new : List ℕ}
+    (kept : Listed form tries most count wrote begun now (change s s' old new)) where
+  -- all that is wanted was listed
+  all_listed : (store : Store) (start : Place) (walk : List Row) (end : WalkEnd) (k : ℕ)
+      (e : WalkEnd)
+      (result : Result ℕ Failure) → count ≡ length (used most walk k)
+      → first_end most (drop k walk) end ≡ e
+      → cause_of (ending_of result) ≡ AtEnd
+      → ((rows : List Row)
+      → Printed (IsTextOver store) (row_items form (from_here start walk k) rows) old new
+      → ending_of result ≡ rows_end form rows e)
+      → PrintsFirst store form most count start walk k old new
+      → LeavesHere store form most start walk end k old new (ending_of result)
+  all_listed store start walk end k e result count_is end_is cause ends_so printed =
+      let all = rw (take_all count (used most walk k) (omega (arith, count_is))) at printed in rw (cause, end_is) (all, ends_so (used most walk k) all)
 
-    -- the piece was written
-    pub listing_more : (text : List ℕ) → text ≡ new ++ piece_text
-        → Went form tries most (count + 1) begun next s s'' × PrintsRows form most (count + 1) begun s s'' old text
-    listing_more text wrote = (
+  ends_by_name : (store : Store) (start : Place) (rows : List Row)
+      → Printed (IsTextOver store) (row_items form start rows) old new
+      → ending_of (end_of form wrote count) ≡ rows_end form rows Done
+  ends_by_name store start rows printed = end_of-wrote form wrote count store start rows old new printed kept.has_written
+
+  -- as many were listed as are wanted
+  pub listing_full : is_reached most count ≡ true
+      → Lists form tries most begun now (change s s' old new) (end_of form wrote count)
+  listing_full full =
+      let limit = at_limit most count full in
       record {
-        stays = stays_on finds.asks;
-        unrefused = record { refusals = finds.refusals ∙ taken_.unrefused.refusals; troubles = omega (arith, taken_.unrefused.troubles, finds.asks.grows) };
-        along = λ same start walk end k w ends stands.
-            let there = (taken_.along (since finds.asks same).0 start walk end k w ends stands).went in
-            record { stands = there.stands; calls = omega (arith, there.calls, asked_calls finds.asks same) };
-        plain = λ p holds.
-            let held = taken_.plain p holds in
-            record {
-              held = λ n is. current-kept next.shelf s' s''
-                  (finds.asks.plain (taken_.stays.plain p)) ∙ held.held n is;
-            };
-      },
-      λ same start walk end k w ends stands.
-          let there = taken_.along (since finds.asks same).0 start walk end k w ends stands in
+        keeps = kept.called.keeps;
+        calls = called_stopped _ count most begun now s s' (end_of form wrote count) kept.called;
+        honest = λ h. let went = kept.went h in record {
+          ends = rw (end_cause form wrote count) went.ends;
+          holds = ok_end _ form wrote count went.holds;
+          along = λ same start walk end k on.
+              let there = went.along same start walk end k on in
+              let fits : count ≤ length (drop k walk) = omega (arith, there.stands.within, length-drop k walk) in
+              let count_is : count ≡ length (used most walk k) = rw limit (sym (length-take-le count (drop k walk) fits)) in
+              let end_is : first_end most (drop k walk) end ≡ Done = rw limit (first_end-none count (drop k walk) end fits) in
+              record {
+                leaves = all_listed s.store start walk end k Done (end_of form wrote count) count_is end_is (end_cause form wrote count) (ends_by_name s.store (from_here start walk k)) there.are_printed;
+                calls = λ part. omega (arith, there.calls, digits_some now.part (kept.called.keeps.part part));
+                all = ok_end _ form wrote count (record { count_is = count_is; stands = there.stands; calls = λ limited. omega (arith, there.calls) });
+              };
+        };
+      }
+
+  module _ {next : CursorState} {s'' : Seen} {result : Result (Option Row) Ended}
+      (wanted : is_reached most count ≡ false) (step : IsStep now next s' s'' result) where
+    below : IsWithin most (count + 1)
+    below = within_more most count kept.within wanted
+
+    honest_step : IsHonest s → StepIsHonest now next s' s'' result
+    honest_step h = step.honest (kept.went h).ends.stays.honest
+
+    all_ends : IsHonest s → EndsFor tries (IsTrue s.plain × CursorHoldsCurrent begun s) s s''
+        (step_cause result)
+    all_ends h =
+        let went = kept.went h in
+        ends_since went.ends (λ p. (went.ends.stays.plain p.0, went.holds p.0 p.1)) (step_ends tries now next s' s'' result kept.tries_are (honest_step h))
+
+    holds_on : IsHonest s → IsTrue s.plain → CursorHoldsCurrent begun s
+        → CursorHoldsCurrent next s''
+    holds_on h p held = let went = kept.went h in ((honest_step h).plain (went.ends.stays.plain p) (went.holds p held)).holds
+
+    module _ (h : IsHonest s) (same : s''.stores_added ≡ s.stores_added) {start : Place}
+        {walk : List Row}
+        {end : WalkEnd} {k : ℕ} (on : IsOnWalk (rows_of (shelf_of form) s.store) start walk end k begun) where
+      parts : (s'.stores_added ≡ s.stores_added) × (s''.stores_added ≡ s'.stores_added)
+      parts = between s s' s'' (kept.went h).ends.stays (honest_step h).stays same
+
+      there : WentAlong form tries most count count
+          (calls_for form s.store tries (left_rows most count walk k)) begun now (change s s' old new) start walk k
+      there = (kept.went h).along parts.0 start walk end k on
+
+      same_rows : rows_of now.shelf s'.store ≡ rows_of (shelf_of form) s.store
+      same_rows = rw kept.shelf (ap (rows_of (shelf_of form)) ((kept.went h).ends.stays.store.stays parts.0))
+
+      -- the step along the walk
+      stepped : WalkStep (rows_of (shelf_of form) s.store) start walk end
+          (k + count) now next result
+      stepped = (rw same_rows at ((step.walks (kept.went h).ends.stays.honest).follows parts.1 start walk end (k + count))) on.walks on.ends there.stands
+
+      -- it asks for the next row, or for none, or asks nothing
+      asks_next : AsksNothing now
+          ⊎ (len_of (look (rows_of (shelf_of form) s.store) (asked_at now.place))
+          ≡ len_of (first_row (drop (k + count) walk)))
+      asks_next = (rw same_rows at (step.asks (kept.went h).ends.stays.honest start walk end (k + count))) on.walks on.ends there.stands
+
+      -- for as many calls as the next row, or none, may take
+      for_next : len_of (look (rows_of (shelf_of form) s.store) (asked_at now.place))
+          ≡ len_of (first_row (drop (k + count) walk))
+          → s''.calls + digits next.part ≤ s'.calls
+          + step_call_bound tries (len_of (first_row (drop (k + count) walk))) + digits now.part
+      for_next is = rw (same_rows, kept.tries_are, is) at ((honest_step h).calls parts.1)
+
+      next_row : first_row (left_rows most count walk k) ≡ first_row (drop (k + count) walk)
+      next_row = first_row-first_rows most count (drop k walk) below ∙ ap first_row (drop-drop count k walk)
+
+      -- and so all of the listing
+      in_all : CallsAlong form tries (used most walk k) begun s s''
+      in_all part =
+          let calls = there.calls in
+          let bound = rw next_row at (next_calls form s.store tries (left_rows most count walk k)) in
+          elim asks_next [
+            | inl nothing ↦ omega (arith, bound, calls, ap (λ (x : Seen). x.calls) (step.no_call nothing), digits_some now.part (kept.called.keeps.part part))
+            | inr is ↦ omega (arith, bound, calls, for_next is, digits_some next.part step.same.part_not_zero)
+          ]
+
+      -- at the end of the walk
+      count_all : k + count ≡ length walk → count ≡ length (used most walk k)
+      count_all all = let rest : length (drop k walk) ≡ count = omega (arith, length-drop k walk, all) in rw (first_rows-all most (drop k walk) (rw rest below)) (sym rest)
+
+      at_its_end : (e : WalkEnd) (listed : Result ℕ Failure) → k + count ≡ length walk → end ≡ e
+          → cause_of (ending_of listed) ≡ AtEnd
+          → ((rows : List Row)
+          → Printed (IsTextOver s.store) (row_items form (from_here start walk k) rows) old new
+          → ending_of listed ≡ rows_end form rows e)
+          → LeavesHere s.store form most start walk end k old new (ending_of listed)
+      at_its_end e listed all is cause ends_so =
+          let rest : length (drop k walk) ≡ count = omega (arith, length-drop k walk, all) in
+          all_listed s.store start walk end k e listed (count_all all) (first_end-all most (drop k walk) end (rw rest below) ∙ is) cause ends_so there.are_printed
+
+      -- where nothing came
+      where_asked : (n : ℕ) → FailsAt n now next → (k + count ≡ length walk → MayFail end now.place)
+          → StopsAt (AtRecord n) (IsTextOver s.store) (plan_here form most start walk end k) old new
+      where_asked n fails may =
+          let rows = rows_of (shelf_of form) s.store in
           let at = from_here start walk k in
-          rw (row_items-next form at (used most walk k) count row _ there.row_is)
-          (printed_joined (IsTextOver s.store) (row_items form at (take count (used most walk k))) _ old new text
-          (prints (since finds.asks same).0 start walk end k w ends stands)
-          (one_printed (IsTextOver s.store) (row_item form (place_after_rows at (take count (used most walk k))) row) piece_text new text (is_text same) wrote)),
-    )
+          let rest = drop k walk in
+          let now_is = on_walk rows start now.place (place_after_rows start (take (k + count) walk)) there.stands.place fails.not_at_end in
+          let place = place_here most count start walk k kept.within in
+          let past : left_rows most count walk k ≡ [] → IsAmong (end_spots at rest (first_end most rest end)) (AtRecord (asked_at (place_after_rows at (take count (used most walk k))))) = λ none.
+          let least = none_left most count rest below none in
+          let all : k + count ≡ length walk = omega (arith, least, there.stands.within, length-drop k walk) in
+          let beyond : IsWithin most (length rest + 1) = let size : length rest ≡ count = omega (arith, all, length-drop k walk) in rw size below in
+          let whole = take_all (k + count) walk (omega (arith, all)) in
+          let joined : end_spots at rest end ≡ end_spots start walk end = end_spots-joined start (take k walk) rest end ∙ ap (λ (l : List Row). end_spots start l end) (take-append-drop k walk) in
+          rw (first_end-all most rest end beyond, joined, place, whole) (end_spot rows start walk end on.ends (rw (now_is, whole) at (may all))) in
+          let asked : AtRecord n ≡ AtRecord (asked_at (place_after_rows at (take count (used most walk k)))) = ap AtRecord (fails.asked ∙ ap asked_at (now_is ∙ sym place)) in
+          record {
+            first = first_items form s.store most count start walk end k old new there.are_printed;
+            there = rw asked (asked_first form (place_after_rows at (take count (used most walk k))) (left_rows most count walk k) (end_spots at rest (first_end most rest end)) past);
+          }
+
+  module _ {next : CursorState} {s'' : Seen} (wanted : is_reached most count ≡ false) where
+    -- the cursor gave no record, for this reason
+    pub listing_ended : (ended : Ended) → IsStep now next s' s'' (Err ended)
+        → Lists form tries most begun next (change s s'' old new) (Err (Failure.Ended ended))
+    listing_ended ended step = record {
+      keeps = called_ended (most_after form tries) refl kept.shelf kept.tries_are kept.called step tt;
+      calls = calls_ended (most_after form tries) refl kept.shelf kept.tries_are kept.called step most _ tt tt;
+      honest = λ h. record {
+        ends = all_ends wanted step h;
+        holds = tt;
+        along = λ same start walk end k on. record { leaves = leaves h same on ended step; calls = in_all wanted step h same on; all = tt };
+      };
+    }
+      where
+        leaves : (h : IsHonest s) → s''.stores_added ≡ s.stores_added
+            → {start : Place} {walk : List Row} {end : WalkEnd} {k : ℕ}
+            → IsOnWalk (rows_of (shelf_of form) s.store) start walk end k begun → (e : Ended)
+            → IsStep now next s' s'' (Err e)
+            → LeavesHere s.store form most start walk end k old new (Err (Failure.Ended e))
+        leaves h same on (Ended.Cycle n) step = let at = stepped wanted step h same on in at_its_end wanted step h same on (CycleAt n) (Err (Failure.Ended (Ended.Cycle n))) at.0 at.1 refl (λ rows printed. refl)
+        leaves h same on (Ended.Missing n) step = let at = stepped wanted step h same on in at_its_end wanted step h same on (MissingAt n) (Err (Failure.Ended (Ended.Missing n))) at.0 at.1 refl (λ rows printed. refl)
+        leaves h same on (Ended.GaveUp n) step = where_asked wanted step h same on n step.leaves.1 (stepped wanted step h same on).1
+        leaves h same on (Ended.Refused n code) step = where_asked wanted step h same on n step.leaves.1 (stepped wanted step h same on).1
+        leaves h same on _ step = absurd ((honest_step wanted step h).answers)
+
+    pub listing_done : IsStep now next s' s'' (Ok None)
+        → Lists form tries most begun next (change s s'' old new) (end_of form wrote count)
+    listing_done step = record {
+      keeps = called_ended (most_after form tries) refl kept.shelf kept.tries_are kept.called step tt;
+      calls = calls_ended (most_after form tries) refl kept.shelf kept.tries_are kept.called step most _ tt (ok_end _ form wrote count (λ limit. absurd (not_at_limit most count wanted limit)));
+      honest = λ h. record {
+        ends = rw (end_cause form wrote count) (all_ends wanted step h);
+        holds = ok_end _ form wrote count (holds_on wanted step h);
+        along = λ same start walk end k on.
+            let at = stepped wanted step h same on in
+            record {
+              leaves = at_its_end wanted step h same on Done (end_of form wrote count) at.0 at.1 (end_cause form wrote count) (ends_by_name s.store (from_here start walk k));
+              calls = in_all wanted step h same on;
+              all = ok_end _ form wrote count (record { count_is = count_all wanted step h same on at.0; stands = at.2; calls = λ limit. absurd (not_at_limit most count wanted limit) });
+            };
+      };
+    }
+
+    -- ---- a record was handed out, and its piece was asked for
+
+    module _ {row : Row} {last : Seen} (step : IsStep now next s' s'' (Ok (Some row)))
+        (asked : last.calls ≤ s''.calls + most_after form tries) where
+      more_called : HasCalled (most_for_one form tries) (count + 1) begun next s last
+      more_called = called_more (most_after form tries) refl kept.shelf kept.tries_are kept.called step last refl asked
+
+      module _ {cause : Cause} (asks : IsHonest s''
+          → AsksAt (spots_after form row) tries s'' last cause) (h : IsHonest s) where
+        piece_asked : AsksAt (spots_after form row) tries s'' last cause
+        piece_asked = asks (honest_step wanted step h).stays.honest
+
+        piece_ends : EndsFor tries (IsTrue s.plain × CursorHoldsCurrent begun s) s last cause
+        piece_ends = ends_since (all_ends wanted step h) (λ p. (all_ends wanted step h).stays.plain p.0) piece_asked.ends
+
+        apart : last.stores_added ≡ s.stores_added → (s''.stores_added ≡ s.stores_added)
+            × (last.stores_added ≡ s''.stores_added)
+        apart same = between s s'' last (all_ends wanted step h).stays piece_asked.ends.stays same
+
+        store_is : last.stores_added ≡ s.stores_added → s''.store ≡ s.store
+        store_is same = (all_ends wanted step h).stays.store.stays (apart same).0
+
+        module _ (same : last.stores_added ≡ s.stores_added) {start : Place} {walk : List Row}
+            {end : WalkEnd}
+            {k : ℕ} (on : IsOnWalk (rows_of (shelf_of form) s.store) start walk end k begun) where
+          row_is : left_rows most count walk k ≡ row ∷ left_rows most (count + 1) walk k
+          row_is = next_one (used most walk k) count row (next_row wanted step h (apart same).0 on ∙ (stepped wanted step h (apart same).0 on).0)
+
+          calls_on : last.calls + digits next.part + calls_for form s.store tries
+              (left_rows most (count + 1) walk k)
+              ≤ s.calls + calls_for form s.store tries (used most walk k) + digits begun.part
+          calls_on =
+              let first = (apart same).0 in
+              let piece = rw (store_is same) at (piece_asked.calls (apart same).1) in
+              elim (asks_next wanted step h first on) [
+                | inl nothing ↦ absurd (asks_something now next row step.leaves nothing)
+                | inr is ↦ omega (arith, piece, rw row_is at (there wanted step h first on).calls, rw (stepped wanted step h first on).0 at (for_next wanted step h first on is))
+              ]
+
+          -- what was printed before it
+          abbrev before : HasFirstItems (IsTextOver s.store)
+              (plan_here form most start walk end k) old new
+          before = first_items form s.store most count start walk end k old new (there wanted step h (apart same).0 on).are_printed
+
+          at_item : before.rest ≡ row_item form
+              (place_after_rows (from_here start walk k) (take count (used most walk k))) row
+              ∷ row_items form (place_after row.next) (left_rows most (count + 1) walk k)
+          at_item = rw row_is refl
+
+      -- a listing that stops at it
+      stopped : (failure : Failure) (text : List ℕ) → (IsHonest s''
+          → AsksAt (spots_after form row) tries s'' last (cause_of (Err failure)))
+          → (IsHonest s → last.stores_added ≡ s.stores_added → (p : Plan)
+          (first : HasFirstItems (IsTextOver s.store) p old new) (place : Place) (later : List Item)
+          → first.rest ≡ row_item form place row ∷ later
+          → IsAllowed (IsTextOver s.store) p old text (Err failure))
+          → Lists form tries most begun next (change s last old text) (Err failure)
+      stopped failure text asks leaves = record {
+        keeps = more_called.keeps;
+        calls = called_stopped _ (count + 1) most begun next s last (Err failure) more_called;
+        honest = λ h. record {
+          ends = piece_ends asks h;
+          holds = tt;
+          along = λ same start walk end k on. record {
+            leaves = leaves h same (plan_here form most start walk end k) (before asks h same on) (place_after_rows (from_here start walk k) (take count (used most walk k)))
+                (row_items form (place_after row.next) (left_rows most (count + 1) walk k)) (at_item asks h same on);
+            calls = λ part. omega (arith, calls_on asks h same on, digits_some next.part step.same.part_not_zero);
+            all = tt;
+          };
+        };
+      }
+
+      -- the piece was not found
+      pub listing_none : (unread : Unread) → (IsHonest s''
+          → FindsNone (spots_after form row) tries s'' last (cause_of_unread unread))
+          → Lists form tries most begun next (change s last old new) (Err (failure_of unread))
+      listing_none unread none = stopped (failure_of unread) new (λ h. (none h).asks) (λ h same p first place later at.
+          stops_after (IsTextOver s.store) p old new (Err (failure_of unread)) (cause_of_unread unread) first
+          (rw at (may_later (AtRecord (asked_at place)) (spots_after form row) (cause_of_unread unread) (none (honest_step wanted step h).stays.honest).there)))
+
+      module _ (piece_text : List ℕ) (finds : IsHonest s''
+          → FindsIt (λ store. IsRowText store form row piece_text)
+          (spots_after form row) tries s'' last) where
+        is_text : IsHonest s → last.stores_added ≡ s.stores_added
+            → IsRowText s.store form row piece_text
+        is_text h same = let found = finds (honest_step wanted step h).stays.honest in rw (store_is (λ h. (finds h).asks) h same) at (found.is (apart (λ h. (finds h).asks) h same).1)
+
+        -- the piece was written in part
+        pub listing_cut : (text : List ℕ) → 0 < length piece_text → TakesPart new text piece_text
+            → Lists form tries most begun next (change s last old text) (Err Failure.WriteFault)
+        listing_cut text some part = stopped Failure.WriteFault text (λ h. asks_as (finds h).asks (finds h).asks.ends.counts tt) (λ h same p first place later at.
+            cut_after (IsTextOver s.store) p old new text (Err Failure.WriteFault) first (row_item form place row) later piece_text at (is_text h same) some part)
+
+        -- the piece was written
+        pub listing_more : (text : List ℕ) → text ≡ new ++ piece_text
+            → Listed form tries most (count + 1) (wrote || not (length piece_text == 0)) begun next
+            (change s last old text)
+        listing_more text is = record {
+          shelf = step.same.shelf ∙ kept.shelf;
+          tries_are = step.same.tries ∙ kept.tries_are;
+          called = more_called;
+          within = below wanted step;
+          has_written = wrote_more wrote old new text piece_text kept.has_written is;
+          went = λ h.
+              let asks = λ (h' : IsHonest s''). (finds h').asks in
+              record {
+                ends = piece_ends asks h;
+                holds = λ p held. record { held = λ n is. current-kept next.shelf s'' last ((piece_asked asks h).keeps ((all_ends wanted step h).stays.plain p)) ∙ (holds_on wanted step h p held).held n is };
+                along = λ same start walk end k on.
+                    let first = (apart asks h same).0 in
+                    let on_more : k + count + 1 ≡ k + (count + 1) = omega arith in
+                    let at = from_here start walk k in
+                    record {
+                      stands = rw on_more at (stepped wanted step h first on).1;
+                      calls = calls_on asks h same on;
+                      are_printed = rw (row_items-next form at (used most walk k) count row _ (row_is asks h same on))
+                          (printed_joined (IsTextOver s.store) (row_items form at (take count (used most walk k))) _ old new text
+                          (there wanted step h first on).are_printed
+                          (one_printed (IsTextOver s.store) (row_item form (place_after_rows at (take count (used most walk k))) row) piece_text new text (is_text h same) is));
+                    };
+              };
+        }
+
+-- ---- a cursor of its own
+
+module _ {command : CommandState} {form : Form} {from : Option ℕ} {begun : CursorState}
+    (fresh : IsFresh command form from begun) where
+  -- it holds no reservation, and has handed out none
+  pub holds_none : (s : Seen) → CursorHoldsCurrent begun s
+  holds_none s = record { held = λ n held. let h = sym (ap (λ (x : CursorState). x.reservation) fresh.is) ∙ held in cc h }
+
+  pub no_ids : set.len begun.ids ≡ 0
+  no_ids = rw fresh.is (len-empty nat_cmp)
+
+  pub fresh_room : set.len begun.ids ≤ 65536
+  fresh_room = rw no_ids (omega arith)
+
+module _ {command : CommandState} {form : Form} {from : Option ℕ} {begun now : CursorState}
+    {tries : ℕ} {most : Option ℕ}
+    {c : Change} {result : Result ℕ Failure} (fresh : IsFresh command form from begun) where
+  pub fresh_ends : ListsHonestly form tries most begun now c result
+      → EndsFor tries (IsTrue c.seen.plain) c.seen c.seen' (cause_of (ending_of result))
+  fresh_ends lists = record { stays = lists.ends.stays; grows = lists.ends.grows; counts = lists.ends.counts; plain = λ p. lists.ends.plain (p, holds_none fresh c.seen) }
+
+  pub fresh_along : ListsHonestly form tries most begun now c result
+      → c.seen'.stores_added ≡ c.seen.stores_added
+      → OnWalk (shelf_of form) (start_of from) c.seen.store (λ walk end.
+      ListsAlong form tries most begun now c result (start_of from) walk end 0
+      × (c.seen'.calls ≤ c.seen.calls
+      + walk_call_bound form c.seen.store tries (first_rows most walk)))
+  fresh_along lists same walk end w ends =
+      let along = lists.along same (start_of from) walk end 0 (record { walks = w; ends = ends; stands = fresh.stands _ walk }) in
+      (along, omega (arith, along.calls fresh.some, digits_most begun.part))
+
+  -- over any controller
+  pub fresh_calls : Lists form tries most begun now c result
+      → c.seen'.calls ≤ c.seen.calls + most_on_walk form tries
+  fresh_calls lists =
+      let all = rw (no_ids fresh) at (lists.calls.all fresh.some) in
+      omega (arith, all, digits_most begun.part)

@@ -1,7 +1,7 @@
 -- Whether a record of a name was found, by whether anything was written.
 use Rattle.std.proofs.Common.{◌≡◌, ℕ, suc, ◌<◌, ◌==◌, ◌||◌, not, Bool, true, false, if◌then◌else◌, Result, Ok, Err, List, [], ◌∷◌, ◌++◌, length, refl, ap, ◌∙◌, append-nil, arith, length-append}
-use Rattle.ipmi_commands.specs.Below.{Ending, Failure, Place, Row, Store, Done, place_after, SdrFault, SdrView, sdr_view_of, IsSdrBlock}
-use Rattle.ipmi_commands.specs.Prelude.{AreTexts, end_of, Form, IfChosen, IsBlockOfName, IsTextOver, Printed, reading_for, row_items, rows_end, some_has_name, view_has_name}
+use Rattle.ipmi_commands.specs.Below.{Failure, Place, Row, Store, Done, place_after, SdrFault, SdrView, sdr_view_of, IsSdrBlock}
+use Rattle.ipmi_commands.specs.Prelude.{AreTexts, end_of, ending_of, Form, IfChosen, IsBlockOfName, IsTextOver, Printed, reading_for, row_items, rows_end, some_has_name, view_has_name}
 
 -- ---- whether anything was written
 
@@ -49,18 +49,15 @@ module _ (name : List ℕ) (store : Store) where
       (block_wrote row.id (sdr_view_of row.bytes) are.first are.is_first)
       (name_wrote (place_after row.next) rows are.rest are.is_rest))
 
--- what a listing of a name ends by, by whether it is there
-abbrev named_end : List ℕ → Bool → Ending
-named_end name found = if found then Ok tt else Err (Failure.NoName name)
-
-end_of-block : (name : List ℕ) (wrote : Bool) → end_of (Form.Block name) wrote ≡ named_end name wrote
-end_of-block name true = refl
-end_of-block name false = refl
-
 -- what was written tells how the listing of the rows ends
-pub end_of-wrote : (form : Form) (wrote : Bool) (store : Store) (start : Place) (rows : List Row)
-    (old new : List ℕ) → Printed (IsTextOver store) (row_items form start rows) old new
-    → Wrote wrote old new → end_of form wrote ≡ rows_end form rows Done
-end_of-wrote (Form.Block name) wrote store start rows old new printed has =
-    end_of-block name wrote ∙ ap (named_end name) (same_wrote wrote (some_has_name name rows) old printed.text new has (name_wrote name store start rows printed.text printed.are) printed.new_is)
-end_of-wrote _ wrote store start rows old new printed has = refl
+pub end_of-wrote : (form : Form) (wrote : Bool) (count : ℕ) (store : Store) (start : Place)
+    (rows : List Row) (old new : List ℕ)
+    → Printed (IsTextOver store) (row_items form start rows) old new → Wrote wrote old new
+    → ending_of (end_of form wrote count) ≡ rows_end form rows Done
+end_of-wrote (Form.Block name) wrote count store start rows old new printed has =
+    rw (← same_wrote wrote (some_has_name name rows) old printed.text new has (name_wrote name store start rows printed.text printed.are) printed.new_is) (by_name wrote)
+  where
+    by_name : (b : Bool) → ending_of (end_of (Form.Block name) b count)
+        ≡ (if b then Ok tt else Err (Failure.NoName name))
+    by_name b = grind arith
+end_of-wrote _ wrote count store start rows old new printed has = refl

@@ -1,90 +1,72 @@
 -- Pages of a listing.
-use Rattle.std.proofs.Common.{◌≡◌, inl, inr, ℕ, zero, suc, ◌+◌, ◌*◌, ◌<◌, ◌≤◌, ◌==◌, nat_le, Bool, true, false, Option, None, Some, IfOk, Result, Ok, Err, List, [], ◌∷◌, length, take, drop, get_or, refl, sym, ap, subst, ◌∙◌, arith, take_all, length-take}
-use Rattle.std.specs.FinSet as set
-use Rattle.std.specs.Ordering.{nat_cmp}
+use Rattle.std.proofs.Common.{◌≡◌, inl, inr, ℕ, zero, suc, ◌+◌, ◌*◌, ◌<◌, ◌≤◌, ◌==◌, false, Option, None, Some, IfOk, Result, Ok, Err, List, [], ◌∷◌, length, take, drop, get_or, refl, sym, ap, subst, ◌∙◌, arith, take_all, length-take}
+use Rattle.std.proofs.lemmas.Bool.Decides.{nat_tests}
 use Rattle.std.proofs.Math.Seq.{take-nil}
 use Rattle.std.proofs.lemmas.List.{take_min, at_drop_more}
-use Rattle.ipmi_commands.specs.Below.{digits_most, Place, First, Id, End, Ended, Row, first_row, rows_of, row_at, IsWalk, WalkEnd, Done, CycleAt, MissingAt, EndsBy, place_after_rows, Seen, IsHonest, stays_refl, CursorState, StandsAt, Ending, Failure}
-use Rattle.ipmi_commands.specs.Prelude.{ArePages, AtEnd, calls_for, cause_of, Change, change, CountsSo, end_of, ending_of, first_end, first_rows, Form, GoesOn, IsAllowed, IsFine, IsPage, IsTextOver, listing, listing_plan, ListingCalls, Lists, most_for_one, most_on_walk, OnWalk, pages_made, rows_end, shelf_of, then_at}
+use Rattle.ipmi_commands.specs.Below.{Place, Id, End, Ended, Row, rows_of, row_at, IsWalk, WalkEnd, Done, CycleAt, EndsBy, place_after_rows, Seen, IsHonest, CommandState, CursorState, start_of, Ending, Failure}
+use Rattle.ipmi_commands.specs.Prelude.{ArePages, AtEnd, cause_of, Change, change, end_of, ending_of, first_end, first_rows, Form, GoesOn, IsFresh, IsPage, IsTextOver, listing, listing_plan, ListsHonestly, OnWalk, pages_made, rows_end, shelf_of}
 use Rattle.ipmi_commands.proofs.CallLemmas.{first_end-none}
+use Rattle.ipmi_commands.proofs.CountLemmas.{ends_here}
 use Rattle.ipmi_commands.proofs.ItemLemmas.{no_items, none_printed}
-
--- ---- endings
-
-pub ending_of-then_at : (ending : Ending) (place : Place) → ending_of (then_at ending place) ≡ ending
-ending_of-then_at (Ok done) place = refl
-ending_of-then_at (Err failure) place = refl
-
-then_at-place : (ending : Ending) (place : Place) → IfOk (then_at ending place) (λ next. next ≡ place)
-then_at-place (Ok done) place = refl
-then_at-place (Err failure) place = tt
-
-pub end_cause : (form : Form) (wrote : Bool) → cause_of (end_of form wrote) ≡ AtEnd
-end_cause form wrote = grind arith
-
--- what a listing of no rows ends by
-end_of-none : (form : Form) → end_of form false ≡ rows_end form [] Done
-end_of-none (Form.Block name) = refl
-end_of-none _ = refl
+use Rattle.ipmi_commands.proofs.ListingLemmas.{fresh_along, fresh_ends}
 
 -- ---- nothing is asked for
 
-first_rows-nil : (most : Option ℕ) → first_rows most [] ≡ []
-first_rows-nil None = refl
-first_rows-nil (Some n) = take-nil n
-
 -- a page that asks for nothing, as no row is wanted, or none is there
 page_of_no_rows : (form : Form) (place : Place) (tries : ℕ) (most : Option ℕ) (s : Seen)
-    (text : List ℕ) (ending : Ending) → IsHonest s → cause_of ending ≡ AtEnd
+    (text : List ℕ) (result : Result Place Failure) → IsHonest s
+    → cause_of (ending_of result) ≡ AtEnd
+    → IfOk result (λ next. next ≡ place)
     → OnWalk (shelf_of form) place s.store (λ walk end. (first_rows most walk ≡ [])
-    × (ending ≡ rows_end form [] (first_end most walk end)))
-    → IsPage form place tries most (change s s text text) (then_at ending place)
-page_of_no_rows form place tries most s text ending honest cause empty =
-    let same = ending_of-then_at ending place in
-    record {
-      ends = rw (same, cause) (record { stays = stays_refl s honest; grows = omega arith; counts = refl; plain = λ p. tt });
-      none = λ zero_. refl;
-      along = λ same_ walk end w ends.
-          let none = empty walk end w ends in
-          record {
-            leaves = rw (same, cause, none.0) (none_printed (IsTextOver s.store) text, none.1);
-            calls = omega arith;
-            goes_on = at_place (then_at ending place) (then_at-place ending place) (rows_of (shelf_of form) s.store) (first_rows most walk) none.0;
-          };
-    }
+    × (ending_of result ≡ rows_end form [] (first_end most walk end)))
+    → IsPage form place tries most (change s s text text) result
+page_of_no_rows form place tries most s text result honest cause stays empty = record {
+  ends = rw cause (ends_here honest refl tt);
+  none = λ zero_. refl;
+  along = λ same walk end w ends.
+      let none = empty walk end w ends in
+      record {
+        leaves = rw (cause, none.0) (none_printed (IsTextOver s.store) text text refl, none.1);
+        calls = omega arith;
+        goes_on = at_place result stays (rows_of (shelf_of form) s.store) (first_rows most walk) none.0;
+      };
+}
   where
-    at_place : (result : Result Place Failure) → IfOk result (λ next. next ≡ place) → (rows : List Row)
-        → (used : List Row) → used ≡ [] → IfOk result (λ next. GoesOn rows place used next)
-    at_place (Ok next) is rows used none = inl (rw none is)
-    at_place (Err failure) is rows used none = tt
+    at_place : (r : Result Place Failure) → IfOk r (λ next. next ≡ place) → (rows : List Row)
+        → (used : List Row) → used ≡ [] → IfOk r (λ next. GoesOn rows place used next)
+    at_place r is rows used none = grind arith
+
+-- such a page ends by this
+end_is : (form : Form) (place : Place) → (cause_of (ending_of (end_of form false place)) ≡ AtEnd)
+    × IfOk (end_of form false place) (λ next. next ≡ place)
+    × (ending_of (end_of form false place) ≡ rows_end form [] Done)
+end_is form place = grind arith
 
 -- a page of no record
 pub page_of_none : (form : Form) (place : Place) (tries : ℕ) (s : Seen) (text : List ℕ) → IsHonest s
-    → IsPage form place tries (Some 0) (change s s text text) (then_at (end_of form false) place)
-page_of_none form place tries s text honest = page_of_no_rows form place tries (Some 0) s text (end_of form false) honest (end_cause form false)
-    (λ walk end w ends. (refl, end_of-none form ∙ ap (rows_end form []) (sym (first_end-none 0 walk end (omega arith)))))
+    → IsPage form place tries (Some 0) (change s s text text) (end_of form false place)
+page_of_none form place tries s text honest = let is = end_is form place in
+    page_of_no_rows form place tries (Some 0) s text (end_of form false place) honest is.0 is.1
+    (λ walk end w ends. (refl, is.2 ∙ ap (rows_end form []) (sym (first_end-none 0 walk end (omega arith)))))
 
 -- no walk goes from where no row is
 pub no_walk : (rows : List Row) (start : Place) (walk : List Row) → row_at start rows ≡ None
     → IsWalk rows start walk → walk ≡ []
-no_walk rows start [] none w = refl
-no_walk rows start (row ∷ walk) none w = let h = sym none ∙ w.first in cc h
+no_walk rows start walk none w = grind arith
 
 done_there : (rows : List Row) (end : WalkEnd) → EndsBy rows End [] end → end ≡ Done
-done_there rows Done ends = refl
-done_there rows _ ends = absurd ends
+done_there rows end ends = grind arith
 
 cycle_there : (rows : List Row) (end : WalkEnd) → EndsBy rows (Id 0) [] end → end ≡ CycleAt 0
-cycle_there rows Done ends = absurd ends
-cycle_there rows (CycleAt n) ends = ap CycleAt ends.0
-cycle_there rows (MissingAt n) ends = absurd (ends.1 refl)
+cycle_there rows end ends = grind arith
 
--- the end of no rows, where some are wanted
+-- the end of no rows, where some are wanted, and no rows
 first_end-nil : (most : Option ℕ) (end : WalkEnd) → (most ≡ Some 0 → ⊥)
     → first_end most [] end ≡ end
-first_end-nil None end some = refl
-first_end-nil (Some zero) end some = absurd (some refl)
-first_end-nil (Some (suc n)) end some = let e : nat_le (suc n) 0 ≡ false = search arith in rw e refl
+first_end-nil most end some = grind (arith, nat_tests)
+
+first_rows-nil : (most : Option ℕ) → first_rows most [] ≡ []
+first_rows-nil most = grind (arith, take-nil)
 
 -- from where no row is, and no walk has another end
 no_rows : (form : Form) (most : Option ℕ) (rows : List Row) (start : Place) (only : WalkEnd)
@@ -100,15 +82,16 @@ no_rows form most rows start only walk end some none one w ends =
 -- a page where no cursor is needed: at the end, and at the id 0000h
 pub page_at_end : (form : Form) (tries : ℕ) (most : Option ℕ) (s : Seen) (text : List ℕ)
     → (most ≡ Some 0 → ⊥) → IsHonest s
-    → IsPage form End tries most (change s s text text) (then_at (end_of form false) End)
-page_at_end form tries most s text some honest = page_of_no_rows form End tries most s text (end_of form false) honest (end_cause form false)
+    → IsPage form End tries most (change s s text text) (end_of form false End)
+page_at_end form tries most s text some honest = let is = end_is form End in
+    page_of_no_rows form End tries most s text (end_of form false End) honest is.0 is.1
     (λ walk end w ends.
-    let empty = no_rows form most (rows_of (shelf_of form) s.store) End Done walk end some refl (done_there (rows_of (shelf_of form) s.store)) w ends in (empty.0, end_of-none form ∙ empty.1))
+    let empty = no_rows form most (rows_of (shelf_of form) s.store) End Done walk end some refl (done_there (rows_of (shelf_of form) s.store)) w ends in (empty.0, is.2 ∙ empty.1))
 
 pub page_at_zero : (form : Form) (tries : ℕ) (most : Option ℕ) (s : Seen) (text : List ℕ)
     → (most ≡ Some 0 → ⊥) → IsHonest s
     → IsPage form (Id 0) tries most (change s s text text) (Err (Failure.Ended (Ended.Cycle 0)))
-page_at_zero form tries most s text some honest = page_of_no_rows form (Id 0) tries most s text (Err (Failure.Ended (Ended.Cycle 0))) honest refl
+page_at_zero form tries most s text some honest = page_of_no_rows form (Id 0) tries most s text (Err (Failure.Ended (Ended.Cycle 0))) honest refl tt
     (λ walk end w ends. no_rows form most (rows_of (shelf_of form) s.store) (Id 0) (CycleAt 0) walk end some refl (cycle_there (rows_of (shelf_of form) s.store)) w ends)
 
 -- a page for whose cursor no memory was left
@@ -116,9 +99,9 @@ pub page_without_memory : (form : Form) (place : Place) (tries : ℕ) (most : Op
     (text : List ℕ) → IsHonest s
     → IsPage form place tries most (change s s text text) (Err Failure.OutOfMemory)
 page_without_memory form place tries most s text honest = record {
-  ends = record { stays = stays_refl s honest; grows = omega arith; counts = refl; plain = λ p. tt };
+  ends = ends_here honest refl tt;
   none = λ zero_. refl;
-  along = λ same walk end w ends. record { leaves = no_items (IsTextOver s.store) (listing_plan (listing form place most) walk end) text; calls = omega arith; goes_on = tt };
+  along = λ same walk end w ends. record { leaves = no_items (IsTextOver s.store) (listing_plan (listing form place most) walk end) text text refl; calls = omega arith; goes_on = tt };
 }
 
 -- ---- a page by a cursor
@@ -126,42 +109,35 @@ page_without_memory form place tries most s text honest = record {
 -- the first rows are as many as there are of them
 take-length-first_rows : (most : Option ℕ) (walk : List Row)
     → take (length (first_rows most walk)) walk ≡ first_rows most walk
-take-length-first_rows None walk = take_all (length walk) walk (omega arith)
-take-length-first_rows (Some n) walk = rw (length-take n walk) (take_min n walk)
+take-length-first_rows most walk = grind (arith, take_all, length-take, take_min)
 
-pub page_by_cursor : (form : Form) (place : Place) (tries : ℕ) (most : Option ℕ)
-    (begun now : CursorState) (s s' : Seen) (text text' : List ℕ) (ending : Ending)
-    → (most ≡ Some 0 → ⊥) → begun.reservation ≡ None → 0 < begun.part
-    → ((rows walk : List Row) → StandsAt rows place walk 0 begun)
-    → Lists form tries most begun now (change s s' text text') ending
-    → IsPage form place tries most (change s s' text text') (then_at ending now.place)
-page_by_cursor form place tries most begun now s s' text text' ending some none part stands lists =
-    let same = ending_of-then_at ending now.place in
-    record {
-      ends = rw same (record { stays = lists.ends.stays; grows = lists.ends.grows; counts = lists.ends.counts; plain = λ p. lists.ends.plain (p, record { held = λ n held. let h = sym none ∙ held in cc h }) });
-      none = λ zero_. absurd (some zero_);
-      along = λ same_ walk end w ends.
-          let along = lists.along same_ place walk end 0 w ends (stands (rows_of (shelf_of form) s.store) walk) in
-          record {
-            leaves = rw same along.leaves;
-            calls = omega (arith, along.calls part, digits_most begun.part);
-            goes_on = goes ending walk along.goes_on;
-          };
-    }
-  where
-    goes : (e : Ending) (walk : List Row)
-        → (e ≡ Ok tt → StandsAt (rows_of (shelf_of form) s.store) place walk (0 + length (first_rows most walk)) now)
-        → IfOk (then_at e now.place) (λ next. GoesOn (rows_of (shelf_of form) s.store) place (first_rows most walk) next)
-    goes (Ok done) walk stood =
-        let none_before : 0 + length (first_rows most walk) ≡ length (first_rows most walk) = omega arith in
-        elim (stood refl).place [ inl there ↦ inl (there ∙ ap (place_after_rows place) (ap (λ (n : ℕ). take n walk) none_before ∙ take-length-first_rows most walk)) | inr empty ↦ inr empty ]
-    goes (Err failure) walk stood = tt
+-- where the next page begins
+abbrev pub page_result : Place → Result ℕ Failure → Result Place Failure
+page_result next (Ok count) = Ok next
+page_result next (Err failure) = Err failure
 
--- over any controller
-pub page_calls : (form : Form) (tries : ℕ) (begun now : CursorState) (s s' : Seen) → 0 < begun.part
-    → begun.ids ≡ set.empty → ListingCalls (most_for_one form tries) begun now s s'
-    → s'.calls ≤ s.calls + most_on_walk form tries
-page_calls form tries begun now s s' part none calls = let made = rw (none, set.len-empty nat_cmp) at (calls.calls part) in omega (arith, made, digits_most begun.part)
+pub page_by_cursor : {command : CommandState} {form : Form} {from : Option ℕ} {tries : ℕ}
+    {most : Option ℕ}
+    {begun now : CursorState} {c : Change} (result : Result ℕ Failure) → IsFresh command form from begun
+    → (most ≡ Some 0 → ⊥) → ListsHonestly form tries most begun now c result
+    → IsPage form (start_of from) tries most c (page_result now.place result)
+page_by_cursor {from = from} {most = most} {now = now} (Ok count) fresh some lists = record {
+  ends = fresh_ends fresh lists;
+  none = λ zero_. absurd (some zero_);
+  along = λ same walk end w ends.
+      let along = fresh_along fresh lists same walk end w ends in
+      let here : 0 + count ≡ length (first_rows most walk) = omega (arith, along.0.all.count_is) in
+      record {
+        leaves = along.0.leaves;
+        calls = along.1;
+        goes_on = elim along.0.all.stands.place [ inl there ↦ inl (there ∙ ap (place_after_rows (start_of from)) (ap (λ (n : ℕ). take n walk) here ∙ take-length-first_rows most walk)) | inr empty ↦ inr empty ];
+      };
+}
+page_by_cursor (Err failure) fresh some lists = record {
+  ends = fresh_ends fresh lists;
+  none = λ zero_. absurd (some zero_);
+  along = λ same walk end w ends. let along = fresh_along fresh lists same walk end w ends in record { leaves = along.0.leaves; calls = along.1; goes_on = tt };
+}
 
 -- ---- pages, one after another
 

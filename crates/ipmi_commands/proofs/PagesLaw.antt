@@ -1,18 +1,23 @@
 -- Pages over a chain that does not end by a cycle are one listing.
-use Rattle.std.proofs.Common.{◌≡◌, inl, inr, ℕ, ◌+◌, ◌*◌, ◌<◌, ◌≤◌, ◌==◌, nat_le, Bool, true, false, IsTrue, Option, None, Some, Result, Ok, Err, List, [], ◌∷◌, ◌++◌, length, take, drop, refl, sym, ap, subst, ◌∙◌, append_assoc, arith, ne_eqb, take_all, take-append-drop}
+use Rattle.std.proofs.Common.{◌≡◌, inl, inr, ℕ, ◌+◌, ◌*◌, ◌<◌, ◌≤◌, nat_le, Bool, true, false, IsTrue, Option, None, Some, Err, List, [], ◌∷◌, ◌++◌, length, take, drop, refl, sym, ap, subst, ◌∙◌, arith, ne_eqb, take_all, take-append-drop}
 use Rattle.std.proofs.lemmas.Bool.{or_parts}
 use Rattle.std.proofs.Math.Seq.{take-nil, drop-nil}
-use Rattle.ipmi_commands.specs.Below.{Place, First, End, Row, IsShelf, Store, rows_of, store_shelf, IsWalk, TailIsWalk, WalkEnd, Done, CycleAt, MissingAt, EndsBy, EndsAfter, EndsEmpty, last_next, has_id, place_after, place_after_rows, Seen, IsHonest, StaysHonest, step_call_bound, start_of, Count, Task, is_listing, CommandState, Ending, Failure}
-use Rattle.ipmi_commands.specs.Prelude.{ArePages, AtEnd, calls_for, Cause, cause_of, Change, change, end_spots, Detail, ending_of, EndsFor, EndsListing, Form, GoesOn, IsAllowed, IsAmong, IsOneListing, IsOpen, IsPage, IsTextOver, Item, Job, job_of_command, Leaves, Listing, listing, listing_in, listing_plan, most_on_walk, OnWalk, pages_made, Plan, Printed, PrintsAll, row_items, rows_end, RunsInPages, RunsPaged, shelf_of, Spot, spots_at}
+use Rattle.ipmi_commands.specs.Below.{Place, First, End, Row, IsShelf, Store, rows_of, store_shelf, IsWalk, TailIsWalk, WalkEnd, Done, EndsBy, EndsAfter, EndsEmpty, place_after, place_after_rows, Seen, IsHonest, step_call_bound, start_of, Task, is_listing, CommandState, Ending, Failure}
+use Rattle.ipmi_commands.specs.Prelude.{ArePages, calls_for, cause_of, Change, change, end_spots, EndsFor, EndsListing, Form, GoesOn, IsAllowed, IsAmong, IsOneListing, IsOpen, IsTextOver, Item, Job, job_of, job_of_command, Listing, listing, listing_in, listing_plan, most_on_walk, OnWalk, pages_made, Plan, Printed, row_items, rows_end, RunsPaged, shelf_of, Spot, spots_at}
 use Rattle.ipmi_commands.proofs.CallLemmas.{calls_split}
-use Rattle.ipmi_commands.proofs.ItemLemmas.{after_items, leaves_joined, leaves_longer, row_items-append, row_items-split}
+use Rattle.ipmi_commands.proofs.ItemLemmas.{after_items, leaves_joined, leaves_longer, row_items-split}
 use Rattle.ipmi_commands.proofs.PageLemmas.{calls_of_page, no_walk}
 use Rattle.ipmi_commands.proofs.SpotLemmas.{end_spots-joined}
-use Rattle.ipmi_commands.proofs.StepLemmas.{between, ends_since}
+use Rattle.ipmi_commands.proofs.CountLemmas.{between, ends_since}
 
--- a listing in this form ends as its walk does, whatever its rows are
-abbrev pub NamesNone : Form → Type 0
-NamesNone form = (rows : List Row) (end : WalkEnd) → rows_end form rows end ≡ rows_end form [] end
+-- a listing in this form asks for no name, and so ends as its walk does
+abbrev NamesNone : Form → Type 0
+NamesNone (Form.Block name) = ⊥
+NamesNone _ = Unit {0}
+
+same_end : (form : Form) (rows : List Row) (end : WalkEnd) → NamesNone form
+    → rows_end form rows end ≡ rows_end Form.Raw [] end
+same_end form rows end none = grind arith
 
 -- what the pages do together
 pub record OneListing (form : Form) (start : Place) (tries : ℕ) (sizes : List ℕ) (c : Change)
@@ -26,16 +31,11 @@ module _ (walk_tail : TailIsWalk) where
 
   no_more : (rows : List Row) (next : ℕ) (before : List Row) (end : WalkEnd)
       → EndsAfter rows before next end → IsOpen end → EndsEmpty rows (place_after next) end
-  no_more rows next before Done ends open_ = rw ends tt
-  no_more rows next before (CycleAt n) ends open_ = absurd open_
-  no_more rows next before (MissingAt n) ends open_ = rw (ne_eqb next 0xFFFF ends.1) (ends.0, ends.2, ends.4)
+  no_more rows next before end ends open_ = grind (arith, ne_eqb)
 
   rest_ends : (rows : List Row) (start : Place) (d : Row) (rest : List Row) (end : WalkEnd)
       → EndsBy rows start (d ∷ rest) end → IsOpen end → EndsBy rows (place_after d.next) rest end
-  rest_ends rows start d [] end ends open_ = no_more rows d.next (d ∷ []) end ends open_
-  rest_ends rows start d (r ∷ rest) Done ends open_ = ends
-  rest_ends rows start d (r ∷ rest) (CycleAt n) ends open_ = absurd open_
-  rest_ends rows start d (r ∷ rest) (MissingAt n) ends open_ = (ends.0, ends.1, ends.2, (or_parts (last_next r.next rest == d.id) (has_id (r ∷ rest) (last_next r.next rest)) ends.3).1, ends.4)
+  rest_ends rows start d rest end ends open_ = grind (arith, no_more, or_parts)
 
   rest_of_walk : (form : Form) (rows : List Row) (start : Place) (done rest : List Row)
       (end : WalkEnd) → IsShelf (shelf_of form) rows → IsOpen end → IsWalk rows start (done ++ rest)
@@ -67,26 +67,21 @@ module _ (walk_tail : TailIsWalk) where
         → IsAmong (end_spots at l Done) spot
         → IsAmong (spots_at (row_items form (place_after_rows at (take size l)) (drop size l))
         (end_spots at l e)) spot
-    spot_of_end spot First [] Done ends among = rw (drop-nil size) among
-    spot_of_end spot First [] _ ends among = absurd ends
-    spot_of_end spot First (row ∷ l) e ends among = absurd among
-    spot_of_end spot _ l e ends among = absurd among
+    spot_of_end spot at l e ends among = grind (arith, drop-nil)
 
     spot_wide : (spot : Spot) (rest : List Item)
         → IsAmong (spots_at rest (end_spots start walk Done)) spot
         → IsAmong (spots_at (rest ++ row_items form (place_after_rows start (take size walk)) (drop size walk)) (end_spots start walk end)) spot
-    spot_wide spot [] among = spot_of_end spot start walk end ends among
-    spot_wide spot (item ∷ rest) among = among
+    spot_wide spot rest among = grind (arith, spot_of_end)
 
     -- a failure is not how the page would end
-    not_done : (failure : Failure) (used : List Row) → Err failure ≡ rows_end form used Done
-        → rows_end form [] Done ≡ Ok tt → ⊥
-    not_done failure used is done = let h = is ∙ none used Done ∙ done in cc h
+    not_done : (failure : Failure) (used : List Row) → Err failure ≡ rows_end form used Done → ⊥
+    not_done failure used is = let h = is ∙ same_end form used Done none in cc h
 
-    leaves_wide : (failure : Failure) → rows_end form [] Done ≡ Ok tt
+    leaves_wide : (failure : Failure)
         → IsAllowed (IsTextOver store) (plan_from form start (Some size) walk end) old new (Err failure)
         → IsAllowed (IsTextOver store) (plan_from form start None walk end) old new (Err failure)
-    leaves_wide failure done allowed = by_size (nat_le size (length walk)) refl
+    leaves_wide failure allowed = by_size (nat_le size (length walk)) refl
       where
         by_size : (b : Bool) → nat_le size (length walk) ≡ b
             → IsAllowed (IsTextOver store) (plan_from form start None walk end) old new (Err failure)
@@ -94,14 +89,13 @@ module _ (walk_tail : TailIsWalk) where
             leaves_longer (IsTextOver store) (plan_from form start (Some size) walk end) (plan_from form start None walk end)
             (row_items form (place_after_rows start (take size walk)) (drop size walk)) (row_items-split form start walk size)
             (λ spot rest among. spot_wide spot rest (rw fits at among)) old new (Err failure) (cause_of (Err failure))
-            (λ at_end all. absurd (not_done failure (take size walk) (rw fits at all.1) done)) allowed
+            (λ at_end all. absurd (not_done failure (take size walk) (rw fits at all.1))) allowed
         by_size false past = subst (λ (q : Plan). IsAllowed (IsTextOver store) q old new (Err failure)) (is_whole past) allowed
 
   -- ---- the rest of the listing, from where the next page begins
 
   empty_end : (rows : List Row) (end : WalkEnd) → EndsEmpty rows First end → EndsEmpty rows End end
-  empty_end rows Done ends = tt
-  empty_end rows _ ends = absurd ends
+  empty_end rows end ends = grind arith
 
   -- an empty shelf has one spot more, at its start
   from_first : (form : Form) (store : Store) (end : WalkEnd) (text new : List ℕ) (ending : Ending)
@@ -109,14 +103,12 @@ module _ (walk_tail : TailIsWalk) where
       → IsAllowed (IsTextOver store) (plan_from form First None [] end) text new ending
   from_first form store end text new ending allowed =
       leaves_longer (IsTextOver store) (plan_from form End None [] end) (plan_from form First None [] end) [] refl (there end) text new ending (cause_of ending)
-      (λ at_end all. rw at_end all) allowed
+      (λ at_end all. all) allowed
     where
       there : (e : WalkEnd) (spot : Spot) (rest : List Item)
           → IsAmong (spots_at rest (end_spots End [] e)) spot
           → IsAmong (spots_at (rest ++ []) (end_spots First [] e)) spot
-      there Done spot [] among = absurd among
-      there _ spot [] among = among
-      there _ spot (item ∷ rest) among = among
+      there e spot rest among = grind arith
 
   module _ (form : Form) (store : Store) (rows : List Row) (start next : Place) (walk : List Row)
       (end : WalkEnd) (size : ℕ) (w : IsWalk rows start walk) where
@@ -151,37 +143,36 @@ module _ (walk_tail : TailIsWalk) where
         let done = take size walk in
         let left = drop size walk in
         let whole : after_items (row_items form start done) (plan_from form (place_after_rows start done) None left end) ≡ plan_from form start None walk end =
-        cc (row_items-split form start walk size, none left end, none walk end, end_spots-joined start done left end, take-append-drop size walk) in
+        cc (row_items-split form start walk size, same_end form left end none, same_end form walk end none, end_spots-joined start done left end, take-append-drop size walk) in
         subst (λ (q : Plan). IsAllowed (IsTextOver store) q old new ending) whole
         (leaves_joined (IsTextOver store) (row_items form start done) (plan_from form (place_after_rows start done) None left end) old text new ending (cause_of ending) printed (from_next text new ending goes allowed))
 
   -- ---- the law
 
   pub pages_are_one : (form : Form) (tries : ℕ) (start : Place) (sizes : List ℕ) (s s' : Seen)
-      (old new : List ℕ) (ending : Ending) → NamesNone form → rows_end form [] Done ≡ Ok tt
-      → IsHonest s → ArePages form tries start sizes (change s s' old new) ending
+      (old new : List ℕ) (ending : Ending) → NamesNone form → IsHonest s → ArePages form tries start sizes (change s s' old new) ending
       → OneListing form start tries sizes (change s s' old new) ending
-  pages_are_one form tries start [] s s' old new ending none done honest last = record {
+  pages_are_one form tries start [] s s' old new ending none honest last = record {
     ends = rw last.1 last.2.ends;
     along = λ same walk end w ends open_. let along = last.2.along same walk end w ends in (rw last.1 along.leaves, omega (arith, along.calls));
   }
-  pages_are_one form tries start (size ∷ sizes) s s' old new ending none done honest (inl last) =
+  pages_are_one form tries start (size ∷ sizes) s s' old new ending none honest (inl last) =
       let page = last.2 in
       record {
         ends = rw last.1 page.ends;
         along = λ same walk end w ends open_.
             let along = page.along same walk end w ends in
             let made = calls_of_page size sizes (calls_for form s.store tries (take size walk)) (step_call_bound tries 0 + 7) s s' (omega (arith, along.calls)) page.none in (
-              rw last.1 (leaves_wide form s.store (rows_of (shelf_of form) s.store) start walk end ends size old new none last.0 done along.leaves),
+              rw last.1 (leaves_wide form s.store (rows_of (shelf_of form) s.store) start walk end ends size old new none last.0 along.leaves),
               omega (arith, made, calls_split form s.store tries size walk),
             );
       }
-  pages_are_one form tries start (size ∷ sizes) s s' old new ending none done honest (inr more) =
+  pages_are_one form tries start (size ∷ sizes) s s' old new ending none honest (inr more) =
       let page = more.page in
-      let later = pages_are_one form tries more.next sizes more.seen s' more.text new ending none done page.ends.stays.honest more.rest in
+      let later = pages_are_one form tries more.next sizes more.seen s' more.text new ending none page.ends.stays.honest more.rest in
       let since = between s more.seen s' page.ends.stays later.ends.stays in
       record {
-        ends = ends_since tries (IsTrue s.plain) (IsTrue more.seen.plain) s more.seen s' (cause_of ending) page.ends.stays (record { refusals = page.ends.counts; troubles = page.ends.grows }) page.ends.stays.plain later.ends;
+        ends = ends_since page.ends page.ends.stays.plain later.ends;
         along = λ same walk end w ends open_.
             let first = (since same).0 in
             let along = page.along first walk end w ends in
@@ -198,50 +189,26 @@ module _ (walk_tail : TailIsWalk) where
 
 -- ---- a command that can be done in pages
 
--- what it lists, in a form that asks for no name
-pub record PagedJob (command : CommandState) : Type 0 where
-  pub form : Form
-  pub is : job_of_command command ≡ Job.Records (listing form (start_of command.from) None)
-  pub none : NamesNone form
-  pub done : rows_end form [] Done ≡ Ok tt
-
-names_none : (form : Form) → ((rows : List Row) → rows_end form rows Done ≡ rows_end form [] Done) → NamesNone form
-names_none form done rows Done = done rows
-names_none form done rows (CycleAt n) = refl
-names_none form done rows (MissingAt n) = refl
-
-pub paged_job : (command : CommandState) → is_listing command.task ≡ true → PagedJob command
-paged_job command listing_ = by_task command.task refl
-  where
-    by_task : (t : Task) → command.task ≡ t → PagedJob command
-    by_task Task.Hex is = record { form = Form.Raw; is = rw is refl; none = names_none Form.Raw (λ rows. refl); done = refl }
-    by_task (Task.List kind) is = record { form = Form.Line Detail.Short kind; is = rw is refl; none = names_none (Form.Line Detail.Short kind) (λ rows. refl); done = refl }
-    by_task (Task.Elist kind) is = record { form = Form.Line Detail.Extended kind; is = rw is refl; none = names_none (Form.Line Detail.Extended kind) (λ rows. refl); done = refl }
-    by_task (Task.SelList Count.All) is = record { form = Form.EntryLine; is = rw is refl; none = names_none Form.EntryLine (λ rows. refl); done = refl }
-    by_task _ is = let h = rw is at listing_ in cc h
+-- it lists all records of a shelf, in a form that asks for no name
+paged_job : (task : Task) (from : Option ℕ) (l : Listing) → is_listing task ≡ true
+    → listing_in (job_of task from) ≡ Some l
+    → (job_of task from ≡ Job.Records l) × (l ≡ listing l.form (start_of from) None)
+    × NamesNone l.form
+paged_job task from l listing_ is = grind arith
 
 -- what the pages did
 pub paged : TailIsWalk → (command : CommandState) (sizes : List ℕ) (s s' : Seen) (old new : List ℕ)
-    (ending : Ending) (l : Listing) (job : PagedJob command)
+    (ending : Ending) (l : Listing) → is_listing command.task ≡ true
     → listing_in (job_of_command command) ≡ Some l
     → s'.calls ≤ s.calls + pages_made sizes * most_on_walk l.form command.tries
     → EndsListing l.form ending
     → (IsHonest s → ArePages l.form command.tries l.start sizes (change s s' old new) ending)
     → RunsPaged command sizes (change s s' old new) ending
-paged tail command sizes s s' old new ending l job is calls may pages = record {
-  form = job.form;
-  is = job.is;
-  runs = subst (λ (x : Listing). RunsInPages x.form x.start command.tries sizes (change s s' old new) ending) same (record {
-    calls = calls;
-    ends = may;
-    why = λ h. (one h).ends;
-    pages = pages;
-    prints = λ h. (one h).along;
-  });
-}
-  where
-    same : l ≡ listing job.form (start_of command.from) None
-    same = let h = sym is ∙ ap listing_in job.is in cc h
-
-    one : IsHonest s → OneListing l.form l.start command.tries sizes (change s s' old new) ending
-    one h = pages_are_one tail l.form command.tries l.start sizes s s' old new ending (rw same job.none) (rw same job.done) h (pages h)
+paged tail command sizes s s' old new ending l lists is calls may pages =
+    let job = paged_job command.task command.from l lists is in
+    let one : IsHonest s → OneListing l.form l.start command.tries sizes (change s s' old new) ending = λ h. pages_are_one tail l.form command.tries l.start sizes s s' old new ending job.2 h (pages h) in
+    record {
+      form = l.form;
+      is = job.0 ∙ ap Job.Records job.1;
+      runs = rw (← ap (λ (x : Listing). x.start) job.1) (record { calls = calls; ends = may; why = λ h. (one h).ends; pages = pages; prints = λ h. (one h).along });
+    }

@@ -1,141 +1,108 @@
 -- A task of one text, and all inventories: a text and then a listing.
-use Rattle.std.proofs.Common.{◌≡◌, ℕ, ◌+◌, ◌<◌, ◌≤◌, IsTrue, Option, None, Some, Result, Ok, Err, String, string_bytes, Global, List, [], ◌∷◌, ◌++◌, length, refl, sym, subst, arith}
-use Rattle.ipmi_commands.specs.Below.{fru_call_bound, Shelf, Place, First, Seen, IsHonest, StaysHonest, stays_trans, Row, Store, info_of, WalkEnd, Done, Ending, Failure, TakesPart}
-use Rattle.ipmi_commands.specs.Prelude.{AsksAt, AtEnd, AtRecord, calls_at_spots, Cause, cause_of, cause_of_unread, Change, change, ending_of, end_spots, EndsFor, EndsListing, failure_of, Finds, FindsInfo, FindsNone, FindsText, Form, info_plan, inventories_plan, AtInventory, inventory_item, inventory_plan, IsInventoryPiece, most_on_walk, IsAllowed, IsAmong, IsBlockOfInfo, IsPage, IsTextOver, Item, Job, LacksInfo, Leaves, MayEnd, listing, listing_plan, MayStopAt, NoOutput, OfInfo, OnPlan, OnWalk, PageAlong, Plan, Printed, Prints, row_items, Runs, Spot, spots_at, Subject, Unread, WritesText}
-use Rattle.ipmi_commands.proofs.ItemLemmas.{after_items, cut_after, leaves_joined, leaves_longer, no_items, none_printed, one_printed, stops_after}
-use Rattle.ipmi_commands.proofs.StepLemmas.{IsUnrefused, between, ends_since}
+use Rattle.std.proofs.Common.{◌≡◌, ℕ, ◌+◌, ◌≤◌, IsTrue, Option, None, Some, Result, Ok, Err, String, string_bytes, Global, List, [], ◌∷◌, ◌++◌, option_map, refl, arith}
+use Rattle.ipmi_commands.specs.Below.{fru_call_bound, Shelf, Place, First, Seen, IsHonest, Row, Store, info_of, WalkEnd, Ending, Failure}
+use Rattle.ipmi_commands.specs.Prelude.{AtEnd, AtRecord, cause_of, change, ending_of, end_spots, EndsFor, EndsListing, failure_of, Finds, Form, info_plan, inventories_plan, AtInventory, inventory_item, inventory_plan, IsInventoryPiece, most_on_walk, IsAllowed, IsAmong, IsInfoText, IsPage, IsTextOver, Item, Job, listing, listing_plan, MayStopAt, OfInfo, OfInventory, Plan, row_items, Runs, Spot, spots_at, Subject, text_plan, Unread, WritesText}
+use Rattle.ipmi_commands.proofs.CountLemmas.{between, ends_as, ends_since}
+use Rattle.ipmi_commands.proofs.ItemLemmas.{cut_after, leaves_joined, leaves_longer, no_items, none_printed, one_printed, stops_after}
 
 -- ---- a text that is found and written
 
--- by how writing it ended: a text of the first item of a plan, after which nothing is left where it is the only one
-pub text_leaves : (IsText : Subject → List ℕ → Type 0) (p : Plan) (item : Item) (old new : List ℕ)
-    (text : List ℕ) (ending : Ending) → p.items ≡ item ∷ [] → p.end ≡ Ok tt → IsText item.subject text
-    → WritesText text old new ending → IsAllowed IsText p old new ending
-text_leaves IsText p item old new text (Ok done) items end is writes = rw (items, end) (one_printed IsText item text old new is writes, refl)
-text_leaves IsText p item old new text (Err Failure.WriteFault) items end is writes =
-    cut_after IsText p old old new (Err Failure.WriteFault) (no_items IsText p old) item [] text items is writes.0 writes.1
-text_leaves IsText p item old new text (Err _) items end is writes = absurd writes
+-- by how writing it ended
+pub text_leaves : (IsText : Subject → List ℕ → Type 0) (subject : Subject) (spots : List Spot)
+    (old new text : List ℕ) (ending : Ending) → IsText subject text
+    → WritesText text old new ending → IsAllowed IsText (text_plan subject spots) old new ending
+text_leaves IsText subject spots old new text (Ok done) is writes = (one_printed IsText (record { subject = subject; spots = spots }) text old new is writes, refl)
+text_leaves IsText subject spots old new text (Err Failure.WriteFault) is writes =
+    let p = text_plan subject spots in cut_after IsText p old old new (Err Failure.WriteFault) (no_items IsText p old old refl) _ [] text refl is writes.0 writes.1
+text_leaves IsText subject spots old new text (Err _) is writes = absurd writes
 
--- a text that was written is why it ended so
-pub text_ends : (spots : List Spot) (tries : ℕ) (s s' : Seen) (text old new : List ℕ) (ending : Ending)
-    → AsksAt spots tries s s' → s'.refusals ≡ s.refusals → WritesText text old new ending
-    → EndsFor tries (IsTrue s.plain) s s' (cause_of ending)
-text_ends spots tries s s' text old new (Ok done) asks refusals writes = record { stays = asks.stays; grows = asks.grows; counts = refusals; plain = λ p. tt }
-text_ends spots tries s s' text old new (Err Failure.WriteFault) asks refusals writes = record { stays = asks.stays; grows = asks.grows; counts = refusals; plain = λ p. tt }
-text_ends spots tries s s' text old new (Err _) asks refusals writes = absurd writes
-
-pub none_ends : (spots : List Spot) (tries : ℕ) (s s' : Seen) (cause : Cause)
-    → FindsNone spots tries s s' cause → EndsFor tries (IsTrue s.plain) s s' cause
-none_ends spots tries s s' cause none = record { stays = none.asks.stays; grows = none.asks.grows; counts = none.counts; plain = none.plain }
-
--- and it ends in no other way
-pub text_may_end : (form : Form) (text old new : List ℕ) (ending : Ending)
-    → WritesText text old new ending → EndsListing form ending
-text_may_end form text old new (Ok done) writes = tt
-text_may_end form text old new (Err Failure.WriteFault) writes = tt
-text_may_end form text old new (Err _) writes = absurd writes
-
-pub text_may_end_info : (shelf : Shelf) (c : Change) (text old new : List ℕ) (ending : Ending)
-    → WritesText text old new ending → MayEnd (Job.Info shelf) c ending
-text_may_end_info shelf c text old new (Ok done) writes = tt
-text_may_end_info shelf c text old new (Err Failure.WriteFault) writes = tt
-text_may_end_info shelf c text old new (Err _) writes = absurd writes
-
-pub none_may_end : (form : Form) (unread : Unread) → EndsListing form (Err (failure_of unread))
-none_may_end form (Unread.Ended ended) = tt
-none_may_end form (Unread.Inventory id ended) = tt
-none_may_end form Unread.Memory = tt
-
-pub none_may_end_info : (shelf : Shelf) (c : Change) (unread : Unread)
-    → MayEnd (Job.Info shelf) c (Err (failure_of unread))
-none_may_end_info shelf c (Unread.Ended ended) = tt
-none_may_end_info shelf c (Unread.Inventory id ended) = tt
-none_may_end_info shelf c Unread.Memory = tt
+-- that it was written, or not, is why it ended so
+text_ends : (tries : ℕ) (IsPlain : Type 0) (s s' : Seen) (text old new : List ℕ) (ending : Ending)
+    → EndsFor tries IsPlain s s' AtEnd → WritesText text old new ending
+    → EndsFor tries IsPlain s s' (cause_of ending)
+text_ends tries IsPlain s s' text old new ending ends writes = grind (arith, ends_as)
 
 -- what was not found is given up or refused before anything is printed, or memory is wanted
-pub none_leaves : (IsText : Subject → List ℕ → Type 0) (p : Plan) (text : List ℕ) (ending : Ending)
+none_leaves : (IsText : Subject → List ℕ → Type 0) (p : Plan) (text : List ℕ) (ending : Ending)
     → MayStopAt (spots_at p.items p.end_spots) (cause_of ending) → IsAllowed IsText p text text ending
-none_leaves IsText p text ending may = stops_after IsText p text text ending (cause_of ending) (no_items IsText p text) may
+none_leaves IsText p text ending may = stops_after IsText p text text ending (cause_of ending) (no_items IsText p text text refl) may
 
 -- ---- the info of a shelf
 
-pub info_leaves : (store : Store) (o : Option (List ℕ)) (text old new : List ℕ) (ending : Ending)
-    → IsBlockOfInfo o text → WritesText text old new ending
+info_leaves : (store : Store) (o : Option (List ℕ)) (text old new : List ℕ) (ending : Ending)
+    → IsInfoText o (Some text) → WritesText text old new ending
     → IsAllowed (IsTextOver store) (info_plan o) old new ending
 info_leaves store None text old new ending is writes = absurd is
 info_leaves store (Some info) text old new ending is writes =
-    text_leaves (IsTextOver store) (info_plan (Some info)) (record { subject = OfInfo info; spots = AtRecord 0 ∷ [] }) old new text ending refl refl is writes
+    text_leaves (IsTextOver store) (OfInfo info) (AtRecord 0 ∷ []) old new text ending is writes
+
+info_lacks : (store : Store) (o : Option (List ℕ)) (text : List ℕ) → IsInfoText o None
+    → IsAllowed (IsTextOver store) (info_plan o) text text (Err Failure.NoInfo)
+info_lacks store o text is = grind (arith, none_printed)
 
 info_spots : (o : Option (List ℕ)) → spots_at (info_plan o).items (info_plan o).end_spots ≡ AtRecord 0 ∷ []
-info_spots None = refl
-info_spots (Some info) = refl
-
-pub info_none_leaves : (store : Store) (o : Option (List ℕ)) (text : List ℕ) (ending : Ending)
-    → MayStopAt (AtRecord 0 ∷ []) (cause_of ending)
-    → IsAllowed (IsTextOver store) (info_plan o) text text ending
-info_none_leaves store o text ending may = none_leaves (IsTextOver store) (info_plan o) text ending (rw info_spots may)
-
-pub info_lacks : (store : Store) (o : Option (List ℕ)) (text : List ℕ) → o ≡ None
-    → IsAllowed (IsTextOver store) (info_plan o) text text (Err Failure.NoInfo)
-info_lacks store o text none = rw none (none_printed (IsTextOver store) text, refl)
+info_spots o = grind arith
 
 -- what is said of all that an info may come to
 module _ (shelf : Shelf) (tries : ℕ) (s s' : Seen) (calls : s'.calls ≤ s.calls + (tries + 1)) where
+  abbrev FoundInfo : Result (Option (String Global)) Unread → Type 0
+  FoundInfo result = IsHonest s → Finds (λ store found. IsInfoText (info_of shelf store) (option_map (λ text. string_bytes text) found)) (AtRecord 0 ∷ []) tries s s' result
+
   pub info_found : (old new : List ℕ) (text : String Global) (ending : Ending)
-      → (IsHonest s → FindsInfo shelf tries s s' (Ok (Some text)))
+      → FoundInfo (Ok (Some text))
       → WritesText (string_bytes text) old new ending
       → Runs (Job.Info shelf) tries (change s s' old new) ending
   info_found old new text ending finds writes = record {
     calls = calls;
-    ends = text_may_end_info shelf (change s s' old new) (string_bytes text) old new ending writes;
-    why = λ h. text_ends (AtRecord 0 ∷ []) tries s s' (string_bytes text) old new ending (finds h).asks (finds h).refusals writes;
+    ends = grind arith;
+    why = λ h. text_ends tries (IsTrue s.plain) s s' (string_bytes text) old new ending (finds h).asks.ends writes;
     prints = λ h same. (info_leaves s.store (info_of shelf s.store) (string_bytes text) old new ending ((finds h).is same) writes, calls);
   }
 
-  pub info_lacking : (text : List ℕ) → (IsHonest s → FindsInfo shelf tries s s' (Ok None))
+  pub info_lacking : (text : List ℕ) → FoundInfo (Ok None)
       → Runs (Job.Info shelf) tries (change s s' text text) (Err Failure.NoInfo)
   info_lacking text lacks = record {
     calls = calls;
     ends = tt;
-    why = λ h. record { stays = (lacks h).asks.stays; grows = (lacks h).asks.grows; counts = (lacks h).refusals; plain = λ p. tt };
+    why = λ h. (lacks h).asks.ends;
     prints = λ h same. (info_lacks s.store (info_of shelf s.store) text ((lacks h).is same), calls);
   }
 
-  pub info_unread : (text : List ℕ) (unread : Unread)
-      → (IsHonest s → FindsInfo shelf tries s s' (Err unread))
+  pub info_unread : (text : List ℕ) (unread : Unread) → FoundInfo (Err unread)
       → Runs (Job.Info shelf) tries (change s s' text text) (Err (failure_of unread))
   info_unread text unread none = record {
     calls = calls;
-    ends = none_may_end_info shelf (change s s' text text) unread;
-    why = λ h. none_ends (AtRecord 0 ∷ []) tries s s' (cause_of_unread unread) (none h);
-    prints = λ h same. (info_none_leaves s.store (info_of shelf s.store) text (Err (failure_of unread)) (none h).there, calls);
+    ends = grind arith;
+    why = λ h. (none h).asks.ends;
+    prints = λ h same. (none_leaves (IsTextOver s.store) (info_plan (info_of shelf s.store)) text (Err (failure_of unread)) (rw info_spots (none h).there), calls);
   }
 
 -- ---- one inventory
 
 module _ (id tries : ℕ) (s s' : Seen) (calls : s'.calls ≤ s.calls + fru_call_bound tries 65535) where
-  abbrev Found : Result (String Global) Unread → Type 0
-  Found result = IsHonest s → Finds (λ store text. IsInventoryPiece store id [] text) (AtInventory id ∷ []) tries s s' result
+  abbrev FoundInventory : Result (String Global) Unread → Type 0
+  FoundInventory result = IsHonest s → Finds (λ store text. IsInventoryPiece store id [] (string_bytes text)) (AtInventory id ∷ []) tries s s' result
 
-  pub inventory_found : (old new : List ℕ) (text : String Global) (ending : Ending) → Found (Ok text)
+  pub inventory_found : (old new : List ℕ) (text : String Global) (ending : Ending)
+      → FoundInventory (Ok text)
       → WritesText (string_bytes text) old new ending
       → Runs (Job.Inventory id) tries (change s s' old new) ending
   inventory_found old new text ending finds writes = record {
     calls = calls;
-    ends = text_may_end Form.Device (string_bytes text) old new ending writes;
-    why = λ h. text_ends (AtInventory id ∷ []) tries s s' (string_bytes text) old new ending (finds h).asks (finds h).refusals writes;
+    ends = grind arith;
+    why = λ h. text_ends tries (IsTrue s.plain) s s' (string_bytes text) old new ending (finds h).asks.ends writes;
     prints = λ h same. (
-      text_leaves (IsTextOver s.store) (inventory_plan id) (inventory_item id) old new (string_bytes text) ending refl refl ((finds h).is same) writes,
+      text_leaves (IsTextOver s.store) (OfInventory id) (AtInventory id ∷ []) old new (string_bytes text) ending ((finds h).is same) writes,
       omega (arith, (finds h).asks.calls same),
     );
   }
 
-  pub inventory_unread : (text : List ℕ) (unread : Unread) → Found (Err unread)
+  pub inventory_unread : (text : List ℕ) (unread : Unread) → FoundInventory (Err unread)
       → Runs (Job.Inventory id) tries (change s s' text text) (Err (failure_of unread))
   inventory_unread text unread none = record {
     calls = calls;
-    ends = none_may_end Form.Device unread;
-    why = λ h. none_ends (AtInventory id ∷ []) tries s s' (cause_of_unread unread) (none h);
+    ends = grind arith;
+    why = λ h. (none h).asks.ends;
     prints = λ h same. (
       none_leaves (IsTextOver s.store) (inventory_plan id) text (Err (failure_of unread)) (none h).there,
       omega (arith, (none h).asks.calls same),
@@ -144,16 +111,8 @@ module _ (id tries : ℕ) (s s' : Seen) (calls : s'.calls ≤ s.calls + fru_call
 
 -- ---- all inventories
 
--- that of device 0, and then what a listing of the locators leaves
-pub inventories_leave : (store : Store) (walk : List Row) (end : WalkEnd) (old text new : List ℕ)
-    (ending : Ending) → Printed (IsTextOver store) (inventory_item 0 ∷ []) old text
-    → IsAllowed (IsTextOver store) (listing_plan (listing Form.Device First None) walk end) text new ending
-    → IsAllowed (IsTextOver store) (inventories_plan walk end) old new ending
-inventories_leave store walk end old text new ending printed allowed =
-    leaves_joined (IsTextOver store) (inventory_item 0 ∷ []) (listing_plan (listing Form.Device First None) walk end) old text new ending (cause_of ending) printed allowed
-
--- or it did not come to the end of that of device 0
-pub first_leaves : (store : Store) (walk : List Row) (end : WalkEnd) (old new : List ℕ)
+-- it did not come to the end of that of device 0
+first_leaves : (store : Store) (walk : List Row) (end : WalkEnd) (old new : List ℕ)
     (failure : Failure) → IsAllowed (IsTextOver store) (inventory_plan 0) old new (Err failure)
     → IsAllowed (IsTextOver store) (inventories_plan walk end) old new (Err failure)
 first_leaves store walk end old new failure allowed =
@@ -162,30 +121,7 @@ first_leaves store walk end old new failure allowed =
   where
     there : (spot : Spot) (rest : List Item) → IsAmong (spots_at rest []) spot
         → IsAmong (spots_at (rest ++ row_items Form.Device First walk) (end_spots First walk end)) spot
-    there spot [] among = absurd among
-    there spot (item ∷ rest) among = among
-
-pub inventories_run : (tries : ℕ) (s s' s'' : Seen) (old text new : List ℕ)
-    (next : Result Place Failure) → s''.calls ≤ s'.calls + most_on_walk Form.Device tries
-    → EndsListing Form.Device (ending_of next)
-    → Runs (Job.Inventory 0) tries (change s s' old text) (Ok tt)
-    → (IsHonest s' → IsPage Form.Device First tries None (change s' s'' text new) next)
-    → Runs Job.AllInventories tries (change s s'' old new) (ending_of next)
-inventories_run tries s s' s'' old text new next calls may first page_of = record {
-  calls = omega (arith, first.calls, calls);
-  ends = may;
-  why = λ h.
-      let ends = first.why h in
-      ends_since tries (IsTrue s.plain) (IsTrue s'.plain) s s' s'' (cause_of (ending_of next)) ends.stays (record { refusals = ends.counts; troubles = ends.grows }) ends.stays.plain (page_of ends.stays.honest).ends;
-  prints = λ h same.
-      let ends = first.why h in
-      let page = page_of ends.stays.honest in
-      let since = between s s' s'' ends.stays page.ends.stays same in
-      let printed = first.prints h since.0 in
-      λ walk end w ends_.
-      let along = (rw (ends.stays.store.stays since.0) at (page.along since.1 walk end)) w ends_ in
-      (inventories_leave s.store walk end old text new (ending_of next) printed.0.0 along.leaves, omega (arith, printed.1, along.calls));
-}
+    there spot rest among = grind arith
 
 pub first_run : (tries : ℕ) (s s' : Seen) (old new : List ℕ) (failure : Failure)
     → Runs (Job.Inventory 0) tries (change s s' old new) (Err failure)
@@ -195,4 +131,27 @@ first_run tries s s' old new failure runs = record {
   ends = runs.ends;
   why = runs.why;
   prints = λ h same. λ walk end w ends. let printed = runs.prints h same in (first_leaves s.store walk end old new failure printed.0, omega (arith, printed.1));
+}
+
+-- that of device 0, and then what a listing of the locators leaves
+pub inventories_run : (tries : ℕ) (s s' s'' : Seen) (old text new : List ℕ)
+    (next : Result Place Failure) → s''.calls ≤ s'.calls + most_on_walk Form.Device tries
+    → EndsListing Form.Device (ending_of next)
+    → Runs (Job.Inventory 0) tries (change s s' old text) (Ok tt)
+    → (IsHonest s' → IsPage Form.Device First tries None (change s' s'' text new) next)
+    → Runs Job.AllInventories tries (change s s'' old new) (ending_of next)
+inventories_run tries s s' s'' old text new next calls may first page_of = record {
+  calls = omega (arith, first.calls, calls);
+  ends = may;
+  why = λ h. let ends = first.why h in ends_since ends ends.stays.plain (page_of ends.stays.honest).ends;
+  prints = λ h same.
+      let ends = first.why h in
+      let page = page_of ends.stays.honest in
+      let since = between s s' s'' ends.stays page.ends.stays same in
+      let printed = first.prints h since.0 in
+      λ walk end w ends_.
+      let along = (rw (ends.stays.store.stays since.0) at (page.along since.1 walk end)) w ends_ in (
+        leaves_joined (IsTextOver s.store) (inventory_item 0 ∷ []) (listing_plan (listing Form.Device First None) walk end) old text new (ending_of next) (cause_of (ending_of next)) printed.0.0 along.leaves,
+        omega (arith, printed.1, along.calls),
+      );
 }

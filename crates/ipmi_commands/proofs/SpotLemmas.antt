@@ -1,7 +1,7 @@
 -- The spots of a walk and of its rows.
-use Rattle.std.proofs.Common.{◌≡◌, ◌≢◌, inl, inr, ℕ, zero, suc, ◌<◌, ◌≤◌, ◌==◌, nat_lt, Bool, true, false, cond, List, [], ◌∷◌, ◌++◌, length, take, drop, refl, sym, ap, ◌∙◌, arith, ne_eqb, take_all}
+use Rattle.std.proofs.Common.{◌≡◌, ◌≢◌, inl, inr, ℕ, ◌==◌, Bool, true, false, cond, List, [], ◌∷◌, ◌++◌, refl, ap, arith, ne_eqb}
 use Rattle.ipmi_commands.specs.Below.{Place, First, Id, End, Row, WalkEnd, Done, EndsBy, place_after, place_after_rows, last_next, MayFail, asked_at}
-use Rattle.ipmi_commands.specs.Prelude.{AtRecord, end_spots, Form, IsAmong, Item, row_items, Spot, spots_along, spots_at, spots_of_walk}
+use Rattle.ipmi_commands.specs.Prelude.{AtRecord, end_spots, Form, IsAmong, row_items, Spot, spots_at}
 
 -- after a row a walk does not stand at the start
 pub not_first : (n : ℕ) (rows : List Row) → place_after_rows (place_after n) rows ≢ First
@@ -27,40 +27,12 @@ no_end_spot place rows moved = grind arith
 pub end_spots-joined : (start : Place) (done rest : List Row) (end : WalkEnd)
     → end_spots (place_after_rows start done) rest end ≡ end_spots start (done ++ rest) end
 end_spots-joined start [] rest end = refl
-end_spots-joined First (d ∷ done) rest Done = no_end_spot (place_after_rows (place_after d.next) done) rest (not_first d.next done)
-end_spots-joined _ (d ∷ done) rest Done = no_end_spot (place_after_rows (place_after d.next) done) rest (not_first d.next done)
-end_spots-joined start (d ∷ done) rest _ = refl
+end_spots-joined start (d ∷ done) rest end = grind (arith, no_end_spot (place_after_rows (place_after d.next) done) rest (not_first d.next done))
 
 pub among_after : (spots ends : List Spot) (spot : Spot) → IsAmong ends spot
     → IsAmong (spots ++ ends) spot
 among_after [] ends spot among = among
 among_after (first ∷ spots) ends spot among = inr (among_after spots ends spot among)
-
--- an id that is asked for along the rows
-along_spot : (start : Place) (walk : List Row) (ends : List Spot) (j : ℕ) → j < length walk
-    → IsAmong (spots_along start walk ++ ends)
-    (AtRecord (asked_at (place_after_rows start (take j walk))))
-along_spot start [] ends j within = absurd (omega (arith, within))
-along_spot start (row ∷ walk) ends zero within = inl refl
-along_spot start (row ∷ walk) ends (suc j) within = inr (along_spot (place_after row.next) walk ends j (omega (arith, within)))
-
--- or at its end
-pub walk_spot : (rows : List Row) (start : Place) (walk : List Row) (end : WalkEnd) (j : ℕ)
-    → EndsBy rows start walk end → j ≤ length walk
-    → (j ≡ length walk → MayFail end (place_after_rows start (take j walk)))
-    → IsAmong (spots_of_walk start walk end)
-    (AtRecord (asked_at (place_after_rows start (take j walk))))
-walk_spot rows start walk end j ends within may = by_place (nat_lt j (length walk)) refl
-  where
-    by_place : (b : Bool) → nat_lt j (length walk) ≡ b
-        → IsAmong (spots_of_walk start walk end)
-        (AtRecord (asked_at (place_after_rows start (take j walk))))
-    by_place true before = along_spot start walk (end_spots start walk end) j (search arith)
-    by_place false past =
-        let least : length walk ≤ j = search arith in
-        let all : j ≡ length walk = omega (arith, least, within) in
-        let whole = take_all j walk least in
-        rw whole (among_after (spots_along start walk) (end_spots start walk end) _ (end_spot rows start walk end ends (rw whole at (may all))))
 
 -- the id that is asked for first is a spot of what comes first
 pub asked_first : (form : Form) (place : Place) (rows : List Row) (ends : List Spot)

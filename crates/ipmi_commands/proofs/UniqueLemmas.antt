@@ -1,98 +1,79 @@
 -- What is printed has one text, and so has a finished run.
-use Rattle.std.proofs.Common.{◌≡◌, ℕ, ◌-◌, ◌==◌, not, Bool, true, false, cond, Option, None, Some, IfSome, Result, Ok, Err, List, [], ◌∷◌, ◌++◌, length, take, drop, refl, sym, subst, ◌∙◌, take-append-drop}
-use Rattle.ipmi_commands.specs.Below.{Shelf, Sdr, Sel, Place, First, start_of, Row, IsShelf, FoundIsRow, AreBytes, Reading, Store, IsStore, IsInfo, info_of, inventory_of, rows_of, store_shelf, AllOf, WalkExists, WalkEnd, Done, place_after, place_after_rows, IsFruText, SdrFault, SdrView, Event, OemTimed, OemPlain, Other, IsInfoBlock, fru_of, sdr_view_of, IsSdrBlock, entry_bytes, sel_view_of, SdrLineIsUnique, ExtendedLineIsUnique, SelLineIsUnique, SelBlockIsUnique, Kind, Ending}
-use Rattle.ipmi_records.specs.Sdr.{name_of}
-use Rattle.ipmi_commands.specs.Prelude.{AreOfBytes, AreTexts, Detail, first_rows, FinishedRunsAreOne, Form, IfChosen, info_plan, inventories_plan, inventory_plan, is_name, IsBlockOfName, IsDevicePiece, IsInventoryPiece, IsInventoryText, IsListed, IsListedOfKind, IsLocatorPiece, IsOfBytes, IsRowText, IsTextOver, Item, ItemsHaveOneText, Job, last_items, last_plan, last_rows, listing_plan, name_of_locator, no_plan, OfInfo, OfInventory, OfRow, Plan, PrintsAll, reading_for, row_is_of_kind, row_items, shelf_of, Spot, spots_of_walk, Subject, with_first_spots}
+use Rattle.std.proofs.Common.{◌≡◌, ℕ, ◌-◌, Bool, true, false, cond, Option, None, Some, IfSome, Result, List, [], ◌∷◌, ◌++◌, length, take, drop, sym, subst, ◌∙◌, arith, take-append-drop}
+use Rattle.ipmi_commands.specs.Below.{Shelf, Sdr, Sel, Place, First, start_of, Row, IsShelf, FoundIsRow, AreBytes, Reading, Store, IsStore, IsInfo, info_of, inventory_of, rows_of, store_shelf, AllOf, WalkExists, WalkEnd, place_after, place_after_rows, IsFruText, SdrFault, SdrView, Event, OemTimed, OemPlain, Other, IsInfoBlock, IsSdrBlock, entry_bytes, sel_view_of, SdrLineIsUnique, ExtendedLineIsUnique, SelLineIsUnique, SelBlockIsUnique, Ending}
+use Rattle.ipmi_commands.specs.Prelude.{AreOfBytes, Detail, first_rows, FinishedRunsAreOne, Form, IfChosen, info_plan, inventories_plan, inventory_plan, IsBlockOfName, IsDevicePiece, IsInventoryPiece, IsInventoryText, IsListed, IsLocatorPiece, IsOfBytes, IsRowText, IsTextOver, Item, ItemsHaveOneText, Job, last_items, last_plan, last_rows, listing_plan, no_plan, Plan, PrintsAll, row_items, shelf_of, Spot, spots_of_walk, Subject, with_first_spots}
+
+-- there is one such text at most
+abbrev IsOne : (List ℕ → Type 0) → Type 0
+IsOne IsText = (a b : List ℕ) → IsText a → IsText b → a ≡ b
+
+one_equation : (text : List ℕ) → IsOne (λ t. t ≡ text)
+one_equation text a b x y = x ∙ sym y
+
+one_chosen : (chosen : Bool) (IsText : List ℕ → Type 0) → IsOne IsText
+    → IsOne (IfChosen chosen IsText)
+one_chosen true IsText one = one
+one_chosen false IsText one = one_equation []
+
+-- the bytes of an entry's view
+same_bytes : (event timed plain : Bool) (bytes : List ℕ)
+    → entry_bytes (cond event (Event bytes)
+    (cond timed (OemTimed bytes) (cond plain (OemPlain bytes) (Other bytes)))) ≡ bytes
+same_bytes event timed plain bytes = grind arith
+
+entry_are_bytes : (bytes : List ℕ) → AreBytes bytes → AreBytes (entry_bytes (sel_view_of bytes))
+entry_are_bytes bytes are = subst AreBytes (sym (same_bytes _ _ _ bytes)) are
 
 -- what the laws of blocks and of inventories say
 abbrev SdrBlockIsUnique : Type 0
-SdrBlockIsUnique = (id : ℕ) (view : SdrView) (reading : Option Reading) (text other : List ℕ) → IsSdrBlock id view reading text → IsSdrBlock id view reading other → text ≡ other
+SdrBlockIsUnique = (id : ℕ) (view : SdrView) (reading : Option Reading) → IsOne (IsSdrBlock id view reading)
 
 abbrev InfoBlockIsUnique : Type 0
 InfoBlockIsUnique = (bytes text other : List ℕ) → AreBytes bytes → IsInfoBlock bytes text → IsInfoBlock bytes other → text ≡ other
 
 abbrev FruTextIsUnique : Type 0
-FruTextIsUnique = (bytes text other : List ℕ) → IsFruText bytes text → IsFruText bytes other → text ≡ other
+FruTextIsUnique = (bytes : List ℕ) → IsOne (IsFruText bytes)
 
 module _ (one_sdr_line : SdrLineIsUnique) (one_extended_line : ExtendedLineIsUnique)
     (one_sdr_block : SdrBlockIsUnique) (one_sel_line : SelLineIsUnique)
     (one_sel_block : SelBlockIsUnique) (one_info_block : InfoBlockIsUnique)
     (one_fru_text : FruTextIsUnique) where
-  one_chosen : (chosen : Bool) (IsText : List ℕ → Type 0)
-      → ((a b : List ℕ) → IsText a → IsText b → a ≡ b) → (a b : List ℕ) → IfChosen chosen IsText a
-      → IfChosen chosen IsText b → a ≡ b
-  one_chosen true IsText one a b x y = one a b x y
-  one_chosen false IsText one a b x y = x ∙ sym y
-
   one_listed : (detail : Detail) (store : Store) (id : ℕ) (view : Result SdrView SdrFault)
-      (a b : List ℕ) → IsListed detail store id view a → IsListed detail store id view b → a ≡ b
-  one_listed Detail.Short store id (Ok view) a b x y = one_sdr_line view (reading_for store view) a b x y
-  one_listed Detail.Extended store id (Ok view) a b x y = one_extended_line view (reading_for store view) a b x y
-  one_listed detail store id (Err fault) a b x y = x ∙ sym y
-
-  one_of_kind : (detail : Detail) (kind : Kind) (store : Store) (row : Row) (a b : List ℕ)
-      → IsListedOfKind detail kind store row a → IsListedOfKind detail kind store row b → a ≡ b
-  one_of_kind detail kind store row a b x y = one_chosen (row_is_of_kind kind row) (λ l. IsListed detail store row.id (sdr_view_of row.bytes) l) (one_listed detail store row.id (sdr_view_of row.bytes)) a b x y
-
-  -- the bytes of an entry's view
-  same_bytes : (event timed plain : Bool) (bytes : List ℕ)
-      → entry_bytes (cond event (Event bytes)
-      (cond timed (OemTimed bytes) (cond plain (OemPlain bytes) (Other bytes)))) ≡ bytes
-  same_bytes true timed plain bytes = refl
-  same_bytes false true plain bytes = refl
-  same_bytes false false true bytes = refl
-  same_bytes false false false bytes = refl
-
-  entry_are_bytes : (bytes : List ℕ) → AreBytes bytes → AreBytes (entry_bytes (sel_view_of bytes))
-  entry_are_bytes bytes are = subst AreBytes (sym (same_bytes _ _ _ bytes)) are
+      → IsOne (IsListed detail store id view)
+  one_listed detail store id view = grind (arith, one_sdr_line, one_extended_line)
 
   one_block_of_name : (name : List ℕ) (store : Store) (id : ℕ) (view : Result SdrView SdrFault)
-      (a b : List ℕ) → IsBlockOfName name store id view a → IsBlockOfName name store id view b
-      → a ≡ b
-  one_block_of_name name store id (Ok view) a b x y = one_chosen (is_name name (name_of view)) (λ l. IsSdrBlock id view (reading_for store view) l) (one_sdr_block id view (reading_for store view)) a b x y
-  one_block_of_name name store id (Err fault) a b x y = x ∙ sym y
+      → IsOne (IsBlockOfName name store id view)
+  one_block_of_name name store id view = grind (arith, one_chosen, one_sdr_block)
 
-  one_inventory_text : (o : Option (List ℕ)) (a b : List ℕ) → IsInventoryText o a
-      → IsInventoryText o b → a ≡ b
-  one_inventory_text None a b x y = x ∙ sym y
-  one_inventory_text (Some bytes) a b x y = one_fru_text bytes a b x y
+  one_inventory_text : (o : Option (List ℕ)) → IsOne (IsInventoryText o)
+  one_inventory_text None = one_equation _
+  one_inventory_text (Some bytes) = one_fru_text bytes
 
-  one_inventory : (store : Store) (id : ℕ) (name a b : List ℕ) → IsInventoryPiece store id name a
-      → IsInventoryPiece store id name b → a ≡ b
+  one_inventory : (store : Store) (id : ℕ) (name : List ℕ) → IsOne (IsInventoryPiece store id name)
   one_inventory store id name a b x y =
       x.text_is ∙ rw (one_inventory_text (inventory_of id store) x.inventory y.inventory x.is_inventory y.is_inventory) (sym y.text_is)
 
-  one_device : (store : Store) (view : SdrView) (id : Option ℕ) (a b : List ℕ)
-      → IsDevicePiece store view id a → IsDevicePiece store view id b → a ≡ b
-  one_device store view None a b x y = x ∙ sym y
-  one_device store view (Some id) a b x y = one_chosen (not (id == 0)) (λ l. IsInventoryPiece store id (name_of_locator view) l) (one_inventory store id (name_of_locator view)) a b x y
+  one_device : (store : Store) (view : SdrView) (id : Option ℕ)
+      → IsOne (IsDevicePiece store view id)
+  one_device store view id = grind (arith, one_chosen, one_inventory)
 
-  one_locator : (store : Store) (view : Result SdrView SdrFault) (a b : List ℕ)
-      → IsLocatorPiece store view a → IsLocatorPiece store view b → a ≡ b
-  one_locator store (Ok (SdrView.Fru bytes)) a b x y = one_device store (SdrView.Fru bytes) (fru_of (SdrView.Fru bytes)) a b x y
-  one_locator store _ a b x y = x ∙ sym y
+  one_locator : (store : Store) (view : Result SdrView SdrFault) → IsOne (IsLocatorPiece store view)
+  one_locator store view = grind (arith, one_device)
 
-  one_row : (form : Form) (store : Store) (row : Row) (a b : List ℕ) → AreBytes row.bytes
-      → IsRowText store form row a → IsRowText store form row b → a ≡ b
-  one_row Form.Raw store row a b are x y = x ∙ sym y
-  one_row (Form.Line detail kind) store row a b are x y = one_of_kind detail kind store row a b x y
-  one_row (Form.Block name) store row a b are x y = one_block_of_name name store row.id (sdr_view_of row.bytes) a b x y
-  one_row Form.Device store row a b are x y = one_locator store (sdr_view_of row.bytes) a b x y
-  one_row Form.EntryLine store row a b are x y = one_sel_line row.id (sel_view_of row.bytes) a b (entry_are_bytes row.bytes are) x y
-  one_row Form.EntryBlock store row a b are x y = one_sel_block row.id (sel_view_of row.bytes) a b (entry_are_bytes row.bytes are) x y
+  one_row : (form : Form) (store : Store) (row : Row) → AreBytes row.bytes
+      → IsOne (IsRowText store form row)
+  one_row form store row are = grind (arith, one_chosen, one_listed, one_block_of_name, one_locator, one_sel_line, one_sel_block, entry_are_bytes)
 
-  one_item : (store : Store) (subject : Subject) (a b : List ℕ) → IsOfBytes subject
-      → IsTextOver store subject a → IsTextOver store subject b → a ≡ b
-  one_item store (OfRow form row) a b bytes x y = one_row form store row a b bytes x y
-  one_item store (OfInventory id) a b bytes x y = one_inventory store id [] a b x y
-  one_item store (OfInfo info) a b bytes x y = one_info_block info a b bytes x y
-  one_item store _ a b bytes x y = x ∙ sym y
+  one_item : (store : Store) (subject : Subject) → IsOfBytes subject
+      → IsOne (IsTextOver store subject)
+  one_item store subject bytes = grind (arith, one_row, one_inventory, one_info_block)
 
   -- texts of items are one text
   pub one_text : ItemsHaveOneText
   one_text store [] a b bytes x y = x ∙ sym y
   one_text store (item ∷ items) a b bytes x y =
-      x.joined ∙ rw (one_item store item.subject x.first y.first bytes.0 x.is_first y.is_first, one_text store items x.rest y.rest bytes.1 x.is_rest y.is_rest) (sym y.joined)
+      x.joined ∙ rw (one_item store item.subject bytes.0 x.first y.first x.is_first y.is_first, one_text store items x.rest y.rest bytes.1 x.is_rest y.is_rest) (sym y.joined)
 
 -- ---- what is to be printed is of bytes
 
@@ -113,27 +94,22 @@ parts_of_shelf n rows walk all = both_of_shelf rows (take n walk) (drop n walk) 
 
 first_of_shelf : (most : Option ℕ) (rows walk : List Row) → AllOf rows walk
     → AllOf rows (first_rows most walk)
-first_of_shelf None rows walk all = all
-first_of_shelf (Some n) rows walk all = (parts_of_shelf n rows walk all).0
+first_of_shelf most rows walk all = grind (arith, parts_of_shelf)
 
 last_of_shelf : (n : ℕ) (rows walk : List Row) (end : WalkEnd) → AllOf rows walk
     → AllOf rows (last_rows n walk end)
-last_of_shelf n rows walk Done all = (parts_of_shelf (length walk - n) rows walk all).1
-last_of_shelf n rows walk _ all = tt
+last_of_shelf n rows walk end all = grind (arith, parts_of_shelf (length walk - n) rows walk all)
 
 first_kept : (spots : List Spot) (items : List Item) → AreOfBytes items
     → AreOfBytes (with_first_spots spots items)
-first_kept spots [] are = tt
-first_kept spots (item ∷ items) are = are
+first_kept spots items are = grind arith
 
 info_bytes : (o : Option (List ℕ)) → IfSome o IsInfo → AreOfBytes (info_plan o).items
-info_bytes None are = tt
-info_bytes (Some info) are = (are.all, tt)
+info_bytes o are = grind arith
 
 infos_bytes : (store : Store) → IsStore store → (shelf : Shelf)
     → AreOfBytes (info_plan (info_of shelf store)).items
-infos_bytes store ok Sdr = info_bytes store.sdr_info ok.sdr_info
-infos_bytes store ok Sel = info_bytes store.sel_info ok.sel_info
+infos_bytes store ok shelf = grind (arith, info_bytes)
 
 -- ---- one output
 

@@ -1,7 +1,7 @@
 -- What may be in the output of a run by how it ended, and what the controller counted. Everywhere `old` and `new` are what
 -- the output holds before and after.
-use Rattle.std.specs.Prelude.{◌≡◌, ℕ, ◌+◌, ◌<◌, ◌≤◌, Result, Ok, Err, List, [], ◌∷◌, ◌++◌, length, take, ◌⊎◌}
-use Rattle.ipmi_commands.specs.Below.{Ended, FruEnded, ImageFault, Seen, StaysHonest, Ending, Failure}
+use Rattle.std.specs.Prelude.{◌≡◌, ℕ, ◌+◌, ◌<◌, ◌≤◌, Result, Ok, Err, List, [], ◌∷◌, ◌++◌, length, ◌⊎◌}
+use Rattle.ipmi_commands.specs.Below.{Ended, FruEnded, ImageFault, Seen, StaysHonest, TakesPart, Ending, Failure}
 use Rattle.ipmi_commands.specs.Texts.{Subject}
 use Rattle.ipmi_commands.specs.Plan.{Spot, AtRecord, AtInventory, Item, Plan}
 
@@ -97,8 +97,7 @@ pub record HasCutItem (IsText : Subject → List ℕ → Type 0) (plan : Plan)
   pub text : List ℕ
   pub is_text : IsText item.subject text
   pub some : 0 < length text
-  pub bytes : ℕ
-  pub new_is : new ≡ whole ++ take bytes text
+  pub part : TakesPart whole new text
 
 -- all was printed, and the plan ends so
 abbrev pub PrintsAll : (Subject → List ℕ → Type 0) → Plan → List ℕ → List ℕ → Ending → Type 0

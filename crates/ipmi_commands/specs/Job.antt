@@ -11,6 +11,7 @@ use Rattle.ipmi_commands.specs.declared.job.Listing.{Listing}
 abbrev pub shelf_of : Form → Shelf
 shelf_of Form.EntryLine = Sel
 shelf_of Form.EntryBlock = Sel
+shelf_of Form.Passed = Sel
 shelf_of _ = Sdr
 
 -- the records from a place on, so many at most where there is a limit

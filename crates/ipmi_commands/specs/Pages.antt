@@ -1,7 +1,7 @@
 -- A listing in pages: each page has a cursor of its own, from where the page before it stopped.
-use Rattle.std.specs.Prelude.{◌≡◌, ℕ, ◌+◌, ◌*◌, ◌≤◌, ◌==◌, if◌then◌else◌, ◌⊎◌, IsTrue, Option, None, Some, IfOk, Result, Ok, Err, List, [], ◌∷◌}
+use Rattle.std.specs.Prelude.{◌≡◌, ℕ, ◌+◌, ◌*◌, ◌<◌, ◌≤◌, ◌==◌, if◌then◌else◌, ◌⊎◌, IsTrue, Option, None, Some, IfOk, Result, Ok, Err, List, [], ◌∷◌}
 use Rattle.std.specs.FinSet as set
-use Rattle.ipmi_commands.specs.Below.{step_call_bound, Place, First, End, Row, first_row, Store, rows_of, WalkEnd, CycleAt, place_after_rows, CursorState, start_of, Seen, CommandState, Ending, Failure}
+use Rattle.ipmi_commands.specs.Below.{step_call_bound, Place, First, End, Row, first_row, rows_of, WalkEnd, CycleAt, place_after_rows, CursorState, StandsAt, start_of, Seen, CommandState, Ending, Failure}
 use Rattle.ipmi_commands.specs.declared.job.Form.{Form}
 use Rattle.ipmi_commands.specs.Allowed.{IsAllowed, ending_of, EndsFor, cause_of, Change, change}
 use Rattle.ipmi_commands.specs.Asking.{calls_for, walk_call_bound}
@@ -20,12 +20,14 @@ listing_cursor command form from = record {
   reservation = None;
 }
 
--- ---- a page
+-- as it starts
+pub record IsFresh (command : CommandState) (form : Form) (from : Option ℕ)
+    (cursor : CursorState) : Type 0 where
+  pub is : cursor ≡ listing_cursor command form from
+  pub some : 0 < cursor.part
+  pub stands : (rows walk : List Row) → StandsAt rows (start_of from) walk 0 cursor
 
--- where the next page begins, after one that ended so at this place
-abbrev pub then_at : Ending → Place → Result Place Failure
-then_at (Ok done) place = Ok place
-then_at (Err failure) place = Err failure
+-- ---- a page
 
 -- where a listing goes on after these rows; on an empty shelf the end will do in place of the start
 abbrev pub GoesOn : List Row → Place → List Row → Place → Type 0

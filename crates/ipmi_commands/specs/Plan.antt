@@ -1,5 +1,5 @@
 -- What is to be printed over a store: its items in order, its end, and the spots at which a run may give up or be refused.
-use Rattle.std.specs.Prelude.{◌≡◌, ℕ, ◌-◌, ◌==◌, nat_le, ◌||◌, Bool, false, if◌then◌else◌, Option, Some, None, is_some, Result, Ok, Err, List, [], ◌∷◌, ◌++◌, length, take, drop}
+use Rattle.std.specs.Prelude.{ℕ, ◌-◌, ◌==◌, nat_le, ◌||◌, Bool, false, if◌then◌else◌, Option, Some, None, is_some, Result, Ok, Err, List, [], ◌∷◌, ◌++◌, length, take, drop}
 use Rattle.ipmi_commands.specs.Below.{Place, First, Shelf, Row, Store, rows_of, IsWalk, EndsBy, asked_at, WalkEnd, Done, CycleAt, MissingAt, place_after, place_after_rows, SdrFault, SdrView, Kind, Cycle, Missing, Ending, Failure}
 use Rattle.ipmi_records.specs.Sdr as sdr
 use Rattle.ipmi_commands.specs.declared.job.Form.{Form}
@@ -156,12 +156,20 @@ last_plan n start walk end = record {
       (end_spots start walk end);
 }
 
+-- of one text, after which the run is finished
+abbrev pub text_plan : Subject → List Spot → Plan
+text_plan subject spots = record {
+  items = record { subject = subject; spots = spots } ∷ [];
+  end = Ok tt;
+  end_spots = [];
+}
+
 abbrev pub inventory_item : ℕ → Item
 inventory_item id = record { subject = OfInventory id; spots = AtInventory id ∷ [] }
 
 -- of one inventory
 abbrev pub inventory_plan : ℕ → Plan
-inventory_plan id = record { items = inventory_item id ∷ []; end = Ok tt; end_spots = [] }
+inventory_plan id = text_plan (OfInventory id) (AtInventory id ∷ [])
 
 -- of all inventories: that of device 0, and then the locators
 abbrev pub inventories_plan : List Row → WalkEnd → Plan
@@ -174,20 +182,11 @@ inventories_plan walk end = record {
 -- of the info of a shelf: its block, or none
 abbrev pub info_plan : Option (List ℕ) → Plan
 info_plan None = record { items = []; end = Err Failure.NoInfo; end_spots = AtRecord 0 ∷ [] }
-info_plan (Some info) =
-    record {
-      items = record { subject = OfInfo info; spots = AtRecord 0 ∷ [] } ∷ [];
-      end = Ok tt;
-      end_spots = [];
-    }
+info_plan (Some info) = text_plan (OfInfo info) (AtRecord 0 ∷ [])
 
 -- of an image written again
 abbrev pub rewrite_plan : Plan
-rewrite_plan = record {
-  items = record { subject = OfImage; spots = [] } ∷ [];
-  end = Ok tt;
-  end_spots = [];
-}
+rewrite_plan = text_plan OfImage []
 
 -- which can't be done over a controller: nothing is printed
 abbrev pub no_plan : Plan

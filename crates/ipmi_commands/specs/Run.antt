@@ -1,9 +1,9 @@
 -- What a run of a command promises: over any controller, over an honest one, in pages, and over an image.
-use Rattle.std.specs.Prelude.{◌≡◌, ◌⊎◌, ℕ, ◌+◌, ◌*◌, ◌<◌, ◌≤◌, Bool, true, false, IsTrue, Option, None, Result, Ok, Err, String, string_bytes, List, [], ◌++◌, length}
-use Rattle.ipmi_commands.specs.Below.{fru_call_bound, start_of, Place, First, Shelf, Sdr, Sel, Row, Store, info_of, WalkEnd, Seen, IsHonest, ImageFault, Task, UsageFault, CommandState, Received, ReceivesText, TakesPart, Ending, Failure, failure_of_usage, said_of, status_of}
+use Rattle.std.specs.Prelude.{◌≡◌, ◌⊎◌, ℕ, ◌+◌, ◌*◌, ◌<◌, ◌≤◌, Bool, true, false, IsTrue, None, Result, Ok, Err, List, [], ◌++◌, length}
+use Rattle.ipmi_commands.specs.Below.{fru_call_bound, start_of, Place, First, Sdr, Sel, Row, Store, info_of, WalkEnd, IsHonest, ImageFault, UsageFault, CommandState, Received, ReceivesText, TakesPart, Ending, Failure, failure_of_usage, said_of, status_of}
 use Rattle.ipmi_commands.specs.declared.job.Form.{Form}
 use Rattle.ipmi_commands.specs.declared.job.Job.{Job}
-use Rattle.ipmi_commands.specs.Allowed.{NoMemory, cause_of, EndsFor, IsAllowed, IsFine, Change, change}
+use Rattle.ipmi_commands.specs.Allowed.{NoMemory, cause_of, EndsFor, IsAllowed, IsFine, Change}
 use Rattle.ipmi_commands.specs.Asking.{calls_at, walk_call_bound, most_on_walk}
 use Rattle.ipmi_commands.specs.Job.{shelf_of, is_rewrite, job_of, listing}
 use Rattle.ipmi_commands.specs.Listing.{EndsListing}

@@ -113,6 +113,7 @@ IsRowText store (Form.Block name) row text =
 IsRowText store Form.Device row text = IsLocatorPiece store (sdr.sdr_view_of row.bytes) text
 IsRowText store Form.EntryLine row text = IsSelLine row.id (sel_view_of row.bytes) text
 IsRowText store Form.EntryBlock row text = IsSelBlock row.id (sel_view_of row.bytes) text
+IsRowText store Form.Passed row text = text ≡ []
 
 -- a text of a subject, with the readings and inventories of the store
 abbrev pub IsTextOver : Store → Subject → List ℕ → Type 0

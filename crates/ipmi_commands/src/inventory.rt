@@ -20,7 +20,7 @@ fn is_absent(ended: FruEnded) -> bool
 /// The text for an inventory that was not read: `not present` where the controller has none. Any other reason is passed on.
 fn unread_text(alloc: Global, id: u8, ended: FruEnded) -> Result<String, Unread>
     ensures { (tries : ℕ) (s s' : Seen) → ReadsInventory id tries s s' (Err ended) →
-        Finds (λ store text. IsInventoryText (inventory_of id store) text) (AtInventory id ∷ [])
+        Finds (λ store text. IsInventoryText (inventory_of id store) (string_bytes text)) (AtInventory id ∷ [])
         tries s s' result }
 {
     if !is_absent(ended) {
@@ -39,7 +39,7 @@ fn inventory_text<C: Controller>(
     ensures calls { (C.seen ctl.new).calls ≤ (C.seen ctl.old).calls + fru_call_bound cmd.now.tries
         65535 }
     ensures honest { IsHonest (C.seen ctl.old) →
-        Finds (λ store text. IsInventoryText (inventory_of id store) text) (AtInventory id ∷ [])
+        Finds (λ store text. IsInventoryText (inventory_of id store) (string_bytes text)) (AtInventory id ∷ [])
         cmd.now.tries (C.seen ctl.old) (C.seen ctl.new) result }
 {
     match read_fru(alloc, ctl, id, cmd.part(), cmd.tries()) {
@@ -59,7 +59,7 @@ pub(crate) fn inventory_piece<C: Controller>(
     ensures calls { (C.seen ctl.new).calls ≤ (C.seen ctl.old).calls + fru_call_bound cmd.now.tries
         65535 }
     ensures honest { IsHonest (C.seen ctl.old) →
-        Finds (λ store text. IsInventoryPiece store id name.now text) (AtInventory id ∷ [])
+        Finds (λ store text. IsInventoryPiece store id name.now (string_bytes text)) (AtInventory id ∷ [])
         cmd.now.tries (C.seen ctl.old) (C.seen ctl.new) result }
 {
     let text = inventory_text(alloc, ctl, cmd, id)?;
@@ -97,7 +97,7 @@ fn device_piece<C: Controller>(
     ensures calls { (C.seen ctl.new).calls ≤ (C.seen ctl.old).calls + fru_call_bound cmd.now.tries
         65535 }
     ensures honest { IsHonest (C.seen ctl.old) →
-        Finds (λ store text. IsDevicePiece store view.now (fru_of view.now) text)
+        Finds (λ store text. IsDevicePiece store view.now (fru_of view.now) (string_bytes text))
         (device_spots (fru_of view.now)) cmd.now.tries (C.seen ctl.old) (C.seen ctl.new) result }
 {
     match view.fru_of() {
@@ -120,7 +120,7 @@ pub(crate) fn locator_piece<C: Controller>(
     ensures calls { (C.seen ctl.new).calls ≤ (C.seen ctl.old).calls + fru_call_bound cmd.now.tries
         65535 }
     ensures honest { let row = row_of_record lent.now in IsHonest (C.seen ctl.old) →
-        Finds (λ store text. IsLocatorPiece store (sdr_view_of row.bytes) text)
+        Finds (λ store text. IsLocatorPiece store (sdr_view_of row.bytes) (string_bytes text))
         (locator_spots (sdr_view_of row.bytes)) cmd.now.tries (C.seen ctl.old) (C.seen ctl.new)
         result }
 {
@@ -129,11 +129,6 @@ pub(crate) fn locator_piece<C: Controller>(
     };
     match &view {
         SdrView::Fru(_) => device_piece(alloc, ctl, cmd, &view),
-        SdrView::Full(_)
-        | SdrView::Compact(_)
-        | SdrView::EventOnly(_)
-        | SdrView::Generic(_)
-        | SdrView::Controller(_)
-        | SdrView::Other(_) => Ok(String::new(alloc)),
+        _ => Ok(String::new(alloc)),
     }
 }

@@ -33,6 +33,8 @@ pub(crate) enum Form<'a> {
     EntryLine,
     /// The block of an entry.
     EntryBlock,
+    /// Nothing: an entry is passed.
+    Passed,
 }
 
 /// A listing of the records from a place on, so many at most where there is a limit.
@@ -66,23 +68,19 @@ impl<'a> Form<'a> {
         ensures { result ≡ shelf_of self.now }
     {
         match self {
-            Form::EntryLine | Form::EntryBlock => Shelf::Sel,
+            Form::EntryLine | Form::EntryBlock | Form::Passed => Shelf::Sel,
             Form::Raw | Form::Line(_, _) | Form::Block(_) | Form::Device => Shelf::Sdr,
         }
     }
 
-    /// How a listing ends after its last record, by whether it wrote anything: a name that is asked for has to be found.
-    pub(crate) fn end(&self, wrote: bool) -> Result<(), Failure<'a>>
-        ensures { result ≡ end_of self.now wrote }
+    /// How a listing ends after its last record, by whether it wrote anything: with this, where no name that is asked for is
+    /// missing.
+    pub(crate) fn end<T: Copy>(&self, wrote: bool, with: T) -> Result<T, Failure<'a>>
+        ensures { result ≡ end_of self.now wrote with }
     {
         match self {
             Form::Block(name) if !wrote => Err(Failure::NoName(Name::new(name.as_str()))),
-            Form::Block(_)
-            | Form::Raw
-            | Form::Line(_, _)
-            | Form::Device
-            | Form::EntryLine
-            | Form::EntryBlock => Ok(()),
+            _ => Ok(with),
         }
     }
 }
@@ -129,14 +127,7 @@ impl<'a> Job<'a> {
     pub(crate) fn is_rewrite(&self) -> bool
         ensures { result ≡ is_rewrite self.now }
     {
-        match self {
-            Job::Rewrite => true,
-            Job::Records(_)
-            | Job::Last(_, _)
-            | Job::Info(_)
-            | Job::Inventory(_)
-            | Job::AllInventories => false,
-        }
+        matches!(self, Job::Rewrite)
     }
 
     /// The listing, where it is one.
@@ -145,11 +136,7 @@ impl<'a> Job<'a> {
     {
         match self {
             Job::Records(listing) => Some(listing),
-            Job::Last(_, _)
-            | Job::Info(_)
-            | Job::Inventory(_)
-            | Job::AllInventories
-            | Job::Rewrite => None,
+            _ => None,
         }
     }
 }

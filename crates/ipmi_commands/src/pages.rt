@@ -1,7 +1,7 @@
 //! Lists records in pages, each with a cursor of its own.
-ghost use Rattle.std.specs.Prelude.{◌≡◌, ◌≢◌, ◌+◌, ◌*◌, ◌<◌, ◌≤◌, List, Ok, Some, IfOk, false};
-ghost use Rattle.ipmi_commands.specs.Below.{start_of, IsHonest, Row, StandsAt, write_faults};
-ghost use Rattle.ipmi_commands.specs.Prelude.{ArePages, change, end_of, ending_of, EndsListing, IsFrom, IsPage, IsPlace, listing_cursor, most_on_walk, pages_made, then_at};
+ghost use Rattle.std.specs.Prelude.{◌≡◌, ◌≢◌, ◌+◌, ◌*◌, ◌≤◌, Some, IfOk};
+ghost use Rattle.ipmi_commands.specs.Below.{start_of, IsHonest, write_faults};
+ghost use Rattle.ipmi_commands.specs.Prelude.{ArePages, change, ending_of, EndsListing, IsFresh, IsFrom, IsPage, IsPlace, most_on_walk, pages_made};
 
 use crate::job::Form;
 use crate::listing::{is_reached, list_records};
@@ -19,10 +19,7 @@ pub(crate) fn start_cursor(
     from: Option<u16>,
 ) -> Result<Cursor, AllocError>
     requires { IsFrom from }
-    ensures stands { IfOk result (λ cursor. (rows walk : List Row) →
-        StandsAt rows (start_of from) walk 0 cursor) }
-    ensures fresh { IfOk result (λ cursor. cursor ≡ listing_cursor cmd.now form.now from) }
-    ensures some { IfOk result (λ cursor. 0 < cursor.part) }
+    ensures { IfOk result (λ cursor. IsFresh cmd.now form.now from cursor) }
 {
     Cursor::start(alloc, form.shelf(), from, cmd.part(), cmd.tries())
 }
@@ -48,23 +45,9 @@ fn list_from<'a, C: Controller, O: Sink>(
         IsPage form.now (start_of from) cmd.now.tries most (change (C.seen ctl.old) (C.seen ctl.new)
         (O.taken out.old) (O.taken out.new)) result }
 {
-    let Ok(mut cursor) = start_cursor(alloc, cmd, form, from) else {
-        return Err(Failure::OutOfMemory);
-    };
-    match list_records(alloc, &mut cursor, ctl, cmd, form, most, out) {
-        Ok(()) => Ok(cursor.resume_at()),
-        Err(failure) => Err(failure),
-    }
-}
-
-/// Where a page that asks for nothing stops.
-fn stop_there<'a>(form: &Form<'a>, place: Place) -> Result<Place, Failure<'a>>
-    ensures { result ≡ then_at (end_of form.now false) place }
-{
-    match form.end(false) {
-        Ok(()) => Ok(place),
-        Err(failure) => Err(failure),
-    }
+    let mut cursor = start_cursor(alloc, cmd, form, from)?;
+    list_records(alloc, &mut cursor, ctl, cmd, form, most, out)?;
+    Ok(cursor.resume_at())
 }
 
 /// Lists the records from the place, so many at most where there is a limit, with a cursor of its own, and says where the next
@@ -90,13 +73,13 @@ pub(crate) fn list_page<'a, C: Controller, O: Sink>(
         (O.taken out.old) (O.taken out.new)) result }
 {
     if is_reached(most, 0) {
-        return stop_there(form, place);
+        return form.end(false, place);
     }
     match place {
         Place::First => list_from(alloc, ctl, cmd, form, None, most, out),
         Place::Id(FIRST_RECORD_ID) => Err(Failure::Ended(Ended::Cycle(FIRST_RECORD_ID))),
         Place::Id(id) => list_from(alloc, ctl, cmd, form, Some(id), most, out),
-        Place::End => stop_there(form, place),
+        Place::End => form.end(false, place),
     }
 }
 
@@ -126,8 +109,6 @@ pub(crate) fn list_pages<'a, C: Controller, O: Sink>(
             Err(failure) => return Err(failure),
         }
     }
-    match list_page(alloc, ctl, cmd, form, place, None, out) {
-        Ok(_) => Ok(()),
-        Err(failure) => Err(failure),
-    }
+    list_page(alloc, ctl, cmd, form, place, None, out)?;
+    Ok(())
 }

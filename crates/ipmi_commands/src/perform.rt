@@ -20,10 +20,7 @@ pub(crate) fn write_text<'a, O: Sink>(text: &[u8], out: &mut O) -> Result<(), Fa
     ensures faults { O.faults out.new ≡ O.faults out.old + write_faults result }
     ensures text { WritesText text.now (O.taken out.old) (O.taken out.new) result }
 {
-    match write_all(out, text) {
-        Ok(()) => Ok(()),
-        Err(_) => Err(Failure::WriteFault),
-    }
+    Ok(write_all(out, text)?)
 }
 
 /// Lists records along one walk.
@@ -39,7 +36,7 @@ fn list<'a, C: Controller, O: Sink>(
     ensures runs { Runs (Job.Records listing.now) cmd.now.tries
         (change (C.seen ctl.old) (C.seen ctl.new) (O.taken out.old) (O.taken out.new)) result }
 {
-    match list_page(
+    list_page(
         alloc,
         ctl,
         cmd,
@@ -47,10 +44,8 @@ fn list<'a, C: Controller, O: Sink>(
         listing.start,
         listing.most,
         out,
-    ) {
-        Ok(_) => Ok(()),
-        Err(failure) => Err(failure),
-    }
+    )?;
+    Ok(())
 }
 
 /// Prints the info of the shelf.
@@ -65,10 +60,9 @@ fn print_info<'a, C: Controller, O: Sink>(
     ensures runs { Runs (Job.Info shelf) cmd.now.tries
         (change (C.seen ctl.old) (C.seen ctl.new) (O.taken out.old) (O.taken out.new)) result }
 {
-    match info_text(alloc, ctl, shelf, cmd.tries()) {
-        Ok(Some(text)) => write_text(text.as_bytes(), out),
-        Ok(None) => Err(Failure::NoInfo),
-        Err(unread) => Err(Failure::from(unread)),
+    match info_text(alloc, ctl, shelf, cmd.tries())? {
+        Some(text) => write_text(text.as_bytes(), out),
+        None => Err(Failure::NoInfo),
     }
 }
 
@@ -84,10 +78,8 @@ fn print_inventory<'a, C: Controller, O: Sink>(
     ensures runs { Runs (Job.Inventory id) cmd.now.tries
         (change (C.seen ctl.old) (C.seen ctl.new) (O.taken out.old) (O.taken out.new)) result }
 {
-    match inventory_piece(alloc, ctl, cmd, id, "") {
-        Ok(text) => write_text(text.as_bytes(), out),
-        Err(unread) => Err(Failure::from(unread)),
-    }
+    let text = inventory_piece(alloc, ctl, cmd, id, "")?;
+    write_text(text.as_bytes(), out)
 }
 
 /// Prints all inventories: that of device 0, and then the locators.
@@ -101,14 +93,9 @@ fn print_inventories<'a, C: Controller, O: Sink>(
     ensures runs { Runs Job.AllInventories cmd.now.tries
         (change (C.seen ctl.old) (C.seen ctl.new) (O.taken out.old) (O.taken out.new)) result }
 {
-    match print_inventory(alloc, ctl, cmd, 0, out) {
-        Ok(()) => {}
-        Err(failure) => return Err(failure),
-    }
-    match list_page(alloc, ctl, cmd, &Form::Device, Place::First, None, out) {
-        Ok(_) => Ok(()),
-        Err(failure) => Err(failure),
-    }
+    print_inventory(alloc, ctl, cmd, 0, out)?;
+    list_page(alloc, ctl, cmd, &Form::Device, Place::First, None, out)?;
+    Ok(())
 }
 
 /// Does what the command asks for over the controller, and says why it did not finish. `image rewrite` is

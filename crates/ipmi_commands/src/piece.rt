@@ -1,13 +1,13 @@
 //! What a command prints for a record. Where the text needs a reading, it is asked for here, while the record is lent.
-ghost use Rattle.std.specs.Prelude.{◌≡◌, ◌+◌, ◌≤◌, IfOk, length, option_map, string_bytes};
-ghost use Rattle.ipmi_commands.specs.Below.{row_of_record, IsHonest, largest_len, whole_len, sdr_view_of, sel_view_of, IsSelBlock, IsSelLine};
+ghost use Rattle.std.specs.Prelude.{◌≡◌, ◌+◌, ◌≤◌, IfOk, length, Ok, option_map, string_bytes};
+ghost use Rattle.ipmi_commands.specs.Below.{row_of_record, IsHonest, largest_len, whole_len, sdr_view_of};
 ghost use Rattle.ipmi_records.specs.Sdr.{name_of};
-ghost use Rattle.ipmi_commands.specs.Prelude.{ReadsFor, bytes_of, Finds, FindsPiece, is_name, is_of_kind, IsBlockOfName, IsLineOf, IsListedOfKind, listed_spots, most_after, named_spots, shelf_of};
+ghost use Rattle.ipmi_commands.specs.Prelude.{bytes_of, Finds, is_name, is_of_kind, IsBlockOfName, IsLineOf, IsListedOfKind, IsRowText, listed_spots, most_after, named_spots, reading_for, reading_spots, shelf_of, spots_after};
 
 use crate::inventory::locator_piece;
 use crate::job::{Detail, Form};
 use crate::unread::Unread;
-use ipmi_bus::{Controller, Ended, Record, SEL_ENTRY_LEN, read_reading};
+use ipmi_bus::{Controller, Record, SEL_ENTRY_LEN, read_reading};
 use ipmi_command_line::{Command, Kind};
 use ipmi_image::{LineBuffer, record_line};
 use ipmi_records::{
@@ -18,31 +18,11 @@ use ipmi_text::Reading;
 use std::alloc::{AllocError, Global};
 
 /// The bytes of an entry of the event log.
-fn entry_bytes(bytes: &[u8]) -> [u8; SEL_ENTRY_LEN]
+fn entry_bytes(bytes: &[u8]) -> &[u8; SEL_ENTRY_LEN]
     requires { length bytes.now ≡ 16 }
-    ensures { result ≡ bytes.now }
+    ensures { result.now ≡ bytes.now }
 {
-    *bytes.first_chunk::<SEL_ENTRY_LEN>().unwrap()
-}
-
-/// The line of an entry of the event log.
-fn entry_line(alloc: Global, lent: &Record<'_>) -> Result<String, AllocError>
-    requires { length lent.now.bytes.now ≡ 16 }
-    ensures { IfOk result (λ text. IsSelLine lent.now.id (sel_view_of lent.now.bytes.now)
-        (string_bytes text)) }
-{
-    let entry = entry_bytes(lent.bytes);
-    sel_line(alloc, lent.id, &SelView::read(&entry))
-}
-
-/// The block of an entry of the event log.
-fn entry_block(alloc: Global, lent: &Record<'_>) -> Result<String, AllocError>
-    requires { length lent.now.bytes.now ≡ 16 }
-    ensures { IfOk result (λ text. IsSelBlock lent.now.id (sel_view_of lent.now.bytes.now)
-        (string_bytes text)) }
-{
-    let entry = entry_bytes(lent.bytes);
-    sel_block(alloc, lent.id, &SelView::read(&entry))
+    bytes.first_chunk::<SEL_ENTRY_LEN>().unwrap()
 }
 
 /// Whether a record is of the kind, by its type byte.
@@ -61,20 +41,21 @@ fn is_of_kind(kind: Kind, record_type: u8) -> bool
     }
 }
 
-/// Asks for the reading that goes with a record, if there is one. An `Ended` names the record's id.
+/// Asks for the reading that goes with a record, if there is one. An `Ended` in the reason names the record's id.
 fn reading_for<C: Controller>(
     ctl: &mut C,
     id: u16,
     view: &SdrView<'_>,
     tries: u8,
-) -> Result<Option<Reading>, Ended>
+) -> Result<Option<Reading>, Unread>
     ensures calls { (C.seen ctl.new).calls ≤ (C.seen ctl.old).calls + (tries + 1) }
-    ensures honest { IsHonest (C.seen ctl.old) → ReadsFor id view.now tries (C.seen ctl.old)
-        (C.seen ctl.new) result }
+    ensures honest { IsHonest (C.seen ctl.old) →
+        Finds (λ store reading. reading ≡ reading_for store view.now) (reading_spots id (Ok view.now))
+        tries (C.seen ctl.old) (C.seen ctl.new) result }
 {
     match view.reading_of() {
         None => Ok(None),
-        Some((lun, number)) => read_reading(ctl, id, lun, number, tries),
+        Some((lun, number)) => Ok(read_reading(ctl, id, lun, number, tries)?),
     }
 }
 
@@ -105,8 +86,8 @@ fn listed_line<C: Controller>(
     requires { 5 ≤ length lent.now.bytes.now }
     ensures calls { (C.seen ctl.new).calls ≤ (C.seen ctl.old).calls + (tries + 1) }
     ensures honest { let row = row_of_record lent.now in IsHonest (C.seen ctl.old) →
-        Finds (λ store text. IsListedOfKind detail kind store row text) (listed_spots kind row) tries
-        (C.seen ctl.old) (C.seen ctl.new) result }
+        Finds (λ store text. IsListedOfKind detail kind store row (string_bytes text))
+        (listed_spots kind row) tries (C.seen ctl.old) (C.seen ctl.new) result }
 {
     if !is_of_kind(kind, lent.bytes[3]) {
         return Ok(String::new(alloc));
@@ -139,8 +120,8 @@ fn named_block<C: Controller>(
 ) -> Result<String, Unread>
     ensures calls { (C.seen ctl.new).calls ≤ (C.seen ctl.old).calls + (tries + 1) }
     ensures honest { let row = row_of_record lent.now in IsHonest (C.seen ctl.old) →
-        Finds (λ store text. IsBlockOfName name.now store row.id (sdr_view_of row.bytes) text)
-        (named_spots name.now row.id (sdr_view_of row.bytes)) tries (C.seen ctl.old)
+        Finds (λ store text. IsBlockOfName name.now store row.id (sdr_view_of row.bytes)
+        (string_bytes text)) (named_spots name.now row.id (sdr_view_of row.bytes)) tries (C.seen ctl.old)
         (C.seen ctl.new) result }
 {
     let Ok(view) = SdrView::read(lent.bytes) else {
@@ -189,9 +170,9 @@ pub(crate) fn record_piece<C: Controller>(
     requires fits { length lent.now.bytes.now ≤ largest_len (shelf_of form.now) }
     ensures calls { (C.seen ctl.new).calls ≤ (C.seen ctl.old).calls + most_after form.now
         cmd.now.tries }
-    ensures honest { IsHonest (C.seen ctl.old) →
-        FindsPiece form.now cmd.now.tries (row_of_record lent.now) (C.seen ctl.old) (C.seen ctl.new)
-        line.new.items result }
+    ensures honest { let row = row_of_record lent.now in IsHonest (C.seen ctl.old) →
+        Finds (λ store piece. IsRowText store form.now row (bytes_of line.new.items piece))
+        (spots_after form.now row) cmd.now.tries (C.seen ctl.old) (C.seen ctl.new) result }
 {
     let tries = cmd.tries();
     match form {
@@ -200,12 +181,18 @@ pub(crate) fn record_piece<C: Controller>(
             Ok(Piece::Line)
         }
         Form::Line(detail, kind) => {
-            let text = listed_line(alloc, ctl, *detail, *kind, tries, lent)?;
-            Ok(Piece::Text(text))
+            Ok(Piece::Text(listed_line(alloc, ctl, *detail, *kind, tries, lent)?))
         }
         Form::Block(name) => Ok(Piece::Text(named_block(alloc, ctl, name.as_str(), tries, lent)?)),
         Form::Device => Ok(Piece::Text(locator_piece(alloc, ctl, cmd, lent)?)),
-        Form::EntryLine => Ok(Piece::Text(entry_line(alloc, lent)?)),
-        Form::EntryBlock => Ok(Piece::Text(entry_block(alloc, lent)?)),
+        Form::EntryLine => {
+            let entry = SelView::read(entry_bytes(lent.bytes));
+            Ok(Piece::Text(sel_line(alloc, lent.id, &entry)?))
+        }
+        Form::EntryBlock => {
+            let entry = SelView::read(entry_bytes(lent.bytes));
+            Ok(Piece::Text(sel_block(alloc, lent.id, &entry)?))
+        }
+        Form::Passed => Ok(Piece::Text(String::new(alloc))),
     }
 }

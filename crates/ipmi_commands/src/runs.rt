@@ -73,10 +73,7 @@ pub fn execute_image<'a, O: Sink>(
     ensures answers { AnswersCommand cmd.now (store_of_image image.now) (O.taken out.old)
         (O.taken out.new) result }
 {
-    let image = match Image::read(alloc, image) {
-        Ok(image) => image,
-        Err(fault) => return Err(Failure::from(fault)),
-    };
+    let image = Image::read(alloc, image)?;
     if Job::of(cmd).is_rewrite() {
         return write_image(alloc, &image, out);
     }
@@ -88,10 +85,7 @@ fn write_image<'a, O: Sink>(alloc: Global, image: &Image, out: &mut O) -> Result
     ensures faults { O.faults out.new ≡ O.faults out.old + write_faults result }
     ensures answers { IsRewriting image.now (O.taken out.old) (O.taken out.new) result }
 {
-    match image_text(alloc, image) {
-        Ok(text) => write_text(&text, out),
-        Err(_) => Err(Failure::OutOfMemory),
-    }
+    write_text(&image_text(alloc, image)?, out)
 }
 
 /// Answers a command line over a saved image: says to `err` why it was not done in full, and gives the exit status, as [`run`],

@@ -1,4 +1,4 @@
-use Rattle.std.proofs.Common.{arith, sym, ap, ◌∙◌}
+use Rattle.std.proofs.Common.{arith}
 use Rattle.ipmi_commands.specs.Prelude.{most_on_walk}
 use Rattle.ipmi_commands.proofs.PageLemmas.{page_leads, last_leads, calls_after_page}
 use Rattle.ipmi_commands.proofs.pages.list_pages.Goals as goal

@@ -1,6 +1,6 @@
-use Rattle.std.proofs.Common.{Err, refl, ◌∙◌, sym, arith}
-use Rattle.ipmi_commands.specs.Below.{stays_refl}
+use Rattle.std.proofs.Common.{refl, ◌∙◌, sym, arith}
 use Rattle.ipmi_commands.specs.Prelude.{IsTextOver}
+use Rattle.ipmi_commands.proofs.CountLemmas.{ends_here}
 use Rattle.ipmi_commands.proofs.ItemLemmas.{none_printed}
 use Rattle.ipmi_commands.proofs.perform.execute.Goals as goal
 
@@ -8,6 +8,6 @@ pub returns-in-Rewrite-clause-runs : goal.returns-in-Rewrite-clause-runs
 returns-in-Rewrite-clause-runs g c = rw (sym c.of.ensures.value ∙ c.in-Rewrite.is) (record {
   calls = omega arith;
   ends = (refl, refl, refl);
-  why = λ h. record { stays = stays_refl _ h; grows = omega arith; counts = refl; plain = λ p. tt };
-  prints = λ h same. ((none_printed (IsTextOver _) _, refl), omega arith);
+  why = λ h. ends_here h refl tt;
+  prints = λ h same. ((none_printed (IsTextOver _) _ _ refl, refl), omega arith);
 })

@@ -1,16 +1,14 @@
 use Rattle.std.proofs.Common.{Ok, Err}
+use Rattle.ipmi_commands.proofs.AskLemmas.{passed}
 use Rattle.ipmi_commands.proofs.PerformLemmas.{first_run, inventories_run}
 use Rattle.ipmi_commands.proofs.perform.print_inventories.Goals as goal
 
-pub returns-in-Err-clause-runs : goal.returns-in-Err-clause-runs
-returns-in-Err-clause-runs g c = first_run _ _ _ _ _ c.in-Err.failure (rw c.in-Err.is at c.print_inventory.ensures.runs)
+pub returns-in_err-print_inventory-clause-runs : goal.returns-in_err-print_inventory-clause-runs
+returns-in_err-print_inventory-clause-runs g c = rw (passed _ _ c.from_residual.ensures.1) (first_run _ _ _ _ _ _ c.in_err-print_inventory.ensures.runs)
 
-pub returns-in-Ok-list_page-clause-runs : goal.returns-in-Ok-list_page-clause-runs
-returns-in-Ok-list_page-clause-runs g c =
-    inventories_run _ _ _ _ _ _ _ (Ok c.in-Ok-list_page.field-0) c.list_page.ensures.calls (rw c.in-Ok-list_page.is at c.list_page.ensures.ends) (rw c.in-Ok.is at c.print_inventory.ensures.runs)
-    (rw c.in-Ok-list_page.is at c.list_page.ensures.honest)
+pub returns-in_err-list_page-clause-runs : goal.returns-in_err-list_page-clause-runs
+returns-in_err-list_page-clause-runs g c =
+    rw (passed _ _ c.from_residual-in_err-list_page.ensures.1) (inventories_run _ _ _ _ _ _ _ (Err _) c.list_page.ensures.calls c.in_err-list_page.ensures.ends c.in_ok-print_inventory.ensures.runs c.in_err-list_page.ensures.honest)
 
-pub returns-in-Err-list_page-clause-runs : goal.returns-in-Err-list_page-clause-runs
-returns-in-Err-list_page-clause-runs g c =
-    inventories_run _ _ _ _ _ _ _ (Err c.in-Err-list_page.failure) c.list_page.ensures.calls (rw c.in-Err-list_page.is at c.list_page.ensures.ends) (rw c.in-Ok.is at c.print_inventory.ensures.runs)
-    (rw c.in-Err-list_page.is at c.list_page.ensures.honest)
+pub returns-clause-runs : goal.returns-clause-runs
+returns-clause-runs g c = inventories_run _ _ _ _ _ _ _ (Ok _) c.list_page.ensures.calls c.in_ok-list_page.ensures.ends c.in_ok-print_inventory.ensures.runs c.in_ok-list_page.ensures.honest

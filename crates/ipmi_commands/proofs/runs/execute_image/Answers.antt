@@ -5,5 +5,5 @@ use Rattle.ipmi_commands.proofs.runs.execute_image.Goals as goal
 
 pub returns-clause-answers : goal.returns-clause-answers
 returns-clause-answers g c =
-    rw c.in-Ok.ensures.ok (over_image _ c.args.cmd.now.tries _ _ _ _ _ c.execute.result (ap is_rewrite (sym c.of.ensures.value) ∙ sym c.is_rewrite.ensures ∙ c.if-is_rewrite.false)
+    rw c.in_ok-image.ensures.ok (over_image _ c.args.cmd.now.tries _ _ _ _ _ c.execute.result (ap is_rewrite (sym c.of.ensures.value) ∙ sym c.is_rewrite.ensures ∙ c.if-is_rewrite.false)
     c.new.ensures.plain.honest c.new.ensures.plain.said c.new.ensures.store c.execute.ensures.runs)

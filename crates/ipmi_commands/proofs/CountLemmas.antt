@@ -1,0 +1,38 @@
+-- What an honest controller counts over several stretches of calls.
+use Rattle.std.proofs.Common.{◌≡◌, ℕ, ◌≤◌, arith}
+use Rattle.ipmi_commands.specs.Below.{Seen, IsHonest, StaysHonest, stays_refl, stays_trans}
+use Rattle.ipmi_commands.specs.Prelude.{AtEnd, Cause, CountsSo, EndsFor, IsFine}
+
+-- over no call at all
+pub ends_here : {tries : ℕ} {IsPlain : Type 0} {s : Seen} {cause : Cause} → IsHonest s
+    → CountsSo tries s s cause → IsFine cause → EndsFor tries IsPlain s s cause
+ends_here {s = s} honest counts fine = record { stays = stays_refl s honest; grows = omega arith; counts = counts; plain = λ p. fine }
+
+-- what went well may end by this too
+pub ends_as : {tries : ℕ} {IsPlain : Type 0} {s s' : Seen} {cause : Cause}
+    → EndsFor tries IsPlain s s' AtEnd
+    → CountsSo tries s s' cause → IsFine cause → EndsFor tries IsPlain s s' cause
+ends_as ends counts fine = record { stays = ends.stays; grows = ends.grows; counts = counts; plain = λ p. fine }
+
+-- where no store is added in all, none is added in either part
+pub between : (s s' s'' : Seen) → StaysHonest s s' → StaysHonest s' s''
+    → s''.stores_added ≡ s.stores_added
+    → (s'.stores_added ≡ s.stores_added) × (s''.stores_added ≡ s'.stores_added)
+between s s' s'' before later same = omega (arith, before.store.grows, later.store.grows, same)
+
+counts_since : (tries : ℕ) (s s' s'' : Seen)
+    → (s''.stores_added ≡ s.stores_added → s''.stores_added ≡ s'.stores_added) → (cause : Cause)
+    → s'.refusals ≡ s.refusals → s.troubles ≤ s'.troubles → CountsSo tries s' s'' cause
+    → CountsSo tries s s'' cause
+counts_since tries s s' s'' later cause refusals troubles counts = grind arith
+
+-- what came later ended so, and so did all
+pub ends_since : {tries : ℕ} {IsPlain IsPlainLater : Type 0} {s s' s'' : Seen} {cause : Cause}
+    → EndsFor tries IsPlain s s' AtEnd → (IsPlain → IsPlainLater)
+    → EndsFor tries IsPlainLater s' s'' cause → EndsFor tries IsPlain s s'' cause
+ends_since {tries = tries} {s = s} {s' = s'} {s'' = s''} {cause = cause} before plain later = record {
+  stays = stays_trans s s' s'' before.stays later.stays;
+  grows = omega (arith, before.grows, later.grows);
+  counts = counts_since tries s s' s'' (λ same. (between s s' s'' before.stays later.stays same).1) cause before.counts before.grows later.counts;
+  plain = λ p. later.plain (plain p);
+}
