@@ -67,7 +67,7 @@ AreBytes-big_bytes zero x = All-nil (λ (b : ℕ). b < 256)
 AreBytes-big_bytes (suc zero) x = All-cons (λ (b : ℕ). b < 256) (x % 256) [] (omega arith) (AreBytes-big_bytes zero x)
 AreBytes-big_bytes (suc (suc n)) x = All-cons (λ (b : ℕ). b < 256) (x / 256 ^ suc n % 256) (big_bytes (suc n) x) (omega arith) (AreBytes-big_bytes (suc n) x)
 
-IsBytes-from_AreBytes : (bytes : List ℕ) → AreBytes bytes → IsBytes bytes
+pub IsBytes-from_AreBytes : (bytes : List ℕ) → AreBytes bytes → IsBytes bytes
 IsBytes-from_AreBytes bytes all i = grind (arith, common_steps)
 
 bytes_in-encode_lower : (bytes : List ℕ) → AreBytes bytes

@@ -1,74 +1,159 @@
--- What the stores that images give have beside what every store has.
-use Rattle.std.proofs.Common.{◌≡◌, ℕ, ◌+◌, ◌<◌, ◌≤◌, Bool, true, false, cond, not, Option, None, Some, Result, Ok, Err, List, [], ◌∷◌, ◌++◌, length, map, refl, arith, codes, All, filter_map, unwrap_or, length-append, bytes_eq, fold}
+-- What the stores that images give have: they are well formed, no inventory is empty, and a LUN is two bits.
+use Rattle.std.proofs.Common.{rules, ◌≡◌, ℕ, ◌+◌, ◌*◌, ◌^◌, ◌<◌, ◌≤◌, Bool, true, false, cond, not, Option, None, Some, IfSome, IfOk, Result, Ok, Err, List, [], ◌∷◌, ◌++◌, length, map, refl, arith, codes, All, filter_map, unwrap_or, length-append, bytes_eq, fold, option_map}
+use Rattle.std.specs.Result.{result_ok}
 use Rattle.std.proofs.lemmas.List.{length-map}
 use Rattle.std.proofs.Math.ListN.{get_or-map}
-use Rattle.std.proofs.lemmas.List.Elements.{All-nil, All-cons, All-append, filter_map-append}
+use Rattle.std.proofs.lemmas.Bool.Decides.{nat_tests}
+use Rattle.std.proofs.lemmas.Result.{IfOk-at_ok}
+use Rattle.std.proofs.lemmas.List.Elements.{All-push, All-from_get_or}
 use Rattle.std.proofs.lemmas.List.Sums.{fold-append}
+use Rattle.byteorder.specs.Endian.{big_number}
+use Rattle.byteorder.specs.Numbers.{big_from-lt}
+use Rattle.hex.specs.declared.error.FromHexError.{FromHexError}
 use Rattle.hex.specs.Hex.{decode_of}
 use Rattle.hex.proofs.HexLemmas.{decode_of-ok}
-use Rattle.ipmi_image.specs.Below.{Shelf, Sdr, Sel, Store, Inventory, SensorReading, inventory_in}
-use Rattle.ipmi_image.specs.Prelude.{LineFault, ImageFault, pieces, Line, an_inventory, a_reading, is_some_text, with_two, with_three, row_line, inventory_line, reading_line, info_line, line_of_fields, line_of, with_inventory_line, sensor_on, store_of_lines, fault_in, line_judged, is_end, ends_here, store_after, version_in, store_of_pieces, store_of_image, StoredSensor, sensor_of, IsSaved, the_end, Version}
+use Rattle.ipmi_image.specs.Below.{Shelf, Sdr, Sel, AreBytes, Store, Inventory, SensorReading, IsShelf, IsInfo, IsStore, info_of, inventory_in}
+use Rattle.ipmi_image.specs.Prelude.{LineFault, ImageFault, pieces, Line, a_row, an_inventory, a_reading, an_info, the_end, bytes_in, number_in, with_two, with_three, row_line, inventory_line, reading_line, info_line, line_of_fields, line_of, chained, row_on, info_on, info_fault, with_inventory_line, sensor_on, reading_of_bytes, store_of_lines, fault_in, line_judged, is_end, ends_here, store_after, store_of_pieces, store_of_image, StoredSensor, sensor_of, AreInventories, AreReadings, IsSaved, Version}
+use Rattle.ipmi_image.proofs.ParseLemmas.{IsBytes-from_AreBytes}
 use Rattle.ipmi_image.proofs.ReadLemmas.{after_line}
-use Rattle.ipmi_image.proofs.StoreLemmas.{reading_fine, with_bytes_all}
+use Rattle.ipmi_image.proofs.ShelfLemmas.{shelf_with}
+use Rattle.ipmi_image.proofs.StoreLemmas.{reading_fine, with_bytes_all, AreInventories-more, AreReadings-new, said_after, filter_map-after, info_after, first_of-after}
 
--- ---- a line of an inventory has bytes
+-- ---- what a line says by itself
 
-decode_of_has_bytes : (hex bytes : List ℕ) → is_some_text hex ≡ true → decode_of hex ≡ Ok bytes
-    → 0 < length bytes
-decode_of_has_bytes [] bytes some e = cc some
-decode_of_has_bytes (digit ∷ hex) bytes some e = let ok = decode_of-ok (digit ∷ hex) bytes e in let len = ok.2 in omega (arith, len)
+-- its numbers fit their fields, its bytes are bytes, and an inventory's are some
+abbrev IsSaid : Line → Type 0
+IsSaid (a_row shelf row) =
+    (row.id < 65536) × (unwrap_or row.next 65535 < 65536) × AreBytes row.bytes
+IsSaid (an_inventory id bytes) = (id < 256) × (0 < length bytes) × AreBytes bytes
+IsSaid (a_reading lun number bytes) = (lun < 256) × (number < 256) × AreBytes bytes
+IsSaid (an_info shelf bytes) = AreBytes bytes
+IsSaid the_end = Unit {0}
 
-module _ (version : Version) (id : ℕ) (bytes : List ℕ) where
-  row_line_has_bytes : (shelf : Shelf) (a b c : List ℕ)
-      → row_line version shelf a b c ≡ Ok (an_inventory id bytes) → 0 < length bytes
-  row_line_has_bytes shelf a b c e = grind arith
+-- what hex digits decode to
+bytes_in-bytes : (hex : List ℕ)
+    → IfSome (bytes_in hex) (λ bytes. AreBytes bytes × (length hex ≡ 2 * length bytes))
+bytes_in-bytes hex = by (decode_of hex) refl
+  where
+    by : (r : Result (List ℕ) FromHexError) → decode_of hex ≡ r
+        → IfSome (result_ok r) (λ bytes. AreBytes bytes × (length hex ≡ 2 * length bytes))
+    by (Ok bytes) e = let ok = decode_of-ok hex bytes e in (All-from_get_or (λ (b : ℕ). b < 256) bytes 0 (λ k lt. ok.3 k), ok.2)
+    by (Err fault) e = tt
 
-  inventory_line_has_bytes : (a b : List ℕ) → inventory_line a b ≡ Ok (an_inventory id bytes)
-      → 0 < length bytes
-  inventory_line_has_bytes a b e = grind (arith, decode_of_has_bytes)
+number_in-lt : (n : ℕ) (hex : List ℕ) → IfSome (number_in n hex) (λ x. x < 256 ^ n)
+number_in-lt n hex = by (bytes_in hex) (bytes_in-bytes hex)
+  where
+    by : (o : Option (List ℕ))
+        → IfSome o (λ bytes. AreBytes bytes × (length hex ≡ 2 * length bytes))
+        → IfSome (option_map (big_number n) o) (λ x. x < 256 ^ n)
+    by None is = tt
+    by (Some bytes) is = big_from-lt 0 n bytes (IsBytes-from_AreBytes bytes is.0)
 
-  reading_line_has_bytes : (a b c : List ℕ) → reading_line a b c ≡ Ok (an_inventory id bytes)
-      → 0 < length bytes
-  reading_line_has_bytes a b c e = grind arith
+row_line-said : (version : Version) (shelf : Shelf) (a b c : List ℕ)
+    → IfOk (row_line version shelf a b c) IsSaid
+row_line-said version shelf a b c = grind (arith, number_in-lt 2 a, number_in-lt 2 b, bytes_in-bytes c)
 
-  info_line_has_bytes : (a b : List ℕ) → info_line a b ≡ Ok (an_inventory id bytes)
-      → 0 < length bytes
-  info_line_has_bytes a b e = grind arith
+inventory_line-said : (a b : List ℕ) → IfOk (inventory_line a b) IsSaid
+inventory_line-said a b = grind (arith, number_in-lt 1 a, bytes_in-bytes b)
 
-  with_two_has_bytes : (line : List ℕ → List ℕ → Result Line LineFault)
-      → ((a b : List ℕ) → line a b ≡ Ok (an_inventory id bytes) → 0 < length bytes)
-      → (fields : List (List ℕ))
-      → with_two line fields ≡ Ok (an_inventory id bytes) → 0 < length bytes
-  with_two_has_bytes line h (a ∷ b ∷ []) e = h a b e
-  with_two_has_bytes line h _ e = cc e
+reading_line-said : (a b c : List ℕ) → IfOk (reading_line a b c) IsSaid
+reading_line-said a b c = grind (arith, number_in-lt 1 (48 ∷ a), number_in-lt 1 b, bytes_in-bytes c)
 
-  with_three_has_bytes : (line : List ℕ → List ℕ → List ℕ → Result Line LineFault)
-      → ((a b c : List ℕ) → line a b c ≡ Ok (an_inventory id bytes) → 0 < length bytes)
-      → (fields : List (List ℕ))
-      → with_three line fields ≡ Ok (an_inventory id bytes) → 0 < length bytes
-  with_three_has_bytes line h (a ∷ b ∷ c ∷ []) e = h a b c e
-  with_three_has_bytes line h _ e = cc e
+info_line-said : (a b : List ℕ) → IfOk (info_line a b) IsSaid
+info_line-said a b = grind (arith, bytes_in-bytes b)
 
-  line_of_fields_has_bytes : (fields : List (List ℕ))
-      → line_of_fields version fields ≡ Ok (an_inventory id bytes) → 0 < length bytes
-  line_of_fields_has_bytes [] e = cc e
-  line_of_fields_has_bytes (word ∷ fields) e =
-      by (bytes_eq word (codes "sdr")) (bytes_eq word (codes "sel")) (bytes_eq word (codes "fru"))
-      (bytes_eq word (codes "reading")) (bytes_eq word (codes "info")) (bytes_eq word (codes "end"))
-      e
-    where
-      by : (a b c d e f : Bool) → cond a (with_three (row_line version Sdr) fields)
-          (cond b (with_three (row_line version Sel) fields)
-          (cond c (with_two inventory_line fields)
-          (cond d (with_three reading_line fields)
-          (cond e (with_two info_line fields) (cond f (elim fields [ [] ↦ Ok the_end | field ∷ more ↦ Err LineFault.Line ]) (Err LineFault.Line))))))
-          ≡ Ok (an_inventory id bytes) → 0 < length bytes
-      by true b c d e f h = with_three_has_bytes (row_line version Sdr) (row_line_has_bytes Sdr) fields h
-      by false true c d e f h = with_three_has_bytes (row_line version Sel) (row_line_has_bytes Sel) fields h
-      by false false true d e f h = with_two_has_bytes inventory_line inventory_line_has_bytes fields h
-      by false false false true e f h = with_three_has_bytes reading_line reading_line_has_bytes fields h
-      by false false false false true f h = with_two_has_bytes info_line info_line_has_bytes fields h
-      by false false false false false f h = grind arith
+with_two-said : (line : List ℕ → List ℕ → Result Line LineFault)
+    → ((a b : List ℕ) → IfOk (line a b) IsSaid) → (fields : List (List ℕ))
+    → IfOk (with_two line fields) IsSaid
+with_two-said line h (a ∷ b ∷ []) = h a b
+with_two-said line h _ = tt
+
+with_three-said : (line : List ℕ → List ℕ → List ℕ → Result Line LineFault)
+    → ((a b c : List ℕ) → IfOk (line a b c) IsSaid) → (fields : List (List ℕ))
+    → IfOk (with_three line fields) IsSaid
+with_three-said line h (a ∷ b ∷ c ∷ []) = h a b c
+with_three-said line h _ = tt
+
+line_of_fields-said : (version : Version) (fields : List (List ℕ))
+    → IfOk (line_of_fields version fields) IsSaid
+line_of_fields-said version [] = tt
+line_of_fields-said version (word ∷ fields) =
+    by (bytes_eq word (codes "sdr")) (bytes_eq word (codes "sel")) (bytes_eq word (codes "fru"))
+    (bytes_eq word (codes "reading")) (bytes_eq word (codes "info")) (bytes_eq word (codes "end"))
+  where
+    by : (a b c d e f : Bool) → IfOk (cond a (with_three (row_line version Sdr) fields)
+        (cond b (with_three (row_line version Sel) fields)
+        (cond c (with_two inventory_line fields)
+        (cond d (with_three reading_line fields)
+        (cond e (with_two info_line fields) (cond f (elim fields [ [] ↦ Ok the_end | field ∷ more ↦ Err LineFault.Line ]) (Err LineFault.Line))))))) IsSaid
+    by true b c d e f = with_three-said (row_line version Sdr) (row_line-said version Sdr) fields
+    by false true c d e f = with_three-said (row_line version Sel) (row_line-said version Sel) fields
+    by false false true d e f = with_two-said inventory_line inventory_line-said fields
+    by false false false true e f = with_three-said reading_line reading_line-said fields
+    by false false false false true f = with_two-said info_line info_line-said fields
+    by false false false false false f = grind arith
+
+line_of-said : (version : Version) (text : List ℕ) → IfOk (line_of version text) IsSaid
+unfolding line_of
+line_of-said version text = line_of_fields-said version (pieces 32 text)
+
+-- ---- lines that were taken
+
+info_fine : (already : Option (List ℕ)) (bytes : List ℕ) → info_fault already bytes ≡ None
+    → AreBytes bytes → IfSome (info_after (Some bytes) already) IsInfo
+info_fine None bytes fine all = record { len = grind (arith, nat_tests); all = all }
+info_fine (Some x) bytes fine all = cc fine
+
+-- one more line keeps the store well formed
+module _ (before : List Line) (store : IsStore (store_of_lines before)) where
+  rows_more : (shelf : Shelf) (line : Line) → IsSaid line
+      → fault_in (store_of_lines before) line ≡ None
+      → IsShelf shelf (chained (said_after (filter_map (row_on shelf) before) (row_on shelf line)))
+  rows_more Sdr (a_row Sdr row) said fine = shelf_with Sdr _ row fine said.0 said.1 said.2 store.sdr
+  rows_more Sel (a_row Sel row) said fine = shelf_with Sel _ row fine said.0 said.1 said.2 store.sel
+  rows_more Sdr _ said fine = store.sdr
+  rows_more Sel _ said fine = store.sel
+
+  inventories_before : AreInventories (fold with_inventory_line [] before)
+  inventories_before = record { all = store.inventories; distinct = store.distinct_inventories }
+
+  readings_before : AreReadings (filter_map sensor_on before)
+  readings_before = record { all = store.readings; distinct = store.distinct_readings }
+
+  inventories_more : (line : Line) → IsSaid line → fault_in (store_of_lines before) line ≡ None
+      → AreInventories (with_inventory_line (fold with_inventory_line [] before) line)
+  inventories_more (an_inventory id bytes) said fine = AreInventories-more _ id bytes fine said.0 said.2 inventories_before
+  inventories_more _ said fine = inventories_before
+
+  readings_more : (line : Line) → IsSaid line → fault_in (store_of_lines before) line ≡ None
+      → AreReadings (said_after (filter_map sensor_on before) (sensor_on line))
+  readings_more (a_reading lun number bytes) said fine =
+      let byte = IsBytes-from_AreBytes bytes said.2 in
+      AreReadings-new _ (record { lun = lun; number = number; reading = reading_of_bytes bytes }) (reading_fine lun _ bytes fine).0
+      (record { lun = said.0; number = said.1; raw = byte 0; flags = byte 1; status = byte 2; more = byte 3 })
+      readings_before
+  readings_more _ said fine = readings_before
+
+  info_more : (shelf : Shelf) (line : Line) → IsSaid line
+      → fault_in (store_of_lines before) line ≡ None
+      → IfSome (info_after (info_on shelf line) (info_of shelf (store_of_lines before))) IsInfo
+  info_more Sdr (an_info Sdr bytes) said fine = info_fine _ bytes fine said
+  info_more Sel (an_info Sel bytes) said fine = info_fine _ bytes fine said
+  info_more Sdr _ said fine = store.sdr_info
+  info_more Sel _ said fine = store.sel_info
+
+  store_more : (line : Line) → IsSaid line → fault_in (store_of_lines before) line ≡ None
+      → IsStore (store_of_lines (before ++ line ∷ []))
+  store_more line said fine = simp (filter_map-after, first_of-after, fold-append) (record {
+    sdr = rows_more Sdr line said fine;
+    sel = rows_more Sel line said fine;
+    inventories = (inventories_more line said fine).all;
+    distinct_inventories = (inventories_more line said fine).distinct;
+    readings = (readings_more line said fine).all;
+    distinct_readings = (readings_more line said fine).distinct;
+    sdr_info = info_more Sdr line said fine;
+    sel_info = info_more Sel line said fine;
+  })
 
 abbrev HasBytes : Inventory → Type 0
 HasBytes inventory = 0 < length inventory.bytes
@@ -76,89 +161,80 @@ HasBytes inventory = 0 < length inventory.bytes
 abbrev LowLun : SensorReading → Type 0
 LowLun sensor = sensor.lun ≤ 3
 
-abbrev SaysSome : Line → Type 0
-SaysSome (an_inventory id bytes) = 0 < length bytes
-SaysSome line = Unit {0}
-
-line_of_says_some : (version : Version) (text : List ℕ) (line : Line) → line_of version text ≡ Ok line
-    → SaysSome line
-unfolding line_of
-line_of_says_some version text (an_inventory id bytes) e = line_of_fields_has_bytes version id bytes (pieces 32 text) e
-line_of_says_some version text _ e = tt
-
--- ---- lines that were taken
-
--- one more line keeps them so
+-- and no inventory empty, and each LUN low
 module _ (before : List Line) (saved : IsSaved (store_of_lines before)) where
-  with_inventory_line_has_bytes : (line : Line) → SaysSome line
+  has_bytes_more : (line : Line) → IsSaid line
       → All HasBytes (with_inventory_line (fold with_inventory_line [] before) line)
-  with_inventory_line_has_bytes (an_inventory id bytes) some =
+  has_bytes_more (an_inventory id bytes) said =
       let len = length-append (unwrap_or (inventory_in (fold with_inventory_line [] before) id) []) bytes in
-      with_bytes_all HasBytes id bytes (fold with_inventory_line [] before) (omega (arith, some, len)) saved.some
-  with_inventory_line_has_bytes _ some = saved.some
+      with_bytes_all HasBytes id bytes (fold with_inventory_line [] before) (omega (arith, said.1, len)) saved.some
+  has_bytes_more _ said = saved.some
 
-  sensor_on_has_low_lun : (line : Line) → fault_in (store_of_lines before) line ≡ None
-      → All LowLun (filter_map sensor_on (line ∷ []))
-  sensor_on_has_low_lun (a_reading lun number bytes) fine = All-cons LowLun _ [] (reading_fine lun _ bytes fine).1 (All-nil LowLun)
-  sensor_on_has_low_lun _ fine = All-nil LowLun
+  low_lun_more : (line : Line) → fault_in (store_of_lines before) line ≡ None
+      → All LowLun (said_after (filter_map sensor_on before) (sensor_on line))
+  low_lun_more (a_reading lun number bytes) fine = All-push LowLun _ _ saved.luns (reading_fine lun _ bytes fine).1
+  low_lun_more _ fine = saved.luns
 
-  saved_more : (line : Line) → SaysSome line → fault_in (store_of_lines before) line ≡ None
+  saved_more : (line : Line) → IsSaid line → fault_in (store_of_lines before) line ≡ None
       → IsSaved (store_of_lines (before ++ line ∷ []))
-  saved_more line some fine = record {
-    some = rw (fold-append with_inventory_line [] before (line ∷ [])) (with_inventory_line_has_bytes line some);
-    luns = rw (filter_map-append sensor_on before (line ∷ [])) (All-append LowLun (filter_map sensor_on before) _ saved.luns (sensor_on_has_low_lun line fine));
-  }
+  saved_more line said fine = simp (filter_map-after, fold-append) (record { some = has_bytes_more line said; luns = low_lun_more line fine })
 
-  line_judged_parts : (version : Version) (text : List ℕ) (line : Line)
-      → line_judged version before text ≡ Ok line
-      → (line_of version text ≡ Ok line) × (fault_in (store_of_lines before) line ≡ None)
-  line_judged_parts version text line e = grind arith
+-- what an image gives
+abbrev IsGiven : Store → Type 0
+IsGiven store = IsStore store × IsSaved store
 
-  saved_judged : (version : Version) (text : List ℕ) (line : Line)
-      → line_judged version before text ≡ Ok line → IsSaved (store_of_lines (before ++ line ∷ []))
-  saved_judged version text line e = let parts = line_judged_parts version text line e in saved_more line (line_of_says_some version text line parts.0) parts.1
+line_judged_parts : (before : List Line) (version : Version) (text : List ℕ) (line : Line)
+    → line_judged version before text ≡ Ok line
+    → (line_of version text ≡ Ok line) × (fault_in (store_of_lines before) line ≡ None)
+line_judged_parts before version text line e = grind arith
+
+given_judged : (before : List Line) (version : Version) (text : List ℕ) (line : Line)
+    → IsGiven (store_of_lines before) → line_judged version before text ≡ Ok line
+    → IsGiven (store_of_lines (before ++ line ∷ []))
+given_judged before version text line given e =
+    let parts = line_judged_parts before version text line e in
+    let said = IfOk-at_ok IsSaid parts.0 (line_of-said version text) in
+    (store_more before given.0 line said parts.1, saved_more before given.1 line said parts.1)
 
 -- what all lines give
-saved_after : (version : Version) (before : List Line) (texts : List (List ℕ)) (store : Store)
-    → IsSaved (store_of_lines before) → store_after version before texts ≡ Ok store → IsSaved store
+given_after : (version : Version) (before : List Line) (texts : List (List ℕ))
+    → IsGiven (store_of_lines before) → IfOk (store_after version before texts) IsGiven
 unfolding store_after
-saved_after version before (text ∷ (following ∷ rest)) store saved e = by (λ line s more. saved_after version (before ++ line ∷ []) (following ∷ rest) store s more) (line_judged version before text) refl e
+given_after version before (text ∷ (following ∷ rest)) given =
+    by (λ line. given_after version (before ++ line ∷ []) (following ∷ rest))
+    (line_judged version before text) refl
   where
-    last : (line : Line) → (IsSaved (store_of_lines (before ++ line ∷ []))
-        → store_after version (before ++ line ∷ []) (following ∷ rest) ≡ Ok store → IsSaved store)
-        → IsSaved (store_of_lines (before ++ line ∷ [])) → (end here : Bool)
-        → cond (not end) (store_after version (before ++ line ∷ []) (following ∷ rest))
-        (cond here (Ok (store_of_lines before)) (Err (ImageFault.AfterEnd (length before + 3))))
-        ≡ Ok store → IsSaved store
-    last line ih s false here e = ih s e
-    last line ih s true true e = let same : store_of_lines before ≡ store = cc e in rw same at saved
-    last line ih s true false e = cc e
+    last : (line : Line)
+        → IfOk (store_after version (before ++ line ∷ []) (following ∷ rest)) IsGiven
+        → (end here : Bool)
+        → IfOk (cond (not end) (store_after version (before ++ line ∷ []) (following ∷ rest))
+        (cond here (Ok (store_of_lines before)) (Err (ImageFault.AfterEnd (length before + 3)))))
+        IsGiven
+    last line more false here = more
+    last line more true true = given
+    last line more true false = tt
 
-    by : ((line : Line) → IsSaved (store_of_lines (before ++ line ∷ []))
-        → store_after version (before ++ line ∷ []) (following ∷ rest) ≡ Ok store → IsSaved store)
+    by : ((line : Line) → IsGiven (store_of_lines (before ++ line ∷ []))
+        → IfOk (store_after version (before ++ line ∷ []) (following ∷ rest)) IsGiven)
         → (r : Result Line LineFault) → line_judged version before text ≡ r
-        → after_line version before (following ∷ rest) r ≡ Ok store → IsSaved store
-    by ih (Err fault) is e = cc e
-    by ih (Ok line) is e = last line (ih line) (saved_judged before saved version text line is) (is_end line) (ends_here (following ∷ rest)) e
-saved_after version before _ store saved e = cc e
+        → IfOk (after_line version before (following ∷ rest) r) IsGiven
+    by more (Err fault) is = tt
+    by more (Ok line) is = last line (more line (given_judged before version text line given is)) (is_end line) (ends_here (following ∷ rest))
+given_after version before _ given = tt
 
-pub saved_of_image : (bytes : List ℕ) (store : Store) → store_of_image bytes ≡ Ok store
-    → IsSaved store
-saved_of_image bytes store e = by (pieces 10 bytes) e
+nothing_given : IsGiven (store_of_lines [])
+nothing_given = search rules
+
+given_by_image : (bytes : List ℕ) → IfOk (store_of_image bytes) IsGiven
+given_by_image bytes = by (pieces 10 bytes)
   where
-    versions : (first following : List ℕ) (rest : List (List ℕ)) (o : Option Version)
-        → ◌≡◌ {A = Result Store ImageFault}
-        (elim o [
-          | Some version ↦ store_after version [] (following ∷ rest)
-          | None ↦ Err
-              ImageFault.Header
-        ]) (Ok store) → IsSaved store
-    versions first following rest (Some version) e = saved_after version [] (following ∷ rest) store (record { some = All-nil HasBytes; luns = All-nil LowLun }) e
-    versions first following rest None e = cc e
+    by : (l : List (List ℕ)) → IfOk (store_of_pieces l) IsGiven
+    by (first ∷ (following ∷ rest)) = grind (arith, given_after Version.One [] (following ∷ rest) nothing_given, given_after Version.Two [] (following ∷ rest) nothing_given)
+    by _ = tt
 
-    by : (l : List (List ℕ)) → store_of_pieces l ≡ Ok store → IsSaved store
-    by (first ∷ (following ∷ rest)) e = versions first following rest (version_in first) e
-    by _ e = cc e
+pub store_given : (bytes : List ℕ) (store : Store) → store_of_image bytes ≡ Ok store
+    → IsStore store × IsSaved store
+store_given bytes store e = IfOk-at_ok IsGiven e (given_by_image bytes)
 
 pub stored_luns : (sensors : List StoredSensor) → All (λ s. s.lun ≤ 3) (map sensor_of sensors)
     → All (λ (s : StoredSensor). s.lun ≤ 3) sensors

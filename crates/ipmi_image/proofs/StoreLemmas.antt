@@ -11,21 +11,21 @@ use Rattle.ipmi_image.specs.Prelude.{LineFault, Contents, StoredInventory, Store
 -- ---- one more line
 
 -- a list with what a line says of it, if it says anything
-abbrev said_after : {Y : Type 0} → List Y → Option Y → List Y
+abbrev pub said_after : {Y : Type 0} → List Y → Option Y → List Y
 said_after l None = l
 said_after l (Some y) = l ++ y ∷ []
 
-filter_map-after : {Y : Type 0} (h : Line → Option Y) (before : List Line) (line : Line)
+pub filter_map-after : {Y : Type 0} (h : Line → Option Y) (before : List Line) (line : Line)
     → filter_map h (before ++ line ∷ []) ≡ said_after (filter_map h before) (h line)
 filter_map-after h before line = grind (arith, filter_map-append h before (line ∷ []), append-nil (filter_map h before))
 
 -- the first info is all there is before the second
-abbrev info_after : Option (List ℕ) → Option (List ℕ) → Option (List ℕ)
+abbrev pub info_after : Option (List ℕ) → Option (List ℕ) → Option (List ℕ)
 info_after None already = already
 info_after (Some bytes) None = Some bytes
 info_after (Some bytes) (Some x) = Some x
 
-first_of-after : (l : List (List ℕ)) (info : Option (List ℕ))
+pub first_of-after : (l : List (List ℕ)) (info : Option (List ℕ))
     → first_of (said_after l info) ≡ info_after info (first_of l)
 first_of-after l info = grind arith
 

@@ -1,6 +1,6 @@
 -- The text of an image: its lines, the first fault among them, and the store that they make.
-use Rattle.std.specs.Prelude.{ℕ, ◌+◌, ◌==◌, nat_lt, not, ◌&&◌, ◌||◌, Bool, true, false, if◌then◌else◌, is_some, Option, Some, None, unwrap_or, Result, Ok, Err, List, [], ◌∷◌, ◌++◌, length, slice_index, filter_map, fold, codes, bytes_eq}
-use Rattle.ipmi_image.specs.Below.{Reading, first_row, Shelf, Sdr, Sel, Row, whole_len, largest_len, id_in, Store, Inventory, SensorReading, rows_of, info_of, inventory_of, reading_of, has_id}
+use Rattle.std.specs.Prelude.{◌≡◌, ℕ, ◌+◌, ◌==◌, nat_lt, not, ◌&&◌, ◌||◌, Bool, true, false, if◌then◌else◌, is_some, Option, Some, None, unwrap_or, Result, Ok, Err, List, [], ◌∷◌, ◌++◌, length, slice_index, filter_map, fold, codes, bytes_eq}
+use Rattle.ipmi_image.specs.Below.{Reading, first_row, Shelf, Sdr, Sel, Row, whole_len, largest_len, id_in, Store, IsStore, Inventory, SensorReading, rows_of, info_of, inventory_of, reading_of, has_id}
 use Rattle.ipmi_image.specs.declared.image_line.LineFault.{LineFault}
 use Rattle.ipmi_image.specs.declared.image.ImageFault.{ImageFault}
 use Rattle.ipmi_image.specs.declared.version.Version.{Version}
@@ -196,3 +196,10 @@ store_of_pieces rest = Err ImageFault.Header
 -- the store that the bytes of an image give, or its first fault
 abbrev pub store_of_image : List ℕ → Result Store ImageFault
 store_of_image bytes = store_of_pieces (pieces 10 bytes)
+
+-- ---- a law
+
+-- what the bytes of an image give is well formed
+abbrev pub ImagesGiveStores : Type 0
+ImagesGiveStores =
+    (bytes : List ℕ) (store : Store) → store_of_image bytes ≡ Ok store → IsStore store

@@ -1,6 +1,6 @@
 -- The words of this crate that its code and proofs cite, passed on from one place. Declares nothing.
 pub use Rattle.ipmi_image.specs.Controllers.{after_mood, last_number, mood_turn, moods_left, next_mood, ReservesAfterMood, script_answer, script_last_number, script_seen, seen_after_mood, seen_of, StaysAfterMood, TurnCounts, Turns}
-pub use Rattle.ipmi_image.specs.Image.{at_line, begins_with_another, chained, ends_here, fault_in, first_fault, first_id, first_of, info_fault, info_on, inventory_fault, is_end, is_no_id, is_no_record, line_judged, reading_fault, reading_of_bytes, row_fault, row_on, sensor_on, store_of_image, store_of_lines, store_of_pieces, version_in, with_bytes, with_inventory_line}
+pub use Rattle.ipmi_image.specs.Image.{at_line, begins_with_another, chained, ends_here, fault_in, first_fault, first_id, first_of, ImagesGiveStores, info_fault, info_on, inventory_fault, is_end, is_no_id, is_no_record, line_judged, reading_fault, reading_of_bytes, row_fault, row_on, sensor_on, store_of_image, store_of_lines, store_of_pieces, version_in, with_bytes, with_inventory_line}
 unfoldable pub use Rattle.ipmi_image.specs.Image.{store_after}
 pub use Rattle.ipmi_image.specs.Line.{a_reading, a_row, an_info, an_inventory, bytes_in, info_line, inventory_line, is_dash, is_some_text, Line, line_of_fields, next_in, number_in, reading_line, row_line, SavedRow, shelf_in, takes_dashes, the_end, with_three, with_two, id_of}
 unfoldable pub use Rattle.ipmi_image.specs.Line.{line_of}
