@@ -55,7 +55,7 @@ RefusesRecord asked _ = ⊥
 
 abbrev pub RefusesValue : ℕ → CodeClass → Type 0
 RefusesValue asked Refusal = Unit {0}
-RefusesValue asked SmallerPart = Unit {0}
+RefusesValue asked SmallerPart = asked ≡ 0
 RefusesValue asked _ = ⊥
 
 abbrev pub RefusesInventory : ℕ → CodeClass → Type 0

@@ -1,7 +1,8 @@
 -- What is known after a reading, an info or an inventory was asked for.
 use Rattle.std.proofs.Common.{◌≡◌, inl, ℕ, ◌+◌, ◌≤◌, ◌==◌, Bool, true, false, codes, Option, None, Result, Ok, Err, List, [], ◌∷◌, refl, sym, ap, subst, ◌∙◌, arith, IsErrAnd, IsTrue}
-use Rattle.ipmi_commands.specs.Below.{Ended, FruEnded, EndsUnder, ReadsValue, ReadsInventory, IsRefusedInventory, IsRefusedOverChange, Seen, IsHonest, Store, inventory_of, IsFruText}
-use Rattle.ipmi_commands.specs.Prelude.{Unread, cause_of_unread, AtEnd, Cause, NoMemory, CountsSo, IsFine, is_absent, AsksAt, FindsIt, FindsNone, IsInventoryText, Spot, AtRecord, AtInventory}
+use Rattle.ipmi_commands.specs.Below.{CodeClass, CursorState, Failure, RefusesRecord, RefusesValue, IsStep, StepLeaves, Ended, FruEnded, EndsUnder, ReadsValue, ReadsInventory, IsRefusedInventory, IsRefusedOverChange, Seen, IsHonest, Store, inventory_of, IsFruText}
+use Rattle.ipmi_commands.specs.Listing.{MayEndOn}
+use Rattle.ipmi_commands.specs.Prelude.{EndsListing, failure_of, Form, LacksPiece, shelf_of, Unread, cause_of_unread, AtEnd, Cause, NoMemory, CountsSo, IsFine, is_absent, AsksAt, FindsIt, FindsNone, IsInventoryText, Spot, AtRecord, AtInventory}
 use Rattle.ipmi_commands.proofs.CountLemmas.{ends_as, ends_here}
 
 -- why it failed is passed up
@@ -119,3 +120,24 @@ module _ (id tries : ℕ) (s s' : Seen) where
     there = inl refl;
   }
   inventory_unread _ present r = absurd r.counts
+
+-- ---- over any controller
+
+refuses_record : (asked : ℕ) (class : CodeClass) → RefusesValue asked class
+    → RefusesRecord asked class
+refuses_record asked class refuses = grind arith
+
+-- what is not found ends a listing as it may end
+pub unread_ends : (form : Form) (unread : Unread) (seen : Seen) → LacksPiece form unread seen
+    → EndsListing form seen (Err (failure_of unread))
+unread_ends form unread seen lacks = grind (arith, refuses_record)
+
+-- and so does a record that does not come
+pub step_ends_listing : (form : Form) {now next : CursorState} {s s' : Seen} (ended : Ended)
+    → now.shelf ≡ shelf_of form → IsStep now next s s' (Err ended)
+    → EndsListing form s' (Err (Failure.Ended ended))
+step_ends_listing form {now} {next} ended shelf step = (step.says, rw (← shelf) (on now next ended step.leaves))
+  where
+    on : (now next : CursorState) (ended : Ended) → StepLeaves now next (Err ended)
+        → MayEndOn now.shelf ended
+    on now next ended leaves = grind arith

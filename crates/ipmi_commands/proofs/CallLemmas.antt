@@ -80,7 +80,7 @@ pub record HasCalled (each count : ℕ) (begun now : CursorState) (s s' : Seen) 
 
 pub has_called_none : (each : ℕ) (begun : CursorState) (s : Seen) → set.len begun.ids ≤ 65536
     → HasCalled each 0 begun begun s s
-has_called_none each begun s room = record { keeps = record { shelf = refl; tries = refl; part = λ some. some; room = room; place = λ place. place }; calls = omega arith; ids = omega arith }
+has_called_none each begun s room = record { keeps = record { shelf = refl; tries = refl; part = λ some. some; part_falls = omega arith; room = room; place = λ place. place }; calls = omega arith; ids = omega arith }
 
 -- each record that is handed out is one id more
 pub len-next_ids : (now next : CursorState) (row : Row) → HandsOut now next row
@@ -134,6 +134,7 @@ module _ (later : ℕ) {tries each count : ℕ} {shelf : Shelf} {begun now next 
     shelf = step.same.shelf ∙ called.keeps.shelf;
     tries = step.same.tries ∙ called.keeps.tries;
     part = λ some. step.same.part_not_zero;
+    part_falls = omega (arith, step.same.part, called.keeps.part_falls);
     room = room;
     place = λ from. place (called.keeps.place from);
   }

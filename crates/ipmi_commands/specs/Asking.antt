@@ -1,6 +1,6 @@
 -- What is asked for because of a record, an info or an inventory: for how many calls, and what it leaves.
 use Rattle.std.specs.Prelude.{◌≡◌, ℕ, ◌+◌, ◌*◌, ◌≤◌, ◌==◌, Bool, false, IsTrue, Option, None, Some, Result, Ok, Err, string_bytes, List, [], ◌∷◌, length}
-use Rattle.ipmi_commands.specs.Below.{step_call_bound, fru_call_bound, FruEnded, inventory_len, KeepsReservations, Row, largest_len, Store, IsInfoBlock, Seen, Failure}
+use Rattle.ipmi_commands.specs.Below.{step_call_bound, fru_call_bound, CodeClass, Ended, FruEnded, inventory_len, KeepsReservations, LastCallSays, LastFailed, LastFruCallSays, NotPresent, RefusesValue, Row, largest_len, Store, IsInfoBlock, Seen, Failure}
 use Rattle.ipmi_commands.specs.declared.job.Form.{Form}
 use Rattle.ipmi_commands.specs.declared.piece.Piece.{Piece}
 use Rattle.ipmi_commands.specs.declared.unread.Unread.{Unread}
@@ -106,3 +106,33 @@ abbrev pub IsInfoText : Option (List ℕ) → Option (List ℕ) → Type 0
 IsInfoText None None = Unit {0}
 IsInfoText (Some info) (Some text) = IsInfoBlock info text
 IsInfoText _ _ = ⊥
+
+-- ---- over any controller: why it is not found, as the last call says
+
+-- a reading or an info is given up or refused, or memory is wanted
+abbrev pub LacksValue : Unread → Seen → Type 0
+LacksValue (Unread.Ended (Ended.GaveUp n)) seen =
+    LastCallSays RefusesValue (Ended.GaveUp n) seen
+LacksValue (Unread.Ended (Ended.Refused n code)) seen =
+    LastCallSays RefusesValue (Ended.Refused n code) seen
+LacksValue Unread.Memory seen = Unit {0}
+LacksValue _ seen = ⊥
+
+-- an inventory ends so, or memory is wanted
+abbrev pub LacksInventory : Unread → Seen → Type 0
+LacksInventory (Unread.Inventory id ended) seen = LastFruCallSays ended seen
+LacksInventory Unread.Memory seen = Unit {0}
+LacksInventory _ seen = ⊥
+
+-- of a record in this form
+abbrev pub LacksPiece : Form → Unread → Seen → Type 0
+LacksPiece (Form.Line detail kind) unread seen = LacksValue unread seen
+LacksPiece (Form.Block name) unread seen = LacksValue unread seen
+LacksPiece Form.Device unread seen = LacksInventory unread seen
+LacksPiece _ unread seen = unread ≡ Unread.Memory
+
+-- an info, or that there is none
+abbrev pub InfoSays : {T : Type 0} → Result (Option T) Unread → Seen → Type 0
+InfoSays (Ok (Some found)) seen = Unit {0}
+InfoSays (Ok None) seen = LastFailed (λ class. class ≡ NotPresent) seen
+InfoSays (Err unread) seen = LacksValue unread seen

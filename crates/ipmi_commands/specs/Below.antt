@@ -15,12 +15,14 @@ pub use Rattle.ipmi_bus.specs.Bounds.{digits, digits_most, fru_call_bound, step_
 pub use Rattle.ipmi_bus.specs.CursorState.{CursorState, start_of}
 pub use Rattle.ipmi_bus.specs.Lent.{row_of_record}
 pub use Rattle.ipmi_bus.specs.Readers.{EndsUnder, inventory_len, InventoryCounts, IsRefusedInventory, IsRefusedOverChange, KeepsReservations, ReadsInventory, ReadsValue, ValueIs}
-pub use Rattle.ipmi_bus.specs.Seen.{current, IsHonest, Seen, stays_refl, stays_trans, StaysHonest}
+pub use Rattle.ipmi_bus.specs.Seen.{AsksAtMost, current, IsHonest, Seen, stays_refl, stays_trans, StaysHonest}
 pub use Rattle.ipmi_bus.specs.Shelf.{first_row, FoundIsRow, IsShelf, largest_len, len_of, look, Row, whole_len}
 pub use Rattle.ipmi_bus.specs.Standing.{MayFail, StandsAt, WalkStep}
 pub use Rattle.ipmi_bus.specs.Step.{asked_at, AsksNothing, CursorHoldsCurrent, FailsAt, HandsOut, IsStep, StepAnswers, StepIsHonest, StepLeaves}
 pub use Rattle.ipmi_bus.specs.Store.{info_of, inventory_of, IsInfo, IsStore, reading_of, rows_of, Store, store_shelf}
-pub use Rattle.ipmi_bus.specs.Tries.{NotGivenUpOrRefused}
+pub use Rattle.ipmi_bus.specs.Tries.{IsTrouble, LastCallSays, LastFailed, LastFruCallSays, NotGivenUpOrRefused, RefusesRecord, RefusesValue}
+pub use Rattle.ipmi_bus.specs.declared.code.CodeClass.{CodeClass}
+pub use Rattle.ipmi_bus.specs.declared.code.CodeClass.TheVariants.{NotPresent}
 pub use Rattle.ipmi_bus.specs.Walk.{AllOf, CycleAt, Done, EndsAfter, EndsBy, EndsEmpty, has_id, IsWalk, last_next, MissingAt, place_after, place_after_rows, row_at, TailIsWalk, WalkEnd, WalkExists}
 pub use Rattle.ipmi_bus.specs.declared.controller.Shelf.{Shelf}
 pub use Rattle.ipmi_bus.specs.declared.controller.Shelf.TheVariants.{Sdr, Sel}

@@ -1,7 +1,7 @@
 -- What a listing by a cursor leaves, and what is known of the two walks of the last entries.
 use Rattle.std.specs.Prelude.{◌≡◌, Bool, false, ℕ, ◌+◌, ◌-◌, ◌*◌, ◌<◌, ◌≤◌, ◌==◌, IsTrue, Option, None, Some, IfOk, Result, Ok, Err, List, length, take, drop}
 use Rattle.std.specs.FinSet as set
-use Rattle.ipmi_commands.specs.Below.{step_call_bound, digits, Place, Row, Shelf, Sel, Store, rows_of, IsWalk, WalkEnd, Done, EndsBy, place_after_rows, Seen, IsHonest, CursorState, StandsAt, CursorHoldsCurrent, Ending, Failure}
+use Rattle.ipmi_commands.specs.Below.{step_call_bound, digits, Ended, LastCallSays, LastFruCallSays, RefusesRecord, Place, Row, Shelf, Sel, Store, rows_of, IsWalk, WalkEnd, Done, EndsBy, place_after_rows, Seen, IsHonest, CursorState, StandsAt, CursorHoldsCurrent, Ending, Failure}
 use Rattle.ipmi_commands.specs.declared.job.Form.{Form}
 use Rattle.ipmi_commands.specs.Allowed.{ending_of, IsAllowed, EndsFor, cause_of, Change}
 use Rattle.ipmi_commands.specs.Asking.{calls_for, most_for_one, walk_call_bound}
@@ -21,19 +21,30 @@ abbrev pub end_of : {T : Type 0} → Form → Bool → T → Result T Failure
 end_of (Form.Block name) false with_ = Err (Failure.NoName name)
 end_of _ wrote with_ = Ok with_
 
--- a name is missing only where it is asked for, and no info, command line or image is at fault
-abbrev pub EndsListing : Form → Ending → Type 0
-EndsListing form (Err (Failure.NoName name)) = form ≡ Form.Block name
-EndsListing form (Err Failure.NoInfo) = ⊥
-EndsListing form (Err Failure.Usage) = ⊥
-EndsListing form (Err (Failure.Image fault)) = ⊥
-EndsListing form _ = Unit {0}
+-- only a sensor data record says its length
+abbrev pub MayEndOn : Shelf → Ended → Type 0
+MayEndOn Sel (Ended.Malformed n) = ⊥
+MayEndOn shelf ended = Unit {0}
+
+-- it ends by a record as the last call says, by an inventory only where devices are listed, and by a name that is missing
+-- only where it is asked for; no info, command line or image is at fault
+abbrev pub EndsListing : Form → Seen → Ending → Type 0
+EndsListing form seen (Ok done) = Unit {0}
+EndsListing form seen (Err (Failure.Ended ended)) =
+    LastCallSays RefusesRecord ended seen × MayEndOn (shelf_of form) ended
+EndsListing form seen (Err (Failure.Inventory id ended)) =
+    (form ≡ Form.Device) × LastFruCallSays ended seen
+EndsListing form seen (Err (Failure.NoName name)) = form ≡ Form.Block name
+EndsListing form seen (Err Failure.WriteFault) = Unit {0}
+EndsListing form seen (Err Failure.OutOfMemory) = Unit {0}
+EndsListing form seen _ = ⊥
 
 -- the cursor can go on
 pub record KeepsListing (begun now : CursorState) : Type 0 where
   pub shelf : now.shelf ≡ begun.shelf
   pub tries : now.tries ≡ begun.tries
   pub part : 0 < begun.part → 0 < now.part
+  pub part_falls : now.part ≤ begun.part
   pub room : set.len now.ids ≤ 65536
   pub place : IsPlace begun.place → IsPlace now.place
 

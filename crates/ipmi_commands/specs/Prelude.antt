@@ -1,6 +1,6 @@
 -- The words of this crate that its code and proofs cite, passed on from one place. Declares nothing.
 pub use Rattle.ipmi_commands.specs.Allowed.{AreTexts, AtEnd, Cause, cause_of, Change, change, CountsSo, Dishonest, ending_of, EndsFor, GaveUp, HasCutItem, HasFirstItems, HasFreshTroubles, IsAllowed, IsAmong, IsFine, Leaves, NoMemory, NoOutput, Printed, PrintsAll, Refused, spots_at, StopsAt, TextsJoined}
-pub use Rattle.ipmi_commands.specs.Asking.{AsksAt, bytes_of, calls_at, calls_at_spots, calls_for, cause_of_unread, failure_of, Finds, FindsIt, FindsNone, is_absent, IsInfoText, MayStopAt, most_after, most_for_one, most_on_walk, walk_call_bound}
+pub use Rattle.ipmi_commands.specs.Asking.{InfoSays, LacksInventory, LacksPiece, LacksValue, AsksAt, bytes_of, calls_at, calls_at_spots, calls_for, cause_of_unread, failure_of, Finds, FindsIt, FindsNone, is_absent, IsInfoText, MayStopAt, most_after, most_for_one, most_on_walk, walk_call_bound}
 pub use Rattle.ipmi_commands.specs.Job.{IsFrom, IsJob, IsPlace, is_rewrite, job_of, listing, listing_in, shelf_of}
 pub use Rattle.ipmi_commands.specs.Laws.{AreOfBytes, FinishedRunsAreOne, IsOfBytes, ItemsHaveOneText}
 pub use Rattle.ipmi_commands.specs.Listing.{CallsAlong, Counted, CountsEntries, end_of, EndsListing, IsOnWalk, is_reached, KeepsListing, ListingCalls, Lists, ListsAfter, ListsAll, ListsAlong, ListsHonestly, OnEachWalk}

@@ -1,10 +1,11 @@
 -- What a run of a command promises: over any controller, over an honest one, in pages, and over an image.
 use Rattle.std.specs.Prelude.{◌≡◌, ◌⊎◌, ℕ, ◌+◌, ◌*◌, ◌<◌, ◌≤◌, Bool, true, false, IsTrue, None, Result, Ok, Err, List, [], ◌++◌, length}
-use Rattle.ipmi_commands.specs.Below.{fru_call_bound, start_of, Place, First, Sdr, Sel, Row, Store, info_of, WalkEnd, IsHonest, ImageFault, UsageFault, CommandState, Received, ReceivesText, TakesPart, Ending, Failure, failure_of_usage, said_of, status_of}
+use Rattle.ipmi_commands.specs.Below.{fru_call_bound, CodeClass, LastFailed, LastFruCallSays, NotPresent, Seen, start_of, Place, First, Sdr, Sel, Row, Store, info_of, WalkEnd, IsHonest, ImageFault, UsageFault, CommandState, Received, ReceivesText, TakesPart, Ending, Failure, failure_of_usage, said_of, status_of}
 use Rattle.ipmi_commands.specs.declared.job.Form.{Form}
 use Rattle.ipmi_commands.specs.declared.job.Job.{Job}
+use Rattle.ipmi_commands.specs.declared.unread.Unread.{Unread}
 use Rattle.ipmi_commands.specs.Allowed.{NoMemory, cause_of, EndsFor, IsAllowed, IsFine, Change}
-use Rattle.ipmi_commands.specs.Asking.{calls_at, walk_call_bound, most_on_walk}
+use Rattle.ipmi_commands.specs.Asking.{calls_at, LacksValue, walk_call_bound, most_on_walk}
 use Rattle.ipmi_commands.specs.Job.{shelf_of, is_rewrite, job_of, listing}
 use Rattle.ipmi_commands.specs.Listing.{EndsListing}
 use Rattle.ipmi_commands.specs.Pages.{ArePages, IsOneListing, pages_made}
@@ -23,15 +24,29 @@ most_calls (Job.Inventory id) tries = fru_call_bound tries 65535
 most_calls Job.AllInventories tries = fru_call_bound tries 65535 + most_on_walk Form.Device tries
 most_calls Job.Rewrite tries = 0
 
--- a name is missing only where it is asked for, and an info only where that is; no run over a controller writes an image
--- again: it does nothing
+-- an info: the last call says that there is none, or why it was not read
+abbrev pub EndsInfo : Seen → Ending → Type 0
+EndsInfo seen (Ok done) = Unit {0}
+EndsInfo seen (Err Failure.NoInfo) = LastFailed (λ class. class ≡ NotPresent) seen
+EndsInfo seen (Err (Failure.Ended ended)) = LacksValue (Unread.Ended ended) seen
+EndsInfo seen (Err Failure.WriteFault) = Unit {0}
+EndsInfo seen (Err Failure.OutOfMemory) = Unit {0}
+EndsInfo seen _ = ⊥
+
+abbrev pub EndsInventory : Seen → Ending → Type 0
+EndsInventory seen (Ok done) = Unit {0}
+EndsInventory seen (Err (Failure.Inventory id ended)) = LastFruCallSays ended seen
+EndsInventory seen (Err Failure.WriteFault) = Unit {0}
+EndsInventory seen (Err Failure.OutOfMemory) = Unit {0}
+EndsInventory seen _ = ⊥
+
+-- how a run may end; no run over a controller writes an image again: it does nothing
 abbrev pub MayEnd : Job → Change → Ending → Type 0
-MayEnd (Job.Records l) c ending = EndsListing l.form ending
-MayEnd (Job.Last n from) c ending = EndsListing Form.EntryLine ending
-MayEnd (Job.Info shelf) c (Err Failure.NoInfo) = Unit {0}
-MayEnd (Job.Info shelf) c ending = EndsListing Form.Raw ending
-MayEnd (Job.Inventory id) c ending = EndsListing Form.Device ending
-MayEnd Job.AllInventories c ending = EndsListing Form.Device ending
+MayEnd (Job.Records l) c ending = EndsListing l.form c.seen' ending
+MayEnd (Job.Last n from) c ending = EndsListing Form.EntryLine c.seen' ending
+MayEnd (Job.Info shelf) c ending = EndsInfo c.seen' ending
+MayEnd (Job.Inventory id) c ending = EndsInventory c.seen' ending
+MayEnd Job.AllInventories c ending = EndsListing Form.Device c.seen' ending
 MayEnd Job.Rewrite c ending =
     (ending ≡ Err Failure.Usage) × (c.seen' ≡ c.seen) × (c.new ≡ c.old)
 
@@ -90,7 +105,7 @@ job_of_command command = job_of command.task command.from
 pub record RunsInPages (form : Form) (start : Place) (tries : ℕ) (sizes : List ℕ) (c : Change)
     (ending : Ending) : Type 0 where
   pub calls : c.seen'.calls ≤ c.seen.calls + pages_made sizes * most_on_walk form tries
-  pub ends : EndsListing form ending
+  pub ends : EndsListing form c.seen' ending
   pub why : IsHonest c.seen → EndsFor tries (IsTrue c.seen.plain) c.seen c.seen' (cause_of ending)
   pub pages : IsHonest c.seen → ArePages form tries start sizes c ending
   pub prints : IsHonest c.seen → c.seen'.stores_added ≡ c.seen.stores_added

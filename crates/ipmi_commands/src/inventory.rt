@@ -1,7 +1,7 @@
 //! Prints the inventories of FRU devices.
-ghost use Rattle.std.specs.Prelude.{◌≡◌, ℕ, ◌+◌, ◌≤◌, ◌∷◌, [], None, Err, IfOk, string_bytes};
-ghost use Rattle.ipmi_commands.specs.Below.{fru_call_bound, row_of_record, ReadsInventory, Seen, IsHonest, Store, inventory_of, fru_of, sdr_view_of};
-ghost use Rattle.ipmi_commands.specs.Prelude.{is_absent, Finds, IsDevicePiece, IsInventoryPiece, IsInventoryText, IsLocatorPiece, name_of_locator, AtInventory, device_spots, locator_spots};
+ghost use Rattle.std.specs.Prelude.{◌≡◌, ℕ, ◌+◌, ◌≤◌, ◌∷◌, [], None, Err, IfErr, IfOk, string_bytes};
+ghost use Rattle.ipmi_commands.specs.Below.{AsksAtMost, LastFruCallSays, fru_call_bound, row_of_record, ReadsInventory, Seen, IsHonest, Store, inventory_of, fru_of, sdr_view_of};
+ghost use Rattle.ipmi_commands.specs.Prelude.{LacksInventory, is_absent, Finds, IsDevicePiece, IsInventoryPiece, IsInventoryText, IsLocatorPiece, name_of_locator, AtInventory, device_spots, locator_spots};
 
 use crate::unread::Unread;
 use ipmi_bus::{Code, Controller, FruEnded, Record, read_fru};
@@ -19,9 +19,11 @@ fn is_absent(ended: FruEnded) -> bool
 
 /// The text for an inventory that was not read: `not present` where the controller has none. Any other reason is passed on.
 fn unread_text(alloc: Global, id: u8, ended: FruEnded) -> Result<String, Unread>
-    ensures { (tries : ℕ) (s s' : Seen) → ReadsInventory id tries s s' (Err ended) →
+    ensures finds { (tries : ℕ) (s s' : Seen) → ReadsInventory id tries s s' (Err ended) →
         Finds (λ store text. IsInventoryText (inventory_of id store) (string_bytes text)) (AtInventory id ∷ [])
         tries s s' result }
+    ensures says { (seen : Seen) → LastFruCallSays ended seen →
+        IfErr result (λ unread. LacksInventory unread seen) }
 {
     if !is_absent(ended) {
         return Err(Unread::Inventory(id, ended));
@@ -38,6 +40,8 @@ fn inventory_text<C: Controller>(
 ) -> Result<String, Unread>
     ensures calls { (C.seen ctl.new).calls ≤ (C.seen ctl.old).calls + fru_call_bound cmd.now.tries
         65535 }
+    ensures asked { AsksAtMost cmd.now.part (C.seen ctl.old) (C.seen ctl.new) }
+    ensures says { IfErr result (λ unread. LacksInventory unread (C.seen ctl.new)) }
     ensures honest { IsHonest (C.seen ctl.old) →
         Finds (λ store text. IsInventoryText (inventory_of id store) (string_bytes text)) (AtInventory id ∷ [])
         cmd.now.tries (C.seen ctl.old) (C.seen ctl.new) result }
@@ -58,6 +62,8 @@ pub(crate) fn inventory_piece<C: Controller>(
 ) -> Result<String, Unread>
     ensures calls { (C.seen ctl.new).calls ≤ (C.seen ctl.old).calls + fru_call_bound cmd.now.tries
         65535 }
+    ensures asked { AsksAtMost cmd.now.part (C.seen ctl.old) (C.seen ctl.new) }
+    ensures says { IfErr result (λ unread. LacksInventory unread (C.seen ctl.new)) }
     ensures honest { IsHonest (C.seen ctl.old) →
         Finds (λ store text. IsInventoryPiece store id name.now (string_bytes text)) (AtInventory id ∷ [])
         cmd.now.tries (C.seen ctl.old) (C.seen ctl.new) result }
@@ -96,6 +102,8 @@ fn device_piece<C: Controller>(
 ) -> Result<String, Unread>
     ensures calls { (C.seen ctl.new).calls ≤ (C.seen ctl.old).calls + fru_call_bound cmd.now.tries
         65535 }
+    ensures asked { AsksAtMost cmd.now.part (C.seen ctl.old) (C.seen ctl.new) }
+    ensures says { IfErr result (λ unread. LacksInventory unread (C.seen ctl.new)) }
     ensures honest { IsHonest (C.seen ctl.old) →
         Finds (λ store text. IsDevicePiece store view.now (fru_of view.now) (string_bytes text))
         (device_spots (fru_of view.now)) cmd.now.tries (C.seen ctl.old) (C.seen ctl.new) result }
@@ -119,6 +127,8 @@ pub(crate) fn locator_piece<C: Controller>(
 ) -> Result<String, Unread>
     ensures calls { (C.seen ctl.new).calls ≤ (C.seen ctl.old).calls + fru_call_bound cmd.now.tries
         65535 }
+    ensures asked { AsksAtMost cmd.now.part (C.seen ctl.old) (C.seen ctl.new) }
+    ensures says { IfErr result (λ unread. LacksInventory unread (C.seen ctl.new)) }
     ensures honest { let row = row_of_record lent.now in IsHonest (C.seen ctl.old) →
         Finds (λ store text. IsLocatorPiece store (sdr_view_of row.bytes) (string_bytes text))
         (locator_spots (sdr_view_of row.bytes)) cmd.now.tries (C.seen ctl.old) (C.seen ctl.new)

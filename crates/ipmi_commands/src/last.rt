@@ -1,6 +1,6 @@
 //! Lists the last entries of the event log, on a second walk after one that counts them.
 ghost use Rattle.std.specs.Prelude.{◌≡◌, ◌+◌, ◌≤◌};
-ghost use Rattle.ipmi_commands.specs.Below.{start_of, IsHonest, write_faults};
+ghost use Rattle.ipmi_commands.specs.Below.{AsksAtMost, start_of, IsHonest, write_faults};
 ghost use Rattle.ipmi_commands.specs.declared.job.Form.{Form};
 ghost use Rattle.ipmi_commands.specs.declared.job.Job.{Job};
 ghost use Rattle.ipmi_commands.specs.Prelude.{change, CountsEntries, ending_of, EndsListing, IsFrom, ListsAfter, most_on_walk, Runs};
@@ -23,7 +23,8 @@ fn count_entries<'a, C: Controller, O: Sink>(
 ) -> Result<u32, Failure<'a>>
     requires { IsFrom from }
     ensures faults { O.faults out.new ≡ O.faults out.old + write_faults (ending_of result) }
-    ensures ends { EndsListing Form.EntryLine (ending_of result) }
+    ensures asked { AsksAtMost cmd.now.part (C.seen ctl.old) (C.seen ctl.new) }
+    ensures ends { EndsListing Form.EntryLine (C.seen ctl.new) (ending_of result) }
     ensures calls { (C.seen ctl.new).calls ≤ (C.seen ctl.old).calls + most_on_walk Form.EntryLine
         cmd.now.tries }
     ensures honest { IsHonest (C.seen ctl.old) →
@@ -46,7 +47,8 @@ fn list_after<'a, C: Controller, O: Sink>(
 ) -> Result<(), Failure<'a>>
     requires { IsFrom from }
     ensures faults { O.faults out.new ≡ O.faults out.old + write_faults result }
-    ensures ends { EndsListing Form.EntryLine result }
+    ensures asked { AsksAtMost cmd.now.part (C.seen ctl.old) (C.seen ctl.new) }
+    ensures ends { EndsListing Form.EntryLine (C.seen ctl.new) result }
     ensures calls { (C.seen ctl.new).calls ≤ (C.seen ctl.old).calls + most_on_walk Form.EntryLine
         cmd.now.tries }
     ensures honest { IsHonest (C.seen ctl.old) →
@@ -74,6 +76,7 @@ pub(crate) fn list_last<'a, C: Controller, O: Sink>(
     requires some { 1 ≤ wanted }
     requires from { IsFrom from }
     ensures faults { O.faults out.new ≡ O.faults out.old + write_faults result }
+    ensures asked { AsksAtMost cmd.now.part (C.seen ctl.old) (C.seen ctl.new) }
     ensures runs { Runs (Job.Last wanted from) cmd.now.tries
         (change (C.seen ctl.old) (C.seen ctl.new) (O.taken out.old) (O.taken out.new)) result }
 {

@@ -1,7 +1,7 @@
 //! Writes what is printed for each record that a cursor hands out.
 ghost use Rattle.std.specs.Prelude.{◌≡◌, ◌≤◌, ◌+◌};
 ghost use Rattle.std.specs.FinSet as set;
-ghost use Rattle.ipmi_commands.specs.Below.{write_faults};
+ghost use Rattle.ipmi_commands.specs.Below.{AsksAtMost, write_faults};
 ghost use Rattle.ipmi_commands.specs.Prelude.{change, ending_of, EndsListing, is_reached, Lists, shelf_of};
 
 use crate::job::Form;
@@ -33,8 +33,10 @@ pub(crate) fn list_records<'a, C: Controller, O: Sink>(
     requires shelf { cursor.old.shelf ≡ shelf_of form.now }
     requires tries { cursor.old.tries ≡ cmd.now.tries }
     requires room { set.len cursor.old.ids ≤ 65536 }
+    requires part { cursor.old.part ≤ cmd.now.part }
     ensures faults { O.faults out.new ≡ O.faults out.old + write_faults (ending_of result) }
-    ensures ends { EndsListing form.now (ending_of result) }
+    ensures asked { AsksAtMost cmd.now.part (C.seen ctl.old) (C.seen ctl.new) }
+    ensures ends { EndsListing form.now (C.seen ctl.new) (ending_of result) }
     ensures lists { Lists form.now cmd.now.tries most cursor.old cursor.new
         (change (C.seen ctl.old) (C.seen ctl.new) (O.taken out.old) (O.taken out.new)) result }
 {

@@ -1,6 +1,6 @@
 //! Lists records in pages, each with a cursor of its own.
 ghost use Rattle.std.specs.Prelude.{◌≡◌, ◌≢◌, ◌+◌, ◌*◌, ◌≤◌, Some, IfOk};
-ghost use Rattle.ipmi_commands.specs.Below.{start_of, IsHonest, write_faults};
+ghost use Rattle.ipmi_commands.specs.Below.{AsksAtMost, start_of, IsHonest, write_faults};
 ghost use Rattle.ipmi_commands.specs.Prelude.{ArePages, change, ending_of, EndsListing, IsFresh, IsFrom, IsPage, IsPlace, most_on_walk, pages_made};
 
 use crate::job::Form;
@@ -37,7 +37,8 @@ fn list_from<'a, C: Controller, O: Sink>(
 ) -> Result<Place, Failure<'a>>
     requires { IsFrom from }
     ensures faults { O.faults out.new ≡ O.faults out.old + write_faults (ending_of result) }
-    ensures ends { EndsListing form.now (ending_of result) }
+    ensures asked { AsksAtMost cmd.now.part (C.seen ctl.old) (C.seen ctl.new) }
+    ensures ends { EndsListing form.now (C.seen ctl.new) (ending_of result) }
     ensures place { IfOk result (λ next. IsPlace next) }
     ensures calls { (C.seen ctl.new).calls ≤ (C.seen ctl.old).calls + most_on_walk form.now
         cmd.now.tries }
@@ -63,7 +64,8 @@ pub(crate) fn list_page<'a, C: Controller, O: Sink>(
 ) -> Result<Place, Failure<'a>>
     requires { IsPlace place }
     ensures faults { O.faults out.new ≡ O.faults out.old + write_faults (ending_of result) }
-    ensures ends { EndsListing form.now (ending_of result) }
+    ensures asked { AsksAtMost cmd.now.part (C.seen ctl.old) (C.seen ctl.new) }
+    ensures ends { EndsListing form.now (C.seen ctl.new) (ending_of result) }
     ensures place { IfOk result (λ next. IsPlace next) }
     ensures calls { (C.seen ctl.new).calls ≤ (C.seen ctl.old).calls + most_on_walk form.now
         cmd.now.tries }
@@ -95,7 +97,8 @@ pub(crate) fn list_pages<'a, C: Controller, O: Sink>(
 ) -> Result<(), Failure<'a>>
     requires { IsPlace start }
     ensures faults { O.faults out.new ≡ O.faults out.old + write_faults result }
-    ensures ends { EndsListing form.now result }
+    ensures asked { AsksAtMost cmd.now.part (C.seen ctl.old) (C.seen ctl.new) }
+    ensures ends { EndsListing form.now (C.seen ctl.new) result }
     ensures calls { (C.seen ctl.new).calls ≤ (C.seen ctl.old).calls + pages_made sizes.now *
         most_on_walk form.now cmd.now.tries }
     ensures honest { IsHonest (C.seen ctl.old) →

@@ -1,6 +1,6 @@
 //! Does what a command asks for, over any controller.
 ghost use Rattle.std.specs.Prelude.{◌≡◌, ◌+◌, true};
-ghost use Rattle.ipmi_commands.specs.Below.{is_listing, write_faults};
+ghost use Rattle.ipmi_commands.specs.Below.{AsksAtMost, is_listing, write_faults};
 ghost use Rattle.ipmi_commands.specs.declared.job.Job.{Job};
 ghost use Rattle.ipmi_commands.specs.declared.job.Listing.{Listing};
 ghost use Rattle.ipmi_commands.specs.Prelude.{change, IsPlace, job_of_command, Runs, RunsPaged, WritesText};
@@ -33,6 +33,7 @@ fn list<'a, C: Controller, O: Sink>(
 ) -> Result<(), Failure<'a>>
     requires { IsPlace listing.now.start }
     ensures faults { O.faults out.new ≡ O.faults out.old + write_faults result }
+    ensures asked { AsksAtMost cmd.now.part (C.seen ctl.old) (C.seen ctl.new) }
     ensures runs { Runs (Job.Records listing.now) cmd.now.tries
         (change (C.seen ctl.old) (C.seen ctl.new) (O.taken out.old) (O.taken out.new)) result }
 {
@@ -57,6 +58,7 @@ fn print_info<'a, C: Controller, O: Sink>(
     out: &mut O,
 ) -> Result<(), Failure<'a>>
     ensures faults { O.faults out.new ≡ O.faults out.old + write_faults result }
+    ensures asked { AsksAtMost cmd.now.part (C.seen ctl.old) (C.seen ctl.new) }
     ensures runs { Runs (Job.Info shelf) cmd.now.tries
         (change (C.seen ctl.old) (C.seen ctl.new) (O.taken out.old) (O.taken out.new)) result }
 {
@@ -75,6 +77,7 @@ fn print_inventory<'a, C: Controller, O: Sink>(
     out: &mut O,
 ) -> Result<(), Failure<'a>>
     ensures faults { O.faults out.new ≡ O.faults out.old + write_faults result }
+    ensures asked { AsksAtMost cmd.now.part (C.seen ctl.old) (C.seen ctl.new) }
     ensures runs { Runs (Job.Inventory id) cmd.now.tries
         (change (C.seen ctl.old) (C.seen ctl.new) (O.taken out.old) (O.taken out.new)) result }
 {
@@ -90,6 +93,7 @@ fn print_inventories<'a, C: Controller, O: Sink>(
     out: &mut O,
 ) -> Result<(), Failure<'a>>
     ensures faults { O.faults out.new ≡ O.faults out.old + write_faults result }
+    ensures asked { AsksAtMost cmd.now.part (C.seen ctl.old) (C.seen ctl.new) }
     ensures runs { Runs Job.AllInventories cmd.now.tries
         (change (C.seen ctl.old) (C.seen ctl.new) (O.taken out.old) (O.taken out.new)) result }
 {
@@ -107,6 +111,7 @@ pub fn execute<'a, C: Controller, O: Sink>(
     out: &mut O,
 ) -> Result<(), Failure<'a>>
     ensures faults { O.faults out.new ≡ O.faults out.old + write_faults result }
+    ensures asked { AsksAtMost cmd.now.part (C.seen ctl.old) (C.seen ctl.new) }
     ensures runs { Runs (job_of_command cmd.now) cmd.now.tries
         (change (C.seen ctl.old) (C.seen ctl.new) (O.taken out.old) (O.taken out.new)) result }
 {
@@ -131,6 +136,7 @@ pub fn execute_pages<'a, C: Controller, O: Sink>(
 ) -> Result<(), Failure<'a>>
     requires { is_listing cmd.now.task ≡ true }
     ensures faults { O.faults out.new ≡ O.faults out.old + write_faults result }
+    ensures asked { AsksAtMost cmd.now.part (C.seen ctl.old) (C.seen ctl.new) }
     ensures runs { RunsPaged cmd.now pages.now
         (change (C.seen ctl.old) (C.seen ctl.new) (O.taken out.old) (O.taken out.new)) result }
 {

@@ -1,8 +1,8 @@
 //! What a command prints for a record. Where the text needs a reading, it is asked for here, while the record is lent.
-ghost use Rattle.std.specs.Prelude.{◌≡◌, ◌+◌, ◌≤◌, IfOk, length, Ok, option_map, string_bytes};
-ghost use Rattle.ipmi_commands.specs.Below.{row_of_record, IsHonest, largest_len, whole_len, sdr_view_of};
+ghost use Rattle.std.specs.Prelude.{◌≡◌, ◌+◌, ◌≤◌, IfErr, IfOk, length, Ok, option_map, string_bytes};
+ghost use Rattle.ipmi_commands.specs.Below.{AsksAtMost, row_of_record, IsHonest, largest_len, whole_len, sdr_view_of};
 ghost use Rattle.ipmi_records.specs.Sdr.{name_of};
-ghost use Rattle.ipmi_commands.specs.Prelude.{bytes_of, Finds, is_name, is_of_kind, IsBlockOfName, IsLineOf, IsListedOfKind, IsRowText, listed_spots, most_after, named_spots, reading_for, reading_spots, shelf_of, spots_after};
+ghost use Rattle.ipmi_commands.specs.Prelude.{LacksPiece, LacksValue, bytes_of, Finds, is_name, is_of_kind, IsBlockOfName, IsLineOf, IsListedOfKind, IsRowText, listed_spots, most_after, named_spots, reading_for, reading_spots, shelf_of, spots_after};
 
 use crate::inventory::locator_piece;
 use crate::job::{Detail, Form};
@@ -49,6 +49,8 @@ fn reading_for<C: Controller>(
     tries: u8,
 ) -> Result<Option<Reading>, Unread>
     ensures calls { (C.seen ctl.new).calls ≤ (C.seen ctl.old).calls + (tries + 1) }
+    ensures asked { AsksAtMost 0 (C.seen ctl.old) (C.seen ctl.new) }
+    ensures says { IfErr result (λ unread. LacksValue unread (C.seen ctl.new)) }
     ensures honest { IsHonest (C.seen ctl.old) →
         Finds (λ store reading. reading ≡ reading_for store view.now) (reading_spots id (Ok view.now))
         tries (C.seen ctl.old) (C.seen ctl.new) result }
@@ -85,6 +87,8 @@ fn listed_line<C: Controller>(
 ) -> Result<String, Unread>
     requires { 5 ≤ length lent.now.bytes.now }
     ensures calls { (C.seen ctl.new).calls ≤ (C.seen ctl.old).calls + (tries + 1) }
+    ensures asked { AsksAtMost 0 (C.seen ctl.old) (C.seen ctl.new) }
+    ensures says { IfErr result (λ unread. LacksValue unread (C.seen ctl.new)) }
     ensures honest { let row = row_of_record lent.now in IsHonest (C.seen ctl.old) →
         Finds (λ store text. IsListedOfKind detail kind store row (string_bytes text))
         (listed_spots kind row) tries (C.seen ctl.old) (C.seen ctl.new) result }
@@ -119,6 +123,8 @@ fn named_block<C: Controller>(
     lent: &Record<'_>,
 ) -> Result<String, Unread>
     ensures calls { (C.seen ctl.new).calls ≤ (C.seen ctl.old).calls + (tries + 1) }
+    ensures asked { AsksAtMost 0 (C.seen ctl.old) (C.seen ctl.new) }
+    ensures says { IfErr result (λ unread. LacksValue unread (C.seen ctl.new)) }
     ensures honest { let row = row_of_record lent.now in IsHonest (C.seen ctl.old) →
         Finds (λ store text. IsBlockOfName name.now store row.id (sdr_view_of row.bytes)
         (string_bytes text)) (named_spots name.now row.id (sdr_view_of row.bytes)) tries (C.seen ctl.old)
@@ -170,6 +176,8 @@ pub(crate) fn record_piece<C: Controller>(
     requires fits { length lent.now.bytes.now ≤ largest_len (shelf_of form.now) }
     ensures calls { (C.seen ctl.new).calls ≤ (C.seen ctl.old).calls + most_after form.now
         cmd.now.tries }
+    ensures asked { AsksAtMost cmd.now.part (C.seen ctl.old) (C.seen ctl.new) }
+    ensures says { IfErr result (λ unread. LacksPiece form.now unread (C.seen ctl.new)) }
     ensures honest { let row = row_of_record lent.now in IsHonest (C.seen ctl.old) →
         Finds (λ store piece. IsRowText store form.now row (bytes_of line.new.items piece))
         (spots_after form.now row) cmd.now.tries (C.seen ctl.old) (C.seen ctl.new) result }

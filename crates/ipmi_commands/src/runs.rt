@@ -1,6 +1,6 @@
 //! Runs a command and says how it ended, or answers it over a saved image.
 ghost use Rattle.std.specs.Prelude.{◌≡◌, ◌+◌, ◌==◌, if◌then◌else◌, true};
-ghost use Rattle.ipmi_commands.specs.Below.{is_listing, store_of_image, of_writer, write_faults};
+ghost use Rattle.ipmi_commands.specs.Below.{AsksAtMost, is_listing, store_of_image, of_writer, write_faults};
 ghost use Rattle.ipmi_commands.specs.Prelude.{AnswersCommand, AnswersLine, change, IsRewriting, job_of_command, Runs, RunsPaged, Says};
 
 use crate::job::Job;
@@ -37,6 +37,7 @@ pub fn run<C: Controller, O: Sink, E: Write>(
     err: &mut E,
 ) -> u8
     ensures faults { O.faults out.new ≡ O.faults out.old + (if result == 4 then 1 else 0) }
+    ensures asked { AsksAtMost cmd.now.part (C.seen ctl.old) (C.seen ctl.new) }
     ensures runs { Says (of_writer (E.contents err.old)) (of_writer (E.contents err.new)) result
         (λ ending. Runs (job_of_command cmd.now) cmd.now.tries
         (change (C.seen ctl.old) (C.seen ctl.new) (O.taken out.old) (O.taken out.new)) ending) }
@@ -55,6 +56,7 @@ pub fn run_pages<C: Controller, O: Sink, E: MessageSink>(
 ) -> u8
     requires { is_listing cmd.now.task ≡ true }
     ensures faults { O.faults out.new ≡ O.faults out.old + (if result == 4 then 1 else 0) }
+    ensures asked { AsksAtMost cmd.now.part (C.seen ctl.old) (C.seen ctl.new) }
     ensures runs { Says (E.received err.old) (E.received err.new) result
         (λ ending. RunsPaged cmd.now pages.now
         (change (C.seen ctl.old) (C.seen ctl.new) (O.taken out.old) (O.taken out.new)) ending) }

@@ -1,32 +1,41 @@
 use Rattle.std.proofs.Common.{◌++◌, List, ℕ, Ok, ◌∙◌, ap, sym, arith}
 use Rattle.ipmi_commands.specs.Below.{row_of_record}
+use Rattle.ipmi_commands.proofs.AskLemmas.{step_ends_listing, unread_ends}
 use Rattle.ipmi_commands.proofs.CallLemmas.{len-next_ids}
 use Rattle.ipmi_commands.proofs.ListingLemmas.{listing_cut, listing_done, listing_ended, listing_full, listing_more, listing_none}
 use Rattle.ipmi_commands.proofs.listing.list_records.Goals as goal
 
 pub returns-then-is_reached-clause-lists : goal.returns-then-is_reached-clause-lists
-returns-then-is_reached-clause-lists g c = rw c.end.ensures (listing_full c.records.invariant.1 (sym c.is_reached.ensures ∙ c.if-is_reached.true))
+returns-then-is_reached-clause-lists g c = rw c.end.ensures (listing_full c.records.invariant.2 (sym c.is_reached.ensures ∙ c.if-is_reached.true))
 
 pub returns-in-Ok-None-clause-lists : goal.returns-in-Ok-None-clause-lists
 returns-in-Ok-None-clause-lists g c =
-    rw c.end-in-Ok-None.ensures (listing_done c.records.invariant.1 (sym c.is_reached.ensures ∙ c.if-is_reached.false)
+    rw c.end-in-Ok-None.ensures (listing_done c.records.invariant.2 (sym c.is_reached.ensures ∙ c.if-is_reached.false)
     (rw (c.in-Ok-None.is ∙ ap Ok c.in-Ok-None.field-0-is) at c.step.follows.holds-at-none))
+
+pub returns-in-Err-clause-ends : goal.returns-in-Err-clause-ends
+returns-in-Err-clause-ends g c =
+    step_ends_listing c.args.form.now c.in-Err.ended c.records.invariant.2.shelf (rw c.in-Err.is at c.step.follows.holds-at-none)
+
+pub returns-in-Err-record_piece-clause-ends : goal.returns-in-Err-record_piece-clause-ends
+returns-in-Err-record_piece-clause-ends g c =
+    rw c.from.ensures (unread_ends c.args.form.now c.in-Err-record_piece.unread _ c.in-Err-record_piece.ensures.says)
 
 pub returns-in-Err-clause-lists : goal.returns-in-Err-clause-lists
 returns-in-Err-clause-lists g c =
-    listing_ended c.records.invariant.1 (sym c.is_reached.ensures ∙ c.if-is_reached.false) c.in-Err.ended
+    listing_ended c.records.invariant.2 (sym c.is_reached.ensures ∙ c.if-is_reached.false) c.in-Err.ended
     (rw c.in-Err.is at c.step.follows.holds-at-none)
 
 pub returns-in-Err-record_piece-clause-lists : goal.returns-in-Err-record_piece-clause-lists
 returns-in-Err-record_piece-clause-lists g c =
     let step = rw (c.in-Ok-Some.is ∙ ap Ok c.in-Ok-Some.field-0-is) at c.step.follows.holds-at-none in
-    rw c.from.ensures (listing_none c.records.invariant.1 (sym c.is_reached.ensures ∙ c.if-is_reached.false) step c.record_piece.ensures.calls
+    rw c.from.ensures (listing_none c.records.invariant.2 (sym c.is_reached.ensures ∙ c.if-is_reached.false) step c.record_piece.ensures.calls
     c.in-Err-record_piece.unread c.in-Err-record_piece.ensures.honest)
 
 pub returns-in-Err-write_all-clause-lists : goal.returns-in-Err-write_all-clause-lists
 returns-in-Err-write_all-clause-lists g c =
     let step = rw (c.in-Ok-Some.is ∙ ap Ok c.in-Ok-Some.field-0-is) at c.step.follows.holds-at-none in
-    listing_cut c.records.invariant.1 (sym c.is_reached.ensures ∙ c.if-is_reached.false) step c.record_piece.ensures.calls
+    listing_cut c.records.invariant.2 (sym c.is_reached.ensures ∙ c.if-is_reached.false) step c.record_piece.ensures.calls
     _ c.in-Ok.ensures.honest _ (rw c.bytes-bytes.ensures at c.in-Err-write_all.ensures.some) (rw c.bytes-bytes.ensures at c.in-Err-write_all.ensures.err.0)
 
 pub records-smaller : goal.records-smaller
@@ -39,6 +48,7 @@ records-preserved g c =
     let step = rw (c.in-Ok-Some.is ∙ ap Ok c.in-Ok-Some.field-0-is) at c.step.follows.holds-at-none in
     let wrote = c.in-Ok-write_all.ensures.ok in (
       wrote.1 ∙ c.records.invariant.0,
-      rw (c.is_empty.ensures, c.bytes-bytes.ensures) (listing_more c.records.invariant.1 (sym c.is_reached.ensures ∙ c.if-is_reached.false) step c.record_piece.ensures.calls
+      omega (arith, c.records.invariant.1, c.requires.part, c.records.invariant.2.called.keeps.part_falls, step.asked, c.record_piece.ensures.asked),
+      rw (c.is_empty.ensures, c.bytes-bytes.ensures) (listing_more c.records.invariant.2 (sym c.is_reached.ensures ∙ c.if-is_reached.false) step c.record_piece.ensures.calls
           _ c.in-Ok.ensures.honest _ (wrote.0 ∙ ap (λ (l : List ℕ). g.O.Sink.taken c.records.out ++ l) c.bytes-bytes.ensures)),
     )

@@ -1,5 +1,6 @@
 use Rattle.std.proofs.Common.{◌≡◌, ◌-◌}
 use Rattle.std.specs.FinSet as set
+use Rattle.ipmi_commands.specs.Below.{AsksAtMost}
 use Rattle.ipmi_commands.specs.Prelude.{change}
 use Rattle.ipmi_commands.proofs.ListingLemmas.{Listed}
 use Rattle.ipmi_commands.proofs.listing.list_records.Given as goal
@@ -7,6 +8,7 @@ use Rattle.ipmi_commands.proofs.listing.list_records.Given as goal
 abbrev pub invariant-records : goal.invariant-records
 invariant-records g l =
     (g.O.Sink.faults l.out ≡ g.O.Sink.faults l.fn.out)
+    × AsksAtMost l.cmd.part (g.C.Controller.seen l.fn.ctl) (g.C.Controller.seen l.ctl)
     × Listed l.form l.cmd.tries l.most l.count l.wrote l.fn.cursor l.cursor (change (g.C.Controller.seen l.fn.ctl) (g.C.Controller.seen l.ctl) (g.O.Sink.taken l.fn.out) (g.O.Sink.taken l.out))
 
 -- the ids that the cursor can still hand out
