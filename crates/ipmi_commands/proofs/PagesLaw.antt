@@ -201,7 +201,7 @@ pub paged : TailIsWalk → (command : CommandState) (sizes : List ℕ) (s s' : S
     (ending : Ending) (l : Listing) → is_listing command.task ≡ true
     → listing_in (job_of_command command) ≡ Some l
     → s'.calls ≤ s.calls + pages_made sizes * most_on_walk l.form command.tries
-    → EndsListing l.form ending
+    → EndsListing l.form s' ending
     → (IsHonest s → ArePages l.form command.tries l.start sizes (change s s' old new) ending)
     → RunsPaged command sizes (change s s' old new) ending
 paged tail command sizes s s' old new ending l lists is calls may pages =

@@ -1,7 +1,8 @@
 -- A task of one text, and all inventories: a text and then a listing.
 use Rattle.std.proofs.Common.{◌≡◌, ℕ, ◌+◌, ◌≤◌, IsTrue, Option, None, Some, Result, Ok, Err, String, string_bytes, Global, List, [], ◌∷◌, ◌++◌, option_map, refl, arith}
-use Rattle.ipmi_commands.specs.Below.{fru_call_bound, Shelf, Place, First, Seen, IsHonest, Row, Store, info_of, WalkEnd, Ending, Failure}
-use Rattle.ipmi_commands.specs.Prelude.{AtEnd, AtRecord, cause_of, change, ending_of, end_spots, EndsFor, EndsListing, failure_of, Finds, Form, info_plan, inventories_plan, AtInventory, inventory_item, inventory_plan, IsInventoryPiece, most_on_walk, IsAllowed, IsAmong, IsInfoText, IsPage, IsTextOver, Item, Job, listing, listing_plan, MayStopAt, OfInfo, OfInventory, Plan, row_items, Runs, Spot, spots_at, Subject, text_plan, Unread, WritesText}
+use Rattle.ipmi_commands.specs.Below.{CodeClass, LastFailed, NotPresent, fru_call_bound, Shelf, Place, First, Seen, IsHonest, Row, Store, info_of, WalkEnd, Ending, Failure}
+use Rattle.ipmi_commands.specs.Run.{EndsInfo, EndsInventory}
+use Rattle.ipmi_commands.specs.Prelude.{LacksInventory, LacksValue, AtEnd, AtRecord, cause_of, change, ending_of, end_spots, EndsFor, EndsListing, failure_of, Finds, Form, info_plan, inventories_plan, AtInventory, inventory_item, inventory_plan, IsInventoryPiece, most_on_walk, IsAllowed, IsAmong, IsInfoText, IsPage, IsTextOver, Item, Job, listing, listing_plan, MayStopAt, OfInfo, OfInventory, Plan, row_items, Runs, Spot, spots_at, Subject, text_plan, Unread, WritesText}
 use Rattle.ipmi_commands.proofs.CountLemmas.{between, ends_as, ends_since}
 use Rattle.ipmi_commands.proofs.ItemLemmas.{cut_after, leaves_joined, leaves_longer, no_items, none_printed, one_printed, stops_after}
 
@@ -43,6 +44,10 @@ info_lacks store o text is = grind (arith, none_printed)
 info_spots : (o : Option (List ℕ)) → spots_at (info_plan o).items (info_plan o).end_spots ≡ AtRecord 0 ∷ []
 info_spots o = grind arith
 
+value_ends : (seen : Seen) (unread : Unread) → LacksValue unread seen
+    → EndsInfo seen (Err (failure_of unread))
+value_ends seen unread says = grind arith
+
 -- what is said of all that an info may come to
 module _ (shelf : Shelf) (tries : ℕ) (s s' : Seen) (calls : s'.calls ≤ s.calls + (tries + 1)) where
   abbrev FoundInfo : Result (Option (String Global)) Unread → Type 0
@@ -59,20 +64,22 @@ module _ (shelf : Shelf) (tries : ℕ) (s s' : Seen) (calls : s'.calls ≤ s.cal
     prints = λ h same. (info_leaves s.store (info_of shelf s.store) (string_bytes text) old new ending ((finds h).is same) writes, calls);
   }
 
-  pub info_lacking : (text : List ℕ) → FoundInfo (Ok None)
+  pub info_lacking : (text : List ℕ) → LastFailed (λ class. class ≡ NotPresent) s'
+      → FoundInfo (Ok None)
       → Runs (Job.Info shelf) tries (change s s' text text) (Err Failure.NoInfo)
-  info_lacking text lacks = record {
+  info_lacking text says lacks = record {
     calls = calls;
-    ends = tt;
+    ends = says;
     why = λ h. (lacks h).asks.ends;
     prints = λ h same. (info_lacks s.store (info_of shelf s.store) text ((lacks h).is same), calls);
   }
 
-  pub info_unread : (text : List ℕ) (unread : Unread) → FoundInfo (Err unread)
+  pub info_unread : (text : List ℕ) (unread : Unread) → LacksValue unread s'
+      → FoundInfo (Err unread)
       → Runs (Job.Info shelf) tries (change s s' text text) (Err (failure_of unread))
-  info_unread text unread none = record {
+  info_unread text unread says none = record {
     calls = calls;
-    ends = grind arith;
+    ends = value_ends s' unread says;
     why = λ h. (none h).asks.ends;
     prints = λ h same. (none_leaves (IsTextOver s.store) (info_plan (info_of shelf s.store)) text (Err (failure_of unread)) (rw info_spots (none h).there), calls);
   }
@@ -97,9 +104,10 @@ module _ (id tries : ℕ) (s s' : Seen) (calls : s'.calls ≤ s.calls + fru_call
     );
   }
 
-  pub inventory_unread : (text : List ℕ) (unread : Unread) → FoundInventory (Err unread)
+  pub inventory_unread : (text : List ℕ) (unread : Unread) → LacksInventory unread s'
+      → FoundInventory (Err unread)
       → Runs (Job.Inventory id) tries (change s s' text text) (Err (failure_of unread))
-  inventory_unread text unread none = record {
+  inventory_unread text unread says none = record {
     calls = calls;
     ends = grind arith;
     why = λ h. (none h).asks.ends;
@@ -128,15 +136,18 @@ pub first_run : (tries : ℕ) (s s' : Seen) (old new : List ℕ) (failure : Fail
     → Runs Job.AllInventories tries (change s s' old new) (Err failure)
 first_run tries s s' old new failure runs = record {
   calls = omega (arith, runs.calls);
-  ends = runs.ends;
+  ends = of_device failure runs.ends;
   why = runs.why;
   prints = λ h same. λ walk end w ends. let printed = runs.prints h same in (first_leaves s.store walk end old new failure printed.0, omega (arith, printed.1));
 }
+  where
+    of_device : (failure : Failure) → EndsInventory s' (Err failure) → EndsListing Form.Device s' (Err failure)
+    of_device failure ends = grind arith
 
 -- that of device 0, and then what a listing of the locators leaves
 pub inventories_run : (tries : ℕ) (s s' s'' : Seen) (old text new : List ℕ)
     (next : Result Place Failure) → s''.calls ≤ s'.calls + most_on_walk Form.Device tries
-    → EndsListing Form.Device (ending_of next)
+    → EndsListing Form.Device s'' (ending_of next)
     → Runs (Job.Inventory 0) tries (change s s' old text) (Ok tt)
     → (IsHonest s' → IsPage Form.Device First tries None (change s' s'' text new) next)
     → Runs Job.AllInventories tries (change s s'' old new) (ending_of next)

@@ -1,5 +1,5 @@
 use Rattle.std.proofs.Common.{◌≡◌, ◌+◌, ◌*◌, ◌≤◌, drop}
-use Rattle.ipmi_commands.specs.Below.{IsHonest}
+use Rattle.ipmi_commands.specs.Below.{AsksAtMost, IsHonest}
 use Rattle.ipmi_commands.specs.Prelude.{most_on_walk, IsPlace, pages_made}
 use Rattle.ipmi_commands.proofs.PageLemmas.{LeadsTo}
 use Rattle.ipmi_commands.proofs.pages.list_pages.Given as goal
@@ -8,6 +8,7 @@ use Rattle.ipmi_commands.proofs.pages.list_pages.Given as goal
 abbrev pub invariant-pages : goal.invariant-pages
 invariant-pages g l =
     (g.O.Sink.faults l.out ≡ g.O.Sink.faults l.fn.out)
+    × AsksAtMost l.cmd.part (g.C.Controller.seen l.fn.ctl) (g.C.Controller.seen l.ctl)
     × IsPlace l.place
     × ((g.C.Controller.seen l.ctl).calls
     + pages_made (drop l.size-index l.sizes) * most_on_walk l.form l.cmd.tries
