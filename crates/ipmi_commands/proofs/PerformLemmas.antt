@@ -1,10 +1,10 @@
 -- A task of one text, and all inventories: a text and then a listing.
 use Rattle.std.proofs.Common.{◌≡◌, ℕ, ◌+◌, ◌≤◌, IsTrue, Option, None, Some, Result, Ok, Err, String, string_bytes, Global, List, [], ◌∷◌, ◌++◌, option_map, refl, arith}
-use Rattle.ipmi_commands.specs.Below.{CodeClass, LastFailed, NotPresent, fru_call_bound, Shelf, Place, First, Seen, IsHonest, Row, Store, info_of, WalkEnd, Ending, Failure}
+use Rattle.ipmi_commands.specs.Below.{fru_call_bound, Shelf, Place, First, Seen, IsHonest, Row, Store, info_of, WalkEnd, Ending, Failure}
 use Rattle.ipmi_commands.specs.Run.{EndsInfo, EndsInventory}
 use Rattle.ipmi_commands.specs.Prelude.{LacksInventory, LacksValue, AtEnd, AtRecord, cause_of, change, ending_of, end_spots, EndsFor, EndsListing, failure_of, Finds, Form, info_plan, inventories_plan, AtInventory, inventory_item, inventory_plan, IsInventoryPiece, most_on_walk, IsAllowed, IsAmong, IsInfoText, IsPage, IsTextOver, Item, Job, listing, listing_plan, MayStopAt, OfInfo, OfInventory, Plan, row_items, Runs, Spot, spots_at, Subject, text_plan, Unread, WritesText}
 use Rattle.ipmi_commands.proofs.CountLemmas.{between, ends_as, ends_since}
-use Rattle.ipmi_commands.proofs.ItemLemmas.{cut_after, leaves_joined, leaves_longer, no_items, none_printed, one_printed, stops_after}
+use Rattle.ipmi_commands.proofs.ItemLemmas.{cut_after, leaves_joined, leaves_longer, no_items, one_printed, stops_after}
 
 -- ---- a text that is found and written
 
@@ -37,10 +37,6 @@ info_leaves store None text old new ending is writes = absurd is
 info_leaves store (Some info) text old new ending is writes =
     text_leaves (IsTextOver store) (OfInfo info) (AtRecord 0 ∷ []) old new text ending is writes
 
-info_lacks : (store : Store) (o : Option (List ℕ)) (text : List ℕ) → IsInfoText o None
-    → IsAllowed (IsTextOver store) (info_plan o) text text (Err Failure.NoInfo)
-info_lacks store o text is = grind (arith, none_printed)
-
 info_spots : (o : Option (List ℕ)) → spots_at (info_plan o).items (info_plan o).end_spots ≡ AtRecord 0 ∷ []
 info_spots o = grind arith
 
@@ -62,16 +58,6 @@ module _ (shelf : Shelf) (tries : ℕ) (s s' : Seen) (calls : s'.calls ≤ s.cal
     ends = grind arith;
     why = λ h. text_ends tries (IsTrue s.plain) s s' (string_bytes text) old new ending (finds h).asks.ends writes;
     prints = λ h same. (info_leaves s.store (info_of shelf s.store) (string_bytes text) old new ending ((finds h).is same) writes, calls);
-  }
-
-  pub info_lacking : (text : List ℕ) → LastFailed (λ class. class ≡ NotPresent) s'
-      → FoundInfo (Ok None)
-      → Runs (Job.Info shelf) tries (change s s' text text) (Err Failure.NoInfo)
-  info_lacking text says lacks = record {
-    calls = calls;
-    ends = says;
-    why = λ h. (lacks h).asks.ends;
-    prints = λ h same. (info_lacks s.store (info_of shelf s.store) text ((lacks h).is same), calls);
   }
 
   pub info_unread : (text : List ℕ) (unread : Unread) → LacksValue unread s'

@@ -1,6 +1,6 @@
 -- What is asked for because of a record, an info or an inventory: for how many calls, and what it leaves.
 use Rattle.std.specs.Prelude.{◌≡◌, ℕ, ◌+◌, ◌*◌, ◌≤◌, ◌==◌, Bool, false, IsTrue, Option, None, Some, Result, Ok, Err, string_bytes, List, [], ◌∷◌, length}
-use Rattle.ipmi_commands.specs.Below.{step_call_bound, fru_call_bound, CodeClass, Ended, FruEnded, inventory_len, KeepsReservations, LastCallSays, LastFailed, LastFruCallSays, NotPresent, RefusesValue, Row, largest_len, Store, IsInfoBlock, Seen, Failure}
+use Rattle.ipmi_commands.specs.Below.{step_call_bound, fru_call_bound, Ended, FruEnded, inventory_len, KeepsReservations, LastCallSays, LastFailed, LastFruCallSays, NotPresent, RefusesValue, Row, largest_len, Store, IsInfoBlock, Seen, Failure}
 use Rattle.ipmi_commands.specs.declared.job.Form.{Form}
 use Rattle.ipmi_commands.specs.declared.piece.Piece.{Piece}
 use Rattle.ipmi_commands.specs.declared.unread.Unread.{Unread}

@@ -1,6 +1,6 @@
 -- What a run of a command promises: over any controller, over an honest one, in pages, and over an image.
 use Rattle.std.specs.Prelude.{◌≡◌, ◌⊎◌, ℕ, ◌+◌, ◌*◌, ◌<◌, ◌≤◌, Bool, true, false, IsTrue, None, Result, Ok, Err, List, [], ◌++◌, length}
-use Rattle.ipmi_commands.specs.Below.{fru_call_bound, CodeClass, LastFailed, LastFruCallSays, NotPresent, Seen, start_of, Place, First, Sdr, Sel, Row, Store, info_of, WalkEnd, IsHonest, ImageFault, UsageFault, CommandState, Received, ReceivesText, TakesPart, Ending, Failure, failure_of_usage, said_of, status_of}
+use Rattle.ipmi_commands.specs.Below.{fru_call_bound, LastFailed, LastFruCallSays, NotPresent, Seen, start_of, Place, First, Sdr, Sel, Row, Store, info_of, WalkEnd, IsHonest, ImageFault, UsageFault, CommandState, Received, ReceivesText, TakesPart, Ending, Failure, failure_of_usage, said_of, status_of}
 use Rattle.ipmi_commands.specs.declared.job.Form.{Form}
 use Rattle.ipmi_commands.specs.declared.job.Job.{Job}
 use Rattle.ipmi_commands.specs.declared.unread.Unread.{Unread}
