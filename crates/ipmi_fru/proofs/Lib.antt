@@ -1,4 +1,5 @@
 pub mod AreaLemmas
+pub mod ExistenceLemmas
 pub mod FieldLemmas
 pub mod RecordLemmas
 pub mod UniqueLemmas

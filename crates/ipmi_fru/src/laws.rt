@@ -1,5 +1,6 @@
 //! Laws of fields, records and texts, each the contract of a function that does nothing.
 ghost use Rattle.std.specs.Prelude.{◌≡◌, ℕ, List, Option};
+ghost use Rattle.ipmi_text.specs.Bytes.{AreBytes};
 ghost use Rattle.ipmi_fru.specs.Prelude.{AreaField, Spells, MultiFault, MultiRecord, IsRecordList, IsFruText};
 
 /// Bytes spell at most one list of fields.
@@ -22,4 +23,12 @@ pub fn one_fru_text()
 {
     ipmi_text::laws::one_decimal_of_a_value();
     ipmi_text::laws::one_minutes_text();
+}
+
+/// The bytes of an inventory have a text, whatever they are.
+pub fn each_inventory_has_a_text()
+    ensures { (bytes : List ℕ) → AreBytes bytes → (text : List ℕ) × IsFruText bytes text }
+{
+    ipmi_text::laws::each_value_has_a_decimal();
+    ipmi_text::laws::each_time_has_a_text();
 }

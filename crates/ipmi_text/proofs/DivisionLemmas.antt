@@ -22,7 +22,7 @@ pub record HasWritten (n : ℕ) (old new : List ℕ) (place rest : ℕ) : Type 0
   pub sum : n ≡ digits_value 10 digits * place + rest
   pub last : rest ≡ 0 → slice_index digits (length digits - 1) ≢ 48
 
-digit_value-digit : (d : ℕ) → d < 10 → digit_value (48 + d) ≡ d
+pub digit_value-digit : (d : ℕ) → d < 10 → digit_value (48 + d) ≡ d
 digit_value-digit d h = grind (arith, nat_tests)
 
 -- above something that is left, a place is ten times the next

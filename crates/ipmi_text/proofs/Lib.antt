@@ -1,5 +1,6 @@
 pub mod DecimalLemmas
 pub mod DivisionLemmas
+pub mod ExistenceLemmas
 pub mod FieldLemmas
 pub mod ReadingLemmas
 pub mod TimeLemmas

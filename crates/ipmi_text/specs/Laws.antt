@@ -18,3 +18,16 @@ abbrev pub MinutesTextIsUnique : Type 0
 MinutesTextIsUnique =
     (minutes : ℕ) (text other : List ℕ) → IsMinutesTextOf minutes text
     → IsMinutesTextOf minutes other → text ≡ other
+
+-- a value has a decimal
+abbrev pub DecimalExists : Type 0
+DecimalExists = (value : ℤ) → (text : List ℕ) × IsDecimalOf value text
+
+-- a time stamp in seconds has a text
+abbrev pub UtcTextExists : Type 0
+UtcTextExists = (seconds : ℕ) → (text : List ℕ) × IsUtcTextOf seconds text
+
+-- a time stamp in minutes has a text
+abbrev pub MinutesTextExists : Type 0
+MinutesTextExists =
+    (minutes : ℕ) → minutes ≤ 0xff_ffff → (text : List ℕ) × IsMinutesTextOf minutes text

@@ -1,7 +1,7 @@
 //! What follows from the definitions of texts by themselves, whatever wrote them.
 ghost use Rattle.std.specs.Prelude.{◌≡◌, ℤ, List, ℕ};
 ghost use Rattle.ipmi_text.specs.Decimal.{IsDecimalOf};
-ghost use Rattle.ipmi_text.specs.Laws.{DecimalIsUnique, MinutesTextIsUnique, UtcTextIsUnique};
+ghost use Rattle.ipmi_text.specs.Laws.{DecimalExists, DecimalIsUnique, MinutesTextExists, MinutesTextIsUnique, UtcTextExists, UtcTextIsUnique};
 
 /// Two decimals of one value are one text, so what `fixed_text` gives is the only one.
 pub fn one_decimal_of_a_value()
@@ -24,4 +24,15 @@ pub fn one_utc_text()
 #[tactic(auto, using(crate::proofs::TimeLemmas::one_minutes_text))]
 pub fn one_minutes_text()
     ensures { MinutesTextIsUnique }
+{}
+
+/// Each value has a decimal.
+pub fn each_value_has_a_decimal()
+    ensures { DecimalExists }
+{}
+
+/// Each time stamp has a text: one in seconds, and one of 24 bits in minutes.
+pub fn each_time_has_a_text()
+    ensures utc { UtcTextExists }
+    ensures minutes { MinutesTextExists }
 {}
