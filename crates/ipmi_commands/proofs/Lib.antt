@@ -1,6 +1,7 @@
 mod AskLemmas
 mod CallLemmas
 mod CountLemmas
+mod ExistenceLemmas
 mod ItemLemmas
 mod LastLemmas
 mod ListingLemmas

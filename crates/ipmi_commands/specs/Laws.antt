@@ -17,6 +17,11 @@ abbrev pub AreOfBytes : List Item → Type 0
 AreOfBytes [] = Unit {0}
 AreOfBytes (item ∷ items) = IsOfBytes item.subject × AreOfBytes items
 
+-- over a well-formed store items have a text, so that no plan is one that nothing can print
+abbrev pub ItemsHaveAText : Type 0
+ItemsHaveAText = (store : Store) (items : List Item) → IsStore store
+    → (text : List ℕ) × AreTexts (IsTextOver store) items text
+
 -- the texts of items over a store are one text
 abbrev pub ItemsHaveOneText : Type 0
 ItemsHaveOneText = (store : Store) (items : List Item) (a b : List ℕ) → AreOfBytes items

@@ -1,5 +1,15 @@
 //! What follows from the definitions of plans by themselves, each the contract of a function that does nothing.
-ghost use Rattle.ipmi_commands.specs.Prelude.{FinishedRunsAreOne, ItemsHaveOneText};
+ghost use Rattle.ipmi_commands.specs.Prelude.{FinishedRunsAreOne, ItemsHaveAText, ItemsHaveOneText};
+
+/// Items have a text, over a well-formed store.
+pub fn items_have_a_text()
+    ensures { ItemsHaveAText }
+{
+    ipmi_records::laws::each_record_has_texts();
+    ipmi_records::laws::each_entry_has_texts();
+    ipmi_records::laws::each_info_has_a_block();
+    ipmi_fru::laws::each_inventory_has_a_text();
+}
 
 /// The texts of items, over a store, are one text.
 pub fn items_have_one_text()

@@ -1,0 +1,89 @@
+-- What is printed has a text.
+use Rattle.std.proofs.Common.{ℕ, zero, suc, ◌<◌, Bool, true, false, cond, nat_eq, Option, None, Some, Result, Ok, Err, List, [], ◌∷◌, ◌++◌, All, length, refl, arith}
+use Rattle.ipmi_bus.specs.Store.{Inventory, IsInventory, inventory_in}
+use Rattle.ipmi_records.specs.declared.sel.SelView.{SelView}
+use Rattle.ipmi_commands.specs.Below.{AreBytes, Reading, Row, Store, IsStore, inventory_of, IsExtendedLine, IsFruText, IsInfoBlock, IsSdrBlock, IsSdrLine, IsSelBlock, IsSelLine, SdrFault, SdrView, sdr_view_of, sel_view_of}
+use Rattle.ipmi_commands.specs.Prelude.{AreTexts, Detail, Form, IfChosen, IsBlockOfName, IsDevicePiece, IsInventoryPiece, IsInventoryText, IsListed, IsLocatorPiece, IsRowText, IsTextOver, Item, ItemsHaveAText, OfImage, OfInfo, OfInventory, OfRow, reading_for, row_is_of_kind, Subject}
+
+-- there is such a text
+abbrev HasText : (List ℕ → Type 0) → Type 0
+HasText IsText = (text : List ℕ) × IsText text
+
+has_chosen : (chosen : Bool) (IsText : List ℕ → Type 0) → HasText IsText
+    → HasText (IfChosen chosen IsText)
+has_chosen true IsText has = has
+has_chosen false IsText has = ([], refl)
+
+-- the inventories of a store are of bytes
+inventory_bytes : (inventories : List Inventory) (id : ℕ) (bytes : List ℕ)
+    → All IsInventory inventories → inventory_in inventories id ≡ Some bytes → AreBytes bytes
+inventory_bytes [] id bytes all is = cc is
+inventory_bytes (x ∷ xs) id bytes all is =
+    by (nat_eq x.id id) (inventory_bytes xs id bytes (λ k d lt. all (suc k) d (omega (arith, lt)))) is
+  where
+    by : (b : Bool) → (inventory_in xs id ≡ Some bytes → AreBytes bytes)
+        → cond b (Some x.bytes) (inventory_in xs id) ≡ Some bytes → AreBytes bytes
+    by true rest is = let same : x.bytes ≡ bytes = cc is in rw (← same) (all 0 x (omega arith)).bytes
+    by false rest is = rest is
+
+module _ (line : (view : SdrView) (reading : Option Reading) → HasText (IsSdrLine view reading))
+    (extended : (view : SdrView) (reading : Option Reading) → HasText (IsExtendedLine view reading))
+    (block : (id : ℕ) (view : SdrView) (reading : Option Reading) → HasText (IsSdrBlock id view reading))
+    (entry_line : (id : ℕ) (view : SelView) → HasText (IsSelLine id view))
+    (entry_block : (id : ℕ) (view : SelView) → HasText (IsSelBlock id view))
+    (info : (bytes : List ℕ) → HasText (IsInfoBlock bytes))
+    (fru : (bytes : List ℕ) → AreBytes bytes → HasText (IsFruText bytes)) where
+  has_listed : (detail : Detail) (store : Store) (id : ℕ) (view : Result SdrView SdrFault)
+      → HasText (IsListed detail store id view)
+  has_listed Detail.Short store id (Ok view) = line view (reading_for store view)
+  has_listed Detail.Extended store id (Ok view) = extended view (reading_for store view)
+  has_listed detail store id (Err fault) = (_, refl)
+
+  has_block_of_name : (name : List ℕ) (store : Store) (id : ℕ) (view : Result SdrView SdrFault)
+      → HasText (IsBlockOfName name store id view)
+  has_block_of_name name store id (Ok view) = has_chosen _ _ (block id view (reading_for store view))
+  has_block_of_name name store id (Err fault) = ([], refl)
+
+  has_inventory_text : (o : Option (List ℕ)) → ((bytes : List ℕ) → o ≡ Some bytes → AreBytes bytes)
+      → HasText (IsInventoryText o)
+  has_inventory_text None are = (_, refl)
+  has_inventory_text (Some bytes) are = fru bytes (are bytes refl)
+
+  has_inventory : (store : Store) (id : ℕ) (name : List ℕ) → IsStore store
+      → HasText (IsInventoryPiece store id name)
+  has_inventory store id name ok =
+      let has = has_inventory_text (inventory_of id store) (λ bytes is. inventory_bytes store.inventories id bytes ok.inventories is) in
+      (_, record { inventory = has.0; is_inventory = has.1; text_is = refl })
+
+  has_device : (store : Store) (view : SdrView) (id : Option ℕ) → IsStore store
+      → HasText (IsDevicePiece store view id)
+  has_device store view None ok = (_, refl)
+  has_device store view (Some id) ok = has_chosen _ _ (has_inventory store id _ ok)
+
+  has_locator : (store : Store) (view : Result SdrView SdrFault) → IsStore store
+      → HasText (IsLocatorPiece store view)
+  has_locator store (Ok (SdrView.Fru bytes)) ok = has_device store (SdrView.Fru bytes) _ ok
+  has_locator store _ ok = ([], refl)
+
+  has_row : (form : Form) (store : Store) (row : Row) → IsStore store
+      → HasText (IsRowText store form row)
+  has_row (Form.Line detail kind) store row ok = has_chosen (row_is_of_kind kind row) _ (has_listed detail store row.id (sdr_view_of row.bytes))
+  has_row (Form.Block name) store row ok = has_block_of_name name store row.id (sdr_view_of row.bytes)
+  has_row Form.Device store row ok = has_locator store (sdr_view_of row.bytes) ok
+  has_row Form.EntryLine store row ok = entry_line row.id (sel_view_of row.bytes)
+  has_row Form.EntryBlock store row ok = entry_block row.id (sel_view_of row.bytes)
+  has_row _ store row ok = (_, refl)
+
+  has_item : (store : Store) (subject : Subject) → IsStore store
+      → HasText (IsTextOver store subject)
+  has_item store (OfRow form row) ok = has_row form store row ok
+  has_item store (OfInventory id) ok = has_inventory store id [] ok
+  has_item store (OfInfo bytes) ok = info bytes
+  has_item store OfImage ok = (_, refl)
+
+  pub has_texts : ItemsHaveAText
+  has_texts store [] ok = ([], refl)
+  has_texts store (item ∷ items) ok =
+      let first = has_item store item.subject ok in
+      let rest = has_texts store items ok in
+      (_, record { first = first.0; rest = rest.0; is_first = first.1; is_rest = rest.1; joined = refl })

@@ -1,0 +1,7 @@
+use Rattle.ipmi_commands.proofs.ExistenceLemmas.{has_texts}
+use Rattle.ipmi_commands.proofs.laws.items_have_a_text.Goals as goal
+
+pub returns : goal.returns
+returns c =
+    has_texts c.each_record_has_texts.ensures.line c.each_record_has_texts.ensures.extended_line c.each_record_has_texts.ensures.block
+    c.each_entry_has_texts.ensures.line c.each_entry_has_texts.ensures.block c.each_info_has_a_block.ensures c.each_inventory_has_a_text.ensures
