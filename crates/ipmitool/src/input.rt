@@ -1,5 +1,5 @@
 //! What the program reads: its words, and its image.
-ghost use Rattle.std.specs.Prelude.{◌<◌, ◌≤◌, IfOk, length, vec_len};
+ghost use Rattle.std.specs.Prelude.{◌≡◌, ◌<◌, ◌≤◌, IfOk, IfSome, length, vec_len};
 
 use ipmi_command_line::{UsageFault, Word, Words};
 use std::alloc::Global;
@@ -32,7 +32,8 @@ pub(crate) fn words_of<R: Env + AllocGlobal>(rt: &R) -> Result<Words, UsageFault
 
 /// All bytes up to the first empty read; where there are more than 64 MiB, an error.
 pub(crate) fn read_image<R: Read + Drop>(alloc: Global, reader: R) -> io::Result<Vec<u8>>
-    ensures { IfOk result (λ bytes. vec_len bytes ≤ 67108864) }
+    ensures fits { IfOk result (λ bytes. vec_len bytes ≤ 67108864) }
+    ensures all { IfOk result (λ bytes. IfSome (R.remaining reader) (λ all. bytes.items ≡ all)) }
 {
     let mut bytes = Vec::new(alloc);
     reader.take(MOST_BYTES + 1).read_to_end(&mut bytes)?;
