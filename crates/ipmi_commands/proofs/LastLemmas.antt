@@ -3,7 +3,7 @@ use Rattle.std.proofs.Common.{◌≡◌, inl, inr, ℕ, zero, suc, ◌+◌, ◌-
 use Rattle.std.proofs.lemmas.List.{nil_from_length}
 use Rattle.std.proofs.Math.Seq.{drop-nil}
 use Rattle.ipmi_commands.specs.Below.{digits_most, Place, Sel, Row, Store, rows_of, WalkEnd, Done, place_after, place_after_rows, Seen, IsHonest, StaysHonest, CommandState, CursorState, StandsAt, start_of, asked_at, Ending, Failure}
-use Rattle.ipmi_commands.specs.Prelude.{AreTexts, AtEnd, AtRecord, calls_for, Cause, cause_of, Change, change, Counted, CountsEntries, Dishonest, end_spots, end_spots_of_last, ending_of, first_end, first_rows, Form, GaveUp, IsAllowed, IsAmong, IsFresh, IsTextOver, Item, last_call_bound, last_plan, Leaves, listing, listing_plan, Lists, ListsAfter, ListsHonestly, most_on_walk, NoMemory, NoOutput, OfRow, OnWalk, ListsAlong, Plan, Printed, PrintsAll, Refused, row_items, rows_end, second_walk_bound, Spot, spots_along, spots_at, spots_of_walk, StopsAt, Subject, walk_call_bound, with_first_spots}
+use Rattle.ipmi_commands.specs.Prelude.{AreTexts, AtEnd, AtRecord, calls_for, Cause, cause_of, Change, change, Counted, CountsEntries, Dishonest, end_spots, end_spots_of_last, ending_of, first_end, first_rows, Form, GaveUp, IsAllowed, IsAmong, IsFresh, IsTextOver, Item, Job, last_plan, Leaves, listing, listing_plan, Lists, ListsAfter, ListsHonestly, most_on_walk, NoMemory, NoOutput, OfRow, OnWalk, ListsAlong, Plan, Printed, Prints, PrintsAll, Refused, row_items, rows_end, second_walk_bound, Spot, spots_along, spots_at, spots_of_walk, StopsAt, Subject, walk_call_bound, with_first_spots}
 use Rattle.ipmi_commands.proofs.CallLemmas.{calls_split}
 use Rattle.ipmi_commands.proofs.CountLemmas.{between, ends_here, ends_since}
 use Rattle.ipmi_commands.proofs.ItemLemmas.{IsCarried, leaves_carried, no_items, none_printed, texts_joined}
@@ -48,7 +48,7 @@ module _ (IsText : Subject → List ℕ → Type 0) (spots : List Spot) (p : Pla
   widened old new [] rest is printed = record {
     first = record { done = []; rest = with_first_spots spots p.items; items_are = refl; printed = printed };
     spots = λ spot among. rw spots_at-first (wide spot (rw is among));
-    next = λ item later next. (record { subject = item.subject; spots = spots }, later, ap (with_first_spots spots) (is ∙ next), refl);
+    next = λ item later text next is_text some. (record { subject = item.subject; spots = spots }, later, ap (with_first_spots spots) (is ∙ next), is_text);
   }
   widened old new (d ∷ done) rest is printed = record {
     first = record {
@@ -58,7 +58,7 @@ module _ (IsText : Subject → List ℕ → Type 0) (spots : List Spot) (p : Pla
       printed = kept_printed (d ∷ done) old new printed;
     };
     spots = λ spot among. rw is (rw ends_are at among);
-    next = λ item later next. (item, later, next, refl);
+    next = λ item later text next is_text some. (item, later, next, is_text);
   }
 
   leaves_wide : (old new : List ℕ) (ending : Ending) (cause : Cause)
@@ -139,33 +139,21 @@ module _ (store : Store) (n : ℕ) (most : Option ℕ) (start : Place) (walk : L
       → PrintsAll (IsTextOver store) (last_plan n start walk e) old new (Err failure)
   ends_so e is same = grind (arith, none_printed)
 
-  stops_there : (spot : Spot) → StopsAt spot (IsTextOver store) passing old new
-      → StopsAt spot (IsTextOver store) (last_plan n start walk end) old new
-  stops_there spot stops = record {
-    first = no_items (IsTextOver store) (last_plan n start walk end) old new (nothing store most start walk stops.first.done stops.first.rest old new stops.first.items_are stops.first.printed);
-    there = rw spots_at-first (passed_there most start walk stops.first.done stops.first.rest (end_spots start walk end) spot stops.first.items_are (rw end_is at stops.there));
-  }
-
   passing_failed : (cause : Cause) → Leaves (IsTextOver store) passing old new (Err failure) cause
       → Leaves (IsTextOver store) (last_plan n start walk end) old new (Err failure) cause
-  passing_failed AtEnd leaves = ends_so end (rw end_is at leaves.1) (all_nothing store most start walk old new leaves.0)
-  passing_failed (GaveUp spot) leaves = stops_there spot leaves
-  passing_failed (Refused spot code) leaves = stops_there spot leaves
-  passing_failed NoMemory leaves = no_items (IsTextOver store) (last_plan n start walk end) old new (nothing store most start walk leaves.done leaves.rest old new leaves.items_are leaves.printed)
-  passing_failed NoOutput leaves =
-      let first = leaves.first in
-      let text = first.printed.text ++ leaves.text in
-      let is : row_items Form.Passed start (first_rows most walk) ≡ (first.done ++ leaves.item ∷ []) ++ leaves.later = first.items_are ∙ rw leaves.next (sym (append_assoc first.done (leaves.item ∷ []) leaves.later)) in
-      let one : AreTexts (IsTextOver store) (leaves.item ∷ []) leaves.text = record { first = leaves.text; rest = []; is_first = leaves.is_text; is_rest = refl; joined = sym (append-nil leaves.text) } in
-      let none : text ≡ [] = no_text store (first_rows most walk) start (first.done ++ leaves.item ∷ []) leaves.later text is (texts_joined (IsTextOver store) first.done (leaves.item ∷ []) first.printed.text leaves.text first.printed.are one) in
-      absurd (omega (arith, leaves.some, ap length none, length-append first.printed.text leaves.text))
-  passing_failed Dishonest leaves = absurd leaves
+  passing_failed cause leaves = leaves_carried (IsTextOver store) passing (last_plan n start walk end) old old new (Err failure) cause
+      (λ whole first. record {
+        first = no_items (IsTextOver store) (last_plan n start walk end) old whole (nothing store most start walk first.done first.rest old whole first.items_are first.printed);
+        spots = λ spot among. rw spots_at-first (passed_there most start walk first.done first.rest (end_spots start walk end) spot first.items_are (rw end_is at among));
+        next = λ item later text next is_text some.
+            let is : row_items Form.Passed start (first_rows most walk) ≡ (first.done ++ item ∷ []) ++ later = first.items_are ∙ rw next (sym (append_assoc first.done (item ∷ []) later)) in
+            let one : AreTexts (IsTextOver store) (item ∷ []) text = record { first = text; rest = []; is_first = is_text; is_rest = refl; joined = sym (append-nil text) } in
+            let none = no_text store (first_rows most walk) start (first.done ++ item ∷ []) later (first.printed.text ++ text) is (texts_joined (IsTextOver store) first.done (item ∷ []) first.printed.text text first.printed.are one) in
+            absurd (omega (arith, some, ap length none, length-append first.printed.text text));
+      })
+      (λ is all. ends_so end (rw end_is at all.1) (all_nothing store most start walk old new all.0)) leaves
 
 -- ---- entries are counted
-
-rows_end-done : (rows : List Row) (end : WalkEnd) → Ok tt ≡ rows_end Form.Passed rows end
-    → end ≡ Done
-rows_end-done rows end is = grind arith
 
 module _ {command : CommandState} {from : Option ℕ} {tries : ℕ} {begun now : CursorState}
     {c : Change}
@@ -173,7 +161,7 @@ module _ {command : CommandState} {from : Option ℕ} {tries : ℕ} {begun now :
   counts : (result : Result ℕ Failure) (walk : List Row) (end : WalkEnd)
       → ListsAlong Form.Passed tries None begun now c result (start_of from) walk end 0
       → Counted c.seen.store (start_of from) walk end c.old c.new result
-  counts (Ok count) walk end along = (along.all.count_is, rows_end-done walk end along.leaves.1, all_nothing c.seen.store None (start_of from) walk c.old c.new along.leaves.0)
+  counts (Ok count) walk end along = (along.all.count_is, grind (arith, along.leaves.1), all_nothing c.seen.store None (start_of from) walk c.old c.new along.leaves.0)
   counts (Err failure) walk end along = λ n. passing_failed c.seen.store n None (start_of from) walk end refl c.old c.new failure (cause_of (Err failure)) along.leaves
 
   pub counted : (result : Result ℕ Failure)
@@ -202,11 +190,6 @@ after_without_memory tries start passed s text honest = record {
   along = λ same walk end w ends n done is. (no_items (IsTextOver s.store) (last_plan n start walk end) text text refl, omega arith);
 }
 
--- a done walk has no other end
-first_end-done : (most : Option ℕ) (rows : List Row) (end : WalkEnd) → end ≡ Done
-    → first_end most rows end ≡ end
-first_end-done most rows end done = grind arith
-
 module _ {command : CommandState} {from : Option ℕ} {tries passed : ℕ} {begun mid : CursorState}
     {s s' : Seen} {old text : List ℕ} (fresh : IsFresh command Form.Passed from begun) where
   -- they could not be passed
@@ -217,7 +200,7 @@ module _ {command : CommandState} {from : Option ℕ} {tries passed : ℕ} {begu
     ends = fresh_ends fresh lists;
     along = λ same walk end w ends n done is.
         let along = fresh_along fresh lists same walk end w ends in (
-          passing_failed s.store n (Some passed) (start_of from) walk end (first_end-done (Some passed) walk end done) old text failure (cause_of (Err failure)) along.0.leaves,
+          passing_failed s.store n (Some passed) (start_of from) walk end (grind (arith, done)) old text failure (cause_of (Err failure)) along.0.leaves,
           omega (arith, rw calls_for-passed at along.1, calls_split Form.EntryLine s.store tries passed walk),
         );
   }
@@ -253,17 +236,6 @@ module _ {command : CommandState} {from : Option ℕ} {tries passed : ℕ} {begu
         );
   }
 
--- over any controller
-pub after_calls : {command : CommandState} {from : Option ℕ} {tries passed : ℕ}
-    {begun mid now : CursorState}
-    {c d : Change} {result : Result ℕ Failure} → IsFresh command Form.Passed from begun → d.seen ≡ c.seen'
-    → Lists Form.Passed tries (Some passed) begun mid c (Ok passed)
-    → Lists Form.EntryLine tries None mid now d result
-    → d.seen'.calls ≤ c.seen.calls + most_on_walk Form.EntryLine tries
-after_calls {begun = begun} fresh is passes lists =
-    let first = rw (no_ids fresh) at (passes.calls.some refl) in
-    omega (arith, first, rw is at (lists.calls.all (passes.keeps.part fresh.some)), digits_most begun.part)
-
 -- ---- the last entries
 
 second_walk_bound-some : (bound : ℕ) (rows : List Row) → 0 < length rows
@@ -276,9 +248,7 @@ module _ (n : ℕ) (from : Option ℕ) (tries : ℕ) (some : 1 ≤ n) (s s' : Se
   pub last_prints_none : (result : Result ℕ Failure) → IfOk result (λ count. count ≡ 0)
       → s'.stores_added ≡ s.stores_added → CountsEntries (start_of from) tries
       (change s s' old text) result
-      → OnWalk Sel (start_of from) s.store (λ walk end.
-      IsAllowed (IsTextOver s.store) (last_plan n (start_of from) walk end) old text (ending_of result)
-      × (s'.calls ≤ s.calls + last_call_bound n s.store tries walk end))
+      → Prints (Job.Last n from) tries (change s s' old text) (ending_of result)
   last_prints_none (Ok count) none same counts = λ walk end w ends.
       let along = counts.along same walk end w ends in
       let empty = nil_from_length walk (sym along.0.0 ∙ none) in
@@ -291,9 +261,7 @@ module _ (n : ℕ) (from : Option ℕ) (tries : ℕ) (some : 1 ≤ n) (s s' : Se
       → StaysHonest s s' → s'.stores_added ≡ s.stores_added → s''.stores_added ≡ s'.stores_added
       → CountsEntries (start_of from) tries (change s s' old text) (Ok count)
       → ListsAfter (start_of from) (count - n) tries (change s' s'' text new) ending
-      → OnWalk Sel (start_of from) s.store (λ walk end.
-      IsAllowed (IsTextOver s.store) (last_plan n (start_of from) walk end) old new ending
-      × (s''.calls ≤ s.calls + last_call_bound n s.store tries walk end))
+      → Prints (Job.Last n from) tries (change s s'' old new) ending
   last_prints s'' new count ending more stays same same' counts lists = λ walk end w ends.
       let along = counts.along same walk end w ends in
       let later = (rw (stays.store.stays same) at (lists.along same' walk end)) w ends n along.0.1 (rw along.0.0 refl) in

@@ -25,13 +25,9 @@ same_wrote a b old text new one two is = grind (arith, length-append, ap length 
 
 module _ (name : List ℕ) (store : Store) where
   -- a block is not empty, as it begins with the word Record
-  chosen : (b : Bool) (id : ℕ) (view : SdrView) (text : List ℕ)
-      → IfChosen b (λ t. IsSdrBlock id view (reading_for store view) t) text → Wrote b [] text
-  chosen b id view text is = grind arith
-
   block_wrote : (id : ℕ) (view : Result SdrView SdrFault) (text : List ℕ)
       → IsBlockOfName name store id view text → Wrote (view_has_name name view) [] text
-  block_wrote id view text is = grind (arith, chosen)
+  block_wrote id view text is = grind arith
 
   -- of two texts
   both_wrote : (a b : Bool) (first rest : List ℕ) → Wrote a [] first → Wrote b [] rest

@@ -28,13 +28,9 @@ page_of_no_rows form place tries most s text result honest cause stays empty = r
       record {
         leaves = rw (cause, none.0) (none_printed (IsTextOver s.store) text text refl, none.1);
         calls = omega arith;
-        goes_on = at_place result stays (rows_of (shelf_of form) s.store) (first_rows most walk) none.0;
+        goes_on = grind (arith, stays, none.0);
       };
 }
-  where
-    at_place : (r : Result Place Failure) → IfOk r (λ next. next ≡ place) → (rows : List Row)
-        → (used : List Row) → used ≡ [] → IfOk r (λ next. GoesOn rows place used next)
-    at_place r is rows used none = grind arith
 
 -- such a page ends by this
 end_is : (form : Form) (place : Place) → (cause_of (ending_of (end_of form false place)) ≡ AtEnd)
@@ -53,46 +49,6 @@ page_of_none form place tries s text honest = let is = end_is form place in
 pub no_walk : (rows : List Row) (start : Place) (walk : List Row) → row_at start rows ≡ None
     → IsWalk rows start walk → walk ≡ []
 no_walk rows start walk none w = grind arith
-
-done_there : (rows : List Row) (end : WalkEnd) → EndsBy rows End [] end → end ≡ Done
-done_there rows end ends = grind arith
-
-cycle_there : (rows : List Row) (end : WalkEnd) → EndsBy rows (Id 0) [] end → end ≡ CycleAt 0
-cycle_there rows end ends = grind arith
-
--- the end of no rows, where some are wanted, and no rows
-first_end-nil : (most : Option ℕ) (end : WalkEnd) → (most ≡ Some 0 → ⊥)
-    → first_end most [] end ≡ end
-first_end-nil most end some = grind (arith, nat_tests)
-
-first_rows-nil : (most : Option ℕ) → first_rows most [] ≡ []
-first_rows-nil most = grind (arith, take-nil)
-
--- from where no row is, and no walk has another end
-no_rows : (form : Form) (most : Option ℕ) (rows : List Row) (start : Place) (only : WalkEnd)
-    (walk : List Row) (end : WalkEnd) → (most ≡ Some 0 → ⊥) → row_at start rows ≡ None
-    → ((e : WalkEnd) → EndsBy rows start [] e → e ≡ only) → IsWalk rows start walk
-    → EndsBy rows start walk end → (first_rows most walk ≡ [])
-    × (rows_end form [] only ≡ rows_end form [] (first_end most walk end))
-no_rows form most rows start only walk end some none one w ends =
-    let empty = no_walk rows start walk none w in
-    let is : end ≡ only = one end (rw empty at ends) in
-    rw (empty, is) (first_rows-nil most, ap (rows_end form []) (sym (first_end-nil most only some)))
-
--- a page where no cursor is needed: at the end, and at the id 0000h
-pub page_at_end : (form : Form) (tries : ℕ) (most : Option ℕ) (s : Seen) (text : List ℕ)
-    → (most ≡ Some 0 → ⊥) → IsHonest s
-    → IsPage form End tries most (change s s text text) (end_of form false End)
-page_at_end form tries most s text some honest = let is = end_is form End in
-    page_of_no_rows form End tries most s text (end_of form false End) honest is.0 is.1
-    (λ walk end w ends.
-    let empty = no_rows form most (rows_of (shelf_of form) s.store) End Done walk end some refl (done_there (rows_of (shelf_of form) s.store)) w ends in (empty.0, is.2 ∙ empty.1))
-
-pub page_at_zero : (form : Form) (tries : ℕ) (most : Option ℕ) (s : Seen) (text : List ℕ)
-    → (most ≡ Some 0 → ⊥) → IsHonest s
-    → IsPage form (Id 0) tries most (change s s text text) (Err (Failure.Ended (Ended.Cycle 0)))
-page_at_zero form tries most s text some honest = page_of_no_rows form (Id 0) tries most s text (Err (Failure.Ended (Ended.Cycle 0))) honest refl tt
-    (λ walk end w ends. no_rows form most (rows_of (shelf_of form) s.store) (Id 0) (CycleAt 0) walk end some refl (cycle_there (rows_of (shelf_of form) s.store)) w ends)
 
 -- a page for whose cursor no memory was left
 pub page_without_memory : (form : Form) (place : Place) (tries : ℕ) (most : Option ℕ) (s : Seen)

@@ -29,13 +29,9 @@ pub record OneListing (form : Form) (start : Place) (tries : ℕ) (sizes : List 
 module _ (walk_tail : TailIsWalk) where
   -- ---- the rest of a walk
 
-  no_more : (rows : List Row) (next : ℕ) (before : List Row) (end : WalkEnd)
-      → EndsAfter rows before next end → IsOpen end → EndsEmpty rows (place_after next) end
-  no_more rows next before end ends open_ = grind (arith, ne_eqb)
-
   rest_ends : (rows : List Row) (start : Place) (d : Row) (rest : List Row) (end : WalkEnd)
       → EndsBy rows start (d ∷ rest) end → IsOpen end → EndsBy rows (place_after d.next) rest end
-  rest_ends rows start d rest end ends open_ = grind (arith, no_more, or_parts)
+  rest_ends rows start d rest end ends open_ = grind (arith, ne_eqb, or_parts)
 
   rest_of_walk : (form : Form) (rows : List Row) (start : Place) (done rest : List Row)
       (end : WalkEnd) → IsShelf (shelf_of form) rows → IsOpen end → IsWalk rows start (done ++ rest)
@@ -63,16 +59,10 @@ module _ (walk_tail : TailIsWalk) where
     is_whole past = let less : length walk < size = search arith in rw (past, take_all size walk (omega (arith, less))) refl
 
     -- where the page stopped at its end no row is there, and it is that of all
-    spot_of_end : (spot : Spot) (at : Place) (l : List Row) (e : WalkEnd) → EndsBy rows at l e
-        → IsAmong (end_spots at l Done) spot
-        → IsAmong (spots_at (row_items form (place_after_rows at (take size l)) (drop size l))
-        (end_spots at l e)) spot
-    spot_of_end spot at l e ends among = grind (arith, drop-nil)
-
     spot_wide : (spot : Spot) (rest : List Item)
         → IsAmong (spots_at rest (end_spots start walk Done)) spot
         → IsAmong (spots_at (rest ++ row_items form (place_after_rows start (take size walk)) (drop size walk)) (end_spots start walk end)) spot
-    spot_wide spot rest among = grind (arith, spot_of_end)
+    spot_wide spot rest among = grind (arith, drop-nil)
 
     -- a failure is not how the page would end
     not_done : (failure : Failure) (used : List Row) → Err failure ≡ rows_end form used Done → ⊥
@@ -102,13 +92,8 @@ module _ (walk_tail : TailIsWalk) where
       → IsAllowed (IsTextOver store) (plan_from form End None [] end) text new ending
       → IsAllowed (IsTextOver store) (plan_from form First None [] end) text new ending
   from_first form store end text new ending allowed =
-      leaves_longer (IsTextOver store) (plan_from form End None [] end) (plan_from form First None [] end) [] refl (there end) text new ending (cause_of ending)
+      leaves_longer (IsTextOver store) (plan_from form End None [] end) (plan_from form First None [] end) [] refl (λ spot rest among. grind arith) text new ending (cause_of ending)
       (λ at_end all. all) allowed
-    where
-      there : (e : WalkEnd) (spot : Spot) (rest : List Item)
-          → IsAmong (spots_at rest (end_spots End [] e)) spot
-          → IsAmong (spots_at (rest ++ []) (end_spots First [] e)) spot
-      there e spot rest among = grind arith
 
   module _ (form : Form) (store : Store) (rows : List Row) (start next : Place) (walk : List Row)
       (end : WalkEnd) (size : ℕ) (w : IsWalk rows start walk) where

@@ -32,16 +32,3 @@ pub rewritten : (store : Store) (old new : List ℕ) (ending : Ending)
 rewritten store old new (Ok done) writes = record { allowed = text_leaves (IsTextOver store) OfImage [] old new (image_text_of store) (Ok done) refl writes; unwritten = λ out. cc out }
 rewritten store old new (Err Failure.WriteFault) writes = record { allowed = text_leaves (IsTextOver store) OfImage [] old new (image_text_of store) (Err Failure.WriteFault) refl writes; unwritten = λ out. cc out }
 rewritten store old new (Err _) writes = absurd writes
-
-not_rewritten : (store : Store) (text : List ℕ) → IsRewriting store text text (Err Failure.OutOfMemory)
-not_rewritten store text = record { allowed = no_items (IsTextOver store) rewrite_plan text text refl; unwritten = λ out. refl }
-
--- where memory runs out before anything is done
-no_memory_over : (job : Job) (store : Store) (text : List ℕ)
-    → RunsOver (is_rewrite job) job store text text (Err Failure.OutOfMemory)
-no_memory_over Job.Rewrite store text = not_rewritten store text
-no_memory_over (Job.Records l) store text = (λ walk end w ends. no_items (IsTextOver store) _ text text refl, tt)
-no_memory_over (Job.Last n from) store text = (λ walk end w ends. no_items (IsTextOver store) _ text text refl, tt)
-no_memory_over Job.AllInventories store text = (λ walk end w ends. no_items (IsTextOver store) _ text text refl, tt)
-no_memory_over (Job.Info shelf) store text = (no_items (IsTextOver store) _ text text refl, tt)
-no_memory_over (Job.Inventory id) store text = (no_items (IsTextOver store) _ text text refl, tt)

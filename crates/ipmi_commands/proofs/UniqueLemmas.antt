@@ -1,5 +1,5 @@
 -- What is printed has one text, and so has a finished run.
-use Rattle.std.proofs.Common.{◌≡◌, ℕ, ◌-◌, Bool, true, false, cond, Option, None, Some, IfSome, Result, List, [], ◌∷◌, ◌++◌, length, take, drop, sym, subst, ◌∙◌, arith, take-append-drop}
+use Rattle.std.proofs.Common.{◌≡◌, ℕ, zero, suc, ◌-◌, Bool, true, false, cond, Option, None, Some, IfSome, Result, List, [], ◌∷◌, ◌++◌, length, take, drop, sym, subst, ◌∙◌, arith, take-append-drop}
 use Rattle.ipmi_commands.specs.Below.{Shelf, Sdr, Sel, Place, First, start_of, Row, IsShelf, FoundIsRow, AreBytes, Reading, Store, IsStore, IsInfo, info_of, inventory_of, rows_of, store_shelf, AllOf, WalkExists, WalkEnd, place_after, place_after_rows, IsFruText, SdrFault, SdrView, Event, OemTimed, OemPlain, Other, IsInfoBlock, IsSdrBlock, entry_bytes, sel_view_of, SdrLineIsUnique, ExtendedLineIsUnique, SelLineIsUnique, SelBlockIsUnique, Ending}
 use Rattle.ipmi_commands.specs.Prelude.{AreOfBytes, Detail, first_rows, FinishedRunsAreOne, Form, IfChosen, info_plan, inventories_plan, inventory_plan, IsBlockOfName, IsDevicePiece, IsInventoryPiece, IsInventoryText, IsListed, IsLocatorPiece, IsOfBytes, IsRowText, IsTextOver, Item, ItemsHaveOneText, Job, last_items, last_plan, last_rows, listing_plan, no_plan, Plan, PrintsAll, row_items, shelf_of, Spot, spots_of_walk, Subject, with_first_spots}
 
@@ -24,20 +24,12 @@ same_bytes event timed plain bytes = grind arith
 entry_are_bytes : (bytes : List ℕ) → AreBytes bytes → AreBytes (entry_bytes (sel_view_of bytes))
 entry_are_bytes bytes are = subst AreBytes (sym (same_bytes _ _ _ bytes)) are
 
--- what the laws of blocks and of inventories say
-abbrev SdrBlockIsUnique : Type 0
-SdrBlockIsUnique = (id : ℕ) (view : SdrView) (reading : Option Reading) → IsOne (IsSdrBlock id view reading)
-
-abbrev InfoBlockIsUnique : Type 0
-InfoBlockIsUnique = (bytes text other : List ℕ) → AreBytes bytes → IsInfoBlock bytes text → IsInfoBlock bytes other → text ≡ other
-
-abbrev FruTextIsUnique : Type 0
-FruTextIsUnique = (bytes : List ℕ) → IsOne (IsFruText bytes)
-
 module _ (one_sdr_line : SdrLineIsUnique) (one_extended_line : ExtendedLineIsUnique)
-    (one_sdr_block : SdrBlockIsUnique) (one_sel_line : SelLineIsUnique)
-    (one_sel_block : SelBlockIsUnique) (one_info_block : InfoBlockIsUnique)
-    (one_fru_text : FruTextIsUnique) where
+    (one_sdr_block : (id : ℕ) (view : SdrView) (r : Option Reading) → IsOne (IsSdrBlock id view r))
+    (one_sel_line : SelLineIsUnique) (one_sel_block : SelBlockIsUnique)
+    (one_info_block : (info text other : List ℕ)
+    → AreBytes info → IsInfoBlock info text → IsInfoBlock info other → text ≡ other)
+    (one_fru_text : (bytes : List ℕ) → IsOne (IsFruText bytes)) where
   one_listed : (detail : Detail) (store : Store) (id : ℕ) (view : Result SdrView SdrFault)
       → IsOne (IsListed detail store id view)
   one_listed detail store id view = grind (arith, one_sdr_line, one_extended_line)
@@ -83,14 +75,11 @@ rows_are_bytes : FoundIsRow → (form : Form) (shelf : Shelf) (rows : List Row) 
 rows_are_bytes look_row form shelf rows start [] ok all = tt
 rows_are_bytes look_row form shelf rows start (row ∷ walk) ok all = ((look_row shelf rows row.id row ok all.0).bytes, rows_are_bytes look_row form shelf rows (place_after row.next) walk ok all.1)
 
-both_of_shelf : (rows done rest : List Row) → AllOf rows (done ++ rest)
-    → AllOf rows done × AllOf rows rest
-both_of_shelf rows [] rest all = (tt, all)
-both_of_shelf rows (d ∷ done) rest all = let both = both_of_shelf rows done rest all.1 in ((all.0, both.0), both.1)
-
 parts_of_shelf : (n : ℕ) (rows walk : List Row) → AllOf rows walk
     → AllOf rows (take n walk) × AllOf rows (drop n walk)
-parts_of_shelf n rows walk all = both_of_shelf rows (take n walk) (drop n walk) (rw (take-append-drop n walk) all)
+parts_of_shelf zero rows walk all = (tt, all)
+parts_of_shelf (suc n) rows [] all = (tt, tt)
+parts_of_shelf (suc n) rows (row ∷ walk) all = let parts = parts_of_shelf n rows walk all.1 in ((all.0, parts.0), parts.1)
 
 first_of_shelf : (most : Option ℕ) (rows walk : List Row) → AllOf rows walk
     → AllOf rows (first_rows most walk)
@@ -104,12 +93,9 @@ first_kept : (spots : List Spot) (items : List Item) → AreOfBytes items
     → AreOfBytes (with_first_spots spots items)
 first_kept spots items are = grind arith
 
-info_bytes : (o : Option (List ℕ)) → IfSome o IsInfo → AreOfBytes (info_plan o).items
-info_bytes o are = grind arith
-
 infos_bytes : (store : Store) → IsStore store → (shelf : Shelf)
     → AreOfBytes (info_plan (info_of shelf store)).items
-infos_bytes store ok shelf = grind (arith, info_bytes)
+infos_bytes store ok shelf = grind arith
 
 -- ---- one output
 
