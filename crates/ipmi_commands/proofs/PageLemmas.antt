@@ -12,38 +12,24 @@ use Rattle.ipmi_commands.proofs.ListingLemmas.{fresh_along, fresh_ends}
 
 -- ---- nothing is asked for
 
--- a page that asks for nothing, as no row is wanted, or none is there
-page_of_no_rows : (form : Form) (place : Place) (tries : ℕ) (most : Option ℕ) (s : Seen)
-    (text : List ℕ) (result : Result Place Failure) → IsHonest s
-    → cause_of (ending_of result) ≡ AtEnd
-    → IfOk result (λ next. next ≡ place)
-    → OnWalk (shelf_of form) place s.store (λ walk end. (first_rows most walk ≡ [])
-    × (ending_of result ≡ rows_end form [] (first_end most walk end)))
-    → IsPage form place tries most (change s s text text) result
-page_of_no_rows form place tries most s text result honest cause stays empty = record {
-  ends = rw cause (ends_here honest refl tt);
-  none = λ zero_. refl;
-  along = λ same walk end w ends.
-      let none = empty walk end w ends in
-      record {
-        leaves = rw (cause, none.0) (none_printed (IsTextOver s.store) text text refl, none.1);
-        calls = omega arith;
-        goes_on = grind (arith, stays, none.0);
-      };
-}
-
--- such a page ends by this
+-- a page of no record ends by this
 end_is : (form : Form) (place : Place) → (cause_of (ending_of (end_of form false place)) ≡ AtEnd)
     × IfOk (end_of form false place) (λ next. next ≡ place)
     × (ending_of (end_of form false place) ≡ rows_end form [] Done)
 end_is form place = grind arith
 
--- a page of no record
 pub page_of_none : (form : Form) (place : Place) (tries : ℕ) (s : Seen) (text : List ℕ) → IsHonest s
     → IsPage form place tries (Some 0) (change s s text text) (end_of form false place)
 page_of_none form place tries s text honest = let is = end_is form place in
-    page_of_no_rows form place tries (Some 0) s text (end_of form false place) honest is.0 is.1
-    (λ walk end w ends. (refl, is.2 ∙ ap (rows_end form []) (sym (first_end-none 0 walk end (omega arith)))))
+    record {
+      ends = rw is.0 (ends_here honest refl tt);
+      none = λ zero_. refl;
+      along = λ same walk end w ends. record {
+        leaves = rw is.0 (none_printed (IsTextOver s.store) text text refl, is.2 ∙ ap (rows_end form []) (sym (first_end-none 0 walk end (omega arith))));
+        calls = omega arith;
+        goes_on = grind (arith, is.1);
+      };
+    }
 
 -- no walk goes from where no row is
 pub no_walk : (rows : List Row) (start : Place) (walk : List Row) → row_at start rows ≡ None

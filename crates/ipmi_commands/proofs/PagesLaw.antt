@@ -2,8 +2,10 @@
 use Rattle.std.proofs.Common.{◌≡◌, inl, inr, ℕ, ◌+◌, ◌*◌, ◌<◌, ◌≤◌, nat_le, Bool, true, false, IsTrue, Option, None, Some, Err, List, [], ◌∷◌, ◌++◌, length, take, drop, refl, sym, ap, subst, ◌∙◌, arith, ne_eqb, take_all, take-append-drop}
 use Rattle.std.proofs.lemmas.Bool.{or_parts}
 use Rattle.std.proofs.Math.Seq.{take-nil, drop-nil}
+use Rattle.std.proofs.lemmas.Bool.Decides.{nat_tests}
+use Rattle.std.proofs.lemmas.List.{drop_all}
 use Rattle.ipmi_commands.specs.Below.{Place, First, End, Row, IsShelf, Store, rows_of, store_shelf, IsWalk, TailIsWalk, WalkEnd, Done, EndsBy, EndsAfter, EndsEmpty, place_after, place_after_rows, Seen, IsHonest, step_call_bound, start_of, Task, is_listing, CommandState, Ending, Failure}
-use Rattle.ipmi_commands.specs.Prelude.{ArePages, calls_for, cause_of, Change, change, end_spots, EndsFor, EndsListing, Form, GoesOn, IsAllowed, IsAmong, IsOneListing, IsOpen, IsTextOver, Item, Job, job_of, job_of_command, Listing, listing, listing_in, listing_plan, most_on_walk, OnWalk, pages_made, Plan, Printed, row_items, rows_end, RunsPaged, shelf_of, Spot, spots_at}
+use Rattle.ipmi_commands.specs.Prelude.{ArePages, calls_for, cause_of, Change, change, end_spots, EndsFor, EndsListing, Form, GoesOn, IsAllowed, IsAmong, IsOneListing, IsOpen, IsTextOver, Item, Job, job_of, job_of_command, Listing, listing, listing_in, listing_plan, most_on_walk, OnWalk, pages_made, Plan, Printed, PrintsAll, first_end, row_items, rows_end, RunsPaged, shelf_of, Spot, spots_at}
 use Rattle.ipmi_commands.proofs.CallLemmas.{calls_split}
 use Rattle.ipmi_commands.proofs.ItemLemmas.{after_items, leaves_joined, leaves_longer, row_items-split}
 use Rattle.ipmi_commands.proofs.PageLemmas.{calls_of_page, no_walk}
@@ -53,34 +55,25 @@ module _ (walk_tail : TailIsWalk) where
   module _ (form : Form) (store : Store) (rows : List Row) (start : Place) (walk : List Row)
       (end : WalkEnd) (ends : EndsBy rows start walk end) (size : ℕ) (old new : List ℕ)
       (none : NamesNone form) where
-    -- it is the plan of all, where more are wanted than there are
-    is_whole : nat_le size (length walk) ≡ false
-        → plan_from form start (Some size) walk end ≡ plan_from form start None walk end
-    is_whole past = let less : length walk < size = search arith in rw (past, take_all size walk (omega (arith, less))) refl
-
     -- where the page stopped at its end no row is there, and it is that of all
     spot_wide : (spot : Spot) (rest : List Item)
-        → IsAmong (spots_at rest (end_spots start walk Done)) spot
+        → IsAmong (spots_at rest (end_spots start walk (first_end (Some size) walk end))) spot
         → IsAmong (spots_at (rest ++ row_items form (place_after_rows start (take size walk)) (drop size walk)) (end_spots start walk end)) spot
-    spot_wide spot rest among = grind (arith, drop-nil)
+    spot_wide spot rest among = grind (arith, nat_tests, drop-nil, drop_all)
 
-    -- a failure is not how the page would end
-    not_done : (failure : Failure) (used : List Row) → Err failure ≡ rows_end form used Done → ⊥
-    not_done failure used is = let h = is ∙ same_end form used Done none in cc h
+    -- a failure is not how the page would end, but where more are wanted than there are
+    whole : (failure : Failure)
+        → PrintsAll (IsTextOver store) (plan_from form start (Some size) walk end) old new (Err failure)
+        → PrintsAll (IsTextOver store) (plan_from form start None walk end) old new (Err failure)
+    whole failure all = grind (arith, nat_tests, take_all, same_end)
 
     leaves_wide : (failure : Failure)
         → IsAllowed (IsTextOver store) (plan_from form start (Some size) walk end) old new (Err failure)
         → IsAllowed (IsTextOver store) (plan_from form start None walk end) old new (Err failure)
-    leaves_wide failure allowed = by_size (nat_le size (length walk)) refl
-      where
-        by_size : (b : Bool) → nat_le size (length walk) ≡ b
-            → IsAllowed (IsTextOver store) (plan_from form start None walk end) old new (Err failure)
-        by_size true fits =
-            leaves_longer (IsTextOver store) (plan_from form start (Some size) walk end) (plan_from form start None walk end)
-            (row_items form (place_after_rows start (take size walk)) (drop size walk)) (row_items-split form start walk size)
-            (λ spot rest among. spot_wide spot rest (rw fits at among)) old new (Err failure) (cause_of (Err failure))
-            (λ at_end all. absurd (not_done failure (take size walk) (rw fits at all.1))) allowed
-        by_size false past = subst (λ (q : Plan). IsAllowed (IsTextOver store) q old new (Err failure)) (is_whole past) allowed
+    leaves_wide failure allowed =
+        leaves_longer (IsTextOver store) (plan_from form start (Some size) walk end) (plan_from form start None walk end)
+        (row_items form (place_after_rows start (take size walk)) (drop size walk)) (row_items-split form start walk size)
+        spot_wide old new (Err failure) (cause_of (Err failure)) (λ at_end all. whole failure all) allowed
 
   -- ---- the rest of the listing, from where the next page begins
 

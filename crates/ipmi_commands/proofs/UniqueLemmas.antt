@@ -1,7 +1,7 @@
 -- What is printed has one text, and so has a finished run.
 use Rattle.std.proofs.Common.{◌≡◌, ℕ, zero, suc, ◌-◌, Bool, true, false, cond, Option, None, Some, IfSome, Result, List, [], ◌∷◌, ◌++◌, length, take, drop, sym, subst, ◌∙◌, arith, take-append-drop}
 use Rattle.ipmi_commands.specs.Below.{Shelf, Sdr, Sel, Place, First, start_of, Row, IsShelf, FoundIsRow, AreBytes, Reading, Store, IsStore, IsInfo, info_of, inventory_of, rows_of, store_shelf, AllOf, WalkExists, WalkEnd, place_after, place_after_rows, IsFruText, SdrFault, SdrView, Event, OemTimed, OemPlain, Other, IsInfoBlock, IsSdrBlock, entry_bytes, sel_view_of, SdrLineIsUnique, ExtendedLineIsUnique, SelLineIsUnique, SelBlockIsUnique, Ending}
-use Rattle.ipmi_commands.specs.Prelude.{AreOfBytes, Detail, first_rows, FinishedRunsAreOne, Form, IfChosen, info_plan, inventories_plan, inventory_plan, IsBlockOfName, IsDevicePiece, IsInventoryPiece, IsInventoryText, IsListed, IsLocatorPiece, IsOfBytes, IsRowText, IsTextOver, Item, ItemsHaveOneText, Job, last_items, last_plan, last_rows, listing_plan, no_plan, Plan, PrintsAll, row_items, shelf_of, Spot, spots_of_walk, Subject, with_first_spots}
+use Rattle.ipmi_commands.specs.Prelude.{AreOfBytes, Detail, first_rows, FinishedRunsAreOne, Form, IfChosen, info_plan, Printed, inventories_plan, inventory_plan, IsBlockOfName, IsDevicePiece, IsInventoryPiece, IsInventoryText, IsListed, IsLocatorPiece, IsOfBytes, IsRowText, IsTextOver, Item, ItemsHaveOneText, Job, last_items, last_plan, last_rows, listing_plan, no_plan, Plan, PrintsAll, row_items, shelf_of, Spot, spots_of_walk, Subject, with_first_spots}
 
 -- there is one such text at most
 abbrev IsOne : (List ℕ → Type 0) → Type 0
@@ -16,13 +16,8 @@ one_chosen true IsText one = one
 one_chosen false IsText one = one_equation []
 
 -- the bytes of an entry's view
-same_bytes : (event timed plain : Bool) (bytes : List ℕ)
-    → entry_bytes (cond event (Event bytes)
-    (cond timed (OemTimed bytes) (cond plain (OemPlain bytes) (Other bytes)))) ≡ bytes
-same_bytes event timed plain bytes = grind arith
-
 entry_are_bytes : (bytes : List ℕ) → AreBytes bytes → AreBytes (entry_bytes (sel_view_of bytes))
-entry_are_bytes bytes are = subst AreBytes (sym (same_bytes _ _ _ bytes)) are
+entry_are_bytes bytes are = grind arith
 
 module _ (one_sdr_line : SdrLineIsUnique) (one_extended_line : ExtendedLineIsUnique)
     (one_sdr_block : (id : ℕ) (view : SdrView) (r : Option Reading) → IsOne (IsSdrBlock id view r))
@@ -100,30 +95,29 @@ infos_bytes store ok shelf = grind arith
 -- ---- one output
 
 module _ (one : ItemsHaveOneText) (exists : WalkExists) (look_row : FoundIsRow) where
-  one_plan : (store : Store) (plan : Plan) (old a b : List ℕ) (e f : Ending)
-      → AreOfBytes plan.items → PrintsAll (IsTextOver store) plan old a e
-      → PrintsAll (IsTextOver store) plan old b f → (a ≡ b) × (e ≡ f)
-  one_plan store plan old a b e f bytes x y =
-      (x.0.new_is ∙ rw (one store plan.items x.0.text y.0.text bytes x.0.are y.0.are) (sym y.0.new_is), x.1 ∙ sym y.1)
+  one_plan : {store : Store} {items : List Item} {end : Ending} {old a b : List ℕ} {e f : Ending}
+      → AreOfBytes items → Printed (IsTextOver store) items old a × (e ≡ end)
+      → Printed (IsTextOver store) items old b × (f ≡ end) → (a ≡ b) × (e ≡ f)
+  one_plan {store = store} {items = items} bytes x y =
+      (x.0.new_is ∙ rw (one store items x.0.text y.0.text bytes x.0.are y.0.are) (sym y.0.new_is), x.1 ∙ sym y.1)
 
   pub one_output : FinishedRunsAreOne
   one_output (Job.Records l) store old a b e f ok x y =
       let rows = rows_of (shelf_of l.form) store in
-      let there = exists (shelf_of l.form) rows l.start (store_shelf (shelf_of l.form) store ok) in
-      one_plan store (listing_plan l there.0 there.1) old a b e f
-      (rows_are_bytes look_row l.form (shelf_of l.form) rows l.start (first_rows l.most there.0) (store_shelf (shelf_of l.form) store ok) (first_of_shelf l.most rows there.0 there.2.of_shelf))
+      let shelf = store_shelf (shelf_of l.form) store ok in
+      let there = exists (shelf_of l.form) rows l.start shelf in
+      one_plan (rows_are_bytes look_row l.form (shelf_of l.form) rows l.start (first_rows l.most there.0) shelf (first_of_shelf l.most rows there.0 there.2.of_shelf))
       (x there.0 there.1 there.2 there.3) (y there.0 there.1 there.2 there.3)
   one_output (Job.Last n from) store old a b e f ok x y =
       let start = start_of from in
       let there = exists Sel store.sel start ok.sel in
-      one_plan store (last_plan n start there.0 there.1) old a b e f
-      (first_kept (spots_of_walk start there.0 there.1) (last_items n start there.0 there.1)
+      one_plan (first_kept (spots_of_walk start there.0 there.1) (last_items n start there.0 there.1)
       (rows_are_bytes look_row Form.EntryLine Sel store.sel (place_after_rows start (take (length there.0 - n) there.0)) (last_rows n there.0 there.1) ok.sel (last_of_shelf n store.sel there.0 there.1 there.2.of_shelf)))
       (x there.0 there.1 there.2 there.3) (y there.0 there.1 there.2 there.3)
-  one_output (Job.Info shelf) store old a b e f ok x y = one_plan store (info_plan (info_of shelf store)) old a b e f (infos_bytes store ok shelf) x y
-  one_output (Job.Inventory id) store old a b e f ok x y = one_plan store (inventory_plan id) old a b e f (tt, tt) x y
+  one_output (Job.Info shelf) store old a b e f ok x y = one_plan (infos_bytes store ok shelf) x y
+  one_output (Job.Inventory id) store old a b e f ok x y = one_plan (tt, tt) x y
   one_output Job.AllInventories store old a b e f ok x y =
       let there = exists Sdr store.sdr First ok.sdr in
-      one_plan store (inventories_plan there.0 there.1) old a b e f (tt, rows_are_bytes look_row Form.Device Sdr store.sdr First there.0 ok.sdr there.2.of_shelf)
+      one_plan (tt, rows_are_bytes look_row Form.Device Sdr store.sdr First there.0 ok.sdr there.2.of_shelf)
       (x there.0 there.1 there.2 there.3) (y there.0 there.1 there.2 there.3)
-  one_output Job.Rewrite store old a b e f ok x y = one_plan store no_plan old a b e f tt x y
+  one_output Job.Rewrite store old a b e f ok x y = one_plan tt x y
