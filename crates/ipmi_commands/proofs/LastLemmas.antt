@@ -39,10 +39,6 @@ module _ (IsText : Subject → List ℕ → Type 0) (spots : List Spot) (p : Pla
   abbrev q : Plan
   q = record { items = with_first_spots spots p.items; end = p.end; end_spots = end_spots_of_last spots p.items at_end }
 
-  kept_printed : (items : List Item) (old new : List ℕ) → Printed IsText items old new
-      → Printed IsText (with_first_spots spots items) old new
-  kept_printed items old new printed = grind arith
-
   widened : (old new : List ℕ) (done rest : List Item) → p.items ≡ done ++ rest
       → Printed IsText done old new → IsCarried IsText p q old new rest
   widened old new [] rest is printed = record {
@@ -55,7 +51,7 @@ module _ (IsText : Subject → List ℕ → Type 0) (spots : List Spot) (p : Pla
       done = with_first_spots spots (d ∷ done);
       rest = rest;
       items_are = ap (with_first_spots spots) is;
-      printed = kept_printed (d ∷ done) old new printed;
+      printed = record { text = printed.text; are = printed.are; new_is = printed.new_is };
     };
     spots = λ spot among. rw is (rw ends_are at among);
     next = λ item later text next is_text some. (item, later, next, is_text);
@@ -65,7 +61,7 @@ module _ (IsText : Subject → List ℕ → Type 0) (spots : List Spot) (p : Pla
       → Leaves IsText p old new ending cause → Leaves IsText q old new ending cause
   leaves_wide old new ending cause leaves = leaves_carried IsText p q old old new ending cause
       (λ whole first. widened old whole first.done first.rest first.items_are first.printed)
-      (λ is all. (kept_printed p.items old new all.0, all.1)) leaves
+      (λ is all. (grind (arith, all.0), all.1)) leaves
 
 -- the listing of the last entries leaves what the plan allows
 last_leaves : (store : Store) (n k : ℕ) (start : Place) (walk : List Row) (old new : List ℕ)
@@ -94,9 +90,7 @@ no_text : (store : Store) (rows : List Row) (start : Place) (done rest : List It
 no_text store rows start [] rest text is are = are
 no_text store [] start (d ∷ done) rest text is are = cc is
 no_text store (row ∷ rows) start (d ∷ done) rest text is are =
-    let item : d ≡ record { subject = OfRow Form.Passed row; spots = AtRecord (asked_at start) ∷ [] } = cc is in
-    let none : are.first ≡ [] = subst (λ (i : Item). IsTextOver store i.subject are.first) item are.is_first in
-    are.joined ∙ rw (none, no_text store rows (place_after row.next) done rest are.rest (cc is) are.is_rest) refl
+    grind (arith, are.joined, are.is_first, no_text store rows (place_after row.next) done rest are.rest (cc is) are.is_rest)
 
 -- the spots of what comes next, or after them, are spots of theirs
 passed_spot : (rows : List Row) (start : Place) (done rest : List Item) (ends more : List Spot)
@@ -135,10 +129,6 @@ module _ (store : Store) (n : ℕ) (most : Option ℕ) (start : Place) (walk : L
   abbrev passing : Plan
   passing = listing_plan (listing Form.Passed start most) walk end
 
-  ends_so : (e : WalkEnd) → Err failure ≡ rows_end Form.Passed (first_rows most walk) e → new ≡ old
-      → PrintsAll (IsTextOver store) (last_plan n start walk e) old new (Err failure)
-  ends_so e is same = grind (arith, none_printed)
-
   passing_failed : (cause : Cause) → Leaves (IsTextOver store) passing old new (Err failure) cause
       → Leaves (IsTextOver store) (last_plan n start walk end) old new (Err failure) cause
   passing_failed cause leaves = leaves_carried (IsTextOver store) passing (last_plan n start walk end) old old new (Err failure) cause
@@ -151,7 +141,7 @@ module _ (store : Store) (n : ℕ) (most : Option ℕ) (start : Place) (walk : L
             let none = no_text store (first_rows most walk) start (first.done ++ item ∷ []) later (first.printed.text ++ text) is (texts_joined (IsTextOver store) first.done (item ∷ []) first.printed.text text first.printed.are one) in
             absurd (omega (arith, some, ap length none, length-append first.printed.text text));
       })
-      (λ is all. ends_so end (rw end_is at all.1) (all_nothing store most start walk old new all.0)) leaves
+      (λ is all. grind (arith, none_printed, rw end_is at all.1, all_nothing store most start walk old new all.0)) leaves
 
 -- ---- entries are counted
 

@@ -12,22 +12,18 @@ use Rattle.ipmi_commands.proofs.ListingLemmas.{fresh_along, fresh_ends}
 
 -- ---- nothing is asked for
 
--- a page of no record ends by this
-end_is : (form : Form) (place : Place) → (cause_of (ending_of (end_of form false place)) ≡ AtEnd)
-    × IfOk (end_of form false place) (λ next. next ≡ place)
-    × (ending_of (end_of form false place) ≡ rows_end form [] Done)
-end_is form place = grind arith
-
+-- a page of no record
 pub page_of_none : (form : Form) (place : Place) (tries : ℕ) (s : Seen) (text : List ℕ) → IsHonest s
     → IsPage form place tries (Some 0) (change s s text text) (end_of form false place)
-page_of_none form place tries s text honest = let is = end_is form place in
+page_of_none form place tries s text honest =
+    let cause : cause_of (ending_of (end_of form false place)) ≡ AtEnd = grind arith in
     record {
-      ends = rw is.0 (ends_here honest refl tt);
+      ends = rw cause (ends_here honest refl tt);
       none = λ zero_. refl;
       along = λ same walk end w ends. record {
-        leaves = rw is.0 (none_printed (IsTextOver s.store) text text refl, is.2 ∙ ap (rows_end form []) (sym (first_end-none 0 walk end (omega arith))));
+        leaves = rw cause (none_printed (IsTextOver s.store) text text refl, grind (arith, first_end-none 0 walk end (omega arith)));
         calls = omega arith;
-        goes_on = grind (arith, is.1);
+        goes_on = grind arith;
       };
     }
 

@@ -31,10 +31,6 @@ pub record OneListing (form : Form) (start : Place) (tries : ℕ) (sizes : List 
 module _ (walk_tail : TailIsWalk) where
   -- ---- the rest of a walk
 
-  rest_ends : (rows : List Row) (start : Place) (d : Row) (rest : List Row) (end : WalkEnd)
-      → EndsBy rows start (d ∷ rest) end → IsOpen end → EndsBy rows (place_after d.next) rest end
-  rest_ends rows start d rest end ends open_ = grind (arith, ne_eqb, or_parts)
-
   rest_of_walk : (form : Form) (rows : List Row) (start : Place) (done rest : List Row)
       (end : WalkEnd) → IsShelf (shelf_of form) rows → IsOpen end → IsWalk rows start (done ++ rest)
       → EndsBy rows start (done ++ rest) end
@@ -44,7 +40,7 @@ module _ (walk_tail : TailIsWalk) where
   rest_of_walk form rows start (d ∷ done) rest end ok open_ w ends =
       rest_of_walk form rows (place_after d.next) done rest end ok open_
       (walk_tail (shelf_of form) rows start d (done ++ rest) ok w)
-      (rest_ends rows start d (done ++ rest) end ends open_)
+      (grind (arith, ne_eqb, or_parts))
 
   -- ---- a page as a part of the listing
 
@@ -62,31 +58,15 @@ module _ (walk_tail : TailIsWalk) where
     spot_wide spot rest among = grind (arith, nat_tests, drop-nil, drop_all)
 
     -- a failure is not how the page would end, but where more are wanted than there are
-    whole : (failure : Failure)
-        → PrintsAll (IsTextOver store) (plan_from form start (Some size) walk end) old new (Err failure)
-        → PrintsAll (IsTextOver store) (plan_from form start None walk end) old new (Err failure)
-    whole failure all = grind (arith, nat_tests, take_all, same_end)
-
     leaves_wide : (failure : Failure)
         → IsAllowed (IsTextOver store) (plan_from form start (Some size) walk end) old new (Err failure)
         → IsAllowed (IsTextOver store) (plan_from form start None walk end) old new (Err failure)
     leaves_wide failure allowed =
         leaves_longer (IsTextOver store) (plan_from form start (Some size) walk end) (plan_from form start None walk end)
         (row_items form (place_after_rows start (take size walk)) (drop size walk)) (row_items-split form start walk size)
-        spot_wide old new (Err failure) (cause_of (Err failure)) (λ at_end all. whole failure all) allowed
+        spot_wide old new (Err failure) (cause_of (Err failure)) (λ at_end all. grind (arith, nat_tests, take_all, same_end)) allowed
 
   -- ---- the rest of the listing, from where the next page begins
-
-  empty_end : (rows : List Row) (end : WalkEnd) → EndsEmpty rows First end → EndsEmpty rows End end
-  empty_end rows end ends = grind arith
-
-  -- an empty shelf has one spot more, at its start
-  from_first : (form : Form) (store : Store) (end : WalkEnd) (text new : List ℕ) (ending : Ending)
-      → IsAllowed (IsTextOver store) (plan_from form End None [] end) text new ending
-      → IsAllowed (IsTextOver store) (plan_from form First None [] end) text new ending
-  from_first form store end text new ending allowed =
-      leaves_longer (IsTextOver store) (plan_from form End None [] end) (plan_from form First None [] end) [] refl (λ spot rest among. grind arith) text new ending (cause_of ending)
-      (λ at_end all. all) allowed
 
   module _ (form : Form) (store : Store) (rows : List Row) (start next : Place) (walk : List Row)
       (end : WalkEnd) (size : ℕ) (w : IsWalk rows start walk) where
@@ -99,9 +79,9 @@ module _ (walk_tail : TailIsWalk) where
         rw there (rest_of_walk form rows start (take size walk) (drop size walk) end ok open_ (subst (IsWalk rows start) split w) (subst (λ (l : List Row). EndsBy rows start l end) split ends))
     rest_there ok ends open_ (inr empty) =
         let gone = no_walk rows start walk (rw empty.1 empty.2) w in
-        rw (empty.0, gone, drop-nil size) (record { of_shelf = tt; distinct = tt; first = tt; links = tt }, empty_end rows end (rw (gone, empty.1) at ends))
+        rw (empty.0, gone, drop-nil size) (record { of_shelf = tt; distinct = tt; first = tt; links = tt }, grind (arith, rw (gone, empty.1) at ends))
 
-    -- and what it leaves is what a listing from after the page leaves
+    -- and what it leaves is what a listing from after the page leaves: an empty shelf has one spot more, at its start
     from_next : (text new : List ℕ) (ending : Ending) → GoesOn rows start (take size walk) next
         → IsAllowed (IsTextOver store) (plan_from form next None (drop size walk) end) text new ending
         → IsAllowed (IsTextOver store) (plan_from form (place_after_rows start (take size walk)) None
@@ -109,7 +89,8 @@ module _ (walk_tail : TailIsWalk) where
     from_next text new ending (inl there) allowed = rw there at allowed
     from_next text new ending (inr empty) allowed =
         let gone = no_walk rows start walk (rw empty.1 empty.2) w in
-        rw (gone, take-nil size, drop-nil size, empty.1) (from_first form store end text new ending (rw (empty.0, gone, drop-nil size) at allowed))
+        rw (gone, take-nil size, drop-nil size, empty.1)
+        (leaves_longer (IsTextOver store) (plan_from form End None [] end) (plan_from form First None [] end) [] refl (λ spot rest among. grind arith) text new ending (cause_of ending) (λ at_end all. all) (rw (empty.0, gone, drop-nil size) at allowed))
 
     -- so with the page it is the listing
     leaves_of_rest : (old text new : List ℕ) (ending : Ending) → NamesNone form
@@ -167,14 +148,7 @@ module _ (walk_tail : TailIsWalk) where
 
 -- ---- a command that can be done in pages
 
--- it lists all records of a shelf, in a form that asks for no name
-paged_job : (task : Task) (from : Option ℕ) (l : Listing) → is_listing task ≡ true
-    → listing_in (job_of task from) ≡ Some l
-    → (job_of task from ≡ Job.Records l) × (l ≡ listing l.form (start_of from) None)
-    × NamesNone l.form
-paged_job task from l listing_ is = grind arith
-
--- what the pages did
+-- it lists all records of a shelf, in a form that asks for no name; what the pages did
 pub paged : TailIsWalk → (command : CommandState) (sizes : List ℕ) (s s' : Seen) (old new : List ℕ)
     (ending : Ending) (l : Listing) → is_listing command.task ≡ true
     → listing_in (job_of_command command) ≡ Some l
@@ -183,7 +157,7 @@ pub paged : TailIsWalk → (command : CommandState) (sizes : List ℕ) (s s' : S
     → (IsHonest s → ArePages l.form command.tries l.start sizes (change s s' old new) ending)
     → RunsPaged command sizes (change s s' old new) ending
 paged tail command sizes s s' old new ending l lists is calls may pages =
-    let job = paged_job command.task command.from l lists is in
+    let job : (job_of_command command ≡ Job.Records l) × (l ≡ listing l.form (start_of command.from) None) × NamesNone l.form = grind arith in
     let one : IsHonest s → OneListing l.form l.start command.tries sizes (change s s' old new) ending = λ h. pages_are_one tail l.form command.tries l.start sizes s s' old new ending job.2 h (pages h) in
     record {
       form = l.form;

@@ -1,5 +1,5 @@
 -- A run over an image, and an image written again.
-use Rattle.std.proofs.Common.{◌≡◌, ℕ, false, IsTrue, Ok, Err, List, [], refl}
+use Rattle.std.proofs.Common.{◌≡◌, ℕ, arith, false, IsTrue, List, [], refl}
 use Rattle.ipmi_commands.specs.Below.{Store, Seen, IsHonest, image_text_of, Ending, Failure}
 use Rattle.ipmi_commands.specs.Prelude.{change, IsAllowed, is_rewrite, IsRewriting, IsTextOver, Job, OfImage, OnPlan, Plan, rewrite_plan, Runs, RunsOver, WritesText}
 use Rattle.ipmi_commands.proofs.ItemLemmas.{no_items}
@@ -29,6 +29,4 @@ over_image job tries store s s' old new ending runs_ honest plain is runs =
 -- an image written again
 pub rewritten : (store : Store) (old new : List ℕ) (ending : Ending)
     → WritesText (image_text_of store) old new ending → IsRewriting store old new ending
-rewritten store old new (Ok done) writes = record { allowed = text_leaves (IsTextOver store) OfImage [] old new (image_text_of store) (Ok done) refl writes; unwritten = λ out. cc out }
-rewritten store old new (Err Failure.WriteFault) writes = record { allowed = text_leaves (IsTextOver store) OfImage [] old new (image_text_of store) (Err Failure.WriteFault) refl writes; unwritten = λ out. cc out }
-rewritten store old new (Err _) writes = absurd writes
+rewritten store old new ending writes = record { allowed = text_leaves (IsTextOver store) OfImage [] old new (image_text_of store) ending refl writes; unwritten = λ out. grind arith }

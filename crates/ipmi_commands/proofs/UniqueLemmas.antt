@@ -12,8 +12,7 @@ one_equation text a b x y = x ∙ sym y
 
 one_chosen : (chosen : Bool) (IsText : List ℕ → Type 0) → IsOne IsText
     → IsOne (IfChosen chosen IsText)
-one_chosen true IsText one = one
-one_chosen false IsText one = one_equation []
+one_chosen chosen IsText one = grind arith
 
 -- the bytes of an entry's view
 entry_are_bytes : (bytes : List ℕ) → AreBytes bytes → AreBytes (entry_bytes (sel_view_of bytes))
@@ -25,14 +24,6 @@ module _ (one_sdr_line : SdrLineIsUnique) (one_extended_line : ExtendedLineIsUni
     (one_info_block : (info text other : List ℕ)
     → AreBytes info → IsInfoBlock info text → IsInfoBlock info other → text ≡ other)
     (one_fru_text : (bytes : List ℕ) → IsOne (IsFruText bytes)) where
-  one_listed : (detail : Detail) (store : Store) (id : ℕ) (view : Result SdrView SdrFault)
-      → IsOne (IsListed detail store id view)
-  one_listed detail store id view = grind (arith, one_sdr_line, one_extended_line)
-
-  one_block_of_name : (name : List ℕ) (store : Store) (id : ℕ) (view : Result SdrView SdrFault)
-      → IsOne (IsBlockOfName name store id view)
-  one_block_of_name name store id view = grind (arith, one_chosen, one_sdr_block)
-
   one_inventory_text : (o : Option (List ℕ)) → IsOne (IsInventoryText o)
   one_inventory_text None = one_equation _
   one_inventory_text (Some bytes) = one_fru_text bytes
@@ -41,16 +32,12 @@ module _ (one_sdr_line : SdrLineIsUnique) (one_extended_line : ExtendedLineIsUni
   one_inventory store id name a b x y =
       x.text_is ∙ rw (one_inventory_text (inventory_of id store) x.inventory y.inventory x.is_inventory y.is_inventory) (sym y.text_is)
 
-  one_device : (store : Store) (view : SdrView) (id : Option ℕ)
-      → IsOne (IsDevicePiece store view id)
-  one_device store view id = grind (arith, one_chosen, one_inventory)
-
   one_locator : (store : Store) (view : Result SdrView SdrFault) → IsOne (IsLocatorPiece store view)
-  one_locator store view = grind (arith, one_device)
+  one_locator store view = grind (arith, one_chosen, one_inventory)
 
   one_row : (form : Form) (store : Store) (row : Row) → AreBytes row.bytes
       → IsOne (IsRowText store form row)
-  one_row form store row are = grind (arith, one_chosen, one_listed, one_block_of_name, one_locator, one_sel_line, one_sel_block, entry_are_bytes)
+  one_row form store row are = grind (arith, one_chosen, one_sdr_line, one_extended_line, one_sdr_block, one_locator, one_sel_line, one_sel_block, entry_are_bytes)
 
   one_item : (store : Store) (subject : Subject) → IsOfBytes subject
       → IsOne (IsTextOver store subject)
@@ -76,21 +63,9 @@ parts_of_shelf zero rows walk all = (tt, all)
 parts_of_shelf (suc n) rows [] all = (tt, tt)
 parts_of_shelf (suc n) rows (row ∷ walk) all = let parts = parts_of_shelf n rows walk all.1 in ((all.0, parts.0), parts.1)
 
-first_of_shelf : (most : Option ℕ) (rows walk : List Row) → AllOf rows walk
-    → AllOf rows (first_rows most walk)
-first_of_shelf most rows walk all = grind (arith, parts_of_shelf)
-
-last_of_shelf : (n : ℕ) (rows walk : List Row) (end : WalkEnd) → AllOf rows walk
-    → AllOf rows (last_rows n walk end)
-last_of_shelf n rows walk end all = grind (arith, parts_of_shelf (length walk - n) rows walk all)
-
 first_kept : (spots : List Spot) (items : List Item) → AreOfBytes items
     → AreOfBytes (with_first_spots spots items)
 first_kept spots items are = grind arith
-
-infos_bytes : (store : Store) → IsStore store → (shelf : Shelf)
-    → AreOfBytes (info_plan (info_of shelf store)).items
-infos_bytes store ok shelf = grind arith
 
 -- ---- one output
 
@@ -106,15 +81,15 @@ module _ (one : ItemsHaveOneText) (exists : WalkExists) (look_row : FoundIsRow) 
       let rows = rows_of (shelf_of l.form) store in
       let shelf = store_shelf (shelf_of l.form) store ok in
       let there = exists (shelf_of l.form) rows l.start shelf in
-      one_plan (rows_are_bytes look_row l.form (shelf_of l.form) rows l.start (first_rows l.most there.0) shelf (first_of_shelf l.most rows there.0 there.2.of_shelf))
+      one_plan (rows_are_bytes look_row l.form (shelf_of l.form) rows l.start (first_rows l.most there.0) shelf (grind (arith, parts_of_shelf, there.2.of_shelf)))
       (x there.0 there.1 there.2 there.3) (y there.0 there.1 there.2 there.3)
   one_output (Job.Last n from) store old a b e f ok x y =
       let start = start_of from in
       let there = exists Sel store.sel start ok.sel in
       one_plan (first_kept (spots_of_walk start there.0 there.1) (last_items n start there.0 there.1)
-      (rows_are_bytes look_row Form.EntryLine Sel store.sel (place_after_rows start (take (length there.0 - n) there.0)) (last_rows n there.0 there.1) ok.sel (last_of_shelf n store.sel there.0 there.1 there.2.of_shelf)))
+      (rows_are_bytes look_row Form.EntryLine Sel store.sel (place_after_rows start (take (length there.0 - n) there.0)) (last_rows n there.0 there.1) ok.sel (grind (arith, parts_of_shelf (length there.0 - n) store.sel there.0 there.2.of_shelf))))
       (x there.0 there.1 there.2 there.3) (y there.0 there.1 there.2 there.3)
-  one_output (Job.Info shelf) store old a b e f ok x y = one_plan (infos_bytes store ok shelf) x y
+  one_output (Job.Info shelf) store old a b e f ok x y = let bytes : AreOfBytes (info_plan (info_of shelf store)).items = grind arith in one_plan bytes x y
   one_output (Job.Inventory id) store old a b e f ok x y = one_plan (tt, tt) x y
   one_output Job.AllInventories store old a b e f ok x y =
       let there = exists Sdr store.sdr First ok.sdr in
