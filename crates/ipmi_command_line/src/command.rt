@@ -165,16 +165,6 @@ fn number_or(text: Option<&str>, default: u8, low: u8, high: u8) -> Result<u8, U
     Ok(decimal(text, u16::from(low), u16::from(high)).ok_or(UsageFault::Option)? as u8)
 }
 
-/// A copy of the text, if there is one.
-fn owned(alloc: Global, text: Option<&str>) -> Result<Option<Word>, AllocError>
-    ensures { IfOk result (λ word. word ≡ option_map (λ t. t.now) text.entry) }
-{
-    let Some(text) = text else {
-        return Ok(None);
-    };
-    Ok(Some(Word::new(alloc, text)?))
-}
-
 /// The command of a task and the options that were given.
 fn command_of_task(
     alloc: Global,
@@ -191,7 +181,7 @@ fn command_of_task(
     if from.is_some() && !task.takes_from() {
         return Err(UsageFault::Option);
     }
-    let image = owned(alloc, value(matches, "image"))?;
+    let image = value(matches, "image").map(|text| Word::new(alloc, text)).transpose()?;
     Ok(Command::new(task, from, part, tries, image))
 }
 

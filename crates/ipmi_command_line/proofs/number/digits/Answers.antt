@@ -19,30 +19,16 @@ all_tested : (radix : ℕ) (bs : List ℕ) → AllDigits radix bs → list_all (
 all_tested radix [] h = refl
 all_tested radix (c ∷ cs) h = grind (arith, nat_tests, all_tested radix cs h.1, h.0)
 
--- a number past the type is past the range
-within-too_large : (low high n : ℕ) → high < n → within low high (Some n) ≡ None
-within-too_large low high n h = grind (arith, nat_tests)
-
-some_digits : (radix : ℕ) (bs : List ℕ) → 0 < length bs → list_all (λ c. is_digit c radix) bs ≡ true
-    → digits_of radix bs ≡ Some (digits_value radix bs)
-some_digits radix bs some all = let first : nat_lt 0 (length bs) ≡ true = grind (arith, nat_tests) in rw (first, all) refl
-
 -- what is read, in a range of the type, is the number of the digits
 digits_read : {E : Type 0} (r : Result ℕ E) (radix : ℕ) (bs : List ℕ) (low high : ℕ) → 0 < length bs
     → get_or bs 0 0 ≢ 43 → high < 2 ^ 16 → ParsesUnsigned 16 radix bs r
     → within low high (result_ok r) ≡ within low high (digits_of radix bs)
 digits_read (Ok n) radix bs low high some no_plus small h =
     let read = rw (without_leading_plus_none bs no_plus) at h in
-    rw (some_digits radix bs some (all_tested radix bs read.0.0.1), read.1) refl
+    grind (arith, nat_tests, all_tested radix bs read.0.0.1, read.1)
 digits_read (Err e) radix bs low high some no_plus small h =
     let unread = rw (without_leading_plus_none bs no_plus) at h in
-    elim (cases_Bool (list_all (λ c. is_digit c radix) bs)) [
-      | inl all ↦ rw (some_digits radix bs some all) (elim (cases_lt (digits_value radix bs) (2 ^ 16)) [
-        | inl lt ↦ absurd (unread ((some, all_from radix bs all), lt))
-        | inr ge ↦ sym (within-too_large low high (digits_value radix bs) (omega arith))
-      ])
-      | inr none ↦ let first : nat_lt 0 (length bs) ≡ true = grind (arith, nat_tests) in rw (first, none) refl
-    ]
+    grind (arith, nat_tests, all_from radix bs, unread)
 
 pub returns-in-Ok-clause-value : goal.returns-in-Ok-clause-value
 returns-in-Ok-clause-value c =
