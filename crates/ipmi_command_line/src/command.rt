@@ -185,25 +185,16 @@ fn command_of_task(
     Ok(Command::new(task, from, part, tries, image))
 }
 
-/// The command of the options and words that were given.
-#[tactic(auto, using(crate::proofs::ArgumentLemmas::free_words_are))]
-fn command_of_matches(alloc: Global, matches: &ArgMatches<'_>) -> Result<Command, UsageFault>
-    ensures { let meant = command_of_matches (rows_of (found_of matches.now)) in
-        MatchResult result (λ c. meant ≡ Ok c) (λ e. (e ≡ UsageFault.Memory) ⊎ (meant ≡ Err e)) }
-{
-    match task_of(alloc, matches.get_strs("words").unwrap_or(&[]))? {
-        Some(task) => command_of_task(alloc, task, matches),
-        None => Err(UsageFault::Command),
-    }
-}
-
 /// The command that the words mean, or why they mean none; `Memory` may come in place of either. The first word is the program's name.
-#[tactic(auto, unfolding(crate::specs::Command::meaning_of))]
+#[tactic(auto, using(crate::proofs::ArgumentLemmas::free_words_are), unfolding(crate::specs::Command::meaning_of))]
 pub fn command_of(alloc: Global, words: &Words) -> Result<Command, UsageFault>
     requires { 0 < length words.now }
     ensures { MatchResult result (λ c. meaning_of words.now ≡ Ok c)
         (λ e. (e ≡ UsageFault.Memory) ⊎ (meaning_of words.now ≡ Err e)) }
 {
     let matches = arguments(alloc, words)?;
-    command_of_matches(alloc, &matches)
+    match task_of(alloc, matches.get_strs("words").unwrap_or(&[]))? {
+        Some(task) => command_of_task(alloc, task, &matches),
+        None => Err(UsageFault::Command),
+    }
 }

@@ -25,18 +25,12 @@ pub(crate) fn digits(text: &str, radix: u32, low: u16, high: u16) -> Option<u16>
     }
 }
 
-fn has_leading_zero(text: &str) -> bool
-    ensures { result ≡ has_leading_zero text.now }
-{
-    text.len() > 1 && text.as_bytes()[0] == b'0'
-}
-
 /// A number in decimal, from `low` to `high`.
 pub(crate) fn decimal(text: &str, low: u16, high: u16) -> Option<u16>
     ensures value { result ≡ within low high (decimal_of text.now) }
     ensures range { IfSome result (λ n. (low ≤ n) × (n ≤ high)) }
 {
-    if has_leading_zero(text) {
+    if text.len() > 1 && text.as_bytes()[0] == b'0' {
         return None;
     }
     digits(text, 10, low, high)
