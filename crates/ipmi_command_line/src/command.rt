@@ -1,7 +1,7 @@
 //! What a command line asks for.
 ghost use Rattle.std.specs.Prelude.{◌≡◌, ◌≤◌, ◌<◌, ◌⊎◌, Err, IfOk, IfSome, IsSome, IsTrue, MatchResult, None, Ok, Some, length, option_map};
 ghost use Rattle.clap.specs.Words.{found_of, rows_of};
-ghost use Rattle.ipmi_command_line.specs.Command.{CommandState, IsCommand, IsTask, command_of_matches, command_of_task, meaning_of, number_or, start_of_text};
+ghost use Rattle.ipmi_command_line.specs.Command.{CommandState, IsCommand, IsTask, command_of_task, meaning_of, number_or, start_of_text};
 ghost use Rattle.ipmi_command_line.specs.declared.command.UsageFault.{UsageFault};
 ghost use Rattle.ipmi_command_line.specs.Task.{is_listing, takes_from};
 

@@ -1,6 +1,6 @@
 //! Numbers on a command line.
 ghost use Rattle.std.specs.Prelude.{◌≡◌, ◌≤◌, ◌⊎◌, IfSome, Some};
-ghost use Rattle.ipmi_command_line.specs.Number.{decimal_of, digits_of, has_leading_zero, hex_of, number_of, within};
+ghost use Rattle.ipmi_command_line.specs.Number.{decimal_of, digits_of, hex_of, number_of, within};
 
 /// The number, if it is from `low` to `high`.
 fn in_range(n: u16, low: u16, high: u16) -> Option<u16>
