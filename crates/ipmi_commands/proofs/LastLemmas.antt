@@ -12,11 +12,6 @@ use Rattle.ipmi_commands.proofs.SpotLemmas.{among_after, end_spots-joined}
 
 -- ---- the spots of what comes first
 
--- what comes first has these spots
-spots_at-first : (spots : List Spot) (items : List Item) (ends : List Spot)
-    → spots_at (with_first_spots spots items) (end_spots_of_last spots items ends) ≡ spots
-spots_at-first spots items ends = grind arith
-
 spots_along-split : (k : ℕ) (start : Place) (rows : List Row) (ends : List Spot)
     → spots_along start rows ++ ends ≡ spots_along start (take k rows)
     ++ (spots_along (place_after_rows start (take k rows)) (drop k rows) ++ ends)
@@ -43,7 +38,7 @@ module _ (IsText : Subject → List ℕ → Type 0) (spots : List Spot) (p : Pla
       → Printed IsText done old new → IsCarried IsText p q old new rest
   widened old new [] rest is printed = record {
     first = record { done = []; rest = with_first_spots spots p.items; items_are = refl; printed = printed };
-    spots = λ spot among. rw spots_at-first (wide spot (rw is among));
+    spots = λ spot among. grind (arith, wide spot (rw is among));
     next = λ item later text next is_text some. (record { subject = item.subject; spots = spots }, later, ap (with_first_spots spots) (is ∙ next), is_text);
   }
   widened old new (d ∷ done) rest is printed = record {
@@ -118,11 +113,6 @@ nothing : (store : Store) (most : Option ℕ) (start : Place) (walk : List Row)
     → Printed (IsTextOver store) done old new → new ≡ old
 nothing store most start walk done rest old new is printed = printed.new_is ∙ rw (no_text store (first_rows most walk) start done rest printed.text is printed.are) (append-nil old)
 
-all_nothing : (store : Store) (most : Option ℕ) (start : Place) (walk : List Row) (old new : List ℕ)
-    → Printed (IsTextOver store) (row_items Form.Passed start (first_rows most walk)) old new
-    → new ≡ old
-all_nothing store most start walk old new printed = nothing store most start walk (row_items Form.Passed start (first_rows most walk)) [] old new (sym (append-nil _)) printed
-
 -- a run that ends while they are passed
 module _ (store : Store) (n : ℕ) (most : Option ℕ) (start : Place) (walk : List Row) (end : WalkEnd)
     (end_is : first_end most walk end ≡ end) (old new : List ℕ) (failure : Failure) where
@@ -134,14 +124,14 @@ module _ (store : Store) (n : ℕ) (most : Option ℕ) (start : Place) (walk : L
   passing_failed cause leaves = leaves_carried (IsTextOver store) passing (last_plan n start walk end) old old new (Err failure) cause
       (λ whole first. record {
         first = no_items (IsTextOver store) (last_plan n start walk end) old whole (nothing store most start walk first.done first.rest old whole first.items_are first.printed);
-        spots = λ spot among. rw spots_at-first (passed_there most start walk first.done first.rest (end_spots start walk end) spot first.items_are (rw end_is at among));
+        spots = λ spot among. grind (arith, passed_there most start walk first.done first.rest (end_spots start walk end) spot first.items_are (rw end_is at among));
         next = λ item later text next is_text some.
             let is : row_items Form.Passed start (first_rows most walk) ≡ (first.done ++ item ∷ []) ++ later = first.items_are ∙ rw next (sym (append_assoc first.done (item ∷ []) later)) in
             let one : AreTexts (IsTextOver store) (item ∷ []) text = record { first = text; rest = []; is_first = is_text; is_rest = refl; joined = sym (append-nil text) } in
             let none = no_text store (first_rows most walk) start (first.done ++ item ∷ []) later (first.printed.text ++ text) is (texts_joined (IsTextOver store) first.done (item ∷ []) first.printed.text text first.printed.are one) in
             absurd (omega (arith, some, ap length none, length-append first.printed.text text));
       })
-      (λ is all. grind (arith, none_printed, rw end_is at all.1, all_nothing store most start walk old new all.0)) leaves
+      (λ is all. grind (arith, none_printed, rw end_is at all.1, nothing store most start walk _ [] old new (sym (append-nil _)) all.0)) leaves
 
 -- ---- entries are counted
 
@@ -151,7 +141,7 @@ module _ {command : CommandState} {from : Option ℕ} {tries : ℕ} {begun now :
   counts : (result : Result ℕ Failure) (walk : List Row) (end : WalkEnd)
       → ListsAlong Form.Passed tries None begun now c result (start_of from) walk end 0
       → Counted c.seen.store (start_of from) walk end c.old c.new result
-  counts (Ok count) walk end along = (along.all.count_is, grind (arith, along.leaves.1), all_nothing c.seen.store None (start_of from) walk c.old c.new along.leaves.0)
+  counts (Ok count) walk end along = (along.all.count_is, grind (arith, along.leaves.1), nothing c.seen.store None (start_of from) walk _ [] c.old c.new (sym (append-nil _)) along.leaves.0)
   counts (Err failure) walk end along = λ n. passing_failed c.seen.store n None (start_of from) walk end refl c.old c.new failure (cause_of (Err failure)) along.leaves
 
   pub counted : (result : Result ℕ Failure)
@@ -220,7 +210,7 @@ module _ {command : CommandState} {from : Option ℕ} {tries passed : ℕ} {begu
         let here : 0 + passed ≡ passed = omega arith in
         let stands : StandsAt (rows_of Sel s.store) (start_of from) walk passed mid = rw here at first.all.stands in
         let later = (rw stays at (lists.along since.1 (start_of from) walk end passed)) (record { walks = w; ends = ends; stands = stands }) in
-        let none = all_nothing s.store (Some passed) (start_of from) walk old text first.leaves.0 in (
+        let none = nothing s.store (Some passed) (start_of from) walk _ [] old text (sym (append-nil _)) first.leaves.0 in (
           rw done (last_leaves s.store n passed (start_of from) walk old new (ending_of result) is (rw (done, none) at later.leaves)),
           omega (arith, later.calls some, rw calls_for-passed at (first.all.calls refl), digits_most begun.part, calls_split Form.EntryLine s.store tries passed walk),
         );

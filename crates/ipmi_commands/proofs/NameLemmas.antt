@@ -11,9 +11,8 @@ Wrote false old new = new ≡ old
 
 pub wrote_more : (wrote : Bool) (old new more text : List ℕ) → Wrote wrote old new
     → more ≡ new ++ text → Wrote (wrote || not (length text == 0)) old more
-wrote_more true old new more text has is = omega (arith, ap length is ∙ length-append new text, has)
-wrote_more false old new more [] has is = is ∙ append-nil new ∙ has
-wrote_more false old new more (b ∷ text) has is = grind (arith, ap length is ∙ length-append new (b ∷ text), ap length has)
+wrote_more wrote old new more [] has is = grind (arith, append-nil)
+wrote_more wrote old new more (b ∷ text) has is = grind (arith, ap length is ∙ length-append new (b ∷ text))
 
 -- ---- texts of records with a name
 

@@ -44,11 +44,6 @@ page_without_memory form place tries most s text honest = record {
 
 -- ---- a page by a cursor
 
--- the first rows are as many as there are of them
-take-length-first_rows : (most : Option ℕ) (walk : List Row)
-    → take (length (first_rows most walk)) walk ≡ first_rows most walk
-take-length-first_rows most walk = grind (arith, take_all, length-take, take_min)
-
 -- where the next page begins
 abbrev pub page_result : Place → Result ℕ Failure → Result Place Failure
 page_result next (Ok count) = Ok next
@@ -65,10 +60,11 @@ page_by_cursor {from = from} {most = most} {now = now} (Ok count) fresh some lis
   along = λ same walk end w ends.
       let along = fresh_along fresh lists same walk end w ends in
       let here : 0 + count ≡ length (first_rows most walk) = omega (arith, along.0.all.count_is) in
+      let first : take (length (first_rows most walk)) walk ≡ first_rows most walk = grind (arith, take_all, length-take, take_min) in
       record {
         leaves = along.0.leaves;
         calls = along.1;
-        goes_on = elim along.0.all.stands.place [ inl there ↦ inl (there ∙ ap (place_after_rows (start_of from)) (ap (λ (n : ℕ). take n walk) here ∙ take-length-first_rows most walk)) | inr empty ↦ inr empty ];
+        goes_on = elim along.0.all.stands.place [ inl there ↦ inl (there ∙ ap (place_after_rows (start_of from)) (ap (λ (n : ℕ). take n walk) here ∙ first)) | inr empty ↦ inr empty ];
       };
 }
 page_by_cursor (Err failure) fresh some lists = record {

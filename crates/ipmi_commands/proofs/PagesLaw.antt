@@ -52,11 +52,6 @@ module _ (walk_tail : TailIsWalk) where
       (end : WalkEnd) (ends : EndsBy rows start walk end) (size : ℕ) (old new : List ℕ)
       (none : NamesNone form) where
     -- where the page stopped at its end no row is there, and it is that of all
-    spot_wide : (spot : Spot) (rest : List Item)
-        → IsAmong (spots_at rest (end_spots start walk (first_end (Some size) walk end))) spot
-        → IsAmong (spots_at (rest ++ row_items form (place_after_rows start (take size walk)) (drop size walk)) (end_spots start walk end)) spot
-    spot_wide spot rest among = grind (arith, nat_tests, drop-nil, drop_all)
-
     -- a failure is not how the page would end, but where more are wanted than there are
     leaves_wide : (failure : Failure)
         → IsAllowed (IsTextOver store) (plan_from form start (Some size) walk end) old new (Err failure)
@@ -64,7 +59,7 @@ module _ (walk_tail : TailIsWalk) where
     leaves_wide failure allowed =
         leaves_longer (IsTextOver store) (plan_from form start (Some size) walk end) (plan_from form start None walk end)
         (row_items form (place_after_rows start (take size walk)) (drop size walk)) (row_items-split form start walk size)
-        spot_wide old new (Err failure) (cause_of (Err failure)) (λ at_end all. grind (arith, nat_tests, take_all, same_end)) allowed
+        (λ spot rest among. grind (arith, nat_tests, drop-nil, drop_all)) old new (Err failure) (cause_of (Err failure)) (λ at_end all. grind (arith, nat_tests, take_all, same_end)) allowed
 
   -- ---- the rest of the listing, from where the next page begins
 
