@@ -1,5 +1,5 @@
 -- What `clap`'s clauses say of the command line.
-use Rattle.std.proofs.Common.{◌≡◌, ◌∙◌, arith, List, [], ap, codes, map, Option, None, Some, option_map, unwrap_or, Bor}
+use Rattle.std.proofs.Common.{◌≡◌, ◌∙◌, arith, List, [], codes, map, Option, option_map, unwrap_or, Bor}
 use Rattle.clap.specs.Words.{Text, matched_of, raw_values, rows_of}
 use Rattle.clap.specs.declared.parser.matches.Found.{Found}
 pub use Rattle.clap.proofs.WalkLemmas.{first_value-rows}

@@ -181,7 +181,9 @@ fn command_of_task(
     if from.is_some() && !task.takes_from() {
         return Err(UsageFault::Option);
     }
-    let image = value(matches, "image").map(|text| Word::new(alloc, text)).transpose()?;
+    let image = value(matches, "image")
+        .map(|text| Word::new(alloc, text))
+        .transpose()?;
     Ok(Command::new(task, from, part, tries, image))
 }
 

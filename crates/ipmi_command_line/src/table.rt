@@ -93,8 +93,11 @@ fn task_of_four(a: &str, b: &str, c: &str, d: &str) -> Option<Task>
 {
     match (a, b, c) {
         ("sel", "list", "first") => number(d, 0, u16::MAX).map(|n| Task::SelList(oldest(n))),
-        ("sel", "list", "last") => number(d, 0, u16::MAX)
-            .map(|n| Task::SelList(if n == 0 { Count::All } else { Count::Last(n) })),
+        ("sel", "list", "last") => number(d, 0, u16::MAX).map(|n| Task::SelList(if n == 0 {
+            Count::All
+        } else {
+            Count::Last(n)
+        })),
         _ => None,
     }
 }
