@@ -1,7 +1,7 @@
 //! The words of a command line, as `clap` reads them.
 ghost use Rattle.std.specs.Prelude.{◌≡◌, ◌⊎◌, IfOk, IfErr, false, option_map, true};
 ghost use Rattle.clap.specs.Words.{app_of, first_of, found_of, rows_of, rule_of};
-ghost use Rattle.ipmi_command_line.specs.Arguments.{command_line, is_taken, option_rule, rows_of_words, words_rule};
+ghost use Rattle.ipmi_command_line.specs.Arguments.{command_line, is_taken, option_rule, rows_of_words};
 
 use crate::command::UsageFault;
 use crate::words::Words;

@@ -1,6 +1,6 @@
 //! Numbers on a command line.
 ghost use Rattle.std.specs.Prelude.{◌≡◌, ◌≤◌, ◌⊎◌, IfSome, Some};
-ghost use Rattle.ipmi_command_line.specs.Number.{decimal_of, digits_of, hex_of, number_of, within};
+ghost use Rattle.ipmi_command_line.specs.Number.{decimal_of, digits_of, number_of, within};
 
 /// Digits of this radix, as a number from `low` to `high`.
 pub(crate) fn digits(text: &str, radix: u32, low: u16, high: u16) -> Option<u16>

@@ -43,6 +43,14 @@ fn oldest(n: u16) -> Count
     if n == 0 { Count::All } else { Count::First(n) }
 }
 
+/// So many of the newest entries, or all of them for 0.
+fn newest(n: u16) -> Count
+    ensures value { result ≡ newest n }
+    ensures range { IsCount result }
+{
+    if n == 0 { Count::All } else { Count::Last(n) }
+}
+
 fn task_of_one(a: &str) -> Option<Task>
     ensures value { result ≡ task_of_one a.now }
     ensures range { IfSome result IsTask }
@@ -93,11 +101,7 @@ fn task_of_four(a: &str, b: &str, c: &str, d: &str) -> Option<Task>
 {
     match (a, b, c) {
         ("sel", "list", "first") => number(d, 0, u16::MAX).map(|n| Task::SelList(oldest(n))),
-        ("sel", "list", "last") => number(d, 0, u16::MAX).map(|n| Task::SelList(if n == 0 {
-            Count::All
-        } else {
-            Count::Last(n)
-        })),
+        ("sel", "list", "last") => number(d, 0, u16::MAX).map(|n| Task::SelList(newest(n))),
         _ => None,
     }
 }

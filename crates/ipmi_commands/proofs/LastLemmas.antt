@@ -1,13 +1,13 @@
 -- The last entries of a shelf: a walk that counts them, and a second one that passes those before them.
-use Rattle.std.proofs.Common.{◌≡◌, inl, inr, ℕ, zero, suc, ◌+◌, ◌-◌, ◌<◌, ◌≤◌, Option, None, Some, IfOk, Result, Ok, Err, List, [], ◌∷◌, ◌++◌, length, take, drop, refl, sym, ap, subst, ◌∙◌, append_assoc, append-nil, arith, length-append, length-drop, length-take-le, take-append-drop}
+use Rattle.std.proofs.Common.{◌≡◌, inl, inr, ℕ, zero, suc, ◌+◌, ◌-◌, ◌<◌, ◌≤◌, Option, None, Some, IfOk, Result, Ok, Err, List, [], ◌∷◌, ◌++◌, length, take, drop, refl, sym, ap, ◌∙◌, append_assoc, append-nil, arith, length-append, length-drop, length-take-le, take-append-drop}
 use Rattle.std.proofs.lemmas.List.{nil_from_length}
 use Rattle.std.proofs.Math.Seq.{drop-nil}
-use Rattle.ipmi_commands.specs.Below.{digits_most, Place, Sel, Row, Store, rows_of, WalkEnd, Done, place_after, place_after_rows, Seen, IsHonest, StaysHonest, CommandState, CursorState, StandsAt, start_of, asked_at, Ending, Failure}
-use Rattle.ipmi_commands.specs.Prelude.{AreTexts, AtEnd, AtRecord, calls_for, Cause, cause_of, Change, change, Counted, CountsEntries, Dishonest, end_spots, end_spots_of_last, ending_of, first_end, first_rows, Form, GaveUp, IsAllowed, IsAmong, IsFresh, IsTextOver, Item, Job, last_plan, Leaves, listing, listing_plan, Lists, ListsAfter, ListsHonestly, most_on_walk, NoMemory, NoOutput, OfRow, OnWalk, ListsAlong, Plan, Printed, Prints, PrintsAll, Refused, row_items, rows_end, second_walk_bound, Spot, spots_along, spots_at, spots_of_walk, StopsAt, Subject, walk_call_bound, with_first_spots}
+use Rattle.ipmi_commands.specs.Below.{digits_most, Place, Sel, Row, Store, rows_of, WalkEnd, Done, place_after, place_after_rows, Seen, IsHonest, StaysHonest, CommandState, CursorState, StandsAt, start_of, Ending, Failure}
+use Rattle.ipmi_commands.specs.Prelude.{AreTexts, calls_for, Cause, cause_of, Change, change, Counted, CountsEntries, end_spots, end_spots_of_last, ending_of, first_end, first_rows, Form, IsAllowed, IsAmong, IsFresh, IsTextOver, Item, Job, last_plan, Leaves, listing, listing_plan, ListsAfter, ListsHonestly, ListsAlong, Plan, Printed, Prints, row_items, second_walk_bound, Spot, spots_along, spots_at, spots_of_walk, Subject, walk_call_bound, with_first_spots}
 use Rattle.ipmi_commands.proofs.CallLemmas.{calls_split}
 use Rattle.ipmi_commands.proofs.CountLemmas.{between, ends_here, ends_since}
 use Rattle.ipmi_commands.proofs.ItemLemmas.{IsCarried, leaves_carried, no_items, none_printed, texts_joined}
-use Rattle.ipmi_commands.proofs.ListingLemmas.{fresh_along, fresh_ends, holds_none, no_ids}
+use Rattle.ipmi_commands.proofs.ListingLemmas.{fresh_along, fresh_ends, holds_none}
 use Rattle.ipmi_commands.proofs.SpotLemmas.{among_after, end_spots-joined}
 
 -- ---- the spots of what comes first

@@ -1,7 +1,7 @@
 -- Whether a record of a name was found, by whether anything was written.
-use Rattle.std.proofs.Common.{◌≡◌, ℕ, suc, ◌<◌, ◌==◌, ◌||◌, not, Bool, true, false, if◌then◌else◌, Result, Ok, Err, List, [], ◌∷◌, ◌++◌, length, refl, ap, ◌∙◌, append-nil, arith, length-append}
-use Rattle.ipmi_commands.specs.Below.{Failure, Place, Row, Store, Done, place_after, SdrFault, SdrView, sdr_view_of, IsSdrBlock}
-use Rattle.ipmi_commands.specs.Prelude.{AreTexts, end_of, ending_of, Form, IfChosen, IsBlockOfName, IsTextOver, Printed, reading_for, row_items, rows_end, some_has_name, view_has_name}
+use Rattle.std.proofs.Common.{◌≡◌, ℕ, ◌<◌, ◌==◌, ◌||◌, not, Bool, true, false, List, [], ◌∷◌, ◌++◌, length, refl, ap, ◌∙◌, append-nil, arith, length-append}
+use Rattle.ipmi_commands.specs.Below.{Place, Row, Store, Done, place_after}
+use Rattle.ipmi_commands.specs.Prelude.{AreTexts, end_of, ending_of, Form, IsTextOver, Printed, row_items, rows_end, some_has_name}
 
 -- ---- whether anything was written
 

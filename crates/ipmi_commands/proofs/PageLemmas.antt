@@ -1,10 +1,8 @@
 -- Pages of a listing.
-use Rattle.std.proofs.Common.{◌≡◌, inl, inr, ℕ, zero, suc, ◌+◌, ◌*◌, ◌<◌, ◌≤◌, ◌==◌, false, Option, None, Some, IfOk, Result, Ok, Err, List, [], ◌∷◌, length, take, drop, get_or, refl, sym, ap, subst, ◌∙◌, arith, take_all, length-take}
-use Rattle.std.proofs.lemmas.Bool.Decides.{nat_tests}
-use Rattle.std.proofs.Math.Seq.{take-nil}
+use Rattle.std.proofs.Common.{◌≡◌, inl, inr, ℕ, zero, suc, ◌+◌, ◌*◌, ◌<◌, ◌≤◌, ◌==◌, false, Option, None, Some, Result, Ok, Err, List, [], ◌∷◌, length, take, drop, get_or, refl, ap, subst, ◌∙◌, arith, take_all, length-take}
 use Rattle.std.proofs.lemmas.List.{take_min, at_drop_more}
-use Rattle.ipmi_commands.specs.Below.{Place, Id, End, Ended, Row, rows_of, row_at, IsWalk, WalkEnd, Done, CycleAt, EndsBy, place_after_rows, Seen, IsHonest, CommandState, CursorState, start_of, Ending, Failure}
-use Rattle.ipmi_commands.specs.Prelude.{ArePages, AtEnd, cause_of, Change, change, end_of, ending_of, first_end, first_rows, Form, GoesOn, IsFresh, IsPage, IsTextOver, listing, listing_plan, ListsHonestly, OnWalk, pages_made, rows_end, shelf_of}
+use Rattle.ipmi_commands.specs.Below.{Place, Row, row_at, IsWalk, place_after_rows, Seen, IsHonest, CommandState, CursorState, start_of, Ending, Failure}
+use Rattle.ipmi_commands.specs.Prelude.{ArePages, AtEnd, cause_of, Change, change, end_of, ending_of, first_rows, Form, IsFresh, IsPage, IsTextOver, listing, listing_plan, ListsHonestly, pages_made}
 use Rattle.ipmi_commands.proofs.CallLemmas.{first_end-none}
 use Rattle.ipmi_commands.proofs.CountLemmas.{ends_here}
 use Rattle.ipmi_commands.proofs.ItemLemmas.{no_items, none_printed}

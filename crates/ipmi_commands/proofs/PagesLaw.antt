@@ -1,11 +1,11 @@
 -- Pages over a chain that does not end by a cycle are one listing.
-use Rattle.std.proofs.Common.{◌≡◌, inl, inr, ℕ, ◌+◌, ◌*◌, ◌<◌, ◌≤◌, nat_le, Bool, true, false, IsTrue, Option, None, Some, Err, List, [], ◌∷◌, ◌++◌, length, take, drop, refl, sym, ap, subst, ◌∙◌, arith, ne_eqb, take_all, take-append-drop}
+use Rattle.std.proofs.Common.{◌≡◌, inl, inr, ℕ, ◌+◌, ◌*◌, ◌≤◌, true, IsTrue, Option, None, Some, Err, List, [], ◌∷◌, ◌++◌, take, drop, refl, sym, ap, subst, ◌∙◌, arith, ne_eqb, take_all, take-append-drop}
 use Rattle.std.proofs.lemmas.Bool.{or_parts}
 use Rattle.std.proofs.Math.Seq.{take-nil, drop-nil}
 use Rattle.std.proofs.lemmas.Bool.Decides.{nat_tests}
 use Rattle.std.proofs.lemmas.List.{drop_all}
-use Rattle.ipmi_commands.specs.Below.{Place, First, End, Row, IsShelf, Store, rows_of, store_shelf, IsWalk, TailIsWalk, WalkEnd, Done, EndsBy, EndsAfter, EndsEmpty, place_after, place_after_rows, Seen, IsHonest, step_call_bound, start_of, Task, is_listing, CommandState, Ending, Failure}
-use Rattle.ipmi_commands.specs.Prelude.{ArePages, calls_for, cause_of, Change, change, end_spots, EndsFor, EndsListing, Form, GoesOn, IsAllowed, IsAmong, IsOneListing, IsOpen, IsTextOver, Item, Job, job_of, job_of_command, Listing, listing, listing_in, listing_plan, most_on_walk, OnWalk, pages_made, Plan, Printed, PrintsAll, first_end, row_items, rows_end, RunsPaged, shelf_of, Spot, spots_at}
+use Rattle.ipmi_commands.specs.Below.{Place, First, End, Row, IsShelf, Store, rows_of, store_shelf, IsWalk, TailIsWalk, WalkEnd, EndsBy, place_after, place_after_rows, Seen, IsHonest, step_call_bound, start_of, is_listing, CommandState, Ending, Failure}
+use Rattle.ipmi_commands.specs.Prelude.{ArePages, calls_for, cause_of, Change, change, EndsFor, EndsListing, Form, GoesOn, IsAllowed, IsOneListing, IsOpen, IsTextOver, Job, job_of_command, Listing, listing, listing_in, listing_plan, most_on_walk, OnWalk, pages_made, Plan, Printed, row_items, rows_end, RunsPaged, shelf_of}
 use Rattle.ipmi_commands.proofs.CallLemmas.{calls_split}
 use Rattle.ipmi_commands.proofs.ItemLemmas.{after_items, leaves_joined, leaves_longer, row_items-split}
 use Rattle.ipmi_commands.proofs.PageLemmas.{calls_of_page, no_walk}

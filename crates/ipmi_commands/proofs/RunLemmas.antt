@@ -1,8 +1,7 @@
 -- A run over an image, and an image written again.
 use Rattle.std.proofs.Common.{◌≡◌, ℕ, arith, false, IsTrue, List, [], refl}
-use Rattle.ipmi_commands.specs.Below.{Store, Seen, IsHonest, image_text_of, Ending, Failure}
-use Rattle.ipmi_commands.specs.Prelude.{change, IsAllowed, is_rewrite, IsRewriting, IsTextOver, Job, OfImage, OnPlan, Plan, rewrite_plan, Runs, RunsOver, WritesText}
-use Rattle.ipmi_commands.proofs.ItemLemmas.{no_items}
+use Rattle.ipmi_commands.specs.Below.{Store, Seen, IsHonest, image_text_of, Ending}
+use Rattle.ipmi_commands.specs.Prelude.{change, IsAllowed, is_rewrite, IsRewriting, IsTextOver, Job, OfImage, OnPlan, Plan, Runs, RunsOver, WritesText}
 use Rattle.ipmi_commands.proofs.PerformLemmas.{text_leaves}
 
 -- what holds of the plan, whatever the tries

@@ -1,6 +1,6 @@
 -- The spots of a walk and of its rows.
 use Rattle.std.proofs.Common.{◌≡◌, ◌≢◌, inl, inr, ℕ, ◌==◌, Bool, true, false, cond, List, [], ◌∷◌, ◌++◌, refl, ap, arith, ne_eqb}
-use Rattle.ipmi_commands.specs.Below.{Place, First, Id, End, Row, WalkEnd, Done, EndsBy, place_after, place_after_rows, last_next, MayFail, asked_at}
+use Rattle.ipmi_commands.specs.Below.{Place, First, Id, End, Row, WalkEnd, EndsBy, place_after, place_after_rows, last_next, MayFail, asked_at}
 use Rattle.ipmi_commands.specs.Prelude.{AtRecord, end_spots, Form, IsAmong, row_items, Spot, spots_at}
 
 -- after a row a walk does not stand at the start

@@ -6,7 +6,7 @@ use Rattle.std.proofs.lemmas.List.{take-append-le, take_rest}
 use Rattle.std.proofs.lemmas.Bool.Decides.{nat_tests}
 use Rattle.std.proofs.lemmas.List.Concat.{flat_map-append}
 use Rattle.std.specs.Io.KnownBytes.{Appends, Keeps}
-use Rattle.ipmi_output.specs.Received.{Received, ReceivesAll, ReceivesPart, WritesAll}
+use Rattle.ipmi_output.specs.Received.{Received, ReceivesAll, ReceivesPart}
 
 -- the first i bytes and the next n of them
 pub take_next : (i n : ℕ) (bytes : List ℕ)
