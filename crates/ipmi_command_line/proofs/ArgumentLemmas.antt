@@ -1,5 +1,5 @@
 -- What `clap`'s clauses say of the command line.
-use Rattle.std.proofs.Common.{◌≡◌, ◌∙◌, List, [], ap, codes, map, Option, None, Some, option_map, unwrap_or, Bor}
+use Rattle.std.proofs.Common.{◌≡◌, ◌∙◌, arith, List, [], codes, map, Option, option_map, unwrap_or, Bor}
 use Rattle.clap.specs.Words.{Text, matched_of, raw_values, rows_of}
 use Rattle.clap.specs.declared.parser.matches.Found.{Found}
 pub use Rattle.clap.proofs.WalkLemmas.{first_value-rows}
@@ -12,9 +12,6 @@ pub free_words_are : (r : Option (Bor (List (Bor Text)))) (d : Bor (List (Bor Te
     → option_map (λ s. map (λ v. v.now) s.now) r
     ≡ option_map raw_values (matched_of f (codes "words"))
     → map (λ v. v.now) (unwrap_or r d).now ≡ free_words (rows_of f)
-free_words_are None d f none given =
-    ap (map (λ (v : Bor Text). v.now)) none ∙ ap (λ (w : Option (List Text)). unwrap_or w []) (given ∙ raw_values-rows f (codes "words"))
-free_words_are (Some s) d f none given =
-    ap (λ (w : Option (List Text)). unwrap_or w []) (given ∙ raw_values-rows f (codes "words"))
+free_words_are r d f none given = grind (arith, given ∙ raw_values-rows f (codes "words"))
 
 pub ruleset values = (first_value-rows)

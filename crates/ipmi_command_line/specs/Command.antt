@@ -68,11 +68,8 @@ command_of_task rows (Some task) = with_options (first_of (codes "image") rows) 
     (number_or 32 1 254 (first_of (codes "part") rows))
     (number_or 5 0 255 (first_of (codes "tries") rows))
 
--- the command of what `clap` made of the words, or why they are none
-abbrev pub command_of_matches : List Row → Result CommandState UsageFault
-command_of_matches rows = command_of_task rows (task_of (free_words rows))
-
 -- what the words mean, the first of which is the program's name
 unfoldable pub meaning_of : List (List ℕ) → Result CommandState UsageFault
-meaning_of words = if is_taken words then command_of_matches (rows_of_words words)
+meaning_of words = if is_taken words
+    then command_of_task (rows_of_words words) (task_of (free_words (rows_of_words words)))
     else Err UsageFault.Line

@@ -1,5 +1,5 @@
 -- Numbers on a command line.
-use Rattle.std.specs.Prelude.{ℕ, Bool, ◌&&◌, ◌==◌, nat_le, nat_lt, List, length, slice_index, take, drop, Option, Some, None, codes, if◌then◌else◌, bytes_eq}
+use Rattle.std.specs.Prelude.{ℕ, ◌&&◌, ◌==◌, nat_le, nat_lt, List, length, slice_index, take, drop, Option, Some, None, codes, if◌then◌else◌, bytes_eq}
 use Rattle.std.specs.Char.{is_digit}
 use Rattle.std.specs.List.{list_all}
 use Rattle.std.specs.Str.Parse.{digits_value}
@@ -9,13 +9,9 @@ abbrev pub digits_of : ℕ → List ℕ → Option ℕ
 digits_of radix text = if nat_lt 0 (length text) && list_all (λ c. is_digit c radix) text
     then Some (digits_value radix text) else None
 
--- a zero before other digits
-abbrev pub has_leading_zero : List ℕ → Bool
-has_leading_zero text = nat_lt 1 (length text) && slice_index text 0 == 48
-
--- decimal digits without a leading zero; `0` itself is one
+-- decimal digits, with no zero before other digits
 abbrev pub decimal_of : List ℕ → Option ℕ
-decimal_of text = if has_leading_zero text then None else digits_of 10 text
+decimal_of text = if nat_lt 1 (length text) && slice_index text 0 == 48 then None else digits_of 10 text
 
 -- one to four hex digits
 abbrev pub hex_of : List ℕ → Option ℕ

@@ -1,7 +1,7 @@
 //! The words of a command line, as `clap` reads them.
 ghost use Rattle.std.specs.Prelude.{◌≡◌, ◌⊎◌, IfOk, IfErr, false, option_map, true};
 ghost use Rattle.clap.specs.Words.{app_of, first_of, found_of, rows_of, rule_of};
-ghost use Rattle.ipmi_command_line.specs.Arguments.{command_line, is_taken, option_rule, rows_of_words, words_rule};
+ghost use Rattle.ipmi_command_line.specs.Arguments.{command_line, is_taken, option_rule, rows_of_words};
 
 use crate::command::UsageFault;
 use crate::words::Words;
@@ -17,14 +17,6 @@ fn option_rule<'a>(alloc: Global, name: &'a str) -> Arg<'a>
     Arg::new(alloc, name).long(name)
 }
 
-/// The words that belong to no option.
-fn words_rule<'a>(alloc: Global) -> Arg<'a>
-    ensures rule { rule_of result ≡ words_rule }
-    ensures local { result.global ≡ false }
-{
-    Arg::new(alloc, "words").action(ArgAction::Append)
-}
-
 /// Four options with a value, and any number of words.
 fn command_line<'a>(alloc: Global) -> Result<Command<'a>, AllocError>
     ensures { IfOk result (λ c. app_of c ≡ command_line) }
@@ -34,7 +26,7 @@ fn command_line<'a>(alloc: Global) -> Result<Command<'a>, AllocError>
         .arg(option_rule(alloc, "from"))?
         .arg(option_rule(alloc, "part"))?
         .arg(option_rule(alloc, "tries"))?
-        .arg(words_rule(alloc))
+        .arg(Arg::new(alloc, "words").action(ArgAction::Append))
 }
 
 /// The options and words of a command line, the first word of which is the program's name.

@@ -1,7 +1,7 @@
 //! What a command line asks for.
 ghost use Rattle.std.specs.Prelude.{◌≡◌, ◌≤◌, ◌<◌, ◌⊎◌, Err, IfOk, IfSome, IsSome, IsTrue, MatchResult, None, Ok, Some, length, option_map};
 ghost use Rattle.clap.specs.Words.{found_of, rows_of};
-ghost use Rattle.ipmi_command_line.specs.Command.{CommandState, IsCommand, IsTask, command_of_matches, command_of_task, meaning_of, number_or, start_of_text};
+ghost use Rattle.ipmi_command_line.specs.Command.{CommandState, IsCommand, IsTask, command_of_task, meaning_of, number_or, start_of_text};
 ghost use Rattle.ipmi_command_line.specs.declared.command.UsageFault.{UsageFault};
 ghost use Rattle.ipmi_command_line.specs.Task.{is_listing, takes_from};
 
@@ -165,16 +165,6 @@ fn number_or(text: Option<&str>, default: u8, low: u8, high: u8) -> Result<u8, U
     Ok(decimal(text, u16::from(low), u16::from(high)).ok_or(UsageFault::Option)? as u8)
 }
 
-/// A copy of the text, if there is one.
-fn owned(alloc: Global, text: Option<&str>) -> Result<Option<Word>, AllocError>
-    ensures { IfOk result (λ word. word ≡ option_map (λ t. t.now) text.entry) }
-{
-    let Some(text) = text else {
-        return Ok(None);
-    };
-    Ok(Some(Word::new(alloc, text)?))
-}
-
 /// The command of a task and the options that were given.
 fn command_of_task(
     alloc: Global,
@@ -191,29 +181,22 @@ fn command_of_task(
     if from.is_some() && !task.takes_from() {
         return Err(UsageFault::Option);
     }
-    let image = owned(alloc, value(matches, "image"))?;
+    let image = value(matches, "image")
+        .map(|text| Word::new(alloc, text))
+        .transpose()?;
     Ok(Command::new(task, from, part, tries, image))
 }
 
-/// The command of the options and words that were given.
-#[tactic(auto, using(crate::proofs::ArgumentLemmas::free_words_are))]
-fn command_of_matches(alloc: Global, matches: &ArgMatches<'_>) -> Result<Command, UsageFault>
-    ensures { let meant = command_of_matches (rows_of (found_of matches.now)) in
-        MatchResult result (λ c. meant ≡ Ok c) (λ e. (e ≡ UsageFault.Memory) ⊎ (meant ≡ Err e)) }
-{
-    match task_of(alloc, matches.get_strs("words").unwrap_or(&[]))? {
-        Some(task) => command_of_task(alloc, task, matches),
-        None => Err(UsageFault::Command),
-    }
-}
-
 /// The command that the words mean, or why they mean none; `Memory` may come in place of either. The first word is the program's name.
-#[tactic(auto, unfolding(crate::specs::Command::meaning_of))]
+#[tactic(auto, using(crate::proofs::ArgumentLemmas::free_words_are), unfolding(crate::specs::Command::meaning_of))]
 pub fn command_of(alloc: Global, words: &Words) -> Result<Command, UsageFault>
     requires { 0 < length words.now }
     ensures { MatchResult result (λ c. meaning_of words.now ≡ Ok c)
         (λ e. (e ≡ UsageFault.Memory) ⊎ (meaning_of words.now ≡ Err e)) }
 {
     let matches = arguments(alloc, words)?;
-    command_of_matches(alloc, &matches)
+    match task_of(alloc, matches.get_strs("words").unwrap_or(&[]))? {
+        Some(task) => command_of_task(alloc, task, &matches),
+        None => Err(UsageFault::Command),
+    }
 }

@@ -1,14 +1,6 @@
 //! Numbers on a command line.
 ghost use Rattle.std.specs.Prelude.{◌≡◌, ◌≤◌, ◌⊎◌, IfSome, Some};
-ghost use Rattle.ipmi_command_line.specs.Number.{decimal_of, digits_of, has_leading_zero, hex_of, number_of, within};
-
-/// The number, if it is from `low` to `high`.
-fn in_range(n: u16, low: u16, high: u16) -> Option<u16>
-    ensures value { result ≡ within low high (Some n) }
-    ensures range { IfSome result (λ n. (low ≤ n) × (n ≤ high)) }
-{
-    if low <= n && n <= high { Some(n) } else { None }
-}
+ghost use Rattle.ipmi_command_line.specs.Number.{decimal_of, digits_of, number_of, within};
 
 /// Digits of this radix, as a number from `low` to `high`.
 pub(crate) fn digits(text: &str, radix: u32, low: u16, high: u16) -> Option<u16>
@@ -19,16 +11,8 @@ pub(crate) fn digits(text: &str, radix: u32, low: u16, high: u16) -> Option<u16>
     if text.is_empty() || text.as_bytes()[0] == b'+' {
         return None;
     }
-    match u16::from_str_radix(text, radix) {
-        Ok(n) => in_range(n, low, high),
-        Err(_) => None,
-    }
-}
-
-fn has_leading_zero(text: &str) -> bool
-    ensures { result ≡ has_leading_zero text.now }
-{
-    text.len() > 1 && text.as_bytes()[0] == b'0'
+    let n = u16::from_str_radix(text, radix).ok()?;
+    if low <= n && n <= high { Some(n) } else { None }
 }
 
 /// A number in decimal, from `low` to `high`.
@@ -36,7 +20,7 @@ pub(crate) fn decimal(text: &str, low: u16, high: u16) -> Option<u16>
     ensures value { result ≡ within low high (decimal_of text.now) }
     ensures range { IfSome result (λ n. (low ≤ n) × (n ≤ high)) }
 {
-    if has_leading_zero(text) {
+    if text.len() > 1 && text.as_bytes()[0] == b'0' {
         return None;
     }
     digits(text, 10, low, high)

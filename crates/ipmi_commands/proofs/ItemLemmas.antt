@@ -91,16 +91,17 @@ module _ (IsText : Subject → List ℕ → Type 0) where
 
 -- ---- what is left by one plan is left by another
 
--- the first items of the one were printed: so were the first of the other, and what comes next has the same text, at these
--- spots and perhaps more
+-- the first items of the one were printed: so were the first of the other, and what comes next has these spots and texts,
+-- perhaps more
 pub record IsCarried (IsText : Subject → List ℕ → Type 0) (p q : Plan) (old new : List ℕ)
     (rest : List Item) : Type 0 where
   pub first : HasFirstItems IsText q old new
   pub spots : (spot : Spot) → IsAmong (spots_at rest p.end_spots) spot
       → IsAmong (spots_at first.rest q.end_spots) spot
-  pub next : (item : Item) (later : List Item) → rest ≡ item ∷ later
+  pub next : (item : Item) (later : List Item) (text : List ℕ) → rest ≡ item ∷ later
+      → IsText item.subject text → 0 < length text
       → (item' : Item) × (later' : List Item) × (first.rest ≡ item' ∷ later')
-      × (item'.subject ≡ item.subject)
+      × IsText item'.subject text
 
 pub leaves_carried : (IsText : Subject → List ℕ → Type 0) (p q : Plan) (old old' new : List ℕ)
     (ending : Ending) (cause : Cause)
@@ -114,18 +115,8 @@ leaves_carried IsText p q old old' new ending (Refused spot code) carry all leav
 leaves_carried IsText p q old old' new ending NoMemory carry all leaves = (carry new leaves).first
 leaves_carried IsText p q old old' new ending NoOutput carry all leaves =
     let at = carry leaves.whole leaves.first in
-    let next = at.next leaves.item leaves.later leaves.next in
-    record {
-      whole = leaves.whole;
-      first = at.first;
-      item = next.0;
-      later = next.1;
-      next = next.2;
-      text = leaves.text;
-      is_text = rw next.3 leaves.is_text;
-      some = leaves.some;
-      part = leaves.part;
-    }
+    let next = at.next leaves.item leaves.later leaves.text leaves.next leaves.is_text leaves.some in
+    cut_after IsText q old' leaves.whole new ending at.first next.0 next.1 leaves.text next.2 next.3 leaves.some leaves.part
 leaves_carried IsText p q old old' new ending Dishonest carry all leaves = absurd leaves
 
 -- after some items that were printed
@@ -142,7 +133,7 @@ leaves_joined IsText done p old text new ending cause before leaves = leaves_car
         printed = printed_joined IsText done first.done old text whole before first.printed;
       };
       spots = λ spot among. among;
-      next = λ item later next. (item, later, next, refl);
+      next = λ item later text next is some. (item, later, next, is);
     })
     (λ is all. (printed_joined IsText done p.items old text new before all.0, all.1)) leaves
 
@@ -158,6 +149,6 @@ leaves_longer IsText p q more items_are spots_are old new ending cause whole lea
     (λ whole first. record {
       first = record { done = first.done; rest = first.rest ++ more; items_are = items_are ∙ rw first.items_are (append_assoc first.done first.rest more); printed = first.printed };
       spots = λ spot among. spots_are spot first.rest among;
-      next = λ item later next. (item, later ++ more, rw next refl, refl);
+      next = λ item later text next is some. (item, later ++ more, rw next refl, is);
     })
     whole leaves

@@ -1,21 +1,16 @@
 -- The last entries of a shelf: a walk that counts them, and a second one that passes those before them.
-use Rattle.std.proofs.Common.{◌≡◌, inl, inr, ℕ, zero, suc, ◌+◌, ◌-◌, ◌<◌, ◌≤◌, Option, None, Some, IfOk, Result, Ok, Err, List, [], ◌∷◌, ◌++◌, length, take, drop, refl, sym, ap, subst, ◌∙◌, append_assoc, append-nil, arith, length-append, length-drop, length-take-le, take-append-drop}
+use Rattle.std.proofs.Common.{◌≡◌, inl, inr, ℕ, zero, suc, ◌+◌, ◌-◌, ◌<◌, ◌≤◌, Option, None, Some, IfOk, Result, Ok, Err, List, [], ◌∷◌, ◌++◌, length, take, drop, refl, sym, ap, ◌∙◌, append_assoc, append-nil, arith, length-append, length-drop, length-take-le, take-append-drop}
 use Rattle.std.proofs.lemmas.List.{nil_from_length}
 use Rattle.std.proofs.Math.Seq.{drop-nil}
-use Rattle.ipmi_commands.specs.Below.{digits_most, Place, Sel, Row, Store, rows_of, WalkEnd, Done, place_after, place_after_rows, Seen, IsHonest, StaysHonest, CommandState, CursorState, StandsAt, start_of, asked_at, Ending, Failure}
-use Rattle.ipmi_commands.specs.Prelude.{AreTexts, AtEnd, AtRecord, calls_for, Cause, cause_of, Change, change, Counted, CountsEntries, Dishonest, end_spots, end_spots_of_last, ending_of, first_end, first_rows, Form, GaveUp, IsAllowed, IsAmong, IsFresh, IsTextOver, Item, last_call_bound, last_plan, Leaves, listing, listing_plan, Lists, ListsAfter, ListsHonestly, most_on_walk, NoMemory, NoOutput, OfRow, OnWalk, ListsAlong, Plan, Printed, PrintsAll, Refused, row_items, rows_end, second_walk_bound, Spot, spots_along, spots_at, spots_of_walk, StopsAt, Subject, walk_call_bound, with_first_spots}
+use Rattle.ipmi_commands.specs.Below.{digits_most, Place, Sel, Row, Store, rows_of, WalkEnd, Done, place_after, place_after_rows, Seen, IsHonest, StaysHonest, CommandState, CursorState, StandsAt, start_of, Ending, Failure}
+use Rattle.ipmi_commands.specs.Prelude.{AreTexts, calls_for, Cause, cause_of, Change, change, Counted, CountsEntries, end_spots, end_spots_of_last, ending_of, first_end, first_rows, Form, IsAllowed, IsAmong, IsFresh, IsTextOver, Item, Job, last_plan, Leaves, listing, listing_plan, ListsAfter, ListsHonestly, ListsAlong, Plan, Printed, Prints, row_items, second_walk_bound, Spot, spots_along, spots_at, spots_of_walk, Subject, walk_call_bound, with_first_spots}
 use Rattle.ipmi_commands.proofs.CallLemmas.{calls_split}
 use Rattle.ipmi_commands.proofs.CountLemmas.{between, ends_here, ends_since}
 use Rattle.ipmi_commands.proofs.ItemLemmas.{IsCarried, leaves_carried, no_items, none_printed, texts_joined}
-use Rattle.ipmi_commands.proofs.ListingLemmas.{fresh_along, fresh_ends, holds_none, no_ids}
+use Rattle.ipmi_commands.proofs.ListingLemmas.{fresh_along, fresh_ends, holds_none}
 use Rattle.ipmi_commands.proofs.SpotLemmas.{among_after, end_spots-joined}
 
 -- ---- the spots of what comes first
-
--- what comes first has these spots
-spots_at-first : (spots : List Spot) (items : List Item) (ends : List Spot)
-    → spots_at (with_first_spots spots items) (end_spots_of_last spots items ends) ≡ spots
-spots_at-first spots items ends = grind arith
 
 spots_along-split : (k : ℕ) (start : Place) (rows : List Row) (ends : List Spot)
     → spots_along start rows ++ ends ≡ spots_along start (take k rows)
@@ -39,33 +34,29 @@ module _ (IsText : Subject → List ℕ → Type 0) (spots : List Spot) (p : Pla
   abbrev q : Plan
   q = record { items = with_first_spots spots p.items; end = p.end; end_spots = end_spots_of_last spots p.items at_end }
 
-  kept_printed : (items : List Item) (old new : List ℕ) → Printed IsText items old new
-      → Printed IsText (with_first_spots spots items) old new
-  kept_printed items old new printed = grind arith
-
   widened : (old new : List ℕ) (done rest : List Item) → p.items ≡ done ++ rest
       → Printed IsText done old new → IsCarried IsText p q old new rest
   widened old new [] rest is printed = record {
     first = record { done = []; rest = with_first_spots spots p.items; items_are = refl; printed = printed };
-    spots = λ spot among. rw spots_at-first (wide spot (rw is among));
-    next = λ item later next. (record { subject = item.subject; spots = spots }, later, ap (with_first_spots spots) (is ∙ next), refl);
+    spots = λ spot among. grind (arith, wide spot (rw is among));
+    next = λ item later text next is_text some. (record { subject = item.subject; spots = spots }, later, ap (with_first_spots spots) (is ∙ next), is_text);
   }
   widened old new (d ∷ done) rest is printed = record {
     first = record {
       done = with_first_spots spots (d ∷ done);
       rest = rest;
       items_are = ap (with_first_spots spots) is;
-      printed = kept_printed (d ∷ done) old new printed;
+      printed = record { text = printed.text; are = printed.are; new_is = printed.new_is };
     };
     spots = λ spot among. rw is (rw ends_are at among);
-    next = λ item later next. (item, later, next, refl);
+    next = λ item later text next is_text some. (item, later, next, is_text);
   }
 
   leaves_wide : (old new : List ℕ) (ending : Ending) (cause : Cause)
       → Leaves IsText p old new ending cause → Leaves IsText q old new ending cause
   leaves_wide old new ending cause leaves = leaves_carried IsText p q old old new ending cause
       (λ whole first. widened old whole first.done first.rest first.items_are first.printed)
-      (λ is all. (kept_printed p.items old new all.0, all.1)) leaves
+      (λ is all. (grind (arith, all.0), all.1)) leaves
 
 -- the listing of the last entries leaves what the plan allows
 last_leaves : (store : Store) (n k : ℕ) (start : Place) (walk : List Row) (old new : List ℕ)
@@ -94,9 +85,7 @@ no_text : (store : Store) (rows : List Row) (start : Place) (done rest : List It
 no_text store rows start [] rest text is are = are
 no_text store [] start (d ∷ done) rest text is are = cc is
 no_text store (row ∷ rows) start (d ∷ done) rest text is are =
-    let item : d ≡ record { subject = OfRow Form.Passed row; spots = AtRecord (asked_at start) ∷ [] } = cc is in
-    let none : are.first ≡ [] = subst (λ (i : Item). IsTextOver store i.subject are.first) item are.is_first in
-    are.joined ∙ rw (none, no_text store rows (place_after row.next) done rest are.rest (cc is) are.is_rest) refl
+    grind (arith, are.joined, are.is_first, no_text store rows (place_after row.next) done rest are.rest (cc is) are.is_rest)
 
 -- the spots of what comes next, or after them, are spots of theirs
 passed_spot : (rows : List Row) (start : Place) (done rest : List Item) (ends more : List Spot)
@@ -124,48 +113,27 @@ nothing : (store : Store) (most : Option ℕ) (start : Place) (walk : List Row)
     → Printed (IsTextOver store) done old new → new ≡ old
 nothing store most start walk done rest old new is printed = printed.new_is ∙ rw (no_text store (first_rows most walk) start done rest printed.text is printed.are) (append-nil old)
 
-all_nothing : (store : Store) (most : Option ℕ) (start : Place) (walk : List Row) (old new : List ℕ)
-    → Printed (IsTextOver store) (row_items Form.Passed start (first_rows most walk)) old new
-    → new ≡ old
-all_nothing store most start walk old new printed = nothing store most start walk (row_items Form.Passed start (first_rows most walk)) [] old new (sym (append-nil _)) printed
-
 -- a run that ends while they are passed
 module _ (store : Store) (n : ℕ) (most : Option ℕ) (start : Place) (walk : List Row) (end : WalkEnd)
     (end_is : first_end most walk end ≡ end) (old new : List ℕ) (failure : Failure) where
   abbrev passing : Plan
   passing = listing_plan (listing Form.Passed start most) walk end
 
-  ends_so : (e : WalkEnd) → Err failure ≡ rows_end Form.Passed (first_rows most walk) e → new ≡ old
-      → PrintsAll (IsTextOver store) (last_plan n start walk e) old new (Err failure)
-  ends_so e is same = grind (arith, none_printed)
-
-  stops_there : (spot : Spot) → StopsAt spot (IsTextOver store) passing old new
-      → StopsAt spot (IsTextOver store) (last_plan n start walk end) old new
-  stops_there spot stops = record {
-    first = no_items (IsTextOver store) (last_plan n start walk end) old new (nothing store most start walk stops.first.done stops.first.rest old new stops.first.items_are stops.first.printed);
-    there = rw spots_at-first (passed_there most start walk stops.first.done stops.first.rest (end_spots start walk end) spot stops.first.items_are (rw end_is at stops.there));
-  }
-
   passing_failed : (cause : Cause) → Leaves (IsTextOver store) passing old new (Err failure) cause
       → Leaves (IsTextOver store) (last_plan n start walk end) old new (Err failure) cause
-  passing_failed AtEnd leaves = ends_so end (rw end_is at leaves.1) (all_nothing store most start walk old new leaves.0)
-  passing_failed (GaveUp spot) leaves = stops_there spot leaves
-  passing_failed (Refused spot code) leaves = stops_there spot leaves
-  passing_failed NoMemory leaves = no_items (IsTextOver store) (last_plan n start walk end) old new (nothing store most start walk leaves.done leaves.rest old new leaves.items_are leaves.printed)
-  passing_failed NoOutput leaves =
-      let first = leaves.first in
-      let text = first.printed.text ++ leaves.text in
-      let is : row_items Form.Passed start (first_rows most walk) ≡ (first.done ++ leaves.item ∷ []) ++ leaves.later = first.items_are ∙ rw leaves.next (sym (append_assoc first.done (leaves.item ∷ []) leaves.later)) in
-      let one : AreTexts (IsTextOver store) (leaves.item ∷ []) leaves.text = record { first = leaves.text; rest = []; is_first = leaves.is_text; is_rest = refl; joined = sym (append-nil leaves.text) } in
-      let none : text ≡ [] = no_text store (first_rows most walk) start (first.done ++ leaves.item ∷ []) leaves.later text is (texts_joined (IsTextOver store) first.done (leaves.item ∷ []) first.printed.text leaves.text first.printed.are one) in
-      absurd (omega (arith, leaves.some, ap length none, length-append first.printed.text leaves.text))
-  passing_failed Dishonest leaves = absurd leaves
+  passing_failed cause leaves = leaves_carried (IsTextOver store) passing (last_plan n start walk end) old old new (Err failure) cause
+      (λ whole first. record {
+        first = no_items (IsTextOver store) (last_plan n start walk end) old whole (nothing store most start walk first.done first.rest old whole first.items_are first.printed);
+        spots = λ spot among. grind (arith, passed_there most start walk first.done first.rest (end_spots start walk end) spot first.items_are (rw end_is at among));
+        next = λ item later text next is_text some.
+            let is : row_items Form.Passed start (first_rows most walk) ≡ (first.done ++ item ∷ []) ++ later = first.items_are ∙ rw next (sym (append_assoc first.done (item ∷ []) later)) in
+            let one : AreTexts (IsTextOver store) (item ∷ []) text = record { first = text; rest = []; is_first = is_text; is_rest = refl; joined = sym (append-nil text) } in
+            let none = no_text store (first_rows most walk) start (first.done ++ item ∷ []) later (first.printed.text ++ text) is (texts_joined (IsTextOver store) first.done (item ∷ []) first.printed.text text first.printed.are one) in
+            absurd (omega (arith, some, ap length none, length-append first.printed.text text));
+      })
+      (λ is all. grind (arith, none_printed, rw end_is at all.1, nothing store most start walk _ [] old new (sym (append-nil _)) all.0)) leaves
 
 -- ---- entries are counted
-
-rows_end-done : (rows : List Row) (end : WalkEnd) → Ok tt ≡ rows_end Form.Passed rows end
-    → end ≡ Done
-rows_end-done rows end is = grind arith
 
 module _ {command : CommandState} {from : Option ℕ} {tries : ℕ} {begun now : CursorState}
     {c : Change}
@@ -173,7 +141,7 @@ module _ {command : CommandState} {from : Option ℕ} {tries : ℕ} {begun now :
   counts : (result : Result ℕ Failure) (walk : List Row) (end : WalkEnd)
       → ListsAlong Form.Passed tries None begun now c result (start_of from) walk end 0
       → Counted c.seen.store (start_of from) walk end c.old c.new result
-  counts (Ok count) walk end along = (along.all.count_is, rows_end-done walk end along.leaves.1, all_nothing c.seen.store None (start_of from) walk c.old c.new along.leaves.0)
+  counts (Ok count) walk end along = (along.all.count_is, grind (arith, along.leaves.1), nothing c.seen.store None (start_of from) walk _ [] c.old c.new (sym (append-nil _)) along.leaves.0)
   counts (Err failure) walk end along = λ n. passing_failed c.seen.store n None (start_of from) walk end refl c.old c.new failure (cause_of (Err failure)) along.leaves
 
   pub counted : (result : Result ℕ Failure)
@@ -202,11 +170,6 @@ after_without_memory tries start passed s text honest = record {
   along = λ same walk end w ends n done is. (no_items (IsTextOver s.store) (last_plan n start walk end) text text refl, omega arith);
 }
 
--- a done walk has no other end
-first_end-done : (most : Option ℕ) (rows : List Row) (end : WalkEnd) → end ≡ Done
-    → first_end most rows end ≡ end
-first_end-done most rows end done = grind arith
-
 module _ {command : CommandState} {from : Option ℕ} {tries passed : ℕ} {begun mid : CursorState}
     {s s' : Seen} {old text : List ℕ} (fresh : IsFresh command Form.Passed from begun) where
   -- they could not be passed
@@ -217,7 +180,7 @@ module _ {command : CommandState} {from : Option ℕ} {tries passed : ℕ} {begu
     ends = fresh_ends fresh lists;
     along = λ same walk end w ends n done is.
         let along = fresh_along fresh lists same walk end w ends in (
-          passing_failed s.store n (Some passed) (start_of from) walk end (first_end-done (Some passed) walk end done) old text failure (cause_of (Err failure)) along.0.leaves,
+          passing_failed s.store n (Some passed) (start_of from) walk end (grind (arith, done)) old text failure (cause_of (Err failure)) along.0.leaves,
           omega (arith, rw calls_for-passed at along.1, calls_split Form.EntryLine s.store tries passed walk),
         );
   }
@@ -247,22 +210,11 @@ module _ {command : CommandState} {from : Option ℕ} {tries passed : ℕ} {begu
         let here : 0 + passed ≡ passed = omega arith in
         let stands : StandsAt (rows_of Sel s.store) (start_of from) walk passed mid = rw here at first.all.stands in
         let later = (rw stays at (lists.along since.1 (start_of from) walk end passed)) (record { walks = w; ends = ends; stands = stands }) in
-        let none = all_nothing s.store (Some passed) (start_of from) walk old text first.leaves.0 in (
+        let none = nothing s.store (Some passed) (start_of from) walk _ [] old text (sym (append-nil _)) first.leaves.0 in (
           rw done (last_leaves s.store n passed (start_of from) walk old new (ending_of result) is (rw (done, none) at later.leaves)),
           omega (arith, later.calls some, rw calls_for-passed at (first.all.calls refl), digits_most begun.part, calls_split Form.EntryLine s.store tries passed walk),
         );
   }
-
--- over any controller
-pub after_calls : {command : CommandState} {from : Option ℕ} {tries passed : ℕ}
-    {begun mid now : CursorState}
-    {c d : Change} {result : Result ℕ Failure} → IsFresh command Form.Passed from begun → d.seen ≡ c.seen'
-    → Lists Form.Passed tries (Some passed) begun mid c (Ok passed)
-    → Lists Form.EntryLine tries None mid now d result
-    → d.seen'.calls ≤ c.seen.calls + most_on_walk Form.EntryLine tries
-after_calls {begun = begun} fresh is passes lists =
-    let first = rw (no_ids fresh) at (passes.calls.some refl) in
-    omega (arith, first, rw is at (lists.calls.all (passes.keeps.part fresh.some)), digits_most begun.part)
 
 -- ---- the last entries
 
@@ -276,9 +228,7 @@ module _ (n : ℕ) (from : Option ℕ) (tries : ℕ) (some : 1 ≤ n) (s s' : Se
   pub last_prints_none : (result : Result ℕ Failure) → IfOk result (λ count. count ≡ 0)
       → s'.stores_added ≡ s.stores_added → CountsEntries (start_of from) tries
       (change s s' old text) result
-      → OnWalk Sel (start_of from) s.store (λ walk end.
-      IsAllowed (IsTextOver s.store) (last_plan n (start_of from) walk end) old text (ending_of result)
-      × (s'.calls ≤ s.calls + last_call_bound n s.store tries walk end))
+      → Prints (Job.Last n from) tries (change s s' old text) (ending_of result)
   last_prints_none (Ok count) none same counts = λ walk end w ends.
       let along = counts.along same walk end w ends in
       let empty = nil_from_length walk (sym along.0.0 ∙ none) in
@@ -291,9 +241,7 @@ module _ (n : ℕ) (from : Option ℕ) (tries : ℕ) (some : 1 ≤ n) (s s' : Se
       → StaysHonest s s' → s'.stores_added ≡ s.stores_added → s''.stores_added ≡ s'.stores_added
       → CountsEntries (start_of from) tries (change s s' old text) (Ok count)
       → ListsAfter (start_of from) (count - n) tries (change s' s'' text new) ending
-      → OnWalk Sel (start_of from) s.store (λ walk end.
-      IsAllowed (IsTextOver s.store) (last_plan n (start_of from) walk end) old new ending
-      × (s''.calls ≤ s.calls + last_call_bound n s.store tries walk end))
+      → Prints (Job.Last n from) tries (change s s'' old new) ending
   last_prints s'' new count ending more stays same same' counts lists = λ walk end w ends.
       let along = counts.along same walk end w ends in
       let later = (rw (stays.store.stays same) at (lists.along same' walk end)) w ends n along.0.1 (rw along.0.0 refl) in

@@ -1,7 +1,7 @@
 -- Whether a record of a name was found, by whether anything was written.
-use Rattle.std.proofs.Common.{◌≡◌, ℕ, suc, ◌<◌, ◌==◌, ◌||◌, not, Bool, true, false, if◌then◌else◌, Result, Ok, Err, List, [], ◌∷◌, ◌++◌, length, refl, ap, ◌∙◌, append-nil, arith, length-append}
-use Rattle.ipmi_commands.specs.Below.{Failure, Place, Row, Store, Done, place_after, SdrFault, SdrView, sdr_view_of, IsSdrBlock}
-use Rattle.ipmi_commands.specs.Prelude.{AreTexts, end_of, ending_of, Form, IfChosen, IsBlockOfName, IsTextOver, Printed, reading_for, row_items, rows_end, some_has_name, view_has_name}
+use Rattle.std.proofs.Common.{◌≡◌, ℕ, ◌<◌, ◌==◌, ◌||◌, not, Bool, true, false, List, [], ◌∷◌, ◌++◌, length, refl, ap, ◌∙◌, append-nil, arith, length-append}
+use Rattle.ipmi_commands.specs.Below.{Place, Row, Store, Done, place_after}
+use Rattle.ipmi_commands.specs.Prelude.{AreTexts, end_of, ending_of, Form, IsTextOver, Printed, row_items, rows_end, some_has_name}
 
 -- ---- whether anything was written
 
@@ -11,43 +11,20 @@ Wrote false old new = new ≡ old
 
 pub wrote_more : (wrote : Bool) (old new more text : List ℕ) → Wrote wrote old new
     → more ≡ new ++ text → Wrote (wrote || not (length text == 0)) old more
-wrote_more true old new more text has is = omega (arith, ap length is ∙ length-append new text, has)
-wrote_more false old new more [] has is = is ∙ append-nil new ∙ has
-wrote_more false old new more (b ∷ text) has is =
-    let some : (suc (length text) == 0) ≡ false = search arith in rw some (omega (arith, ap length is ∙ length-append new (b ∷ text), ap length has))
-
--- what was written before tells the same of all that is there
-same_wrote : (a b : Bool) (old text new : List ℕ) → Wrote a old new → Wrote b [] text
-    → new ≡ old ++ text → a ≡ b
-same_wrote a b old text new one two is = grind (arith, length-append, ap length is)
+wrote_more wrote old new more [] has is = grind (arith, append-nil)
+wrote_more wrote old new more (b ∷ text) has is = grind (arith, ap length is ∙ length-append new (b ∷ text))
 
 -- ---- texts of records with a name
 
 module _ (name : List ℕ) (store : Store) where
   -- a block is not empty, as it begins with the word Record
-  chosen : (b : Bool) (id : ℕ) (view : SdrView) (text : List ℕ)
-      → IfChosen b (λ t. IsSdrBlock id view (reading_for store view) t) text → Wrote b [] text
-  chosen b id view text is = grind arith
-
-  block_wrote : (id : ℕ) (view : Result SdrView SdrFault) (text : List ℕ)
-      → IsBlockOfName name store id view text → Wrote (view_has_name name view) [] text
-  block_wrote id view text is = grind (arith, chosen)
-
-  -- of two texts
-  both_wrote : (a b : Bool) (first rest : List ℕ) → Wrote a [] first → Wrote b [] rest
-      → Wrote (a || b) [] (first ++ rest)
-  both_wrote a b first rest one two = grind (arith, length-append)
-
   -- something is printed where a row has the name
   name_wrote : (start : Place) (rows : List Row) (text : List ℕ)
       → AreTexts (IsTextOver store) (row_items (Form.Block name) start rows) text
       → Wrote (some_has_name name rows) [] text
   name_wrote start [] text are = are
   name_wrote start (row ∷ rows) text are =
-      rw are.joined (both_wrote (view_has_name name (sdr_view_of row.bytes))
-      (some_has_name name rows) are.first are.rest
-      (block_wrote row.id (sdr_view_of row.bytes) are.first are.is_first)
-      (name_wrote (place_after row.next) rows are.rest are.is_rest))
+      rw are.joined (grind (arith, length-append, are.is_first, name_wrote (place_after row.next) rows are.rest are.is_rest))
 
 -- what was written tells how the listing of the rows ends
 pub end_of-wrote : (form : Form) (wrote : Bool) (count : ℕ) (store : Store) (start : Place)
@@ -55,9 +32,5 @@ pub end_of-wrote : (form : Form) (wrote : Bool) (count : ℕ) (store : Store) (s
     → Printed (IsTextOver store) (row_items form start rows) old new → Wrote wrote old new
     → ending_of (end_of form wrote count) ≡ rows_end form rows Done
 end_of-wrote (Form.Block name) wrote count store start rows old new printed has =
-    rw (← same_wrote wrote (some_has_name name rows) old printed.text new has (name_wrote name store start rows printed.text printed.are) printed.new_is) (by_name wrote)
-  where
-    by_name : (b : Bool) → ending_of (end_of (Form.Block name) b count)
-        ≡ (if b then Ok tt else Err (Failure.NoName name))
-    by_name b = grind arith
+    grind (arith, length-append, ap length printed.new_is, name_wrote name store start rows printed.text printed.are)
 end_of-wrote _ wrote count store start rows old new printed has = refl

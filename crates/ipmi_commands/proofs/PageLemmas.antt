@@ -1,10 +1,8 @@
 -- Pages of a listing.
-use Rattle.std.proofs.Common.{◌≡◌, inl, inr, ℕ, zero, suc, ◌+◌, ◌*◌, ◌<◌, ◌≤◌, ◌==◌, false, Option, None, Some, IfOk, Result, Ok, Err, List, [], ◌∷◌, length, take, drop, get_or, refl, sym, ap, subst, ◌∙◌, arith, take_all, length-take}
-use Rattle.std.proofs.lemmas.Bool.Decides.{nat_tests}
-use Rattle.std.proofs.Math.Seq.{take-nil}
+use Rattle.std.proofs.Common.{◌≡◌, inl, inr, ℕ, zero, suc, ◌+◌, ◌*◌, ◌<◌, ◌≤◌, ◌==◌, false, Option, None, Some, Result, Ok, Err, List, [], ◌∷◌, length, take, drop, get_or, refl, ap, subst, ◌∙◌, arith, take_all, length-take}
 use Rattle.std.proofs.lemmas.List.{take_min, at_drop_more}
-use Rattle.ipmi_commands.specs.Below.{Place, Id, End, Ended, Row, rows_of, row_at, IsWalk, WalkEnd, Done, CycleAt, EndsBy, place_after_rows, Seen, IsHonest, CommandState, CursorState, start_of, Ending, Failure}
-use Rattle.ipmi_commands.specs.Prelude.{ArePages, AtEnd, cause_of, Change, change, end_of, ending_of, first_end, first_rows, Form, GoesOn, IsFresh, IsPage, IsTextOver, listing, listing_plan, ListsHonestly, OnWalk, pages_made, rows_end, shelf_of}
+use Rattle.ipmi_commands.specs.Below.{Place, Row, row_at, IsWalk, place_after_rows, Seen, IsHonest, CommandState, CursorState, start_of, Ending, Failure}
+use Rattle.ipmi_commands.specs.Prelude.{ArePages, AtEnd, cause_of, Change, change, end_of, ending_of, first_rows, Form, IsFresh, IsPage, IsTextOver, listing, listing_plan, ListsHonestly, pages_made}
 use Rattle.ipmi_commands.proofs.CallLemmas.{first_end-none}
 use Rattle.ipmi_commands.proofs.CountLemmas.{ends_here}
 use Rattle.ipmi_commands.proofs.ItemLemmas.{no_items, none_printed}
@@ -12,87 +10,25 @@ use Rattle.ipmi_commands.proofs.ListingLemmas.{fresh_along, fresh_ends}
 
 -- ---- nothing is asked for
 
--- a page that asks for nothing, as no row is wanted, or none is there
-page_of_no_rows : (form : Form) (place : Place) (tries : ℕ) (most : Option ℕ) (s : Seen)
-    (text : List ℕ) (result : Result Place Failure) → IsHonest s
-    → cause_of (ending_of result) ≡ AtEnd
-    → IfOk result (λ next. next ≡ place)
-    → OnWalk (shelf_of form) place s.store (λ walk end. (first_rows most walk ≡ [])
-    × (ending_of result ≡ rows_end form [] (first_end most walk end)))
-    → IsPage form place tries most (change s s text text) result
-page_of_no_rows form place tries most s text result honest cause stays empty = record {
-  ends = rw cause (ends_here honest refl tt);
-  none = λ zero_. refl;
-  along = λ same walk end w ends.
-      let none = empty walk end w ends in
-      record {
-        leaves = rw (cause, none.0) (none_printed (IsTextOver s.store) text text refl, none.1);
-        calls = omega arith;
-        goes_on = at_place result stays (rows_of (shelf_of form) s.store) (first_rows most walk) none.0;
-      };
-}
-  where
-    at_place : (r : Result Place Failure) → IfOk r (λ next. next ≡ place) → (rows : List Row)
-        → (used : List Row) → used ≡ [] → IfOk r (λ next. GoesOn rows place used next)
-    at_place r is rows used none = grind arith
-
--- such a page ends by this
-end_is : (form : Form) (place : Place) → (cause_of (ending_of (end_of form false place)) ≡ AtEnd)
-    × IfOk (end_of form false place) (λ next. next ≡ place)
-    × (ending_of (end_of form false place) ≡ rows_end form [] Done)
-end_is form place = grind arith
-
 -- a page of no record
 pub page_of_none : (form : Form) (place : Place) (tries : ℕ) (s : Seen) (text : List ℕ) → IsHonest s
     → IsPage form place tries (Some 0) (change s s text text) (end_of form false place)
-page_of_none form place tries s text honest = let is = end_is form place in
-    page_of_no_rows form place tries (Some 0) s text (end_of form false place) honest is.0 is.1
-    (λ walk end w ends. (refl, is.2 ∙ ap (rows_end form []) (sym (first_end-none 0 walk end (omega arith)))))
+page_of_none form place tries s text honest =
+    let cause : cause_of (ending_of (end_of form false place)) ≡ AtEnd = grind arith in
+    record {
+      ends = rw cause (ends_here honest refl tt);
+      none = λ zero_. refl;
+      along = λ same walk end w ends. record {
+        leaves = rw cause (none_printed (IsTextOver s.store) text text refl, grind (arith, first_end-none 0 walk end (omega arith)));
+        calls = omega arith;
+        goes_on = grind arith;
+      };
+    }
 
 -- no walk goes from where no row is
 pub no_walk : (rows : List Row) (start : Place) (walk : List Row) → row_at start rows ≡ None
     → IsWalk rows start walk → walk ≡ []
 no_walk rows start walk none w = grind arith
-
-done_there : (rows : List Row) (end : WalkEnd) → EndsBy rows End [] end → end ≡ Done
-done_there rows end ends = grind arith
-
-cycle_there : (rows : List Row) (end : WalkEnd) → EndsBy rows (Id 0) [] end → end ≡ CycleAt 0
-cycle_there rows end ends = grind arith
-
--- the end of no rows, where some are wanted, and no rows
-first_end-nil : (most : Option ℕ) (end : WalkEnd) → (most ≡ Some 0 → ⊥)
-    → first_end most [] end ≡ end
-first_end-nil most end some = grind (arith, nat_tests)
-
-first_rows-nil : (most : Option ℕ) → first_rows most [] ≡ []
-first_rows-nil most = grind (arith, take-nil)
-
--- from where no row is, and no walk has another end
-no_rows : (form : Form) (most : Option ℕ) (rows : List Row) (start : Place) (only : WalkEnd)
-    (walk : List Row) (end : WalkEnd) → (most ≡ Some 0 → ⊥) → row_at start rows ≡ None
-    → ((e : WalkEnd) → EndsBy rows start [] e → e ≡ only) → IsWalk rows start walk
-    → EndsBy rows start walk end → (first_rows most walk ≡ [])
-    × (rows_end form [] only ≡ rows_end form [] (first_end most walk end))
-no_rows form most rows start only walk end some none one w ends =
-    let empty = no_walk rows start walk none w in
-    let is : end ≡ only = one end (rw empty at ends) in
-    rw (empty, is) (first_rows-nil most, ap (rows_end form []) (sym (first_end-nil most only some)))
-
--- a page where no cursor is needed: at the end, and at the id 0000h
-pub page_at_end : (form : Form) (tries : ℕ) (most : Option ℕ) (s : Seen) (text : List ℕ)
-    → (most ≡ Some 0 → ⊥) → IsHonest s
-    → IsPage form End tries most (change s s text text) (end_of form false End)
-page_at_end form tries most s text some honest = let is = end_is form End in
-    page_of_no_rows form End tries most s text (end_of form false End) honest is.0 is.1
-    (λ walk end w ends.
-    let empty = no_rows form most (rows_of (shelf_of form) s.store) End Done walk end some refl (done_there (rows_of (shelf_of form) s.store)) w ends in (empty.0, is.2 ∙ empty.1))
-
-pub page_at_zero : (form : Form) (tries : ℕ) (most : Option ℕ) (s : Seen) (text : List ℕ)
-    → (most ≡ Some 0 → ⊥) → IsHonest s
-    → IsPage form (Id 0) tries most (change s s text text) (Err (Failure.Ended (Ended.Cycle 0)))
-page_at_zero form tries most s text some honest = page_of_no_rows form (Id 0) tries most s text (Err (Failure.Ended (Ended.Cycle 0))) honest refl tt
-    (λ walk end w ends. no_rows form most (rows_of (shelf_of form) s.store) (Id 0) (CycleAt 0) walk end some refl (cycle_there (rows_of (shelf_of form) s.store)) w ends)
 
 -- a page for whose cursor no memory was left
 pub page_without_memory : (form : Form) (place : Place) (tries : ℕ) (most : Option ℕ) (s : Seen)
@@ -105,11 +41,6 @@ page_without_memory form place tries most s text honest = record {
 }
 
 -- ---- a page by a cursor
-
--- the first rows are as many as there are of them
-take-length-first_rows : (most : Option ℕ) (walk : List Row)
-    → take (length (first_rows most walk)) walk ≡ first_rows most walk
-take-length-first_rows most walk = grind (arith, take_all, length-take, take_min)
 
 -- where the next page begins
 abbrev pub page_result : Place → Result ℕ Failure → Result Place Failure
@@ -127,10 +58,11 @@ page_by_cursor {from = from} {most = most} {now = now} (Ok count) fresh some lis
   along = λ same walk end w ends.
       let along = fresh_along fresh lists same walk end w ends in
       let here : 0 + count ≡ length (first_rows most walk) = omega (arith, along.0.all.count_is) in
+      let first : take (length (first_rows most walk)) walk ≡ first_rows most walk = grind (arith, take_all, length-take, take_min) in
       record {
         leaves = along.0.leaves;
         calls = along.1;
-        goes_on = elim along.0.all.stands.place [ inl there ↦ inl (there ∙ ap (place_after_rows (start_of from)) (ap (λ (n : ℕ). take n walk) here ∙ take-length-first_rows most walk)) | inr empty ↦ inr empty ];
+        goes_on = elim along.0.all.stands.place [ inl there ↦ inl (there ∙ ap (place_after_rows (start_of from)) (ap (λ (n : ℕ). take n walk) here ∙ first)) | inr empty ↦ inr empty ];
       };
 }
 page_by_cursor (Err failure) fresh some lists = record {

@@ -1,9 +1,11 @@
 -- Pages over a chain that does not end by a cycle are one listing.
-use Rattle.std.proofs.Common.{◌≡◌, inl, inr, ℕ, ◌+◌, ◌*◌, ◌<◌, ◌≤◌, nat_le, Bool, true, false, IsTrue, Option, None, Some, Err, List, [], ◌∷◌, ◌++◌, length, take, drop, refl, sym, ap, subst, ◌∙◌, arith, ne_eqb, take_all, take-append-drop}
+use Rattle.std.proofs.Common.{◌≡◌, inl, inr, ℕ, ◌+◌, ◌*◌, ◌≤◌, true, IsTrue, Option, None, Some, Err, List, [], ◌∷◌, ◌++◌, take, drop, refl, sym, ap, subst, ◌∙◌, arith, ne_eqb, take_all, take-append-drop}
 use Rattle.std.proofs.lemmas.Bool.{or_parts}
 use Rattle.std.proofs.Math.Seq.{take-nil, drop-nil}
-use Rattle.ipmi_commands.specs.Below.{Place, First, End, Row, IsShelf, Store, rows_of, store_shelf, IsWalk, TailIsWalk, WalkEnd, Done, EndsBy, EndsAfter, EndsEmpty, place_after, place_after_rows, Seen, IsHonest, step_call_bound, start_of, Task, is_listing, CommandState, Ending, Failure}
-use Rattle.ipmi_commands.specs.Prelude.{ArePages, calls_for, cause_of, Change, change, end_spots, EndsFor, EndsListing, Form, GoesOn, IsAllowed, IsAmong, IsOneListing, IsOpen, IsTextOver, Item, Job, job_of, job_of_command, Listing, listing, listing_in, listing_plan, most_on_walk, OnWalk, pages_made, Plan, Printed, row_items, rows_end, RunsPaged, shelf_of, Spot, spots_at}
+use Rattle.std.proofs.lemmas.Bool.Decides.{nat_tests}
+use Rattle.std.proofs.lemmas.List.{drop_all}
+use Rattle.ipmi_commands.specs.Below.{Place, First, End, Row, IsShelf, Store, rows_of, store_shelf, IsWalk, TailIsWalk, WalkEnd, EndsBy, place_after, place_after_rows, Seen, IsHonest, step_call_bound, start_of, is_listing, CommandState, Ending, Failure}
+use Rattle.ipmi_commands.specs.Prelude.{ArePages, calls_for, cause_of, Change, change, EndsFor, EndsListing, Form, GoesOn, IsAllowed, IsOneListing, IsOpen, IsTextOver, Job, job_of_command, Listing, listing, listing_in, listing_plan, most_on_walk, OnWalk, pages_made, Plan, Printed, row_items, rows_end, RunsPaged, shelf_of}
 use Rattle.ipmi_commands.proofs.CallLemmas.{calls_split}
 use Rattle.ipmi_commands.proofs.ItemLemmas.{after_items, leaves_joined, leaves_longer, row_items-split}
 use Rattle.ipmi_commands.proofs.PageLemmas.{calls_of_page, no_walk}
@@ -29,14 +31,6 @@ pub record OneListing (form : Form) (start : Place) (tries : ℕ) (sizes : List 
 module _ (walk_tail : TailIsWalk) where
   -- ---- the rest of a walk
 
-  no_more : (rows : List Row) (next : ℕ) (before : List Row) (end : WalkEnd)
-      → EndsAfter rows before next end → IsOpen end → EndsEmpty rows (place_after next) end
-  no_more rows next before end ends open_ = grind (arith, ne_eqb)
-
-  rest_ends : (rows : List Row) (start : Place) (d : Row) (rest : List Row) (end : WalkEnd)
-      → EndsBy rows start (d ∷ rest) end → IsOpen end → EndsBy rows (place_after d.next) rest end
-  rest_ends rows start d rest end ends open_ = grind (arith, no_more, or_parts)
-
   rest_of_walk : (form : Form) (rows : List Row) (start : Place) (done rest : List Row)
       (end : WalkEnd) → IsShelf (shelf_of form) rows → IsOpen end → IsWalk rows start (done ++ rest)
       → EndsBy rows start (done ++ rest) end
@@ -46,7 +40,7 @@ module _ (walk_tail : TailIsWalk) where
   rest_of_walk form rows start (d ∷ done) rest end ok open_ w ends =
       rest_of_walk form rows (place_after d.next) done rest end ok open_
       (walk_tail (shelf_of form) rows start d (done ++ rest) ok w)
-      (rest_ends rows start d (done ++ rest) end ends open_)
+      (grind (arith, ne_eqb, or_parts))
 
   -- ---- a page as a part of the listing
 
@@ -57,58 +51,17 @@ module _ (walk_tail : TailIsWalk) where
   module _ (form : Form) (store : Store) (rows : List Row) (start : Place) (walk : List Row)
       (end : WalkEnd) (ends : EndsBy rows start walk end) (size : ℕ) (old new : List ℕ)
       (none : NamesNone form) where
-    -- it is the plan of all, where more are wanted than there are
-    is_whole : nat_le size (length walk) ≡ false
-        → plan_from form start (Some size) walk end ≡ plan_from form start None walk end
-    is_whole past = let less : length walk < size = search arith in rw (past, take_all size walk (omega (arith, less))) refl
-
     -- where the page stopped at its end no row is there, and it is that of all
-    spot_of_end : (spot : Spot) (at : Place) (l : List Row) (e : WalkEnd) → EndsBy rows at l e
-        → IsAmong (end_spots at l Done) spot
-        → IsAmong (spots_at (row_items form (place_after_rows at (take size l)) (drop size l))
-        (end_spots at l e)) spot
-    spot_of_end spot at l e ends among = grind (arith, drop-nil)
-
-    spot_wide : (spot : Spot) (rest : List Item)
-        → IsAmong (spots_at rest (end_spots start walk Done)) spot
-        → IsAmong (spots_at (rest ++ row_items form (place_after_rows start (take size walk)) (drop size walk)) (end_spots start walk end)) spot
-    spot_wide spot rest among = grind (arith, spot_of_end)
-
-    -- a failure is not how the page would end
-    not_done : (failure : Failure) (used : List Row) → Err failure ≡ rows_end form used Done → ⊥
-    not_done failure used is = let h = is ∙ same_end form used Done none in cc h
-
+    -- a failure is not how the page would end, but where more are wanted than there are
     leaves_wide : (failure : Failure)
         → IsAllowed (IsTextOver store) (plan_from form start (Some size) walk end) old new (Err failure)
         → IsAllowed (IsTextOver store) (plan_from form start None walk end) old new (Err failure)
-    leaves_wide failure allowed = by_size (nat_le size (length walk)) refl
-      where
-        by_size : (b : Bool) → nat_le size (length walk) ≡ b
-            → IsAllowed (IsTextOver store) (plan_from form start None walk end) old new (Err failure)
-        by_size true fits =
-            leaves_longer (IsTextOver store) (plan_from form start (Some size) walk end) (plan_from form start None walk end)
-            (row_items form (place_after_rows start (take size walk)) (drop size walk)) (row_items-split form start walk size)
-            (λ spot rest among. spot_wide spot rest (rw fits at among)) old new (Err failure) (cause_of (Err failure))
-            (λ at_end all. absurd (not_done failure (take size walk) (rw fits at all.1))) allowed
-        by_size false past = subst (λ (q : Plan). IsAllowed (IsTextOver store) q old new (Err failure)) (is_whole past) allowed
+    leaves_wide failure allowed =
+        leaves_longer (IsTextOver store) (plan_from form start (Some size) walk end) (plan_from form start None walk end)
+        (row_items form (place_after_rows start (take size walk)) (drop size walk)) (row_items-split form start walk size)
+        (λ spot rest among. grind (arith, nat_tests, drop-nil, drop_all)) old new (Err failure) (cause_of (Err failure)) (λ at_end all. grind (arith, nat_tests, take_all, same_end)) allowed
 
   -- ---- the rest of the listing, from where the next page begins
-
-  empty_end : (rows : List Row) (end : WalkEnd) → EndsEmpty rows First end → EndsEmpty rows End end
-  empty_end rows end ends = grind arith
-
-  -- an empty shelf has one spot more, at its start
-  from_first : (form : Form) (store : Store) (end : WalkEnd) (text new : List ℕ) (ending : Ending)
-      → IsAllowed (IsTextOver store) (plan_from form End None [] end) text new ending
-      → IsAllowed (IsTextOver store) (plan_from form First None [] end) text new ending
-  from_first form store end text new ending allowed =
-      leaves_longer (IsTextOver store) (plan_from form End None [] end) (plan_from form First None [] end) [] refl (there end) text new ending (cause_of ending)
-      (λ at_end all. all) allowed
-    where
-      there : (e : WalkEnd) (spot : Spot) (rest : List Item)
-          → IsAmong (spots_at rest (end_spots End [] e)) spot
-          → IsAmong (spots_at (rest ++ []) (end_spots First [] e)) spot
-      there e spot rest among = grind arith
 
   module _ (form : Form) (store : Store) (rows : List Row) (start next : Place) (walk : List Row)
       (end : WalkEnd) (size : ℕ) (w : IsWalk rows start walk) where
@@ -121,9 +74,9 @@ module _ (walk_tail : TailIsWalk) where
         rw there (rest_of_walk form rows start (take size walk) (drop size walk) end ok open_ (subst (IsWalk rows start) split w) (subst (λ (l : List Row). EndsBy rows start l end) split ends))
     rest_there ok ends open_ (inr empty) =
         let gone = no_walk rows start walk (rw empty.1 empty.2) w in
-        rw (empty.0, gone, drop-nil size) (record { of_shelf = tt; distinct = tt; first = tt; links = tt }, empty_end rows end (rw (gone, empty.1) at ends))
+        rw (empty.0, gone, drop-nil size) (record { of_shelf = tt; distinct = tt; first = tt; links = tt }, grind (arith, rw (gone, empty.1) at ends))
 
-    -- and what it leaves is what a listing from after the page leaves
+    -- and what it leaves is what a listing from after the page leaves: an empty shelf has one spot more, at its start
     from_next : (text new : List ℕ) (ending : Ending) → GoesOn rows start (take size walk) next
         → IsAllowed (IsTextOver store) (plan_from form next None (drop size walk) end) text new ending
         → IsAllowed (IsTextOver store) (plan_from form (place_after_rows start (take size walk)) None
@@ -131,7 +84,8 @@ module _ (walk_tail : TailIsWalk) where
     from_next text new ending (inl there) allowed = rw there at allowed
     from_next text new ending (inr empty) allowed =
         let gone = no_walk rows start walk (rw empty.1 empty.2) w in
-        rw (gone, take-nil size, drop-nil size, empty.1) (from_first form store end text new ending (rw (empty.0, gone, drop-nil size) at allowed))
+        rw (gone, take-nil size, drop-nil size, empty.1)
+        (leaves_longer (IsTextOver store) (plan_from form End None [] end) (plan_from form First None [] end) [] refl (λ spot rest among. grind arith) text new ending (cause_of ending) (λ at_end all. all) (rw (empty.0, gone, drop-nil size) at allowed))
 
     -- so with the page it is the listing
     leaves_of_rest : (old text new : List ℕ) (ending : Ending) → NamesNone form
@@ -189,14 +143,7 @@ module _ (walk_tail : TailIsWalk) where
 
 -- ---- a command that can be done in pages
 
--- it lists all records of a shelf, in a form that asks for no name
-paged_job : (task : Task) (from : Option ℕ) (l : Listing) → is_listing task ≡ true
-    → listing_in (job_of task from) ≡ Some l
-    → (job_of task from ≡ Job.Records l) × (l ≡ listing l.form (start_of from) None)
-    × NamesNone l.form
-paged_job task from l listing_ is = grind arith
-
--- what the pages did
+-- it lists all records of a shelf, in a form that asks for no name; what the pages did
 pub paged : TailIsWalk → (command : CommandState) (sizes : List ℕ) (s s' : Seen) (old new : List ℕ)
     (ending : Ending) (l : Listing) → is_listing command.task ≡ true
     → listing_in (job_of_command command) ≡ Some l
@@ -205,7 +152,7 @@ pub paged : TailIsWalk → (command : CommandState) (sizes : List ℕ) (s s' : S
     → (IsHonest s → ArePages l.form command.tries l.start sizes (change s s' old new) ending)
     → RunsPaged command sizes (change s s' old new) ending
 paged tail command sizes s s' old new ending l lists is calls may pages =
-    let job = paged_job command.task command.from l lists is in
+    let job : (job_of_command command ≡ Job.Records l) × (l ≡ listing l.form (start_of command.from) None) × NamesNone l.form = grind arith in
     let one : IsHonest s → OneListing l.form l.start command.tries sizes (change s s' old new) ending = λ h. pages_are_one tail l.form command.tries l.start sizes s s' old new ending job.2 h (pages h) in
     record {
       form = l.form;

@@ -1,8 +1,7 @@
 -- A run over an image, and an image written again.
-use Rattle.std.proofs.Common.{◌≡◌, ℕ, false, IsTrue, Ok, Err, List, [], refl}
-use Rattle.ipmi_commands.specs.Below.{Store, Seen, IsHonest, image_text_of, Ending, Failure}
-use Rattle.ipmi_commands.specs.Prelude.{change, IsAllowed, is_rewrite, IsRewriting, IsTextOver, Job, OfImage, OnPlan, Plan, rewrite_plan, Runs, RunsOver, WritesText}
-use Rattle.ipmi_commands.proofs.ItemLemmas.{no_items}
+use Rattle.std.proofs.Common.{◌≡◌, ℕ, arith, false, IsTrue, List, [], refl}
+use Rattle.ipmi_commands.specs.Below.{Store, Seen, IsHonest, image_text_of, Ending}
+use Rattle.ipmi_commands.specs.Prelude.{change, IsAllowed, is_rewrite, IsRewriting, IsTextOver, Job, OfImage, OnPlan, Plan, Runs, RunsOver, WritesText}
 use Rattle.ipmi_commands.proofs.PerformLemmas.{text_leaves}
 
 -- what holds of the plan, whatever the tries
@@ -29,19 +28,4 @@ over_image job tries store s s' old new ending runs_ honest plain is runs =
 -- an image written again
 pub rewritten : (store : Store) (old new : List ℕ) (ending : Ending)
     → WritesText (image_text_of store) old new ending → IsRewriting store old new ending
-rewritten store old new (Ok done) writes = record { allowed = text_leaves (IsTextOver store) OfImage [] old new (image_text_of store) (Ok done) refl writes; unwritten = λ out. cc out }
-rewritten store old new (Err Failure.WriteFault) writes = record { allowed = text_leaves (IsTextOver store) OfImage [] old new (image_text_of store) (Err Failure.WriteFault) refl writes; unwritten = λ out. cc out }
-rewritten store old new (Err _) writes = absurd writes
-
-not_rewritten : (store : Store) (text : List ℕ) → IsRewriting store text text (Err Failure.OutOfMemory)
-not_rewritten store text = record { allowed = no_items (IsTextOver store) rewrite_plan text text refl; unwritten = λ out. refl }
-
--- where memory runs out before anything is done
-no_memory_over : (job : Job) (store : Store) (text : List ℕ)
-    → RunsOver (is_rewrite job) job store text text (Err Failure.OutOfMemory)
-no_memory_over Job.Rewrite store text = not_rewritten store text
-no_memory_over (Job.Records l) store text = (λ walk end w ends. no_items (IsTextOver store) _ text text refl, tt)
-no_memory_over (Job.Last n from) store text = (λ walk end w ends. no_items (IsTextOver store) _ text text refl, tt)
-no_memory_over Job.AllInventories store text = (λ walk end w ends. no_items (IsTextOver store) _ text text refl, tt)
-no_memory_over (Job.Info shelf) store text = (no_items (IsTextOver store) _ text text refl, tt)
-no_memory_over (Job.Inventory id) store text = (no_items (IsTextOver store) _ text text refl, tt)
+rewritten store old new ending writes = record { allowed = text_leaves (IsTextOver store) OfImage [] old new (image_text_of store) ending refl writes; unwritten = λ out. grind arith }

@@ -1,6 +1,6 @@
 -- The spots of a walk and of its rows.
 use Rattle.std.proofs.Common.{◌≡◌, ◌≢◌, inl, inr, ℕ, ◌==◌, Bool, true, false, cond, List, [], ◌∷◌, ◌++◌, refl, ap, arith, ne_eqb}
-use Rattle.ipmi_commands.specs.Below.{Place, First, Id, End, Row, WalkEnd, Done, EndsBy, place_after, place_after_rows, last_next, MayFail, asked_at}
+use Rattle.ipmi_commands.specs.Below.{Place, First, Id, End, Row, WalkEnd, EndsBy, place_after, place_after_rows, last_next, MayFail, asked_at}
 use Rattle.ipmi_commands.specs.Prelude.{AtRecord, end_spots, Form, IsAmong, row_items, Spot, spots_at}
 
 -- after a row a walk does not stand at the start
@@ -20,14 +20,11 @@ pub end_spot : (rows : List Row) (start : Place) (walk : List Row) (end : WalkEn
     → IsAmong (end_spots start walk end) (AtRecord (asked_at (place_after_rows start walk)))
 end_spot rows start walk end ends may = grind (arith, not_first, asked_at-next)
 
-no_end_spot : (place : Place) (rows : List Row) → place ≢ First → end_spots place rows Done ≡ []
-no_end_spot place rows moved = grind arith
-
 -- the end of more rows is that of the last of them
 pub end_spots-joined : (start : Place) (done rest : List Row) (end : WalkEnd)
     → end_spots (place_after_rows start done) rest end ≡ end_spots start (done ++ rest) end
 end_spots-joined start [] rest end = refl
-end_spots-joined start (d ∷ done) rest end = grind (arith, no_end_spot (place_after_rows (place_after d.next) done) rest (not_first d.next done))
+end_spots-joined start (d ∷ done) rest end = grind (arith, not_first d.next done)
 
 pub among_after : (spots ends : List Spot) (spot : Spot) → IsAmong ends spot
     → IsAmong (spots ++ ends) spot

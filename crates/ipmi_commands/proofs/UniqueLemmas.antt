@@ -1,7 +1,7 @@
 -- What is printed has one text, and so has a finished run.
-use Rattle.std.proofs.Common.{◌≡◌, ℕ, ◌-◌, Bool, true, false, cond, Option, None, Some, IfSome, Result, List, [], ◌∷◌, ◌++◌, length, take, drop, sym, subst, ◌∙◌, arith, take-append-drop}
-use Rattle.ipmi_commands.specs.Below.{Shelf, Sdr, Sel, Place, First, start_of, Row, IsShelf, FoundIsRow, AreBytes, Reading, Store, IsStore, IsInfo, info_of, inventory_of, rows_of, store_shelf, AllOf, WalkExists, WalkEnd, place_after, place_after_rows, IsFruText, SdrFault, SdrView, Event, OemTimed, OemPlain, Other, IsInfoBlock, IsSdrBlock, entry_bytes, sel_view_of, SdrLineIsUnique, ExtendedLineIsUnique, SelLineIsUnique, SelBlockIsUnique, Ending}
-use Rattle.ipmi_commands.specs.Prelude.{AreOfBytes, Detail, first_rows, FinishedRunsAreOne, Form, IfChosen, info_plan, inventories_plan, inventory_plan, IsBlockOfName, IsDevicePiece, IsInventoryPiece, IsInventoryText, IsListed, IsLocatorPiece, IsOfBytes, IsRowText, IsTextOver, Item, ItemsHaveOneText, Job, last_items, last_plan, last_rows, listing_plan, no_plan, Plan, PrintsAll, row_items, shelf_of, Spot, spots_of_walk, Subject, with_first_spots}
+use Rattle.std.proofs.Common.{◌≡◌, ℕ, zero, suc, ◌-◌, Bool, Option, None, Some, Result, List, [], ◌∷◌, length, take, drop, sym, ◌∙◌, arith}
+use Rattle.ipmi_commands.specs.Below.{Shelf, Sdr, Sel, Place, First, start_of, Row, IsShelf, FoundIsRow, AreBytes, Reading, Store, info_of, inventory_of, rows_of, store_shelf, AllOf, WalkExists, place_after, place_after_rows, IsFruText, SdrFault, SdrView, IsInfoBlock, IsSdrBlock, entry_bytes, sel_view_of, SdrLineIsUnique, ExtendedLineIsUnique, SelLineIsUnique, SelBlockIsUnique, Ending}
+use Rattle.ipmi_commands.specs.Prelude.{AreOfBytes, first_rows, FinishedRunsAreOne, Form, IfChosen, info_plan, Printed, IsInventoryPiece, IsInventoryText, IsLocatorPiece, IsOfBytes, IsRowText, IsTextOver, Item, ItemsHaveOneText, Job, last_items, last_rows, row_items, shelf_of, Spot, spots_of_walk, Subject, with_first_spots}
 
 -- there is one such text at most
 abbrev IsOne : (List ℕ → Type 0) → Type 0
@@ -12,40 +12,18 @@ one_equation text a b x y = x ∙ sym y
 
 one_chosen : (chosen : Bool) (IsText : List ℕ → Type 0) → IsOne IsText
     → IsOne (IfChosen chosen IsText)
-one_chosen true IsText one = one
-one_chosen false IsText one = one_equation []
+one_chosen chosen IsText one = grind arith
 
 -- the bytes of an entry's view
-same_bytes : (event timed plain : Bool) (bytes : List ℕ)
-    → entry_bytes (cond event (Event bytes)
-    (cond timed (OemTimed bytes) (cond plain (OemPlain bytes) (Other bytes)))) ≡ bytes
-same_bytes event timed plain bytes = grind arith
-
 entry_are_bytes : (bytes : List ℕ) → AreBytes bytes → AreBytes (entry_bytes (sel_view_of bytes))
-entry_are_bytes bytes are = subst AreBytes (sym (same_bytes _ _ _ bytes)) are
-
--- what the laws of blocks and of inventories say
-abbrev SdrBlockIsUnique : Type 0
-SdrBlockIsUnique = (id : ℕ) (view : SdrView) (reading : Option Reading) → IsOne (IsSdrBlock id view reading)
-
-abbrev InfoBlockIsUnique : Type 0
-InfoBlockIsUnique = (bytes text other : List ℕ) → AreBytes bytes → IsInfoBlock bytes text → IsInfoBlock bytes other → text ≡ other
-
-abbrev FruTextIsUnique : Type 0
-FruTextIsUnique = (bytes : List ℕ) → IsOne (IsFruText bytes)
+entry_are_bytes bytes are = grind arith
 
 module _ (one_sdr_line : SdrLineIsUnique) (one_extended_line : ExtendedLineIsUnique)
-    (one_sdr_block : SdrBlockIsUnique) (one_sel_line : SelLineIsUnique)
-    (one_sel_block : SelBlockIsUnique) (one_info_block : InfoBlockIsUnique)
-    (one_fru_text : FruTextIsUnique) where
-  one_listed : (detail : Detail) (store : Store) (id : ℕ) (view : Result SdrView SdrFault)
-      → IsOne (IsListed detail store id view)
-  one_listed detail store id view = grind (arith, one_sdr_line, one_extended_line)
-
-  one_block_of_name : (name : List ℕ) (store : Store) (id : ℕ) (view : Result SdrView SdrFault)
-      → IsOne (IsBlockOfName name store id view)
-  one_block_of_name name store id view = grind (arith, one_chosen, one_sdr_block)
-
+    (one_sdr_block : (id : ℕ) (view : SdrView) (r : Option Reading) → IsOne (IsSdrBlock id view r))
+    (one_sel_line : SelLineIsUnique) (one_sel_block : SelBlockIsUnique)
+    (one_info_block : (info text other : List ℕ)
+    → AreBytes info → IsInfoBlock info text → IsInfoBlock info other → text ≡ other)
+    (one_fru_text : (bytes : List ℕ) → IsOne (IsFruText bytes)) where
   one_inventory_text : (o : Option (List ℕ)) → IsOne (IsInventoryText o)
   one_inventory_text None = one_equation _
   one_inventory_text (Some bytes) = one_fru_text bytes
@@ -54,16 +32,12 @@ module _ (one_sdr_line : SdrLineIsUnique) (one_extended_line : ExtendedLineIsUni
   one_inventory store id name a b x y =
       x.text_is ∙ rw (one_inventory_text (inventory_of id store) x.inventory y.inventory x.is_inventory y.is_inventory) (sym y.text_is)
 
-  one_device : (store : Store) (view : SdrView) (id : Option ℕ)
-      → IsOne (IsDevicePiece store view id)
-  one_device store view id = grind (arith, one_chosen, one_inventory)
-
   one_locator : (store : Store) (view : Result SdrView SdrFault) → IsOne (IsLocatorPiece store view)
-  one_locator store view = grind (arith, one_device)
+  one_locator store view = grind (arith, one_chosen, one_inventory)
 
   one_row : (form : Form) (store : Store) (row : Row) → AreBytes row.bytes
       → IsOne (IsRowText store form row)
-  one_row form store row are = grind (arith, one_chosen, one_listed, one_block_of_name, one_locator, one_sel_line, one_sel_block, entry_are_bytes)
+  one_row form store row are = grind (arith, one_chosen, one_sdr_line, one_extended_line, one_sdr_block, one_locator, one_sel_line, one_sel_block, entry_are_bytes)
 
   one_item : (store : Store) (subject : Subject) → IsOfBytes subject
       → IsOne (IsTextOver store subject)
@@ -83,61 +57,42 @@ rows_are_bytes : FoundIsRow → (form : Form) (shelf : Shelf) (rows : List Row) 
 rows_are_bytes look_row form shelf rows start [] ok all = tt
 rows_are_bytes look_row form shelf rows start (row ∷ walk) ok all = ((look_row shelf rows row.id row ok all.0).bytes, rows_are_bytes look_row form shelf rows (place_after row.next) walk ok all.1)
 
-both_of_shelf : (rows done rest : List Row) → AllOf rows (done ++ rest)
-    → AllOf rows done × AllOf rows rest
-both_of_shelf rows [] rest all = (tt, all)
-both_of_shelf rows (d ∷ done) rest all = let both = both_of_shelf rows done rest all.1 in ((all.0, both.0), both.1)
-
 parts_of_shelf : (n : ℕ) (rows walk : List Row) → AllOf rows walk
     → AllOf rows (take n walk) × AllOf rows (drop n walk)
-parts_of_shelf n rows walk all = both_of_shelf rows (take n walk) (drop n walk) (rw (take-append-drop n walk) all)
-
-first_of_shelf : (most : Option ℕ) (rows walk : List Row) → AllOf rows walk
-    → AllOf rows (first_rows most walk)
-first_of_shelf most rows walk all = grind (arith, parts_of_shelf)
-
-last_of_shelf : (n : ℕ) (rows walk : List Row) (end : WalkEnd) → AllOf rows walk
-    → AllOf rows (last_rows n walk end)
-last_of_shelf n rows walk end all = grind (arith, parts_of_shelf (length walk - n) rows walk all)
+parts_of_shelf zero rows walk all = (tt, all)
+parts_of_shelf (suc n) rows [] all = (tt, tt)
+parts_of_shelf (suc n) rows (row ∷ walk) all = let parts = parts_of_shelf n rows walk all.1 in ((all.0, parts.0), parts.1)
 
 first_kept : (spots : List Spot) (items : List Item) → AreOfBytes items
     → AreOfBytes (with_first_spots spots items)
 first_kept spots items are = grind arith
 
-info_bytes : (o : Option (List ℕ)) → IfSome o IsInfo → AreOfBytes (info_plan o).items
-info_bytes o are = grind arith
-
-infos_bytes : (store : Store) → IsStore store → (shelf : Shelf)
-    → AreOfBytes (info_plan (info_of shelf store)).items
-infos_bytes store ok shelf = grind (arith, info_bytes)
-
 -- ---- one output
 
 module _ (one : ItemsHaveOneText) (exists : WalkExists) (look_row : FoundIsRow) where
-  one_plan : (store : Store) (plan : Plan) (old a b : List ℕ) (e f : Ending)
-      → AreOfBytes plan.items → PrintsAll (IsTextOver store) plan old a e
-      → PrintsAll (IsTextOver store) plan old b f → (a ≡ b) × (e ≡ f)
-  one_plan store plan old a b e f bytes x y =
-      (x.0.new_is ∙ rw (one store plan.items x.0.text y.0.text bytes x.0.are y.0.are) (sym y.0.new_is), x.1 ∙ sym y.1)
+  one_plan : {store : Store} {items : List Item} {end : Ending} {old a b : List ℕ} {e f : Ending}
+      → AreOfBytes items → Printed (IsTextOver store) items old a × (e ≡ end)
+      → Printed (IsTextOver store) items old b × (f ≡ end) → (a ≡ b) × (e ≡ f)
+  one_plan {store = store} {items = items} bytes x y =
+      (x.0.new_is ∙ rw (one store items x.0.text y.0.text bytes x.0.are y.0.are) (sym y.0.new_is), x.1 ∙ sym y.1)
 
   pub one_output : FinishedRunsAreOne
   one_output (Job.Records l) store old a b e f ok x y =
       let rows = rows_of (shelf_of l.form) store in
-      let there = exists (shelf_of l.form) rows l.start (store_shelf (shelf_of l.form) store ok) in
-      one_plan store (listing_plan l there.0 there.1) old a b e f
-      (rows_are_bytes look_row l.form (shelf_of l.form) rows l.start (first_rows l.most there.0) (store_shelf (shelf_of l.form) store ok) (first_of_shelf l.most rows there.0 there.2.of_shelf))
+      let shelf = store_shelf (shelf_of l.form) store ok in
+      let there = exists (shelf_of l.form) rows l.start shelf in
+      one_plan (rows_are_bytes look_row l.form (shelf_of l.form) rows l.start (first_rows l.most there.0) shelf (grind (arith, parts_of_shelf, there.2.of_shelf)))
       (x there.0 there.1 there.2 there.3) (y there.0 there.1 there.2 there.3)
   one_output (Job.Last n from) store old a b e f ok x y =
       let start = start_of from in
       let there = exists Sel store.sel start ok.sel in
-      one_plan store (last_plan n start there.0 there.1) old a b e f
-      (first_kept (spots_of_walk start there.0 there.1) (last_items n start there.0 there.1)
-      (rows_are_bytes look_row Form.EntryLine Sel store.sel (place_after_rows start (take (length there.0 - n) there.0)) (last_rows n there.0 there.1) ok.sel (last_of_shelf n store.sel there.0 there.1 there.2.of_shelf)))
+      one_plan (first_kept (spots_of_walk start there.0 there.1) (last_items n start there.0 there.1)
+      (rows_are_bytes look_row Form.EntryLine Sel store.sel (place_after_rows start (take (length there.0 - n) there.0)) (last_rows n there.0 there.1) ok.sel (grind (arith, parts_of_shelf (length there.0 - n) store.sel there.0 there.2.of_shelf))))
       (x there.0 there.1 there.2 there.3) (y there.0 there.1 there.2 there.3)
-  one_output (Job.Info shelf) store old a b e f ok x y = one_plan store (info_plan (info_of shelf store)) old a b e f (infos_bytes store ok shelf) x y
-  one_output (Job.Inventory id) store old a b e f ok x y = one_plan store (inventory_plan id) old a b e f (tt, tt) x y
+  one_output (Job.Info shelf) store old a b e f ok x y = let bytes : AreOfBytes (info_plan (info_of shelf store)).items = grind arith in one_plan bytes x y
+  one_output (Job.Inventory id) store old a b e f ok x y = one_plan (tt, tt) x y
   one_output Job.AllInventories store old a b e f ok x y =
       let there = exists Sdr store.sdr First ok.sdr in
-      one_plan store (inventories_plan there.0 there.1) old a b e f (tt, rows_are_bytes look_row Form.Device Sdr store.sdr First there.0 ok.sdr there.2.of_shelf)
+      one_plan (tt, rows_are_bytes look_row Form.Device Sdr store.sdr First there.0 ok.sdr there.2.of_shelf)
       (x there.0 there.1 there.2 there.3) (y there.0 there.1 there.2 there.3)
-  one_output Job.Rewrite store old a b e f ok x y = one_plan store no_plan old a b e f tt x y
+  one_output Job.Rewrite store old a b e f ok x y = one_plan tt x y

@@ -3,9 +3,10 @@ pub use Rattle.std.proofs.Common.{append_assoc}
 use Rattle.std.proofs.Common.{◌≡◌, ◌∙◌, ℕ, ◌<◌, ◌==◌, if◌then◌else◌, suc, List, [], ◌++◌, ◌+◌, ◌-◌, Option, None, Some, Ok, Err, Result, Bor, get_or, length, length-append, take, drop, refl, sym, ap, subst, arith, ne_eqb, drop-cons, take-add, append-nil, take-append-drop, option_map, flat_map}
 use Rattle.std.proofs.Math.Seq.{take-append-add}
 use Rattle.std.proofs.lemmas.List.{take-append-le, take_rest}
+use Rattle.std.proofs.lemmas.Bool.Decides.{nat_tests}
 use Rattle.std.proofs.lemmas.List.Concat.{flat_map-append}
 use Rattle.std.specs.Io.KnownBytes.{Appends, Keeps}
-use Rattle.ipmi_output.specs.Received.{Received, ReceivesAll, ReceivesPart, WritesAll}
+use Rattle.ipmi_output.specs.Received.{Received, ReceivesAll, ReceivesPart}
 
 -- the first i bytes and the next n of them
 pub take_next : (i n : ℕ) (bytes : List ℕ)
@@ -17,22 +18,16 @@ pub ruleset next_bytes = (take_next, append_assoc)
 -- to append some and then more is to append both
 pub Appends-both : (old mid new : Option (List ℕ)) (xs ys : List ℕ) → Appends old mid xs
     → Appends mid new ys → Appends old new (xs ++ ys)
-Appends-both None mid new xs ys first second = tt
-Appends-both (Some o) None new xs ys first second = absurd first
-Appends-both (Some o) (Some m) None xs ys first second = absurd second
-Appends-both (Some o) (Some m) (Some n) xs ys first second = second ∙ rw first (append_assoc o xs ys)
+Appends-both old mid new xs ys first second = grind (arith, append_assoc)
 
 -- a call that failed changed nothing
 pub Appends-kept : (old new : Option (List ℕ)) → Keeps old new → Appends old new []
-Appends-kept None new kept = tt
-Appends-kept (Some o) None kept = absurd kept
-Appends-kept (Some o) (Some n) kept = kept ∙ sym (append-nil o)
+Appends-kept old new kept = grind (arith, append-nil)
 
 -- a call that took some bytes was no fault
 pub option_map-kept : (faults : Option ℕ) (n : ℕ) → (n ≡ 0 → ⊥)
     → option_map (λ k. k + (if n == 0 then 1 else 0)) faults ≡ faults
-option_map-kept None n some = refl
-option_map-kept (Some k) n some = let same : k + 0 ≡ k = omega arith in rw (ne_eqb n 0 some) (ap Some same)
+option_map-kept faults n some = grind (arith, nat_tests)
 
 -- some bytes were taken, and then more
 pub ReceivesAll-both : (old mid new : Received) (xs ys : List ℕ) → ReceivesAll old mid xs

@@ -1,11 +1,10 @@
 -- What `from_str_radix` reads of a number on a command line.
-use Rattle.std.proofs.Common.{◌≡◌, ◌≢◌, ◌∙◌, rules, ℕ, ◌<◌, ◌^◌, true, List, [], ◌∷◌, length, refl, arith, inl, inr, Some, None, Result, Ok, Err, sym, get_or}
-use Rattle.std.specs.Prelude.{nat_lt}
+use Rattle.std.proofs.Common.{◌≡◌, ◌≢◌, rules, ℕ, ◌<◌, ◌^◌, true, List, [], ◌∷◌, length, refl, arith, Result, get_or}
 use Rattle.std.specs.Result.{result_ok}
 use Rattle.std.specs.Char.{is_digit}
 use Rattle.std.specs.List.{list_all}
-use Rattle.std.specs.Str.Parse.{AllDigits, ParsesUnsigned, digits_value}
-use Rattle.std.proofs.lemmas.Bool.{cases_Bool, cases_lt, and_parts}
+use Rattle.std.specs.Str.Parse.{AllDigits, ParsesUnsigned}
+use Rattle.std.proofs.lemmas.Bool.{and_parts}
 use Rattle.std.proofs.lemmas.Bool.Decides.{nat_tests}
 use Rattle.std.proofs.lemmas.Str.Parse.{without_leading_plus_none}
 use Rattle.ipmi_command_line.specs.Number.{digits_of, within}
@@ -19,35 +18,20 @@ all_tested : (radix : ℕ) (bs : List ℕ) → AllDigits radix bs → list_all (
 all_tested radix [] h = refl
 all_tested radix (c ∷ cs) h = grind (arith, nat_tests, all_tested radix cs h.1, h.0)
 
--- a number past the type is past the range
-within-too_large : (low high n : ℕ) → high < n → within low high (Some n) ≡ None
-within-too_large low high n h = grind (arith, nat_tests)
-
-some_digits : (radix : ℕ) (bs : List ℕ) → 0 < length bs → list_all (λ c. is_digit c radix) bs ≡ true
-    → digits_of radix bs ≡ Some (digits_value radix bs)
-some_digits radix bs some all = let first : nat_lt 0 (length bs) ≡ true = grind (arith, nat_tests) in rw (first, all) refl
-
 -- what is read, in a range of the type, is the number of the digits
 digits_read : {E : Type 0} (r : Result ℕ E) (radix : ℕ) (bs : List ℕ) (low high : ℕ) → 0 < length bs
     → get_or bs 0 0 ≢ 43 → high < 2 ^ 16 → ParsesUnsigned 16 radix bs r
     → within low high (result_ok r) ≡ within low high (digits_of radix bs)
-digits_read (Ok n) radix bs low high some no_plus small h =
+digits_read r radix bs low high some no_plus small h =
     let read = rw (without_leading_plus_none bs no_plus) at h in
-    rw (some_digits radix bs some (all_tested radix bs read.0.0.1), read.1) refl
-digits_read (Err e) radix bs low high some no_plus small h =
-    let unread = rw (without_leading_plus_none bs no_plus) at h in
-    elim (cases_Bool (list_all (λ c. is_digit c radix) bs)) [
-      | inl all ↦ rw (some_digits radix bs some all) (elim (cases_lt (digits_value radix bs) (2 ^ 16)) [
-        | inl lt ↦ absurd (unread ((some, all_from radix bs all), lt))
-        | inr ge ↦ sym (within-too_large low high (digits_value radix bs) (omega arith))
-      ])
-      | inr none ↦ let first : nat_lt 0 (length bs) ≡ true = grind (arith, nat_tests) in rw (first, none) refl
-    ]
+    grind (arith, nat_tests, all_from radix bs, all_tested radix bs, read)
 
-pub returns-in-Ok-clause-value : goal.returns-in-Ok-clause-value
-returns-in-Ok-clause-value c =
-    c.in_range.ensures.value ∙ digits_read {E = ℕ} (Ok c.in-Ok.n) c.args.radix c.args.text.now c.args.low c.args.high (search rules) (search rules) (omega arith) c.in-Ok.ensures.value
+pub returns-in_err-n-clause-value : goal.returns-in_err-n-clause-value
+returns-in_err-n-clause-value c =
+    let read = digits_read c.from_str_radix.result c.args.radix c.args.text.now c.args.low c.args.high (search rules) (search rules) (omega arith) c.from_str_radix.ensures.value in
+    grind (arith, read, c.in_err-n.ensures.value)
 
-pub returns-in-Err-clause-value : goal.returns-in-Err-clause-value
-returns-in-Err-clause-value c =
-    digits_read (Err c.in-Err.field-0) c.args.radix c.args.text.now c.args.low c.args.high (search rules) (search rules) (omega arith) c.in-Err.ensures.value
+pub returns-then-n-high-clause-value : goal.returns-then-n-high-clause-value
+returns-then-n-high-clause-value c =
+    let read = digits_read c.from_str_radix.result c.args.radix c.args.text.now c.args.low c.args.high (search rules) (search rules) (omega arith) c.from_str_radix.ensures.value in
+    grind (arith, nat_tests, read, c.in_ok-n.ensures.value)

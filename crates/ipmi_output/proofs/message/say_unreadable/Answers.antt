@@ -1,5 +1,5 @@
 -- A part of the name, or of what comes before it, is a part of the line.
-use Rattle.std.proofs.Common.{◌++◌, codes}
+use Rattle.std.proofs.Common.{codes}
 use Rattle.ipmi_output.specs.Failure.{escaped_name}
 use Rattle.std.proofs.lemmas.Result.{MatchResult-from_err, MatchResult-weaker}
 use Rattle.ipmi_output.proofs.MessageLemmas.{ReceivesAll-both, ReceivesPart-before, ReceivesPart-after}

@@ -1,9 +1,8 @@
 -- A name without control bytes is as it is; of another the bytes before this one, and then a part of it.
-use Rattle.std.proofs.Common.{◌≡◌, not, true, false, List, ℕ, [], ◌∷◌, ◌∙◌, sym, ap, refl, rules}
+use Rattle.std.proofs.Common.{◌≡◌, not, true, List, ℕ, [], ◌∷◌, ◌∙◌, sym, refl, rules}
 use Rattle.std.proofs.lemmas.Result.{MatchResult-from_err}
 use Rattle.std.specs.Char.{is_ascii_control}
 use Rattle.std.specs.List.{list_all}
-use Rattle.ipmi_output.specs.Received.{WritesAll}
 use Rattle.ipmi_output.specs.Failure.{escaped_byte, escaped_name}
 use Rattle.ipmi_output.proofs.MessageLemmas.{ReceivesPart-in_item}
 use Rattle.ipmi_output.proofs.message.write_escaped.Goals as goal
