@@ -59,15 +59,6 @@ module _ (shelf : Shelf) (tries : ℕ) (s s' : Seen) (calls : s'.calls ≤ s.cal
     prints = λ h same. (info_leaves s.store (info_of shelf s.store) (string_bytes text) old new ending ((finds h).is same) writes, calls);
   }
 
-  pub info_lacking : (text : List ℕ) → FoundInfo (Ok None)
-      → Runs (Job.Info shelf) tries (change s s' text text) (Err Failure.NoInfo)
-  info_lacking text lacks = record {
-    calls = calls;
-    ends = tt;
-    why = λ h. (lacks h).asks.ends;
-    prints = λ h same. (info_lacks s.store (info_of shelf s.store) text ((lacks h).is same), calls);
-  }
-
   pub info_unread : (text : List ℕ) (unread : Unread) → FoundInfo (Err unread)
       → Runs (Job.Info shelf) tries (change s s' text text) (Err (failure_of unread))
   info_unread text unread none = record {
