@@ -78,10 +78,6 @@ pub record HasCalled (each count : ℕ) (begun now : CursorState) (s s' : Seen) 
       ≤ s.calls + set.len now.ids * each + digits begun.part
   pub ids : set.len now.ids ≡ set.len begun.ids + count
 
-pub has_called_none : (each : ℕ) (begun : CursorState) (s : Seen) → set.len begun.ids ≤ 65536
-    → HasCalled each 0 begun begun s s
-has_called_none each begun s room = record { keeps = record { shelf = refl; tries = refl; part = λ some. some; part_falls = omega arith; room = room; place = λ place. place }; calls = omega arith; ids = omega arith }
-
 -- each record that is handed out is one id more
 pub len-next_ids : (now next : CursorState) (row : Row) → HandsOut now next row
     → set.len next.ids ≡ set.len now.ids + 1

@@ -71,29 +71,6 @@ pub record Listed (form : Form) (tries : ℕ) (most : Option ℕ) (count : ℕ) 
   pub has_written : Wrote wrote c.old c.new
   pub went : IsHonest c.seen → Went form tries most count begun now c
 
-pub listed_none : (form : Form) (tries : ℕ) (most : Option ℕ) (begun : CursorState) (s : Seen)
-    (text : List ℕ)
-    → begun.shelf ≡ shelf_of form → begun.tries ≡ tries
-    → HasCalled (most_for_one form tries) 0 begun begun s s
-    → Listed form tries most 0 false begun begun (change s s text text)
-listed_none form tries most begun s text shelf tries_are called = record {
-  shelf = shelf;
-  tries_are = tries_are;
-  called = called;
-  within = within_none most;
-  has_written = refl;
-  went = λ honest. record {
-    ends = ends_here honest refl tt;
-    holds = λ p held. held;
-    along = λ same start walk end k on.
-        let here : k + 0 ≡ k = omega arith in
-        record { stands = rw here on.stands; calls = omega arith; are_printed = none_printed (IsTextOver s.store) text text refl };
-  };
-}
-  where
-    within_none : (limit : Option ℕ) → IsWithin limit 0
-    within_none limit = grind arith
-
 -- ---- a step
 
 -- what comes of its answer
@@ -513,10 +490,3 @@ module _ {command : CommandState} {form : Form} {from : Option ℕ} {begun now :
   fresh_along lists same walk end w ends =
       let along = lists.along same (start_of from) walk end 0 (record { walks = w; ends = ends; stands = fresh.stands _ walk }) in
       (along, omega (arith, along.calls fresh.some, digits_most begun.part))
-
-  -- over any controller
-  pub fresh_calls : Lists form tries most begun now c result
-      → c.seen'.calls ≤ c.seen.calls + most_on_walk form tries
-  fresh_calls lists =
-      let all = rw (no_ids fresh) at (lists.calls.all fresh.some) in
-      omega (arith, all, digits_most begun.part)
