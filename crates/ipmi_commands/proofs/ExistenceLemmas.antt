@@ -1,8 +1,8 @@
 -- What is printed has a text.
-use Rattle.std.proofs.Common.{ℕ, zero, suc, ◌<◌, Bool, true, false, cond, nat_eq, Option, None, Some, Result, Ok, Err, List, [], ◌∷◌, ◌++◌, All, length, refl, arith}
+use Rattle.std.proofs.Common.{◌≡◌, ℕ, zero, suc, ◌<◌, Bool, true, false, cond, nat_eq, Option, None, Some, Result, Ok, Err, List, [], ◌∷◌, ◌++◌, All, length, refl, arith}
 use Rattle.ipmi_bus.specs.Store.{Inventory, IsInventory, inventory_in}
 use Rattle.ipmi_records.specs.declared.sel.SelView.{SelView}
-use Rattle.ipmi_commands.specs.Below.{AreBytes, Reading, Row, Store, IsStore, inventory_of, IsExtendedLine, IsFruText, IsInfoBlock, IsSdrBlock, IsSdrLine, IsSelBlock, IsSelLine, SdrFault, SdrView, sdr_view_of, sel_view_of}
+use Rattle.ipmi_commands.specs.Below.{AreBytes, fru_of, Reading, Row, Store, IsStore, inventory_of, IsExtendedLine, IsFruText, IsInfoBlock, IsSdrBlock, IsSdrLine, IsSelBlock, IsSelLine, SdrFault, SdrView, sdr_view_of, sel_view_of}
 use Rattle.ipmi_commands.specs.Prelude.{AreTexts, Detail, Form, IfChosen, IsBlockOfName, IsDevicePiece, IsInventoryPiece, IsInventoryText, IsListed, IsLocatorPiece, IsRowText, IsTextOver, Item, ItemsHaveAText, OfImage, OfInfo, OfInventory, OfRow, reading_for, row_is_of_kind, Subject}
 
 -- there is such a text
@@ -62,7 +62,7 @@ module _ (line : (view : SdrView) (reading : Option Reading) → HasText (IsSdrL
 
   has_locator : (store : Store) (view : Result SdrView SdrFault) → IsStore store
       → HasText (IsLocatorPiece store view)
-  has_locator store (Ok (SdrView.Fru bytes)) ok = has_device store (SdrView.Fru bytes) _ ok
+  has_locator store (Ok (SdrView.Fru bytes)) ok = has_device store (SdrView.Fru bytes) (fru_of (SdrView.Fru bytes)) ok
   has_locator store _ ok = ([], refl)
 
   has_row : (form : Form) (store : Store) (row : Row) → IsStore store
