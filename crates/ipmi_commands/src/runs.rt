@@ -28,7 +28,8 @@ pub fn report<E: MessageSink>(ending: Result<(), Failure<'_>>, err: &mut E) -> u
 
 /// Does what the command asks for over the controller, says to `err` why it did not finish, and gives the exit status: 0 where
 /// all was printed, 1 where the message says what is missing or why it stopped, 2 for `image rewrite`, which only `answer` can
-/// do, 4 for a write fault, 5 where memory ran out.
+/// do, 4 for a write fault, 5 where memory ran out. Of the message no clause says more than what `err` tells of its bytes: a
+/// writer that tells none may have got nothing. [`execute`] answers what is said here.
 pub fn run<C: Controller, O: Sink, E: Write>(
     alloc: Global,
     ctl: &mut C,
