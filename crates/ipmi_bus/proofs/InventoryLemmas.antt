@@ -3,8 +3,9 @@ use Rattle.std.proofs.Common.{◌≡◌, ℕ, ◌+◌, ◌<◌, ◌≤◌, Bool,
 use Rattle.std.specs.declared.alloc.Global.{Global}
 use Rattle.std.proofs.lemmas.Bool.Decides.{nat_tests}
 use Rattle.std.proofs.Math.Seq.{take-length}
-use Rattle.ipmi_bus.specs.Prelude.{Code, CodeClass, SmallerPart, NotPresent, Refusal, FruEnded, Size, FruRetrieval, inventory_of, class_of, Seen, IsQuiet, IsTroubled, IsFinished, IsRefused, StaysHonest, stays_trans, HasMet, CountsPiece, FailsWith, BytesAnswers, SameInventory, FruSince, FruEnds, FruNext, HasSize, InventoryCounts, InventoryIs, inventory_len, WithinTries, IsRefusedWith, fru_call_bound, digits_most}
+use Rattle.ipmi_bus.specs.Prelude.{Code, CodeClass, SmallerPart, NotPresent, Refusal, FruEnded, Size, FruRetrieval, inventory_of, class_of, Seen, IsQuiet, IsTroubled, IsFinished, IsRefused, StaysHonest, stays_trans, HasMet, CountsPiece, FailsWith, BytesAnswers, SameInventory, FruSince, FruEnds, FruNext, HasSize, InventoryCounts, InventoryIs, inventory_len, WithinTries, IsRefusedWith, fru_call_bound}
 use Rattle.ipmi_bus.specs.FruRetrieval.{IsOpenInventory, CountsTrouble, MakesSmaller, PartFails, TakesInventoryPart, HasRead, calls_left}
+use Rattle.ipmi_bus.proofs.DigitLemmas.{digits_most}
 use Rattle.ipmi_bus.proofs.PartLemmas.{take-with_piece, calm_piece, smaller_some}
 
 module _ (old r : FruRetrieval) (s s' s'' : Seen) (asked got : ℕ)

@@ -1,6 +1,7 @@
 pub mod Asking
 pub mod CallLemmas
 pub mod CursorLemmas
+pub mod DigitLemmas
 pub mod IdTableLemmas
 pub mod InventoryLemmas
 pub mod PartLemmas

@@ -1,6 +1,5 @@
 -- How many calls a retrieval may take.
-use Rattle.std.proofs.Common.{arith}
-use Rattle.std.specs.Prelude.{ℕ, ◌+◌, ◌*◌, ◌≤◌, Bool, true, false, nat_le, if◌then◌else◌}
+use Rattle.std.specs.Prelude.{ℕ, ◌+◌, ◌*◌, ◌≤◌, nat_le, if◌then◌else◌}
 use Rattle.ipmi_bus.specs.Seen.{Seen}
 
 -- of a record of this length: each try makes at most one call for a reservation, one for each byte, and one that fails
@@ -21,23 +20,9 @@ abbrev pub digits : ℕ → ℕ
 digits n = reaches 1 n + reaches 2 n + reaches 4 n + reaches 8 n + reaches 16 n + reaches 32 n
     + reaches 64 n + reaches 128 n
 
-reaches_most : (b : Bool) → (if b then 1 else 0) ≤ 1
-reaches_most true = omega arith
-reaches_most false = omega arith
-
 -- so a part size has at most eight
-pub digits_most : (n : ℕ) → digits n ≤ 8
-digits_most n = omega (
-  arith,
-  reaches_most (nat_le 1 n),
-  reaches_most (nat_le 2 n),
-  reaches_most (nat_le 4 n),
-  reaches_most (nat_le 8 n),
-  reaches_most (nat_le 16 n),
-  reaches_most (nat_le 32 n),
-  reaches_most (nat_le 64 n),
-  reaches_most (nat_le 128 n),
-)
+abbrev pub DigitsAreFew : Type 0
+DigitsAreFew = (n : ℕ) → digits n ≤ 8
 
 -- No more calls than the bound for a record of this length. Those that made the part size fall come beside it: at most
 -- one for each digit that the size lost.

@@ -1,6 +1,6 @@
 -- The words of this crate that its code and proofs cite, passed on from one place. Declares nothing.
 pub use Rattle.ipmi_bus.specs.Answers.{BytesAnswers, CountsPiece, FailsWith, GivesPiece, PartAnswers, ReserveAnswers, SizeAnswers, ValueAnswers, Asked, part_asked, not_present}
-pub use Rattle.ipmi_bus.specs.Bounds.{AreWithin, digits, fru_call_bound, step_call_bound, digits_most}
+pub use Rattle.ipmi_bus.specs.Bounds.{AreWithin, digits, DigitsAreFew, fru_call_bound, step_call_bound}
 pub use Rattle.ipmi_bus.specs.Calls.{FailureIs, smaller_part}
 pub use Rattle.ipmi_bus.specs.Code.{class_of}
 pub use Rattle.ipmi_bus.specs.CursorState.{CursorState, start_of}

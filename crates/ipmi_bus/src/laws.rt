@@ -1,5 +1,5 @@
-//! Laws of walks and of steps along them, each the contract of a function that does nothing.
-ghost use Rattle.ipmi_bus.specs.Prelude.{FoundIsRow, WalkExists, WalkIsUnique, RestIsWalk, TailIsWalk, StepsFollowWalk};
+//! Laws of walks, of steps along them, and of part sizes, each the contract of a function that does nothing.
+ghost use Rattle.ipmi_bus.specs.Prelude.{DigitsAreFew, FoundIsRow, WalkExists, WalkIsUnique, RestIsWalk, TailIsWalk, StepsFollowWalk};
 
 /// From each place of a shelf exactly one walk has an end.
 #[tactic(auto, using(crate::proofs::WalkLaws::same_walk))]
@@ -30,4 +30,10 @@ pub fn the_rest_is_a_walk()
 #[tactic(auto, using(crate::proofs::StepsLaws::steps_follow))]
 pub fn steps_follow_the_walk()
     ensures { StepsFollowWalk }
+{}
+
+/// A part size has at most eight binary digits, so that it falls at most seven times.
+#[tactic(auto, using(crate::proofs::DigitLemmas::digits_most))]
+pub fn a_part_size_has_few_digits()
+    ensures { DigitsAreFew }
 {}

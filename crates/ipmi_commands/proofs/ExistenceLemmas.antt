@@ -3,7 +3,7 @@ use Rattle.std.proofs.Common.{◌≡◌, ℕ, zero, suc, ◌<◌, Bool, true, fa
 use Rattle.ipmi_bus.specs.Store.{Inventory, IsInventory, inventory_in}
 use Rattle.ipmi_records.specs.declared.sel.SelView.{SelView}
 use Rattle.ipmi_commands.specs.Below.{AreBytes, fru_of, Reading, Row, Store, IsStore, inventory_of, IsExtendedLine, IsFruText, IsInfoBlock, IsSdrBlock, IsSdrLine, IsSelBlock, IsSelLine, SdrFault, SdrView, sdr_view_of, sel_view_of}
-use Rattle.ipmi_commands.specs.Prelude.{AreTexts, Detail, Form, IfChosen, IsBlockOfName, IsDevicePiece, IsInventoryPiece, IsInventoryText, IsListed, IsLocatorPiece, IsRowText, IsTextOver, Item, ItemsHaveAText, OfImage, OfInfo, OfInventory, OfRow, reading_for, row_is_of_kind, Subject}
+use Rattle.ipmi_commands.specs.Prelude.{AreTexts, Detail, Form, IfChosen, IsBlockOfName, IsDevicePiece, IsInventoryPiece, IsInventoryText, IsRecordLine, IsLocatorPiece, IsRowText, IsTextOver, Item, ItemsHaveAText, OfImage, OfInfo, OfInventory, OfRow, reading_for, row_is_of_kind, Subject}
 
 -- there is such a text
 abbrev HasText : (List ℕ → Type 0) → Type 0
@@ -34,7 +34,7 @@ module _ (line : (view : SdrView) (reading : Option Reading) → HasText (IsSdrL
     (info : (bytes : List ℕ) → HasText (IsInfoBlock bytes))
     (fru : (bytes : List ℕ) → AreBytes bytes → HasText (IsFruText bytes)) where
   has_listed : (detail : Detail) (store : Store) (id : ℕ) (view : Result SdrView SdrFault)
-      → HasText (IsListed detail store id view)
+      → HasText (IsRecordLine detail store id view)
   has_listed Detail.Short store id (Ok view) = line view (reading_for store view)
   has_listed Detail.Extended store id (Ok view) = extended view (reading_for store view)
   has_listed detail store id (Err fault) = (_, refl)

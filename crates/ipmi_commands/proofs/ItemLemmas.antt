@@ -1,7 +1,7 @@
 -- The items of a plan, their texts, and what may be left where a run stops before or at one of them.
 use Rattle.std.proofs.Common.{◌≡◌, ℕ, ◌+◌, ◌<◌, List, [], ◌∷◌, ◌++◌, length, take, drop, refl, sym, ap, ◌∙◌, append_assoc, append-nil, take-add, take-append-drop}
 use Rattle.ipmi_commands.specs.Below.{Place, Row, place_after, place_after_rows, asked_at, TakesPart, Ending}
-use Rattle.ipmi_commands.specs.Prelude.{AreTexts, AtEnd, AtRecord, Cause, Dishonest, Form, GaveUp, HasFirstItems, IsAmong, Item, Leaves, MayStopAt, NoMemory, NoOutput, OfRow, Plan, Printed, PrintsAll, Refused, row_items, Spot, spots_after, spots_at, Subject}
+use Rattle.ipmi_commands.specs.Prelude.{AreTexts, AtEnd, AtRecord, Cause, Dishonest, Form, GaveUp, HasFirstItems, IsAmong, Item, Leaves, IsStopAmong, NoMemory, NoOutput, OfRow, Plan, Printed, PrintsAll, Refused, row_items, Spot, spots_because_of, next_spots, Subject}
 
 -- ---- items and rows
 
@@ -15,7 +15,7 @@ row_items-append form start (d ∷ done) rest = rw (row_items-append form (place
 -- the item of a row that is asked for at this place
 abbrev pub row_item : Form → Place → Row → Item
 row_item form place row =
-    record { subject = OfRow form row; spots = AtRecord (asked_at place) ∷ spots_after form row }
+    record { subject = OfRow form row; spots = AtRecord (asked_at place) ∷ spots_because_of form row }
 
 -- of the first rows, and the next one
 pub row_items-next : (form : Form) (at : Place) (rows : List Row) (count : ℕ) (row : Row)
@@ -74,7 +74,7 @@ module _ (IsText : Subject → List ℕ → Type 0) where
 
   -- what may be given up or refused, or memory wanted, after some items
   pub stops_after : (p : Plan) (old new : List ℕ) (ending : Ending) (cause : Cause)
-      (first : HasFirstItems IsText p old new) → MayStopAt (spots_at first.rest p.end_spots) cause
+      (first : HasFirstItems IsText p old new) → IsStopAmong (next_spots first.rest p.end_spots) cause
       → Leaves IsText p old new ending cause
   stops_after p old new ending (GaveUp spot) first may = record { first = first; there = may }
   stops_after p old new ending (Refused spot code) first may = record { first = first; there = may }
@@ -96,8 +96,8 @@ module _ (IsText : Subject → List ℕ → Type 0) where
 pub record IsCarried (IsText : Subject → List ℕ → Type 0) (p q : Plan) (old new : List ℕ)
     (rest : List Item) : Type 0 where
   pub first : HasFirstItems IsText q old new
-  pub spots : (spot : Spot) → IsAmong (spots_at rest p.end_spots) spot
-      → IsAmong (spots_at first.rest q.end_spots) spot
+  pub spots : (spot : Spot) → IsAmong (next_spots rest p.end_spots) spot
+      → IsAmong (next_spots first.rest q.end_spots) spot
   pub next : (item : Item) (later : List Item) (text : List ℕ) → rest ≡ item ∷ later
       → IsText item.subject text → 0 < length text
       → (item' : Item) × (later' : List Item) × (first.rest ≡ item' ∷ later')
@@ -140,8 +140,8 @@ leaves_joined IsText done p old text new ending cause before leaves = leaves_car
 -- by a longer one, where each spot after some of its items is one there
 pub leaves_longer : (IsText : Subject → List ℕ → Type 0) (p q : Plan) (more : List Item)
     → q.items ≡ p.items ++ more
-    → ((spot : Spot) (rest : List Item) → IsAmong (spots_at rest p.end_spots) spot
-    → IsAmong (spots_at (rest ++ more) q.end_spots) spot)
+    → ((spot : Spot) (rest : List Item) → IsAmong (next_spots rest p.end_spots) spot
+    → IsAmong (next_spots (rest ++ more) q.end_spots) spot)
     → (old new : List ℕ) (ending : Ending) (cause : Cause)
     → (cause ≡ AtEnd → PrintsAll IsText p old new ending → PrintsAll IsText q old new ending)
     → Leaves IsText p old new ending cause → Leaves IsText q old new ending cause

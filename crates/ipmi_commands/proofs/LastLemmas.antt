@@ -2,27 +2,27 @@
 use Rattle.std.proofs.Common.{◌≡◌, inl, inr, ℕ, zero, suc, ◌+◌, ◌-◌, ◌<◌, ◌≤◌, Option, None, Some, IfOk, Result, Ok, Err, List, [], ◌∷◌, ◌++◌, length, take, drop, refl, sym, ap, ◌∙◌, append_assoc, append-nil, arith, length-append, length-drop, length-take-le, take-append-drop}
 use Rattle.std.proofs.lemmas.List.{nil_from_length}
 use Rattle.std.proofs.Math.Seq.{drop-nil}
-use Rattle.ipmi_commands.specs.Below.{digits_most, Place, Sel, Row, Store, rows_of, WalkEnd, Done, place_after, place_after_rows, Seen, IsHonest, StaysHonest, CommandState, CursorState, StandsAt, start_of, Ending, Failure}
-use Rattle.ipmi_commands.specs.Prelude.{AreTexts, calls_for, Cause, cause_of, Change, change, Counted, CountsEntries, end_spots, end_spots_of_last, ending_of, first_end, first_rows, Form, IsAllowed, IsAmong, IsFresh, IsTextOver, Item, Job, last_plan, Leaves, listing, listing_plan, ListsAfter, ListsHonestly, ListsAlong, Plan, Printed, Prints, row_items, second_walk_bound, Spot, spots_along, spots_at, spots_of_walk, Subject, walk_call_bound, with_first_spots}
+use Rattle.ipmi_commands.specs.Below.{Place, Sel, Row, Store, rows_of, WalkEnd, Done, place_after, place_after_rows, Seen, IsHonest, StaysHonest, CommandState, CursorState, StandsAt, start_of, Ending, Failure}
+use Rattle.ipmi_commands.specs.Prelude.{AreTexts, calls_for, Cause, cause_of, Change, change, Counted, CountsEntries, spots_at_walk_end, end_spots_of_last, ending_of, first_end, first_rows, Form, IsAllowed, IsAmong, IsFresh, IsTextOver, Item, Job, last_plan, Leaves, listing, listing_plan, ListsAfter, ListsHonestly, ListsAlong, Plan, Printed, Prints, row_items, second_walk_bound, Spot, spots_of_rows, next_spots, spots_of_walk, Subject, walk_call_bound, with_first_spots}
 use Rattle.ipmi_commands.proofs.CallLemmas.{calls_split}
 use Rattle.ipmi_commands.proofs.CountLemmas.{between, ends_here, ends_since}
 use Rattle.ipmi_commands.proofs.ItemLemmas.{IsCarried, leaves_carried, no_items, none_printed, texts_joined}
 use Rattle.ipmi_commands.proofs.ListingLemmas.{fresh_along, fresh_ends, holds_none}
-use Rattle.ipmi_commands.proofs.SpotLemmas.{among_after, end_spots-joined}
+use Rattle.ipmi_commands.proofs.SpotLemmas.{among_after, spots_at_walk_end-joined}
 
 -- ---- the spots of what comes first
 
-spots_along-split : (k : ℕ) (start : Place) (rows : List Row) (ends : List Spot)
-    → spots_along start rows ++ ends ≡ spots_along start (take k rows)
-    ++ (spots_along (place_after_rows start (take k rows)) (drop k rows) ++ ends)
-spots_along-split zero start rows ends = refl
-spots_along-split (suc k) start [] ends = refl
-spots_along-split (suc k) start (row ∷ rows) ends = rw (spots_along-split k (place_after row.next) rows ends) refl
+spots_of_rows-split : (k : ℕ) (start : Place) (rows : List Row) (ends : List Spot)
+    → spots_of_rows start rows ++ ends ≡ spots_of_rows start (take k rows)
+    ++ (spots_of_rows (place_after_rows start (take k rows)) (drop k rows) ++ ends)
+spots_of_rows-split zero start rows ends = refl
+spots_of_rows-split (suc k) start [] ends = refl
+spots_of_rows-split (suc k) start (row ∷ rows) ends = rw (spots_of_rows-split k (place_after row.next) rows ends) refl
 
 -- what comes first along rows, or after them, is asked for at a spot of theirs
 first_there : (start : Place) (rows : List Row) (ends : List Spot) (spot : Spot)
-    → IsAmong (spots_at (row_items Form.EntryLine start rows) ends) spot
-    → IsAmong (spots_along start rows ++ ends) spot
+    → IsAmong (next_spots (row_items Form.EntryLine start rows) ends) spot
+    → IsAmong (spots_of_rows start rows ++ ends) spot
 first_there start [] ends spot among = among
 first_there start (row ∷ rows) ends spot among = grind arith
 
@@ -30,7 +30,7 @@ first_there start (row ∷ rows) ends spot among = grind arith
 
 module _ (IsText : Subject → List ℕ → Type 0) (spots : List Spot) (p : Plan) (at_end : List Spot)
     (ends_are : p.end_spots ≡ at_end)
-    (wide : (spot : Spot) → IsAmong (spots_at p.items p.end_spots) spot → IsAmong spots spot) where
+    (wide : (spot : Spot) → IsAmong (next_spots p.items p.end_spots) spot → IsAmong spots spot) where
   abbrev q : Plan
   q = record { items = with_first_spots spots p.items; end = p.end; end_spots = end_spots_of_last spots p.items at_end }
 
@@ -65,10 +65,10 @@ last_leaves : (store : Store) (n k : ℕ) (start : Place) (walk : List Row) (old
     → IsAllowed (IsTextOver store) (last_plan n start walk Done) old new ending
 last_leaves store n k start walk old new ending is allowed =
     let place = place_after_rows start (take k walk) in
-    let ends = end_spots start walk Done in
-    let joined : end_spots place (drop k walk) Done ≡ ends = end_spots-joined start (take k walk) (drop k walk) Done ∙ ap (λ (l : List Row). end_spots start l Done) (take-append-drop k walk) in
+    let ends = spots_at_walk_end start walk Done in
+    let joined : spots_at_walk_end place (drop k walk) Done ≡ ends = spots_at_walk_end-joined start (take k walk) (drop k walk) Done ∙ ap (λ (l : List Row). spots_at_walk_end start l Done) (take-append-drop k walk) in
     rw (← is) (leaves_wide (IsTextOver store) (spots_of_walk start walk Done) (listing_plan (listing Form.EntryLine place None) (drop k walk) Done) ends joined
-    (λ spot among. rw (spots_along-split k start walk ends) (among_after (spots_along start (take k walk)) (spots_along place (drop k walk) ++ ends) spot (first_there place (drop k walk) ends spot (rw joined at among))))
+    (λ spot among. rw (spots_of_rows-split k start walk ends) (among_after (spots_of_rows start (take k walk)) (spots_of_rows place (drop k walk) ++ ends) spot (first_there place (drop k walk) ends spot (rw joined at among))))
     old new ending (cause_of ending) allowed)
 
 -- ---- passed entries
@@ -91,7 +91,7 @@ no_text store (row ∷ rows) start (d ∷ done) rest text is are =
 passed_spot : (rows : List Row) (start : Place) (done rest : List Item) (ends more : List Spot)
     (spot : Spot)
     → row_items Form.Passed start rows ≡ done ++ rest → (IsAmong ends spot → IsAmong more spot)
-    → IsAmong (spots_at rest ends) spot → IsAmong (spots_along start rows ++ more) spot
+    → IsAmong (next_spots rest ends) spot → IsAmong (spots_of_rows start rows ++ more) spot
 passed_spot [] start [] rest ends more spot is wide among = let none : rest ≡ [] = cc is in wide (rw none at among)
 passed_spot [] start (d ∷ done) rest ends more spot is wide among = cc is
 passed_spot (row ∷ rows) start [] rest ends more spot is wide among = elim (rw (← is) at among) [ inl at ↦ inl at | inr none ↦ absurd none ]
@@ -100,11 +100,11 @@ passed_spot (row ∷ rows) start (d ∷ done) rest ends more spot is wide among 
 passed_there : (most : Option ℕ) (start : Place) (walk : List Row) (done rest : List Item)
     (ends : List Spot)
     (spot : Spot) → row_items Form.Passed start (first_rows most walk) ≡ done ++ rest
-    → IsAmong (spots_at rest ends) spot → IsAmong (spots_along start walk ++ ends) spot
+    → IsAmong (next_spots rest ends) spot → IsAmong (spots_of_rows start walk ++ ends) spot
 passed_there None start walk done rest ends spot is among = passed_spot walk start done rest ends ends spot is (λ there. there) among
 passed_there (Some m) start walk done rest ends spot is among =
-    let later = spots_along (place_after_rows start (take m walk)) (drop m walk) in
-    rw (spots_along-split m start walk ends) (passed_spot (take m walk) start done rest ends (later ++ ends) spot is (λ there. among_after later ends spot there) among)
+    let later = spots_of_rows (place_after_rows start (take m walk)) (drop m walk) in
+    rw (spots_of_rows-split m start walk ends) (passed_spot (take m walk) start done rest ends (later ++ ends) spot is (λ there. among_after later ends spot there) among)
 
 -- the first of them were passed
 nothing : (store : Store) (most : Option ℕ) (start : Place) (walk : List Row)
@@ -124,7 +124,7 @@ module _ (store : Store) (n : ℕ) (most : Option ℕ) (start : Place) (walk : L
   passing_failed cause leaves = leaves_carried (IsTextOver store) passing (last_plan n start walk end) old old new (Err failure) cause
       (λ whole first. record {
         first = no_items (IsTextOver store) (last_plan n start walk end) old whole (nothing store most start walk first.done first.rest old whole first.items_are first.printed);
-        spots = λ spot among. grind (arith, passed_there most start walk first.done first.rest (end_spots start walk end) spot first.items_are (rw end_is at among));
+        spots = λ spot among. grind (arith, passed_there most start walk first.done first.rest (spots_at_walk_end start walk end) spot first.items_are (rw end_is at among));
         next = λ item later text next is_text some.
             let is : row_items Form.Passed start (first_rows most walk) ≡ (first.done ++ item ∷ []) ++ later = first.items_are ∙ rw next (sym (append_assoc first.done (item ∷ []) later)) in
             let one : AreTexts (IsTextOver store) (item ∷ []) text = record { first = text; rest = []; is_first = is_text; is_rest = refl; joined = sym (append-nil text) } in
@@ -212,7 +212,7 @@ module _ {command : CommandState} {from : Option ℕ} {tries passed : ℕ} {begu
         let later = (rw stays at (lists.along since.1 (start_of from) walk end passed)) (record { walks = w; ends = ends; stands = stands }) in
         let none = nothing s.store (Some passed) (start_of from) walk _ [] old text (sym (append-nil _)) first.leaves.0 in (
           rw done (last_leaves s.store n passed (start_of from) walk old new (ending_of result) is (rw (done, none) at later.leaves)),
-          omega (arith, later.calls some, rw calls_for-passed at (first.all.calls refl), digits_most begun.part, calls_split Form.EntryLine s.store tries passed walk),
+          omega (arith, later.calls some, rw calls_for-passed at (first.all.calls refl), fresh.falls, calls_split Form.EntryLine s.store tries passed walk),
         );
   }
 

@@ -4,14 +4,14 @@ use Rattle.std.proofs.lemmas.List.{drop-drop, take-take}
 use Rattle.std.specs.FinSet as set
 use Rattle.std.specs.FinSet.{len-empty}
 use Rattle.std.specs.Ordering.{nat_cmp}
-use Rattle.ipmi_commands.specs.Below.{step_call_bound, digits, End, First, first_row, KeepsReservations, len_of, look, Shelf, current, Place, Ended, Row, Store, rows_of, MayFail, WalkEnd, WalkStep, Done, CycleAt, MissingAt, place_after, place_after_rows, Seen, IsHonest, AsksNothing, CursorState, CursorHoldsCurrent, StandsAt, FailsAt, IsStep, NotGivenUpOrRefused, StepAnswers, StepIsHonest, StepLeaves, asked_at, TakesPart, Ending, Failure, CommandState, digits_most, start_of}
-use Rattle.ipmi_commands.specs.Prelude.{AsksAt, AtEnd, AtRecord, CallsAlong, calls_for, Cause, cause_of, cause_of_unread, Change, change, CountsSo, end_of, end_spots, ending_of, EndsFor, failure_of, FindsIt, FindsNone, first_end, first_rows, Form, HasFirstItems, IsAllowed, IsAmong, IsFine, IsFresh, IsOnWalk, is_reached, most_on_walk, OnWalk, walk_call_bound, IsTextOver, IsRowText, listing, listing_plan, Lists, ListsAlong, ListsHonestly, Item, MayStopAt, most_after, most_for_one, OnEachWalk, Plan, Printed, row_items, rows_end, shelf_of, Spot, spots_after, StopsAt, Unread}
+use Rattle.ipmi_commands.specs.Below.{step_call_bound, digits, End, First, first_row, KeepsReservations, len_of, look, Shelf, current, Place, Ended, Row, Store, rows_of, MayFail, WalkEnd, WalkStep, Done, CycleAt, MissingAt, place_after, place_after_rows, Seen, IsHonest, AsksNothing, CursorState, CursorHoldsCurrent, StandsAt, FailsAt, IsStep, NotGivenUpOrRefused, StepAnswers, StepIsHonest, StepLeaves, asked_at, TakesPart, Ending, Failure, CommandState, start_of}
+use Rattle.ipmi_commands.specs.Prelude.{AsksAt, AtEnd, AtRecord, CallsAlong, calls_for, Cause, cause_of, cause_of_unread, Change, change, CountsSo, end_of, spots_at_walk_end, ending_of, EndsFor, failure_of, FindsIt, FindsNone, first_end, first_rows, Form, HasFirstItems, IsAllowed, IsAmong, IsFine, IsFresh, IsOnWalk, is_reached, most_on_walk, OnWalk, walk_call_bound, IsTextOver, IsRowText, listing, listing_plan, Lists, ListsAlong, ListsHonestly, Item, IsStopAmong, most_after, most_for_one, OnEachWalk, Plan, Printed, row_items, rows_end, shelf_of, Spot, spots_because_of, StopsAt, Unread}
 use Rattle.ipmi_commands.proofs.AskLemmas.{asks_as}
 use Rattle.ipmi_commands.proofs.CallLemmas.{HasCalled, IsWithin, at_limit, called_ended, called_more, called_stopped, calls_ended, digits_some, first_end-all, first_end-none, first_row-first_rows, first_rows-all, next_calls, next_one, none_left, not_at_limit, place_after_rows-append, within_more}
 use Rattle.ipmi_commands.proofs.CountLemmas.{between, ends_here, ends_since}
 use Rattle.ipmi_commands.proofs.ItemLemmas.{cut_after, none_printed, one_printed, printed_joined, row_item, row_items-next, row_items-split, stops_after}
 use Rattle.ipmi_commands.proofs.NameLemmas.{end_of-wrote, Wrote, wrote_more}
-use Rattle.ipmi_commands.proofs.SpotLemmas.{asked_first, end_spot, end_spots-joined}
+use Rattle.ipmi_commands.proofs.SpotLemmas.{asked_first, end_spot, spots_at_walk_end-joined}
 
 -- ---- the rows that are listed, where the cursor was after k rows of a walk
 
@@ -112,8 +112,8 @@ current-kept : (shelf : Shelf) (s s' : Seen) → KeepsReservations s s'
 current-kept shelf s s' keeps = grind arith
 
 -- what may stop at a spot of what comes later
-may_later : (first : Spot) (spots : List Spot) (cause : Cause) → MayStopAt spots cause
-    → MayStopAt (first ∷ spots) cause
+may_later : (first : Spot) (spots : List Spot) (cause : Cause) → IsStopAmong spots cause
+    → IsStopAmong (first ∷ spots) cause
 may_later first spots cause may = grind arith
 
 -- ---- the end of a listing
@@ -281,17 +281,17 @@ module _ {form : Form} {tries : ℕ} {most : Option ℕ} {count : ℕ} {wrote : 
           let rest = drop k walk in
           let now_is = on_walk rows start now.place (place_after_rows start (take (k + count) walk)) there.stands.place fails.not_at_end in
           let place = place_here most count start walk k kept.within in
-          let past : left_rows most count walk k ≡ [] → IsAmong (end_spots at rest (first_end most rest end)) (AtRecord (asked_at (place_after_rows at (take count (used most walk k))))) = λ none.
+          let past : left_rows most count walk k ≡ [] → IsAmong (spots_at_walk_end at rest (first_end most rest end)) (AtRecord (asked_at (place_after_rows at (take count (used most walk k))))) = λ none.
           let least = none_left most count rest below none in
           let all : k + count ≡ length walk = omega (arith, least, there.stands.within, length-drop k walk) in
           let beyond : IsWithin most (length rest + 1) = let size : length rest ≡ count = omega (arith, all, length-drop k walk) in rw size below in
           let whole = take_all (k + count) walk (omega (arith, all)) in
-          let joined : end_spots at rest end ≡ end_spots start walk end = end_spots-joined start (take k walk) rest end ∙ ap (λ (l : List Row). end_spots start l end) (take-append-drop k walk) in
+          let joined : spots_at_walk_end at rest end ≡ spots_at_walk_end start walk end = spots_at_walk_end-joined start (take k walk) rest end ∙ ap (λ (l : List Row). spots_at_walk_end start l end) (take-append-drop k walk) in
           rw (first_end-all most rest end beyond, joined, place, whole) (end_spot rows start walk end on.ends (rw (now_is, whole) at (may all))) in
           let asked : AtRecord n ≡ AtRecord (asked_at (place_after_rows at (take count (used most walk k)))) = ap AtRecord (fails.asked ∙ ap asked_at (now_is ∙ sym place)) in
           record {
             first = first_items form s.store most count start walk end k old new there.are_printed;
-            there = rw asked (asked_first form (place_after_rows at (take count (used most walk k))) (left_rows most count walk k) (end_spots at rest (first_end most rest end)) past);
+            there = rw asked (asked_first form (place_after_rows at (take count (used most walk k))) (left_rows most count walk k) (spots_at_walk_end at rest (first_end most rest end)) past);
           }
 
   module _ {next : CursorState} {s'' : Seen} (wanted : is_reached most count ≡ false) where
@@ -345,8 +345,8 @@ module _ {form : Form} {tries : ℕ} {most : Option ℕ} {count : ℕ} {wrote : 
       more_called = called_more (most_after form tries) refl kept.shelf kept.tries_are kept.called step last refl asked
 
       module _ {cause : Cause} (asks : IsHonest s''
-          → AsksAt (spots_after form row) tries s'' last cause) (h : IsHonest s) where
-        piece_asked : AsksAt (spots_after form row) tries s'' last cause
+          → AsksAt (spots_because_of form row) tries s'' last cause) (h : IsHonest s) where
+        piece_asked : AsksAt (spots_because_of form row) tries s'' last cause
         piece_asked = asks (honest_step wanted step h).stays.honest
 
         piece_ends : EndsFor tries (IsTrue s.plain × CursorHoldsCurrent begun s) s last cause
@@ -388,7 +388,7 @@ module _ {form : Form} {tries : ℕ} {most : Option ℕ} {count : ℕ} {wrote : 
 
       -- a listing that stops at it
       stopped : (failure : Failure) (text : List ℕ) → (IsHonest s''
-          → AsksAt (spots_after form row) tries s'' last (cause_of (Err failure)))
+          → AsksAt (spots_because_of form row) tries s'' last (cause_of (Err failure)))
           → (IsHonest s → last.stores_added ≡ s.stores_added → (p : Plan)
           (first : HasFirstItems (IsTextOver s.store) p old new) (place : Place) (later : List Item)
           → first.rest ≡ row_item form place row ∷ later
@@ -411,15 +411,15 @@ module _ {form : Form} {tries : ℕ} {most : Option ℕ} {count : ℕ} {wrote : 
 
       -- the piece was not found
       pub listing_none : (unread : Unread) → (IsHonest s''
-          → FindsNone (spots_after form row) tries s'' last (cause_of_unread unread))
+          → FindsNone (spots_because_of form row) tries s'' last (cause_of_unread unread))
           → Lists form tries most begun next (change s last old new) (Err (failure_of unread))
       listing_none unread none = stopped (failure_of unread) new (λ h. (none h).asks) (λ h same p first place later at.
           stops_after (IsTextOver s.store) p old new (Err (failure_of unread)) (cause_of_unread unread) first
-          (rw at (may_later (AtRecord (asked_at place)) (spots_after form row) (cause_of_unread unread) (none (honest_step wanted step h).stays.honest).there)))
+          (rw at (may_later (AtRecord (asked_at place)) (spots_because_of form row) (cause_of_unread unread) (none (honest_step wanted step h).stays.honest).there)))
 
       module _ (piece_text : List ℕ) (finds : IsHonest s''
           → FindsIt (λ store. IsRowText store form row piece_text)
-          (spots_after form row) tries s'' last) where
+          (spots_because_of form row) tries s'' last) where
         is_text : IsHonest s → last.stores_added ≡ s.stores_added
             → IsRowText s.store form row piece_text
         is_text h same = let found = finds (honest_step wanted step h).stays.honest in rw (store_is (λ h. (finds h).asks) h same) at (found.is (apart (λ h. (finds h).asks) h same).1)
@@ -489,4 +489,4 @@ module _ {command : CommandState} {form : Form} {from : Option ℕ} {begun now :
       + walk_call_bound form c.seen.store tries (first_rows most walk)))
   fresh_along lists same walk end w ends =
       let along = lists.along same (start_of from) walk end 0 (record { walks = w; ends = ends; stands = fresh.stands _ walk }) in
-      (along, omega (arith, along.calls fresh.some, digits_most begun.part))
+      (along, omega (arith, along.calls fresh.some, fresh.falls))

@@ -9,7 +9,7 @@ use Rattle.ipmi_commands.specs.Prelude.{ArePages, calls_for, cause_of, Change, c
 use Rattle.ipmi_commands.proofs.CallLemmas.{calls_split}
 use Rattle.ipmi_commands.proofs.ItemLemmas.{after_items, leaves_joined, leaves_longer, row_items-split}
 use Rattle.ipmi_commands.proofs.PageLemmas.{calls_of_page, no_walk}
-use Rattle.ipmi_commands.proofs.SpotLemmas.{end_spots-joined}
+use Rattle.ipmi_commands.proofs.SpotLemmas.{spots_at_walk_end-joined}
 use Rattle.ipmi_commands.proofs.CountLemmas.{between, ends_since}
 
 -- a listing in this form asks for no name, and so ends as its walk does
@@ -97,7 +97,7 @@ module _ (walk_tail : TailIsWalk) where
         let done = take size walk in
         let left = drop size walk in
         let whole : after_items (row_items form start done) (plan_from form (place_after_rows start done) None left end) ≡ plan_from form start None walk end =
-        cc (row_items-split form start walk size, same_end form left end none, same_end form walk end none, end_spots-joined start done left end, take-append-drop size walk) in
+        cc (row_items-split form start walk size, same_end form left end none, same_end form walk end none, spots_at_walk_end-joined start done left end, take-append-drop size walk) in
         subst (λ (q : Plan). IsAllowed (IsTextOver store) q old new ending) whole
         (leaves_joined (IsTextOver store) (row_items form start done) (plan_from form (place_after_rows start done) None left end) old text new ending (cause_of ending) printed (from_next text new ending goes allowed))
 

@@ -2,7 +2,7 @@
 use Rattle.std.proofs.Common.{◌≡◌, ℕ, ◌+◌, ◌≤◌, IsTrue, Option, None, Some, Result, Ok, Err, String, string_bytes, Global, List, [], ◌∷◌, ◌++◌, option_map, refl, arith}
 use Rattle.ipmi_commands.specs.Below.{fru_call_bound, Shelf, Place, First, Seen, IsHonest, Row, Store, info_of, WalkEnd, Ending, Failure}
 use Rattle.ipmi_commands.specs.Run.{EndsInfo, EndsInventory}
-use Rattle.ipmi_commands.specs.Prelude.{LacksInventory, LacksValue, AtEnd, AtRecord, cause_of, change, ending_of, end_spots, EndsFor, EndsListing, failure_of, Finds, Form, info_plan, inventories_plan, AtInventory, inventory_item, inventory_plan, IsInventoryPiece, most_on_walk, IsAllowed, IsAmong, IsInfoText, IsPage, IsTextOver, Item, Job, listing, listing_plan, MayStopAt, OfInfo, OfInventory, Plan, row_items, Runs, Spot, spots_at, Subject, text_plan, Unread, WritesText}
+use Rattle.ipmi_commands.specs.Prelude.{LacksInventory, LacksValue, AtEnd, AtRecord, cause_of, change, ending_of, spots_at_walk_end, EndsFor, EndsListing, failure_of, Finds, Form, info_plan, inventories_plan, AtInventory, inventory_item, inventory_plan, IsInventoryPiece, most_on_walk, IsAllowed, IsAmong, IsInfoText, IsPage, IsTextOver, Item, Job, listing, listing_plan, IsStopAmong, OfInfo, OfInventory, Plan, row_items, Runs, Spot, next_spots, Subject, text_plan, Unread, WritesText}
 use Rattle.ipmi_commands.proofs.CountLemmas.{between, ends_as, ends_since}
 use Rattle.ipmi_commands.proofs.ItemLemmas.{cut_after, leaves_joined, leaves_longer, no_items, one_printed, stops_after}
 
@@ -25,7 +25,7 @@ text_ends tries IsPlain s s' text old new ending ends writes = grind (arith, end
 
 -- what was not found is given up or refused before anything is printed, or memory is wanted
 none_leaves : (IsText : Subject → List ℕ → Type 0) (p : Plan) (text : List ℕ) (ending : Ending)
-    → MayStopAt (spots_at p.items p.end_spots) (cause_of ending) → IsAllowed IsText p text text ending
+    → IsStopAmong (next_spots p.items p.end_spots) (cause_of ending) → IsAllowed IsText p text text ending
 none_leaves IsText p text ending may = stops_after IsText p text text ending (cause_of ending) (no_items IsText p text text refl) may
 
 -- ---- the info of a shelf
@@ -37,7 +37,7 @@ info_leaves store None text old new ending is writes = absurd is
 info_leaves store (Some info) text old new ending is writes =
     text_leaves (IsTextOver store) (OfInfo info) (AtRecord 0 ∷ []) old new text ending is writes
 
-info_spots : (o : Option (List ℕ)) → spots_at (info_plan o).items (info_plan o).end_spots ≡ AtRecord 0 ∷ []
+info_spots : (o : Option (List ℕ)) → next_spots (info_plan o).items (info_plan o).end_spots ≡ AtRecord 0 ∷ []
 info_spots o = grind arith
 
 value_ends : (seen : Seen) (unread : Unread) → LacksValue unread seen
@@ -113,8 +113,8 @@ first_leaves store walk end old new failure allowed =
     leaves_longer (IsTextOver store) (inventory_plan 0) (inventories_plan walk end) (row_items Form.Device First walk) refl there old new (Err failure) (cause_of (Err failure))
     (λ is all. cc all.1) allowed
   where
-    there : (spot : Spot) (rest : List Item) → IsAmong (spots_at rest []) spot
-        → IsAmong (spots_at (rest ++ row_items Form.Device First walk) (end_spots First walk end)) spot
+    there : (spot : Spot) (rest : List Item) → IsAmong (next_spots rest []) spot
+        → IsAmong (next_spots (rest ++ row_items Form.Device First walk) (spots_at_walk_end First walk end)) spot
     there spot rest among = grind arith
 
 pub first_run : (tries : ℕ) (s s' : Seen) (old new : List ℕ) (failure : Failure)

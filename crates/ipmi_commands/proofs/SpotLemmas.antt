@@ -1,7 +1,7 @@
 -- The spots of a walk and of its rows.
 use Rattle.std.proofs.Common.{◌≡◌, ◌≢◌, inl, inr, ℕ, ◌==◌, Bool, true, false, cond, List, [], ◌∷◌, ◌++◌, refl, ap, arith, ne_eqb}
 use Rattle.ipmi_commands.specs.Below.{Place, First, Id, End, Row, WalkEnd, EndsBy, place_after, place_after_rows, last_next, MayFail, asked_at}
-use Rattle.ipmi_commands.specs.Prelude.{AtRecord, end_spots, Form, IsAmong, row_items, Spot, spots_at}
+use Rattle.ipmi_commands.specs.Prelude.{AtRecord, spots_at_walk_end, Form, IsAmong, row_items, Spot, next_spots}
 
 -- after a row a walk does not stand at the start
 pub not_first : (n : ℕ) (rows : List Row) → place_after_rows (place_after n) rows ≢ First
@@ -17,14 +17,14 @@ asked_at-next n (row ∷ rows) more = asked_at-next row.next rows more
 -- what is asked for at the end of a walk is a spot of its end
 pub end_spot : (rows : List Row) (start : Place) (walk : List Row) (end : WalkEnd)
     → EndsBy rows start walk end → MayFail end (place_after_rows start walk)
-    → IsAmong (end_spots start walk end) (AtRecord (asked_at (place_after_rows start walk)))
+    → IsAmong (spots_at_walk_end start walk end) (AtRecord (asked_at (place_after_rows start walk)))
 end_spot rows start walk end ends may = grind (arith, not_first, asked_at-next)
 
 -- the end of more rows is that of the last of them
-pub end_spots-joined : (start : Place) (done rest : List Row) (end : WalkEnd)
-    → end_spots (place_after_rows start done) rest end ≡ end_spots start (done ++ rest) end
-end_spots-joined start [] rest end = refl
-end_spots-joined start (d ∷ done) rest end = grind (arith, not_first d.next done)
+pub spots_at_walk_end-joined : (start : Place) (done rest : List Row) (end : WalkEnd)
+    → spots_at_walk_end (place_after_rows start done) rest end ≡ spots_at_walk_end start (done ++ rest) end
+spots_at_walk_end-joined start [] rest end = refl
+spots_at_walk_end-joined start (d ∷ done) rest end = grind (arith, not_first d.next done)
 
 pub among_after : (spots ends : List Spot) (spot : Spot) → IsAmong ends spot
     → IsAmong (spots ++ ends) spot
@@ -34,6 +34,6 @@ among_after (first ∷ spots) ends spot among = inr (among_after spots ends spot
 -- the id that is asked for first is a spot of what comes first
 pub asked_first : (form : Form) (place : Place) (rows : List Row) (ends : List Spot)
     → (rows ≡ [] → IsAmong ends (AtRecord (asked_at place)))
-    → IsAmong (spots_at (row_items form place rows) ends) (AtRecord (asked_at place))
+    → IsAmong (next_spots (row_items form place rows) ends) (AtRecord (asked_at place))
 asked_first form place [] ends at_end = at_end refl
 asked_first form place (row ∷ rows) ends at_end = inl refl

@@ -1,5 +1,5 @@
 -- What may be in the output of a run by how it ended, and what the controller counted. Everywhere `old` and `new` are what
--- the output holds before and after.
+-- the output holds before and after, and `s` and `s'`, or `seen` and `seen'`, what contracts see of the controller then.
 use Rattle.std.specs.Prelude.{◌≡◌, ℕ, ◌+◌, ◌<◌, ◌≤◌, Result, Ok, Err, List, [], ◌∷◌, ◌++◌, length, ◌⊎◌}
 use Rattle.ipmi_commands.specs.Below.{Ended, FruEnded, ImageFault, Seen, StaysHonest, TakesPart, Ending, Failure}
 use Rattle.ipmi_commands.specs.Texts.{Subject}
@@ -35,8 +35,9 @@ abbrev pub ending_of : {T : Type 0} → Result T Failure → Ending
 ending_of (Ok value) = Ok tt
 ending_of (Err failure) = Err failure
 
--- as the plan ends, whole or by a failure that lies in the store or in what is asked for; it gave up or was refused, with a
--- code, at a spot; memory ran out; the output took no more; the controller gave what no honest one gives
+-- `AtEnd`: as the plan ends, whole or by a failure that lies in the store or in what is asked for. `GaveUp` and `Refused`: at
+-- this spot, with this code. `NoMemory`: memory ran out. `NoOutput`: the output took no more. `Dishonest`: the controller gave
+-- what no honest one gives
 pub data Cause : Type 0 where
   AtEnd : Cause
   GaveUp : Spot → Cause
@@ -63,9 +64,9 @@ cause_of _ = AtEnd
 -- ---- what is in the output
 
 -- the spots after the first items: those of the next one, or of the end
-abbrev pub spots_at : List Item → List Spot → List Spot
-spots_at [] at_end = at_end
-spots_at (item ∷ items) at_end = item.spots
+abbrev pub next_spots : List Item → List Spot → List Spot
+next_spots [] at_end = at_end
+next_spots (item ∷ items) at_end = item.spots
 
 abbrev pub IsAmong : List Spot → Spot → Type 0
 IsAmong [] spot = ⊥
@@ -83,7 +84,7 @@ pub record HasFirstItems (IsText : Subject → List ℕ → Type 0) (plan : Plan
 pub record StopsAt (spot : Spot) (IsText : Subject → List ℕ → Type 0) (plan : Plan)
     (old new : List ℕ) : Type 0 where
   pub first : HasFirstItems IsText plan old new
-  pub there : IsAmong (spots_at first.rest plan.end_spots) spot
+  pub there : IsAmong (next_spots first.rest plan.end_spots) spot
 
 -- texts of the first items were printed, and of a text of the next one, which is not empty, the first bytes, perhaps
 -- none or all
@@ -117,15 +118,15 @@ IsAllowed IsText plan old new ending = Leaves IsText plan old new ending (cause_
 
 -- ---- what the controller counted
 
--- where a run gives up, more troubles than the tries came with nothing answered whole between them; at an inventory, if a
--- store was added, at least the last trouble, as a shorter inventory may be whole between two of them
+-- to give up takes more troubles than the tries since the last whole answer. At an inventory, if a store was added, only one
+-- is promised: a shorter inventory may have been answered whole in between
 abbrev pub HasFreshTroubles : ℕ → Seen → Seen → Spot → Type 0
 HasFreshTroubles tries s s' (AtRecord n) = tries < s'.fresh_troubles
 HasFreshTroubles tries s s' (AtInventory id) =
     (0 < s'.fresh_troubles) × (s'.stores_added ≡ s.stores_added → tries < s'.fresh_troubles)
 
--- where the run gave up more troubles than the tries, as many of them fresh as at the spot; one refusal, with this code,
--- exactly where it was refused
+-- `GaveUp`: no refusal, and more troubles than the tries in this run and since the last whole answer. `Refused`: one refusal,
+-- with this code. Otherwise no refusal
 abbrev pub CountsSo : ℕ → Seen → Seen → Cause → Type 0
 CountsSo tries s s' (GaveUp spot) =
     (s'.refusals ≡ s.refusals) × (s.troubles + tries < s'.troubles)
@@ -134,14 +135,13 @@ CountsSo tries s s' (Refused spot code) = (s'.refusals ≡ s.refusals + 1) × (s
 CountsSo tries s s' Dishonest = ⊥
 CountsSo tries s s' _ = s'.refusals ≡ s.refusals
 
--- the run neither gave up nor was refused
+-- the run neither gave up nor was refused: a plain controller, which cancels nothing and is never busy, gives no cause for it
 abbrev pub IsFine : Cause → Type 0
 IsFine (GaveUp spot) = ⊥
 IsFine (Refused spot code) = ⊥
 IsFine _ = Unit {0}
 
--- an honest controller stays so, and its counts are those of this cause; where the controller is plain, the run neither gave
--- up nor was refused
+-- why a run ended so: an honest controller stays so, and its counts are those of this cause
 pub record EndsFor (tries : ℕ) (IsPlain : Type 0) (s s' : Seen) (cause : Cause) : Type 0 where
   pub stays : StaysHonest s s'
   pub grows : s.troubles ≤ s'.troubles

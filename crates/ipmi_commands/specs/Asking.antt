@@ -1,53 +1,13 @@
--- What is asked for because of a record, an info or an inventory: for how many calls, and what it leaves.
-use Rattle.std.specs.Prelude.{◌≡◌, ℕ, ◌+◌, ◌*◌, ◌≤◌, ◌==◌, Bool, false, IsTrue, Option, None, Some, Result, Ok, Err, string_bytes, List, [], ◌∷◌, length}
-use Rattle.ipmi_commands.specs.Below.{step_call_bound, fru_call_bound, Ended, FruEnded, inventory_len, KeepsReservations, LastCallSays, LastFailed, LastFruCallSays, NotPresent, RefusesValue, Row, largest_len, Store, IsInfoBlock, Seen, Failure}
+-- What is asked for because of a record, an info or an inventory, and what it leaves: for the contracts of private functions.
+use Rattle.std.specs.Prelude.{◌≡◌, ℕ, ◌+◌, ◌≤◌, ◌==◌, Bool, false, IsTrue, Option, None, Some, Result, Ok, Err, string_bytes, List}
+use Rattle.ipmi_commands.specs.Below.{Ended, FruEnded, KeepsReservations, LastFailed, LastFruCallSays, NotPresent, Store, IsInfoBlock, Seen, Failure}
 use Rattle.ipmi_commands.specs.declared.job.Form.{Form}
 use Rattle.ipmi_commands.specs.declared.piece.Piece.{Piece}
 use Rattle.ipmi_commands.specs.declared.unread.Unread.{Unread}
 use Rattle.ipmi_commands.specs.Allowed.{AtEnd, Cause, GaveUp, Refused, NoMemory, cause_of, EndsFor, IsAmong}
-use Rattle.ipmi_commands.specs.Job.{shelf_of}
-use Rattle.ipmi_commands.specs.Plan.{Spot, AtRecord, AtInventory, spots_after}
-
--- ---- calls
-
--- the most calls for what is asked for besides records: a reading, at the spot of its record, or an inventory
-abbrev pub calls_at : ℕ → Store → Spot → ℕ
-calls_at tries store (AtRecord n) = tries + 1
-calls_at tries store (AtInventory id) = fru_call_bound tries (inventory_len id store)
-
-abbrev pub calls_at_spots : ℕ → Store → List Spot → ℕ
-calls_at_spots tries store [] = 0
-calls_at_spots tries store (spot ∷ spots) =
-    calls_at tries store spot + calls_at_spots tries store spots
-
--- for each row the bound of a step, and the most calls for what is asked for because of the row
-abbrev pub calls_for : Form → Store → ℕ → List Row → ℕ
-calls_for form store tries [] = 0
-calls_for form store tries (row ∷ rows) =
-    step_call_bound tries (length row.bytes) + calls_at_spots tries store (spots_after form row)
-    + calls_for form store tries rows
-
--- of a cursor along these rows: beside those, the calls of a step that finds no row, and one for each fall of the part
--- size, of which there are at most seven
-abbrev pub walk_call_bound : Form → Store → ℕ → List Row → ℕ
-walk_call_bound form store tries rows =
-    calls_for form store tries rows + step_call_bound tries 0 + 7
-
--- over any controller, for what is asked for because of a record
-abbrev pub most_after : Form → ℕ → ℕ
-most_after (Form.Line detail kind) tries = tries + 1
-most_after (Form.Block name) tries = tries + 1
-most_after Form.Device tries = fru_call_bound tries 65535
-most_after _ tries = 0
-
--- and for the record too
-abbrev pub most_for_one : Form → ℕ → ℕ
-most_for_one form tries =
-    step_call_bound tries (largest_len (shelf_of form)) + most_after form tries
-
--- of a cursor over any controller: it asks for at most 65,536 records
-abbrev pub most_on_walk : Form → ℕ → ℕ
-most_on_walk form tries = 65536 * most_for_one form tries + 7
+use Rattle.ipmi_commands.specs.Calls.{calls_for_spots}
+use Rattle.ipmi_commands.specs.Plan.{Spot}
+use Rattle.ipmi_commands.specs.Run.{LacksValue}
 
 -- ---- what is found, or not
 
@@ -55,7 +15,7 @@ most_on_walk form tries = 65536 * most_for_one form tries + 7
 pub record AsksAt (spots : List Spot) (tries : ℕ) (s s' : Seen) (cause : Cause) : Type 0 where
   pub ends : EndsFor tries (IsTrue s.plain) s s' cause
   pub calls : s'.stores_added ≡ s.stores_added
-      → s'.calls ≤ s.calls + calls_at_spots tries s.store spots
+      → s'.calls ≤ s.calls + calls_for_spots tries s.store spots
   pub keeps : IsTrue s.plain → KeepsReservations s s'
 
 -- it is found, and the run goes on
@@ -74,16 +34,16 @@ abbrev pub cause_of_unread : Unread → Cause
 cause_of_unread unread = cause_of (Err (failure_of unread))
 
 -- what is asked for is given up or refused at one of the spots, or memory is wanted
-abbrev pub MayStopAt : List Spot → Cause → Type 0
-MayStopAt spots (GaveUp spot) = IsAmong spots spot
-MayStopAt spots (Refused spot code) = IsAmong spots spot
-MayStopAt spots NoMemory = Unit {0}
-MayStopAt spots _ = ⊥
+abbrev pub IsStopAmong : List Spot → Cause → Type 0
+IsStopAmong spots (GaveUp spot) = IsAmong spots spot
+IsStopAmong spots (Refused spot code) = IsAmong spots spot
+IsStopAmong spots NoMemory = Unit {0}
+IsStopAmong spots _ = ⊥
 
 -- it is not found
 pub record FindsNone (spots : List Spot) (tries : ℕ) (s s' : Seen) (cause : Cause) : Type 0 where
   pub asks : AsksAt spots tries s s' cause
-  pub there : MayStopAt spots cause
+  pub there : IsStopAmong spots cause
 
 -- what is asked for at these spots is found, or not
 abbrev pub Finds : {T : Type 0} → (Store → T → Type 0) → List Spot → ℕ → Seen → Seen
@@ -108,15 +68,6 @@ IsInfoText (Some info) (Some text) = IsInfoBlock info text
 IsInfoText _ _ = ⊥
 
 -- ---- over any controller: why it is not found, as the last call says
-
--- a reading or an info is given up or refused, or memory is wanted
-abbrev pub LacksValue : Unread → Seen → Type 0
-LacksValue (Unread.Ended (Ended.GaveUp n)) seen =
-    LastCallSays RefusesValue (Ended.GaveUp n) seen
-LacksValue (Unread.Ended (Ended.Refused n code)) seen =
-    LastCallSays RefusesValue (Ended.Refused n code) seen
-LacksValue Unread.Memory seen = Unit {0}
-LacksValue _ seen = ⊥
 
 -- an inventory ends so, or memory is wanted
 abbrev pub LacksInventory : Unread → Seen → Type 0

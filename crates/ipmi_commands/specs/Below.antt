@@ -11,7 +11,7 @@ pub use Rattle.ipmi_records.specs.SelText.{IsSelBlock, IsSelLine}
 pub use Rattle.ipmi_records.specs.declared.sdr.SdrFault.{SdrFault}
 pub use Rattle.ipmi_records.specs.declared.sdr.SdrView.{SdrView}
 pub use Rattle.ipmi_records.specs.declared.sel.SelView.TheVariants.{Event, OemPlain, OemTimed, Other}
-pub use Rattle.ipmi_bus.specs.Bounds.{digits, digits_most, fru_call_bound, step_call_bound}
+pub use Rattle.ipmi_bus.specs.Bounds.{digits, DigitsAreFew, fru_call_bound, step_call_bound}
 pub use Rattle.ipmi_bus.specs.CursorState.{CursorState, start_of}
 pub use Rattle.ipmi_bus.specs.Lent.{row_of_record}
 pub use Rattle.ipmi_bus.specs.Readers.{EndsUnder, inventory_len, InventoryCounts, IsRefusedInventory, IsRefusedOverChange, KeepsReservations, ReadsInventory, ReadsValue, ValueIs}

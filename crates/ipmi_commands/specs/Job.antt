@@ -36,7 +36,9 @@ job_of (Task.Fru None) from = Job.AllInventories
 job_of (Task.Fru (Some id)) from = Job.Inventory id
 job_of Task.Rewrite from = Job.Rewrite
 
--- a listing can start there
+-- ---- for the contracts of private functions
+
+-- a listing can start there; a page starts where the one before it stopped, which may be the end, or id 0000h
 abbrev pub IsPlace : Place → Type 0
 IsPlace First = Unit {0}
 IsPlace (Id n) = n < 65535

@@ -1,6 +1,7 @@
 pub mod Allowed
 pub mod Asking
 pub mod Below
+pub mod Calls
 pub mod Job
 pub mod Laws
 pub mod Listing

@@ -1,10 +1,11 @@
--- What a listing by a cursor leaves, and what is known of the two walks of the last entries.
+-- What a listing by a cursor leaves, and what is known of the two walks of the last entries: for the contracts of private
+-- functions.
 use Rattle.std.specs.Prelude.{◌≡◌, Bool, false, ℕ, ◌+◌, ◌-◌, ◌*◌, ◌<◌, ◌≤◌, ◌==◌, IsTrue, Option, None, Some, IfOk, Result, Ok, Err, List, length, take, drop}
 use Rattle.std.specs.FinSet as set
-use Rattle.ipmi_commands.specs.Below.{step_call_bound, digits, Ended, LastCallSays, LastFruCallSays, RefusesRecord, Place, Row, Shelf, Sel, Store, rows_of, IsWalk, WalkEnd, Done, EndsBy, place_after_rows, Seen, IsHonest, CursorState, StandsAt, CursorHoldsCurrent, Ending, Failure}
+use Rattle.ipmi_commands.specs.Below.{step_call_bound, digits, Ended, Place, Row, Shelf, Sel, Store, rows_of, IsWalk, WalkEnd, Done, EndsBy, place_after_rows, Seen, IsHonest, CursorState, StandsAt, CursorHoldsCurrent, Ending, Failure}
 use Rattle.ipmi_commands.specs.declared.job.Form.{Form}
 use Rattle.ipmi_commands.specs.Allowed.{ending_of, IsAllowed, EndsFor, cause_of, Change}
-use Rattle.ipmi_commands.specs.Asking.{calls_for, most_for_one, walk_call_bound}
+use Rattle.ipmi_commands.specs.Calls.{calls_for, most_for_one, walk_call_bound}
 use Rattle.ipmi_commands.specs.Job.{shelf_of, listing, IsPlace}
 use Rattle.ipmi_commands.specs.Plan.{OnWalk, first_rows, listing_plan, last_plan}
 use Rattle.ipmi_commands.specs.Texts.{IsTextOver}
@@ -21,24 +22,6 @@ abbrev pub end_of : {T : Type 0} → Form → Bool → T → Result T Failure
 end_of (Form.Block name) false with_ = Err (Failure.NoName name)
 end_of _ wrote with_ = Ok with_
 
--- only a sensor data record says its length
-abbrev pub MayEndOn : Shelf → Ended → Type 0
-MayEndOn Sel (Ended.Malformed n) = ⊥
-MayEndOn shelf ended = Unit {0}
-
--- it ends by a record as the last call says, by an inventory only where devices are listed, and by a name that is missing
--- only where it is asked for; no info, command line or image is at fault
-abbrev pub EndsListing : Form → Seen → Ending → Type 0
-EndsListing form seen (Ok done) = Unit {0}
-EndsListing form seen (Err (Failure.Ended ended)) =
-    LastCallSays RefusesRecord ended seen × MayEndOn (shelf_of form) ended
-EndsListing form seen (Err (Failure.Inventory id ended)) =
-    (form ≡ Form.Device) × LastFruCallSays ended seen
-EndsListing form seen (Err (Failure.NoName name)) = form ≡ Form.Block name
-EndsListing form seen (Err Failure.WriteFault) = Unit {0}
-EndsListing form seen (Err Failure.OutOfMemory) = Unit {0}
-EndsListing form seen _ = ⊥
-
 -- the cursor can go on
 pub record KeepsListing (begun now : CursorState) : Type 0 where
   pub shelf : now.shelf ≡ begun.shelf
@@ -49,7 +32,8 @@ pub record KeepsListing (begun now : CursorState) : Type 0 where
   pub place : IsPlace begun.place → IsPlace now.place
 
 -- where each record takes so many calls at most, a cursor takes no more than for the records that it can still hand out, of
--- 65,536 in all; and after as many as are wanted, no more than for those
+-- 65,536 in all, and for the falls of its part size; and after as many as are wanted, no more than for those (the sums are
+-- written without a subtraction)
 pub record ListingCalls (each : ℕ) (most : Option ℕ) (begun now : CursorState) (s s' : Seen)
     (result : Result ℕ Failure) : Type 0 where
   pub all : 0 < begun.part

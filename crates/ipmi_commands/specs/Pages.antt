@@ -1,10 +1,10 @@
 -- A listing in pages: each page has a cursor of its own, from where the page before it stopped.
 use Rattle.std.specs.Prelude.{◌≡◌, ℕ, ◌+◌, ◌*◌, ◌<◌, ◌≤◌, ◌==◌, if◌then◌else◌, ◌⊎◌, IsTrue, Option, None, Some, IfOk, Result, Ok, Err, List, [], ◌∷◌}
 use Rattle.std.specs.FinSet as set
-use Rattle.ipmi_commands.specs.Below.{step_call_bound, Place, First, End, Row, first_row, rows_of, WalkEnd, CycleAt, place_after_rows, CursorState, StandsAt, start_of, Seen, CommandState, Ending, Failure}
+use Rattle.ipmi_commands.specs.Below.{step_call_bound, digits, Place, First, End, Row, first_row, rows_of, WalkEnd, CycleAt, place_after_rows, CursorState, StandsAt, start_of, Seen, CommandState, Ending, Failure}
 use Rattle.ipmi_commands.specs.declared.job.Form.{Form}
 use Rattle.ipmi_commands.specs.Allowed.{IsAllowed, ending_of, EndsFor, cause_of, Change, change}
-use Rattle.ipmi_commands.specs.Asking.{calls_for, walk_call_bound}
+use Rattle.ipmi_commands.specs.Calls.{calls_for, walk_call_bound}
 use Rattle.ipmi_commands.specs.Job.{shelf_of, listing}
 use Rattle.ipmi_commands.specs.Plan.{OnWalk, first_rows, listing_plan}
 use Rattle.ipmi_commands.specs.Texts.{IsTextOver}
@@ -25,6 +25,7 @@ pub record IsFresh (command : CommandState) (form : Form) (from : Option ℕ)
     (cursor : CursorState) : Type 0 where
   pub is : cursor ≡ listing_cursor command form from
   pub some : 0 < cursor.part
+  pub falls : digits cursor.part ≤ 8
   pub stands : (rows walk : List Row) → StandsAt rows (start_of from) walk 0 cursor
 
 -- ---- a page

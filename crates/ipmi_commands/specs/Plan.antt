@@ -6,13 +6,13 @@ use Rattle.ipmi_commands.specs.declared.job.Form.{Form}
 use Rattle.ipmi_commands.specs.declared.job.Listing.{Listing}
 use Rattle.ipmi_commands.specs.Texts.{row_is_of_kind, is_name, Subject, OfRow, OfInventory, OfInfo, OfImage}
 
--- along each walk of a shelf from a place that has an end; a law of the bus says that there is one
+-- `Holds` of each walk of a shelf from this place that has an end, and of that end; by a law of the bus there is exactly one
 abbrev pub OnWalk : Shelf → Place → Store → (List Row → WalkEnd → Type 0) → Type 0
 OnWalk shelf start store Holds =
     (walk : List Row) (end : WalkEnd) → IsWalk (rows_of shelf store) start walk
     → EndsBy (rows_of shelf store) start walk end → Holds walk end
 
--- ---- used rows
+-- ---- the rows that are wanted
 
 -- the first rows of a walk, or all where there is no limit
 abbrev pub first_rows : Option ℕ → List Row → List Row
@@ -31,8 +31,8 @@ last_rows n walk _ = []
 
 -- ---- spots at which a run may give up or be refused
 
--- at a record: the id that is asked for, which is 0000h where a walk starts at the first one, or the record's own id
--- for its reading, or 0000h for an info; or at the inventory of a device
+-- `AtRecord`: the id that is asked for, 0000h for the first record and for an info; for a reading, its record's id.
+-- `AtInventory`: the id of the device
 pub data Spot : Type 0 where
   AtRecord : ℕ → Spot
   AtInventory : ℕ → Spot
@@ -42,12 +42,12 @@ abbrev pub reading_spots : ℕ → Result SdrView SdrFault → List Spot
 reading_spots id (Ok view) = if is_some (sdr.reading_of view) then AtRecord id ∷ [] else []
 reading_spots id (Err fault) = []
 
--- the same for a record of the kind; for any other nothing is asked for
+-- the reading's spot, for a record of the kind; for any other nothing is asked for
 abbrev pub listed_spots : Kind → Row → List Spot
 listed_spots kind row =
     if row_is_of_kind kind row then reading_spots row.id (sdr.sdr_view_of row.bytes) else []
 
--- the same for a record with the name
+-- the reading's spot, for a record with the name
 abbrev pub named_spots : List ℕ → ℕ → Result SdrView SdrFault → List Spot
 named_spots name id (Ok view) =
     if is_name name (sdr.name_of view) then reading_spots id (Ok view) else []
@@ -63,27 +63,27 @@ locator_spots (Ok view) = device_spots (sdr.fru_of view)
 locator_spots (Err fault) = []
 
 -- what is asked for because of a row
-abbrev pub spots_after : Form → Row → List Spot
-spots_after (Form.Line detail kind) row = listed_spots kind row
-spots_after (Form.Block name) row = named_spots name row.id (sdr.sdr_view_of row.bytes)
-spots_after Form.Device row = locator_spots (sdr.sdr_view_of row.bytes)
-spots_after _ row = []
+abbrev pub spots_because_of : Form → Row → List Spot
+spots_because_of (Form.Line detail kind) row = listed_spots kind row
+spots_because_of (Form.Block name) row = named_spots name row.id (sdr.sdr_view_of row.bytes)
+spots_because_of Form.Device row = locator_spots (sdr.sdr_view_of row.bytes)
+spots_because_of _ row = []
 
 -- the ids that are asked for along the rows
-abbrev pub spots_along : Place → List Row → List Spot
-spots_along start [] = []
-spots_along start (row ∷ rows) = AtRecord (asked_at start) ∷ spots_along (place_after row.next) rows
+abbrev pub spots_of_rows : Place → List Row → List Spot
+spots_of_rows start [] = []
+spots_of_rows start (row ∷ rows) = AtRecord (asked_at start) ∷ spots_of_rows (place_after row.next) rows
 
 -- at the end of a walk: the id that no row has; 0000h at the start of an empty shelf
-abbrev pub end_spots : Place → List Row → WalkEnd → List Spot
-end_spots start walk (MissingAt n) = AtRecord n ∷ []
-end_spots start walk (CycleAt n) = []
-end_spots First [] Done = AtRecord 0 ∷ []
-end_spots start walk Done = []
+abbrev pub spots_at_walk_end : Place → List Row → WalkEnd → List Spot
+spots_at_walk_end start walk (MissingAt n) = AtRecord n ∷ []
+spots_at_walk_end start walk (CycleAt n) = []
+spots_at_walk_end First [] Done = AtRecord 0 ∷ []
+spots_at_walk_end start walk Done = []
 
 -- all the ids asked for along a whole walk and at its end
 abbrev pub spots_of_walk : Place → List Row → WalkEnd → List Spot
-spots_of_walk start walk end = spots_along start walk ++ end_spots start walk end
+spots_of_walk start walk end = spots_of_rows start walk ++ spots_at_walk_end start walk end
 
 -- ---- plans
 
@@ -103,7 +103,7 @@ pub record Plan : Type 0 where
 abbrev pub row_items : Form → Place → List Row → List Item
 row_items form start [] = []
 row_items form start (row ∷ rows) =
-    record { subject = OfRow form row; spots = AtRecord (asked_at start) ∷ spots_after form row }
+    record { subject = OfRow form row; spots = AtRecord (asked_at start) ∷ spots_because_of form row }
     ∷ row_items form (place_after row.next) rows
 
 abbrev pub view_has_name : List ℕ → Result SdrView SdrFault → Bool
@@ -116,8 +116,7 @@ some_has_name name [] = false
 some_has_name name (row ∷ rows) =
     view_has_name name (sdr.sdr_view_of row.bytes) || some_has_name name rows
 
--- how a listing of these rows ends where its walk ends so: a finished one on which no record has the name that is asked
--- for ends by that
+-- how a listing of these rows ends, by how its walk ends; a finished one by name that met no such record ends by that
 abbrev pub rows_end : Form → List Row → WalkEnd → Ending
 rows_end form rows (CycleAt n) = Err (Failure.Ended (Cycle n))
 rows_end form rows (MissingAt n) = Err (Failure.Ended (Missing n))
@@ -130,15 +129,16 @@ abbrev pub listing_plan : Listing → List Row → WalkEnd → Plan
 listing_plan l walk end = record {
   items = row_items l.form l.start (first_rows l.most walk);
   end = rows_end l.form (first_rows l.most walk) (first_end l.most walk end);
-  end_spots = end_spots l.start walk (first_end l.most walk end);
+  end_spots = spots_at_walk_end l.start walk (first_end l.most walk end);
 }
 
--- the last entries are listed after a walk that counts them, and those before them are passed once more: at the first
--- item the run may stop at any spot of that walk
+-- the last entries are listed after a walk that counts them, and those before them are passed once more: before the first
+-- item the run may stop at any spot of that walk, the item's own among them
 abbrev pub with_first_spots : List Spot → List Item → List Item
 with_first_spots spots [] = []
 with_first_spots spots (item ∷ items) = record { subject = item.subject; spots = spots } ∷ items
 
+-- with no item, the end may come at any spot of the walk
 abbrev pub end_spots_of_last : List Spot → List Item → List Spot → List Spot
 end_spots_of_last spots [] at_end = spots
 end_spots_of_last spots (item ∷ items) at_end = at_end
@@ -153,7 +153,7 @@ last_plan n start walk end = record {
   items = with_first_spots (spots_of_walk start walk end) (last_items n start walk end);
   end = rows_end Form.EntryLine walk end;
   end_spots = end_spots_of_last (spots_of_walk start walk end) (last_items n start walk end)
-      (end_spots start walk end);
+      (spots_at_walk_end start walk end);
 }
 
 -- of one text, after which the run is finished
@@ -176,7 +176,7 @@ abbrev pub inventories_plan : List Row → WalkEnd → Plan
 inventories_plan walk end = record {
   items = inventory_item 0 ∷ row_items Form.Device First walk;
   end = rows_end Form.Device walk end;
-  end_spots = end_spots First walk end;
+  end_spots = spots_at_walk_end First walk end;
 }
 
 -- of the info of a shelf: its block, or none
@@ -188,6 +188,6 @@ info_plan (Some info) = text_plan (OfInfo info) (AtRecord 0 ∷ [])
 abbrev pub rewrite_plan : Plan
 rewrite_plan = text_plan OfImage []
 
--- which can't be done over a controller: nothing is printed
+-- of an image written again over a controller, which can't be done: nothing is printed
 abbrev pub no_plan : Plan
 no_plan = record { items = []; end = Err Failure.Usage; end_spots = [] }

@@ -1,20 +1,19 @@
 -- What a run of a command promises: over any controller, over an honest one, in pages, and over an image.
 use Rattle.std.specs.Prelude.{◌≡◌, ◌⊎◌, ℕ, ◌+◌, ◌*◌, ◌<◌, ◌≤◌, Bool, true, false, IsTrue, None, Result, Ok, Err, List, [], ◌++◌, length}
-use Rattle.ipmi_commands.specs.Below.{fru_call_bound, LastFailed, LastFruCallSays, NotPresent, Seen, start_of, Place, First, Sdr, Sel, Row, Store, info_of, WalkEnd, IsHonest, ImageFault, UsageFault, CommandState, Received, ReceivesText, TakesPart, Ending, Failure, failure_of_usage, said_of, status_of}
+use Rattle.ipmi_commands.specs.Below.{Ended, fru_call_bound, LastCallSays, LastFailed, LastFruCallSays, NotPresent, RefusesRecord, RefusesValue, Seen, Shelf, start_of, Place, First, Sdr, Sel, Row, Store, info_of, WalkEnd, IsHonest, ImageFault, UsageFault, CommandState, Received, ReceivesText, TakesPart, Ending, Failure, failure_of_usage, said_of, status_of}
 use Rattle.ipmi_commands.specs.declared.job.Form.{Form}
 use Rattle.ipmi_commands.specs.declared.job.Job.{Job}
 use Rattle.ipmi_commands.specs.declared.unread.Unread.{Unread}
 use Rattle.ipmi_commands.specs.Allowed.{NoMemory, cause_of, EndsFor, IsAllowed, IsFine, Change}
-use Rattle.ipmi_commands.specs.Asking.{calls_at, LacksValue, walk_call_bound, most_on_walk}
+use Rattle.ipmi_commands.specs.Calls.{calls_for_spot, walk_call_bound, most_on_walk}
 use Rattle.ipmi_commands.specs.Job.{shelf_of, is_rewrite, job_of, listing}
-use Rattle.ipmi_commands.specs.Listing.{EndsListing}
 use Rattle.ipmi_commands.specs.Pages.{ArePages, IsOneListing, pages_made}
 use Rattle.ipmi_commands.specs.Plan.{OnWalk, AtInventory, Plan, first_rows, last_rows, listing_plan, last_plan, inventory_plan, inventories_plan, info_plan, rewrite_plan, no_plan}
 use Rattle.ipmi_commands.specs.Texts.{IsTextOver}
 
 -- ---- over any controller
 
--- at most so many calls, where an inventory has at most 65,535 bytes
+-- at most so many calls; an inventory has at most 65,535 bytes
 abbrev pub most_calls : Job → ℕ → ℕ
 most_calls (Job.Records l) tries = most_on_walk l.form tries
 most_calls (Job.Last n from) tries =
@@ -23,6 +22,33 @@ most_calls (Job.Info shelf) tries = tries + 1
 most_calls (Job.Inventory id) tries = fru_call_bound tries 65535
 most_calls Job.AllInventories tries = fru_call_bound tries 65535 + most_on_walk Form.Device tries
 most_calls Job.Rewrite tries = 0
+
+-- an entry of the log has a fixed length, so only a sensor data record can be malformed
+abbrev pub MayEndOn : Shelf → Ended → Type 0
+MayEndOn Sel (Ended.Malformed n) = ⊥
+MayEndOn shelf ended = Unit {0}
+
+-- it ends by a record as the last call says, by an inventory only where devices are listed, and by a name that is missing
+-- only where it is asked for; no info, command line or image is at fault
+abbrev pub EndsListing : Form → Seen → Ending → Type 0
+EndsListing form seen (Ok done) = Unit {0}
+EndsListing form seen (Err (Failure.Ended ended)) =
+    LastCallSays RefusesRecord ended seen × MayEndOn (shelf_of form) ended
+EndsListing form seen (Err (Failure.Inventory id ended)) =
+    (form ≡ Form.Device) × LastFruCallSays ended seen
+EndsListing form seen (Err (Failure.NoName name)) = form ≡ Form.Block name
+EndsListing form seen (Err Failure.WriteFault) = Unit {0}
+EndsListing form seen (Err Failure.OutOfMemory) = Unit {0}
+EndsListing form seen _ = ⊥
+
+-- a reading or an info is given up or refused, or memory is wanted
+abbrev pub LacksValue : Unread → Seen → Type 0
+LacksValue (Unread.Ended (Ended.GaveUp n)) seen =
+    LastCallSays RefusesValue (Ended.GaveUp n) seen
+LacksValue (Unread.Ended (Ended.Refused n code)) seen =
+    LastCallSays RefusesValue (Ended.Refused n code) seen
+LacksValue Unread.Memory seen = Unit {0}
+LacksValue _ seen = ⊥
 
 -- an info: the last call says that there is none, or why it was not read
 abbrev pub EndsInfo : Seen → Ending → Type 0
@@ -62,7 +88,8 @@ last_call_bound n store tries walk end =
     walk_call_bound Form.EntryLine store tries walk
     + second_walk_bound (walk_call_bound Form.EntryLine store tries walk) (last_rows n walk end)
 
--- this holds of the plan over a store, and of the most calls that it takes: of a listing along the walk from its start
+-- `Holds` of the job's plan over a store and of the most calls that it takes, for each walk from the start that has an end;
+-- the tries bound only the calls
 abbrev pub OnPlan : Job → ℕ → Store → (Plan → ℕ → Type 0) → Type 0
 OnPlan (Job.Records l) tries store Holds =
     OnWalk (shelf_of l.form) l.start store (λ walk end. Holds (listing_plan l walk end)
@@ -72,10 +99,10 @@ OnPlan (Job.Last n from) tries store Holds =
     (last_call_bound n store tries walk end))
 OnPlan (Job.Info shelf) tries store Holds = Holds (info_plan (info_of shelf store)) (tries + 1)
 OnPlan (Job.Inventory id) tries store Holds =
-    Holds (inventory_plan id) (calls_at tries store (AtInventory id))
+    Holds (inventory_plan id) (calls_for_spot tries store (AtInventory id))
 OnPlan Job.AllInventories tries store Holds =
     OnWalk Sdr First store (λ walk end. Holds (inventories_plan walk end)
-    (calls_at tries store (AtInventory 0) + walk_call_bound Form.Device store tries walk))
+    (calls_for_spot tries store (AtInventory 0) + walk_call_bound Form.Device store tries walk))
 OnPlan Job.Rewrite tries store Holds = Holds no_plan 0
 
 -- what was printed of the plan, by how the run ended, for at most so many calls
@@ -100,7 +127,7 @@ pub record Runs (job : Job) (tries : ℕ) (c : Change) (ending : Ending) : Type 
 abbrev pub job_of_command : CommandState → Job
 job_of_command command = job_of command.task command.from
 
--- the same for a listing in pages of these sizes: each page by itself is a listing from its place, of at most as many rows
+-- as `Runs`, for a listing in pages of these sizes: each page by itself is a listing from its place, of at most as many rows
 -- as its size, and along a walk that does not end by a cycle all of them print what one listing may print
 pub record RunsInPages (form : Form) (start : Place) (tries : ℕ) (sizes : List ℕ) (c : Change)
     (ending : Ending) : Type 0 where
@@ -126,7 +153,7 @@ WritesText text old new (Err failure) = ⊥
 
 -- ---- over an image
 
--- the fault for which the bytes are no image, or want of memory, which may come before it; nothing is written
+-- the fault for which the bytes are no image, or out of memory, which may come first; nothing is written
 abbrev pub FailsToRead : ImageFault → List ℕ → List ℕ → Ending → Type 0
 FailsToRead fault old new ending =
     (new ≡ old) × ((ending ≡ Err (Failure.Image fault)) ⊎ (ending ≡ Err Failure.OutOfMemory))
@@ -136,8 +163,7 @@ pub record IsRewriting (store : Store) (old new : List ℕ) (ending : Ending) : 
   pub allowed : IsAllowed (IsTextOver store) rewrite_plan old new ending
   pub unwritten : cause_of ending ≡ NoMemory → new ≡ old
 
--- what is to be done over the store of an image, by whether the image is written again: otherwise nothing is refused, nor
--- given up
+-- over the store of an image, by whether the image is written again; if it is not, nothing is refused, nor given up
 abbrev pub RunsOver : Bool → Job → Store → List ℕ → List ℕ → Ending → Type 0
 RunsOver true job store old new ending = IsRewriting store old new ending
 RunsOver false job store old new ending =

@@ -47,16 +47,16 @@ abbrev pub IsLineOf : Detail → SdrView → Option Reading → List ℕ → Typ
 IsLineOf Detail.Short view reading text = IsSdrLine view reading text
 IsLineOf Detail.Extended view reading text = IsExtendedLine view reading text
 
--- that line, or in both forms the line of the record's fault
-abbrev pub IsListed : Detail → Store → ℕ → Result SdrView SdrFault → List ℕ → Type 0
-IsListed detail store id (Ok view) text = IsLineOf detail view (reading_for store view) text
-IsListed detail store id (Err fault) text = text ≡ fault_line id fault
+-- that line, or in either form the line of the record's fault
+abbrev pub IsRecordLine : Detail → Store → ℕ → Result SdrView SdrFault → List ℕ → Type 0
+IsRecordLine detail store id (Ok view) text = IsLineOf detail view (reading_for store view) text
+IsRecordLine detail store id (Err fault) text = text ≡ fault_line id fault
 
 -- the line of a record of the kind, nothing of any other
 abbrev pub IsListedOfKind : Detail → Kind → Store → Row → List ℕ → Type 0
 IsListedOfKind detail kind store row text =
     IfChosen (row_is_of_kind kind row)
-    (λ t. IsListed detail store row.id (sdr.sdr_view_of row.bytes) t) text
+    (λ t. IsRecordLine detail store row.id (sdr.sdr_view_of row.bytes) t) text
 
 -- the block of a record with the name; a record with a fault has none
 abbrev pub IsBlockOfName : List ℕ → Store → ℕ → Result SdrView SdrFault → List ℕ → Type 0
@@ -71,7 +71,7 @@ abbrev pub IsInventoryText : Option (List ℕ) → List ℕ → Type 0
 IsInventoryText None text = text ≡ codes "not present\n"
 IsInventoryText (Some bytes) text = IsFruText bytes text
 
--- a line that names the device, its inventory, and an empty line
+-- a line with the device and its name, its inventory, and an empty line
 pub record IsInventoryPiece (store : Store) (id : ℕ) (name : List ℕ) (text : List ℕ) : Type 0 where
   pub inventory : List ℕ
   pub is_inventory : IsInventoryText (inventory_of id store) inventory
@@ -82,7 +82,7 @@ pub record IsInventoryPiece (store : Store) (id : ℕ) (name : List ℕ) (text :
 abbrev pub name_of_locator : SdrView → List ℕ
 name_of_locator view = codes " (" ++ (printed_name view ++ codes ")")
 
--- the device of a locator: device 0 was printed first, and one that is reached elsewhere is not read
+-- the device of a locator: device 0 is left out, as it was printed first, and one that is reached elsewhere is only named
 abbrev pub IsDevicePiece : Store → SdrView → Option ℕ → List ℕ → Type 0
 IsDevicePiece store view None text =
     text ≡ codes "FRU" ++ (name_of_locator view ++ codes ": elsewhere, not read\n\n")

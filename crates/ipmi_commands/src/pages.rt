@@ -21,6 +21,7 @@ pub(crate) fn start_cursor(
     requires { IsFrom from }
     ensures { IfOk result (λ cursor. IsFresh cmd.now form.now from cursor) }
 {
+    ipmi_bus::laws::a_part_size_has_few_digits();
     Cursor::start(alloc, form.shelf(), from, cmd.part(), cmd.tries())
 }
 

@@ -2,7 +2,7 @@
 ghost use Rattle.std.specs.Prelude.{◌≡◌, ◌+◌, ◌≤◌, IfErr, IfOk, length, Ok, option_map, string_bytes};
 ghost use Rattle.ipmi_commands.specs.Below.{AsksAtMost, row_of_record, IsHonest, largest_len, whole_len, sdr_view_of};
 ghost use Rattle.ipmi_records.specs.Sdr.{name_of};
-ghost use Rattle.ipmi_commands.specs.Prelude.{LacksPiece, LacksValue, bytes_of, Finds, is_name, is_of_kind, IsBlockOfName, IsLineOf, IsListedOfKind, IsRowText, listed_spots, most_after, named_spots, reading_for, reading_spots, shelf_of, spots_after};
+ghost use Rattle.ipmi_commands.specs.Prelude.{LacksPiece, LacksValue, bytes_of, Finds, is_name, is_of_kind, IsBlockOfName, IsLineOf, IsListedOfKind, IsRowText, listed_spots, most_after, named_spots, reading_for, reading_spots, shelf_of, spots_because_of};
 
 use crate::inventory::locator_piece;
 use crate::job::{Detail, Form};
@@ -180,7 +180,7 @@ pub(crate) fn record_piece<C: Controller>(
     ensures says { IfErr result (λ unread. LacksPiece form.now unread (C.seen ctl.new)) }
     ensures honest { let row = row_of_record lent.now in IsHonest (C.seen ctl.old) →
         Finds (λ store piece. IsRowText store form.now row (bytes_of line.new.items piece))
-        (spots_after form.now row) cmd.now.tries (C.seen ctl.old) (C.seen ctl.new) result }
+        (spots_because_of form.now row) cmd.now.tries (C.seen ctl.old) (C.seen ctl.new) result }
 {
     let tries = cmd.tries();
     match form {

@@ -1,5 +1,5 @@
 -- The message and the exit status of each failure.
-use Rattle.std.specs.Prelude.{ℕ, List, [], ◌∷◌, ◌++◌, flat_map, codes, if◌then◌else◌, decimal, Result, Ok, Err}
+use Rattle.std.specs.Prelude.{ℕ, List, [], ◌∷◌, ◌++◌, flat_map, codes, if◌then◌else◌, decimal, Option, Some, None, Result, Ok, Err}
 use Rattle.std.specs.Char.{is_ascii_control}
 use Rattle.ipmi_bus.specs.declared.inventory_reader.FruEnded.{FruEnded}
 use Rattle.ipmi_bus.specs.declared.step.Ended.{Ended}
@@ -8,6 +8,7 @@ use Rattle.ipmi_image.specs.declared.image.ImageFault.{ImageFault}
 use Rattle.ipmi_text.specs.Hex.{byte_h, upper_byte, word_h}
 use Rattle.ipmi_output.specs.declared.failure.Failure.{Failure}
 use Rattle.ipmi_output.specs.declared.message.Message.{Message}
+use Rattle.ipmi_output.specs.declared.message.Part.{Part}
 use Rattle.ipmi_output.specs.declared.message.Piece.{Piece}
 
 -- why a record, a reading or an info was not read, with its id
@@ -29,23 +30,40 @@ inventory_text id FruEnded.Stalled = codes "fru " ++ (decimal id ++ codes " stal
 inventory_text id FruEnded.Words = codes "fru " ++ (decimal id ++ codes " uses words")
 inventory_text id FruEnded.Memory = codes "out of memory"
 
--- what is wrong with a line of an image
-abbrev pub line_fault_text : ℕ → List ℕ → List ℕ
-line_fault_text line what = codes "image line " ++ (decimal line ++ (codes ": " ++ what))
+-- the line of an image that is at fault
+abbrev pub fault_line : ImageFault → Option ℕ
+fault_line (ImageFault.Line line) = Some line
+fault_line (ImageFault.Hex line) = Some line
+fault_line (ImageFault.Id line) = Some line
+fault_line (ImageFault.Twice line) = Some line
+fault_line (ImageFault.Length line) = Some line
+fault_line (ImageFault.FirstId line) = Some line
+fault_line (ImageFault.AfterEnd line) = Some line
+fault_line (ImageFault.TooMany line) = Some line
+fault_line _ = None
+
+-- what is wrong with it
+abbrev pub fault_words : ImageFault → List ℕ
+fault_words ImageFault.Memory = codes "out of memory"
+fault_words ImageFault.Header = codes "header"
+fault_words (ImageFault.Line line) = codes "not a line"
+fault_words (ImageFault.Hex line) = codes "hex"
+fault_words (ImageFault.Id line) = codes "id"
+fault_words (ImageFault.Twice line) = codes "twice"
+fault_words (ImageFault.Length line) = codes "length"
+fault_words (ImageFault.FirstId line) = codes "first id"
+fault_words ImageFault.NoEnd = codes "no end"
+fault_words (ImageFault.AfterEnd line) = codes "after end"
+fault_words (ImageFault.TooMany line) = codes "too many bytes"
 
 -- why the input is no image
+abbrev pub image_fault_words : Option ℕ → List ℕ → List ℕ
+image_fault_words (Some line) words = codes "image line " ++ (decimal line ++ (codes ": " ++ words))
+image_fault_words None words = codes "image: " ++ words
+
 abbrev pub image_fault_text : ImageFault → List ℕ
-image_fault_text ImageFault.Memory = codes "out of memory"
-image_fault_text ImageFault.Header = codes "image: header"
-image_fault_text (ImageFault.Line line) = line_fault_text line (codes "not a line")
-image_fault_text (ImageFault.Hex line) = line_fault_text line (codes "hex")
-image_fault_text (ImageFault.Id line) = line_fault_text line (codes "id")
-image_fault_text (ImageFault.Twice line) = line_fault_text line (codes "twice")
-image_fault_text (ImageFault.Length line) = line_fault_text line (codes "length")
-image_fault_text (ImageFault.FirstId line) = line_fault_text line (codes "first id")
-image_fault_text ImageFault.NoEnd = codes "image: no end"
-image_fault_text (ImageFault.AfterEnd line) = line_fault_text line (codes "after end")
-image_fault_text (ImageFault.TooMany line) = line_fault_text line (codes "too many bytes")
+image_fault_text ImageFault.Memory = fault_words ImageFault.Memory
+image_fault_text fault = image_fault_words (fault_line fault) (fault_words fault)
 
 abbrev pub failure_text : Failure → List ℕ
 failure_text Failure.Usage =
@@ -130,3 +148,14 @@ escaped_name name = flat_map escaped_byte name
 
 abbrev pub unreadable_text : List ℕ → List ℕ
 unreadable_text name = codes "cannot read " ++ escaped_name name
+
+-- ---- the parts of a line that is said
+
+abbrev pub part_text : Part → List ℕ
+part_text (Part.Text text) = text.now
+part_text (Part.Name name) = escaped_name name.now
+part_text (Part.Number number) = decimal number
+part_text (Part.Failure failure) = failure_text failure.now
+
+abbrev pub joined_parts : List Part → List ℕ
+joined_parts parts = flat_map part_text parts

@@ -1,6 +1,6 @@
 //! Why a run did not finish: the message of each failure, and its exit status.
 ghost use Rattle.std.specs.Prelude.{◌≡◌, Some};
-ghost use Rattle.ipmi_output.specs.Failure.{ended_text, failure_of_image, failure_of_usage, failure_text, image_fault_text, inventory_text, line_fault_text, message_text, status_of_failure};
+ghost use Rattle.ipmi_output.specs.Failure.{ended_text, failure_of_image, failure_of_usage, failure_text, fault_line, fault_words, image_fault_text, inventory_text, message_text, status_of_failure};
 ghost use Rattle.ipmi_output.specs.declared.failure.Failure.{Failure};
 
 use crate::message::Message;
@@ -199,28 +199,50 @@ fn of_inventory<'a>(id: u8, ended: FruEnded) -> Message<'a>
     }
 }
 
+/// The line of an image that is at fault, counted from 1; none where it is not one line.
+pub fn fault_line(fault: ImageFault) -> Option<usize>
+    ensures { result ≡ fault_line fault }
+{
+    match fault {
+        ImageFault::Line(line)
+        | ImageFault::Hex(line)
+        | ImageFault::Id(line)
+        | ImageFault::Twice(line)
+        | ImageFault::Length(line)
+        | ImageFault::FirstId(line)
+        | ImageFault::AfterEnd(line)
+        | ImageFault::TooMany(line) => Some(line),
+        ImageFault::Memory | ImageFault::Header | ImageFault::NoEnd => None,
+    }
+}
+
+/// What is wrong with an image, in words.
+pub fn fault_words(fault: ImageFault) -> &'static str
+    ensures { result.now ≡ fault_words fault }
+{
+    match fault {
+        ImageFault::Memory => "out of memory",
+        ImageFault::Header => "header",
+        ImageFault::Line(_) => "not a line",
+        ImageFault::Hex(_) => "hex",
+        ImageFault::Id(_) => "id",
+        ImageFault::Twice(_) => "twice",
+        ImageFault::Length(_) => "length",
+        ImageFault::FirstId(_) => "first id",
+        ImageFault::NoEnd => "no end",
+        ImageFault::AfterEnd(_) => "after end",
+        ImageFault::TooMany(_) => "too many bytes",
+    }
+}
+
 /// Why the input is no image.
 fn of_image<'a>(fault: ImageFault) -> Message<'a>
     ensures { message_text result ≡ image_fault_text fault }
 {
-    match fault {
-        ImageFault::Memory => text("out of memory"),
-        ImageFault::Header => text("image: header"),
-        ImageFault::Line(line) => of_line(line, "not a line"),
-        ImageFault::Hex(line) => of_line(line, "hex"),
-        ImageFault::Id(line) => of_line(line, "id"),
-        ImageFault::Twice(line) => of_line(line, "twice"),
-        ImageFault::Length(line) => of_line(line, "length"),
-        ImageFault::FirstId(line) => of_line(line, "first id"),
-        ImageFault::NoEnd => text("image: no end"),
-        ImageFault::AfterEnd(line) => of_line(line, "after end"),
-        ImageFault::TooMany(line) => of_line(line, "too many bytes"),
+    let words = Text(fault_words(fault));
+    match fault_line(fault) {
+        Some(line) => Message("image line ", Number(line), ": ", words),
+        None if fault == ImageFault::Memory => Message("", words, "", NONE),
+        None => Message("image: ", words, "", NONE),
     }
-}
-
-/// What is wrong with this line of an image.
-fn of_line<'a>(line: usize, what: &'a str) -> Message<'a>
-    ensures { message_text result ≡ line_fault_text line what.now }
-{
-    Message("image line ", Number(line), ": ", Text(what))
 }

@@ -1,12 +1,12 @@
-//! Says why a run did not finish. A message is one line, written piece by piece and not made as a whole text first: so none
-//! takes memory, and the want of memory can be told as well.
+//! Says why a run did not finish, or what else a program has to say. A message is one line, written piece by piece and not made
+//! as a whole text first: so none takes memory, and the want of memory can be told as well.
 ghost use Rattle.std.specs.Prelude.{◌≡◌, ◌<◌, Some, not, true};
 ghost use Rattle.std.specs.Char.{is_ascii_control};
 ghost use Rattle.std.specs.List.{list_all};
 ghost use Rattle.std.specs.Fmt.{digit_glyph};
 ghost use Rattle.ipmi_text.specs.Hex.{byte_h, upper_byte, word_h};
 ghost use Rattle.ipmi_output.specs.Received.{WritesAll};
-ghost use Rattle.ipmi_output.specs.Failure.{escaped_byte, escaped_name, failure_text, joined_pieces, line_text, piece_text, unreadable_text};
+ghost use Rattle.ipmi_output.specs.Failure.{escaped_byte, escaped_name, failure_text, joined_parts, joined_pieces, line_text, part_text, piece_text, unreadable_text};
 
 use crate::failure::Failure;
 use crate::message_sink::{MessageSink, offer_all};
@@ -44,28 +44,71 @@ impl<'a> fmt::Display for Piece<'a> {
     }
 }
 
-/// Writes the message of the failure as a line. Where the sink does not take all of it, it has a first part.
+/// A part of a line that is said.
+#[derive(Clone, Copy, Debug)]
+pub enum Part<'a> {
+    /// A text as it is.
+    Text(&'a str),
+    /// A name, or whatever else was typed. A control byte, below 20h or 7Fh, is written as `\x` and two upper-case hex digits, so
+    /// that the message stays one line; all others are written as they are.
+    Name(&'a str),
+    /// A number in decimal.
+    Number(usize),
+    /// The message of a failure.
+    Failure(&'a Failure<'a>),
+}
+
+/// Writes the parts as a line. Where the sink does not take all of it, it has a first part.
+pub fn say_line<E: MessageSink>(err: &mut E, parts: &[Part<'_>]) -> Result<(), SinkFault>
+    ensures { WritesAll (E.received err.old) (E.received err.new) result
+        (line_text (joined_parts parts.now)) }
+{
+    write_parts(err, parts)?;
+    offer_all(err, b"\n")
+}
+
+/// Writes the message of the failure as a line ([`say_line`]).
 pub fn say<E: MessageSink>(err: &mut E, failure: &Failure<'_>) -> Result<(), SinkFault>
     ensures { WritesAll (E.received err.old) (E.received err.new) result
         (line_text (failure_text failure.now)) }
 {
-    let Message(before, subject, after, last) = failure.message();
-    let end = Piece::Text("\n");
-    write_pieces(
-        err,
-        &[Piece::Text(before), subject, Piece::Text(after), last, end],
-    )
+    say_line(err, &[Part::Failure(failure)])
 }
 
-/// Writes, as a line, that what has this name could not be read, or is too long. A control byte of the name, below 20h or 7Fh,
-/// is written as `\x` and two upper-case hex digits, so that the message stays one line; all others are written as they are.
+/// Writes, as a line, that what has this name could not be read, or is too long ([`say_line`]).
 pub fn say_unreadable<E: MessageSink>(err: &mut E, name: &str) -> Result<(), SinkFault>
     ensures { WritesAll (E.received err.old) (E.received err.new) result
         (line_text (unreadable_text name.now)) }
 {
-    offer_all(err, b"cannot read ")?;
-    write_escaped(err, name.as_bytes())?;
-    offer_all(err, b"\n")
+    say_line(err, &[Part::Text("cannot read "), Part::Name(name)])
+}
+
+/// Writes the parts, one after another.
+fn write_parts<E: MessageSink>(err: &mut E, parts: &[Part<'_>]) -> Result<(), SinkFault>
+    ensures { WritesAll (E.received err.old) (E.received err.new) result (joined_parts parts.now) }
+{
+    for part in parts {
+        write_part(err, part)?;
+    }
+    Ok(())
+}
+
+/// Writes a part.
+fn write_part<E: MessageSink>(err: &mut E, part: &Part<'_>) -> Result<(), SinkFault>
+    ensures { WritesAll (E.received err.old) (E.received err.new) result (part_text part.now) }
+{
+    match part {
+        Part::Text(text) => offer_all(err, text.as_bytes()),
+        Part::Name(name) => write_escaped(err, name.as_bytes()),
+        Part::Number(number) => offer_all(err, Buffer::new().format(*number).as_bytes()),
+        Part::Failure(failure) => {
+            let Message(before, subject, after, last) = failure.message();
+            write_pieces(
+                err,
+                &[Piece::Text(before), subject, Piece::Text(after), last],
+            )
+        }
+    }
 }
 
 /// Whether the name has no control byte.

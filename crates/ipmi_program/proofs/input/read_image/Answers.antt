@@ -1,6 +1,6 @@
 -- Of a reader whose bytes are known, all were read: it had no more than may be read.
 use Rattle.std.proofs.Common.{◌≡◌, ◌∙◌, ℕ, ◌<◌, Option, None, Some, IfSome, List, [], ◌++◌, length, take, ap, arith, option_map, take_all, length-take}
-use Rattle.ipmitool.proofs.input.read_image.Goals as goal
+use Rattle.ipmi_program.proofs.input.read_image.Goals as goal
 
 whole : (n : ℕ) (o : Option (List ℕ)) (bytes : List ℕ) → length bytes < n
     → IfSome (option_map (take n) o) (λ read. bytes ≡ [] ++ read) → IfSome o (λ all. bytes ≡ all)

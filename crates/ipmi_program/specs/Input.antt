@@ -1,0 +1,21 @@
+-- The words of a process, and why an image was not read.
+use Rattle.std.specs.Prelude.{ℕ, List, [], ◌∷◌, Option, Some, None, codes}
+use Rattle.ipmi_program.specs.declared.input.InputFault.{InputFault}
+
+-- its arguments, or the program's name where there are none at all
+abbrev pub named : List (List ℕ) → List (List ℕ)
+named [] = codes "ipmitool" ∷ []
+named (name ∷ arguments) = name ∷ arguments
+
+abbrev pub input_fault_words : InputFault → List ℕ
+input_fault_words InputFault.Memory = codes "out of memory"
+input_fault_words InputFault.NotFound = codes "no such file"
+input_fault_words InputFault.IsDirectory = codes "is a directory"
+input_fault_words InputFault.PermissionDenied = codes "permission denied"
+input_fault_words InputFault.TooLong = codes "longer than 64 MiB"
+input_fault_words InputFault.Other = codes "read error"
+
+-- what messages call the input
+abbrev pub input_name : Option (List ℕ) → List ℕ
+input_name (Some file) = file
+input_name None = codes "standard input"
