@@ -1,3 +1,4 @@
 pub mod Failure
 pub mod Received
 pub mod Sink
+pub mod Writer

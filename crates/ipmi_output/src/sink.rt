@@ -3,7 +3,7 @@ ghost use Rattle.std.specs.Prelude.{◌≡◌, ℕ, ◌≤◌, ◌<◌, ◌+◌,
 ghost use Rattle.std.specs.Borrow.{ftrue};
 ghost use Rattle.ipmi_output.specs.Sink.{taken_by, faults_by, TakesPart};
 
-use std::io::Write;
+use std::io::{BufWriter, Write};
 use std::marker::Model;
 use std::snapshot::Snapshot;
 use thiserror::Error;
@@ -82,6 +82,8 @@ impl<W: Write> Sink for Written<W> {
 }
 
 impl<W: Write> Written<W> {
+    ghost use Rattle.ipmi_output.specs.Writer.{writer_of};
+
     /// A sink over the writer. What the writer holds already counts as taken, and no fault is counted yet.
     pub fn new(writer: W) -> Written<W>
         ensures taken { ⟦<Written<W> as Sink>⟧.taken result ≡ unwrap_or (W.contents writer) [] }
@@ -96,12 +98,40 @@ impl<W: Write> Written<W> {
         }
     }
 
+    /// The writer.
+    pub fn get_ref(&self) -> &W
+        ensures { result.now ≡ writer_of self.now }
+    {
+        &self.writer
+    }
+
     /// Gives back the writer. Where contracts see what a writer holds, as of a `Vec<u8>`, it holds the bytes taken.
     pub fn into_inner(self) -> W
-        ensures { ((w : W) → IsSome (W.contents w)) →
+        ensures writer { result ≡ writer_of self }
+        ensures bytes { ((w : W) → IsSome (W.contents w)) →
             W.contents result ≡ Some (⟦<Written<W> as Sink>⟧.taken self) }
     {
         self.writer
+    }
+}
+
+impl<W: Write + Drop> Written<BufWriter<W>> {
+    ghost use Rattle.std.specs.Io.Buffered.{writer_buffer};
+    ghost use Rattle.ipmi_output.specs.Writer.{flush_faults, writer_of};
+
+    /// Hands on what is in the buffer to the writer below it; where that fails, it is a fault. No byte counts as taken by it.
+    pub fn flush(&mut self) -> Result<(), SinkFault>
+        ensures empty { OnOk result (writer_buffer (writer_of self.new) ≡ []) }
+        ensures taken { ⟦<Written<BufWriter<W>> as Sink>⟧.taken self.new ≡ ⟦<Written<BufWriter<W>> as Sink>⟧.taken self.old }
+        ensures faults { ⟦<Written<BufWriter<W>> as Sink>⟧.faults self.new ≡
+            ⟦<Written<BufWriter<W>> as Sink>⟧.faults self.old + flush_faults result }
+    {
+        let answer = self.writer.flush().or(Err(SinkFault));
+        if answer.is_err() {
+            let before = Some(&self.history);
+            self.history = History::after(&Call(before, &[], Err(SinkFault)));
+        }
+        answer
     }
 }
 

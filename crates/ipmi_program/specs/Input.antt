@@ -1,11 +1,20 @@
 -- The words of a process, and why an image was not read.
-use Rattle.std.specs.Prelude.{ℕ, List, [], ◌∷◌, Option, Some, None, codes}
+use Rattle.std.specs.Prelude.{◌≡◌, ◌≢◌, ◌↔◌, ℕ, List, [], ◌∷◌, Option, Some, None, codes}
+use Rattle.std.specs.declared.io.ErrorKind.{ErrorKind}
 use Rattle.ipmi_program.specs.declared.input.InputFault.{InputFault}
 
 -- its arguments, or the program's name where there are none at all
 abbrev pub named : List (List ℕ) → List (List ℕ)
 named [] = codes "ipmitool" ∷ []
 named (name ∷ arguments) = name ∷ arguments
+
+-- of an error of this kind; that there is too much to read is none
+pub record IsFaultOf (kind : ErrorKind) (fault : InputFault) : Type 0 where
+  pub memory : (kind ≡ ErrorKind.OutOfMemory) ↔ (fault ≡ InputFault.Memory)
+  pub not_found : (kind ≡ ErrorKind.NotFound) ↔ (fault ≡ InputFault.NotFound)
+  pub directory : (kind ≡ ErrorKind.IsADirectory) ↔ (fault ≡ InputFault.IsDirectory)
+  pub denied : (kind ≡ ErrorKind.PermissionDenied) ↔ (fault ≡ InputFault.PermissionDenied)
+  pub short : fault ≢ InputFault.TooLong
 
 abbrev pub input_fault_words : InputFault → List ℕ
 input_fault_words InputFault.Memory = codes "out of memory"

@@ -1,11 +1,13 @@
--- What a buffered writer hands on of what was printed.
-use Rattle.std.specs.Prelude.{◌≡◌, ℕ, List, [], ◌++◌, Err}
+-- How a run ended whose output was then handed on.
+use Rattle.std.specs.Prelude.{◌≡◌, ◌⊎◌, ℕ, List, [], Err}
 use Rattle.ipmi_output.specs.Failure.{Ending}
 use Rattle.ipmi_output.specs.declared.failure.Failure.{Failure}
 
--- all that a run leaves was handed on to the writer below the buffer; or the ending is a write fault, and a first part of it
--- was, while the rest is left in the buffer. Before that fault the run may have ended otherwise
-abbrev pub HandsOn : (List ℕ → Ending → Type 0) → List ℕ → List ℕ → Ending → Type 0
-HandsOn Leaves handed left (Err Failure.WriteFault) =
-    (ending : Ending) × Leaves (handed ++ left) ending
-HandsOn Leaves handed left ending = Leaves handed ending × (left ≡ [])
+-- as the run ended, or by a write fault after that
+abbrev pub EndsBy : (Ending → Type 0) → Ending → Type 0
+EndsBy Holds result = (ending : Ending) × Holds ending × ((result ≡ ending) ⊎ (result ≡ Err Failure.WriteFault))
+
+-- nothing is left in the buffer, unless there was a write fault
+abbrev pub IsHandedOn : List ℕ → Ending → Type 0
+IsHandedOn left (Err Failure.WriteFault) = Unit {0}
+IsHandedOn left ending = left ≡ []

@@ -1,6 +1,8 @@
 //! What a program reads: its words, and its image.
-ghost use Rattle.std.specs.Prelude.{◌≡◌, ◌≢◌, ◌<◌, ◌≤◌, IfErr, IfOk, IfSome, Some, length, map, option_map, string_bytes, vec_len};
-ghost use Rattle.ipmi_program.specs.Input.{input_fault_words, input_name, named};
+ghost use Rattle.std.specs.Prelude.{◌≡◌, ◌⊎◌, ◌<◌, ◌≤◌, IfErr, IfOk, IfSome, Some, length, map, option_map, string_bytes, vec_len};
+ghost use Rattle.std.specs.IoError.{error_kind};
+ghost use Rattle.ipmi_command_line.specs.declared.command.UsageFault.{UsageFault};
+ghost use Rattle.ipmi_program.specs.Input.{input_fault_words, input_name, IsFaultOf, named};
 ghost use Rattle.ipmi_program.specs.declared.input.InputFault.{InputFault};
 
 use ipmi_command_line::{UsageFault, Word, Words};
@@ -58,7 +60,7 @@ impl fmt::Display for InputFault {
 impl Error for InputFault {}
 
 impl From<io::Error> for InputFault {
-    ghost from_gives = { λ _ fault. fault ≢ InputFault.TooLong };
+    ghost from_gives = { λ error fault. IsFaultOf (error_kind error) fault };
 
     fn from(error: io::Error) -> InputFault {
         match error.kind() {
@@ -88,7 +90,8 @@ pub fn words_of(alloc: Global, arguments: &[String]) -> Result<Words, AllocError
 
 /// The words of this process ([`words_of`]). An argument that is not UTF-8 is `UsageFault::Line`.
 pub fn read_words<R: Env + AllocGlobal>(rt: &R) -> Result<Words, UsageFault>
-    ensures { IfOk result (λ words. 0 < length words) }
+    ensures ok { IfOk result (λ words. 0 < length words) }
+    ensures err { IfErr result (λ fault. (fault ≡ UsageFault.Memory) ⊎ (fault ≡ UsageFault.Line)) }
 {
     let arguments: Vec<String> = match env::args(rt) {
         Ok(arguments) => arguments.collect(rt.alloc())?,

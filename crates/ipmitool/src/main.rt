@@ -19,17 +19,18 @@ fn main(rt: HostRuntime) -> ExitCode {
 /// status.
 fn program(rt: &HostRuntime) -> u8 {
     let mut err = Written::new(rt.stderr());
-    let Ok(out) = BufWriter::new(rt.alloc(), io::writer(rt)) else {
+    let Ok(buffer) = BufWriter::new(rt.alloc(), io::writer(rt)) else {
         return report(Err(Failure::OutOfMemory), &mut err);
     };
+    let mut out = Written::new(buffer);
     let line = read_command(rt);
     let input = match &line {
         Ok(command) => read_input(rt, command.image()),
         Err(_) => Ok(Vec::new(rt.alloc())),
     };
-    let (out, status) = answer_buffered(rt.alloc(), &line, &input, out, &mut err);
+    let status = answer_buffered(rt.alloc(), &line, &input, &mut out, &mut err);
     // what a failing flush left is not tried once more
-    let _ = out.into_parts();
+    let _ = out.into_inner().into_parts();
     status
 }
 
