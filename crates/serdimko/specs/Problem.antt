@@ -1,0 +1,101 @@
+-- Why nothing, or not all, was printed of an image: when, in which words, and with which status.
+use Rattle.std.specs.Prelude.{◌≡◌, ℕ, Bool, true, false, List, [], ◌++◌, codes, decimal, Option, Some, None, Result, Ok, Err}
+use Rattle.ipmi_image.specs.declared.image.ImageFault.{ImageFault}
+use Rattle.ipmi_output.specs.Failure.{Ending, escaped_name, failure_text, fault_line, fault_words, line_text, status_of_failure, write_faults}
+use Rattle.ipmi_output.specs.Received.{Received, ReceivesText}
+use Rattle.ipmi_output.specs.declared.failure.Failure.{Failure}
+use Rattle.ipmi_program.specs.Input.{input_fault_words}
+use Rattle.ipmi_program.specs.declared.input.InputFault.{InputFault}
+use Rattle.serdimko.specs.declared.problem.Looks.{Looks}
+use Rattle.serdimko.specs.declared.problem.Problem.{Problem}
+
+-- ---- when
+
+-- where the output took no more: whoever reads it has closed it, or there is a fault
+abbrev pub output_problem : Bool → Problem
+output_problem true = Problem.Closed
+output_problem false = Problem.Failed Failure.WriteFault
+
+-- of a run: its ending, what its input looks like, whether it printed faults that matter, and whether the output was closed
+abbrev pub problem_of : Ending → Looks → Bool → Bool → Option Problem
+problem_of (Err Failure.WriteFault) looks faulty closed = Some (output_problem closed)
+problem_of (Err (Failure.Image ImageFault.Memory)) looks faulty closed =
+    Some (Problem.Failed Failure.OutOfMemory)
+problem_of (Err (Failure.Image fault)) looks faulty closed = Some (Problem.NoImage fault looks)
+problem_of (Err failure) looks faulty closed = Some (Problem.Failed failure)
+problem_of (Ok done) looks true closed = Some Problem.Faulty
+problem_of (Ok done) looks false closed = None
+
+-- input that was not read
+abbrev pub unread : InputFault → Problem
+unread InputFault.Memory = Problem.Failed Failure.OutOfMemory
+unread fault = Problem.Unread fault
+
+-- ---- words
+
+abbrev pub looks_words : Looks → List ℕ
+looks_words Looks.Empty = codes " (it is empty)"
+looks_words Looks.Compressed = codes " (compressed: unpack it first)"
+looks_words Looks.ByteOrderMark = codes " (begins with a byte order mark)"
+looks_words Looks.CrLf = codes " (line ends are CR LF)"
+looks_words Looks.Utf16 = codes " (begins as UTF-16)"
+looks_words Looks.Unknown =
+    codes " (the first line is not 'ipmi-image 1' or 'ipmi-image 2')"
+
+-- what is wrong with an image: on a line, or as a whole
+abbrev pub image_problem : List ℕ → Option ℕ → List ℕ → List ℕ
+image_problem name (Some line) words =
+    escaped_name name ++ (codes ":" ++ (decimal line ++ (codes ": " ++ words)))
+image_problem name None words = escaped_name name ++ (codes ": " ++ words)
+
+-- of one image by itself, or of one of several, with its name
+abbrev pub named_text : Bool → List ℕ → List ℕ → List ℕ
+named_text true name text = text
+named_text false name text = escaped_name name ++ (codes ": " ++ text)
+
+abbrev pub problem_text : List ℕ → Bool → Problem → List ℕ
+problem_text name is_one (Problem.Unread fault) =
+    codes "cannot read " ++ (escaped_name name ++ (codes ": " ++ input_fault_words fault))
+problem_text name is_one (Problem.NoImage ImageFault.Header looks) =
+    escaped_name name ++ (codes ": header" ++ looks_words looks)
+problem_text name is_one (Problem.NoImage fault looks) =
+    image_problem name (fault_line fault) (fault_words fault)
+problem_text name is_one (Problem.Failed failure) = named_text is_one name (failure_text failure)
+problem_text name is_one Problem.Closed = []
+problem_text name is_one Problem.Faulty = named_text is_one name (codes "the output has faults or missing devices")
+
+-- ---- the exit status, and what is said
+
+abbrev pub status_of_problem : Option Problem → ℕ
+status_of_problem None = 0
+status_of_problem (Some (Problem.Unread fault)) = 3
+status_of_problem (Some (Problem.NoImage fault looks)) = 3
+status_of_problem (Some (Problem.Failed failure)) = status_of_failure failure
+status_of_problem (Some Problem.Faulty) = 1
+status_of_problem (Some Problem.Closed) = 141
+
+abbrev pub said_of_problem : List ℕ → Bool → Option Problem → List ℕ
+said_of_problem name is_one None = []
+said_of_problem name is_one (Some Problem.Closed) = []
+said_of_problem name is_one (Some problem) = line_text (problem_text name is_one problem)
+
+-- a write fault is one fault of the output, and nothing else is
+abbrev pub faults_of_problem : Option Problem → ℕ
+faults_of_problem (Some (Problem.Failed failure)) = write_faults (Err failure)
+faults_of_problem (Some Problem.Closed) = 1
+faults_of_problem _ = 0
+
+-- ---- one input
+
+-- nothing is printed where it was not read; otherwise what `Leaves` tells of how the run ended
+abbrev pub Prints : {Image : Type 0} → (Image → Ending → Type 0) → Type 0 → Result Image InputFault
+    → Option Problem → Type 0
+Prints Leaves Idle (Err fault) problem = Idle × (problem ≡ Some (unread fault))
+Prints Leaves Idle (Ok image) problem =
+    (ending : Ending) × (looks : Looks) × (faulty : Bool) × (closed : Bool) × Leaves image ending
+    × (problem ≡ problem_of ending looks faulty closed)
+
+-- the status is that of the problem, and its line is said, or nothing where there is none
+abbrev pub Tells : List ℕ → Bool → Option Problem → Received → Received → ℕ → Type 0
+Tells name is_one problem said said' status =
+    (status ≡ status_of_problem problem) × ReceivesText said said' (said_of_problem name is_one problem)

@@ -1,0 +1,108 @@
+//! What `--help`, `help` and `--version` print.
+
+/// The version of this program, as the file VERSION has it.
+pub(crate) const VERSION: &str = "serdimko 0.3.0
+proved with Rattle, logic dac8208d650f15bf
+";
+
+/// Said where there are no words and standard input is a terminal.
+pub(crate) const SHORT: &str =
+    "usage: serdimko [OPTIONS] COMMAND, for example: serdimko --image FILE sdr list
+Commands: sdr, sel, fru, image. More: serdimko --help";
+
+const GENERAL: &str =
+    "Prints what a saved image of a management controller holds: sensors, event log
+and hardware inventory.
+
+Usage: serdimko [OPTIONS] COMMAND
+
+Commands (more on each: serdimko COMMAND --help):
+  sdr, sdr list [KIND]    a line for each sensor: name, reading, status
+  sdr elist [KIND]        the same with number and entity
+  sdr get NAME            all about the sensor of this name
+  sdr info                a summary of the sensor data repository
+  sdr hex                 each sensor data record as a line of an image
+  sel, sel info           a summary of the event log
+  sel list [[first] N]    a line for each event, or for the N oldest
+  sel list last N         a line for each of the N newest events
+  sel get ID              all about one event
+  fru, fru print [ID]     the inventory of each device, or of one
+  image rewrite           the image in its one spelling
+  help [COMMAND]          this help, or more on a command
+
+Options, anywhere, also after the command:
+  --image FILE    the image is in this file; - or no option: standard input;
+                  several: one after another, each after a line '== FILE'
+  --from HEX4     start at this record id (sdr list, elist, hex, get; sel list)
+  --part N        ask for at most N bytes at once, 1 to 254 (default 32)
+  --tries N       retries for one record or answer, 0 to 255 (default 5)
+  --id HEX        the ID of sel get in hex, as sel list prints it
+  --strict        status 1 if a fault or a missing device was printed
+  -h, --help      print help
+  -V, --version   print the version
+  --              no option comes after this
+
+Examples:
+  serdimko --image server.image sdr list
+  serdimko --image server.image sel list last 20
+  serdimko --image server.image fru print 0
+  serdimko-capture -- -I lanplus -H HOST -U USER -E > server.image
+
+Exit status: 0 all was printed; 1 something is missing or, with --strict, faulty;
+2 the command line; 3 the image; 4 a write failed; 5 memory ran out.
+";
+
+const SDR: &str = "Prints sensor data records.
+
+  sdr list [KIND]      a line for each record: name, reading, status; also sdr
+  sdr elist [KIND]     name, number, status, entity, reading
+  sdr get NAME         a block for each record of this name; quote a name with
+                       spaces: sdr get 'CPU1 Temp'
+  sdr info             a summary of the repository
+  sdr hex              each record as a line of an image
+
+KIND is all, full, compact, event, generic, mclocator or fru; without it full and
+compact records are listed, which are the sensors.
+--from HEX4 starts at this record id, in the order of the next ids.
+";
+
+const SEL: &str = "Prints the system event log.
+
+  sel info              a summary of the log; also sel
+  sel list              a line for each event, oldest first
+  sel list [first] N    the N oldest
+  sel list last N       the N newest
+  sel get ID            a block with all about one event
+  sel get --id HEX      the same, by an id as sel list prints it
+
+N is 0 to 65535, and 0 means all. ID is 1 to 65534. Both are decimal, or hex
+after 0x: what sel list prints as 0016 is --id 0016, 0x16 or 22.
+--from HEX4 starts at this record id, with sel list.
+";
+
+const FRU: &str = "Prints inventories of field replaceable units.
+
+  fru print       that of device 0, and of each that a locator names; also fru
+  fru print ID    that of one device
+
+ID is 0 to 254, decimal, or hex after 0x.
+With --strict the status is 1 if an inventory has a fault or is not present.
+";
+
+const IMAGE: &str = "Prints the image in its one spelling.
+
+  image rewrite    as version 2
+
+Images with the same content give the same bytes.
+";
+
+/// The help on the command that comes first among the words, or after `help`; otherwise the general one.
+pub(crate) fn help_on(words: &[&str]) -> &'static str {
+    match words {
+        ["sdr", ..] | ["help", "sdr", ..] => SDR,
+        ["sel", ..] | ["help", "sel", ..] => SEL,
+        ["fru", ..] | ["help", "fru", ..] => FRU,
+        ["image", ..] | ["help", "image", ..] => IMAGE,
+        _ => GENERAL,
+    }
+}

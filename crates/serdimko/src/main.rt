@@ -1,0 +1,146 @@
+//! Lists what saved images of management controllers hold: `ipmitool`'s commands `fru`, `sdr` and `sel`, with help, and with
+//! messages that say what is wrong and where.
+#![tactic(auto)]
+
+ghost use Rattle.std.specs.Prelude.{◌<◌, length};
+
+mod help;
+mod images;
+mod mistake;
+mod own;
+mod problem;
+mod scan;
+mod suggestion;
+mod watch;
+
+use help::{SHORT, VERSION, help_on};
+use images::print_images;
+use ipmi_command_line::{Command, UsageFault, command_of};
+use ipmi_commands::report;
+use ipmi_output::Part::{self, Text};
+use ipmi_output::{Failure, MessageSink, Written, say_line};
+use ipmi_program::read_words;
+use mistake::mistake;
+use own::{Own, own_of};
+use problem::CLOSED;
+use scan::{Scan, told_apart};
+use std::alloc::AllocError;
+use std::io::{self, BufWriter, ErrorKind, IsTerminal, Write};
+use std::process::ExitCode;
+use watch::Watch;
+
+/// The exit status of an invalid command line.
+const USAGE: u8 = 2;
+
+fn main(rt: HostRuntime) -> ExitCode {
+    let mut err = Written::new(rt.stderr());
+    let status = match program(&rt, &mut err) {
+        Ok(status) => status,
+        Err(AllocError) => report(Err(Failure::OutOfMemory), &mut err),
+    };
+    ExitCode::from(status)
+}
+
+/// Reads the command line, does what it asks for, and gives the exit status.
+fn program<E: MessageSink>(rt: &HostRuntime, err: &mut E) -> Result<u8, AllocError> {
+    let words = match read_words(rt) {
+        Ok(words) => words,
+        Err(UsageFault::Memory) => return Err(AllocError),
+        Err(_) => return Ok(refuse(&[Text("an argument is not UTF-8")], err)),
+    };
+    if words.as_slice().len() < 2 && rt.stdin().is_terminal() {
+        return Ok(refuse(&[Text(SHORT)], err));
+    }
+    let own = own_of(rt.alloc(), &words)?;
+    if own.version && !own.help {
+        return print_text(rt, VERSION, err);
+    }
+    let scanned = match told_apart(rt.alloc(), &own.rest)? {
+        Ok(scanned) => scanned,
+        Err(_) if own.help => return print_text(rt, help_on(&[]), err),
+        Err(line) => return Ok(refuse(&line, err)),
+    };
+    if own.help
+        || matches!(
+            scanned.words.as_slice(),
+            ["help"] | ["help", "sdr" | "sel" | "fru" | "image", ..]
+        )
+    {
+        return print_text(rt, help_on(&scanned.words), err);
+    }
+    run(rt, &own, &scanned, err)
+}
+
+/// Runs the command of the words that are left.
+fn run<E: MessageSink>(
+    rt: &HostRuntime,
+    own: &Own,
+    scanned: &Scan<'_>,
+    err: &mut E,
+) -> Result<u8, AllocError>
+    requires { 0 < length own.now.rest }
+{
+    if let Some(id) = &own.id {
+        match scanned.words.as_slice() {
+            ["sel", "get", _] => {}
+            ["sel", "get", ..] => {
+                return Ok(refuse(&[Text("'sel get' takes an ID or --id, not both")], err));
+            }
+            _ => return Ok(refuse(&[Text("--id goes only with 'sel get'")], err)),
+        }
+    }
+    match command_of(rt.alloc(), &own.rest) {
+        Ok(command) if is_input_twice(&command, own) => {
+            Ok(refuse(&[Text("standard input is given twice")], err))
+        }
+        Ok(command) => print_command(rt, &command, own, err),
+        Err(UsageFault::Memory) => Err(AllocError),
+        Err(fault) => {
+            let id = own.id.as_ref().map(|id| id.as_str());
+            Ok(refuse(&mistake(rt.alloc(), id, scanned, fault)?, err))
+        }
+    }
+}
+
+/// Whether several images are read from standard input.
+fn is_input_twice(command: &Command, own: &Own) -> bool {
+    let more = own
+        .images
+        .as_slice()
+        .iter()
+        .filter(|image| image.as_str() == "-")
+        .count();
+    let is_first = command.image().is_some_and(|image| image.as_str() == "-");
+    more > 1 || (more == 1 && is_first)
+}
+
+/// Prints what the command asks for of each image, on buffered standard output.
+fn print_command<E: MessageSink>(
+    rt: &HostRuntime,
+    command: &Command,
+    own: &Own,
+    err: &mut E,
+) -> Result<u8, AllocError> {
+    let writer = Watch::new(io::writer(rt), own.strict);
+    let mut out = Written::new(BufWriter::new(rt.alloc(), writer).or(Err(AllocError))?);
+    let status = print_images(rt, command, own, &mut out, err);
+    // what a failing flush left is not tried once more
+    let _ = out.into_inner().into_parts();
+    Ok(status)
+}
+
+/// Says what is wrong with the command line, and gives the exit status.
+fn refuse<E: MessageSink>(line: &[Part<'_>], err: &mut E) -> u8 {
+    // there is nowhere left to tell that this failed
+    let _ = say_line(err, line);
+    USAGE
+}
+
+/// Prints a text on standard output, and gives the exit status.
+fn print_text<E: MessageSink>(rt: &HostRuntime, text: &str, err: &mut E) -> Result<u8, AllocError> {
+    Ok(match io::writer(rt).write_all(text.as_bytes()) {
+        Ok(()) => 0,
+        Err(error) if error.kind() == ErrorKind::BrokenPipe => CLOSED,
+        Err(_) => report(Err(Failure::WriteFault), err),
+    })
+}

@@ -1,0 +1,142 @@
+//! The options and the words of a command line that is refused, told apart as `clap` tells them.
+use crate::mistake::{Line, line, unknown};
+use crate::own::is_option;
+use ipmi_command_line::Words;
+use ipmi_output::Part::{Name, Text};
+use std::alloc::{AllocError, Global};
+
+/// All options.
+const OPTIONS: [&str; 8] = [
+    "--image",
+    "--from",
+    "--part",
+    "--tries",
+    "--id",
+    "--strict",
+    "--help",
+    "--version",
+];
+
+/// The specified options, and the words that belong to none.
+#[derive(Drop)]
+pub(crate) struct Scan<'a> {
+    pub(crate) words: Vec<&'a str>,
+    pub(crate) from: Option<&'a str>,
+    pub(crate) part: Option<&'a str>,
+    pub(crate) tries: Option<&'a str>,
+    image: Option<&'a str>,
+    // the option whose value comes next
+    waiting: Option<&'a str>,
+    is_ended: bool,
+}
+
+impl<'a> Scan<'a> {
+    fn new(alloc: Global) -> Scan<'a> {
+        Scan {
+            words: Vec::new(alloc),
+            from: None,
+            part: None,
+            tries: None,
+            image: None,
+            waiting: None,
+            is_ended: false,
+        }
+    }
+
+    /// Keeps the option's value; true if it had none before. A first `--id` was taken out with its value.
+    fn keep(&mut self, option: &str, value: &'a str) -> bool {
+        let kept = match option {
+            "--from" => self.from.replace(value),
+            "--part" => self.part.replace(value),
+            "--tries" => self.tries.replace(value),
+            "--image" => self.image.replace(value),
+            _ => return false,
+        };
+        kept.is_none()
+    }
+
+    /// Takes the value of an option.
+    fn take_value(
+        &mut self,
+        alloc: Global,
+        option: &'a str,
+        value: &'a str,
+    ) -> Result<Option<Line<'a>>, AllocError> {
+        if self.keep(option, value) {
+            return Ok(None);
+        }
+        line(alloc, &[Name(option), Text(" is given twice")]).map(Some)
+    }
+
+    /// Takes a word that is an option, perhaps with its value.
+    fn take_option(
+        &mut self,
+        alloc: Global,
+        word: &'a str,
+    ) -> Result<Option<Line<'a>>, AllocError> {
+        let (option, value) = match word.split_once('=') {
+            Some((option, value)) => (option, Some(value)),
+            None => (word, None),
+        };
+        match (option, value) {
+            ("--image" | "--from" | "--part" | "--tries" | "--id", Some(value)) => {
+                self.take_value(alloc, option, value)
+            }
+            ("--image" | "--from" | "--part" | "--tries" | "--id", None) => {
+                self.waiting = Some(option);
+                Ok(None)
+            }
+            ("--strict" | "--help" | "--version", Some(_)) => {
+                line(alloc, &[Name(option), Text(" takes no value")]).map(Some)
+            }
+            _ => unknown(
+                alloc,
+                "unknown option '",
+                option,
+                &OPTIONS,
+                "see serdimko --help",
+            )
+            .map(Some),
+        }
+    }
+
+    /// Takes the next word.
+    fn take(&mut self, alloc: Global, word: &'a str) -> Result<Option<Line<'a>>, AllocError> {
+        if let Some(option) = self.waiting.take() {
+            if is_option(word) {
+                return needs_value(alloc, option).map(Some);
+            }
+            return self.take_value(alloc, option, word);
+        }
+        if self.is_ended || !is_option(word) {
+            self.words.push(word)?;
+            return Ok(None);
+        }
+        if word == "--" {
+            self.is_ended = true;
+            return Ok(None);
+        }
+        self.take_option(alloc, word)
+    }
+}
+
+fn needs_value<'a>(alloc: Global, option: &'a str) -> Result<Line<'a>, AllocError> {
+    line(alloc, &[Name(option), Text(" needs a value")])
+}
+
+/// The options and words, or the mistake for which they can't be told apart. The first word is the program's name.
+pub(crate) fn told_apart<'a>(
+    alloc: Global,
+    words: &'a Words,
+) -> Result<Result<Scan<'a>, Line<'a>>, AllocError> {
+    let mut scanned = Scan::new(alloc);
+    for word in words.as_slice().iter().skip(1) {
+        if let Some(line) = scanned.take(alloc, word.as_str())? {
+            return Ok(Err(line));
+        }
+    }
+    match scanned.waiting {
+        Some(option) => Ok(Err(needs_value(alloc, option)?)),
+        None => Ok(Ok(scanned)),
+    }
+}

@@ -1,0 +1,33 @@
+//! The name that is nearest to a word.
+use ipmi_output::Part::{self, Text};
+use std::alloc::{AllocError, Global};
+use strsim::osa_distance;
+
+/// The first of the names that the word is but for one letter that is wrong, left out, too many or swapped with the next one. The
+/// case of letters does not matter.
+fn nearest(
+    alloc: Global,
+    word: &str,
+    names: &[&'static str],
+) -> Result<Option<&'static str>, AllocError> {
+    let word = word.to_ascii_lowercase(alloc)?;
+    for name in names {
+        if osa_distance(alloc, word.as_str(), name)? <= 1 {
+            return Ok(Some(*name));
+        }
+    }
+    Ok(None)
+}
+
+/// Asks whether the nearest name was meant; where none is near, this is said.
+pub(crate) fn suggestion(
+    alloc: Global,
+    word: &str,
+    names: &[&'static str],
+    otherwise: &'static str,
+) -> Result<(Part<'static>, Part<'static>, Part<'static>), AllocError> {
+    Ok(match nearest(alloc, word, names)? {
+        Some(name) => (Text("did you mean '"), Text(name), Text("'?")),
+        None => (Text(otherwise), Text(""), Text("")),
+    })
+}
