@@ -169,7 +169,8 @@ expect files sdr --image = exa
 expect list sdr --image = examples/server.image li
 expect list sdr --image examples/server.image --part 4 li
 expect '' --part ''
-expect '--help --hex --image --tries --version' --strict --from=0001 --part 4 --image = x --
+expect '' sel get --id ''
+expect '--help --id --image --tries --version' --strict --from=0001 --part 4 --image = x --
 expect 'list' --strict -h sdr li
 expect '' -- --
 expect 'sdr sel' -- s
