@@ -122,9 +122,9 @@ def image_of(words):
         if word.startswith("--image="):
             name = word.removeprefix("--image=")
         elif word == "--image":
-            name = next(rest)
+            name = next(rest, "")
         elif word in OPTIONS:
-            next(rest)
+            next(rest, "")
     return name.encode()
 
 
