@@ -163,7 +163,7 @@ def compare(case):
         same = ours[:2] == (status, out) and re.fullmatch(wanted_message(message, words), ours[2])
     if same:
         return status, None
-    return status, f"serdimko {shlex.join(words)} < {image}\n  ipmitool: {theirs}\n  serdimko: {ours}"
+    return status, f"serdimko {shlex.join(words)} < {image}\n  ipmitool: {theirs!s:.300}\n  serdimko: {ours!s:.300}"
 
 
 def main():
