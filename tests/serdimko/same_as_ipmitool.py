@@ -67,7 +67,7 @@ OPTIONS = {
 UNREADABLE = ["none.image", ".", ""]
 # One of these is put before a word, or in its place.
 ODD = [
-    "--", "--help", "-h", "--version", "-V", "--strict", "--hex", "help", "-", "", "--part", "--from", "--imge", "-x",
+    "--", "--help", "-h", "--version", "-V", "--strict", "--id", "help", "-", "", "--part", "--from", "--imge", "-x",
     "frob", "Sdr", "sdr", "sel", "fru", "list", "get", "first", "last", "print", "rewrite", "lst", "--tries=5",
 ]
 
@@ -98,7 +98,7 @@ def generated_line(rng, images):
 
 # ---- what both make of a line
 
-OWN = {"-h", "--help", "-V", "--version", "--strict", "--hex", "help"}
+OWN = {"-h", "--help", "-V", "--version", "--strict", "--id", "help"}
 USAGE = b"usage: ipmitool [--image FILE] [--from HEX4] [--part N] [--tries N] fru|sdr|sel WORDS\n"
 WHY_NOT_READ = b": (no such file|is a directory|permission denied|longer than 64 MiB|read error)"
 WHY_NO_HEADER = (
