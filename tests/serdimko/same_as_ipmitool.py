@@ -102,7 +102,7 @@ OWN = {"-h", "--help", "-V", "--version", "--strict", "--id", "help"}
 USAGE = b"usage: ipmitool [--image FILE] [--from HEX4] [--part N] [--tries N] fru|sdr|sel WORDS\n"
 WHY_NOT_READ = b": (no such file|is a directory|permission denied|longer than 64 MiB|read error)"
 WHY_NO_HEADER = (
-    rb"( \((the file is empty|compressed: unpack it first|line ends are CR LF|begins with a byte order mark)\))?"
+    rb"( \((it is empty|compressed: unpack it first|line ends are CR LF|begins with a byte order mark|begins as UTF-16|the first line is not 'ipmi-image 1' or 'ipmi-image 2')\))"
 )
 
 
