@@ -3,7 +3,7 @@
 # It calls no function of the package bash-completion, so that a shell may also read it by itself.
 
 _serdimko() {
-  local options='--image --from --part --tries'
+  local options='--image --from --part --tries --id --strict --help --version -h -V'
   local cur=${COMP_WORDS[COMP_CWORD]} word value= plain= line= next=
 
   # What comes before the word: the option whose value it is, whether -- came, and the words without options.
@@ -13,11 +13,11 @@ _serdimko() {
       [[ $word == = ]] || value=
     elif [[ ! $plain && $word == -- ]]; then
       plain=yes
-    elif [[ ! $plain && $word == --* ]]; then
-      # An option comes at most once.
+    elif [[ ! $plain && $word == -?* ]]; then
+      # An option comes at most once, but --image.
       options=" $options "
-      options=${options/ "${word%%=*}" / }
-      [[ $word == *=* ]] || value=$word
+      [[ $word == --image* ]] || options=${options/ "${word%%=*}" / }
+      case $word in --image | --from | --part | --tries | --id) value=$word ;; esac
     else
       line+="${line:+ }$word"
     fi
@@ -37,7 +37,7 @@ _serdimko() {
 
   # What may follow the words before. Names and numbers are not completed.
   case $line in
-    '') next='fru sdr sel image' ;;
+    '') next='fru sdr sel image help' ;;
     'fru') next='print' ;;
     'sdr') next='list elist get info hex' ;;
     'sdr list') next='all full compact event generic mclocator fru' ;;
@@ -45,6 +45,7 @@ _serdimko() {
     'sel') next='info list get' ;;
     'sel list') next='first last' ;;
     'image') next='rewrite' ;;
+    'help') next='fru sdr sel image' ;;
   esac
   COMPREPLY=($(compgen -W "$next" -- "$cur"))
 }

@@ -1,9 +1,10 @@
 #!/usr/bin/env bash
 # What `make install` and `make uninstall` put there and remove, in a copy of what they read, with a stub in the place of the
-# program: they build nothing, write nothing beside their folder, and need no toolchain. And which files the program is built
-# again for.
+# program: they build nothing, write nothing beside their folder, and need no toolchain. And which files and lines of crates.txt
+# a program is built again for.
+# shellcheck disable=SC2016  # backquotes in single quotes are those of a message
 set -uo pipefail
-cd "$(dirname "$0")/.."
+cd "$(dirname "$0")/.." || exit 1
 # What a `make` around this test was given is not for those in it.
 unset MAKEFLAGS MFLAGS MAKEOVERRIDES MAKELEVEL DESTDIR PREFIX
 work=$(mktemp -d)
@@ -13,11 +14,24 @@ tree=$work/tree
 to="$work/a destination"
 failed=0
 
-mkdir -p "$tree/crates/ipmitool/src" "$work/bin"
-cp -r Makefile crates.txt docs completions "$tree"
-echo 'fn main() {}' > "$tree/crates/ipmitool/src/main.rt"
+mkdir -p "$tree" "$work/bin"
+cp -r Makefile VERSION docs completions scripts examples "$tree"
+# Two programs over two libraries, with the tests of one of them.
+cat > "$tree/crates.txt" << 'END'
+# a comment
+low: hex
+high: low
+serdimko: high
+ipmitool: low
+
+low_tests: low
+END
+for file in low/src/lib high/src/lib serdimko/src/main ipmitool/src/main low_tests/src/lib; do
+  mkdir -p "$tree/crates/${file%/*}"
+  touch "$tree/crates/$file.rt"
+done
 # A toolchain that leaves a trace where it is called.
-printf '#!/bin/sh\ntouch "%s"\nexit 1\n' "$work/called" > "$work/bin/rt"
+printf '#!/bin/sh\npwd > "%s"\n' "$work/called" > "$work/bin/rt"
 chmod 755 "$work/bin/rt"
 PATH=$work/bin:$PATH
 
@@ -52,34 +66,45 @@ fi
 expect_files 'with no program' ''
 
 # The program is older than its source, and still only copied.
-mkdir "$tree/crates/ipmitool/out"
-program=$tree/crates/ipmitool/out/ipmitool
+mkdir "$tree/crates/serdimko/out"
+program=$tree/crates/serdimko/out/serdimko
 printf '#!/bin/sh\necho stub\n' > "$program"
 chmod 755 "$program"
 touch -d '2001-01-01' "$program"
 before=$(state)
 
-run_make install DESTDIR="$to" || fault 'install:' "$(cat "$work/err")"
+(umask 077 && run_make install DESTDIR="$to") || fault 'install:' "$(cat "$work/err")"
 expect_files 'install' '755 usr/local/bin/serdimko
+755 usr/local/bin/serdimko-capture
 644 usr/local/share/bash-completion/completions/serdimko
+644 usr/local/share/man/man1/serdimko-capture.1
 644 usr/local/share/man/man1/serdimko.1
 644 usr/local/share/zsh/site-functions/_serdimko'
+if find "$to" -type d ! -perm 755 | grep .; then fault 'under umask 077 a folder is not for all to read'; fi
 cmp "$program" "$to/usr/local/bin/serdimko" || fault 'the installed program is another one'
-cmp docs/serdimko.1 "$to/usr/local/share/man/man1/serdimko.1" || fault 'the installed page is another one'
+cmp scripts/capture "$to/usr/local/bin/serdimko-capture" || fault 'the installed script is another one'
+for page in serdimko serdimko-capture; do
+  cmp "docs/$page.1" "$to/usr/local/share/man/man1/$page.1" || fault "the installed page $page is another one"
+done
 
 # A second install puts the same there, and another name and another folder are put beside it.
+chmod 700 "$to/usr/local/bin"
 run_make install DESTDIR="$to" || fault 'install again:' "$(cat "$work/err")"
+[ "$(stat -c %a "$to/usr/local/bin")" = 700 ] || fault 'install again: a folder that was there has other permissions'
 installed=$(files)
 echo 'of others' > "$to/usr/local/bin/ipmitool.old"
 run_make install DESTDIR="$to" PREFIX=/elsewhere NAME=ipmitool || fault 'install NAME=ipmitool:' "$(cat "$work/err")"
 expect_files 'install NAME=ipmitool' "755 elsewhere/bin/ipmitool
+755 elsewhere/bin/ipmitool-capture
 644 elsewhere/share/bash-completion/completions/ipmitool
+644 elsewhere/share/man/man1/ipmitool-capture.1
 644 elsewhere/share/man/man1/ipmitool.1
 644 elsewhere/share/zsh/site-functions/_ipmitool
 $(stat -c '%a' "$to/usr/local/bin/ipmitool.old") usr/local/bin/ipmitool.old
 $installed"
 if grep -rI serdimko "$to/elsewhere"; then fault 'NAME=ipmitool: the first name is in a file'; fi
 grep -qx '.TH ipmitool 1 .*' "$to/elsewhere/share/man/man1/ipmitool.1" || fault 'NAME=ipmitool: the page has another head'
+grep -qx '.TH ipmitool-capture 1 .*' "$to/elsewhere/share/man/man1/ipmitool-capture.1" || fault 'NAME=ipmitool: the page of capture'
 grep -qx 'complete -F _ipmitool ipmitool' "$to/elsewhere/share/bash-completion/completions/ipmitool" || fault 'NAME=ipmitool: bash'
 grep -qx '#compdef ipmitool' "$to/elsewhere/share/zsh/site-functions/_ipmitool" || fault 'NAME=ipmitool: zsh'
 
@@ -94,8 +119,19 @@ rm "$to/usr/local/bin/ipmitool.old"
 run_make install HOME="$to/home" PREFIX='~/.local' NAME=fru-reader || fault 'install PREFIX=~:' "$(cat "$work/err")"
 grep -qxF 'fru\-reader \- read a saved image of a server management controller' "$to/home/.local/share/man/man1/fru-reader.1" ||
   fault 'NAME=fru-reader: the page has another name'
+grep -qF 'fru\-reader\-capture \-' "$to/home/.local/share/man/man1/fru-reader-capture.1" || fault 'NAME=fru-reader: the page of capture'
 run_make uninstall HOME="$to/home" PREFIX='~/.local' NAME=fru-reader || fault 'uninstall PREFIX=~:' "$(cat "$work/err")"
 expect_files 'a name with a dash' ''
+
+# In /usr the completion for zsh lies where Debian's zsh looks, and where others say.
+for zsh in vendor-completions site-functions; do
+  words=(DESTDIR="$to" PREFIX=/usr)
+  [ $zsh = vendor-completions ] || words+=("ZSH=$zsh")
+  run_make install "${words[@]}" || fault 'install PREFIX=/usr:' "$(cat "$work/err")"
+  [ -f "$to/usr/share/zsh/$zsh/_serdimko" ] || fault "install ${words[*]}: no completion for zsh"
+  run_make uninstall "${words[@]}" || fault 'uninstall PREFIX=/usr:' "$(cat "$work/err")"
+  expect_files "uninstall ${words[*]}" ''
+done
 
 # What is no name of a file is none.
 for name in '' a/b ../x 'a b' 'a&b' -x; do
@@ -119,15 +155,43 @@ if [ "$(state)" != "$before" ]; then
 fi
 if [ -e "$work/called" ]; then fault 'the toolchain was called'; fi
 
-# The program is built again for its source, and for no test, must-fail edit or document.
+# A program is built again for its source, and for no test, must-fail edit or document.
+is_built() {
+  run_make -q "${2:-build}" || fault "the program would be built again for $1"
+}
+is_stale() {
+  if run_make -q "${2:-build}"; then fault "the program would not be built again for $1"; fi
+}
 touch "$program"
-touch -d '2001-01-01' "$tree/crates.txt" "$tree/crates/ipmitool/src/main.rt"
-for file in ipmi_bus/must-fail/a.edit ipmi_bus/must-fail/a.rt ipmi_bus/must-fail/a.antt ipmi_format_tests/src/lib.rt \
-  own_controller/src/main.rt ipmi_bus/README.md; do
+find "$tree/crates.txt" "$tree/crates" -name out -prune -o -type f -exec touch -d '2001-01-01' {} +
+for file in low/must-fail/a.edit low/must-fail/a.rt low/must-fail/a.antt low_tests/src/lib.rt low/README.md; do
   mkdir -p "$tree/crates/${file%/*}"
   touch -d '+1 hour' "$tree/crates/$file"
 done
-run_make -q build || fault 'the program would be built again for a test or a must-fail edit'
-touch -d '+1 hour' "$tree/crates/ipmitool/src/main.rt"
-if run_make -q build; then fault 'the program would not be built again for its source'; fi
+is_built 'a test or a must-fail edit'
+for file in serdimko/src/main.rt low/src/lib.rt high/specs/A.antt; do
+  mkdir -p "$tree/crates/${file%/*}"
+  touch -d '+1 hour' "$tree/crates/$file"
+  is_stale "$file"
+  touch -d '2001-01-01' "$tree/crates/$file"
+done
+is_built 'no file'
+
+# Where crates.txt has changed, only the lines that the program rests on count, once `make` has built it.
+touch -d '+1 hour' "$tree/crates.txt"
+is_stale 'crates.txt, as it was not built by make'
+run_make build || fault 'build:' "$(cat "$work/err")"
+[ "$(cat "$work/called")" = "$tree/crates/serdimko" ] || fault 'the program is built elsewhere'
+is_built 'no line'
+echo 'theirs: low' >> "$tree/crates.txt"
+touch -d '+1 hour' "$tree/crates.txt"
+is_built 'the line of another crate'
+run_make demo -n
+if grep -q 'rt run' "$work/out"; then fault 'make demo would build for the line of another crate'; fi
+sed -i 's/^low: hex/low: hex jiff/' "$tree/crates.txt"
+is_stale 'a line of a library'
+run_make build || fault 'build:' "$(cat "$work/err")"
+is_built 'a line that it was built by'
+# The other program is built by its name alone, and has lines of its own.
+is_stale 'a program that is not there' crates/ipmitool/out/ipmitool
 exit "$failed"

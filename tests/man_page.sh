@@ -1,9 +1,11 @@
 #!/usr/bin/env bash
 # The man page and the completions say what README.md and docs/ say. Of the page: its commands, its options with their
-# numbers, its statuses with their messages, the lines of an image and their faults. Of both completions: each option, and
-# which words may follow which. The completion for bash is also run.
+# numbers, its statuses with their messages, the lines of an image and their faults; and each word that the definitions print
+# in a column. Of both completions: each option, and which words may follow which. The completion for bash is also run, that for
+# zsh is read. groff has nothing to say of the pages, and neither page is too long to be read.
+# shellcheck disable=SC2016  # backquotes in single quotes are those of Markdown
 set -uo pipefail
-cd "$(dirname "$0")/.."
+cd "$(dirname "$0")/.." || exit 1
 page=docs/serdimko.1
 failed=0
 
@@ -42,7 +44,7 @@ paragraphs() {
     /^\.SH / { on = $0 == section }
     /^\.T[PQ]$/ { next_is_head = on; next }
     {
-      sub(/^\.[A-Z]+ ?/, ""); gsub(/[\\"]/, ""); gsub(/ +/, " "); sub(/ $/, "")
+      sub(/^\.[A-Z]+ ?/, ""); gsub(/\\f[A-Z]|[\\"]/, ""); gsub(/ +/, " "); sub(/ $/, ""); gsub(/ ,/, ",")
       if (next_is_head) { head[++heads] = $0; next_is_head = 0 } else if (heads) text = text " " $0
     }
     END { flush() }
@@ -57,22 +59,21 @@ heads() {
 numbers() {
   local head text
   while IFS=$'\t' read -r head text; do
-    echo "$head:" $(grep -oE '[0-9]+' <<< "$text")
+    echo "$head:" "$(grep -oE '[0-9]+' <<< "$text" | tr '\n' ' ')"
   done
 }
 
 commands=$(table words | cut -f 1 | quoted)
-options=$(table option | cut -f 1 | quoted)
+options=$(table option | cut -f 1 | tr -d '`')
 same 'the commands of the page' "$commands" "$(heads COMMANDS)"
 same 'the options of the page' "$options" "$(heads OPTIONS)"
 same 'the numbers of the options of the page' "$(table option | tr -d '`' | numbers)" "$(paragraphs OPTIONS | numbers)"
 
-# The options of the synopsis, which has a line for each name and one for its value.
-synopsis=$(awk '/^\.SH / { on = /SYNOPSIS/ } on' "$page" | sed -E 's/^\.[A-Z]+ //' | tr -d '\\]["\n' | grep -oE -- '--[a-z]+ *[A-Z]+[0-9]?' | sed -E 's/ *([A-Z])/ \1/')
-same 'the options of the synopsis' "$options" "$synopsis"
-
-# A status, and each message under it.
-statuses=$(table status docs/messages.md | while IFS=$'\t' read -r status message when; do
+# A status, and each message under it; of those that come of the words only the status.
+statuses=$({
+  table status docs/messages.md | grep -v '^[23]'
+  table 'status | message of `serdimko`' docs/messages.md
+} | while IFS=$'\t' read -r status message _; do
   echo "$status"
   quoted <<< "$message" | sed "s/^/$status: /"
 done)
@@ -89,6 +90,7 @@ same 'the ranges of the page' "$(echo "ranges: $prose" | tr ':' '\t' | numbers)"
 # Which word may follow which words, by the commands of README.md: a line `WORDS: WORD` for each. Names and numbers are left out.
 follows=$(while read -r command; do
   case $command in
+    'help COMMAND') awk '$1 != "help" { print "help " $1 }' <<< "$commands" ;;
     *' KIND') for kind in $kinds; do echo "${command/KIND/$kind}"; done ;;
     *) sed -E 's/ [A-Z]+$//' <<< "$command" ;;
   esac
@@ -101,14 +103,45 @@ table_of_words() {
   done
 }
 
-names=$(grep -oE -- '^--[a-z]+' <<< "$options")
+# groff warns of nothing, and says nothing.
+for file in "$page" docs/serdimko-capture.1; do
+  said=$(man --warnings -E UTF-8 -l -Tutf8 -Z "$file" 2>&1 > /dev/null)
+  if [ -n "$said" ]; then
+    failed=1
+    echo "$file: $said"
+  fi
+done
+if [ "$(wc -w < "$page")" -gt 1600 ] || [ "$(wc -w < docs/serdimko-capture.1)" -gt 400 ]; then
+  failed=1
+  echo "a page is too long: $(wc -w "$page" docs/serdimko-capture.1)"
+fi
+
+# What the definitions print in the columns of a sensor data record, in an event and as a time.
+printed=$(sed 's/^ *--.*//' crates/ipmi_records/specs/Columns.antt crates/ipmi_text/specs/Times.antt crates/ipmi_text/specs/Events.antt |
+  grep -oE 'codes "[a-z][^"]*"' | sed -E 's/codes "//; s/ ?"$//' | grep -E '[a-z]')
+shown=$(sed -E 's/^\.[A-Z]+ ?//; s/\\f[A-Z]|[\\"]//g; s/ +/ /g' "$page")
+if [ "$(wc -l <<< "$printed")" -lt 20 ]; then
+  failed=1
+  echo "words of columns: only $(wc -l <<< "$printed")"
+fi
+while IFS= read -r words; do
+  if ! grep -qE "(^|[^a-z])$words($|[^a-z])" <<< "$shown"; then
+    failed=1
+    echo "the page has no: $words"
+  fi
+done <<< "$printed"
+
+names=$(grep -oE -- '(^|, )--?[A-Za-z]+' <<< "$options" | sed 's/^, //')
+long_names=$(grep '^--' <<< "$names")
 for completion in completions/serdimko.bash completions/_serdimko; do
   same "the words of $completion" "$follows" "$(table_of_words "$completion")"
-  same "the options of $completion" "$names" "$(grep -v '^ *#' "$completion" | grep -oE -- '--[a-z]+')"
+  same "the options of $completion" "$long_names" "$(grep -v '^ *#' "$completion" | grep -oE -- '--[a-z]+')"
 done
-same 'the options that zsh is told of' "$names" "$(sed -nE "s/^ *'(--[a-z]+):.*/\1/p" completions/_serdimko)"
+same 'the options that zsh is told of' "$names" "$(sed -nE "s/^ *'(--?[A-Za-z]+):.*/\1/p" completions/_serdimko)"
+if command -v zsh > /dev/null && ! zsh -n completions/_serdimko; then failed=1; fi
 
 # The completion for bash at the last of the words: what it offers, or `files` where it leaves the word to bash's own file names.
+# shellcheck source=completions/serdimko.bash
 source completions/serdimko.bash
 compopt() { [ "$*" = '-o default' ] && echo files; }
 offers() {
@@ -126,16 +159,19 @@ expect() {
   fi
 }
 run=$(cut -d : -f 1 <<< "$follows" | sort -u | while read -r before; do
+  # shellcheck disable=SC2086
   offers $before '' | sed "s/^/$before: /"
 done)
 same 'the words that bash offers' "$follows" "$run"
-same 'the options that bash offers' "$names" "$(offers --)"
+same 'the options that bash offers' "$names" "$(offers -)"
 expect files --image ''
 expect files sdr --image = exa
 expect list sdr --image = examples/server.image li
 expect list sdr --image examples/server.image --part 4 li
 expect '' --part ''
-expect '--tries' --from=0001 --part 4 --image = x --
+expect '' sel get --id ''
+expect '--help --id --image --tries --version' --strict --from=0001 --part 4 --image = x --
+expect 'list' --strict -h sdr li
 expect '' -- --
 expect 'sdr sel' -- s
 expect '' sdr get ''

@@ -4,7 +4,7 @@
 # And that it says one message, after the last line.
 set -uo pipefail
 cd "$(dirname "$0")/.."
-make -s build || exit 1
+make -s crates/ipmitool/out/ipmitool || exit 1
 program=$PWD/crates/ipmitool/out/ipmitool
 work=$(mktemp -d)
 trap 'rm -rf "$work"' EXIT

@@ -1,0 +1,22 @@
+#!/usr/bin/env bash
+# What the specified program, ipmitool of this repository, accepts means the same to serdimko: tests/serdimko/same_as_ipmitool.py
+# sends lines to both, and says which.
+# `tests/same_as_ipmitool.sh SERDIMKO IPMITOOL` compares these two; without words those of this repository are built first.
+set -uo pipefail
+if [ $# -gt 0 ]; then
+  serdimko=$(realpath "$1")
+  ipmitool=$(realpath "$2")
+  cd "$(dirname "$0")/.." || exit 1
+else
+  cd "$(dirname "$0")/.." || exit 1
+  make -s build || exit 1
+  serdimko=$PWD/crates/serdimko/out/serdimko
+  ipmitool=$PWD/crates/ipmitool/out/ipmitool
+fi
+for program in "$serdimko" "$ipmitool"; do
+  if [ ! -x "$program" ]; then
+    echo "$program: no such program"
+    exit 1
+  fi
+done
+exec python3 tests/serdimko/same_as_ipmitool.py "$serdimko" "$ipmitool"

@@ -1,0 +1,141 @@
+#!/usr/bin/env bash
+# The program serdimko on odd command lines, tests/serdimko/lines, and on odd inputs and outputs, tests/serdimko/inputs.
+# `tests/serdimko.sh PROGRAM` tries that program; without a word the one of this repository is built first.
+#
+# A case of these files is a line that bash runs, with columns below it, and ends with an empty line:
+#   status N     the wanted status; with pipes, that of the last command that failed
+#   err TEXT     the next line of standard error, whole; where there is none, nothing is said
+#   says TEXT    in place of err: a line of standard error has this in it
+#   out TEXT     the next line of standard output, whole; where there is none, nothing is printed
+#   out ...      more may follow
+#   has TEXT     in place of out: a line of standard output has this in it
+#   unless TEST  the case is left out where this holds
+# Lines that begin with # are comments. What is wanted comes from the manual, never from what the program printed.
+set -uo pipefail
+if [ $# -gt 0 ]; then
+  program=$(realpath "$1")
+  cd "$(dirname "$0")/.." || exit 1
+else
+  cd "$(dirname "$0")/.." || exit 1
+  make -s build || exit 1
+  program=$PWD/crates/serdimko/out/serdimko
+fi
+if [ ! -x "$program" ]; then
+  echo "$program: no such program"
+  exit 1
+fi
+tests=$PWD/tests/serdimko
+work=$(mktemp -d)
+trap 'rm -rf "$work"' EXIT
+failed=0
+told=
+
+# ---- the folder in which the lines are run
+
+mkdir "$work/bin" "$work/files"
+ln -s "$program" "$work/bin/serdimko"
+# A command whose standard input is a terminal at which nobody types.
+cat > "$work/bin/on_terminal" << 'END'
+#!/usr/bin/env python3
+import os, subprocess, sys
+keyboard, terminal = os.openpty()
+sys.exit(subprocess.call(sys.argv[1:], stdin=terminal))
+END
+chmod +x "$work/bin/on_terminal"
+cp examples/*.image "$tests"/images/*.image "$work/files" || exit 1
+cd "$work/files" || exit 1
+: > empty
+gzip -k server.image
+# python3 has these two where no program of theirs is installed.
+python3 -c '
+import bz2, lzma
+image = open("server.image", "rb").read()
+open("server.image.xz", "wb").write(lzma.compress(image))
+open("server.image.bz2", "wb").write(bz2.compress(image))
+'
+for name in größe 'a file' $'a\nb'; do echo 'no image' > "$name"; done
+printf 'ipmi-image 1\nend\n' > ./-
+echo 'no image' > secret
+chmod 000 secret
+# Files of zeros that take no room: of 64 MiB, and of a byte more.
+truncate -s $((64 * 1024 * 1024)) longest
+truncate -s $((64 * 1024 * 1024 + 1)) too_long
+# Its listing is longer than a pipe holds.
+{
+  echo 'ipmi-image 2'
+  for id in {1..9999}; do printf 'sdr %04x - %02x%02x51c000\n' "$id" $((id % 256)) $((id / 256)); done
+  echo 'end'
+} > many.image
+
+# ---- the cases
+
+# What a column wants and what came; before the first one of a case its place and its line.
+differs() {
+  failed=1
+  [ -n "$told" ] || printf '%s\n' "tests/serdimko/$file:$number: $line"
+  told=yes
+  printf '  wanted %s\n  got %s\n' "$1" "$2"
+}
+
+# The stream is these lines, or has each of these texts in one of its lines. With `more` it may go on after the lines.
+check_stream() {
+  local name=$1 lines=$2 more=$3 texts=$4 got=$work/$1 text came
+  came="$name: $(head -c 500 "$got" | tr -d '\0')"
+  if [ -n "$texts" ]; then
+    while IFS= read -r text; do
+      grep -qF -- "$text" "$got" || differs "$name with: $text" "$came"
+    done <<< "${texts%$'\n'}"
+  elif [ -n "$more" ]; then
+    head -c "$(printf %s "$lines" | wc -c)" "$got" | cmp -s - <(printf %s "$lines") ||
+      differs "$name to begin with: ${lines%$'\n'}" "$came"
+  else
+    cmp -s "$got" <(printf %s "$lines") || differs "$name: ${lines%$'\n'}" "$came"
+  fi
+}
+
+# Runs the case that has been read, if there is one.
+run_case() {
+  local got told=
+  [ -n "$line" ] || return
+  if [ -z "$status" ]; then
+    differs 'a status in its columns' 'none'
+  elif [ -z "$unless" ] || ! bash -c "$unless"; then
+    PATH=$work/bin:$PATH timeout 60 bash -o pipefail -c "$line" < /dev/null > "$work/out" 2> "$work/err"
+    got=$?
+    [ "$got" -eq "$status" ] || differs "status $status" "status $got"
+    check_stream err "$err" '' "$says"
+    check_stream out "$out" "$more" "$has"
+  fi
+}
+
+for file in lines inputs; do
+  number=0
+  at=0
+  line=
+  # The empty line after the last one ends the last case.
+  while IFS= read -r text; do
+    at=$((at + 1))
+    case $text in
+      '#'*) ;;
+      '') run_case; line= ;;
+      *)
+        if [ -z "$line" ]; then
+          line=$text number=$at status='' err='' says='' out='' more='' has='' unless=''
+          continue
+        fi
+        value=${text#* }
+        [ "$value" != "$text" ] || value=
+        case ${text%% *} in
+          status) status=$value ;;
+          err) err+=$value$'\n' ;;
+          says) says+=$value$'\n' ;;
+          out) if [ "$value" = ... ]; then more=yes; else out+=$value$'\n'; fi ;;
+          has) has+=$value$'\n' ;;
+          unless) unless=$value ;;
+          *) differs 'a column' "$text" ;;
+        esac
+        ;;
+    esac
+  done < <(cat "$tests/$file" && echo)
+done
+exit "$failed"

@@ -1,0 +1,198 @@
+"""Sends command lines to serdimko and to the specified program: each line of the tests' tables, and generated ones.
+
+Both have to print the same with the same status, and to say the same but for what serdimko adds to a message about the
+image. A line that the specified program refuses is refused by both, unless it uses what serdimko alone has.
+"""
+import glob
+import multiprocessing
+import os
+import random
+import re
+import shlex
+import shutil
+import subprocess
+import sys
+import tempfile
+
+SERDIMKO, IPMITOOL = sys.argv[1:]
+GENERATED = 10_000
+SEED = 20240229
+# So many differences are told, and each status comes at least so often.
+MOST_TOLD = 20
+FEWEST = 500
+
+# ---- the lines of the tests' tables
+
+TABLES = "crates/ipmi_command_tests/src/command*/*.rt"
+
+
+def table_lines():
+    """The words before the first bar of each line of a text constant that may be a command line.
+
+    Words are split at commas where there is one, as the tests do. A line of an output that gets among them does no harm: both
+    programs refuse its words.
+    """
+    lines = set()
+    for file in sorted(glob.glob(TABLES)):
+        with open(file, encoding="utf-8") as source:
+            constants = re.findall(r'^ *const \w+: &str = "(.*?)";$', source.read(), re.M | re.S)
+        # The other files have images and outputs in their constants too.
+        may_be_line = r"" if "/command_line/" in file else r"(sdr|sel|fru|image)\b(?! \d)|-"
+        for constant in constants:
+            for line in constant.split("\n"):
+                text = line.split("|")[0]
+                if re.match(may_be_line, text):
+                    lines.add(tuple(text.split(",") if "," in text else text.split()))
+    return sorted(lines)
+
+
+# ---- generated lines
+
+COMMANDS = [
+    "sdr", "sdr list", "sdr elist", "sdr list KIND", "sdr elist KIND", "sdr get NAME", "sdr hex", "sdr info", "sel",
+    "sel info", "sel list", "sel list N", "sel list first N", "sel list last N", "sel get N", "fru", "fru print",
+    "fru print N", "image rewrite", "",
+]
+KINDS = ["all", "full", "compact", "event", "generic", "mclocator", "fru"]
+NAMES = ["CPU1 Temp", "PS1 State0", "PSU1", "Temp", "BMC", "Log", "", "none", "list", "-", "a=b", "Größe"]
+NUMBERS = [
+    "0", "1", "2", "3", "7", "9", "10", "16", "22", "0x1", "0x16", "0x0016", "0xfe", "254", "255", "256", "65534",
+    "65535", "65536", "0xffff", "0x10000", "0x", "00", "01", "+1", "-1", "1a", "ten", "",
+]
+OPTIONS = {
+    "--from": ["0001", "0002", "0009", "000a", "0016", "FFFE", "0000", "ffff", "12", "0x01", "000g", ""],
+    "--part": ["1", "2", "5", "16", "32", "253", "254", "0", "255", "01", "0x20", "five", ""],
+    "--tries": ["0", "1", "5", "255", "256", "00", "-1", "five", ""],
+}
+UNREADABLE = ["none.image", ".", ""]
+# One of these is put before a word, or in its place.
+ODD = [
+    "--", "--help", "-h", "--version", "-V", "--strict", "--id", "help", "-", "", "--part", "--from", "--imge", "-x",
+    "frob", "Sdr", "sdr", "sel", "fru", "list", "get", "first", "last", "print", "rewrite", "lst", "--tries=5",
+]
+
+
+def generated_line(rng, images):
+    """Words, and the image that is standard input."""
+    words = []
+    for word in rng.choice(COMMANDS).split():
+        words.append(rng.choice({"KIND": KINDS, "NAME": NAMES, "N": NUMBERS}.get(word, [word])))
+    options = [name for name in OPTIONS if rng.random() < 0.2]
+    image = rng.choice(images)
+    if rng.random() < 0.5:
+        options.append("--image")
+    # Most values are of the first half, so that most lines are commands.
+    for name in options:
+        values = OPTIONS.get(name, images + UNREADABLE)
+        value = rng.choice(values if rng.random() < 0.3 else values[: len(values) // 2])
+        place = rng.randint(0, len(words))
+        words[place:place] = [name + "=" + value] if rng.random() < 0.3 else [name, value]
+    if rng.random() < 0.2:
+        place = rng.randint(0, len(words))
+        words[place : place + rng.randint(0, 1)] = [rng.choice(ODD)]
+    if words and rng.random() < 0.1:
+        place = rng.randrange(len(words))
+        words[place : place + 1] = rng.choice([[], [words[place]] * 2])
+    return tuple(words), image
+
+
+# ---- what both make of a line
+
+OWN = {"-h", "--help", "-V", "--version", "--strict", "--id", "help"}
+USAGE = b"usage: ipmitool [--image FILE] [--from HEX4] [--part N] [--tries N] fru|sdr|sel WORDS\n"
+WHY_NOT_READ = b": (no such file|is a directory|permission denied|longer than 64 MiB|read error)"
+WHY_NO_HEADER = (
+    rb"( \((it is empty|compressed: unpack it first|line ends are CR LF|begins with a byte order mark|begins as UTF-16|the first line is not 'ipmi-image 1' or 'ipmi-image 2')\))"
+)
+
+
+def is_own(words):
+    """The line uses an option or a word that serdimko alone has."""
+    names = [word.split("=")[0] for word in words]
+    return not OWN.isdisjoint(names) or names.count("--image") > 1
+
+
+def image_of(words):
+    """What serdimko calls the image of a line that both accept."""
+    name = "standard input"
+    rest = iter(words)
+    for word in rest:
+        if word == "--":
+            break
+        if word.startswith("--image="):
+            name = word.removeprefix("--image=")
+        elif word == "--image":
+            name = next(rest, "")
+        elif word in OPTIONS:
+            next(rest, "")
+    return name.encode()
+
+
+def wanted_message(message, words):
+    """The pattern of what serdimko says where the specified program says this."""
+    image = re.escape(image_of(words))
+    if message == b"image: header\n":
+        return image + b": header" + WHY_NO_HEADER + b"\n"
+    if message == b"image: no end\n":
+        return image + b": no end\n"
+    if message.startswith(b"image line "):
+        return image + b":" + re.escape(message.removeprefix(b"image line "))
+    if message.startswith(b"cannot read "):
+        return re.escape(message[:-1]) + WHY_NOT_READ + b"\n"
+    return re.escape(message)
+
+
+def run(program, words, image):
+    with open(image, "rb") as file:
+        done = subprocess.run([program, *words], stdin=file, capture_output=True, timeout=60)
+    return done.returncode, done.stdout, done.stderr
+
+
+def compare(case):
+    """The status of the specified program, and how the two differ or None."""
+    words, image = case
+    theirs = run(IPMITOOL, words, image)
+    ours = run(SERDIMKO, words, image)
+    status, out, message = theirs
+    if status == 2 and not is_own(words):
+        same = theirs == (2, b"", USAGE) and ours[:2] == (2, b"") and re.fullmatch(rb"[^\n]+\n", ours[2])
+    elif status == 2 or image_of(words) == b"-":
+        # What serdimko makes of these the table tests/serdimko/lines says.
+        same = 0 <= ours[0] <= 5
+    else:
+        same = ours[:2] == (status, out) and re.fullmatch(wanted_message(message, words), ours[2])
+    if same:
+        return status, None
+    return status, f"serdimko {shlex.join(words)} < {image}\n  ipmitool: {theirs!s:.300}\n  serdimko: {ours!s:.300}"
+
+
+def main():
+    lines = table_lines()
+    with tempfile.TemporaryDirectory() as folder:
+        for file in glob.glob("examples/*.image") + glob.glob("tests/serdimko/images/*.image"):
+            shutil.copy(file, folder)
+        os.chdir(folder)
+        with open("empty.image", "wb"):
+            pass
+        images = sorted(glob.glob("*.image"))
+        cases = [(words, image) for words in lines for image in images]
+        rng = random.Random(SEED)
+        cases += [generated_line(rng, images) for _ in range(GENERATED)]
+        # The tables name this image.
+        shutil.copy("three-rows.image", "a.image")
+        with multiprocessing.Pool(4) as pool:
+            found = pool.map(compare, cases, chunksize=50)
+    differ = [text for _, text in found if text]
+    for text in differ[:MOST_TOLD]:
+        print(text)
+    if differ:
+        sys.exit(f"{len(differ)} of {len(cases)} lines differ")
+    # Without enough of each the lines would show little.
+    for status in range(4):
+        count = [got for got, _ in found].count(status)
+        if count < FEWEST:
+            sys.exit(f"only {count} of {len(cases)} lines end with status {status}")
+
+
+if __name__ == "__main__":
+    main()
