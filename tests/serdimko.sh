@@ -30,6 +30,14 @@ trap 'rm -rf "$work"' EXIT
 failed=0
 told=
 
+# The version is that of the file VERSION, and the program says by which logic of the toolchain it is proved.
+version=$("$program" --version)
+if [ "$version" != "serdimko $(cat VERSION)
+proved with Rattle, $(rt version | grep -o 'logic.*')" ]; then
+  echo "--version: $version"
+  exit 1
+fi
+
 # ---- the folder in which the lines are run
 
 mkdir "$work/bin" "$work/files"
