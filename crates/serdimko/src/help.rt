@@ -14,20 +14,20 @@ const GENERAL: &str =
     "Prints what a saved image of a management controller holds: sensors, event log
 and hardware inventory.
 
-Usage: serdimko [OPTIONS] COMMAND
+Usage: serdimko [OPTIONS] [COMMAND]
 
 Commands (more on each: serdimko COMMAND --help):
   sdr, sdr list [KIND]    a line for each sensor: name, reading, status
   sdr elist [KIND]        the same with number and entity
   sdr get NAME            all about the sensor of this name
   sdr info                a summary of the sensor data repository
-  sdr hex                 each sensor data record as a line of an image
+  sdr hex                 each sensor data record as an image line (the default)
   sel, sel info           a summary of the event log
   sel list [[first] N]    a line for each event, or for the N oldest
   sel list last N         a line for each of the N newest events
   sel get ID              all about one event
   fru, fru print [ID]     the inventory of each device, or of one
-  image rewrite           the image in its one spelling
+  image rewrite           the image as version 2, in a fixed order and spelling
   help [COMMAND]          this help, or more on a command
 
 Options, anywhere, also after the command:
@@ -48,7 +48,7 @@ Examples:
   serdimko --image server.image fru print 0
   serdimko-capture -- -I lanplus -H HOST -U USER -E > server.image
 
-Exit status: 0 all was printed; 1 something is missing or, with --strict, faulty;
+Exit status: 0 all was printed; 1 something is missing, or faulty (--strict);
 2 the command line; 3 the image; 4 a write failed; 5 memory ran out.
 ";
 
@@ -61,8 +61,8 @@ const SDR: &str = "Prints sensor data records.
   sdr info             a summary of the repository
   sdr hex              each record as a line of an image
 
-KIND is all, full, compact, event, generic, mclocator or fru; without it full and
-compact records are listed, which are the sensors.
+KIND is all, full, compact, event, generic, mclocator or fru; without it full
+and compact records are listed, which are the sensors.
 --from HEX4 starts at this record id, in the order of the next ids.
 ";
 
@@ -89,9 +89,9 @@ ID is 0 to 254, decimal, or hex after 0x.
 With --strict the status is 1 if an inventory has a fault or is not present.
 ";
 
-const IMAGE: &str = "Prints the image in its one spelling.
+const IMAGE: &str = "Prints the image as version 2, in a fixed order and spelling.
 
-  image rewrite    as version 2
+  image rewrite
 
 Images with the same content give the same bytes.
 ";

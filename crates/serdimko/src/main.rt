@@ -15,7 +15,7 @@ mod watch;
 
 use help::{SHORT, VERSION, help_on};
 use images::print_images;
-use ipmi_command_line::{Command, UsageFault, command_of};
+use ipmi_command_line::{Command, Task, UsageFault, command_of};
 use ipmi_commands::report;
 use ipmi_output::Part::{self, Text};
 use ipmi_output::{Failure, MessageSink, Written, say_line};
@@ -63,7 +63,7 @@ fn program<E: MessageSink>(rt: &HostRuntime, err: &mut E) -> Result<u8, AllocErr
     if own.help
         || matches!(
             scanned.words.as_slice(),
-            ["help"] | ["help", "sdr" | "sel" | "fru" | "image", ..]
+            ["help"] | ["help", "sdr" | "sel" | "fru" | "image" | "help", ..]
         )
     {
         return print_text(rt, help_on(&scanned.words), err);
@@ -93,6 +93,10 @@ fn run<E: MessageSink>(
         Ok(command) if is_input_twice(&command, own) => {
             Ok(refuse(&[Text("standard input is given twice")], err))
         }
+        Ok(command)
+            if matches!(command.task(), Task::Rewrite) && !own.images.as_slice().is_empty() => {
+            Ok(refuse(&[Text("'image rewrite' takes one image")], err))
+        }
         Ok(command) => print_command(rt, &command, own, err),
         Err(UsageFault::Memory) => Err(AllocError),
         Err(fault) => {
@@ -121,6 +125,13 @@ fn print_command<E: MessageSink>(
     own: &Own,
     err: &mut E,
 ) -> Result<u8, AllocError> {
+    if command.image().is_none() && rt.stdin().is_terminal() {
+        // otherwise it would wait for an image in silence
+        let _ = say_line(
+            err,
+            &[Text("reading an image from the terminal: --image FILE names a file")],
+        );
+    }
     let writer = Watch::new(io::writer(rt), own.strict);
     let mut out = Written::new(BufWriter::new(rt.alloc(), writer).or(Err(AllocError))?);
     let status = print_images(rt, command, own, &mut out, err);

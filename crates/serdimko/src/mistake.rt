@@ -155,6 +155,16 @@ fn of_sel<'a>(alloc: Global, words: &[&'a str]) -> Result<Line<'a>, AllocError> 
         [_, "get", id] => no_entry(alloc, id),
         [_, "get", ..] => too_many(alloc, words, 3),
         [_, "info", ..] => too_many(alloc, words, 2),
+        [_, word @ ("first" | "last"), ..] => line(
+            alloc,
+            &[
+                Text("unknown word '"),
+                Name(word),
+                Text("' after 'sel': did you mean 'sel list "),
+                Name(word),
+                Text("'?"),
+            ],
+        ),
         [_, word, ..] => unknown_after(alloc, "sel", word, &OF_SEL, "see serdimko sel --help"),
         _ => line(alloc, &[Text(SEE_HELP)]),
     }

@@ -86,7 +86,7 @@ impl<'a> Scan<'a> {
                 self.waiting = Some(option);
                 Ok(None)
             }
-            ("--strict" | "--help" | "--version", Some(_)) => {
+            ("--strict" | "--help" | "--version" | "-h" | "-V", Some(_)) => {
                 line(alloc, &[Name(option), Text(" takes no value")]).map(Some)
             }
             _ => unknown(
