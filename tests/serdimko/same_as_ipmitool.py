@@ -100,7 +100,8 @@ def generated_line(rng, images):
 
 OWN = {"-h", "--help", "-V", "--version", "--strict", "--id", "help"}
 USAGE = b"usage: ipmitool [--image FILE] [--from HEX4] [--part N] [--tries N] fru|sdr|sel WORDS\n"
-WHY_NOT_READ = b": (no such file|is a directory|permission denied|longer than 64 MiB|read error)"
+WHY_NOT_READ = b": (no such file|is a directory|permission denied|longer than 64 MiB|can't be opened or read)"
+EXPLANATION = rb" \([^\n]+\)"
 WHY_NO_HEADER = (
     rb"( \((it is empty|compressed: unpack it first|line ends are CR LF|begins with a byte order mark|begins as UTF-16|the first line is not 'ipmi-image 1' or 'ipmi-image 2')\))"
 )
@@ -134,9 +135,9 @@ def wanted_message(message, words):
     if message == b"image: header\n":
         return image + b": header" + WHY_NO_HEADER + b"\n"
     if message == b"image: no end\n":
-        return image + b": no end\n"
+        return image + b": no end" + EXPLANATION + b"\n"
     if message.startswith(b"image line "):
-        return image + b":" + re.escape(message.removeprefix(b"image line "))
+        return image + b":" + re.escape(message.removeprefix(b"image line ")[:-1]) + EXPLANATION + b"\n"
     if message.startswith(b"cannot read "):
         return re.escape(message[:-1]) + WHY_NOT_READ + b"\n"
     return re.escape(message)

@@ -42,6 +42,22 @@ looks_words Looks.Utf16 = codes " (begins as UTF-16)"
 looks_words Looks.Unknown =
     codes " (the first line is not 'ipmi-image 1' or 'ipmi-image 2')"
 
+-- what a fault of an image means
+abbrev pub explanation : ImageFault → List ℕ
+explanation (ImageFault.Line line) =
+    codes " (an unknown first word, a wrong number of fields, or one of a wrong length)"
+explanation (ImageFault.Hex line) =
+    codes " (a character is no hex digit, or the number of digits is odd)"
+explanation (ImageFault.Id line) =
+    codes " (FFFF or FF, 0000 after the first record, or a LUN above 3)"
+explanation (ImageFault.Twice line) = codes " (a line before has given it)"
+explanation (ImageFault.Length line) = codes " (not the bytes that such a line has)"
+explanation (ImageFault.FirstId line) = codes " (the record's bytes begin with another id)"
+explanation (ImageFault.AfterEnd line) = codes " (the line 'end' has to be the last)"
+explanation (ImageFault.TooMany line) = codes " (an inventory has at most 65,535)"
+explanation ImageFault.NoEnd = codes " (the last line has to be 'end', with a line feed)"
+explanation _ = []
+
 -- what is wrong with an image: on a line, or as a whole
 abbrev pub image_problem : List ℕ → Option ℕ → List ℕ → List ℕ
 image_problem name (Some line) words =
@@ -59,7 +75,8 @@ problem_text name is_one (Problem.Unread fault) =
 problem_text name is_one (Problem.NoImage ImageFault.Header looks) =
     escaped_name name ++ (codes ": header" ++ looks_words looks)
 problem_text name is_one (Problem.NoImage fault looks) =
-    image_problem name (fault_line fault) (fault_words fault)
+    image_problem name (fault_line fault) (fault_words fault ++ explanation fault)
+problem_text name is_one (Problem.Failed Failure.WriteFault) = failure_text Failure.WriteFault
 problem_text name is_one (Problem.Failed failure) = named_text is_one name (failure_text failure)
 problem_text name is_one Problem.Closed = []
 problem_text name is_one Problem.Faulty = named_text is_one name (codes "the output has faults or missing devices")

@@ -1,7 +1,7 @@
 //! Why nothing, or not all, was printed of an image: its line and its exit status.
 ghost use Rattle.std.specs.Prelude.{◌≡◌, Some, true};
 ghost use Rattle.ipmi_output.specs.Failure.{joined_parts, part_text};
-ghost use Rattle.serdimko.specs.Problem.{looks_words, named_text, problem_of, problem_text, status_of_problem, unread};
+ghost use Rattle.serdimko.specs.Problem.{explanation, looks_words, named_text, problem_of, problem_text, status_of_problem, unread};
 
 use ipmi_image::ImageFault;
 use ipmi_output::Part::{self, Name, Number, Text};
@@ -130,7 +130,7 @@ impl<'a> Problem<'a> {
     }
 
     /// The parts of its line. With several inputs every one names its input, otherwise only what is said about the input itself.
-    pub(crate) fn parts(&'a self, name: &'a str, is_one: bool) -> [Part<'a>; 5]
+    pub(crate) fn parts(&'a self, name: &'a str, is_one: bool) -> [Part<'a>; 6]
         ensures { joined_parts result ≡ problem_text name.entry.now is_one self.entry.now }
     {
         let none = Text("");
@@ -142,27 +142,45 @@ impl<'a> Problem<'a> {
                     Text(": "),
                     Text(fault.words()),
                     none,
+                    none,
                 ]
             }
             Problem::NoImage(fault, looks) => of_image(*fault, *looks, name),
-            Problem::Closed => [none, none, none, none, none],
-            Problem::Failed(failure) => of_run(Part::Failure(failure), name, is_one),
+            Problem::Closed => [none, none, none, none, none, none],
+            Problem::Failed(failure) => of_failure(failure, name, is_one),
             Problem::Faulty => {
-                of_run(
-                    Text("the output has faults or missing devices"),
-                    name,
-                    is_one,
-                )
+                let text = Text("the output has faults or missing devices");
+                of_run(text, name, is_one)
             }
         }
     }
 }
 
+/// What a fault of an image means.
+fn explanation(fault: ImageFault) -> &'static str
+    ensures { result.now ≡ explanation fault }
+{
+    match fault {
+        ImageFault::Line(_) => {
+            " (an unknown first word, a wrong number of fields, or one of a wrong length)"
+        }
+        ImageFault::Hex(_) => " (a character is no hex digit, or the number of digits is odd)",
+        ImageFault::Id(_) => " (FFFF or FF, 0000 after the first record, or a LUN above 3)",
+        ImageFault::Twice(_) => " (a line before has given it)",
+        ImageFault::Length(_) => " (not the bytes that such a line has)",
+        ImageFault::FirstId(_) => " (the record's bytes begin with another id)",
+        ImageFault::AfterEnd(_) => " (the line 'end' has to be the last)",
+        ImageFault::TooMany(_) => " (an inventory has at most 65,535)",
+        ImageFault::NoEnd => " (the last line has to be 'end', with a line feed)",
+        ImageFault::Memory | ImageFault::Header => "",
+    }
+}
+
 /// The parts of the line of input that is no image.
-fn of_image<'a>(fault: ImageFault, looks: Looks, name: &'a str) -> [Part<'a>; 5]
+fn of_image<'a>(fault: ImageFault, looks: Looks, name: &'a str) -> [Part<'a>; 6]
     ensures { joined_parts result ≡ problem_text name.entry.now true (Problem.NoImage fault looks) }
 {
-    let (none, words) = (Text(""), Text(fault_words(fault)));
+    let (none, words, why) = (Text(""), Text(fault_words(fault)), Text(explanation(fault)));
     if fault == ImageFault::Header {
         return [
             Name(name),
@@ -170,21 +188,32 @@ fn of_image<'a>(fault: ImageFault, looks: Looks, name: &'a str) -> [Part<'a>; 5]
             Text(looks.words()),
             none,
             none,
+            none,
         ];
     }
     match fault_line(fault) {
-        Some(line) => [Name(name), Text(":"), Number(line), Text(": "), words],
-        None => [Name(name), Text(": "), words, none, none],
+        Some(line) => [Name(name), Text(":"), Number(line), Text(": "), words, why],
+        None => [Name(name), Text(": "), words, why, none, none],
+    }
+}
+
+/// The parts of the line of a failure. A write fault is one of the output, whatever the input.
+fn of_failure<'a>(failure: &'a Failure<'a>, name: &'a str, is_one: bool) -> [Part<'a>; 6]
+    ensures { joined_parts result ≡ problem_text name.entry.now is_one (Problem.Failed failure.entry.now) }
+{
+    match failure {
+        Failure::WriteFault => of_run(Part::Failure(failure), name, true),
+        _ => of_run(Part::Failure(failure), name, is_one),
     }
 }
 
 /// The parts of a line about a run, not about its input.
-fn of_run<'a>(part: Part<'a>, name: &'a str, is_one: bool) -> [Part<'a>; 5]
+fn of_run<'a>(part: Part<'a>, name: &'a str, is_one: bool) -> [Part<'a>; 6]
     ensures { joined_parts result ≡ named_text is_one name.entry.now (part_text part.entry) }
 {
     let none = Text("");
     if is_one {
-        return [part, none, none, none, none];
+        return [part, none, none, none, none, none];
     }
-    [Name(name), Text(": "), part, none, none]
+    [Name(name), Text(": "), part, none, none, none]
 }

@@ -104,7 +104,7 @@ impl<'a> Scan<'a> {
     fn take(&mut self, alloc: Global, word: &'a str) -> Result<Option<Line<'a>>, AllocError> {
         if let Some(option) = self.waiting.take() {
             if is_option(word) {
-                return needs_value(alloc, option).map(Some);
+                return no_value(alloc, option, word).map(Some);
             }
             return self.take_value(alloc, option, word);
         }
@@ -118,6 +118,26 @@ impl<'a> Scan<'a> {
         }
         self.take_option(alloc, word)
     }
+}
+
+/// An option is followed by another option, or by a number below zero.
+fn no_value<'a>(alloc: Global, option: &'a str, word: &'a str) -> Result<Line<'a>, AllocError> {
+    if word
+        .as_bytes()
+        .get(1)
+        .is_some_and(|byte| byte.is_ascii_digit())
+    {
+        return line(
+            alloc,
+            &[
+                Name(option),
+                Text(" '"),
+                Name(word),
+                Text("' is below zero"),
+            ],
+        );
+    }
+    needs_value(alloc, option)
 }
 
 fn needs_value<'a>(alloc: Global, option: &'a str) -> Result<Line<'a>, AllocError> {

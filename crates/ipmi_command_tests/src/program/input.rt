@@ -72,7 +72,11 @@ const FAULTS: [(ErrorKind, InputFault, &str); 5] = [
         InputFault::PermissionDenied,
         "permission denied",
     ),
-    (ErrorKind::TimedOut, InputFault::Other, "read error"),
+    (
+        ErrorKind::TimedOut,
+        InputFault::Other,
+        "can't be opened or read",
+    ),
 ];
 
 fn fails(rt: &impl Abort, alloc: Global, kind: ErrorKind, wanted: InputFault, text: &str) {
