@@ -1,2 +1,3 @@
 mod WordLemmas
 mod FreeIpmiLemmas
+mod IpmitoolLemmas
