@@ -1,3 +1,4 @@
 mod WordLemmas
 mod FreeIpmiLemmas
 mod IpmitoolLemmas
+mod LawLemmas

@@ -3,3 +3,4 @@ pub mod Request
 pub mod Reply
 pub mod Ipmitool
 pub mod FreeIpmi
+pub mod Laws

@@ -8,6 +8,7 @@
 
 pub mod freeipmi;
 pub mod ipmitool;
+pub mod laws;
 mod line;
 mod reply;
 mod request;
