@@ -2,3 +2,4 @@ mod WordLemmas
 mod FreeIpmiLemmas
 mod IpmitoolLemmas
 mod LawLemmas
+mod PlaceLemmas
