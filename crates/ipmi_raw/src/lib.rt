@@ -18,4 +18,3 @@ mod words;
 pub use line::Line;
 pub use reply::{Reply, ReplyBytes};
 pub use request::{InventoryPart, Lun, RecordPart, Request, RequestData};
-pub use tool::Tool;
