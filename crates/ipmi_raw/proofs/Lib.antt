@@ -1,0 +1,5 @@
+mod WordLemmas
+mod FreeIpmiLemmas
+mod IpmitoolLemmas
+mod LawLemmas
+mod PlaceLemmas

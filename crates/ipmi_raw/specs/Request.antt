@@ -1,0 +1,67 @@
+-- The bytes of each request (IPMI v2.0; appendix G has the numbers of all commands).
+use Rattle.std.specs.Prelude.{ℕ, ◌/◌, ◌%◌, ◌==◌, ◌&&◌, nat_le, if◌then◌else◌, ◌++◌, List, [], ◌∷◌}
+use Rattle.ipmi_bus.specs.declared.controller.Shelf.{Shelf}
+use Rattle.ipmi_bus.specs.declared.controller.Shelf.TheVariants.{Sdr, Sel}
+use Rattle.ipmi_raw.specs.declared.request.Lun.{Lun}
+use Rattle.ipmi_raw.specs.declared.request.Lun.TheVariants.{Zero, One, Two, Three}
+use Rattle.ipmi_raw.specs.declared.request.RecordPart.{RecordPart}
+use Rattle.ipmi_raw.specs.declared.request.Request.{Request}
+use Rattle.ipmi_raw.specs.declared.request.Request.TheVariants.{Reserve, Get, Info, InventorySize, ReadInventory, Reading}
+
+-- storage, or a sensor
+abbrev pub network_function_of : Request → ℕ
+network_function_of (Reserve shelf) = 0x0A
+network_function_of (Get part) = 0x0A
+network_function_of (Info shelf) = 0x0A
+network_function_of (InventorySize id) = 0x0A
+network_function_of (ReadInventory part) = 0x0A
+network_function_of (Reading lun number) = 0x04
+
+abbrev pub lun_number : Lun → ℕ
+lun_number Zero = 0
+lun_number One = 1
+lun_number Two = 2
+lun_number Three = 3
+
+abbrev pub lun_of : Request → ℕ
+lun_of (Reserve shelf) = 0
+lun_of (Get part) = 0
+lun_of (Info shelf) = 0
+lun_of (InventorySize id) = 0
+lun_of (ReadInventory part) = 0
+lun_of (Reading lun number) = lun_number lun
+
+-- one of two commands, the first for sensor data records, the second for the event log
+abbrev pub for_shelf : Shelf → ℕ → ℕ → ℕ
+for_shelf Sdr sdr sel = sdr
+for_shelf Sel sdr sel = sel
+
+abbrev pub command_of : Request → ℕ
+command_of (Reserve shelf) = for_shelf shelf 0x22 0x42
+command_of (Get part) = for_shelf part.shelf 0x23 0x43
+command_of (Info shelf) = for_shelf shelf 0x20 0x40
+command_of (InventorySize id) = 0x10
+command_of (ReadInventory part) = 0x11
+command_of (Reading lun number) = 0x2D
+
+-- FFh asks for the whole of a record. An entry of the event log has sixteen bytes, and some controllers give no part of one,
+-- so that a whole entry is asked for as such. A sensor data record is asked for by the count that is wanted, as the buffers
+-- of some controllers are smaller than a whole one.
+abbrev pub count_asked : RecordPart → ℕ
+count_asked part = for_shelf part.shelf part.count (if (part.offset == 0) && nat_le 16 part.count then 0xFF else part.count)
+
+-- a number of two bytes, the low one first
+abbrev pub two_bytes : ℕ → List ℕ
+two_bytes n = (n % 256) ∷ (n / 256) ∷ []
+
+abbrev pub data_of : Request → List ℕ
+data_of (Reserve shelf) = []
+data_of (Get part) = two_bytes part.reservation ++ two_bytes part.id ++ part.offset ∷ count_asked part ∷ []
+data_of (Info shelf) = []
+data_of (InventorySize id) = id ∷ []
+data_of (ReadInventory part) = part.id ∷ two_bytes part.offset ++ part.count ∷ []
+data_of (Reading lun number) = number ∷ []
+
+-- network function, command and data
+abbrev pub message_of : Request → List ℕ
+message_of request = network_function_of request ∷ command_of request ∷ data_of request

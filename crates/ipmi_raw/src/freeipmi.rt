@@ -1,0 +1,50 @@
+//! The dialect of FreeIPMI's `ipmi-raw`, which reads a line for each request and prints a line for each reply.
+ghost use Rattle.std.specs.Prelude.{◌≡◌};
+ghost use Rattle.ipmi_raw.specs.FreeIpmi.{IsReplyText, request_text};
+ghost use Rattle.ipmi_raw.specs.Reply.{IsReading};
+
+use crate::line::{Line, push, push_bytes, push_digits};
+use crate::reply::{Reply, read_words};
+use crate::request::Request;
+use crate::tool::Tool;
+use crate::words::{first_word, strip};
+
+/// What the tool prints where no reply came in its time.
+const SILENCE: &[u8] = b"ipmi_cmd_raw: session timeout\n";
+
+/// The line that sends the request.
+pub fn request_text(request: Request) -> Line
+    ensures { result.items ≡ request_text request }
+{
+    let mut line = Line::new();
+    push_digits(&mut line, Tool::FreeIpmi, request.lun());
+    push_bytes(
+        &mut line,
+        Tool::FreeIpmi,
+        b" ",
+        &[request.network_function(), request.command()],
+    );
+    push_bytes(&mut line, Tool::FreeIpmi, b" ", request.data().as_slice());
+    push(&mut line, b"\n");
+    line
+}
+
+/// The reply to the request whose text this is, a line with its line feed; None where it is the text of none.
+pub fn read_reply(request: Request, text: &[u8]) -> Option<Reply>
+    ensures { IsReading (IsReplyText request) text.now result }
+{
+    if text == SILENCE {
+        return Some(Reply::Silent);
+    }
+    let rest = strip(b"rcvd:", text)?;
+    let (command, rest) = first_word(Tool::FreeIpmi, rest)?;
+    if command != request.command() {
+        return None;
+    }
+    let (code, rest) = first_word(Tool::FreeIpmi, rest)?;
+    let bytes = read_words(Tool::FreeIpmi, rest)?;
+    Some(match code {
+        0 => Reply::Data(bytes),
+        code => Reply::Refused(code),
+    })
+}

@@ -1,0 +1,68 @@
+//! What a management controller replies, and the bytes of a reply in a tool's text.
+ghost use Rattle.std.specs.Prelude.{ℕ, List, ◌≡◌, ◌≢◌, ◌<◌, ◌≤◌, MatchOption, length};
+ghost use Rattle.ipmi_raw.specs.Words.{AreData, words_from};
+
+use crate::tool::Tool;
+use crate::words::next_word;
+use arrayvec::ArrayVec;
+use std::marker::Model;
+
+/// The most bytes of a reply after its completion code.
+const LARGEST_REPLY_LEN: usize = 255;
+
+/// The bytes of a reply after its completion code: at most 255.
+#[derive(Drop)]
+pub struct ReplyBytes {
+    bytes: ArrayVec<u8, 255>,
+}
+
+impl Model for ReplyBytes {
+    ghost use Rattle.std.specs.Prelude.{List, ℕ};
+
+    ghost Value = { List ℕ };
+
+    ghost view = { λ reply. reply.bytes.items };
+}
+
+impl ReplyBytes {
+    /// The bytes.
+    pub fn as_slice(&self) -> &[u8]
+        ensures { result.now ≡ self.now }
+    {
+        self.bytes.as_slice()
+    }
+}
+
+/// What came of a request.
+#[derive(Drop)]
+pub enum Reply {
+    /// The bytes after the completion code 00h.
+    Data(ReplyBytes),
+    /// A completion code other than 00h (IPMI v2.0, section 5.2).
+    Refused(u8),
+    /// The controller did not reply in the time for which the tool waits.
+    Silent,
+}
+
+/// The bytes whose words, from the first to the end, are all of the text.
+pub(crate) fn read_words(tool: Tool, text: &[u8]) -> Option<ReplyBytes>
+    ensures { MatchOption result
+        ((bytes : List ℕ) → AreData bytes → text.now ≢ words_from tool 0 bytes)
+        (λ bytes. AreData bytes × (text.now ≡ words_from tool 0 bytes)) }
+{
+    let mut bytes = ArrayVec::new();
+    let mut rest = text;
+    for i in 0..LARGEST_REPLY_LEN {
+        if rest == tool.ending() {
+            return Some(ReplyBytes { bytes });
+        }
+        let (byte, after) = next_word(tool, i, rest)?;
+        bytes.push(byte);
+        rest = after;
+    }
+    if rest == tool.ending() {
+        Some(ReplyBytes { bytes })
+    } else {
+        None
+    }
+}

@@ -1,0 +1,175 @@
+//! The requests that a listing sends, as bytes (IPMI v2.0).
+ghost use Rattle.std.specs.Prelude.{◌≡◌, ◌≤◌, length};
+ghost use Rattle.ipmi_raw.specs.Request.{command_of, count_asked, data_of, lun_number, lun_of, network_function_of};
+
+use arrayvec::ArrayVec;
+use ipmi_bus::{SEL_ENTRY_LEN, Shelf};
+
+/// A logical unit of a controller (IPMI v2.0, section 7.2).
+#[derive(Clone, Copy, Debug, PartialEq, Eq)]
+pub enum Lun {
+    /// 00b: commands to the controller, and event messages.
+    Zero,
+    /// 01b: the first unit of the manufacturer's own.
+    One,
+    /// 10b: system software.
+    Two,
+    /// 11b: the second unit of the manufacturer's own.
+    Three,
+}
+
+impl Lun {
+    /// Its number, 0 to 3.
+    pub fn number(self) -> u8
+        ensures { result ≡ lun_number self }
+    {
+        match self {
+            Lun::Zero => 0,
+            Lun::One => 1,
+            Lun::Two => 2,
+            Lun::Three => 3,
+        }
+    }
+}
+
+/// A part of a sensor data record or of an entry of the event log.
+#[derive(Clone, Copy, Debug, PartialEq, Eq)]
+pub struct RecordPart {
+    /// Where the record is.
+    pub shelf: Shelf,
+    /// The reservation's number.
+    pub reservation: u16,
+    /// The record's id, 0000h for the first.
+    pub id: u16,
+    /// The first byte that is asked for, counted from 0.
+    pub offset: u8,
+    /// How many bytes are asked for.
+    pub count: u8,
+}
+
+/// A part of the inventory of a FRU device.
+#[derive(Clone, Copy, Debug, PartialEq, Eq)]
+pub struct InventoryPart {
+    /// The device's id.
+    pub id: u8,
+    /// The first byte that is asked for, counted from 0.
+    pub offset: u16,
+    /// How many bytes are asked for.
+    pub count: u8,
+}
+
+/// A request to a management controller.
+#[derive(Clone, Copy, Debug, PartialEq, Eq)]
+pub enum Request {
+    /// Reserve SDR Repository or Reserve SEL (IPMI v2.0, sections 33.11 and 31.4).
+    Reserve(Shelf),
+    /// Get SDR or Get SEL Entry (sections 33.12 and 31.5).
+    Get(RecordPart),
+    /// Get SDR Repository Info or Get SEL Info (sections 33.9 and 31.2).
+    Info(Shelf),
+    /// Get FRU Inventory Area Info (section 34.1), of the device with this id.
+    InventorySize(u8),
+    /// Read FRU Data (section 34.2).
+    ReadInventory(InventoryPart),
+    /// Get Sensor Reading (section 35.14), of the sensor with this number at this logical unit.
+    Reading(Lun, u8),
+}
+
+/// The bytes of a request after its command, with room for the most.
+pub type RequestData = ArrayVec<u8, 6>;
+
+/// The network function of requests to sensors (IPMI v2.0, table 5-1).
+const SENSOR: u8 = 0x04;
+
+/// The network function of requests to storage (IPMI v2.0, table 5-1).
+const STORAGE: u8 = 0x0A;
+
+/// The count that asks for the whole of a record.
+const WHOLE_RECORD: u8 = 0xFF;
+
+/// The count by which a part is asked for: FFh for a whole entry of the event log, as some controllers give no part of one.
+fn count_asked(part: RecordPart) -> u8
+    ensures { result ≡ count_asked part }
+{
+    match part.shelf {
+        Shelf::Sel if part.offset == 0 && usize::from(part.count) >= SEL_ENTRY_LEN => WHOLE_RECORD,
+        Shelf::Sdr | Shelf::Sel => part.count,
+    }
+}
+
+/// The data of these bytes.
+fn data(bytes: &[u8]) -> RequestData
+    requires { length bytes.now ≤ 6 }
+    ensures { result.items ≡ bytes.now }
+{
+    let mut data = RequestData::new();
+    data.try_extend_from_slice(bytes).unwrap();
+    data
+}
+
+impl Request {
+    /// The network function to which the request goes.
+    pub fn network_function(self) -> u8
+        ensures { result ≡ network_function_of self }
+    {
+        match self {
+            Request::Reading(_, _) => SENSOR,
+            Request::Reserve(_)
+            | Request::Get(_)
+            | Request::Info(_)
+            | Request::InventorySize(_)
+            | Request::ReadInventory(_) => STORAGE,
+        }
+    }
+
+    /// The number of the logical unit to which the request goes: 0 for all but readings.
+    pub fn lun(self) -> u8
+        ensures { result ≡ lun_of self }
+    {
+        match self {
+            Request::Reading(lun, _) => lun.number(),
+            Request::Reserve(_)
+            | Request::Get(_)
+            | Request::Info(_)
+            | Request::InventorySize(_)
+            | Request::ReadInventory(_) => 0,
+        }
+    }
+
+    /// The command.
+    pub fn command(self) -> u8
+        ensures { result ≡ command_of self }
+    {
+        match self {
+            Request::InventorySize(_) => 0x10,
+            Request::ReadInventory(_) => 0x11,
+            Request::Info(Shelf::Sdr) => 0x20,
+            Request::Reserve(Shelf::Sdr) => 0x22,
+            Request::Get(part) if part.shelf == Shelf::Sdr => 0x23,
+            Request::Reading(_, _) => 0x2D,
+            Request::Info(Shelf::Sel) => 0x40,
+            Request::Reserve(Shelf::Sel) => 0x42,
+            Request::Get(_) => 0x43,
+        }
+    }
+
+    /// The bytes after the command. Numbers of two bytes have the low one first.
+    pub fn data(self) -> RequestData
+        ensures { result.items ≡ data_of self }
+    {
+        match self {
+            Request::Reserve(_) | Request::Info(_) => data(&[]),
+            Request::Get(part) => {
+                let [low, high] = part.reservation.to_le_bytes();
+                let [id_low, id_high] = part.id.to_le_bytes();
+                data(&[low, high, id_low, id_high, part.offset, count_asked(part)])
+            }
+            Request::InventorySize(id) => data(&[id]),
+            Request::ReadInventory(part) => {
+                let [low, high] = part.offset.to_le_bytes();
+                data(&[part.id, low, high, part.count])
+            }
+            Request::Reading(_, number) => data(&[number]),
+        }
+    }
+}

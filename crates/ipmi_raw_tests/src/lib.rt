@@ -1,0 +1,11 @@
+//! Tests of ipmi_raw: the texts of requests and of replies, in both dialects.
+#![tactic(auto)]
+
+#[cfg(test)]
+mod cases;
+#[cfg(test)]
+mod freeipmi;
+#[cfg(test)]
+mod ipmitool;
+#[cfg(test)]
+mod requests;
