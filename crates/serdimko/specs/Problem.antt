@@ -45,13 +45,14 @@ looks_words Looks.Unknown =
 -- what a fault of an image means
 abbrev pub explanation : ImageFault → List ℕ
 explanation (ImageFault.Line line) =
-    codes " (an unknown first word, a wrong number of fields, or one of a wrong length)"
+    codes " (check its first word, the number and length of its fields, a '-' in version 1, and CR at its end)"
 explanation (ImageFault.Hex line) =
     codes " (a character is no hex digit, or the number of digits is odd)"
 explanation (ImageFault.Id line) =
     codes " (FFFF or FF, 0000 after the first record, or a LUN above 3)"
 explanation (ImageFault.Twice line) = codes " (a line before has given it)"
-explanation (ImageFault.Length line) = codes " (not the bytes that such a line has)"
+explanation (ImageFault.Length line) =
+    codes " (sel has 16 bytes, info 14, reading 4, and sdr 5 and as many as the fifth says)"
 explanation (ImageFault.FirstId line) = codes " (the record's bytes begin with another id)"
 explanation (ImageFault.AfterEnd line) = codes " (the line 'end' has to be the last)"
 explanation (ImageFault.TooMany line) = codes " (an inventory has at most 65,535)"

@@ -99,6 +99,16 @@ fn of_words<'a>(alloc: Global, words: &[&'a str]) -> Result<Line<'a>, AllocError
         ["image", word, ..] => {
             unknown_after(alloc, "image", word, &OF_IMAGE, "see serdimko image --help")
         }
+        [word, ..] if word.as_bytes().contains(&b' ') => {
+            line(
+                alloc,
+                &[
+                    Text("unknown command '"),
+                    Name(word),
+                    Text("': write its words without quotes around them"),
+                ],
+            )
+        }
         ["help", word, ..] | [word, ..] => {
             unknown(alloc, "unknown command '", word, &COMMANDS, SEE_HELP)
         }
@@ -239,25 +249,28 @@ fn not_a_number<'a>(
             Name(word),
             Text("' is not a number from "),
             Text(range),
+            Text(" (decimal without leading zeros, or 0x and hex digits)"),
         ],
     )
 }
 
 /// A word of hex digits may have been meant so.
 fn no_entry<'a>(alloc: Global, word: &'a str) -> Result<Line<'a>, AllocError> {
-    let mut parts = not_a_number(alloc, word, "1 to 65534")?;
     let is_hex = word.bytes().all(|byte| byte.is_ascii_hexdigit());
     if is_hex && u16::from_str_radix(word, 16).is_ok_and(|id| 0 < id && id < u16::MAX) {
-        for part in [
-            Text(": in hex write 0x"),
-            Name(word),
-            Text(", or --id "),
-            Name(word),
-        ] {
-            parts.push(part)?;
-        }
+        return line(
+            alloc,
+            &[
+                Text("'"),
+                Name(word),
+                Text("' is not a decimal number from 1 to 65534: in hex write 0x"),
+                Name(word),
+                Text(", or --id "),
+                Name(word),
+            ],
+        );
     }
-    Ok(parts)
+    not_a_number(alloc, word, "1 to 65534")
 }
 
 /// A name of several words.
@@ -282,12 +295,22 @@ fn of_options<'a>(alloc: Global, scanned: &Scan<'a>) -> Result<Line<'a>, AllocEr
     }
     if let Some(value) = scanned.part {
         if is_refused(alloc, "--part", value)? {
-            return bad_value(alloc, "--part '", value, "a number from 1 to 254");
+            return bad_value(
+                alloc,
+                "--part '",
+                value,
+                "a number from 1 to 254 (decimal without leading zeros)",
+            );
         }
     }
     if let Some(value) = scanned.tries {
         if is_refused(alloc, "--tries", value)? {
-            return bad_value(alloc, "--tries '", value, "a number from 0 to 255");
+            return bad_value(
+                alloc,
+                "--tries '",
+                value,
+                "a number from 0 to 255 (decimal without leading zeros)",
+            );
         }
     }
     let (first, space, second) = match scanned.words.as_slice() {

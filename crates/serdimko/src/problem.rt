@@ -162,12 +162,13 @@ fn explanation(fault: ImageFault) -> &'static str
 {
     match fault {
         ImageFault::Line(_) => {
-            " (an unknown first word, a wrong number of fields, or one of a wrong length)"
+            " (check its first word, the number and length of its fields, a '-' in version 1, and CR at its end)"
         }
         ImageFault::Hex(_) => " (a character is no hex digit, or the number of digits is odd)",
         ImageFault::Id(_) => " (FFFF or FF, 0000 after the first record, or a LUN above 3)",
         ImageFault::Twice(_) => " (a line before has given it)",
-        ImageFault::Length(_) => " (not the bytes that such a line has)",
+        ImageFault::Length(_) =>
+            " (sel has 16 bytes, info 14, reading 4, and sdr 5 and as many as the fifth says)",
         ImageFault::FirstId(_) => " (the record's bytes begin with another id)",
         ImageFault::AfterEnd(_) => " (the line 'end' has to be the last)",
         ImageFault::TooMany(_) => " (an inventory has at most 65,535)",
