@@ -77,22 +77,22 @@ module _ (one : ItemsHaveOneText) (exists : WalkExists) (look_row : FoundIsRow) 
       (x.0.new_is ∙ rw (one store items x.0.text y.0.text bytes x.0.are y.0.are) (sym y.0.new_is), x.1 ∙ sym y.1)
 
   pub one_output : FinishedRunsAreOne
-  one_output (Job.Records l) store old a b e f ok x y =
+  one_output (Job.Records l) tries tries' store old a b e f ok x y =
       let rows = rows_of (shelf_of l.form) store in
       let shelf = store_shelf (shelf_of l.form) store ok in
       let there = exists (shelf_of l.form) rows l.start shelf in
       one_plan (rows_are_bytes look_row l.form (shelf_of l.form) rows l.start (first_rows l.most there.0) shelf (grind (arith, parts_of_shelf, there.2.of_shelf)))
       (x there.0 there.1 there.2 there.3) (y there.0 there.1 there.2 there.3)
-  one_output (Job.Last n from) store old a b e f ok x y =
+  one_output (Job.Last n from) tries tries' store old a b e f ok x y =
       let start = start_of from in
       let there = exists Sel store.sel start ok.sel in
       one_plan (first_kept (spots_of_walk start there.0 there.1) (last_items n start there.0 there.1)
       (rows_are_bytes look_row Form.EntryLine Sel store.sel (place_after_rows start (take (length there.0 - n) there.0)) (last_rows n there.0 there.1) ok.sel (grind (arith, parts_of_shelf (length there.0 - n) store.sel there.0 there.2.of_shelf))))
       (x there.0 there.1 there.2 there.3) (y there.0 there.1 there.2 there.3)
-  one_output (Job.Info shelf) store old a b e f ok x y = let bytes : AreOfBytes (info_plan (info_of shelf store)).items = grind arith in one_plan bytes x y
-  one_output (Job.Inventory id) store old a b e f ok x y = one_plan (tt, tt) x y
-  one_output Job.AllInventories store old a b e f ok x y =
+  one_output (Job.Info shelf) tries tries' store old a b e f ok x y = let bytes : AreOfBytes (info_plan (info_of shelf store)).items = grind arith in one_plan bytes x y
+  one_output (Job.Inventory id) tries tries' store old a b e f ok x y = one_plan (tt, tt) x y
+  one_output Job.AllInventories tries tries' store old a b e f ok x y =
       let there = exists Sdr store.sdr First ok.sdr in
       one_plan (tt, rows_are_bytes look_row Form.Device Sdr store.sdr First there.0 ok.sdr there.2.of_shelf)
       (x there.0 there.1 there.2 there.3) (y there.0 there.1 there.2 there.3)
-  one_output Job.Rewrite store old a b e f ok x y = one_plan tt x y
+  one_output Job.Rewrite tries tries' store old a b e f ok x y = one_plan tt x y

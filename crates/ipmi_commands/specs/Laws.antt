@@ -27,9 +27,9 @@ abbrev pub ItemsHaveOneText : Type 0
 ItemsHaveOneText = (store : Store) (items : List Item) (a b : List ℕ) → AreOfBytes items
     → AreTexts (IsTextOver store) items a → AreTexts (IsTextOver store) items b → a ≡ b
 
--- over a well-formed store a finished run leaves one output, and ends in one way
+-- over a well-formed store a finished run leaves one output, and ends in one way, whatever its tries
 abbrev pub FinishedRunsAreOne : Type 0
-FinishedRunsAreOne = (job : Job) (store : Store) (old a b : List ℕ) (e f : Ending) → IsStore store
-    → OnPlan job 0 store (λ plan calls. PrintsAll (IsTextOver store) plan old a e)
-    → OnPlan job 0 store (λ plan calls. PrintsAll (IsTextOver store) plan old b f)
+FinishedRunsAreOne = (job : Job) (tries tries' : ℕ) (store : Store) (old a b : List ℕ) (e f : Ending) → IsStore store
+    → OnPlan job tries store (λ plan calls. PrintsAll (IsTextOver store) plan old a e)
+    → OnPlan job tries' store (λ plan calls. PrintsAll (IsTextOver store) plan old b f)
     → (a ≡ b) × (e ≡ f)

@@ -70,9 +70,14 @@ abbrev pub named_text : Bool → List ℕ → List ℕ → List ℕ
 named_text true name text = text
 named_text false name text = escaped_name name ++ (codes ": " ++ text)
 
+-- why input with this name was not read; no file has an empty name
+abbrev pub unread_words : List ℕ → InputFault → List ℕ
+unread_words [] fault = codes "the name is empty"
+unread_words name fault = input_fault_words fault
+
 abbrev pub problem_text : List ℕ → Bool → Problem → List ℕ
 problem_text name is_one (Problem.Unread fault) =
-    codes "cannot read " ++ (escaped_name name ++ (codes ": " ++ input_fault_words fault))
+    codes "cannot read " ++ (escaped_name name ++ (codes ": " ++ unread_words name fault))
 problem_text name is_one (Problem.NoImage ImageFault.Header looks) =
     escaped_name name ++ (codes ": header" ++ looks_words looks)
 problem_text name is_one (Problem.NoImage fault looks) =

@@ -17,7 +17,7 @@ use help::{SHORT, VERSION, help_on};
 use images::print_images;
 use ipmi_command_line::{Command, Task, UsageFault, command_of};
 use ipmi_commands::report;
-use ipmi_output::Part::{self, Text};
+use ipmi_output::Part::{self, Number, Text};
 use ipmi_output::{Failure, MessageSink, Written, say_line};
 use ipmi_program::read_words;
 use mistake::mistake;
@@ -25,12 +25,16 @@ use own::{Own, own_of};
 use problem::CLOSED;
 use scan::{Scan, told_apart};
 use std::alloc::AllocError;
+use std::env::{Env, FillError};
 use std::io::{self, BufWriter, ErrorKind, IsTerminal, Write};
 use std::process::ExitCode;
 use watch::Watch;
 
 /// The exit status of an invalid command line.
 const USAGE: u8 = 2;
+
+/// The most bytes of an argument that is looked at for what is not UTF-8, as many as a path may have.
+const LONGEST_LOOKED_AT: usize = 4096;
 
 fn main(rt: HostRuntime) -> ExitCode {
     let mut err = Written::new(rt.stderr());
@@ -41,12 +45,30 @@ fn main(rt: HostRuntime) -> ExitCode {
     ExitCode::from(status)
 }
 
+/// Says which argument is not UTF-8, counted from 1, unless it is too long to be looked at, and gives the exit status.
+fn refuse_argument<R: Env, E: MessageSink>(rt: &R, err: &mut E) -> u8 {
+    let mut argument = [0; LONGEST_LOOKED_AT];
+    for place in 1..usize::MAX {
+        match rt.arg(place, &mut argument) {
+            Ok(len) if str::from_utf8(&argument[..len]).is_err() => {
+                return refuse(
+                    &[Text("argument "), Number(place), Text(" is not UTF-8")],
+                    err,
+                );
+            }
+            Ok(_) | Err(FillError::TooLong) => {}
+            Err(FillError::NotPresent) => break,
+        }
+    }
+    refuse(&[Text("an argument is not UTF-8")], err)
+}
+
 /// Reads the command line, does what it asks for, and gives the exit status.
 fn program<E: MessageSink>(rt: &HostRuntime, err: &mut E) -> Result<u8, AllocError> {
     let words = match read_words(rt) {
         Ok(words) => words,
         Err(UsageFault::Memory) => return Err(AllocError),
-        Err(_) => return Ok(refuse(&[Text("an argument is not UTF-8")], err)),
+        Err(_) => return Ok(refuse_argument(rt, err)),
     };
     if words.as_slice().len() < 2 && rt.stdin().is_terminal() {
         return Ok(refuse(&[Text(SHORT)], err));

@@ -57,7 +57,12 @@ fn of_fault<'a>(
     fault: UsageFault,
 ) -> Result<Line<'a>, AllocError> {
     match fault {
-        UsageFault::Command => of_words(alloc, &scanned.words),
+        UsageFault::Command => match (scanned.image, scanned.words.as_slice()) {
+            (Some(file), [word, ..]) if COMMANDS.contains(&file) && !COMMANDS.contains(word) => {
+                no_file(alloc, word, file)
+            }
+            (_, words) => of_words(alloc, words),
+        },
         UsageFault::Option => of_options(alloc, scanned),
         UsageFault::Line | UsageFault::Memory => {
             line(
@@ -85,6 +90,20 @@ pub(crate) fn unknown<'a>(
     line(
         alloc,
         &[Text(what), Name(word), Text("': "), before, near, after],
+    )
+}
+
+/// A command was read as the file of `--image`.
+fn no_file<'a>(alloc: Global, word: &'a str, file: &'a str) -> Result<Line<'a>, AllocError> {
+    line(
+        alloc,
+        &[
+            Text("unknown command '"),
+            Name(word),
+            Text("': '"),
+            Name(file),
+            Text("' was read as the file of --image"),
+        ],
     )
 }
 

@@ -1,7 +1,7 @@
 //! Why nothing, or not all, was printed of an image: its line and its exit status.
 ghost use Rattle.std.specs.Prelude.{◌≡◌, Some, true};
 ghost use Rattle.ipmi_output.specs.Failure.{joined_parts, part_text};
-ghost use Rattle.serdimko.specs.Problem.{explanation, looks_words, named_text, problem_of, problem_text, status_of_problem, unread};
+ghost use Rattle.serdimko.specs.Problem.{explanation, looks_words, named_text, problem_of, problem_text, status_of_problem, unread, unread_words};
 
 use ipmi_image::ImageFault;
 use ipmi_output::Part::{self, Name, Number, Text};
@@ -140,7 +140,7 @@ impl<'a> Problem<'a> {
                     Text("cannot read "),
                     Name(name),
                     Text(": "),
-                    Text(fault.words()),
+                    Text(unread_words(name, *fault)),
                     none,
                     none,
                 ]
@@ -154,6 +154,16 @@ impl<'a> Problem<'a> {
             }
         }
     }
+}
+
+/// Why input with this name was not read.
+fn unread_words(name: &str, fault: InputFault) -> &'static str
+    ensures { result.now ≡ unread_words name.now fault }
+{
+    if name.is_empty() {
+        return "the name is empty";
+    }
+    fault.words()
 }
 
 /// What a fault of an image means.

@@ -24,7 +24,7 @@ pub(crate) struct Scan<'a> {
     pub(crate) from: Option<&'a str>,
     pub(crate) part: Option<&'a str>,
     pub(crate) tries: Option<&'a str>,
-    image: Option<&'a str>,
+    pub(crate) image: Option<&'a str>,
     // the option whose value comes next
     waiting: Option<&'a str>,
     is_ended: bool,
