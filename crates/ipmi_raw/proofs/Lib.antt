@@ -3,3 +3,5 @@ mod FreeIpmiLemmas
 mod IpmitoolLemmas
 mod LawLemmas
 mod PlaceLemmas
+mod ThroughLemmas
+mod ReplyLemmas

@@ -6,15 +6,20 @@
 //! text of a reply is read.
 #![tactic(auto)]
 
+mod controller;
 pub mod freeipmi;
 pub mod ipmitool;
 pub mod laws;
 mod line;
+mod peer;
 mod reply;
 mod request;
 mod tool;
 mod words;
 
+pub use controller::RawController;
 pub use line::Line;
+pub use peer::{Lost, Peer, ReplyText};
 pub use reply::{Reply, ReplyBytes};
-pub use request::{InventoryPart, Lun, RecordPart, Request, RequestData};
+pub use request::{InventoryPart, RecordPart, Request, RequestData};
+pub use tool::Tool;
