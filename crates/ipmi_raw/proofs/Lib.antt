@@ -5,3 +5,4 @@ mod LawLemmas
 mod PlaceLemmas
 mod ThroughLemmas
 mod ReplyLemmas
+mod StreamLemmas

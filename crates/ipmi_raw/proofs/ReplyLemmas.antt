@@ -1,5 +1,5 @@
 -- The reply that is read of a text is the one that an honest peer means.
-use Rattle.std.proofs.Common.{◌≡◌, ◌≢◌, ℕ, List, Option, Some, None, Bool, MatchOption, subst, sym}
+use Rattle.std.proofs.Common.{◌≡◌, ℕ, List, subst}
 use Rattle.ipmi_bus.specs.Seen.{Seen}
 use Rattle.ipmi_raw.specs.declared.reply.Reply.{Reply}
 use Rattle.ipmi_raw.specs.declared.request.Request.{Request}
@@ -7,7 +7,6 @@ use Rattle.ipmi_raw.specs.declared.tool.Tool.{Tool}
 use Rattle.ipmi_raw.specs.declared.tool.Tool.TheVariants.{Ipmitool, FreeIpmi}
 use Rattle.ipmi_raw.specs.Answer.{given, IsAnswer, IsDataIfAny}
 use Rattle.ipmi_raw.specs.Peer.{IsReplyText, Replies}
-use Rattle.ipmi_raw.specs.Reply.{IsReading}
 use Rattle.ipmi_raw.proofs.LawLemmas.{one_reply_of_ipmitool, one_reply_of_freeipmi}
 
 one_reply : (tool : Tool) (request : Request) (one other : Reply) (text : List ℕ) → IsReplyText tool request one text

@@ -7,3 +7,4 @@ pub mod Laws
 pub mod Answer
 pub mod Peer
 pub mod Controller
+pub mod Streams

@@ -10,8 +10,11 @@ use crate::tool::Tool;
 use arrayvec::ArrayVec;
 use thiserror::Error;
 
-/// What a tool prints for a request, with room for the longest reply, or for what the tool says when it fails.
-pub type ReplyText = ArrayVec<u8, 1024>;
+/// Room for the longest reply, or for what a tool says when it fails.
+pub(crate) const REPLY_ROOM: usize = 1024;
+
+/// What a tool prints for a request.
+pub type ReplyText = ArrayVec<u8, REPLY_ROOM>;
 
 /// No reply came: the tool has ended, takes no request, or prints what is no end of a reply.
 #[derive(Clone, Copy, Debug, PartialEq, Eq, Error)]

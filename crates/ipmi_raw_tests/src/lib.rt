@@ -2,10 +2,18 @@
 #![tactic(auto)]
 
 #[cfg(test)]
+mod calls;
+#[cfg(test)]
 mod cases;
+#[cfg(test)]
+mod controller;
 #[cfg(test)]
 mod freeipmi;
 #[cfg(test)]
 mod ipmitool;
 #[cfg(test)]
 mod requests;
+#[cfg(test)]
+mod streams;
+#[cfg(test)]
+mod tools;
