@@ -14,7 +14,7 @@ use Rattle.ipmi_bus.specs.Shelf.{Row, look, id_in}
 use Rattle.ipmi_bus.specs.Store.{Store, rows_of, info_of, inventory_of, reading_of}
 use Rattle.ipmi_bus.specs.Answers.{other, CountsPiece, FailsWith, ReserveAnswers, Asked, GivesPiece, PartAnswers, ValueAnswers, SizeAnswers, BytesAnswers, not_present, part_asked}
 use Rattle.ipmi_raw.specs.Controller.{seen_through}
-use Rattle.ipmi_raw.specs.Answer.{IsAnswer, data_in, part_in, reading_in, size_in, value_in}
+use Rattle.ipmi_raw.specs.Answer.{IsAnswer, data_in, first_in, part_in, reading_in, size_in, value_in}
 use Rattle.ipmi_raw.specs.declared.request.Request.{Request}
 use Rattle.ipmi_raw.specs.declared.request.Request.TheVariants.{Reserve, Get, Info, InventorySize, ReadInventory, Reading}
 
@@ -203,7 +203,7 @@ answer (Get piece) result s t c d h =
 answer (Info shelf) result s t c d h = value (info_of shelf) (value_in (λ xs. xs) result) s t c d h
 answer (InventorySize id) result s t c d h = size id (value_in size_in result) s t c d h
 answer (ReadInventory piece) result s t c d h =
-    bytes piece.id piece.offset piece.count (value_in (λ xs. slice_index xs 0) result) (drop 1 (data_in result)) s t c d h
+    bytes piece.id piece.offset piece.count (value_in first_in result) (drop 1 (data_in result)) s t c d h
 answer (Reading lun number) result s t c d h = value (reading_of lun number) (value_in reading_in result) s t c d h
 
 pub answered : (request : Request) (result : Result (List ℕ) Code) (s t : Seen) (c d : Counts) (was is : Bool)

@@ -30,6 +30,10 @@ IsDataOf (Reading lun number) bytes = (2 ≤ length bytes) × (length bytes ≤ 
 abbrev pub part_in : List ℕ → Part
 part_in bytes = record { next = id_in bytes; got = length bytes - 2 }
 
+-- the count of the bytes that come after it
+abbrev pub first_in : List ℕ → ℕ
+first_in bytes = slice_index bytes 0
+
 -- the size in bytes, the low byte first, and how the device is accessed: bit 0 is set where it is by words
 abbrev pub size_in : List ℕ → FruSize
 size_in bytes = record { size = id_in bytes; words = slice_index bytes 2 % 2 == 1 }
@@ -89,5 +93,5 @@ IsAnswer (Get part) result old new =
 IsAnswer (Info shelf) result old new = ValueAnswers (info_of shelf) (value_in (λ bytes. bytes) result) old new
 IsAnswer (InventorySize id) result old new = SizeAnswers id (value_in size_in result) old new
 IsAnswer (ReadInventory part) result old new =
-    BytesAnswers part.id part.offset part.count (value_in (λ bytes. slice_index bytes 0) result) (drop 1 (data_in result)) old new
+    BytesAnswers part.id part.offset part.count (value_in first_in result) (drop 1 (data_in result)) old new
 IsAnswer (Reading lun number) result old new = ValueAnswers (reading_of lun number) (value_in reading_in result) old new

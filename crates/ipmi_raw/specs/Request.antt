@@ -2,6 +2,7 @@
 use Rattle.std.specs.Prelude.{ℕ, ◌/◌, ◌%◌, ◌<◌, ◌==◌, ◌&&◌, nat_le, if◌then◌else◌, ◌++◌, List, [], ◌∷◌}
 use Rattle.ipmi_bus.specs.declared.controller.Shelf.{Shelf}
 use Rattle.ipmi_bus.specs.declared.controller.Shelf.TheVariants.{Sdr, Sel}
+use Rattle.ipmi_raw.specs.declared.request.InventoryPart.{InventoryPart}
 use Rattle.ipmi_raw.specs.declared.request.RecordPart.{RecordPart}
 use Rattle.ipmi_raw.specs.declared.request.Request.{Request}
 use Rattle.ipmi_raw.specs.declared.request.Request.TheVariants.{Reserve, Get, Info, InventorySize, ReadInventory, Reading}
@@ -57,6 +58,20 @@ data_of (Reading lun number) = number ∷ []
 -- network function, command and data
 abbrev pub message_of : Request → List ℕ
 message_of request = network_function_of request ∷ command_of request ∷ data_of request
+
+-- ---- requests of the calls
+
+abbrev pub record_part : Shelf → ℕ → ℕ → ℕ → ℕ → RecordPart
+record_part shelf reservation id offset count = record {
+  shelf = shelf;
+  reservation = reservation;
+  id = id;
+  offset = offset;
+  count = count;
+}
+
+abbrev pub inventory_part : ℕ → ℕ → ℕ → InventoryPart
+inventory_part id offset count = record { id = id; offset = offset; count = count }
 
 -- Each number fits its field of the message, and a part is asked to have 1 to 254 bytes. The logical unit may be any byte: a
 -- message has room for 0 to 3, and no sensor answers at another one.

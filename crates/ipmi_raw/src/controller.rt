@@ -1,11 +1,14 @@
 //! A management controller that is asked through a peer.
 ghost use Rattle.std.specs.Prelude.{◌≡◌, ◌+◌, ◌<◌, ◌≤◌, IfSome, MatchOption, IfOk, OnErr, false, length, take, drop, option_map};
 ghost use Rattle.ipmi_bus.specs.Counts.{Counts};
+ghost use Rattle.ipmi_bus.specs.Shelf.{id_in};
 ghost use Rattle.ipmi_bus.specs.Prelude.{IsCall, failing_code, IsHonest, info_of, reading_of, ReserveAnswers, PartAnswers, ValueAnswers, SizeAnswers, BytesAnswers, part_asked, counts_after, zero_counts};
 ghost use Rattle.ipmi_bus.specs.declared.tally.Event.{Event};
-ghost use Rattle.ipmi_raw.specs.Answer.{given, IsAnswer, IsDataIfAny, IsDataOf};
-ghost use Rattle.ipmi_raw.specs.Controller.{GivesUp, last_words, seen_of, seen_through};
-ghost use Rattle.ipmi_raw.specs.Request.{IsRequest};
+ghost use Rattle.ipmi_raw.specs.Answer.{data_in, first_in, given, IsAnswer, IsDataIfAny, IsDataOf, part_in, reading_in, size_in, value_in};
+ghost use Rattle.ipmi_raw.specs.Controller.{Asks, last_words, seen_of, seen_through};
+ghost use Rattle.ipmi_raw.specs.Peer.{IsReplyText};
+ghost use Rattle.ipmi_raw.specs.Request.{inventory_part, IsRequest, record_part};
+ghost use Rattle.ipmi_raw.specs.declared.request.Request.TheVariants as Request;
 
 use crate::peer::{Peer, ReplyText};
 use crate::reply::{Reply, ReplyBytes};
@@ -66,6 +69,7 @@ impl<P: Peer, K: Clock> RawController<P, K> {
     fn exchange(&mut self, request: Request) -> Option<Reply>
         ensures same { self.new ≡ record self.old { peer = self.new.peer; text = self.new.text } }
         ensures fits { IfSome result (λ reply. IsDataIfAny request (given request reply)) }
+        ensures text { IfSome result (λ reply. IsReplyText (P.tool self.old.peer) request reply self.new.text.items) }
         ensures honest { IsHonest (P.seen self.old.peer) → IsRequest request → MatchOption result ⊥
             (λ reply. IsAnswer request (given request reply) (P.seen self.old.peer) (P.seen self.new.peer)) }
     {
@@ -101,7 +105,8 @@ impl<P: Peer, K: Clock> RawController<P, K> {
         ensures counted { IsCall asked (seen_of P.seen self.old) (seen_of P.seen self.new) }
         ensures failure { (seen_of P.seen self.new).last_failure ≡ failing_code result }
         ensures data { IfOk result (λ bytes. IsDataOf request bytes) }
-        ensures lost { GivesUp self.old self.new (failing_code result) }
+        ensures asks { Asks (P.tool self.old.peer) request (λ given. given ≡ result)
+            self.old self.new (failing_code result) }
         ensures honest { IsHonest (seen_of P.seen self.old) → IsRequest request →
             IsAnswer request result (seen_of P.seen self.old) (seen_of P.seen self.new) }
     {
@@ -140,9 +145,9 @@ impl<P: Peer, K: Clock> Controller for RawController<P, K> {
         ensures counted { IsCall 0 (seen_of P.seen self.old) (seen_of P.seen self.new) }
         ensures failure { (seen_of P.seen self.new).last_failure ≡ failing_code result }
         ensures honest { IsHonest (seen_of P.seen self.old) →
-            ReserveAnswers shelf result
-            (seen_of P.seen self.old) (seen_of P.seen self.new) }
-        ensures lost { GivesUp self.old self.new (failing_code result) }
+            ReserveAnswers shelf result (seen_of P.seen self.old) (seen_of P.seen self.new) }
+        ensures asks { Asks (P.tool self.old.peer) (Request.Reserve shelf) (λ given. result ≡ value_in id_in given)
+            self.old self.new (failing_code result) }
     {
         let reply = self.ask(0, Request::Reserve(shelf))?;
         let bytes = reply.as_slice();
@@ -167,7 +172,11 @@ impl<P: Peer, K: Clock> Controller for RawController<P, K> {
         ensures honest { IsHonest (seen_of P.seen self.old) →
             PartAnswers (part_asked shelf reservation id offset (length into.old)) result into.new
             (seen_of P.seen self.old) (seen_of P.seen self.new) }
-        ensures lost { GivesUp self.old self.new (failing_code result) }
+        ensures asks { Asks (P.tool self.old.peer)
+            (Request.Get (record_part shelf reservation id offset (length into.old)))
+            (λ given. (result ≡ value_in part_in given)
+            × IfOk result (λ part. take part.got into.new ≡ drop 2 (data_in given)))
+            self.old self.new (failing_code result) }
     {
         let count = into.len() as u8;
         let part = RecordPart {
@@ -190,9 +199,9 @@ impl<P: Peer, K: Clock> Controller for RawController<P, K> {
         ensures counted { IsCall 0 (seen_of P.seen self.old) (seen_of P.seen self.new) }
         ensures failure { (seen_of P.seen self.new).last_failure ≡ failing_code result }
         ensures honest { IsHonest (seen_of P.seen self.old) →
-            ValueAnswers (info_of shelf) result
-            (seen_of P.seen self.old) (seen_of P.seen self.new) }
-        ensures lost { GivesUp self.old self.new (failing_code result) }
+            ValueAnswers (info_of shelf) result (seen_of P.seen self.old) (seen_of P.seen self.new) }
+        ensures asks { Asks (P.tool self.old.peer) (Request.Info shelf) (λ given. result ≡ given)
+            self.old self.new (failing_code result) }
     {
         let reply = self.ask(0, Request::Info(shelf))?;
         let mut info = [0; INFO_LEN];
@@ -204,9 +213,9 @@ impl<P: Peer, K: Clock> Controller for RawController<P, K> {
         ensures counted { IsCall 0 (seen_of P.seen self.old) (seen_of P.seen self.new) }
         ensures failure { (seen_of P.seen self.new).last_failure ≡ failing_code result }
         ensures honest { IsHonest (seen_of P.seen self.old) →
-            ValueAnswers (reading_of lun number) result
-            (seen_of P.seen self.old) (seen_of P.seen self.new) }
-        ensures lost { GivesUp self.old self.new (failing_code result) }
+            ValueAnswers (reading_of lun number) result (seen_of P.seen self.old) (seen_of P.seen self.new) }
+        ensures asks { Asks (P.tool self.old.peer) (Request.Reading lun number) (λ given. result ≡ value_in reading_in given)
+            self.old self.new (failing_code result) }
     {
         let reply = self.ask(0, Request::Reading(lun, number))?;
         let bytes = reply.as_slice();
@@ -222,9 +231,9 @@ impl<P: Peer, K: Clock> Controller for RawController<P, K> {
         ensures counted { IsCall 0 (seen_of P.seen self.old) (seen_of P.seen self.new) }
         ensures failure { (seen_of P.seen self.new).last_failure ≡ failing_code result }
         ensures honest { IsHonest (seen_of P.seen self.old) →
-            SizeAnswers id result
-            (seen_of P.seen self.old) (seen_of P.seen self.new) }
-        ensures lost { GivesUp self.old self.new (failing_code result) }
+            SizeAnswers id result (seen_of P.seen self.old) (seen_of P.seen self.new) }
+        ensures asks { Asks (P.tool self.old.peer) (Request.InventorySize id) (λ given. result ≡ value_in size_in given)
+            self.old self.new (failing_code result) }
     {
         let reply = self.ask(0, Request::InventorySize(id))?;
         let bytes = reply.as_slice();
@@ -245,7 +254,11 @@ impl<P: Peer, K: Clock> Controller for RawController<P, K> {
         ensures honest { IsHonest (seen_of P.seen self.old) →
             BytesAnswers id offset (length into.old) result into.new
             (seen_of P.seen self.old) (seen_of P.seen self.new) }
-        ensures lost { GivesUp self.old self.new (failing_code result) }
+        ensures asks { Asks (P.tool self.old.peer)
+            (Request.ReadInventory (inventory_part id offset (length into.old)))
+            (λ given. (result ≡ value_in first_in given)
+            × IfOk result (λ got. take got into.new ≡ drop 1 (data_in given)))
+            self.old self.new (failing_code result) }
     {
         let count = into.len() as u8;
         let part = InventoryPart { id, offset, count };

@@ -17,7 +17,7 @@ mod reply;
 mod request;
 mod streams;
 mod tool;
-mod words;
+pub mod words;
 
 pub use controller::RawController;
 pub use line::Line;

@@ -28,6 +28,19 @@ impl Model for ReplyBytes {
 }
 
 impl ReplyBytes {
+    /// These bytes.
+    pub fn new(bytes: &[u8]) -> ReplyBytes
+        requires { length bytes.now ≤ 255 }
+        ensures value { result ≡ bytes.now }
+        ensures data { AreData result }
+    {
+        let mut copied = ArrayVec::new();
+        for byte in bytes {
+            copied.push(*byte);
+        }
+        ReplyBytes { bytes: copied }
+    }
+
     /// The bytes.
     pub fn as_slice(&self) -> &[u8]
         ensures { result.now ≡ self.now }

@@ -20,7 +20,7 @@ pub enum Tool {
 
 impl Tool {
     /// The hex digits, in the case in which the tool prints them.
-    pub(crate) fn digits(self) -> &'static [u8; 16]
+    pub fn digits(self) -> &'static [u8; 16]
         ensures { result.now ≡ digits self }
     {
         match self {
@@ -30,7 +30,7 @@ impl Tool {
     }
 
     /// What the tool prints after the last byte of a reply.
-    pub(crate) fn ending(self) -> &'static [u8]
+    pub fn ending(self) -> &'static [u8]
         ensures { result.now ≡ ending self }
     {
         match self {
