@@ -1,5 +1,9 @@
-mod WordLemmas
+pub mod WordLemmas
 mod FreeIpmiLemmas
 mod IpmitoolLemmas
 mod LawLemmas
 mod PlaceLemmas
+mod ThroughLemmas
+mod ReplyLemmas
+mod AskLemmas
+mod StreamLemmas

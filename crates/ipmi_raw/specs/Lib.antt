@@ -4,3 +4,7 @@ pub mod Reply
 pub mod Ipmitool
 pub mod FreeIpmi
 pub mod Laws
+pub mod Answer
+pub mod Peer
+pub mod Controller
+pub mod Streams

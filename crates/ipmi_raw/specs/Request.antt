@@ -1,9 +1,8 @@
 -- The bytes of each request (IPMI v2.0; appendix G has the numbers of all commands).
-use Rattle.std.specs.Prelude.{ℕ, ◌/◌, ◌%◌, ◌==◌, ◌&&◌, nat_le, if◌then◌else◌, ◌++◌, List, [], ◌∷◌}
+use Rattle.std.specs.Prelude.{ℕ, ◌/◌, ◌%◌, ◌<◌, ◌==◌, ◌&&◌, nat_le, if◌then◌else◌, ◌++◌, List, [], ◌∷◌}
 use Rattle.ipmi_bus.specs.declared.controller.Shelf.{Shelf}
 use Rattle.ipmi_bus.specs.declared.controller.Shelf.TheVariants.{Sdr, Sel}
-use Rattle.ipmi_raw.specs.declared.request.Lun.{Lun}
-use Rattle.ipmi_raw.specs.declared.request.Lun.TheVariants.{Zero, One, Two, Three}
+use Rattle.ipmi_raw.specs.declared.request.InventoryPart.{InventoryPart}
 use Rattle.ipmi_raw.specs.declared.request.RecordPart.{RecordPart}
 use Rattle.ipmi_raw.specs.declared.request.Request.{Request}
 use Rattle.ipmi_raw.specs.declared.request.Request.TheVariants.{Reserve, Get, Info, InventorySize, ReadInventory, Reading}
@@ -17,19 +16,13 @@ network_function_of (InventorySize id) = 0x0A
 network_function_of (ReadInventory part) = 0x0A
 network_function_of (Reading lun number) = 0x04
 
-abbrev pub lun_number : Lun → ℕ
-lun_number Zero = 0
-lun_number One = 1
-lun_number Two = 2
-lun_number Three = 3
-
 abbrev pub lun_of : Request → ℕ
 lun_of (Reserve shelf) = 0
 lun_of (Get part) = 0
 lun_of (Info shelf) = 0
 lun_of (InventorySize id) = 0
 lun_of (ReadInventory part) = 0
-lun_of (Reading lun number) = lun_number lun
+lun_of (Reading lun number) = lun
 
 -- one of two commands, the first for sensor data records, the second for the event log
 abbrev pub for_shelf : Shelf → ℕ → ℕ → ℕ
@@ -65,3 +58,28 @@ data_of (Reading lun number) = number ∷ []
 -- network function, command and data
 abbrev pub message_of : Request → List ℕ
 message_of request = network_function_of request ∷ command_of request ∷ data_of request
+
+-- ---- requests of the calls
+
+abbrev pub record_part : Shelf → ℕ → ℕ → ℕ → ℕ → RecordPart
+record_part shelf reservation id offset count = record {
+  shelf = shelf;
+  reservation = reservation;
+  id = id;
+  offset = offset;
+  count = count;
+}
+
+abbrev pub inventory_part : ℕ → ℕ → ℕ → InventoryPart
+inventory_part id offset count = record { id = id; offset = offset; count = count }
+
+-- Each number fits its field of the message, and a part is asked to have 1 to 254 bytes. The logical unit may be any byte: a
+-- message has room for 0 to 3, and no sensor answers at another one.
+abbrev pub IsRequest : Request → Type 0
+IsRequest (Reserve shelf) = Unit {0}
+IsRequest (Get part) =
+    (part.reservation < 65536) × (part.id < 65536) × (part.offset < 256) × (0 < part.count) × (part.count < 255)
+IsRequest (Info shelf) = Unit {0}
+IsRequest (InventorySize id) = id < 256
+IsRequest (ReadInventory part) = (part.id < 256) × (part.offset < 65536) × (0 < part.count) × (part.count < 255)
+IsRequest (Reading lun number) = (lun < 256) × (number < 256)

@@ -32,8 +32,8 @@ pub fn request_text(request: Request) -> Line
     line
 }
 
-/// How the tool says that no data came for the request.
-fn refusal(request: Request) -> Line
+/// How the tool says that no data came for the request, up to the completion code.
+pub fn refusal(request: Request) -> Line
     ensures { result.items ≡ refusal request }
 {
     let mut line = Line::new();

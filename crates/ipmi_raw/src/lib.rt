@@ -6,15 +6,24 @@
 //! text of a reply is read.
 #![tactic(auto)]
 
+mod controller;
 pub mod freeipmi;
 pub mod ipmitool;
 pub mod laws;
 mod line;
+mod peer;
+mod piped;
 mod reply;
 mod request;
+mod streams;
 mod tool;
-mod words;
+pub mod words;
 
+pub use controller::RawController;
 pub use line::Line;
+pub use peer::{Lost, Peer, ReplyText};
+pub use piped::{Open, Piped};
 pub use reply::{Reply, ReplyBytes};
-pub use request::{InventoryPart, Lun, RecordPart, Request, RequestData};
+pub use request::{InventoryPart, RecordPart, Request, RequestData};
+pub use streams::Streams;
+pub use tool::Tool;

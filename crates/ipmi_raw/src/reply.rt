@@ -1,10 +1,13 @@
 //! What a management controller replies, and the bytes of a reply in a tool's text.
-ghost use Rattle.std.specs.Prelude.{ℕ, List, ◌≡◌, ◌≢◌, ◌<◌, ◌≤◌, MatchOption, length};
+ghost use Rattle.std.specs.Prelude.{ℕ, List, ◌≡◌, ◌≢◌, ◌<◌, ◌≤◌, MatchBool, MatchOption, length};
+ghost use Rattle.ipmi_raw.specs.Answer.{given, IsDataIfAny, IsDataOf};
 ghost use Rattle.ipmi_raw.specs.Words.{AreData, words_from};
 
+use crate::request::Request;
 use crate::tool::Tool;
 use crate::words::next_word;
 use arrayvec::ArrayVec;
+use ipmi_bus::INFO_LEN;
 use std::marker::Model;
 
 /// The most bytes of a reply after its completion code.
@@ -25,6 +28,19 @@ impl Model for ReplyBytes {
 }
 
 impl ReplyBytes {
+    /// These bytes.
+    pub fn new(bytes: &[u8]) -> ReplyBytes
+        requires { length bytes.now ≤ 255 }
+        ensures value { result ≡ bytes.now }
+        ensures data { AreData result }
+    {
+        let mut copied = ArrayVec::new();
+        for byte in bytes {
+            copied.push(*byte);
+        }
+        ReplyBytes { bytes: copied }
+    }
+
     /// The bytes.
     pub fn as_slice(&self) -> &[u8]
         ensures { result.now ≡ self.now }
@@ -64,5 +80,35 @@ pub(crate) fn read_words(tool: Tool, text: &[u8]) -> Option<ReplyBytes>
         Some(ReplyBytes { bytes })
     } else {
         None
+    }
+}
+
+impl Reply {
+    /// Whether it can be a reply to the request: where it has data, as many bytes as the standard says, and of a record or an
+    /// inventory no more than were asked for.
+    pub(crate) fn is_to(&self, request: Request) -> bool
+        ensures { MatchBool result (IsDataIfAny request (given request self.now)) (¬ IsDataIfAny request (given request self.now)) }
+    {
+        match self {
+            Reply::Data(bytes) => is_data_of(request, bytes.as_slice()),
+            Reply::Refused(_) | Reply::Silent => true,
+        }
+    }
+}
+
+/// Whether the data of a reply to the request can be these bytes.
+fn is_data_of(request: Request, bytes: &[u8]) -> bool
+    ensures { MatchBool result (IsDataOf request bytes.now) (¬ IsDataOf request bytes.now) }
+{
+    match request {
+        Request::Reserve(_) => bytes.len() == 2,
+        Request::Get(part) => 2 <= bytes.len() && bytes.len() <= 2 + usize::from(part.count),
+        Request::Info(_) => bytes.len() == INFO_LEN,
+        Request::InventorySize(_) => bytes.len() == 3,
+        Request::ReadInventory(part) => match bytes {
+            [count, data @ ..] => data.len() == usize::from(*count) && *count <= part.count,
+            [] => false,
+        },
+        Request::Reading(_, _) => 2 <= bytes.len() && bytes.len() <= 4,
     }
 }

@@ -1,36 +1,10 @@
 //! The requests that a listing sends, as bytes (IPMI v2.0).
 ghost use Rattle.std.specs.Prelude.{◌≡◌, ◌≤◌, length};
-ghost use Rattle.ipmi_raw.specs.Request.{command_of, count_asked, data_of, lun_number, lun_of, network_function_of};
+ghost use Rattle.ipmi_raw.specs.Answer.{code_given};
+ghost use Rattle.ipmi_raw.specs.Request.{command_of, count_asked, data_of, lun_of, network_function_of};
 
 use arrayvec::ArrayVec;
-use ipmi_bus::{SEL_ENTRY_LEN, Shelf};
-
-/// A logical unit of a controller (IPMI v2.0, section 7.2).
-#[derive(Clone, Copy, Debug, PartialEq, Eq)]
-pub enum Lun {
-    /// 00b: commands to the controller, and event messages.
-    Zero,
-    /// 01b: the first unit of the manufacturer's own.
-    One,
-    /// 10b: system software.
-    Two,
-    /// 11b: the second unit of the manufacturer's own.
-    Three,
-}
-
-impl Lun {
-    /// Its number, 0 to 3.
-    pub fn number(self) -> u8
-        ensures { result ≡ lun_number self }
-    {
-        match self {
-            Lun::Zero => 0,
-            Lun::One => 1,
-            Lun::Two => 2,
-            Lun::Three => 3,
-        }
-    }
-}
+use ipmi_bus::{Code, SEL_ENTRY_LEN, Shelf};
 
 /// A part of a sensor data record or of an entry of the event log.
 #[derive(Clone, Copy, Debug, PartialEq, Eq)]
@@ -71,8 +45,9 @@ pub enum Request {
     InventorySize(u8),
     /// Read FRU Data (section 34.2).
     ReadInventory(InventoryPart),
-    /// Get Sensor Reading (section 35.14), of the sensor with this number at this logical unit.
-    Reading(Lun, u8),
+    /// Get Sensor Reading (section 35.14): the logical unit of a controller (section 7.2), 0 to 3, and the number of a sensor at
+    /// it.
+    Reading(u8, u8),
 }
 
 /// The bytes of a request after its command, with room for the most.
@@ -127,7 +102,7 @@ impl Request {
         ensures { result ≡ lun_of self }
     {
         match self {
-            Request::Reading(lun, _) => lun.number(),
+            Request::Reading(lun, _) => lun,
             Request::Reserve(_)
             | Request::Get(_)
             | Request::Info(_)
@@ -170,6 +145,18 @@ impl Request {
                 data(&[part.id, low, high, part.count])
             }
             Request::Reading(_, number) => data(&[number]),
+        }
+    }
+
+    /// What a completion code of the reply says: CBh, that there is none, for the codes by which controllers say so of a sensor
+    /// or of an inventory.
+    pub fn code_given(self, code: u8) -> Code
+        ensures { result ≡ code_given self code }
+    {
+        match (self, code) {
+            (Request::Reading(_, _), 0xCC | 0xCD | 0xD5) | (Request::InventorySize(_), 0xCC) =>
+                Code::NOT_PRESENT,
+            (_, code) => Code(code),
         }
     }
 }

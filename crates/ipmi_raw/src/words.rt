@@ -1,11 +1,11 @@
 //! What stands at the front of a text: hex digits, words of them, and what the reader expects.
 ghost use Rattle.std.specs.Prelude.{ℕ, List, ◌≡◌, ◌≢◌, ◌<◌, ◌++◌, MatchOption, slice_index};
-ghost use Rattle.ipmi_raw.specs.Words.{break_before, digits, word};
+ghost use Rattle.ipmi_raw.specs.Words.{break_before, digits, two_digits, word};
 
 use crate::tool::Tool;
 
 /// What comes after `front`, where the text begins with it.
-pub(crate) fn strip<'a>(front: &[u8], text: &'a [u8]) -> Option<&'a [u8]>
+pub fn strip<'a>(front: &[u8], text: &'a [u8]) -> Option<&'a [u8]>
     ensures { MatchOption result
         ((rest : List ℕ) → text.now ≢ front.now ++ rest)
         (λ rest. text.now ≡ front.now ++ rest.now) }
@@ -32,18 +32,28 @@ pub(crate) fn digit_value(tool: Tool, digit: u8) -> Option<u8>
     None
 }
 
+/// The byte whose two digits are at the front, and what comes after them.
+pub fn first_byte(tool: Tool, text: &[u8]) -> Option<(u8, &[u8])>
+    ensures { MatchOption result
+        ((byte : ℕ) (after : List ℕ) → byte < 256 → text.now ≢ two_digits tool byte ++ after)
+        (λ found. (found.0 < 256) × (text.now ≡ two_digits tool found.0 ++ found.1.now)) }
+{
+    let [high, low, after @ ..] = text else {
+        return None;
+    };
+    let high = digit_value(tool, *high)?;
+    let low = digit_value(tool, *low)?;
+    Some((high * 16 + low, after))
+}
+
 /// The byte of the word at the front, and what comes after it.
 pub(crate) fn first_word(tool: Tool, text: &[u8]) -> Option<(u8, &[u8])>
     ensures { MatchOption result
         ((byte : ℕ) (after : List ℕ) → byte < 256 → text.now ≢ word tool byte ++ after)
         (λ found. (found.0 < 256) × (text.now ≡ word tool found.0 ++ found.1.now)) }
 {
-    let [b' ', high, low, after @ ..] = text else {
-        return None;
-    };
-    let high = digit_value(tool, *high)?;
-    let low = digit_value(tool, *low)?;
-    Some((high * 16 + low, after))
+    let digits = strip(b" ", text)?;
+    first_byte(tool, digits)
 }
 
 /// What comes after the break before the word of this number.

@@ -1,6 +1,6 @@
 //! What `ipmitool exec` prints for replies to Get SDR, and for its mark.
 use crate::cases::{Reader, are_read, get_sdr, is_read};
-use ipmi_raw::{Lun, Request};
+use ipmi_raw::Request;
 use std::alloc::Global;
 use std::process::Abort;
 
@@ -89,7 +89,7 @@ fn codes_and_silence_of_others_are_not(rt: HostRuntime) {
 
 #[test]
 fn a_reading_has_its_own_command_and_unit(rt: HostRuntime) {
-    let request = Request::Reading(Lun::One, 0x30);
+    let request = Request::Reading(1, 0x30);
     are_read(&rt, rt.alloc(), Reader::Ipmitool, request, READINGS);
 }
 

@@ -1,6 +1,6 @@
 //! The texts of the nine requests, from the tables of IPMI v2.0.
 use ipmi_bus::Shelf;
-use ipmi_raw::{InventoryPart, Lun, RecordPart, Request, freeipmi, ipmitool};
+use ipmi_raw::{InventoryPart, RecordPart, Request, freeipmi, ipmitool};
 use std::process::Abort;
 
 /// Compares the texts of a request.
@@ -119,18 +119,8 @@ fn inventories(rt: HostRuntime) {
 #[test]
 fn readings_at_each_logical_unit(rt: HostRuntime) {
     let exec = "raw 0x04 0x2d 0x30\necho .\n";
-    has_texts(
-        &rt,
-        Request::Reading(Lun::Zero, 0x30),
-        exec,
-        "00 04 2D 30\n",
-    );
-    has_texts(&rt, Request::Reading(Lun::One, 0x30), exec, "01 04 2D 30\n");
-    has_texts(&rt, Request::Reading(Lun::Two, 0x30), exec, "02 04 2D 30\n");
-    has_texts(
-        &rt,
-        Request::Reading(Lun::Three, 0x30),
-        exec,
-        "03 04 2D 30\n",
-    );
+    has_texts(&rt, Request::Reading(0, 0x30), exec, "00 04 2D 30\n");
+    has_texts(&rt, Request::Reading(1, 0x30), exec, "01 04 2D 30\n");
+    has_texts(&rt, Request::Reading(2, 0x30), exec, "02 04 2D 30\n");
+    has_texts(&rt, Request::Reading(3, 0x30), exec, "03 04 2D 30\n");
 }

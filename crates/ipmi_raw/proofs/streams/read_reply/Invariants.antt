@@ -1,0 +1,10 @@
+-- What was read so far is the text, and it has no end of a reply.
+use Rattle.std.proofs.Common.{◌≡◌, length}
+use Rattle.std.specs.Io.KnownBytes.{Consumes}
+use Rattle.ipmi_raw.specs.Streams.{IsEnded, IsNotEndedWithin}
+use Rattle.ipmi_raw.proofs.streams.read_reply.Given as goal
+
+abbrev pub invariant-loop : goal.invariant-loop
+invariant-loop g l =
+    (length l.reply.items ≡ l.counter) × Consumes (g.R.Read.remaining l.fn.reader) (g.R.Read.remaining l.reader) l.reply.items
+    × IsNotEndedWithin l.tool l.reply.items × (¬ IsEnded l.tool l.reply.items)

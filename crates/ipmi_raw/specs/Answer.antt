@@ -1,0 +1,97 @@
+-- What a reply says to a call, and which replies to a request come of an honest controller (IPMI v2.0; the sections are those of
+-- the requests).
+use Rattle.std.specs.Prelude.{ℕ, ◌≡◌, ◌+◌, ◌-◌, ◌%◌, ◌≤◌, ◌==◌, ◌||◌, Bool, false, if◌then◌else◌, Result, Ok, Err, List, [], length, slice_index, drop}
+use Rattle.ipmi_text.specs.declared.reading.Reading as sensor
+use Rattle.ipmi_bus.specs.declared.code.Code.{Code}
+use Rattle.ipmi_bus.specs.declared.controller.FruSize.{FruSize}
+use Rattle.ipmi_bus.specs.declared.controller.Part.{Part}
+use Rattle.ipmi_bus.specs.Seen.{Seen}
+use Rattle.ipmi_bus.specs.Shelf.{id_in}
+use Rattle.ipmi_bus.specs.Store.{info_of, reading_of}
+use Rattle.ipmi_bus.specs.Answers.{BytesAnswers, PartAnswers, ReserveAnswers, SizeAnswers, ValueAnswers, part_asked}
+use Rattle.ipmi_raw.specs.declared.reply.Reply.{Reply}
+use Rattle.ipmi_raw.specs.declared.reply.Reply.TheVariants.{Data, Refused, Silent}
+use Rattle.ipmi_raw.specs.declared.request.Request.{Request}
+use Rattle.ipmi_raw.specs.declared.request.Request.TheVariants.{Reserve, Get, Info, InventorySize, ReadInventory, Reading}
+
+-- ---- the data of a reply, after its completion code
+
+-- It has the length that the standard says. In a part, after the id of the next record or after the count, there are no more
+-- bytes than were asked for.
+abbrev pub IsDataOf : Request → List ℕ → Type 0
+IsDataOf (Reserve shelf) bytes = length bytes ≡ 2
+IsDataOf (Get part) bytes = (2 ≤ length bytes) × (length bytes ≤ 2 + part.count)
+IsDataOf (Info shelf) bytes = length bytes ≡ 14
+IsDataOf (InventorySize id) bytes = length bytes ≡ 3
+IsDataOf (ReadInventory part) bytes = (length bytes ≡ 1 + slice_index bytes 0) × (slice_index bytes 0 ≤ part.count)
+IsDataOf (Reading lun number) bytes = (2 ≤ length bytes) × (length bytes ≤ 4)
+
+-- the id of the next record, the low byte first, and then bytes of this one
+abbrev pub part_in : List ℕ → Part
+part_in bytes = record { next = id_in bytes; got = length bytes - 2 }
+
+-- the count of the bytes that come after it
+abbrev pub first_in : List ℕ → ℕ
+first_in bytes = slice_index bytes 0
+
+-- the size in bytes, the low byte first, and how the device is accessed: bit 0 is set where it is by words
+abbrev pub size_in : List ℕ → FruSize
+size_in bytes = record { size = id_in bytes; words = slice_index bytes 2 % 2 == 1 }
+
+-- four bytes, of which the last two may be absent
+abbrev pub reading_in : List ℕ → sensor.Reading
+reading_in bytes = record {
+  raw = slice_index bytes 0;
+  flags = slice_index bytes 1;
+  status = slice_index bytes 2;
+  more = slice_index bytes 3;
+}
+
+-- ---- what a call gives back
+
+-- codes by which controllers say that there is no such sensor, or no such device
+abbrev pub says_absent : Request → ℕ → Bool
+says_absent (Reserve shelf) code = false
+says_absent (Get part) code = false
+says_absent (Info shelf) code = false
+says_absent (InventorySize id) code = code == 0xCC
+says_absent (ReadInventory part) code = false
+says_absent (Reading lun number) code = (code == 0xCC) || ((code == 0xCD) || (code == 0xD5))
+
+-- the code that a call gives back for one of a reply: CBh where it says that there is none
+abbrev pub code_given : Request → ℕ → Code
+code_given request code = record { 0 = if says_absent request code then 0xCB else code }
+
+-- the data, or a code; C3h where the controller was silent
+abbrev pub given : Request → Reply → Result (List ℕ) Code
+given request (Data bytes) = Ok bytes
+given request (Refused code) = Err (code_given request code)
+given request Silent = Err (record { 0 = 0xC3 })
+
+-- what the data says, or the code
+abbrev pub value_in : {V : Type 0} → (List ℕ → V) → Result (List ℕ) Code → Result V Code
+value_in read (Ok bytes) = Ok (read bytes)
+value_in read (Err code) = Err code
+
+abbrev pub data_in : Result (List ℕ) Code → List ℕ
+data_in (Ok bytes) = bytes
+data_in (Err code) = []
+
+-- ---- an honest controller
+
+-- it gives data of the right length
+abbrev pub IsDataIfAny : Request → Result (List ℕ) Code → Type 0
+IsDataIfAny request (Ok bytes) = IsDataOf request bytes
+IsDataIfAny request (Err code) = Unit {0}
+
+-- what a reply gives is what an honest controller may answer to the call that asks for it
+abbrev pub IsAnswer : Request → Result (List ℕ) Code → Seen → Seen → Type 0
+IsAnswer (Reserve shelf) result old new = ReserveAnswers shelf (value_in id_in result) old new
+IsAnswer (Get part) result old new =
+    PartAnswers (part_asked part.shelf part.reservation part.id part.offset part.count) (value_in part_in result)
+    (drop 2 (data_in result)) old new
+IsAnswer (Info shelf) result old new = ValueAnswers (info_of shelf) (value_in (λ bytes. bytes) result) old new
+IsAnswer (InventorySize id) result old new = SizeAnswers id (value_in size_in result) old new
+IsAnswer (ReadInventory part) result old new =
+    BytesAnswers part.id part.offset part.count (value_in first_in result) (drop 1 (data_in result)) old new
+IsAnswer (Reading lun number) result old new = ValueAnswers (reading_of lun number) (value_in reading_in result) old new

@@ -1,0 +1,4 @@
+pub mod MessageLemmas
+pub mod RequestLemmas
+pub mod ReadLemmas
+pub mod PrintedLemmas

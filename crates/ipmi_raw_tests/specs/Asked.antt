@@ -1,0 +1,67 @@
+-- The request that a message asks for, as a controller reads it.
+use Rattle.std.specs.Prelude.{ℕ, ◌+◌, ◌*◌, ◌==◌, ◌&&◌, nat_lt, nat_le, if◌then◌else◌, Option, Some, None, List, [], ◌∷◌}
+use Rattle.ipmi_bus.specs.declared.controller.Shelf.{Shelf}
+use Rattle.ipmi_bus.specs.declared.controller.Shelf.TheVariants.{Sdr, Sel}
+use Rattle.ipmi_raw.specs.declared.request.Request.{Request}
+use Rattle.ipmi_raw.specs.declared.request.Request.TheVariants.{Reserve, Get, Info, InventorySize, ReadInventory, Reading}
+use Rattle.ipmi_raw.specs.Request.{for_shelf}
+
+-- of a network function and a command alone
+abbrev pub of_two : ℕ → ℕ → Option Request
+of_two function command =
+    if (function == 0x0A) && (command == 0x20) then Some (Info Sdr)
+    else if (function == 0x0A) && (command == 0x22) then Some (Reserve Sdr)
+    else if (function == 0x0A) && (command == 0x40) then Some (Info Sel)
+    else if (function == 0x0A) && (command == 0x42) then Some (Reserve Sel)
+    else None
+
+-- with one byte of data
+abbrev pub of_three : ℕ → ℕ → ℕ → ℕ → Option Request
+of_three lun function command number =
+    if (function == 0x0A) && (command == 0x10) then Some (InventorySize number)
+    else if (function == 0x04) && (command == 0x2D) then Some (Reading lun number)
+    else None
+
+-- with four
+abbrev pub of_six : ℕ → ℕ → ℕ → ℕ → ℕ → Option Request
+of_six function command id offset count =
+    if (function == 0x0A) && ((command == 0x11) && (nat_lt 0 count && nat_lt count 255))
+    then Some (ReadInventory (record { id = id; offset = offset; count = count }))
+    else None
+
+-- a part of a record
+abbrev pub part_of : Shelf → ℕ → ℕ → ℕ → ℕ → Option Request
+part_of shelf reservation id offset count =
+    if nat_lt 0 count && nat_lt count 255
+    then Some (Get (record { shelf = shelf; reservation = reservation; id = id; offset = offset; count = count }))
+    else None
+
+-- with six: FFh asks for the sixteen bytes of a whole entry of the event log
+abbrev pub of_eight : ℕ → ℕ → ℕ → ℕ → ℕ → ℕ → Option Request
+of_eight function command reservation id offset count =
+    if (function == 0x0A) && (command == 0x23) then part_of Sdr reservation id offset count
+    else if (function == 0x0A) && (command == 0x43)
+    then part_of Sel reservation id offset (if (offset == 0) && (count == 0xFF) then 16 else count)
+    else None
+
+-- a number of two bytes
+abbrev pub number : ℕ → ℕ → ℕ
+number low high = low + 256 * high
+
+abbrev pub asked_by : ℕ → List ℕ → Option Request
+asked_by lun (function ∷ command ∷ []) = of_two function command
+asked_by lun (function ∷ command ∷ byte ∷ []) = of_three lun function command byte
+asked_by lun (function ∷ command ∷ id ∷ low ∷ high ∷ count ∷ []) = of_six function command id (number low high) count
+asked_by lun (function ∷ command ∷ low ∷ high ∷ id_low ∷ id_high ∷ offset ∷ count ∷ []) =
+    of_eight function command (number low high) (number id_low id_high) offset count
+asked_by lun _ = None
+
+-- the request as the controller reads it, which does not see how many bytes more than a whole entry were asked for
+abbrev pub as_read : Request → Request
+as_read (Reserve shelf) = Reserve shelf
+as_read (Get part) =
+    Get (record part { count = for_shelf part.shelf part.count (if (part.offset == 0) && nat_le 16 part.count then 16 else part.count) })
+as_read (Info shelf) = Info shelf
+as_read (InventorySize id) = InventorySize id
+as_read (ReadInventory part) = ReadInventory part
+as_read (Reading lun number) = Reading lun number

@@ -1,0 +1,128 @@
+//! What is read of a tool, and how far.
+use crate::tools::Wanted;
+use ipmi_raw::{Lost, Piped, ReplyText, Streams, Tool};
+use std::alloc::Global;
+use std::io::{self, Error, ErrorKind, Read};
+use std::process::Abort;
+
+/// A request of ipmitool's, and one of FreeIPMI's.
+const REQUEST: &[u8] = b"raw 0x0a 0x22\necho .\n";
+
+/// Compares what comes of one request, sent to a tool that prints this, with what it leaves as the reply's text.
+fn is_read(rt: &impl Abort, tool: Tool, printed: &[u8], wanted: Result<(), Lost>, text: &[u8]) {
+    let mut streams = Streams::new(printed, Wanted(REQUEST));
+    let mut reply = ReplyText::new();
+    let result = streams.exchange(tool, REQUEST, &mut reply);
+    assert!(rt; result == wanted, "{printed:?}");
+    assert!(rt; reply.as_slice() == text, "{printed:?}");
+}
+
+#[test]
+fn a_reply_of_ipmitool_ends_with_the_mark(rt: HostRuntime) {
+    for text in [
+        b" 34 12\n. \n".as_slice(),
+        b"\n. \n".as_slice(),
+        b". \n".as_slice(),
+        b" 00 01 02 03 04 05 06 07 08 09 0a 0b 0c 0d 0e 0f\n 10\n. \n".as_slice(),
+        b"Error: . \n. \n".as_slice(),
+    ] {
+        is_read(&rt, Tool::Ipmitool, text, Ok(()), text);
+    }
+}
+
+#[test]
+fn a_reply_of_freeipmi_is_a_line(rt: HostRuntime) {
+    let text = b"rcvd: 22 00 34 12 \n";
+    is_read(&rt, Tool::FreeIpmi, text, Ok(()), text);
+    is_read(&rt, Tool::FreeIpmi, b"\n", Ok(()), b"\n");
+}
+
+#[test]
+fn where_no_end_comes_the_connection_is_lost(rt: HostRuntime) {
+    for text in [
+        b"".as_slice(),
+        b" 34 12".as_slice(),
+        b" 34 12\n".as_slice(),
+        b" 34 12\n.".as_slice(),
+        b" 34 12. \n".as_slice(),
+        b"Error: Unable to establish LAN session\n".as_slice(),
+    ] {
+        is_read(&rt, Tool::Ipmitool, text, Err(Lost), text);
+    }
+    let cut = b"rcvd: 22 00";
+    is_read(&rt, Tool::FreeIpmi, cut, Err(Lost), cut);
+}
+
+#[test]
+fn no_more_than_there_is_room_for_is_read(rt: HostRuntime) {
+    let text = "x".repeat(rt.alloc(), 1500).expect(&rt, "memory");
+    let text = text.as_bytes();
+    is_read(&rt, Tool::Ipmitool, text, Err(Lost), &text[..1024]);
+    is_read(&rt, Tool::FreeIpmi, text, Err(Lost), &text[..1024]);
+}
+
+#[test]
+fn replies_are_read_one_by_one(rt: HostRuntime) {
+    let printed = b" 34 12\n. \n 35 12\n. \n";
+    let mut streams = Streams::new(printed.as_slice(), Wanted(b"one\ntwo\n"));
+    let mut reply = ReplyText::new();
+    let first = streams.exchange(Tool::Ipmitool, b"one\n", &mut reply);
+    assert!(&rt; first.is_ok(), "the first");
+    assert!(&rt; reply.as_slice() == b" 34 12\n. \n".as_slice(), "the first");
+    let second = streams.exchange(Tool::Ipmitool, b"two\n", &mut reply);
+    assert!(&rt; second.is_ok(), "the second");
+    assert!(&rt;
+        reply.as_slice() == b" 35 12\n. \n".as_slice(),
+        "the second"
+    );
+}
+
+#[test]
+fn a_tool_that_takes_no_request_may_say_why(rt: HostRuntime) {
+    let printed = b"Could not open device\n. \n";
+    let mut streams = Streams::new(printed.as_slice(), Wanted(b""));
+    let mut reply = ReplyText::new();
+    let result = streams.exchange(Tool::Ipmitool, REQUEST, &mut reply);
+    assert!(&rt; result == Err(Lost), "it takes none");
+    assert!(&rt; reply.as_slice() == printed.as_slice(), "it says why");
+}
+
+/// Gives one byte at each second call; the others are interrupted. Then it fails.
+#[derive(Drop)]
+struct Halting {
+    text: &'static [u8],
+    gives: bool,
+}
+
+impl Read for Halting {
+    fn read(&mut self, buf: &mut [u8]) -> io::Result<usize> {
+        self.gives = !self.gives;
+        if self.gives {
+            return Err(Error::from(ErrorKind::Interrupted));
+        }
+        match (self.text, buf) {
+            ([byte, rest @ ..], [first, ..]) => {
+                *first = *byte;
+                self.text = rest;
+                Ok(1)
+            }
+            _ => Err(Error::from(ErrorKind::Other)),
+        }
+    }
+}
+
+/// What comes of a request to a tool that is read haltingly.
+fn is_read_haltingly(rt: &impl Abort, text: &'static [u8], wanted: Result<(), Lost>) {
+    let reader = Halting { text, gives: false };
+    let mut streams = Streams::new(reader, Wanted(REQUEST));
+    let mut reply = ReplyText::new();
+    let result = streams.exchange(Tool::Ipmitool, REQUEST, &mut reply);
+    assert!(rt; result == wanted, "{text:?}");
+    assert!(rt; reply.as_slice() == text, "{text:?}");
+}
+
+#[test]
+fn reading_goes_on_where_it_is_interrupted_and_not_where_it_fails(rt: HostRuntime) {
+    is_read_haltingly(&rt, b" 34 12\n. \n", Ok(()));
+    is_read_haltingly(&rt, b" 34 12\n. ", Err(Lost));
+}

@@ -1,0 +1,84 @@
+//! Tools as a test plays them: what each is sent, and what it prints.
+ghost use Rattle.std.specs.Prelude.{◌≤◌, IfOk, length};
+
+use ipmi_raw::{Open, Piped, RawController, Tool};
+use std::cell::Cell;
+use std::io::{self, Error, ErrorKind, Write};
+use std::time::{Clock, Duration};
+
+/// What a tool is to be sent. It takes no other bytes, as a tool that has ended.
+#[derive(Drop)]
+pub struct Wanted<'s>(pub &'s [u8]);
+
+impl Write for Wanted<'_> {
+    fn write(&mut self, buf: &[u8]) -> io::Result<usize> {
+        match self.0.strip_prefix(buf) {
+            Some(rest) => {
+                self.0 = rest;
+                Ok(buf.len())
+            }
+            None => Err(Error::from(ErrorKind::BrokenPipe)),
+        }
+    }
+
+    fn flush(&mut self) -> io::Result<()> {
+        Ok(())
+    }
+}
+
+/// A tool: its logical unit, what it is sent, and what it prints.
+pub type Script<'s> = (u8, &'s str, &'s str);
+
+/// The tools that can be opened.
+#[derive(Drop)]
+pub struct Scripts<'s>(pub &'s [Script<'s>]);
+
+impl<'s> Open for Scripts<'s> {
+    type Replies = &'s [u8];
+
+    type Requests = Wanted<'s>;
+
+    fn open(&mut self, lun: u8) -> io::Result<(&'s [u8], Wanted<'s>)> {
+        for (unit, requests, replies) in self.0 {
+            if *unit == lun {
+                return Ok((replies.as_bytes(), Wanted(requests.as_bytes())));
+            }
+        }
+        Err(Error::from(ErrorKind::NotFound))
+    }
+}
+
+/// A clock that only counts the milliseconds for which it is to sleep.
+#[derive(Drop)]
+pub struct Sleeper(pub Cell<u128>);
+
+impl Clock for Sleeper {
+    fn monotonic(&self) -> io::Result<Duration> {
+        Ok(Duration::ZERO)
+    }
+
+    fn since_1970(&self) -> io::Result<Duration> {
+        Ok(Duration::ZERO)
+    }
+
+    fn sleep(&self, duration: Duration) {
+        self.0
+            .set(self.0.get().saturating_add(duration.as_millis()));
+    }
+}
+
+/// A controller that is asked through these tools.
+pub type Asked<'s, 'c> = RawController<Piped<Scripts<'s>>, &'c Sleeper>;
+
+/// The controller that the tools lead to, with a pause of half a second.
+pub fn controller<'s, 'c>(
+    tool: Tool,
+    scripts: &'s [Script<'s>],
+    sleeper: &'c Sleeper,
+) -> Asked<'s, 'c> {
+    RawController::new(
+        Piped::new(tool, Scripts(scripts)),
+        sleeper,
+        Duration::from_millis(500),
+    )
+}
