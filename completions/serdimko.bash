@@ -3,7 +3,7 @@
 # It calls no function of the package bash-completion, so that a shell may also read it by itself.
 
 _serdimko() {
-  local options='--image --from --part --tries --id --strict --help --version -h -V'
+  local options='--image --live --from --part --tries --id --strict --help --version -h -V'
   local cur=${COMP_WORDS[COMP_CWORD]} word value= plain= line= next=
 
   # What comes before the word: the option whose value it is, whether -- came, and the words without options.
@@ -17,7 +17,7 @@ _serdimko() {
       # An option comes at most once, but --image.
       options=" $options "
       [[ $word == --image* ]] || options=${options/ "${word%%=*}" / }
-      case $word in --image | --from | --part | --tries | --id) value=$word ;; esac
+      case $word in --image | --live | --from | --part | --tries | --id) value=$word ;; esac
     else
       line+="${line:+ }$word"
     fi

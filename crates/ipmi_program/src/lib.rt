@@ -5,4 +5,4 @@ mod input;
 mod printing;
 
 pub use input::{InputFault, MOST_BYTES, input_name, read_image, read_input, read_words, words_of};
-pub use printing::print;
+pub use printing::{print, print_live};

@@ -1,17 +1,38 @@
-//! Prints what a command asks for over an image, and hands on all of it.
-ghost use Rattle.std.specs.Prelude.{◌≡◌, ◌+◌, [], IsSome, unwrap_or};
+//! Prints what a command asks for, over an image or a controller, and hands on all of it.
+ghost use Rattle.std.specs.Prelude.{◌≡◌, ◌⊎◌, ◌+◌, Err, [], IsSome, unwrap_or};
 ghost use Rattle.std.specs.Io.Buffered.{writer_buffer, writer_inner};
-ghost use Rattle.ipmi_commands.specs.Run.{AnswersCommand};
+ghost use Rattle.ipmi_bus.specs.Seen.{AsksAtMost};
+ghost use Rattle.ipmi_commands.specs.Prelude.{AnswersCommand, change, job_of_command, Runs};
 ghost use Rattle.ipmi_image.specs.Image.{store_of_image};
 ghost use Rattle.ipmi_output.specs.Failure.{write_faults};
+ghost use Rattle.ipmi_output.specs.declared.failure.Failure.{Failure};
 ghost use Rattle.ipmi_output.specs.Writer.{writer_of};
 ghost use Rattle.ipmi_program.specs.Printing.{EndsBy, IsHandedOn};
 
+use ipmi_bus::Controller;
 use ipmi_command_line::Command;
-use ipmi_commands::execute_image;
+use ipmi_commands::{execute, execute_image};
 use ipmi_output::{Failure, Sink, Written};
 use std::alloc::Global;
 use std::io::{BufWriter, Write};
+
+/// Hands on what a run with this ending printed to the writer below the buffer, unless that writer took no more already. Where
+/// that fails, the run ends by a write fault.
+fn hand_on<'a, W: Write + Drop>(
+    ending: Result<(), Failure<'a>>,
+    out: &mut Written<BufWriter<W>>,
+) -> Result<(), Failure<'a>>
+    ensures faults { ⟦<Written<BufWriter<W>> as Sink>⟧.faults out.new + write_faults ending.entry ≡
+        ⟦<Written<BufWriter<W>> as Sink>⟧.faults out.old + write_faults result }
+    ensures taken { ⟦<Written<BufWriter<W>> as Sink>⟧.taken out.new ≡ ⟦<Written<BufWriter<W>> as Sink>⟧.taken out.old }
+    ensures ends { (result ≡ ending.entry) ⊎ (result ≡ Err Failure.WriteFault) }
+    ensures handed_on { IsHandedOn (writer_buffer (writer_of out.new)) result }
+{
+    if !matches!(ending, Err(Failure::WriteFault)) {
+        out.flush()?;
+    }
+    ending
+}
 
 /// Does what the command asks for over the image, and then hands on what was printed to the writer below the buffer. Where that
 /// fails, the run ends by a write fault.
@@ -29,9 +50,24 @@ pub fn print<'a, W: Write + Drop>(
     ensures handed_on { IsHandedOn (writer_buffer (writer_of out.new)) result }
 {
     let ending = execute_image(alloc, cmd, image, out);
-    if matches!(ending, Err(Failure::WriteFault)) {
-        return ending;
-    }
-    out.flush()?;
-    ending
+    hand_on(ending, out)
+}
+
+/// Does what the command asks for over the controller, as [`print()`] does over an image. `image rewrite` is `Failure::Usage`.
+pub fn print_live<'a, C: Controller, W: Write + Drop>(
+    alloc: Global,
+    ctl: &mut C,
+    cmd: &'a Command,
+    out: &mut Written<BufWriter<W>>,
+) -> Result<(), Failure<'a>>
+    ensures faults { ⟦<Written<BufWriter<W>> as Sink>⟧.faults out.new ≡
+        ⟦<Written<BufWriter<W>> as Sink>⟧.faults out.old + write_faults result }
+    ensures asked { AsksAtMost cmd.now.part (C.seen ctl.old) (C.seen ctl.new) }
+    ensures prints { EndsBy (λ ending. Runs (job_of_command cmd.now) cmd.now.tries (change (C.seen ctl.old) (C.seen ctl.new)
+        (⟦<Written<BufWriter<W>> as Sink>⟧.taken out.old)
+        (⟦<Written<BufWriter<W>> as Sink>⟧.taken out.new)) ending) result }
+    ensures handed_on { IsHandedOn (writer_buffer (writer_of out.new)) result }
+{
+    let ending = execute(alloc, ctl, cmd, out);
+    hand_on(ending, out)
 }

@@ -1,5 +1,5 @@
 //! A peer over streams: a tool for all logical units of a controller, or one for each.
-ghost use Rattle.std.specs.Prelude.{◌≡◌, IsOk, OnOk};
+ghost use Rattle.std.specs.Prelude.{◌≡◌, [], IsOk, OnOk};
 ghost use Rattle.ipmi_bus.specs.Prelude.{IsHonest, zero_counts};
 ghost use Rattle.ipmi_bus.specs.Unclaimed.{calls_only};
 ghost use Rattle.ipmi_raw.specs.Peer.{Replies, request_text};
@@ -11,6 +11,10 @@ use crate::peer::{Lost, Peer, ReplyText};
 use crate::streams::Streams;
 use crate::tool::Tool;
 use std::io::{self, Read, Write};
+
+/// What ipmitool is sent first: Get Device ID (IPMI v2.0, section 20.1). By it the tool opens its session, and what it warns of
+/// then is not taken for a reply.
+const FIRST_REQUEST: &[u8] = b"raw 0x06 0x01\necho .\n";
 
 /// What opens the streams of a tool.
 pub trait Open {
@@ -75,16 +79,26 @@ impl<O: Open> Piped<O> {
     }
 }
 
-/// The streams of the tool that sends requests to the unit, which are opened if they are not.
+/// The streams of the tool that sends requests to the unit, which are opened if they are not. `reply` gets what ipmitool prints
+/// as it opens its session.
 fn opened<'u, O: Open>(
     units: &'u mut Units<O>,
     opener: &mut O,
+    tool: Tool,
     unit: u8,
-) -> Result<&'u mut Streams<O::Replies, O::Requests>, Lost> {
+    reply: &mut ReplyText,
+) -> Result<&'u mut Streams<O::Replies, O::Requests>, Lost>
+    requires { reply.old.items ≡ [] }
+    ensures { IsNotEndedWithin tool reply.new.items }
+{
     let slot = units.slot(unit).ok_or(Lost)?;
     if slot.is_none() {
         let (replies, requests) = opener.open(unit).or(Err(Lost))?;
-        *slot = Some(Streams::new(replies, requests));
+        let mut streams = Streams::new(replies, requests);
+        if tool == Tool::Ipmitool {
+            streams.exchange(tool, FIRST_REQUEST, reply)?;
+        }
+        *slot = Some(streams);
     }
     slot.as_mut().ok_or(Lost)
 }
@@ -112,7 +126,7 @@ impl<O: Open> Peer for Piped<O> {
             Tool::Ipmitool => lun,
             Tool::FreeIpmi => 0,
         };
-        let streams = opened(&mut self.units, &mut self.opener, unit)?;
+        let streams = opened(&mut self.units, &mut self.opener, self.tool, unit, reply)?;
         streams.exchange(self.tool, request, reply)
     }
 }

@@ -3,15 +3,19 @@ ghost use Rattle.std.specs.Prelude.{◌≤◌, IfOk, length};
 
 use ipmi_raw::{Open, Piped, RawController, Tool};
 use std::cell::Cell;
-use std::io::{self, Error, ErrorKind, Write};
+use std::io::{self, Chain, Error, ErrorKind, Read, Write};
 use std::time::{Clock, Duration};
 
-/// What a tool is to be sent. It takes no other bytes, as a tool that has ended.
+/// What a tool is to be sent: first, and then. It takes no other bytes, as a tool that has ended.
 #[derive(Drop)]
-pub struct Wanted<'s>(pub &'s [u8]);
+pub struct Wanted<'s>(pub &'s [u8], pub &'s [u8]);
 
 impl Write for Wanted<'_> {
     fn write(&mut self, buf: &[u8]) -> io::Result<usize> {
+        if self.0.is_empty() {
+            self.0 = self.1;
+            self.1 = b"";
+        }
         match self.0.strip_prefix(buf) {
             Some(rest) => {
                 self.0 = rest;
@@ -29,19 +33,30 @@ impl Write for Wanted<'_> {
 /// A tool: its logical unit, what it is sent, and what it prints.
 pub type Script<'s> = (u8, &'s str, &'s str);
 
+/// What ipmitool is sent first, so that it opens its session, and what it prints for that, a warning before it.
+const FIRST: (&[u8], &[u8]) = (
+    b"raw 0x06 0x01\necho .\n",
+    b"Unable to Get Channel Cipher Suites\n 20 81 02 30 02\n. \n",
+);
+
 /// The tools that can be opened.
 #[derive(Drop)]
-pub struct Scripts<'s>(pub &'s [Script<'s>]);
+pub struct Scripts<'s>(pub Tool, pub &'s [Script<'s>]);
 
 impl<'s> Open for Scripts<'s> {
-    type Replies = &'s [u8];
+    type Replies = Chain<&'s [u8], &'s [u8]>;
 
     type Requests = Wanted<'s>;
 
-    fn open(&mut self, lun: u8) -> io::Result<(&'s [u8], Wanted<'s>)> {
-        for (unit, requests, replies) in self.0 {
+    fn open(&mut self, lun: u8) -> io::Result<(Chain<&'s [u8], &'s [u8]>, Wanted<'s>)> {
+        let (request, reply): (&[u8], &[u8]) = match self.0 {
+            Tool::Ipmitool => FIRST,
+            Tool::FreeIpmi => (b"", b""),
+        };
+        for (unit, requests, replies) in self.1 {
             if *unit == lun {
-                return Ok((replies.as_bytes(), Wanted(requests.as_bytes())));
+                let replies = reply.chain(replies.as_bytes());
+                return Ok((replies, Wanted(request, requests.as_bytes())));
             }
         }
         Err(Error::from(ErrorKind::NotFound))
@@ -77,7 +92,7 @@ pub fn controller<'s, 'c>(
     sleeper: &'c Sleeper,
 ) -> Asked<'s, 'c> {
     RawController::new(
-        Piped::new(tool, Scripts(scripts)),
+        Piped::new(tool, Scripts(tool, scripts)),
         sleeper,
         Duration::from_millis(500),
     )

@@ -1,9 +1,10 @@
 -- Words without an option of this program are all left.
 use Rattle.std.proofs.Common.{◌≡◌, ◌∙◌, ℕ, Bool, true, false, Option, Some, None, List, [], ◌∷◌, ◌++◌, ◌<◌, ◌≤◌, length, length-append, fold, drop, if◌then◌else◌, sym, ap, refl, arith, append-nil, append_assoc, true≢false}
-use Rattle.serdimko.specs.Own.{after, after_as, after_image, after_image_value, after_kind, after_other, add_id, after_value, at_end, is_option, IsPlain, kind_of, leave, nothing, own_of, with_id}
+use Rattle.serdimko.specs.Own.{after, after_as, after_image, after_image_value, after_kind, after_other, add_value, after_value, at_end, is_option, IsPlain, kind_of, leave, nothing, own_of, value_of, with_id, with_value}
 use Rattle.serdimko.specs.declared.own.Kind.{Kind}
 use Rattle.serdimko.specs.declared.own.Next.{Next}
 use Rattle.serdimko.specs.declared.own.Own.{Own}
+use Rattle.serdimko.specs.declared.own.Valued.{Valued}
 
 -- between these two the words were left, and nothing else was found
 record Leaves (own new : Own) (words : List (List ℕ)) : Type 0 where
@@ -14,48 +15,59 @@ record Leaves (own new : Own) (words : List (List ℕ)) : Type 0 where
   version : new.version ≡ own.version
   strict : new.strict ≡ own.strict
   id : new.id ≡ own.id
+  live : new.live ≡ own.live
 
 left : (own new : Own) (word : List ℕ) → own.has_own ≡ false → new.rest ≡ own.rest ++ word ∷ [] → new.images ≡ own.images
-    → new.help ≡ own.help → new.version ≡ own.version → new.strict ≡ own.strict → new.id ≡ own.id
+    → new.help ≡ own.help → new.version ≡ own.version → new.strict ≡ own.strict → new.id ≡ own.id → new.live ≡ own.live
     → Leaves own new (word ∷ [])
-left own new word a b c d e f g = record { has_own = a; rest = b; images = c; help = d; version = e; strict = f; id = g }
+left own new word a b c d e f g h = record { has_own = a; rest = b; images = c; help = d; version = e; strict = f; id = g; live = h }
 
-no_id : (id : Option (List ℕ)) (own : Own) (digits : List ℕ) → (add_id id own digits).has_own ≡ false → ⊥
-no_id None own digits plain = true≢false plain
-no_id (Some id) own digits plain = true≢false plain
+owned : (valued : Valued) (own : Own) (value : List ℕ) → (with_value valued own value).has_own ≡ false → ⊥
+owned Valued.Id own value plain = true≢false plain
+owned Valued.Live own value plain = true≢false plain
+
+no_value : (o : Option (List ℕ)) (valued : Valued) (own : Own) (value : List ℕ) → (add_value o valued own value).has_own ≡ false
+    → ⊥
+no_value None valued own value plain = owned valued own value plain
+no_value (Some first) valued own value plain = true≢false plain
 
 image_left : (b : Bool) (own : Own) (word : List ℕ) → (after_image b own word).has_own ≡ false
     → Leaves own (after_image b own word) (word ∷ [])
-image_left false own word plain = left own _ word plain refl refl refl refl refl refl
+image_left false own word plain = left own _ word plain refl refl refl refl refl refl refl
 image_left true own word plain = absurd (true≢false plain)
 
 image_value_left : (b : Bool) (own : Own) (word : List ℕ) → (after_image_value b own word).has_own ≡ false
     → Leaves own (after_image_value b own word) (word ∷ [])
-image_value_left false own word plain = left own _ word plain refl refl refl refl refl refl
+image_value_left false own word plain = left own _ word plain refl refl refl refl refl refl refl
 image_value_left true own word plain = absurd (true≢false plain)
 
-other_cases : (a b : Bool) (own : Own) (word : List ℕ)
-    → (if a then after_image_value own.has_image own word
-    else (if b then add_id own.id own (drop 5 word) else leave own word Next.Any)).has_own ≡ false
-    → Leaves own (if a then after_image_value own.has_image own word
-    else (if b then add_id own.id own (drop 5 word) else leave own word Next.Any)) (word ∷ [])
-other_cases true b own word plain = image_value_left own.has_image own word plain
-other_cases false true own word plain = absurd (no_id own.id own _ plain)
-other_cases false false own word plain = left own _ word plain refl refl refl refl refl refl
+-- by what the word begins with
+abbrev by_front : (a b c : Bool) (own : Own) (word : List ℕ) → Own
+by_front a b c own word =
+    if a then after_image_value own.has_image own word
+    else (if b then add_value own.id Valued.Id own (drop 5 word)
+    else (if c then add_value own.live Valued.Live own (drop 7 word) else leave own word Next.Any))
+
+other_cases : (a b c : Bool) (own : Own) (word : List ℕ) → (by_front a b c own word).has_own ≡ false
+    → Leaves own (by_front a b c own word) (word ∷ [])
+other_cases true b c own word plain = image_value_left own.has_image own word plain
+other_cases false true c own word plain = absurd (no_value own.id Valued.Id own _ plain)
+other_cases false false true own word plain = absurd (no_value own.live Valued.Live own _ plain)
+other_cases false false false own word plain = left own _ word plain refl refl refl refl refl refl refl
 
 other_left : (own : Own) (word : List ℕ) → (after_other own word).has_own ≡ false
     → Leaves own (after_other own word) (word ∷ [])
-other_left own word plain = other_cases _ _ own word plain
+other_left own word plain = other_cases _ _ _ own word plain
 
 kind_left : (kind : Kind) (own : Own) (word : List ℕ) → (after_kind kind own word).has_own ≡ false
     → Leaves own (after_kind kind own word) (word ∷ [])
 kind_left Kind.Help own word plain = absurd (true≢false plain)
 kind_left Kind.Version own word plain = absurd (true≢false plain)
 kind_left Kind.Strict own word plain = absurd (true≢false plain)
-kind_left Kind.Id own word plain = absurd (true≢false plain)
+kind_left (Kind.Valued valued) own word plain = absurd (true≢false plain)
 kind_left Kind.Image own word plain = image_left own.has_image own word plain
-kind_left Kind.Specified own word plain = left own _ word plain refl refl refl refl refl refl
-kind_left Kind.Dashes own word plain = left own _ word plain refl refl refl refl refl refl
+kind_left Kind.Specified own word plain = left own _ word plain refl refl refl refl refl refl refl
+kind_left Kind.Dashes own word plain = left own _ word plain refl refl refl refl refl refl refl
 kind_left Kind.Other own word plain = other_left own word plain
 
 value_left : (b : Bool) (own : Own) (option word : List ℕ) (taken : Own) → (taken.has_own ≡ false → ⊥)
@@ -66,14 +78,14 @@ value_left false own option word taken owned plain = owned plain
 as_left : (next : Next) (own : Own) (word : List ℕ) → (after_as next own word).has_own ≡ false
     → Leaves own (after_as next own word) (word ∷ [])
 as_left Next.Any own word plain = kind_left (kind_of word) own word plain
-as_left Next.Value own word plain = left own _ word plain refl refl refl refl refl refl
+as_left Next.Value own word plain = left own _ word plain refl refl refl refl refl refl refl
 as_left Next.Image own word plain = absurd (value_left (is_option word) own _ word _ (λ e. true≢false e) plain)
-as_left Next.Id own word plain = absurd (value_left (is_option word) own _ word _ (no_id own.id own word) plain)
-as_left Next.Words own word plain = left own _ word plain refl refl refl refl refl refl
+as_left (Next.Own valued) own word plain = absurd (value_left (is_option word) own _ word _ (no_value (value_of valued own) valued own word) plain)
+as_left Next.Words own word plain = left own _ word plain refl refl refl refl refl refl refl
 
 fold_left : (own : Own) (words : List (List ℕ)) → (fold after own words).has_own ≡ false
     → Leaves own (fold after own words) words
-fold_left own [] plain = record { has_own = plain; rest = sym (append-nil own.rest); images = refl; help = refl; version = refl; strict = refl; id = refl }
+fold_left own [] plain = record { has_own = plain; rest = sym (append-nil own.rest); images = refl; help = refl; version = refl; strict = refl; id = refl; live = refl }
 fold_left own (word ∷ words) plain =
     let later = fold_left (after own word) words plain in
     let first = as_left own.next own word later.has_own in
@@ -85,6 +97,7 @@ fold_left own (word ∷ words) plain =
       version = later.version ∙ first.version;
       strict = later.strict ∙ first.strict;
       id = later.id ∙ first.id;
+      live = later.live ∙ first.live;
     }
 
 with_no_id : (id : Option (List ℕ)) (own : Own) → id ≡ None → with_id id own ≡ own
@@ -98,7 +111,7 @@ with_id_owns (Some digits) own = refl
 -- nothing is left at the end of such words
 module _ (own : Own) (words : List (List ℕ)) (leaves : Leaves nothing own words) where
   plain_own : IsPlain own words
-  plain_own = record { rest = leaves.rest; images = leaves.images; help = leaves.help; version = leaves.version; strict = leaves.strict; id = leaves.id }
+  plain_own = record { rest = leaves.rest; images = leaves.images; help = leaves.help; version = leaves.version; strict = leaves.strict; id = leaves.id; live = leaves.live }
 
   plain_end : IsPlain (with_id own.id own) words
   plain_end = rw (with_no_id own.id own leaves.id) plain_own
@@ -109,7 +122,7 @@ ended Next.Any own words plain leaves = plain_end own words (leaves (sym (with_i
 ended Next.Words own words plain leaves = plain_end own words (leaves (sym (with_id_owns own.id own) ∙ plain))
 ended Next.Value own words plain leaves = plain_own own words (leaves plain)
 ended Next.Image own words plain leaves = absurd (true≢false plain)
-ended Next.Id own words plain leaves = absurd (true≢false plain)
+ended (Next.Own valued) own words plain leaves = absurd (true≢false plain)
 
 pub plain_rest : (words : List (List ℕ)) → (own_of words).has_own ≡ false → IsPlain (own_of words) words
 plain_rest words plain =
@@ -124,10 +137,11 @@ added xs x = omega (arith, length-append xs (x ∷ []))
 same : (n : ℕ) → n ≤ n
 same n = omega arith
 
-id_grows : (id : Option (List ℕ)) (own : Own) (digits : List ℕ)
-    → length own.rest ≤ length (add_id id own digits).rest
-id_grows None own digits = same _
-id_grows (Some id) own digits = added own.rest _
+add_value_grows : (o : Option (List ℕ)) (valued : Valued) (own : Own) (value : List ℕ)
+    → length own.rest ≤ length (add_value o valued own value).rest
+add_value_grows None Valued.Id own value = same _
+add_value_grows None Valued.Live own value = same _
+add_value_grows (Some first) valued own value = added own.rest _
 
 image_grows : (b : Bool) (own : Own) (word : List ℕ) → length own.rest ≤ length (after_image b own word).rest
 image_grows false own word = added own.rest word
@@ -138,22 +152,21 @@ image_value_grows : (b : Bool) (own : Own) (word : List ℕ)
 image_value_grows false own word = added own.rest word
 image_value_grows true own word = same _
 
-other_grows : (a b : Bool) (own : Own) (word : List ℕ)
-    → length own.rest ≤ length (if a then after_image_value own.has_image own word
-    else (if b then add_id own.id own (drop 5 word) else leave own word Next.Any)).rest
-other_grows true b own word = image_value_grows own.has_image own word
-other_grows false true own word = id_grows own.id own _
-other_grows false false own word = added own.rest word
+other_grows : (a b c : Bool) (own : Own) (word : List ℕ) → length own.rest ≤ length (by_front a b c own word).rest
+other_grows true b c own word = image_value_grows own.has_image own word
+other_grows false true c own word = add_value_grows own.id Valued.Id own _
+other_grows false false true own word = add_value_grows own.live Valued.Live own _
+other_grows false false false own word = added own.rest word
 
 kind_grows : (kind : Kind) (own : Own) (word : List ℕ) → length own.rest ≤ length (after_kind kind own word).rest
 kind_grows Kind.Help own word = same _
 kind_grows Kind.Version own word = same _
 kind_grows Kind.Strict own word = same _
-kind_grows Kind.Id own word = same _
+kind_grows (Kind.Valued valued) own word = same _
 kind_grows Kind.Image own word = image_grows own.has_image own word
 kind_grows Kind.Specified own word = added own.rest word
 kind_grows Kind.Dashes own word = added own.rest word
-kind_grows Kind.Other own word = other_grows _ _ own word
+kind_grows Kind.Other own word = other_grows _ _ _ own word
 
 value_grows : (b : Bool) (own : Own) (option word : List ℕ) (taken : Own) → length own.rest ≤ length taken.rest
     → length own.rest ≤ length (after_value b own option word taken).rest
@@ -164,7 +177,7 @@ as_grows : (next : Next) (own : Own) (word : List ℕ) → length own.rest ≤ l
 as_grows Next.Any own word = kind_grows (kind_of word) own word
 as_grows Next.Value own word = added own.rest word
 as_grows Next.Image own word = value_grows (is_option word) own _ word _ (same _)
-as_grows Next.Id own word = value_grows (is_option word) own _ word _ (id_grows own.id own word)
+as_grows (Next.Own valued) own word = value_grows (is_option word) own _ word _ (add_value_grows (value_of valued own) valued own word)
 as_grows Next.Words own word = added own.rest word
 
 fold_grows : (own : Own) (words : List (List ℕ)) → length own.rest ≤ length (fold after own words).rest
@@ -180,7 +193,7 @@ end_grows Next.Any own = with_id_grows own.id own
 end_grows Next.Words own = with_id_grows own.id own
 end_grows Next.Value own = same _
 end_grows Next.Image own = added own.rest _
-end_grows Next.Id own = added own.rest _
+end_grows (Next.Own valued) own = added own.rest _
 
 pub name_is_left : (words : List (List ℕ)) → 0 < length words → 0 < length (own_of words).rest
 name_is_left [] some = absurd (omega (arith, some))

@@ -3,6 +3,7 @@ use Rattle.std.specs.Prelude.{◌≡◌, Bool, true, false, ◌&&◌, nat_lt, �
 use Rattle.serdimko.specs.declared.own.Kind.{Kind}
 use Rattle.serdimko.specs.declared.own.Next.{Next}
 use Rattle.serdimko.specs.declared.own.Own.{Own}
+use Rattle.serdimko.specs.declared.own.Valued.{Valued}
 
 -- ---- words
 
@@ -14,17 +15,23 @@ kind_of word =
     else (if bytes_eq word (codes "-V") then Kind.Version
     else (if bytes_eq word (codes "--version") then Kind.Version
     else (if bytes_eq word (codes "--strict") then Kind.Strict
-    else (if bytes_eq word (codes "--id") then Kind.Id
+    else (if bytes_eq word (codes "--id") then Kind.Valued Valued.Id
+    else (if bytes_eq word (codes "--live") then Kind.Valued Valued.Live
     else (if bytes_eq word (codes "--image") then Kind.Image
     else (if bytes_eq word (codes "--from") then Kind.Specified
     else (if bytes_eq word (codes "--part") then Kind.Specified
     else (if bytes_eq word (codes "--tries") then Kind.Specified
     else (if bytes_eq word (codes "--") then Kind.Dashes
-    else Kind.Other))))))))))
+    else Kind.Other)))))))))))
 
 -- it can't be a value: it begins with a dash, and is more than that
 abbrev pub is_option : List ℕ → Bool
 is_option word = nat_lt 1 (length word) && bytes_eq (take 1 word) (codes "-")
+
+-- an option of this program that has one value
+abbrev pub name_of : Valued → List ℕ
+name_of Valued.Id = codes "--id"
+name_of Valued.Live = codes "--live"
 
 -- ---- what was found so far
 
@@ -35,6 +42,7 @@ nothing = record {
   version = false;
   strict = false;
   id = None;
+  live = None;
   images = [];
   rest = [];
   has_own = false;
@@ -51,10 +59,19 @@ abbrev pub add_image : Own → List ℕ → Own
 add_image own file =
     record own { images = own.images ++ file ∷ []; has_own = true; next = Next.Any }
 
--- the id; a second one is left with its option, and is refused there
-abbrev pub add_id : Option (List ℕ) → Own → List ℕ → Own
-add_id None own digits = record own { id = Some digits; has_own = true; next = Next.Any }
-add_id (Some id) own digits = leave (record own { has_own = true }) (codes "--id") Next.Any
+-- the value of an option, if it was found
+abbrev pub value_of : Valued → Own → Option (List ℕ)
+value_of Valued.Id own = own.id
+value_of Valued.Live own = own.live
+
+abbrev pub with_value : Valued → Own → List ℕ → Own
+with_value Valued.Id own value = record own { id = Some value; has_own = true; next = Next.Any }
+with_value Valued.Live own value = record own { live = Some value; has_own = true; next = Next.Any }
+
+-- a value; of a second one the option is left, and is refused there
+abbrev pub add_value : Option (List ℕ) → Valued → Own → List ℕ → Own
+add_value None valued own value = with_value valued own value
+add_value (Some first) valued own value = leave (record own { has_own = true }) (name_of valued) Next.Any
 
 -- the first `--image` is left, with its value; the value of each further one is an image
 abbrev pub after_image : Bool → Own → List ℕ → Own
@@ -69,14 +86,15 @@ after_image_value true own word = add_image own (drop 8 word)
 abbrev pub after_other : Own → List ℕ → Own
 after_other own word =
     if bytes_eq (take 8 word) (codes "--image=") then after_image_value own.has_image own word
-    else (if bytes_eq (take 5 word) (codes "--id=") then add_id own.id own (drop 5 word)
-    else leave own word Next.Any)
+    else (if bytes_eq (take 5 word) (codes "--id=") then add_value own.id Valued.Id own (drop 5 word)
+    else (if bytes_eq (take 7 word) (codes "--live=") then add_value own.live Valued.Live own (drop 7 word)
+    else leave own word Next.Any))
 
 abbrev pub after_kind : Kind → Own → List ℕ → Own
 after_kind Kind.Help own word = record own { help = true; has_own = true }
 after_kind Kind.Version own word = record own { version = true; has_own = true }
 after_kind Kind.Strict own word = record own { strict = true; has_own = true }
-after_kind Kind.Id own word = record own { has_own = true; next = Next.Id }
+after_kind (Kind.Valued valued) own word = record own { has_own = true; next = Next.Own valued }
 after_kind Kind.Image own word = after_image own.has_image own word
 after_kind Kind.Specified own word = leave own word Next.Value
 after_kind Kind.Dashes own word = leave own word Next.Words
@@ -95,8 +113,8 @@ after_as Next.Any own word = after_kind (kind_of word) own word
 after_as Next.Value own word = leave own word Next.Any
 after_as Next.Image own word =
     after_value (is_option word) own (codes "--image") word (add_image own word)
-after_as Next.Id own word =
-    after_value (is_option word) own (codes "--id") word (add_id own.id own word)
+after_as (Next.Own valued) own word =
+    after_value (is_option word) own (name_of valued) word (add_value (value_of valued own) valued own word)
 after_as Next.Words own word = leave own word Next.Words
 
 abbrev pub after : Own → List ℕ → Own
@@ -119,7 +137,7 @@ at_end Next.Any own = with_id own.id own
 at_end Next.Words own = with_id own.id own
 at_end Next.Value own = own
 at_end Next.Image own = record (leave own (codes "--image") Next.Any) { has_own = true }
-at_end Next.Id own = record (leave own (codes "--id") Next.Any) { has_own = true }
+at_end (Next.Own valued) own = record (leave own (name_of valued) Next.Any) { has_own = true }
 
 abbrev pub own_of : List (List ℕ) → Own
 own_of words = let own = fold after nothing words in at_end own.next own
@@ -134,3 +152,4 @@ pub record IsPlain (own : Own) (words : List (List ℕ)) : Type 0 where
   pub version : own.version ≡ false
   pub strict : own.strict ≡ false
   pub id : own.id ≡ None
+  pub live : own.live ≡ None

@@ -1,5 +1,8 @@
 -- Why nothing, or not all, was printed of an image: when, in which words, and with which status.
-use Rattle.std.specs.Prelude.{◌≡◌, ℕ, Bool, true, false, List, [], ◌++◌, codes, decimal, Option, Some, None, Result, Ok, Err}
+use Rattle.std.specs.Prelude.{◌≡◌, ℕ, Bool, true, false, List, [], ◌++◌, codes, decimal, Option, Some, None, Result, Ok, Err, String, string_bytes}
+use Rattle.std.specs.declared.alloc.Global.{Global}
+use Rattle.ipmi_bus.specs.declared.inventory_reader.FruEnded.{FruEnded}
+use Rattle.ipmi_bus.specs.declared.step.Ended.{Ended}
 use Rattle.ipmi_image.specs.declared.image.ImageFault.{ImageFault}
 use Rattle.ipmi_output.specs.Failure.{Ending, escaped_name, failure_text, fault_line, fault_words, line_text, status_of_failure, write_faults}
 use Rattle.ipmi_output.specs.Received.{Received, ReceivesText}
@@ -31,6 +34,13 @@ abbrev pub unread : InputFault → Problem
 unread InputFault.Memory = Problem.Failed Failure.OutOfMemory
 unread fault = Problem.Unread fault
 
+-- of a run over a controller to which the connection was lost, after which the tool said this, if it can be told: what was
+-- refused then the controller did not refuse
+abbrev pub lost_problem : Option (String Global) → Option Problem → Option Problem
+lost_problem (Some said) (Some (Problem.Failed (Failure.Ended (Ended.Refused id code)))) = Some (Problem.Lost said)
+lost_problem (Some said) (Some (Problem.Failed (Failure.Inventory id (FruEnded.Refused code)))) = Some (Problem.Lost said)
+lost_problem said problem = problem
+
 -- ---- words
 
 abbrev pub looks_words : Looks → List ℕ
@@ -47,7 +57,7 @@ abbrev pub explanation : ImageFault → List ℕ
 explanation (ImageFault.Line line) =
     codes " (check its first word, the number and length of its fields, a '-' in version 1, and CR at its end)"
 explanation (ImageFault.Hex line) =
-    codes " (a character is no hex digit, or the number of digits is odd)"
+    codes " (a character, perhaps a CR at the end, is no hex digit, or the number of digits is odd)"
 explanation (ImageFault.Id line) =
     codes " (FFFF or FF, 0000 after the first record, or a LUN above 3)"
 explanation (ImageFault.Twice line) = codes " (a line before has given it)"
@@ -84,6 +94,7 @@ problem_text name is_one (Problem.NoImage fault looks) =
     image_problem name (fault_line fault) (fault_words fault ++ explanation fault)
 problem_text name is_one (Problem.Failed Failure.WriteFault) = failure_text Failure.WriteFault
 problem_text name is_one (Problem.Failed failure) = named_text is_one name (failure_text failure)
+problem_text name is_one (Problem.Lost said) = codes "no reply from the controller: " ++ escaped_name (string_bytes said)
 problem_text name is_one Problem.Closed = []
 problem_text name is_one Problem.Faulty = named_text is_one name (codes "the output has faults or missing devices")
 
@@ -94,6 +105,7 @@ status_of_problem None = 0
 status_of_problem (Some (Problem.Unread fault)) = 3
 status_of_problem (Some (Problem.NoImage fault looks)) = 3
 status_of_problem (Some (Problem.Failed failure)) = status_of_failure failure
+status_of_problem (Some (Problem.Lost said)) = 1
 status_of_problem (Some Problem.Faulty) = 1
 status_of_problem (Some Problem.Closed) = 141
 
@@ -117,6 +129,12 @@ Prints Leaves Idle (Err fault) problem = Idle × (problem ≡ Some (unread fault
 Prints Leaves Idle (Ok image) problem =
     (ending : Ending) × (looks : Looks) × (faulty : Bool) × (closed : Bool) × Leaves image ending
     × (problem ≡ problem_of ending looks faulty closed)
+
+-- what `Leaves` tells of how the run over a controller ended; what a tool said is told only where the connection was lost
+abbrev pub PrintsLive : (Ending → Type 0) → Option (List ℕ) → Option Problem → Type 0
+PrintsLive Leaves lost problem =
+    (ending : Ending) × (faulty : Bool) × (closed : Bool) × (said : Option (String Global)) × Leaves ending
+    × (lost ≡ None → said ≡ None) × (problem ≡ lost_problem said (problem_of ending Looks.Unknown faulty closed))
 
 -- the status is that of the problem, and its line is said, or nothing where there is none
 abbrev pub Tells : List ℕ → Bool → Option Problem → Received → Received → ℕ → Type 0

@@ -8,11 +8,10 @@ proved with Rattle, logic dac8208d650f15bf
 /// Said where there are no words and standard input is a terminal.
 pub(crate) const SHORT: &str =
     "usage: serdimko [OPTIONS] COMMAND, for example: serdimko --image FILE sdr list
-Commands: sdr, sel, fru, image. More: serdimko --help";
+Commands: sdr, sel, fru, image, help. More: serdimko --help";
 
-const GENERAL: &str =
-    "Prints what a saved image of a management controller holds: sensors, event log
-and hardware inventory.
+const GENERAL: &str = "Prints what a management controller holds: sensors, event log and hardware
+inventory. It reads a saved image, or asks a live controller (serdimko-live).
 
 Usage: serdimko [OPTIONS] [COMMAND]
 
@@ -33,6 +32,7 @@ Commands (more on each: serdimko COMMAND --help):
 Options, anywhere, also after the command:
   --image FILE    the image is in this file; - or no option: standard input;
                   several: one after another, each after a line '== FILE'
+  --live TOOL:DIR a live controller; serdimko-live gives this option
   --from HEX4     start at this record id (sdr list, elist, hex, get; sel list)
   --part N        ask for at most N bytes at once, 1 to 254 (default 32)
   --tries N       retries for one record or answer, 0 to 255 (default 5)
@@ -46,6 +46,7 @@ Examples:
   serdimko --image server.image sdr list
   serdimko --image server.image sel list last 20
   serdimko --image server.image fru print 0
+  serdimko-live -I lanplus -H HOST -U USER -E -- sdr list
   serdimko-capture -- -I lanplus -H HOST -U USER -E > server.image
 
 Exit status: 0 all was printed; 1 something is missing, or faulty (--strict);
@@ -75,8 +76,8 @@ const SEL: &str = "Prints the system event log.
   sel get ID            a block with all about one event
   sel get --id HEX      the same, by an id as sel list prints it
 
-N is 0 to 65535, and 0 means all. ID is 1 to 65534. Both are decimal, or hex
-after 0x: what sel list prints as 0016 is --id 0016, 0x16 or 22.
+N is 0 to 65535, and 0 means all. ID is 1 to 65534. Both are decimal, or up to
+four hex digits after 0x: what sel list prints as 0016 is --id 0016, 0x16 or 22.
 --from HEX4 starts at this record id, with sel list.
 ";
 

@@ -67,7 +67,7 @@ fn say_one<E: MessageSink>(problem: &Problem<'_>, name: &str, is_one: bool, err:
 }
 
 /// Says the problem, if there is one, and gives the exit status.
-fn say_problem<E: MessageSink>(
+pub(crate) fn say_problem<E: MessageSink>(
     problem: &Option<Problem<'_>>,
     name: &str,
     is_one: bool,

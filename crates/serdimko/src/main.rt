@@ -6,6 +6,7 @@ ghost use Rattle.std.specs.Prelude.{◌<◌, length};
 
 mod help;
 mod images;
+mod live;
 mod mistake;
 mod own;
 mod problem;
@@ -17,9 +18,10 @@ use help::{SHORT, VERSION, help_on};
 use images::print_images;
 use ipmi_command_line::{Command, Task, UsageFault, command_of};
 use ipmi_commands::report;
-use ipmi_output::Part::{self, Number, Text};
+use ipmi_output::Part::{self, Name, Number, Text};
 use ipmi_output::{Failure, MessageSink, Written, say_line};
 use ipmi_program::read_words;
+use live::{Live, print_live_controller};
 use mistake::mistake;
 use own::{Own, own_of};
 use problem::CLOSED;
@@ -119,13 +121,37 @@ fn run<E: MessageSink>(
             if matches!(command.task(), Task::Rewrite) && !own.images.as_slice().is_empty() => {
             Ok(refuse(&[Text("'image rewrite' takes one image")], err))
         }
-        Ok(command) => print_command(rt, &command, own, err),
+        Ok(command) => match &own.live {
+            Some(live) => run_live(rt, &command, own, live.as_str(), err),
+            None => print_command(rt, &command, own, None, err),
+        },
         Err(UsageFault::Memory) => Err(AllocError),
         Err(fault) => {
             let id = own.id.as_ref().map(|id| id.as_str());
             Ok(refuse(&mistake(rt.alloc(), id, scanned, fault)?, err))
         }
     }
+}
+
+/// Runs the command over a live controller.
+fn run_live<E: MessageSink>(
+    rt: &HostRuntime,
+    command: &Command,
+    own: &Own,
+    live: &str,
+    err: &mut E,
+) -> Result<u8, AllocError> {
+    let Some(controller) = Live::of(live) else {
+        let rule = "' is neither ipmitool:FOLDER nor freeipmi:FOLDER";
+        return Ok(refuse(&[Text("--live '"), Name(live), Text(rule)], err));
+    };
+    if matches!(command.task(), Task::Rewrite) {
+        return Ok(refuse(&[Text("'image rewrite' needs a saved image")], err));
+    }
+    if command.image().is_some() {
+        return Ok(refuse(&[Text("--image does not go with a live controller")], err));
+    }
+    print_command(rt, command, own, Some(controller), err)
 }
 
 /// Whether several images are read from standard input.
@@ -145,9 +171,10 @@ fn print_command<E: MessageSink>(
     rt: &HostRuntime,
     command: &Command,
     own: &Own,
+    live: Option<Live<'_>>,
     err: &mut E,
 ) -> Result<u8, AllocError> {
-    if command.image().is_none() && rt.stdin().is_terminal() {
+    if live.is_none() && command.image().is_none() && rt.stdin().is_terminal() {
         // otherwise it would wait for an image in silence
         let _ = say_line(
             err,
@@ -156,7 +183,10 @@ fn print_command<E: MessageSink>(
     }
     let writer = Watch::new(io::writer(rt), own.strict);
     let mut out = Written::new(BufWriter::new(rt.alloc(), writer).or(Err(AllocError))?);
-    let status = print_images(rt, command, own, &mut out, err);
+    let status = match live {
+        Some(live) => print_live_controller(rt, command, live, &mut out, err),
+        None => print_images(rt, command, own, &mut out, err),
+    };
     // what a failing flush left is not tried once more
     let _ = out.into_inner().into_parts();
     Ok(status)

@@ -128,6 +128,23 @@ fn of_words<'a>(alloc: Global, words: &[&'a str]) -> Result<Line<'a>, AllocError
                 ],
             )
         }
+        [word, ..] if word.starts_with('\u{2013}') || word.starts_with('\u{2014}') => {
+            let parts = [
+                Text("unknown command '"),
+                Name(word),
+                Text("': an option begins with two plain dashes"),
+            ];
+            line(alloc, &parts)
+        }
+        [word, ..] if word.contains('.') || word.contains('/') => {
+            unknown(
+                alloc,
+                "unknown command '",
+                word,
+                &COMMANDS,
+                "a file comes after --image",
+            )
+        }
         ["help", word, ..] | [word, ..] => {
             unknown(alloc, "unknown command '", word, &COMMANDS, SEE_HELP)
         }
@@ -268,7 +285,7 @@ fn not_a_number<'a>(
             Name(word),
             Text("' is not a number from "),
             Text(range),
-            Text(" (decimal without leading zeros, or 0x and hex digits)"),
+            Text(" (decimal without leading zeros, or 0x and up to four hex digits)"),
         ],
     )
 }
@@ -292,44 +309,62 @@ fn no_entry<'a>(alloc: Global, word: &'a str) -> Result<Line<'a>, AllocError> {
     not_a_number(alloc, word, "1 to 65534")
 }
 
-/// A name of several words.
+/// A name of several words, or several names: those that have a space were quoted.
 fn unquoted<'a>(alloc: Global, words: &[&'a str]) -> Result<Line<'a>, AllocError> {
+    if words
+        .iter()
+        .any(|word| word.contains(' ') || word.contains('\''))
+    {
+        return line(alloc, &[Text("'sdr get' takes one name")]);
+    }
     let mut parts = line(alloc, &[Text("'sdr get' takes one name: quote it, as '")])?;
     push_joined(&mut parts, words)?;
     parts.push(Text("'"))?;
     Ok(parts)
 }
 
+/// What the value of an option has to be.
+fn rule_of(option: &str) -> Option<&'static str> {
+    match option {
+        "--from" => Some("four hex digits from 0001 to FFFE"),
+        "--part" => Some("a number from 1 to 254 (decimal without leading zeros)"),
+        "--tries" => Some("a number from 0 to 255 (decimal without leading zeros)"),
+        _ => None,
+    }
+}
+
+/// A line that this is no value of the option, which has a rule.
+pub(crate) fn no_value_of<'a>(
+    alloc: Global,
+    option: &'a str,
+    value: &'a str,
+) -> Result<Option<Line<'a>>, AllocError> {
+    let Some(rule) = rule_of(option) else {
+        return Ok(None);
+    };
+    let parts = [
+        Name(option),
+        Text(" '"),
+        Name(value),
+        Text("' is not "),
+        Text(rule),
+    ];
+    line(alloc, &parts).map(Some)
+}
+
 /// Which option is at fault: `--from`, `--part` and `--tries` are tried one by one.
 fn of_options<'a>(alloc: Global, scanned: &Scan<'a>) -> Result<Line<'a>, AllocError> {
-    if let Some(value) = scanned.from {
-        if is_refused(alloc, "--from", value)? {
-            return bad_value(
-                alloc,
-                "--from '",
-                value,
-                "four hex digits from 0001 to FFFE",
-            );
-        }
-    }
-    if let Some(value) = scanned.part {
-        if is_refused(alloc, "--part", value)? {
-            return bad_value(
-                alloc,
-                "--part '",
-                value,
-                "a number from 1 to 254 (decimal without leading zeros)",
-            );
-        }
-    }
-    if let Some(value) = scanned.tries {
-        if is_refused(alloc, "--tries", value)? {
-            return bad_value(
-                alloc,
-                "--tries '",
-                value,
-                "a number from 0 to 255 (decimal without leading zeros)",
-            );
+    let values = [
+        ("--from", scanned.from),
+        ("--part", scanned.part),
+        ("--tries", scanned.tries),
+    ];
+    for (option, value) in values {
+        let Some(value) = value else { continue };
+        if is_refused(alloc, option, value)? {
+            if let Some(line) = no_value_of(alloc, option, value)? {
+                return Ok(line);
+            }
         }
     }
     let (first, space, second) = match scanned.words.as_slice() {

@@ -1,9 +1,18 @@
 //! The options of this program: they are taken out of the words wherever they are, and the rest is the specified command line.
 ghost use Rattle.std.specs.Prelude.{◌≡◌, ◌<◌, drop, false, IfOk, length, OnOk, string_bytes, true};
-ghost use Rattle.serdimko.specs.Own.{add_id, add_image, after, after_image, after_image_value, after_kind, after_other, at_end, id_word, is_option, IsPlain, kind_of, leave, nothing, own_of, with_id};
+ghost use Rattle.serdimko.specs.Own.{add_image, add_value, after, after_image, after_image_value, after_kind, after_other, at_end, id_word, is_option, IsPlain, kind_of, leave, name_of, nothing, own_of, value_of, with_id, with_value};
 
 use ipmi_command_line::{Word, Words};
 use std::alloc::{AllocError, Global};
+
+/// An option of this program that has one value.
+#[derive(Clone, Copy)]
+enum Valued {
+    /// `--id`.
+    Id,
+    /// `--live`.
+    Live,
+}
 
 /// What a word is where it may be an option.
 #[derive(Clone, Copy)]
@@ -14,8 +23,8 @@ enum Kind {
     Version,
     /// `--strict`.
     Strict,
-    /// `--id`.
-    Id,
+    /// An option whose value comes next.
+    Valued(Valued),
     /// `--image`.
     Image,
     /// Another specified option, whose value comes next.
@@ -35,8 +44,8 @@ enum Next {
     Value,
     /// The value of a further `--image`.
     Image,
-    /// The value of `--id`.
-    Id,
+    /// The value of an option of this program.
+    Own(Valued),
     /// No option, after `--`.
     Words,
 }
@@ -52,6 +61,8 @@ pub(crate) struct Own {
     pub(crate) strict: bool,
     /// The value of `--id`.
     pub(crate) id: Option<Word>,
+    /// The value of `--live`.
+    pub(crate) live: Option<Word>,
     /// The images after the first one.
     pub(crate) images: Words,
     /// The words that are left, the program's name first.
@@ -70,7 +81,8 @@ fn kind_of(word: &str) -> Kind
         "-h" | "--help" => Kind::Help,
         "-V" | "--version" => Kind::Version,
         "--strict" => Kind::Strict,
-        "--id" => Kind::Id,
+        "--id" => Kind::Valued(Valued::Id),
+        "--live" => Kind::Valued(Valued::Live),
         "--image" => Kind::Image,
         "--from" | "--part" | "--tries" => Kind::Specified,
         "--" => Kind::Dashes,
@@ -95,6 +107,18 @@ fn id_word(alloc: Global, digits: &str) -> Result<String, AllocError>
     }
 }
 
+impl Valued {
+    /// Its name.
+    fn name(self) -> &'static str
+        ensures { result.now ≡ name_of self }
+    {
+        match self {
+            Valued::Id => "--id",
+            Valued::Live => "--live",
+        }
+    }
+}
+
 impl Own {
     /// Before the first word.
     fn new(alloc: Global) -> Own
@@ -105,6 +129,7 @@ impl Own {
             version: false,
             strict: false,
             id: None,
+            live: None,
             images: Words::new(alloc),
             rest: Words::new(alloc),
             has_own: false,
@@ -132,16 +157,37 @@ impl Own {
         Ok(())
     }
 
-    /// Takes the value of `--id`.
-    fn add_id(&mut self, alloc: Global, digits: &str) -> Result<(), AllocError>
-        ensures { OnOk result (self.new ≡ add_id self.old.id self.old digits.now) }
+    /// The value of the option, if it was found.
+    fn value(&self, option: Valued) -> &Option<Word>
+        ensures { result.now ≡ value_of option self.now }
     {
-        self.has_own = true;
-        if self.id.is_some() {
-            return self.leave("--id", Next::Any);
+        match option {
+            Valued::Id => &self.id,
+            Valued::Live => &self.live,
         }
-        self.id = Some(Word::new(alloc, digits)?);
+    }
+
+    /// Takes the first value of an option.
+    fn set(&mut self, option: Valued, value: Word)
+        ensures { self.new ≡ with_value option self.old value }
+    {
+        match option {
+            Valued::Id => self.id = Some(value),
+            Valued::Live => self.live = Some(value),
+        }
+        self.has_own = true;
         self.next = Next::Any;
+    }
+
+    /// Takes the value of an option.
+    fn add_value(&mut self, alloc: Global, option: Valued, value: &str) -> Result<(), AllocError>
+        ensures { OnOk result (self.new ≡ add_value (value_of option self.old) option self.old value.now) }
+    {
+        if self.value(option).is_some() {
+            self.has_own = true;
+            return self.leave(option.name(), Next::Any);
+        }
+        self.set(option, Word::new(alloc, value)?);
         Ok(())
     }
 
@@ -178,7 +224,10 @@ impl Own {
             return self.take_image_value(word, file);
         }
         if let Some(digits) = word.strip_prefix("--id=") {
-            return self.add_id(alloc, digits);
+            return self.add_value(alloc, Valued::Id, digits);
+        }
+        if let Some(live) = word.strip_prefix("--live=") {
+            return self.add_value(alloc, Valued::Live, live);
         }
         self.leave(word, Next::Any)
     }
@@ -191,7 +240,7 @@ impl Own {
             Kind::Help => self.help = true,
             Kind::Version => self.version = true,
             Kind::Strict => self.strict = true,
-            Kind::Id => self.next = Next::Id,
+            Kind::Valued(option) => self.next = Next::Own(option),
             Kind::Image => return self.take_image(word),
             Kind::Specified => return self.leave(word, Next::Value),
             Kind::Dashes => return self.leave(word, Next::Words),
@@ -227,8 +276,8 @@ impl Own {
             Next::Value => self.leave(word, Next::Any),
             Next::Image if is_option(word) => self.leave_both("--image", word),
             Next::Image => self.add_image(word),
-            Next::Id if is_option(word) => self.leave_both("--id", word),
-            Next::Id => self.add_id(alloc, word),
+            Next::Own(option) if is_option(word) => self.leave_both(option.name(), word),
+            Next::Own(option) => self.add_value(alloc, option, word),
             Next::Words => self.leave(word, Next::Words),
         }
     }
@@ -252,7 +301,7 @@ impl Own {
             Next::Any | Next::Words => self.leave_id(alloc),
             Next::Value => Ok(()),
             Next::Image => self.leave_option("--image"),
-            Next::Id => self.leave_option("--id"),
+            Next::Own(option) => self.leave_option(option.name()),
         }
     }
 }

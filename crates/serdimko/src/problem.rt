@@ -1,8 +1,9 @@
 //! Why nothing, or not all, was printed of an image: its line and its exit status.
 ghost use Rattle.std.specs.Prelude.{◌≡◌, Some, true};
 ghost use Rattle.ipmi_output.specs.Failure.{joined_parts, part_text};
-ghost use Rattle.serdimko.specs.Problem.{explanation, looks_words, named_text, problem_of, problem_text, status_of_problem, unread, unread_words};
+ghost use Rattle.serdimko.specs.Problem.{explanation, looks_words, lost_problem, named_text, problem_of, problem_text, status_of_problem, unread, unread_words};
 
+use ipmi_bus::{Ended, FruEnded};
 use ipmi_image::ImageFault;
 use ipmi_output::Part::{self, Name, Number, Text};
 use ipmi_output::{Failure, fault_line, fault_words};
@@ -10,6 +11,9 @@ use ipmi_program::InputFault;
 
 /// The exit status where an image can't be read.
 const UNREADABLE: u8 = 3;
+
+/// The exit status where the connection to the controller was lost.
+const LOST: u8 = 1;
 
 /// The exit status where what was printed has faults, with `--strict`.
 const FAULTY: u8 = 1;
@@ -76,6 +80,8 @@ pub(crate) enum Problem<'a> {
     NoImage(ImageFault, Looks),
     /// The run did not finish.
     Failed(Failure<'a>),
+    /// The connection to the controller was lost, and the tool said this.
+    Lost(String),
     /// What was printed has faults.
     Faulty,
     /// Whoever reads the output has closed it.
@@ -119,8 +125,27 @@ impl<'a> Problem<'a> {
         match self {
             Problem::Unread(_) | Problem::NoImage(_, _) => UNREADABLE,
             Problem::Failed(failure) => failure.status(),
+            Problem::Lost(_) => LOST,
             Problem::Faulty => FAULTY,
             Problem::Closed => CLOSED,
+        }
+    }
+
+    /// The problem of a run over a controller, given what the tool said where the connection to it was lost.
+    pub(crate) fn of_live(problem: Option<Problem<'a>>, said: Option<String>) -> Option<Problem<'a>>
+        ensures { result ≡ lost_problem said problem.entry }
+    {
+        match (said, problem) {
+            (
+                Some(said),
+                Some(
+                    Problem::Failed(
+                        Failure::Ended(Ended::Refused(..))
+                        | Failure::Inventory(_, FruEnded::Refused(_)),
+                    ),
+                ),
+            ) => Some(Problem::Lost(said)),
+            (_, problem) => problem,
         }
     }
 
@@ -146,6 +171,16 @@ impl<'a> Problem<'a> {
                 ]
             }
             Problem::NoImage(fault, looks) => of_image(*fault, *looks, name),
+            Problem::Lost(said) => {
+                [
+                    Text("no reply from the controller: "),
+                    Name(said.as_str()),
+                    none,
+                    none,
+                    none,
+                    none,
+                ]
+            }
             Problem::Closed => [none, none, none, none, none, none],
             Problem::Failed(failure) => of_failure(failure, name, is_one),
             Problem::Faulty => {
@@ -174,7 +209,8 @@ fn explanation(fault: ImageFault) -> &'static str
         ImageFault::Line(_) => {
             " (check its first word, the number and length of its fields, a '-' in version 1, and CR at its end)"
         }
-        ImageFault::Hex(_) => " (a character is no hex digit, or the number of digits is odd)",
+        ImageFault::Hex(_) =>
+            " (a character, perhaps a CR at the end, is no hex digit, or the number of digits is odd)",
         ImageFault::Id(_) => " (FFFF or FF, 0000 after the first record, or a LUN above 3)",
         ImageFault::Twice(_) => " (a line before has given it)",
         ImageFault::Length(_) =>

@@ -1,13 +1,14 @@
 //! The options and the words of a command line that is refused, told apart as `clap` tells them.
-use crate::mistake::{Line, line, unknown};
+use crate::mistake::{Line, line, no_value_of, unknown};
 use crate::own::is_option;
 use ipmi_command_line::Words;
 use ipmi_output::Part::{Name, Text};
 use std::alloc::{AllocError, Global};
 
 /// All options.
-const OPTIONS: [&str; 8] = [
+const OPTIONS: [&str; 9] = [
     "--image",
+    "--live",
     "--from",
     "--part",
     "--tries",
@@ -43,7 +44,7 @@ impl<'a> Scan<'a> {
         }
     }
 
-    /// Keeps the option's value; true if it had none before. A first `--id` was taken out with its value.
+    /// Keeps the option's value; true if it had none before. A first `--id` or `--live` was taken out with its value.
     fn keep(&mut self, option: &str, value: &'a str) -> bool {
         let kept = match option {
             "--from" => self.from.replace(value),
@@ -79,10 +80,10 @@ impl<'a> Scan<'a> {
             None => (word, None),
         };
         match (option, value) {
-            ("--image" | "--from" | "--part" | "--tries" | "--id", Some(value)) => {
+            ("--image" | "--live" | "--from" | "--part" | "--tries" | "--id", Some(value)) => {
                 self.take_value(alloc, option, value)
             }
-            ("--image" | "--from" | "--part" | "--tries" | "--id", None) => {
+            ("--image" | "--live" | "--from" | "--part" | "--tries" | "--id", None) => {
                 self.waiting = Some(option);
                 Ok(None)
             }
@@ -122,20 +123,14 @@ impl<'a> Scan<'a> {
 
 /// An option is followed by another option, or by a number below zero.
 fn no_value<'a>(alloc: Global, option: &'a str, word: &'a str) -> Result<Line<'a>, AllocError> {
-    if word
+    let is_number = word
         .as_bytes()
         .get(1)
-        .is_some_and(|byte| byte.is_ascii_digit())
-    {
-        return line(
-            alloc,
-            &[
-                Name(option),
-                Text(" '"),
-                Name(word),
-                Text("' is below zero"),
-            ],
-        );
+        .is_some_and(|byte| byte.is_ascii_digit());
+    if is_number {
+        if let Some(line) = no_value_of(alloc, option, word)? {
+            return Ok(line);
+        }
     }
     needs_value(alloc, option)
 }

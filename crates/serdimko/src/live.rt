@@ -1,0 +1,139 @@
+//! Runs a command over a live controller, with which a stock tool holds a session: pipes in a folder lead to the tool.
+ghost use Rattle.std.specs.Prelude.{◌≡◌, ◌+◌};
+ghost use Rattle.std.specs.Io.Buffered.{writer_buffer};
+ghost use Rattle.ipmi_bus.specs.Seen.{AsksAtMost};
+ghost use Rattle.ipmi_commands.specs.Prelude.{change, job_of_command, Runs};
+ghost use Rattle.ipmi_output.specs.Writer.{writer_of};
+ghost use Rattle.ipmi_program.specs.Printing.{EndsBy, IsHandedOn};
+ghost use Rattle.ipmi_raw.specs.Controller.{last_words, seen_of};
+ghost use Rattle.serdimko.specs.Problem.{faults_of_problem, PrintsLive};
+
+use crate::images::{Output, say_problem};
+use crate::problem::{Looks, Problem};
+use ipmi_command_line::Command;
+use ipmi_output::{MessageSink, Sink};
+use ipmi_program::print_live;
+use ipmi_raw::{Open, Peer, Piped, RawController, Tool};
+use std::alloc::{AllocError, Global};
+use std::fs::{File, Files, OpenOptions};
+use std::io::{self, BufReader, Write};
+use std::time::{Clock, Duration};
+
+/// For how many milliseconds a call waits that the controller is too busy for, so that the next one is not made at once.
+const PAUSE: u64 = 500;
+
+/// The most bytes that are told of what a tool printed, and the most lines.
+const MOST_TOLD: usize = 200;
+
+const MOST_LINES: usize = 3;
+
+/// Where a live controller is.
+#[derive(Clone, Copy)]
+pub(crate) struct Live<'a> {
+    tool: Tool,
+    folder: &'a str,
+}
+
+impl<'a> Live<'a> {
+    /// The value of `--live`: the tool and the folder of its pipes.
+    pub(crate) fn of(value: &'a str) -> Option<Live<'a>> {
+        let (tool, folder) = value.split_once(':')?;
+        let tool = match tool {
+            "ipmitool" => Tool::Ipmitool,
+            "freeipmi" => Tool::FreeIpmi,
+            _ => return None,
+        };
+        Some(Live { tool, folder })
+    }
+}
+
+/// The pipes of a folder: `requests.0` and `replies.0` lead to the tool for logical unit 0, and so on.
+#[derive(Drop)]
+struct Pipes<'a, R> {
+    rt: &'a R,
+    folder: &'a str,
+}
+
+impl<'a, R: Files + AllocGlobal> Open for Pipes<'a, R> {
+    type Replies = BufReader<R::File>;
+
+    type Requests = R::File;
+
+    fn open(&mut self, lun: u8) -> io::Result<(BufReader<R::File>, R::File)> {
+        let alloc = self.rt.alloc();
+        let requests = format!(in alloc; "{}/requests.{lun}", self.folder)?;
+        let replies = format!(in alloc; "{}/replies.{lun}", self.folder)?;
+        // each waits until the tool's side opens the same pipe, in this order
+        let requests = OpenOptions::new()
+            .write(true)
+            .open(self.rt, requests.as_str())?;
+        let replies = BufReader::new(alloc, File::open(self.rt, replies.as_str())?)?;
+        Ok((replies, requests))
+    }
+}
+
+/// What the tool printed last, on one line, cut where it is long.
+fn last_line(alloc: Global, text: &[u8]) -> Result<String, AllocError> {
+    let text = String::from_utf8_lossy(alloc, text.get(..MOST_TOLD).unwrap_or(text))?;
+    let mut line = String::new(alloc);
+    let parts = text.lines().map(|part| part.trim());
+    for part in parts.filter(|part| !part.is_empty()).take(MOST_LINES) {
+        if !line.is_empty() {
+            line.push_str("; ")?;
+        }
+        line.push_str(part)?;
+    }
+    if line.is_empty() {
+        line.push_str("the tool said nothing")?;
+    }
+    Ok(line)
+}
+
+/// Prints what the command asks for of the controller, and returns what kept it from being complete, if anything.
+#[tactic(auto, using(crate::proofs::ProblemLemmas::live_faults))]
+fn print_over<'a, P: Peer + Drop, K: Clock + Drop, W: Write + Drop>(
+    alloc: Global,
+    command: &'a Command,
+    controller: &mut RawController<P, K>,
+    out: &mut Output<W>,
+) -> Option<Problem<'a>>
+    ensures faults { ⟦<Output<W> as Sink>⟧.faults out.new ≡
+        ⟦<Output<W> as Sink>⟧.faults out.old + faults_of_problem result }
+    ensures asked { AsksAtMost command.now.part (seen_of P.seen controller.old) (seen_of P.seen controller.new) }
+    ensures prints { PrintsLive (λ ending. EndsBy (λ done. Runs (job_of_command command.now) command.now.tries
+        (change (seen_of P.seen controller.old) (seen_of P.seen controller.new)
+        (⟦<Output<W> as Sink>⟧.taken out.old) (⟦<Output<W> as Sink>⟧.taken out.new)) done) ending
+        × IsHandedOn (writer_buffer (writer_of out.new)) ending)
+        (last_words controller.new) result }
+{
+    let before = out.get_ref().get_ref().faults();
+    let ending = print_live(alloc, controller, command, out);
+    let watch = out.get_ref().get_ref();
+    let has_faults = watch.faults() != before;
+    let is_closed = watch.is_closed();
+    let problem = Problem::of(ending, Looks::Unknown, has_faults, is_closed);
+    // without memory for what the tool said, the message is that of the refusal
+    let said = controller
+        .lost()
+        .and_then(|text| last_line(alloc, text).ok());
+    Problem::of_live(problem, said)
+}
+
+/// Prints what the command asks for of the live controller, and gives the exit status.
+pub(crate) fn print_live_controller<
+    R: Files + Clock + AllocGlobal,
+    W: Write + Drop,
+    E: MessageSink,
+>(rt: &R, command: &Command, live: Live<'_>, out: &mut Output<W>, err: &mut E) -> u8 {
+    let pipes = Pipes {
+        rt,
+        folder: live.folder,
+    };
+    let mut controller = RawController::new(
+        Piped::new(live.tool, pipes),
+        rt,
+        Duration::from_millis(PAUSE),
+    );
+    let problem = print_over(rt.alloc(), command, &mut controller, out);
+    say_problem(&problem, "the controller", true, err)
+}

@@ -1,0 +1,166 @@
+#!/usr/bin/env bash
+# What scripts/live prints over a controller that tests/live/tool.py plays, for each dialect: the same as over the image that the
+# controller holds; and what it says where there is no connection, or it is lost.
+set -uo pipefail
+if [ $# -gt 0 ]; then
+  SERDIMKO=$(realpath "$1")
+  cd "$(dirname "$0")/.." || exit 1
+else
+  cd "$(dirname "$0")/.." || exit 1
+  make -s build || exit 1
+  SERDIMKO=$PWD/crates/serdimko/out/serdimko
+fi
+export SERDIMKO
+export IPMITOOL=$PWD/tests/live/tool.py IPMI_RAW=$PWD/tests/live/tool.py TOOL_IMAGE=$PWD/examples/server.image TOOL_TROUBLES=
+work=$(mktemp -d)
+trap 'rm -rf "$work"' EXIT
+export TMPDIR=$work/folders TOOL_LOG=$work/log
+mkdir "$TMPDIR"
+failed=0
+
+fault() {
+  failed=1
+  echo "tests/live.sh: $*"
+}
+
+# Runs the words over the controller, and leaves what came in `out`, `err` and `status`. Nothing stays in the folder of folders.
+live() {
+  timeout 60 scripts/live "$@" > "$work/out" 2> "$work/err"
+  status=$?
+  if [ -n "$(ls -A "$TMPDIR")" ]; then fault "$*: left $(ls -A "$TMPDIR")"; fi
+}
+
+# What is printed live, and with which status, is what is printed of the image.
+same() {
+  local dialect=$1
+  shift
+  "$SERDIMKO" --image "$TOOL_IMAGE" "$@" > "$work/wanted" 2> "$work/message"
+  local wanted=$?
+  live "$dialect" -- "$@"
+  if [ "$status" -ne "$wanted" ]; then fault "$dialect $*: status $status instead of $wanted"; fi
+  cmp -s "$work/wanted" "$work/out" || fault "$dialect $* ($TOOL_TROUBLES): not as of the image: $(diff "$work/wanted" "$work/out" | head -3)"
+  cmp -s "$work/message" "$work/err" || fault "$dialect $* ($TOOL_TROUBLES): says $(cat "$work/err")"
+}
+
+# The status, and all that is said.
+says() {
+  local wanted=$1 message=$2
+  shift 2
+  live "$@"
+  if [ "$status" -ne "$wanted" ]; then fault "$* ($TOOL_TROUBLES): status $status instead of $wanted"; fi
+  if [ "$(cat "$work/err")" != "$message" ]; then fault "$* ($TOOL_TROUBLES): says $(cat "$work/err")"; fi
+}
+
+for dialect in --ipmitool --freeipmi; do
+  TOOL_TROUBLES=
+  same $dialect sdr list all
+  same $dialect sdr elist
+  same $dialect sdr get 'CPU1 Temp'
+  same $dialect sdr get 'no such name'
+  same $dialect sdr info
+  same $dialect sdr hex
+  same $dialect sel list
+  same $dialect sel list last 5
+  same $dialect sel get 0x0016
+  same $dialect sel info
+  same $dialect fru
+  same $dialect fru print 200
+  same $dialect --part 254 fru print 0
+  TOOL_TROUBLES='cancel=5'
+  same $dialect sdr list
+  TOOL_TROUBLES='cancel=13|grant=7'
+  same $dialect sdr hex
+  same $dialect sdr elist
+  TOOL_TROUBLES='most=9'
+  same $dialect fru
+  TOOL_TROUBLES='busy=45'
+  same $dialect sdr hex
+  TOOL_TROUBLES='silent=45'
+  same $dialect sdr hex
+
+  # the third request asks for the second record
+  TOOL_TROUBLES='refuse=d4,4'
+  says 1 'record 0002h refused with code D4h' $dialect -- --part 254 sdr hex
+  if [ "$(cat "$work/out")" != "$("$SERDIMKO" --image "$TOOL_IMAGE" sdr hex | head -n 1)" ]; then
+    fault "$dialect, refused: $(cat "$work/out")"
+  fi
+  TOOL_TROUBLES='say=Error: Unable to establish LAN session'
+  says 1 'no reply from the controller: Error: Unable to establish LAN session' $dialect -- sel list
+  TOOL_TROUBLES='die=4'
+  says 1 'no reply from the controller: the tool said nothing' $dialect -- sdr hex
+  TOOL_TROUBLES='garbage=4'
+  live $dialect -- --part 254 sdr hex
+  if [ "$status" -ne 1 ] || ! grep -q '^no reply from the controller: no such thing' "$work/err"; then fault "garbage: $(cat "$work/err")"; fi
+  for trouble in cut=4 long=4 other=1; do
+    TOOL_TROUBLES=$trouble
+    live $dialect -- --part 254 sdr hex
+    if [ "$status" -ne 1 ] || ! grep -q '^no reply from the controller: ' "$work/err"; then fault "$trouble: status $status, $(cat "$work/err")"; fi
+  done
+done
+TOOL_TROUBLES=
+
+# What ipmitool warns of as it opens its session is no reply.
+TOOL_TROUBLES=$'warn=Unable to Get Channel Cipher Suites\n'
+same --ipmitool sdr list
+TOOL_TROUBLES=
+
+# Of ipmitool one session for each unit that is asked, of ipmi-raw one for all.
+: > "$TOOL_LOG"
+live --ipmitool -- sdr list all
+if [ "$(cut -d ' ' -f 1 "$TOOL_LOG" | sort -u | tr '\n' ' ')" != '0 1 3 ' ]; then fault 'units'; fi
+# A listing asks no more than it needs: one reservation, two parts for each record, or one where it is small.
+if [ "$(grep -c '^0 0a 22' "$TOOL_LOG")" -ne 1 ]; then fault 'reservations'; fi
+
+# Words that are wrong start no session, and say so.
+says 2 "unknown command 'srd': did you mean 'sdr'?" -- srd
+says 2 '--image does not go with a live controller' -- --image x sdr
+says 2 "'image rewrite' needs a saved image" -- image rewrite
+says 2 'live: -- is missing: see live --help' sdr list
+says 2 'live: all users would see the password of -P: use -E with IPMI_PASSWORD, or -f FILE' -P secret -- sdr
+says 2 'live: all users would see the password of -psecret: use -P, or --config-file=FILE' --freeipmi -psecret -- sdr
+live --help
+if [ "$status" -ne 0 ] || ! grep -q '^usage: live ' "$work/out"; then fault '--help'; fi
+
+# A tool that is not there.
+IPMITOOL=$work/none
+live -- sdr list
+if [ "$status" -ne 1 ] || ! grep -q '^no reply from the controller: .*none' "$work/err"; then fault "no tool: status $status, $(cat "$work/err")"; fi
+IPMITOOL=$PWD/tests/live/tool.py
+
+# Whoever reads the output may close it.
+scripts/live -- sdr list all 2> "$work/err" | true
+if [ "${PIPESTATUS[0]}" -ne 141 ] || [ -s "$work/err" ]; then fault 'closed output'; fi
+
+# Files in place of pipes, or none.
+mkdir "$work/plain"
+says_of() {
+  "$SERDIMKO" --live "$1" sdr list > "$work/out" 2> "$work/err"
+  status=$?
+  if [ "$status" -ne "$2" ] || [ "$(cat "$work/err")" != "$3" ]; then fault "--live $1: status $status, $(cat "$work/err")"; fi
+}
+says_of "ipmitool:$work/plain" 1 'no reply from the controller: the tool said nothing'
+touch "$work/plain/requests.0" "$work/plain/replies.0"
+says_of "ipmitool:$work/plain" 1 'no reply from the controller: the tool said nothing'
+says_of "$work/plain" 2 "--live '$work/plain' is neither ipmitool:FOLDER nor freeipmi:FOLDER"
+
+# Ended by a signal it leaves no process and no folder. A shell has what it starts in the background ignore SIGINT.
+for signal in INT TERM HUP; do
+  TOOL_TROUBLES='silent=1' python3 -c '
+import os, signal, sys
+signal.signal(signal.SIGINT, signal.SIG_DFL)
+os.setsid()
+os.execvp(sys.argv[1], sys.argv[1:])' scripts/live -- --tries 255 sdr list > /dev/null 2>&1 &
+  session=$!
+  sleep 0.7
+  kill "-$signal" -- "-$session" 2> /dev/null
+  wait "$session" 2> /dev/null
+  status=$?
+  if [ $status -lt 128 ]; then fault "$signal: status $status"; fi
+  for _ in 1 2 3 4 5 6 7 8 9 10; do
+    if [ -z "$(ls -A "$TMPDIR")" ] && ! pgrep -g "$session" > /dev/null; then break; fi
+    sleep 0.2
+  done
+  if [ -n "$(ls -A "$TMPDIR")" ]; then fault "$signal: left $(ls -A "$TMPDIR")"; rm -rf "${TMPDIR:?}"/*; fi
+  if pgrep -g "$session" > /dev/null; then fault "$signal: left processes"; pkill -KILL -g "$session"; fi
+done
+exit $failed
