@@ -84,7 +84,7 @@ fn opened<'u, O: Open>(
     let slot = units.slot(unit).ok_or(Lost)?;
     if slot.is_none() {
         let (replies, requests) = opener.open(unit).or(Err(Lost))?;
-        *slot = Some(Streams::new(replies, requests));
+        *slot = Some(Streams { replies, requests });
     }
     slot.as_mut().ok_or(Lost)
 }
