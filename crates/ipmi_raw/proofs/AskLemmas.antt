@@ -15,7 +15,7 @@ asks_failed {P} {K} {V} tool request Gives old new result code same asks gives =
     let failed : Asks tool request (Gives (Err code)) old new (failing_code {T = V} (Err code)) = record {
       hears = λ lasts.
           let h = asks.hears lasts in
-          (h.0, h.1, subst (Gives (Err code)) (sym h.2) gives);
+          (h.0, h.1, h.2, subst (Gives (Err code)) (sym h.3) gives);
       fails = asks.fails;
       stays = asks.stays;
     } in

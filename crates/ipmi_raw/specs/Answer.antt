@@ -77,12 +77,12 @@ abbrev pub data_in : Result (List ℕ) Code → List ℕ
 data_in (Ok bytes) = bytes
 data_in (Err code) = []
 
--- ---- an honest controller
-
--- it gives data of the right length
+-- where it is data, it is data of a reply to the request
 abbrev pub IsDataIfAny : Request → Result (List ℕ) Code → Type 0
 IsDataIfAny request (Ok bytes) = IsDataOf request bytes
 IsDataIfAny request (Err code) = Unit {0}
+
+-- ---- an honest controller
 
 -- what a reply gives is what an honest controller may answer to the call that asks for it
 abbrev pub IsAnswer : Request → Result (List ℕ) Code → Seen → Seen → Type 0

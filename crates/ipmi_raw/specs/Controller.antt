@@ -7,7 +7,7 @@ use Rattle.ipmi_raw.specs.declared.controller.RawController.{RawController}
 use Rattle.ipmi_raw.specs.declared.reply.Reply.{Reply}
 use Rattle.ipmi_raw.specs.declared.request.Request.{Request}
 use Rattle.ipmi_raw.specs.declared.tool.Tool.{Tool}
-use Rattle.ipmi_raw.specs.Answer.{given}
+use Rattle.ipmi_raw.specs.Answer.{given, IsDataIfAny}
 use Rattle.ipmi_raw.specs.Peer.{IsReplyText}
 
 -- The controller at the other end, but for the counts of calls, which are those of the calls that came in here. Once the
@@ -25,15 +25,20 @@ seen_through seen counts is_lost = record seen {
 abbrev pub seen_of : {P K : Type 0} → (P → Seen) → RawController P K → Seen
 seen_of seen raw = seen_through (seen raw.peer) raw.tally.counts raw.is_lost
 
+-- the tool of its peer, where this is the one of a peer
+abbrev pub tool_of : {P K : Type 0} → (P → Tool) → RawController P K → Tool
+tool_of tool raw = tool raw.peer
+
 -- what the tool said when the connection was lost, if it was
 abbrev pub last_words : {P K : Type 0} → RawController P K → Option (List ℕ)
 last_words raw = if raw.is_lost then Some raw.text.items else None
 
--- What a call does, over any peer. While the connection lasts, the text that came is of a reply to the request, and the call
--- gives what this says. If it is lost after the call, the call fails with FFh. If it was lost before, nothing is sent, and
+-- What a call does, over any peer. While the connection lasts, the text that came is of a reply to the request, with data of the
+-- right length, and the call gives what this says. If it is lost after the call, the call fails with FFh. If it was lost before, nothing is sent, and
 -- nothing but counts changes.
 pub record Asks {P K : Type 0} (tool : Tool) (request : Request) (Gives : Result (List ℕ) Code → Type 0) (old new : RawController P K)
     (failure : Option ℕ) : Type 0 where
-  pub hears : new.is_lost ≡ false → (reply : Reply) × IsReplyText tool request reply new.text.items × Gives (given request reply)
+  pub hears : new.is_lost ≡ false → (reply : Reply) × IsReplyText tool request reply new.text.items
+      × IsDataIfAny request (given request reply) × Gives (given request reply)
   pub fails : new.is_lost ≡ true → failure ≡ Some 0xFF
   pub stays : old.is_lost ≡ true → new ≡ record old { tally = new.tally }

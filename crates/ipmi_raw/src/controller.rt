@@ -5,7 +5,7 @@ ghost use Rattle.ipmi_bus.specs.Shelf.{id_in};
 ghost use Rattle.ipmi_bus.specs.Prelude.{IsCall, failing_code, IsHonest, info_of, reading_of, ReserveAnswers, PartAnswers, ValueAnswers, SizeAnswers, BytesAnswers, part_asked, counts_after, zero_counts};
 ghost use Rattle.ipmi_bus.specs.declared.tally.Event.{Event};
 ghost use Rattle.ipmi_raw.specs.Answer.{data_in, first_in, given, IsAnswer, IsDataIfAny, IsDataOf, part_in, reading_in, size_in, value_in};
-ghost use Rattle.ipmi_raw.specs.Controller.{Asks, last_words, seen_of, seen_through};
+ghost use Rattle.ipmi_raw.specs.Controller.{Asks, last_words, seen_of, seen_through, tool_of};
 ghost use Rattle.ipmi_raw.specs.Peer.{IsReplyText};
 ghost use Rattle.ipmi_raw.specs.Request.{inventory_part, IsRequest, record_part};
 ghost use Rattle.ipmi_raw.specs.declared.request.Request.TheVariants as Request;
@@ -105,7 +105,7 @@ impl<P: Peer, K: Clock> RawController<P, K> {
         ensures counted { IsCall asked (seen_of P.seen self.old) (seen_of P.seen self.new) }
         ensures failure { (seen_of P.seen self.new).last_failure ≡ failing_code result }
         ensures data { IfOk result (λ bytes. IsDataOf request bytes) }
-        ensures asks { Asks (P.tool self.old.peer) request (λ given. given ≡ result)
+        ensures asks { Asks (tool_of P.tool self.old) request (λ given. given ≡ result)
             self.old self.new (failing_code result) }
         ensures honest { IsHonest (seen_of P.seen self.old) → IsRequest request →
             IsAnswer request result (seen_of P.seen self.old) (seen_of P.seen self.new) }
@@ -146,7 +146,7 @@ impl<P: Peer, K: Clock> Controller for RawController<P, K> {
         ensures failure { (seen_of P.seen self.new).last_failure ≡ failing_code result }
         ensures honest { IsHonest (seen_of P.seen self.old) →
             ReserveAnswers shelf result (seen_of P.seen self.old) (seen_of P.seen self.new) }
-        ensures asks { Asks (P.tool self.old.peer) (Request.Reserve shelf) (λ given. result ≡ value_in id_in given)
+        ensures asks { Asks (tool_of P.tool self.old) (Request.Reserve shelf) (λ given. result ≡ value_in id_in given)
             self.old self.new (failing_code result) }
     {
         let reply = self.ask(0, Request::Reserve(shelf))?;
@@ -172,7 +172,7 @@ impl<P: Peer, K: Clock> Controller for RawController<P, K> {
         ensures honest { IsHonest (seen_of P.seen self.old) →
             PartAnswers (part_asked shelf reservation id offset (length into.old)) result into.new
             (seen_of P.seen self.old) (seen_of P.seen self.new) }
-        ensures asks { Asks (P.tool self.old.peer)
+        ensures asks { Asks (tool_of P.tool self.old)
             (Request.Get (record_part shelf reservation id offset (length into.old)))
             (λ given. (result ≡ value_in part_in given)
             × IfOk result (λ part. take part.got into.new ≡ drop 2 (data_in given)))
@@ -200,7 +200,7 @@ impl<P: Peer, K: Clock> Controller for RawController<P, K> {
         ensures failure { (seen_of P.seen self.new).last_failure ≡ failing_code result }
         ensures honest { IsHonest (seen_of P.seen self.old) →
             ValueAnswers (info_of shelf) result (seen_of P.seen self.old) (seen_of P.seen self.new) }
-        ensures asks { Asks (P.tool self.old.peer) (Request.Info shelf) (λ given. result ≡ given)
+        ensures asks { Asks (tool_of P.tool self.old) (Request.Info shelf) (λ given. result ≡ given)
             self.old self.new (failing_code result) }
     {
         let reply = self.ask(0, Request::Info(shelf))?;
@@ -214,7 +214,7 @@ impl<P: Peer, K: Clock> Controller for RawController<P, K> {
         ensures failure { (seen_of P.seen self.new).last_failure ≡ failing_code result }
         ensures honest { IsHonest (seen_of P.seen self.old) →
             ValueAnswers (reading_of lun number) result (seen_of P.seen self.old) (seen_of P.seen self.new) }
-        ensures asks { Asks (P.tool self.old.peer) (Request.Reading lun number) (λ given. result ≡ value_in reading_in given)
+        ensures asks { Asks (tool_of P.tool self.old) (Request.Reading lun number) (λ given. result ≡ value_in reading_in given)
             self.old self.new (failing_code result) }
     {
         let reply = self.ask(0, Request::Reading(lun, number))?;
@@ -232,7 +232,7 @@ impl<P: Peer, K: Clock> Controller for RawController<P, K> {
         ensures failure { (seen_of P.seen self.new).last_failure ≡ failing_code result }
         ensures honest { IsHonest (seen_of P.seen self.old) →
             SizeAnswers id result (seen_of P.seen self.old) (seen_of P.seen self.new) }
-        ensures asks { Asks (P.tool self.old.peer) (Request.InventorySize id) (λ given. result ≡ value_in size_in given)
+        ensures asks { Asks (tool_of P.tool self.old) (Request.InventorySize id) (λ given. result ≡ value_in size_in given)
             self.old self.new (failing_code result) }
     {
         let reply = self.ask(0, Request::InventorySize(id))?;
@@ -254,7 +254,7 @@ impl<P: Peer, K: Clock> Controller for RawController<P, K> {
         ensures honest { IsHonest (seen_of P.seen self.old) →
             BytesAnswers id offset (length into.old) result into.new
             (seen_of P.seen self.old) (seen_of P.seen self.new) }
-        ensures asks { Asks (P.tool self.old.peer)
+        ensures asks { Asks (tool_of P.tool self.old)
             (Request.ReadInventory (inventory_part id offset (length into.old)))
             (λ given. (result ≡ value_in first_in given)
             × IfOk result (λ got. take got into.new ≡ drop 1 (data_in given)))

@@ -94,7 +94,7 @@ fn opened<'u, O: Open>(
     let slot = units.slot(unit).ok_or(Lost)?;
     if slot.is_none() {
         let (replies, requests) = opener.open(unit).or(Err(Lost))?;
-        let mut streams = Streams::new(replies, requests);
+        let mut streams = Streams { replies, requests };
         if tool == Tool::Ipmitool {
             streams.exchange(tool, FIRST_REQUEST, reply)?;
         }

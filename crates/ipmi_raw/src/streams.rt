@@ -60,18 +60,13 @@ fn read_reply<R: Read>(tool: Tool, reader: &mut R, reply: &mut ReplyText) -> Res
 /// The two streams of a tool.
 #[derive(Drop)]
 pub struct Streams<R, W> {
-    replies: R,
-    requests: W,
+    /// What the tool prints to. It is read byte by byte.
+    pub replies: R,
+    /// What the tool reads from.
+    pub requests: W,
 }
 
 impl<R: Read, W: Write> Streams<R, W> {
-    /// A tool that prints replies to `replies`, which is read byte by byte, and reads requests from `requests`.
-    pub fn new(replies: R, requests: W) -> Streams<R, W>
-        ensures { result ≡ record { replies = replies; requests = requests } }
-    {
-        Streams { replies, requests }
-    }
-
     /// Sends the text of a request, and puts into `reply` what the tool prints, up to the end of a reply. The connection is lost
     /// where the tool takes no request, prints no more, or more than `reply` has room for. A tool that takes no request may
     /// have said why.

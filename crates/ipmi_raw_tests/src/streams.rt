@@ -10,7 +10,10 @@ const REQUEST: &[u8] = b"raw 0x0a 0x22\necho .\n";
 
 /// Compares what comes of one request, sent to a tool that prints this, with what it leaves as the reply's text.
 fn is_read(rt: &impl Abort, tool: Tool, printed: &[u8], wanted: Result<(), Lost>, text: &[u8]) {
-    let mut streams = Streams::new(printed, Wanted(REQUEST, b""));
+    let mut streams = Streams {
+        replies: printed,
+        requests: Wanted(REQUEST, b""),
+    };
     let mut reply = ReplyText::new();
     let result = streams.exchange(tool, REQUEST, &mut reply);
     assert!(rt; result == wanted, "{printed:?}");
@@ -64,7 +67,10 @@ fn no_more_than_there_is_room_for_is_read(rt: HostRuntime) {
 #[test]
 fn replies_are_read_one_by_one(rt: HostRuntime) {
     let printed = b" 34 12\n. \n 35 12\n. \n";
-    let mut streams = Streams::new(printed.as_slice(), Wanted(b"one\ntwo\n", b""));
+    let mut streams = Streams {
+        replies: printed.as_slice(),
+        requests: Wanted(b"one\ntwo\n", b""),
+    };
     let mut reply = ReplyText::new();
     let first = streams.exchange(Tool::Ipmitool, b"one\n", &mut reply);
     assert!(&rt; first.is_ok(), "the first");
@@ -80,7 +86,10 @@ fn replies_are_read_one_by_one(rt: HostRuntime) {
 #[test]
 fn a_tool_that_takes_no_request_may_say_why(rt: HostRuntime) {
     let printed = b"Could not open device\n. \n";
-    let mut streams = Streams::new(printed.as_slice(), Wanted(b"", b""));
+    let mut streams = Streams {
+        replies: printed.as_slice(),
+        requests: Wanted(b"", b""),
+    };
     let mut reply = ReplyText::new();
     let result = streams.exchange(Tool::Ipmitool, REQUEST, &mut reply);
     assert!(&rt; result == Err(Lost), "it takes none");
@@ -114,7 +123,10 @@ impl Read for Halting {
 /// What comes of a request to a tool that is read haltingly.
 fn is_read_haltingly(rt: &impl Abort, text: &'static [u8], wanted: Result<(), Lost>) {
     let reader = Halting { text, gives: false };
-    let mut streams = Streams::new(reader, Wanted(REQUEST, b""));
+    let mut streams = Streams {
+        replies: reader,
+        requests: Wanted(REQUEST, b""),
+    };
     let mut reply = ReplyText::new();
     let result = streams.exchange(Tool::Ipmitool, REQUEST, &mut reply);
     assert!(rt; result == wanted, "{text:?}");
