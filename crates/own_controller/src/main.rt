@@ -1,7 +1,7 @@
 //! A program over a controller of its own, which has two records, the reading of the first one and
 //! an inventory, all in memory and without an image. The controller gives at most eight bytes at a
 //! time, and is busy at every third call. The program lists the records and reads the serial number
-//! of the board, both by calls of the libraries.
+//! of the board, both by calls of the libraries. A second example is `RawController` of ipmi_raw.
 #![tactic(auto)]
 
 ghost use Rattle.std.specs.Prelude.{◌≡◌, ◌≤◌, MatchOption, length, drop};
