@@ -3,7 +3,7 @@
 # It calls no function of the package bash-completion, so that a shell may also read it by itself.
 
 _serdimko() {
-  local options='--image --live --from --part --tries --id --strict --help --version -h -V'
+  local options='--image --live --from --part --tries --id --strict --output --quiet --help --version -h -V'
   local cur=${COMP_WORDS[COMP_CWORD]} word value= plain= line= next=
 
   # What comes before the word: the option whose value it is, whether -- came, and the words without options.
@@ -17,14 +17,14 @@ _serdimko() {
       # An option comes at most once, but --image.
       options=" $options "
       [[ $word == --image* ]] || options=${options/ "${word%%=*}" / }
-      case $word in --image | --live | --from | --part | --tries | --id) value=$word ;; esac
+      case $word in --image | --live | --output | --from | --part | --tries | --id) value=$word ;; esac
     else
       line+="${line:+ }$word"
     fi
   done
 
   COMPREPLY=()
-  if [[ $value == --image ]]; then
+  if [[ $value == --image || $value == --output ]]; then
     # With no reply of its own bash completes file names, with their quotes.
     compopt -o default
     return
@@ -37,7 +37,7 @@ _serdimko() {
 
   # What may follow the words before. Names and numbers are not completed.
   case $line in
-    '') next='fru sdr sel image help' ;;
+    '') next='fru sdr sel capture image help' ;;
     'fru') next='print' ;;
     'sdr') next='list elist get info hex' ;;
     'sdr list') next='all full compact event generic mclocator fru' ;;
@@ -45,7 +45,7 @@ _serdimko() {
     'sel') next='info list get' ;;
     'sel list') next='first last' ;;
     'image') next='rewrite' ;;
-    'help') next='fru sdr sel image' ;;
+    'help') next='fru sdr sel capture image' ;;
   esac
   COMPREPLY=($(compgen -W "$next" -- "$cur"))
 }

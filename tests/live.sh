@@ -104,6 +104,52 @@ TOOL_TROUBLES=$'warn=Unable to Get Channel Cipher Suites\n'
 same --ipmitool sdr list
 TOOL_TROUBLES=
 
+# An image of what the controller holds: that which it answers from. Both are compared in one spelling; the order of readings
+# means nothing.
+in_order() {
+  "$SERDIMKO" --image "$1" image rewrite > "$work/spelled" 2> "$work/message"
+  grep -v '^reading ' "$work/spelled"
+  grep '^reading ' "$work/spelled" | sort
+}
+in_order "$TOOL_IMAGE" > "$work/one"
+captured() {
+  local what=$1 file=$2
+  in_order "$file" > "$work/other"
+  cmp -s "$work/one" "$work/other" || fault "$what: another image: $(cat "$work/message" "$work/err") $(diff "$work/one" "$work/other" | head -n 3)"
+}
+for dialect in --ipmitool --freeipmi; do
+  for TOOL_TROUBLES in '' 'cancel=13|grant=7' 'most=9' 'busy=150' 'silent=150'; do
+    live $dialect -- capture
+    if [ "$status" -ne 0 ]; then fault "$dialect capture ($TOOL_TROUBLES): status $status"; fi
+    captured "$dialect capture ($TOOL_TROUBLES)" "$work/out"
+  done
+  # of a file: in one step, and only where the image is whole
+  TOOL_TROUBLES=
+  live $dialect -- capture -o "$work/saved" --quiet
+  if [ "$status" -ne 0 ] || [ -s "$work/out" ]; then fault "$dialect capture -o: status $status"; fi
+  captured "$dialect capture -o" "$work/saved"
+  echo before > "$work/saved"
+  for TOOL_TROUBLES in 'refuse=ff,5' 'die=9' 'garbage=200' 'cut=100'; do
+    live $dialect -- capture -o "$work/saved"
+    if [ "$status" -ne 1 ] || [ "$(cat "$work/saved")" != before ] || [ -e "$work/saved.part" ]; then
+      fault "$dialect capture -o ($TOOL_TROUBLES): status $status, $(head -n 1 "$work/saved")"
+    fi
+  done
+  TOOL_TROUBLES='refuse=ff,5'
+  live $dialect -- --part 254 capture
+  if [ "$status" -ne 1 ] || grep -q '^end$' "$work/out" || ! grep -q '^sdr: .*refused with code FFh$' "$work/err"; then
+    fault "$dialect capture, refused: status $status, $(cat "$work/err")"
+  fi
+done
+TOOL_TROUBLES=
+# It asks for no more than it needs: one reservation of each shelf, and what is refused only once.
+: > "$TOOL_LOG"
+live --freeipmi -- --part 254 capture
+if [ "$(grep -c -E '^0 0a (22|42)' "$TOOL_LOG")" -ne 2 ]; then fault 'capture: reservations'; fi
+says 2 "'capture' takes only --part, --tries, --output and --quiet" -- --strict capture
+says 2 "unexpected word 'all' after 'capture'" -- capture all
+says 2 "--output and --quiet go only with 'capture'" -- -o x sdr
+
 # Of ipmitool one session for each unit that is asked, of ipmi-raw one for all.
 : > "$TOOL_LOG"
 live --ipmitool -- sdr list all

@@ -1,4 +1,5 @@
 pub mod AgainLemmas
+pub mod BuildLemmas
 pub mod LineLemmas
 pub mod ParseLemmas
 pub mod ReadLemmas

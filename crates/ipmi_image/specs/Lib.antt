@@ -1,4 +1,5 @@
 pub mod Below
+pub mod Built
 pub mod Controllers
 pub mod Image
 pub mod Line

@@ -1,8 +1,8 @@
 //! What the lines of an image say, one after the other.
-ghost use Rattle.std.specs.Prelude.{◌≡◌, ◌++◌, ◌∷◌, [], ◌≤◌, List, not, IsTrue, IfErr, IfSome, OnOk, Some, None, unwrap_or, is_some, length, map};
-ghost use Rattle.ipmi_image.specs.Below.{IsShelf, IsStore, IsInfo, inventory_in, reading_in};
+ghost use Rattle.std.specs.Prelude.{◌≡◌, ◌++◌, ◌∷◌, [], ◌≤◌, List, not, IsTrue, IfErr, IfSome, OnErr, OnOk, Some, None, unwrap_or, is_some, length, map};
+ghost use Rattle.ipmi_image.specs.Below.{IsShelf, IsStore, rows_of, IsInfo, inventory_in, reading_in};
 ghost use Rattle.ipmi_image.specs.Line as lines;
-ghost use Rattle.ipmi_image.specs.Prelude.{chained, fault_in, store_of_lines, is_no_record, is_no_id, begins_with_another, first_fault, row_fault, inventory_fault, reading_fault, info_fault, reading_of_bytes, with_bytes, kept_inventory, row_of, sensor_of, said, store_of, AreInventories, AreReadings, HoldsLines, Puts};
+ghost use Rattle.ipmi_image.specs.Prelude.{chained, IsBuilt, fault_in, store_of_lines, is_no_record, is_no_id, begins_with_another, first_fault, row_fault, inventory_fault, reading_fault, info_fault, reading_of_bytes, with_bytes, kept_inventory, row_of, sensor_of, said, store_of, AreInventories, AreReadings, HoldsLines, Puts};
 
 use crate::image_line::{Line, LineFault};
 use crate::rows::{Rows, StoredRow};
@@ -78,7 +78,7 @@ fn bytes_fault(shelf: Shelf, rows: &Rows, row: &StoredRow) -> Option<LineFault>
 
 /// Puts a record after those of its shelf, or says why it may not come there.
 #[tactic(auto, using(crate::proofs::TableLemmas::has_id_chained))]
-fn put_row(
+pub(crate) fn put_row(
     shelf: Shelf,
     rows: &mut Rows,
     id: u16,
@@ -87,6 +87,7 @@ fn put_row(
 ) -> Result<(), LineFault>
     requires { IsShelf shelf (chained rows.old) }
     ensures keeps { OnOk result (IsShelf shelf (chained rows.new)) }
+    ensures err { OnErr result (rows.new ≡ rows.old) }
     ensures put { Puts (row_fault shelf (chained rows.old)
         (record { id = id; next = next; bytes = bytes.now }))
         (rows.new ≡ rows.old ++ record { id = id; next = next; bytes = bytes.now } ∷ []) result }
@@ -239,10 +240,21 @@ fn put_info(info: &mut Option<[u8; INFO_LEN]>, bytes: &[u8]) -> Result<(), LineF
 }
 
 impl Contents {
+    /// The records of the shelf, in their order.
+    pub(crate) fn rows(&self, shelf: Shelf) -> &Rows
+        ensures { chained result.now ≡ rows_of shelf (store_of self.now) }
+    {
+        match shelf {
+            Shelf::Sdr => &self.sdr,
+            Shelf::Sel => &self.sel,
+        }
+    }
+
     /// Nothing yet.
     pub(crate) fn new(alloc: Global) -> Contents
         ensures empty { HoldsLines result [] }
         ensures store { IsStore (store_of result) }
+        ensures built { IsBuilt result }
     {
         Contents {
             sdr: Rows::new(alloc),

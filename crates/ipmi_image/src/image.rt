@@ -1,7 +1,7 @@
 //! A saved image of a management controller, read from its text.
 ghost use Rattle.std.specs.Prelude.{◌≡◌, ◌⊎◌, [], ◌≤◌, All, IfOk, IfErr, IfSome, Ok, Err, length, option_map};
 ghost use Rattle.ipmi_image.specs.Below.{IsStore, rows_of, inventory_of, reading_of, info_of};
-ghost use Rattle.ipmi_image.specs.Prelude.{pieces, chained, at_line, store_after, store_of_image, IsSaved, store_of};
+ghost use Rattle.ipmi_image.specs.Prelude.{pieces, chained, at_line, IsBuilt, store_after, store_of_image, IsSaved, store_of};
 
 use crate::contents::Contents;
 use crate::image_line::{LineFault, read_line};
@@ -144,6 +144,14 @@ impl Image {
         })
     }
 
+    /// The image with these contents.
+    pub(crate) fn of(contents: Contents) -> Image
+        requires { IsBuilt contents }
+        ensures { result ≡ store_of contents }
+    {
+        Image { contents }
+    }
+
     /// What the image holds.
     pub(crate) fn contents(&self) -> &Contents
         ensures is { store_of result.now ≡ self.now }
@@ -158,10 +166,7 @@ impl Image {
     pub(crate) fn rows(&self, shelf: Shelf) -> &Rows
         ensures { chained result.now ≡ rows_of shelf self.now }
     {
-        match shelf {
-            Shelf::Sdr => &self.contents.sdr,
-            Shelf::Sel => &self.contents.sel,
-        }
+        self.contents.rows(shelf)
     }
 
     /// The bytes of the inventory with this id.

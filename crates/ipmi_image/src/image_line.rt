@@ -1,6 +1,6 @@
 //! What one line of an image says, and how it is read.
 ghost use Rattle.ipmi_image.specs.declared.image_line.LineFault.{LineFault};
-ghost use Rattle.std.specs.Prelude.{◌≡◌, ℕ, List, ◌==◌, ◌&&◌, ◌||◌, [], ◌∷◌, MatchOption, IsTrue, Some, None, Ok, Err, ok_or, length};
+ghost use Rattle.std.specs.Prelude.{◌≡◌, ℕ, List, ◌==◌, ◌&&◌, ◌||◌, [], ◌∷◌, ◌≢◌, MatchBool, MatchOption, IsTrue, Some, None, Ok, Err, ok_or, length};
 ghost use Rattle.ipmi_image.specs.Prelude.{pieces, is_dash, next_in, shelf_in, with_two, with_three, row_line, inventory_line, reading_line, info_line, line_of, is_end, said, IsRead};
 
 use crate::text::{cut, read_bytes, read_digit, read_u8, read_u16};
@@ -19,6 +19,15 @@ pub(crate) enum LineFault {
     Length,
     FirstId,
     TooMany,
+}
+
+impl LineFault {
+    /// Whether no memory was left.
+    pub(crate) fn is_memory(self) -> bool
+        ensures { MatchBool result (self ≡ LineFault.Memory) (self ≢ LineFault.Memory) }
+    {
+        matches!(self, LineFault::Memory)
+    }
 }
 
 impl From<AllocError> for LineFault {

@@ -1,6 +1,7 @@
 //! Saved images of a management controller, and controllers that answer from one.
 #![tactic(auto)]
 
+mod builder;
 mod contents;
 mod controller;
 mod image;
@@ -16,6 +17,7 @@ mod table;
 mod text;
 mod version;
 
+pub use builder::ImageBuilder;
 pub use controller::ImageController;
 pub use image::{Image, ImageFault};
 pub use line_buffer::{LineBuffer, record_line};

@@ -1,6 +1,6 @@
 //! The records of a shelf, with their bytes one after the other.
 ghost use Rattle.ipmi_image.specs.declared.image_line.LineFault.{LineFault};
-ghost use Rattle.std.specs.Prelude.{◌≡◌, ◌≤◌, ◌<◌, ◌==◌, ◌^◌, ◌++◌, ◌∷◌, [], MatchBool, IfOk, IfSome, None, true, is_some, option_map, length, drop, slice_get, MatchResult, ◌⊎◌};
+ghost use Rattle.std.specs.Prelude.{◌≡◌, ◌≤◌, ◌<◌, ◌==◌, ◌^◌, ◌++◌, ◌∷◌, [], MatchBool, IfOk, IfSome, None, true, is_some, option_map, length, drop, slice_get, MatchResult, OnErr, ◌⊎◌};
 ghost use Rattle.ipmi_image.specs.Prelude.{first_id, place_of, id_of, row_of};
 
 use crate::image_line::LineFault;
@@ -133,7 +133,8 @@ impl Rows {
     pub(crate) fn push(&mut self, row: &StoredRow) -> Result<(), LineFault>
         requires id { row.now.id < 65535 }
         requires fits { length row.now.bytes.now ≤ 256 }
-        ensures { MatchResult result (λ done. (place_of id_of row.now.id self.old ≡ None) ×
+        ensures err { OnErr result (self.new ≡ self.old) }
+        ensures put { MatchResult result (λ done. (place_of id_of row.now.id self.old ≡ None) ×
             (self.new ≡ self.old ++ row_of row.now ∷ []))
             (λ e. (e ≡ LineFault.Memory) ⊎ ((e ≡ LineFault.Twice) ×
             (is_some (place_of id_of row.now.id self.old) ≡ true))) }

@@ -14,17 +14,21 @@ record Leaves (own new : Own) (words : List (List ℕ)) : Type 0 where
   help : new.help ≡ own.help
   version : new.version ≡ own.version
   strict : new.strict ≡ own.strict
+  quiet : new.quiet ≡ own.quiet
   id : new.id ≡ own.id
   live : new.live ≡ own.live
+  output : new.output ≡ own.output
 
 left : (own new : Own) (word : List ℕ) → own.has_own ≡ false → new.rest ≡ own.rest ++ word ∷ [] → new.images ≡ own.images
-    → new.help ≡ own.help → new.version ≡ own.version → new.strict ≡ own.strict → new.id ≡ own.id → new.live ≡ own.live
+    → new.help ≡ own.help → new.version ≡ own.version → new.strict ≡ own.strict → new.quiet ≡ own.quiet → new.id ≡ own.id → new.live ≡ own.live
+    → new.output ≡ own.output
     → Leaves own new (word ∷ [])
-left own new word a b c d e f g h = record { has_own = a; rest = b; images = c; help = d; version = e; strict = f; id = g; live = h }
+left own new word a b c d e f g h i j = record { has_own = a; rest = b; images = c; help = d; version = e; strict = f; quiet = g; id = h; live = i; output = j }
 
 owned : (valued : Valued) (own : Own) (value : List ℕ) → (with_value valued own value).has_own ≡ false → ⊥
 owned Valued.Id own value plain = true≢false plain
 owned Valued.Live own value plain = true≢false plain
+owned Valued.Output own value plain = true≢false plain
 
 no_value : (o : Option (List ℕ)) (valued : Valued) (own : Own) (value : List ℕ) → (add_value o valued own value).has_own ≡ false
     → ⊥
@@ -33,41 +37,44 @@ no_value (Some first) valued own value plain = true≢false plain
 
 image_left : (b : Bool) (own : Own) (word : List ℕ) → (after_image b own word).has_own ≡ false
     → Leaves own (after_image b own word) (word ∷ [])
-image_left false own word plain = left own _ word plain refl refl refl refl refl refl refl
+image_left false own word plain = left own _ word plain refl refl refl refl refl refl refl refl refl
 image_left true own word plain = absurd (true≢false plain)
 
 image_value_left : (b : Bool) (own : Own) (word : List ℕ) → (after_image_value b own word).has_own ≡ false
     → Leaves own (after_image_value b own word) (word ∷ [])
-image_value_left false own word plain = left own _ word plain refl refl refl refl refl refl refl
+image_value_left false own word plain = left own _ word plain refl refl refl refl refl refl refl refl refl
 image_value_left true own word plain = absurd (true≢false plain)
 
 -- by what the word begins with
-abbrev by_front : (a b c : Bool) (own : Own) (word : List ℕ) → Own
-by_front a b c own word =
+abbrev by_front : (a b c d : Bool) (own : Own) (word : List ℕ) → Own
+by_front a b c d own word =
     if a then after_image_value own.has_image own word
     else (if b then add_value own.id Valued.Id own (drop 5 word)
-    else (if c then add_value own.live Valued.Live own (drop 7 word) else leave own word Next.Any))
+    else (if c then add_value own.live Valued.Live own (drop 7 word)
+    else (if d then add_value own.output Valued.Output own (drop 9 word) else leave own word Next.Any)))
 
-other_cases : (a b c : Bool) (own : Own) (word : List ℕ) → (by_front a b c own word).has_own ≡ false
-    → Leaves own (by_front a b c own word) (word ∷ [])
-other_cases true b c own word plain = image_value_left own.has_image own word plain
-other_cases false true c own word plain = absurd (no_value own.id Valued.Id own _ plain)
-other_cases false false true own word plain = absurd (no_value own.live Valued.Live own _ plain)
-other_cases false false false own word plain = left own _ word plain refl refl refl refl refl refl refl
+other_cases : (a b c d : Bool) (own : Own) (word : List ℕ) → (by_front a b c d own word).has_own ≡ false
+    → Leaves own (by_front a b c d own word) (word ∷ [])
+other_cases true b c d own word plain = image_value_left own.has_image own word plain
+other_cases false true c d own word plain = absurd (no_value own.id Valued.Id own _ plain)
+other_cases false false true d own word plain = absurd (no_value own.live Valued.Live own _ plain)
+other_cases false false false true own word plain = absurd (no_value own.output Valued.Output own _ plain)
+other_cases false false false false own word plain = left own _ word plain refl refl refl refl refl refl refl refl refl
 
 other_left : (own : Own) (word : List ℕ) → (after_other own word).has_own ≡ false
     → Leaves own (after_other own word) (word ∷ [])
-other_left own word plain = other_cases _ _ _ own word plain
+other_left own word plain = other_cases _ _ _ _ own word plain
 
 kind_left : (kind : Kind) (own : Own) (word : List ℕ) → (after_kind kind own word).has_own ≡ false
     → Leaves own (after_kind kind own word) (word ∷ [])
 kind_left Kind.Help own word plain = absurd (true≢false plain)
 kind_left Kind.Version own word plain = absurd (true≢false plain)
 kind_left Kind.Strict own word plain = absurd (true≢false plain)
+kind_left Kind.Quiet own word plain = absurd (true≢false plain)
 kind_left (Kind.Valued valued) own word plain = absurd (true≢false plain)
 kind_left Kind.Image own word plain = image_left own.has_image own word plain
-kind_left Kind.Specified own word plain = left own _ word plain refl refl refl refl refl refl refl
-kind_left Kind.Dashes own word plain = left own _ word plain refl refl refl refl refl refl refl
+kind_left Kind.Specified own word plain = left own _ word plain refl refl refl refl refl refl refl refl refl
+kind_left Kind.Dashes own word plain = left own _ word plain refl refl refl refl refl refl refl refl refl
 kind_left Kind.Other own word plain = other_left own word plain
 
 value_left : (b : Bool) (own : Own) (option word : List ℕ) (taken : Own) → (taken.has_own ≡ false → ⊥)
@@ -78,14 +85,14 @@ value_left false own option word taken owned plain = owned plain
 as_left : (next : Next) (own : Own) (word : List ℕ) → (after_as next own word).has_own ≡ false
     → Leaves own (after_as next own word) (word ∷ [])
 as_left Next.Any own word plain = kind_left (kind_of word) own word plain
-as_left Next.Value own word plain = left own _ word plain refl refl refl refl refl refl refl
+as_left Next.Value own word plain = left own _ word plain refl refl refl refl refl refl refl refl refl
 as_left Next.Image own word plain = absurd (value_left (is_option word) own _ word _ (λ e. true≢false e) plain)
 as_left (Next.Own valued) own word plain = absurd (value_left (is_option word) own _ word _ (no_value (value_of valued own) valued own word) plain)
-as_left Next.Words own word plain = left own _ word plain refl refl refl refl refl refl refl
+as_left Next.Words own word plain = left own _ word plain refl refl refl refl refl refl refl refl refl
 
 fold_left : (own : Own) (words : List (List ℕ)) → (fold after own words).has_own ≡ false
     → Leaves own (fold after own words) words
-fold_left own [] plain = record { has_own = plain; rest = sym (append-nil own.rest); images = refl; help = refl; version = refl; strict = refl; id = refl; live = refl }
+fold_left own [] plain = record { has_own = plain; rest = sym (append-nil own.rest); images = refl; help = refl; version = refl; strict = refl; quiet = refl; id = refl; live = refl; output = refl }
 fold_left own (word ∷ words) plain =
     let later = fold_left (after own word) words plain in
     let first = as_left own.next own word later.has_own in
@@ -96,8 +103,10 @@ fold_left own (word ∷ words) plain =
       help = later.help ∙ first.help;
       version = later.version ∙ first.version;
       strict = later.strict ∙ first.strict;
+      quiet = later.quiet ∙ first.quiet;
       id = later.id ∙ first.id;
       live = later.live ∙ first.live;
+      output = later.output ∙ first.output;
     }
 
 with_no_id : (id : Option (List ℕ)) (own : Own) → id ≡ None → with_id id own ≡ own
@@ -111,7 +120,7 @@ with_id_owns (Some digits) own = refl
 -- nothing is left at the end of such words
 module _ (own : Own) (words : List (List ℕ)) (leaves : Leaves nothing own words) where
   plain_own : IsPlain own words
-  plain_own = record { rest = leaves.rest; images = leaves.images; help = leaves.help; version = leaves.version; strict = leaves.strict; id = leaves.id; live = leaves.live }
+  plain_own = record { rest = leaves.rest; images = leaves.images; help = leaves.help; version = leaves.version; strict = leaves.strict; quiet = leaves.quiet; id = leaves.id; live = leaves.live; output = leaves.output }
 
   plain_end : IsPlain (with_id own.id own) words
   plain_end = rw (with_no_id own.id own leaves.id) plain_own
@@ -141,6 +150,7 @@ add_value_grows : (o : Option (List ℕ)) (valued : Valued) (own : Own) (value :
     → length own.rest ≤ length (add_value o valued own value).rest
 add_value_grows None Valued.Id own value = same _
 add_value_grows None Valued.Live own value = same _
+add_value_grows None Valued.Output own value = same _
 add_value_grows (Some first) valued own value = added own.rest _
 
 image_grows : (b : Bool) (own : Own) (word : List ℕ) → length own.rest ≤ length (after_image b own word).rest
@@ -152,21 +162,24 @@ image_value_grows : (b : Bool) (own : Own) (word : List ℕ)
 image_value_grows false own word = added own.rest word
 image_value_grows true own word = same _
 
-other_grows : (a b c : Bool) (own : Own) (word : List ℕ) → length own.rest ≤ length (by_front a b c own word).rest
-other_grows true b c own word = image_value_grows own.has_image own word
-other_grows false true c own word = add_value_grows own.id Valued.Id own _
-other_grows false false true own word = add_value_grows own.live Valued.Live own _
-other_grows false false false own word = added own.rest word
+other_grows : (a b c d : Bool) (own : Own) (word : List ℕ)
+    → length own.rest ≤ length (by_front a b c d own word).rest
+other_grows true b c d own word = image_value_grows own.has_image own word
+other_grows false true c d own word = add_value_grows own.id Valued.Id own _
+other_grows false false true d own word = add_value_grows own.live Valued.Live own _
+other_grows false false false true own word = add_value_grows own.output Valued.Output own _
+other_grows false false false false own word = added own.rest word
 
 kind_grows : (kind : Kind) (own : Own) (word : List ℕ) → length own.rest ≤ length (after_kind kind own word).rest
 kind_grows Kind.Help own word = same _
 kind_grows Kind.Version own word = same _
 kind_grows Kind.Strict own word = same _
+kind_grows Kind.Quiet own word = same _
 kind_grows (Kind.Valued valued) own word = same _
 kind_grows Kind.Image own word = image_grows own.has_image own word
 kind_grows Kind.Specified own word = added own.rest word
 kind_grows Kind.Dashes own word = added own.rest word
-kind_grows Kind.Other own word = other_grows _ _ _ own word
+kind_grows Kind.Other own word = other_grows _ _ _ _ own word
 
 value_grows : (b : Bool) (own : Own) (option word : List ℕ) (taken : Own) → length own.rest ≤ length taken.rest
     → length own.rest ≤ length (after_value b own option word taken).rest

@@ -17,12 +17,15 @@ kind_of word =
     else (if bytes_eq word (codes "--strict") then Kind.Strict
     else (if bytes_eq word (codes "--id") then Kind.Valued Valued.Id
     else (if bytes_eq word (codes "--live") then Kind.Valued Valued.Live
+    else (if bytes_eq word (codes "-o") then Kind.Valued Valued.Output
+    else (if bytes_eq word (codes "--output") then Kind.Valued Valued.Output
+    else (if bytes_eq word (codes "--quiet") then Kind.Quiet
     else (if bytes_eq word (codes "--image") then Kind.Image
     else (if bytes_eq word (codes "--from") then Kind.Specified
     else (if bytes_eq word (codes "--part") then Kind.Specified
     else (if bytes_eq word (codes "--tries") then Kind.Specified
     else (if bytes_eq word (codes "--") then Kind.Dashes
-    else Kind.Other)))))))))))
+    else Kind.Other))))))))))))))
 
 -- it can't be a value: it begins with a dash, and is more than that
 abbrev pub is_option : List ℕ → Bool
@@ -32,6 +35,7 @@ is_option word = nat_lt 1 (length word) && bytes_eq (take 1 word) (codes "-")
 abbrev pub name_of : Valued → List ℕ
 name_of Valued.Id = codes "--id"
 name_of Valued.Live = codes "--live"
+name_of Valued.Output = codes "--output"
 
 -- ---- what was found so far
 
@@ -41,8 +45,10 @@ nothing = record {
   help = false;
   version = false;
   strict = false;
+  quiet = false;
   id = None;
   live = None;
+  output = None;
   images = [];
   rest = [];
   has_own = false;
@@ -63,10 +69,12 @@ add_image own file =
 abbrev pub value_of : Valued → Own → Option (List ℕ)
 value_of Valued.Id own = own.id
 value_of Valued.Live own = own.live
+value_of Valued.Output own = own.output
 
 abbrev pub with_value : Valued → Own → List ℕ → Own
 with_value Valued.Id own value = record own { id = Some value; has_own = true; next = Next.Any }
 with_value Valued.Live own value = record own { live = Some value; has_own = true; next = Next.Any }
+with_value Valued.Output own value = record own { output = Some value; has_own = true; next = Next.Any }
 
 -- a value; of a second one the option is left, and is refused there
 abbrev pub add_value : Option (List ℕ) → Valued → Own → List ℕ → Own
@@ -88,12 +96,14 @@ after_other own word =
     if bytes_eq (take 8 word) (codes "--image=") then after_image_value own.has_image own word
     else (if bytes_eq (take 5 word) (codes "--id=") then add_value own.id Valued.Id own (drop 5 word)
     else (if bytes_eq (take 7 word) (codes "--live=") then add_value own.live Valued.Live own (drop 7 word)
-    else leave own word Next.Any))
+    else (if bytes_eq (take 9 word) (codes "--output=") then add_value own.output Valued.Output own (drop 9 word)
+    else leave own word Next.Any)))
 
 abbrev pub after_kind : Kind → Own → List ℕ → Own
 after_kind Kind.Help own word = record own { help = true; has_own = true }
 after_kind Kind.Version own word = record own { version = true; has_own = true }
 after_kind Kind.Strict own word = record own { strict = true; has_own = true }
+after_kind Kind.Quiet own word = record own { quiet = true; has_own = true }
 after_kind (Kind.Valued valued) own word = record own { has_own = true; next = Next.Own valued }
 after_kind Kind.Image own word = after_image own.has_image own word
 after_kind Kind.Specified own word = leave own word Next.Value
@@ -151,5 +161,7 @@ pub record IsPlain (own : Own) (words : List (List ℕ)) : Type 0 where
   pub help : own.help ≡ false
   pub version : own.version ≡ false
   pub strict : own.strict ≡ false
+  pub quiet : own.quiet ≡ false
   pub id : own.id ≡ None
   pub live : own.live ≡ None
+  pub output : own.output ≡ None

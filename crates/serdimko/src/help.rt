@@ -26,6 +26,7 @@ Commands (more on each: serdimko COMMAND --help):
   sel list last N         a line for each of the N newest events
   sel get ID              all about one event
   fru, fru print [ID]     the inventory of each device, or of one
+  capture                 a live controller as an image (serdimko-live)
   image rewrite           the image as version 2, in a fixed order and spelling
   help [COMMAND]          this help, or more on a command
 
@@ -38,6 +39,8 @@ Options, anywhere, also after the command:
   --tries N       retries for one record or answer, 0 to 255 (default 5)
   --id HEX        the ID of sel get in hex, as sel list prints it
   --strict        status 1 if a fault or a missing device was printed
+  -o, --output FILE   capture writes to this file, where the image is whole
+  --quiet         capture shows no progress
   -h, --help      print help
   -V, --version   print the version
   --              no option comes after this
@@ -97,12 +100,24 @@ const IMAGE: &str = "Prints the image as version 2, in a fixed order and spellin
 Images with the same content give the same bytes.
 ";
 
+const CAPTURE: &str = "Saves what a live controller holds as an image: both repositories of records,
+their infos, the readings of the sensors and the inventories that records name.
+
+  serdimko-live -I lanplus -H HOST -U USER -E -- capture -o server.image
+
+What the controller refuses to tell is not in the image, and is said. Where
+records are missing, the image is not whole: the status is 1, and -o writes
+nothing; standard output gets what came, without the last line, 'end'.
+--part N and --tries N are those of the listings; --quiet shows no progress.
+";
+
 /// The help on the command that comes first among the words, or after `help`; otherwise the general one.
 pub(crate) fn help_on(words: &[&str]) -> &'static str {
     match words {
         ["sdr", ..] | ["help", "sdr", ..] => SDR,
         ["sel", ..] | ["help", "sel", ..] => SEL,
         ["fru", ..] | ["help", "fru", ..] => FRU,
+        ["capture", ..] | ["help", "capture", ..] => CAPTURE,
         ["image", ..] | ["help", "image", ..] => IMAGE,
         _ => GENERAL,
     }

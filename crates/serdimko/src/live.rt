@@ -49,7 +49,7 @@ impl<'a> Live<'a> {
 
 /// The pipes of a folder: `requests.0` and `replies.0` lead to the tool for logical unit 0, and so on.
 #[derive(Drop)]
-struct Pipes<'a, R> {
+pub(crate) struct Pipes<'a, R> {
     rt: &'a R,
     folder: &'a str,
 }
@@ -73,7 +73,7 @@ impl<'a, R: Files + AllocGlobal> Open for Pipes<'a, R> {
 }
 
 /// What the tool printed last, on one line, cut where it is long.
-fn last_line(alloc: Global, text: &[u8]) -> Result<String, AllocError> {
+pub(crate) fn lost_line(alloc: Global, text: &[u8]) -> Result<String, AllocError> {
     let text = String::from_utf8_lossy(alloc, text.get(..MOST_TOLD).unwrap_or(text))?;
     let mut line = String::new(alloc);
     let parts = text.lines().map(|part| part.trim());
@@ -115,8 +115,21 @@ fn print_over<'a, P: Peer + Drop, K: Clock + Drop, W: Write + Drop>(
     // without memory for what the tool said, the message is that of the refusal
     let said = controller
         .lost()
-        .and_then(|text| last_line(alloc, text).ok());
+        .and_then(|text| lost_line(alloc, text).ok());
     Problem::of_live(problem, said)
+}
+
+/// The controller that the pipes lead to.
+pub(crate) fn controller_of<'a, R: Files + Clock + AllocGlobal>(
+    rt: &'a R,
+    live: Live<'a>,
+) -> RawController<Piped<Pipes<'a, R>>, &'a R> {
+    let pipes = Pipes {
+        rt,
+        folder: live.folder,
+    };
+    let pause = Duration::from_millis(PAUSE);
+    RawController::new(Piped::new(live.tool, pipes), rt, pause)
 }
 
 /// Prints what the command asks for of the live controller, and gives the exit status.
@@ -125,15 +138,7 @@ pub(crate) fn print_live_controller<
     W: Write + Drop,
     E: MessageSink,
 >(rt: &R, command: &Command, live: Live<'_>, out: &mut Output<W>, err: &mut E) -> u8 {
-    let pipes = Pipes {
-        rt,
-        folder: live.folder,
-    };
-    let mut controller = RawController::new(
-        Piped::new(live.tool, pipes),
-        rt,
-        Duration::from_millis(PAUSE),
-    );
+    let mut controller = controller_of(rt, live);
     let problem = print_over(rt.alloc(), command, &mut controller, out);
     say_problem(&problem, "the controller", true, err)
 }

@@ -4,6 +4,7 @@
 
 ghost use Rattle.std.specs.Prelude.{◌<◌, length};
 
+mod capture;
 mod help;
 mod images;
 mod live;
@@ -14,19 +15,20 @@ mod scan;
 mod suggestion;
 mod watch;
 
+use capture::capture_live;
 use help::{SHORT, VERSION, help_on};
 use images::print_images;
-use ipmi_command_line::{Command, Task, UsageFault, command_of};
+use ipmi_command_line::{Command, Task, UsageFault, Words, command_of};
 use ipmi_commands::report;
 use ipmi_output::Part::{self, Name, Number, Text};
 use ipmi_output::{Failure, MessageSink, Written, say_line};
 use ipmi_program::read_words;
 use live::{Live, print_live_controller};
-use mistake::mistake;
+use mistake::{mistake, too_many};
 use own::{Own, own_of};
 use problem::CLOSED;
 use scan::{Scan, told_apart};
-use std::alloc::AllocError;
+use std::alloc::{AllocError, Global};
 use std::env::{Env, FillError};
 use std::io::{self, BufWriter, ErrorKind, IsTerminal, Write};
 use std::process::ExitCode;
@@ -87,7 +89,12 @@ fn program<E: MessageSink>(rt: &HostRuntime, err: &mut E) -> Result<u8, AllocErr
     if own.help
         || matches!(
             scanned.words.as_slice(),
-            ["help"] | ["help", "sdr" | "sel" | "fru" | "image" | "help", ..]
+            ["help"]
+                | [
+                    "help",
+                    "sdr" | "sel" | "fru" | "image" | "capture" | "help",
+                    ..
+                ]
         )
     {
         return print_text(rt, help_on(&scanned.words), err);
@@ -113,6 +120,12 @@ fn run<E: MessageSink>(
             _ => return Ok(refuse(&[Text("--id goes only with 'sel get'")], err)),
         }
     }
+    if let ["capture", ..] = scanned.words.as_slice() {
+        return run_capture(rt, own, scanned, err);
+    }
+    if own.quiet || own.output.is_some() {
+        return Ok(refuse(&[Text("--output and --quiet go only with 'capture'")], err));
+    }
     match command_of(rt.alloc(), &own.rest) {
         Ok(command) if is_input_twice(&command, own) => {
             Ok(refuse(&[Text("standard input is given twice")], err))
@@ -131,6 +144,57 @@ fn run<E: MessageSink>(
             Ok(refuse(&mistake(rt.alloc(), id, scanned, fault)?, err))
         }
     }
+}
+
+/// How a capture asks: the command without words, with the options of this line.
+fn command_of_capture(alloc: Global, scanned: &Scan<'_>) -> Result<Command, UsageFault> {
+    let mut words = Words::new(alloc);
+    words.push("serdimko")?;
+    if let Some(part) = scanned.part {
+        words.push("--part")?;
+        words.push(part)?;
+    }
+    if let Some(tries) = scanned.tries {
+        words.push("--tries")?;
+        words.push(tries)?;
+    }
+    command_of(alloc, &words)
+}
+
+/// Saves what a live controller holds.
+fn run_capture<E: MessageSink>(
+    rt: &HostRuntime,
+    own: &Own,
+    scanned: &Scan<'_>,
+    err: &mut E,
+) -> Result<u8, AllocError> {
+    let Some(live) = own.live.as_ref().and_then(|live| Live::of(live.as_str())) else {
+        let rule = "'capture' needs a live controller: see serdimko-live --help";
+        return Ok(refuse(&[Text(rule)], err));
+    };
+    if scanned.words.as_slice().len() > 1 {
+        return Ok(refuse(&too_many(rt.alloc(), scanned.words.as_slice(), 1)?, err));
+    }
+    if own.strict || scanned.from.is_some() || scanned.image.is_some() {
+        let rule = "'capture' takes only --part, --tries, --output and --quiet";
+        return Ok(refuse(&[Text(rule)], err));
+    }
+    let command = match command_of_capture(rt.alloc(), scanned) {
+        Ok(command) => command,
+        Err(UsageFault::Memory) => return Err(AllocError),
+        Err(fault) => return Ok(refuse(&mistake(rt.alloc(), None, scanned, fault)?, err)),
+    };
+    let is_shown = !own.quiet && rt.stderr().is_terminal();
+    let terminal = if is_shown { Some(rt.stderr()) } else { None };
+    capture_live(
+        rt,
+        &command,
+        live,
+        own.output.as_ref(),
+        terminal,
+        &mut io::writer(rt),
+        err,
+    )
 }
 
 /// Runs the command over a live controller.

@@ -12,7 +12,7 @@ pub(crate) type Line<'a> = Vec<Part<'a>>;
 const SEE_HELP: &str = "see serdimko --help";
 
 /// The words that may come first.
-const COMMANDS: [&str; 5] = ["fru", "sdr", "sel", "image", "help"];
+const COMMANDS: [&str; 6] = ["fru", "sdr", "sel", "image", "capture", "help"];
 
 /// The words that may follow `fru`, `sdr`, `sel` and `image`.
 const OF_FRU: [&str; 1] = ["print"];
@@ -228,7 +228,11 @@ fn missing<'a>(
 }
 
 /// The word at this place is one too many after those before it.
-fn too_many<'a>(alloc: Global, words: &[&'a str], place: usize) -> Result<Line<'a>, AllocError> {
+pub(crate) fn too_many<'a>(
+    alloc: Global,
+    words: &[&'a str],
+    place: usize,
+) -> Result<Line<'a>, AllocError> {
     let word = words.get(place).copied().unwrap_or("");
     let mut parts = line(
         alloc,

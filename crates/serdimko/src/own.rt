@@ -12,6 +12,8 @@ enum Valued {
     Id,
     /// `--live`.
     Live,
+    /// `--output` or `-o`.
+    Output,
 }
 
 /// What a word is where it may be an option.
@@ -23,6 +25,8 @@ enum Kind {
     Version,
     /// `--strict`.
     Strict,
+    /// `--quiet`.
+    Quiet,
     /// An option whose value comes next.
     Valued(Valued),
     /// `--image`.
@@ -59,10 +63,14 @@ pub(crate) struct Own {
     pub(crate) version: bool,
     /// `--strict`.
     pub(crate) strict: bool,
+    /// `--quiet`.
+    pub(crate) quiet: bool,
     /// The value of `--id`.
     pub(crate) id: Option<Word>,
     /// The value of `--live`.
     pub(crate) live: Option<Word>,
+    /// The value of `--output` or `-o`.
+    pub(crate) output: Option<Word>,
     /// The images after the first one.
     pub(crate) images: Words,
     /// The words that are left, the program's name first.
@@ -83,6 +91,8 @@ fn kind_of(word: &str) -> Kind
         "--strict" => Kind::Strict,
         "--id" => Kind::Valued(Valued::Id),
         "--live" => Kind::Valued(Valued::Live),
+        "-o" | "--output" => Kind::Valued(Valued::Output),
+        "--quiet" => Kind::Quiet,
         "--image" => Kind::Image,
         "--from" | "--part" | "--tries" => Kind::Specified,
         "--" => Kind::Dashes,
@@ -115,6 +125,7 @@ impl Valued {
         match self {
             Valued::Id => "--id",
             Valued::Live => "--live",
+            Valued::Output => "--output",
         }
     }
 }
@@ -128,8 +139,10 @@ impl Own {
             help: false,
             version: false,
             strict: false,
+            quiet: false,
             id: None,
             live: None,
+            output: None,
             images: Words::new(alloc),
             rest: Words::new(alloc),
             has_own: false,
@@ -164,6 +177,7 @@ impl Own {
         match option {
             Valued::Id => &self.id,
             Valued::Live => &self.live,
+            Valued::Output => &self.output,
         }
     }
 
@@ -174,6 +188,7 @@ impl Own {
         match option {
             Valued::Id => self.id = Some(value),
             Valued::Live => self.live = Some(value),
+            Valued::Output => self.output = Some(value),
         }
         self.has_own = true;
         self.next = Next::Any;
@@ -229,6 +244,9 @@ impl Own {
         if let Some(live) = word.strip_prefix("--live=") {
             return self.add_value(alloc, Valued::Live, live);
         }
+        if let Some(file) = word.strip_prefix("--output=") {
+            return self.add_value(alloc, Valued::Output, file);
+        }
         self.leave(word, Next::Any)
     }
 
@@ -240,6 +258,7 @@ impl Own {
             Kind::Help => self.help = true,
             Kind::Version => self.version = true,
             Kind::Strict => self.strict = true,
+            Kind::Quiet => self.quiet = true,
             Kind::Valued(option) => self.next = Next::Own(option),
             Kind::Image => return self.take_image(word),
             Kind::Specified => return self.leave(word, Next::Value),

@@ -6,9 +6,11 @@ use ipmi_output::Part::{Name, Text};
 use std::alloc::{AllocError, Global};
 
 /// All options.
-const OPTIONS: [&str; 9] = [
+const OPTIONS: [&str; 11] = [
     "--image",
     "--live",
+    "--output",
+    "--quiet",
     "--from",
     "--part",
     "--tries",
@@ -17,6 +19,14 @@ const OPTIONS: [&str; 9] = [
     "--help",
     "--version",
 ];
+
+/// Those that have a value.
+const VALUED: [&str; 7] = [
+    "--image", "--live", "--output", "--from", "--part", "--tries", "--id",
+];
+
+/// Those that have none.
+const FLAGS: [&str; 6] = ["--strict", "--quiet", "--help", "--version", "-h", "-V"];
 
 /// The specified options, and the words that belong to none.
 #[derive(Drop)]
@@ -44,7 +54,7 @@ impl<'a> Scan<'a> {
         }
     }
 
-    /// Keeps the option's value; true if it had none before. A first `--id` or `--live` was taken out with its value.
+    /// Keeps the option's value; true if it had none before. The first one of this program's own was taken out with its value.
     fn keep(&mut self, option: &str, value: &'a str) -> bool {
         let kept = match option {
             "--from" => self.from.replace(value),
@@ -79,15 +89,13 @@ impl<'a> Scan<'a> {
             Some((option, value)) => (option, Some(value)),
             None => (word, None),
         };
-        match (option, value) {
-            ("--image" | "--live" | "--from" | "--part" | "--tries" | "--id", Some(value)) => {
-                self.take_value(alloc, option, value)
-            }
-            ("--image" | "--live" | "--from" | "--part" | "--tries" | "--id", None) => {
+        match value {
+            Some(value) if VALUED.contains(&option) => self.take_value(alloc, option, value),
+            None if VALUED.contains(&option) => {
                 self.waiting = Some(option);
                 Ok(None)
             }
-            ("--strict" | "--help" | "--version" | "-h" | "-V", Some(_)) => {
+            Some(_) if FLAGS.contains(&option) => {
                 line(alloc, &[Name(option), Text(" takes no value")]).map(Some)
             }
             _ => unknown(

@@ -6,8 +6,8 @@ use Rattle.ipmi_image.proofs.rows.Rows.push.Goals as goal
 pub overflow_cast-head : goal.overflow_cast-head
 overflow_cast-head c = omega (arith, c.self.invariant.size, c.self.invariant.few, c.self.inside.bytes.ok.0, c.len-start.ensures)
 
-pub returns : goal.returns
-returns c =
+pub returns-clause-put : goal.returns-clause-put
+returns-clause-put c =
     let put = c.in_default.ensures.put in
     let bytes = c.self.inside.bytes.items in
     let heads = c.self.inside.heads in

@@ -1,0 +1,350 @@
+-- The records of a shelf, put into an image one step of a cursor after another.
+use Rattle.std.proofs.Common.{◌≡◌, ◌≢◌, ◌⊎◌, ◌-◌, nat_eq, nat_lt, true≢false, ℕ, ◌+◌, ◌*◌, ◌<◌, ◌≤◌, true, false, IsTrue, Option, None, Some, Result, Ok, Err, List, [], ◌∷◌, ◌++◌, length, take, drop, inl, inr, refl, sym, ap, subst, ◌∙◌, arith, take_all, length-append, take-add}
+use Rattle.std.specs.FinSet as set
+use Rattle.std.specs.Ordering.{nat_cmp}
+use Rattle.std.specs.FinSet.{len-empty, len-insert}
+use Rattle.std.specs.Cmp.{nat_cmp_total}
+use Rattle.std.proofs.lemmas.Bool.Decides.{nat_tests}
+use Rattle.std.proofs.lemmas.Option.{none-some}
+use Rattle.std.proofs.lemmas.Nat.{mul-le}
+use Rattle.ipmi_bus.proofs.DigitLemmas.{digits_most}
+use Rattle.ipmi_bus.proofs.ShelfLemmas.{look_row}
+use Rattle.ipmi_bus.proofs.WalkLaws.{has_walk}
+use Rattle.ipmi_capture.specs.Below.{asked_at, AsksAtMost, AsksNothing, Cycle, cycle_at, CursorHoldsCurrent, CursorState, digits, End, Id, id_in, has_id, handed_id, may_follow, NotGivenUpOrRefused, Place, place_after, place_after_rows, StepAnswers, StepIsHonest, StepIsPlain, store_shelf, whole_len, Ended, EndsBy, First, first_row, GaveUp, HandsOut, IsHonest, IsStep, IsWalk, largest_len, Malformed, Missing, Refused, Row, rows_and, rows_of, Sdr, Seen, Sel, Shelf, StandsAt, Stalled, stays_refl, stays_trans, StaysHonest, step_call_bound, Store, WalkEnd, WalkStep, with_rows}
+use Rattle.ipmi_capture.specs.Phases.{CameOf, most_on_walk, PlainEnds, Walks}
+
+-- ---- the rows of a shelf
+
+pub rows_of-with_rows : (shelf : Shelf) (rows : List Row) (store : Store)
+    → rows_of shelf (with_rows shelf rows store) ≡ rows
+rows_of-with_rows Sdr rows store = refl
+rows_of-with_rows Sel rows store = refl
+
+pub with_rows-again : (shelf : Shelf) (a b : List Row) (store : Store)
+    → with_rows shelf a (with_rows shelf b store) ≡ with_rows shelf a store
+with_rows-again Sdr a b store = refl
+with_rows-again Sel a b store = refl
+
+pub with_rows-own : (shelf : Shelf) (store : Store) → store ≡ with_rows shelf (rows_of shelf store) store
+with_rows-own Sdr store = refl
+with_rows-own Sel store = refl
+
+-- ---- digits
+
+-- a part size has at least one digit
+digits_some : (n : ℕ) → 0 < n → 1 ≤ digits n
+digits_some n some = grind (arith, nat_tests)
+
+-- ---- a record that may come after others
+
+-- the first one's bytes begin with its id, and the id of a later one is not 0000h
+abbrev MayBe : List Row → Row → Type 0
+MayBe [] row = id_in row.bytes ≡ row.id
+MayBe (r ∷ rows) row = row.id ≢ 0
+
+may_follow_these : (shelf : Shelf) (rows : List Row) (row : Row) → row.id < 65535
+    → length row.bytes ≡ whole_len shelf row.bytes → length row.bytes ≤ largest_len shelf
+    → has_id rows row.id ≡ false → MayBe rows row → may_follow shelf rows row ≡ true
+may_follow_these shelf [] row id whole fits unseen may =
+    let whole_is : nat_eq (length row.bytes) (whole_len shelf row.bytes) ≡ true = grind (arith, nat_tests, whole) in
+    let fits_is : nat_lt (largest_len shelf) (length row.bytes) ≡ false = grind (arith, nat_tests, fits) in
+    let first_is : nat_eq (id_in row.bytes) row.id ≡ true = grind (arith, nat_tests, may) in
+    let id_is : nat_eq row.id 65535 ≡ false = grind (arith, nat_tests, id) in
+    grind (arith, nat_tests, whole_is, fits_is, first_is, id_is)
+may_follow_these shelf (r ∷ rows) row id whole fits unseen may =
+    let whole_is : nat_eq (length row.bytes) (whole_len shelf row.bytes) ≡ true = grind (arith, nat_tests, whole) in
+    let fits_is : nat_lt (largest_len shelf) (length row.bytes) ≡ false = grind (arith, nat_tests, fits) in
+    let zero_is : nat_eq row.id 0 ≡ false = grind (arith, nat_tests, may) in
+    let id_is : nat_eq row.id 65535 ≡ false = grind (arith, nat_tests, id) in
+    rw (zero_is, id_is, unseen, whole_is, fits_is) refl
+
+-- where a cursor is that handed these out
+place_now : (rows : List Row) (place there : Place)
+    → (place ≡ there) ⊎ ((place ≡ End) × (First ≡ First) × (first_row rows ≡ None)) → place ≢ End
+    → place ≡ there
+place_now rows place there at not_end = grind arith
+
+not_first : (start : Place) (rows : List Row) → start ≢ First → place_after_rows start rows ≢ First
+not_first start [] not = not
+not_first start (row ∷ rows) not = not_first (place_after row.next) rows (λ is. grind (arith, is))
+
+id_now : (place : Place) (ids : set.FinSet nat_cmp) (rows : List Row) (row : Row)
+    → place ≡ place_after_rows First rows → place ≢ End → cycle_at place ids ≡ None
+    → row.id ≡ handed_id place (asked_at place) row.bytes → MayBe rows row
+id_now place ids [] row at not_end none id = sym (rw at at id)
+id_now place ids (r ∷ rows) row at not_end none id =
+    by place not_end (λ is. not_first (place_after r.next) rows (λ is'. grind (arith, is')) (sym at ∙ is)) none id
+  where
+    by : (p : Place) → p ≢ End → p ≢ First → cycle_at p ids ≡ None
+        → row.id ≡ handed_id p (asked_at p) row.bytes → row.id ≢ 0
+    by First not_end not none id = absurd (not refl)
+    by End not_end not none id = absurd (not_end refl)
+    by (Id n) not_end not none id = λ zero. grind (arith, nat_tests, none, id, zero)
+
+-- ---- stretches of calls
+
+pub between : (s s' s'' : Seen) → StaysHonest s s' → StaysHonest s' s''
+    → s''.stores_added ≡ s.stores_added
+    → (s'.stores_added ≡ s.stores_added) × (s''.stores_added ≡ s'.stores_added)
+between s s' s'' before later same = omega (arith, before.store.grows, later.store.grows, same)
+
+-- ---- what holds so far
+
+-- the first rows of each walk came, and the cursor is after them
+abbrev Along : Shelf → Seen → Seen → CursorState → List Row → Type 0
+Along shelf s s' cursor rows = s'.stores_added ≡ s.stores_added → (walk : List Row) (end : WalkEnd)
+    → IsWalk (rows_of shelf s.store) First walk → EndsBy (rows_of shelf s.store) First walk end
+    → (rows ≡ take (length rows) walk) × StandsAt (rows_of shelf s.store) First walk (length rows) cursor
+
+pub record Walked (shelf : Shelf) (part tries : ℕ) (s s' : Seen) (cursor : CursorState)
+    (old new : Store) : Type 0 where
+  pub beside : new ≡ with_rows shelf (rows_of shelf new) old
+  pub shelf_is : cursor.shelf ≡ shelf
+  pub tries_are : cursor.tries ≡ tries
+  pub some : 0 < cursor.part
+  pub falls : cursor.part ≤ part
+  pub room : set.len cursor.ids ≤ 65536
+  pub calls : s'.calls + digits cursor.part
+      ≤ s.calls + set.len cursor.ids * step_call_bound tries (largest_len shelf) + digits part
+  pub asked : AsksAtMost part s s'
+  pub stays : IsHonest s → StaysHonest s s'
+  pub along : IsHonest s → Along shelf s s' cursor (rows_of shelf new)
+  pub holds : IsHonest s → IsTrue s.plain → CursorHoldsCurrent cursor s'
+
+-- nothing came yet
+pub walked_none : (shelf : Shelf) (part tries : ℕ) (s : Seen) (cursor : CursorState) (old : Store)
+    → 0 < part → rows_of shelf old ≡ []
+    → cursor ≡ record {
+      shelf = shelf;
+      place = First;
+      part = part;
+      tries = tries;
+      ids = set.empty;
+      reservation = None;
+    } → ((rows walk : List Row) → StandsAt rows First walk 0 cursor)
+    → Walked shelf part tries s s cursor old old
+walked_none shelf part tries s cursor old some none fresh stands =
+    let ids : set.len cursor.ids ≡ 0 = ap (λ (x : CursorState). set.len x.ids) fresh ∙ len-empty nat_cmp in
+    let part_is : cursor.part ≡ part = ap (λ (x : CursorState). x.part) fresh in
+    record {
+      beside = with_rows-own shelf old;
+      shelf_is = ap (λ (x : CursorState). x.shelf) fresh;
+      tries_are = ap (λ (x : CursorState). x.tries) fresh;
+      some = omega (arith, part_is, some);
+      falls = omega (arith, part_is);
+      room = omega (arith, ids);
+      calls = rw (ids, part_is) (omega arith);
+      asked = omega arith;
+      stays = λ h. stays_refl s h;
+      along = λ h same walk end is ends. rw none (refl, stands (rows_of shelf s.store) walk);
+      holds = λ h p. record { held = λ n is. absurd (none-some n (sym (ap (λ (x : CursorState). x.reservation) fresh) ∙ is)) };
+    }
+
+-- since one step more
+module _ {shelf : Shelf} {part tries : ℕ} {s s' s'' : Seen} {now next : CursorState}
+    {old new : Store} {result : Result (Option Row) Ended}
+    (walked : Walked shelf part tries s s' now old new) (step : IsStep now next s' s'' result) where
+  pub asked_on : AsksAtMost part s s''
+  asked_on = omega (arith, walked.asked, step.asked, walked.falls)
+
+  pub stays_on : IsHonest s → StaysHonest s s''
+  stays_on h = stays_trans s s' s'' (walked.stays h) (step.honest (walked.stays h).honest).stays
+
+  -- all calls, after which the cursor asks no more
+  pub calls_on : s''.calls ≤ s.calls + most_on_walk shelf tries
+  calls_on =
+      let each = step_call_bound tries (largest_len shelf) in
+      let one : (set.len now.ids + 1) * each ≡ set.len now.ids * each + each = omega arith in
+      elim step.room [
+        | inl nothing ↦ omega (arith, walked.calls, mul-le (set.len now.ids) each 65536 each walked.room (omega arith), ap (λ (x : Seen). x.calls) (step.no_call nothing), digits_most part, digits_some now.part walked.some)
+        | inr room ↦ omega (arith, walked.calls, one, mul-le (set.len now.ids + 1) each 65536 each (omega (arith, room)) (omega arith), rw (walked.shelf_is, walked.tries_are) at step.calls, digits_most part, digits_some next.part step.same.part_not_zero)
+      ]
+
+  step_honest : IsHonest s → StepIsHonest now next s' s'' result
+  step_honest h = step.honest (walked.stays h).honest
+
+  step_plain : IsHonest s → IsTrue s.plain → StepIsPlain now next s'' result
+  step_plain h p = (step_honest h).plain ((walked.stays h).plain p) (walked.holds h p)
+
+  -- the step along a walk
+  pub stepped : IsHonest s → s''.stores_added ≡ s.stores_added → (walk : List Row) (end : WalkEnd)
+      → IsWalk (rows_of shelf s.store) First walk → EndsBy (rows_of shelf s.store) First walk end
+      → (rows_of shelf new ≡ take (length (rows_of shelf new)) walk)
+      × WalkStep (rows_of shelf s.store) First walk end (length (rows_of shelf new)) now next result
+  stepped h same walk end is ends =
+      let honest = (walked.stays h).honest in
+      let parts = between s s' s'' (walked.stays h) (step.honest honest).stays same in
+      let there = walked.along h parts.0 walk end is ends in
+      let rows : rows_of now.shelf s'.store ≡ rows_of shelf s.store = rw walked.shelf_is (ap (rows_of shelf) ((walked.stays h).store.stays parts.0)) in
+      (there.0, (rw rows at ((step.walks honest).follows parts.1 First walk end (length (rows_of shelf new)))) is ends there.1)
+
+  -- over any controller, what was asked for was asked for from the shelf
+  all_rows : (walk : List Row) (rows : List Row) → rows ≡ take (length rows) walk
+      → length rows ≡ length walk → rows ≡ walk
+  all_rows walk rows is all = is ∙ take_all (length rows) walk (omega (arith, all))
+
+  -- why there are no more
+  pub came_ended : (ended : Ended) → result ≡ Err ended → IsHonest s
+      → Walks shelf s s'' (rows_of shelf new) (Some ended)
+  came_ended ended is h = record {
+    along = λ same walk end walks ends. by walk end ended (stepped h same walk end walks ends).0 (rw is at (stepped h same walk end walks ends).1);
+    plain = λ p. fine ended (rw is at (step_honest h).answers) (rw is at (step_plain h p).fine);
+  }
+    where
+      fine : (e : Ended) → StepAnswers now s' s'' (Err e) → NotGivenUpOrRefused {V = Option Row} (Err e) → PlainEnds (Some e)
+      fine (Cycle n) answers given = tt
+      fine (Missing n) answers given = tt
+      fine (GaveUp n) answers given = given
+      fine (Refused n code) answers given = given
+      fine (Stalled n) answers given = answers
+      fine (Malformed n) answers given = answers
+
+      by : (walk : List Row) (end : WalkEnd) (e : Ended)
+          → rows_of shelf new ≡ take (length (rows_of shelf new)) walk
+          → WalkStep (rows_of shelf s.store) First walk end (length (rows_of shelf new)) now next (Err e)
+          → CameOf walk end (rows_of shelf new) (Some e)
+      by walk end (Cycle n) rows step = (all_rows _ _ rows step.0, step.1)
+      by walk end (Missing n) rows step = (all_rows _ _ rows step.0, step.1)
+      by walk end (GaveUp n) rows step = rows
+      by walk end (Refused n code) rows step = rows
+      by walk end (Stalled n) rows step = rows
+      by walk end (Malformed n) rows step = rows
+
+  pub came_done : result ≡ Ok None → IsHonest s → Walks shelf s s'' (rows_of shelf new) None
+  came_done is h = record {
+    along = λ same walk end walks ends.
+        let at = stepped h same walk end walks ends in
+        let step = rw is at at.1 in
+        (all_rows walk (rows_of shelf new) at.0 step.0, step.1);
+    plain = λ p. tt;
+  }
+
+  -- over a plain controller a record may come after those before it
+  may_put : IsHonest s → IsTrue s.plain → (row : Row) → result ≡ Ok (Some row)
+      → may_follow shelf (rows_of shelf new) row ≡ true
+  may_put h p row is =
+      let before = walked.stays h in
+      let there = has_walk shelf (rows_of shelf s.store) First (store_shelf shelf s.store h.store) in
+      let at = walked.along h (before.plain_store p) there.0 there.1 there.2 there.3 in
+      let hands = (rw is at step.leaves).1 in
+      let none = (rw is at step.leaves).0 in
+      let later = step_honest h in
+      let looked = rw is at later.answers in
+      let row_is = look_row shelf (rows_of shelf s''.store) (asked_at now.place) row (store_shelf shelf s''.store later.stays.honest.store) (rw walked.shelf_is at looked.1) in
+      let place = place_now (rows_of shelf s.store) now.place (place_after_rows First (rows_of shelf new)) (rw (sym at.0) at at.1.place) hands.not_at_end in
+      may_follow_these shelf (rows_of shelf new) row row_is.id row_is.whole row_is.fits
+      (rw (sym at.0) at (sym (at.1.ids row.id)) ∙ hands.unseen)
+      (id_now now.place now.ids (rows_of shelf new) row place hands.not_at_end none hands.id)
+
+  -- a record that is left out
+  pub came_malformed : (n : ℕ) {row : Row} → result ≡ Ok (Some row)
+      → may_follow shelf (rows_of shelf new) row ≡ false
+      → IsHonest s → Walks shelf s s'' (rows_of shelf new) (Some (Malformed n))
+  came_malformed n {row = row} is left h = record {
+    along = λ same walk end walks ends. (stepped h same walk end walks ends).0;
+    plain = λ p. absurd (true≢false (sym (may_put h p row is) ∙ left));
+  }
+
+  -- a record is one id more
+  pub ids_next : {row : Row} → result ≡ Ok (Some row)
+      → (set.len next.ids ≡ set.len now.ids + 1) × (set.len next.ids ≤ 65536)
+  ids_next {row = row} is =
+      let hands = (rw is at step.leaves).1 in
+      (rw hands.ids (len-insert nat_cmp_total now.ids row.id ∙ rw hands.unseen refl), hands.at_most)
+
+  -- a record that is put after the others
+  module _ {row : Row} (is : result ≡ Ok (Some row)) {more : Store}
+      (put : more ≡ with_rows shelf (rows_of shelf new ++ row ∷ []) new) where
+    hands : HandsOut now next row
+    hands = (rw is at step.leaves).1
+
+    rows_are : rows_of shelf more ≡ rows_of shelf new ++ row ∷ []
+    rows_are = ap (rows_of shelf) put ∙ rows_of-with_rows shelf (rows_of shelf new ++ row ∷ []) new
+
+    beside_more : more ≡ with_rows shelf (rows_of shelf more) old
+    beside_more = rw rows_are (put ∙ ap (with_rows shelf (rows_of shelf new ++ row ∷ [])) walked.beside ∙ with_rows-again shelf (rows_of shelf new ++ row ∷ []) (rows_of shelf new) old)
+
+    ids_more : set.len next.ids ≡ set.len now.ids + 1
+    ids_more = (ids_next is).0
+
+    along_more : IsHonest s → Along shelf s s'' next (rows_of shelf more)
+    along_more h = λ same walk end walks ends.
+        let at = stepped h same walk end walks ends in
+        let there = rw is at at.1 in
+        let count = length (rows_of shelf new) in
+        let long : length (rows_of shelf more) ≡ count + 1 = ap length rows_are ∙ length-append (rows_of shelf new) (row ∷ []) in
+        rw long (rows_are ∙ next_row (rows_of shelf new) walk at.0 there.0, there.1)
+      where
+        first_is : (l : List Row) → first_row l ≡ Some row → take 1 l ≡ row ∷ []
+        first_is l is = grind arith
+
+        next_row : (rows walk : List Row) → rows ≡ take (length rows) walk
+            → first_row (drop (length rows) walk) ≡ Some row
+            → rows ++ row ∷ [] ≡ take (length rows + 1) walk
+        next_row rows walk are first = rw (take-add (length rows) 1 walk, first_is (drop (length rows) walk) first, sym are) refl
+
+    pub walked_more : Walked shelf part tries s s'' next old more
+    walked_more =
+        let each = step_call_bound tries (largest_len shelf) in
+        let one : (set.len now.ids + 1) * each ≡ set.len now.ids * each + each = omega arith in
+        record {
+          beside = beside_more;
+          shelf_is = step.same.shelf ∙ walked.shelf_is;
+          tries_are = step.same.tries ∙ walked.tries_are;
+          some = step.same.part_not_zero;
+          falls = omega (arith, step.same.part, walked.falls);
+          room = hands.at_most;
+          calls = rw ids_more (omega (arith, walked.calls, rw (walked.shelf_is, walked.tries_are) at step.calls, one));
+          asked = asked_on;
+          stays = stays_on;
+          along = along_more;
+          holds = λ h p. (step_plain h p).holds;
+        }
+
+-- ---- a shelf that is begun again
+
+pub record IsAgain (shelf : Shelf) (part tries times : ℕ) (s s' : Seen) (old new : Store) : Type 0 where
+  pub beside : new ≡ with_rows shelf [] old
+  pub calls : s'.calls ≤ s.calls + times * most_on_walk shelf tries
+  pub asked : AsksAtMost part s s'
+  pub stays : IsHonest s → StaysHonest s s'
+
+module _ {shelf : Shelf} {part tries times : ℕ} {s s' s'' : Seen} {old now new : Store}
+    (again : IsAgain shelf part tries times s s' old now)
+    (beside : new ≡ with_rows shelf (rows_of shelf new) now)
+    (calls : s''.calls ≤ s'.calls + most_on_walk shelf tries) (asked : AsksAtMost part s' s'')
+    (stays : IsHonest s' → StaysHonest s' s'') where
+  pub beside_all : new ≡ with_rows shelf (rows_of shelf new) old
+  beside_all = beside ∙ ap (with_rows shelf (rows_of shelf new)) again.beside ∙ with_rows-again shelf (rows_of shelf new) [] old
+
+  pub stays_all : IsHonest s → StaysHonest s s''
+  stays_all h = stays_trans s s' s'' (again.stays h) (stays (again.stays h).honest)
+
+  pub calls_all : times < 4 → s''.calls ≤ s.calls + 4 * most_on_walk shelf tries
+  calls_all few =
+      let next : (times + 1) * most_on_walk shelf tries ≡ times * most_on_walk shelf tries + most_on_walk shelf tries = omega arith in
+      omega (arith, again.calls, calls, next, mul-le (times + 1) (most_on_walk shelf tries) 4 (most_on_walk shelf tries) (omega (arith, few)) (omega arith))
+
+  pub asked_all : AsksAtMost part s s''
+  asked_all = omega (arith, again.asked, asked)
+
+  pub walks_all : {ended : Option Ended} → (IsHonest s' → Walks shelf s' s'' (rows_of shelf new) ended)
+      → IsHonest s → Walks shelf s s'' (rows_of shelf new) ended
+  walks_all walks h = record {
+    along = λ same walk end is ends.
+        let before = again.stays h in
+        let parts = between s s' s'' before (stays before.honest) same in
+        let rows : rows_of shelf s'.store ≡ rows_of shelf s.store = ap (rows_of shelf) (before.store.stays parts.0) in
+        (rw rows at ((walks before.honest).along parts.1 walk end)) is ends;
+    plain = λ p. let before = again.stays h in (walks before.honest).plain (before.plain p);
+  }
+
+  -- and cleared
+  pub again_cleared : {cleared : Store} → cleared ≡ with_rows shelf [] new
+      → IsAgain shelf part tries (times + 1) s s'' old cleared
+  again_cleared is = record {
+    beside = is ∙ ap (with_rows shelf []) beside_all ∙ with_rows-again shelf [] (rows_of shelf new) old;
+    calls = let next : (times + 1) * most_on_walk shelf tries ≡ times * most_on_walk shelf tries + most_on_walk shelf tries = omega arith in omega (arith, again.calls, calls, next);
+    asked = asked_all;
+    stays = stays_all;
+  }

@@ -1,0 +1,17 @@
+use Rattle.std.proofs.Common.{◌≡◌, ◌+◌, ◌<◌, ◌≤◌, ◌==◌, ◌||◌, false, arith, sym, ◌∙◌, slice_index_or}
+use Rattle.ipmi_capture.proofs.FoundLemmas.{not_kept}
+use Rattle.ipmi_capture.proofs.ReadLemmas.{keeping_read, keeping_skipped}
+use Rattle.ipmi_capture.proofs.inventories.capture_inventories.Goals as goal
+
+pub devices-preserved-then-not-has_device : goal.devices-preserved-then-not-has_device
+devices-preserved-then-not-has_device g c =
+    let unmarked : ((c.devices.id == 0) || slice_index_or c.args.named.now.devices.items c.devices.id false) ≡ false = grind (arith, c.has_device.ensures, c.if-not-has_device.true) in
+    keeping_skipped c.devices.invariant unmarked
+
+pub capture_inventory-requires-clause-none : goal.capture_inventory-requires-clause-none
+capture_inventory-requires-clause-none g c = not_kept c.devices.id c.devices.image.inventories c.devices.invariant.below
+
+pub devices-preserved : goal.devices-preserved
+devices-preserved g c =
+    rw c.in-Ok-note.ensures (keeping_read c.in-Ok.lacks c.devices.id c.devices.invariant c.in-Ok.ensures.image
+    c.in-Ok.ensures.calls c.in-Ok.ensures.asked c.in-Ok.ensures.stays c.in-Ok.ensures.honest)

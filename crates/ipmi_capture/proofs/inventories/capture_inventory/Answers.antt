@@ -1,0 +1,15 @@
+use Rattle.std.proofs.Common.{◌≡◌, Some, sym, ap, ◌∙◌}
+use Rattle.ipmi_capture.proofs.ReadLemmas.{came_inventory, has_inventory, left_inventory}
+use Rattle.ipmi_capture.proofs.inventories.capture_inventory.Goals as goal
+
+pub returns-in_ok-put_inventory-in-Ok-clause-image : goal.returns-in_ok-put_inventory-in-Ok-clause-image
+returns-in_ok-put_inventory-in-Ok-clause-image g c =
+    has_inventory c.args.id c.in-Ok.bytes.items c.args.image.now c.put_inventory.new.self c.requires.none c.in_ok-put_inventory-in-Ok.ensures.ok
+
+pub returns-in_ok-put_inventory-in-Ok-clause-honest : goal.returns-in_ok-put_inventory-in-Ok-clause-honest
+returns-in_ok-put_inventory-in-Ok-clause-honest g c = λ h.
+    came_inventory c.args.id c.in-Ok.bytes.items c.args.image.now c.put_inventory.new.self c.requires.none c.in_ok-put_inventory-in-Ok.ensures.ok (c.in-Ok.ensures.honest h)
+
+pub returns-in-Err-clause-honest : goal.returns-in-Err-clause-honest
+returns-in-Err-clause-honest g c = λ h.
+    left_inventory c.args.id c.in-Err.ended c.left_by.result c.args.image.now c.requires.none (c.in-Err.ensures.honest h) (c.left_by.ensures.stays (c.in-Err.ensures.honest h).stays.honest) c.left_by.ensures.left

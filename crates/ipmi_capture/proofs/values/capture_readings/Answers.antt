@@ -1,0 +1,20 @@
+use Rattle.std.proofs.Common.{◌≡◌, ◌+◌, ◌*◌, ◌/◌, ◌%◌, ◌<◌, ◌≤◌, false, arith, sym, ◌∙◌, slice_index_or}
+use Rattle.ipmi_capture.proofs.FoundLemmas.{not_read}
+use Rattle.ipmi_capture.proofs.ReadLemmas.{reading_read, reading_skipped}
+use Rattle.ipmi_capture.proofs.values.capture_readings.Goals as goal
+
+pub places-preserved-then-not-has_sensor : goal.places-preserved-then-not-has_sensor
+places-preserved-then-not-has_sensor g c =
+    let unmarked : slice_index_or c.args.named.now.sensors.items c.places.place false ≡ false = grind (arith, c.has_sensor.ensures, c.if-not-has_sensor.true) in
+    reading_skipped c.places.invariant unmarked
+
+pub capture_reading-requires-clause-none : goal.capture_reading-requires-clause-none
+capture_reading-requires-clause-none g c =
+    not_read c.places.place (c.places.place / 256) (c.places.place % 256) c.places.image.readings c.places.invariant.below (omega arith)
+
+pub places-preserved : goal.places-preserved
+places-preserved g c =
+    let at : c.places.place / 256 * 256 + c.places.place % 256 ≡ c.places.place = omega arith in
+    let small : c.places.place % 256 < 256 = omega arith in
+    rw c.in-Ok-note.ensures (reading_read c.in-Ok.lacks (c.places.place / 256) (c.places.place % 256) c.places.invariant at small c.in-Ok.ensures.image
+    c.in-Ok.ensures.calls c.in-Ok.ensures.asked c.in-Ok.ensures.stays c.in-Ok.ensures.honest)

@@ -1,0 +1,46 @@
+-- What it is for the store of an image to be a capture of the store of a controller.
+use Rattle.std.specs.Prelude.{◌≡◌, ℕ, Option, Some, None, Result, Ok, Err, List, ◌∷◌, All, filter_map}
+use Rattle.ipmi_capture.specs.Below.{First, info_of, inventory_of, EndsBy, IsWalk, reading_of, Row, rows_of, Sdr, SdrFault, SdrView, sdr_view_of, Sel, Shelf, Store, WalkEnd}
+use Rattle.ipmi_records.specs.Sdr as sdr
+
+-- ---- what records name
+
+-- the LUN and the number of the sensor whose reading is asked for on account of a record; one with a fault names none
+abbrev pub sensor_named : Result SdrView SdrFault → Option (ℕ × ℕ)
+sensor_named (Ok view) = sdr.reading_of view
+sensor_named (Err fault) = None
+
+-- the FRU device whose inventory is asked for on account of a record
+abbrev pub device_named : Result SdrView SdrFault → Option ℕ
+device_named (Ok view) = sdr.fru_of view
+device_named (Err fault) = None
+
+abbrev pub sensors_of : List Row → List (ℕ × ℕ)
+sensors_of rows = filter_map (λ row. sensor_named (sdr_view_of row.bytes)) rows
+
+abbrev pub devices_of : List Row → List ℕ
+devices_of rows = filter_map (λ row. device_named (sdr_view_of row.bytes)) rows
+
+-- ---- a capture
+
+-- the walk of the store's shelf from its first record, and how it ends, are those of the image's
+abbrev pub SameWalk : Shelf → Store → Store → Type 0
+SameWalk shelf image store = (walk : List Row) (end : WalkEnd)
+    → IsWalk (rows_of shelf store) First walk → EndsBy (rows_of shelf store) First walk end
+    → IsWalk (rows_of shelf image) First walk × EndsBy (rows_of shelf image) First walk end
+
+abbrev pub SameReading : Store → Store → ℕ × ℕ → Type 0
+SameReading image store key = reading_of key.0 key.1 image ≡ reading_of key.0 key.1 store
+
+abbrev pub SameInventory : Store → Store → ℕ → Type 0
+SameInventory image store id = inventory_of id image ≡ inventory_of id store
+
+-- the image has of the store both walks, both infos, the reading of each sensor that a record names, and the inventories of
+-- device 0 and of each device that a record names
+pub record IsCaptureOf (image store : Store) : Type 0 where
+  pub sdr : SameWalk Sdr image store
+  pub sel : SameWalk Sel image store
+  pub sdr_info : info_of Sdr image ≡ info_of Sdr store
+  pub sel_info : info_of Sel image ≡ info_of Sel store
+  pub readings : All (SameReading image store) (sensors_of image.sdr)
+  pub inventories : All (SameInventory image store) (0 ∷ devices_of image.sdr)

@@ -1,0 +1,89 @@
+-- What each part of a capture leaves, for the contracts of private functions.
+use Rattle.std.specs.Prelude.{◌≡◌, ℕ, ◌+◌, ◌*◌, ◌<◌, ◌==◌, ◌||◌, IsTrue, Bool, false, true, Option, Some, None, Err, List, All, take, length, slice_index_or}
+use Rattle.std.specs.List.{list_all}
+use Rattle.ipmi_capture.specs.Below.{Cycle, CycleAt, Done, Ended, EndsBy, First, FruEnded, fru_call_bound, IsWalk, largest_len, Missing, MissingAt, PlainMayAnswer, Reading, reading_of, inventory_of, Row, rows_of, Sdr, Seen, Sel, Shelf, step_call_bound, Store, WalkEnd, with_inventory, with_reading}
+use Rattle.ipmi_capture.specs.Left.{leaves_nothing, PlainLeaves}
+use Rattle.ipmi_capture.specs.Named.{IsSensorKey, sensor_place}
+use Rattle.ipmi_capture.specs.declared.left.Left.{Left}
+
+-- ---- over an honest controller
+
+-- a part of a capture, with what was left out before it and after it: where no store is added, and nothing is left out, the
+-- fact holds, and over a plain controller only so much is left out
+pub record Captures (s s' : Seen) (left left' : List Left) (Fact : Type 0) : Type 0 where
+  pub fact : s'.stores_added ≡ s.stores_added → IsTrue (list_all leaves_nothing left')
+      → IsTrue (list_all leaves_nothing left) × Fact
+  pub plain : IsTrue s.plain → All (PlainLeaves s.store) left → All (PlainLeaves s.store) left'
+
+-- these are the rows of the walk of the shelf from its first record
+abbrev pub AreWalk : Shelf → Store → List Row → Type 0
+AreWalk shelf store rows = (walk : List Row) (end : WalkEnd)
+    → IsWalk (rows_of shelf store) First walk → EndsBy (rows_of shelf store) First walk end
+    → rows ≡ walk
+
+-- the rows that came, by why there are no more: all of the walk, or the first ones
+abbrev pub CameOf : List Row → WalkEnd → List Row → Option Ended → Type 0
+CameOf walk end rows None = (rows ≡ walk) × (end ≡ Done)
+CameOf walk end rows (Some (Cycle n)) = (rows ≡ walk) × (end ≡ CycleAt n)
+CameOf walk end rows (Some (Missing n)) = (rows ≡ walk) × (end ≡ MissingAt n)
+CameOf walk end rows (Some ended) = rows ≡ take (length rows) walk
+
+-- over a plain controller the records end as the walk does
+abbrev pub PlainEnds : Option Ended → Type 0
+PlainEnds None = Unit {0}
+PlainEnds (Some (Cycle n)) = Unit {0}
+PlainEnds (Some (Missing n)) = Unit {0}
+PlainEnds (Some ended) = ⊥
+
+-- a shelf was read: where no store is added, along its walk
+pub record Walks (shelf : Shelf) (s s' : Seen) (rows : List Row) (ended : Option Ended) : Type 0 where
+  pub along : s'.stores_added ≡ s.stores_added → (walk : List Row) (end : WalkEnd)
+      → IsWalk (rows_of shelf s.store) First walk → EndsBy (rows_of shelf s.store) First walk end
+      → CameOf walk end rows ended
+  pub plain : IsTrue s.plain → PlainEnds ended
+
+-- ---- what is put into the image
+
+-- a reading that came is put after the others
+abbrev pub HasRead : ℕ → ℕ → Option Reading → Store → Store → Type 0
+HasRead lun number None old new = new ≡ old
+HasRead lun number (Some reading) old new = new ≡ with_reading lun number reading old
+
+abbrev pub HasInventory : ℕ → Option (List ℕ) → Store → Store → Type 0
+HasInventory id None old new = new ≡ old
+HasInventory id (Some bytes) old new = new ≡ with_inventory id bytes old
+
+-- the reading of each marked sensor is the store's
+abbrev pub HasReadings : List Bool → Store → Store → Type 0
+HasReadings marks image store = (key : ℕ × ℕ) → IsSensorKey key
+    → slice_index_or marks (sensor_place key) false ≡ true
+    → reading_of key.0 key.1 image ≡ reading_of key.0 key.1 store
+
+-- and so is the inventory of device 0, and of each marked device but FFh, which is none
+abbrev pub HasInventories : List Bool → Store → Store → Type 0
+HasInventories marks image store = (id : ℕ) → id < 255
+    → IsTrue ((id == 0) || slice_index_or marks id false)
+    → inventory_of id image ≡ inventory_of id store
+
+-- over a plain controller the reading of an inventory does not end so
+abbrev pub IsNotPlain : FruEnded → Type 0
+IsNotPlain ended = PlainMayAnswer (Err ended) → ⊥
+
+-- ---- calls, of any controller
+
+-- of a cursor: it asks for at most 65,536 records, and its part size falls at most seven times
+abbrev pub most_on_walk : Shelf → ℕ → ℕ
+most_on_walk shelf tries = 65536 * step_call_bound tries (largest_len shelf) + 7
+
+-- of four cursors
+abbrev pub most_on_shelf : Shelf → ℕ → ℕ
+most_on_shelf shelf tries = 4 * most_on_walk shelf tries
+
+-- of an inventory, and once more of its size
+abbrev pub most_for_inventory : ℕ → ℕ
+most_for_inventory tries = fru_call_bound tries 65535 + 1
+
+-- of both shelves, both infos, 1024 readings and 255 inventories
+abbrev pub most_calls : ℕ → ℕ
+most_calls tries = most_on_shelf Sdr tries + most_on_shelf Sel tries + 2 * (tries + 1)
+    + 1024 * (tries + 1) + 255 * most_for_inventory tries

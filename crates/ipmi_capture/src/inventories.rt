@@ -1,0 +1,118 @@
+//! Reads inventories of FRU devices into an image.
+ghost use Rattle.std.specs.Prelude.{◌≡◌, ◌≢◌, ◌+◌, ◌*◌, ◌<◌, ◌≤◌, IfOk, MatchOption, OnErr, OnOk, [], None, false};
+ghost use Rattle.std.specs.Option.{option_to_list};
+ghost use Rattle.ipmi_capture.specs.Below.{AsksAtMost, FruEnded, inventory_of, IsHonest, not_present, StaysHonest};
+ghost use Rattle.ipmi_capture.specs.Left.{leaves_nothing};
+ghost use Rattle.ipmi_capture.specs.Phases.{Captures, IsNotPlain, HasInventories, HasInventory, most_for_inventory};
+
+use crate::capturing::Asking;
+use crate::left::{Left, note};
+use crate::named::Named;
+use crate::progress::Progress;
+use ipmi_bus::{Code, Controller, FruEnded, LAST_FRU_DEVICE_ID, read_fru};
+use ipmi_image::ImageBuilder;
+use std::alloc::AllocError;
+
+/// The id that is no FRU device's.
+const NO_DEVICE: u8 = LAST_FRU_DEVICE_ID + 1;
+
+/// What is left out where an inventory was refused with this code: nothing where there is none. The code may be the answer to
+/// the question how long it is, or have come later, so that is asked once more.
+fn left_by_refusal<C: Controller>(ctl: &mut C, id: u8, code: Code) -> Option<Left>
+    ensures calls { (C.seen ctl.new).calls ≤ (C.seen ctl.old).calls + 1 }
+    ensures asked { AsksAtMost 0 (C.seen ctl.old) (C.seen ctl.new) }
+    ensures stays { IsHonest (C.seen ctl.old) → StaysHonest (C.seen ctl.old) (C.seen ctl.new) }
+    ensures left { MatchOption result (code ≡ not_present) (λ left.
+        (leaves_nothing left ≡ false) × (code ≢ not_present)) }
+{
+    if code == Code::NOT_PRESENT {
+        return None;
+    }
+    match ctl.fru_size(id) {
+        Err(again) if again == code => Some(Left::Size(id, code)),
+        _ => Some(Left::Inventory(id, FruEnded::Refused(code))),
+    }
+}
+
+/// What is left out where an inventory was not read.
+fn left_by<C: Controller>(ctl: &mut C, id: u8, ended: FruEnded) -> Result<Option<Left>, AllocError>
+    ensures calls { (C.seen ctl.new).calls ≤ (C.seen ctl.old).calls + 1 }
+    ensures asked { AsksAtMost 0 (C.seen ctl.old) (C.seen ctl.new) }
+    ensures stays { IsHonest (C.seen ctl.old) → StaysHonest (C.seen ctl.old) (C.seen ctl.new) }
+    ensures left { IfOk result (λ o. MatchOption o (ended ≡ FruEnded.Refused not_present)
+        (λ left. (leaves_nothing left ≡ false) × IsNotPlain ended)) }
+{
+    match ended {
+        FruEnded::Memory => Err(AllocError),
+        FruEnded::Refused(code) => Ok(left_by_refusal(ctl, id, code)),
+        ended => Ok(Some(Left::Inventory(id, ended))),
+    }
+}
+
+/// Puts the inventory of the device into the image, where it has one, and says what it left out.
+fn capture_inventory<C: Controller, P: Progress>(
+    asking: Asking,
+    ctl: &mut C,
+    id: u8,
+    image: &mut ImageBuilder,
+    progress: &mut P,
+) -> Result<Option<Left>, AllocError>
+    requires some { 0 < asking.part }
+    requires fits { asking.part < 255 }
+    requires id { id < 255 }
+    requires none { inventory_of id image.old ≡ None }
+    ensures image { OnOk result (HasInventory id (inventory_of id image.new) image.old image.new) }
+    ensures err { OnErr result (image.new ≡ image.old) }
+    ensures calls { (C.seen ctl.new).calls ≤ (C.seen ctl.old).calls + most_for_inventory asking.tries }
+    ensures asked { AsksAtMost asking.part (C.seen ctl.old) (C.seen ctl.new) }
+    ensures stays { IsHonest (C.seen ctl.old) → StaysHonest (C.seen ctl.old) (C.seen ctl.new) }
+    ensures honest { IsHonest (C.seen ctl.old) → IfOk result (λ left. Captures (C.seen ctl.old) (C.seen ctl.new) []
+        (option_to_list left) (inventory_of id image.new ≡ inventory_of id (C.seen ctl.old).store)) }
+{
+    match read_fru(asking.alloc, ctl, id, asking.part, asking.tries) {
+        Ok(bytes) => {
+            if bytes.is_empty() {
+                return Ok(Some(Left::Empty(id)));
+            }
+            image.put_inventory(id, bytes)?;
+            progress.inventory();
+            Ok(None)
+        }
+        Err(ended) => left_by(ctl, id, ended),
+    }
+}
+
+/// Puts the inventories of device 0 and of all named devices into the image.
+pub(crate) fn capture_inventories<C: Controller, P: Progress>(
+    asking: Asking,
+    ctl: &mut C,
+    named: &Named,
+    image: &mut ImageBuilder,
+    left: &mut Vec<Left>,
+    progress: &mut P,
+) -> Result<(), AllocError>
+    requires some { 0 < asking.part }
+    requires fits { asking.part < 255 }
+    requires none { image.old.inventories ≡ [] }
+    ensures beside { image.new ≡ record image.old { inventories = image.new.inventories } }
+    ensures calls { (C.seen ctl.new).calls ≤ (C.seen ctl.old).calls + 255 * most_for_inventory asking.tries }
+    ensures asked { AsksAtMost asking.part (C.seen ctl.old) (C.seen ctl.new) }
+    ensures stays { IsHonest (C.seen ctl.old) → StaysHonest (C.seen ctl.old) (C.seen ctl.new) }
+    ensures honest { IsHonest (C.seen ctl.old) → OnOk result (Captures (C.seen ctl.old) (C.seen ctl.new)
+        left.old.items left.new.items (HasInventories named.now.devices.items image.new (C.seen ctl.old).store)) }
+{
+    'devices: for id in 0..NO_DEVICE {
+        if !named.has_device(id) {
+            continue;
+        }
+        let lacks = match capture_inventory(asking, ctl, id, image, progress) {
+            Ok(lacks) => lacks,
+            Err(_) => return Err(AllocError),
+        };
+        match note(left, lacks) {
+            Ok(()) => {}
+            Err(_) => return Err(AllocError),
+        }
+    }
+    Ok(())
+}

@@ -1,0 +1,127 @@
+//! What of a controller is not in its image.
+ghost use Rattle.std.specs.Prelude.{◌≡◌, ◌++◌, OnOk};
+ghost use Rattle.std.specs.Option.{option_to_list};
+ghost use Rattle.std.specs.List.{list_all};
+ghost use Rattle.ipmi_capture.specs.Left.{leaves_whole, unread_of};
+
+use ipmi_bus::{Code, Ended, FruEnded, Shelf};
+use ipmi_text::HexByte;
+use std::alloc::AllocError;
+use std::fmt;
+use thiserror::Error;
+
+/// Why a reading or an info did not come.
+#[derive(Clone, Copy, Debug, PartialEq, Eq, Error)]
+pub enum Unread {
+    /// The controller refused with this code.
+    #[error("refused with code {code:02X}h", code = .0.0)]
+    Refused(Code),
+    /// More troubles came than the tries allow.
+    #[error("gave up")]
+    GaveUp,
+}
+
+impl Unread {
+    /// Why a value did not come, by how its retrieval ended.
+    pub(crate) fn of(ended: Ended) -> Unread
+        ensures { result ≡ unread_of ended }
+    {
+        match ended {
+            Ended::Refused(_, code) => Unread::Refused(code),
+            _ => Unread::GaveUp,
+        }
+    }
+}
+
+/// What of a controller is not in its image, and why. It is displayed as one line, without a line feed.
+#[derive(Clone, Copy, Debug, PartialEq, Eq)]
+pub enum Left {
+    /// The records of the shelf after those that came. At a cycle there are no others: it is only said.
+    Records(Shelf, Ended),
+    /// The info of the shelf.
+    Info(Shelf, Unread),
+    /// The reading of the sensor with this number at this LUN.
+    Reading(u8, u8, Unread),
+    /// The inventory of the FRU device with this id: the controller refuses to say how long it is.
+    Size(u8, Code),
+    /// The inventory of the FRU device with this id: it has no bytes, and an image has no empty inventory.
+    Empty(u8),
+    /// The inventory of the FRU device with this id.
+    Inventory(u8, FruEnded),
+}
+
+/// The word of a shelf in an image.
+fn shelf_word(shelf: Shelf) -> &'static str {
+    match shelf {
+        Shelf::Sdr => "sdr",
+        Shelf::Sel => "sel",
+    }
+}
+
+impl fmt::Display for Left {
+    fn fmt<W: fmt::Write>(&self, f: &mut fmt::Formatter<W>) -> fmt::Result {
+        match self {
+            Left::Records(shelf, ended) => {
+                let word = shelf_word(*shelf);
+                write!(f, "{word}: {ended}")
+            }
+            Left::Info(shelf, unread) => {
+                let word = shelf_word(*shelf);
+                write!(f, "info {word}: {unread}")
+            }
+            Left::Reading(lun, number, unread) => {
+                let number = HexByte(*number);
+                write!(f, "reading {lun} {number}: {unread}")
+            }
+            Left::Size(id, code) => {
+                let id = HexByte(*id);
+                let refused = Unread::Refused(*code);
+                write!(f, "fru {id}: size {refused}")
+            }
+            Left::Empty(id) => {
+                let id = HexByte(*id);
+                write!(f, "fru {id}: empty")
+            }
+            Left::Inventory(id, ended) => {
+                let id = HexByte(*id);
+                write!(f, "fru {id}: {ended}")
+            }
+        }
+    }
+}
+
+impl Left {
+    /// Whether an image is whole without it: what the controller refuses to tell is not missed.
+    pub(crate) fn leaves_whole(&self) -> bool
+        ensures { result ≡ leaves_whole self.now }
+    {
+        match self {
+            Left::Records(_, ended) => matches!(ended, Ended::Cycle(_)),
+            Left::Info(_, unread) | Left::Reading(_, _, unread) => {
+                matches!(unread, Unread::Refused(_))
+            }
+            Left::Size(_, _) | Left::Empty(_) => true,
+            Left::Inventory(_, _) => false,
+        }
+    }
+}
+
+/// Whether an image is whole without all of these.
+pub(crate) fn is_whole(list: &[Left]) -> bool
+    ensures { result ≡ list_all leaves_whole list.now }
+{
+    list.iter().all(|left| left.leaves_whole())
+}
+
+/// Adds what was left out, if anything was.
+pub(crate) fn note(list: &mut Vec<Left>, left: Option<Left>) -> Result<(), AllocError>
+    ensures { OnOk result (list.new.items ≡ list.old.items ++ option_to_list left) }
+{
+    match left {
+        Some(left) => match list.push(left) {
+            Ok(()) => Ok(()),
+            Err(_) => Err(AllocError),
+        },
+        None => Ok(()),
+    }
+}

@@ -1,0 +1,77 @@
+//! Reads the records of a shelf into an image.
+ghost use Rattle.std.specs.Prelude.{◌≡◌, ◌+◌, ◌<◌, ◌≤◌, IfOk, [], Some};
+ghost use Rattle.ipmi_capture.specs.Below.{AsksAtMost, IsHonest, StaysHonest, rows_of, with_rows};
+ghost use Rattle.ipmi_capture.specs.Phases.{most_on_shelf, most_on_walk, Walks};
+
+use crate::capturing::Asking;
+use crate::progress::Progress;
+use ipmi_bus::{Controller, Cursor, Ended, Shelf};
+use ipmi_image::ImageBuilder;
+use std::alloc::AllocError;
+
+/// How often a shelf is begun again, where a record that its chain names is not there.
+const TIMES_AGAIN: u32 = 3;
+
+/// Puts the records of the shelf into the image, along their next ids, and says why there are no more: None is the end.
+/// A record that an image can't hold, as its id is FFFFh, is malformed.
+fn walk_shelf<C: Controller, P: Progress>(
+    asking: Asking,
+    ctl: &mut C,
+    shelf: Shelf,
+    image: &mut ImageBuilder,
+    progress: &mut P,
+) -> Result<Option<Ended>, AllocError>
+    requires some { 0 < asking.part }
+    requires fits { asking.part < 255 }
+    requires none { rows_of shelf image.old ≡ [] }
+    ensures beside { image.new ≡ with_rows shelf (rows_of shelf image.new) image.old }
+    ensures calls { (C.seen ctl.new).calls ≤ (C.seen ctl.old).calls + most_on_walk shelf
+        asking.tries }
+    ensures asked { AsksAtMost asking.part (C.seen ctl.old) (C.seen ctl.new) }
+    ensures stays { IsHonest (C.seen ctl.old) → StaysHonest (C.seen ctl.old) (C.seen ctl.new) }
+    ensures honest { IsHonest (C.seen ctl.old) → IfOk result (λ ended.
+        Walks shelf (C.seen ctl.old) (C.seen ctl.new) (rows_of shelf image.new) ended) }
+{
+    let mut cursor = Cursor::start(asking.alloc, shelf, None, asking.part, asking.tries)?;
+    'records: loop {
+        let record = match cursor.step(ctl) {
+            Ok(Some(record)) => record,
+            Ok(None) => return Ok(None),
+            Err(ended) => return Ok(Some(ended)),
+        };
+        match image.put_record(shelf, &record) {
+            Ok(true) => progress.record(shelf),
+            Ok(false) => return Ok(Some(Ended::Malformed(record.id))),
+            Err(_) => return Err(AllocError),
+        }
+    }
+}
+
+/// Puts the records of the shelf into the image. Where a record is not there that another one names as its next, as the
+/// shelf may have changed meanwhile, it begins again, three times.
+pub(crate) fn capture_shelf<C: Controller, P: Progress>(
+    asking: Asking,
+    ctl: &mut C,
+    shelf: Shelf,
+    image: &mut ImageBuilder,
+    progress: &mut P,
+) -> Result<Option<Ended>, AllocError>
+    requires some { 0 < asking.part }
+    requires fits { asking.part < 255 }
+    requires none { rows_of shelf image.old ≡ [] }
+    ensures beside { image.new ≡ with_rows shelf (rows_of shelf image.new) image.old }
+    ensures calls { (C.seen ctl.new).calls ≤ (C.seen ctl.old).calls + most_on_shelf shelf
+        asking.tries }
+    ensures asked { AsksAtMost asking.part (C.seen ctl.old) (C.seen ctl.new) }
+    ensures stays { IsHonest (C.seen ctl.old) → StaysHonest (C.seen ctl.old) (C.seen ctl.new) }
+    ensures honest { IsHonest (C.seen ctl.old) → IfOk result (λ ended.
+        Walks shelf (C.seen ctl.old) (C.seen ctl.new) (rows_of shelf image.new) ended) }
+{
+    'walks: for _ in 0..TIMES_AGAIN {
+        match walk_shelf(asking, ctl, shelf, image, progress) {
+            Ok(Some(Ended::Missing(_))) => image.clear_records(asking.alloc, shelf),
+            ended => return ended,
+        }
+    }
+    walk_shelf(asking, ctl, shelf, image, progress)
+}

@@ -1,0 +1,273 @@
+//! Captures of controllers over an image, as the text of what came and as lines of what was left out.
+use ipmi_bus::{Code, Controller, Shelf};
+use ipmi_capture::{Captured, Progress, capture};
+use ipmi_image::{Image, ImageController, Mood, Scripted, image_text};
+use std::alloc::Global;
+use std::process::Abort;
+
+/// A compact sensor, 30h at LUN 0; the locator of FRU device 1; and all else that an image can hold.
+const SAVED: &str = "ipmi-image 2
+sdr 0001 - 010051021b2000300000000000000000000000000000000000000000000000c0
+sdr 0002 - 020051110b20018000000000000000c0
+sel 0001 - 01000201000020200004013001595f5a
+fru 00 0100
+fru 01 010203
+reading 0 30 2dc00000
+info sdr 510300000401000020ffffffff02
+info sel 510100000201000000ffffffff00
+end
+";
+
+/// The same without the reading.
+const WITHOUT_READING: &str = "ipmi-image 2
+sdr 0001 - 010051021b2000300000000000000000000000000000000000000000000000c0
+sdr 0002 - 020051110b20018000000000000000c0
+sel 0001 - 01000201000020200004013001595f5a
+fru 00 0100
+fru 01 010203
+info sdr 510300000401000020ffffffff02
+info sel 510100000201000000ffffffff00
+end
+";
+
+/// The same without the inventory of device 0.
+const WITHOUT_INVENTORY: &str = "ipmi-image 2
+sdr 0001 - 010051021b2000300000000000000000000000000000000000000000000000c0
+sdr 0002 - 020051110b20018000000000000000c0
+sel 0001 - 01000201000020200004013001595f5a
+fru 01 010203
+reading 0 30 2dc00000
+info sdr 510300000401000020ffffffff02
+info sel 510100000201000000ffffffff00
+end
+";
+
+/// How many records, readings and inventories came.
+#[derive(Drop)]
+struct Came {
+    records: u32,
+    readings: u32,
+    inventories: u32,
+}
+
+impl Progress for Came {
+    fn record(&mut self, _shelf: Shelf) {
+        self.records = self.records.saturating_add(1);
+    }
+
+    fn reading(&mut self) {
+        self.readings = self.readings.saturating_add(1);
+    }
+
+    fn inventory(&mut self) {
+        self.inventories = self.inventories.saturating_add(1);
+    }
+}
+
+fn image(rt: &impl Abort, alloc: Global, text: &str) -> Image {
+    Image::read(alloc, text.as_bytes()).expect(rt, text)
+}
+
+/// What of the controller is left out, a line for each, and `not whole` where the image is not.
+fn left_of(rt: &impl Abort, alloc: Global, captured: &Captured) -> String {
+    let mut text = String::new(alloc);
+    for left in captured.left.as_slice() {
+        let line = left.to_string(alloc).expect(rt, "memory");
+        text.push_str(line.as_str()).expect(rt, "memory");
+        text.push('\n').expect(rt, "memory");
+    }
+    if !captured.is_whole {
+        text.push_str("not whole\n").expect(rt, "memory");
+    }
+    text
+}
+
+/// Captures the controller, and compares what came, and what was left out.
+fn is_captured<C: Controller>(
+    rt: &impl Abort,
+    alloc: Global,
+    ctl: &mut C,
+    part: u8,
+    tries: u8,
+    wanted: &str,
+    left: &str,
+) -> Came {
+    let mut came = Came {
+        records: 0,
+        readings: 0,
+        inventories: 0,
+    };
+    let part = part.clamp(1, 254);
+    let captured = capture(alloc, ctl, part, tries, &mut came).expect(rt, "memory");
+    let text = image_text(alloc, &captured.image).expect(rt, "memory");
+    let got = std::str::from_utf8(&text).expect(rt, wanted);
+    assert!(rt; got == wanted, "got {got}");
+    let got = left_of(rt, alloc, &captured);
+    assert!(rt; got.as_str() == left, "got {got}");
+    drop(captured);
+    came
+}
+
+/// So many plain moods, and then those that these words are: `busy`, `cancel`, `plain`, `grant` for parts of 3 bytes, `refuse` for C1h, `none` for
+/// CCh, and `change` where the image changes to `WITHOUT_READING`.
+fn moods(rt: &impl Abort, alloc: Global, plain: u8, words: &str) -> Vec<Mood> {
+    let mut list = Vec::new(alloc);
+    for _ in 0..plain {
+        list.push(Mood::Grant(254)).ok().expect(rt, "memory");
+    }
+    for word in words.split_whitespace() {
+        let mood = match word {
+            "busy" => Mood::Busy,
+            "cancel" => Mood::Cancel,
+            "grant" => Mood::Grant(3),
+            "refuse" => Mood::Refuse(Code(0xC1)),
+            "none" => Mood::Refuse(Code(0xCC)),
+            "change" => Mood::Change(image(rt, alloc, WITHOUT_READING)),
+            _ => Mood::Grant(254),
+        };
+        list.push(mood).ok().expect(rt, "memory");
+    }
+    list
+}
+
+/// Captures a controller over `SAVED` whose calls meet these moods, after so many plain ones.
+fn is_met(rt: &impl Abort, alloc: Global, plain: u8, words: &str, wanted: &str, left: &str) {
+    let mut ctl = Scripted::new(image(rt, alloc, SAVED), moods(rt, alloc, plain, words));
+    is_captured(rt, alloc, &mut ctl, 254, 3, wanted, left);
+    drop(ctl);
+}
+
+/// Captures a plain controller over the image of this text.
+fn is_plainly_captured(rt: &impl Abort, alloc: Global, text: &str, wanted: &str, left: &str) {
+    let mut ctl = ImageController::new(image(rt, alloc, text));
+    is_captured(rt, alloc, &mut ctl, 254, 3, wanted, left);
+    drop(ctl);
+}
+
+#[test]
+fn all_of_a_plain_controller_comes(rt: HostRuntime) {
+    let alloc = rt.alloc();
+    let mut ctl = ImageController::new(image(&rt, alloc, SAVED));
+    let came = is_captured(&rt, alloc, &mut ctl, 254, 0, SAVED, "");
+    assert!(&rt; came.records == 3 && came.readings == 1 && came.inventories == 2);
+    drop(ctl);
+}
+
+#[test]
+fn all_comes_in_parts_of_one_byte(rt: HostRuntime) {
+    let alloc = rt.alloc();
+    let mut ctl = ImageController::new(image(&rt, alloc, SAVED));
+    is_captured(&rt, alloc, &mut ctl, 1, 0, SAVED, "");
+    drop(ctl);
+}
+
+#[test]
+fn all_comes_through_troubles(rt: HostRuntime) {
+    let alloc = rt.alloc();
+    is_met(
+        &rt,
+        alloc,
+        0,
+        "busy plain grant cancel grant grant plain busy grant grant",
+        SAVED,
+        "",
+    );
+    is_met(
+        &rt,
+        alloc,
+        5,
+        "busy plain busy plain busy plain busy plain",
+        SAVED,
+        "",
+    );
+}
+
+// The calls over `SAVED`: a reservation, two parts of each of two records; a reservation, the entry; the infos; the reading;
+// the size and the bytes of both inventories.
+
+#[test]
+fn what_is_refused_leaves_the_image_whole(rt: HostRuntime) {
+    let alloc = rt.alloc();
+    is_met(
+        &rt,
+        alloc,
+        9,
+        "refuse",
+        WITHOUT_READING,
+        "reading 0 30: refused with code C1h\n",
+    );
+    is_met(
+        &rt,
+        alloc,
+        10,
+        "none none",
+        WITHOUT_INVENTORY,
+        "fru 00: size refused with code CCh\n",
+    );
+}
+
+#[test]
+fn an_inventory_that_breaks_off_is_missed(rt: HostRuntime) {
+    let alloc = rt.alloc();
+    let left = "fru 00: refused with code C1h\nnot whole\n";
+    is_met(&rt, alloc, 11, "refuse", WITHOUT_INVENTORY, left);
+}
+
+#[test]
+fn what_is_given_up_is_missed(rt: HostRuntime) {
+    let alloc = rt.alloc();
+    is_met(
+        &rt,
+        alloc,
+        9,
+        "busy busy busy busy",
+        WITHOUT_READING,
+        "reading 0 30: gave up\nnot whole\n",
+    );
+}
+
+const ENTRY_REFUSED: &str = "ipmi-image 2
+sdr 0001 0002 010051021b2000300000000000000000000000000000000000000000000000c0
+sel 0001 - 01000201000020200004013001595f5a
+fru 00 0100
+reading 0 30 2dc00000
+info sdr 510300000401000020ffffffff02
+info sel 510100000201000000ffffffff00
+end
+";
+
+#[test]
+fn after_a_record_that_is_refused_the_rest_comes(rt: HostRuntime) {
+    let alloc = rt.alloc();
+    let left = "sdr: record 0002h refused with code C1h\nnot whole\n";
+    is_met(&rt, alloc, 3, "refuse", ENTRY_REFUSED, left);
+}
+
+#[test]
+fn a_changed_controller_is_read_as_it_is(rt: HostRuntime) {
+    is_met(&rt, rt.alloc(), 3, "change", WITHOUT_READING, "");
+}
+
+const LOST: &str = "ipmi-image 2
+sdr 0001 0007 010051c000
+end
+";
+
+const TURNED: &str = "ipmi-image 2
+sdr 0005 - 050051c000
+sdr 0006 0005 060051c000
+end
+";
+
+#[test]
+fn a_chain_that_breaks_off_is_not_whole_and_one_that_turns_is(rt: HostRuntime) {
+    let alloc = rt.alloc();
+    is_plainly_captured(
+        &rt,
+        alloc,
+        LOST,
+        LOST,
+        "sdr: record 0007h not present\nnot whole\n",
+    );
+    is_plainly_captured(&rt, alloc, TURNED, TURNED, "sdr: cycle at 0005h\n");
+}
