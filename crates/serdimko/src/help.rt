@@ -39,7 +39,7 @@ Options, anywhere, also after the command:
   --tries N       retries for one record or answer, 0 to 255 (default 5)
   --id HEX        the ID of sel get in hex, as sel list prints it
   --strict        status 1 if a fault or a missing device was printed
-  -o, --output FILE   capture writes to this file, where the image is whole
+  --output FILE   capture writes to this file (-o) if the image is whole
   --quiet         capture shows no progress
   -h, --help      print help
   -V, --version   print the version
@@ -50,7 +50,7 @@ Examples:
   serdimko --image server.image sel list last 20
   serdimko --image server.image fru print 0
   serdimko-live -I lanplus -H HOST -U USER -E -- sdr list
-  serdimko-capture -- -I lanplus -H HOST -U USER -E > server.image
+  serdimko-live -I lanplus -H HOST -U USER -E -- capture -o server.image
 
 Exit status: 0 all was printed; 1 something is missing, or faulty (--strict);
 2 the command line; 3 the image; 4 a write failed; 5 memory ran out.
