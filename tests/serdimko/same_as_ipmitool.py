@@ -100,7 +100,7 @@ def generated_line(rng, images):
 
 OWN = {"-h", "--help", "-V", "--version", "--strict", "--id", "help"}
 USAGE = b"usage: ipmitool [--image FILE] [--from HEX4] [--part N] [--tries N] fru|sdr|sel WORDS\n"
-WHY_NOT_READ = b": (no such file|is a directory|permission denied|longer than 64 MiB|can't be opened or read)"
+WHY_NOT_READ = b": (no such file|is a directory|permission denied|longer than 64 MiB|the name is empty|can't be opened or read)"
 EXPLANATION = rb" \([^\n]+\)"
 WHY_NO_HEADER = (
     rb"( \((it is empty|compressed: unpack it first|line ends are CR LF|begins with a byte order mark|begins as UTF-16|the first line is not 'ipmi-image 1' or 'ipmi-image 2')\))"
