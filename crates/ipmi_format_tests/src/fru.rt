@@ -2,5 +2,6 @@
 mod damaged;
 mod examples;
 mod inventories;
+mod lines;
 mod memory;
 mod views;

@@ -11,3 +11,5 @@ mod full_fields;
 mod full_lines;
 mod lines;
 mod memory;
+mod parts;
+mod sharing;

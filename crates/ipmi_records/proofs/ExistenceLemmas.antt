@@ -19,7 +19,7 @@ module _ (decimal : DecimalExists) where
   sensor_column (Shown.Value reading) (Some bytes) = raw_text bytes reading.raw
   sensor_column _ _ = (_, refl)
 
-  column_of : (view : SdrView) (reading : Option Reading)
+  pub column_of : (view : SdrView) (reading : Option Reading)
       → (text : List ℕ) × IsReadingColumn view reading text
   column_of (SdrView.Full bytes) reading = sensor_column (shown_of (sensor_in bytes) reading) (if analog_format bytes == 3 then None else Some bytes)
   column_of (SdrView.Compact bytes) reading = sensor_column (shown_of (sensor_in bytes) reading) None
@@ -49,7 +49,7 @@ module _ (decimal : DecimalExists) where
     },
   )
 
-  threshold_texts : (bytes : List ℕ) (thresholds : List Threshold)
+  pub threshold_texts : (bytes : List ℕ) (thresholds : List Threshold)
       → (text : List ℕ) × AreThresholdTexts bytes thresholds text
   threshold_texts bytes [] = (_, refl)
   threshold_texts bytes (threshold ∷ thresholds) =

@@ -24,7 +24,7 @@ module _ (one_text : DecimalIsUnique) where
   one_sensor (Shown.Value reading) (Some bytes) text other h k = one_raw bytes reading.raw text other h k
   one_sensor _ _ text other h k = h ∙ sym k
 
-  one_column : (view : SdrView) (reading : Option Reading) (text other : List ℕ)
+  pub one_column : (view : SdrView) (reading : Option Reading) (text other : List ℕ)
       → IsReadingColumn view reading text → IsReadingColumn view reading other → text ≡ other
   one_column (SdrView.Full bytes) reading text other h k = one_sensor (shown_of (sensor_in bytes) reading) (if analog_format bytes == 3 then None else Some bytes) text other h k
   one_column (SdrView.Compact bytes) reading text other h k = one_sensor (shown_of (sensor_in bytes) reading) None text other h k
@@ -48,7 +48,7 @@ module _ (one_text : DecimalIsUnique) where
   one_threshold false bytes threshold text other h k = h ∙ sym k
   one_threshold true bytes threshold text other h k = cc (one_raw bytes (threshold_in threshold bytes) h.value k.value h.is_value k.is_value)
 
-  one_list : (bytes : List ℕ) (thresholds : List Threshold) (text other : List ℕ)
+  pub one_list : (bytes : List ℕ) (thresholds : List Threshold) (text other : List ℕ)
       → AreThresholdTexts bytes thresholds text → AreThresholdTexts bytes thresholds other
       → text ≡ other
   one_list bytes [] text other h k = h ∙ sym k

@@ -36,8 +36,12 @@ pub record IsQuantity (value : ℤ) (unit text : List ℕ) : Type 0 where
   pub is_decimal : IsDecimalOf value number
   pub text_is : text ≡ number ++ after_space unit
 
+-- a byte that no record gives a value
+abbrev pub raw_byte_text : ℕ → List ℕ
+raw_byte_text raw = codes "raw 0x" ++ hex_byte raw
+
 abbrev pub IsValueText : Option ℤ → List ℕ → ℕ → List ℕ → Type 0
-IsValueText None unit raw text = text ≡ codes "raw 0x" ++ hex_byte raw
+IsValueText None unit raw text = text ≡ raw_byte_text raw
 IsValueText (Some value) unit raw text = IsQuantity value unit text
 
 -- what a raw byte of a full record's sensor means: its value by the record's factors, with its unit, or the byte itself
@@ -46,9 +50,20 @@ abbrev pub IsRawText : List ℕ → ℕ → List ℕ → Type 0
 IsRawText bytes raw text =
     IsValueText (reading_value (factors_in bytes) raw) (unit_text_in bytes) raw text
 
--- the 15 states of a discrete sensor, those from 8 on above the others
+-- the same without the unit
+abbrev pub IsNumberText : Option ℤ → ℕ → List ℕ → Type 0
+IsNumberText None raw text = text ≡ raw_byte_text raw
+IsNumberText (Some value) raw text = IsDecimalOf value text
+
+abbrev pub IsRawValue : List ℕ → ℕ → List ℕ → Type 0
+IsRawValue bytes raw text = IsNumberText (reading_value (factors_in bytes) raw) raw text
+
+-- the 15 states of a discrete sensor, a bit for each, those from 8 on above the others
+abbrev pub states_of : Reading → ℕ
+states_of reading = 256 * (reading.more % 128) + reading.status
+
 abbrev pub states_text : Reading → List ℕ
-states_text reading = codes "states 0x" ++ hex_word (256 * (reading.more % 128) + reading.status)
+states_text reading = codes "states 0x" ++ hex_word (states_of reading)
 
 -- ---- the reading column
 

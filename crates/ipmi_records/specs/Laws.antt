@@ -3,14 +3,53 @@ use Rattle.std.specs.Prelude.{◌≡◌, ℕ, List, Option}
 use Rattle.ipmi_records.specs.Below.{AreBytes, Reading}
 use Rattle.ipmi_records.specs.declared.sdr.SdrView.{SdrView}
 use Rattle.ipmi_records.specs.declared.sel.SelView.{SelView}
-use Rattle.ipmi_records.specs.SdrText.{IsExtendedLine, IsSdrLine}
+use Rattle.ipmi_records.specs.declared.threshold.Threshold.{Threshold}
+use Rattle.ipmi_records.specs.Columns.{IsReadingColumn}
+use Rattle.ipmi_records.specs.SdrText.{AreThresholdTexts, IsExtendedLine, IsSdrBlock, IsSdrLine}
 use Rattle.ipmi_records.specs.Sel.{entry_bytes}
 use Rattle.ipmi_records.specs.SelText.{IsSelBlock, IsSelLine}
+
+-- a record has one reading column under a reading
+abbrev pub ReadingColumnIsUnique : Type 0
+ReadingColumnIsUnique = (view : SdrView) (reading : Option Reading) (text other : List ℕ)
+    → IsReadingColumn view reading text → IsReadingColumn view reading other → text ≡ other
+
+-- and the lines of a record's thresholds are one text
+abbrev pub ThresholdTextIsUnique : Type 0
+ThresholdTextIsUnique =
+    (bytes : List ℕ) (thresholds : List Threshold) (text other : List ℕ)
+    → AreThresholdTexts bytes thresholds text → AreThresholdTexts bytes thresholds other
+    → text ≡ other
+
+-- a record has a reading column
+abbrev pub ReadingColumnExists : Type 0
+ReadingColumnExists = (view : SdrView) (reading : Option Reading)
+    → (text : List ℕ) × IsReadingColumn view reading text
+
+-- and its thresholds have lines
+abbrev pub ThresholdTextExists : Type 0
+ThresholdTextExists = (bytes : List ℕ) (thresholds : List Threshold)
+    → (text : List ℕ) × AreThresholdTexts bytes thresholds text
 
 -- a record has one line under a reading
 abbrev pub SdrLineIsUnique : Type 0
 SdrLineIsUnique = (view : SdrView) (reading : Option Reading) (text other : List ℕ)
     → IsSdrLine view reading text → IsSdrLine view reading other → text ≡ other
+
+-- and one block under an id and a reading
+abbrev pub SdrBlockIsUnique : Type 0
+SdrBlockIsUnique =
+    (id : ℕ) (view : SdrView) (reading : Option Reading) (text other : List ℕ)
+    → IsSdrBlock id view reading text → IsSdrBlock id view reading other → text ≡ other
+
+-- it has a line, and a block
+abbrev pub SdrLineExists : Type 0
+SdrLineExists =
+    (view : SdrView) (reading : Option Reading) → (text : List ℕ) × IsSdrLine view reading text
+
+abbrev pub SdrBlockExists : Type 0
+SdrBlockExists = (id : ℕ) (view : SdrView) (reading : Option Reading)
+    → (text : List ℕ) × IsSdrBlock id view reading text
 
 -- and one extended line
 abbrev pub ExtendedLineIsUnique : Type 0

@@ -4,10 +4,11 @@ use Rattle.ipmi_records.specs.Below.{sdr_len, sdr_text_of}
 use Rattle.ipmi_records.specs.declared.sdr.SdrFault.{SdrFault}
 use Rattle.ipmi_records.specs.declared.sdr.SdrView.{SdrView}
 use Rattle.ipmi_records.specs.declared.sensor.Sensor.{Sensor}
+use Rattle.ipmi_records.specs.declared.sharing.Sharing.{Sharing}
 use Rattle.ipmi_records.specs.declared.locator.Locator.{Locator}
 use Rattle.ipmi_records.specs.declared.id_string.IdString.{IdString}
 use Rattle.ipmi_records.specs.Bytes.{byte_at, has_bit}
-use Rattle.ipmi_records.specs.Sensor.{event_only_sensor, locator_in, sensor_in}
+use Rattle.ipmi_records.specs.Sensor.{event_only_sensor, locator_in, sensor_in, sharing_at}
 
 -- ---- views
 
@@ -63,6 +64,12 @@ sensor_of (SdrView.Full bytes) = Some (sensor_in bytes)
 sensor_of (SdrView.Compact bytes) = Some (sensor_in bytes)
 sensor_of (SdrView.EventOnly bytes) = Some (event_only_sensor bytes)
 sensor_of _ = None
+
+-- how sensors share a record: bytes 24 and 25 of a compact one, 13 and 14 of an event-only one; others are not shared
+abbrev pub sharing_of : SdrView → Option Sharing
+sharing_of (SdrView.Compact bytes) = Some (sharing_at 24 bytes)
+sharing_of (SdrView.EventOnly bytes) = Some (sharing_at 13 bytes)
+sharing_of _ = None
 
 -- what a locator tells of its device; other records are of no device
 abbrev pub locator_of : SdrView → Option Locator

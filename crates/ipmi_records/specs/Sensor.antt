@@ -1,8 +1,10 @@
 -- Where the fields of sensors and device locators are in a sensor data record (IPMI v2.0, section 43).
-use Rattle.std.specs.Prelude.{ℕ, ◌+◌, ◌*◌, ◌/◌, ◌%◌, Bool, ℤ, List}
+use Rattle.std.specs.Prelude.{ℕ, ◌+◌, ◌*◌, ◌/◌, ◌%◌, ◌==◌, if◌then◌else◌, Bool, ℤ, List}
 use Rattle.ipmi_records.specs.Below.{SensorFactors, Units}
 use Rattle.ipmi_records.specs.declared.entity.Entity.{Entity}
 use Rattle.ipmi_records.specs.declared.sensor.Sensor.{Sensor}
+use Rattle.ipmi_records.specs.declared.sharing.Modifier.{Modifier}
+use Rattle.ipmi_records.specs.declared.sharing.Sharing.{Sharing}
 use Rattle.ipmi_records.specs.declared.threshold.Threshold.{Threshold}
 use Rattle.ipmi_records.specs.declared.locator.Locator.{Locator}
 use Rattle.ipmi_records.specs.Bytes.{byte_at, has_bit, signed}
@@ -39,6 +41,24 @@ units_in bytes = record {
   units1 = byte_at 21 bytes;
   base = byte_at 22 bytes;
   modifier = byte_at 23 bytes;
+}
+
+-- ---- only compact and event-only records (tables 43-2 and 43-3)
+
+-- the ID string instance modifier type
+abbrev pub modifier_of : ℕ → Modifier
+modifier_of bits =
+    if bits == 0 then Modifier.Numeric
+    else if bits == 1 then Modifier.Alpha
+    else Modifier.Reserved
+
+-- how sensors share a record: bits 3:0 of a byte are their count, bits 5:4 the modifier's type, and bits 6:0 of the
+-- next byte its offset
+abbrev pub sharing_at : ℕ → List ℕ → Sharing
+sharing_at place bytes = record {
+  count = byte_at place bytes % 16;
+  modifier = modifier_of (byte_at place bytes / 16 % 4);
+  offset = byte_at (place + 1) bytes % 128;
 }
 
 -- ---- only full records (table 43-1)

@@ -1,7 +1,7 @@
 //! The reading column and the status of a record.
 ghost use Rattle.std.specs.Prelude.{◌≡◌, ◌+◌, ◌*◌, ◌%◌, ◌++◌, OnOk, option_map, string_bytes};
 ghost use Rattle.ipmi_records.specs.Below.{Appends};
-ghost use Rattle.ipmi_records.specs.Prelude.{IsRawText, IsReadingColumn, IsSensorColumn, fru_column, has_thresholds, is_available, sensor_status, shown_of, shown_reading, states_text, status_of, threshold_status};
+ghost use Rattle.ipmi_records.specs.Prelude.{IsRawText, IsRawValue, IsReadingColumn, IsSensorColumn, fru_column, has_thresholds, is_available, raw_byte_text, sensor_status, shown_of, shown_reading, states_of, states_text, status_of, threshold_status};
 
 use crate::bits::has_bit;
 use crate::full::FullSensor;
@@ -26,8 +26,8 @@ const READING_UNAVAILABLE: u32 = 5;
 const STATE_BITS: u8 = 0x7F;
 
 /// What a sensor that could be read shows.
-#[derive(Clone, Copy)]
-pub(crate) enum Shown {
+#[derive(Clone, Copy, Debug, PartialEq, Eq)]
+pub enum Shown {
     /// Nothing: the sensor belongs to another controller, which is not asked.
     OtherOwner,
     /// No reading.
@@ -57,8 +57,8 @@ fn shown_reading(reading: Option<Reading>) -> Shown
     }
 }
 
-/// What a sensor shows.
-fn shown_of(sensor: &Sensor, reading: Option<Reading>) -> Shown
+/// What a sensor shows, by the answer of Get Sensor Reading for it, if there is one.
+pub fn shown_of(sensor: &Sensor, reading: Option<Reading>) -> Shown
     ensures { result ≡ shown_of sensor.now reading }
 {
     if sensor.owner == OWN_ADDRESS {
@@ -68,22 +68,40 @@ fn shown_of(sensor: &Sensor, reading: Option<Reading>) -> Shown
     }
 }
 
+/// Appends a raw byte that no record gives a value: `raw 0xNN`.
+pub fn push_raw_byte(text: &mut String, raw: u8) -> Result<(), AllocError>
+    ensures { OnOk result (string_bytes text.new ≡ string_bytes text.old ++ raw_byte_text raw) }
+{
+    let raw = HexByte(raw);
+    write!(text, "raw 0x{raw}")
+}
+
+/// Appends the exact decimal of a raw byte's value, without its units, or `raw 0xNN` where the record gives it none.
+pub fn push_value(text: &mut String, full: &FullSensor, raw: u8) -> Result<(), AllocError>
+    ensures { OnOk result
+        (Appends (IsRawValue full.now raw) (string_bytes text.old) (string_bytes text.new)) }
+{
+    match convert(&full.factors(), raw) {
+        Some(value) => push_fixed(text, value),
+        None => push_raw_byte(text, raw),
+    }
+}
+
 /// Appends the value of a raw byte with its units, or `raw 0xNN` where the record gives it none.
-pub(crate) fn push_raw(text: &mut String, full: &FullSensor, raw: u8) -> Result<(), AllocError>
+pub fn push_raw(text: &mut String, full: &FullSensor, raw: u8) -> Result<(), AllocError>
     ensures { OnOk result
         (Appends (IsRawText full.now raw) (string_bytes text.old) (string_bytes text.new)) }
 {
     let Some(value) = convert(&full.factors(), raw) else {
-        let raw = HexByte(raw);
-        return write!(text, "raw 0x{raw}");
+        return push_raw_byte(text, raw);
     };
     push_fixed(text, value)?;
     push_units(text, full.units())
 }
 
-/// The 15 states of a discrete sensor, those from 8 on above the others.
-fn states_in(reading: Reading) -> u16
-    ensures { result ≡ 256 * (reading.more % 128) + reading.status }
+/// The 15 states of a discrete sensor, a bit for each, state 0 the lowest.
+pub fn states_in(reading: Reading) -> u16
+    ensures { result ≡ states_of reading }
 {
     u16::from_be_bytes([reading.more & STATE_BITS, reading.status])
 }
@@ -127,8 +145,8 @@ fn push_fru(text: &mut String, fru: Option<u8>) -> Result<(), AllocError>
     }
 }
 
-/// Appends the reading column of a record.
-pub(crate) fn push_reading(
+/// Appends the reading column of a record, as `sdr_line` has it.
+pub fn push_reading(
     text: &mut String,
     view: &SdrView,
     reading: Option<Reading>,
@@ -174,7 +192,7 @@ fn threshold_status(bits: u8) -> &'static str
 }
 
 /// Whether the sensor has thresholds, by its event/reading type.
-pub(crate) fn has_thresholds(sensor: &Sensor) -> bool
+pub fn has_thresholds(sensor: &Sensor) -> bool
     ensures { result ≡ has_thresholds sensor.now }
 {
     sensor.event_type == THRESHOLD_EVENT_TYPE
@@ -196,8 +214,8 @@ fn sensor_status(sensor: &Sensor, reading: Option<Reading>) -> &'static str
     }
 }
 
-/// The status of a record.
-pub(crate) fn status_of(view: &SdrView, reading: Option<Reading>) -> &'static str
+/// The status of a record, as `sdr_line` has it.
+pub fn status_of(view: &SdrView, reading: Option<Reading>) -> &'static str
     ensures { result.now ≡ status_of view.now reading }
 {
     match view {

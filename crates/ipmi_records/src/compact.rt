@@ -1,10 +1,11 @@
 //! The compact sensor record (IPMI v2.0, section 43.2). Bytes are counted from 0.
 ghost use Rattle.std.specs.Prelude.{◌≡◌};
-ghost use Rattle.ipmi_records.specs.Prelude.{id_field_at, id_field_of, sensor_in, units_in};
+ghost use Rattle.ipmi_records.specs.Prelude.{id_field_at, id_field_of, sensor_in, sharing_at, units_in};
 
 use crate::at_least::AtLeast;
 use crate::id_string::IdString;
 use crate::sensor::{Sensor, sensor_by, units_in};
+use crate::sharing::{Sharing, sharing_at};
 use ipmi_text::Units;
 
 /// The type of a compact sensor record.
@@ -15,6 +16,9 @@ const SENSOR_TYPE: usize = 12;
 
 /// Where it has the event/reading type.
 const EVENT_TYPE: usize = 13;
+
+/// Where it has how sensors share it: two bytes.
+const SHARING: usize = 23;
 
 /// Where it has the type/length byte of its ID string.
 const ID_STRING: usize = 31;
@@ -38,6 +42,13 @@ impl<'a> CompactSensor<'a> {
         ensures { result ≡ units_in self.now }
     {
         units_in(self.bytes)
+    }
+
+    /// How sensors share the record.
+    pub fn sharing(&self) -> Sharing
+        ensures { result ≡ sharing_at 24 self.now }
+    {
+        sharing_at(self.bytes, SHARING)
     }
 
     /// The ID string, at the record's end.

@@ -1,10 +1,11 @@
 //! The event-only record (IPMI v2.0, section 43.3). Bytes are counted from 0.
 ghost use Rattle.std.specs.Prelude.{◌≡◌};
-ghost use Rattle.ipmi_records.specs.Prelude.{event_only_sensor, id_field_at, id_field_of};
+ghost use Rattle.ipmi_records.specs.Prelude.{event_only_sensor, id_field_at, id_field_of, sharing_at};
 
 use crate::at_least::AtLeast;
 use crate::id_string::IdString;
 use crate::sensor::{Sensor, sensor_by};
+use crate::sharing::{Sharing, sharing_at};
 
 /// The type of an event-only record.
 pub const EVENT_ONLY_TYPE: u8 = 0x03;
@@ -14,6 +15,9 @@ const SENSOR_TYPE: usize = 10;
 
 /// Where it has the event/reading type.
 const EVENT_TYPE: usize = 11;
+
+/// Where it has how sensors share it: two bytes.
+const SHARING: usize = 12;
 
 /// Where it has the type/length byte of its ID string.
 const ID_STRING: usize = 16;
@@ -30,6 +34,13 @@ impl<'a> EventOnlySensor<'a> {
         ensures { result ≡ event_only_sensor self.now }
     {
         sensor_by(self.bytes[SENSOR_TYPE], self.bytes[EVENT_TYPE], self.bytes)
+    }
+
+    /// How sensors share the record.
+    pub fn sharing(&self) -> Sharing
+        ensures { result ≡ sharing_at 13 self.now }
+    {
+        sharing_at(self.bytes, SHARING)
     }
 
     /// The ID string, at the record's end.

@@ -1,7 +1,21 @@
 //! What follows from the definitions of lines and blocks by themselves, whatever wrote them.
 ghost use Rattle.std.specs.Prelude.{◌≡◌, ℕ, List, Option};
 ghost use Rattle.ipmi_records.specs.Below.{AreBytes, Reading};
-ghost use Rattle.ipmi_records.specs.Prelude.{SdrView, SelView, IsInfoBlock, ExtendedLineIsUnique, SdrLineIsUnique, SelBlockIsUnique, SelLineIsUnique, IsExtendedLine, IsSdrBlock, IsSdrLine, IsSelBlock, IsSelLine};
+ghost use Rattle.ipmi_records.specs.Prelude.{SdrView, SelView, IsInfoBlock, ExtendedLineIsUnique, ReadingColumnExists, ReadingColumnIsUnique, SdrBlockExists, SdrBlockIsUnique, SdrLineExists, SdrLineIsUnique, SelBlockIsUnique, SelLineIsUnique, ThresholdTextExists, ThresholdTextIsUnique, IsExtendedLine, IsSelBlock, IsSelLine};
+
+/// A record has at most one reading column under a reading, so what `push_reading` appends is the only one.
+pub fn one_reading_column()
+    ensures { ReadingColumnIsUnique }
+{
+    ipmi_text::laws::one_decimal_of_a_value();
+}
+
+/// The lines of a record's thresholds are at most one text, so what `threshold_lines` gives is the only one.
+pub fn one_text_of_thresholds()
+    ensures { ThresholdTextIsUnique }
+{
+    ipmi_text::laws::one_decimal_of_a_value();
+}
 
 /// A record has at most one line under a reading, so what `sdr_line` gives is the only one.
 pub fn one_sdr_line()
@@ -19,8 +33,7 @@ pub fn one_extended_line()
 
 /// A record has at most one block under an id and a reading, so what `sdr_block` gives is the only one.
 pub fn one_sdr_block()
-    ensures { (id : ℕ) (view : SdrView) (reading : Option Reading) (text other : List ℕ) →
-        IsSdrBlock id view reading text → IsSdrBlock id view reading other → text ≡ other }
+    ensures { SdrBlockIsUnique }
 {
     ipmi_text::laws::one_decimal_of_a_value();
 }
@@ -47,14 +60,20 @@ pub fn one_info_block()
     ipmi_text::laws::one_utc_text();
 }
 
+/// Each record has a reading column under a reading, and thresholds have lines.
+pub fn each_record_has_columns()
+    ensures column { ReadingColumnExists }
+    ensures thresholds { ThresholdTextExists }
+{
+    ipmi_text::laws::each_value_has_a_decimal();
+}
+
 /// Each record has a line, an extended line and a block under a reading, its block under an id too.
 pub fn each_record_has_texts()
-    ensures line { (view : SdrView) (reading : Option Reading) →
-        (text : List ℕ) × IsSdrLine view reading text }
+    ensures line { SdrLineExists }
     ensures extended_line { (view : SdrView) (reading : Option Reading) →
         (text : List ℕ) × IsExtendedLine view reading text }
-    ensures block { (id : ℕ) (view : SdrView) (reading : Option Reading) →
-        (text : List ℕ) × IsSdrBlock id view reading text }
+    ensures block { SdrBlockExists }
 {
     ipmi_text::laws::each_value_has_a_decimal();
 }

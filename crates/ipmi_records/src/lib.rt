@@ -21,8 +21,13 @@ mod sdr_lines;
 mod sel;
 mod sel_texts;
 mod sensor;
+mod sharing;
 mod threshold;
 
+pub use column::{
+    Shown, has_thresholds, push_raw, push_raw_byte, push_reading, push_value, shown_of, states_in,
+    status_of,
+};
 pub use compact::{COMPACT_TYPE, CompactSensor};
 pub use entity::Entity;
 pub use event_only::{EVENT_ONLY_TYPE, EventOnlySensor};
@@ -33,10 +38,12 @@ pub use locator::{
     CONTROLLER_TYPE, FRU_TYPE, FruLocator, GENERIC_TYPE, GenericLocator, Locator,
     ManagementControllerLocator,
 };
+pub use padding::pad;
 pub use sdr::{OtherRecord, SdrFault, SdrView};
-pub use sdr_blocks::sdr_block;
-pub use sdr_lines::{sdr_eline, sdr_fault_line, sdr_line};
+pub use sdr_blocks::{sdr_block, threshold_lines};
+pub use sdr_lines::{push_name, push_name_column, sdr_eline, sdr_fault_line, sdr_line};
 pub use sel::{EventEntry, OemNonTimestampedEntry, OemTimestampedEntry, OtherEntry, SelView};
-pub use sel_texts::{sel_block, sel_line};
+pub use sel_texts::{EventSensor, direction_text, sel_block, sel_line, sensor_of_event};
 pub use sensor::Sensor;
+pub use sharing::{Modifier, Sharing};
 pub use threshold::Threshold;

@@ -30,7 +30,7 @@ fn push_spaces(line: &mut String, count: usize) -> Result<(), AllocError>
 }
 
 /// Appends spaces to the column that begins at a place of the line, up to a width in characters. A longer column is kept whole.
-pub(crate) fn pad(line: &mut String, start: usize, width: usize) -> Result<(), AllocError>
+pub fn pad(line: &mut String, start: usize, width: usize) -> Result<(), AllocError>
     requires { start ≤ length (string_bytes line.old) }
     ensures { OnOk result (string_bytes line.new ≡ string_bytes line.old ++ replicate
         (width - char_count (drop start (string_bytes line.old))) 32) }

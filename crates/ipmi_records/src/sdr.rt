@@ -1,6 +1,6 @@
 //! Sensor data records as views that borrow their bytes (IPMI v2.0, section 43).
 ghost use Rattle.std.specs.Prelude.{◌≡◌, ◌≤◌, IfOk, length, option_map, string_bytes};
-ghost use Rattle.ipmi_records.specs.Prelude.{byte_at, fru_of, id_field_of, id_string_of, key_of, least_len, locator_of, name_of, number_at, reading_of, record_bytes, record_type, sdr_view_by_type, sdr_view_of, sensor_of};
+ghost use Rattle.ipmi_records.specs.Prelude.{byte_at, fru_of, id_field_of, id_string_of, key_of, least_len, locator_of, name_of, number_at, reading_of, record_bytes, record_type, sdr_view_by_type, sdr_view_of, sensor_of, sharing_of};
 
 use crate::at_least::AtLeast;
 use crate::compact::{COMPACT_LEAST_LEN, COMPACT_TYPE, CompactSensor};
@@ -13,6 +13,7 @@ use crate::locator::{
 };
 use crate::sdr::SdrView::{Compact, Controller, EventOnly, Fru, Full, Generic, Other};
 use crate::sensor::Sensor;
+use crate::sharing::Sharing;
 use byteorder::{ByteOrder, LittleEndian};
 use ipmi_text::{SDR_HEADER_LEN, sdr_len, sdr_text};
 use std::alloc::{AllocError, Global};
@@ -169,6 +170,17 @@ impl<'a> SdrView<'a> {
             Compact(view) => Some(view.sensor()),
             EventOnly(view) => Some(view.sensor()),
             Generic(_) | Fru(_) | Controller(_) | Other(_) => None,
+        }
+    }
+
+    /// How sensors share the record. None for a record that is never shared: only compact and event-only records are.
+    pub fn sharing(&self) -> Option<Sharing>
+        ensures { result ≡ sharing_of self.now }
+    {
+        match self {
+            Compact(view) => Some(view.sharing()),
+            EventOnly(view) => Some(view.sharing()),
+            Full(_) | Generic(_) | Fru(_) | Controller(_) | Other(_) => None,
         }
     }
 

@@ -161,8 +161,13 @@ fn all_thresholds(alloc: Global, full: &FullSensor) -> Result<String, AllocError
     Ok(text)
 }
 
-/// The lines of the thresholds that a full record's sensor has.
-fn threshold_lines(alloc: Global, full: &FullSensor, sensor: &Sensor) -> Result<String, AllocError>
+/// The lines of the thresholds that a full record's sensor has, as `sdr_block` has them: each that can be read, from
+/// the upper non-recoverable one down. A sensor without thresholds has none.
+pub fn threshold_lines(
+    alloc: Global,
+    full: &FullSensor,
+    sensor: &Sensor,
+) -> Result<String, AllocError>
     ensures { IfOk result (λ text. AreThresholdTexts full.now (thresholds_of sensor.now)
         (string_bytes text)) }
 {

@@ -27,8 +27,8 @@ const STATUS_WIDTH: usize = 3;
 /// How many that of entities has.
 const ENTITY_WIDTH: usize = 5;
 
-/// Appends the name of a record, nothing where it has none.
-fn push_name(alloc: Global, line: &mut String, view: &SdrView) -> Result<(), AllocError>
+/// Appends the name of a record as it is printed, nothing where it has none.
+pub fn push_name(alloc: Global, line: &mut String, view: &SdrView) -> Result<(), AllocError>
     ensures { OnOk result
         (string_bytes line.new ≡ string_bytes line.old ++ printed_name view.now) }
 {
@@ -38,8 +38,8 @@ fn push_name(alloc: Global, line: &mut String, view: &SdrView) -> Result<(), All
     }
 }
 
-/// Appends the name of a record filled up to the width of its column.
-fn push_name_column(alloc: Global, line: &mut String, view: &SdrView) -> Result<(), AllocError>
+/// Appends the name of a record filled up to the width of its column, 16 characters.
+pub fn push_name_column(alloc: Global, line: &mut String, view: &SdrView) -> Result<(), AllocError>
     ensures { OnOk result
         (string_bytes line.new ≡ string_bytes line.old ++ padded_to 16 (printed_name view.now)) }
 {

@@ -17,9 +17,11 @@ const BLOCK_CAPACITY: usize = 256;
 
 /// The sensor of an event, printed as what it senses and its number.
 #[derive(Clone, Copy)]
-struct EventSensor {
-    kind: SensorType,
-    number: HexByte,
+pub struct EventSensor {
+    /// What it senses.
+    pub kind: SensorType,
+    /// Its number.
+    pub number: HexByte,
 }
 
 impl fmt::Display for EventSensor {
@@ -33,7 +35,7 @@ impl fmt::Display for EventSensor {
 }
 
 /// The sensor of an event.
-fn sensor_of_event(event: &EventEntry) -> EventSensor
+pub fn sensor_of_event(event: &EventEntry) -> EventSensor
     ensures { numbered_sensor result.kind.0 result.number.0 ≡ numbered_sensor (sensor_type event.now) (sensor_number event.now) }
 {
     EventSensor {
@@ -52,8 +54,8 @@ fn words_of_event(event: &EventEntry) -> EventWords
     }
 }
 
-/// The word for an event that comes or goes.
-fn direction_text(event: &EventEntry) -> &'static str
+/// The word for an event that comes or goes: `Asserted` or `Deasserted`.
+pub fn direction_text(event: &EventEntry) -> &'static str
     ensures { result.now ≡ direction_text (is_deasserted event.now) }
 {
     if event.is_deasserted() {

@@ -53,7 +53,7 @@ impl Threshold {
     }
 
     /// Whether its bit is set: a record so marks the readable thresholds, a reading those that are passed.
-    pub(crate) fn is_in(self, bits: u8) -> bool
+    pub fn is_in(self, bits: u8) -> bool
         ensures { result ≡ has_bit (threshold_bit self) bits }
     {
         has_bit(bits, self.bit())

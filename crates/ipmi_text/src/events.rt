@@ -33,8 +33,9 @@ const THRESHOLD_EVENTS: [&str; 12] = [
     "Upper Non-recoverable going high",
 ];
 
-/// The words of an event, which only threshold events have.
-fn event_name(event: u8, offset: u8) -> Option<&'static str>
+/// The words of an event by its event/reading type code and its offset, which only threshold events (type 01h) have
+/// (IPMI v2.0, table 42-2).
+pub fn event_name(event: u8, offset: u8) -> Option<&'static str>
     ensures { option_map (λ s. s.now) result ≡ event_name event offset }
 {
     if event == THRESHOLD_EVENT_TYPE {

@@ -19,7 +19,7 @@ mod units;
 
 pub use chassis::chassis_text;
 pub use decimal::{Fixed, fixed_text, push_fixed};
-pub use events::{EventWords, THRESHOLD_EVENT_TYPE, event_text};
+pub use events::{EventWords, THRESHOLD_EVENT_TYPE, event_name, event_text};
 pub use factors::{Factors, NO_ANALOG_READING, convert};
 pub use field_text::{ENGLISH, fru_text, push_sdr_text, sdr_text};
 pub use hex_digits::{ByteH, HexByte, HexWord, WordH};
