@@ -52,7 +52,7 @@ module _ (decimal : DecimalExists) (minutes_text : MinutesTextExists) where
     by_area_fault None fine = by_fields fine (is_some (fields_in (field_bytes kind (area_at offset bytes)))) refl
     by_area_fault (Some f) e = (_, record { found = Some (Err f); is_found = (offset, (is, inl e)); is_text = refl })
 
-  area_text : (kind : AreaKind) (bytes : List ℕ) → AreBytes bytes
+  pub area_text : (kind : AreaKind) (bytes : List ℕ) → AreBytes bytes
       → (text : List ℕ) × IsTextOfArea kind bytes text
   area_text kind bytes are = by (offset_of (place_of kind) bytes) refl
     where

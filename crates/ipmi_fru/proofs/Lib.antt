@@ -1,6 +1,7 @@
 pub mod AreaLemmas
 pub mod ExistenceLemmas
 pub mod FieldLemmas
+pub mod LineLemmas
 pub mod RecordLemmas
-pub mod UniqueLemmas
 pub mod TextLemmas
+pub mod UniqueLemmas

@@ -39,7 +39,7 @@ module _ (one_text : DecimalIsUnique) (one_minutes_text : MinutesTextIsUnique) w
   moved P m n x y holds = let same : n ≡ m = cc (x, y) in subst P same holds
 
   -- an inventory has one thing of a kind
-  one_found : (kind : AreaKind) (bytes : List ℕ) (a b : Option (Result Area AreaFault))
+  pub one_found : (kind : AreaKind) (bytes : List ℕ) (a b : Option (Result Area AreaFault))
       → IsFound kind bytes a → IsFound kind bytes b → a ≡ b
   one_found kind bytes None None x y = refl
   one_found kind bytes None (Some (Ok b)) x y = cc (x, y.1.0)

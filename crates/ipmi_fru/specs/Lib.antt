@@ -1,6 +1,7 @@
 pub mod Area
 pub mod Field
 pub mod Header
+pub mod Line
 pub mod Multirecord
 pub mod Prelude
 pub mod Print

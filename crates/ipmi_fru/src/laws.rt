@@ -1,7 +1,7 @@
 //! Laws of fields, records and texts, each the contract of a function that does nothing.
-ghost use Rattle.std.specs.Prelude.{◌≡◌, ℕ, List, Option};
+ghost use Rattle.std.specs.Prelude.{◌≡◌, ℕ, List, None, Option, Some};
 ghost use Rattle.ipmi_text.specs.Bytes.{AreBytes};
-ghost use Rattle.ipmi_fru.specs.Prelude.{AreaField, Spells, MultiFault, MultiRecord, IsRecordList, IsFruText};
+ghost use Rattle.ipmi_fru.specs.Prelude.{AreaField, Spells, MultiFault, MultiRecord, IsRecordList, IsFruLine, IsFruText};
 
 /// Bytes spell at most one list of fields.
 #[tactic(auto, using(crate::proofs::UniqueLemmas::one_list_of_fields))]
@@ -25,9 +25,29 @@ pub fn one_fru_text()
     ipmi_text::laws::one_minutes_text();
 }
 
+/// A device has at most one line under an id, a name and an inventory, so what `fru_line` gives is the only one.
+pub fn one_fru_line()
+    ensures { (id : ℕ) (name inventory : Option (List ℕ)) (text other : List ℕ) →
+        IsFruLine id name inventory text → IsFruLine id name inventory other → text ≡ other }
+{
+    ipmi_text::laws::one_decimal_of_a_value();
+    ipmi_text::laws::one_minutes_text();
+}
+
 /// The bytes of an inventory have a text, whatever they are.
 pub fn each_inventory_has_a_text()
     ensures { (bytes : List ℕ) → AreBytes bytes → (text : List ℕ) × IsFruText bytes text }
+{
+    ipmi_text::laws::each_value_has_a_decimal();
+    ipmi_text::laws::each_time_has_a_text();
+}
+
+/// A device has a line, whatever the bytes of its inventory are.
+pub fn each_device_has_a_line()
+    ensures bare { (id : ℕ) (name : Option (List ℕ)) →
+        (text : List ℕ) × IsFruLine id name None text }
+    ensures present { (id : ℕ) (name : Option (List ℕ)) (bytes : List ℕ) → AreBytes bytes →
+        (text : List ℕ) × IsFruLine id name (Some bytes) text }
 {
     ipmi_text::laws::each_value_has_a_decimal();
     ipmi_text::laws::each_time_has_a_text();

@@ -1,0 +1,37 @@
+-- A device has one line.
+use Rattle.std.proofs.Common.{◌∙◌, ◌≡◌, ℕ, Option, None, Some, List, refl, sym}
+use Rattle.ipmi_text.specs.Bytes.{AreBytes}
+use Rattle.ipmi_text.specs.Laws.{DecimalExists, DecimalIsUnique, MinutesTextExists, MinutesTextIsUnique}
+use Rattle.ipmi_fru.specs.Prelude.{Board, FruFault, IsFruLine, IsLineByFault, Product, header_fault}
+use Rattle.ipmi_fru.proofs.ExistenceLemmas.{area_text}
+use Rattle.ipmi_fru.proofs.TextLemmas.{one_found}
+
+-- ---- at most one
+
+module _ (one_text : DecimalIsUnique) (one_minutes_text : MinutesTextIsUnique) where
+  one_by_fault : (fault : Option FruFault) (id : ℕ) (name bytes text other : List ℕ)
+      → IsLineByFault fault id name bytes text → IsLineByFault fault id name bytes other
+      → text ≡ other
+  one_by_fault (Some fault) id name bytes text other h k = h ∙ sym k
+  one_by_fault None id name bytes text other h k =
+      h.text_is ∙ rw (one_found one_text one_minutes_text Product bytes h.product k.product h.is_product k.is_product, one_found one_text one_minutes_text Board bytes h.board k.board h.is_board k.is_board) (sym k.text_is)
+
+  pub one_line : (id : ℕ) (name inventory : Option (List ℕ)) (text other : List ℕ)
+      → IsFruLine id name inventory text → IsFruLine id name inventory other → text ≡ other
+  one_line id name None text other h k = h ∙ sym k
+  one_line id name (Some bytes) text other h k = one_by_fault (header_fault bytes) id _ bytes text other h k
+
+-- ---- and at least one
+
+module _ (decimal : DecimalExists) (minutes_text : MinutesTextExists) where
+  line_by_fault : (fault : Option FruFault) (id : ℕ) (name bytes : List ℕ) → AreBytes bytes
+      → (text : List ℕ) × IsLineByFault fault id name bytes text
+  line_by_fault (Some fault) id name bytes are = (_, refl)
+  line_by_fault None id name bytes are =
+      let product = area_text decimal minutes_text Product bytes are in
+      let board = area_text decimal minutes_text Board bytes are in
+      (_, record { product = product.1.found; board = board.1.found; is_product = product.1.is_found; is_board = board.1.is_found; text_is = refl })
+
+  pub line : (id : ℕ) (name : Option (List ℕ)) (bytes : List ℕ) → AreBytes bytes
+      → (text : List ℕ) × IsFruLine id name (Some bytes) text
+  line id name bytes are = line_by_fault (header_fault bytes) id _ bytes are

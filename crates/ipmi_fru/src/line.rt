@@ -1,0 +1,132 @@
+//! The line of a FRU device.
+ghost use Rattle.std.specs.Prelude.{◌≡◌, IfOk, option_map, string_bytes};
+ghost use Rattle.ipmi_fru.specs.Prelude.{IsFruLine, IsPresentLine, bare_line, field_text, or_dash, told_text};
+
+use crate::area::{AreaFault, AreaView};
+use crate::header::FruView;
+use ipmi_text::fru_text;
+use std::alloc::{AllocError, Global};
+
+/// The capacity for most lines.
+const LINE_CAPACITY: usize = 96;
+
+/// Where a field stands in the area of the product and in that of the board, counted from 0.
+#[derive(Clone, Copy)]
+struct Place {
+    product: usize,
+    board: usize,
+}
+
+/// The name of the product.
+const PRODUCT: Place = Place {
+    product: 1,
+    board: 1,
+};
+
+/// The part number.
+const PART_NUMBER: Place = Place {
+    product: 2,
+    board: 3,
+};
+
+/// The serial number.
+const SERIAL: Place = Place {
+    product: 4,
+    board: 2,
+};
+
+/// The text of the field at a place of an area; an empty one where there is no area, no such field, or a fault.
+fn field_text(
+    alloc: Global,
+    found: &Option<Result<AreaView, AreaFault>>,
+    place: usize,
+) -> Result<String, AllocError>
+    ensures { IfOk result (λ text. string_bytes text ≡ field_text found.now place) }
+{
+    let Some(Ok(area)) = found else {
+        return Ok(String::new(alloc));
+    };
+    match area.field(place) {
+        Some(field) => fru_text(alloc, field.code, area.language(), field.bytes),
+        None => Ok(String::new(alloc)),
+    }
+}
+
+/// A text; a dash in place of an empty one.
+fn or_dash(text: &str) -> &str
+    ensures { result.now ≡ or_dash text.now }
+{
+    if text.is_empty() { "-" } else { text }
+}
+
+/// What the area of the product tells, or else that of the board; a dash where neither does.
+fn told_text(
+    alloc: Global,
+    product: &Option<Result<AreaView, AreaFault>>,
+    board: &Option<Result<AreaView, AreaFault>>,
+    place: Place,
+) -> Result<String, AllocError>
+    ensures { IfOk result (λ text. string_bytes text ≡ told_text
+        (field_text product.now place.product) (field_text board.now place.board)) }
+{
+    let text = field_text(alloc, product, place.product)?;
+    if !text.is_empty() {
+        return Ok(text);
+    }
+    let text = field_text(alloc, board, place.board)?;
+    String::from_str(alloc, or_dash(&text))
+}
+
+/// The line of a device whose inventory tells nothing.
+fn bare_line(alloc: Global, id: u8, name: &str, state: &str) -> Result<String, AllocError>
+    ensures { IfOk result (λ text. string_bytes text ≡ bare_line id name.now state.now) }
+{
+    let mut line = String::with_capacity(alloc, LINE_CAPACITY)?;
+    write!(line, "{id} | {name} | {state} | - | - | -\n")?;
+    Ok(line)
+}
+
+/// The line of a device whose inventory can be read.
+fn present_line(
+    alloc: Global,
+    id: u8,
+    name: &str,
+    inventory: &FruView,
+) -> Result<String, AllocError>
+    ensures { IfOk result (λ text. IsPresentLine id name.now inventory.now (string_bytes text)) }
+{
+    let found = inventory.product();
+    let board = inventory.board();
+    let product = told_text(alloc, &found, &board, PRODUCT)?;
+    let part_number = told_text(alloc, &found, &board, PART_NUMBER)?;
+    let serial = told_text(alloc, &found, &board, SERIAL)?;
+    let mut line = String::with_capacity(alloc, LINE_CAPACITY)?;
+    write!(
+        line,
+        "{id} | {name} | present | {product} | {part_number} | {serial}\n"
+    )?;
+    Ok(line)
+}
+
+/// The line of a FRU device: its id, its name, whether it is there, and the name, the part number and the serial number
+/// of the product, all joined by ` | `. Each of the last three is of the product area, or where that has none of the
+/// board area. A dash stands for what there is none of. `inventory` is what the device holds, None where it is not
+/// present. A device is `faulty` where `print_fru` names a fault of the header.
+pub fn fru_line(
+    alloc: Global,
+    id: u8,
+    name: Option<&str>,
+    inventory: Option<&[u8]>,
+) -> Result<String, AllocError>
+    ensures { IfOk result (λ text. IsFruLine id (option_map (λ name. name.now) name.entry)
+        (option_map (λ bytes. bytes.now) inventory.entry) (string_bytes text)) }
+{
+    let name = or_dash(name.unwrap_or(""));
+    let Some(bytes) = inventory else {
+        return bare_line(alloc, id, name, "not present");
+    };
+    match FruView::read(bytes) {
+        Ok(inventory) => present_line(alloc, id, name, &inventory),
+        Err(_) => bare_line(alloc, id, name, "faulty"),
+    }
+}
