@@ -1,0 +1,246 @@
+//! What event data 2 and 3 say. The texts were put together by hand, from tables 29-6, 42-2 and 42-3 of the standard.
+use crate::cases::{byte_of, is_text, parts};
+use hex::FromHex;
+use ipmi_events::push_details;
+use ipmi_records::{EventEntry, FullSensor, SdrView, SelView};
+use std::alloc::{AllocError, Global};
+use std::process::Abort;
+
+/// The full record of a temperature sensor in degrees C, whose values are its raw readings.
+const CPU_TEMP: [u8; 56] = [
+    0x01, 0x00, 0x51, 0x01, 0x33, 0x20, 0x00, 0x01, 0x03, 0x01, 0x7f, 0x68, 0x01, 0x01, 0x00, 0x00,
+    0x00, 0x00, 0x38, 0x38, 0x00, 0x01, 0x00, 0x00, 0x01, 0x00, 0x00, 0x00, 0x00, 0x00, 0x00, 0x00,
+    0x00, 0x00, 0x00, 0x00, 0x5f, 0x5a, 0x55, 0x00, 0x00, 0x00, 0x02, 0x02, 0x00, 0x00, 0x00, 0xc8,
+    0x43, 0x50, 0x55, 0x20, 0x54, 0x65, 0x6d, 0x70,
+];
+
+/// Where the record has the linearization.
+const LINEARIZATION: usize = 23;
+
+/// The event data of an asserted threshold event, and the details by the full record, and by none, with a `;` between.
+const THRESHOLDS: &str =
+    "595c5a|Reading 92 degrees C > threshold 90;Reading raw 0x5c > threshold raw 0x5a
+500405|Reading 4 degrees C < threshold 5;Reading raw 0x04 < threshold raw 0x05
+5b605f|Reading 96 degrees C > threshold 95;Reading raw 0x60 > threshold raw 0x5f
+595a5a|Reading 90 degrees C = threshold 90;Reading raw 0x5a = threshold raw 0x5a
+500505|Reading 5 degrees C = threshold 5;Reading raw 0x05 = threshold raw 0x05
+495c5a|Reading 92 degrees C;Reading raw 0x5c
+195c5a|Threshold 90 degrees C;Threshold raw 0x5a
+095c5a|;
+695c5a|Reading 92 degrees C, data 3 0x5a;Reading raw 0x5c, data 3 0x5a
+995c5a|Threshold 90 degrees C, data 2 0x5c;Threshold raw 0x5a, data 2 0x5c
+a95c5a|data 2 0x5c, data 3 0x5a;data 2 0x5c, data 3 0x5a
+f90c0a|data 2 0x0c, data 3 0x0a;data 2 0x0c, data 3 0x0a
+595cff|Reading 92 degrees C;Reading raw 0x5c
+59ff5a|Threshold 90 degrees C;Threshold raw 0x5a
+59ffff|;
+a9ffff|;
+f9ffff|data 2 0xff, data 3 0xff;data 2 0xff, data 3 0xff";
+
+/// The same of a deasserted event.
+const DEASSERTED: &str =
+    "575455|Reading 84 degrees C, threshold 85;Reading raw 0x54, threshold raw 0x55
+570005|Reading 0 degrees C, threshold 5;Reading raw 0x00, threshold raw 0x05
+575555|Reading 85 degrees C, threshold 85;Reading raw 0x55, threshold raw 0x55
+475455|Reading 84 degrees C;Reading raw 0x54
+175455|Threshold 85 degrees C;Threshold raw 0x55";
+
+/// An event/reading type and a sensor type, the event data, and the details: states, severities and codes of
+/// manufacturers.
+const STATES: &str =
+    "0701 422102|was transition to Non-Critical from OK, severity transition to Critical from less severe
+6f0d 41f000|was Drive Presence
+6f0d 412fff|severity transition to Critical from less severe
+6f0d 41ff00|
+6f0d 419e00|was offset 14 of type 0x6f, severity offset 9 of type 0x07
+0b08 61120c|was Redundancy Degraded, severity transition to Non-Critical from OK, data 3 0x0c
+6f0d 015c5a|
+6f0d 815c5a|data 2 0x5c
+6f0d 215c5a|data 3 0x5a
+6f0d 115c5a|
+6f0d a15c5a|data 2 0x5c, data 3 0x5a
+6f0d a1ffff|
+6f0d a1ff5a|data 3 0x5a
+6f0d a15cff|data 2 0x5c
+6f0d 61f0ff|was Drive Presence";
+
+/// A sensor type, the event data, and the details: extension codes of sensor-specific events.
+const EXTENSIONS: &str = "05 c402ff|network controller 2
+05 c302ff|data 2 0x02
+08 36ff03|Power Supply rating mismatch
+08 36ff14|Voltage rating mismatch
+08 36ff05|data 3 0x05
+08 f60003|data 2 0x00, Power Supply rating mismatch
+0c 30ff05|memory module 5
+0c 3affff|memory module 255
+0c 3bff05|data 3 0x05
+0f c004ff|Unrecoverable system-board failure
+0f c00eff|data 2 0x0e
+0f c116ff|Floppy initialization
+0f c215ff|data 2 0x15
+0f c219ff|Primary processor initialization
+10 c011ff|memory module 17
+10 f16f27|event type 0x6f, all events of the type, deassertion, offset 7
+10 f10117|event type 0x01, assertion, offset 7
+10 35ff5a|SEL filled, percent 90
+10 f60180|processor 1, Vendor-specific processor number
+10 f60200|processor 2, Entity Instance number
+12 c331ff|log cleared, OEM 1
+12 c30fff|entry added
+12 c429ff|Diagnostic Interrupt (NMI), power cycle, Alert
+12 c416ff|OEM action, reset, power off
+12 c400ff|data 2 0x00
+12 c581ff|second of pair, SDR Timestamp Clock updated
+19 f0050d|requested S5 / G2 soft-off, at the time unknown
+19 f00d0e|data 2 0x0d, data 3 0x0e
+1d f70102|cause Chassis Control command, channel 2
+21 f2870c|DIMM/memory device, slot 12
+23 c024ff|interrupt type NMI, timer use SMS/OS
+23 c8f1ff|interrupt type unspecified, timer use BIOS FRB2
+23 c846ff|data 2 0x46
+28 c020ff|sensor 0x20
+28 c43aff|sensor 0x3a
+28 f59342|logical FRU device, LUN 2, private bus 3, FRU device ID or address 0x42
+2a f10321|user 3, Session deactivated by timeout, channel 1
+2a f0c40e|user 4, channel 14
+2a f00001|user unspecified, channel 1
+2b c109ff|system firmware (EFI / BIOS) change
+2b c118ff|data 2 0x18
+2c c437ff|State Change due to operator pressing the hot swap push button, was FRU Communication Lost
+2c c4f9ff|State Change, Cause Unknown
+01 f05c5a|data 2 0x5c, data 3 0x5a
+01 f0ffff|data 2 0xff, data 3 0xff";
+
+/// The event of a type, of a sensor type, with the digits of its data.
+fn entry_of(rt: &impl Abort, event_type: u8, sensor_type: u8, digits: &str) -> [u8; 16] {
+    let [one, two, three] = <[u8; 3]>::from_hex(digits).expect(rt, digits);
+    [
+        1,
+        0,
+        2,
+        0,
+        0,
+        0,
+        0x20,
+        0x20,
+        0,
+        4,
+        sensor_type,
+        1,
+        event_type,
+        one,
+        two,
+        three,
+    ]
+}
+
+/// The event that the bytes of an entry are.
+fn event_of<'a>(rt: &impl Abort, bytes: &'a [u8; 16]) -> EventEntry<'a> {
+    match SelView::read(bytes) {
+        SelView::Event(event) => event,
+        _ => panic!(rt; "no event: {bytes:?}"),
+    }
+}
+
+/// The details of an event, after what was there before.
+fn details_text(
+    alloc: Global,
+    event: &EventEntry<'_>,
+    full: Option<&FullSensor<'_>>,
+) -> Result<String, AllocError> {
+    let mut text = String::from_str(alloc, "|")?;
+    push_details(&mut text, event, full)?;
+    Ok(text)
+}
+
+/// Asserts the details of an event with no full record.
+fn has_details(rt: &impl Abort, alloc: Global, bytes: &[u8; 16], wanted: &str, case: &str) {
+    let text = details_text(alloc, &event_of(rt, bytes), None).expect(rt, "memory");
+    assert!(rt;
+        text.as_str().strip_prefix("|") == Some(wanted),
+        "{case}: got {text}"
+    );
+}
+
+/// Asserts the details of an event whose sensor has a full record.
+fn has_details_by(rt: &impl Abort, alloc: Global, record: &[u8], bytes: &[u8; 16], wanted: &str) {
+    let Ok(SdrView::Full(full)) = SdrView::read(record) else {
+        panic!(rt; "no full sensor record: {wanted}");
+    };
+    let text = details_text(alloc, &event_of(rt, bytes), Some(&full)).expect(rt, "memory");
+    assert!(rt;
+        text.as_str().strip_prefix("|") == Some(wanted),
+        "{wanted}: got {text}"
+    );
+}
+
+/// Asserts the details of a threshold event, with the full record and without it. Bit 7 of its type tells whether it is
+/// deasserted.
+fn is_threshold(rt: &impl Abort, alloc: Global, event_type: u8, case: &str) {
+    let (digits, wanted) = parts(rt, case);
+    let (by_record, raw) = wanted.split_once(';').expect(rt, case);
+    let bytes = entry_of(rt, event_type, 0x01, digits);
+    has_details_by(rt, alloc, &CPU_TEMP, &bytes, by_record);
+    has_details(rt, alloc, &bytes, raw, case);
+}
+
+#[test]
+fn a_threshold_event_has_its_reading_and_threshold(rt: HostRuntime) {
+    for case in THRESHOLDS.lines() {
+        is_threshold(&rt, rt.alloc(), 0x01, case);
+    }
+    for case in DEASSERTED.lines() {
+        is_threshold(&rt, rt.alloc(), 0x81, case);
+    }
+}
+
+#[test]
+fn a_reading_that_no_formula_gives_a_value_is_raw(rt: HostRuntime) {
+    let mut record = CPU_TEMP;
+    record[LINEARIZATION] = 0x01;
+    let bytes = entry_of(&rt, 0x01, 0x01, "595c5a");
+    let wanted = "Reading raw 0x5c > threshold raw 0x5a";
+    has_details_by(&rt, rt.alloc(), &record, &bytes, wanted);
+}
+
+/// Asserts the details of a discrete event.
+fn is_state(rt: &impl Abort, alloc: Global, case: &str) {
+    let (code, wanted) = parts(rt, case);
+    let (types, digits) = code.split_once(' ').expect(rt, case);
+    let (event_type, sensor_type) = types.split_at_checked(2).expect(rt, case);
+    let bytes = entry_of(
+        rt,
+        byte_of(rt, event_type),
+        byte_of(rt, sensor_type),
+        digits,
+    );
+    has_details(rt, alloc, &bytes, wanted, case);
+}
+
+#[test]
+fn a_discrete_event_has_its_states_and_codes(rt: HostRuntime) {
+    for case in STATES.lines() {
+        is_state(&rt, rt.alloc(), case);
+    }
+}
+
+/// Asserts the details of a sensor-specific event.
+fn is_extension(rt: &impl Abort, alloc: Global, case: &str) {
+    let (code, wanted) = parts(rt, case);
+    let (sensor_type, digits) = code.split_once(' ').expect(rt, case);
+    let bytes = entry_of(rt, 0x6f, byte_of(rt, sensor_type), digits);
+    has_details(rt, alloc, &bytes, wanted, case);
+}
+
+#[test]
+fn a_sensor_specific_event_has_its_extension_codes(rt: HostRuntime) {
+    for case in EXTENSIONS.lines() {
+        is_extension(&rt, rt.alloc(), case);
+    }
+}
+
+#[test]
+fn only_a_sensor_specific_event_has_extension_codes(rt: HostRuntime) {
+    let bytes = entry_of(&rt, 0x03, 0x0c, "f15c05");
+    has_details(&rt, rt.alloc(), &bytes, "data 2 0x5c, data 3 0x05", "03h");
+}

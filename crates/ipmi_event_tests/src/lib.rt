@@ -1,0 +1,19 @@
+//! Worked examples of ipmi_events: what it makes of bytes, compared with texts that were put together by hand.
+#![tactic(auto)]
+
+#[cfg(test)]
+mod cases;
+#[cfg(test)]
+mod details;
+#[cfg(test)]
+mod lines;
+#[cfg(test)]
+mod memory;
+#[cfg(test)]
+mod records;
+#[cfg(test)]
+mod sensor_texts;
+#[cfg(test)]
+mod sensors;
+#[cfg(test)]
+mod words;

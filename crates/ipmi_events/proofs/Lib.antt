@@ -1,0 +1,11 @@
+pub mod DetailsLawLemmas
+pub mod IndexLemmas
+pub mod LineLawLemmas
+pub mod LineLemmas
+pub mod NameLemmas
+pub mod PartsLemmas
+pub mod RecordLemmas
+pub mod SensorExistenceLemmas
+pub mod SensorUniqueLemmas
+pub mod StateLemmas
+pub mod ThresholdLemmas

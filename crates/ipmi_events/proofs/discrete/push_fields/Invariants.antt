@@ -1,0 +1,12 @@
+use Rattle.std.proofs.Common.{◌≡◌, ◌||◌, ◌++◌, drop, string_bytes}
+use Rattle.ipmi_events.specs.Extensions.{fields_text}
+use Rattle.ipmi_events.specs.Parts.{has_parts, parts_text}
+use Rattle.ipmi_events.proofs.discrete.push_fields.Given as goal
+
+-- the parts so far, with those of the fields that are left after them
+abbrev pub invariant-loop-field : goal.invariant-loop-field
+invariant-loop-field l =
+    (string_bytes l.text ++ parts_text (l.before || l.said) (fields_text (drop l.field-index l.fields) l.event l.value)
+    ≡ string_bytes l.fn.text ++ parts_text l.before (fields_text l.fields l.event l.value))
+    × ((l.said || has_parts (fields_text (drop l.field-index l.fields) l.event l.value))
+    ≡ has_parts (fields_text l.fields l.event l.value))

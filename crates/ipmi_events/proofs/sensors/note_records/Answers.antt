@@ -1,0 +1,21 @@
+use Rattle.std.proofs.Common.{◌≡◌, ◌-◌, ◌∙◌, ℕ, List, length, take, drop, arith, sym, take_all}
+use Rattle.std.proofs.lemmas.List.{length-drop}
+use Rattle.ipmi_events.proofs.IndexLemmas.{index_all, index_more, index_none}
+use Rattle.ipmi_events.proofs.sensors.note_records.Goals as goal
+
+-- what a slice from a place on is
+from_place : (place : ℕ) (bytes : List ℕ) → take (length bytes - place) (drop place bytes) ≡ drop place bytes
+from_place place bytes = take_all (length bytes - place) (drop place bytes) (omega (arith, length-drop place bytes))
+
+pub records-init : goal.records-init
+records-init c = (c.requires.len, index_none c.args.records.now c.args.places.now c.requires.empty)
+
+pub records-preserved : goal.records-preserved
+records-preserved c =
+    let is = rw (from_place c.records.place c.args.records.now) at c.in-Some.ensures in
+    (c.note_record.ensures.len ∙ c.records.invariant.0, index_more c.records.place c.args.records.now c.in-Some.bytes.now c.records.places c.note_record.new.places c.records.invariant.1 (sym is) c.note_record.ensures.noted)
+
+pub returns : goal.returns
+returns c =
+    let is = rw (from_place c.records.place c.args.records.now) at c.in_default.ensures in
+    index_all c.records.place c.args.records.now c.records.places c.records.invariant.1 (sym is)

@@ -1,0 +1,29 @@
+-- What the laws of events' lines say, so that a law above them can start from it.
+use Rattle.std.specs.Prelude.{◌≡◌, ℕ, Option, List}
+use Rattle.ipmi_text.specs.Bytes.{AreBytes}
+use Rattle.ipmi_records.specs.Prelude.{entry_bytes}
+use Rattle.ipmi_records.specs.declared.sel.SelView.{SelView}
+use Rattle.ipmi_events.specs.Details.{IsDetails}
+use Rattle.ipmi_events.specs.EventLines.{IsEventInWords}
+
+-- the details of an event are one text, under the full record of its sensor, if it has one
+abbrev pub DetailsAreUnique : Type 0
+DetailsAreUnique = (event : List ℕ) (full : Option (List ℕ)) (text other : List ℕ)
+    → IsDetails event full text → IsDetails event full other → text ≡ other
+
+-- an entry has one line in words, under an id and the records of the sensors
+abbrev pub EventInWordsIsUnique : Type 0
+EventInWordsIsUnique =
+    (id : ℕ) (view : SelView) (records : List (List ℕ)) (text other : List ℕ)
+    → AreBytes (entry_bytes view) → IsEventInWords id view records text
+    → IsEventInWords id view records other → text ≡ other
+
+-- an event has details, of which the text may be empty
+abbrev pub DetailsExist : Type 0
+DetailsExist =
+    (event : List ℕ) (full : Option (List ℕ)) → (text : List ℕ) × IsDetails event full text
+
+-- an entry has a line in words
+abbrev pub EventInWordsExists : Type 0
+EventInWordsExists = (id : ℕ) (view : SelView) (records : List (List ℕ))
+    → (text : List ℕ) × IsEventInWords id view records text

@@ -1,0 +1,47 @@
+-- The names of sensors.
+use Rattle.std.specs.Prelude.{ℕ, ◌+◌, ◌-◌, ◌/◌, ◌%◌, nat_lt, if◌then◌else◌, Option, Some, List, [], ◌∷◌, ◌++◌, decimal}
+use Rattle.ipmi_records.specs.Prelude.{printed_name, sensor_of, sharing_of}
+use Rattle.ipmi_records.specs.declared.sdr.SdrView.{SdrView}
+use Rattle.ipmi_records.specs.declared.sensor.Sensor.{Sensor}
+use Rattle.ipmi_records.specs.declared.sharing.Modifier.{Modifier}
+use Rattle.ipmi_records.specs.declared.sharing.Sharing.{Sharing}
+
+-- ---- ID string instance modifiers (IPMI v2.0, table 43-2)
+
+-- letter 0 is `A`
+abbrev pub letter : ℕ → ℕ
+letter n = 0x41 + n
+
+-- `A` to `Z`, then `AA`, `AB` and so on; more than two letters are never needed
+abbrev pub letters : ℕ → List ℕ
+letters n =
+    if nat_lt n 26 then letter n ∷ []
+    else letter (n / 26 - 1) ∷ letter (n % 26) ∷ []
+
+-- a reserved modifier says nothing
+abbrev pub modifier_text : Modifier → ℕ → List ℕ
+modifier_text Modifier.Numeric n = decimal n
+modifier_text Modifier.Alpha n = letters n
+modifier_text Modifier.Reserved n = []
+
+-- ---- names
+
+-- what tells the sensor with this number from the others that share its record: the offset, and one more for each
+-- number after the record's own (none for a number below it); nothing where the record is not shared
+abbrev pub suffix_of : Option Sensor → Option Sharing → ℕ → List ℕ
+suffix_of (Some sensor) (Some sharing) number =
+    if nat_lt 1 sharing.count
+    then modifier_text sharing.modifier (sharing.offset + (number - sensor.number))
+    else []
+suffix_of _ _ number = []
+
+-- a text and what follows it; nothing follows an empty one
+abbrev pub followed_by : List ℕ → List ℕ → List ℕ
+followed_by suffix [] = []
+followed_by suffix (c ∷ text) = (c ∷ text) ++ suffix
+
+-- the name of the sensor with this number: that of its record, with the sensor's own suffix; a record without a name
+-- gives its sensors none
+abbrev pub sensor_name : SdrView → ℕ → List ℕ
+sensor_name view number =
+    followed_by (suffix_of (sensor_of view) (sharing_of view) number) (printed_name view)

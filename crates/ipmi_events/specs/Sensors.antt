@@ -1,0 +1,91 @@
+-- The sensors of sensor data records (IPMI v2.0, section 43).
+use Rattle.std.specs.Prelude.{◌≡◌, ℕ, zero, suc, ◌+◌, ◌*◌, ◌<◌, ◌==◌, ◌&&◌, nat_le, nat_lt, not, Bool, false, if◌then◌else◌, Option, Some, None, MatchOption, option_and_then, List, [], ◌∷◌, length, take, drop, filter_map, slice_index_or}
+use Rattle.std.specs.List.{find}
+use Rattle.std.specs.Result.{result_ok}
+use Rattle.ipmi_text.specs.SdrHeader.{sdr_len}
+use Rattle.ipmi_records.specs.Prelude.{sdr_view_of, sensor_of, sharing_of}
+use Rattle.ipmi_records.specs.declared.sdr.SdrView.{SdrView}
+use Rattle.ipmi_records.specs.declared.sensor.Sensor.{Sensor}
+use Rattle.ipmi_records.specs.declared.sharing.Sharing.{Sharing}
+
+-- ---- records one after another
+
+-- the record that bytes begin with, if all of its bytes are there
+abbrev pub first_record : List ℕ → Option (List ℕ)
+first_record bytes =
+    if nat_le (sdr_len bytes) (length bytes) then Some (take (sdr_len bytes) bytes) else None
+
+-- the records that follow one another from the first byte on, at most so many
+unfoldable pub first_records : ℕ → List ℕ → List (List ℕ)
+first_records zero bytes = []
+first_records (suc most) bytes =
+    if nat_le (sdr_len bytes) (length bytes)
+    then take (sdr_len bytes) bytes ∷ first_records most (drop (sdr_len bytes) bytes)
+    else []
+
+-- all of them: a record has at least 5 bytes, so that there are not more records than bytes; bytes at the end that are
+-- no whole record are left out
+unfoldable pub records_in : List ℕ → List (List ℕ)
+records_in bytes = first_records (length bytes) bytes
+
+-- a record has its header, and as many bytes as that says
+abbrev pub is_whole_record : List ℕ → Bool
+is_whole_record bytes = not (nat_lt (length bytes) 5) && (length bytes == sdr_len bytes)
+
+-- ---- the record of a sensor
+
+-- how many sensors a record is of; a count of 0 is taken for that of a record which is not shared
+abbrev pub count_of : Option Sharing → ℕ
+count_of None = 1
+count_of (Some sharing) = if sharing.count == 0 then 1 else sharing.count
+
+-- a record of so many sensors is of this one: it has the owner and the LUN, and the numbers follow each other from its
+-- own on. Channels are not compared: controllers with one address on two channels are taken for one.
+abbrev pub is_among : ℕ → ℕ → ℕ → ℕ → Option Sensor → Bool
+is_among owner lun number count None = false
+is_among owner lun number count (Some sensor) =
+    (sensor.owner == owner) && ((sensor.lun == lun)
+    && (nat_le sensor.number number && nat_lt number (sensor.number + count)))
+
+abbrev pub is_of_sensor : ℕ → ℕ → ℕ → SdrView → Bool
+is_of_sensor owner lun number view =
+    is_among owner lun number (count_of (sharing_of view)) (sensor_of view)
+
+-- the view of a record, if it has no fault
+abbrev pub view_of : List ℕ → Option SdrView
+view_of bytes = result_ok (sdr_view_of bytes)
+
+-- the record of the sensor with this owner, LUN and number: the first one; records with a fault are passed over
+abbrev pub sensor_for : ℕ → ℕ → ℕ → List (List ℕ) → Option SdrView
+sensor_for owner lun number records =
+    find (is_of_sensor owner lun number) (filter_map view_of records)
+
+-- ---- the index
+
+-- where the place of a sensor's record is kept
+abbrev pub slot_of : ℕ → ℕ → ℕ → ℕ
+slot_of owner lun number = (lun * 256 + owner) * 256 + number
+
+-- the record at a place, if it has no fault
+abbrev pub view_at : List ℕ → ℕ → Option SdrView
+view_at bytes place =
+    option_and_then view_of (first_record (drop place bytes))
+
+-- a sensor's place is that of its record, or the end of the bytes where it has none
+abbrev pub IsPlaceOf : List ℕ → ℕ → Option SdrView → Type 0
+IsPlaceOf bytes place view =
+    MatchOption view (place ≡ length bytes) (λ v. view_at bytes place ≡ Some v)
+
+abbrev pub IsIndex : List ℕ → List (List ℕ) → List ℕ → Type 0
+IsIndex bytes records places = (owner lun number : ℕ) → owner < 256 → number < 256
+    → IsPlaceOf bytes (slice_index_or places (slot_of owner lun number) (length bytes))
+    (sensor_for owner lun number records)
+
+-- a place, where a record is of the sensor and no record before it was
+abbrev pub noted : Bool → ℕ → ℕ → ℕ → ℕ
+noted named place none old = if named && (old == none) then place else old
+
+-- whether there is a view, and its record is of a sensor
+abbrev pub names : ℕ → ℕ → ℕ → Option SdrView → Bool
+names owner lun number None = false
+names owner lun number (Some view) = is_of_sensor owner lun number view

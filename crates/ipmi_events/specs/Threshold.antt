@@ -1,0 +1,84 @@
+-- What event data 2 and 3 of a threshold event say (IPMI v2.0, table 29-6).
+use Rattle.std.specs.Prelude.{◌≡◌, ℕ, ◌%◌, ◌==◌, ◌||◌, Bool, true, false, if◌then◌else◌, List, [], ◌++◌, codes, Option, Some, None}
+use Rattle.ipmi_text.specs.Appended.{Appends}
+use Rattle.ipmi_records.specs.Columns.{IsRawText, IsRawValue, raw_byte_text}
+use Rattle.ipmi_events.specs.declared.event_data.Byte.{Byte}
+use Rattle.ipmi_events.specs.declared.event_data.EventData.{EventData}
+use Rattle.ipmi_events.specs.declared.event_data.Holding.{Holding}
+use Rattle.ipmi_events.specs.Discrete.{raw_part}
+use Rattle.ipmi_events.specs.Parts.{parts_text}
+
+-- ---- the reading and the threshold
+
+-- the byte holds a reading or a threshold
+abbrev pub has_value : Holding → Bool
+has_value Holding.Value = true
+has_value _ = false
+
+-- a raw byte with its units, by the full record of the sensor if there is one
+abbrev pub IsReading : Option (List ℕ) → ℕ → List ℕ → Type 0
+IsReading None raw text = text ≡ raw_byte_text raw
+IsReading (Some full) raw text = IsRawText full raw text
+
+-- and without its units
+abbrev pub IsLimit : Option (List ℕ) → ℕ → List ℕ → Type 0
+IsLimit None raw text = text ≡ raw_byte_text raw
+IsLimit (Some full) raw text = IsRawValue full raw text
+
+-- how the reading of an asserted event stands to the threshold: where the two are not equal, an odd offset is of a
+-- reading that went high, an even one of a reading that went low (table 42-2)
+abbrev pub sign : EventData → List ℕ
+sign event =
+    if event.second == event.third then codes " = "
+    else if event.offset % 2 == 1 then codes " > "
+    else codes " < "
+
+-- the reading of a deasserted event is back, so that no sign would be true of it
+abbrev pub comparison : EventData → List ℕ
+comparison event = if event.is_deasserted then codes ", " else sign event
+
+-- the reading, and after it the threshold
+pub record IsComparison (full : Option (List ℕ)) (event : EventData) (text : List ℕ)
+    : Type 0 where
+  pub reading : List ℕ
+  pub limit : List ℕ
+  pub is_reading : IsReading full event.second reading
+  pub is_limit : IsLimit full event.third limit
+  pub text_is : text ≡ codes "Reading "
+      ++ (reading ++ (comparison event ++ (codes "threshold " ++ limit)))
+
+-- of an event that has a reading or not, and a threshold or not
+abbrev pub IsCompared : Bool → Bool → Option (List ℕ) → EventData → List ℕ → Type 0
+IsCompared true true full event text = IsComparison full event text
+IsCompared true false full event text =
+    Appends (IsReading full event.second) (codes "Reading ") text
+IsCompared false true full event text =
+    Appends (IsReading full event.third) (codes "Threshold ") text
+IsCompared false false full event text = text ≡ []
+
+abbrev pub IsComparedOf : Option (List ℕ) → EventData → List ℕ → Type 0
+IsComparedOf full event text =
+    IsCompared (has_value event.second_holds) (has_value event.third_holds) full event text
+
+-- ---- codes
+
+-- a byte that holds a code, to which the standard gives no words for these events
+abbrev pub code_parts : Byte → Holding → ℕ → List (List ℕ)
+code_parts byte Holding.Nothing value = []
+code_parts byte Holding.Value value = []
+code_parts byte Holding.Oem value = raw_part byte value
+code_parts byte Holding.Extension value = raw_part byte value
+
+abbrev pub codes_parts : EventData → List (List ℕ)
+codes_parts event =
+    code_parts Byte.Two event.second_holds event.second
+    ++ code_parts Byte.Three event.third_holds event.third
+
+-- ---- both
+
+pub record IsThresholdDetails (event : EventData) (full : Option (List ℕ)) (text : List ℕ)
+    : Type 0 where
+  pub compared : List ℕ
+  pub is_compared : IsComparedOf full event compared
+  pub text_is : text ≡ compared ++ parts_text
+      (has_value event.second_holds || has_value event.third_holds) (codes_parts event)

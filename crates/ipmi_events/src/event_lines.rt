@@ -1,0 +1,128 @@
+//! The lines of the event log's entries, with events in words.
+ghost use Rattle.std.specs.Prelude.{◌≡◌, ◌++◌, IfOk, OnOk, option_map, string_bytes};
+ghost use Rattle.ipmi_records.specs.Prelude.{event_type, sensor_type};
+ghost use Rattle.ipmi_events.specs.EventLines.{details_column, event_offset, full_of, IsEventInWords, IsEventLineInWords, record_for, sensor_column};
+ghost use Rattle.ipmi_events.specs.Words.{event_in_words};
+
+use crate::details::push_details;
+use crate::name::push_sensor_name;
+use crate::sensors::Sensors;
+use crate::words::EventInWords;
+use ipmi_records::{
+    EventEntry, FullSensor, SdrView, SelView, direction_text, sel_line, sensor_of_event,
+};
+use ipmi_text::{HexWord, UtcTime};
+use std::alloc::{AllocError, Global};
+
+/// The capacity for most lines.
+const LINE_CAPACITY: usize = 160;
+
+/// Bits 1:0 of the high byte of a generator id: the LUN (IPMI v2.0, table 32-1).
+const LUN_BITS: u8 = 0x03;
+
+/// Bits 3:0 of an event's first data byte: its offset.
+const OFFSET_BITS: u8 = 0x0F;
+
+/// The record of the sensor that an event is from.
+fn record_for<'a>(event: &EventEntry, sensors: &'a Sensors) -> Option<SdrView<'a>>
+    ensures { result ≡ record_for event.now sensors.now }
+{
+    let [owner, channel_and_lun] = event.generator_id().to_le_bytes();
+    sensors.find(owner, channel_and_lun & LUN_BITS, event.sensor_number())
+}
+
+/// The full sensor record that a record is, if it is one.
+fn full_of<'a, 'b>(view: Option<&'b SdrView<'a>>) -> Option<&'b FullSensor<'a>>
+    ensures { option_map (λ f. f.now) result ≡ full_of (option_map (λ v. v.now) view.entry) }
+{
+    match view {
+        Some(SdrView::Full(full)) => Some(full),
+        _ => None,
+    }
+}
+
+/// The words of an event.
+fn words_of(event: &EventEntry) -> EventInWords
+    ensures { event_in_words result.event_type result.sensor_type result.offset ≡
+        event_in_words (event_type event.now) (sensor_type event.now) (event_offset event.now) }
+{
+    EventInWords {
+        event_type: event.event_type(),
+        sensor_type: event.sensor_type(),
+        offset: event.data_bytes()[0] & OFFSET_BITS,
+    }
+}
+
+/// Appends the name of an event's sensor, or what it senses and its number where it has no name.
+fn push_sensor(
+    alloc: Global,
+    line: &mut String,
+    event: &EventEntry,
+    view: Option<&SdrView>,
+) -> Result<(), AllocError>
+    ensures { OnOk result (string_bytes line.new ≡ string_bytes line.old
+        ++ sensor_column event.now (option_map (λ v. v.now) view.entry)) }
+{
+    if let Some(view) = view {
+        let start = line.as_bytes().len();
+        push_sensor_name(alloc, line, view, event.sensor_number())?;
+        if line.as_bytes().len() != start {
+            return Ok(());
+        }
+    }
+    let sensor = sensor_of_event(event);
+    write!(line, "{sensor}")
+}
+
+/// Appends a column of details, if there are any.
+fn push_details_column(line: &mut String, details: &str) -> Result<(), AllocError>
+    ensures { OnOk result
+        (string_bytes line.new ≡ string_bytes line.old ++ details_column details.now) }
+{
+    if details.is_empty() {
+        return Ok(());
+    }
+    write!(line, " | {details}")
+}
+
+/// The line of an event, whose sensor has this record, if it has one.
+fn event_line_of(
+    alloc: Global,
+    id: u16,
+    event: &EventEntry,
+    view: Option<&SdrView>,
+) -> Result<String, AllocError>
+    ensures { IfOk result (λ text. IsEventLineInWords id event.now
+        (option_map (λ v. v.now) view.entry) (string_bytes text)) }
+{
+    let id = HexWord(id);
+    let time = UtcTime::of(event.time_stamp());
+    let words = words_of(event);
+    let direction = direction_text(event);
+    let mut details = String::new(alloc);
+    push_details(&mut details, event, full_of(view))?;
+    let mut line = String::with_capacity(alloc, LINE_CAPACITY)?;
+    write!(line, "{id} | {time} | ")?;
+    push_sensor(alloc, &mut line, event, view)?;
+    write!(line, " | {words} | {direction}")?;
+    push_details_column(&mut line, &details)?;
+    line.push_str("\n")?;
+    Ok(line)
+}
+
+/// The line of an entry under its id. Of an event it has the time, the name of the sensor, the words, whether it came
+/// or went, and what its data say, in columns joined by ` | `; of any other entry it is what `sel_line` gives.
+pub fn event_line(
+    alloc: Global,
+    id: u16,
+    entry: &SelView,
+    sensors: &Sensors,
+) -> Result<String, AllocError>
+    ensures { IfOk result (λ text. IsEventInWords id entry.now sensors.now (string_bytes text)) }
+{
+    let SelView::Event(event) = entry else {
+        return sel_line(alloc, id, entry);
+    };
+    let view = record_for(event, sensors);
+    event_line_of(alloc, id, event, view.as_ref())
+}

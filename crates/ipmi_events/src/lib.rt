@@ -1,0 +1,33 @@
+//! Events and sensors in words, by the standard's tables (IPMI v2.0, sections 42 and 43).
+#![tactic(auto)]
+
+mod details;
+mod discrete;
+mod entities;
+mod event_data;
+mod event_lines;
+mod extensions;
+mod generic;
+pub mod laws;
+mod name;
+mod parts;
+mod sensor_blocks;
+pub mod sensor_laws;
+mod sensor_lines;
+mod sensors;
+mod shown;
+mod specific;
+mod states;
+mod status;
+mod table;
+mod threshold;
+mod words;
+
+pub use details::push_details;
+pub use entities::EntityWords;
+pub use event_lines::event_line;
+pub use name::push_sensor_name;
+pub use sensor_blocks::sensor_block;
+pub use sensor_lines::sensor_line;
+pub use sensors::Sensors;
+pub use words::{EventInWords, event_words};

@@ -1,0 +1,110 @@
+//! The block of a sensor.
+ghost use Rattle.std.specs.Prelude.{◌≡◌, IfOk, string_bytes};
+ghost use Rattle.ipmi_events.specs.SensorBlocks.{AreShownLines, AreThresholdLines, IsBlockOfSensor, IsSensorBlock, identity_lines};
+
+use crate::entities::EntityInWords;
+use crate::name::push_sensor_name;
+use crate::shown::push_reading_in_words;
+use crate::status::status_in_words;
+use ipmi_records::SdrView::{self, Compact, Controller, EventOnly, Fru, Full, Generic, Other};
+use ipmi_records::{Sensor, sdr_block, threshold_lines};
+use ipmi_text::{ByteH, Reading, SensorType, WordH};
+use std::alloc::{AllocError, Global};
+
+/// The capacity for most groups of lines.
+const PART_CAPACITY: usize = 128;
+
+/// The capacity for most blocks.
+const BLOCK_CAPACITY: usize = 384;
+
+/// The lines that say which sensor it is: its record, its name and number, where it is asked for, and what it senses.
+fn identity_lines(
+    alloc: Global,
+    id: u16,
+    view: &SdrView,
+    sensor: &Sensor,
+) -> Result<String, AllocError>
+    ensures { IfOk result (λ text. string_bytes text ≡ identity_lines id view.now sensor.now) }
+{
+    let id = WordH(id);
+    let number = ByteH(sensor.number);
+    let owner = ByteH(sensor.owner);
+    let lun = sensor.lun;
+    let entity = EntityInWords(sensor.entity);
+    let kind = SensorType(sensor.sensor_type);
+    let mut text = String::with_capacity(alloc, PART_CAPACITY)?;
+    write!(text, "Record: {id}\nName: ")?;
+    push_sensor_name(alloc, &mut text, view, sensor.number)?;
+    write!(
+        text,
+        "\nSensor: {number}\nOwner: {owner} LUN {lun}\nEntity: {entity}\nKind: {kind}\n"
+    )?;
+    Ok(text)
+}
+
+/// The lines of what the sensor shows and of its status.
+fn shown_lines(
+    alloc: Global,
+    view: &SdrView,
+    sensor: &Sensor,
+    reading: Option<Reading>,
+) -> Result<String, AllocError>
+    ensures { IfOk result (λ text. AreShownLines view.now sensor.now reading (string_bytes text)) }
+{
+    let mut text = String::with_capacity(alloc, PART_CAPACITY)?;
+    text.push_str("Reading: ")?;
+    push_reading_in_words(&mut text, view, reading)?;
+    let status = status_in_words(sensor, reading);
+    write!(text, "\nStatus: {status}\n")?;
+    Ok(text)
+}
+
+/// The lines of the thresholds that can be read, which only a full record tells.
+fn thresholds_of(alloc: Global, view: &SdrView, sensor: &Sensor) -> Result<String, AllocError>
+    ensures { IfOk result (λ text. AreThresholdLines view.now sensor.now (string_bytes text)) }
+{
+    match view {
+        Full(full) => threshold_lines(alloc, full, sensor),
+        _ => Ok(String::new(alloc)),
+    }
+}
+
+/// The block of a full or a compact record's sensor.
+fn block_of_sensor(
+    alloc: Global,
+    id: u16,
+    view: &SdrView,
+    sensor: &Sensor,
+    reading: Option<Reading>,
+) -> Result<String, AllocError>
+    ensures { IfOk result (λ text.
+        IsBlockOfSensor id view.now sensor.now reading (string_bytes text)) }
+{
+    let identity = identity_lines(alloc, id, view, sensor)?;
+    let shown = shown_lines(alloc, view, sensor, reading)?;
+    let thresholds = thresholds_of(alloc, view, sensor)?;
+    let mut text = String::with_capacity(alloc, BLOCK_CAPACITY)?;
+    write!(text, "{identity}{shown}{thresholds}\n")?;
+    Ok(text)
+}
+
+/// The block of a sensor under the id of its record: a line for each thing that is known of it, in words, its
+/// thresholds from the upper non-recoverable one down, and an empty line. The reading is as for `sensor_line`. Of the
+/// sensors that share a record it is the block of the first. A record that is neither full nor compact has its block of
+/// `sdr_block`.
+pub fn sensor_block(
+    alloc: Global,
+    id: u16,
+    view: &SdrView,
+    reading: Option<Reading>,
+) -> Result<String, AllocError>
+    ensures { IfOk result (λ text. IsSensorBlock id view.now reading (string_bytes text)) }
+{
+    match view {
+        Full(full) => block_of_sensor(alloc, id, view, &full.sensor(), reading),
+        Compact(compact) => block_of_sensor(alloc, id, view, &compact.sensor(), reading),
+        EventOnly(_) | Generic(_) | Fru(_) | Controller(_) | Other(_) => {
+            sdr_block(alloc, id, view, reading)
+        }
+    }
+}

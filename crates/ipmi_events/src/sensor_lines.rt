@@ -1,0 +1,157 @@
+//! The lines of sensors.
+ghost use Rattle.std.specs.Prelude.{◌≡◌, ◌++◌, IfOk, OnOk, codes, decimal, option_map, string_bytes};
+ghost use Rattle.ipmi_events.specs.Below.{Appends, padded_to};
+ghost use Rattle.ipmi_events.specs.SensorLines.{AppendsColumns, AppendsPadded, IsLineOfSensor, IsSensorLine, IsThresholdColumn, head_columns, from_lowest, with_thresholds};
+ghost use Rattle.ipmi_events.specs.Shown.{IsReadingInWords};
+
+use crate::entities::EntityInWords;
+use crate::name::push_sensor_name;
+use crate::shown::push_reading_in_words;
+use crate::status::status_in_words;
+use ipmi_records::SdrView::{self, Compact, Controller, EventOnly, Fru, Full, Generic, Other};
+use ipmi_records::{FullSensor, Sensor, Threshold, has_thresholds, pad, push_value, sdr_line};
+use ipmi_text::{ByteH, Reading};
+use std::alloc::{AllocError, Global};
+
+/// The capacity for most lines.
+const LINE_CAPACITY: usize = 128;
+
+/// How many characters the column of names has at least.
+const NAME_WIDTH: usize = 16;
+
+/// How many that of readings has.
+const READING_WIDTH: usize = 17;
+
+/// How many that of statuses has.
+const STATUS_WIDTH: usize = 3;
+
+/// The thresholds in the order of their columns.
+const FROM_LOWEST: [Threshold; 6] = [
+    Threshold::LowerNonRecoverable,
+    Threshold::LowerCritical,
+    Threshold::LowerNonCritical,
+    Threshold::UpperNonCritical,
+    Threshold::UpperCritical,
+    Threshold::UpperNonRecoverable,
+];
+
+/// The full record of a sensor with thresholds: no other tells their values.
+fn with_thresholds<'v, 'a>(view: &'v SdrView<'a>) -> Option<&'v FullSensor<'a>>
+    ensures { option_map (λ full. full.now) result ≡ with_thresholds view.now }
+{
+    match view {
+        Full(full) if has_thresholds(&full.sensor()) => Some(full),
+        _ => None,
+    }
+}
+
+/// Appends the value of a threshold, without its unit; a dash where there is none, or none that can be read.
+fn push_threshold(
+    line: &mut String,
+    full: Option<&FullSensor>,
+    threshold: Threshold,
+) -> Result<(), AllocError>
+    ensures { OnOk result (Appends
+        (IsThresholdColumn (option_map (λ full. full.now) full.entry) threshold)
+        (string_bytes line.old) (string_bytes line.new)) }
+{
+    match full {
+        Some(full) if full.is_readable(threshold) => {
+            push_value(line, full, full.threshold(threshold))
+        }
+        _ => line.push_str("-"),
+    }
+}
+
+/// Appends the columns of all thresholds, ` | ` before each.
+fn push_thresholds(line: &mut String, full: Option<&FullSensor>) -> Result<(), AllocError>
+    ensures { OnOk result (AppendsColumns (option_map (λ full. full.now) full.entry) from_lowest
+        (string_bytes line.old) (string_bytes line.new)) }
+{
+    for threshold in FROM_LOWEST {
+        line.push_str(" | ")?;
+        push_threshold(line, full, threshold)?;
+    }
+    Ok(())
+}
+
+/// Appends the columns of a sensor's name, number and entity, ` | ` after each.
+fn push_head_columns(
+    alloc: Global,
+    line: &mut String,
+    view: &SdrView,
+    sensor: &Sensor,
+) -> Result<(), AllocError>
+    ensures { OnOk result
+        (string_bytes line.new ≡ string_bytes line.old ++ head_columns view.now sensor.now) }
+{
+    let start = line.as_bytes().len();
+    push_sensor_name(alloc, line, view, sensor.number)?;
+    pad(line, start, NAME_WIDTH)?;
+    let number = ByteH(sensor.number);
+    let entity = EntityInWords(sensor.entity);
+    write!(line, " | {number} | {entity} | ")
+}
+
+/// Appends the reading column, filled up to its width.
+fn push_reading_column(
+    line: &mut String,
+    view: &SdrView,
+    reading: Option<Reading>,
+) -> Result<(), AllocError>
+    ensures { OnOk result (AppendsPadded 17 (IsReadingInWords view.now reading)
+        (string_bytes line.old) (string_bytes line.new)) }
+{
+    let start = line.as_bytes().len();
+    push_reading_in_words(line, view, reading)?;
+    pad(line, start, READING_WIDTH)
+}
+
+/// Appends a status after ` | `, filled up to the width of its column.
+fn push_status_column(line: &mut String, status: &str) -> Result<(), AllocError>
+    ensures { OnOk result
+        (string_bytes line.new ≡ string_bytes line.old ++ (codes " | " ++ padded_to 3 status.now)) }
+{
+    line.push_str(" | ")?;
+    let start = line.as_bytes().len();
+    line.push_str(status)?;
+    pad(line, start, STATUS_WIDTH)
+}
+
+/// The line of a full or a compact record's sensor.
+fn line_of_sensor(
+    alloc: Global,
+    view: &SdrView,
+    sensor: &Sensor,
+    reading: Option<Reading>,
+) -> Result<String, AllocError>
+    ensures { IfOk result (λ text. IsLineOfSensor view.now sensor.now reading (string_bytes text)) }
+{
+    let mut line = String::with_capacity(alloc, LINE_CAPACITY)?;
+    push_head_columns(alloc, &mut line, view, sensor)?;
+    push_reading_column(&mut line, view, reading)?;
+    push_status_column(&mut line, status_in_words(sensor, reading))?;
+    push_thresholds(&mut line, with_thresholds(view))?;
+    line.push_str("\n")?;
+    Ok(line)
+}
+
+/// The line of a sensor: its name, its number, its entity, what it shows, its status, and the thresholds of its record
+/// from the lowest to the highest. Of a discrete sensor it shows the states in words. `reading` is the answer of Get
+/// Sensor Reading for the sensor that `SdrView::reading_of` names. Of the sensors that share a record it is the line of
+/// the first. A record that is neither full nor compact has its line of `sdr_line`.
+pub fn sensor_line(
+    alloc: Global,
+    view: &SdrView,
+    reading: Option<Reading>,
+) -> Result<String, AllocError>
+    ensures { IfOk result (λ text. IsSensorLine view.now reading (string_bytes text)) }
+{
+    match view {
+        Full(full) => line_of_sensor(alloc, view, &full.sensor(), reading),
+        Compact(compact) => line_of_sensor(alloc, view, &compact.sensor(), reading),
+        EventOnly(_) | Generic(_) | Fru(_) | Controller(_) | Other(_) => {
+            sdr_line(alloc, view, reading)
+        }
+    }
+}

@@ -1,0 +1,31 @@
+//! Words out of tables.
+ghost use Rattle.std.specs.Prelude.{◌≡◌, map, option_map};
+ghost use Rattle.ipmi_events.specs.Table.{table_from_one, words_at};
+
+/// What stands in a table for a code that the standard reserves.
+pub(crate) const RESERVED: &str = "";
+
+/// And for one that says nothing.
+pub(crate) const SILENT: &str = "";
+
+/// The words at a place of a table, if the standard has some there.
+pub(crate) fn words_at(table: &[&'static str], at: u8) -> Option<&'static str>
+    ensures { option_map (λ s. s.now) result ≡ words_at (map (λ s. s.now) table.now) at }
+{
+    let words = table.get(usize::from(at)).copied()?;
+    if words.is_empty() { None } else { Some(words) }
+}
+
+/// The table of a code, out of tables that begin with that of code 1. An empty one where there is none.
+pub(crate) fn table_from_one(
+    tables: &[&'static [&'static str]],
+    code: u8,
+) -> &'static [&'static str]
+    ensures { map (λ s. s.now) result.now
+        ≡ table_from_one (map (λ t. map (λ s. s.now) t.now) tables.now) code }
+{
+    let Some(at) = usize::from(code).checked_sub(1) else {
+        return &[];
+    };
+    tables.get(at).copied().unwrap_or(&[])
+}
