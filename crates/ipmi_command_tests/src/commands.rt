@@ -10,6 +10,7 @@ mod entry_types;
 mod faults_at_calls;
 mod image_faults;
 mod images;
+mod in_words;
 mod infos;
 mod inventories;
 mod inventory_bits;

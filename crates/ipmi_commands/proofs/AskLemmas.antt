@@ -2,7 +2,7 @@
 use Rattle.std.proofs.Common.{◌≡◌, inl, ℕ, ◌+◌, ◌≤◌, ◌==◌, Bool, true, false, codes, Option, None, Result, Ok, Err, List, [], ◌∷◌, refl, sym, ap, subst, ◌∙◌, arith, IsErrAnd, IsTrue}
 use Rattle.ipmi_commands.specs.Below.{CodeClass, CursorState, Failure, RefusesRecord, RefusesValue, IsStep, StepLeaves, Ended, FruEnded, EndsUnder, ReadsValue, ReadsInventory, IsRefusedInventory, IsRefusedOverChange, Seen, IsHonest, Store, inventory_of, IsFruText}
 use Rattle.ipmi_commands.specs.Run.{MayEndOn}
-use Rattle.ipmi_commands.specs.Prelude.{EndsListing, failure_of, Form, LacksPiece, shelf_of, Unread, cause_of_unread, AtEnd, Cause, NoMemory, CountsSo, IsFine, is_absent, AsksAt, FindsIt, FindsNone, IsInventoryText, Spot, AtRecord, AtInventory}
+use Rattle.ipmi_commands.specs.Prelude.{end_of, ending_of, EndsListing, failure_of, Form, LacksPiece, shelf_of, Unread, cause_of_unread, AtEnd, Cause, NoMemory, CountsSo, IsFine, is_absent, AsksAt, FindsIt, FindsNone, IsInventoryText, Spot, AtRecord, AtInventory}
 use Rattle.ipmi_commands.proofs.CountLemmas.{ends_as, ends_here}
 
 -- why it failed is passed up
@@ -31,6 +31,12 @@ refuses_record asked class refuses = grind arith
 pub unread_ends : (form : Form) (unread : Unread) (seen : Seen) → LacksPiece form unread seen
     → EndsListing form seen (Err (failure_of unread))
 unread_ends form unread seen lacks = grind (arith, refuses_record)
+
+-- and so does one whose last record came
+pub end_ends : {T : Type 0} (form : Form) (wrote : Bool) (value : T) (seen : Seen)
+    → EndsListing form seen (ending_of (end_of form wrote value))
+end_ends (Form.Block wording name) false value seen = (wording, refl)
+end_ends form wrote value seen = grind arith
 
 -- and so does a record that does not come
 pub step_ends_listing : (form : Form) {now next : CursorState} {s s' : Seen} (ended : Ended)

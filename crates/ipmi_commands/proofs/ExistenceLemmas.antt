@@ -2,8 +2,8 @@
 use Rattle.std.proofs.Common.{◌≡◌, ℕ, zero, suc, ◌<◌, Bool, true, false, cond, nat_eq, Option, None, Some, Result, Ok, Err, List, [], ◌∷◌, ◌++◌, All, length, refl, arith}
 use Rattle.ipmi_bus.specs.Store.{Inventory, IsInventory, inventory_in}
 use Rattle.ipmi_records.specs.declared.sel.SelView.{SelView}
-use Rattle.ipmi_commands.specs.Below.{AreBytes, fru_of, Reading, Row, Store, IsStore, inventory_of, IsExtendedLine, IsFruText, IsInfoBlock, IsSdrBlock, IsSdrLine, IsSelBlock, IsSelLine, SdrFault, SdrView, sdr_view_of, sel_view_of}
-use Rattle.ipmi_commands.specs.Prelude.{AreTexts, Detail, Form, IfChosen, IsBlockOfName, IsDevicePiece, IsInventoryPiece, IsInventoryText, IsRecordLine, IsLocatorPiece, IsRowText, IsTextOver, Item, ItemsHaveAText, OfImage, OfInfo, OfInventory, OfRow, reading_for, row_is_of_kind, Subject}
+use Rattle.ipmi_commands.specs.Below.{AreBytes, EventInWordsExists, SensorBlockExists, SensorLineExists, fru_of, Reading, Row, Store, IsStore, inventory_of, IsExtendedLine, IsFruText, IsInfoBlock, IsSdrBlock, IsSdrLine, IsSelBlock, IsSelLine, SdrFault, SdrView, sdr_view_of, sel_view_of}
+use Rattle.ipmi_commands.specs.Prelude.{AreTexts, Detail, Form, IfChosen, IsBlockIn, IsBlockOfName, IsDevicePiece, IsEntryLine, IsInventoryPiece, IsInventoryText, IsRecordLine, IsLocatorPiece, IsRowText, IsTextOver, Item, ItemsHaveAText, OfImage, OfInfo, OfInventory, OfRow, reading_for, row_is_of_kind, Subject, Wording}
 
 -- there is such a text
 abbrev HasText : (List ℕ → Type 0) → Type 0
@@ -32,17 +32,25 @@ module _ (line : (view : SdrView) (reading : Option Reading) → HasText (IsSdrL
     (entry_line : (id : ℕ) (view : SelView) → HasText (IsSelLine id view))
     (entry_block : (id : ℕ) (view : SelView) → HasText (IsSelBlock id view))
     (info : (bytes : List ℕ) → HasText (IsInfoBlock bytes))
-    (fru : (bytes : List ℕ) → AreBytes bytes → HasText (IsFruText bytes)) where
+    (fru : (bytes : List ℕ) → AreBytes bytes → HasText (IsFruText bytes))
+    (in_words : EventInWordsExists) (sensor_line : SensorLineExists)
+    (sensor_block : SensorBlockExists) where
   has_listed : (detail : Detail) (store : Store) (id : ℕ) (view : Result SdrView SdrFault)
       → HasText (IsRecordLine detail store id view)
   has_listed Detail.Short store id (Ok view) = line view (reading_for store view)
   has_listed Detail.Extended store id (Ok view) = extended view (reading_for store view)
+  has_listed Detail.Words store id (Ok view) = sensor_line view (reading_for store view)
   has_listed detail store id (Err fault) = (_, refl)
 
-  has_block_of_name : (name : List ℕ) (store : Store) (id : ℕ) (view : Result SdrView SdrFault)
-      → HasText (IsBlockOfName name store id view)
-  has_block_of_name name store id (Ok view) = has_chosen _ _ (block id view (reading_for store view))
-  has_block_of_name name store id (Err fault) = ([], refl)
+  has_block : (wording : Wording) (id : ℕ) (view : SdrView) (reading : Option Reading)
+      → HasText (IsBlockIn wording id view reading)
+  has_block Wording.Codes id view reading = block id view reading
+  has_block Wording.Words id view reading = sensor_block id view reading
+
+  has_block_of_name : (wording : Wording) (name : List ℕ) (store : Store) (id : ℕ) (view : Result SdrView SdrFault)
+      → HasText (IsBlockOfName wording name store id view)
+  has_block_of_name wording name store id (Ok view) = has_chosen _ _ (has_block wording id view (reading_for store view))
+  has_block_of_name wording name store id (Err fault) = ([], refl)
 
   has_inventory_text : (o : Option (List ℕ)) → ((bytes : List ℕ) → o ≡ Some bytes → AreBytes bytes)
       → HasText (IsInventoryText o)
@@ -65,12 +73,17 @@ module _ (line : (view : SdrView) (reading : Option Reading) → HasText (IsSdrL
   has_locator store (Ok (SdrView.Fru bytes)) ok = has_device store (SdrView.Fru bytes) (fru_of (SdrView.Fru bytes)) ok
   has_locator store _ ok = ([], refl)
 
+  has_entry_line : (names : Option (List (List ℕ))) (id : ℕ) (view : SelView)
+      → HasText (IsEntryLine names id view)
+  has_entry_line None id view = entry_line id view
+  has_entry_line (Some sensors) id view = in_words id view sensors
+
   has_row : (form : Form) (store : Store) (row : Row) → IsStore store
       → HasText (IsRowText store form row)
   has_row (Form.Line detail kind) store row ok = has_chosen (row_is_of_kind kind row) _ (has_listed detail store row.id (sdr_view_of row.bytes))
-  has_row (Form.Block name) store row ok = has_block_of_name name store row.id (sdr_view_of row.bytes)
+  has_row (Form.Block wording name) store row ok = has_block_of_name wording name store row.id (sdr_view_of row.bytes)
   has_row Form.Device store row ok = has_locator store (sdr_view_of row.bytes) ok
-  has_row Form.EntryLine store row ok = entry_line row.id (sel_view_of row.bytes)
+  has_row (Form.EntryLine names) store row ok = has_entry_line names row.id (sel_view_of row.bytes)
   has_row Form.EntryBlock store row ok = entry_block row.id (sel_view_of row.bytes)
   has_row _ store row ok = (_, refl)
 

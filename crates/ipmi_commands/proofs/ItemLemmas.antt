@@ -104,27 +104,27 @@ pub record IsCarried (IsText : Subject → List ℕ → Type 0) (p q : Plan) (ol
       × IsText item'.subject text
 
 pub leaves_carried : (IsText : Subject → List ℕ → Type 0) (p q : Plan) (old old' new : List ℕ)
-    (ending : Ending) (cause : Cause)
+    (ending ending' : Ending) (cause : Cause)
     → ((whole : List ℕ) (first : HasFirstItems IsText p old whole)
     → IsCarried IsText p q old' whole first.rest)
-    → (cause ≡ AtEnd → PrintsAll IsText p old new ending → PrintsAll IsText q old' new ending)
-    → Leaves IsText p old new ending cause → Leaves IsText q old' new ending cause
-leaves_carried IsText p q old old' new ending AtEnd carry all leaves = all refl leaves
-leaves_carried IsText p q old old' new ending (GaveUp spot) carry all leaves = let at = carry new leaves.first in record { first = at.first; there = at.spots spot leaves.there }
-leaves_carried IsText p q old old' new ending (Refused spot code) carry all leaves = let at = carry new leaves.first in record { first = at.first; there = at.spots spot leaves.there }
-leaves_carried IsText p q old old' new ending NoMemory carry all leaves = (carry new leaves).first
-leaves_carried IsText p q old old' new ending NoOutput carry all leaves =
+    → (cause ≡ AtEnd → PrintsAll IsText p old new ending → PrintsAll IsText q old' new ending')
+    → Leaves IsText p old new ending cause → Leaves IsText q old' new ending' cause
+leaves_carried IsText p q old old' new ending ending' AtEnd carry all leaves = all refl leaves
+leaves_carried IsText p q old old' new ending ending' (GaveUp spot) carry all leaves = let at = carry new leaves.first in record { first = at.first; there = at.spots spot leaves.there }
+leaves_carried IsText p q old old' new ending ending' (Refused spot code) carry all leaves = let at = carry new leaves.first in record { first = at.first; there = at.spots spot leaves.there }
+leaves_carried IsText p q old old' new ending ending' NoMemory carry all leaves = (carry new leaves).first
+leaves_carried IsText p q old old' new ending ending' NoOutput carry all leaves =
     let at = carry leaves.whole leaves.first in
     let next = at.next leaves.item leaves.later leaves.text leaves.next leaves.is_text leaves.some in
-    cut_after IsText q old' leaves.whole new ending at.first next.0 next.1 leaves.text next.2 next.3 leaves.some leaves.part
-leaves_carried IsText p q old old' new ending Dishonest carry all leaves = absurd leaves
+    cut_after IsText q old' leaves.whole new ending' at.first next.0 next.1 leaves.text next.2 next.3 leaves.some leaves.part
+leaves_carried IsText p q old old' new ending ending' Dishonest carry all leaves = absurd leaves
 
 -- after some items that were printed
 pub leaves_joined : (IsText : Subject → List ℕ → Type 0) (done : List Item) (p : Plan)
     (old text new : List ℕ) (ending : Ending) (cause : Cause) → Printed IsText done old text
     → Leaves IsText p text new ending cause → Leaves IsText
     (after_items done p) old new ending cause
-leaves_joined IsText done p old text new ending cause before leaves = leaves_carried IsText p (after_items done p) text old new ending cause
+leaves_joined IsText done p old text new ending cause before leaves = leaves_carried IsText p (after_items done p) text old new ending ending cause
     (λ whole first. record {
       first = record {
         done = done ++ first.done;
@@ -145,7 +145,7 @@ pub leaves_longer : (IsText : Subject → List ℕ → Type 0) (p q : Plan) (mor
     → (old new : List ℕ) (ending : Ending) (cause : Cause)
     → (cause ≡ AtEnd → PrintsAll IsText p old new ending → PrintsAll IsText q old new ending)
     → Leaves IsText p old new ending cause → Leaves IsText q old new ending cause
-leaves_longer IsText p q more items_are spots_are old new ending cause whole leaves = leaves_carried IsText p q old old new ending cause
+leaves_longer IsText p q more items_are spots_are old new ending cause whole leaves = leaves_carried IsText p q old old new ending ending cause
     (λ whole first. record {
       first = record { done = first.done; rest = first.rest ++ more; items_are = items_are ∙ rw first.items_are (append_assoc first.done first.rest more); printed = first.printed };
       spots = λ spot among. spots_are spot first.rest among;

@@ -1,6 +1,7 @@
 mod AskLemmas
 mod CallLemmas
 mod CountLemmas
+mod EventsLemmas
 mod ExistenceLemmas
 mod ItemLemmas
 mod LastLemmas

@@ -1,7 +1,7 @@
 -- Whether a record of a name was found, by whether anything was written.
 use Rattle.std.proofs.Common.{◌≡◌, ℕ, ◌<◌, ◌==◌, ◌||◌, not, Bool, true, false, List, [], ◌∷◌, ◌++◌, length, refl, ap, ◌∙◌, append-nil, arith, length-append}
 use Rattle.ipmi_commands.specs.Below.{Place, Row, Store, Done, place_after}
-use Rattle.ipmi_commands.specs.Prelude.{AreTexts, end_of, ending_of, Form, IsTextOver, Printed, row_items, rows_end, some_has_name}
+use Rattle.ipmi_commands.specs.Prelude.{AreTexts, end_of, ending_of, Form, IsTextOver, Printed, row_items, rows_end, some_has_name, Wording}
 
 -- ---- whether anything was written
 
@@ -16,11 +16,11 @@ wrote_more wrote old new more (b ∷ text) has is = grind (arith, ap length is �
 
 -- ---- texts of records with a name
 
-module _ (name : List ℕ) (store : Store) where
+module _ (wording : Wording) (name : List ℕ) (store : Store) where
   -- a block is not empty, as it begins with the word Record
   -- something is printed where a row has the name
   name_wrote : (start : Place) (rows : List Row) (text : List ℕ)
-      → AreTexts (IsTextOver store) (row_items (Form.Block name) start rows) text
+      → AreTexts (IsTextOver store) (row_items (Form.Block wording name) start rows) text
       → Wrote (some_has_name name rows) [] text
   name_wrote start [] text are = are
   name_wrote start (row ∷ rows) text are =
@@ -31,6 +31,6 @@ pub end_of-wrote : (form : Form) (wrote : Bool) (count : ℕ) (store : Store) (s
     (rows : List Row) (old new : List ℕ)
     → Printed (IsTextOver store) (row_items form start rows) old new → Wrote wrote old new
     → ending_of (end_of form wrote count) ≡ rows_end form rows Done
-end_of-wrote (Form.Block name) wrote count store start rows old new printed has =
-    grind (arith, length-append, ap length printed.new_is, name_wrote name store start rows printed.text printed.are)
+end_of-wrote (Form.Block wording name) wrote count store start rows old new printed has =
+    grind (arith, length-append, ap length printed.new_is, name_wrote wording name store start rows printed.text printed.are)
 end_of-wrote _ wrote count store start rows old new printed has = refl

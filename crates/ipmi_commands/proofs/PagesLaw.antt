@@ -14,7 +14,7 @@ use Rattle.ipmi_commands.proofs.CountLemmas.{between, ends_since}
 
 -- a listing in this form asks for no name, and so ends as its walk does
 abbrev NamesNone : Form → Type 0
-NamesNone (Form.Block name) = ⊥
+NamesNone (Form.Block wording name) = ⊥
 NamesNone _ = Unit {0}
 
 same_end : (form : Form) (rows : List Row) (end : WalkEnd) → NamesNone form

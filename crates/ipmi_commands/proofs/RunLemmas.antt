@@ -1,15 +1,30 @@
 -- A run over an image, and an image written again.
-use Rattle.std.proofs.Common.{◌≡◌, ℕ, arith, false, IsTrue, List, [], refl}
-use Rattle.ipmi_commands.specs.Below.{Store, Seen, IsHonest, image_text_of, Ending}
-use Rattle.ipmi_commands.specs.Prelude.{change, IsAllowed, is_rewrite, IsRewriting, IsTextOver, Job, OfImage, OnPlan, Plan, Runs, RunsOver, WritesText}
+use Rattle.std.proofs.Common.{◌≡◌, ◌⊎◌, inl, inr, ℕ, ◌+◌, arith, Bool, true, false, IsTrue, Option, Some, Result, Ok, Err, List, [], refl, subst, sym}
+use Rattle.ipmi_commands.specs.Below.{Count, Failure, failure_of_image, ImageFault, Store, Seen, IsHonest, image_text_of, Ending}
+use Rattle.ipmi_commands.specs.Prelude.{after_names, AnswersJob, bytes_of_rows, change, Form, IsAllowed, is_rewrite, IsRewriting, IsTextOver, Job, OfImage, OnNamed, OnPlan, Plan, rewrite_plan, Runs, RunsOver, walk_call_bound, WritesText}
+use Rattle.ipmi_commands.proofs.EventsLemmas.{named_all}
+use Rattle.ipmi_commands.proofs.ItemLemmas.{no_items}
 use Rattle.ipmi_commands.proofs.PerformLemmas.{text_leaves}
 
 -- what holds of the plan, whatever the tries
+named_kept : (Holds : Plan → Type 0) (names : Option (List (List ℕ))) (count : Count)
+    (from : Option ℕ) (tries : ℕ) (store : Store) (More : Plan → ℕ → Type 0)
+    → ((plan : Plan) (calls : ℕ) → More plan calls → Holds plan)
+    → OnNamed names count from tries store More
+    → OnNamed names count from 0 store (λ plan calls. Holds plan)
+named_kept Holds names Count.All from tries store More keep on = λ walk end w ends. keep _ _ (on walk end w ends)
+named_kept Holds names (Count.First n) from tries store More keep on = λ walk end w ends. keep _ _ (on walk end w ends)
+named_kept Holds names (Count.Last n) from tries store More keep on = λ walk end w ends. keep _ _ (on walk end w ends)
+
 plan_kept : (Holds : Plan → Type 0) (job : Job) (tries : ℕ) (store : Store) (More : Plan → ℕ → Type 0)
     → ((plan : Plan) (calls : ℕ) → More plan calls → Holds plan)
     → OnPlan job tries store More → OnPlan job 0 store (λ plan calls. Holds plan)
 plan_kept Holds (Job.Records l) tries store More keep on = λ walk end w ends. keep _ _ (on walk end w ends)
-plan_kept Holds (Job.Last n from) tries store More keep on = λ walk end w ends. keep _ _ (on walk end w ends)
+plan_kept Holds (Job.Last names n from) tries store More keep on = λ walk end w ends. keep _ _ (on walk end w ends)
+plan_kept Holds (Job.Events count from) tries store More keep on = λ sensors end w ends.
+    named_kept (λ plan. Holds (after_names sensors end plan)) (Some (bytes_of_rows sensors)) count from tries store
+    (λ plan calls. More (after_names sensors end plan) (walk_call_bound Form.Bytes store tries sensors + calls))
+    (λ plan calls more. keep _ _ more) (on sensors end w ends)
 plan_kept Holds Job.AllInventories tries store More keep on = λ walk end w ends. keep _ _ (on walk end w ends)
 plan_kept Holds _ tries store More keep on = keep _ _ on
 
@@ -29,3 +44,38 @@ over_image job tries store s s' old new ending runs_ honest plain is runs =
 pub rewritten : (store : Store) (old new : List ℕ) (ending : Ending)
     → WritesText (image_text_of store) old new ending → IsRewriting store old new ending
 rewritten store old new ending writes = record { allowed = text_leaves (IsTextOver store) OfImage [] old new (image_text_of store) ending refl writes; unwritten = λ out. grind arith }
+
+-- ---- an image that was not read
+
+plan_all : (Holds : Plan → Type 0) (job : Job) (store : Store) → ((plan : Plan) → Holds plan)
+    → OnPlan job 0 store (λ plan calls. Holds plan)
+plan_all Holds (Job.Records l) store holds = λ walk end w ends. holds _
+plan_all Holds (Job.Last names n from) store holds = λ walk end w ends. holds _
+plan_all Holds (Job.Events count from) store holds = λ sensors end w ends.
+    named_all (Some (bytes_of_rows sensors)) from 0 store (λ plan calls. Holds (after_names sensors end plan)) count (λ plan calls. holds _)
+plan_all Holds Job.AllInventories store holds = λ walk end w ends. holds _
+plan_all Holds _ store holds = holds _
+
+-- whatever it is, memory may be wanted
+without_memory : (rewrites : Bool) (job : Job) (store : Store) (text : List ℕ)
+    → RunsOver rewrites job store text text (Err Failure.OutOfMemory)
+without_memory true job store text = record { allowed = no_items (IsTextOver store) rewrite_plan text text refl; unwritten = λ out. refl }
+without_memory false job store text =
+    (plan_all (λ plan. IsAllowed (IsTextOver store) plan text text (Err Failure.OutOfMemory)) job store (λ plan. no_items (IsTextOver store) plan text text refl), tt)
+
+answers_memory : (job : Job) (image : Result Store ImageFault) (text : List ℕ)
+    → AnswersJob job image text text (Err Failure.OutOfMemory)
+answers_memory job (Ok store) text = without_memory (is_rewrite job) job store text
+answers_memory job (Err fault) text = (refl, inr refl)
+
+failed_read : (fault : ImageFault) (ending : Ending) → ending ≡ Err (failure_of_image fault)
+    → (ending ≡ Err (Failure.Image fault)) ⊎ (ending ≡ Err Failure.OutOfMemory)
+failed_read fault ending is = grind arith
+
+pub unread : (job : Job) (image : Result Store ImageFault) (fault : ImageFault) (text : List ℕ)
+    → (fault ≡ ImageFault.Memory) ⊎ (image ≡ Err fault)
+    → AnswersJob job image text text (Err (failure_of_image fault))
+unread job image fault text (inl memory) =
+    subst (λ f. AnswersJob job image text text (Err (failure_of_image f))) (sym memory) (answers_memory job image text)
+unread job image fault text (inr is) =
+    subst (λ i. AnswersJob job i text text (Err (failure_of_image fault))) (sym is) (refl, failed_read fault (Err (failure_of_image fault)) refl)

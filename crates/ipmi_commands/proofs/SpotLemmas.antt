@@ -1,7 +1,7 @@
 -- The spots of a walk and of its rows.
-use Rattle.std.proofs.Common.{◌≡◌, ◌≢◌, inl, inr, ℕ, ◌==◌, Bool, true, false, cond, List, [], ◌∷◌, ◌++◌, refl, ap, arith, ne_eqb}
+use Rattle.std.proofs.Common.{◌≡◌, ◌≢◌, inl, inr, ℕ, zero, suc, ◌==◌, Bool, true, false, cond, Option, None, Some, List, [], ◌∷◌, ◌++◌, take, drop, refl, ap, arith, ne_eqb}
 use Rattle.ipmi_commands.specs.Below.{Place, First, Id, End, Row, WalkEnd, EndsBy, place_after, place_after_rows, last_next, MayFail, asked_at}
-use Rattle.ipmi_commands.specs.Prelude.{AtRecord, spots_at_walk_end, Form, IsAmong, row_items, Spot, next_spots}
+use Rattle.ipmi_commands.specs.Prelude.{AtRecord, first_rows, spots_at_walk_end, spots_because_of, spots_of_rows, Form, IsAmong, Item, row_items, Spot, next_spots}
 
 -- after a row a walk does not stand at the start
 pub not_first : (n : ℕ) (rows : List Row) → place_after_rows (place_after n) rows ≢ First
@@ -37,3 +37,32 @@ pub asked_first : (form : Form) (place : Place) (rows : List Row) (ends : List S
     → IsAmong (next_spots (row_items form place rows) ends) (AtRecord (asked_at place))
 asked_first form place [] ends at_end = at_end refl
 asked_first form place (row ∷ rows) ends at_end = inl refl
+
+-- ---- a walk in a form for which nothing is asked but the records
+
+pub spots_of_rows-split : (k : ℕ) (start : Place) (rows : List Row) (ends : List Spot)
+    → spots_of_rows start rows ++ ends ≡ spots_of_rows start (take k rows)
+    ++ (spots_of_rows (place_after_rows start (take k rows)) (drop k rows) ++ ends)
+spots_of_rows-split zero start rows ends = refl
+spots_of_rows-split (suc k) start [] ends = refl
+spots_of_rows-split (suc k) start (row ∷ rows) ends = rw (spots_of_rows-split k (place_after row.next) rows ends) refl
+
+module _ (form : Form) (quiet : (row : Row) → spots_because_of form row ≡ []) where
+  -- the spots of what comes next, or after the rows, are spots of theirs
+  quiet_spot : (rows : List Row) (start : Place) (done rest : List Item) (ends more : List Spot)
+      (spot : Spot)
+      → row_items form start rows ≡ done ++ rest → (IsAmong ends spot → IsAmong more spot)
+      → IsAmong (next_spots rest ends) spot → IsAmong (spots_of_rows start rows ++ more) spot
+  quiet_spot [] start [] rest ends more spot is wide among = let none : rest ≡ [] = cc is in wide (rw none at among)
+  quiet_spot [] start (d ∷ done) rest ends more spot is wide among = cc is
+  quiet_spot (row ∷ rows) start [] rest ends more spot is wide among = elim (rw (← is, quiet row) at among) [ inl at ↦ inl at | inr none ↦ absurd none ]
+  quiet_spot (row ∷ rows) start (d ∷ done) rest ends more spot is wide among = inr (quiet_spot rows (place_after row.next) done rest ends more spot (cc is) wide among)
+
+  pub quiet_there : (most : Option ℕ) (start : Place) (walk : List Row) (done rest : List Item)
+      (ends : List Spot)
+      (spot : Spot) → row_items form start (first_rows most walk) ≡ done ++ rest
+      → IsAmong (next_spots rest ends) spot → IsAmong (spots_of_rows start walk ++ ends) spot
+  quiet_there None start walk done rest ends spot is among = quiet_spot walk start done rest ends ends spot is (λ there. there) among
+  quiet_there (Some m) start walk done rest ends spot is among =
+      let later = spots_of_rows (place_after_rows start (take m walk)) (drop m walk) in
+      rw (spots_of_rows-split m start walk ends) (quiet_spot (take m walk) start done rest ends (later ++ ends) spot is (λ there. among_after later ends spot there) among)

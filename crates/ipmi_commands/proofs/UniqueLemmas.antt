@@ -1,7 +1,7 @@
 -- What is printed has one text, and so has a finished run.
 use Rattle.std.proofs.Common.{◌≡◌, ℕ, zero, suc, ◌-◌, Bool, Option, None, Some, Result, List, [], ◌∷◌, length, take, drop, sym, ◌∙◌, arith}
-use Rattle.ipmi_commands.specs.Below.{Shelf, Sdr, Sel, Place, First, start_of, Row, IsShelf, FoundIsRow, AreBytes, Reading, Store, info_of, inventory_of, rows_of, store_shelf, AllOf, WalkExists, place_after, place_after_rows, IsFruText, SdrFault, SdrView, IsInfoBlock, IsSdrBlock, entry_bytes, sel_view_of, SdrLineIsUnique, ExtendedLineIsUnique, SelLineIsUnique, SelBlockIsUnique, Ending}
-use Rattle.ipmi_commands.specs.Prelude.{AreOfBytes, first_rows, FinishedRunsAreOne, Form, IfChosen, info_plan, Printed, IsInventoryPiece, IsInventoryText, IsLocatorPiece, IsOfBytes, IsRowText, IsTextOver, Item, ItemsHaveOneText, Job, last_items, last_rows, row_items, shelf_of, Spot, spots_of_walk, Subject, with_first_spots}
+use Rattle.ipmi_commands.specs.Below.{Count, IsStore, WalkEnd, Shelf, Sdr, Sel, Place, First, start_of, Row, IsShelf, FoundIsRow, AreBytes, Reading, Store, info_of, inventory_of, rows_of, store_shelf, AllOf, WalkExists, place_after, place_after_rows, IsFruText, SdrFault, SdrView, IsInfoBlock, IsSdrBlock, entry_bytes, sel_view_of, SdrLineIsUnique, ExtendedLineIsUnique, SelLineIsUnique, SelBlockIsUnique, EventInWordsIsUnique, SensorBlockIsUnique, SensorLineIsUnique, Ending}
+use Rattle.ipmi_commands.specs.Prelude.{after_names, bytes_of_rows, OnNamed, PrintsAll, AreOfBytes, first_rows, FinishedRunsAreOne, Form, IfChosen, info_plan, Printed, IsInventoryPiece, IsInventoryText, IsLocatorPiece, IsOfBytes, IsRowText, IsTextOver, Item, ItemsHaveOneText, Job, last_items, last_rows, row_items, shelf_of, Spot, spots_of_walk, Subject, with_first_spots}
 
 -- there is one such text at most
 abbrev IsOne : (List ℕ → Type 0) → Type 0
@@ -23,7 +23,9 @@ module _ (one_sdr_line : SdrLineIsUnique) (one_extended_line : ExtendedLineIsUni
     (one_sel_line : SelLineIsUnique) (one_sel_block : SelBlockIsUnique)
     (one_info_block : (info text other : List ℕ)
     → AreBytes info → IsInfoBlock info text → IsInfoBlock info other → text ≡ other)
-    (one_fru_text : (bytes : List ℕ) → IsOne (IsFruText bytes)) where
+    (one_fru_text : (bytes : List ℕ) → IsOne (IsFruText bytes))
+    (one_event_in_words : EventInWordsIsUnique) (one_sensor_line : SensorLineIsUnique)
+    (one_sensor_block : SensorBlockIsUnique) where
   one_inventory_text : (o : Option (List ℕ)) → IsOne (IsInventoryText o)
   one_inventory_text None = one_equation _
   one_inventory_text (Some bytes) = one_fru_text bytes
@@ -37,7 +39,7 @@ module _ (one_sdr_line : SdrLineIsUnique) (one_extended_line : ExtendedLineIsUni
 
   one_row : (form : Form) (store : Store) (row : Row) → AreBytes row.bytes
       → IsOne (IsRowText store form row)
-  one_row form store row are = grind (arith, one_chosen, one_sdr_line, one_extended_line, one_sdr_block, one_locator, one_sel_line, one_sel_block, entry_are_bytes)
+  one_row form store row are = grind (arith, one_chosen, one_sdr_line, one_extended_line, one_sdr_block, one_locator, one_sel_line, one_sel_block, one_event_in_words, one_sensor_line, one_sensor_block, entry_are_bytes)
 
   one_item : (store : Store) (subject : Subject) → IsOfBytes subject
       → IsOne (IsTextOver store subject)
@@ -76,6 +78,28 @@ module _ (one : ItemsHaveOneText) (exists : WalkExists) (look_row : FoundIsRow) 
   one_plan {store = store} {items = items} bytes x y =
       (x.0.new_is ∙ rw (one store items x.0.text y.0.text bytes x.0.are y.0.are) (sym y.0.new_is), x.1 ∙ sym y.1)
 
+  -- after the names were read
+  one_named : (store : Store) (old a b : List ℕ) (e f : Ending) (names : Option (List (List ℕ)))
+      (count : Count) (from : Option ℕ) (tries tries' : ℕ) (sensors : List Row) (end : WalkEnd)
+      → IsStore store
+      → OnNamed names count from tries store (λ plan calls. PrintsAll (IsTextOver store) (after_names sensors end plan) old a e)
+      → OnNamed names count from tries' store (λ plan calls. PrintsAll (IsTextOver store) (after_names sensors end plan) old b f)
+      → (a ≡ b) × (e ≡ f)
+  one_named store old a b e f names Count.All from tries tries' sensors end ok x y =
+      let there = exists Sel store.sel (start_of from) ok.sel in
+      one_plan (first_kept _ _ (rows_are_bytes look_row (Form.EntryLine names) Sel store.sel (start_of from) there.0 ok.sel there.2.of_shelf))
+      (x there.0 there.1 there.2 there.3) (y there.0 there.1 there.2 there.3)
+  one_named store old a b e f names (Count.First n) from tries tries' sensors end ok x y =
+      let there = exists Sel store.sel (start_of from) ok.sel in
+      one_plan (first_kept _ _ (rows_are_bytes look_row (Form.EntryLine names) Sel store.sel (start_of from) (take n there.0) ok.sel (parts_of_shelf n store.sel there.0 there.2.of_shelf).0))
+      (x there.0 there.1 there.2 there.3) (y there.0 there.1 there.2 there.3)
+  one_named store old a b e f names (Count.Last n) from tries tries' sensors end ok x y =
+      let start = start_of from in
+      let there = exists Sel store.sel start ok.sel in
+      one_plan (first_kept _ _ (first_kept (spots_of_walk start there.0 there.1) (last_items names n start there.0 there.1)
+      (rows_are_bytes look_row (Form.EntryLine names) Sel store.sel (place_after_rows start (take (length there.0 - n) there.0)) (last_rows n there.0 there.1) ok.sel (grind (arith, parts_of_shelf (length there.0 - n) store.sel there.0 there.2.of_shelf)))))
+      (x there.0 there.1 there.2 there.3) (y there.0 there.1 there.2 there.3)
+
   pub one_output : FinishedRunsAreOne
   one_output (Job.Records l) tries tries' store old a b e f ok x y =
       let rows = rows_of (shelf_of l.form) store in
@@ -83,11 +107,15 @@ module _ (one : ItemsHaveOneText) (exists : WalkExists) (look_row : FoundIsRow) 
       let there = exists (shelf_of l.form) rows l.start shelf in
       one_plan (rows_are_bytes look_row l.form (shelf_of l.form) rows l.start (first_rows l.most there.0) shelf (grind (arith, parts_of_shelf, there.2.of_shelf)))
       (x there.0 there.1 there.2 there.3) (y there.0 there.1 there.2 there.3)
-  one_output (Job.Last n from) tries tries' store old a b e f ok x y =
+  one_output (Job.Last names n from) tries tries' store old a b e f ok x y =
       let start = start_of from in
       let there = exists Sel store.sel start ok.sel in
-      one_plan (first_kept (spots_of_walk start there.0 there.1) (last_items n start there.0 there.1)
-      (rows_are_bytes look_row Form.EntryLine Sel store.sel (place_after_rows start (take (length there.0 - n) there.0)) (last_rows n there.0 there.1) ok.sel (grind (arith, parts_of_shelf (length there.0 - n) store.sel there.0 there.2.of_shelf))))
+      one_plan (first_kept (spots_of_walk start there.0 there.1) (last_items names n start there.0 there.1)
+      (rows_are_bytes look_row (Form.EntryLine names) Sel store.sel (place_after_rows start (take (length there.0 - n) there.0)) (last_rows n there.0 there.1) ok.sel (grind (arith, parts_of_shelf (length there.0 - n) store.sel there.0 there.2.of_shelf))))
+      (x there.0 there.1 there.2 there.3) (y there.0 there.1 there.2 there.3)
+  one_output (Job.Events count from) tries tries' store old a b e f ok x y =
+      let there = exists Sdr store.sdr First ok.sdr in
+      one_named store old a b e f (Some (bytes_of_rows there.0)) count from tries tries' there.0 there.1 ok
       (x there.0 there.1 there.2 there.3) (y there.0 there.1 there.2 there.3)
   one_output (Job.Info shelf) tries tries' store old a b e f ok x y = let bytes : AreOfBytes (info_plan (info_of shelf store)).items = grind arith in one_plan bytes x y
   one_output (Job.Inventory id) tries tries' store old a b e f ok x y = one_plan (tt, tt) x y

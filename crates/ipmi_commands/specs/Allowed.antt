@@ -3,7 +3,7 @@
 use Rattle.std.specs.Prelude.{◌≡◌, ℕ, ◌+◌, ◌<◌, ◌≤◌, Result, Ok, Err, List, [], ◌∷◌, ◌++◌, length, ◌⊎◌}
 use Rattle.ipmi_commands.specs.Below.{Ended, FruEnded, ImageFault, Seen, StaysHonest, TakesPart, Ending, Failure}
 use Rattle.ipmi_commands.specs.Texts.{Subject}
-use Rattle.ipmi_commands.specs.Plan.{Spot, AtRecord, AtInventory, Item, Plan}
+use Rattle.ipmi_commands.specs.Plan.{Spot, AtRecord, AtInventory, Item, Plan, next_spots}
 
 -- ---- texts, by a relation of what a text of each subject is
 
@@ -62,11 +62,6 @@ cause_of (Err (Failure.Inventory id FruEnded.Words)) = Dishonest
 cause_of _ = AtEnd
 
 -- ---- what is in the output
-
--- the spots after the first items: those of the next one, or of the end
-abbrev pub next_spots : List Item → List Spot → List Spot
-next_spots [] at_end = at_end
-next_spots (item ∷ items) at_end = item.spots
 
 abbrev pub IsAmong : List Spot → Spot → Type 0
 IsAmong [] spot = ⊥

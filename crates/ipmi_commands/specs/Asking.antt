@@ -78,7 +78,7 @@ LacksInventory _ seen = ⊥
 -- of a record in this form
 abbrev pub LacksPiece : Form → Unread → Seen → Type 0
 LacksPiece (Form.Line detail kind) unread seen = LacksValue unread seen
-LacksPiece (Form.Block name) unread seen = LacksValue unread seen
+LacksPiece (Form.Block wording name) unread seen = LacksValue unread seen
 LacksPiece Form.Device unread seen = LacksInventory unread seen
 LacksPiece _ unread seen = unread ≡ Unread.Memory
 

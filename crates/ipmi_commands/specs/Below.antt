@@ -10,13 +10,21 @@ pub use Rattle.ipmi_records.specs.Sel.{entry_bytes, sel_view_of}
 pub use Rattle.ipmi_records.specs.SelText.{IsSelBlock, IsSelLine}
 pub use Rattle.ipmi_records.specs.declared.sdr.SdrFault.{SdrFault}
 pub use Rattle.ipmi_records.specs.declared.sdr.SdrView.{SdrView}
+pub use Rattle.ipmi_records.specs.declared.sel.SelView.{SelView}
 pub use Rattle.ipmi_records.specs.declared.sel.SelView.TheVariants.{Event, OemPlain, OemTimed, Other}
+pub use Rattle.ipmi_events.specs.Sensors.{is_whole_record}
+unfoldable pub use Rattle.ipmi_events.specs.Sensors.{records_in}
+pub use Rattle.ipmi_events.specs.EventLines.{IsEventInWords}
+pub use Rattle.ipmi_events.specs.Laws.{EventInWordsExists, EventInWordsIsUnique}
+pub use Rattle.ipmi_events.specs.SensorBlocks.{IsSensorBlock}
+pub use Rattle.ipmi_events.specs.SensorLaws.{SensorBlockExists, SensorBlockIsUnique, SensorLineExists, SensorLineIsUnique}
+pub use Rattle.ipmi_events.specs.SensorLines.{IsSensorLine}
 pub use Rattle.ipmi_bus.specs.Bounds.{digits, DigitsAreFew, fru_call_bound, step_call_bound}
 pub use Rattle.ipmi_bus.specs.CursorState.{CursorState, start_of}
 pub use Rattle.ipmi_bus.specs.Lent.{row_of_record}
 pub use Rattle.ipmi_bus.specs.Readers.{EndsUnder, inventory_len, InventoryCounts, IsRefusedInventory, IsRefusedOverChange, KeepsReservations, ReadsInventory, ReadsValue, ValueIs}
 pub use Rattle.ipmi_bus.specs.Seen.{AsksAtMost, current, IsHonest, Seen, stays_refl, stays_trans, StaysHonest}
-pub use Rattle.ipmi_bus.specs.Shelf.{first_row, FoundIsRow, IsShelf, largest_len, len_of, look, Row, whole_len}
+pub use Rattle.ipmi_bus.specs.Shelf.{first_row, FoundIsRow, IsRow, IsShelf, largest_len, len_of, look, Row, whole_len}
 pub use Rattle.ipmi_bus.specs.Standing.{MayFail, StandsAt, WalkStep}
 pub use Rattle.ipmi_bus.specs.Step.{asked_at, AsksNothing, CursorHoldsCurrent, FailsAt, HandsOut, IsStep, StepAnswers, StepIsHonest, StepLeaves}
 pub use Rattle.ipmi_bus.specs.Store.{info_of, inventory_of, IsInfo, IsStore, reading_of, rows_of, Store, store_shelf}
@@ -35,7 +43,7 @@ pub use Rattle.ipmi_image.specs.Image.{store_of_image}
 pub use Rattle.ipmi_image.specs.Rewritten.{record_line_of}
 unfoldable pub use Rattle.ipmi_image.specs.Rewritten.{image_text_of}
 pub use Rattle.ipmi_image.specs.declared.image.ImageFault.{ImageFault}
-pub use Rattle.ipmi_command_line.specs.Command.{CommandState}
+pub use Rattle.ipmi_command_line.specs.Command.{CommandState, IsCount}
 pub use Rattle.ipmi_command_line.specs.Task.{is_listing}
 pub use Rattle.ipmi_command_line.specs.declared.task.Count.{Count}
 pub use Rattle.ipmi_command_line.specs.declared.task.Kind.{Kind}

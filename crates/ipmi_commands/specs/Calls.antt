@@ -32,7 +32,7 @@ walk_call_bound form store tries rows =
 -- over any controller, for what is asked for because of a record
 abbrev pub most_after : Form → ℕ → ℕ
 most_after (Form.Line detail kind) tries = tries + 1
-most_after (Form.Block name) tries = tries + 1
+most_after (Form.Block wording name) tries = tries + 1
 most_after Form.Device tries = fru_call_bound tries 65535
 most_after _ tries = 0
 

@@ -2,6 +2,7 @@ pub mod Allowed
 pub mod Asking
 pub mod Below
 pub mod Calls
+pub mod Events
 pub mod Job
 pub mod Laws
 pub mod Listing

@@ -19,7 +19,7 @@ is_reached (Some n) count = n == count
 
 -- how a listing ends after its last record: with this, where something was written or no name is asked for
 abbrev pub end_of : {T : Type 0} → Form → Bool → T → Result T Failure
-end_of (Form.Block name) false with_ = Err (Failure.NoName name)
+end_of (Form.Block wording name) false with_ = Err (Failure.NoName name)
 end_of _ wrote with_ = Ok with_
 
 -- the cursor can go on
@@ -109,7 +109,8 @@ abbrev pub Counted : Store → Place → List Row → WalkEnd → List ℕ → L
 Counted store start walk end old new (Ok count) =
     (count ≡ length walk) × (end ≡ Done) × (new ≡ old)
 Counted store start walk end old new (Err failure) =
-    (n : ℕ) → IsAllowed (IsTextOver store) (last_plan n start walk end) old new (Err failure)
+    (names : Option (List (List ℕ))) (n : ℕ)
+    → IsAllowed (IsTextOver store) (last_plan names n start walk end) old new (Err failure)
 
 pub record CountsEntries (start : Place) (tries : ℕ) (c : Change)
     (result : Result ℕ Failure) : Type 0 where
@@ -117,13 +118,13 @@ pub record CountsEntries (start : Place) (tries : ℕ) (c : Change)
   pub along : c.seen'.stores_added ≡ c.seen.stores_added
       → OnWalk Sel start c.seen.store (λ walk end.
       Counted c.seen.store start walk end c.old c.new result
-      × (c.seen'.calls ≤ c.seen.calls + walk_call_bound Form.EntryLine c.seen.store tries walk))
+      × (c.seen'.calls ≤ c.seen.calls + walk_call_bound Form.Passed c.seen.store tries walk))
 
 -- entries were passed, and those after them listed, which are the last ones of a walk that is done
-pub record ListsAfter (start : Place) (passed tries : ℕ) (c : Change)
-    (ending : Ending) : Type 0 where
+pub record ListsAfter (names : Option (List (List ℕ))) (start : Place) (passed tries : ℕ)
+    (c : Change) (ending : Ending) : Type 0 where
   pub ends : EndsFor tries (IsTrue c.seen.plain) c.seen c.seen' (cause_of ending)
   pub along : c.seen'.stores_added ≡ c.seen.stores_added
       → OnWalk Sel start c.seen.store (λ walk end. (n : ℕ) → end ≡ Done → passed ≡ length walk - n
-      → IsAllowed (IsTextOver c.seen.store) (last_plan n start walk end) c.old c.new ending
-      × (c.seen'.calls ≤ c.seen.calls + walk_call_bound Form.EntryLine c.seen.store tries walk))
+      → IsAllowed (IsTextOver c.seen.store) (last_plan names n start walk end) c.old c.new ending
+      × (c.seen'.calls ≤ c.seen.calls + walk_call_bound Form.Passed c.seen.store tries walk))

@@ -1,5 +1,5 @@
 -- What is to be printed over a store: its items in order, its end, and the spots at which a run may give up or be refused.
-use Rattle.std.specs.Prelude.{ℕ, ◌-◌, ◌==◌, nat_le, ◌||◌, Bool, false, if◌then◌else◌, Option, Some, None, is_some, Result, Ok, Err, List, [], ◌∷◌, ◌++◌, length, take, drop}
+use Rattle.std.specs.Prelude.{ℕ, ◌-◌, ◌==◌, nat_le, ◌||◌, Bool, false, if◌then◌else◌, Option, Some, None, is_some, Result, Ok, Err, List, [], ◌∷◌, ◌++◌, length, map, take, drop}
 use Rattle.ipmi_commands.specs.Below.{Place, First, Shelf, Row, Store, rows_of, IsWalk, EndsBy, asked_at, WalkEnd, Done, CycleAt, MissingAt, place_after, place_after_rows, SdrFault, SdrView, Kind, Cycle, Missing, Ending, Failure}
 use Rattle.ipmi_records.specs.Sdr as sdr
 use Rattle.ipmi_commands.specs.declared.job.Form.{Form}
@@ -65,7 +65,7 @@ locator_spots (Err fault) = []
 -- what is asked for because of a row
 abbrev pub spots_because_of : Form → Row → List Spot
 spots_because_of (Form.Line detail kind) row = listed_spots kind row
-spots_because_of (Form.Block name) row = named_spots name row.id (sdr.sdr_view_of row.bytes)
+spots_because_of (Form.Block wording name) row = named_spots name row.id (sdr.sdr_view_of row.bytes)
 spots_because_of Form.Device row = locator_spots (sdr.sdr_view_of row.bytes)
 spots_because_of _ row = []
 
@@ -120,7 +120,7 @@ some_has_name name (row ∷ rows) =
 abbrev pub rows_end : Form → List Row → WalkEnd → Ending
 rows_end form rows (CycleAt n) = Err (Failure.Ended (Cycle n))
 rows_end form rows (MissingAt n) = Err (Failure.Ended (Missing n))
-rows_end (Form.Block name) rows Done =
+rows_end (Form.Block wording name) rows Done =
     if some_has_name name rows then Ok tt else Err (Failure.NoName name)
 rows_end form rows Done = Ok tt
 
@@ -143,17 +143,46 @@ abbrev pub end_spots_of_last : List Spot → List Item → List Spot → List Sp
 end_spots_of_last spots [] at_end = spots
 end_spots_of_last spots (item ∷ items) at_end = at_end
 
-abbrev pub last_items : ℕ → Place → List Row → WalkEnd → List Item
-last_items n start walk end = row_items Form.EntryLine
+abbrev pub last_items : Option (List (List ℕ)) → ℕ → Place → List Row → WalkEnd → List Item
+last_items names n start walk end = row_items (Form.EntryLine names)
     (place_after_rows start (take (length walk - n) walk)) (last_rows n walk end)
 
 -- of a listing of the last n entries
-abbrev pub last_plan : ℕ → Place → List Row → WalkEnd → Plan
-last_plan n start walk end = record {
-  items = with_first_spots (spots_of_walk start walk end) (last_items n start walk end);
-  end = rows_end Form.EntryLine walk end;
-  end_spots = end_spots_of_last (spots_of_walk start walk end) (last_items n start walk end)
+abbrev pub last_plan : Option (List (List ℕ)) → ℕ → Place → List Row → WalkEnd → Plan
+last_plan names n start walk end = record {
+  items = with_first_spots (spots_of_walk start walk end) (last_items names n start walk end);
+  end = rows_end (Form.EntryLine names) walk end;
+  end_spots = end_spots_of_last (spots_of_walk start walk end) (last_items names n start walk end)
       (spots_at_walk_end start walk end);
+}
+
+-- ---- after the sensor data records were read for the names of sensors
+
+abbrev pub bytes_of_rows : List Row → List (List ℕ)
+bytes_of_rows rows = map (λ row. row.bytes) rows
+
+-- the spots of what comes first: of the first item, or of the end where there is none
+abbrev pub next_spots : List Item → List Spot → List Spot
+next_spots [] at_end = at_end
+next_spots (item ∷ items) at_end = item.spots
+
+-- before the first item, or before the end where there is none, the run may stop at a spot of that walk too
+abbrev pub spots_before : List Row → WalkEnd → Plan → List Spot
+spots_before sensors sensors_end plan =
+    spots_of_walk First sensors sensors_end ++ next_spots plan.items plan.end_spots
+
+-- after a walk of theirs that was not done a run that was finished ends by that
+abbrev pub end_after_names : WalkEnd → Ending → Ending
+end_after_names (CycleAt n) (Ok done) = Err (Failure.NamesCycle n)
+end_after_names (MissingAt n) (Ok done) = Err (Failure.NamesMissing n)
+end_after_names _ ending = ending
+
+-- a plan after that walk
+abbrev pub after_names : List Row → WalkEnd → Plan → Plan
+after_names sensors sensors_end plan = record {
+  items = with_first_spots (spots_before sensors sensors_end plan) plan.items;
+  end = end_after_names sensors_end plan.end;
+  end_spots = end_spots_of_last (spots_before sensors sensors_end plan) plan.items plan.end_spots;
 }
 
 -- of one text, after which the run is finished

@@ -1,14 +1,16 @@
 -- What a run of a command promises: over any controller, over an honest one, in pages, and over an image.
-use Rattle.std.specs.Prelude.{◌≡◌, ◌⊎◌, ℕ, ◌+◌, ◌*◌, ◌<◌, ◌≤◌, Bool, true, false, IsTrue, None, Result, Ok, Err, List, [], ◌++◌, length}
-use Rattle.ipmi_commands.specs.Below.{Ended, fru_call_bound, LastCallSays, LastFailed, LastFruCallSays, NotPresent, RefusesRecord, RefusesValue, Seen, Shelf, start_of, Place, First, Sdr, Sel, Row, Store, info_of, WalkEnd, IsHonest, ImageFault, UsageFault, CommandState, Received, ReceivesText, TakesPart, Ending, Failure, failure_of_usage, said_of, status_of}
+use Rattle.std.specs.Prelude.{◌≡◌, ◌⊎◌, ℕ, ◌+◌, ◌*◌, ◌<◌, ◌≤◌, Bool, true, false, IsTrue, Option, None, Some, Result, Ok, Err, List, [], ◌++◌, length}
+use Rattle.ipmi_commands.specs.Below.{Count, Ended, fru_call_bound, LastCallSays, LastFailed, LastFruCallSays, NotPresent, RefusesRecord, RefusesValue, Seen, Shelf, start_of, Place, First, Sdr, Sel, Row, Store, info_of, WalkEnd, IsHonest, ImageFault, UsageFault, CommandState, Received, ReceivesText, TakesPart, Ending, Failure, failure_of_usage, said_of, status_of}
 use Rattle.ipmi_commands.specs.declared.job.Form.{Form}
 use Rattle.ipmi_commands.specs.declared.job.Job.{Job}
+use Rattle.ipmi_commands.specs.declared.job.Listing.{Listing}
+use Rattle.ipmi_commands.specs.declared.job.Wording.{Wording}
 use Rattle.ipmi_commands.specs.declared.unread.Unread.{Unread}
 use Rattle.ipmi_commands.specs.Allowed.{NoMemory, cause_of, EndsFor, IsAllowed, IsFine, Change}
 use Rattle.ipmi_commands.specs.Calls.{calls_for_spot, walk_call_bound, most_on_walk}
-use Rattle.ipmi_commands.specs.Job.{shelf_of, is_rewrite, job_of, listing}
+use Rattle.ipmi_commands.specs.Job.{shelf_of, is_rewrite, job_in, job_of, listing}
 use Rattle.ipmi_commands.specs.Pages.{ArePages, IsOneListing, pages_made}
-use Rattle.ipmi_commands.specs.Plan.{OnWalk, AtInventory, Plan, first_rows, last_rows, listing_plan, last_plan, inventory_plan, inventories_plan, info_plan, rewrite_plan, no_plan}
+use Rattle.ipmi_commands.specs.Plan.{OnWalk, AtInventory, Plan, after_names, bytes_of_rows, first_rows, last_rows, listing_plan, last_plan, inventory_plan, inventories_plan, info_plan, rewrite_plan, no_plan}
 use Rattle.ipmi_commands.specs.Texts.{IsTextOver}
 
 -- ---- over any controller
@@ -16,8 +18,10 @@ use Rattle.ipmi_commands.specs.Texts.{IsTextOver}
 -- at most so many calls; an inventory has at most 65,535 bytes
 abbrev pub most_calls : Job → ℕ → ℕ
 most_calls (Job.Records l) tries = most_on_walk l.form tries
-most_calls (Job.Last n from) tries =
-    most_on_walk Form.EntryLine tries + most_on_walk Form.EntryLine tries
+most_calls (Job.Last names n from) tries =
+    most_on_walk Form.Passed tries + most_on_walk Form.Passed tries
+most_calls (Job.Events count from) tries = most_on_walk Form.Bytes tries
+    + (most_on_walk Form.Passed tries + most_on_walk Form.Passed tries)
 most_calls (Job.Info shelf) tries = tries + 1
 most_calls (Job.Inventory id) tries = fru_call_bound tries 65535
 most_calls Job.AllInventories tries = fru_call_bound tries 65535 + most_on_walk Form.Device tries
@@ -36,10 +40,17 @@ EndsListing form seen (Err (Failure.Ended ended)) =
     LastCallSays RefusesRecord ended seen × MayEndOn (shelf_of form) ended
 EndsListing form seen (Err (Failure.Inventory id ended)) =
     (form ≡ Form.Device) × LastFruCallSays ended seen
-EndsListing form seen (Err (Failure.NoName name)) = form ≡ Form.Block name
+EndsListing form seen (Err (Failure.NoName name)) =
+    (wording : Wording) × (form ≡ Form.Block wording name)
 EndsListing form seen (Err Failure.WriteFault) = Unit {0}
 EndsListing form seen (Err Failure.OutOfMemory) = Unit {0}
 EndsListing form seen _ = ⊥
+
+-- a listing of entries after a walk of the sensor data records, which was not done where names may be missing
+abbrev pub EndsEvents : Seen → Ending → Type 0
+EndsEvents seen (Err (Failure.NamesCycle n)) = Unit {0}
+EndsEvents seen (Err (Failure.NamesMissing n)) = Unit {0}
+EndsEvents seen ending = EndsListing Form.Bytes seen ending
 
 -- a reading or an info is given up or refused, or memory is wanted
 abbrev pub LacksValue : Unread → Seen → Type 0
@@ -69,7 +80,8 @@ EndsInventory seen _ = ⊥
 -- how a run may end; no run over a controller writes an image again: it does nothing
 abbrev pub MayEnd : Job → Change → Ending → Type 0
 MayEnd (Job.Records l) c ending = EndsListing l.form c.seen' ending
-MayEnd (Job.Last n from) c ending = EndsListing Form.EntryLine c.seen' ending
+MayEnd (Job.Last names n from) c ending = EndsListing (Form.EntryLine names) c.seen' ending
+MayEnd (Job.Events count from) c ending = EndsEvents c.seen' ending
 MayEnd (Job.Info shelf) c ending = EndsInfo c.seen' ending
 MayEnd (Job.Inventory id) c ending = EndsInventory c.seen' ending
 MayEnd Job.AllInventories c ending = EndsListing Form.Device c.seen' ending
@@ -85,18 +97,38 @@ second_walk_bound bound _ = bound
 
 abbrev pub last_call_bound : ℕ → Store → ℕ → List Row → WalkEnd → ℕ
 last_call_bound n store tries walk end =
-    walk_call_bound Form.EntryLine store tries walk
-    + second_walk_bound (walk_call_bound Form.EntryLine store tries walk) (last_rows n walk end)
+    walk_call_bound Form.Passed store tries walk
+    + second_walk_bound (walk_call_bound Form.Passed store tries walk) (last_rows n walk end)
+
+abbrev pub OnListing : Listing → ℕ → Store → (Plan → ℕ → Type 0) → Type 0
+OnListing l tries store Holds =
+    OnWalk (shelf_of l.form) l.start store (λ walk end. Holds (listing_plan l walk end)
+    (walk_call_bound l.form store tries (first_rows l.most walk)))
+
+abbrev pub OnLast : Option (List (List ℕ)) → ℕ → Option ℕ → ℕ → Store → (Plan → ℕ → Type 0)
+    → Type 0
+OnLast names n from tries store Holds =
+    OnWalk Sel (start_of from) store (λ walk end. Holds (last_plan names n (start_of from) walk end)
+    (last_call_bound n store tries walk end))
+
+-- entries with these names
+abbrev pub OnNamed : Option (List (List ℕ)) → Count → Option ℕ → ℕ → Store → (Plan → ℕ → Type 0)
+    → Type 0
+OnNamed names Count.All from tries store Holds =
+    OnListing (listing (Form.EntryLine names) (start_of from) None) tries store Holds
+OnNamed names (Count.First n) from tries store Holds =
+    OnListing (listing (Form.EntryLine names) (start_of from) (Some n)) tries store Holds
+OnNamed names (Count.Last n) from tries store Holds = OnLast names n from tries store Holds
 
 -- `Holds` of the job's plan over a store and of the most calls that it takes, for each walk from the start that has an end;
 -- the tries bound only the calls
 abbrev pub OnPlan : Job → ℕ → Store → (Plan → ℕ → Type 0) → Type 0
-OnPlan (Job.Records l) tries store Holds =
-    OnWalk (shelf_of l.form) l.start store (λ walk end. Holds (listing_plan l walk end)
-    (walk_call_bound l.form store tries (first_rows l.most walk)))
-OnPlan (Job.Last n from) tries store Holds =
-    OnWalk Sel (start_of from) store (λ walk end. Holds (last_plan n (start_of from) walk end)
-    (last_call_bound n store tries walk end))
+OnPlan (Job.Records l) tries store Holds = OnListing l tries store Holds
+OnPlan (Job.Last names n from) tries store Holds = OnLast names n from tries store Holds
+OnPlan (Job.Events count from) tries store Holds =
+    OnWalk Sdr First store (λ sensors end. OnNamed (Some (bytes_of_rows sensors)) count from tries
+    store (λ plan calls. Holds (after_names sensors end plan)
+    (walk_call_bound Form.Bytes store tries sensors + calls)))
 OnPlan (Job.Info shelf) tries store Holds = Holds (info_plan (info_of shelf store)) (tries + 1)
 OnPlan (Job.Inventory id) tries store Holds =
     Holds (inventory_plan id) (calls_for_spot tries store (AtInventory id))
@@ -123,9 +155,12 @@ pub record Runs (job : Job) (tries : ℕ) (c : Change) (ending : Ending) : Type 
   pub prints : IsHonest c.seen → c.seen'.stores_added ≡ c.seen.stores_added
       → Prints job tries c ending
 
--- what a command is to do
+-- what a command is to do, in codes and in these words
 abbrev pub job_of_command : CommandState → Job
 job_of_command command = job_of command.task command.from
+
+abbrev pub job_of_command_in : Wording → CommandState → Job
+job_of_command_in wording command = job_in wording command.task command.from
 
 -- as `Runs`, for a listing in pages of these sizes: each page by itself is a listing from its place, of at most as many rows
 -- as its size, and along a walk that does not end by a cycle all of them print what one listing may print
@@ -171,10 +206,12 @@ RunsOver false job store old new ending =
     × IsFine (cause_of ending)
 
 -- by what the image gives
+abbrev pub AnswersJob : Job → Result Store ImageFault → List ℕ → List ℕ → Ending → Type 0
+AnswersJob job (Ok store) old new ending = RunsOver (is_rewrite job) job store old new ending
+AnswersJob job (Err fault) old new ending = FailsToRead fault old new ending
+
 abbrev pub AnswersCommand : CommandState → Result Store ImageFault → List ℕ → List ℕ → Ending → Type 0
-AnswersCommand command (Ok store) old new ending =
-    RunsOver (is_rewrite (job_of_command command)) (job_of_command command) store old new ending
-AnswersCommand command (Err fault) old new ending = FailsToRead fault old new ending
+AnswersCommand command image old new ending = AnswersJob (job_of_command command) image old new ending
 
 -- the answer to a command line over an image
 abbrev pub AnswersLine : Result CommandState UsageFault → Result Store ImageFault → List ℕ → List ℕ

@@ -1,10 +1,11 @@
 -- What is printed: of a row in each form, of an inventory, of an info, of an image, put together from the texts of the
 -- crates below.
 use Rattle.std.specs.Prelude.{◌≡◌, ℕ, ◌==◌, ◌||◌, not, Bool, true, false, Option, Some, None, Result, Ok, Err, List, [], ◌++◌, codes, decimal, bytes_eq}
-use Rattle.ipmi_commands.specs.Below.{Reading, Row, Store, inventory_of, reading_of, IsFruText, IsInfoBlock, SdrFault, SdrView, IsSdrLine, IsExtendedLine, IsSdrBlock, fault_line, printed_name, sel_view_of, IsSelLine, IsSelBlock, image_text_of, record_line_of, Kind}
+use Rattle.ipmi_commands.specs.Below.{Reading, Row, Store, inventory_of, reading_of, IsFruText, IsInfoBlock, SdrFault, SdrView, SelView, IsEventInWords, IsSdrLine, IsExtendedLine, IsSdrBlock, IsSensorBlock, IsSensorLine, fault_line, printed_name, sel_view_of, IsSelLine, IsSelBlock, image_text_of, record_line_of, Kind}
 use Rattle.ipmi_records.specs.Sdr as sdr
 use Rattle.ipmi_commands.specs.declared.job.Detail.{Detail}
 use Rattle.ipmi_commands.specs.declared.job.Form.{Form}
+use Rattle.ipmi_commands.specs.declared.job.Wording.{Wording}
 
 -- ---- what is chosen
 
@@ -42,12 +43,13 @@ reading_by store (Some key) = reading_of key.0 key.1 store
 abbrev pub reading_for : Store → SdrView → Option Reading
 reading_for store view = reading_by store (sdr.reading_of view)
 
--- the line of a record with its reading, in one of its two forms
+-- the line of a record with its reading, in one of its three forms
 abbrev pub IsLineOf : Detail → SdrView → Option Reading → List ℕ → Type 0
 IsLineOf Detail.Short view reading text = IsSdrLine view reading text
 IsLineOf Detail.Extended view reading text = IsExtendedLine view reading text
+IsLineOf Detail.Words view reading text = IsSensorLine view reading text
 
--- that line, or in either form the line of the record's fault
+-- that line, or in each form the line of the record's fault
 abbrev pub IsRecordLine : Detail → Store → ℕ → Result SdrView SdrFault → List ℕ → Type 0
 IsRecordLine detail store id (Ok view) text = IsLineOf detail view (reading_for store view) text
 IsRecordLine detail store id (Err fault) text = text ≡ fault_line id fault
@@ -58,12 +60,23 @@ IsListedOfKind detail kind store row text =
     IfChosen (row_is_of_kind kind row)
     (λ t. IsRecordLine detail store row.id (sdr.sdr_view_of row.bytes) t) text
 
--- the block of a record with the name; a record with a fault has none
-abbrev pub IsBlockOfName : List ℕ → Store → ℕ → Result SdrView SdrFault → List ℕ → Type 0
-IsBlockOfName name store id (Ok view) text =
-    IfChosen (is_name name (sdr.name_of view)) (λ t. IsSdrBlock id view (reading_for store view) t)
-    text
-IsBlockOfName name store id (Err fault) text = text ≡ []
+abbrev pub IsBlockIn : Wording → ℕ → SdrView → Option Reading → List ℕ → Type 0
+IsBlockIn Wording.Codes id view reading text = IsSdrBlock id view reading text
+IsBlockIn Wording.Words id view reading text = IsSensorBlock id view reading text
+
+-- the block of a record with the name, in these words; a record with a fault has none
+abbrev pub IsBlockOfName : Wording → List ℕ → Store → ℕ → Result SdrView SdrFault → List ℕ → Type 0
+IsBlockOfName wording name store id (Ok view) text =
+    IfChosen (is_name name (sdr.name_of view))
+    (λ t. IsBlockIn wording id view (reading_for store view) t) text
+IsBlockOfName wording name store id (Err fault) text = text ≡ []
+
+-- ---- entries
+
+-- the line of an entry: in codes, or in words with the names of these sensors
+abbrev pub IsEntryLine : Option (List (List ℕ)) → ℕ → SelView → List ℕ → Type 0
+IsEntryLine None id view text = IsSelLine id view text
+IsEntryLine (Some sensors) id view text = IsEventInWords id view sensors text
 
 -- ---- inventories
 
@@ -107,11 +120,13 @@ pub data Subject : Type 0 where
 -- a text of a row, nothing for one that is left out
 abbrev pub IsRowText : Store → Form → Row → List ℕ → Type 0
 IsRowText store Form.Raw row text = text ≡ record_line_of row
+IsRowText store Form.Bytes row text = text ≡ row.bytes
 IsRowText store (Form.Line detail kind) row text = IsListedOfKind detail kind store row text
-IsRowText store (Form.Block name) row text =
-    IsBlockOfName name store row.id (sdr.sdr_view_of row.bytes) text
+IsRowText store (Form.Block wording name) row text =
+    IsBlockOfName wording name store row.id (sdr.sdr_view_of row.bytes) text
 IsRowText store Form.Device row text = IsLocatorPiece store (sdr.sdr_view_of row.bytes) text
-IsRowText store Form.EntryLine row text = IsSelLine row.id (sel_view_of row.bytes) text
+IsRowText store (Form.EntryLine names) row text =
+    IsEntryLine names row.id (sel_view_of row.bytes) text
 IsRowText store Form.EntryBlock row text = IsSelBlock row.id (sel_view_of row.bytes) text
 IsRowText store Form.Passed row text = text ≡ []
 

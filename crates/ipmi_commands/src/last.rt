@@ -10,6 +10,7 @@ use crate::listing::list_records;
 use crate::pages::start_cursor;
 use ipmi_bus::Controller;
 use ipmi_command_line::Command;
+use ipmi_events::Sensors;
 use ipmi_output::{Failure, Sink};
 use std::alloc::Global;
 
@@ -24,8 +25,8 @@ fn count_entries<'a, C: Controller, O: Sink>(
     requires { IsFrom from }
     ensures faults { O.faults out.new ≡ O.faults out.old + write_faults (ending_of result) }
     ensures asked { AsksAtMost cmd.now.part (C.seen ctl.old) (C.seen ctl.new) }
-    ensures ends { EndsListing Form.EntryLine (C.seen ctl.new) (ending_of result) }
-    ensures calls { (C.seen ctl.new).calls ≤ (C.seen ctl.old).calls + most_on_walk Form.EntryLine
+    ensures ends { EndsListing Form.Passed (C.seen ctl.new) (ending_of result) }
+    ensures calls { (C.seen ctl.new).calls ≤ (C.seen ctl.old).calls + most_on_walk Form.Passed
         cmd.now.tries }
     ensures honest { IsHonest (C.seen ctl.old) →
         CountsEntries (start_of from) cmd.now.tries (change (C.seen ctl.old) (C.seen ctl.new)
@@ -41,6 +42,7 @@ fn list_after<'a, C: Controller, O: Sink>(
     alloc: Global,
     ctl: &mut C,
     cmd: &Command,
+    names: Option<Sensors>,
     from: Option<u16>,
     passed: u32,
     out: &mut O,
@@ -48,11 +50,11 @@ fn list_after<'a, C: Controller, O: Sink>(
     requires { IsFrom from }
     ensures faults { O.faults out.new ≡ O.faults out.old + write_faults result }
     ensures asked { AsksAtMost cmd.now.part (C.seen ctl.old) (C.seen ctl.new) }
-    ensures ends { EndsListing Form.EntryLine (C.seen ctl.new) result }
-    ensures calls { (C.seen ctl.new).calls ≤ (C.seen ctl.old).calls + most_on_walk Form.EntryLine
+    ensures ends { EndsListing (Form.EntryLine names) (C.seen ctl.new) result }
+    ensures calls { (C.seen ctl.new).calls ≤ (C.seen ctl.old).calls + most_on_walk Form.Passed
         cmd.now.tries }
     ensures honest { IsHonest (C.seen ctl.old) →
-        ListsAfter (start_of from) passed cmd.now.tries (change (C.seen ctl.old) (C.seen ctl.new)
+        ListsAfter names (start_of from) passed cmd.now.tries (change (C.seen ctl.old) (C.seen ctl.new)
         (O.taken out.old) (O.taken out.new)) result }
 {
     let mut cursor = start_cursor(alloc, cmd, &Form::Passed, from)?;
@@ -60,15 +62,24 @@ fn list_after<'a, C: Controller, O: Sink>(
     if list_records(alloc, &mut cursor, ctl, cmd, &Form::Passed, most, out)? != passed {
         return Ok(());
     }
-    list_records(alloc, &mut cursor, ctl, cmd, &Form::EntryLine, None, out)?;
+    list_records(
+        alloc,
+        &mut cursor,
+        ctl,
+        cmd,
+        &Form::EntryLine(names),
+        None,
+        out,
+    )?;
     Ok(())
 }
 
-/// Lists the last `wanted` entries: it counts them all, and passes those before them on a second walk.
+/// Lists the last `wanted` entries, with these names: it counts them all, and passes those before them on a second walk.
 pub(crate) fn list_last<'a, C: Controller, O: Sink>(
     alloc: Global,
     ctl: &mut C,
     cmd: &Command,
+    names: Option<Sensors>,
     wanted: u16,
     from: Option<u16>,
     out: &mut O,
@@ -77,14 +88,14 @@ pub(crate) fn list_last<'a, C: Controller, O: Sink>(
     requires from { IsFrom from }
     ensures faults { O.faults out.new ≡ O.faults out.old + write_faults result }
     ensures asked { AsksAtMost cmd.now.part (C.seen ctl.old) (C.seen ctl.new) }
-    ensures runs { Runs (Job.Last wanted from) cmd.now.tries
+    ensures runs { Runs (Job.Last names wanted from) cmd.now.tries
         (change (C.seen ctl.old) (C.seen ctl.new) (O.taken out.old) (O.taken out.new)) result }
 {
     match count_entries(alloc, ctl, cmd, from, out) {
         Ok(0) => Ok(()),
         Ok(count) => {
             let passed = count.saturating_sub(u32::from(wanted));
-            list_after(alloc, ctl, cmd, from, passed, out)
+            list_after(alloc, ctl, cmd, names, from, passed, out)
         }
         Err(failure) => Err(failure),
     }

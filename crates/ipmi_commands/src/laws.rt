@@ -9,6 +9,9 @@ pub fn items_have_a_text()
     ipmi_records::laws::each_entry_has_texts();
     ipmi_records::laws::each_info_has_a_block();
     ipmi_fru::laws::each_inventory_has_a_text();
+    ipmi_events::laws::each_entry_has_a_line_in_words();
+    ipmi_events::sensor_laws::each_record_has_a_sensor_line();
+    ipmi_events::sensor_laws::each_record_has_a_sensor_block();
 }
 
 /// The texts of items, over a store, are one text.
@@ -22,6 +25,9 @@ pub fn items_have_one_text()
     ipmi_records::laws::one_sel_block();
     ipmi_records::laws::one_info_block();
     ipmi_fru::laws::one_fru_text();
+    ipmi_events::laws::one_event_in_words();
+    ipmi_events::sensor_laws::one_sensor_line();
+    ipmi_events::sensor_laws::one_sensor_block();
 }
 
 /// So over a well-formed store a finished run leaves one output, and ends in one way.

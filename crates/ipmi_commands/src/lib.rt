@@ -1,6 +1,7 @@
 //! The commands of `ipmitool`, run over any controller or answered over a saved image.
 #![tactic(auto)]
 
+mod events;
 mod info;
 mod inventory;
 mod job;
@@ -13,5 +14,6 @@ mod piece;
 mod runs;
 mod unread;
 
-pub use perform::{execute, execute_pages};
-pub use runs::{answer, execute_image, report, run, run_pages};
+pub use job::Wording;
+pub use perform::{execute, execute_in, execute_pages};
+pub use runs::{answer, execute_image, execute_image_in, report, run, run_pages};

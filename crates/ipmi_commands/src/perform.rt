@@ -1,17 +1,19 @@
 //! Does what a command asks for, over any controller.
 ghost use Rattle.std.specs.Prelude.{◌≡◌, ◌+◌, true};
-ghost use Rattle.ipmi_commands.specs.Below.{AsksAtMost, is_listing, write_faults};
+ghost use Rattle.ipmi_commands.specs.Below.{AsksAtMost, IsCount, is_listing, write_faults};
 ghost use Rattle.ipmi_commands.specs.declared.job.Job.{Job};
 ghost use Rattle.ipmi_commands.specs.declared.job.Listing.{Listing};
-ghost use Rattle.ipmi_commands.specs.Prelude.{change, IsPlace, job_of_command, Runs, RunsPaged, WritesText};
+ghost use Rattle.ipmi_commands.specs.Prelude.{change, IsFrom, IsPlace, job_of_command, job_of_command_in, named_job, Runs, RunsPaged, WritesText};
 
+use crate::events::list_events;
 use crate::info::info_text;
 use crate::inventory::inventory_piece;
-use crate::job::{Form, Job, Listing};
+use crate::job::{Form, Job, Listing, Wording};
 use crate::last::list_last;
 use crate::pages::{list_page, list_pages};
 use ipmi_bus::{Controller, Place, Shelf};
-use ipmi_command_line::Command;
+use ipmi_command_line::{Command, Count};
+use ipmi_events::Sensors;
 use ipmi_output::{Failure, Sink, write_all};
 use std::alloc::Global;
 
@@ -47,6 +49,36 @@ fn list<'a, C: Controller, O: Sink>(
         out,
     )?;
     Ok(())
+}
+
+/// Lists so many entries, from this id on or from the first, with these names.
+pub(crate) fn list_named<'a, C: Controller, O: Sink>(
+    alloc: Global,
+    ctl: &mut C,
+    cmd: &Command,
+    names: Option<Sensors>,
+    count: Count,
+    from: Option<u16>,
+    out: &mut O,
+) -> Result<(), Failure<'a>>
+    requires count { IsCount count }
+    requires from { IsFrom from }
+    ensures faults { O.faults out.new ≡ O.faults out.old + write_faults result }
+    ensures asked { AsksAtMost cmd.now.part (C.seen ctl.old) (C.seen ctl.new) }
+    ensures runs { Runs (named_job names count from) cmd.now.tries
+        (change (C.seen ctl.old) (C.seen ctl.new) (O.taken out.old) (O.taken out.new)) result }
+{
+    match count {
+        Count::All => {
+            let listing = Listing::new(Form::EntryLine(names), from, None);
+            list(alloc, ctl, cmd, &listing, out)
+        }
+        Count::First(n) => {
+            let listing = Listing::new(Form::EntryLine(names), from, Some(u32::from(n)));
+            list(alloc, ctl, cmd, &listing, out)
+        }
+        Count::Last(n) => list_last(alloc, ctl, cmd, names, n, from, out),
+    }
 }
 
 /// Prints the info of the shelf.
@@ -115,9 +147,26 @@ pub fn execute<'a, C: Controller, O: Sink>(
     ensures runs { Runs (job_of_command cmd.now) cmd.now.tries
         (change (C.seen ctl.old) (C.seen ctl.new) (O.taken out.old) (O.taken out.new)) result }
 {
-    match Job::of(cmd) {
+    execute_in(alloc, ctl, cmd, Wording::Codes, out)
+}
+
+/// As [`execute`], in these words.
+pub fn execute_in<'a, C: Controller, O: Sink>(
+    alloc: Global,
+    ctl: &mut C,
+    cmd: &'a Command,
+    wording: Wording,
+    out: &mut O,
+) -> Result<(), Failure<'a>>
+    ensures faults { O.faults out.new ≡ O.faults out.old + write_faults result }
+    ensures asked { AsksAtMost cmd.now.part (C.seen ctl.old) (C.seen ctl.new) }
+    ensures runs { Runs (job_of_command_in wording cmd.now) cmd.now.tries
+        (change (C.seen ctl.old) (C.seen ctl.new) (O.taken out.old) (O.taken out.new)) result }
+{
+    match Job::of(cmd, wording) {
         Job::Records(listing) => list(alloc, ctl, cmd, &listing, out),
-        Job::Last(wanted, from) => list_last(alloc, ctl, cmd, wanted, from, out),
+        Job::Last(names, wanted, from) => list_last(alloc, ctl, cmd, names, wanted, from, out),
+        Job::Events(count, from) => list_events(alloc, ctl, cmd, count, from, out),
         Job::Info(shelf) => print_info(alloc, ctl, cmd, shelf, out),
         Job::Inventory(id) => print_inventory(alloc, ctl, cmd, id, out),
         Job::AllInventories => print_inventories(alloc, ctl, cmd, out),
@@ -141,6 +190,6 @@ pub fn execute_pages<'a, C: Controller, O: Sink>(
         (change (C.seen ctl.old) (C.seen ctl.new) (O.taken out.old) (O.taken out.new)) result }
 {
     ipmi_bus::laws::the_tail_is_a_walk();
-    let listing = Job::of(cmd).listing().unwrap();
+    let listing = Job::of(cmd, Wording::Codes).listing().unwrap();
     list_pages(alloc, ctl, cmd, &listing.form, listing.start, pages, out)
 }

@@ -2,13 +2,14 @@
 ghost use Rattle.std.specs.Prelude.{◌≡◌, ◌+◌, ◌≤◌, IfErr, IfOk, length, Ok, option_map, string_bytes};
 ghost use Rattle.ipmi_commands.specs.Below.{AsksAtMost, row_of_record, IsHonest, largest_len, whole_len, sdr_view_of};
 ghost use Rattle.ipmi_records.specs.Sdr.{name_of};
-ghost use Rattle.ipmi_commands.specs.Prelude.{LacksPiece, LacksValue, bytes_of, Finds, is_name, is_of_kind, IsBlockOfName, IsLineOf, IsListedOfKind, IsRowText, listed_spots, most_after, named_spots, reading_for, reading_spots, shelf_of, spots_because_of};
+ghost use Rattle.ipmi_commands.specs.Prelude.{LacksPiece, LacksValue, bytes_of, Finds, is_name, is_of_kind, IsBlockIn, IsBlockOfName, IsEntryLine, IsLineOf, IsListedOfKind, IsRowText, listed_spots, most_after, named_spots, reading_for, reading_spots, shelf_of, spots_because_of};
 
 use crate::inventory::locator_piece;
-use crate::job::{Detail, Form};
+use crate::job::{Detail, Form, Wording};
 use crate::unread::Unread;
 use ipmi_bus::{Controller, Record, SEL_ENTRY_LEN, read_reading};
 use ipmi_command_line::{Command, Kind};
+use ipmi_events::{Sensors, event_line, sensor_block, sensor_line};
 use ipmi_image::{LineBuffer, record_line};
 use ipmi_records::{
     COMPACT_TYPE, CONTROLLER_TYPE, EVENT_ONLY_TYPE, FRU_TYPE, FULL_TYPE, GENERIC_TYPE, SdrView,
@@ -61,7 +62,7 @@ fn reading_for<C: Controller>(
     }
 }
 
-/// The line of a record with its reading, short or extended.
+/// The line of a record with its reading, in one of its forms.
 fn line_of(
     alloc: Global,
     detail: Detail,
@@ -73,6 +74,7 @@ fn line_of(
     match detail {
         Detail::Short => sdr_line(alloc, view, reading),
         Detail::Extended => sdr_eline(alloc, view, reading),
+        Detail::Words => sensor_line(alloc, view, reading),
     }
 }
 
@@ -114,10 +116,42 @@ fn is_name(name: &str, own: &Option<String>) -> bool
     }
 }
 
+/// The block of a record with its reading, in these words.
+fn block_of(
+    alloc: Global,
+    wording: Wording,
+    id: u16,
+    view: &SdrView<'_>,
+    reading: Option<Reading>,
+) -> Result<String, AllocError>
+    ensures { IfOk result (λ text. IsBlockIn wording id view.now reading (string_bytes text)) }
+{
+    match wording {
+        Wording::Codes => sdr_block(alloc, id, view, reading),
+        Wording::Words => sensor_block(alloc, id, view, reading),
+    }
+}
+
+/// The line of an entry, in codes or in words with these names.
+fn entry_line(
+    alloc: Global,
+    names: &Option<Sensors>,
+    id: u16,
+    entry: &SelView<'_>,
+) -> Result<String, AllocError>
+    ensures { IfOk result (λ text. IsEntryLine names.now id entry.now (string_bytes text)) }
+{
+    match names {
+        None => sel_line(alloc, id, entry),
+        Some(sensors) => event_line(alloc, id, entry, sensors),
+    }
+}
+
 /// The block of a record with the name, nothing for one without it or with a fault.
 fn named_block<C: Controller>(
     alloc: Global,
     ctl: &mut C,
+    wording: Wording,
     name: &str,
     tries: u8,
     lent: &Record<'_>,
@@ -126,7 +160,7 @@ fn named_block<C: Controller>(
     ensures asked { AsksAtMost 0 (C.seen ctl.old) (C.seen ctl.new) }
     ensures says { IfErr result (λ unread. LacksValue unread (C.seen ctl.new)) }
     ensures honest { let row = row_of_record lent.now in IsHonest (C.seen ctl.old) →
-        Finds (λ store text. IsBlockOfName name.now store row.id (sdr_view_of row.bytes)
+        Finds (λ store text. IsBlockOfName wording name.now store row.id (sdr_view_of row.bytes)
         (string_bytes text)) (named_spots name.now row.id (sdr_view_of row.bytes)) tries (C.seen ctl.old)
         (C.seen ctl.new) result }
 {
@@ -139,7 +173,7 @@ fn named_block<C: Controller>(
     }
     let id = lent.id;
     let reading = reading_for(ctl, id, &view, tries)?;
-    Ok(sdr_block(alloc, id, &view, reading)?)
+    Ok(block_of(alloc, wording, id, &view, reading)?)
 }
 
 /// What is printed for a record.
@@ -161,6 +195,15 @@ impl Piece {
             Piece::Text(text) => text.as_bytes(),
         }
     }
+}
+
+/// Writes the bytes of a record into `line`, in place of what it holds.
+fn copy_bytes(lent: &Record<'_>, line: &mut LineBuffer)
+    requires { length lent.now.bytes.now ≤ 256 }
+    ensures { line.new.items ≡ lent.now.bytes.now }
+{
+    line.clear();
+    line.try_extend_from_slice(lent.bytes).unwrap();
 }
 
 /// What is printed of the record in this form, nothing of one that is left out.
@@ -188,14 +231,21 @@ pub(crate) fn record_piece<C: Controller>(
             record_line(lent, line);
             Ok(Piece::Line)
         }
+        Form::Bytes => {
+            copy_bytes(lent, line);
+            Ok(Piece::Line)
+        }
         Form::Line(detail, kind) => {
             Ok(Piece::Text(listed_line(alloc, ctl, *detail, *kind, tries, lent)?))
         }
-        Form::Block(name) => Ok(Piece::Text(named_block(alloc, ctl, name.as_str(), tries, lent)?)),
+        Form::Block(wording, name) => {
+            let block = named_block(alloc, ctl, *wording, name.as_str(), tries, lent)?;
+            Ok(Piece::Text(block))
+        }
         Form::Device => Ok(Piece::Text(locator_piece(alloc, ctl, cmd, lent)?)),
-        Form::EntryLine => {
+        Form::EntryLine(names) => {
             let entry = SelView::read(entry_bytes(lent.bytes));
-            Ok(Piece::Text(sel_line(alloc, lent.id, &entry)?))
+            Ok(Piece::Text(entry_line(alloc, names, lent.id, &entry)?))
         }
         Form::EntryBlock => {
             let entry = SelView::read(entry_bytes(lent.bytes));

@@ -1,10 +1,10 @@
 //! Runs a command and says how it ended, or answers it over a saved image.
 ghost use Rattle.std.specs.Prelude.{◌≡◌, ◌+◌, ◌==◌, if◌then◌else◌, true};
 ghost use Rattle.ipmi_commands.specs.Below.{AsksAtMost, is_listing, store_of_image, of_writer, write_faults};
-ghost use Rattle.ipmi_commands.specs.Prelude.{AnswersCommand, AnswersLine, change, IsRewriting, job_of_command, Runs, RunsPaged, Says};
+ghost use Rattle.ipmi_commands.specs.Prelude.{AnswersCommand, AnswersJob, AnswersLine, change, IsRewriting, job_of_command, job_of_command_in, Runs, RunsPaged, Says};
 
-use crate::job::Job;
-use crate::perform::{execute, execute_pages, write_text};
+use crate::job::{Job, Wording};
+use crate::perform::{execute, execute_in, execute_pages, write_text};
 use ipmi_bus::Controller;
 use ipmi_command_line::{Command, UsageFault};
 use ipmi_image::{Image, ImageController, image_text};
@@ -76,11 +76,26 @@ pub fn execute_image<'a, O: Sink>(
     ensures answers { AnswersCommand cmd.now (store_of_image image.now) (O.taken out.old)
         (O.taken out.new) result }
 {
+    execute_image_in(alloc, cmd, Wording::Codes, image, out)
+}
+
+/// As [`execute_image`], in these words.
+pub fn execute_image_in<'a, O: Sink>(
+    alloc: Global,
+    cmd: &'a Command,
+    wording: Wording,
+    image: &[u8],
+    out: &mut O,
+) -> Result<(), Failure<'a>>
+    ensures faults { O.faults out.new ≡ O.faults out.old + write_faults result }
+    ensures answers { AnswersJob (job_of_command_in wording cmd.now) (store_of_image image.now) (O.taken out.old)
+        (O.taken out.new) result }
+{
     let image = Image::read(alloc, image)?;
-    if Job::of(cmd).is_rewrite() {
+    if Job::of(cmd, wording).is_rewrite() {
         return write_image(alloc, &image, out);
     }
-    execute(alloc, &mut ImageController::new(image), cmd, out)
+    execute_in(alloc, &mut ImageController::new(image), cmd, wording, out)
 }
 
 /// Writes the text of the image.

@@ -55,6 +55,10 @@ pub enum Failure<'a> {
     Ended(Ended),
     /// The inventory of the FRU device with this id was not read, for this reason.
     Inventory(u8, FruEnded),
+    /// All was printed, but names of sensors may be missing: the sensor data records go in a circle at this id.
+    NamesCycle(u16),
+    /// All was printed, but names of sensors may be missing: no sensor data record has this id, which one names as its next.
+    NamesMissing(u16),
     /// No record has this name.
     NoName(Name<'a>),
     /// The controller has no such info.
@@ -78,8 +82,12 @@ impl<'a> Failure<'a> {
             Failure::WriteFault => 4,
             Failure::Image(_) => 3,
             Failure::Usage => 2,
-            Failure::Ended(_) | Failure::Inventory(_, _) | Failure::NoName(_) | Failure::NoInfo =>
-                1,
+            Failure::Ended(_)
+            | Failure::Inventory(_, _)
+            | Failure::NamesCycle(_)
+            | Failure::NamesMissing(_)
+            | Failure::NoName(_)
+            | Failure::NoInfo => 1,
         }
     }
 
@@ -94,6 +102,18 @@ impl<'a> Failure<'a> {
             Failure::Image(fault) => of_image(*fault),
             Failure::Ended(ended) => of_record(*ended),
             Failure::Inventory(id, ended) => of_inventory(*id, *ended),
+            Failure::NamesCycle(id) => {
+                Message(
+                    "names of sensors may be missing: cycle at ",
+                    Word(*id),
+                    "",
+                    NONE,
+                )
+            }
+            Failure::NamesMissing(id) => {
+                let before = "names of sensors may be missing: record ";
+                Message(before, Word(*id), " not present", NONE)
+            }
             Failure::NoName(name) => Message("no record named ", Text(name.as_str()), "", NONE),
             Failure::NoInfo => text("info not present"),
             Failure::WriteFault => text("write fault"),

@@ -2,7 +2,7 @@
 ghost use Rattle.std.specs.Prelude.{◌≡◌, ◌⊎◌, ◌+◌, Err, [], IsSome, unwrap_or};
 ghost use Rattle.std.specs.Io.Buffered.{writer_buffer, writer_inner};
 ghost use Rattle.ipmi_bus.specs.Seen.{AsksAtMost};
-ghost use Rattle.ipmi_commands.specs.Prelude.{AnswersCommand, change, job_of_command, Runs};
+ghost use Rattle.ipmi_commands.specs.Prelude.{AnswersJob, change, job_of_command_in, Runs};
 ghost use Rattle.ipmi_image.specs.Image.{store_of_image};
 ghost use Rattle.ipmi_output.specs.Failure.{write_faults};
 ghost use Rattle.ipmi_output.specs.declared.failure.Failure.{Failure};
@@ -11,7 +11,7 @@ ghost use Rattle.ipmi_program.specs.Printing.{EndsBy, IsHandedOn};
 
 use ipmi_bus::Controller;
 use ipmi_command_line::Command;
-use ipmi_commands::{execute, execute_image};
+use ipmi_commands::{Wording, execute_image_in, execute_in};
 use ipmi_output::{Failure, Sink, Written};
 use std::alloc::Global;
 use std::io::{BufWriter, Write};
@@ -34,22 +34,23 @@ fn hand_on<'a, W: Write + Drop>(
     ending
 }
 
-/// Does what the command asks for over the image, and then hands on what was printed to the writer below the buffer. Where that
+/// Does what the command asks for over the image, in these words, and then hands on what was printed to the writer below the buffer. Where that
 /// fails, the run ends by a write fault.
 pub fn print<'a, W: Write + Drop>(
     alloc: Global,
     cmd: &'a Command,
+    wording: Wording,
     image: &[u8],
     out: &mut Written<BufWriter<W>>,
 ) -> Result<(), Failure<'a>>
     ensures faults { ⟦<Written<BufWriter<W>> as Sink>⟧.faults out.new ≡
         ⟦<Written<BufWriter<W>> as Sink>⟧.faults out.old + write_faults result }
-    ensures prints { EndsBy (λ ending. AnswersCommand cmd.now (store_of_image image.now)
+    ensures prints { EndsBy (λ ending. AnswersJob (job_of_command_in wording cmd.now) (store_of_image image.now)
         (⟦<Written<BufWriter<W>> as Sink>⟧.taken out.old)
         (⟦<Written<BufWriter<W>> as Sink>⟧.taken out.new) ending) result }
     ensures handed_on { IsHandedOn (writer_buffer (writer_of out.new)) result }
 {
-    let ending = execute_image(alloc, cmd, image, out);
+    let ending = execute_image_in(alloc, cmd, wording, image, out);
     hand_on(ending, out)
 }
 
@@ -58,16 +59,17 @@ pub fn print_live<'a, C: Controller, W: Write + Drop>(
     alloc: Global,
     ctl: &mut C,
     cmd: &'a Command,
+    wording: Wording,
     out: &mut Written<BufWriter<W>>,
 ) -> Result<(), Failure<'a>>
     ensures faults { ⟦<Written<BufWriter<W>> as Sink>⟧.faults out.new ≡
         ⟦<Written<BufWriter<W>> as Sink>⟧.faults out.old + write_faults result }
     ensures asked { AsksAtMost cmd.now.part (C.seen ctl.old) (C.seen ctl.new) }
-    ensures prints { EndsBy (λ ending. Runs (job_of_command cmd.now) cmd.now.tries (change (C.seen ctl.old) (C.seen ctl.new)
+    ensures prints { EndsBy (λ ending. Runs (job_of_command_in wording cmd.now) cmd.now.tries (change (C.seen ctl.old) (C.seen ctl.new)
         (⟦<Written<BufWriter<W>> as Sink>⟧.taken out.old)
         (⟦<Written<BufWriter<W>> as Sink>⟧.taken out.new)) ending) result }
     ensures handed_on { IsHandedOn (writer_buffer (writer_of out.new)) result }
 {
-    let ending = execute(alloc, ctl, cmd, out);
+    let ending = execute_in(alloc, ctl, cmd, wording, out);
     hand_on(ending, out)
 }

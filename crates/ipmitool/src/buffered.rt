@@ -8,7 +8,7 @@ ghost use Rattle.ipmi_program.specs.Printing.{EndsBy, IsHandedOn};
 ghost use Rattle.ipmitool.specs.Answer.{Answers, SaysUnread};
 
 use ipmi_command_line::{Command, UsageFault};
-use ipmi_commands::report;
+use ipmi_commands::{Wording, report};
 use ipmi_output::{Failure, MessageSink, Sink, Written, say_unreadable};
 use ipmi_program::{InputFault, input_name, print};
 use std::alloc::Global;
@@ -53,7 +53,7 @@ pub(crate) fn answer_buffered<W: Write + Drop, E: MessageSink>(
         Err(fault) => return report(Err(Failure::from(*fault)), err),
     };
     match input {
-        Ok(image) => report(print(alloc, command, image, out), err),
+        Ok(image) => report(print(alloc, command, Wording::Codes, image, out), err),
         Err(fault) => say_unread(*fault, input_name(command.image()), err),
     }
 }

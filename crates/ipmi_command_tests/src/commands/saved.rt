@@ -305,9 +305,9 @@ fn text_if_named<'a>(rt: &impl Abort, image: &'a str, name: &str) -> Option<&'a 
     if first == name { Some(text) } else { None }
 }
 
-/// The image among `IMAGES` that has this name.
-fn image_among(rt: &impl Abort, name: &str) -> &'static str {
-    for image in IMAGES.split_terminator("--\n") {
+/// The image among these that has this name.
+pub(super) fn image_in(rt: &impl Abort, images: &'static str, name: &str) -> &'static str {
+    for image in images.split_terminator("--\n") {
         if let Some(text) = text_if_named(rt, image, name) {
             return text;
         }
@@ -320,6 +320,6 @@ pub(super) fn image_named(rt: &impl Abort, name: &str) -> &'static str {
     match name {
         "three" => THREE_ROWS,
         "empty" => EMPTY,
-        _ => image_among(rt, name),
+        _ => image_in(rt, IMAGES, name),
     }
 }

@@ -3,6 +3,7 @@ use crate::command_line::lines::command;
 use crate::commands::saved::THREE_ROWS;
 use crate::writers::{Limited, is_written};
 use ipmi_bus::Ended;
+use ipmi_commands::Wording;
 use ipmi_output::{Failure, Written};
 use ipmi_program::print;
 use std::alloc::Global;
@@ -27,7 +28,13 @@ fn buffered<W: Write + Drop>(rt: &impl Abort, alloc: Global, writer: W) -> Writt
 fn all_that_was_printed_is_handed_on(rt: HostRuntime) {
     let cmd = command(&rt, rt.alloc(), "sdr hex");
     let mut out = buffered(&rt, rt.alloc(), Vec::new(rt.alloc()));
-    let ending = print(rt.alloc(), &cmd, THREE_ROWS.as_bytes(), &mut out);
+    let ending = print(
+        rt.alloc(),
+        &cmd,
+        Wording::Codes,
+        THREE_ROWS.as_bytes(),
+        &mut out,
+    );
     assert!(rt; ending.is_ok(), "{ending:?}");
     assert!(rt; out.get_ref().buffer().is_empty(), "some of it is left");
     is_written(&rt, &out.into_inner().into_parts().0, LINES);
@@ -39,7 +46,7 @@ fn what_was_printed_before_a_cycle_is_handed_on(rt: HostRuntime) {
     let image = b"ipmi-image 1\nsdr 0001 0001 010051c000\nend\n";
     let cmd = command(&rt, rt.alloc(), "sdr hex");
     let mut out = buffered(&rt, rt.alloc(), Vec::new(rt.alloc()));
-    let ending = print(rt.alloc(), &cmd, image, &mut out);
+    let ending = print(rt.alloc(), &cmd, Wording::Codes, image, &mut out);
     let is_cycle = matches!(ending, Err(Failure::Ended(Ended::Cycle(1))));
     assert!(rt; is_cycle, "{ending:?}");
     let line = "sdr 0001 0001 010051c000\n";
@@ -51,7 +58,7 @@ fn what_was_printed_before_a_cycle_is_handed_on(rt: HostRuntime) {
 fn is_fault_after(rt: &impl Abort, alloc: Global, room: usize) {
     let cmd = command(rt, alloc, "sdr hex");
     let mut out = buffered(rt, alloc, Limited::failing_after(alloc, room));
-    let ending = print(alloc, &cmd, THREE_ROWS.as_bytes(), &mut out);
+    let ending = print(alloc, &cmd, Wording::Codes, THREE_ROWS.as_bytes(), &mut out);
     assert!(rt;
         matches!(ending, Err(Failure::WriteFault)),
         "{room} bytes: {ending:?}"

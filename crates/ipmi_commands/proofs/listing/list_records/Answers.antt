@@ -1,6 +1,6 @@
 use Rattle.std.proofs.Common.{◌++◌, List, ℕ, Ok, ◌∙◌, ap, sym, arith}
 use Rattle.ipmi_commands.specs.Below.{row_of_record}
-use Rattle.ipmi_commands.proofs.AskLemmas.{step_ends_listing, unread_ends}
+use Rattle.ipmi_commands.proofs.AskLemmas.{end_ends, step_ends_listing, unread_ends}
 use Rattle.ipmi_commands.proofs.CallLemmas.{len-next_ids}
 use Rattle.ipmi_commands.proofs.ListingLemmas.{listing_cut, listing_done, listing_ended, listing_full, listing_more, listing_none}
 use Rattle.ipmi_commands.proofs.listing.list_records.Goals as goal
@@ -52,3 +52,9 @@ records-preserved g c =
       rw (c.is_empty.ensures, c.bytes-bytes.ensures) (listing_more c.records.invariant.2 (sym c.is_reached.ensures ∙ c.if-is_reached.false) step c.record_piece.ensures.calls
           _ c.in-Ok.ensures.honest _ (wrote.0 ∙ ap (λ (l : List ℕ). g.O.Sink.taken c.records.out ++ l) c.bytes-bytes.ensures)),
     )
+
+pub returns-then-is_reached-clause-ends : goal.returns-then-is_reached-clause-ends
+returns-then-is_reached-clause-ends g c = rw c.end.ensures (end_ends c.args.form.now c.records.wrote c.records.count _)
+
+pub returns-in-Ok-None-clause-ends : goal.returns-in-Ok-None-clause-ends
+returns-in-Ok-None-clause-ends g c = rw c.end-in-Ok-None.ensures (end_ends c.args.form.now c.records.wrote c.records.count _)

@@ -2,7 +2,7 @@ use Rattle.std.proofs.Common.{refl, ◌∙◌, sym, arith}
 use Rattle.ipmi_commands.specs.Prelude.{IsTextOver}
 use Rattle.ipmi_commands.proofs.CountLemmas.{ends_here}
 use Rattle.ipmi_commands.proofs.ItemLemmas.{none_printed}
-use Rattle.ipmi_commands.proofs.perform.execute.Goals as goal
+use Rattle.ipmi_commands.proofs.perform.execute_in.Goals as goal
 
 pub returns-in-Rewrite-clause-runs : goal.returns-in-Rewrite-clause-runs
 returns-in-Rewrite-clause-runs g c = rw (sym c.of.ensures.value ∙ c.in-Rewrite.is) (record {
