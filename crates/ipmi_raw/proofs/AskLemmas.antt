@@ -1,11 +1,14 @@
 -- A call that fails as the request that it sends does.
-use Rattle.std.proofs.Common.{◌≡◌, ℕ, Some, Result, Err, List, subst, sym}
+use Rattle.std.proofs.Common.{◌≡◌, ℕ, false, Some, Result, Ok, Err, List, subst, sym}
 use Rattle.ipmi_bus.specs.declared.code.Code.{Code}
 use Rattle.ipmi_bus.specs.Seen.{failing_code}
 use Rattle.ipmi_raw.specs.declared.controller.RawController.{RawController}
 use Rattle.ipmi_raw.specs.declared.request.Request.{Request}
 use Rattle.ipmi_raw.specs.declared.tool.Tool.{Tool}
-use Rattle.ipmi_raw.specs.Controller.{Asks}
+use Rattle.ipmi_raw.specs.Controller.{Asks, Exchanged, Exchanges, Sends}
+use Rattle.ipmi_raw.specs.Peer.{request_text}
+use Rattle.ipmi_raw.specs.Request.{lun_of}
+use Rattle.ipmi_raw.specs.declared.peer.Lost.{Lost}
 
 pub asks_failed : {P K V : Type 0} (tool : Tool) (request : Request) (Gives : Result V Code → Result (List ℕ) Code → Type 0)
     (old new : RawController P K) (result : Result V Code) (code : Code) → result ≡ Err code
@@ -20,3 +23,24 @@ asks_failed {P} {K} {V} tool request Gives old new result code same asks gives =
       stays = asks.stays;
     } in
     subst (λ (r : Result V Code). Asks tool request (Gives r) old new (failing_code r)) (sym same) failed
+
+-- ---- what was sent
+
+-- the same, by equal numbers of the unit and equal texts
+pub exchanged_as : {P : Type 0} (brings : Exchanges P) (old new : P) (lun lun' : ℕ) (text text' : List ℕ)
+    (came : Result (Unit {0}) Lost) (reply : List ℕ) → lun ≡ lun' → text ≡ text'
+    → brings old new lun text came reply → brings old new lun' text' came reply
+exchanged_as brings old new lun lun' text text' came reply same_lun same_text h =
+    subst (λ (l : ℕ). brings old new l text' came reply) same_lun (subst (λ (t : List ℕ). brings old new lun t came reply) same_text h)
+
+-- a failure that is counted afterwards sends nothing
+pub sends_counted : {P K : Type 0} (brings : Exchanges P) (tool : Tool) (request : Request)
+    (old middle new : RawController P K) (came : Result (Unit {0}) Lost) → new.peer ≡ middle.peer
+    → new.text ≡ middle.text → Exchanged brings tool request old middle came
+    → (new.is_lost ≡ false → came ≡ Ok tt) → Sends brings tool request old new
+sends_counted {P} brings tool request old middle new came same_peer same_text h last = λ was. (
+  came,
+  subst (λ (p : P). brings old.peer p (lun_of request) (request_text tool request) came new.text.items) (sym same_peer)
+      (rw same_text h),
+  last,
+)

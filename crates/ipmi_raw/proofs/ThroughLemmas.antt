@@ -1,5 +1,5 @@
 -- What the answers of a controller at the other end of a peer say of it, they say of the one that asks through the peer.
-use Rattle.std.proofs.Common.{◌≡◌, ℕ, ◌+◌, ◌<◌, ◌==◌, Bool, true, false, Option, Some, None, Result, Ok, Err, IsOk, MatchOption, List, length, slice_index, drop, refl, ◌∙◌}
+use Rattle.std.proofs.Common.{◌≡◌, ℕ, ◌+◌, ◌<◌, ◌==◌, Bool, true, false, Option, Some, None, Result, Ok, Err, IsOk, MatchOption, List, length, drop, refl, ◌∙◌}
 use Rattle.ipmi_bus.specs.declared.code.Code.{Code}
 use Rattle.ipmi_bus.specs.declared.code.CodeClass.{CodeClass}
 use Rattle.ipmi_bus.specs.declared.code.CodeClass.TheVariants.{Busy, Cancelled, NotPresent, Refusal, SmallerPart}

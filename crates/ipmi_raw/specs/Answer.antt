@@ -1,6 +1,6 @@
--- What a reply says to a call, and which replies to a request come of an honest controller (IPMI v2.0; the sections are those of
--- the requests).
-use Rattle.std.specs.Prelude.{ℕ, ◌≡◌, ◌+◌, ◌-◌, ◌%◌, ◌≤◌, ◌==◌, ◌||◌, Bool, false, if◌then◌else◌, Result, Ok, Err, List, [], length, slice_index, drop}
+-- What a reply says to a call, and which replies to a request come of an honest controller (IPMI v2.0, sections 31.2, 31.4, 31.5,
+-- 33.9, 33.11, 33.12, 34.1, 34.2 and 35.14).
+use Rattle.std.specs.Prelude.{ℕ, ◌≡◌, ◌+◌, ◌-◌, ◌%◌, ◌≤◌, ◌==◌, ◌||◌, Bool, false, if◌then◌else◌, Result, Ok, Err, List, [], ◌∷◌, length, slice_index, drop}
 use Rattle.ipmi_text.specs.declared.reading.Reading as sensor
 use Rattle.ipmi_bus.specs.declared.code.Code.{Code}
 use Rattle.ipmi_bus.specs.declared.controller.FruSize.{FruSize}
@@ -62,10 +62,20 @@ says_absent (Reading lun number) code = (code == 0xCC) || ((code == 0xCD) || (co
 abbrev pub code_given : Request → ℕ → Code
 code_given request code = record { 0 = if says_absent request code then 0xCB else code }
 
--- the data, or a code; C3h where the controller was silent
+-- a controller that does not know the command by which a shelf is reserved has no reservations
+abbrev pub says_unreserved : Request → ℕ → Bool
+says_unreserved (Reserve shelf) code = code == 0xC1
+says_unreserved (Get part) code = false
+says_unreserved (Info shelf) code = false
+says_unreserved (InventorySize id) code = false
+says_unreserved (ReadInventory part) code = false
+says_unreserved (Reading lun number) code = false
+
+-- The data, or a code; C3h where the controller was silent. Where there are no reservations, 0000h is the number of one, which
+-- requests for parts have in its place (sections 31.5 and 33.12).
 abbrev pub given : Request → Reply → Result (List ℕ) Code
 given request (Data bytes) = Ok bytes
-given request (Refused code) = Err (code_given request code)
+given request (Refused code) = if says_unreserved request code then Ok (0 ∷ 0 ∷ []) else Err (code_given request code)
 given request Silent = Err (record { 0 = 0xC3 })
 
 -- what the data says, or the code

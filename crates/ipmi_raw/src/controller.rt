@@ -1,13 +1,14 @@
 //! A management controller that is asked through a peer.
-ghost use Rattle.std.specs.Prelude.{◌≡◌, ◌+◌, ◌<◌, ◌≤◌, IfSome, MatchOption, IfOk, OnErr, false, length, take, drop, option_map};
+ghost use Rattle.std.specs.Prelude.{Result, Ok, ◌≡◌, ◌+◌, ◌<◌, ◌≤◌, IfSome, MatchOption, IfOk, OnErr, false, length, take, drop, option_map};
 ghost use Rattle.ipmi_bus.specs.Counts.{Counts};
 ghost use Rattle.ipmi_bus.specs.Shelf.{id_in};
 ghost use Rattle.ipmi_bus.specs.Prelude.{IsCall, failing_code, IsHonest, info_of, reading_of, ReserveAnswers, PartAnswers, ValueAnswers, SizeAnswers, BytesAnswers, part_asked, counts_after, zero_counts};
 ghost use Rattle.ipmi_bus.specs.declared.tally.Event.{Event};
 ghost use Rattle.ipmi_raw.specs.Answer.{data_in, first_in, given, IsAnswer, IsDataIfAny, IsDataOf, part_in, reading_in, size_in, value_in};
-ghost use Rattle.ipmi_raw.specs.Controller.{Asks, last_words, seen_of, seen_through, tool_of};
+ghost use Rattle.ipmi_raw.specs.Controller.{Asks, Exchanged, last_words, seen_of, Sends, seen_through, tool_of};
 ghost use Rattle.ipmi_raw.specs.Peer.{IsReplyText};
 ghost use Rattle.ipmi_raw.specs.Request.{inventory_part, IsRequest, record_part};
+ghost use Rattle.ipmi_raw.specs.declared.peer.Lost.{Lost};
 ghost use Rattle.ipmi_raw.specs.declared.request.Request.TheVariants as Request;
 
 use crate::peer::{Peer, ReplyText};
@@ -20,6 +21,9 @@ use std::time::{Clock, Duration};
 
 /// The code of each call once the connection is lost: an unspecified error (IPMI v2.0, table 5-2).
 const CONNECTION_LOST: Code = Code(0xFF);
+
+/// The number of a reservation where there are none, as a reply has it.
+const NO_RESERVATION: [u8; 2] = [0; 2];
 
 /// A management controller that is asked through a peer.
 ///
@@ -70,6 +74,8 @@ impl<P: Peer, K: Clock> RawController<P, K> {
         ensures same { self.new ≡ record self.old { peer = self.new.peer; text = self.new.text } }
         ensures fits { IfSome result (λ reply. IsDataIfAny request (given request reply)) }
         ensures text { IfSome result (λ reply. IsReplyText (P.tool self.old.peer) request reply self.new.text.items) }
+        ensures sends { (came : Result (Unit {0}) Lost) ×
+            Exchanged P.brings (P.tool self.old.peer) request self.old self.new came × IfSome result (λ reply. came ≡ Ok tt) }
         ensures honest { IsHonest (P.seen self.old.peer) → IsRequest request → MatchOption result ⊥
             (λ reply. IsAnswer request (given request reply) (P.seen self.old.peer) (P.seen self.new.peer)) }
     {
@@ -105,6 +111,7 @@ impl<P: Peer, K: Clock> RawController<P, K> {
         ensures counted { IsCall asked (seen_of P.seen self.old) (seen_of P.seen self.new) }
         ensures failure { (seen_of P.seen self.new).last_failure ≡ failing_code result }
         ensures data { IfOk result (λ bytes. IsDataOf request bytes) }
+        ensures sends { Sends P.brings (tool_of P.tool self.old) request self.old self.new }
         ensures asks { Asks (tool_of P.tool self.old) request (λ given. given ≡ result)
             self.old self.new (failing_code result) }
         ensures honest { IsHonest (seen_of P.seen self.old) → IsRequest request →
@@ -116,6 +123,9 @@ impl<P: Peer, K: Clock> RawController<P, K> {
         }
         match self.exchange(request) {
             Some(Reply::Data(bytes)) => Ok(bytes),
+            Some(Reply::Refused(code)) if request.says_unreserved(code) => {
+                Ok(ReplyBytes::new(&NO_RESERVATION))
+            }
             Some(Reply::Refused(code)) => Err(self.fail(request.code_given(code))),
             Some(Reply::Silent) => Err(self.fail(Code::TIMEOUT)),
             None => {
@@ -146,6 +156,7 @@ impl<P: Peer, K: Clock> Controller for RawController<P, K> {
         ensures failure { (seen_of P.seen self.new).last_failure ≡ failing_code result }
         ensures honest { IsHonest (seen_of P.seen self.old) →
             ReserveAnswers shelf result (seen_of P.seen self.old) (seen_of P.seen self.new) }
+        ensures sends { Sends P.brings (tool_of P.tool self.old) (Request.Reserve shelf) self.old self.new }
         ensures asks { Asks (tool_of P.tool self.old) (Request.Reserve shelf) (λ given. result ≡ value_in id_in given)
             self.old self.new (failing_code result) }
     {
@@ -172,6 +183,8 @@ impl<P: Peer, K: Clock> Controller for RawController<P, K> {
         ensures honest { IsHonest (seen_of P.seen self.old) →
             PartAnswers (part_asked shelf reservation id offset (length into.old)) result into.new
             (seen_of P.seen self.old) (seen_of P.seen self.new) }
+        ensures sends { Sends P.brings (tool_of P.tool self.old)
+            (Request.Get (record_part shelf reservation id offset (length into.old))) self.old self.new }
         ensures asks { Asks (tool_of P.tool self.old)
             (Request.Get (record_part shelf reservation id offset (length into.old)))
             (λ given. (result ≡ value_in part_in given)
@@ -200,6 +213,7 @@ impl<P: Peer, K: Clock> Controller for RawController<P, K> {
         ensures failure { (seen_of P.seen self.new).last_failure ≡ failing_code result }
         ensures honest { IsHonest (seen_of P.seen self.old) →
             ValueAnswers (info_of shelf) result (seen_of P.seen self.old) (seen_of P.seen self.new) }
+        ensures sends { Sends P.brings (tool_of P.tool self.old) (Request.Info shelf) self.old self.new }
         ensures asks { Asks (tool_of P.tool self.old) (Request.Info shelf) (λ given. result ≡ given)
             self.old self.new (failing_code result) }
     {
@@ -214,6 +228,7 @@ impl<P: Peer, K: Clock> Controller for RawController<P, K> {
         ensures failure { (seen_of P.seen self.new).last_failure ≡ failing_code result }
         ensures honest { IsHonest (seen_of P.seen self.old) →
             ValueAnswers (reading_of lun number) result (seen_of P.seen self.old) (seen_of P.seen self.new) }
+        ensures sends { Sends P.brings (tool_of P.tool self.old) (Request.Reading lun number) self.old self.new }
         ensures asks { Asks (tool_of P.tool self.old) (Request.Reading lun number) (λ given. result ≡ value_in reading_in given)
             self.old self.new (failing_code result) }
     {
@@ -232,6 +247,7 @@ impl<P: Peer, K: Clock> Controller for RawController<P, K> {
         ensures failure { (seen_of P.seen self.new).last_failure ≡ failing_code result }
         ensures honest { IsHonest (seen_of P.seen self.old) →
             SizeAnswers id result (seen_of P.seen self.old) (seen_of P.seen self.new) }
+        ensures sends { Sends P.brings (tool_of P.tool self.old) (Request.InventorySize id) self.old self.new }
         ensures asks { Asks (tool_of P.tool self.old) (Request.InventorySize id) (λ given. result ≡ value_in size_in given)
             self.old self.new (failing_code result) }
     {
@@ -254,6 +270,8 @@ impl<P: Peer, K: Clock> Controller for RawController<P, K> {
         ensures honest { IsHonest (seen_of P.seen self.old) →
             BytesAnswers id offset (length into.old) result into.new
             (seen_of P.seen self.old) (seen_of P.seen self.new) }
+        ensures sends { Sends P.brings (tool_of P.tool self.old)
+            (Request.ReadInventory (inventory_part id offset (length into.old))) self.old self.new }
         ensures asks { Asks (tool_of P.tool self.old)
             (Request.ReadInventory (inventory_part id offset (length into.old)))
             (λ given. (result ≡ value_in first_in given)

@@ -1,8 +1,9 @@
 //! What carries requests to a controller and brings back replies, as texts of one of the tools.
-ghost use Rattle.std.specs.Prelude.{◌≡◌, IsOk};
+ghost use Rattle.std.specs.Prelude.{ℕ, List, Result, ◌≡◌, IsOk};
 ghost use Rattle.ipmi_bus.specs.Seen.{IsHonest, Seen};
 ghost use Rattle.ipmi_raw.specs.Peer.{Replies, request_text};
 ghost use Rattle.ipmi_raw.specs.Request.{IsRequest, lun_of};
+ghost use Rattle.ipmi_raw.specs.declared.peer.Lost.{Lost};
 ghost use Rattle.ipmi_raw.specs.declared.request.Request.{Request};
 ghost use Rattle.ipmi_raw.specs.declared.tool.Tool.{Tool};
 
@@ -31,6 +32,10 @@ pub trait Peer {
     /// The tool.
     ghost tool: { Self → Tool };
 
+    /// What is known of an exchange, also where the controller is not honest: of the peer before it and after it, the logical
+    /// unit, the text that was to be sent, whether a reply came, and what the tool printed.
+    ghost brings: { Self → Self → ℕ → List ℕ → Result (Unit {0}) Lost → List ℕ → Type 0 };
+
     /// The tool whose texts the peer takes and brings.
     fn tool(&self) -> Tool
         ensures { result ≡ tool self.now };
@@ -39,6 +44,7 @@ pub trait Peer {
     /// the end of the reply. Where the connection is lost, it is what the tool printed so far.
     fn exchange(&mut self, lun: u8, request: &[u8], reply: &mut ReplyText) -> Result<(), Lost>
         ensures tool { tool self.new ≡ tool self.old }
+        ensures brings { brings self.old self.new lun request.now result reply.new.items }
         ensures honest { IsHonest (seen self.old) → (sent : Request) → IsRequest sent → lun_of sent ≡ lun →
             request_text (tool self.old) sent ≡ request.now →
             IsOk result × Replies (tool self.old) sent reply.new.items (seen self.old) (seen self.new) };

@@ -108,6 +108,8 @@ impl<O: Open> Peer for Piped<O> {
 
     ghost tool = { λ piped. piped.tool };
 
+    ghost brings = { λ old new lun request result reply. OnOk result (IsEnded old.tool reply) × IsNotEndedWithin old.tool reply };
+
     fn tool(&self) -> Tool {
         self.tool
     }
@@ -118,8 +120,7 @@ impl<O: Open> Peer for Piped<O> {
             request_text (⟦<Piped<O> as Peer>⟧.tool self.old) sent ≡ request.now →
             IsOk result × Replies (⟦<Piped<O> as Peer>⟧.tool self.old) sent reply.new.items
             (calls_only zero_counts) (calls_only zero_counts) }
-        ensures ended { OnOk result (IsEnded (⟦<Piped<O> as Peer>⟧.tool self.old) reply.new.items) }
-        ensures first { IsNotEndedWithin (⟦<Piped<O> as Peer>⟧.tool self.old) reply.new.items }
+        ensures brings { ⟦<Piped<O> as Peer>⟧.brings self.old self.new lun request.now result reply.new.items }
     {
         reply.clear();
         let unit = match self.tool {

@@ -1,6 +1,6 @@
 //! The requests that a listing sends, as bytes (IPMI v2.0).
 ghost use Rattle.std.specs.Prelude.{◌≡◌, ◌≤◌, length};
-ghost use Rattle.ipmi_raw.specs.Answer.{code_given};
+ghost use Rattle.ipmi_raw.specs.Answer.{code_given, says_unreserved};
 ghost use Rattle.ipmi_raw.specs.Request.{command_of, count_asked, data_of, lun_of, network_function_of};
 
 use arrayvec::ArrayVec;
@@ -158,5 +158,13 @@ impl Request {
                 Code::NOT_PRESENT,
             (_, code) => Code(code),
         }
+    }
+
+    /// Whether a completion code of the reply says that the shelf has no reservations: C1h, where the controller does not know
+    /// the command that reserves it. Its parts are asked for with the reservation 0000h then (sections 31.5 and 33.12).
+    pub fn says_unreserved(self, code: u8) -> bool
+        ensures { result ≡ says_unreserved self code }
+    {
+        matches!((self, code), (Request::Reserve(_), 0xC1))
     }
 }

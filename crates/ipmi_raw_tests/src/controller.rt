@@ -182,7 +182,7 @@ fn what_a_reply_says_is_given(rt: HostRuntime) {
 
 /// Calls that a reply refuses with a code, the code that they fail with, and for how many milliseconds the controller sleeps.
 const REFUSALS: &[(Call, &str, &str, u128)] = &[
-    (Call::Reserve(Shelf::Sdr), "C1", "c1", 0),
+    (Call::Reserve(Shelf::Sdr), "D4", "d4", 0),
     (Call::Part(Shelf::Sdr, 5, 8), "C5", "c5", 0),
     (Call::Part(Shelf::Sdr, 5, 8), "CA", "ca", 0),
     (Call::Part(Shelf::Sdr, 5, 8), "CB", "cb", 0),
@@ -237,6 +237,23 @@ fn a_call_fails_with_the_code_of_its_reply(rt: HostRuntime) {
             script,
             *call,
             (&wanted, None, *slept),
+        );
+    }
+}
+
+#[test]
+fn without_reservations_0000h_stands_for_one(rt: HostRuntime) {
+    for (shelf, line, printed) in [
+        (Shelf::Sdr, "00 0A 22\n", "rcvd: 22 C1 \n"),
+        (Shelf::Sel, "00 0A 42\n", "rcvd: 42 C1 \n"),
+    ] {
+        through(
+            &rt,
+            rt.alloc(),
+            Tool::FreeIpmi,
+            (0, line, printed),
+            Call::Reserve(shelf),
+            ("0000", None, 0),
         );
     }
 }

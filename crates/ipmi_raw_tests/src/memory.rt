@@ -1,5 +1,5 @@
 //! A peer in memory: a tool whose controller is an image.
-ghost use Rattle.std.specs.Prelude.{◌≡◌};
+ghost use Rattle.std.specs.Prelude.{◌≡◌, ⊤};
 ghost use Rattle.ipmi_image.specs.Controllers.{seen_of};
 ghost use Rattle.ipmi_bus.specs.Seen.{IsPlain};
 
@@ -37,6 +37,8 @@ impl Peer for MemoryPeer {
     ghost seen = { λ peer. seen_of peer.ctl };
 
     ghost tool = { λ peer. peer.tool };
+
+    ghost brings = { λ old new lun request came reply. ⊤ };
 
     fn tool(&self) -> Tool {
         self.tool
