@@ -1,82 +1,167 @@
 -- All parts of a capture, one after the other.
-use Rattle.std.proofs.Common.{Option, None, Some, ◌≡◌, ℕ, zero, suc, ◌+◌, ◌<◌, ◌≤◌, true, false, IsTrue, List, [], ◌∷◌, length, get_or, map, ◌⊎◌, inl, inr, refl, sym, ap, ◌∙◌, arith, All, Bool, slice_index_or}
-use Rattle.std.proofs.lemmas.List.{length-map}
+use Rattle.std.proofs.Common.{Option, None, Some, ◌≡◌, ℕ, zero, suc, ◌<◌, true, false, IsTrue, List, [], ◌∷◌, length, take, get_or, map, ◌⊎◌, inl, inr, refl, sym, ap, subst, ◌∙◌, arith, All, Bool, slice_index_or}
+use Rattle.std.proofs.lemmas.List.{append-nil, length-map}
+use Rattle.std.proofs.lemmas.List.Folds.{list_all_at}
 use Rattle.std.proofs.lemmas.Bool.Decides.{nat_tests}
 use Rattle.std.proofs.Math.ListN.{get_or-map}
 use Rattle.ipmi_capture.specs.Below.{Cycle, Ended, EndsBy, First, GaveUp, IsWalk, Malformed, Missing, Refused, Row, Seen, Shelf, Stalled, StaysHonest, WalkEnd, info_of, inventory_of, IsStore, reading_of, reading_in, rows_of, Sdr, Sel, SensorReading, stays_trans, Store, with_info, with_rows}
-use Rattle.ipmi_capture.specs.Capture.{devices_of, IsCaptureOf, SameInventory, SameReading, sensors_of}
+use Rattle.ipmi_capture.specs.Capture.{devices_of, InventoryOrLeft, IsCaptureBut, IsCaptureOf, ReadingOrLeft, SameWalk, sensors_of, WalkOrLeft}
 use Rattle.ipmi_capture.specs.Named.{AreMarks, IsSensorKey, Names, sensor_place}
 use Rattle.ipmi_capture.specs.Phases.{AreWalk, CameOf, Captures, HasInventories, HasReadings, PlainEnds, Walks}
-use Rattle.ipmi_capture.specs.Left.{leaves_nothing, PlainLeaves}
+use Rattle.ipmi_capture.specs.Left.{LacksInfo, LacksInventory, LacksReading, LacksRecords, leaves_nothing, PlainLeaves, SameOrLeft}
 use Rattle.ipmi_capture.specs.declared.left.Left.{Left}
-use Rattle.std.specs.List.{list_all}
+use Rattle.std.specs.List.{Any, list_all}
 use Rattle.std.proofs.lemmas.List.Elements.{All-cons, All-nil}
 use Rattle.ipmi_capture.proofs.FoundLemmas.{is_marked, no_device}
-use Rattle.ipmi_capture.proofs.ReadLemmas.{captures_with}
+use Rattle.ipmi_capture.proofs.ReadLemmas.{any_of_one, captures_with, front_more, Lasts, same_more}
 use Rattle.ipmi_capture.proofs.WalkLemmas.{same_walk}
 
-module _ (image store : Store) where
+module _ (left : List Left) (image store : Store) where
   -- each sensor that a record names is marked
   pub named_readings : (sensors : List Bool) (keys : List (ℕ × ℕ)) → All IsSensorKey keys
-      → AreMarks sensors (map sensor_place keys) → HasReadings sensors image store
-      → All (SameReading image store) keys
+      → AreMarks sensors (map sensor_place keys) → HasReadings sensors left image store
+      → All (ReadingOrLeft left image store) keys
   named_readings sensors keys are marks has = λ k d lt.
       let len = length-map keys sensor_place in
       let at = is_marked (map sensor_place keys) k (sensor_place d) (omega (arith, lt, len)) in
       has (get_or keys k d) (are k d lt) (marks _ ∙ rw (get_or-map sensor_place keys k d) at at)
 
   pub named_inventories : IsStore image → IsStore store → (devices : List Bool) (ids : List ℕ)
-      → All (λ id. id < 256) ids → AreMarks devices ids → HasInventories devices image store
-      → All (SameInventory image store) (0 ∷ ids)
+      → All (λ id. id < 256) ids → AreMarks devices ids → HasInventories devices left image store
+      → All (InventoryOrLeft left image store) (0 ∷ ids)
   named_inventories is_image is_store devices ids are marks has = λ k d lt. by k d lt
     where
+      neither : (id : ℕ) → id ≡ 255 → inventory_of id image ≡ inventory_of id store
+      neither id none = rw (none, no_device image.inventories is_image.inventories, no_device store.inventories is_store.inventories) refl
+
       real : (id : ℕ) → (id < 255) ⊎ (id ≡ 255) → slice_index_or devices id false ≡ true
-          → SameInventory image store id
+          → InventoryOrLeft left image store id
       real id (inl lt) mark = has id lt (grind (arith, mark))
-      real id (inr none) mark = rw (none, no_device image.inventories is_image.inventories, no_device store.inventories is_store.inventories) refl
+      real id (inr none) mark = inl (neither id none)
 
       decide : (id : ℕ) → id < 256 → (id < 255) ⊎ (id ≡ 255)
       decide id lt = grind (arith, nat_tests)
 
-      by : (k d : ℕ) → k < length (0 ∷ ids) → SameInventory image store (get_or (0 ∷ ids) k d)
+      by : (k d : ℕ) → k < length (0 ∷ ids) → InventoryOrLeft left image store (get_or (0 ∷ ids) k d)
       by zero d lt = has 0 (omega arith) refl
       by (suc k) d lt =
           let id = get_or ids k d in
           let below : k < length ids = omega (arith, lt) in
           real id (decide id (are k d below)) (marks id ∙ is_marked ids k d below)
 
-  pub is_capture : IsStore image → IsStore store → AreWalk Sdr store image.sdr
-      → AreWalk Sel store image.sel → info_of Sdr image ≡ info_of Sdr store
-      → info_of Sel image ≡ info_of Sel store → All (SameReading image store) (sensors_of image.sdr)
-      → All (SameInventory image store) (0 ∷ devices_of image.sdr) → IsCaptureOf image store
+  pub is_capture : IsStore image → IsStore store → AreWalk Sdr left store image.sdr
+      → AreWalk Sel left store image.sel
+      → SameOrLeft (LacksInfo Sdr) left (info_of Sdr image) (info_of Sdr store)
+      → SameOrLeft (LacksInfo Sel) left (info_of Sel image) (info_of Sel store)
+      → All (ReadingOrLeft left image store) (sensors_of image.sdr)
+      → All (InventoryOrLeft left image store) (0 ∷ devices_of image.sdr)
+      → IsCaptureBut left image store
   is_capture is_image is_store sdr sel sdr_info sel_info readings inventories = record {
-    sdr = same_walk Sdr image store sdr;
-    sel = same_walk Sel image store sel;
+    sdr = same_walk Sdr left image store sdr;
+    sel = same_walk Sel left image store sel;
     sdr_info = sdr_info;
     sel_info = sel_info;
     readings = readings;
     inventories = inventories;
   }
 
+-- ---- where nothing was left out
+
+module _ (left : List Left) (nothing : IsTrue (list_all leaves_nothing left)) where
+  none_of : (P : Left → Type 0) → ((l : Left) → P l → leaves_nothing l ≡ false) → Any P left → ⊥
+  none_of P lacks any =
+      let is : leaves_nothing (get_or left any.0 any.1) ≡ false = ap leaves_nothing any.3 ∙ lacks any.1 any.4 in
+      let all : list_all leaves_nothing left ≡ false = list_all_at leaves_nothing left any.0 any.1 any.2 is in
+      absurd (grind (arith, all, nothing))
+
+  same_of : {V : Type 0} (P : Left → Type 0) (a b : Option V)
+      → ((l : Left) → P l → leaves_nothing l ≡ false) → SameOrLeft P left a b → a ≡ b
+  same_of P a b lacks (inl same) = same
+  same_of P a b lacks (inr other) = absurd (none_of P lacks other.1)
+
+  no_records : (shelf : Shelf) (l : Left) → LacksRecords shelf l → leaves_nothing l ≡ false
+  no_records shelf (Left.Records s (Cycle n)) lacks = absurd lacks
+  no_records shelf (Left.Records s (Missing n)) lacks = absurd lacks
+  no_records shelf (Left.Records s (GaveUp n)) lacks = refl
+  no_records shelf (Left.Records s (Refused n code)) lacks = refl
+  no_records shelf (Left.Records s (Stalled n)) lacks = refl
+  no_records shelf (Left.Records s (Malformed n)) lacks = refl
+  no_records shelf (Left.Info s unread) lacks = refl
+  no_records shelf (Left.Reading l n unread) lacks = refl
+  no_records shelf (Left.Size i code) lacks = refl
+  no_records shelf (Left.Empty i) lacks = refl
+  no_records shelf (Left.Inventory i ended) lacks = refl
+
+  no_info : (shelf : Shelf) (l : Left) → LacksInfo shelf l → leaves_nothing l ≡ false
+  no_info shelf (Left.Records s ended) lacks = absurd lacks
+  no_info shelf (Left.Info s unread) lacks = refl
+  no_info shelf (Left.Reading l n unread) lacks = refl
+  no_info shelf (Left.Size i code) lacks = refl
+  no_info shelf (Left.Empty i) lacks = refl
+  no_info shelf (Left.Inventory i ended) lacks = refl
+
+  no_reading : (lun number : ℕ) (l : Left) → LacksReading lun number l → leaves_nothing l ≡ false
+  no_reading lun number (Left.Records s ended) lacks = absurd lacks
+  no_reading lun number (Left.Info s unread) lacks = refl
+  no_reading lun number (Left.Reading l n unread) lacks = refl
+  no_reading lun number (Left.Size i code) lacks = refl
+  no_reading lun number (Left.Empty i) lacks = refl
+  no_reading lun number (Left.Inventory i ended) lacks = refl
+
+  no_inventory : (id : ℕ) (l : Left) → LacksInventory id l → leaves_nothing l ≡ false
+  no_inventory id (Left.Records s ended) lacks = absurd lacks
+  no_inventory id (Left.Info s unread) lacks = refl
+  no_inventory id (Left.Reading l n unread) lacks = refl
+  no_inventory id (Left.Size i code) lacks = refl
+  no_inventory id (Left.Empty i) lacks = refl
+  no_inventory id (Left.Inventory i ended) lacks = refl
+
+  walk_of : (shelf : Shelf) (image store : Store) → WalkOrLeft shelf left image store
+      → SameWalk shelf image store
+  walk_of shelf image store walks = λ walk end is ends. by walk end (walks walk end is ends)
+    where
+      by : (walk : List Row) (end : WalkEnd)
+          → (IsWalk (rows_of shelf image) First walk × EndsBy (rows_of shelf image) First walk end)
+          ⊎ ((rows_of shelf image ≡ take (length (rows_of shelf image)) walk) × Any (LacksRecords shelf) left)
+          → IsWalk (rows_of shelf image) First walk × EndsBy (rows_of shelf image) First walk end
+      by walk end (inl same) = same
+      by walk end (inr front) = absurd (none_of (LacksRecords shelf) (no_records shelf) front.1)
+
+  pub whole_capture : (image store : Store) → IsCaptureBut left image store → IsCaptureOf image store
+  whole_capture image store but = record {
+    sdr = walk_of Sdr image store but.sdr;
+    sel = walk_of Sel image store but.sel;
+    sdr_info = same_of (LacksInfo Sdr) (info_of Sdr image) (info_of Sdr store) (no_info Sdr) but.sdr_info;
+    sel_info = same_of (LacksInfo Sel) (info_of Sel image) (info_of Sel store) (no_info Sel) but.sel_info;
+    readings = λ k d lt.
+        let key = get_or (sensors_of image.sdr) k d in
+        same_of (LacksReading key.0 key.1) (reading_of key.0 key.1 image) (reading_of key.0 key.1 store) (no_reading key.0 key.1) (but.readings k d lt);
+    inventories = λ k d lt.
+        let id = get_or (0 ∷ devices_of image.sdr) k d in
+        same_of (LacksInventory id) (inventory_of id image) (inventory_of id store) (no_inventory id) (but.inventories k d lt);
+  }
+
 -- the records of a shelf, of which more are not there for this reason
 pub captures_walk : {s s' : Seen} (shelf : Shelf) (rows : List Row) (ended : Ended)
     → StaysHonest s s' → Walks shelf s s' rows (Some ended)
-    → Captures s s' [] (Left.Records shelf ended ∷ []) (AreWalk shelf s.store rows)
+    → Captures s s' [] (Left.Records shelf ended ∷ [])
+    (AreWalk shelf (Left.Records shelf ended ∷ []) s.store rows)
 captures_walk {s = s} {s' = s'} shelf rows ended stays walks = record {
-  fact = λ same nothing. (refl, λ walk end is ends. by walk end ended nothing (walks.along same walk end is ends));
+  more = Left.Records shelf ended ∷ [];
+  grows = refl;
+  fact = λ same walk end is ends. by walk end ended (walks.along same walk end is ends);
   plain = λ p all. All-cons (PlainLeaves s.store) (Left.Records shelf ended) []
       (fine ended (walks.plain p) (λ walk end is ends. walks.along (stays.plain_store p) walk end is ends)) (All-nil (PlainLeaves s.store));
 }
   where
-    by : (walk : List Row) (end : WalkEnd) (e : Ended)
-        → IsTrue (list_all leaves_nothing (Left.Records shelf e ∷ []))
-        → CameOf walk end rows (Some e) → rows ≡ walk
-    by walk end (Cycle n) nothing came = came.0
-    by walk end (Missing n) nothing came = came.0
-    by walk end (GaveUp n) nothing came = absurd (grind (arith, nothing))
-    by walk end (Refused n code) nothing came = absurd (grind (arith, nothing))
-    by walk end (Stalled n) nothing came = absurd (grind (arith, nothing))
-    by walk end (Malformed n) nothing came = absurd (grind (arith, nothing))
+    by : (walk : List Row) (end : WalkEnd) (e : Ended) → CameOf walk end rows (Some e)
+        → (rows ≡ walk) ⊎ ((rows ≡ take (length rows) walk) × Any (LacksRecords shelf) (Left.Records shelf e ∷ []))
+    by walk end (Cycle n) came = inl came.0
+    by walk end (Missing n) came = inl came.0
+    by walk end (GaveUp n) came = inr (came, any_of_one (LacksRecords shelf) (Left.Records shelf (GaveUp n)) refl)
+    by walk end (Refused n code) came = inr (came, any_of_one (LacksRecords shelf) (Left.Records shelf (Refused n code)) refl)
+    by walk end (Stalled n) came = inr (came, any_of_one (LacksRecords shelf) (Left.Records shelf (Stalled n)) refl)
+    by walk end (Malformed n) came = inr (came, any_of_one (LacksRecords shelf) (Left.Records shelf (Malformed n)) refl)
 
     fine : (e : Ended) → PlainEnds (Some e) → ((walk : List Row) (end : WalkEnd)
         → IsWalk (rows_of shelf s.store) First walk → EndsBy (rows_of shelf s.store) First walk end
@@ -90,13 +175,18 @@ captures_walk {s = s} {s' = s'} shelf rows ended stays walks = record {
 
 -- and of which there are no more
 pub captures_whole_walk : {s s' : Seen} (shelf : Shelf) (rows : List Row) (left : List Left)
-    → Walks shelf s s' rows None → Captures s s' left left (AreWalk shelf s.store rows)
+    → Walks shelf s s' rows None → Captures s s' left left (AreWalk shelf left s.store rows)
 captures_whole_walk shelf rows left walks = record {
-  fact = λ same nothing. (nothing, λ walk end is ends. (walks.along same walk end is ends).0);
+  more = [];
+  grows = sym (append-nil left);
+  fact = λ same walk end is ends. inl (walks.along same walk end is ends).0;
   plain = λ p all. all;
 }
 
 -- ---- all parts, where each of them stays honest
+
+both_last : (A B : Store → List Left → Type 0) → Lasts A → Lasts B → Lasts (λ s l. A s l × B s l)
+both_last A B la lb store left more h = (la store left more h.0, lb store left more h.1)
 
 module _ {s0 s1 s2 s3 s4 s5 s6 : Seen} (k1 : StaysHonest s0 s1) (k2 : StaysHonest s1 s2)
     (k3 : StaysHonest s2 s3) (k4 : StaysHonest s3 s4) (k5 : StaysHonest s4 s5)
@@ -116,29 +206,68 @@ module _ {s0 s1 s2 s3 s4 s5 s6 : Seen} (k1 : StaysHonest s0 s1) (k2 : StaysHones
   pub six : StaysHonest s0 s6
   six = stays_trans s0 s5 s6 five k6
 
-  pub all_parts : {l0 l1 l2 l3 l4 l5 l6 : List Left} (A B C D E F : Store → Type 0)
-      → Captures s0 s1 l0 l1 (A s0.store) → Captures s1 s2 l1 l2 (B s1.store)
-      → Captures s2 s3 l2 l3 (C s2.store) → Captures s3 s4 l3 l4 (D s3.store)
-      → Captures s4 s5 l4 l5 (E s4.store) → Captures s5 s6 l5 l6 (F s5.store)
+  pub all_parts : {l0 l1 l2 l3 l4 l5 l6 : List Left} (A B C D E F : Store → List Left → Type 0)
+      → Lasts A → Lasts B → Lasts C → Lasts D → Lasts E
+      → Captures s0 s1 l0 l1 (A s0.store l1) → Captures s1 s2 l1 l2 (B s1.store l2)
+      → Captures s2 s3 l2 l3 (C s2.store l3) → Captures s3 s4 l3 l4 (D s3.store l4)
+      → Captures s4 s5 l4 l5 (E s4.store l5) → Captures s5 s6 l5 l6 (F s5.store l6)
       → Captures s0 s6 l0 l6
-      (((((A s0.store × B s0.store) × C s0.store) × D s0.store) × E s0.store) × F s0.store)
-  all_parts A B C D E F a b c d e f =
-      let ab = captures_with A B k1 k2 a b in
-      let abc = captures_with (λ s. A s × B s) C two k3 ab c in
-      let abcd = captures_with (λ s. (A s × B s) × C s) D three k4 abc d in
-      let abcde = captures_with (λ s. ((A s × B s) × C s) × D s) E four k5 abcd e in
-      captures_with (λ s. (((A s × B s) × C s) × D s) × E s) F five k6 abcde f
+      (((((A s0.store l6 × B s0.store l6) × C s0.store l6) × D s0.store l6) × E s0.store l6) × F s0.store l6)
+  all_parts A B C D E F la lb lc ld le a b c d e f =
+      let ab = captures_with A B la k1 k2 a b in
+      let lab = both_last A B la lb in
+      let abc = captures_with (λ s l. A s l × B s l) C lab two k3 ab c in
+      let labc = both_last (λ s l. A s l × B s l) C lab lc in
+      let abcd = captures_with (λ s l. (A s l × B s l) × C s l) D labc three k4 abc d in
+      let labcd = both_last (λ s l. (A s l × B s l) × C s l) D labc ld in
+      let abcde = captures_with (λ s l. ((A s l × B s l) × C s l) × D s l) E labcd four k5 abcd e in
+      let labcde = both_last (λ s l. ((A s l × B s l) × C s l) × D s l) E labcd le in
+      captures_with (λ s l. (((A s l × B s l) × C s l) × D s l) × E s l) F labcde five k6 abcde f
+
+walk_lasts : (shelf : Shelf) (rows : List Row) → Lasts (λ s l. AreWalk shelf l s rows)
+walk_lasts shelf rows store left more are = λ walk end is ends. front_more (LacksRecords shelf) left more rows walk (are walk end is ends)
+
+info_lasts : (shelf : Shelf) (image : Store)
+    → Lasts (λ s l. SameOrLeft (LacksInfo shelf) l (info_of shelf image) (info_of shelf s))
+info_lasts shelf image store left more same = same_more (LacksInfo shelf) left more _ _ same
+
+readings_last : (marks : List Bool) (image : Store) → Lasts (λ s l. HasReadings marks l image s)
+readings_last marks image store left more has = λ key is mark. same_more (LacksReading key.0 key.1) left more _ _ (has key is mark)
+
+-- what the parts put into images, each into the one that the part before it left
+abbrev pub Parts : List Bool → List Bool → Store → Store → Store → Store → Store → Store → List Left → Store → Type 0
+Parts sensors devices i1 i2 i3 i4 i5 i6 left store =
+    ((((AreWalk Sdr left store (rows_of Sdr i1) × AreWalk Sel left store (rows_of Sel i2))
+    × SameOrLeft (LacksInfo Sdr) left (info_of Sdr i3) (info_of Sdr store))
+    × SameOrLeft (LacksInfo Sel) left (info_of Sel i4) (info_of Sel store))
+    × HasReadings sensors left i5 store) × HasInventories devices left i6 store
+
+pub captures_parts : {s0 s1 s2 s3 s4 s5 s6 : Seen} {l0 l1 l2 l3 l4 l5 l6 : List Left}
+    (i1 i2 i3 i4 i5 i6 : Store) (sensors devices : List Bool)
+    → StaysHonest s0 s1 → StaysHonest s1 s2 → StaysHonest s2 s3 → StaysHonest s3 s4
+    → StaysHonest s4 s5 → StaysHonest s5 s6
+    → Captures s0 s1 l0 l1 (AreWalk Sdr l1 s0.store (rows_of Sdr i1))
+    → Captures s1 s2 l1 l2 (AreWalk Sel l2 s1.store (rows_of Sel i2))
+    → Captures s2 s3 l2 l3 (SameOrLeft (LacksInfo Sdr) l3 (info_of Sdr i3) (info_of Sdr s2.store))
+    → Captures s3 s4 l3 l4 (SameOrLeft (LacksInfo Sel) l4 (info_of Sel i4) (info_of Sel s3.store))
+    → Captures s4 s5 l4 l5 (HasReadings sensors l5 i5 s4.store)
+    → Captures s5 s6 l5 l6 (HasInventories devices l6 i6 s5.store)
+    → Captures s0 s6 l0 l6 (Parts sensors devices i1 i2 i3 i4 i5 i6 l6 s0.store)
+captures_parts i1 i2 i3 i4 i5 i6 sensors devices k1 k2 k3 k4 k5 k6 a b c d e f =
+    all_parts k1 k2 k3 k4 k5 k6
+    (λ s l. AreWalk Sdr l s (rows_of Sdr i1)) (λ s l. AreWalk Sel l s (rows_of Sel i2))
+    (λ s l. SameOrLeft (LacksInfo Sdr) l (info_of Sdr i3) (info_of Sdr s)) (λ s l. SameOrLeft (LacksInfo Sel) l (info_of Sel i4) (info_of Sel s))
+    (λ s l. HasReadings sensors l i5 s) (λ s l. HasInventories devices l i6 s)
+    (walk_lasts Sdr (rows_of Sdr i1)) (walk_lasts Sel (rows_of Sel i2)) (info_lasts Sdr i3) (info_lasts Sel i4) (readings_last sensors i5) a b c d e f
 
 -- what was put in one part stays in the image
-pub assemble : (store i0 i1 i2 i3 i4 i5 i6 : Store) → i1 ≡ with_rows Sdr (rows_of Sdr i1) i0
+pub assemble : (left : List Left) (store i0 i1 i2 i3 i4 i5 i6 : Store) → i1 ≡ with_rows Sdr (rows_of Sdr i1) i0
     → i2 ≡ with_rows Sel (rows_of Sel i2) i1 → i3 ≡ with_info Sdr (info_of Sdr i3) i2
     → i4 ≡ with_info Sel (info_of Sel i4) i3 → i5 ≡ record i4 { readings = i5.readings }
     → i6 ≡ record i5 { inventories = i6.inventories } → IsStore i6 → IsStore store
     → (sensors devices : List Bool) → Names i4.sdr sensors devices
-    → (((((AreWalk Sdr store (rows_of Sdr i1) × AreWalk Sel store (rows_of Sel i2))
-    × (info_of Sdr i3 ≡ info_of Sdr store)) × (info_of Sel i4 ≡ info_of Sel store))
-    × HasReadings sensors i5 store) × HasInventories devices i6 store) → IsCaptureOf i6 store
-assemble store i0 i1 i2 i3 i4 i5 i6 e1 e2 e3 e4 e5 e6 is_image is_store sensors devices names facts =
+    → Parts sensors devices i1 i2 i3 i4 i5 i6 left store → IsCaptureBut left i6 store
+assemble left store i0 i1 i2 i3 i4 i5 i6 e1 e2 e3 e4 e5 e6 is_image is_store sensors devices names facts =
     let sdr_four : i6.sdr ≡ i4.sdr = ap (λ (x : Store). x.sdr) e6 ∙ ap (λ (x : Store). x.sdr) e5 in
     let sdr_one : i6.sdr ≡ i1.sdr = sdr_four ∙ ap (λ (x : Store). x.sdr) e4 ∙ ap (λ (x : Store). x.sdr) e3 ∙ ap (λ (x : Store). x.sdr) e2 in
     let sel_two : i6.sel ≡ i2.sel = ap (λ (x : Store). x.sel) e6 ∙ ap (λ (x : Store). x.sel) e5 ∙ ap (λ (x : Store). x.sel) e4 ∙ ap (λ (x : Store). x.sel) e3 in
@@ -146,7 +275,10 @@ assemble store i0 i1 i2 i3 i4 i5 i6 e1 e2 e3 e4 e5 e6 is_image is_store sensors 
     let sel_info : i6.sel_info ≡ i4.sel_info = ap (λ (x : Store). x.sel_info) e6 ∙ ap (λ (x : Store). x.sel_info) e5 in
     let readings : i6.readings ≡ i5.readings = ap (λ (x : Store). x.readings) e6 in
     let named : Names i6.sdr sensors devices = rw sdr_four names in
-    let has : HasReadings sensors i6 store = λ key is mark. ap (λ (l : List SensorReading). reading_in l key.0 key.1) readings ∙ facts.0.1 key is mark in
-    is_capture i6 store is_image is_store (rw sdr_one facts.0.0.0.0.0) (rw sel_two facts.0.0.0.0.1) (sdr_info ∙ facts.0.0.0.1) (sel_info ∙ facts.0.0.1)
-    (named_readings i6 store sensors (sensors_of i6.sdr) named.keys named.sensors_are has)
-    (named_inventories i6 store is_image is_store devices (devices_of i6.sdr) named.ids named.devices_are facts.1)
+    let has : HasReadings sensors left i6 store =
+    λ key is mark. subst (λ (l : List SensorReading). SameOrLeft (LacksReading key.0 key.1) left (reading_in l key.0 key.1) (reading_of key.0 key.1 store)) (sym readings) (facts.0.1 key is mark) in
+    is_capture left i6 store is_image is_store (rw sdr_one facts.0.0.0.0.0) (rw sel_two facts.0.0.0.0.1)
+    (subst (λ (o : _). SameOrLeft (LacksInfo Sdr) left o (info_of Sdr store)) (sym sdr_info) facts.0.0.0.1)
+    (subst (λ (o : _). SameOrLeft (LacksInfo Sel) left o (info_of Sel store)) (sym sel_info) facts.0.0.1)
+    (named_readings left i6 store sensors (sensors_of i6.sdr) named.keys named.sensors_are has)
+    (named_inventories left i6 store is_image is_store devices (devices_of i6.sdr) named.ids named.devices_are facts.1)

@@ -1,10 +1,10 @@
 -- Readings, inventories and marks, found where they were put.
-use Rattle.std.proofs.Common.{◌≡◌, ◌≢◌, ℕ, zero, suc, ◌+◌, ◌*◌, ◌<◌, ◌≤◌, Bool, true, false, cond, ◌&&◌, ◌||◌, nat_eq, Option, None, Some, List, [], ◌∷◌, ◌++◌, length, get_or, set, map, refl, sym, ap, ◌∙◌, arith, All, IfSome, option_map}
+use Rattle.std.proofs.Common.{◌≡◌, ℕ, zero, suc, ◌+◌, ◌<◌, ◌≤◌, true, cond, ◌&&◌, nat_eq, None, Some, List, [], ◌∷◌, ◌++◌, length, get_or, refl, arith, All}
 use Rattle.std.specs.List.{list_any}
 use Rattle.std.specs.Option.{option_or}
 use Rattle.std.proofs.lemmas.Bool.Decides.{nat_tests}
-use Rattle.ipmi_capture.specs.Below.{Inventory, inventory_in, IsInventory, Reading, reading_in, SensorReading}
-use Rattle.ipmi_capture.specs.Named.{AreMarks, IsSensorKey, marked, sensor_place}
+use Rattle.ipmi_capture.specs.Below.{Inventory, inventory_in, IsInventory, reading_in, SensorReading}
+use Rattle.ipmi_capture.specs.Named.{sensor_place}
 
 -- ---- readings
 

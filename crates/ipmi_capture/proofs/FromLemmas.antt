@@ -1,9 +1,9 @@
 -- A walk from an id that is on a walk from the first record: two shelves that have the one have the other.
-use Rattle.std.proofs.Common.{◌≡◌, ◌≢◌, ℕ, Bool, true, false, IsTrue, ◌==◌, ◌||◌, nat_eq, cond, Option, None, Some, IfSome, List, [], ◌∷◌, ◌⊎◌, inl, inr, refl, sym, ap, subst, ◌∙◌, arith}
+use Rattle.std.proofs.Common.{◌≡◌, ◌≢◌, ℕ, Bool, true, false, IsTrue, ◌||◌, nat_eq, cond, None, Some, List, [], ◌∷◌, ◌⊎◌, inl, inr, refl, sym, ◌∙◌, arith}
 use Rattle.std.proofs.lemmas.Bool.{false≢true}
 use Rattle.std.proofs.lemmas.Bool.Decides.{nat_tests}
 use Rattle.std.proofs.lemmas.Option.{none-some}
-use Rattle.ipmi_capture.specs.Below.{AllOf, CycleAt, DistinctIds, Done, End, EndsAfter, EndsBy, EndsEmpty, First, first_row, FoundIsRow, has_id, Id, IsShelf, IsWalk, last_next, Links, look, MissingAt, Place, Row, row_at, Shelf, WalkEnd}
+use Rattle.ipmi_capture.specs.Below.{AllOf, CycleAt, Done, End, EndsAfter, EndsBy, EndsEmpty, First, FoundIsRow, has_id, Id, IsShelf, IsWalk, last_next, Links, look, MissingAt, Row, row_at, Shelf, WalkEnd}
 
 abbrev pub Among : List Row → Row → Type 0
 Among [] row = ⊥

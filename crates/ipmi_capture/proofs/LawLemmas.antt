@@ -1,14 +1,15 @@
 -- What is printed over a capture is what is printed over the controller's store.
-use Rattle.std.proofs.Common.{◌≡◌, ◌≢◌, ℕ, zero, suc, ◌<◌, ◌-◌, ◌+◌, Bool, true, false, cond, nat_eq, IsTrue, Option, None, Some, Result, Ok, Err, List, [], ◌∷◌, length, take, drop, ◌⊎◌, inl, inr, refl, sym, ap, subst, ◌∙◌, arith, All, filter_map}
-use Rattle.std.specs.List.{cons_option, Contains}
+use Rattle.std.proofs.Common.{◌≡◌, ℕ, suc, ◌-◌, Bool, true, false, cond, nat_eq, Option, None, Some, Result, Ok, Err, List, [], ◌∷◌, length, take, inl, inr, refl, sym, ap, subst, ◌∙◌, arith, All, filter_map}
+use Rattle.std.specs.List.{cons_option}
 use Rattle.std.proofs.lemmas.Option.{none-some}
-use Rattle.std.proofs.lemmas.Bool.Decides.{nat_tests}
-use Rattle.ipmi_capture.specs.Below.{AllOf, End, EndsBy, First, first_row, FoundIsRow, Id, info_of, inventory_of, IsStore, IsWalk, look, Place, place_after, place_after_rows, Reading, reading_of, Row, row_with_id, rows_of, Sdr, SdrFault, SdrView, sdr_view_of, Sel, Shelf, start_of, Store, store_shelf, WalkEnd, WalkExists, WalkIsUnique}
-use Rattle.ipmi_capture.specs.Capture.{device_named, devices_of, IsCaptureOf, SameInventory, SameReading, SameWalk, sensor_named, sensors_of}
+use Rattle.ipmi_capture.specs.Below.{AllOf, End, EndsBy, First, first_row, FoundIsRow, Id, info_of, inventory_of, IsStore, IsWalk, look, Place, place_after, place_after_rows, Reading, Row, row_with_id, rows_of, Sdr, SdrFault, SdrView, sdr_view_of, Sel, Shelf, start_of, Store, store_shelf, WalkEnd, WalkExists, WalkIsUnique}
+use Rattle.ipmi_capture.specs.Capture.{device_named, IsCaptureOf, SameInventory, SameReading, SameWalk, sensor_named}
 use Rattle.ipmi_capture.specs.Laws.{CapturesPrintTheSame, IsKnownPlace, IsOfCapture, SameTexts}
-use Rattle.ipmi_commands.specs.Prelude.{AreTexts, AtInventory, IfChosen, info_plan, is_name, IsBlockOfName, IsDevicePiece, IsInventoryPiece, IsLocatorPiece, IsRowText, IsTextOver, Item, job_of, last_rows, OfInfo, OfInventory, OfRow, OnPlan, OnWalk, reading_by, reading_for, row_is_of_kind, row_items, Spot, Subject, TextsJoined, with_first_spots}
+use Rattle.ipmi_commands.specs.Prelude.{after_names, AreTexts, AtInventory, bytes_of_rows, IfChosen, info_plan, is_name, IsBlockIn, IsBlockOfName, IsDevicePiece, IsInventoryPiece, IsLocatorPiece, IsRowText, IsTextOver, Item, job_in, job_of, last_rows, OfInventory, OnNamed, OnPlan, OnWalk, reading_by, reading_for, row_is_of_kind, row_items, Spot, with_first_spots}
 use Rattle.ipmi_command_line.specs.declared.task.Count.{Count}
 use Rattle.ipmi_command_line.specs.declared.task.Task.{Task}
+use Rattle.ipmi_commands.specs.declared.job.Wording.{Wording}
+use Rattle.ipmi_events.specs.SensorLines.{IsSensorLine}
 use Rattle.ipmi_records.specs.SdrText.{fault_line, IsExtendedLine, IsSdrLine}
 use Rattle.ipmi_records.specs.Sdr as sdr
 use Rattle.ipmi_capture.proofs.FromLemmas.{Among, from_end, from_id}
@@ -41,10 +42,12 @@ record_line : (IsLine : SdrView → Option Reading → List ℕ → Type 0) (a b
 record_line IsLine a b id (Ok view) agree text is = subst (λ r. IsLine view r text) agree.reading is
 record_line IsLine a b id (Err fault) agree text is = is
 
-block : (a b : Store) (name : List ℕ) (id : ℕ) (r : Result SdrView SdrFault) → AgreeOn a b r
-    → (text : List ℕ) → IsBlockOfName name a id r text → IsBlockOfName name b id r text
-block a b name id (Ok view) agree text is = rw agree.reading at is
-block a b name id (Err fault) agree text is = is
+block : (a b : Store) (wording : Wording) (name : List ℕ) (id : ℕ) (r : Result SdrView SdrFault)
+    → AgreeOn a b r → (text : List ℕ) → IsBlockOfName wording name a id r text
+    → IsBlockOfName wording name b id r text
+block a b wording name id (Ok view) agree text is =
+    subst (λ r. IfChosen (is_name name (sdr.name_of view)) (λ t. IsBlockIn wording id view r t) text) agree.reading is
+block a b wording name id (Err fault) agree text is = is
 
 piece : (a b : Store) (id : ℕ) (name : List ℕ) → inventory_of id a ≡ inventory_of id b
     → (text : List ℕ) → IsInventoryPiece a id name text → IsInventoryPiece b id name text
@@ -98,10 +101,11 @@ inventory_both : (a b : Store) (id : ℕ) (items : List Item) (spots : List Spot
 inventory_both a b id items spots same to from =
     both a b (record { subject = OfInventory id; spots = spots } ∷ items) (piece a b id [] same, to) (piece b a id [] (sym same), from)
 
-first_spots_same : (a b : Store) (spots : List Spot) (items : List Item) → AllSame a b items
-    → AllSame a b (with_first_spots spots items)
-first_spots_same a b spots [] same = tt
-first_spots_same a b spots (item ∷ items) same = same
+-- other spots of the first item
+first_texts : (a b : Store) (spots : List Spot) (items : List Item) → SameTexts a b items
+    → SameTexts a b (with_first_spots spots items)
+first_texts a b spots [] same = same
+first_texts a b spots (item ∷ items) same = same
 
 -- ---- rows
 
@@ -251,6 +255,26 @@ module _ (exists : WalkExists) (unique : WalkIsUnique) (found : FoundIsRow) (ima
       let one = one_walk Sdr (start_of from) known walk walk' end end' is ends is' ends' in
       (one.0, one.1, rows_both image store form (start_of from) walk same (walk_agrees image store capture walk one.2.of_shelf))
 
+  -- a listing of entries, with the same names
+  named_same : (names : Option (List (List ℕ))) (count : Count) (from : Option ℕ) (tries : ℕ)
+      → IsKnownPlace Sel image (start_of from)
+      → OnNamed names count from tries store (λ plan calls.
+      OnNamed names count from tries image (λ plan' calls'.
+      (plan' ≡ plan) × SameTexts image store plan.items))
+  named_same names Count.All from tries known = λ walk end is ends walk' end' is' ends'.
+      let one = one_walk Sel (start_of from) known walk walk' end end' is ends is' ends' in
+      (rw (one.0, one.1) refl, entries_both image store _ (start_of from) walk (λ x y row text has. has))
+  named_same names (Count.First n) from tries known = λ walk end is ends walk' end' is' ends'.
+      let one = one_walk Sel (start_of from) known walk walk' end end' is ends is' ends' in
+      (rw (one.0, one.1) refl, entries_both image store _ (start_of from) (take n walk) (λ x y row text has. has))
+  named_same names (Count.Last n) from tries known = λ walk end is ends walk' end' is' ends'.
+      let start = start_of from in
+      let one = one_walk Sel start known walk walk' end end' is ends is' ends' in
+      let at = place_after_rows start (take (length walk - n) walk) in (
+        rw (one.0, one.1) refl,
+        first_texts image store _ _ (entries_both image store _ at (last_rows n walk end) (λ x y row text has. has)),
+      )
+
   prints_the_same : (task : Task) (from : Option ℕ) (tries : ℕ) → IsOfCapture image task from
       → OnPlan (job_of task from) tries store (λ plan calls.
       OnPlan (job_of task from) tries image (λ plan' calls'.
@@ -265,23 +289,11 @@ module _ (exists : WalkExists) (unique : WalkIsUnique) (found : FoundIsRow) (ima
       let one = records_same _ from known (λ x y row agree text has. chosen _ _ (row_is_of_kind kind row) (record_line IsExtendedLine x y row.id (sdr_view_of row.bytes) agree) text has) walk end is ends walk' end' is' ends' in
       (rw (one.0, one.1) refl, one.2)
   prints_the_same (Task.Get name) from tries known = λ walk end is ends walk' end' is' ends'.
-      let one = records_same _ from known (λ x y row agree text has. block x y name row.id (sdr_view_of row.bytes) agree text has) walk end is ends walk' end' is' ends' in
+      let one = records_same _ from known (λ x y row agree text has. block x y Wording.Codes name row.id (sdr_view_of row.bytes) agree text has) walk end is ends walk' end' is' ends' in
       (rw (one.0, one.1) refl, one.2)
-  prints_the_same (Task.SelList Count.All) from tries known = λ walk end is ends walk' end' is' ends'.
-      let one = one_walk Sel (start_of from) known walk walk' end end' is ends is' ends' in
-      (rw (one.0, one.1) refl, entries_both image store _ (start_of from) walk (λ x y row text has. has))
-  prints_the_same (Task.SelList (Count.First n)) from tries known = λ walk end is ends walk' end' is' ends'.
-      let one = one_walk Sel (start_of from) known walk walk' end end' is ends is' ends' in
-      (rw (one.0, one.1) refl, entries_both image store _ (start_of from) (take n walk) (λ x y row text has. has))
-  prints_the_same (Task.SelList (Count.Last n)) from tries known = λ walk end is ends walk' end' is' ends'.
-      let start = start_of from in
-      let one = one_walk Sel start known walk walk' end end' is ends is' ends' in
-      let at = place_after_rows start (take (length walk - n) walk) in (
-        rw (one.0, one.1) refl,
-        both image store _
-            (first_spots_same image store _ _ (entries_same image store _ at (last_rows n walk end) (λ row text has. has)))
-            (first_spots_same store image _ _ (entries_same store image _ at (last_rows n walk end) (λ row text has. has))),
-      )
+  prints_the_same (Task.SelList Count.All) from tries known = named_same None Count.All from tries known
+  prints_the_same (Task.SelList (Count.First n)) from tries known = named_same None (Count.First n) from tries known
+  prints_the_same (Task.SelList (Count.Last n)) from tries known = named_same None (Count.Last n) from tries known
   prints_the_same (Task.SelGet id) from tries known = λ walk end is ends walk' end' is' ends'.
       let one = one_walk Sel (Id id) known walk walk' end end' is ends is' ends' in
       (rw (one.0, one.1) refl, entries_both image store _ (Id id) (take 1 walk) (λ x y row text has. has))
@@ -301,6 +313,44 @@ module _ (exists : WalkExists) (unique : WalkIsUnique) (found : FoundIsRow) (ima
       )
   prints_the_same Task.Rewrite from tries known = (refl, both image store [] tt tt)
 
+  -- events in words: the sensor data records are walked first
+  events_same : (count : Count) (from : Option ℕ) (tries : ℕ) → IsKnownPlace Sel image (start_of from)
+      → OnPlan (job_in Wording.Words (Task.SelList count) from) tries store (λ plan calls.
+      OnPlan (job_in Wording.Words (Task.SelList count) from) tries image (λ plan' calls'.
+      (plan' ≡ plan) × SameTexts image store plan.items))
+  events_same Count.All from tries known = λ sensors end is ends walk e w we sensors' end' is' ends' walk' e' w' we'.
+      let one = one_walk Sdr First tt sensors sensors' end end' is ends is' ends' in
+      let same = named_same (Some (bytes_of_rows sensors)) Count.All from tries known walk e w we walk' e' w' we' in
+      (rw (one.0, one.1) (ap (after_names sensors end) same.0), first_texts image store _ _ same.1)
+  events_same (Count.First n) from tries known = λ sensors end is ends walk e w we sensors' end' is' ends' walk' e' w' we'.
+      let one = one_walk Sdr First tt sensors sensors' end end' is ends is' ends' in
+      let same = named_same (Some (bytes_of_rows sensors)) (Count.First n) from tries known walk e w we walk' e' w' we' in
+      (rw (one.0, one.1) (ap (after_names sensors end) same.0), first_texts image store _ _ same.1)
+  events_same (Count.Last n) from tries known = λ sensors end is ends walk e w we sensors' end' is' ends' walk' e' w' we'.
+      let one = one_walk Sdr First tt sensors sensors' end end' is ends is' ends' in
+      let same = named_same (Some (bytes_of_rows sensors)) (Count.Last n) from tries known walk e w we walk' e' w' we' in
+      (rw (one.0, one.1) (ap (after_names sensors end) same.0), first_texts image store _ _ same.1)
+
+  prints_in : (wording : Wording) (task : Task) (from : Option ℕ) (tries : ℕ)
+      → IsOfCapture image task from
+      → OnPlan (job_in wording task from) tries store (λ plan calls.
+      OnPlan (job_in wording task from) tries image (λ plan' calls'.
+      (plan' ≡ plan) × SameTexts image store plan.items))
+  prints_in Wording.Codes task from tries known = prints_the_same task from tries known
+  prints_in Wording.Words (Task.List kind) from tries known = λ walk end is ends walk' end' is' ends'.
+      let one = records_same _ from known (λ x y row agree text has. chosen _ _ (row_is_of_kind kind row) (record_line IsSensorLine x y row.id (sdr_view_of row.bytes) agree) text has) walk end is ends walk' end' is' ends' in
+      (rw (one.0, one.1) refl, one.2)
+  prints_in Wording.Words (Task.Get name) from tries known = λ walk end is ends walk' end' is' ends'.
+      let one = records_same _ from known (λ x y row agree text has. block x y Wording.Words name row.id (sdr_view_of row.bytes) agree text has) walk end is ends walk' end' is' ends' in
+      (rw (one.0, one.1) refl, one.2)
+  prints_in Wording.Words (Task.SelList count) from tries known = events_same count from tries known
+  prints_in Wording.Words Task.Hex from tries known = prints_the_same Task.Hex from tries known
+  prints_in Wording.Words (Task.Elist kind) from tries known = prints_the_same (Task.Elist kind) from tries known
+  prints_in Wording.Words (Task.SelGet id) from tries known = prints_the_same (Task.SelGet id) from tries known
+  prints_in Wording.Words (Task.Info shelf) from tries known = prints_the_same (Task.Info shelf) from tries known
+  prints_in Wording.Words (Task.Fru id) from tries known = prints_the_same (Task.Fru id) from tries known
+  prints_in Wording.Words Task.Rewrite from tries known = prints_the_same Task.Rewrite from tries known
+
 pub prints_the_same_of : WalkExists → WalkIsUnique → FoundIsRow → CapturesPrintTheSame
-prints_the_same_of exists unique found = λ image store task from tries is_image is_store capture known.
-    prints_the_same exists unique found image store is_image is_store capture task from tries known
+prints_the_same_of exists unique found = λ image store wording task from tries is_image is_store capture known.
+    prints_in exists unique found image store is_image is_store capture wording task from tries known

@@ -1,10 +1,10 @@
 -- The marks of what the first records of an image name.
-use Rattle.std.proofs.Common.{◌≡◌, ℕ, zero, suc, ◌+◌, ◌<◌, ◌≤◌, Bool, true, false, ◌||◌, nat_eq, Option, None, Some, List, [], ◌∷◌, ◌++◌, length, get_or, set, map, take, refl, sym, ap, subst, ◌∙◌, arith, All, IfSome, option_map, slice_get, filter_map, append-nil, replicate, take_all, add-one}
+use Rattle.std.proofs.Common.{◌≡◌, ℕ, zero, suc, ◌+◌, ◌<◌, ◌≤◌, Bool, true, false, ◌||◌, nat_eq, Option, None, Some, List, [], ◌∷◌, ◌++◌, length, get_or, set, map, take, refl, ap, ◌∙◌, arith, All, IfSome, option_map, slice_get, filter_map, append-nil, replicate, take_all, add-one}
 use Rattle.std.specs.List.{cons_option, list_any}
 use Rattle.std.specs.Option.{option_to_list}
 use Rattle.std.proofs.lemmas.Bool.Decides.{nat_tests}
 use Rattle.std.proofs.lemmas.List.{map-append}
-use Rattle.std.proofs.lemmas.List.Elements.{All-append, All-cons, All-nil, filter_map-append}
+use Rattle.std.proofs.lemmas.List.Elements.{All-append, All-cons, All-nil}
 use Rattle.ipmi_capture.specs.Below.{Row, sdr_view_of}
 use Rattle.ipmi_capture.specs.Capture.{device_named, devices_of, sensor_named, sensors_of}
 use Rattle.ipmi_capture.specs.Named.{AreMarks, IsSensorKey, marked, Names, sensor_place}

@@ -1,44 +1,81 @@
 -- The readings of marked sensors, and the inventories of marked devices, put into an image one after the other.
-use Rattle.std.proofs.Common.{◌≡◌, ◌≢◌, ℕ, ◌+◌, ◌*◌, ◌<◌, ◌≤◌, Bool, true, false, cond, IsTrue, ◌&&◌, ◌||◌, ◌==◌, nat_eq, Option, None, Some, Result, Ok, Err, IfOk, OnOk, MatchOption, List, [], ◌∷◌, ◌++◌, length, slice_index_or, ◌⊎◌, inl, inr, All, refl, sym, ap, subst, ◌∙◌, arith}
+use Rattle.std.proofs.Common.{◌≡◌, ℕ, ◌+◌, ◌*◌, ◌<◌, ◌≤◌, Bool, true, false, cond, IsTrue, ◌&&◌, ◌||◌, ◌==◌, nat_eq, Option, None, Some, Result, Ok, Err, IfOk, OnOk, MatchOption, List, [], ◌∷◌, ◌++◌, length, slice_index_or, take, ◌⊎◌, inl, inr, All, refl, sym, ap, subst, ◌∙◌, arith}
 use Rattle.std.specs.declared.alloc.AllocError.{AllocError}
-use Rattle.std.specs.List.{list_all}
+use Rattle.std.specs.List.{Any}
 use Rattle.std.specs.Option.{option_or, option_to_list}
 use Rattle.std.proofs.lemmas.Bool.Decides.{nat_tests}
 use Rattle.std.proofs.lemmas.List.Elements.{All-append, All-nil}
-use Rattle.std.proofs.lemmas.List.Folds.{list_all-append}
-use Rattle.ipmi_capture.specs.Below.{AsksAtMost, IsHonest, inventory_in, inventory_of, Reading, reading_in, reading_of, FruEnded, InventoryIs, not_present, ReadsInventory, ReadsValue, Seen, stays_trans, StaysHonest, Store, with_inventory, with_reading}
-use Rattle.ipmi_capture.specs.Left.{leaves_nothing, PlainLeaves}
+use Rattle.std.proofs.lemmas.List.{append_assoc, get_or-append-add, get_or_append_left, length-append}
+use Rattle.ipmi_capture.specs.Below.{AsksAtMost, Ended, IsHonest, inventory_in, inventory_of, Reading, reading_in, reading_of, FruEnded, InventoryIs, not_present, ReadsInventory, ReadsValue, Row, Seen, stays_trans, StaysHonest, Store, with_inventory, with_reading}
+use Rattle.ipmi_capture.specs.Capture.{InventoryOrLeft, ReadingOrLeft}
+use Rattle.ipmi_capture.specs.Left.{LacksInventory, LacksReading, PlainLeaves, SameOrLeft}
 use Rattle.ipmi_capture.specs.Named.{IsSensorKey, sensor_place}
-use Rattle.ipmi_capture.specs.Phases.{Captures, HasInventories, HasInventory, HasRead, HasReadings, IsNotPlain, most_for_inventory}
+use Rattle.ipmi_capture.specs.Phases.{Captures, HasInventory, HasRead, IsNotPlain, most_for_inventory}
 use Rattle.ipmi_capture.specs.declared.left.Left.{Left}
-use Rattle.ipmi_capture.proofs.FoundLemmas.{inventory_in-snoc, kept_more, kept_next, KeptBelow, not_kept, not_read, read_more, read_next, ReadBelow, reading_in-snoc}
+use Rattle.ipmi_capture.proofs.FoundLemmas.{inventory_in-snoc, kept_more, kept_next, KeptBelow, read_more, read_next, ReadBelow, reading_in-snoc}
 use Rattle.ipmi_capture.proofs.StepLemmas.{between}
+
+-- ---- what was left out
+
+module _ (P : Left → Type 0) where
+  pub any_of_one : (one : Left) → P one → Any P (one ∷ [])
+  any_of_one one is = (0, one, omega arith, refl, is)
+
+  any_more : (left more : List Left) → Any P left → Any P (left ++ more)
+  any_more left more any = (any.0, any.1, omega (arith, any.2, length-append left more), get_or_append_left left more any.1 any.0 any.2 ∙ any.3, any.4)
+
+  any_after : (left later : List Left) → Any P later → Any P (left ++ later)
+  any_after left later any = (
+    length left + any.0,
+    any.1,
+    omega (arith, any.2, length-append left later),
+    get_or-append-add left later any.0 any.1 ∙ any.3,
+    any.4,
+  )
+
+  module _ {V : Type 0} (left other : List Left) (a b : Option V) where
+    pub same_more : SameOrLeft P left a b → SameOrLeft P (left ++ other) a b
+    same_more (inl same) = inl same
+    same_more (inr lacks) = inr (lacks.0, any_more left other lacks.1)
+
+    pub same_after : SameOrLeft P other a b → SameOrLeft P (left ++ other) a b
+    same_after (inl same) = inl same
+    same_after (inr lacks) = inr (lacks.0, any_after left other lacks.1)
+
+  module _ (left other : List Left) (rows walk : List Row) where
+    pub front_more : (rows ≡ walk) ⊎ ((rows ≡ take (length rows) walk) × Any P left)
+        → (rows ≡ walk) ⊎ ((rows ≡ take (length rows) walk) × Any P (left ++ other))
+    front_more (inl same) = inl same
+    front_more (inr lacks) = inr (lacks.0, any_more left other lacks.1)
+
+    pub front_after : (rows ≡ walk) ⊎ ((rows ≡ take (length rows) walk) × Any P other)
+        → (rows ≡ walk) ⊎ ((rows ≡ take (length rows) walk) × Any P (left ++ other))
+    front_after (inl same) = inl same
+    front_after (inr lacks) = inr (lacks.0, any_after left other lacks.1)
 
 -- ---- two parts of a capture, one after the other
 
-both_true : (a b : Bool) → IsTrue (a && b) → IsTrue a × IsTrue b
-both_true a b is = grind arith
-
 -- what is left out comes after what was
-pub captures_after : {s s' : Seen} {Fact : Type 0} (left later : List Left)
-    → Captures s s' [] later Fact → Captures s s' left (left ++ later) Fact
-captures_after {s = s} left later captures = record {
-  fact = λ same nothing.
-      let split = both_true _ _ (rw (list_all-append leaves_nothing left later) at nothing) in
-      (split.0, (captures.fact same split.1).1);
+pub captures_after : {s s' : Seen} {Fact Fact' : Type 0} (left later : List Left) → (Fact → Fact')
+    → Captures s s' [] later Fact → Captures s s' left (left ++ later) Fact'
+captures_after {s = s} left later to captures = record {
+  more = later;
+  grows = refl;
+  fact = λ same. to (captures.fact same);
   plain = λ p all. All-append (PlainLeaves s.store) left later all (captures.plain p (All-nil (PlainLeaves s.store)));
 }
 
 pub captures_then : {s s' s'' : Seen} {left left' left'' : List Left} {First Second Both : Type 0}
     → StaysHonest s s' → StaysHonest s' s'' → Captures s s' left left' First
-    → Captures s' s'' left' left'' Second → (s'.store ≡ s.store → First → Second → Both)
+    → Captures s' s'' left' left'' Second
+    → (s'.store ≡ s.store → (more : List Left) → left'' ≡ left' ++ more → First → Second → Both)
     → Captures s s'' left left'' Both
-captures_then {s = s} {s' = s'} {s'' = s''} {left' = left'} {left'' = left''} before later first second both = record {
-  fact = λ same nothing.
+captures_then {s = s} {s' = s'} {s'' = s''} {left = left} {left' = left'} {left'' = left''} before later first second both = record {
+  more = first.more ++ second.more;
+  grows = second.grows ∙ ap (λ (l : List Left). l ++ second.more) first.grows ∙ append_assoc left first.more second.more;
+  fact = λ same.
       let parts = between s s' s'' before later same in
-      let last = second.fact parts.1 nothing in
-      let done = first.fact parts.0 last.0 in
-      (done.0, both (before.store.stays parts.0) done.1 last.1);
+      both (before.store.stays parts.0) second.more second.grows (first.fact parts.0) (second.fact parts.1);
   plain = λ p all.
       let store = before.store.stays (before.plain_store p) in
       subst (λ (x : Store). All (PlainLeaves x) left'') store (second.plain (before.plain p)
@@ -48,10 +85,9 @@ captures_then {s = s} {s' = s'} {s'' = s''} {left' = left'} {left'' = left''} be
 -- ---- readings
 
 -- those of the places before this one
-abbrev pub ReadTo : ℕ → List Bool → Store → Store → Type 0
-ReadTo place marks image store = (key : ℕ × ℕ) → IsSensorKey key → sensor_place key < place
-    → slice_index_or marks (sensor_place key) false ≡ true
-    → reading_of key.0 key.1 image ≡ reading_of key.0 key.1 store
+abbrev pub ReadTo : ℕ → List Bool → List Left → Store → Store → Type 0
+ReadTo place marks left image store = (key : ℕ × ℕ) → IsSensorKey key → sensor_place key < place
+    → slice_index_or marks (sensor_place key) false ≡ true → ReadingOrLeft left image store key
 
 pub record IsReading (place part tries : ℕ) (marks : List Bool) (s s' : Seen)
     (left left' : List Left) (old new : Store) : Type 0 where
@@ -60,7 +96,7 @@ pub record IsReading (place part tries : ℕ) (marks : List Bool) (s s' : Seen)
   pub calls : s'.calls ≤ s.calls + place * (tries + 1)
   pub asked : AsksAtMost part s s'
   pub stays : IsHonest s → StaysHonest s s'
-  pub read : IsHonest s → Captures s s' left left' (ReadTo place marks new s.store)
+  pub read : IsHonest s → Captures s s' left left' (ReadTo place marks left' new s.store)
 
 -- the next place is not marked
 pub reading_skipped : {place part tries : ℕ} {marks : List Bool} {s s' : Seen}
@@ -68,16 +104,16 @@ pub reading_skipped : {place part tries : ℕ} {marks : List Bool} {s s' : Seen}
     → IsReading place part tries marks s s' left left' old new
     → slice_index_or marks place false ≡ false
     → IsReading (place + 1) part tries marks s s' left left' old new
-reading_skipped {place = place} {marks = marks} {s = s} {new = new} so unmarked = record {
+reading_skipped {place = place} {marks = marks} {s = s} {left' = left'} {new = new} so unmarked = record {
   beside = so.beside;
   below = read_more place new.readings so.below;
   calls = omega (arith, so.calls);
   asked = so.asked;
   stays = so.stays;
   read = λ h. record {
-    fact = λ same nothing.
-        let done = (so.read h).fact same nothing in
-        (done.0, λ key is below mark. by s.store key is mark (decide key below) done.1);
+    more = (so.read h).more;
+    grows = (so.read h).grows;
+    fact = λ same key is below mark. by s.store key is mark (decide key below) ((so.read h).fact same);
     plain = (so.read h).plain;
   };
 }
@@ -88,8 +124,8 @@ reading_skipped {place = place} {marks = marks} {s = s} {new = new} so unmarked 
 
     by : (store : Store) (key : ℕ × ℕ) → IsSensorKey key
         → slice_index_or marks (sensor_place key) false ≡ true
-        → (sensor_place key < place) ⊎ (sensor_place key ≡ place) → ReadTo place marks new store
-        → reading_of key.0 key.1 new ≡ reading_of key.0 key.1 store
+        → (sensor_place key < place) ⊎ (sensor_place key ≡ place)
+        → ReadTo place marks left' new store → ReadingOrLeft left' new store key
     by store key is mark (inl lt) to = to key is lt mark
     by store key is mark (inr here) to = absurd (grind (arith, unmarked, rw here at mark))
 
@@ -133,7 +169,7 @@ pub reading_read : {place part tries : ℕ} {marks : List Bool} {s s' s'' : Seen
     → s''.calls ≤ s'.calls + (tries + 1) → AsksAtMost part s' s''
     → (IsHonest s' → StaysHonest s' s'')
     → (IsHonest s' → Captures s' s'' [] (option_to_list lacks)
-    (reading_of lun number more ≡ reading_of lun number s'.store))
+    (ReadingOrLeft (option_to_list lacks) more s'.store (lun, number)))
     → IsReading (place + 1) part tries marks s s'' left (left' ++ option_to_list lacks) old more
 reading_read {place = place} {marks = marks} {s = s} {s' = s'} {s'' = s''} {left' = left'} {old = old} {new = new} {more = more} lacks lun number so at fits has calls asked stays read = record {
   beside = read_beside lun number old new more (reading_of lun number more) has so.beside;
@@ -143,8 +179,9 @@ reading_read {place = place} {marks = marks} {s = s} {s' = s'} {s'' = s''} {left
   stays = λ h. stays_trans s s' s'' (so.stays h) (stays (so.stays h).honest);
   read = λ h.
       let before = so.stays h in
-      captures_then before (stays before.honest) (so.read h) (captures_after left' (option_to_list lacks) (read before.honest))
-      (λ store to this key is below mark. by key is mark (decide key below) to this store);
+      captures_then before (stays before.honest) (so.read h)
+      (captures_after left' (option_to_list lacks) (same_after (LacksReading lun number) left' (option_to_list lacks) _ _) (read before.honest))
+      (λ store grown grows to this key is below mark. by key is mark (decide key below) to this store);
 }
   where
     decide : (key : ℕ × ℕ) → sensor_place key < place + 1
@@ -152,21 +189,23 @@ reading_read {place = place} {marks = marks} {s = s} {s' = s'} {s'' = s''} {left
     decide key below = grind (arith, nat_tests)
 
     by : (key : ℕ × ℕ) → IsSensorKey key → slice_index_or marks (sensor_place key) false ≡ true
-        → (sensor_place key < place) ⊎ (sensor_place key ≡ place) → ReadTo place marks new s.store
-        → reading_of lun number more ≡ reading_of lun number s'.store → s'.store ≡ s.store
-        → reading_of key.0 key.1 more ≡ reading_of key.0 key.1 s.store
+        → (sensor_place key < place) ⊎ (sensor_place key ≡ place)
+        → ReadTo place marks left' new s.store
+        → ReadingOrLeft (left' ++ option_to_list lacks) more s'.store (lun, number)
+        → s'.store ≡ s.store → ReadingOrLeft (left' ++ option_to_list lacks) more s.store key
     by key is mark (inl lt) to this store =
-        others_stay lun number new more (reading_of lun number more) has key (omega (arith, lt, at)) ∙ to key is lt mark
+        let stays = others_stay lun number new more (reading_of lun number more) has key (omega (arith, lt, at)) in
+        same_more (LacksReading key.0 key.1) left' (option_to_list lacks) _ _
+        (subst (λ (o : Option Reading). SameOrLeft (LacksReading key.0 key.1) left' o (reading_of key.0 key.1 s.store)) (sym stays) (to key is lt mark))
     by key is mark (inr here) to this store =
         let same = same_key key lun number is fits (here ∙ sym at) in
-        rw (same.0, same.1) (this ∙ ap (reading_of lun number) store)
+        rw (same.0, same.1) (subst (λ (x : Store). ReadingOrLeft (left' ++ option_to_list lacks) more x (lun, number)) store this)
 
 -- ---- inventories
 
-abbrev pub KeptTo : ℕ → List Bool → Store → Store → Type 0
-KeptTo to marks image store = (id : ℕ) → id < to
-    → IsTrue ((id == 0) || slice_index_or marks id false)
-    → inventory_of id image ≡ inventory_of id store
+abbrev pub KeptTo : ℕ → List Bool → List Left → Store → Store → Type 0
+KeptTo to marks left image store = (id : ℕ) → id < to
+    → IsTrue ((id == 0) || slice_index_or marks id false) → InventoryOrLeft left image store id
 
 pub record IsKeeping (to part tries : ℕ) (marks : List Bool) (s s' : Seen)
     (left left' : List Left) (old new : Store) : Type 0 where
@@ -175,7 +214,7 @@ pub record IsKeeping (to part tries : ℕ) (marks : List Bool) (s s' : Seen)
   pub calls : s'.calls ≤ s.calls + to * most_for_inventory tries
   pub asked : AsksAtMost part s s'
   pub stays : IsHonest s → StaysHonest s s'
-  pub read : IsHonest s → Captures s s' left left' (KeptTo to marks new s.store)
+  pub read : IsHonest s → Captures s s' left left' (KeptTo to marks left' new s.store)
 
 -- the next device is not marked
 pub keeping_skipped : {to part tries : ℕ} {marks : List Bool} {s s' : Seen}
@@ -183,16 +222,16 @@ pub keeping_skipped : {to part tries : ℕ} {marks : List Bool} {s s' : Seen}
     → IsKeeping to part tries marks s s' left left' old new
     → ((to == 0) || slice_index_or marks to false) ≡ false
     → IsKeeping (to + 1) part tries marks s s' left left' old new
-keeping_skipped {to = to} {tries = tries} {marks = marks} {s = s} {new = new} so unmarked = record {
+keeping_skipped {to = to} {tries = tries} {marks = marks} {s = s} {left' = left'} {new = new} so unmarked = record {
   beside = so.beside;
   below = kept_more to new.inventories so.below;
   calls = omega (arith, so.calls);
   asked = so.asked;
   stays = so.stays;
   read = λ h. record {
-    fact = λ same nothing.
-        let done = (so.read h).fact same nothing in
-        (done.0, λ id below mark. by s.store id mark (decide id below) done.1);
+    more = (so.read h).more;
+    grows = (so.read h).grows;
+    fact = λ same id below mark. by s.store id mark (decide id below) ((so.read h).fact same);
     plain = (so.read h).plain;
   };
 }
@@ -201,8 +240,8 @@ keeping_skipped {to = to} {tries = tries} {marks = marks} {s = s} {new = new} so
     decide id below = grind (arith, nat_tests)
 
     by : (store : Store) (id : ℕ) → IsTrue ((id == 0) || slice_index_or marks id false)
-        → (id < to) ⊎ (id ≡ to) → KeptTo to marks new store
-        → inventory_of id new ≡ inventory_of id store
+        → (id < to) ⊎ (id ≡ to) → KeptTo to marks left' new store
+        → InventoryOrLeft left' new store id
     by store id mark (inl lt) done = done id lt mark
     by store id mark (inr here) done = absurd (grind (arith, unmarked, rw here at mark))
 
@@ -237,7 +276,7 @@ pub keeping_read : {part tries : ℕ} {marks : List Bool} {s s' s'' : Seen}
     → s''.calls ≤ s'.calls + most_for_inventory tries → AsksAtMost part s' s''
     → (IsHonest s' → StaysHonest s' s'')
     → (IsHonest s' → Captures s' s'' [] (option_to_list lacks)
-    (inventory_of id more ≡ inventory_of id s'.store))
+    (InventoryOrLeft (option_to_list lacks) more s'.store id))
     → IsKeeping (id + 1) part tries marks s s'' left (left' ++ option_to_list lacks) old more
 keeping_read {tries = tries} {marks = marks} {s = s} {s' = s'} {s'' = s''} {left' = left'} {old = old} {new = new} {more = more} lacks id so has calls asked stays read = record {
   beside = kept_beside id old new more (inventory_of id more) has so.beside;
@@ -247,26 +286,60 @@ keeping_read {tries = tries} {marks = marks} {s = s} {s' = s'} {s'' = s''} {left
   stays = λ h. stays_trans s s' s'' (so.stays h) (stays (so.stays h).honest);
   read = λ h.
       let before = so.stays h in
-      captures_then before (stays before.honest) (so.read h) (captures_after left' (option_to_list lacks) (read before.honest))
-      (λ store done this other below mark. by other mark (decide other below) done this store);
+      captures_then before (stays before.honest) (so.read h)
+      (captures_after left' (option_to_list lacks) (same_after (LacksInventory id) left' (option_to_list lacks) _ _) (read before.honest))
+      (λ store grown grows done this other below mark. by other mark (decide other below) done this store);
 }
   where
     decide : (other : ℕ) → other < id + 1 → (other < id) ⊎ (other ≡ id)
     decide other below = grind (arith, nat_tests)
 
     by : (other : ℕ) → IsTrue ((other == 0) || slice_index_or marks other false)
-        → (other < id) ⊎ (other ≡ id) → KeptTo id marks new s.store
-        → inventory_of id more ≡ inventory_of id s'.store → s'.store ≡ s.store
-        → inventory_of other more ≡ inventory_of other s.store
-    by other mark (inl lt) done this store = others_kept id new more (inventory_of id more) has other lt ∙ done other lt mark
-    by other mark (inr here) done this store = rw here (this ∙ ap (inventory_of id) store)
+        → (other < id) ⊎ (other ≡ id) → KeptTo id marks left' new s.store
+        → InventoryOrLeft (left' ++ option_to_list lacks) more s'.store id → s'.store ≡ s.store
+        → InventoryOrLeft (left' ++ option_to_list lacks) more s.store other
+    by other mark (inl lt) done this store =
+        let stays = others_kept id new more (inventory_of id more) has other lt in
+        same_more (LacksInventory other) left' (option_to_list lacks) _ _
+        (subst (λ (o : Option (List ℕ)). SameOrLeft (LacksInventory other) left' o (inventory_of other s.store)) (sym stays) (done other lt mark))
+    by other mark (inr here) done this store = rw here (subst (λ (x : Store). InventoryOrLeft (left' ++ option_to_list lacks) more x id) store this)
 
 -- what a result that is Ok has
 pub on_ok : {T E A B : Type 0} (result : Result T E) → OnOk result A → (A → B) → OnOk result B
 on_ok (Ok value) has to = to has
 on_ok (Err e) has to = tt
 
--- ---- one reading, one inventory
+-- ---- one value, one inventory
+
+module _ {V : Type 0} {tries : ℕ} {s s' : Seen} (value : Store → Option V) (Lacks : Left → Type 0) where
+  pub came_value : (v : V) (in_image : Option V) → in_image ≡ Some v
+      → ReadsValue value tries s s' (Ok (Some v))
+      → Captures s s' [] [] (SameOrLeft Lacks [] in_image (value s.store))
+  came_value v in_image has reads = record {
+    more = [];
+    grows = refl;
+    fact = λ same. inl (has ∙ reads.is.1 ∙ ap value (reads.stays.store.stays same));
+    plain = λ p all. all;
+  }
+
+  pub absent_value : (in_image : Option V) → in_image ≡ None → ReadsValue value tries s s' (Ok None)
+      → Captures s s' [] [] (SameOrLeft Lacks [] in_image (value s.store))
+  absent_value in_image none reads = record {
+    more = [];
+    grows = refl;
+    fact = λ same. inl (none ∙ reads.is.1 ∙ ap value (reads.stays.store.stays same));
+    plain = λ p all. all;
+  }
+
+  pub left_value : (ended : Ended) (lacks : Left) (in_image : Option V) → in_image ≡ None
+      → Lacks lacks → ReadsValue value tries s s' (Err ended)
+      → Captures s s' [] (lacks ∷ []) (SameOrLeft Lacks (lacks ∷ []) in_image (value s.store))
+  left_value ended lacks in_image none lacks_it reads = record {
+    more = lacks ∷ [];
+    grows = refl;
+    fact = λ same. inr (none, any_of_one Lacks lacks lacks_it);
+    plain = λ p all. let never : Err ended ≡ Ok (value s.store) = (reads.plain p).0 in cc;
+  }
 
 read_again : (lun number : ℕ) (reading : Reading) (old new : Store)
     → reading_of lun number old ≡ None → new ≡ with_reading lun number reading old
@@ -285,11 +358,9 @@ pub came_reading : {tries : ℕ} {s s' : Seen} (lun number : ℕ) (reading : Rea
     (old new : Store) → reading_of lun number old ≡ None
     → new ≡ with_reading lun number reading old
     → ReadsValue (reading_of lun number) tries s s' (Ok (Some reading))
-    → Captures s s' [] [] (reading_of lun number new ≡ reading_of lun number s.store)
-came_reading lun number reading old new none is reads = record {
-  fact = λ same nothing. (nothing, read_again lun number reading old new none is ∙ reads.is.1 ∙ ap (reading_of lun number) (reads.stays.store.stays same));
-  plain = λ p all. all;
-}
+    → Captures s s' [] [] (ReadingOrLeft [] new s.store (lun, number))
+came_reading lun number reading old new none is reads =
+    came_value (reading_of lun number) (LacksReading lun number) reading (reading_of lun number new) (read_again lun number reading old new none is) reads
 
 kept_again : (id : ℕ) (bytes : List ℕ) (old new : Store) → inventory_of id old ≡ None
     → new ≡ with_inventory id bytes old → inventory_of id new ≡ Some bytes
@@ -305,9 +376,11 @@ has_inventory id bytes old new none is = rw (kept_again id bytes old new none is
 pub came_inventory : {tries : ℕ} {s s' : Seen} (id : ℕ) (bytes : List ℕ) (old new : Store)
     → inventory_of id old ≡ None → new ≡ with_inventory id bytes old
     → ReadsInventory id tries s s' (Ok bytes)
-    → Captures s s' [] [] (inventory_of id new ≡ inventory_of id s.store)
+    → Captures s s' [] [] (InventoryOrLeft [] new s.store id)
 came_inventory id bytes old new none is reads = record {
-  fact = λ same nothing. (nothing, kept_again id bytes old new none is ∙ sym (reads.is same).1);
+  more = [];
+  grows = refl;
+  fact = λ same. inl (kept_again id bytes old new none is ∙ sym (reads.is same).1);
   plain = λ p all. all;
 }
 
@@ -316,27 +389,39 @@ pub left_inventory : {tries : ℕ} {s s' s'' : Seen} (id : ℕ) (ended : FruEnde
     (result : Result (Option Left) AllocError) (image : Store) → inventory_of id image ≡ None
     → ReadsInventory id tries s s' (Err ended) → StaysHonest s' s''
     → IfOk result (λ o. MatchOption o (ended ≡ FruEnded.Refused not_present)
-    (λ left. (leaves_nothing left ≡ false) × IsNotPlain ended))
+    (λ left. LacksInventory id left × IsNotPlain ended))
     → IfOk result (λ o. Captures s s'' [] (option_to_list o)
-    (inventory_of id image ≡ inventory_of id s.store))
+    (InventoryOrLeft (option_to_list o) image s.store id))
 left_inventory id ended (Err e) image none reads later left = tt
 left_inventory {tries = tries} {s = s} {s' = s'} {s'' = s''} id ended (Ok None) image none reads later left = record {
-  fact = λ same nothing. (nothing, none ∙ sym (absent (rw left at ((reads.is (between s s' s'' reads.stays later same).0)))));
+  more = [];
+  grows = refl;
+  fact = λ same. inl (none ∙ sym (absent (rw left at ((reads.is (between s s' s'' reads.stays later same).0)))));
   plain = λ p all. all;
 }
   where
     absent : InventoryIs id tries s s' (Err (FruEnded.Refused not_present)) → inventory_of id s.store ≡ None
     absent is = is.1
 left_inventory {s = s} id ended (Ok (Some lacks)) image none reads later left = record {
-  fact = λ same nothing. absurd (grind (arith, left.0, nothing));
+  more = lacks ∷ [];
+  grows = refl;
+  fact = λ same. inr (none, any_of_one (LacksInventory id) lacks left.0);
   plain = λ p all. absurd (left.1 (reads.plain p).0);
 }
 
 -- ---- all parts
 
-pub captures_with : {s s' s'' : Seen} {left left' left'' : List Left} (First Second : Store → Type 0)
-    → StaysHonest s s' → StaysHonest s' s'' → Captures s s' left left' (First s.store)
-    → Captures s' s'' left' left'' (Second s'.store)
-    → Captures s s'' left left'' (First s.store × Second s.store)
-captures_with First Second before later first second =
-    captures_then before later first second (λ store a b. (a, subst Second store b))
+-- it holds also where more was left out
+abbrev pub Lasts : (Store → List Left → Type 0) → Type 0
+Lasts Fact = (store : Store) (left more : List Left) → Fact store left → Fact store (left ++ more)
+
+pub captures_with : {s s' s'' : Seen} {left left' left'' : List Left}
+    (First Second : Store → List Left → Type 0) → Lasts First → StaysHonest s s'
+    → StaysHonest s' s'' → Captures s s' left left' (First s.store left')
+    → Captures s' s'' left' left'' (Second s'.store left'')
+    → Captures s s'' left left'' (First s.store left'' × Second s.store left'')
+captures_with {s = s} {left' = left'} {left'' = left''} First Second lasts before later first second =
+    captures_then before later first second (λ store more grows a b. (
+      subst (λ (l : List Left). First s.store l) (sym grows) (lasts s.store left' more a),
+      subst (λ (x : Store). Second x left'') store b,
+    ))

@@ -1,5 +1,5 @@
 -- The records of a shelf, put into an image one step of a cursor after another.
-use Rattle.std.proofs.Common.{◌≡◌, ◌≢◌, ◌⊎◌, ◌-◌, nat_eq, nat_lt, true≢false, ℕ, ◌+◌, ◌*◌, ◌<◌, ◌≤◌, true, false, IsTrue, Option, None, Some, Result, Ok, Err, List, [], ◌∷◌, ◌++◌, length, take, drop, inl, inr, refl, sym, ap, subst, ◌∙◌, arith, take_all, length-append, take-add}
+use Rattle.std.proofs.Common.{◌≡◌, ◌≢◌, ◌⊎◌, nat_eq, nat_lt, true≢false, ℕ, ◌+◌, ◌*◌, ◌<◌, ◌≤◌, true, false, IsTrue, Option, None, Some, Result, Ok, Err, List, [], ◌∷◌, ◌++◌, length, take, drop, inl, inr, refl, sym, ap, ◌∙◌, arith, take_all, length-append, take-add}
 use Rattle.std.specs.FinSet as set
 use Rattle.std.specs.Ordering.{nat_cmp}
 use Rattle.std.specs.FinSet.{len-empty, len-insert}
@@ -10,7 +10,7 @@ use Rattle.std.proofs.lemmas.Nat.{mul-le}
 use Rattle.ipmi_bus.proofs.DigitLemmas.{digits_most}
 use Rattle.ipmi_bus.proofs.ShelfLemmas.{look_row}
 use Rattle.ipmi_bus.proofs.WalkLaws.{has_walk}
-use Rattle.ipmi_capture.specs.Below.{asked_at, AsksAtMost, AsksNothing, Cycle, cycle_at, CursorHoldsCurrent, CursorState, digits, End, Id, id_in, has_id, handed_id, may_follow, NotGivenUpOrRefused, Place, place_after, place_after_rows, StepAnswers, StepIsHonest, StepIsPlain, store_shelf, whole_len, Ended, EndsBy, First, first_row, GaveUp, HandsOut, IsHonest, IsStep, IsWalk, largest_len, Malformed, Missing, Refused, Row, rows_and, rows_of, Sdr, Seen, Sel, Shelf, StandsAt, Stalled, stays_refl, stays_trans, StaysHonest, step_call_bound, Store, WalkEnd, WalkStep, with_rows}
+use Rattle.ipmi_capture.specs.Below.{asked_at, AsksAtMost, Cycle, cycle_at, CursorHoldsCurrent, CursorState, digits, End, Id, id_in, has_id, handed_id, may_follow, NotGivenUpOrRefused, Place, place_after, place_after_rows, StepAnswers, StepIsHonest, StepIsPlain, store_shelf, whole_len, Ended, EndsBy, First, first_row, GaveUp, HandsOut, IsHonest, IsStep, IsWalk, largest_len, Malformed, Missing, Refused, Row, rows_of, Sdr, Seen, Sel, Shelf, StandsAt, Stalled, stays_refl, stays_trans, StaysHonest, step_call_bound, Store, WalkEnd, WalkStep, with_rows}
 use Rattle.ipmi_capture.specs.Phases.{CameOf, most_on_walk, PlainEnds, Walks}
 
 -- ---- the rows of a shelf

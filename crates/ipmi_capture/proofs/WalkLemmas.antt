@@ -1,9 +1,11 @@
 -- A walk of a shelf is the walk of its own rows, with the same end.
-use Rattle.std.proofs.Common.{◌≡◌, ◌≢◌, ℕ, Bool, true, false, cond, nat_eq, Option, None, Some, IfSome, List, [], ◌∷◌, refl, sym, ap, subst, ◌∙◌, arith}
-use Rattle.std.proofs.lemmas.Bool.{eqb-false}
+use Rattle.std.proofs.Common.{◌≡◌, ℕ, false, None, Some, IfSome, List, [], ◌∷◌, length, take, ◌⊎◌, inl, inr, refl, sym, subst, arith}
+use Rattle.std.specs.List.{Any}
 use Rattle.std.proofs.lemmas.Bool.Decides.{nat_tests}
-use Rattle.ipmi_capture.specs.Below.{AllOf, CycleAt, DistinctIds, Done, EndsAfter, EndsBy, EndsEmpty, First, first_row, has_id, IsWalk, LacksId, last_next, Links, look, MissingAt, Row, row_with_id, rows_of, Shelf, Store, WalkEnd}
-use Rattle.ipmi_capture.specs.Capture.{SameWalk}
+use Rattle.ipmi_capture.specs.Below.{AllOf, CycleAt, DistinctIds, Done, EndsBy, First, first_row, has_id, IsWalk, LacksId, last_next, Links, MissingAt, Row, row_with_id, rows_of, Shelf, Store, WalkEnd}
+use Rattle.ipmi_capture.specs.Capture.{WalkOrLeft}
+use Rattle.ipmi_capture.specs.Left.{LacksRecords}
+use Rattle.ipmi_capture.specs.declared.left.Left.{Left}
 use Rattle.ipmi_capture.specs.Phases.{AreWalk}
 
 -- each of these rows is found by its id among others
@@ -65,7 +67,15 @@ walk_of_itself rows walk end is ends = (
     begins (row ∷ rows) = refl
 
 -- an image whose rows are the walk of the store's shelf has that walk
-pub same_walk : (shelf : Shelf) (image store : Store) → AreWalk shelf store (rows_of shelf image)
-    → SameWalk shelf image store
-same_walk shelf image store are = λ walk end is ends.
-    subst (λ (rows : List Row). IsWalk rows First walk × EndsBy rows First walk end) (sym (are walk end is ends)) (walk_of_itself (rows_of shelf store) walk end is ends)
+pub same_walk : (shelf : Shelf) (left : List Left) (image store : Store)
+    → AreWalk shelf left store (rows_of shelf image) → WalkOrLeft shelf left image store
+same_walk shelf left image store are = λ walk end is ends. by walk end is ends (are walk end is ends)
+  where
+    by : (walk : List Row) (end : WalkEnd) → IsWalk (rows_of shelf store) First walk
+        → EndsBy (rows_of shelf store) First walk end
+        → (rows_of shelf image ≡ walk) ⊎ ((rows_of shelf image ≡ take (length (rows_of shelf image)) walk) × Any (LacksRecords shelf) left)
+        → (IsWalk (rows_of shelf image) First walk × EndsBy (rows_of shelf image) First walk end)
+        ⊎ ((rows_of shelf image ≡ take (length (rows_of shelf image)) walk) × Any (LacksRecords shelf) left)
+    by walk end is ends (inl same) =
+        inl (subst (λ (rows : List Row). IsWalk rows First walk × EndsBy rows First walk end) (sym same) (walk_of_itself (rows_of shelf store) walk end is ends))
+    by walk end is ends (inr front) = inr front

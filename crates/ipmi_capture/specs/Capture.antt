@@ -1,6 +1,9 @@
 -- What it is for the store of an image to be a capture of the store of a controller.
-use Rattle.std.specs.Prelude.{◌≡◌, ℕ, Option, Some, None, Result, Ok, Err, List, ◌∷◌, All, filter_map}
+use Rattle.std.specs.Prelude.{◌≡◌, ℕ, Option, None, Result, Ok, Err, List, ◌∷◌, All, filter_map, length, take, ◌⊎◌}
+use Rattle.std.specs.List.{Any}
 use Rattle.ipmi_capture.specs.Below.{First, info_of, inventory_of, EndsBy, IsWalk, reading_of, Row, rows_of, Sdr, SdrFault, SdrView, sdr_view_of, Sel, Shelf, Store, WalkEnd}
+use Rattle.ipmi_capture.specs.Left.{LacksInfo, LacksInventory, LacksReading, LacksRecords, SameOrLeft}
+use Rattle.ipmi_capture.specs.declared.left.Left.{Left}
 use Rattle.ipmi_records.specs.Sdr as sdr
 
 -- ---- what records name
@@ -44,3 +47,29 @@ pub record IsCaptureOf (image store : Store) : Type 0 where
   pub sel_info : info_of Sel image ≡ info_of Sel store
   pub readings : All (SameReading image store) (sensors_of image.sdr)
   pub inventories : All (SameInventory image store) (0 ∷ devices_of image.sdr)
+
+-- ---- a capture that lacks something
+
+-- the same walk; or the image has the first records of it, and more were left out
+abbrev pub WalkOrLeft : Shelf → List Left → Store → Store → Type 0
+WalkOrLeft shelf left image store = (walk : List Row) (end : WalkEnd)
+    → IsWalk (rows_of shelf store) First walk → EndsBy (rows_of shelf store) First walk end
+    → (IsWalk (rows_of shelf image) First walk × EndsBy (rows_of shelf image) First walk end)
+    ⊎ ((rows_of shelf image ≡ take (length (rows_of shelf image)) walk) × Any (LacksRecords shelf) left)
+
+abbrev pub ReadingOrLeft : List Left → Store → Store → ℕ × ℕ → Type 0
+ReadingOrLeft left image store key =
+    SameOrLeft (LacksReading key.0 key.1) left (reading_of key.0 key.1 image) (reading_of key.0 key.1 store)
+
+abbrev pub InventoryOrLeft : List Left → Store → Store → ℕ → Type 0
+InventoryOrLeft left image store id =
+    SameOrLeft (LacksInventory id) left (inventory_of id image) (inventory_of id store)
+
+-- of each of these the image has what the store has, unless just that was left out
+pub record IsCaptureBut (left : List Left) (image store : Store) : Type 0 where
+  pub sdr : WalkOrLeft Sdr left image store
+  pub sel : WalkOrLeft Sel left image store
+  pub sdr_info : SameOrLeft (LacksInfo Sdr) left (info_of Sdr image) (info_of Sdr store)
+  pub sel_info : SameOrLeft (LacksInfo Sel) left (info_of Sel image) (info_of Sel store)
+  pub readings : All (ReadingOrLeft left image store) (sensors_of image.sdr)
+  pub inventories : All (InventoryOrLeft left image store) (0 ∷ devices_of image.sdr)

@@ -4,7 +4,8 @@ use Rattle.std.specs.List.{Contains}
 use Rattle.ipmi_capture.specs.Below.{EndsBy, First, has_id, Id, IsStore, IsWalk, Place, Row, rows_of, Sdr, Sel, Shelf, start_of, Store, WalkEnd}
 use Rattle.ipmi_capture.specs.Capture.{devices_of, IsCaptureOf}
 use Rattle.ipmi_commands.specs.Allowed.{AreTexts}
-use Rattle.ipmi_commands.specs.Job.{job_of}
+use Rattle.ipmi_commands.specs.Job.{job_in}
+use Rattle.ipmi_commands.specs.declared.job.Wording.{Wording}
 use Rattle.ipmi_commands.specs.Plan.{Item}
 use Rattle.ipmi_commands.specs.Run.{OnPlan}
 use Rattle.ipmi_commands.specs.Texts.{IsTextOver}
@@ -21,14 +22,15 @@ abbrev pub IsKnownPlace : Shelf → Store → Place → Type 0
 IsKnownPlace shelf store (Id id) = IsOnWalk shelf store id
 IsKnownPlace shelf store _ = Unit {0}
 
--- the command asks for no id that no walk of the image gives, and for no device but 0 that no record of it names
+-- the command asks for no id that no walk of the image gives, and for no device but 0 that no record of it names; `image rewrite`
+-- asks a controller nothing
 abbrev pub IsOfCapture : Store → Task → Option ℕ → Type 0
 IsOfCapture image (Task.SelList count) from = IsKnownPlace Sel image (start_of from)
 IsOfCapture image (Task.SelGet id) from = IsKnownPlace Sel image (Id id)
 IsOfCapture image (Task.Fru (Some id)) from = Contains (0 ∷ devices_of image.sdr) id
 IsOfCapture image (Task.Fru None) from = Unit {0}
 IsOfCapture image (Task.Info shelf) from = Unit {0}
-IsOfCapture image Task.Rewrite from = Unit {0}
+IsOfCapture image Task.Rewrite from = ⊥
 IsOfCapture image task from = IsKnownPlace Sdr image (start_of from)
 
 -- texts of the items over one store are texts of them over the other
@@ -39,8 +41,8 @@ SameTexts image store items = (text : List ℕ)
 
 -- such a command has over a capture the plan that it has over the controller's store, and its items have the same texts
 abbrev pub CapturesPrintTheSame : Type 0
-CapturesPrintTheSame = (image store : Store) (task : Task) (from : Option ℕ) (tries : ℕ)
+CapturesPrintTheSame = (image store : Store) (wording : Wording) (task : Task) (from : Option ℕ) (tries : ℕ)
     → IsStore image → IsStore store → IsCaptureOf image store → IsOfCapture image task from
-    → OnPlan (job_of task from) tries store (λ plan calls.
-    OnPlan (job_of task from) tries image (λ plan' calls'.
+    → OnPlan (job_in wording task from) tries store (λ plan calls.
+    OnPlan (job_in wording task from) tries image (λ plan' calls'.
     (plan' ≡ plan) × SameTexts image store plan.items))

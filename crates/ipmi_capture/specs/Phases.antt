@@ -1,25 +1,27 @@
 -- What each part of a capture leaves, for the contracts of private functions.
-use Rattle.std.specs.Prelude.{◌≡◌, ℕ, ◌+◌, ◌*◌, ◌<◌, ◌==◌, ◌||◌, IsTrue, Bool, false, true, Option, Some, None, Err, List, All, take, length, slice_index_or}
-use Rattle.std.specs.List.{list_all}
-use Rattle.ipmi_capture.specs.Below.{Cycle, CycleAt, Done, Ended, EndsBy, First, FruEnded, fru_call_bound, IsWalk, largest_len, Missing, MissingAt, PlainMayAnswer, Reading, reading_of, inventory_of, Row, rows_of, Sdr, Seen, Sel, Shelf, step_call_bound, Store, WalkEnd, with_inventory, with_reading}
-use Rattle.ipmi_capture.specs.Left.{leaves_nothing, PlainLeaves}
+use Rattle.std.specs.Prelude.{◌≡◌, ℕ, ◌+◌, ◌*◌, ◌<◌, ◌==◌, ◌||◌, IsTrue, Bool, false, true, Option, Some, None, Err, List, ◌++◌, All, take, length, slice_index_or, ◌⊎◌}
+use Rattle.std.specs.List.{Any}
+use Rattle.ipmi_capture.specs.Below.{Cycle, CycleAt, Done, Ended, EndsBy, First, FruEnded, fru_call_bound, IsWalk, largest_len, Missing, MissingAt, PlainMayAnswer, Reading, Row, rows_of, Sdr, Seen, Sel, Shelf, step_call_bound, Store, WalkEnd, with_inventory, with_reading}
+use Rattle.ipmi_capture.specs.Capture.{InventoryOrLeft, ReadingOrLeft}
+use Rattle.ipmi_capture.specs.Left.{LacksRecords, PlainLeaves}
 use Rattle.ipmi_capture.specs.Named.{IsSensorKey, sensor_place}
 use Rattle.ipmi_capture.specs.declared.left.Left.{Left}
 
 -- ---- over an honest controller
 
--- a part of a capture, with what was left out before it and after it: where no store is added, and nothing is left out, the
--- fact holds, and over a plain controller only so much is left out
+-- a part of a capture, with what was left out before it and after it: more was left out after what was, and where no store is
+-- added the fact holds; over a plain controller only so much is left out
 pub record Captures (s s' : Seen) (left left' : List Left) (Fact : Type 0) : Type 0 where
-  pub fact : s'.stores_added ≡ s.stores_added → IsTrue (list_all leaves_nothing left')
-      → IsTrue (list_all leaves_nothing left) × Fact
+  pub more : List Left
+  pub grows : left' ≡ left ++ more
+  pub fact : s'.stores_added ≡ s.stores_added → Fact
   pub plain : IsTrue s.plain → All (PlainLeaves s.store) left → All (PlainLeaves s.store) left'
 
--- these are the rows of the walk of the shelf from its first record
-abbrev pub AreWalk : Shelf → Store → List Row → Type 0
-AreWalk shelf store rows = (walk : List Row) (end : WalkEnd)
+-- these are the rows of the walk of the shelf from its first record, or the first of them
+abbrev pub AreWalk : Shelf → List Left → Store → List Row → Type 0
+AreWalk shelf left store rows = (walk : List Row) (end : WalkEnd)
     → IsWalk (rows_of shelf store) First walk → EndsBy (rows_of shelf store) First walk end
-    → rows ≡ walk
+    → (rows ≡ walk) ⊎ ((rows ≡ take (length rows) walk) × Any (LacksRecords shelf) left)
 
 -- the rows that came, by why there are no more: all of the walk, or the first ones
 abbrev pub CameOf : List Row → WalkEnd → List Row → Option Ended → Type 0
@@ -53,17 +55,15 @@ abbrev pub HasInventory : ℕ → Option (List ℕ) → Store → Store → Type
 HasInventory id None old new = new ≡ old
 HasInventory id (Some bytes) old new = new ≡ with_inventory id bytes old
 
--- the reading of each marked sensor is the store's
-abbrev pub HasReadings : List Bool → Store → Store → Type 0
-HasReadings marks image store = (key : ℕ × ℕ) → IsSensorKey key
-    → slice_index_or marks (sensor_place key) false ≡ true
-    → reading_of key.0 key.1 image ≡ reading_of key.0 key.1 store
+-- the reading of each marked sensor is the store's, or was left out
+abbrev pub HasReadings : List Bool → List Left → Store → Store → Type 0
+HasReadings marks left image store = (key : ℕ × ℕ) → IsSensorKey key
+    → slice_index_or marks (sensor_place key) false ≡ true → ReadingOrLeft left image store key
 
 -- and so is the inventory of device 0, and of each marked device but FFh, which is none
-abbrev pub HasInventories : List Bool → Store → Store → Type 0
-HasInventories marks image store = (id : ℕ) → id < 255
-    → IsTrue ((id == 0) || slice_index_or marks id false)
-    → inventory_of id image ≡ inventory_of id store
+abbrev pub HasInventories : List Bool → List Left → Store → Store → Type 0
+HasInventories marks left image store = (id : ℕ) → id < 255
+    → IsTrue ((id == 0) || slice_index_or marks id false) → InventoryOrLeft left image store id
 
 -- over a plain controller the reading of an inventory does not end so
 abbrev pub IsNotPlain : FruEnded → Type 0

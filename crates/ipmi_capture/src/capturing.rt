@@ -2,8 +2,8 @@
 ghost use Rattle.std.specs.Prelude.{◌≡◌, ◌+◌, ◌<◌, ◌≤◌, All, IfOk, IsTrue, None, OnOk, []};
 ghost use Rattle.std.specs.List.{list_all};
 ghost use Rattle.ipmi_capture.specs.Below.{AsksAtMost, info_of, IsHonest, IsPlain, rows_of, StaysHonest, with_info, with_rows};
-ghost use Rattle.ipmi_capture.specs.Capture.{IsCaptureOf};
-ghost use Rattle.ipmi_capture.specs.Left.{leaves_nothing, leaves_whole, PlainLeaves};
+ghost use Rattle.ipmi_capture.specs.Capture.{IsCaptureBut, IsCaptureOf};
+ghost use Rattle.ipmi_capture.specs.Left.{LacksInfo, leaves_nothing, leaves_whole, PlainLeaves, SameOrLeft};
 ghost use Rattle.ipmi_capture.specs.Phases.{AreWalk, Captures, most_calls, most_on_shelf};
 
 use crate::inventories::capture_inventories;
@@ -31,7 +31,7 @@ pub struct Captured {
     pub image: Image,
     /// What did not come, and why.
     pub left: Vec<Left>,
-    /// Whether all came that the controller did not refuse to tell.
+    /// Whether all came that the controller did not refuse to tell. A connection that is lost refuses all that is asked after it.
     pub is_whole: bool,
 }
 
@@ -52,7 +52,7 @@ fn note_shelf<C: Controller, P: Progress>(
     ensures asked { AsksAtMost asking.part (C.seen ctl.old) (C.seen ctl.new) }
     ensures stays { IsHonest (C.seen ctl.old) → StaysHonest (C.seen ctl.old) (C.seen ctl.new) }
     ensures honest { IsHonest (C.seen ctl.old) → OnOk result (Captures (C.seen ctl.old) (C.seen ctl.new)
-        left.old.items left.new.items (AreWalk shelf (C.seen ctl.old).store (rows_of shelf image.new))) }
+        left.old.items left.new.items (AreWalk shelf left.new.items (C.seen ctl.old).store (rows_of shelf image.new))) }
 {
     match capture_shelf(asking, ctl, shelf, image, progress) {
         Ok(Some(ended)) => note(left, Some(Left::Records(shelf, ended))),
@@ -75,7 +75,7 @@ fn note_info<C: Controller>(
     ensures asked { AsksAtMost asking.part (C.seen ctl.old) (C.seen ctl.new) }
     ensures stays { IsHonest (C.seen ctl.old) → StaysHonest (C.seen ctl.old) (C.seen ctl.new) }
     ensures honest { IsHonest (C.seen ctl.old) → OnOk result (Captures (C.seen ctl.old) (C.seen ctl.new)
-        left.old.items left.new.items (info_of shelf image.new ≡ info_of shelf (C.seen ctl.old).store)) }
+        left.old.items left.new.items (SameOrLeft (LacksInfo shelf) left.new.items (info_of shelf image.new) (info_of shelf (C.seen ctl.old).store))) }
 {
     let lacks = capture_info(asking, ctl, shelf, image);
     note(left, lacks)
@@ -85,9 +85,9 @@ fn note_info<C: Controller>(
 /// sensors and the inventories of the devices that records name, each once, and the inventory of device 0. It asks for at most
 /// `part` bytes at once, and lets each thing meet `tries` troubles; after a refusal it goes on with what is next.
 ///
-/// Of a controller that is honest, and adds no store meanwhile, what has left nothing out is a capture; over a plain one
-/// nothing is left out but what its store lacks. Where stores are added, each record is one that the controller had when it
-/// came: `Cursor::step` says so.
+/// Of a controller that is honest, and adds no store meanwhile, the image has each thing as it is there, unless just that was
+/// left out: where nothing was, it is a capture. Over a plain controller nothing is left out but an inventory without bytes. Where
+/// stores are added, each record is one that the controller had when it came: `Cursor::step` says so.
 pub fn capture<C: Controller, P: Progress>(
     alloc: Global,
     ctl: &mut C,
@@ -102,6 +102,9 @@ pub fn capture<C: Controller, P: Progress>(
     ensures whole { IfOk result (λ c. c.is_whole ≡ list_all leaves_whole c.left.items) }
     ensures stays { IsHonest (C.seen ctl.old) → StaysHonest (C.seen ctl.old) (C.seen ctl.new) }
     ensures honest { IsHonest (C.seen ctl.old) →
+        (C.seen ctl.new).stores_added ≡ (C.seen ctl.old).stores_added →
+        IfOk result (λ c. IsCaptureBut c.left.items c.image (C.seen ctl.old).store) }
+    ensures all { IsHonest (C.seen ctl.old) →
         (C.seen ctl.new).stores_added ≡ (C.seen ctl.old).stores_added →
         IfOk result (λ c. IsTrue (list_all leaves_nothing c.left.items) →
         IsCaptureOf c.image (C.seen ctl.old).store) }

@@ -2,7 +2,8 @@
 ghost use Rattle.std.specs.Prelude.{◌≡◌, ◌≢◌, ◌+◌, ◌*◌, ◌<◌, ◌≤◌, IfOk, MatchOption, OnErr, OnOk, [], None, false};
 ghost use Rattle.std.specs.Option.{option_to_list};
 ghost use Rattle.ipmi_capture.specs.Below.{AsksAtMost, FruEnded, inventory_of, IsHonest, not_present, StaysHonest};
-ghost use Rattle.ipmi_capture.specs.Left.{leaves_nothing};
+ghost use Rattle.ipmi_capture.specs.Capture.{InventoryOrLeft};
+ghost use Rattle.ipmi_capture.specs.Left.{LacksInventory};
 ghost use Rattle.ipmi_capture.specs.Phases.{Captures, IsNotPlain, HasInventories, HasInventory, most_for_inventory};
 
 use crate::capturing::Asking;
@@ -23,7 +24,7 @@ fn left_by_refusal<C: Controller>(ctl: &mut C, id: u8, code: Code) -> Option<Lef
     ensures asked { AsksAtMost 0 (C.seen ctl.old) (C.seen ctl.new) }
     ensures stays { IsHonest (C.seen ctl.old) → StaysHonest (C.seen ctl.old) (C.seen ctl.new) }
     ensures left { MatchOption result (code ≡ not_present) (λ left.
-        (leaves_nothing left ≡ false) × (code ≢ not_present)) }
+        LacksInventory id left × (code ≢ not_present)) }
 {
     if code == Code::NOT_PRESENT {
         return None;
@@ -40,7 +41,7 @@ fn left_by<C: Controller>(ctl: &mut C, id: u8, ended: FruEnded) -> Result<Option
     ensures asked { AsksAtMost 0 (C.seen ctl.old) (C.seen ctl.new) }
     ensures stays { IsHonest (C.seen ctl.old) → StaysHonest (C.seen ctl.old) (C.seen ctl.new) }
     ensures left { IfOk result (λ o. MatchOption o (ended ≡ FruEnded.Refused not_present)
-        (λ left. (leaves_nothing left ≡ false) × IsNotPlain ended)) }
+        (λ left. LacksInventory id left × IsNotPlain ended)) }
 {
     match ended {
         FruEnded::Memory => Err(AllocError),
@@ -67,7 +68,7 @@ fn capture_inventory<C: Controller, P: Progress>(
     ensures asked { AsksAtMost asking.part (C.seen ctl.old) (C.seen ctl.new) }
     ensures stays { IsHonest (C.seen ctl.old) → StaysHonest (C.seen ctl.old) (C.seen ctl.new) }
     ensures honest { IsHonest (C.seen ctl.old) → IfOk result (λ left. Captures (C.seen ctl.old) (C.seen ctl.new) []
-        (option_to_list left) (inventory_of id image.new ≡ inventory_of id (C.seen ctl.old).store)) }
+        (option_to_list left) (InventoryOrLeft (option_to_list left) image.new (C.seen ctl.old).store id)) }
 {
     match read_fru(asking.alloc, ctl, id, asking.part, asking.tries) {
         Ok(bytes) => {
@@ -99,7 +100,7 @@ pub(crate) fn capture_inventories<C: Controller, P: Progress>(
     ensures asked { AsksAtMost asking.part (C.seen ctl.old) (C.seen ctl.new) }
     ensures stays { IsHonest (C.seen ctl.old) → StaysHonest (C.seen ctl.old) (C.seen ctl.new) }
     ensures honest { IsHonest (C.seen ctl.old) → OnOk result (Captures (C.seen ctl.old) (C.seen ctl.new)
-        left.old.items left.new.items (HasInventories named.now.devices.items image.new (C.seen ctl.old).store)) }
+        left.old.items left.new.items (HasInventories named.now.devices.items left.new.items image.new (C.seen ctl.old).store)) }
 {
     'devices: for id in 0..NO_DEVICE {
         if !named.has_device(id) {

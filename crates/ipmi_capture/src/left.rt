@@ -41,7 +41,7 @@ pub enum Left {
     /// The info of the shelf.
     Info(Shelf, Unread),
     /// The reading of the sensor with this number at this LUN.
-    Reading(u8, u8, Unread),
+    Reading { lun: u8, number: u8, unread: Unread },
     /// The inventory of the FRU device with this id: the controller refuses to say how long it is.
     Size(u8, Code),
     /// The inventory of the FRU device with this id: it has no bytes, and an image has no empty inventory.
@@ -69,7 +69,11 @@ impl fmt::Display for Left {
                 let word = shelf_word(*shelf);
                 write!(f, "info {word}: {unread}")
             }
-            Left::Reading(lun, number, unread) => {
+            Left::Reading {
+                lun,
+                number,
+                unread,
+            } => {
                 let number = HexByte(*number);
                 write!(f, "reading {lun} {number}: {unread}")
             }
@@ -97,7 +101,7 @@ impl Left {
     {
         match self {
             Left::Records(_, ended) => matches!(ended, Ended::Cycle(_)),
-            Left::Info(_, unread) | Left::Reading(_, _, unread) => {
+            Left::Info(_, unread) | Left::Reading { unread, .. } => {
                 matches!(unread, Unread::Refused(_))
             }
             Left::Size(_, _) | Left::Empty(_) => true,

@@ -2,6 +2,8 @@
 ghost use Rattle.std.specs.Prelude.{◌≡◌, ◌+◌, ◌*◌, ◌<◌, ◌≤◌, IfOk, OnErr, OnOk, [], None, Some};
 ghost use Rattle.std.specs.Option.{option_to_list};
 ghost use Rattle.ipmi_capture.specs.Below.{AsksAtMost, info_of, IsHonest, StaysHonest, reading_of, with_info};
+ghost use Rattle.ipmi_capture.specs.Capture.{ReadingOrLeft};
+ghost use Rattle.ipmi_capture.specs.Left.{LacksInfo, SameOrLeft};
 ghost use Rattle.ipmi_capture.specs.Phases.{Captures, HasRead, HasReadings};
 
 use crate::capturing::Asking;
@@ -25,7 +27,8 @@ pub(crate) fn capture_info<C: Controller>(
     ensures asked { AsksAtMost asking.part (C.seen ctl.old) (C.seen ctl.new) }
     ensures stays { IsHonest (C.seen ctl.old) → StaysHonest (C.seen ctl.old) (C.seen ctl.new) }
     ensures honest { IsHonest (C.seen ctl.old) → Captures (C.seen ctl.old) (C.seen ctl.new) []
-        (option_to_list result) (info_of shelf image.new ≡ info_of shelf (C.seen ctl.old).store) }
+        (option_to_list result) (SameOrLeft (LacksInfo shelf) (option_to_list result)
+        (info_of shelf image.new) (info_of shelf (C.seen ctl.old).store)) }
 {
     match read_info(ctl, shelf, asking.tries) {
         Ok(Some(info)) => {
@@ -54,7 +57,7 @@ fn capture_reading<C: Controller, P: Progress>(
     ensures asked { AsksAtMost asking.part (C.seen ctl.old) (C.seen ctl.new) }
     ensures stays { IsHonest (C.seen ctl.old) → StaysHonest (C.seen ctl.old) (C.seen ctl.new) }
     ensures honest { IsHonest (C.seen ctl.old) → IfOk result (λ left. Captures (C.seen ctl.old) (C.seen ctl.new) []
-        (option_to_list left) (reading_of lun number image.new ≡ reading_of lun number (C.seen ctl.old).store)) }
+        (option_to_list left) (ReadingOrLeft (option_to_list left) image.new (C.seen ctl.old).store (lun, number))) }
 {
     match read_reading(ctl, 0, lun, number, asking.tries) {
         Ok(Some(reading)) => {
@@ -63,7 +66,14 @@ fn capture_reading<C: Controller, P: Progress>(
             Ok(None)
         }
         Ok(None) => Ok(None),
-        Err(ended) => Ok(Some(Left::Reading(lun, number, Unread::of(ended)))),
+        Err(ended) => {
+            let unread = Unread::of(ended);
+            Ok(Some(Left::Reading {
+                lun,
+                number,
+                unread,
+            }))
+        }
     }
 }
 
@@ -82,7 +92,7 @@ pub(crate) fn capture_readings<C: Controller, P: Progress>(
     ensures asked { AsksAtMost asking.part (C.seen ctl.old) (C.seen ctl.new) }
     ensures stays { IsHonest (C.seen ctl.old) → StaysHonest (C.seen ctl.old) (C.seen ctl.new) }
     ensures honest { IsHonest (C.seen ctl.old) → OnOk result (Captures (C.seen ctl.old) (C.seen ctl.new)
-        left.old.items left.new.items (HasReadings named.now.sensors.items image.new (C.seen ctl.old).store)) }
+        left.old.items left.new.items (HasReadings named.now.sensors.items left.new.items image.new (C.seen ctl.old).store)) }
 {
     'places: for place in 0..SENSOR_PLACES {
         if !named.has_sensor(place) {

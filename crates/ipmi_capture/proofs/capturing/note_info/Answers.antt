@@ -1,8 +1,9 @@
-use Rattle.std.proofs.Common.{sym}
 use Rattle.std.specs.Option.{option_to_list}
-use Rattle.ipmi_capture.proofs.ReadLemmas.{captures_after, on_ok}
+use Rattle.ipmi_capture.proofs.ReadLemmas.{captures_after, on_ok, same_after}
+use Rattle.ipmi_capture.specs.Left.{LacksInfo}
 use Rattle.ipmi_capture.proofs.capturing.note_info.Goals as goal
 
 pub returns-clause-honest : goal.returns-clause-honest
 returns-clause-honest g c = λ h.
-    on_ok c.note.result c.note.ensures (λ added. rw added (captures_after c.args.left.now.items (option_to_list c.capture_info-lacks.result) (c.capture_info-lacks.ensures.honest h)))
+    on_ok c.note.result c.note.ensures (λ added. rw added (captures_after c.args.left.now.items (option_to_list c.capture_info-lacks.result)
+    (same_after (LacksInfo c.args.shelf) c.args.left.now.items (option_to_list c.capture_info-lacks.result) _ _) (c.capture_info-lacks.ensures.honest h)))

@@ -1,4 +1,4 @@
-use Rattle.std.proofs.Common.{◌≡◌, ◌+◌, ◌<◌, ◌≤◌, ◌==◌, ◌||◌, false, arith, sym, ◌∙◌, slice_index_or}
+use Rattle.std.proofs.Common.{◌≡◌, ◌==◌, ◌||◌, false, arith, slice_index_or}
 use Rattle.ipmi_capture.proofs.FoundLemmas.{not_kept}
 use Rattle.ipmi_capture.proofs.ReadLemmas.{keeping_read, keeping_skipped}
 use Rattle.ipmi_capture.proofs.inventories.capture_inventories.Goals as goal

@@ -1,4 +1,3 @@
-use Rattle.std.proofs.Common.{◌≡◌, Some, sym, ap, ◌∙◌}
 use Rattle.ipmi_capture.proofs.ReadLemmas.{came_inventory, has_inventory, left_inventory}
 use Rattle.ipmi_capture.proofs.inventories.capture_inventory.Goals as goal
 

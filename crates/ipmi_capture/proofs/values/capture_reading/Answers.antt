@@ -1,4 +1,3 @@
-use Rattle.std.proofs.Common.{◌≡◌, Some, sym, ap, ◌∙◌}
 use Rattle.ipmi_capture.proofs.ReadLemmas.{has_read, came_reading}
 use Rattle.ipmi_capture.proofs.values.capture_reading.Goals as goal
 

@@ -1,4 +1,4 @@
-use Rattle.std.proofs.Common.{◌≡◌, ◌+◌, ◌*◌, ◌/◌, ◌%◌, ◌<◌, ◌≤◌, false, arith, sym, ◌∙◌, slice_index_or}
+use Rattle.std.proofs.Common.{◌≡◌, ◌+◌, ◌*◌, ◌/◌, ◌%◌, ◌<◌, false, arith, slice_index_or}
 use Rattle.ipmi_capture.proofs.FoundLemmas.{not_read}
 use Rattle.ipmi_capture.proofs.ReadLemmas.{reading_read, reading_skipped}
 use Rattle.ipmi_capture.proofs.values.capture_readings.Goals as goal

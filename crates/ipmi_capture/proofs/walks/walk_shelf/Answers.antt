@@ -1,5 +1,4 @@
-use Rattle.std.proofs.Common.{◌≡◌, ◌-◌, Ok, arith, ap, refl, sym, ◌∙◌}
-use Rattle.std.specs.FinSet as set
+use Rattle.std.proofs.Common.{◌≡◌, Ok, arith, ap, refl, sym, ◌∙◌}
 use Rattle.ipmi_capture.specs.Below.{rows_of}
 use Rattle.ipmi_capture.proofs.StepLemmas.{calls_on, came_done, came_ended, came_malformed, ids_next, rows_of-with_rows, walked_more, walked_none}
 use Rattle.ipmi_capture.proofs.walks.walk_shelf.Goals as goal

@@ -1,4 +1,4 @@
-use Rattle.std.proofs.Common.{◌<◌, arith, ap, sym, ◌∙◌}
+use Rattle.std.proofs.Common.{arith, sym, ◌∙◌}
 use Rattle.ipmi_capture.proofs.MarkLemmas.{names_all, names_below, names_more, names_none, none_there, row_there}
 use Rattle.ipmi_capture.proofs.named.Named.of.Goals as goal
 
