@@ -37,15 +37,17 @@ _serdimko() {
 
   # What may follow the words before. Names and numbers are not completed.
   case $line in
-    '') next='fru sdr sel capture image help' ;;
+    '') next='fru sdr sensor sel capture image help' ;;
     'fru') next='print' ;;
     'sdr') next='list elist get info hex' ;;
     'sdr list') next='all full compact event generic mclocator fru' ;;
     'sdr elist') next='all full compact event generic mclocator fru' ;;
-    'sel') next='info list get' ;;
+    'sensor') next='list get' ;;
+    'sel') next='info list elist get' ;;
     'sel list') next='first last' ;;
+    'sel elist') next='first last' ;;
     'image') next='rewrite' ;;
-    'help') next='fru sdr sel capture image' ;;
+    'help') next='fru sdr sensor sel capture image' ;;
   esac
   COMPREPLY=($(compgen -W "$next" -- "$cur"))
 }

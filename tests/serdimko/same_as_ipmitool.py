@@ -98,19 +98,20 @@ def generated_line(rng, images):
 
 # ---- what both make of a line
 
-OWN = {"-h", "--help", "-V", "--version", "--strict", "--id", "help"}
+OWN = {"-h", "--help", "-V", "--version", "--strict", "--id", "help", "sensor"}
 USAGE = b"usage: ipmitool [--image FILE] [--from HEX4] [--part N] [--tries N] fru|sdr|sel WORDS\n"
-WHY_NOT_READ = b": (no such file|is a directory|permission denied|longer than 64 MiB|the name is empty|can't be opened or read)"
+WHY_NOT_READ = b": (no such file|is a directory|permission denied|longer than 64 MiB|can't be opened or read)"
 EXPLANATION = rb" \([^\n]+\)"
 WHY_NO_HEADER = (
-    rb"( \((it is empty|compressed: unpack it first|line ends are CR LF|begins with a byte order mark|begins as UTF-16|the first line is not 'ipmi-image 1' or 'ipmi-image 2')\))"
+    rb"( \((it is empty|compressed: unpack it first|line ends are CR LF: use LF alone|begins with a byte order mark: save it without"
+    rb"|is UTF-16 or UTF-32: save it as UTF-8|the first line has to be exactly 'ipmi-image 1' or 'ipmi-image 2', ended by a line feed)\))"
 )
 
 
 def is_own(words):
     """The line uses an option or a word that serdimko alone has."""
     names = [word.split("=")[0] for word in words]
-    return not OWN.isdisjoint(names) or names.count("--image") > 1
+    return not OWN.isdisjoint(names) or names.count("--image") > 1 or {"sel", "elist"} <= set(names)
 
 
 def image_of(words):
@@ -138,6 +139,8 @@ def wanted_message(message, words):
         return image + b": no end" + EXPLANATION + b"\n"
     if message.startswith(b"image line "):
         return image + b":" + re.escape(message.removeprefix(b"image line ")[:-1]) + EXPLANATION + b"\n"
+    if message == b"cannot read \n":
+        return rb"cannot read '': the file name is empty\n"
     if message.startswith(b"cannot read "):
         return re.escape(message[:-1]) + WHY_NOT_READ + b"\n"
     return re.escape(message)

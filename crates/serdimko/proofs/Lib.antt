@@ -1,2 +1,3 @@
+pub mod AskedLemmas
 pub mod OwnLemmas
 pub mod ProblemLemmas

@@ -1,6 +1,6 @@
 -- Words without an option of this program are all left.
 use Rattle.std.proofs.Common.{◌≡◌, ◌∙◌, ℕ, Bool, true, false, Option, Some, None, List, [], ◌∷◌, ◌++◌, ◌<◌, ◌≤◌, length, length-append, fold, drop, if◌then◌else◌, sym, ap, refl, arith, append-nil, append_assoc, true≢false}
-use Rattle.serdimko.specs.Own.{after, after_as, after_image, after_image_value, after_kind, after_other, add_value, after_value, at_end, is_option, IsPlain, kind_of, leave, nothing, own_of, value_of, with_id, with_value}
+use Rattle.serdimko.specs.Own.{after, after_as, after_image, after_image_value, after_kind, after_other, add_value, after_value, at_end, is_option, IsPlain, kind_of, leave, name_of, nothing, own_of, value_of, with_id, with_value}
 use Rattle.serdimko.specs.declared.own.Kind.{Kind}
 use Rattle.serdimko.specs.declared.own.Next.{Next}
 use Rattle.serdimko.specs.declared.own.Own.{Own}
@@ -151,7 +151,7 @@ add_value_grows : (o : Option (List ℕ)) (valued : Valued) (own : Own) (value :
 add_value_grows None Valued.Id own value = same _
 add_value_grows None Valued.Live own value = same _
 add_value_grows None Valued.Output own value = same _
-add_value_grows (Some first) valued own value = added own.rest _
+add_value_grows (Some first) valued own value = omega (arith, added own.rest (name_of valued), added (own.rest ++ name_of valued ∷ []) value)
 
 image_grows : (b : Bool) (own : Own) (word : List ℕ) → length own.rest ≤ length (after_image b own word).rest
 image_grows false own word = added own.rest word

@@ -76,10 +76,11 @@ with_value Valued.Id own value = record own { id = Some value; has_own = true; n
 with_value Valued.Live own value = record own { live = Some value; has_own = true; next = Next.Any }
 with_value Valued.Output own value = record own { output = Some value; has_own = true; next = Next.Any }
 
--- a value; of a second one the option is left, and is refused there
+-- a value; a second one is left with its option, and is refused there
 abbrev pub add_value : Option (List ℕ) → Valued → Own → List ℕ → Own
 add_value None valued own value = with_value valued own value
-add_value (Some first) valued own value = leave (record own { has_own = true }) (name_of valued) Next.Any
+add_value (Some first) valued own value =
+    record (leave (leave own (name_of valued) Next.Any) value Next.Any) { has_own = true }
 
 -- the first `--image` is left, with its value; the value of each further one is an image
 abbrev pub after_image : Bool → Own → List ℕ → Own

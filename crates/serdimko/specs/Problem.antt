@@ -19,7 +19,7 @@ abbrev pub output_problem : Bool → Problem
 output_problem true = Problem.Closed
 output_problem false = Problem.Failed Failure.WriteFault
 
--- of a run: its ending, what its input looks like, whether it printed faults that matter, and whether the output was closed
+-- of a run: its ending, what its input looks like where it is no image, whether it printed faults that matter, and whether the output was closed
 abbrev pub problem_of : Ending → Looks → Bool → Bool → Option Problem
 problem_of (Err Failure.WriteFault) looks faulty closed = Some (output_problem closed)
 problem_of (Err (Failure.Image ImageFault.Memory)) looks faulty closed =
@@ -43,31 +43,53 @@ lost_problem said problem = problem
 
 -- ---- words
 
-abbrev pub looks_words : Looks → List ℕ
-looks_words Looks.Empty = codes " (it is empty)"
-looks_words Looks.Compressed = codes " (compressed: unpack it first)"
-looks_words Looks.ByteOrderMark = codes " (begins with a byte order mark)"
-looks_words Looks.CrLf = codes " (line ends are CR LF)"
-looks_words Looks.Utf16 = codes " (begins as UTF-16)"
-looks_words Looks.Unknown =
-    codes " (the first line is not 'ipmi-image 1' or 'ipmi-image 2')"
+-- what is known of input that does not begin as an image
+abbrev pub header_words : Looks → List ℕ
+header_words Looks.Empty = codes " (it is empty)"
+header_words Looks.Compressed = codes " (compressed: unpack it first)"
+header_words Looks.ByteOrderMark = codes " (begins with a byte order mark: save it without)"
+header_words Looks.Wide = codes " (is UTF-16 or UTF-32: save it as UTF-8)"
+header_words Looks.CrLf = codes " (line ends are CR LF: use LF alone)"
+header_words _ =
+    codes " (the first line has to be exactly 'ipmi-image 1' or 'ipmi-image 2', ended by a line feed)"
 
--- what a fault of an image means
-abbrev pub explanation : ImageFault → List ℕ
-explanation (ImageFault.Line line) =
-    codes " (check its first word, the number and length of its fields, a '-' in version 1, and CR at its end)"
-explanation (ImageFault.Hex line) =
-    codes " (a character, perhaps a CR at the end, is no hex digit, or the number of digits is odd)"
-explanation (ImageFault.Id line) =
-    codes " (FFFF or FF, 0000 after the first record, or a LUN above 3)"
-explanation (ImageFault.Twice line) = codes " (a line before has given it)"
-explanation (ImageFault.Length line) =
-    codes " (sel has 16 bytes, info 14, reading 4, and sdr 5 and as many as the fifth says)"
-explanation (ImageFault.FirstId line) = codes " (the record's bytes begin with another id)"
-explanation (ImageFault.AfterEnd line) = codes " (the line 'end' has to be the last)"
-explanation (ImageFault.TooMany line) = codes " (an inventory has at most 65,535)"
-explanation ImageFault.NoEnd = codes " (the last line has to be 'end', with a line feed)"
-explanation _ = []
+-- what would be a line in place of one that is none
+abbrev pub line_words : Looks → List ℕ
+line_words Looks.CrLf = codes " (it ends with CR LF: use LF alone)"
+line_words Looks.Dash = codes " (NEXT is a dash: the first line has to be 'ipmi-image 2')"
+line_words Looks.Record =
+    codes " (sdr and sel take ID NEXT HEX: four digits, four digits, bytes; single spaces)"
+line_words Looks.Inventory = codes " (fru takes ID HEX: two digits, bytes; single spaces)"
+line_words Looks.Reading =
+    codes " (reading takes LUN NUM HEX: one digit, two digits, bytes; single spaces)"
+line_words Looks.Info = codes " (info takes sdr HEX or sel HEX: bytes; single spaces)"
+line_words Looks.End = codes " (end stands alone)"
+line_words _ = codes " (it begins with none of sdr, sel, fru, reading, info and end)"
+
+-- what is wrong with the digits of a line
+abbrev pub digit_words : Looks → List ℕ
+digit_words Looks.CrLf = codes " (it ends with CR LF: use LF alone)"
+digit_words Looks.Odd = codes " (an odd number of digits)"
+digit_words _ = codes " (a character is no hex digit)"
+
+-- what a fault of an image means, given what the image looks like there
+abbrev pub explanation : ImageFault → Looks → List ℕ
+explanation ImageFault.Header looks = header_words looks
+explanation (ImageFault.Line line) looks = line_words looks
+explanation (ImageFault.Hex line) looks = digit_words looks
+explanation (ImageFault.Id line) looks =
+    codes " (not allowed: FFFF, FRU FF, 0000 after the first record, a LUN above 3)"
+explanation (ImageFault.Twice line) looks =
+    codes " (an earlier line has this record id, this reading's LUN and number, or this info)"
+explanation (ImageFault.Length line) looks =
+    codes " (bytes: sel 16, info 14, reading 4; sdr 5 and as many more as its fifth byte says)"
+explanation (ImageFault.FirstId line) looks =
+    codes " (the first record's bytes have to begin with its own id, low byte first: id 0001 as 0100)"
+explanation (ImageFault.AfterEnd line) looks = codes " (the line 'end' has to be the last)"
+explanation (ImageFault.TooMany line) looks = codes " (an inventory has at most 65,535)"
+explanation ImageFault.NoEnd looks =
+    codes " (the file is cut off, or its last line is not 'end' with a line feed)"
+explanation ImageFault.Memory looks = []
 
 -- what is wrong with an image: on a line, or as a whole
 abbrev pub image_problem : List ℕ → Option ℕ → List ℕ → List ℕ
@@ -80,23 +102,22 @@ abbrev pub named_text : Bool → List ℕ → List ℕ → List ℕ
 named_text true name text = text
 named_text false name text = escaped_name name ++ (codes ": " ++ text)
 
--- why input with this name was not read; no file has an empty name
-abbrev pub unread_words : List ℕ → InputFault → List ℕ
-unread_words [] fault = codes "the name is empty"
-unread_words name fault = input_fault_words fault
+-- input with this name was not read; no file has an empty name
+abbrev pub unread_text : List ℕ → InputFault → List ℕ
+unread_text [] fault = codes "cannot read '': the file name is empty"
+unread_text name fault =
+    codes "cannot read " ++ (escaped_name name ++ (codes ": " ++ input_fault_words fault))
 
 abbrev pub problem_text : List ℕ → Bool → Problem → List ℕ
-problem_text name is_one (Problem.Unread fault) =
-    codes "cannot read " ++ (escaped_name name ++ (codes ": " ++ unread_words name fault))
-problem_text name is_one (Problem.NoImage ImageFault.Header looks) =
-    escaped_name name ++ (codes ": header" ++ looks_words looks)
+problem_text name is_one (Problem.Unread fault) = unread_text name fault
 problem_text name is_one (Problem.NoImage fault looks) =
-    image_problem name (fault_line fault) (fault_words fault ++ explanation fault)
+    image_problem name (fault_line fault) (fault_words fault ++ explanation fault looks)
 problem_text name is_one (Problem.Failed Failure.WriteFault) = failure_text Failure.WriteFault
 problem_text name is_one (Problem.Failed failure) = named_text is_one name (failure_text failure)
 problem_text name is_one (Problem.Lost said) = codes "no reply from the controller: " ++ escaped_name (string_bytes said)
 problem_text name is_one Problem.Closed = []
-problem_text name is_one Problem.Faulty = named_text is_one name (codes "the output has faults or missing devices")
+problem_text name is_one Problem.Faulty =
+    named_text is_one name (codes "a fault or a missing device was printed (--strict)")
 
 -- ---- the exit status, and what is said
 

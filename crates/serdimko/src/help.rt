@@ -8,7 +8,7 @@ proved with Rattle, logic dac8208d650f15bf
 /// Said where there are no words and standard input is a terminal.
 pub(crate) const SHORT: &str =
     "usage: serdimko [OPTIONS] COMMAND, for example: serdimko --image FILE sdr list
-Commands: sdr, sel, fru, image, help. More: serdimko --help";
+Commands: sdr, sensor, sel, fru, capture, image, help. More: serdimko --help";
 
 const GENERAL: &str = "Prints what a management controller holds: sensors, event log and hardware
 inventory. It reads a saved image, or asks a live controller (serdimko-live).
@@ -21,9 +21,12 @@ Commands (more on each: serdimko COMMAND --help):
   sdr get NAME            all about the sensor of this name
   sdr info                a summary of the sensor data repository
   sdr hex                 each sensor data record as an image line (the default)
+  sensor, sensor list     a line for each sensor: states in words, thresholds
+  sensor get NAME..       all about the sensors of these names, in words
   sel, sel info           a summary of the event log
   sel list [[first] N]    a line for each event, or for the N oldest
   sel list last N         a line for each of the N newest events
+  sel elist ..            the same as sel list .., with names and in words
   sel get ID              all about one event
   fru, fru print [ID]     the inventory of each device, or of one
   capture                 a live controller as an image (serdimko-live)
@@ -34,7 +37,8 @@ Options, anywhere, also after the command:
   --image FILE    the image is in this file; - or no option: standard input;
                   several: one after another, each after a line '== FILE'
   --live TOOL:DIR a live controller; serdimko-live gives this option
-  --from HEX4     start at this record id (sdr list, elist, hex, get; sel list)
+  --from HEX4     start at this record id (sdr list, elist, hex, get; sensor;
+                  sel list, elist)
   --part N        ask for at most N bytes at once, 1 to 254 (default 32)
   --tries N       retries for one record or answer, 0 to 255 (default 5)
   --id HEX        the ID of sel get in hex, as sel list prints it
@@ -70,18 +74,32 @@ and compact records are listed, which are the sensors.
 --from HEX4 starts at this record id, in the order of the next ids.
 ";
 
+const SENSOR: &str = "Prints sensors in words.
+
+  sensor list          a line for each sensor: name, number, entity, reading,
+                       status, and thresholds from lower to upper; also sensor
+  sensor get NAME..    a block for each sensor of these names; quote a name with
+                       spaces: sensor get 'CPU1 Temp' 'CPU2 Temp'
+
+The thresholds are non-recoverable, critical, non-critical (lower), then
+non-critical, critical, non-recoverable (upper); - where there is none.
+--from HEX4 starts at this record id, in the order of the next ids.
+";
+
 const SEL: &str = "Prints the system event log.
 
   sel info              a summary of the log; also sel
   sel list              a line for each event, oldest first
   sel list [first] N    the N oldest
   sel list last N       the N newest
+  sel elist ..          the same as sel list .., in words: the sensor's name, what
+                        happened, and what the event's data say
   sel get ID            a block with all about one event
   sel get --id HEX      the same, by an id as sel list prints it
 
 N is 0 to 65535, and 0 means all. ID is 1 to 65534. Both are decimal, or up to
 four hex digits after 0x: what sel list prints as 0016 is --id 0016, 0x16 or 22.
---from HEX4 starts at this record id, with sel list.
+--from HEX4 starts at this record id, with sel list and sel elist.
 ";
 
 const FRU: &str = "Prints inventories of field replaceable units.
@@ -115,6 +133,7 @@ nothing; standard output gets what came, without the last line, 'end'.
 pub(crate) fn help_on(words: &[&str]) -> &'static str {
     match words {
         ["sdr", ..] | ["help", "sdr", ..] => SDR,
+        ["sensor", ..] | ["help", "sensor", ..] => SENSOR,
         ["sel", ..] | ["help", "sel", ..] => SEL,
         ["fru", ..] | ["help", "fru", ..] => FRU,
         ["capture", ..] | ["help", "capture", ..] => CAPTURE,

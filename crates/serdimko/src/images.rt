@@ -1,16 +1,18 @@
 //! Prints what a command asks for of each image, one after another.
 ghost use Rattle.std.specs.Prelude.{◌≡◌, ◌+◌, Some};
 ghost use Rattle.std.specs.Io.Buffered.{writer_buffer};
-ghost use Rattle.ipmi_commands.specs.Run.{AnswersCommand};
+ghost use Rattle.ipmi_commands.specs.Prelude.{AnswersJob, job_of_command_in};
 ghost use Rattle.ipmi_image.specs.Image.{store_of_image};
 ghost use Rattle.ipmi_output.specs.Writer.{writer_of};
 ghost use Rattle.ipmi_program.specs.Printing.{EndsBy, IsHandedOn};
 ghost use Rattle.serdimko.specs.Problem.{faults_of_problem, Prints, Tells};
 
+use crate::asked::Commands;
 use crate::own::Own;
 use crate::problem::{CLOSED, Looks, Problem};
 use crate::watch::Watch;
 use ipmi_command_line::{Command, Word};
+use ipmi_commands::Wording;
 use ipmi_output::Part::{Name, Text};
 use ipmi_output::{Failure, MessageSink, Sink, SinkFault, Written, say_line};
 use ipmi_program::{InputFault, input_name, print, read_input};
@@ -25,16 +27,25 @@ pub(crate) fn file_of(image: Option<&Word>) -> Option<&Word> {
     image.filter(|file| file.as_str() != "-")
 }
 
+/// What the image looks like where it is none.
+fn looks_of(image: &[u8], ending: &Result<(), Failure<'_>>) -> Looks {
+    match ending {
+        Err(Failure::Image(fault)) => Looks::of(image, *fault),
+        _ => Looks::Unknown,
+    }
+}
+
 /// Prints what the command asks for of the input, and returns what kept it from being complete, if anything.
 fn print_input<'a, W: Write + Drop>(
     alloc: Global,
     command: &'a Command,
+    wording: Wording,
     input: &Result<Vec<u8>, InputFault>,
     out: &mut Output<W>,
 ) -> Option<Problem<'a>>
     ensures faults { ⟦<Written<BufWriter<Watch<W>>> as Sink>⟧.faults out.new ≡
         ⟦<Written<BufWriter<Watch<W>>> as Sink>⟧.faults out.old + faults_of_problem result }
-    ensures prints { Prints (λ image ending. EndsBy (λ done. AnswersCommand command.now
+    ensures prints { Prints (λ image ending. EndsBy (λ done. AnswersJob (job_of_command_in wording command.now)
         (store_of_image image.items) (⟦<Written<BufWriter<Watch<W>>> as Sink>⟧.taken out.old)
         (⟦<Written<BufWriter<Watch<W>>> as Sink>⟧.taken out.new) done) ending
         × IsHandedOn (writer_buffer (writer_of out.new)) ending)
@@ -45,10 +56,12 @@ fn print_input<'a, W: Write + Drop>(
         Err(fault) => return Some(Problem::unread(*fault)),
     };
     let before = out.get_ref().get_ref().faults();
-    let ending = print(alloc, command, image, out);
+    let ending = print(alloc, command, wording, image, out);
     let watch = out.get_ref().get_ref();
     let has_faults = watch.faults() != before;
-    Problem::of(ending, Looks::of(image), has_faults, watch.is_closed())
+    let is_closed = watch.is_closed();
+    let looks = looks_of(image, &ending);
+    Problem::of(ending, looks, has_faults, is_closed)
 }
 
 /// Says the problem, and gives the exit status. That the output was closed is not said.
@@ -87,57 +100,100 @@ fn print_name<W: Write + Drop>(out: &mut Output<W>, name: &str) -> Result<(), Si
     out.flush()
 }
 
-/// Prints what the command asks for of one of several images, below its name, and returns what kept it from being complete.
-fn print_next<'a, W: Write + Drop>(
+/// Prints what each of the commands asks for of the input with this name, and says what kept it from being complete. Returns the
+/// highest exit status, and whether more can be printed.
+fn print_each<W: Write + Drop, E: MessageSink>(
+    alloc: Global,
+    commands: &Commands,
+    input: &Result<Vec<u8>, InputFault>,
+    name: &str,
+    is_one: bool,
+    out: &mut Output<W>,
+    err: &mut E,
+) -> (u8, bool) {
+    let mut highest = 0;
+    for command in &commands.all {
+        let problem = print_input(alloc, command, commands.wording, input, out);
+        highest = highest.max(say_problem(&problem, name, is_one, err));
+        if problem
+            .as_ref()
+            .is_some_and(|problem| !problem.is_of_command())
+        {
+            return (
+                highest,
+                !problem.as_ref().is_some_and(|problem| problem.is_last()),
+            );
+        }
+    }
+    (highest, true)
+}
+
+/// Prints what the commands ask for of one of several images, below its name.
+fn print_next<W: Write + Drop, E: MessageSink>(
     rt: &HostRuntime,
-    command: &'a Command,
+    commands: &Commands,
     file: Option<&Word>,
     out: &mut Output<W>,
-) -> Option<Problem<'a>> {
-    match print_name(out, input_name(file)) {
-        Ok(()) => print_input(rt.alloc(), command, &read_input(rt, file), out),
+    err: &mut E,
+) -> (u8, bool) {
+    let name = input_name(file);
+    match print_name(out, name) {
+        Ok(()) => {
+            let input = read_input(rt, file);
+            print_each(rt.alloc(), commands, &input, name, false, out, err)
+        }
         Err(fault) => {
             let is_closed = out.get_ref().get_ref().is_closed();
-            Problem::of(Err(Failure::from(fault)), Looks::Unknown, false, is_closed)
+            let problem = Problem::of(Err(Failure::from(fault)), Looks::Unknown, false, is_closed);
+            (say_problem(&problem, name, false, err), false)
         }
     }
 }
 
-/// Prints what the command asks for of each image, and gives the highest exit status. After a write fault nothing more is
-/// printed.
+/// Prints what the commands ask for of this image and of the others after it, and gives the highest exit status. After a write
+/// fault nothing more is printed.
 fn print_all<W: Write + Drop, E: MessageSink>(
     rt: &HostRuntime,
-    command: &Command,
+    commands: &Commands,
+    file: Option<&Word>,
     own: &Own,
     out: &mut Output<W>,
     err: &mut E,
 ) -> u8 {
-    let file = file_of(command.image());
-    let mut problem = print_next(rt, command, file, out);
-    let mut highest = say_problem(&problem, input_name(file), false, err);
+    let (mut highest, mut has_room) = print_next(rt, commands, file, out, err);
     for image in own.images.as_slice() {
-        if problem.as_ref().is_some_and(|problem| problem.is_last()) {
+        if !has_room {
             break;
         }
-        let file = file_of(Some(image));
-        problem = print_next(rt, command, file, out);
-        highest = highest.max(say_problem(&problem, input_name(file), false, err));
+        let (status, still_has_room) = print_next(rt, commands, file_of(Some(image)), out, err);
+        highest = highest.max(status);
+        has_room = still_has_room;
     }
     highest
 }
 
-/// Prints what the command asks for of the image, or of each of several, and gives the exit status.
+/// Prints what the commands ask for of the image, or of each of several, and gives the exit status.
 pub(crate) fn print_images<W: Write + Drop, E: MessageSink>(
     rt: &HostRuntime,
-    command: &Command,
+    commands: &Commands,
+    image: Option<&Word>,
     own: &Own,
     out: &mut Output<W>,
     err: &mut E,
 ) -> u8 {
+    let file = file_of(image);
     if !own.images.as_slice().is_empty() {
-        return print_all(rt, command, own, out, err);
+        return print_all(rt, commands, file, own, out, err);
     }
-    let file = file_of(command.image());
-    let problem = print_input(rt.alloc(), command, &read_input(rt, file), out);
-    say_problem(&problem, input_name(file), true, err)
+    let input = read_input(rt, file);
+    let (status, _) = print_each(
+        rt.alloc(),
+        commands,
+        &input,
+        input_name(file),
+        true,
+        out,
+        err,
+    );
+    status
 }

@@ -2,20 +2,22 @@
 ghost use Rattle.std.specs.Prelude.{◌≡◌, ◌+◌};
 ghost use Rattle.std.specs.Io.Buffered.{writer_buffer};
 ghost use Rattle.ipmi_bus.specs.Seen.{AsksAtMost};
-ghost use Rattle.ipmi_commands.specs.Prelude.{change, job_of_command, Runs};
+ghost use Rattle.ipmi_commands.specs.Prelude.{change, job_of_command_in, Runs};
 ghost use Rattle.ipmi_output.specs.Writer.{writer_of};
 ghost use Rattle.ipmi_program.specs.Printing.{EndsBy, IsHandedOn};
 ghost use Rattle.ipmi_raw.specs.Controller.{last_words, seen_of};
 ghost use Rattle.serdimko.specs.Problem.{faults_of_problem, PrintsLive};
 
+use crate::asked::Commands;
 use crate::images::{Output, say_problem};
 use crate::problem::{Looks, Problem};
 use ipmi_command_line::Command;
+use ipmi_commands::Wording;
 use ipmi_output::{MessageSink, Sink};
 use ipmi_program::print_live;
 use ipmi_raw::{Open, Peer, Piped, RawController, Tool};
 use std::alloc::{AllocError, Global};
-use std::fs::{File, Files, OpenOptions};
+use std::fs::{self, File, Files, OpenOptions};
 use std::io::{self, BufReader, Write};
 use std::time::{Clock, Duration};
 
@@ -44,6 +46,13 @@ impl<'a> Live<'a> {
             _ => return None,
         };
         Some(Live { tool, folder })
+    }
+
+    /// Whether its pipes are there: each tool is asked for logical unit 0.
+    pub(crate) fn has_pipes<R: Files + AllocGlobal>(&self, rt: &R) -> Result<bool, AllocError> {
+        let requests = format!(in rt.alloc(); "{}/requests.0", self.folder)?;
+        // what can't be looked at can't be opened either
+        Ok(fs::exists(rt, requests.as_str()).unwrap_or(false))
     }
 }
 
@@ -94,20 +103,21 @@ pub(crate) fn lost_line(alloc: Global, text: &[u8]) -> Result<String, AllocError
 fn print_over<'a, P: Peer + Drop, K: Clock + Drop, W: Write + Drop>(
     alloc: Global,
     command: &'a Command,
+    wording: Wording,
     controller: &mut RawController<P, K>,
     out: &mut Output<W>,
 ) -> Option<Problem<'a>>
     ensures faults { ⟦<Output<W> as Sink>⟧.faults out.new ≡
         ⟦<Output<W> as Sink>⟧.faults out.old + faults_of_problem result }
     ensures asked { AsksAtMost command.now.part (seen_of P.seen controller.old) (seen_of P.seen controller.new) }
-    ensures prints { PrintsLive (λ ending. EndsBy (λ done. Runs (job_of_command command.now) command.now.tries
+    ensures prints { PrintsLive (λ ending. EndsBy (λ done. Runs (job_of_command_in wording command.now) command.now.tries
         (change (seen_of P.seen controller.old) (seen_of P.seen controller.new)
         (⟦<Output<W> as Sink>⟧.taken out.old) (⟦<Output<W> as Sink>⟧.taken out.new)) done) ending
         × IsHandedOn (writer_buffer (writer_of out.new)) ending)
         (last_words controller.new) result }
 {
     let before = out.get_ref().get_ref().faults();
-    let ending = print_live(alloc, controller, command, out);
+    let ending = print_live(alloc, controller, command, wording, out);
     let watch = out.get_ref().get_ref();
     let has_faults = watch.faults() != before;
     let is_closed = watch.is_closed();
@@ -132,13 +142,23 @@ pub(crate) fn controller_of<'a, R: Files + Clock + AllocGlobal>(
     RawController::new(Piped::new(live.tool, pipes), rt, pause)
 }
 
-/// Prints what the command asks for of the live controller, and gives the exit status.
+/// Prints what the commands ask for of the live controller, and gives the highest exit status.
 pub(crate) fn print_live_controller<
     R: Files + Clock + AllocGlobal,
     W: Write + Drop,
     E: MessageSink,
->(rt: &R, command: &Command, live: Live<'_>, out: &mut Output<W>, err: &mut E) -> u8 {
+>(rt: &R, commands: &Commands, live: Live<'_>, out: &mut Output<W>, err: &mut E) -> u8 {
     let mut controller = controller_of(rt, live);
-    let problem = print_over(rt.alloc(), command, &mut controller, out);
-    say_problem(&problem, "the controller", true, err)
+    let mut highest = 0;
+    for command in &commands.all {
+        let problem = print_over(rt.alloc(), command, commands.wording, &mut controller, out);
+        highest = highest.max(say_problem(&problem, "the controller", true, err));
+        if problem
+            .as_ref()
+            .is_some_and(|problem| !problem.is_of_command())
+        {
+            break;
+        }
+    }
+    highest
 }

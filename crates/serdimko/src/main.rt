@@ -4,7 +4,9 @@
 
 ghost use Rattle.std.specs.Prelude.{◌<◌, length};
 
+mod asked;
 mod capture;
+mod grammar;
 mod help;
 mod images;
 mod live;
@@ -15,16 +17,18 @@ mod scan;
 mod suggestion;
 mod watch;
 
+use asked::{Commands, command_of_options, commands_of};
 use capture::capture_live;
+use grammar::COMMANDS;
 use help::{SHORT, VERSION, help_on};
 use images::print_images;
-use ipmi_command_line::{Command, Task, UsageFault, Words, command_of};
+use ipmi_command_line::{Command, Task, UsageFault, Word};
 use ipmi_commands::report;
 use ipmi_output::Part::{self, Name, Number, Text};
 use ipmi_output::{Failure, MessageSink, Written, say_line};
 use ipmi_program::read_words;
 use live::{Live, print_live_controller};
-use mistake::{mistake, too_many};
+use mistake::{Line, line, mistake, no_value_of, too_many};
 use own::{Own, own_of};
 use problem::CLOSED;
 use scan::{Scan, told_apart};
@@ -92,7 +96,7 @@ fn program<E: MessageSink>(rt: &HostRuntime, err: &mut E) -> Result<u8, AllocErr
             ["help"]
                 | [
                     "help",
-                    "sdr" | "sel" | "fru" | "image" | "capture" | "help",
+                    "sdr" | "sensor" | "sel" | "fru" | "image" | "capture" | "help",
                     ..
                 ]
         )
@@ -111,54 +115,81 @@ fn run<E: MessageSink>(
 ) -> Result<u8, AllocError>
     requires { 0 < length own.now.rest }
 {
-    if let Some(id) = &own.id {
-        match scanned.words.as_slice() {
-            ["sel", "get", _] => {}
-            ["sel", "get", ..] => {
-                return Ok(refuse(&[Text("'sel get' takes an ID or --id, not both")], err));
-            }
-            _ => return Ok(refuse(&[Text("--id goes only with 'sel get'")], err)),
-        }
+    if let Some(rule) = misplaced(own, scanned) {
+        return Ok(refuse(&[Text(rule)], err));
     }
     if let ["capture", ..] = scanned.words.as_slice() {
         return run_capture(rt, own, scanned, err);
     }
-    if own.quiet || own.output.is_some() {
-        return Ok(refuse(&[Text("--output and --quiet go only with 'capture'")], err));
-    }
-    match command_of(rt.alloc(), &own.rest) {
-        Ok(command) if is_input_twice(&command, own) => {
-            Ok(refuse(&[Text("standard input is given twice")], err))
-        }
-        Ok(command)
-            if matches!(command.task(), Task::Rewrite) && !own.images.as_slice().is_empty() => {
-            Ok(refuse(&[Text("'image rewrite' takes one image")], err))
-        }
-        Ok(command) => match &own.live {
-            Some(live) => run_live(rt, &command, own, live.as_str(), err),
-            None => print_command(rt, &command, own, None, err),
-        },
+    match commands_of(rt.alloc(), &own.rest, scanned) {
+        Ok(commands) => run_commands(rt, &commands, own, err),
         Err(UsageFault::Memory) => Err(AllocError),
-        Err(fault) => {
-            let id = own.id.as_ref().map(|id| id.as_str());
-            Ok(refuse(&mistake(rt.alloc(), id, scanned, fault)?, err))
-        }
+        Err(fault) => Ok(refuse(&mistake(rt.alloc(), own, scanned, fault)?, err)),
     }
 }
 
-/// How a capture asks: the command without words, with the options of this line.
-fn command_of_capture(alloc: Global, scanned: &Scan<'_>) -> Result<Command, UsageFault> {
-    let mut words = Words::new(alloc);
-    words.push("serdimko")?;
-    if let Some(part) = scanned.part {
-        words.push("--part")?;
-        words.push(part)?;
+/// Runs the commands, which are all over the same images or the same controller.
+fn run_commands<E: MessageSink>(
+    rt: &HostRuntime,
+    commands: &Commands,
+    own: &Own,
+    err: &mut E,
+) -> Result<u8, AllocError> {
+    let [command, ..] = commands.all.as_slice() else {
+        return Ok(0);
+    };
+    if is_input_twice(command, own) {
+        return Ok(refuse(&[Text("standard input is given twice")], err));
     }
-    if let Some(tries) = scanned.tries {
-        words.push("--tries")?;
-        words.push(tries)?;
+    let is_rewrite = matches!(command.task(), Task::Rewrite);
+    if is_rewrite && !own.images.as_slice().is_empty() {
+        return Ok(refuse(&[Text("'image rewrite' takes one image")], err));
     }
-    command_of(alloc, &words)
+    let image = command.image();
+    let Some(live) = &own.live else {
+        return print_commands(rt, commands, image, own, None, err);
+    };
+    if is_rewrite {
+        return Ok(refuse(&[Text("'image rewrite' needs a saved image")], err));
+    }
+    if image.is_some() {
+        return Ok(refuse(&[Text("--image does not go with a live controller")], err));
+    }
+    match live_of(rt, live.as_str())? {
+        Ok(live) => print_commands(rt, commands, image, own, Some(live), err),
+        Err(line) => Ok(refuse(&line, err)),
+    }
+}
+
+/// An option of this program beside a command that does not take it; of what is no command something else is said.
+fn misplaced(own: &Own, scanned: &Scan<'_>) -> Option<&'static str> {
+    let words = scanned.words.as_slice();
+    // the id is the last word
+    let is_bare = words.len() == usize::from(own.id.is_some());
+    match (&own.id, words) {
+        (_, [word, ..]) if !is_bare && !COMMANDS.contains(word) => None,
+        (Some(_), ["sel", "get", _]) => None,
+        (Some(_), ["sel", "get", ..]) => Some("'sel get' takes an ID or --id, not both"),
+        (Some(_), _) => Some("--id goes only with 'sel get'"),
+        (None, ["capture", ..]) => None,
+        _ if own.quiet || own.output.is_some() => {
+            Some("--output and --quiet go only with 'capture'")
+        }
+        _ => None,
+    }
+}
+
+/// Where the live controller is, by the value of `--live`, or why there is none.
+fn live_of<'a>(rt: &HostRuntime, value: &'a str) -> Result<Result<Live<'a>, Line<'a>>, AllocError> {
+    let Some(live) = Live::of(value) else {
+        return Ok(Err(no_value_of(rt.alloc(), "--live", value)?));
+    };
+    if live.has_pipes(rt)? {
+        return Ok(Ok(live));
+    }
+    let why = "': cannot open the pipes there; use serdimko-live";
+    let parts = [Text("--live '"), Name(value), Text(why)];
+    Ok(Err(line(rt.alloc(), &parts)?))
 }
 
 /// Saves what a live controller holds.
@@ -168,7 +199,7 @@ fn run_capture<E: MessageSink>(
     scanned: &Scan<'_>,
     err: &mut E,
 ) -> Result<u8, AllocError> {
-    let Some(live) = own.live.as_ref().and_then(|live| Live::of(live.as_str())) else {
+    let Some(live) = &own.live else {
         let rule = "'capture' needs a live controller: see serdimko-live --help";
         return Ok(refuse(&[Text(rule)], err));
     };
@@ -179,10 +210,14 @@ fn run_capture<E: MessageSink>(
         let rule = "'capture' takes only --part, --tries, --output and --quiet";
         return Ok(refuse(&[Text(rule)], err));
     }
-    let command = match command_of_capture(rt.alloc(), scanned) {
+    let command = match command_of_options(rt.alloc(), scanned) {
         Ok(command) => command,
         Err(UsageFault::Memory) => return Err(AllocError),
-        Err(fault) => return Ok(refuse(&mistake(rt.alloc(), None, scanned, fault)?, err)),
+        Err(fault) => return Ok(refuse(&mistake(rt.alloc(), own, scanned, fault)?, err)),
+    };
+    let live = match live_of(rt, live.as_str())? {
+        Ok(live) => live,
+        Err(line) => return Ok(refuse(&line, err)),
     };
     let is_shown = !own.quiet && rt.stderr().is_terminal();
     let terminal = if is_shown { Some(rt.stderr()) } else { None };
@@ -197,27 +232,6 @@ fn run_capture<E: MessageSink>(
     )
 }
 
-/// Runs the command over a live controller.
-fn run_live<E: MessageSink>(
-    rt: &HostRuntime,
-    command: &Command,
-    own: &Own,
-    live: &str,
-    err: &mut E,
-) -> Result<u8, AllocError> {
-    let Some(controller) = Live::of(live) else {
-        let rule = "' is neither ipmitool:FOLDER nor freeipmi:FOLDER";
-        return Ok(refuse(&[Text("--live '"), Name(live), Text(rule)], err));
-    };
-    if matches!(command.task(), Task::Rewrite) {
-        return Ok(refuse(&[Text("'image rewrite' needs a saved image")], err));
-    }
-    if command.image().is_some() {
-        return Ok(refuse(&[Text("--image does not go with a live controller")], err));
-    }
-    print_command(rt, command, own, Some(controller), err)
-}
-
 /// Whether several images are read from standard input.
 fn is_input_twice(command: &Command, own: &Own) -> bool {
     let more = own
@@ -230,15 +244,17 @@ fn is_input_twice(command: &Command, own: &Own) -> bool {
     more > 1 || (more == 1 && is_first)
 }
 
-/// Prints what the command asks for of each image, on buffered standard output.
-fn print_command<E: MessageSink>(
+/// Prints what the commands ask for of each image, the first one of which this is, or of the controller, on buffered standard
+/// output.
+fn print_commands<E: MessageSink>(
     rt: &HostRuntime,
-    command: &Command,
+    commands: &Commands,
+    image: Option<&Word>,
     own: &Own,
     live: Option<Live<'_>>,
     err: &mut E,
 ) -> Result<u8, AllocError> {
-    if live.is_none() && command.image().is_none() && rt.stdin().is_terminal() {
+    if live.is_none() && image.is_none() && rt.stdin().is_terminal() {
         // otherwise it would wait for an image in silence
         let _ = say_line(
             err,
@@ -248,8 +264,8 @@ fn print_command<E: MessageSink>(
     let writer = Watch::new(io::writer(rt), own.strict);
     let mut out = Written::new(BufWriter::new(rt.alloc(), writer).or(Err(AllocError))?);
     let status = match live {
-        Some(live) => print_live_controller(rt, command, live, &mut out, err),
-        None => print_images(rt, command, own, &mut out, err),
+        Some(live) => print_live_controller(rt, commands, live, &mut out, err),
+        None => print_images(rt, commands, image, own, &mut out, err),
     };
     // what a failing flush left is not tried once more
     let _ = out.into_inner().into_parts();

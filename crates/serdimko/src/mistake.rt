@@ -1,6 +1,9 @@
 //! Why the words are no command line, and what would be right, as the parts of one line.
+use crate::grammar::{COMMANDS, ENDS, Next, Number, next_of};
+use crate::live::Live;
+use crate::own::{Own, id_word, is_option};
 use crate::scan::Scan;
-use crate::suggestion::suggestion;
+use crate::suggestion::nearest;
 use ipmi_command_line::{UsageFault, Words, command_of};
 use ipmi_output::Part::{self, Name, Text};
 use std::alloc::{AllocError, Global};
@@ -8,66 +11,24 @@ use std::alloc::{AllocError, Global};
 /// The parts of a line.
 pub(crate) type Line<'a> = Vec<Part<'a>>;
 
-/// What to read where no name is near.
-const SEE_HELP: &str = "see serdimko --help";
-
-/// The words that may come first.
-const COMMANDS: [&str; 6] = ["fru", "sdr", "sel", "image", "capture", "help"];
-
-/// The words that may follow `fru`, `sdr`, `sel` and `image`.
-const OF_FRU: [&str; 1] = ["print"];
-
-const OF_SDR: [&str; 5] = ["list", "elist", "get", "info", "hex"];
-
-const OF_SEL: [&str; 3] = ["list", "get", "info"];
-
-const OF_IMAGE: [&str; 1] = ["rewrite"];
-
-/// The kinds of sensor data records.
-const KINDS: [&str; 7] = [
-    "all",
-    "full",
-    "compact",
-    "event",
-    "generic",
-    "mclocator",
-    "fru",
-];
-
-/// What is wrong with the words that are left, given the fault that they were refused for. `id` is the value of `--id`, which is
-/// then the last of them.
+/// What is wrong with the options and words, given the fault that they were refused for. Values of options are judged first: one
+/// that is none may be a word that was to come after it.
 pub(crate) fn mistake<'a>(
     alloc: Global,
-    id: Option<&'a str>,
+    own: &'a Own,
     scanned: &Scan<'a>,
     fault: UsageFault,
 ) -> Result<Line<'a>, AllocError> {
-    match (fault, id) {
-        (UsageFault::Command, Some(id)) => {
-            bad_value(alloc, "--id '", id, "one to four hex digits from 1 to FFFE")
-        }
-        _ => of_fault(alloc, scanned, fault),
+    if let Some(line) = of_values(alloc, own, scanned)? {
+        return Ok(line);
     }
-}
-
-/// The same, where there is no `--id`, or it is not at fault.
-fn of_fault<'a>(
-    alloc: Global,
-    scanned: &Scan<'a>,
-    fault: UsageFault,
-) -> Result<Line<'a>, AllocError> {
     match fault {
-        UsageFault::Command => match (scanned.image, scanned.words.as_slice()) {
-            (Some(file), [word, ..]) if COMMANDS.contains(&file) && !COMMANDS.contains(word) => {
-                no_file(alloc, word, file)
-            }
-            (_, words) => of_words(alloc, words),
-        },
-        UsageFault::Option => of_options(alloc, scanned),
+        UsageFault::Command => of_words(alloc, own, scanned),
+        UsageFault::Option => misplaced_from(alloc, scanned.words.as_slice()),
         UsageFault::Line | UsageFault::Memory => {
             line(
                 alloc,
-                &[Text("the command line can't be read: "), Text(SEE_HELP)],
+                &[Text("the command line can't be read: see serdimko --help")],
             )
         }
     }
@@ -78,161 +39,241 @@ pub(crate) fn line<'a>(alloc: Global, parts: &[Part<'a>]) -> Result<Line<'a>, Al
     parts.to_vec(alloc)
 }
 
-/// A line that a word is none of these: with the nearest of them, or what to read.
-pub(crate) fn unknown<'a>(
-    alloc: Global,
-    what: &'static str,
-    word: &'a str,
-    names: &[&'static str],
-    otherwise: &'static str,
-) -> Result<Line<'a>, AllocError> {
-    let (before, near, after) = suggestion(alloc, word, names, otherwise)?;
-    line(
-        alloc,
-        &[Text(what), Name(word), Text("': "), before, near, after],
-    )
+// ---- options
+
+/// What the value of an option has to be.
+pub(crate) fn rule_of(option: &str) -> &'static str {
+    match option {
+        "--from" => "four hex digits from 0001 to FFFE",
+        "--part" => "a number from 1 to 254 (decimal without leading zeros)",
+        "--tries" => "a number from 0 to 255 (decimal without leading zeros)",
+        "--id" => "one to four hex digits from 1 to FFFE",
+        "--live" => "ipmitool:FOLDER or freeipmi:FOLDER",
+        _ => "a file",
+    }
 }
 
-/// A command was read as the file of `--image`.
-fn no_file<'a>(alloc: Global, word: &'a str, file: &'a str) -> Result<Line<'a>, AllocError> {
+/// A line that this is no value of the option.
+pub(crate) fn no_value_of<'a>(
+    alloc: Global,
+    option: &'a str,
+    value: &'a str,
+) -> Result<Line<'a>, AllocError> {
+    let rule = Text(rule_of(option));
     line(
         alloc,
         &[
-            Text("unknown command '"),
-            Name(word),
-            Text("': '"),
-            Name(file),
-            Text("' was read as the file of --image"),
+            Name(option),
+            Text(" '"),
+            Name(value),
+            Text("' is not "),
+            rule,
         ],
     )
 }
 
-/// What is wrong with the words, of which the options were taken out.
-fn of_words<'a>(alloc: Global, words: &[&'a str]) -> Result<Line<'a>, AllocError> {
-    match words {
-        ["fru", ..] => of_fru(alloc, words),
-        ["sdr", ..] => of_sdr(alloc, words),
-        ["sel", ..] => of_sel(alloc, words),
-        ["image"] => missing(alloc, "image", "the word rewrite"),
-        ["image", "rewrite", ..] => too_many(alloc, words, 2),
-        ["image", word, ..] => {
-            unknown_after(alloc, "image", word, &OF_IMAGE, "see serdimko image --help")
-        }
-        [word, ..] if word.as_bytes().contains(&b' ') => {
-            line(
-                alloc,
-                &[
-                    Text("unknown command '"),
-                    Name(word),
-                    Text("': write its words without quotes around them"),
-                ],
-            )
-        }
-        [word, ..] if word.starts_with('\u{2013}') || word.starts_with('\u{2014}') => {
-            let parts = [
-                Text("unknown command '"),
-                Name(word),
-                Text("': an option begins with two plain dashes"),
-            ];
-            line(alloc, &parts)
-        }
-        [word, ..] if word.contains('.') || word.contains('/') => {
-            unknown(
-                alloc,
-                "unknown command '",
-                word,
-                &COMMANDS,
-                "a file comes after --image",
-            )
-        }
-        ["help", word, ..] | [word, ..] => {
-            unknown(alloc, "unknown command '", word, &COMMANDS, SEE_HELP)
-        }
-        [] => line(alloc, &[Text(SEE_HELP)]),
+/// Whether the specified command line takes this word after those.
+fn is_taken(alloc: Global, before: &[&str], word: &str) -> Result<bool, AllocError> {
+    let mut words = Words::new(alloc);
+    words.push("serdimko")?;
+    for word in before {
+        words.push(word)?;
+    }
+    words.push(word)?;
+    match command_of(alloc, &words) {
+        Ok(_) => Ok(true),
+        Err(UsageFault::Memory) => Err(AllocError),
+        Err(_) => Ok(false),
     }
 }
 
-fn of_fru<'a>(alloc: Global, words: &[&'a str]) -> Result<Line<'a>, AllocError> {
-    match words {
-        [_, "print", id] => not_a_number(alloc, id, "0 to 254"),
-        [_, "print", _, ..] => too_many(alloc, words, 3),
-        [_, word, ..] => unknown_after(alloc, "fru", word, &OF_FRU, "see serdimko fru --help"),
-        _ => line(alloc, &[Text(SEE_HELP)]),
+/// Whether the option takes the value.
+fn is_value(alloc: Global, option: &str, value: &str) -> Result<bool, AllocError> {
+    match option {
+        "--live" => Ok(Live::of(value).is_some()),
+        "--id" => is_taken(alloc, &["sel", "get"], id_word(alloc, value)?.as_str()),
+        _ => is_taken(alloc, &[option], value),
     }
 }
 
-fn of_sdr<'a>(alloc: Global, words: &[&'a str]) -> Result<Line<'a>, AllocError> {
-    match words {
-        [_, "list" | "elist", kind, _, ..] if KINDS.contains(kind) => too_many(alloc, words, 3),
-        [_, "list" | "elist", kind, ..] => unknown(
-            alloc,
-            "unknown kind '",
-            kind,
-            &KINDS,
-            "use all, full, compact, event, generic, mclocator or fru",
-        ),
-        [_, "get"] => missing(alloc, "sdr get", "a NAME"),
-        [_, "get", name @ ..] => unquoted(alloc, name),
-        [_, "info" | "hex", _, ..] => too_many(alloc, words, 2),
-        [_, word, ..] => unknown_after(alloc, "sdr", word, &OF_SDR, "see serdimko sdr --help"),
-        _ => line(alloc, &[Text(SEE_HELP)]),
-    }
-}
-
-fn of_sel<'a>(alloc: Global, words: &[&'a str]) -> Result<Line<'a>, AllocError> {
-    match words {
-        [_, "list", "first"] => missing(alloc, "sel list first", "a number"),
-        [_, "list", "last"] => missing(alloc, "sel list last", "a number"),
-        [_, "list", count] | [_, "list", "first" | "last", count] => {
-            not_a_number(alloc, count, "0 to 65535")
-        }
-        [_, "list", "first" | "last", _, _, ..] => too_many(alloc, words, 4),
-        [_, "list", count, ..] if count.bytes().all(|byte| byte.is_ascii_digit()) => {
-            too_many(alloc, words, 3)
-        }
-        [_, "list", word, ..] => unknown_after(
-            alloc,
-            "sel list",
-            word,
-            &["first", "last"],
-            "see serdimko sel --help",
-        ),
-        [_, "get"] => missing(alloc, "sel get", "an ID"),
-        [_, "get", id] => no_entry(alloc, id),
-        [_, "get", ..] => too_many(alloc, words, 3),
-        [_, "info", ..] => too_many(alloc, words, 2),
-        [_, word @ ("first" | "last"), ..] => line(
-            alloc,
-            &[
-                Text("unknown word '"),
-                Name(word),
-                Text("' after 'sel': did you mean 'sel list "),
-                Name(word),
-                Text("'?"),
-            ],
-        ),
-        [_, word, ..] => unknown_after(alloc, "sel", word, &OF_SEL, "see serdimko sel --help"),
-        _ => line(alloc, &[Text(SEE_HELP)]),
-    }
-}
-
-fn missing<'a>(
+/// The first value that its option does not take.
+fn of_values<'a>(
     alloc: Global,
-    words: &'static str,
-    what: &'static str,
-) -> Result<Line<'a>, AllocError> {
-    line(
-        alloc,
-        &[Text("'"), Text(words), Text("' needs "), Text(what)],
-    )
+    own: &'a Own,
+    scanned: &Scan<'a>,
+) -> Result<Option<Line<'a>>, AllocError> {
+    let values = [
+        ("--from", scanned.from),
+        ("--part", scanned.part),
+        ("--tries", scanned.tries),
+        ("--id", own.id.as_ref().map(|id| id.as_str())),
+        ("--live", own.live.as_ref().map(|live| live.as_str())),
+    ];
+    for (option, value) in values {
+        let Some(value) = value else { continue };
+        if !is_value(alloc, option, value)? {
+            return no_value_of(alloc, option, value).map(Some);
+        }
+    }
+    Ok(None)
 }
 
-/// The word at this place is one too many after those before it.
+/// `--from` beside a command that does not take it.
+fn misplaced_from<'a>(alloc: Global, words: &[&'a str]) -> Result<Line<'a>, AllocError> {
+    let mut parts = line(alloc, &[Text("--from does not go with '")])?;
+    push_joined(&mut parts, words.get(..2).unwrap_or(words))?;
+    parts.push(Text("'"))?;
+    Ok(parts)
+}
+
+// ---- words
+
+/// The first word that may not come where it is, or what is missing after all of them.
+fn of_words<'a>(alloc: Global, own: &'a Own, scanned: &Scan<'a>) -> Result<Line<'a>, AllocError> {
+    let words = scanned.words.as_slice();
+    for (place, word) in words.iter().enumerate() {
+        if let Some(line) = of_word(alloc, own, scanned, place, word)? {
+            return Ok(line);
+        }
+    }
+    missing(alloc, words)
+}
+
+/// Why the word may not be at this place.
+fn of_word<'a>(
+    alloc: Global,
+    own: &'a Own,
+    scanned: &Scan<'a>,
+    place: usize,
+    word: &'a str,
+) -> Result<Option<Line<'a>>, AllocError> {
+    let words = scanned.words.as_slice();
+    let names = match next_of(words.get(..place).unwrap_or(&[])) {
+        Next::Names(names) => names,
+        Next::Count(_) if ENDS.contains(&word) => return Ok(None),
+        Next::Number(number) | Next::Count(number) if is_number(alloc, number, word)? => {
+            return Ok(None);
+        }
+        // a number comes after it
+        Next::Count(_) if place.saturating_add(1) < words.len() => ENDS,
+        Next::Number(number) | Next::Count(number) => {
+            return not_a_number(alloc, number, word).map(Some);
+        }
+        Next::Name => return Ok(None),
+        Next::Nothing => return too_many(alloc, words, place).map(Some),
+    };
+    if names.iter().any(|name| *name == word) {
+        return Ok(None);
+    }
+    unknown(alloc, own, scanned, place, word, names).map(Some)
+}
+
+/// The word is none of those that may be at this place.
+fn unknown<'a>(
+    alloc: Global,
+    own: &'a Own,
+    scanned: &Scan<'a>,
+    place: usize,
+    word: &'a str,
+    names: &[&'static str],
+) -> Result<Line<'a>, AllocError> {
+    let before = scanned.words.as_slice().get(..place).unwrap_or(&[]);
+    let (what, after) = match before {
+        [] | ["help"] => ("unknown command '", ""),
+        ["sdr", "list" | "elist"] => ("unknown kind '", ""),
+        _ => ("unknown word '", "' after '"),
+    };
+    let mut parts = line(alloc, &[Text(what), Name(word)])?;
+    if !after.is_empty() {
+        parts.push(Text(after))?;
+        push_joined(&mut parts, before)?;
+    }
+    parts.push(Text("': "))?;
+    match taken_for_value(own, scanned) {
+        Some((option, value)) if place == 0 => push_all(
+            &mut parts,
+            &[
+                Text("'"),
+                Name(value),
+                Text("' was read as the value of "),
+                Text(option),
+            ],
+        )?,
+        _ => push_advice(alloc, scanned, before, word, names, &mut parts)?,
+    }
+    Ok(parts)
+}
+
+/// A command that was read as the value of an option, and which option.
+fn taken_for_value<'a>(own: &'a Own, scanned: &Scan<'a>) -> Option<(&'static str, &'a str)> {
+    let output = own.output.as_ref().map(|file| file.as_str());
+    for (option, value) in [("--image", scanned.image), ("--output", output)] {
+        match value {
+            Some(value) if COMMANDS.contains(&value) => return Some((option, value)),
+            _ => {}
+        }
+    }
+    None
+}
+
+/// Adds what would be right in place of the word, which is none of the names.
+fn push_advice<'a>(
+    alloc: Global,
+    scanned: &Scan<'a>,
+    before: &[&'a str],
+    word: &'a str,
+    names: &[&'static str],
+    parts: &mut Line<'a>,
+) -> Result<(), AllocError> {
+    if let Some(hint) = hint(scanned, before, word) {
+        return push_all(parts, &[Text(hint)]);
+    }
+    match nearest(alloc, word, names)? {
+        Some(name) => push_all(parts, &[Text("did you mean '"), Text(name), Text("'?")]),
+        None => push_choice(parts, names),
+    }
+}
+
+/// What a word is known to be typed for.
+fn hint(scanned: &Scan<'_>, before: &[&str], word: &str) -> Option<&'static str> {
+    let is_dashed = word.starts_with('\u{2013}') || word.starts_with('\u{2014}');
+    let is_file = word == "-" || word.contains('.') || word.contains('/');
+    Some(match before {
+        ["sel"] if word == "first" => "did you mean 'sel list first'?",
+        ["sel"] if word == "last" => "did you mean 'sel list last'?",
+        [] | ["help"] if word == "version" => "did you mean '--version'?",
+        [] if word.contains(' ') => "write its words without quotes around them",
+        _ if is_dashed => "an option begins with two plain dashes",
+        _ if is_option(word) => "after -- nothing is an option",
+        _ if is_file && scanned.image.is_some() => "each file needs its own --image",
+        _ if is_file => "a file comes after --image",
+        _ => return None,
+    })
+}
+
+/// What is missing after words that are right.
+fn missing<'a>(alloc: Global, words: &[&'a str]) -> Result<Line<'a>, AllocError> {
+    let (what, name) = match next_of(words) {
+        Next::Names(names) => ("the word ", names.first().copied().unwrap_or("")),
+        Next::Number(number) | Next::Count(number) => (number.name, ""),
+        Next::Name => ("a NAME", ""),
+        Next::Nothing => ("more: see serdimko --help", ""),
+    };
+    let mut parts = line(alloc, &[Text("'")])?;
+    push_joined(&mut parts, words)?;
+    push_all(&mut parts, &[Text("' needs "), Text(what), Text(name)])?;
+    Ok(parts)
+}
+
+/// The word at this place is one too many after those before it, or a part of a name that was not quoted.
 pub(crate) fn too_many<'a>(
     alloc: Global,
     words: &[&'a str],
     place: usize,
 ) -> Result<Line<'a>, AllocError> {
+    if let ["sdr", "get", name @ ..] = words {
+        return unquoted(alloc, name);
+    }
     let word = words.get(place).copied().unwrap_or("");
     let mut parts = line(
         alloc,
@@ -243,172 +284,92 @@ pub(crate) fn too_many<'a>(
     Ok(parts)
 }
 
-/// The words with a space between each two.
-fn push_joined<'a>(parts: &mut Line<'a>, words: &[&'a str]) -> Result<(), AllocError> {
-    let mut space = "";
-    for word in words {
-        parts.push(Text(space))?;
-        parts.push(Name(word))?;
-        space = " ";
-    }
-    Ok(())
-}
-
-fn unknown_after<'a>(
-    alloc: Global,
-    words: &'static str,
-    word: &'a str,
-    names: &[&'static str],
-    otherwise: &'static str,
-) -> Result<Line<'a>, AllocError> {
-    let (before, near, after) = suggestion(alloc, word, names, otherwise)?;
-    line(
-        alloc,
-        &[
-            Text("unknown word '"),
-            Name(word),
-            Text("' after '"),
-            Text(words),
-            Text("': "),
-            before,
-            near,
-            after,
-        ],
-    )
-}
-
-fn not_a_number<'a>(
-    alloc: Global,
-    word: &'a str,
-    range: &'static str,
-) -> Result<Line<'a>, AllocError> {
-    line(
-        alloc,
-        &[
-            Text("'"),
-            Name(word),
-            Text("' is not a number from "),
-            Text(range),
-            Text(" (decimal without leading zeros, or 0x and up to four hex digits)"),
-        ],
-    )
-}
-
-/// A word of hex digits may have been meant so.
-fn no_entry<'a>(alloc: Global, word: &'a str) -> Result<Line<'a>, AllocError> {
-    let is_hex = word.bytes().all(|byte| byte.is_ascii_hexdigit());
-    if is_hex && u16::from_str_radix(word, 16).is_ok_and(|id| 0 < id && id < u16::MAX) {
-        return line(
-            alloc,
-            &[
-                Text("'"),
-                Name(word),
-                Text("' is not a decimal number from 1 to 65534: in hex write 0x"),
-                Name(word),
-                Text(", or --id "),
-                Name(word),
-            ],
-        );
-    }
-    not_a_number(alloc, word, "1 to 65534")
-}
-
 /// A name of several words, or several names: those that have a space were quoted.
 fn unquoted<'a>(alloc: Global, words: &[&'a str]) -> Result<Line<'a>, AllocError> {
-    if words
-        .iter()
-        .any(|word| word.contains(' ') || word.contains('\''))
-    {
-        return line(alloc, &[Text("'sdr get' takes one name")]);
+    let mut parts = line(alloc, &[Text("'sdr get' takes one name")])?;
+    let is_quoted = |word: &&str| word.contains(' ') || word.contains('\'');
+    if words.iter().any(is_quoted) {
+        return Ok(parts);
     }
-    let mut parts = line(alloc, &[Text("'sdr get' takes one name: quote it, as '")])?;
+    parts.push(Text(": quote it, as '"))?;
     push_joined(&mut parts, words)?;
     parts.push(Text("'"))?;
     Ok(parts)
 }
 
-/// What the value of an option has to be.
-fn rule_of(option: &str) -> Option<&'static str> {
-    match option {
-        "--from" => Some("four hex digits from 0001 to FFFE"),
-        "--part" => Some("a number from 1 to 254 (decimal without leading zeros)"),
-        "--tries" => Some("a number from 0 to 255 (decimal without leading zeros)"),
-        _ => None,
-    }
+// ---- numbers
+
+/// Whether the word is this number.
+fn is_number(alloc: Global, number: Number, word: &str) -> Result<bool, AllocError> {
+    is_taken(alloc, number.after, word)
 }
 
-/// A line that this is no value of the option, which has a rule.
-pub(crate) fn no_value_of<'a>(
+/// Whether the word is this number in hex, but for `0x`. Digits alone are meant so only where a listing prints them so.
+fn is_hex(alloc: Global, number: Number, word: &str) -> Result<bool, AllocError> {
+    let is_decimal = word.bytes().all(|byte| byte.is_ascii_digit());
+    if is_decimal && !number.is_id {
+        return Ok(false);
+    }
+    let word = format!(in alloc; "0x{word}")?;
+    is_number(alloc, number, word.as_str())
+}
+
+/// The word is not this number.
+pub(crate) fn not_a_number<'a>(
     alloc: Global,
-    option: &'a str,
-    value: &'a str,
-) -> Result<Option<Line<'a>>, AllocError> {
-    let Some(rule) = rule_of(option) else {
-        return Ok(None);
-    };
-    let parts = [
-        Name(option),
-        Text(" '"),
-        Name(value),
-        Text("' is not "),
-        Text(rule),
-    ];
-    line(alloc, &parts).map(Some)
-}
-
-/// Which option is at fault: `--from`, `--part` and `--tries` are tried one by one.
-fn of_options<'a>(alloc: Global, scanned: &Scan<'a>) -> Result<Line<'a>, AllocError> {
-    let values = [
-        ("--from", scanned.from),
-        ("--part", scanned.part),
-        ("--tries", scanned.tries),
-    ];
-    for (option, value) in values {
-        let Some(value) = value else { continue };
-        if is_refused(alloc, option, value)? {
-            if let Some(line) = no_value_of(alloc, option, value)? {
-                return Ok(line);
-            }
-        }
-    }
-    let (first, space, second) = match scanned.words.as_slice() {
-        [first, second, ..] => (*first, " ", *second),
-        [first] => (*first, "", ""),
-        [] => ("", "", ""),
-    };
-    line(
-        alloc,
-        &[
-            Text("--from does not go with '"),
-            Name(first),
-            Text(space),
-            Name(second),
-            Text("'"),
-        ],
-    )
-}
-
-/// Whether `sdr hex` is refused with this option.
-fn is_refused(alloc: Global, option: &str, value: &str) -> Result<bool, AllocError> {
-    let mut words = Words::new(alloc);
-    words.push("serdimko")?;
-    words.push(option)?;
-    words.push(value)?;
-    match command_of(alloc, &words) {
-        Ok(_) => Ok(false),
-        Err(UsageFault::Memory) => Err(AllocError),
-        Err(_) => Ok(true),
-    }
-}
-
-fn bad_value<'a>(
-    alloc: Global,
-    option: &'static str,
-    value: &'a str,
-    rule: &'static str,
+    number: Number,
+    word: &'a str,
 ) -> Result<Line<'a>, AllocError> {
-    line(
+    let is_hex = is_hex(alloc, number, word)?;
+    let what = if is_hex {
+        "' is not a decimal number from "
+    } else {
+        "' is not a number from "
+    };
+    let mut parts = line(
         alloc,
-        &[Text(option), Name(value), Text("' is not "), Text(rule)],
-    )
+        &[Text("'"), Name(word), Text(what), Text(number.range)],
+    )?;
+    if !is_hex {
+        parts.push(Text(" (decimal without leading zeros, or 0x and up to four hex digits)"))?;
+        return Ok(parts);
+    }
+    push_all(&mut parts, &[Text(": in hex write 0x"), Name(word)])?;
+    if number.is_id {
+        push_all(&mut parts, &[Text(", or --id "), Name(word)])?;
+    }
+    Ok(parts)
+}
+
+// ---- parts
+
+/// Adds the parts.
+fn push_all<'a>(parts: &mut Line<'a>, more: &[Part<'a>]) -> Result<(), AllocError> {
+    for part in more {
+        parts.push(*part)?;
+    }
+    Ok(())
+}
+
+/// Adds the words with a space between each two.
+fn push_joined<'a>(parts: &mut Line<'a>, words: &[&'a str]) -> Result<(), AllocError> {
+    let mut space = "";
+    for word in words {
+        push_all(parts, &[Text(space), Name(word)])?;
+        space = " ";
+    }
+    Ok(())
+}
+
+/// Adds that one of the names is to be used.
+fn push_choice<'a>(parts: &mut Line<'a>, names: &[&'static str]) -> Result<(), AllocError> {
+    for (place, name) in names.iter().enumerate() {
+        let before = match place {
+            0 => "use ",
+            _ if place + 1 == names.len() => " or ",
+            _ => ", ",
+        };
+        push_all(parts, &[Text(before), Text(name)])?;
+    }
+    Ok(())
 }

@@ -108,7 +108,7 @@ pub(crate) fn is_option(word: &str) -> bool
 }
 
 /// An id in hex digits, also after 0x, as the specified command line takes it.
-fn id_word(alloc: Global, digits: &str) -> Result<String, AllocError>
+pub(crate) fn id_word(alloc: Global, digits: &str) -> Result<String, AllocError>
     ensures { IfOk result (λ word. string_bytes word ≡ id_word digits.now) }
 {
     match digits.strip_prefix("0x") {
@@ -199,8 +199,7 @@ impl Own {
         ensures { OnOk result (self.new ≡ add_value (value_of option self.old) option self.old value.now) }
     {
         if self.value(option).is_some() {
-            self.has_own = true;
-            return self.leave(option.name(), Next::Any);
+            return self.leave_both(option.name(), value);
         }
         self.set(option, Word::new(alloc, value)?);
         Ok(())

@@ -1,6 +1,8 @@
 //! The options and the words of a command line that is refused, told apart as `clap` tells them.
-use crate::mistake::{Line, line, no_value_of, unknown};
+use crate::grammar::{Next, next_of};
+use crate::mistake::{Line, line, no_value_of, not_a_number, rule_of};
 use crate::own::is_option;
+use crate::suggestion::nearest;
 use ipmi_command_line::Words;
 use ipmi_output::Part::{Name, Text};
 use std::alloc::{AllocError, Global};
@@ -28,10 +30,17 @@ const VALUED: [&str; 7] = [
 /// Those that have none.
 const FLAGS: [&str; 6] = ["--strict", "--quiet", "--help", "--version", "-h", "-V"];
 
+/// Those by which `ipmitool` is told where a controller is, which `serdimko-live` gives it.
+const OF_TOOL: [&str; 6] = ["-I", "-H", "-U", "-P", "-E", "-L"];
+
 /// The specified options, and the words that belong to none.
 #[derive(Drop)]
 pub(crate) struct Scan<'a> {
     pub(crate) words: Vec<&'a str>,
+    /// The same words.
+    pub(crate) plain: Words,
+    /// The program's name, and the options with their values as they were given.
+    pub(crate) options: Words,
     pub(crate) from: Option<&'a str>,
     pub(crate) part: Option<&'a str>,
     pub(crate) tries: Option<&'a str>,
@@ -45,6 +54,8 @@ impl<'a> Scan<'a> {
     fn new(alloc: Global) -> Scan<'a> {
         Scan {
             words: Vec::new(alloc),
+            plain: Words::new(alloc),
+            options: Words::new(alloc),
             from: None,
             part: None,
             tries: None,
@@ -98,15 +109,44 @@ impl<'a> Scan<'a> {
             Some(_) if FLAGS.contains(&option) => {
                 line(alloc, &[Name(option), Text(" takes no value")]).map(Some)
             }
-            _ => unknown(
-                alloc,
-                "unknown option '",
-                option,
-                &OPTIONS,
-                "see serdimko --help",
-            )
-            .map(Some),
+            Some(value) if option == "-o" => {
+                let rule = "-o takes its value as the next word: write -o ";
+                let parts = [Text(rule), Name(value), Text(" or --output="), Name(value)];
+                line(alloc, &parts).map(Some)
+            }
+            _ => self.unknown(alloc, option).map(Some),
         }
+    }
+
+    /// The word is no option; perhaps it is a number below zero.
+    fn unknown(&self, alloc: Global, word: &'a str) -> Result<Line<'a>, AllocError> {
+        match next_of(self.words.as_slice()) {
+            Next::Number(number) | Next::Count(number) if is_below_zero(word) => {
+                return not_a_number(alloc, number, word);
+            }
+            _ => {}
+        }
+        let (before, name, after) = match nearest(alloc, word, &OPTIONS)? {
+            Some(option) => ("did you mean '", option, "'?"),
+            None if OF_TOOL.contains(&word) => {
+                (
+                    "for a live machine write serdimko-live ",
+                    word,
+                    " .. -- COMMAND",
+                )
+            }
+            None => ("see serdimko --help", "", ""),
+        };
+        let (before, after) = (Text(before), Text(after));
+        let parts = [
+            Text("unknown option '"),
+            Name(word),
+            Text("': "),
+            before,
+            Name(name),
+            after,
+        ];
+        line(alloc, &parts)
     }
 
     /// Takes the next word.
@@ -115,9 +155,11 @@ impl<'a> Scan<'a> {
             if is_option(word) {
                 return no_value(alloc, option, word).map(Some);
             }
+            self.options.push(word)?;
             return self.take_value(alloc, option, word);
         }
         if self.is_ended || !is_option(word) {
+            self.plain.push(word)?;
             self.words.push(word)?;
             return Ok(None);
         }
@@ -125,26 +167,44 @@ impl<'a> Scan<'a> {
             self.is_ended = true;
             return Ok(None);
         }
+        self.options.push(word)?;
         self.take_option(alloc, word)
     }
 }
 
-/// An option is followed by another option, or by a number below zero.
-fn no_value<'a>(alloc: Global, option: &'a str, word: &'a str) -> Result<Line<'a>, AllocError> {
-    let is_number = word
-        .as_bytes()
+/// Whether the word begins as a number below zero.
+fn is_below_zero(word: &str) -> bool {
+    word.as_bytes()
         .get(1)
-        .is_some_and(|byte| byte.is_ascii_digit());
-    if is_number {
-        if let Some(line) = no_value_of(alloc, option, word)? {
-            return Ok(line);
-        }
+        .is_some_and(|byte| byte.is_ascii_digit())
+}
+
+/// An option with a value is followed by a word that may be an option.
+fn no_value<'a>(alloc: Global, option: &'a str, word: &'a str) -> Result<Line<'a>, AllocError> {
+    let name = word.split_once('=').map_or(word, |(name, _)| name);
+    if OPTIONS.contains(&name) || FLAGS.contains(&name) || matches!(name, "-o" | "--") {
+        return needs_value(alloc, option);
     }
-    needs_value(alloc, option)
+    if matches!(option, "--image" | "--output") {
+        let parts = [
+            Name(option),
+            Text(" needs a file: '"),
+            Name(word),
+            Text("' was read as an option; write "),
+            Name(option),
+            Text("="),
+            Name(word),
+        ];
+        return line(alloc, &parts);
+    }
+    no_value_of(alloc, option, word)
 }
 
 fn needs_value<'a>(alloc: Global, option: &'a str) -> Result<Line<'a>, AllocError> {
-    line(alloc, &[Name(option), Text(" needs a value")])
+    line(
+        alloc,
+        &[Name(option), Text(" needs "), Text(rule_of(option))],
+    )
 }
 
 /// The options and words, or the mistake for which they can't be told apart. The first word is the program's name.
@@ -153,6 +213,9 @@ pub(crate) fn told_apart<'a>(
     words: &'a Words,
 ) -> Result<Result<Scan<'a>, Line<'a>>, AllocError> {
     let mut scanned = Scan::new(alloc);
+    if let [name, ..] = words.as_slice() {
+        scanned.options.push(name.as_str())?;
+    }
     for word in words.as_slice().iter().skip(1) {
         if let Some(line) = scanned.take(alloc, word.as_str())? {
             return Ok(Err(line));

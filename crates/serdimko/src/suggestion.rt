@@ -1,11 +1,10 @@
 //! The name that is nearest to a word.
-use ipmi_output::Part::{self, Text};
 use std::alloc::{AllocError, Global};
 use strsim::osa_distance;
 
 /// The first of the names that the word begins, by three letters and more; otherwise the first one that it is but for one letter
 /// that is wrong, left out, too many or swapped with the next one. The case of letters does not matter.
-fn nearest(
+pub(crate) fn nearest(
     alloc: Global,
     word: &str,
     names: &[&'static str],
@@ -24,17 +23,4 @@ fn nearest(
         }
     }
     Ok(None)
-}
-
-/// Asks whether the nearest name was meant; where none is near, this is said.
-pub(crate) fn suggestion(
-    alloc: Global,
-    word: &str,
-    names: &[&'static str],
-    otherwise: &'static str,
-) -> Result<(Part<'static>, Part<'static>, Part<'static>), AllocError> {
-    Ok(match nearest(alloc, word, names)? {
-        Some(name) => (Text("did you mean '"), Text(name), Text("'?")),
-        None => (Text(otherwise), Text(""), Text("")),
-    })
 }

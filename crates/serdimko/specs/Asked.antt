@@ -1,0 +1,52 @@
+-- The commands that this program has beside the specified ones, and the specified command lines that they stand for.
+use Rattle.std.specs.Prelude.{ℕ, ◌&&◌, List, [], ◌∷◌, ◌++◌, codes, drop, map, if◌then◌else◌, bytes_eq}
+use Rattle.ipmi_commands.specs.declared.job.Wording.{Wording}
+use Rattle.serdimko.specs.declared.asked.Kind.{Kind}
+
+-- ---- which words they are
+
+abbrev pub kind_of_one : List ℕ → Kind
+kind_of_one a = if bytes_eq a (codes "sensor") then Kind.Sensors else Kind.Others
+
+abbrev pub kind_of_two : List ℕ → List ℕ → Kind
+kind_of_two a b =
+    if bytes_eq a (codes "sel") && bytes_eq b (codes "elist") then Kind.Events
+    else (if bytes_eq a (codes "sensor") && bytes_eq b (codes "list") then Kind.Sensors
+    else Kind.Others)
+
+-- a third word comes after them
+abbrev pub kind_of_more : List ℕ → List ℕ → Kind
+kind_of_more a b =
+    if bytes_eq a (codes "sel") && bytes_eq b (codes "elist") then Kind.Events
+    else (if bytes_eq a (codes "sensor") && bytes_eq b (codes "get") then Kind.Names
+    else Kind.Others)
+
+abbrev pub kind_of_words : List (List ℕ) → Kind
+kind_of_words [] = Kind.Others
+kind_of_words (a ∷ []) = kind_of_one a
+kind_of_words (a ∷ b ∷ []) = kind_of_two a b
+kind_of_words (a ∷ b ∷ c ∷ more) = kind_of_more a b
+
+-- ---- the lines
+
+-- two words after these options, the program's name first, and more words
+abbrev pub line_of : List (List ℕ) → List ℕ → List ℕ → List (List ℕ) → List (List ℕ)
+line_of options first second more = options ++ (codes "--" ∷ first ∷ second ∷ more)
+
+-- a line for each name
+abbrev pub lines_of_names : List (List ℕ) → List (List ℕ) → List (List (List ℕ))
+lines_of_names options names =
+    map (λ name. line_of options (codes "sdr") (codes "get") (name ∷ [])) names
+
+-- the lines that are asked for by words of a kind; any other line is left as it is
+abbrev pub lines_asked : Kind → List (List ℕ) → List (List ℕ) → List (List ℕ) → List (List (List ℕ))
+lines_asked Kind.Events line options words =
+    line_of options (codes "sel") (codes "list") (drop 2 words) ∷ []
+lines_asked Kind.Sensors line options words = line_of options (codes "sdr") (codes "list") [] ∷ []
+lines_asked Kind.Names line options words = lines_of_names options (drop 2 words)
+lines_asked Kind.Others line options words = line ∷ []
+
+-- the wording in which they print
+abbrev pub wording_asked : Kind → Wording
+wording_asked Kind.Others = Wording.Codes
+wording_asked _ = Wording.Words

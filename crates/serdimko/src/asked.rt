@@ -1,0 +1,207 @@
+//! The commands that this program has beside the specified ones, and the specified command lines that they stand for.
+ghost use Rattle.std.specs.Prelude.{◌≡◌, ◌<◌, ◌++◌, ◌∷◌, [], All, drop, IfOk, length, OnOk};
+ghost use Rattle.serdimko.specs.Asked.{kind_of_more, kind_of_one, kind_of_two, kind_of_words, line_of, lines_asked, lines_of_names, wording_asked};
+
+use crate::scan::Scan;
+use ipmi_command_line::{Command, UsageFault, Word, Words, command_of};
+use ipmi_commands::Wording;
+use std::alloc::{AllocError, Global};
+
+/// Which words they are.
+#[derive(Clone, Copy)]
+enum Kind {
+    /// `sel elist`, and perhaps a number.
+    Events,
+    /// `sensor` or `sensor list`.
+    Sensors,
+    /// `sensor get` and names.
+    Names,
+    /// Any others: those of the specified program, and those of no command.
+    Others,
+}
+
+/// Specified command lines, and the wording in which each is to print.
+#[derive(Drop)]
+pub(crate) struct Asked {
+    pub(crate) lines: Vec<Words>,
+    pub(crate) wording: Wording,
+}
+
+fn kind_of_one(a: &str) -> Kind
+    ensures { result ≡ kind_of_one a.now }
+{
+    match a {
+        "sensor" => Kind::Sensors,
+        _ => Kind::Others,
+    }
+}
+
+fn kind_of_two(a: &str, b: &str) -> Kind
+    ensures { result ≡ kind_of_two a.now b.now }
+{
+    match (a, b) {
+        ("sel", "elist") => Kind::Events,
+        ("sensor", "list") => Kind::Sensors,
+        _ => Kind::Others,
+    }
+}
+
+fn kind_of_more(a: &str, b: &str) -> Kind
+    ensures { result ≡ kind_of_more a.now b.now }
+{
+    match (a, b) {
+        ("sel", "elist") => Kind::Events,
+        ("sensor", "get") => Kind::Names,
+        _ => Kind::Others,
+    }
+}
+
+/// Which words these are.
+fn kind_of_words(words: &[Word]) -> Kind
+    ensures { result ≡ kind_of_words words.now }
+{
+    match words {
+        [] => Kind::Others,
+        [a] => kind_of_one(a.as_str()),
+        [a, b] => kind_of_two(a.as_str(), b.as_str()),
+        [a, b, ..] => kind_of_more(a.as_str(), b.as_str()),
+    }
+}
+
+/// The words after the first two.
+fn after_two(words: &[Word]) -> &[Word]
+    ensures { result.now ≡ drop 2 words.now }
+{
+    match words {
+        [_, _, more @ ..] => more,
+        _ => &[],
+    }
+}
+
+/// Adds copies of the words.
+fn push_all(line: &mut Words, words: &[Word]) -> Result<(), AllocError>
+    ensures { OnOk result (line.new ≡ line.old ++ words.now) }
+{
+    for word in words {
+        line.push(word.as_str())?;
+    }
+    Ok(())
+}
+
+/// The command line of these two words after those options, and more words.
+fn line_of(
+    alloc: Global,
+    options: &Words,
+    first: &str,
+    second: &str,
+    more: &[Word],
+) -> Result<Words, AllocError>
+    ensures { IfOk result (λ line. line ≡ line_of options.now first.now second.now more.now) }
+{
+    let mut line = Words::new(alloc);
+    push_all(&mut line, options.as_slice())?;
+    line.push("--")?;
+    line.push(first)?;
+    line.push(second)?;
+    push_all(&mut line, more)?;
+    Ok(line)
+}
+
+/// A command line for each name.
+fn lines_of_names(alloc: Global, options: &Words, names: &[Word]) -> Result<Vec<Words>, AllocError>
+    ensures { IfOk result (λ lines. lines.items ≡ lines_of_names options.now names.now) }
+{
+    let mut lines = Vec::new(alloc);
+    for name in names {
+        let mut line = line_of(alloc, options, "sdr", "get", &[])?;
+        line.push(name.as_str())?;
+        lines.push(line)?;
+    }
+    Ok(lines)
+}
+
+/// One command line, in this wording.
+fn one_line(alloc: Global, line: Words, wording: Wording) -> Result<Asked, AllocError>
+    ensures lines { IfOk result (λ asked. asked.lines.items ≡ line ∷ []) }
+    ensures wording { IfOk result (λ asked. asked.wording ≡ wording) }
+{
+    let mut lines = Vec::new(alloc);
+    lines.push(line)?;
+    Ok(Asked { lines, wording })
+}
+
+/// The specified command lines that are asked for. `line` is the whole one, without the options of this program; `options` are
+/// the program's name and the options in it, and `words` its words.
+pub(crate) fn asked_of(
+    alloc: Global,
+    line: &Words,
+    options: &Words,
+    words: &Words,
+) -> Result<Asked, AllocError>
+    ensures lines { IfOk result (λ asked.
+        asked.lines.items ≡ lines_asked (kind_of_words words.now) line.now options.now words.now) }
+    ensures wording { IfOk result (λ asked. asked.wording ≡ wording_asked (kind_of_words words.now)) }
+{
+    let words = words.as_slice();
+    match kind_of_words(words) {
+        Kind::Events => {
+            let line = line_of(alloc, options, "sel", "list", after_two(words))?;
+            one_line(alloc, line, Wording::Words)
+        }
+        Kind::Sensors => {
+            let line = line_of(alloc, options, "sdr", "list", &[])?;
+            one_line(alloc, line, Wording::Words)
+        }
+        Kind::Names => {
+            let lines = lines_of_names(alloc, options, after_two(words))?;
+            let wording = Wording::Words;
+            Ok(Asked { lines, wording })
+        }
+        Kind::Others => {
+            let mut copy = Words::new(alloc);
+            push_all(&mut copy, line.as_slice())?;
+            one_line(alloc, copy, Wording::Codes)
+        }
+    }
+}
+
+/// Commands that are run one after another, each in this wording.
+#[derive(Drop)]
+pub(crate) struct Commands {
+    pub(crate) all: Vec<Command>,
+    pub(crate) wording: Wording,
+}
+
+/// The commands of the lines; the fault of the first one that is none.
+fn commands_of_lines(alloc: Global, lines: &[Words]) -> Result<Vec<Command>, UsageFault>
+    requires { All (λ line. 0 < length line) lines.now }
+{
+    let mut commands = Vec::new(alloc);
+    for line in lines {
+        let command = command_of(alloc, line)?;
+        commands.push(command).or(Err(UsageFault::Memory))?;
+    }
+    Ok(commands)
+}
+
+/// The commands that the line asks for, of which the options of this program were taken out.
+#[tactic(auto, using(crate::proofs::AskedLemmas::lines_have_words))]
+pub(crate) fn commands_of(
+    alloc: Global,
+    line: &Words,
+    scanned: &Scan<'_>,
+) -> Result<Commands, UsageFault>
+    requires { 0 < length line.now }
+{
+    let asked = asked_of(alloc, line, &scanned.options, &scanned.plain)?;
+    let all = commands_of_lines(alloc, asked.lines.as_slice())?;
+    let wording = asked.wording;
+    Ok(Commands { all, wording })
+}
+
+/// The command that has nothing but the options, as `capture` takes them.
+#[tactic(auto, using(crate::proofs::AskedLemmas::its_line_has_words))]
+pub(crate) fn command_of_options(alloc: Global, scanned: &Scan<'_>) -> Result<Command, UsageFault> {
+    let line = line_of(alloc, &scanned.options, "sdr", "hex", &[])?;
+    command_of(alloc, &line)
+}

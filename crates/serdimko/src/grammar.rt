@@ -1,0 +1,87 @@
+//! Which words may come after which.
+
+/// The words that may come first.
+pub(crate) const COMMANDS: [&str; 7] = ["sdr", "sensor", "sel", "fru", "capture", "image", "help"];
+
+/// The kinds of sensor data records.
+const KINDS: [&str; 7] = [
+    "all",
+    "full",
+    "compact",
+    "event",
+    "generic",
+    "mclocator",
+    "fru",
+];
+
+/// The words that may come before the number of `sel list`.
+pub(crate) const ENDS: &[&str] = &["first", "last"];
+
+/// A number among the words.
+#[derive(Clone, Copy)]
+pub(crate) struct Number {
+    /// What it is.
+    pub(crate) name: &'static str,
+    /// From where to where.
+    pub(crate) range: &'static str,
+    /// The words after which the specified command line takes it.
+    pub(crate) after: &'static [&'static str],
+    /// Whether listings print it in hex without `0x`, and `--id` takes it so.
+    pub(crate) is_id: bool,
+}
+
+const COUNT: Number = Number {
+    name: "a number",
+    range: "0 to 65535",
+    after: &["--", "sel", "list"],
+    is_id: false,
+};
+
+const ENTRY: Number = Number {
+    name: "an ID",
+    range: "1 to 65534",
+    after: &["--", "sel", "get"],
+    is_id: true,
+};
+
+const DEVICE: Number = Number {
+    name: "an ID",
+    range: "0 to 254",
+    after: &["--", "fru", "print"],
+    is_id: false,
+};
+
+/// What may come next.
+#[derive(Clone, Copy)]
+pub(crate) enum Next {
+    /// One of these words.
+    Names(&'static [&'static str]),
+    /// A number.
+    Number(Number),
+    /// A number, or one of [`ENDS`].
+    Count(Number),
+    /// A name, whatever it is.
+    Name,
+    /// Nothing.
+    Nothing,
+}
+
+/// What may come after these words.
+pub(crate) fn next_of(words: &[&str]) -> Next {
+    match words {
+        [] | ["help"] => Next::Names(&COMMANDS),
+        ["sdr"] => Next::Names(&["list", "elist", "get", "info", "hex"]),
+        ["sdr", "list" | "elist"] => Next::Names(&KINDS),
+        ["sdr", "get"] => Next::Name,
+        ["sensor"] => Next::Names(&["list", "get"]),
+        ["sensor", "get", ..] => Next::Name,
+        ["sel"] => Next::Names(&["list", "elist", "get", "info"]),
+        ["sel", "list" | "elist"] => Next::Count(COUNT),
+        ["sel", "list" | "elist", "first" | "last"] => Next::Number(COUNT),
+        ["sel", "get"] => Next::Number(ENTRY),
+        ["fru"] => Next::Names(&["print"]),
+        ["fru", "print"] => Next::Number(DEVICE),
+        ["image"] => Next::Names(&["rewrite"]),
+        _ => Next::Nothing,
+    }
+}
