@@ -12,7 +12,7 @@ built_of = $(shell scripts/rests_on $1 | sed 's/[: ].*//' | while read -r crate;
     find "crates/$$crate" \( -name out -o -name must-fail \) -prune -o \( -name '*.rt' -o -name '*.antt' \) -print; done) \
   $(shell cd crates/$1/out 2> /dev/null && ! [ $1 -nt $1.crates ] && ../../../scripts/rests_on $1 | cmp -s - $1.crates || echo crates.txt)
 
-.PHONY: demo try test memory turns bench live-test capture-test build install uninstall package package-test
+.PHONY: demo try test memory turns bench live-test build install uninstall package package-test
 
 # The program on the image of a server, its sensors, one of them whole, events and inventories, and on three records as they are.
 demo: $(PROGRAM)
@@ -45,12 +45,8 @@ turns:
 bench: $(PROGRAM)
 	@scripts/bench $(PROGRAM)
 
-# scripts/capture over an ipmitool that makes troubles and over a simulated controller; Debian's ipmitool and openipmi are needed.
-capture-test:
-	@scripts/capture_test
-
-# scripts/live over a simulated controller, by each tool and protocol, and over a tool with troubles; minutes. Debian's ipmitool,
-# openipmi and freeipmi-tools are needed.
+# Listings and captures by scripts/live over a simulated controller, by each tool and protocol, and over a tool with troubles;
+# minutes. Debian's ipmitool, openipmi and freeipmi-tools are needed.
 live-test: $(PROGRAM)
 	@scripts/live_test
 
@@ -67,8 +63,8 @@ $(PROGRAM) $(SPECIFIED):
 # Debian's zsh looks for completions in vendor-completions; others say ZSH=site-functions.
 TO = $(DESTDIR)$(patsubst ~/%,$(HOME)/%,$(PREFIX))
 ZSH = $(if $(filter /usr /usr/,$(PREFIX)),vendor-completions,site-functions)
-PROGRAMS = "$(TO)/bin/$(NAME)" "$(TO)/bin/$(NAME)-live" "$(TO)/bin/$(NAME)-capture"
-TEXTS = "$(TO)/share/man/man1/$(NAME).1" "$(TO)/share/man/man1/$(NAME)-live.1" "$(TO)/share/man/man1/$(NAME)-capture.1" \
+PROGRAMS = "$(TO)/bin/$(NAME)" "$(TO)/bin/$(NAME)-live"
+TEXTS = "$(TO)/share/man/man1/$(NAME).1" "$(TO)/share/man/man1/$(NAME)-live.1" \
   "$(TO)/share/bash-completion/completions/$(NAME)" "$(TO)/share/zsh/$(ZSH)/_$(NAME)"
 
 # A name is one that is the same in a file name, a shell function and a manual page.
@@ -83,15 +79,13 @@ install:
 	$(CHECK_NAME)$(CHECK_BUILT)@umask 022; for file in $(PROGRAMS) $(TEXTS); do mkdir -p "$${file%/*}" || exit 1; done
 	install -m 755 $(PROGRAM) "$(TO)/bin/$(NAME)"
 	install -m 755 scripts/live "$(TO)/bin/$(NAME)-live"
-	install -m 755 scripts/capture "$(TO)/bin/$(NAME)-capture"
 	sed 's/serdimko/$(subst -,\\-,$(NAME))/g' docs/serdimko.1 > "$(TO)/share/man/man1/$(NAME).1"
 	sed 's/serdimko/$(subst -,\\-,$(NAME))/g' docs/serdimko-live.1 > "$(TO)/share/man/man1/$(NAME)-live.1"
-	sed 's/serdimko/$(subst -,\\-,$(NAME))/g' docs/serdimko-capture.1 > "$(TO)/share/man/man1/$(NAME)-capture.1"
 	sed 's/serdimko/$(NAME)/g' completions/serdimko.bash > "$(TO)/share/bash-completion/completions/$(NAME)"
 	sed 's/serdimko/$(NAME)/g' completions/_serdimko > "$(TO)/share/zsh/$(ZSH)/_$(NAME)"
 	chmod 644 $(TEXTS)
 
-# Removes these eight files. The folders stay, as others may use them.
+# Removes these six files. The folders stay, as others may use them.
 uninstall:
 	$(CHECK_NAME)rm -f $(PROGRAMS) $(TEXTS)
 

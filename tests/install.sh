@@ -75,19 +75,15 @@ before=$(state)
 
 (umask 077 && run_make install DESTDIR="$to") || fault 'install:' "$(cat "$work/err")"
 expect_files 'install' '755 usr/local/bin/serdimko
-755 usr/local/bin/serdimko-capture
 755 usr/local/bin/serdimko-live
 644 usr/local/share/bash-completion/completions/serdimko
-644 usr/local/share/man/man1/serdimko-capture.1
 644 usr/local/share/man/man1/serdimko-live.1
 644 usr/local/share/man/man1/serdimko.1
 644 usr/local/share/zsh/site-functions/_serdimko'
 if find "$to" -type d ! -perm 755 | grep .; then fault 'under umask 077 a folder is not for all to read'; fi
 cmp "$program" "$to/usr/local/bin/serdimko" || fault 'the installed program is another one'
-for script in capture live; do
-  cmp "scripts/$script" "$to/usr/local/bin/serdimko-$script" || fault "the installed script $script is another one"
-done
-for page in serdimko serdimko-capture serdimko-live; do
+cmp scripts/live "$to/usr/local/bin/serdimko-live" || fault 'the installed script is another one'
+for page in serdimko serdimko-live; do
   cmp "docs/$page.1" "$to/usr/local/share/man/man1/$page.1" || fault "the installed page $page is another one"
 done
 
@@ -99,10 +95,8 @@ installed=$(files)
 echo 'of others' > "$to/usr/local/bin/ipmitool.old"
 run_make install DESTDIR="$to" PREFIX=/elsewhere NAME=ipmitool || fault 'install NAME=ipmitool:' "$(cat "$work/err")"
 expect_files 'install NAME=ipmitool' "755 elsewhere/bin/ipmitool
-755 elsewhere/bin/ipmitool-capture
 755 elsewhere/bin/ipmitool-live
 644 elsewhere/share/bash-completion/completions/ipmitool
-644 elsewhere/share/man/man1/ipmitool-capture.1
 644 elsewhere/share/man/man1/ipmitool-live.1
 644 elsewhere/share/man/man1/ipmitool.1
 644 elsewhere/share/zsh/site-functions/_ipmitool
@@ -110,9 +104,7 @@ $(stat -c '%a' "$to/usr/local/bin/ipmitool.old") usr/local/bin/ipmitool.old
 $installed"
 if grep -rI serdimko "$to/elsewhere"; then fault 'NAME=ipmitool: the first name is in a file'; fi
 grep -qx '.TH ipmitool 1 .*' "$to/elsewhere/share/man/man1/ipmitool.1" || fault 'NAME=ipmitool: the page has another head'
-for script in capture live; do
-  grep -qx ".TH ipmitool-$script 1 .*" "$to/elsewhere/share/man/man1/ipmitool-$script.1" || fault "NAME=ipmitool: the page of $script"
-done
+grep -qx '.TH ipmitool-live 1 .*' "$to/elsewhere/share/man/man1/ipmitool-live.1" || fault 'NAME=ipmitool: the page of live'
 grep -qx 'complete -F _ipmitool ipmitool' "$to/elsewhere/share/bash-completion/completions/ipmitool" || fault 'NAME=ipmitool: bash'
 grep -qx '#compdef ipmitool' "$to/elsewhere/share/zsh/site-functions/_ipmitool" || fault 'NAME=ipmitool: zsh'
 
@@ -127,7 +119,7 @@ rm "$to/usr/local/bin/ipmitool.old"
 run_make install HOME="$to/home" PREFIX='~/.local' NAME=fru-reader || fault 'install PREFIX=~:' "$(cat "$work/err")"
 grep -qxF 'fru\-reader \- list what a server management controller holds, live or saved' "$to/home/.local/share/man/man1/fru-reader.1" ||
   fault 'NAME=fru-reader: the page has another name'
-grep -qF 'fru\-reader\-capture \-' "$to/home/.local/share/man/man1/fru-reader-capture.1" || fault 'NAME=fru-reader: the page of capture'
+grep -qF 'fru\-reader\-live \-' "$to/home/.local/share/man/man1/fru-reader-live.1" || fault 'NAME=fru-reader: the page of live'
 run_make uninstall HOME="$to/home" PREFIX='~/.local' NAME=fru-reader || fault 'uninstall PREFIX=~:' "$(cat "$work/err")"
 expect_files 'a name with a dash' ''
 

@@ -77,6 +77,9 @@ for dialect in --ipmitool --freeipmi; do
   same $dialect sdr hex
   TOOL_TROUBLES='silent=45'
   same $dialect sdr hex
+  TOOL_TROUBLES='unreserved=1'
+  same $dialect sdr list
+  same $dialect sel list
 
   # the third request asks for the second record
   TOOL_TROUBLES='refuse=d4,4'
@@ -118,7 +121,7 @@ captured() {
   cmp -s "$work/one" "$work/other" || fault "$what: another image: $(cat "$work/message" "$work/err") $(diff "$work/one" "$work/other" | head -n 3)"
 }
 for dialect in --ipmitool --freeipmi; do
-  for TOOL_TROUBLES in '' 'cancel=13|grant=7' 'most=9' 'busy=150' 'silent=150'; do
+  for TOOL_TROUBLES in '' 'cancel=13|grant=7' 'most=9' 'busy=150' 'silent=150' 'unreserved=1'; do
     live $dialect -- capture
     if [ "$status" -ne 0 ]; then fault "$dialect capture ($TOOL_TROUBLES): status $status"; fi
     captured "$dialect capture ($TOOL_TROUBLES)" "$work/out"
@@ -161,7 +164,7 @@ if [ "$(grep -c '^0 0a 22' "$TOOL_LOG")" -ne 1 ]; then fault 'reservations'; fi
 says 2 "unknown command 'srd': did you mean 'sdr'?" -- srd
 says 2 '--image does not go with a live controller' -- --image x sdr
 says 2 "'image rewrite' needs a saved image" -- image rewrite
-says 2 'live: -- is missing: see live --help' sdr list
+says 2 'live: -- is missing before the command, as in: live -I open -- sdr list' sdr list
 says 2 'live: all users would see the password of -P: use -E with IPMI_PASSWORD, or -f FILE' -P secret -- sdr
 says 2 'live: all users would see the password of -psecret: use -P, or --config-file=FILE' --freeipmi -psecret -- sdr
 live --help
@@ -184,10 +187,10 @@ says_of() {
   status=$?
   if [ "$status" -ne "$2" ] || [ "$(cat "$work/err")" != "$3" ]; then fault "--live $1: status $status, $(cat "$work/err")"; fi
 }
-says_of "ipmitool:$work/plain" 1 'no reply from the controller: the tool said nothing'
+says_of "ipmitool:$work/plain" 2 "--live 'ipmitool:$work/plain': cannot open the pipes there; use serdimko-live"
 touch "$work/plain/requests.0" "$work/plain/replies.0"
 says_of "ipmitool:$work/plain" 1 'no reply from the controller: the tool said nothing'
-says_of "$work/plain" 2 "--live '$work/plain' is neither ipmitool:FOLDER nor freeipmi:FOLDER"
+says_of "$work/plain" 2 "--live '$work/plain' is not ipmitool:FOLDER or freeipmi:FOLDER"
 
 # Ended by a signal it leaves no process and no folder. A shell has what it starts in the background ignore SIGINT.
 for signal in INT TERM HUP; do

@@ -104,20 +104,21 @@ table_of_words() {
 }
 
 # groff warns of nothing, and says nothing.
-for file in "$page" docs/serdimko-capture.1 docs/serdimko-live.1; do
+for file in "$page" docs/serdimko-live.1; do
   said=$(man --warnings -E UTF-8 -l -Tutf8 -Z "$file" 2>&1 > /dev/null)
   if [ -n "$said" ]; then
     failed=1
     echo "$file: $said"
   fi
 done
-if [ "$(wc -w < "$page")" -gt 1600 ] || [ "$(cat docs/serdimko-capture.1 docs/serdimko-live.1 | wc -w)" -gt 800 ]; then
+if [ "$(wc -w < "$page")" -gt 1600 ] || [ "$(wc -w < docs/serdimko-live.1)" -gt 450 ]; then
   failed=1
   echo "a page is too long: $(wc -w docs/*.1)"
 fi
 
 # What the definitions print in the columns of a sensor data record, in an event and as a time.
-printed=$(sed 's/^ *--.*//' crates/ipmi_records/specs/Columns.antt crates/ipmi_text/specs/Times.antt crates/ipmi_text/specs/Events.antt |
+printed=$(sed 's/^ *--.*//' crates/ipmi_records/specs/Columns.antt crates/ipmi_text/specs/Times.antt crates/ipmi_text/specs/Events.antt \
+  crates/ipmi_events/specs/{SensorLines,States,Status,Shown,Discrete}.antt |
   grep -oE 'codes "[a-z][^"]*"' | sed -E 's/codes "//; s/ ?"$//' | grep -E '[a-z]')
 shown=$(sed -E 's/^\.[A-Z]+ ?//; s/\\f[A-Z]|[\\"]//g; s/ +/ /g' "$page")
 if [ "$(wc -l <<< "$printed")" -lt 20 ]; then
@@ -173,7 +174,7 @@ expect '' sel get --id ''
 expect '--help --id --image --live --output --quiet --tries --version' --strict --from=0001 --part 4 --image = x --
 expect 'list' --strict -h sdr li
 expect '' -- --
-expect 'sdr sel' -- s
+expect 'sdr sel sensor' -- s
 expect '' sdr get ''
 expect '' sdr info ''
 exit "$failed"

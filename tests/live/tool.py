@@ -4,6 +4,7 @@ that holds what the image TOOL_IMAGE has, with the troubles that TOOL_TROUBLES n
 
 busy=N        each Nth request is refused with C0h       most=N     a part of more than N bytes is refused with CAh
 cancel=N      each Nth part cancels the reservation      grant=N    at most N bytes come at once
+unreserved=1  there are no reservations: the requests for one are refused with C1h, and 0000h stands for one
 silent=N      each Nth request gets no answer            refuse=C,N the Nth request is refused with code C
 garbage=N     the Nth answer is none                     cut=N      it ends in the middle of the Nth answer
 long=N        the Nth answer has no end                  other=N    the Nth answer is one byte short
@@ -42,7 +43,7 @@ class Controller:
     def __init__(self, image):
         self.image = image
         self.given = 0
-        self.current = {"sdr": None, "sel": None}
+        self.current = dict.fromkeys(("sdr", "sel"), 0 if "unreserved" in TROUBLES else None)
         self.requests = 0
         self.parts = 0
 
@@ -73,6 +74,8 @@ class Controller:
     def storage(self, command, data):
         shelf = "sdr" if command < 0x30 else "sel"
         if command in (0x22, 0x42):
+            if "unreserved" in TROUBLES:
+                return 0xC1, b""
             self.given += 1
             self.current[shelf] = self.given
             return 0, self.given.to_bytes(2, "little")

@@ -1,0 +1,32 @@
+#!/usr/bin/env python3
+"""Prints how many requests a capture of the image $1 needs, in parts of $2 bytes: a reservation and an info of each shelf; of a
+sensor data record its header, which alone says how long it is, and the rest in parts; each event; the reading of each sensor
+that a full or compact record of the controller names; and of device 0, and of each logical device that a locator of the
+controller names, the size and the inventory in parts (IPMI v2.0, sections 33.12, 34.2 and 43)."""
+import sys
+
+HEADER = 5
+CONTROLLER = 0x20
+records, events, inventories = [], [], {}
+for line in open(sys.argv[1], encoding="ascii").read().split("\n")[1:]:
+    word, *fields = line.split(" ")
+    if word == "sdr":
+        records.append(bytes.fromhex(fields[2]))
+    elif word == "sel":
+        events.append(bytes.fromhex(fields[2]))
+    elif word == "fru":
+        inventories[int(fields[0], 16)] = inventories.get(int(fields[0], 16), b"") + bytes.fromhex(fields[1])
+
+
+def parts(count):
+    return -(-count // int(sys.argv[2]))
+
+
+sensors = {(record[6] % 4, record[7]) for record in records if record[3] in (1, 2) and record[5] == CONTROLLER}
+devices = {0} | {record[6] for record in records if record[3] == 0x11 and record[5] == CONTROLLER and record[7] & 0x98 == 0x80}
+needed = 2 + 2
+needed += sum(parts(HEADER) + parts(len(record) - HEADER) for record in records)
+needed += sum(parts(len(event)) for event in events)
+needed += len(sensors)
+needed += len(devices) + sum(parts(len(inventories.get(device, b""))) for device in devices)
+print(needed)
