@@ -17,6 +17,9 @@ use std::alloc::{AllocError, Global};
 /// The capacity for most lines.
 const LINE_CAPACITY: usize = 160;
 
+/// The capacity for most details.
+const DETAILS_CAPACITY: usize = 64;
+
 /// Bits 1:0 of the high byte of a generator id: the LUN (IPMI v2.0, table 32-1).
 const LUN_BITS: u8 = 0x03;
 
@@ -99,7 +102,7 @@ fn event_line_of(
     let time = UtcTime::of(event.time_stamp());
     let words = words_of(event);
     let direction = direction_text(event);
-    let mut details = String::new(alloc);
+    let mut details = String::with_capacity(alloc, DETAILS_CAPACITY)?;
     push_details(&mut details, event, full_of(view))?;
     let mut line = String::with_capacity(alloc, LINE_CAPACITY)?;
     write!(line, "{id} | {time} | ")?;

@@ -44,5 +44,5 @@ line_made id event view full none said time words direction empty begun named to
 
 pub returns : goal.returns
 returns c = line_made c.args.id c.args.event.now (option_map (λ v. v.now) c.args.view) (option_map (λ f. f.now) c.full_of.result) _ _ c.of-time.result _ _ _ _ _ _ _ _
-    c.new-details.ensures.bytes c.full_of.ensures c.in_ok-push_details.ensures (rw c.time_stamp.ensures at c.of-time.ensures) c.words_of-words.ensures c.direction_text-direction.ensures
+    c.in_ok-details.ensures.bytes c.full_of.ensures c.in_ok-push_details.ensures (rw c.time_stamp.ensures at c.of-time.ensures) c.words_of-words.ensures c.direction_text-direction.ensures
     c.in_ok-line.ensures.bytes c.in_ok-write.ensures.bytes c.in_ok-push_sensor.ensures c.in_ok-write-2.ensures.bytes (rw c.deref.ensures at c.in_ok-push_details_column.ensures) c.in_ok-push_str.ensures.bytes
