@@ -1,5 +1,5 @@
--- The reading column and the status of a line (the project's own). Readings are as Get Sensor Reading answers (IPMI
--- v2.0, section 35.14).
+-- The reading column and the status of a line (the project's own). A reading is the answer of Get
+-- Sensor Reading (IPMI v2.0, section 35.14).
 use Rattle.std.specs.Prelude.{◌≡◌, ℕ, ◌+◌, ◌*◌, ◌%◌, ◌==◌, ◌&&◌, ◌||◌, not, Bool, if◌then◌else◌, ℤ, Option, Some, None, List, ◌++◌, codes, decimal}
 use Rattle.ipmi_records.specs.Below.{IsDecimalOf, byte_h, hex_byte, hex_word, reading_value, after_space, unit_text_of, Reading}
 use Rattle.ipmi_records.specs.declared.column.Shown.{Shown}
@@ -9,7 +9,7 @@ use Rattle.ipmi_records.specs.Bytes.{has_bit}
 use Rattle.ipmi_records.specs.Sdr.{fru_in, record_type}
 use Rattle.ipmi_records.specs.Sensor.{analog_format, factors_in, locator_in, sensor_in, units_in}
 
--- ---- what a sensor shows
+-- ---- what is shown of a sensor
 
 -- scanning is enabled (bit 6 of the flags), and the reading is not unavailable (bit 5)
 abbrev pub is_available : Reading → Bool
@@ -19,7 +19,8 @@ abbrev pub shown_reading : Option Reading → Shown
 shown_reading None = Shown.NoReading
 shown_reading (Some reading) = if is_available reading then Shown.Value reading else Shown.NoReading
 
--- the first that holds: the sensor is another controller's, not that at 20h; it has no reading; it has one
+-- the first that applies: the owner is not the controller itself (20h); there is no reading; there
+-- is one
 abbrev pub shown_of : Sensor → Option Reading → Shown
 shown_of sensor reading =
     if sensor.owner == 0x20 then shown_reading reading else Shown.OtherOwner
@@ -36,7 +37,7 @@ pub record IsQuantity (value : ℤ) (unit text : List ℕ) : Type 0 where
   pub is_decimal : IsDecimalOf value number
   pub text_is : text ≡ number ++ after_space unit
 
--- a byte that no record gives a value
+-- a byte that has no value
 abbrev pub raw_byte_text : ℕ → List ℕ
 raw_byte_text raw = codes "raw 0x" ++ hex_byte raw
 
@@ -44,8 +45,8 @@ abbrev pub IsValueText : Option ℤ → List ℕ → ℕ → List ℕ → Type 0
 IsValueText None unit raw text = text ≡ raw_byte_text raw
 IsValueText (Some value) unit raw text = IsQuantity value unit text
 
--- what a raw byte of a full record's sensor means: its value by the record's factors, with its unit, or the byte itself
--- where the sensor has no analog reading or is not linear
+-- a raw byte of a full record's sensor: its value by the record's factors, with its unit, or the
+-- byte itself if the sensor has no analog reading or is not linear
 abbrev pub IsRawText : List ℕ → ℕ → List ℕ → Type 0
 IsRawText bytes raw text =
     IsValueText (reading_value (factors_in bytes) raw) (unit_text_in bytes) raw text
@@ -58,7 +59,7 @@ IsNumberText (Some value) raw text = IsDecimalOf value text
 abbrev pub IsRawValue : List ℕ → ℕ → List ℕ → Type 0
 IsRawValue bytes raw text = IsNumberText (reading_value (factors_in bytes) raw) raw text
 
--- the 15 states of a discrete sensor, a bit for each, those from 8 on above the others
+-- the 15 states of a discrete sensor, one bit per state; states 14:8 are the high byte
 abbrev pub states_of : Reading → ℕ
 states_of reading = 256 * (reading.more % 128) + reading.status
 
@@ -67,14 +68,14 @@ states_text reading = codes "states 0x" ++ hex_word (states_of reading)
 
 -- ---- the reading column
 
--- of a sensor: its value by the bytes of its record, or its states where `analog` has none
+-- for a sensor: its value by the bytes of its record, or its states if `analog` is None
 abbrev pub IsSensorColumn : Shown → Option (List ℕ) → List ℕ → Type 0
 IsSensorColumn Shown.OtherOwner analog text = text ≡ codes "other owner"
 IsSensorColumn Shown.NoReading analog text = text ≡ codes "no reading"
 IsSensorColumn (Shown.Value reading) None text = text ≡ states_text reading
 IsSensorColumn (Shown.Value reading) (Some bytes) text = IsRawText bytes reading.raw text
 
--- of a FRU locator: the device, or that its inventory is not read
+-- for a FRU locator: the device, or `elsewhere` if its inventory is not read
 abbrev pub fru_column : Option ℕ → List ℕ
 fru_column None = codes "elsewhere"
 fru_column (Some fru) = codes "FRU " ++ decimal fru
@@ -82,7 +83,7 @@ fru_column (Some fru) = codes "FRU " ++ decimal fru
 abbrev pub type_text : ℕ → List ℕ
 type_text type = codes "record type 0x" ++ hex_byte type
 
--- a full record tells how a reading is a value, unless the analog format is 3
+-- a full record defines a conversion of readings, unless its analog format is 3
 abbrev pub IsReadingColumn : SdrView → Option Reading → List ℕ → Type 0
 IsReadingColumn (SdrView.Full bytes) reading text =
     IsSensorColumn (shown_of (sensor_in bytes) reading)
@@ -98,8 +99,8 @@ IsReadingColumn (SdrView.Other bytes) reading text = text ≡ type_text (record_
 
 -- ---- the status
 
--- of a threshold sensor by the worst threshold that is passed, upper or lower: bits 5 and 2 are the non-recoverable
--- ones, 4 and 1 the critical, 3 and 0 the non-critical
+-- for a threshold sensor, the worst threshold that is passed, upper or lower: bits 5 and 2 are the
+-- non-recoverable thresholds, 4 and 1 the critical, 3 and 0 the non-critical
 abbrev pub threshold_status : ℕ → List ℕ
 threshold_status status =
     if has_bit 5 status || has_bit 2 status then codes "nr"

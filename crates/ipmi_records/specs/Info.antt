@@ -1,8 +1,23 @@
--- The answers of Get SDR Repository Info and Get SEL Info (IPMI v2.0, sections 33.9 and 31.2), after their completion
--- code: 14 bytes, alike in both; and their text (the project's own).
+-- The answers of Get SDR Repository Info and Get SEL Info (IPMI v2.0, sections 33.9 and 31.2),
+-- without their completion code: 14 bytes with the same layout; and their text (the project's own).
 use Rattle.std.specs.Prelude.{◌≡◌, ℕ, if◌then◌else◌, List, [], ◌∷◌, ◌++◌, codes, decimal}
 use Rattle.ipmi_records.specs.Below.{hex_byte, IsUtcTextOf}
+use Rattle.ipmi_records.specs.declared.info.Info.{Info}
 use Rattle.ipmi_records.specs.Bytes.{labelled_lines, byte_at, has_bit, number_at}
+
+-- byte 1 is the version, bytes 2 and 3 are the number of records, 4 and 5 the free space in bytes, 6 to 9 the time of the
+-- most recent addition, 10 to 13 that of the most recent erase; byte 14 says which operations there are, and in bit 7
+-- that a record was lost for want of room
+abbrev pub info_in : List ℕ → Info
+info_in bytes = record {
+  version = byte_at 1 bytes;
+  record_count = number_at 2 2 bytes;
+  free_space = number_at 4 2 bytes;
+  last_addition = number_at 6 4 bytes;
+  last_erase = number_at 10 4 bytes;
+  overflow = has_bit 7 (byte_at 14 bytes);
+  support = byte_at 14 bytes;
+}
 
 -- seven lines: byte 1 is the version, bytes 2 and 3 are the number of records, 4 and 5 the free space in bytes, 6 to 9
 -- the most recent addition, 10 to 13 the most recent erase; byte 14 says which operations there are, and in bit 7 that

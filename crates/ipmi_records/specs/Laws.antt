@@ -1,4 +1,4 @@
--- What the laws of lines and blocks say, so that a law above them can start from it.
+-- The statements of the laws of lines and blocks, for laws that build on them.
 use Rattle.std.specs.Prelude.{◌≡◌, ℕ, List, Option}
 use Rattle.ipmi_records.specs.Below.{AreBytes, Reading}
 use Rattle.ipmi_records.specs.declared.sdr.SdrView.{SdrView}
@@ -9,40 +9,40 @@ use Rattle.ipmi_records.specs.SdrText.{AreThresholdTexts, IsExtendedLine, IsSdrB
 use Rattle.ipmi_records.specs.Sel.{entry_bytes}
 use Rattle.ipmi_records.specs.SelText.{IsSelBlock, IsSelLine}
 
--- a record has one reading column under a reading
+-- a record has at most one reading column for a reading
 abbrev pub ReadingColumnIsUnique : Type 0
 ReadingColumnIsUnique = (view : SdrView) (reading : Option Reading) (text other : List ℕ)
     → IsReadingColumn view reading text → IsReadingColumn view reading other → text ≡ other
 
--- and the lines of a record's thresholds are one text
+-- a record has at most one text of threshold lines
 abbrev pub ThresholdTextIsUnique : Type 0
 ThresholdTextIsUnique =
     (bytes : List ℕ) (thresholds : List Threshold) (text other : List ℕ)
     → AreThresholdTexts bytes thresholds text → AreThresholdTexts bytes thresholds other
     → text ≡ other
 
--- a record has a reading column
+-- a record has a reading column for each reading
 abbrev pub ReadingColumnExists : Type 0
 ReadingColumnExists = (view : SdrView) (reading : Option Reading)
     → (text : List ℕ) × IsReadingColumn view reading text
 
--- and its thresholds have lines
+-- a record's thresholds have lines
 abbrev pub ThresholdTextExists : Type 0
 ThresholdTextExists = (bytes : List ℕ) (thresholds : List Threshold)
     → (text : List ℕ) × AreThresholdTexts bytes thresholds text
 
--- a record has one line under a reading
+-- a record has at most one line for a reading
 abbrev pub SdrLineIsUnique : Type 0
 SdrLineIsUnique = (view : SdrView) (reading : Option Reading) (text other : List ℕ)
     → IsSdrLine view reading text → IsSdrLine view reading other → text ≡ other
 
--- and one block under an id and a reading
+-- and at most one block for an id and a reading
 abbrev pub SdrBlockIsUnique : Type 0
 SdrBlockIsUnique =
     (id : ℕ) (view : SdrView) (reading : Option Reading) (text other : List ℕ)
     → IsSdrBlock id view reading text → IsSdrBlock id view reading other → text ≡ other
 
--- it has a line, and a block
+-- a record has a line and a block
 abbrev pub SdrLineExists : Type 0
 SdrLineExists =
     (view : SdrView) (reading : Option Reading) → (text : List ℕ) × IsSdrLine view reading text
@@ -51,18 +51,18 @@ abbrev pub SdrBlockExists : Type 0
 SdrBlockExists = (id : ℕ) (view : SdrView) (reading : Option Reading)
     → (text : List ℕ) × IsSdrBlock id view reading text
 
--- and one extended line
+-- a record has at most one extended line for a reading
 abbrev pub ExtendedLineIsUnique : Type 0
 ExtendedLineIsUnique =
     (view : SdrView) (reading : Option Reading) (text other : List ℕ)
     → IsExtendedLine view reading text → IsExtendedLine view reading other → text ≡ other
 
--- an entry has one line under an id
+-- an entry has at most one line for an id
 abbrev pub SelLineIsUnique : Type 0
 SelLineIsUnique = (id : ℕ) (view : SelView) (text other : List ℕ) → AreBytes (entry_bytes view)
     → IsSelLine id view text → IsSelLine id view other → text ≡ other
 
--- and one block
+-- and at most one block
 abbrev pub SelBlockIsUnique : Type 0
 SelBlockIsUnique = (id : ℕ) (view : SelView) (text other : List ℕ) → AreBytes (entry_bytes view)
     → IsSelBlock id view text → IsSelBlock id view other → text ≡ other

@@ -1,5 +1,5 @@
--- The texts of sensor data records (the project's own): the line, the extended line, the block, and the line of a
--- record that has no view.
+-- The texts of sensor data records (the project's own): the line, the extended line, the block, and
+-- the line of bytes that are not a record.
 use Rattle.std.specs.Prelude.{◌≡◌, ℕ, Option, Some, None, unwrap_or, Bool, true, false, if◌then◌else◌, List, [], ◌∷◌, ◌++◌, codes, decimal}
 use Rattle.std.specs.List.{concat}
 use Rattle.ipmi_records.specs.Below.{byte_h, sensor_type_text_of, Reading, labelled, word_h}
@@ -16,7 +16,7 @@ use Rattle.ipmi_records.specs.Columns.{IsRawText, IsReadingColumn, has_threshold
 
 -- ---- lines
 
--- the name as it is printed; nothing for a record of another type, which has none
+-- the name as printed; empty for a record of another type, which has none
 abbrev pub printed_name : SdrView → List ℕ
 printed_name view = unwrap_or (name_of view) []
 
@@ -97,7 +97,7 @@ head_lines id view =
     labelled (codes "Record") (word_h id)
     ++ (labelled (codes "Type") (kind_text view) ++ name_line (name_of view))
 
--- what the record tells of its sensor: where it is asked for, and what it senses
+-- the lines of a sensor: its address, and what it senses
 abbrev pub sensor_lines : Option Sensor → List ℕ
 sensor_lines None = []
 sensor_lines (Some sensor) = labelled_lines (
@@ -108,14 +108,14 @@ sensor_lines (Some sensor) = labelled_lines (
     ∷ (codes "Event type", byte_h sensor.event_type)
     ∷ [])
 
--- what the record tells of its device
+-- the lines of a device
 abbrev pub locator_lines : Option Locator → List ℕ
 locator_lines None = []
 locator_lines (Some locator) =
     labelled (codes "Address") (byte_h locator.address)
     ++ labelled (codes "Entity") (entity_text locator.entity)
 
--- the two columns of a line, a line for each
+-- the reading column and the status, one line each
 pub record AreReadingLines (view : SdrView) (reading : Option Reading)
     (text : List ℕ) : Type 0 where
   pub column : List ℕ
@@ -131,13 +131,13 @@ threshold_name Threshold.LowerNonRecoverable = codes "Lower non-recoverable"
 threshold_name Threshold.LowerCritical = codes "Lower critical"
 threshold_name Threshold.LowerNonCritical = codes "Lower non-critical"
 
--- the value of a threshold
+-- the line of a threshold's value
 pub record IsThresholdLine (bytes : List ℕ) (threshold : Threshold) (text : List ℕ) : Type 0 where
   pub value : List ℕ
   pub is_value : IsRawText bytes (threshold_in threshold bytes) value
   pub text_is : text ≡ labelled (threshold_name threshold) value
 
--- no line where the threshold can't be read
+-- no line if the threshold is not readable
 abbrev pub IsThresholdText : Bool → List ℕ → Threshold → List ℕ → Type 0
 IsThresholdText false bytes threshold text = text ≡ []
 IsThresholdText true bytes threshold text = IsThresholdLine bytes threshold text
@@ -154,7 +154,7 @@ all_thresholds =
     Threshold.UpperNonRecoverable ∷ Threshold.UpperCritical ∷ Threshold.UpperNonCritical
     ∷ Threshold.LowerNonRecoverable ∷ Threshold.LowerCritical ∷ Threshold.LowerNonCritical ∷ []
 
--- a sensor without thresholds has no line of one
+-- a sensor without thresholds has no threshold lines
 abbrev pub thresholds_of : Sensor → List Threshold
 thresholds_of sensor = if has_thresholds sensor then all_thresholds else []
 
@@ -166,14 +166,14 @@ pub record AreFullLines (bytes : List ℕ) (reading : Option Reading) (text : Li
   pub are_thresholds : AreThresholdTexts bytes (thresholds_of (sensor_in bytes)) thresholds
   pub text_is : text ≡ columns ++ thresholds
 
--- what is known of the sensor's values: only of a full and of a compact record
+-- the lines of a sensor's values: only a full and a compact record have them
 abbrev pub AreValueLines : SdrView → Option Reading → List ℕ → Type 0
 AreValueLines (SdrView.Full bytes) reading text = AreFullLines bytes reading text
 AreValueLines (SdrView.Compact bytes) reading text =
     AreReadingLines (SdrView.Compact bytes) reading text
 AreValueLines _ reading text = text ≡ []
 
--- the block of a record, with an empty line at its end
+-- the block of a record, which ends with an empty line
 pub record IsSdrBlock (id : ℕ) (view : SdrView) (reading : Option Reading)
     (text : List ℕ) : Type 0 where
   pub values : List ℕ

@@ -48,7 +48,7 @@ sensor_type bytes = byte_at 11 bytes
 abbrev pub sensor_number : List ℕ → ℕ
 sensor_number bytes = byte_at 12 bytes
 
--- bit 7 of byte 13: a deassertion, which says that what the event tells of has ended, and not begun
+-- bit 7 of byte 13: the event is a deassertion: the reported condition ended, and did not begin
 abbrev pub is_deasserted : List ℕ → Bool
 is_deasserted bytes = has_bit 7 (byte_at 13 bytes)
 

@@ -9,7 +9,7 @@ use Rattle.ipmi_records.specs.Sel.{entry_bytes, entry_type, event_data, event_ty
 
 -- ---- fields
 
--- a sensor: what it senses, and its number
+-- a sensor: its type and its number
 abbrev pub numbered_sensor : ℕ → ℕ → List ℕ
 numbered_sensor type number = sensor_type_text_of type ++ (codes " #0x" ++ hex_byte number)
 
@@ -58,7 +58,7 @@ IsSelLine id (SelView.Other bytes) text =
 
 -- ---- blocks
 
--- when an event came, from what, and what it says
+-- the time, the source and the words of an event
 pub record AreEventLines (bytes text : List ℕ) : Type 0 where
   pub time : List ℕ
   pub is_time : IsUtcTextOf (time_stamp bytes) time
@@ -89,7 +89,7 @@ AreFieldLines (SelView.OemPlain bytes) text =
 AreFieldLines (SelView.Other bytes) text =
     text ≡ labelled (codes "Data") (binary_text (data_after_type bytes))
 
--- the block of an entry, with an empty line at its end
+-- the block of an entry, which ends with an empty line
 pub record IsSelBlock (id : ℕ) (view : SelView) (text : List ℕ) : Type 0 where
   pub fields : List ℕ
   pub are_fields : AreFieldLines view fields

@@ -15,8 +15,9 @@ entity_in id instance = record { id = id; instance = instance % 128 }
 
 -- ---- full, compact and event-only records (tables 43-1 to 43-3)
 
--- byte 6 is the owner, bits 1:0 of byte 7 the LUN there, byte 8 the sensor's number, and bytes 9 and 10 its entity;
--- which bytes are the sensor type and the event/reading type depends on the kind of the record
+-- byte 6 is the owner, bits 1:0 of byte 7 are the owner's LUN, byte 8 is the sensor number, and
+-- bytes 9 and 10 are the entity; where the sensor type and the event/reading type are depends on
+-- the kind of record
 abbrev pub sensor_by : ℕ → ℕ → List ℕ → Sensor
 sensor_by sensor_type event_type bytes = record {
   owner = byte_at 6 bytes;
@@ -27,11 +28,11 @@ sensor_by sensor_type event_type bytes = record {
   event_type = event_type;
 }
 
--- at bytes 13 and 14 of a full and of a compact record
+-- both types are bytes 13 and 14 of a full and of a compact record
 abbrev pub sensor_in : List ℕ → Sensor
 sensor_in bytes = sensor_by (byte_at 13 bytes) (byte_at 14 bytes) bytes
 
--- at bytes 11 and 12 of an event-only record
+-- both types are bytes 11 and 12 of an event-only record
 abbrev pub event_only_sensor : List ℕ → Sensor
 event_only_sensor bytes = sensor_by (byte_at 11 bytes) (byte_at 12 bytes) bytes
 
@@ -109,8 +110,8 @@ threshold_place Threshold.LowerNonCritical = 42
 abbrev pub threshold_in : Threshold → List ℕ → ℕ
 threshold_in threshold bytes = byte_at (threshold_place threshold) bytes
 
--- the bit of a threshold, among the readable thresholds (byte 19) and in what Get Sensor Reading compares (section
--- 35.14)
+-- the bit of a threshold, in the readable thresholds (byte 19) and in the comparisons of Get Sensor
+-- Reading (section 35.14)
 abbrev pub threshold_bit : Threshold → ℕ
 threshold_bit Threshold.UpperNonRecoverable = 5
 threshold_bit Threshold.UpperCritical = 4

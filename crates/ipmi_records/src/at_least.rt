@@ -1,10 +1,10 @@
-//! The bytes of a record, of which there are as many as its fields need.
+//! The bytes of a record that is long enough for its fields.
 ghost use Rattle.std.specs.Prelude.{◌≡◌, ◌≤◌, length, List, ℕ};
 
 use std::marker::Model;
 
-/// The bytes of a sensor data record, at least `LEN` of them. `TYPE` tells the kinds of records
-/// apart: it is the lowest record type of the kind.
+/// The bytes of a sensor data record, at least `LEN` of them. `TYPE` distinguishes the kinds of records: it is the
+/// lowest record type of the kind.
 #[derive(Clone, Debug, Drop)]
 pub struct AtLeast<'a, const TYPE: u8, const LEN: usize> {
     pub(crate) bytes: &'a [u8],

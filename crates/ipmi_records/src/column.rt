@@ -16,19 +16,19 @@ use ipmi_text::{
 };
 use std::alloc::AllocError;
 
-/// The bit of a reading's flags that says that the sensor is scanned.
+/// The bit of a reading's flags for "scanning is enabled".
 const SCANNING_ENABLED: u32 = 6;
 
-/// The one that says that there is no reading at the moment.
+/// The bit for "the reading is unavailable".
 const READING_UNAVAILABLE: u32 = 5;
 
 /// Bits 6:0 of a reading's last byte: states 14:8 of a discrete sensor.
 const STATE_BITS: u8 = 0x7F;
 
-/// What a sensor that could be read shows.
+/// What is shown of a sensor whose record allows a reading.
 #[derive(Clone, Copy, Debug, PartialEq, Eq)]
 pub enum Shown {
-    /// Nothing: the sensor belongs to another controller, which is not asked.
+    /// Nothing: the sensor's owner is not the controller itself, so no reading is requested.
     OtherOwner,
     /// No reading.
     NoReading,
@@ -43,7 +43,7 @@ fn is_available(reading: Reading) -> bool
     has_bit(reading.flags, SCANNING_ENABLED) && !has_bit(reading.flags, READING_UNAVAILABLE)
 }
 
-/// What a sensor of the controller's own shows.
+/// What is shown of a sensor that the controller itself owns.
 fn shown_reading(reading: Option<Reading>) -> Shown
     ensures { result ≡ shown_reading reading }
 {
@@ -57,7 +57,7 @@ fn shown_reading(reading: Option<Reading>) -> Shown
     }
 }
 
-/// What a sensor shows, by the answer of Get Sensor Reading for it, if there is one.
+/// What is shown of a sensor. `reading` is the answer of Get Sensor Reading for it, if there is one.
 pub fn shown_of(sensor: &Sensor, reading: Option<Reading>) -> Shown
     ensures { result ≡ shown_of sensor.now reading }
 {
@@ -68,7 +68,7 @@ pub fn shown_of(sensor: &Sensor, reading: Option<Reading>) -> Shown
     }
 }
 
-/// Appends a raw byte that no record gives a value: `raw 0xNN`.
+/// Appends a raw byte that has no value: `raw 0xNN`.
 pub fn push_raw_byte(text: &mut String, raw: u8) -> Result<(), AllocError>
     ensures { OnOk result (string_bytes text.new ≡ string_bytes text.old ++ raw_byte_text raw) }
 {
@@ -76,7 +76,7 @@ pub fn push_raw_byte(text: &mut String, raw: u8) -> Result<(), AllocError>
     write!(text, "raw 0x{raw}")
 }
 
-/// Appends the exact decimal of a raw byte's value, without its units, or `raw 0xNN` where the record gives it none.
+/// Appends the exact decimal of a raw byte's value, without its units, or `raw 0xNN` if the record defines no value.
 pub fn push_value(text: &mut String, full: &FullSensor, raw: u8) -> Result<(), AllocError>
     ensures { OnOk result
         (Appends (IsRawValue full.now raw) (string_bytes text.old) (string_bytes text.new)) }
@@ -87,7 +87,7 @@ pub fn push_value(text: &mut String, full: &FullSensor, raw: u8) -> Result<(), A
     }
 }
 
-/// Appends the value of a raw byte with its units, or `raw 0xNN` where the record gives it none.
+/// Appends the value of a raw byte with its units, or `raw 0xNN` if the record defines no value.
 pub fn push_raw(text: &mut String, full: &FullSensor, raw: u8) -> Result<(), AllocError>
     ensures { OnOk result
         (Appends (IsRawText full.now raw) (string_bytes text.old) (string_bytes text.new)) }
@@ -99,7 +99,7 @@ pub fn push_raw(text: &mut String, full: &FullSensor, raw: u8) -> Result<(), All
     push_units(text, full.units())
 }
 
-/// The 15 states of a discrete sensor, a bit for each, state 0 the lowest.
+/// The 15 states of a discrete sensor, one bit per state; bit 0 is state 0.
 pub fn states_in(reading: Reading) -> u16
     ensures { result ≡ states_of reading }
 {
@@ -115,8 +115,7 @@ fn push_states(text: &mut String, reading: Reading) -> Result<(), AllocError>
     write!(text, "states 0x{states}")
 }
 
-/// Appends the reading column of a sensor: its value where its record tells how a reading is one,
-/// otherwise its states.
+/// Appends the reading column of a sensor: its value if the record defines a conversion, otherwise its states.
 fn push_sensor(
     text: &mut String,
     shown: Shown,
@@ -145,7 +144,7 @@ fn push_fru(text: &mut String, fru: Option<u8>) -> Result<(), AllocError>
     }
 }
 
-/// Appends the reading column of a record, as `sdr_line` has it.
+/// Appends the reading column of a record, as printed by `sdr_line`.
 pub fn push_reading(
     text: &mut String,
     view: &SdrView,
@@ -175,7 +174,7 @@ pub fn push_reading(
     }
 }
 
-/// The status of a threshold sensor, by the thresholds that its reading passes.
+/// The status of a threshold sensor, by the thresholds that its reading has passed.
 fn threshold_status(bits: u8) -> &'static str
     ensures { result.now ≡ threshold_status bits }
 {
@@ -191,14 +190,14 @@ fn threshold_status(bits: u8) -> &'static str
     "ok"
 }
 
-/// Whether the sensor has thresholds, by its event/reading type.
+/// Whether the sensor has thresholds: its event/reading type says so.
 pub fn has_thresholds(sensor: &Sensor) -> bool
     ensures { result ≡ has_thresholds sensor.now }
 {
     sensor.event_type == THRESHOLD_EVENT_TYPE
 }
 
-/// The status of a sensor whose reading this is.
+/// The status of a sensor with this reading.
 fn sensor_status(sensor: &Sensor, reading: Option<Reading>) -> &'static str
     ensures { result.now ≡ sensor_status sensor.now (shown_of sensor.now reading) }
 {
@@ -214,7 +213,7 @@ fn sensor_status(sensor: &Sensor, reading: Option<Reading>) -> &'static str
     }
 }
 
-/// The status of a record, as `sdr_line` has it.
+/// The status of a record, as printed by `sdr_line`.
 pub fn status_of(view: &SdrView, reading: Option<Reading>) -> &'static str
     ensures { result.now ≡ status_of view.now reading }
 {

@@ -11,26 +11,26 @@ use ipmi_text::Units;
 /// The type of a compact sensor record.
 pub const COMPACT_TYPE: u8 = 0x02;
 
-/// Where it has the sensor type.
+/// The offset of the sensor type.
 const SENSOR_TYPE: usize = 12;
 
-/// Where it has the event/reading type.
+/// The offset of the event/reading type.
 const EVENT_TYPE: usize = 13;
 
-/// Where it has how sensors share it: two bytes.
+/// The offset of the two bytes that say how sensors share the record.
 const SHARING: usize = 23;
 
-/// Where it has the type/length byte of its ID string.
+/// The offset of the ID string's type/length byte.
 const ID_STRING: usize = 31;
 
-/// The fewest bytes that it has: as far as the type/length byte of its ID string.
+/// The minimum length: up to and including the ID string's type/length byte.
 pub(crate) const COMPACT_LEAST_LEN: usize = ID_STRING + 1;
 
 /// A compact sensor record.
 pub type CompactSensor<'a> = AtLeast<'a, COMPACT_TYPE, COMPACT_LEAST_LEN>;
 
 impl<'a> CompactSensor<'a> {
-    /// The sensor; of several that share the record, the first.
+    /// The sensor, or the first of the sensors that share the record.
     pub fn sensor(&self) -> Sensor
         ensures { result ≡ sensor_in self.now }
     {

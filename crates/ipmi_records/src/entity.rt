@@ -1,10 +1,10 @@
-//! What a sensor or a device is part of.
+//! The entity of a sensor or a device.
 ghost use Rattle.std.specs.Prelude.{◌≡◌, Some};
 ghost use Rattle.ipmi_records.specs.Prelude.{entity_in, entity_text};
 
 use std::fmt;
 
-/// Bits 6:0 of an entity's instance byte. Bit 7 is no part of the instance.
+/// Bits 6:0 of an entity's instance byte. Bit 7 is not part of the instance.
 const INSTANCE_BITS: u8 = 0x7F;
 
 /// An entity that a sensor or a device belongs to (IPMI v2.0, section 43.14), printed as `id.instance`.
@@ -17,7 +17,7 @@ pub struct Entity {
 }
 
 impl Entity {
-    /// The entity of an id and an instance byte.
+    /// The entity with this id and this instance byte.
     pub(crate) fn new(id: u8, instance: u8) -> Entity
         ensures { result ≡ entity_in id instance }
     {

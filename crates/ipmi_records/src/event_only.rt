@@ -10,26 +10,26 @@ use crate::sharing::{Sharing, sharing_at};
 /// The type of an event-only record.
 pub const EVENT_ONLY_TYPE: u8 = 0x03;
 
-/// Where it has the sensor type.
+/// The offset of the sensor type.
 const SENSOR_TYPE: usize = 10;
 
-/// Where it has the event/reading type.
+/// The offset of the event/reading type.
 const EVENT_TYPE: usize = 11;
 
-/// Where it has how sensors share it: two bytes.
+/// The offset of the two bytes that say how sensors share the record.
 const SHARING: usize = 12;
 
-/// Where it has the type/length byte of its ID string.
+/// The offset of the ID string's type/length byte.
 const ID_STRING: usize = 16;
 
-/// The fewest bytes that it has: as far as the type/length byte of its ID string.
+/// The minimum length: up to and including the ID string's type/length byte.
 pub(crate) const EVENT_ONLY_LEAST_LEN: usize = ID_STRING + 1;
 
 /// An event-only record, whose sensor has no reading.
 pub type EventOnlySensor<'a> = AtLeast<'a, EVENT_ONLY_TYPE, EVENT_ONLY_LEAST_LEN>;
 
 impl<'a> EventOnlySensor<'a> {
-    /// The sensor; of several that share the record, the first.
+    /// The sensor, or the first of the sensors that share the record.
     pub fn sensor(&self) -> Sensor
         ensures { result ≡ event_only_sensor self.now }
     {

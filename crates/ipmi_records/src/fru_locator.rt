@@ -1,4 +1,4 @@
-//! What only a FRU device locator has (IPMI v2.0, section 43.8). Bytes are counted from 0.
+//! The fields that only a FRU device locator has (IPMI v2.0, section 43.8). Bytes are counted from 0.
 ghost use Rattle.std.specs.Prelude.{◌≡◌, ◌/◌, ◌%◌};
 ghost use Rattle.ipmi_records.specs.Bytes.{byte_at, has_bit};
 ghost use Rattle.ipmi_records.specs.Prelude.{fru_in};
@@ -7,20 +7,20 @@ use crate::bits::has_bit;
 use crate::locator::FruLocator;
 use crate::sdr::OWN_ADDRESS;
 
-/// Where it has the FRU device id, or the device's address on the bus.
+/// The offset of the FRU device id, or of the device's address on the bus.
 const DEVICE_ID: usize = 6;
 
-/// Where it has whether the device is logical, the LUN by which it is reached, and its bus.
+/// The offset of the byte with the logical bit, the LUN and the bus.
 const ACCESS: usize = 7;
 
-/// The bit of that byte that says that the device is logical.
+/// The bit of that byte for "the device is logical".
 const LOGICAL: u32 = 7;
 
-/// The two bits of the LUN, bits 4:3 of that byte shifted down.
+/// Bits 4:3 of that byte, shifted down: the LUN.
 const LUN_BITS: u8 = 0x03;
 
 impl<'a> FruLocator<'a> {
-    /// The FRU device id; of a device that is not logical, its address on the bus.
+    /// The FRU device id. For a device that is not logical, its address on the bus.
     pub fn fru_id(&self) -> u8
         ensures { result ≡ byte_at 7 self.now }
     {
@@ -41,7 +41,8 @@ impl<'a> FruLocator<'a> {
         self.bytes[ACCESS] >> 3 & LUN_BITS
     }
 
-    /// The FRU device id, where the device is reached through the controller itself: logical, at its address, at LUN 0.
+    /// The FRU device id, if the device is reached through the controller itself: it is logical, at the controller's
+    /// address and LUN 0.
     pub(crate) fn fru_of(&self) -> Option<u8>
         ensures { result ≡ fru_in self.now }
     {

@@ -12,50 +12,50 @@ use ipmi_text::{Factors, Units};
 /// The type of a full sensor record.
 pub const FULL_TYPE: u8 = 0x01;
 
-/// Where it has the sensor type.
+/// The offset of the sensor type.
 const SENSOR_TYPE: usize = 12;
 
-/// Where it has the event/reading type.
+/// The offset of the event/reading type.
 const EVENT_TYPE: usize = 13;
 
-/// Where it has a bit for each threshold that can be read.
+/// The offset of the readable thresholds, one bit each.
 const READABLE_THRESHOLDS: usize = 18;
 
-/// Where it has the linearization, in bits 6:0.
+/// The offset of the linearization, in bits 6:0.
 const LINEARIZATION: usize = 23;
 
 /// Bits 6:0 of that byte.
 const LINEARIZATION_BITS: u8 = 0x7F;
 
-/// Where it has M: bits 7:0, and in the next byte bits 9:8.
+/// The offset of M: bits 7:0 are here, bits 9:8 in the next byte.
 const M: usize = 24;
 
-/// Where it has B, as M.
+/// The offset of B, laid out like M.
 const B: usize = 26;
 
-/// Where it has the exponents: K1 in bits 3:0, K2 in bits 7:4.
+/// The offset of the exponents: K1 in bits 3:0, K2 in bits 7:4.
 const EXPONENTS: usize = 29;
 
 /// Bits 3:0 of that byte: the exponent of B.
 const K1_BITS: u8 = 0x0F;
 
-/// Where it has the type/length byte of its ID string.
+/// The offset of the ID string's type/length byte.
 const ID_STRING: usize = 47;
 
-/// The fewest bytes that it has: as far as the type/length byte of its ID string.
+/// The minimum length: up to and including the ID string's type/length byte.
 pub(crate) const FULL_LEAST_LEN: usize = ID_STRING + 1;
 
-/// The sign of a number of ten bits in 2's complement, its highest bit.
+/// The sign bit of a 10-bit number in 2's complement.
 const SIGN_OF_TEN_BITS: u16 = 0x200;
 
-/// The sign of a number of four bits.
+/// The sign bit of a 4-bit number in 2's complement.
 const SIGN_OF_FOUR_BITS: u16 = 0x08;
 
 /// A full sensor record.
 pub type FullSensor<'a> = AtLeast<'a, FULL_TYPE, FULL_LEAST_LEN>;
 
 impl<'a> FullSensor<'a> {
-    /// What the record tells of its sensor.
+    /// The sensor that the record describes.
     pub fn sensor(&self) -> Sensor
         ensures { result ≡ sensor_in self.now }
     {
@@ -69,7 +69,7 @@ impl<'a> FullSensor<'a> {
         units_in(self.bytes)
     }
 
-    /// How a raw reading is a number: 0 unsigned, 1 in 1's complement, 2 in 2's complement, 3 not at all.
+    /// The analog data format: 0 is unsigned, 1 is 1's complement, 2 is 2's complement, 3 is no analog reading.
     pub fn analog_format(&self) -> u8
         ensures value { result ≡ analog_format self.now }
         ensures range { result ≤ 3 }
@@ -85,7 +85,7 @@ impl<'a> FullSensor<'a> {
         self.bytes[LINEARIZATION] & LINEARIZATION_BITS
     }
 
-    /// M, the slope of the formula by which a raw reading becomes a value (section 36.3).
+    /// M, the slope of the formula that converts a raw reading to a value (section 36.3).
     pub fn m(&self) -> i16
         ensures value { result ≡ factor_m self.now }
         ensures range { IsTwosComplement 512 result }
@@ -93,7 +93,7 @@ impl<'a> FullSensor<'a> {
         signed(SIGN_OF_TEN_BITS, ten_bits(self.bytes, M))
     }
 
-    /// B, which the formula adds, times ten to the power K1.
+    /// B, the offset in the formula, scaled by ten to the power K1.
     pub fn b(&self) -> i16
         ensures value { result ≡ factor_b self.now }
         ensures range { IsTwosComplement 512 result }
@@ -119,7 +119,7 @@ impl<'a> FullSensor<'a> {
         signed(SIGN_OF_FOUR_BITS, u16::from(bits)) as i8
     }
 
-    /// The factors by which a raw reading becomes a value.
+    /// The factors that convert a raw reading to a value.
     pub fn factors(&self) -> Factors
         ensures { result ≡ factors_in self.now }
     {
@@ -155,7 +155,7 @@ impl<'a> FullSensor<'a> {
     }
 }
 
-/// The ten bits of a factor: its low eight are at a place, its high two are bits 7:6 of the next byte.
+/// The ten bits of a factor: the low eight are the byte at `at`, the high two are bits 7:6 of the next byte.
 fn ten_bits(bytes: &[u8], at: usize) -> u16
     requires { at + 1 < length bytes.now }
     ensures value { result ≡ slice_index bytes.now at + 256 * (slice_index bytes.now (at + 1) / 64) }
@@ -164,7 +164,7 @@ fn ten_bits(bytes: &[u8], at: usize) -> u16
     u16::from_be_bytes([bytes[at + 1] >> 6, bytes[at]])
 }
 
-/// The number that bits stand for in 2's complement, of which `sign` is the highest.
+/// The number that bits represent in 2's complement. `sign` is the highest bit.
 fn signed(sign: u16, bits: u16) -> i16
     requires sign { sign ≤ 512 }
     requires bits { bits < 2 * sign }

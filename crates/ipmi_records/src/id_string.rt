@@ -2,7 +2,7 @@
 ghost use Rattle.std.specs.Prelude.{◌≡◌, ◌+◌, ◌<◌, length};
 ghost use Rattle.ipmi_records.specs.Prelude.{id_field_at, id_field_of};
 
-/// The ID string of a record, as its type/length byte and the bytes after it are (IPMI v2.0, section 43.15).
+/// The ID string of a record: its type/length byte and the bytes after it (IPMI v2.0, section 43.15).
 #[derive(Clone, Copy, Debug, PartialEq, Eq)]
 pub struct IdString<'a> {
     /// The type/length byte.
@@ -12,7 +12,7 @@ pub struct IdString<'a> {
 }
 
 impl<'a> IdString<'a> {
-    /// The ID string whose type/length byte has this place, counted from 0.
+    /// The ID string whose type/length byte is at this offset.
     pub(crate) fn at(bytes: &'a [u8], place: usize) -> IdString<'a>
         requires { place < length bytes.now }
         ensures { id_field_of result ≡ id_field_at (place + 1) bytes.now }

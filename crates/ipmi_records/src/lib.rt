@@ -33,7 +33,7 @@ pub use entity::Entity;
 pub use event_only::{EVENT_ONLY_TYPE, EventOnlySensor};
 pub use full::{FULL_TYPE, FullSensor};
 pub use id_string::IdString;
-pub use info::info_block;
+pub use info::{Info, info_block};
 pub use locator::{
     CONTROLLER_TYPE, FRU_TYPE, FruLocator, GENERIC_TYPE, GenericLocator, Locator,
     ManagementControllerLocator,

@@ -1,4 +1,5 @@
-//! The device locators, and what they have alike (IPMI v2.0, sections 43.7 to 43.9). Bytes are counted from 0.
+//! The device locators, and the fields that they have in common (IPMI v2.0, sections 43.7 to 43.9). Bytes are counted
+//! from 0.
 ghost use Rattle.std.specs.Prelude.{◌≡◌, ◌≤◌, length};
 ghost use Rattle.ipmi_records.specs.Prelude.{id_field_at, id_field_of, locator_in};
 
@@ -15,32 +16,32 @@ pub const FRU_TYPE: u8 = 0x11;
 /// The type of a management controller device locator.
 pub const CONTROLLER_TYPE: u8 = 0x12;
 
-/// Where a locator has the address.
+/// The offset of the address.
 const ADDRESS: usize = 5;
 
-/// Where it has the entity's id.
+/// The offset of the entity id.
 const ENTITY_ID: usize = 12;
 
-/// Where it has the entity's instance.
+/// The offset of the entity instance.
 const ENTITY_INSTANCE: usize = 13;
 
-/// Where it has the type/length byte of its ID string.
+/// The offset of the ID string's type/length byte.
 const ID_STRING: usize = 15;
 
-/// The fewest bytes that it has: as far as the type/length byte of its ID string.
+/// The minimum length: up to and including the ID string's type/length byte.
 pub(crate) const LOCATOR_LEAST_LEN: usize = ID_STRING + 1;
 
-/// What all three kinds of locators tell of their device.
+/// The device, as described by each of the three kinds of locators.
 #[derive(Clone, Copy, Debug, PartialEq, Eq)]
 pub struct Locator {
-    /// Of a management controller its slave address. Of another device that of the controller by
-    /// which it is reached, or 0 where the device is on the bus itself.
+    /// For a management controller, its slave address. For another device, the slave address of the controller
+    /// through which it is reached, or 0 if the device is directly on the bus.
     pub address: u8,
-    /// What the device belongs to.
+    /// The entity that the device belongs to.
     pub entity: Entity,
 }
 
-/// What a locator's bytes tell of its device.
+/// The device that a locator's bytes describe.
 fn locator_in(bytes: &[u8]) -> Locator
     requires { 16 ≤ length bytes.now }
     ensures { result ≡ locator_in bytes.now }
@@ -52,7 +53,7 @@ fn locator_in(bytes: &[u8]) -> Locator
 }
 
 impl<'a, const TYPE: u8> AtLeast<'a, TYPE, LOCATOR_LEAST_LEN> {
-    /// What the record tells of its device, or of its controller.
+    /// The device or controller that the record describes.
     pub fn locator(&self) -> Locator
         ensures { result ≡ locator_in self.now }
     {

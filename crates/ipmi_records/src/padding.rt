@@ -11,7 +11,7 @@ fn is_char_start(byte: u8) -> bool
     byte < 0x80 || 0xc0 <= byte
 }
 
-/// How many characters begin in bytes of UTF-8.
+/// The number of characters that begin in bytes of UTF-8.
 #[tactic(auto, using(crate::proofs::PaddingLemmas::char_count_is))]
 fn character_count(bytes: &[u8]) -> usize
     ensures { result ≡ char_count bytes.now }
@@ -29,7 +29,8 @@ fn push_spaces(line: &mut String, count: usize) -> Result<(), AllocError>
     Ok(())
 }
 
-/// Appends spaces to the column that begins at a place of the line, up to a width in characters. A longer column is kept whole.
+/// Pads the column that begins at byte `start` of the line with spaces to a width in characters. A longer column is
+/// not cut.
 pub fn pad(line: &mut String, start: usize, width: usize) -> Result<(), AllocError>
     requires { start ≤ length (string_bytes line.old) }
     ensures { OnOk result (string_bytes line.new ≡ string_bytes line.old ++ replicate

@@ -1,11 +1,11 @@
-//! Record types without a name.
+//! Record types that have no name.
 ghost use Rattle.std.specs.Prelude.{Some};
 ghost use Rattle.ipmi_records.specs.Prelude.{type_text};
 
 use ipmi_text::HexByte;
 use std::fmt;
 
-/// A record type without a name, printed as its number.
+/// A record type that has no name, printed as its number.
 #[derive(Clone, Copy)]
 pub(crate) struct RecordType(pub(crate) u8);
 

@@ -22,33 +22,33 @@ use thiserror::Error;
 /// The address of the controller that holds the records.
 pub(crate) const OWN_ADDRESS: u8 = 0x20;
 
-/// Where the header has the version of the record's format, counted from 0.
+/// The offset of the version of the record's format, counted from 0.
 const VERSION: usize = 2;
 
-/// Where it has the record type.
+/// The offset of the record type.
 const RECORD_TYPE: usize = 3;
 
-/// Where it has the record length: how many bytes follow the header.
+/// The offset of the record length, the number of bytes after the header.
 const RECORD_LENGTH: usize = 4;
 
-/// The first of the types that have no view of their own.
+/// The lowest of the types without a view of their own.
 const OTHER_TYPE: u8 = 0x00;
 
-/// Why bytes are not a sensor data record. The first that applies, in this order, is the answer.
+/// Why bytes are not a sensor data record. The first fault that applies, in this order, is reported.
 #[derive(Clone, Copy, Debug, PartialEq, Eq, Error)]
 pub enum SdrFault {
-    /// There are fewer bytes than the five of a header.
+    /// Fewer than the five bytes of a header.
     #[error("fewer bytes than a header has")]
     Short,
-    /// There are more or fewer bytes than the header says.
+    /// More or fewer bytes than the header says.
     #[error("more or fewer bytes than the header says")]
     Length,
-    /// There are fewer bytes than a record of its type has.
+    /// Fewer bytes than the minimum for the record's type.
     #[error("fewer bytes than a record of its type has")]
     BodyShort,
 }
 
-/// A record of a type that has no view of its own.
+/// A record of a type without a view of its own.
 pub type OtherRecord<'a> = AtLeast<'a, OTHER_TYPE, SDR_HEADER_LEN>;
 
 /// A sensor data record, by its type.
@@ -70,7 +70,7 @@ pub enum SdrView<'a> {
     Other(OtherRecord<'a>),
 }
 
-/// The fewest bytes that a record of a type has.
+/// The minimum length of a record of this type.
 fn least_len(kind: u8) -> usize
     ensures { result ≡ least_len kind }
 {
@@ -100,7 +100,7 @@ impl<'a> SdrView<'a> {
         }
     }
 
-    /// The record that bytes are, or the first fault that they have. The version byte is not checked.
+    /// Reads bytes as a record, or returns their first fault. The version byte is not checked.
     pub fn read(bytes: &'a [u8]) -> Result<SdrView<'a>, SdrFault>
         ensures { result ≡ sdr_view_of bytes.now }
     {
@@ -154,14 +154,14 @@ impl<'a> SdrView<'a> {
         self.bytes()[RECORD_TYPE]
     }
 
-    /// How many bytes follow the header.
+    /// The number of bytes after the header.
     pub fn body_len(&self) -> u8
         ensures { result ≡ byte_at 5 (record_bytes self.now) }
     {
         self.bytes()[RECORD_LENGTH]
     }
 
-    /// What the record tells of its sensor. None for a record that is not a sensor's.
+    /// The sensor that the record describes. None for a record that is not a sensor's.
     pub fn sensor(&self) -> Option<Sensor>
         ensures { result ≡ sensor_of self.now }
     {
@@ -173,7 +173,7 @@ impl<'a> SdrView<'a> {
         }
     }
 
-    /// How sensors share the record. None for a record that is never shared: only compact and event-only records are.
+    /// How sensors share the record. Only compact and event-only records can be shared; None for the others.
     pub fn sharing(&self) -> Option<Sharing>
         ensures { result ≡ sharing_of self.now }
     {
@@ -184,7 +184,7 @@ impl<'a> SdrView<'a> {
         }
     }
 
-    /// What the record tells of its device. None for a record that is not a locator.
+    /// The device that the record describes. None for a record that is not a locator.
     pub fn locator(&self) -> Option<Locator>
         ensures { result ≡ locator_of self.now }
     {
@@ -196,7 +196,7 @@ impl<'a> SdrView<'a> {
         }
     }
 
-    /// The ID string; a record of another type has none.
+    /// The ID string. None for a record of a type without a view of its own.
     pub fn id_string(&self) -> Option<IdString<'a>>
         ensures { option_map id_field_of result ≡ id_string_of self.now }
     {
@@ -211,7 +211,7 @@ impl<'a> SdrView<'a> {
         }
     }
 
-    /// The name of the record, by its ID string; a record of another type has none.
+    /// The name of the record, from its ID string. None for a record of a type without a view of its own.
     pub fn name(&self, alloc: Global) -> Result<Option<String>, AllocError>
         ensures { IfOk result (λ name. option_map (λ text. string_bytes text) name ≡ name_of
             self.now) }
@@ -222,9 +222,8 @@ impl<'a> SdrView<'a> {
         }
     }
 
-    /// The LUN and the number by which to ask the controller for a reading. Only a full or a
-    /// compact record has them, and only where the controller that holds the record owns the sensor
-    /// (20h).
+    /// The LUN and the sensor number for Get Sensor Reading. Only a full or a compact record has them, and only if
+    /// the controller that holds the record owns the sensor (20h).
     pub fn reading_of(&self) -> Option<(u8, u8)>
         ensures { result ≡ reading_of self.now }
     {
@@ -235,9 +234,8 @@ impl<'a> SdrView<'a> {
         }
     }
 
-    /// The FRU device id by which to ask the controller for an inventory. Only a FRU locator has
-    /// it, and only where its device is logical, at the controller's own address (20h) and at LUN
-    /// 0.
+    /// The FRU device id for reading the inventory. Only a FRU locator has it, and only if its device is logical, at
+    /// the controller's own address (20h) and at LUN 0.
     pub fn fru_of(&self) -> Option<u8>
         ensures { result ≡ fru_of self.now }
     {
@@ -248,7 +246,7 @@ impl<'a> SdrView<'a> {
     }
 }
 
-/// The LUN and the number of a sensor that the controller itself owns.
+/// The LUN and the number of a sensor, if the controller itself owns it.
 fn key_of(sensor: &Sensor) -> Option<(u8, u8)>
     ensures { result ≡ key_of sensor.now }
 {

@@ -21,7 +21,7 @@ const LINES_CAPACITY: usize = 288;
 /// The capacity for most blocks.
 const BLOCK_CAPACITY: usize = 512;
 
-/// What a record is.
+/// The kind of a record.
 fn kind_text(alloc: Global, view: &SdrView) -> Result<String, AllocError>
     ensures { IfOk result (λ text. string_bytes text ≡ kind_text view.now) }
 {
@@ -39,7 +39,7 @@ fn kind_text(alloc: Global, view: &SdrView) -> Result<String, AllocError>
     }
 }
 
-/// The line of the name, where there is one.
+/// The line of the name, if there is one.
 fn name_line(alloc: Global, view: &SdrView) -> Result<String, AllocError>
     ensures { IfOk result (λ text. string_bytes text ≡ name_line (name_of view.now)) }
 {
@@ -49,7 +49,7 @@ fn name_line(alloc: Global, view: &SdrView) -> Result<String, AllocError>
     }
 }
 
-/// The lines that every record has.
+/// The lines common to all records.
 fn head_lines(alloc: Global, id: u16, view: &SdrView) -> Result<String, AllocError>
     ensures { IfOk result (λ text. string_bytes text ≡ head_lines id view.now) }
 {
@@ -61,7 +61,7 @@ fn head_lines(alloc: Global, id: u16, view: &SdrView) -> Result<String, AllocErr
     Ok(text)
 }
 
-/// What the record tells of its sensor: where it is asked for, and what it senses.
+/// The lines of a sensor: its address, and what it senses.
 fn sensor_lines(alloc: Global, sensor: Option<Sensor>) -> Result<String, AllocError>
     ensures { IfOk result (λ text. string_bytes text ≡ sensor_lines sensor) }
 {
@@ -83,7 +83,7 @@ fn sensor_lines(alloc: Global, sensor: Option<Sensor>) -> Result<String, AllocEr
     Ok(text)
 }
 
-/// What the record tells of its device.
+/// The lines of a device.
 fn locator_lines(alloc: Global, locator: Option<Locator>) -> Result<String, AllocError>
     ensures { IfOk result (λ text. string_bytes text ≡ locator_lines locator) }
 {
@@ -126,7 +126,7 @@ fn threshold_name(threshold: Threshold) -> &'static str
     }
 }
 
-/// The line of a threshold, nothing where it can't be read.
+/// The line of a threshold, empty if the threshold is not readable.
 fn threshold_text(
     alloc: Global,
     full: &FullSensor,
@@ -161,8 +161,8 @@ fn all_thresholds(alloc: Global, full: &FullSensor) -> Result<String, AllocError
     Ok(text)
 }
 
-/// The lines of the thresholds that a full record's sensor has, as `sdr_block` has them: each that can be read, from
-/// the upper non-recoverable one down. A sensor without thresholds has none.
+/// The lines of a sensor's readable thresholds, as printed by `sdr_block`, starting with the upper non-recoverable
+/// one. A sensor without thresholds has none.
 pub fn threshold_lines(
     alloc: Global,
     full: &FullSensor,
@@ -177,7 +177,7 @@ pub fn threshold_lines(
     Ok(String::new(alloc))
 }
 
-/// What is known of a sensor's values, where the record tells how to read them.
+/// The lines of a sensor's values: only a full and a compact record have them.
 fn value_lines(
     alloc: Global,
     view: &SdrView,
@@ -198,7 +198,7 @@ fn value_lines(
     }
 }
 
-/// The block of a record under its id: a line for each thing that it tells, and an empty line. The reading is as for `sdr_line`.
+/// The block of a record, with its id: one line per field, then an empty line. `reading` is as for `sdr_line`.
 pub fn sdr_block(
     alloc: Global,
     id: u16,

@@ -15,19 +15,19 @@ use std::fmt;
 /// The capacity for most lines.
 const LINE_CAPACITY: usize = 80;
 
-/// How many characters the column of names has at least.
+/// The minimum width of the name column, in characters.
 const NAME_WIDTH: usize = 16;
 
-/// How many that of readings has, where a status follows it.
+/// The minimum width of the reading column, if a status follows it.
 const READING_WIDTH: usize = 17;
 
-/// How many that of statuses has, where an entity follows it.
+/// The minimum width of the status column, if an entity follows it.
 const STATUS_WIDTH: usize = 3;
 
-/// How many that of entities has.
+/// The minimum width of the entity column.
 const ENTITY_WIDTH: usize = 5;
 
-/// Appends the name of a record as it is printed, nothing where it has none.
+/// Appends the name of a record as printed, or nothing if it has none.
 pub fn push_name(alloc: Global, line: &mut String, view: &SdrView) -> Result<(), AllocError>
     ensures { OnOk result
         (string_bytes line.new ≡ string_bytes line.old ++ printed_name view.now) }
@@ -38,7 +38,7 @@ pub fn push_name(alloc: Global, line: &mut String, view: &SdrView) -> Result<(),
     }
 }
 
-/// Appends the name of a record filled up to the width of its column, 16 characters.
+/// Appends the name of a record, padded to its column's width of 16 characters.
 pub fn push_name_column(alloc: Global, line: &mut String, view: &SdrView) -> Result<(), AllocError>
     ensures { OnOk result
         (string_bytes line.new ≡ string_bytes line.old ++ padded_to 16 (printed_name view.now)) }
@@ -48,9 +48,8 @@ pub fn push_name_column(alloc: Global, line: &mut String, view: &SdrView) -> Res
     pad(line, start, NAME_WIDTH)
 }
 
-/// The line of a record: its name in 16 characters, its reading column in 17, and its status.
-/// `reading` is the answer of Get Sensor Reading for the sensor that `SdrView::reading_of` names.
-/// Where it names none, `reading` is not looked at.
+/// The line of a record: its name in 16 characters, its reading column in 17, and its status. `reading` is the answer
+/// of Get Sensor Reading for the sensor that `SdrView::reading_of` names. It is ignored if that names none.
 pub fn sdr_line(
     alloc: Global,
     view: &SdrView,
@@ -69,7 +68,7 @@ pub fn sdr_line(
     Ok(line)
 }
 
-/// The number of a sensor, printed as dashes where there is none.
+/// The number of a sensor, printed as dashes if there is none.
 #[derive(Clone, Copy)]
 struct SensorNumber(Option<Sensor>);
 
@@ -97,7 +96,7 @@ fn entity_of(sensor: Option<Sensor>, locator: Option<Locator>) -> Option<Entity>
     }
 }
 
-/// Appends an entity, a dash where there is none.
+/// Appends an entity, or a dash if there is none.
 fn push_entity(line: &mut String, entity: Option<Entity>) -> Result<(), AllocError>
     ensures { OnOk result
         (string_bytes line.new ≡ string_bytes line.old ++ entity_or_dash entity) }
@@ -108,7 +107,7 @@ fn push_entity(line: &mut String, entity: Option<Entity>) -> Result<(), AllocErr
     }
 }
 
-/// Appends an entity filled up to the width of its column, a dash where there is none.
+/// Appends an entity, or a dash if there is none, padded to the width of its column.
 fn push_entity_column(line: &mut String, entity: Option<Entity>) -> Result<(), AllocError>
     ensures { OnOk result
         (string_bytes line.new ≡ string_bytes line.old ++ padded_to 5 (entity_or_dash entity)) }
@@ -118,7 +117,7 @@ fn push_entity_column(line: &mut String, entity: Option<Entity>) -> Result<(), A
     pad(line, start, ENTITY_WIDTH)
 }
 
-/// Appends a status filled up to the width of its column.
+/// Appends a status, padded to the width of its column.
 fn push_status_column(line: &mut String, status: &str) -> Result<(), AllocError>
     ensures { OnOk result
         (string_bytes line.new ≡ string_bytes line.old ++ padded_to 3 status.now) }
@@ -128,7 +127,7 @@ fn push_status_column(line: &mut String, status: &str) -> Result<(), AllocError>
     pad(line, start, STATUS_WIDTH)
 }
 
-/// Appends the number, the status and the entity of a record, after and before ` | `.
+/// Appends the number, the status and the entity of a record, with ` | ` before and after each.
 fn push_sensor_columns(line: &mut String, view: &SdrView, status: &str) -> Result<(), AllocError>
     ensures { OnOk result
         (string_bytes line.new ≡ string_bytes line.old ++ sensor_columns view.now status.now) }
@@ -142,8 +141,8 @@ fn push_sensor_columns(line: &mut String, view: &SdrView, status: &str) -> Resul
     Ok(())
 }
 
-/// The extended line of a record: its name, the sensor's number, its status, the entity and the reading column. The reading is as for
-/// `sdr_line`.
+/// The extended line of a record: its name, the sensor's number, its status, the entity and the reading column.
+/// `reading` is as for `sdr_line`.
 pub fn sdr_eline(
     alloc: Global,
     view: &SdrView,
@@ -169,7 +168,7 @@ fn fault_text(fault: SdrFault) -> &'static str
     }
 }
 
-/// The line of a record that `SdrView::read` refused: its id, and the fault.
+/// The line of a record that `SdrView::read` refused: its id and the fault.
 pub fn sdr_fault_line(alloc: Global, id: u16, fault: SdrFault) -> Result<String, AllocError>
     ensures { IfOk result (λ text. string_bytes text ≡ fault_line id fault) }
 {

@@ -12,49 +12,49 @@ const EVENT: u8 = 0x02;
 /// The first type of an OEM timestamped record.
 const OEM_TIMESTAMPED: u8 = 0xC0;
 
-/// The last type of one.
+/// The last type of an OEM timestamped record.
 const LAST_OEM_TIMESTAMPED: u8 = 0xDF;
 
 /// The first type of an OEM non-timestamped record.
 const OEM_NON_TIMESTAMPED: u8 = 0xE0;
 
-/// The first of all other types.
+/// The lowest of all other types.
 const OTHER: u8 = 0x00;
 
-/// Where an entry has its type, counted from 0.
+/// The offset of an entry's type, counted from 0.
 const ENTRY_TYPE: usize = 2;
 
-/// Where what follows its type begins.
+/// The offset of the bytes after the type.
 const AFTER_TYPE: usize = 3;
 
-/// Where an event and an OEM timestamped record have the time stamp.
+/// The offset of the time stamp of an event and of an OEM timestamped record.
 const TIME_STAMP: usize = 3;
 
-/// Where an event has the generator id.
+/// The offset of an event's generator id.
 const GENERATOR_ID: usize = 7;
 
-/// Where it has the revision of the event message's format.
+/// The offset of the revision of the event message's format.
 const REVISION: usize = 9;
 
-/// Where it has the sensor type.
+/// The offset of the sensor type.
 const SENSOR_TYPE: usize = 10;
 
-/// Where it has the sensor's number.
+/// The offset of the sensor number.
 const SENSOR_NUMBER: usize = 11;
 
-/// Where it has its direction and the event/reading type.
+/// The offset of the byte with the event direction and the event/reading type.
 const EVENT_TYPE: usize = 12;
 
-/// Where it has the event data, up to the entry's end.
+/// The offset of the event data, which extends to the end of the entry.
 const EVENT_DATA: usize = 13;
 
-/// Where an OEM timestamped record has the manufacturer id.
+/// The offset of an OEM timestamped record's manufacturer id.
 const MANUFACTURER_ID: usize = 7;
 
-/// Where it has the data that the manufacturer gives a meaning, up to the entry's end.
+/// The offset of the OEM-defined data, which extends to the end of the entry.
 const OEM_DATA: usize = 10;
 
-/// The bit of an event's type byte that says that it is a deassertion.
+/// The event direction bit of that byte: set for a deassertion.
 const DEASSERTED: u32 = 7;
 
 /// Bits 6:0 of that byte: the event/reading type.
@@ -77,7 +77,7 @@ impl<'a, const TYPE: u8> Model for Entry<'a, TYPE> {
 }
 
 impl<'a, const TYPE: u8> Entry<'a, TYPE> {
-    /// The entry that 16 bytes are.
+    /// The entry with these 16 bytes.
     fn new(bytes: &'a [u8]) -> Entry<'a, TYPE>
         requires { length bytes.now ≡ 16 }
         ensures { result ≡ bytes.now }
@@ -85,7 +85,8 @@ impl<'a, const TYPE: u8> Entry<'a, TYPE> {
         Entry { bytes }
     }
 
-    pub(crate) fn bytes(&self) -> &'a [u8]
+    /// The bytes of the entry.
+    pub fn bytes(&self) -> &'a [u8]
         ensures value { result.now ≡ self.now }
         ensures len { length result.now ≡ 16 }
     {
@@ -93,7 +94,7 @@ impl<'a, const TYPE: u8> Entry<'a, TYPE> {
     }
 }
 
-/// When an entry came, in seconds.
+/// The time stamp of an entry, in seconds.
 fn time_stamp(bytes: &[u8]) -> u32
     requires { 7 ≤ length bytes.now }
     ensures { result ≡ time_stamp bytes.now }
@@ -120,7 +121,7 @@ impl<'a> EventEntry<'a> {
         time_stamp(self.bytes)
     }
 
-    /// What made it: an address or a software id, with channel and LUN.
+    /// What generated the event: an address or a software id, with channel and LUN.
     pub fn generator_id(&self) -> u16
         ensures { result ≡ generator_id self.now }
     {
@@ -148,7 +149,7 @@ impl<'a> EventEntry<'a> {
         self.bytes[SENSOR_NUMBER]
     }
 
-    /// Whether this is a deassertion: what the event tells of has ended, and not begun.
+    /// Whether this is a deassertion: the reported condition ended, and did not begin.
     pub fn is_deasserted(&self) -> bool
         ensures { result ≡ is_deasserted self.now }
     {
@@ -189,7 +190,7 @@ impl<'a> OemTimestampedEntry<'a> {
         LittleEndian::read_u24(&self.bytes[MANUFACTURER_ID..])
     }
 
-    /// The six bytes that the manufacturer gives a meaning.
+    /// The six OEM-defined bytes.
     pub fn data_bytes(&self) -> &'a [u8]
         ensures { result.now ≡ oem_data self.now }
     {
@@ -201,7 +202,7 @@ impl<'a> OemTimestampedEntry<'a> {
 pub type OemNonTimestampedEntry<'a> = Entry<'a, OEM_NON_TIMESTAMPED>;
 
 impl<'a> OemNonTimestampedEntry<'a> {
-    /// The thirteen bytes that the manufacturer gives a meaning.
+    /// The thirteen OEM-defined bytes.
     pub fn data_bytes(&self) -> &'a [u8]
         ensures { result.now ≡ data_after_type self.now }
     {
@@ -235,7 +236,7 @@ pub enum SelView<'a> {
 }
 
 impl<'a> SelView<'a> {
-    /// Reads 16 bytes as an entry. Every type of entry has a variant, so there is no fault.
+    /// Reads 16 bytes as an entry. This never fails, as every entry type has a variant.
     pub fn read(bytes: &'a [u8; 16]) -> SelView<'a>
         ensures { result ≡ sel_view_of bytes.now }
     {

@@ -15,10 +15,10 @@ const LINE_CAPACITY: usize = 128;
 /// The capacity for most blocks.
 const BLOCK_CAPACITY: usize = 256;
 
-/// The sensor of an event, printed as what it senses and its number.
+/// The sensor of an event, printed as its type and number.
 #[derive(Clone, Copy)]
 pub struct EventSensor {
-    /// What it senses.
+    /// Its type.
     pub kind: SensorType,
     /// Its number.
     pub number: HexByte,
@@ -54,7 +54,7 @@ fn words_of_event(event: &EventEntry) -> EventWords
     }
 }
 
-/// The word for an event that comes or goes: `Asserted` or `Deasserted`.
+/// The word for the event direction: `Asserted` or `Deasserted`.
 pub fn direction_text(event: &EventEntry) -> &'static str
     ensures { result.now ≡ direction_text (is_deasserted event.now) }
 {
@@ -80,7 +80,7 @@ impl fmt::Display for ManufacturerId {
     }
 }
 
-/// The line of an event: when it came, from what, and what it says.
+/// The line of an event: its time, its sensor and its words.
 fn event_line(alloc: Global, id: u16, event: &EventEntry) -> Result<String, AllocError>
     ensures { IfOk result (λ text. IsEventLine id event.now (string_bytes text)) }
 {
@@ -94,7 +94,7 @@ fn event_line(alloc: Global, id: u16, event: &EventEntry) -> Result<String, Allo
     Ok(text)
 }
 
-/// The line of an OEM timestamped record, whose data only its manufacturer can read.
+/// The line of an OEM timestamped record, whose data only the manufacturer can interpret.
 fn oem_line(alloc: Global, id: u16, entry: &OemTimestampedEntry) -> Result<String, AllocError>
     ensures { IfOk result (λ text. IsOemLine id entry.now (string_bytes text)) }
 {
@@ -111,8 +111,7 @@ fn oem_line(alloc: Global, id: u16, entry: &OemTimestampedEntry) -> Result<Strin
     Ok(text)
 }
 
-/// The line of an entry: its id in hex, its time where it has one, and what it says, in columns
-/// joined by ` | `.
+/// The line of an entry: its id in hex, its time if it has one, and its content, in columns joined by ` | `.
 pub fn sel_line(alloc: Global, id: u16, view: &SelView) -> Result<String, AllocError>
     ensures { IfOk result (λ text. IsSelLine id view.now (string_bytes text)) }
 {
@@ -138,7 +137,7 @@ pub fn sel_line(alloc: Global, id: u16, view: &SelView) -> Result<String, AllocE
     }
 }
 
-/// The fields of an event, a line for each: when it came, from what, and what it says.
+/// The fields of an event, one line each: its time, its source and its words.
 fn event_lines(alloc: Global, event: &EventEntry) -> Result<String, AllocError>
     ensures { IfOk result (λ text. AreEventLines event.now (string_bytes text)) }
 {
@@ -158,7 +157,7 @@ fn event_lines(alloc: Global, event: &EventEntry) -> Result<String, AllocError>
     Ok(text)
 }
 
-/// The fields of an OEM timestamped record, a line for each.
+/// The fields of an OEM timestamped record, one line each.
 fn oem_lines(alloc: Global, entry: &OemTimestampedEntry) -> Result<String, AllocError>
     ensures { IfOk result (λ text. AreOemLines entry.now (string_bytes text)) }
 {
@@ -173,7 +172,7 @@ fn oem_lines(alloc: Global, entry: &OemTimestampedEntry) -> Result<String, Alloc
     Ok(text)
 }
 
-/// The line of bytes that this program gives no meaning.
+/// The line of bytes that this program does not interpret.
 fn data_line(alloc: Global, bytes: &[u8]) -> Result<String, AllocError>
     ensures { IfOk result (λ text. string_bytes text ≡ labelled (codes "Data") (binary_text bytes.now)) }
 {
@@ -183,7 +182,7 @@ fn data_line(alloc: Global, bytes: &[u8]) -> Result<String, AllocError>
     Ok(text)
 }
 
-/// The fields of an entry, a line for each.
+/// The fields of an entry, one line each.
 fn field_lines(alloc: Global, view: &SelView) -> Result<String, AllocError>
     ensures { IfOk result (λ text. AreFieldLines view.now (string_bytes text)) }
 {
@@ -195,7 +194,7 @@ fn field_lines(alloc: Global, view: &SelView) -> Result<String, AllocError>
     }
 }
 
-/// The block of an entry under its id: a line for each field, and an empty line.
+/// The block of an entry, with its id: one line per field, then an empty line.
 pub fn sel_block(alloc: Global, id: u16, view: &SelView) -> Result<String, AllocError>
     ensures { IfOk result (λ text. IsSelBlock id view.now (string_bytes text)) }
 {

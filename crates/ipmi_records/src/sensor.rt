@@ -1,47 +1,48 @@
-//! What the records of sensors have alike (IPMI v2.0, sections 43.1 to 43.3). Bytes are counted from 0.
+//! The fields common to the records of sensors (IPMI v2.0, sections 43.1 to 43.3). Bytes are counted from 0.
 ghost use Rattle.std.specs.Prelude.{◌≡◌, ◌≤◌, length};
 ghost use Rattle.ipmi_records.specs.Prelude.{sensor_by, units_in};
 
 use crate::entity::Entity;
 use ipmi_text::Units;
 
-/// Where a sensor's record has the sensor's owner.
+/// The offset of the sensor's owner.
 const OWNER: usize = 5;
 
-/// Where it has the LUN at the owner, in bits 1:0.
+/// The offset of the owner's LUN, in bits 1:0.
 const OWNER_LUN: usize = 6;
 
 /// The two bits of a LUN.
 const LUN_BITS: u8 = 0x03;
 
-/// Where it has the sensor's number.
+/// The offset of the sensor number.
 const NUMBER: usize = 7;
 
-/// Where it has the entity's id.
+/// The offset of the entity id.
 const ENTITY_ID: usize = 8;
 
-/// Where it has the entity's instance.
+/// The offset of the entity instance.
 const ENTITY_INSTANCE: usize = 9;
 
-/// Where a full and a compact record have sensor units 1.
+/// The offset of sensor units 1 in a full and a compact record.
 pub(crate) const UNITS_1: usize = 20;
 
-/// Where they have the base unit.
+/// The offset of the base unit.
 const BASE_UNIT: usize = 21;
 
-/// Where they have the modifier unit.
+/// The offset of the modifier unit.
 const MODIFIER_UNIT: usize = 22;
 
-/// What all three kinds of sensors' records tell of their sensor.
+/// A sensor, as described by each of the three kinds of sensor records.
 #[derive(Clone, Copy, Debug, PartialEq, Eq)]
 pub struct Sensor {
-    /// The owner: the address of a controller, 20h for the one that holds the record, or a software id where bit 0 is set.
+    /// The owner: the address of a controller (20h for the one that holds the record), or a software id if bit 0 is
+    /// set.
     pub owner: u8,
     /// The LUN at the owner, 2 bits.
     pub lun: u8,
-    /// The number of the sensor there.
+    /// The number of the sensor at that LUN.
     pub number: u8,
-    /// What is monitored.
+    /// The monitored entity.
     pub entity: Entity,
     /// The sensor type (table 42-3).
     pub sensor_type: u8,
@@ -49,8 +50,8 @@ pub struct Sensor {
     pub event_type: u8,
 }
 
-/// What a record tells of its sensor. The caller gives the two types, as their places depend on the
-/// kind of the record.
+/// The sensor that a record describes. The caller passes the two types, as their offsets depend on the kind of
+/// record.
 pub(crate) fn sensor_by(sensor_type: u8, event_type: u8, bytes: &[u8]) -> Sensor
     requires { 10 ≤ length bytes.now }
     ensures { result ≡ sensor_by sensor_type event_type bytes.now }

@@ -2,38 +2,38 @@
 ghost use Rattle.std.specs.Prelude.{◌≡◌, ◌+◌, ◌<◌, length};
 ghost use Rattle.ipmi_records.specs.Prelude.{modifier_of, sharing_at};
 
-/// Bits 3:0 of the first of the two bytes: how many sensors share the record.
+/// Bits 3:0 of the first byte: the number of sensors that share the record.
 const COUNT_BITS: u8 = 0x0F;
 
-/// Bits 5:4 of it, shifted down: the type of the modifier.
+/// Bits 5:4 of the first byte, shifted down: the type of the modifier.
 const MODIFIER_BITS: u8 = 0x03;
 
 /// Bits 6:0 of the second byte: the modifier of the first sensor.
 const OFFSET_BITS: u8 = 0x7F;
 
-/// What is appended to the ID string, so that each of the sensors that share it has a name of its own.
+/// What is appended to the ID string to give each of the sensors that share it a name of its own.
 #[derive(Clone, Copy, Debug, PartialEq, Eq)]
 pub enum Modifier {
     /// 00b: a number.
     Numeric,
     /// 01b: letters.
     Alpha,
-    /// The other two, which are reserved.
+    /// 10b and 11b: reserved.
     Reserved,
 }
 
-/// How sensors share a record. Their numbers follow each other from the record's own on.
+/// How sensors share a record. Their sensor numbers are consecutive, starting with the one in the record.
 #[derive(Clone, Copy, Debug, PartialEq, Eq)]
 pub struct Sharing {
-    /// How many sensors share the record, 4 bits.
+    /// The number of sensors that share the record, 4 bits.
     pub count: u8,
     /// The ID string instance modifier type.
     pub modifier: Modifier,
-    /// The modifier of the first of the sensors, 7 bits. Of letters 0 is `A`, 25 is `Z` and 26 is `AA`.
+    /// The modifier of the first sensor, 7 bits. As letters, 0 is `A`, 25 is `Z` and 26 is `AA`.
     pub offset: u8,
 }
 
-/// The modifier type that two bits are.
+/// The modifier type of two bits.
 fn modifier_of(bits: u8) -> Modifier
     ensures { result ≡ modifier_of bits }
 {
@@ -44,7 +44,7 @@ fn modifier_of(bits: u8) -> Modifier
     }
 }
 
-/// How sensors share a record, by the two bytes from a place on.
+/// How sensors share a record, from the two bytes at `place`.
 pub(crate) fn sharing_at(bytes: &[u8], place: usize) -> Sharing
     requires { place + 1 < length bytes.now }
     ensures { result ≡ sharing_at (place + 1) bytes.now }

@@ -7,13 +7,13 @@ use crate::bits::has_bit;
 /// A threshold of a sensor.
 #[derive(Clone, Copy, Debug, PartialEq, Eq)]
 pub enum Threshold {
-    /// A reading at or above it is out of the range in which the hardware can work.
+    /// A reading at or above it is outside the operating range of the hardware.
     UpperNonRecoverable,
     /// A reading at or above it is critical.
     UpperCritical,
     /// A reading at or above it is a warning.
     UpperNonCritical,
-    /// A reading at or below it is out of the range in which the hardware can work.
+    /// A reading at or below it is outside the operating range of the hardware.
     LowerNonRecoverable,
     /// A reading at or below it is critical.
     LowerCritical,
@@ -22,7 +22,7 @@ pub enum Threshold {
 }
 
 impl Threshold {
-    /// Where a full record has its value (IPMI v2.0, table 43-1), counted from 0.
+    /// The offset of its value in a full record (IPMI v2.0, table 43-1), counted from 0.
     pub(crate) fn place(self) -> usize
         ensures place { result + 1 ≡ threshold_place self }
         ensures high { result ≤ 41 }
@@ -37,7 +37,7 @@ impl Threshold {
         }
     }
 
-    /// Its bit among the readable thresholds, and in what a reading compares.
+    /// Its bit in the readable thresholds of a record, and in the comparisons of a reading.
     fn bit(self) -> u32
         ensures bit { result ≡ threshold_bit self }
         ensures below { result < 8 }
@@ -52,7 +52,8 @@ impl Threshold {
         }
     }
 
-    /// Whether its bit is set: a record so marks the readable thresholds, a reading those that are passed.
+    /// Whether its bit is set. In a record that means that it is readable, in a reading that the reading has passed
+    /// it.
     pub fn is_in(self, bits: u8) -> bool
         ensures { result ≡ has_bit (threshold_bit self) bits }
     {

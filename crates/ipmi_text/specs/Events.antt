@@ -3,7 +3,8 @@ use Rattle.std.specs.Prelude.{ℕ, ◌%◌, ◌==◌, List, [], ◌∷◌, ◌++
 use Rattle.std.specs.Fmt.{digit_glyph}
 use Rattle.ipmi_text.specs.Hex.{hex_byte}
 
--- the words of an event, which only threshold events (type 01h) have, by its offset, from 0 on
+-- the words of an event by its offset, starting at 0; only threshold events (type 01h) have words
+-- here
 abbrev pub event_name : ℕ → ℕ → Option (List ℕ)
 event_name event offset =
     if event == 1

@@ -1,7 +1,8 @@
 -- The texts of type/length fields (Platform Management FRU Information Storage Definition v1.0,
--- section 13; IPMI v2.0, section 43.15). The project's own, where those leave it open: the high nibble
--- first, a name for each nibble above Ch, whole characters only, hex for languages other than English,
--- `.` for what does not print, and at most 16 bytes of an ID string.
+-- section 13; IPMI v2.0, section 43.15). These choices are the project's own, as the standards
+-- leave them open: the high nibble first, a character for each nibble above Ch, whole characters
+-- only, hex for languages other than English, `.` for a character that is not printable, and at
+-- most 16 bytes of an ID string.
 use Rattle.std.specs.Prelude.{ℕ, ◌+◌, ◌*◌, ◌/◌, ◌%◌, ◌^◌, ◌==◌, ◌&&◌, ◌||◌, min, nat_le, Bool, if◌then◌else◌, List, [], ◌∷◌, length, map, take, slice_index, encode_utf8_all, codes}
 use Rattle.std.specs.List.{before_first, range_with_len}
 use Rattle.hex.specs.Hex.{encode_lower}
@@ -17,7 +18,7 @@ abbrev pub nibbles : List ℕ → List ℕ
 nibbles [] = []
 nibbles (b ∷ bs) = b / 16 ∷ b % 16 ∷ nibbles bs
 
--- the characters of BCD plus, by their nibble
+-- the characters of BCD plus, indexed by nibble
 abbrev pub bcd_plus_character : ℕ → ℕ
 bcd_plus_character nibble = slice_index (codes "0123456789 -.:,_") nibble
 
@@ -29,16 +30,16 @@ abbrev pub number_of : List ℕ → ℕ
 number_of [] = 0
 number_of (b ∷ bs) = b + 256 * number_of bs
 
--- character i is digit i of that number to the base 64, from the lowest on, plus 20h
+-- character i is 20h plus digit i of that number in base 64, counted from the lowest digit
 abbrev pub six_bit_character : List ℕ → ℕ → ℕ
 six_bit_character bytes i = number_of bytes / 64 ^ i % 64 + 0x20
 
--- as many characters as six bits fit whole into the bytes
+-- as many characters as there are whole groups of six bits in the bytes
 unfoldable pub six_bit_text : List ℕ → List ℕ
 six_bit_text bytes = map (six_bit_character bytes) (range_with_len 0 (8 * length bytes / 6))
 
--- the character that a byte of 8-bit ASCII and Latin-1 prints as: 20h to 7Eh and A0h to FFh as themselves, all others
--- as `.`
+-- the printed character of a byte of 8-bit ASCII and Latin-1: 20h to 7Eh and A0h to FFh print as
+-- themselves, all others as `.`
 abbrev pub latin1_character : ℕ → ℕ
 latin1_character b = if (nat_le 0x20 b && nat_le b 0x7e) || nat_le 0xa0 b then b else 46
 
@@ -46,11 +47,11 @@ latin1_character b = if (nat_le 0x20 b && nat_le b 0x7e) || nat_le 0xa0 b then b
 abbrev pub latin1_text : List ℕ → List ℕ
 latin1_text bytes = encode_utf8_all (map latin1_character (before_first (λ b. b == 0) bytes))
 
--- English, by the two codes that the standard has for it
+-- the standard has two codes for English
 abbrev pub is_english : ℕ → Bool
 is_english language = (language == 0) || (language == 25)
 
--- the type code that two bits are: bits 7:6 of a type/length byte
+-- the type code of two bits, bits 7:6 of a type/length byte
 abbrev pub type_code_of : ℕ → TypeCode
 type_code_of bits =
     if bits == 0 then Binary
@@ -66,21 +67,21 @@ fru_text_of code language bytes =
     else if (code == 3) && is_english language then latin1_text bytes
     else binary_text bytes
 
--- The type/length byte of a sensor data record's ID string has its type code in bits 7:6, and in bits 4:0 its length in
--- characters.
--- how many bytes the length asks for: as many for Unicode and for 8-bit ASCII, four bits for each
--- character of BCD plus, six for each of 6-bit ASCII, rounded up to whole bytes
+-- In the type/length byte of a sensor data record's ID string, bits 7:6 are the type code, and bits
+-- 4:0 the length in characters (for Unicode, in bytes).
+-- The number of bytes for that length: the length itself for Unicode and 8-bit ASCII, four bits per
+-- character for BCD plus and six for 6-bit ASCII, rounded up to whole bytes.
 abbrev pub bytes_wanted : ℕ → ℕ
 bytes_wanted tl =
     if tl / 64 == 1 then (tl % 32 + 1) / 2
     else if tl / 64 == 2 then (6 * (tl % 32) + 7) / 8
     else tl % 32
 
--- the bytes that are used: as many as are wanted, at most 16, and no more than there are
+-- the bytes of the ID string: as many as the length says, but at most 16, and at most all of them
 abbrev pub bytes_used : ℕ → List ℕ → List ℕ
 bytes_used tl rest = take (min (bytes_wanted tl) 16) rest
 
--- the text of a sensor data record's ID string by its type/length byte and the bytes after it
+-- the text of a sensor data record's ID string, from its type/length byte and the bytes after it
 abbrev pub sdr_text_of : ℕ → List ℕ → List ℕ
 sdr_text_of tl rest =
     if tl / 64 == 0 then binary_text (bytes_used tl rest)

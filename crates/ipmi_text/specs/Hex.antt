@@ -1,4 +1,4 @@
--- Bytes and numbers of two bytes in hex digits.
+-- Bytes and two-byte numbers in hex digits.
 use Rattle.std.specs.Prelude.{ℕ, ◌/◌, ◌%◌, List, [], ◌∷◌, ◌++◌, codes, false, true}
 use Rattle.std.specs.Fmt.{digit_glyph}
 
@@ -6,7 +6,7 @@ use Rattle.std.specs.Fmt.{digit_glyph}
 abbrev pub hex_byte : ℕ → List ℕ
 hex_byte n = digit_glyph false (n / 16) ∷ digit_glyph false (n % 16) ∷ []
 
--- a number of two bytes as four lower-case hex digits
+-- a two-byte number as four lower-case hex digits
 abbrev pub hex_word : ℕ → List ℕ
 hex_word n = hex_byte (n / 256) ++ hex_byte (n % 256)
 
@@ -14,7 +14,7 @@ hex_word n = hex_byte (n / 256) ++ hex_byte (n % 256)
 abbrev pub upper_byte : ℕ → List ℕ
 upper_byte n = digit_glyph true (n / 16) ∷ digit_glyph true (n % 16) ∷ []
 
--- a byte and a number of two bytes as the standard writes them: upper-case hex digits and an `h`
+-- a byte and a two-byte number as the standard writes them: upper-case hex digits and an `h`
 abbrev pub byte_h : ℕ → List ℕ
 byte_h n = upper_byte n ++ codes "h"
 

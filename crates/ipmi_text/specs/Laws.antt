@@ -1,19 +1,19 @@
--- What the laws of texts say, so that a law above them can start from it.
+-- The statements of the laws of texts, for laws that build on them.
 use Rattle.std.specs.Prelude.{◌≡◌, ◌≤◌, ℕ, ℤ, List}
 use Rattle.ipmi_text.specs.Decimal.{IsDecimalOf}
 use Rattle.ipmi_text.specs.Times.{IsMinutesTextOf, IsUtcTextOf}
 
--- two decimals of one value are one text
+-- a value has at most one decimal
 abbrev pub DecimalIsUnique : Type 0
 DecimalIsUnique = (value : ℤ) (text other : List ℕ) → IsDecimalOf value text
     → IsDecimalOf value other → text ≡ other
 
--- two texts of one time stamp in seconds are one
+-- a time stamp in seconds has at most one text
 abbrev pub UtcTextIsUnique : Type 0
 UtcTextIsUnique = (seconds : ℕ) (text other : List ℕ) → seconds ≤ 0xffff_ffff
     → IsUtcTextOf seconds text → IsUtcTextOf seconds other → text ≡ other
 
--- two texts of one time stamp in minutes are one
+-- a time stamp in minutes has at most one text
 abbrev pub MinutesTextIsUnique : Type 0
 MinutesTextIsUnique =
     (minutes : ℕ) (text other : List ℕ) → IsMinutesTextOf minutes text

@@ -10,12 +10,12 @@ pub record SensorFactors : Type 0 where
   pub k1 : ℤ
   pub k2 : ℤ
 
--- a number of 2's complement, of which there are `half` below 0 and as many from 0 on
+-- a number in the range of 2's complement: at least -half and below half
 abbrev pub IsTwosComplement : ℕ → ℤ → Type 0
 IsTwosComplement half z = (neg_ℤ (pos half) ≤ℤ z) × (z <ℤ pos half)
 
--- the ranges that the bits of a full sensor record leave: a format of 2 bits, a linearization of 7,
--- M and B of 10 in 2's complement, and both exponents of 4 in 2's complement
+-- each number fits in its bits of a full sensor record: the format in 2, the linearization in 7, M
+-- and B in 10 in 2's complement, and both exponents in 4 in 2's complement
 pub record HasRanges (factors : SensorFactors) : Type 0 where
   pub format : factors.format ≤ 3
   pub linear : factors.linear ≤ 127
@@ -24,20 +24,20 @@ pub record HasRanges (factors : SensorFactors) : Type 0 where
   pub k1 : IsTwosComplement 8 factors.k1
   pub k2 : IsTwosComplement 8 factors.k2
 
--- the number that a raw byte stands for: unsigned (format 0), in 1's complement (1) or in 2's (2); of
--- format 3 it is never asked
+-- the number that a raw byte represents: unsigned (format 0), in 1's complement (1) or in 2's
+-- complement (2); it is not used for format 3
 abbrev pub raw_number : ℕ → ℕ → ℤ
 raw_number format raw =
     if (format == 0) || nat_lt raw 128 then pos raw
     else if format == 1 then pos raw -ℤ pos 255
     else pos raw -ℤ pos 256
 
--- ten to a power that is not below 0
+-- ten to a power that is not negative
 abbrev pub ten_to : ℤ → ℤ
 ten_to exponent = pos (10 ^ unsigned_abs exponent)
 
--- (M x + B 10^K1) 10^K2, in units of 10^-16: none where the sensor has no analog reading (format 3)
--- or is not linear. It is asked only of factors with HasRanges, whose exponents never go below 0 here.
+-- (M x + B 10^K1) 10^K2, in units of 10^-16; none if the sensor has no analog reading (format 3) or
+-- is not linear. It is used only for factors with HasRanges, so neither exponent here is negative.
 abbrev pub reading_value : SensorFactors → ℕ → Option ℤ
 reading_value f raw =
     if (f.format == 3) || not (f.linear == 0) then None

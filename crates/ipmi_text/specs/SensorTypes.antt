@@ -2,7 +2,7 @@
 use Rattle.std.specs.Prelude.{ℕ, List, [], ◌∷◌, codes}
 use Rattle.ipmi_text.specs.Names.{name_from_one, name_or_code}
 
--- the names, from type 01h on, some of them shortened
+-- the names, starting at type 01h, some of them shortened
 abbrev pub sensor_types : List (List ℕ)
 sensor_types =
     codes "Temperature" ∷

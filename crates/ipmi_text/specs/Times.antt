@@ -15,13 +15,13 @@ minute_text minute = two_digits (minute / 60) ++ (codes ":" ++ two_digits (minut
 abbrev pub second_text : ℕ → List ℕ
 second_text second = minute_text (second / 60) ++ (codes ":" ++ two_digits (second % 60))
 
--- the text is jiff's date of a day number, counted from 1970-01-01, then a space and a time of day
+-- the text is jiff's date of a day (counted from 1970-01-01), a space and a time of day
 pub record IsMoment (day : ℕ) (time text : List ℕ) : Type 0 where
   pub date : Date
   pub day_is : epoch_day date ≡ pos day
   pub text_is : text ≡ date_text date ++ (codes " " ++ time)
 
--- what a moment, and what the meaning of a time stamp, is printed as
+-- the text of a moment, and of the meaning of a time stamp
 abbrev pub moment_text : Moment → List ℕ
 moment_text moment =
     date_text moment.date
@@ -42,9 +42,9 @@ pub record IsUtcTextOf (seconds : ℕ) (text : List ℕ) : Type 0 where
   pub moment : 0x2000_0000 < seconds → seconds < 0xffff_ffff
       → IsMoment (seconds / 86_400) (second_text (seconds % 86_400)) text
 
--- a time stamp in minutes from 1996-01-01 00:00, of which 0 is none (Platform Management FRU
--- Information Storage Definition v1.0, section 11). The day number of that day is 9496: 26 years of
--- 365 days, of which 6 were leap years
+-- a time stamp in minutes since 1996-01-01 00:00; 0 is unspecified (Platform Management FRU
+-- Information Storage Definition v1.0, section 11). The number of that day is 9496: 26 years of 365
+-- days, and 6 leap days
 pub record IsMinutesTextOf (minutes : ℕ) (text : List ℕ) : Type 0 where
   pub unspecified : minutes ≡ 0 → text ≡ codes "unspecified"
   pub moment : 0 < minutes → IsMoment (9496 + minutes / 1440)

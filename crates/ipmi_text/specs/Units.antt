@@ -1,10 +1,10 @@
--- The names of units (IPMI v2.0, table 43-15), and how a sensor's units are put together from them
--- (table 43-1, sensor units 1 to 3).
+-- The names of units (IPMI v2.0, table 43-15), and how they make up a sensor's units (table 43-1,
+-- sensor units 1 to 3).
 use Rattle.std.specs.Prelude.{ℕ, ◌/◌, ◌%◌, ◌==◌, Bool, true, false, List, [], ◌∷◌, ◌++◌, codes, slice_get, unwrap_or, if◌then◌else◌, filter}
 use Rattle.std.specs.List.{join_with_byte}
 use Rattle.ipmi_text.specs.Names.{name_or_code}
 
--- the names, from unit 00h on, which is unspecified, to 18h; later ones print as their code
+-- the names of units 00h (unspecified) to 18h; later units print as their code
 abbrev pub units : List (List ℕ)
 units =
     [] ∷
@@ -37,11 +37,11 @@ units =
 abbrev pub unit_name_or_code : ℕ → List ℕ
 unit_name_or_code code = name_or_code (slice_get units code) (codes "unit") code
 
--- `%` where bit 0 of units 1 is set
+-- `%` if bit 0 of units 1 is set
 abbrev pub percent_part : ℕ → List ℕ
 percent_part units1 = if units1 % 2 == 1 then codes "%" else []
 
--- the modifier, where bits 2:1 of units 1 are 01 after `/`, and where they are 10 after `*`
+-- the modifier, after `/` if bits 2:1 of units 1 are 01, and after `*` if they are 10
 abbrev pub modifier_part : ℕ → ℕ → List ℕ
 modifier_part units1 modifier =
     if units1 / 2 % 4 == 1 then codes "/" ++ unit_name_or_code modifier

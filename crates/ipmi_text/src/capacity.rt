@@ -1,10 +1,10 @@
-//! Texts that get their memory at once.
+//! Texts whose capacity is set at the start.
 ghost use Rattle.std.specs.Prelude.{◌≡◌, IfOk, IfSome, string_bytes};
 
 use std::alloc::{AllocError, Global};
 use std::fmt::Display;
 
-/// The text of a value. Its memory has a capacity of so many bytes at first, and grows only past them.
+/// The text of a value. It starts with this capacity in bytes and grows only past it.
 pub(crate) fn text_with_capacity<D: Display + Drop>(
     alloc: Global,
     capacity: usize,

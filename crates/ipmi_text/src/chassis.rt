@@ -9,8 +9,7 @@ use std::alloc::{AllocError, Global};
 /// The capacity for the text of any chassis type.
 const CAPACITY: usize = 24;
 
-/// The names, from type 01h on (Platform Management FRU Information Storage Definition v1.0,
-/// section 10).
+/// The names, starting at type 01h (Platform Management FRU Information Storage Definition v1.0, section 10).
 const CHASSIS_TYPES: [&str; 23] = [
     "Other",
     "Unknown",
@@ -37,8 +36,8 @@ const CHASSIS_TYPES: [&str; 23] = [
     "Rack Mount Chassis",
 ];
 
-/// The name of a chassis type (Platform Management FRU Information Storage Definition v1.0,
-/// section 10), or `type 0xNN` where it has none.
+/// The name of a chassis type (Platform Management FRU Information Storage Definition v1.0, section 10), or `type
+/// 0xNN` if it has none.
 pub fn chassis_text(alloc: Global, code: u8) -> Result<String, AllocError>
     ensures { IfOk result (λ text. string_bytes text ≡ chassis_text_of code) }
 {

@@ -22,7 +22,7 @@ fn sign(value: i128) -> &'static str
     if value < 0 { "-" } else { "" }
 }
 
-/// Appends a point and the digits of a fraction, with no zero at their end. Nothing for 0.
+/// Appends a point and the digits of a fraction, without trailing zeros. Appends nothing for 0.
 fn push_fraction(text: &mut String, fraction: u64) -> Result<(), AllocError>
     requires { fraction < 10 ^ 16 }
     ensures { OnOk result
@@ -42,12 +42,12 @@ fn push_fraction(text: &mut String, fraction: u64) -> Result<(), AllocError>
     Ok(())
 }
 
-/// The whole ones in a size, and the units that are left.
+/// The integer part of a size, and the remaining units of 10^-16.
 fn parts(size: u128) -> (u128, u64)
     ensures whole { result.0 ≡ size / 10 ^ 16 }
     ensures rest { result.1 ≡ size % 10 ^ 16 }
 {
-    // a division of 64 bits is far cheaper, and nearly all sizes have no more
+    // a 64-bit division is far cheaper, and nearly all sizes fit in 64 bits
     if size <= u128::from(u64::MAX) {
         let size = size as u64;
         (u128::from(size / ONE), size % ONE)
@@ -57,8 +57,8 @@ fn parts(size: u128) -> (u128, u64)
     }
 }
 
-/// Appends the shortest exact decimal of a value. Contracts say what its sign and digits are, and the module
-/// `laws` that there is no other.
+/// Appends the shortest exact decimal of a value. The contract says what its sign and digits are; the module `laws`
+/// says that no other text meets it.
 pub fn push_fixed(text: &mut String, value: Fixed) -> Result<(), AllocError>
     ensures { OnOk result
         (Appends (IsDecimalOf value.0) (string_bytes text.old) (string_bytes text.new)) }

@@ -17,7 +17,7 @@ pub const THRESHOLD_EVENT_TYPE: u8 = 0x01;
 /// Bits 3:0 of an event's first data byte: its offset.
 const OFFSET_BITS: u8 = 0x0F;
 
-/// The words of a threshold event, by its offset, from 0 on (IPMI v2.0, table 42-2).
+/// The words of a threshold event by its offset, starting at 0 (IPMI v2.0, table 42-2).
 const THRESHOLD_EVENTS: [&str; 12] = [
     "Lower Non-critical going low",
     "Lower Non-critical going high",
@@ -33,8 +33,8 @@ const THRESHOLD_EVENTS: [&str; 12] = [
     "Upper Non-recoverable going high",
 ];
 
-/// The words of an event by its event/reading type code and its offset, which only threshold events (type 01h) have
-/// (IPMI v2.0, table 42-2).
+/// The words of an event by its event/reading type code and its offset (IPMI v2.0, table 42-2). Only threshold events
+/// (type 01h) have words here.
 pub fn event_name(event: u8, offset: u8) -> Option<&'static str>
     ensures { option_map (λ s. s.now) result ≡ event_name event offset }
 {
@@ -45,7 +45,7 @@ pub fn event_name(event: u8, offset: u8) -> Option<&'static str>
     }
 }
 
-/// The words of an event (IPMI v2.0, section 42.1 and table 42-2), or `event 0xTT offset 0xO` where it has none.
+/// The words of an event (IPMI v2.0, section 42.1 and table 42-2), or `event 0xTT offset 0xO` if it has none.
 #[derive(Clone, Copy, Debug, PartialEq, Eq)]
 pub struct EventWords {
     /// The event/reading type code.
@@ -73,8 +73,8 @@ impl fmt::Display for EventWords {
     }
 }
 
-/// The words of an event, by its event/reading type code and its first data byte, whose bits 3:0
-/// are the offset (IPMI v2.0, section 42.1 and table 42-2), or `event 0xTT offset 0xO` where it has none.
+/// The words of an event by its event/reading type code and its first data byte (IPMI v2.0, section 42.1 and table
+/// 42-2), or `event 0xTT offset 0xO` if it has none. Bits 3:0 of the data byte are the offset.
 pub fn event_text(alloc: Global, event: u8, data1: u8) -> Result<String, AllocError>
     ensures { IfOk result (λ text. string_bytes text ≡ event_text_of event data1) }
 {

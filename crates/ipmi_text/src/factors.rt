@@ -1,4 +1,4 @@
-//! The value of a raw reading, by the factors of its sensor (IPMI v2.0, section 36.3).
+//! Converts a raw reading to a value by the factors of its sensor (IPMI v2.0, section 36.3).
 ghost use Rattle.std.specs.Prelude.{◌≡◌, ◌≤◌, ◌^◌, ◌↔◌, ◌≤ℤ◌, ◌*ℤ◌, ◌*◌, pos, IfSome, IsSome, IsTrue, option_map, unsigned_abs};
 ghost use Rattle.ipmi_text.specs.ReadingValue.{HasRanges, IsTwosComplement, SensorFactors, raw_number, reading_value, ten_to};
 
@@ -8,7 +8,7 @@ use std::marker::Model;
 /// The analog data format of an unsigned reading. The format is two bits of a full record's sensor units 1.
 const UNSIGNED: u8 = 0;
 
-/// That of a reading in 1's complement.
+/// The analog data format of a reading in 1's complement.
 const ONES_COMPLEMENT: u8 = 1;
 
 /// The analog data format of a sensor without an analog reading, the highest of the four.
@@ -20,14 +20,14 @@ const LINEAR: u8 = 0;
 /// The highest linearization, a number of 7 bits.
 const LARGEST_LINEARIZATION: u8 = 0x7F;
 
-/// How many of the numbers in 10 bits, as M and B are, are below 0.
+/// How many of the 10-bit numbers of 2's complement are negative. M and B have 10 bits.
 const FACTOR_HALF: u16 = 512;
 
-/// How many of the numbers in 4 bits, as an exponent is, are below 0.
+/// How many of the 4-bit numbers of 2's complement are negative. Each exponent has 4 bits.
 const EXPONENT_HALF: u16 = 8;
 
-/// The factors by which a full sensor record turns a raw reading into a value (IPMI v2.0, section
-/// 36.3 and table 43-1). Contracts see them as a record of their numbers.
+/// The factors by which a full sensor record turns a raw reading into a value (IPMI v2.0, section 36.3 and table
+/// 43-1). In contracts they are a record of six numbers.
 #[derive(Clone, Copy, Debug, PartialEq, Eq)]
 pub struct Factors {
     format: u8,
@@ -49,9 +49,8 @@ impl Model for Factors {
 }
 
 impl Factors {
-    /// The factors of a sensor: the analog data format, the linearization, M, B, the exponent K1 of
-    /// B and the exponent K2 of the result. None where one of them is outside the range that its
-    /// bits in the record leave.
+    /// The factors of a sensor: the analog data format, the linearization, M, B, the exponent K1 of B and the
+    /// exponent K2 of the result. None if one of them does not fit in its bits of the record.
     pub fn new(format: u8, linear: u8, m: i16, b: i16, k1: i8, k2: i8) -> Option<Factors>
         ensures some { IsSome result ↔ HasRanges (record
             { format = format; linear = linear; m = m; b = b; k1 = k1; k2 = k2 }) }
@@ -71,7 +70,7 @@ impl Factors {
         }
     }
 
-    /// The factors of a sensor, as `new` takes them, each in its range.
+    /// The factors of a sensor. The parameters are those of `new`, and each must be in its range.
     pub fn of_fields(format: u8, linear: u8, m: i16, b: i16, k1: i8, k2: i8) -> Factors
         requires { HasRanges (record
             { format = format; linear = linear; m = m; b = b; k1 = k1; k2 = k2 }) }
@@ -89,7 +88,7 @@ impl Factors {
     }
 }
 
-/// Whether a number is at least -`half` and below `half`, the range of 2's complement.
+/// Whether a number is in the range of 2's complement: at least -`half` and below `half`.
 fn is_twos_complement(number: i16, half: u16) -> bool
     ensures { IsTrue result ↔ IsTwosComplement half number }
 {
@@ -98,7 +97,7 @@ fn is_twos_complement(number: i16, half: u16) -> bool
     -half <= number && number < half
 }
 
-/// The number that a raw byte stands for in an analog data format.
+/// The number that a raw byte represents in an analog data format.
 fn raw_number(format: u8, raw: u8) -> i32
     ensures value { result ≡ raw_number format raw }
     ensures size { unsigned_abs result ≤ 2 ^ 8 }
@@ -128,9 +127,8 @@ fn scaled(number: i32, exponent: i32) -> i128
     number as i128 * 10i128.pow(exponent as u32)
 }
 
-/// The value of a raw reading, M x 10^(K2+16) + B 10^(K1+K2+16) units of 10^-16, with x the raw byte
-/// by its format (IPMI v2.0, section 36.3). None where the sensor has no analog reading (format 3) or
-/// is not linear.
+/// The value of a raw reading (IPMI v2.0, section 36.3): M x 10^(K2+16) + B 10^(K1+K2+16) units of 10^-16, where x is
+/// the raw byte in its format. None if the sensor has no analog reading (format 3) or is not linear.
 pub fn convert(f: &Factors, raw: u8) -> Option<Fixed>
     ensures { option_map (λ value. value.0) result ≡ reading_value f.now raw }
 {

@@ -5,10 +5,10 @@ ghost use Rattle.ipmi_text.specs.FieldText.{bcd_plus_character, bcd_plus_text, b
 use crate::hex_digits::nibbles;
 use std::alloc::{AllocError, Global};
 
-/// The characters of BCD plus, by their nibble.
+/// The characters of BCD plus, indexed by nibble.
 const BCD_PLUS_CHARACTERS: &[u8; 16] = b"0123456789 -.:,_";
 
-/// How the data of a field or of an ID string are read, by the type code in bits 7:6 of its type/length byte.
+/// How the data of a field or an ID string is decoded: bits 7:6 of its type/length byte.
 #[derive(Clone, Copy)]
 enum TypeCode {
     /// Binary data of a field, and Unicode of an ID string.
@@ -17,7 +17,7 @@ enum TypeCode {
     BcdPlus,
     /// 6-bit ASCII.
     SixBit,
-    /// 8-bit ASCII and Latin-1 of an ID string, and of a field where its language is English.
+    /// 8-bit ASCII and Latin-1: of an ID string, and of a field whose language is English.
     Latin1,
 }
 
@@ -39,7 +39,7 @@ impl TypeCode {
 /// The language code of English.
 pub const ENGLISH: u8 = 0;
 
-/// The other code that the standard has for English.
+/// The second code of the standard for English.
 const ALSO_ENGLISH: u8 = 25;
 
 /// Bits 4:0 of an ID string's type/length byte: how many characters it has.
@@ -78,7 +78,7 @@ fn byte_at(bytes: &[u8], at: usize) -> u32
     u32::from(bytes.get(at).copied().unwrap_or(0))
 }
 
-/// A character of 6-bit ASCII, of which four fill three bytes, low first.
+/// Character `i` of 6-bit ASCII. Four characters fill three bytes, low bits first.
 fn six_bit_character(bytes: &[u8], i: usize) -> u8
     ensures value { result ≡ six_bit_character bytes.now i }
     ensures ascii { result < 128 }
@@ -89,7 +89,7 @@ fn six_bit_character(bytes: &[u8], i: usize) -> u8
     ((number >> (i % 4 * 6)) % 64 + 0x20) as u8
 }
 
-/// 6-bit ASCII: six bits a character.
+/// 6-bit ASCII: six bits per character.
 #[tactic(auto, using(crate::proofs::FieldLemmas::six_bit_count))]
 fn six_bit_text(alloc: Global, bytes: &[u8]) -> Result<String, AllocError>
     ensures { IfOk result (λ text. string_bytes text ≡ six_bit_text bytes.now) }
@@ -111,14 +111,14 @@ fn latin1_character(byte: u8) -> u8
     }
 }
 
-/// Whether a byte is printed as itself, and is one byte of UTF-8.
+/// Whether a byte is printable ASCII: printed as itself, in one byte of UTF-8.
 fn is_plain(byte: u8) -> bool
     ensures { IsTrue result ↔ (0x20 ≤ byte) × (byte ≤ 0x7e) }
 {
     0x20 <= byte && byte <= 0x7e
 }
 
-/// The text of bytes that are all printed as themselves.
+/// The bytes as text, if each of them is printed as itself.
 #[tactic(auto, using(crate::proofs::FieldLemmas::all_plain))]
 fn plain_text(bytes: &[u8]) -> Option<&str>
     ensures { IfSome result (λ text. text.now ≡ latin1_text bytes.now) }
@@ -129,12 +129,12 @@ fn plain_text(bytes: &[u8]) -> Option<&str>
     str::from_utf8(bytes).ok()
 }
 
-/// Appends the text of 8-bit ASCII and Latin-1, as far as the first 00h.
+/// Appends the text of 8-bit ASCII and Latin-1, up to the first 00h.
 fn push_latin1_text(text: &mut String, bytes: &[u8]) -> Result<(), AllocError>
     ensures { OnOk result
         (string_bytes text.new ≡ string_bytes text.old ++ latin1_text bytes.now) }
 {
-    // most texts are plain, and such a one is appended at once
+    // most texts are plain: append such a text in one call
     if let Some(plain) = plain_text(bytes) {
         return text.push_str(plain);
     }
@@ -147,7 +147,7 @@ fn push_latin1_text(text: &mut String, bytes: &[u8]) -> Result<(), AllocError>
     Ok(())
 }
 
-/// 8-bit ASCII and Latin-1, as far as the first 00h.
+/// 8-bit ASCII and Latin-1, up to the first 00h.
 fn latin1_text(alloc: Global, bytes: &[u8]) -> Result<String, AllocError>
     ensures { IfOk result (λ text. string_bytes text ≡ latin1_text bytes.now) }
 {
@@ -156,17 +156,16 @@ fn latin1_text(alloc: Global, bytes: &[u8]) -> Result<String, AllocError>
     Ok(text)
 }
 
-/// Whether a language code stands for English, for which the standard has two.
+/// Whether a language code is one of the two codes of the standard for English.
 fn is_english(language: u8) -> bool
     ensures { result ≡ is_english language }
 {
     language == ENGLISH || language == ALSO_ENGLISH
 }
 
-/// The text of a field of a FRU area (Platform Management FRU Information Storage Definition v1.0,
-/// section 13). `code`, bits 7:6 of its type/length byte, says how the bytes are read: as hex (0),
-/// BCD plus (1), 6-bit ASCII (2), or, for 3, as 8-bit ASCII and Latin-1 where the area's language
-/// is English and otherwise as hex.
+/// The text of a field of a FRU area (Platform Management FRU Information Storage Definition v1.0, section 13).
+/// `code` is bits 7:6 of its type/length byte and selects the encoding: hex (0), BCD plus (1), 6-bit ASCII (2); 3 is
+/// 8-bit ASCII and Latin-1 if the area's language is English, otherwise hex.
 pub fn fru_text(alloc: Global, code: u8, language: u8, bytes: &[u8]) -> Result<String, AllocError>
     requires { code < 4 }
     ensures { IfOk result (λ text. string_bytes text ≡ fru_text_of code language bytes.now) }
@@ -179,22 +178,21 @@ pub fn fru_text(alloc: Global, code: u8, language: u8, bytes: &[u8]) -> Result<S
     }
 }
 
-/// The type code of an ID string, by its type/length byte.
+/// The type code in the type/length byte of an ID string.
 fn type_code(type_length: u8) -> TypeCode
     ensures { result ≡ type_code_of (type_length / 64) }
 {
     TypeCode::of(type_length >> 6)
 }
 
-/// How many characters an ID string has, by its type/length byte.
+/// The number of characters in the type/length byte of an ID string.
 fn character_count(type_length: u8) -> usize
     ensures { result ≡ type_length % 32 }
 {
     usize::from(type_length & COUNT_BITS)
 }
 
-/// The bytes of an ID string: as many as its type/length byte asks for, at most 16, and no more
-/// than there are.
+/// The bytes of an ID string: as many as its type/length byte says, but at most 16, and at most all of `rest`.
 fn bytes_used(type_length: u8, rest: &[u8]) -> &[u8]
     ensures { result.now ≡ bytes_used type_length rest.now }
 {
@@ -216,10 +214,10 @@ fn first_characters(mut text: String, count: usize) -> String
     text
 }
 
-/// The text of a sensor data record's ID string (IPMI v2.0, section 43.15), by its type/length byte
-/// and all bytes after it: hex for Unicode (type 0), BCD plus (1), 6-bit ASCII (2), and 8-bit ASCII
-/// and Latin-1 (3). Bits 4:0 of the type/length byte count the characters (for type 0, the bytes).
-/// Only those in the first 16 bytes of `rest` are printed.
+/// The text of a sensor data record's ID string (IPMI v2.0, section 43.15), from its type/length byte and all bytes
+/// after it: hex for Unicode (type 0), BCD plus (1), 6-bit ASCII (2), and 8-bit ASCII and Latin-1 (3). Bits 4:0 of
+/// the type/length byte count the characters (for type 0, the bytes). Only those in the first 16 bytes of `rest` are
+/// printed.
 #[tactic(auto, using(crate::proofs::FieldLemmas::IsAscii_bcd_plus, crate::proofs::FieldLemmas::IsAscii_six_bit))]
 pub fn sdr_text(alloc: Global, tl: u8, rest: &[u8]) -> Result<String, AllocError>
     ensures { IfOk result (λ text. string_bytes text ≡ sdr_text_of tl rest.now) }

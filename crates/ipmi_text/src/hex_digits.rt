@@ -1,11 +1,11 @@
-//! Digits, bytes and words in hex, of a fixed number of digits.
+//! Digits, bytes and words in hex, with a fixed number of digits.
 ghost use Rattle.std.specs.Prelude.{◌≡◌, ◌/◌, ◌%◌, ◌<◌, ◌∷◌, [], Some, false};
 ghost use Rattle.std.specs.Fmt.{digit_glyph};
 ghost use Rattle.ipmi_text.specs.Hex.{byte_h, hex_byte, hex_word, upper_byte, word_h};
 
 use std::fmt;
 
-/// The lower-case hex digits, by their value.
+/// The lower-case hex digits, indexed by value.
 const HEX_DIGITS: [&str; 16] = [
     "0", "1", "2", "3", "4", "5", "6", "7", "8", "9", "a", "b", "c", "d", "e", "f",
 ];

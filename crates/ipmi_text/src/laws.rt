@@ -1,9 +1,9 @@
-//! What follows from the definitions of texts by themselves, whatever wrote them.
+//! Laws of texts: what follows from their definitions alone, whatever code wrote the text.
 ghost use Rattle.std.specs.Prelude.{◌≡◌, ℤ, List, ℕ};
 ghost use Rattle.ipmi_text.specs.Decimal.{IsDecimalOf};
 ghost use Rattle.ipmi_text.specs.Laws.{DecimalExists, DecimalIsUnique, MinutesTextExists, MinutesTextIsUnique, UtcTextExists, UtcTextIsUnique};
 
-/// Two decimals of one value are one text, so what `fixed_text` gives is the only one.
+/// A value has at most one decimal, so the result of `fixed_text` is the only one.
 pub fn one_decimal_of_a_value()
     ensures { DecimalIsUnique }
 {}
@@ -14,13 +14,13 @@ pub fn one_value_of_a_decimal()
         value ≡ other }
 {}
 
-/// A time stamp in seconds has at most one text, so what `utc_text` gives is the only one.
+/// A time stamp in seconds has at most one text, so the result of `utc_text` is the only one.
 #[tactic(auto, using(crate::proofs::TimeLemmas::one_utc_text))]
 pub fn one_utc_text()
     ensures { UtcTextIsUnique }
 {}
 
-/// A time stamp in minutes has at most one text, so what `minutes_text` gives is the only one.
+/// A time stamp in minutes has at most one text, so the result of `minutes_text` is the only one.
 #[tactic(auto, using(crate::proofs::TimeLemmas::one_minutes_text))]
 pub fn one_minutes_text()
     ensures { MinutesTextIsUnique }
@@ -31,7 +31,7 @@ pub fn each_value_has_a_decimal()
     ensures { DecimalExists }
 {}
 
-/// Each time stamp has a text: one in seconds, and one of 24 bits in minutes.
+/// Each time stamp in seconds has a text, and so has each 24-bit time stamp in minutes.
 pub fn each_time_has_a_text()
     ensures utc { UtcTextExists }
     ensures minutes { MinutesTextExists }

@@ -1,4 +1,4 @@
-//! Values and texts that the other crates share: what a sensor answers, and how fields are printed.
+//! Values and texts shared by the other crates: the answer of a sensor, and how fields are printed.
 #![tactic(auto)]
 
 mod capacity;

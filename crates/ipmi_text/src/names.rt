@@ -1,25 +1,25 @@
-//! Names out of tables, and what is printed where there is none.
+//! Names from tables, and what is printed for a code without a name.
 ghost use Rattle.std.specs.Prelude.{◌≡◌, map, option_map, slice_get};
 ghost use Rattle.ipmi_text.specs.Names.{name_from_one};
 
 use crate::hex_digits::HexByte;
 use std::fmt;
 
-/// The name at a place of a table.
+/// The name at an index of a table.
 pub(crate) fn name_at(table: &[&'static str], at: usize) -> Option<&'static str>
     ensures { option_map (λ s. s.now) result ≡ slice_get (map (λ s. s.now) table.now) at }
 {
     table.get(at).copied()
 }
 
-/// The name of a code, in a table that begins with the name of code 1.
+/// The name of a code, from a table that begins with code 1.
 pub(crate) fn name_from_one(table: &[&'static str], code: u8) -> Option<&'static str>
     ensures { option_map (λ s. s.now) result ≡ name_from_one (map (λ s. s.now) table.now) code }
 {
     name_at(table, usize::from(code).checked_sub(1)?)
 }
 
-/// What a code of some kind means, printed as its name, or as `KIND 0xNN` where it has none.
+/// A code of some kind, printed as its name, or as `KIND 0xNN` if it has none.
 #[derive(Clone, Copy)]
 pub(crate) struct NameOrCode {
     pub(crate) name: Option<&'static str>,

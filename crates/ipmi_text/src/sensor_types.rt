@@ -10,7 +10,7 @@ use std::fmt;
 /// The capacity for the text of any sensor type.
 const CAPACITY: usize = 32;
 
-/// The names, from type 01h on, some of them shortened (IPMI v2.0, table 42-3).
+/// The names, starting at type 01h, some of them shortened (IPMI v2.0, table 42-3).
 const SENSOR_TYPES: [&str; 44] = [
     "Temperature",
     "Voltage",
@@ -58,7 +58,7 @@ const SENSOR_TYPES: [&str; 44] = [
     "FRU State",
 ];
 
-/// A sensor type, printed as its name (IPMI v2.0, table 42-3), or as `sensor type 0xNN` where it has none.
+/// A sensor type, printed as its name (IPMI v2.0, table 42-3), or as `sensor type 0xNN` if it has none.
 #[derive(Clone, Copy, Debug, PartialEq, Eq)]
 pub struct SensorType(pub u8);
 
@@ -78,7 +78,7 @@ impl fmt::Display for SensorType {
     }
 }
 
-/// The name of a sensor type (IPMI v2.0, table 42-3), or `sensor type 0xNN` where it has none.
+/// The name of a sensor type (IPMI v2.0, table 42-3), or `sensor type 0xNN` if it has none.
 pub fn sensor_type_text(alloc: Global, code: u8) -> Result<String, AllocError>
     ensures { IfOk result (λ text. string_bytes text ≡ sensor_type_text_of code) }
 {

@@ -14,7 +14,7 @@ use std::marker::Model;
 /// The day number of 1996-01-01, counted from 1970-01-01.
 const FIRST_FRU_DAY: u32 = 9496;
 
-/// The capacity for a text: more than its 19 bytes.
+/// The capacity for a text: a date and a time take 19 bytes.
 const CAPACITY: usize = 24;
 
 const SECONDS_OF_DAY: u32 = 86_400;
@@ -24,7 +24,7 @@ const MINUTES_OF_DAY: u32 = 1440;
 /// The last time stamp that counts from the start of the controller's clock.
 const LAST_SINCE_START: u32 = 0x2000_0000;
 
-/// A date and a second of its day, printed as `YYYY-MM-DD HH:MM:SS`.
+/// A date and a time of day, printed as `YYYY-MM-DD HH:MM:SS`.
 #[derive(Clone, Copy, Debug)]
 struct Moment {
     date: Date,
@@ -53,13 +53,13 @@ impl fmt::Display for Moment {
 enum Meaning {
     /// FFFFFFFFh: no time.
     Unspecified,
-    /// Up to 20000000h: the seconds since the controller's clock began.
+    /// Up to 20000000h: seconds since the start of the controller's clock.
     SinceStart(u32),
     /// A moment in UTC.
     At(Moment),
 }
 
-/// A time stamp of the event log, printed as `utc_text` says. Contracts see it as its text.
+/// A time stamp of the event log, printed like `utc_text`. In contracts it is its text.
 #[derive(Clone, Debug, Drop)]
 pub struct UtcTime {
     meaning: Meaning,
@@ -75,7 +75,7 @@ impl Model for UtcTime {
 }
 
 impl UtcTime {
-    /// The time stamp of so many seconds.
+    /// The time stamp with this number of seconds.
     pub fn of(seconds: u32) -> UtcTime
         ensures { IsUtcTextOf seconds result }
     {
@@ -85,7 +85,7 @@ impl UtcTime {
     }
 }
 
-/// The meaning of a time stamp of so many seconds.
+/// The meaning of a time stamp with this number of seconds.
 fn meaning_of(seconds: u32) -> Meaning
     ensures { IsUtcTextOf seconds (meaning_text result) }
 {
@@ -112,7 +112,7 @@ impl fmt::Display for UtcTime {
     }
 }
 
-/// The date so many days after 1970-01-01.
+/// The date `day` days after 1970-01-01.
 fn date_of_day(day: u32) -> Date
     requires { day < 100000 }
     ensures { epoch_day result ≡ pos day }
@@ -120,7 +120,7 @@ fn date_of_day(day: u32) -> Date
     date(1970, 1, 1).checked_add((day as i64).days()).unwrap()
 }
 
-/// The moment so many seconds after 1970-01-01 00:00:00.
+/// The moment `seconds` seconds after 1970-01-01 00:00:00.
 fn moment_of(seconds: u32) -> Moment
     ensures { IsMoment (seconds / 86_400) (second_text (seconds % 86_400)) (moment_text result) }
 {
@@ -137,7 +137,7 @@ fn moment_of(seconds: u32) -> Moment
     }
 }
 
-/// `YYYY-MM-DD HH:MM` of so many minutes after 1996-01-01 00:00.
+/// `YYYY-MM-DD HH:MM` for `minutes` minutes after 1996-01-01 00:00.
 fn text_to_minute(alloc: Global, minutes: u32) -> Result<String, AllocError>
     requires { minutes < 2 ^ 24 }
     ensures { IfOk result (λ text. IsMoment (9496 + minutes / 1440)

@@ -7,7 +7,7 @@ use crate::names::{NameOrCode, name_at};
 use std::alloc::{AllocError, Global};
 use std::fmt;
 
-/// The names, from unit 00h on, which is unspecified, to 18h; later ones print as their code (IPMI v2.0, table 43-15).
+/// The names of units 00h (unspecified) to 18h; later units print as their code (IPMI v2.0, table 43-15).
 const UNITS: [&str; 25] = [
     "",
     "degrees C",
@@ -42,13 +42,13 @@ const CAPACITY: usize = 32;
 /// Bits 5:0 of sensor units 1: rate, modifier use and percentage. Bits 7:6 are the analog format.
 const JOINED_BITS: u8 = 0x3F;
 
-/// Bits 2:1 of sensor units 1, shifted down: how the modifier is used.
+/// Bits 2:1 of sensor units 1, shifted down: the use of the modifier.
 const MODIFIER_USE_BITS: u8 = 0x03;
 
-/// The modifier use of a base unit that is divided by the modifier.
+/// Modifier use: the base unit is divided by the modifier.
 const DIVIDED: u8 = 1;
 
-/// The modifier use of a base unit that is multiplied by the modifier.
+/// Modifier use: the base unit is multiplied by the modifier.
 const MULTIPLIED: u8 = 2;
 
 /// Bits 5:3 of sensor units 1, shifted down: the rate.
@@ -57,7 +57,7 @@ const RATE_BITS: u8 = 0x07;
 /// Bit 0 of sensor units 1: the reading is a percentage.
 const PERCENTAGE: u8 = 0x01;
 
-/// The rates, by bits 5:3 of sensor units 1.
+/// The rates, indexed by bits 5:3 of sensor units 1.
 const RATES: [&str; 8] = [
     "", "per us", "per ms", "per s", "per min", "per hour", "per day", "",
 ];
@@ -77,12 +77,12 @@ fn unit_name(code: u8) -> Option<&'static str>
     name_at(UNITS.as_slice(), usize::from(code))
 }
 
-/// A base or modifier unit, printed as its name, or as `unit 0xNN` where it has none.
+/// A base or modifier unit, printed as its name, or as `unit 0xNN` if it has none.
 #[derive(Clone, Copy)]
 struct UnitName(u8);
 
 impl UnitName {
-    /// Whether it is printed as something.
+    /// Whether its text is not empty.
     fn prints_something(self) -> bool
         ensures { result ≡ is_not_empty (unit_name_or_code self.0) }
     {
@@ -109,7 +109,7 @@ impl fmt::Display for UnitName {
     }
 }
 
-/// A base unit and its modifier, which bits 2:1 of sensor units 1 join to it.
+/// A base unit and its modifier, joined as bits 2:1 of sensor units 1 say.
 #[derive(Clone, Copy)]
 struct BaseUnit(Units);
 
@@ -143,16 +143,15 @@ impl fmt::Display for BaseUnit {
     }
 }
 
-/// The space between two parts, where both are printed.
+/// The space between two parts, if both are printed.
 fn gap(before: bool, after: bool) -> &'static str
     ensures { result.now ≡ (if before && after then codes " " else []) }
 {
     if before && after { " " } else { "" }
 }
 
-/// The units of a sensor by its bytes sensor units 1, base unit and modifier unit (IPMI v2.0, tables
-/// 43-1 and 43-15), printed as percent, base unit with modifier, and rate, of which those that are not
-/// empty are joined by one space.
+/// The units of a sensor: its bytes sensor units 1, base unit and modifier unit (IPMI v2.0, tables 43-1 and 43-15).
+/// Printed as percent, base unit with modifier, and rate; the parts that are not empty are joined by one space.
 #[derive(Clone, Copy, Debug, PartialEq, Eq)]
 pub struct Units {
     /// Sensor units 1: the rate, how the modifier is used, percentage.
@@ -164,7 +163,7 @@ pub struct Units {
 }
 
 impl Units {
-    /// Rate, modifier use and percentage, 0 where nothing is joined to the base unit.
+    /// Rate, modifier use and percentage; 0 if nothing is joined to the base unit.
     fn joined_bits(self) -> u8
         ensures { result ≡ self.units1 % 64 }
     {
@@ -189,14 +188,14 @@ impl Units {
         }
     }
 
-    /// The rate, nothing where there is none.
+    /// The rate, empty if there is none.
     fn rate(self) -> &'static str
         ensures { result.now ≡ rate_part self.units1 }
     {
         name_at(RATES.as_slice(), usize::from(self.units1 >> 3 & RATE_BITS)).unwrap_or("")
     }
 
-    /// What they print as, where that is the name of the base unit and no more.
+    /// Their whole text, if that is only the name of the base unit.
     #[tactic(auto, using(crate::proofs::UnitLemmas::unit_text_of_plain))]
     fn plain_name(self) -> Option<&'static str>
         ensures { IfSome result (λ name. name.now ≡ unit_text_of self.units1 self.base
@@ -209,7 +208,7 @@ impl Units {
         }
     }
 
-    /// Whether they print as something.
+    /// Whether their text is not empty.
     #[tactic(auto, using(crate::proofs::UnitLemmas::is_not_empty_join_with_byte))]
     fn prints_something(self) -> bool
         ensures { result ≡ is_not_empty (unit_text_of self.units1 self.base self.modifier) }
@@ -239,7 +238,7 @@ impl fmt::Display for Units {
     }
 }
 
-/// The space before units, where they are not empty.
+/// The space before units, if their text is not empty.
 fn gap_before(units: Units) -> &'static str
     ensures { result.now ++ unit_text_of units.units1 units.base units.modifier ≡ after_space
         (unit_text_of units.units1 units.base units.modifier) }
@@ -247,7 +246,7 @@ fn gap_before(units: Units) -> &'static str
     if units.prints_something() { " " } else { "" }
 }
 
-/// Appends a space and a text, and nothing where that is empty.
+/// Appends a space and a text, or nothing if the text is empty.
 #[tactic(auto, using(crate::proofs::UnitLemmas::after_space_is))]
 fn push_after_space(text: &mut String, part: &str) -> Result<(), AllocError>
     ensures { OnOk result
@@ -261,12 +260,12 @@ fn push_after_space(text: &mut String, part: &str) -> Result<(), AllocError>
     Ok(())
 }
 
-/// Appends a space and units, and nothing where these print as nothing.
+/// Appends a space and units, or nothing if the text of the units is empty.
 pub fn push_units(text: &mut String, units: Units) -> Result<(), AllocError>
     ensures { OnOk result (string_bytes text.new ≡ string_bytes text.old ++ after_space
         (unit_text_of units.units1 units.base units.modifier)) }
 {
-    // most sensors have a base unit and nothing else
+    // most sensors have only a base unit
     match units.plain_name() {
         Some(name) => push_after_space(text, name),
         None => {
@@ -276,7 +275,7 @@ pub fn push_units(text: &mut String, units: Units) -> Result<(), AllocError>
     }
 }
 
-/// The units of a sensor by its bytes sensor units 1, base unit and modifier unit, as `Units` prints them.
+/// The text of a sensor's units, as `Units` prints them: from its bytes sensor units 1, base unit and modifier unit.
 pub fn unit_text(alloc: Global, units1: u8, base: u8, modifier: u8) -> Result<String, AllocError>
     ensures { IfOk result (λ text. string_bytes text ≡ unit_text_of units1 base modifier) }
 {
