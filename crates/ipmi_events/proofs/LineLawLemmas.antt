@@ -1,18 +1,15 @@
 -- An entry has one line in words.
-use Rattle.std.proofs.Common.{◌≡◌, ◌∙◌, ℕ, ◌/◌, ◌%◌, Option, List, ◌<◌, slice_index, refl, sym, subst, arith}
-use Rattle.std.specs.List.{filter}
+use Rattle.std.proofs.Common.{◌≡◌, ◌∙◌, ℕ, Option, List, ◌<◌, slice_index, refl, sym, arith}
 use Rattle.std.proofs.lemmas.Grind.{common_steps}
 use Rattle.ipmi_text.specs.Bytes.{AreBytes}
 use Rattle.ipmi_text.specs.Laws.{UtcTextExists, UtcTextIsUnique}
 use Rattle.ipmi_text.specs.Times.{IsUtcTextOf}
 use Rattle.ipmi_records.specs.Laws.{SelLineIsUnique}
-use Rattle.ipmi_records.specs.Prelude.{entry_bytes, generator_id, IsSelLine, sensor_number, time_stamp}
+use Rattle.ipmi_records.specs.Prelude.{entry_bytes, IsSelLine, time_stamp}
 use Rattle.ipmi_records.specs.declared.sdr.SdrView.{SdrView}
 use Rattle.ipmi_records.specs.declared.sel.SelView.{SelView}
 use Rattle.ipmi_events.specs.EventLines.{full_of, IsEventInWords, IsEventLineInWords, record_for}
 use Rattle.ipmi_events.specs.Laws.{DetailsAreUnique, DetailsExist}
-use Rattle.ipmi_events.specs.Sensors.{is_whole_record}
-use Rattle.ipmi_events.proofs.RecordLemmas.{same_sensors}
 
 slice_index-lt : (bytes : List ℕ) → AreBytes bytes → (k : ℕ) → slice_index bytes k < 256
 slice_index-lt bytes are k = grind (arith, common_steps)
@@ -50,11 +47,3 @@ module _ (utc_text : UtcTextExists) (sel_line : (id : ℕ) (view : SelView) → 
   event_in_words id (SelView.OemTimed bytes) records = sel_line id (SelView.OemTimed bytes)
   event_in_words id (SelView.OemPlain bytes) records = sel_line id (SelView.OemPlain bytes)
   event_in_words id (SelView.Other bytes) records = sel_line id (SelView.Other bytes)
-
-pub line_of_whole : (id : ℕ) (view : SelView) (records : List (List ℕ)) (text : List ℕ)
-    → IsEventInWords id view (filter is_whole_record records) text → IsEventInWords id view records text
-line_of_whole id (SelView.Event bytes) records text line =
-    subst (λ (v : Option SdrView). IsEventLineInWords id bytes v text) (same_sensors (generator_id bytes % 256) (generator_id bytes / 256 % 4) (sensor_number bytes) records) line
-line_of_whole id (SelView.OemTimed bytes) records text line = line
-line_of_whole id (SelView.OemPlain bytes) records text line = line
-line_of_whole id (SelView.Other bytes) records text line = line

@@ -1,16 +1,12 @@
 -- Records one after another.
-use Rattle.std.proofs.Common.{◌≡◌, ◌∙◌, ℕ, zero, suc, ◌+◌, ◌≤◌, ◌==◌, ◌&&◌, nat_le, nat_lt, not, Bool, true, false, if◌then◌else◌, None, Some, Result, Ok, Err, List, [], ◌∷◌, ◌++◌, length, take, drop, filter_map, refl, sym, ap, arith}
-use Rattle.std.specs.List.{AllPass, concat, cons_option, filter, find}
-use Rattle.std.specs.Result.{result_ok}
+use Rattle.std.proofs.Common.{◌≡◌, ◌∙◌, ℕ, zero, suc, ◌+◌, ◌≤◌, nat_le, Bool, true, false, if◌then◌else◌, None, Some, List, [], ◌∷◌, ◌++◌, length, take, drop, refl, sym, ap, arith}
+use Rattle.std.specs.List.{AllPass, concat}
 use Rattle.std.proofs.lemmas.Bool.Decides.{nat_tests}
 use Rattle.std.proofs.lemmas.List.{length-append, length-drop, length-take-le, get_or_append_left}
-use Rattle.std.proofs.lemmas.List.Elements.{All-cons, All-head, All-nil, All-tail}
+use Rattle.std.proofs.lemmas.List.Elements.{All-head, All-tail}
 use Rattle.std.proofs.Math.Seq.{take-append_seam, drop-append_seam}
 use Rattle.ipmi_text.specs.SdrHeader.{sdr_len}
-use Rattle.ipmi_records.specs.Prelude.{least_len, record_type, sdr_view_by_type}
-use Rattle.ipmi_records.specs.declared.sdr.SdrFault.{SdrFault}
-use Rattle.ipmi_records.specs.declared.sdr.SdrView.{SdrView}
-use Rattle.ipmi_events.specs.Sensors.{first_record, first_records, is_of_sensor, is_whole_record, records_in, sensor_for, view_of}
+use Rattle.ipmi_events.specs.Sensors.{first_record, first_records, is_whole_record, records_in}
 
 no_records : (most : ℕ) → first_records most [] ≡ []
 unfolding first_records
@@ -106,41 +102,3 @@ records_in-concat [] all = last_by_len [] refl
 records_in-concat (bytes ∷ records) all =
     first_of_two bytes (concat records) (All-head (λ b. is_whole_record b ≡ true) bytes records all)
     ∙ ap (λ (l : List (List ℕ)). bytes ∷ l) (records_in-concat records (All-tail (λ b. is_whole_record b ≡ true) bytes records all))
-
--- ---- records that are not whole
-
-pub kept_whole : (records : List (List ℕ))
-    → AllPass is_whole_record (filter is_whole_record records)
-kept_whole [] = All-nil (λ b. is_whole_record b ≡ true)
-kept_whole (bytes ∷ records) = by (is_whole_record bytes) refl (kept_whole records)
-  where
-    by : (whole : Bool) → is_whole_record bytes ≡ whole
-        → AllPass is_whole_record (filter is_whole_record records)
-        → AllPass is_whole_record (if whole then bytes ∷ filter is_whole_record records else filter is_whole_record records)
-    by true is all = All-cons (λ b. is_whole_record b ≡ true) bytes (filter is_whole_record records) is all
-    by false is all = all
-
-no_view : (bytes : List ℕ) → is_whole_record bytes ≡ false → view_of bytes ≡ None
-no_view bytes = by (nat_lt (length bytes) 5) (length bytes == sdr_len bytes) (if nat_lt (length bytes) (least_len (record_type bytes)) then Err SdrFault.BodyShort else Ok (sdr_view_by_type (record_type bytes) bytes))
-  where
-    by : (short same : Bool) (rest : Result SdrView SdrFault) → (not short && same) ≡ false
-        → result_ok (if short then Err SdrFault.Short else if not same then Err SdrFault.Length else rest) ≡ None
-    by true same rest e = refl
-    by false false rest e = refl
-    by false true rest e = absurd (grind (arith, e))
-
-same_views : (records : List (List ℕ))
-    → filter_map view_of (filter is_whole_record records) ≡ filter_map view_of records
-same_views [] = refl
-same_views (bytes ∷ records) = by (is_whole_record bytes) refl (same_views records)
-  where
-    by : (whole : Bool) → is_whole_record bytes ≡ whole
-        → filter_map view_of (filter is_whole_record records) ≡ filter_map view_of records
-        → filter_map view_of (if whole then bytes ∷ filter is_whole_record records else filter is_whole_record records)
-        ≡ cons_option (view_of bytes) (filter_map view_of records)
-    by true is e = ap (cons_option (view_of bytes)) e
-    by false is e = rw (no_view bytes is) e
-
-pub same_sensors : (owner lun number : ℕ) (records : List (List ℕ))
-    → sensor_for owner lun number (filter is_whole_record records) ≡ sensor_for owner lun number records
-same_sensors owner lun number records = ap (find (is_of_sensor owner lun number)) (same_views records)

@@ -1,4 +1,4 @@
--- What event data 2 and 3 say (IPMI v2.0, section 29.7).
+-- The details in event data 2 and 3 (IPMI v2.0, section 29.7).
 use Rattle.std.specs.Prelude.{◌≡◌, ℕ, ◌==◌, Bool, true, false, List, Option}
 use Rattle.ipmi_events.specs.declared.event_data.EventData.{EventData}
 use Rattle.ipmi_events.specs.Discrete.{discrete_details}
@@ -9,7 +9,8 @@ abbrev pub AreDetails : Bool → EventData → Option (List ℕ) → List ℕ �
 AreDetails true event full text = IsThresholdDetails event full text
 AreDetails false event full text = text ≡ discrete_details event
 
--- of a threshold event (type 01h), and of others, by the full record of its sensor if there is one
+-- the details of a threshold event (type 01h) or another event, with the full record of its sensor
+-- if there is one
 abbrev pub IsDetails : List ℕ → Option (List ℕ) → List ℕ → Type 0
 IsDetails bytes full text =
     AreDetails ((data_of bytes).event_type == 0x01) (data_of bytes) full text

@@ -1,4 +1,4 @@
--- What event data 2 and 3 of a discrete event say (IPMI v2.0, table 29-6).
+-- The details in event data 2 and 3 of a discrete event (IPMI v2.0, table 29-6).
 use Rattle.std.specs.Prelude.{ℕ, ◌/◌, ◌%◌, ◌==◌, if◌then◌else◌, false, List, [], ◌∷◌, ◌++◌, codes}
 use Rattle.ipmi_text.specs.Hex.{hex_byte}
 use Rattle.ipmi_events.specs.declared.event_data.Byte.{Byte}
@@ -8,7 +8,7 @@ use Rattle.ipmi_events.specs.Extensions.{fields_of, fields_text}
 use Rattle.ipmi_events.specs.Parts.{parts_text}
 use Rattle.ipmi_events.specs.Words.{event_in_words}
 
--- ---- bytes that no table gives words
+-- ---- bytes without words in a table
 
 abbrev pub data_label : Byte → List ℕ
 data_label Byte.Two = codes "data 2 0x"
@@ -19,13 +19,14 @@ raw_part byte value = (data_label byte ++ hex_byte value) ∷ []
 
 -- ---- the previous state and the severity
 
--- a state, unless its offset is Fh, unspecified
+-- a state, unless its offset is Fh (unspecified)
 unfoldable pub state_part : List ℕ → ℕ → ℕ → ℕ → List (List ℕ)
 state_part label event_type sensor_type offset =
     if offset == 0x0f then []
     else (label ++ event_in_words event_type sensor_type offset) ∷ []
 
--- bits 3:0 of event data 2 are the previous state, by the event's own type, and bits 7:4 the severity, by type 07h
+-- bits 3:0 of event data 2 are the previous state, an offset of the event's own type; bits 7:4 are
+-- the severity, an offset of type 07h
 abbrev pub states_parts : EventData → List (List ℕ)
 states_parts event =
     state_part (codes "was ") event.event_type event.sensor_type (event.second % 16)
@@ -38,7 +39,7 @@ abbrev pub or_raw : Byte → ℕ → List (List ℕ) → List (List ℕ)
 or_raw byte value [] = raw_part byte value
 or_raw byte value (part ∷ parts) = part ∷ parts
 
--- what table 42-3 says of the byte, for the event/reading type that it is of
+-- the text of the byte by table 42-3, which is for event/reading type 6Fh only
 abbrev pub extension_parts : Byte → EventData → ℕ → List (List ℕ)
 extension_parts byte event value =
     or_raw byte value
@@ -53,7 +54,7 @@ byte_parts Byte.Three Holding.Value event value = []
 byte_parts byte Holding.Oem event value = raw_part byte value
 byte_parts byte Holding.Extension event value = extension_parts byte event value
 
--- what event data 2 says, and then what event data 3 says
+-- the parts of event data 2, then those of event data 3
 abbrev pub discrete_details : EventData → List ℕ
 discrete_details event =
     parts_text false

@@ -4,8 +4,9 @@ use Rattle.ipmi_text.specs.Hex.{hex_byte}
 use Rattle.ipmi_records.specs.declared.entity.Entity.{Entity}
 use Rattle.ipmi_events.specs.Table.{reserved, words_at}
 
--- the names, from entity id 00h on, some of them shortened; 40h to 42h are 37h, 03h and 07h again (for DCMI). From 43h
--- on there are none: up to 8Fh they are reserved, to AFh the chassis's own, to CFh the board set's, to FFh the maker's.
+-- The names, starting at entity id 00h, some of them shortened. 40h to 42h repeat 37h, 03h and 07h
+-- (for DCMI). There are no names from 43h: ids to 8Fh are reserved, to AFh chassis-specific, to CFh
+-- board-set-specific, to FFh OEM.
 abbrev pub entities : List (List ℕ)
 entities =
     codes "unspecified" ∷

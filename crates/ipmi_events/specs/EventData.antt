@@ -4,8 +4,8 @@ use Rattle.ipmi_records.specs.Sel.{event_data, event_type, is_deasserted, sensor
 use Rattle.ipmi_events.specs.declared.event_data.EventData.{EventData}
 use Rattle.ipmi_events.specs.declared.event_data.Holding.{Holding}
 
--- what two bits of event data 1 say that event data 2 or 3 holds; a byte of FFh is unspecified (table 29-6), unless it
--- is an extension code
+-- what event data 2 or 3 contains, according to two bits of event data 1; a byte of FFh is
+-- unspecified (table 29-6), unless it is an extension code
 abbrev pub held_by : ℕ → ℕ → Holding
 held_by bits byte =
     if bits == 0 then Holding.Nothing
@@ -18,7 +18,7 @@ held_by bits byte =
 abbrev pub event_data_at : ℕ → List ℕ → ℕ
 event_data_at n bytes = slice_index (event_data bytes) (n - 1)
 
--- event data 1 has the offset in bits 3:0, and what event data 2 and 3 hold in bits 7:6 and 5:4
+-- event data 1 has the offset in bits 3:0; bits 7:6 and 5:4 say what event data 2 and 3 contain
 abbrev pub data_of : List ℕ → EventData
 data_of bytes = record {
   event_type = event_type bytes;

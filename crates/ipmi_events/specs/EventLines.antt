@@ -1,4 +1,5 @@
--- The line of an entry in words (the project's own): when an event came, from what sensor, and what it says.
+-- The line of an entry in words (the project's own): the time, the sensor and the words of an
+-- event.
 use Rattle.std.specs.Prelude.{◌≡◌, ℕ, ◌/◌, ◌%◌, Option, Some, None, List, [], ◌∷◌, ◌++◌, codes, slice_index}
 use Rattle.ipmi_text.specs.Hex.{hex_word}
 use Rattle.ipmi_text.specs.Times.{IsUtcTextOf}
@@ -13,20 +14,20 @@ use Rattle.ipmi_events.specs.Words.{event_in_words}
 
 -- ---- the sensor
 
--- the record of the sensor that the event is from: its owner is the low byte of the generator id, and bits 1:0 of the
--- high byte are the LUN (IPMI v2.0, table 32-1)
+-- the record of the event's sensor: the owner is the low byte of the generator id, and the LUN is
+-- bits 1:0 of the high byte (IPMI v2.0, table 32-1)
 abbrev pub record_for : List ℕ → List (List ℕ) → Option SdrView
 record_for event records =
     sensor_for (generator_id event % 256) (generator_id event / 256 % 4)
     (sensor_number event) records
 
--- a name, or another text where it is empty
+-- a name, or another text if the name is empty
 abbrev pub name_or : List ℕ → List ℕ → List ℕ
 name_or other [] = other
 name_or other (c ∷ name) = c ∷ name
 
--- the name of the event's sensor, whether or not its record has the event's sensor type; without a name, what it senses
--- and its number
+-- the name of the event's sensor, even if its record has another sensor type than the event;
+-- without a name, its type and number
 abbrev pub sensor_column : List ℕ → Option SdrView → List ℕ
 sensor_column event None = numbered_sensor (sensor_type event) (sensor_number event)
 sensor_column event (Some view) =
@@ -44,12 +45,12 @@ full_of _ = None
 abbrev pub event_offset : List ℕ → ℕ
 event_offset event = slice_index (event_data event) 0 % 16
 
--- a column of the details, where there are some
+-- a column of the details, if there are any
 abbrev pub details_columns : List ℕ → List (List ℕ)
 details_columns [] = []
 details_columns (c ∷ details) = (c ∷ details) ∷ []
 
--- what follows the other columns
+-- the text after the other columns
 abbrev pub details_column : List ℕ → List ℕ
 details_column [] = []
 details_column (c ∷ details) = codes " | " ++ (c ∷ details)
@@ -68,7 +69,7 @@ pub record IsEventLineInWords (id : ℕ) (event : List ℕ) (view : Option SdrVi
       ∷ direction_text (is_deasserted event)
       ∷ details_columns details)
 
--- an entry that is no event has the line that `sel list` prints
+-- an entry that is not an event has the line of `sel list`
 abbrev pub IsEventInWords : ℕ → SelView → List (List ℕ) → List ℕ → Type 0
 IsEventInWords id (SelView.Event bytes) records text =
     IsEventLineInWords id bytes (record_for bytes records) text

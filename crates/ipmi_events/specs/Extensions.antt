@@ -1,4 +1,4 @@
--- What event data 2 and 3 say by an extension code (IPMI v2.0, table 42-3).
+-- The extension codes in event data 2 and 3 (IPMI v2.0, table 42-3).
 use Rattle.std.specs.Prelude.{ℕ, ◌/◌, ◌%◌, ◌==◌, ◌&&◌, nat_le, Bool, if◌then◌else◌, List, [], ◌∷◌, ◌++◌, codes, decimal, Option, Some, None, option_map, option_to_list, unwrap_or}
 use Rattle.ipmi_text.specs.Hex.{hex_byte}
 use Rattle.ipmi_events.specs.declared.event_data.Byte.{Byte}
@@ -35,7 +35,7 @@ firmware_errors =
     codes "CPU voltage mismatch" ∷
     codes "CPU speed matching failure" ∷ []
 
--- how far the system firmware has come
+-- system firmware progress codes
 abbrev pub firmware_stages : List (List ℕ)
 firmware_stages =
     codes "Unspecified" ∷
@@ -65,19 +65,19 @@ firmware_stages =
     codes "Pointing device test" ∷
     codes "Primary processor initialization" ∷ []
 
--- directions of events
+-- event directions
 abbrev pub directions : List (List ℕ)
 directions =
     codes "deassertion" ∷
     codes "assertion" ∷ []
 
--- what the number of a processor is
+-- kinds of processor numbers
 abbrev pub processor_numbers : List (List ℕ)
 processor_numbers =
     codes "Entity Instance number" ∷
     codes "Vendor-specific processor number" ∷ []
 
--- what was done to the auxiliary log
+-- actions on the auxiliary log
 abbrev pub log_entry_actions : List (List ℕ)
 log_entry_actions =
     codes "entry added" ∷
@@ -94,23 +94,23 @@ log_types =
     codes "OEM 1" ∷
     codes "OEM 2" ∷ []
 
--- which event of a pair this is
+-- the position of an event in a pair of events
 abbrev pub of_pair : List (List ℕ)
 of_pair =
     codes "first of pair" ∷
     codes "second of pair" ∷ []
 
--- clocks of time stamps
+-- time stamp clocks
 abbrev pub clocks : List (List ℕ)
 clocks =
     codes "SEL Timestamp Clock updated" ∷
     codes "SDR Timestamp Clock updated" ∷ []
 
--- power states at the time of a request for another
+-- power states when another state was requested, or unknown
 abbrev pub acpi_states_or_unknown : List (List ℕ)
 acpi_states_or_unknown = acpi_states ++ (codes "unknown" ∷ [])
 
--- causes of a restart, as Get System Restart Cause gives them (section 28.11)
+-- causes of a restart, as in Get System Restart Cause (section 28.11)
 abbrev pub restart_causes : List (List ℕ)
 restart_causes =
     codes "unknown" ∷
@@ -143,7 +143,7 @@ slot_types =
     codes "SATA / SAS" ∷
     codes "USB" ∷ []
 
--- interrupts before the watchdog's timer expires
+-- interrupts of the watchdog timer
 abbrev pub watchdog_interrupts : List (List ℕ)
 watchdog_interrupts =
     codes "none" ∷
@@ -163,7 +163,7 @@ watchdog_interrupts =
     reserved ∷
     codes "unspecified" ∷ []
 
--- what the watchdog's timer was used for
+-- uses of the watchdog timer
 abbrev pub watchdog_uses : List (List ℕ)
 watchdog_uses =
     reserved ∷
@@ -183,13 +183,13 @@ watchdog_uses =
     reserved ∷
     codes "unspecified" ∷ []
 
--- whether a FRU device is a logical one
+-- whether a FRU device is logical
 abbrev pub logical_devices : List (List ℕ)
 logical_devices =
     codes "not a logical FRU device" ∷
     codes "logical FRU device" ∷ []
 
--- user ids that are no user's
+-- user ids that do not identify a user
 abbrev pub unspecified_user : List (List ℕ)
 unspecified_user = codes "unspecified" ∷ []
 
@@ -201,7 +201,7 @@ session_ends =
     codes "Session deactivated by timeout" ∷
     codes "Session deactivated by configuration change" ∷ []
 
--- changes of a version
+-- version changes
 abbrev pub version_changes : List (List ℕ)
 version_changes =
     codes "unspecified" ∷
@@ -229,7 +229,7 @@ version_changes =
     codes "board/FRU replaced with older version" ∷
     codes "board/FRU hardware configuration change" ∷ []
 
--- causes of a change of a FRU's state
+-- causes of a FRU state change
 abbrev pub fru_state_causes : List (List ℕ)
 fru_state_causes =
     codes "Normal State Change" ∷
@@ -251,7 +251,7 @@ fru_state_causes =
 
 -- ---- fields
 
--- a field: its bits under some offsets of a sensor type, printed after a label
+-- a field: bits of a byte for some offsets of a sensor type, printed after a label
 pub record ExtensionField : Type 0 where
   pub sensor_type : ℕ
   pub first_offset : ℕ
@@ -273,8 +273,9 @@ field type first last bits label form words = record {
   words = words;
 }
 
--- those of event data 2, by sensor type, first and last offset, and bits. Offsets 04h to 07h of type 23h are reserved.
--- Where the state before is not known, type 2Ch has the event's own offset in bits 3:0.
+-- The fields of event data 2, by sensor type, first and last offset, and bits. Offsets 04h to 07h
+-- of type 23h are reserved. If the previous state is unknown, bits 3:0 of type 2Ch are the event's
+-- own offset.
 abbrev pub fields_of_second : List ExtensionField
 fields_of_second =
     field 0x05 0x04 0x04 Bits.All (codes "network controller ") Form.Decimal [] ∷
@@ -308,8 +309,8 @@ fields_of_second =
     field 0x2c 0x00 0x07 Bits.From7To4 [] Form.Words fru_state_causes ∷
     field 0x2c 0x00 0x07 Bits.From3To0 (codes "was ") Form.Words fru_state ∷ []
 
--- those of event data 3, by sensor type, first and last offset, and bits. With bit 5 set under offset 01h of type 10h,
--- bits 4:0 have no meaning; they are printed all the same.
+-- The fields of event data 3, by sensor type, first and last offset, and bits. If bit 5 is set for
+-- offset 01h of type 10h, bits 4:0 have no meaning, but they are still printed.
 abbrev pub fields_of_third : List ExtensionField
 fields_of_third =
     field 0x08 0x06 0x06 Bits.From3To0 [] Form.Words power_supply_errors ∷
@@ -330,9 +331,9 @@ unfoldable pub fields_of : Byte → List ExtensionField
 fields_of Byte.Two = fields_of_second
 fields_of Byte.Three = fields_of_third
 
--- ---- what a field says
+-- ---- the text of a field
 
--- the number that bits of a byte are
+-- the number in bits of a byte
 abbrev pub bits_of : Bits → ℕ → ℕ
 bits_of Bits.All byte = byte
 bits_of Bits.Bit7 byte = byte / 128
@@ -353,31 +354,32 @@ bits_of Bits.Bit0 byte = byte % 2
 abbrev pub value_in : ExtensionField → ℕ → ℕ
 value_in field byte = bits_of field.bits byte
 
--- an event has the field
+-- the event has the field
 abbrev pub is_of : ExtensionField → EventData → Bool
 is_of field event =
     field.sensor_type == event.sensor_type && (nat_le field.first_offset event.offset
     && nat_le event.offset field.last_offset)
 
--- a flag is its label alone, where its bit is set; a number is in decimal, where the table has no words of it
+-- a flag is its label alone, if its bit is set; a number is in decimal, if the table has no words
+-- for it
 abbrev pub text_in_form : Form → List (List ℕ) → ℕ → Option (List ℕ)
 text_in_form Form.Words words value = words_at words value
 text_in_form Form.Flag words value = if value == 0 then None else Some []
 text_in_form Form.Decimal words value = Some (unwrap_or (words_at words value) (decimal value))
 text_in_form Form.Hex words value = Some (codes "0x" ++ hex_byte value)
 
--- words after a label, if there are some
+-- words after a label, if there are any
 abbrev pub words_parts : List ℕ → Option (List ℕ) → List (List ℕ)
 words_parts label words = option_to_list (option_map (λ text. label ++ text) words)
 
--- what it says of a byte, if the event has it
+-- the text of a field of a byte, if the event has that field
 unfoldable pub field_parts : ExtensionField → EventData → ℕ → List (List ℕ)
 field_parts field event byte =
     if is_of field event
     then words_parts field.label (text_in_form field.form field.words (value_in field byte))
     else []
 
--- what fields say of a byte, in their order
+-- the texts of fields of a byte, in order
 unfoldable pub fields_text : List ExtensionField → EventData → ℕ → List (List ℕ)
 fields_text [] event byte = []
 fields_text (field ∷ fields) event byte =

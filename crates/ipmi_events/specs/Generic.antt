@@ -1,4 +1,5 @@
--- The words of the generic event/reading types (IPMI v2.0, table 42-2), its remarks in brackets left out.
+-- The words of the generic event/reading types (IPMI v2.0, table 42-2), without the remarks in
+-- brackets.
 use Rattle.std.specs.Prelude.{ℕ, ◌==◌, List, [], ◌∷◌, codes, Option, if◌then◌else◌}
 use Rattle.ipmi_text.specs.Events.{event_name}
 use Rattle.ipmi_events.specs.Table.{table_from_one, words_at}
@@ -22,7 +23,7 @@ predictive_failure =
     codes "Predictive Failure deasserted" ∷
     codes "Predictive Failure asserted" ∷ []
 
--- type 05h: a limit
+-- type 05h: limit exceeded
 abbrev pub limit : List (List ℕ)
 limit =
     codes "Limit Not Exceeded" ∷
@@ -47,13 +48,13 @@ severities =
     codes "Monitor" ∷
     codes "Informational" ∷ []
 
--- type 08h: presence of a device
+-- type 08h: device presence
 abbrev pub device_presence : List (List ℕ)
 device_presence =
     codes "Device Removed / Device Absent" ∷
     codes "Device Inserted / Device Present" ∷ []
 
--- type 09h: a device that is disabled or enabled
+-- type 09h: device enabled
 abbrev pub device_enabled : List (List ℕ)
 device_enabled =
     codes "Device Disabled" ∷
@@ -92,7 +93,7 @@ device_power_states =
     codes "D2 Power State" ∷
     codes "D3 Power State" ∷ []
 
--- from type 01h on; its own table is empty, for `event_name` has its words
+-- starting at type 01h; the table of 01h is empty, as its words are in `event_name`
 abbrev pub generic_tables : List (List (List ℕ))
 generic_tables =
     [] ∷

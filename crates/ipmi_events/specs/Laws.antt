@@ -1,4 +1,4 @@
--- What the laws of events' lines say, so that a law above them can start from it.
+-- The statements of the laws of events' lines, for laws that build on them.
 use Rattle.std.specs.Prelude.{◌≡◌, ℕ, Option, List}
 use Rattle.ipmi_text.specs.Bytes.{AreBytes}
 use Rattle.ipmi_records.specs.Prelude.{entry_bytes}
@@ -6,19 +6,19 @@ use Rattle.ipmi_records.specs.declared.sel.SelView.{SelView}
 use Rattle.ipmi_events.specs.Details.{IsDetails}
 use Rattle.ipmi_events.specs.EventLines.{IsEventInWords}
 
--- the details of an event are one text, under the full record of its sensor, if it has one
+-- an event has at most one text of details, given the full record of its sensor, if there is one
 abbrev pub DetailsAreUnique : Type 0
 DetailsAreUnique = (event : List ℕ) (full : Option (List ℕ)) (text other : List ℕ)
     → IsDetails event full text → IsDetails event full other → text ≡ other
 
--- an entry has one line in words, under an id and the records of the sensors
+-- an entry has at most one line in words, for an id and the records of the sensors
 abbrev pub EventInWordsIsUnique : Type 0
 EventInWordsIsUnique =
     (id : ℕ) (view : SelView) (records : List (List ℕ)) (text other : List ℕ)
     → AreBytes (entry_bytes view) → IsEventInWords id view records text
     → IsEventInWords id view records other → text ≡ other
 
--- an event has details, of which the text may be empty
+-- an event has details; their text may be empty
 abbrev pub DetailsExist : Type 0
 DetailsExist =
     (event : List ℕ) (full : Option (List ℕ)) → (text : List ℕ) × IsDetails event full text

@@ -12,13 +12,13 @@ use Rattle.ipmi_records.specs.declared.sharing.Sharing.{Sharing}
 abbrev pub letter : ℕ → ℕ
 letter n = 0x41 + n
 
--- `A` to `Z`, then `AA`, `AB` and so on; more than two letters are never needed
+-- `A` to `Z`, then `AA`, `AB` and so on; two letters are always enough
 abbrev pub letters : ℕ → List ℕ
 letters n =
     if nat_lt n 26 then letter n ∷ []
     else letter (n / 26 - 1) ∷ letter (n % 26) ∷ []
 
--- a reserved modifier says nothing
+-- a reserved modifier is empty
 abbrev pub modifier_text : Modifier → ℕ → List ℕ
 modifier_text Modifier.Numeric n = decimal n
 modifier_text Modifier.Alpha n = letters n
@@ -26,8 +26,9 @@ modifier_text Modifier.Reserved n = []
 
 -- ---- names
 
--- what tells the sensor with this number from the others that share its record: the offset, and one more for each
--- number after the record's own (none for a number below it); nothing where the record is not shared
+-- the suffix of the sensor with this number among those that share its record: the offset plus the
+-- distance from the record's own number (0 for a number below it); empty if the record is not
+-- shared
 abbrev pub suffix_of : Option Sensor → Option Sharing → ℕ → List ℕ
 suffix_of (Some sensor) (Some sharing) number =
     if nat_lt 1 sharing.count
@@ -35,13 +36,13 @@ suffix_of (Some sensor) (Some sharing) number =
     else []
 suffix_of _ _ number = []
 
--- a text and what follows it; nothing follows an empty one
+-- a text with its suffix; an empty text gets none
 abbrev pub followed_by : List ℕ → List ℕ → List ℕ
 followed_by suffix [] = []
 followed_by suffix (c ∷ text) = (c ∷ text) ++ suffix
 
--- the name of the sensor with this number: that of its record, with the sensor's own suffix; a record without a name
--- gives its sensors none
+-- the name of the sensor with this number: that of its record, with the sensor's own suffix;
+-- without a name of the record, its sensors have none
 abbrev pub sensor_name : SdrView → ℕ → List ℕ
 sensor_name view number =
     followed_by (suffix_of (sensor_of view) (sharing_of view) number) (printed_name view)

@@ -1,24 +1,33 @@
 -- The block of a sensor (the project's own).
-use Rattle.std.specs.Prelude.{◌≡◌, ℕ, Option, List, [], ◌∷◌, ◌++◌, codes, decimal}
+use Rattle.std.specs.Prelude.{◌≡◌, ℕ, nat_lt, if◌then◌else◌, Option, Some, None, List, [], ◌∷◌, ◌++◌, codes, decimal}
 use Rattle.std.specs.List.{concat}
-use Rattle.ipmi_events.specs.Below.{AreThresholdTexts, IsSdrBlock, Reading, SdrView, Sensor, byte_h, labelled, labelled_lines, sensor_in, sensor_type_text_of, shown_of, thresholds_of, word_h}
+use Rattle.ipmi_events.specs.Below.{AreThresholdTexts, IsSdrBlock, Reading, SdrView, Sensor, Sharing, byte_h, labelled, labelled_lines, printed_name, sensor_in, sensor_type_text_of, sharing_of, shown_of, thresholds_of, word_h}
 use Rattle.ipmi_events.specs.Entities.{entity_in_words}
-use Rattle.ipmi_events.specs.Name.{sensor_name}
 use Rattle.ipmi_events.specs.Shown.{IsReadingInWords}
 use Rattle.ipmi_events.specs.Status.{status_in_words}
 
--- which sensor it is: its record, its name and number, where it is asked for, and what it senses
+-- how many sensors share the record, where it is more than one
+abbrev pub sharing_line : Option Sharing → List ℕ
+sharing_line None = []
+sharing_line (Some sharing) =
+    if nat_lt 1 sharing.count
+    then labelled (codes "Shared by") (decimal sharing.count ++ codes " sensors")
+    else []
+
+-- which sensor it is: its record with the name, its number, those that share the record, where it is asked for, and what
+-- it senses
 abbrev pub identity_lines : ℕ → SdrView → Sensor → List ℕ
 identity_lines id view sensor = labelled_lines (
     (codes "Record", word_h id)
-    ∷ (codes "Name", sensor_name view sensor.number)
+    ∷ (codes "Name", printed_name view)
     ∷ (codes "Sensor", byte_h sensor.number)
-    ∷ (codes "Owner", byte_h sensor.owner ++ (codes " LUN " ++ decimal sensor.lun))
+    ∷ []) ++ (sharing_line (sharing_of view) ++ labelled_lines (
+    (codes "Owner", byte_h sensor.owner ++ (codes " LUN " ++ decimal sensor.lun))
     ∷ (codes "Entity", entity_in_words sensor.entity)
     ∷ (codes "Kind", sensor_type_text_of sensor.sensor_type)
-    ∷ [])
+    ∷ []))
 
--- what it shows, and its status
+-- its reading and its status
 pub record AreShownLines (view : SdrView) (sensor : Sensor) (reading : Option Reading)
     (text : List ℕ) : Type 0 where
   pub column : List ℕ
@@ -26,13 +35,13 @@ pub record AreShownLines (view : SdrView) (sensor : Sensor) (reading : Option Re
   pub text_is : text ≡ labelled (codes "Reading") column
       ++ labelled (codes "Status") (status_in_words sensor (shown_of sensor reading))
 
--- the thresholds that can be read, which only a full record tells
+-- the readable thresholds; only a full record has them
 abbrev pub AreThresholdLines : SdrView → Sensor → List ℕ → Type 0
 AreThresholdLines (SdrView.Full bytes) sensor text =
     AreThresholdTexts bytes (thresholds_of sensor) text
 AreThresholdLines _ sensor text = text ≡ []
 
--- with an empty line at the end; of the sensors that share a record, it is the block of the first
+-- with an empty line at the end; of the sensors that share a record, what is said is that of the first
 pub record IsBlockOfSensor (id : ℕ) (view : SdrView) (sensor : Sensor) (reading : Option Reading)
     (text : List ℕ) : Type 0 where
   pub shown : List ℕ
@@ -42,7 +51,7 @@ pub record IsBlockOfSensor (id : ℕ) (view : SdrView) (sensor : Sensor) (readin
   pub text_is : text ≡ concat (
       identity_lines id view sensor ∷ shown ∷ thresholds ∷ codes "\n" ∷ [])
 
--- the block of a full or a compact record; any other has its block of `sdr get`
+-- the block of a full or a compact record; any other record has the block of `sdr get`
 abbrev pub IsSensorBlock : ℕ → SdrView → Option Reading → List ℕ → Type 0
 IsSensorBlock id (SdrView.Full bytes) reading text =
     IsBlockOfSensor id (SdrView.Full bytes) (sensor_in bytes) reading text

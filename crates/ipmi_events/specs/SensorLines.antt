@@ -1,16 +1,15 @@
 -- The line of a sensor (the project's own).
 use Rattle.std.specs.Prelude.{◌≡◌, ℕ, Bool, true, false, if◌then◌else◌, Option, Some, None, List, [], ◌∷◌, ◌++◌, codes, flat_map}
-use Rattle.ipmi_events.specs.Below.{IsRawValue, IsSdrLine, Reading, SdrView, Sensor, Threshold, byte_h, columns_line, has_thresholds, is_readable, padded_to, sensor_in, shown_of, threshold_in}
+use Rattle.ipmi_events.specs.Below.{IsRawValue, IsSdrLine, Reading, SdrView, Sensor, Threshold, byte_h, columns_line, has_thresholds, is_readable, padded_to, printed_name, sensor_in, shown_of, threshold_in}
 use Rattle.ipmi_events.specs.Entities.{entity_in_words}
-use Rattle.ipmi_events.specs.Name.{sensor_name}
 use Rattle.ipmi_events.specs.Shown.{IsReadingInWords}
 use Rattle.ipmi_events.specs.Status.{status_in_words}
 
 -- ---- thresholds
 
--- They are those that the record has; the sensor is not asked for them (Get Sensor Thresholds).
+-- The thresholds are those in the record; the sensor is not asked for them (Get Sensor Thresholds).
 
--- the bytes of a record that tells thresholds: a full one, of a sensor that has them
+-- the bytes of a record with thresholds: a full record of a sensor that has thresholds
 abbrev pub with_thresholds : SdrView → Option (List ℕ)
 with_thresholds (SdrView.Full bytes) =
     if has_thresholds (sensor_in bytes) then Some bytes else None
@@ -20,7 +19,7 @@ abbrev pub IsValueOrDash : Bool → List ℕ → Threshold → List ℕ → Type
 IsValueOrDash false bytes threshold text = text ≡ codes "-"
 IsValueOrDash true bytes threshold text = IsRawValue bytes (threshold_in threshold bytes) text
 
--- the value of a threshold without its unit, a dash where there is none, or none that can be read
+-- the value of a threshold without its unit, or a dash if there is no readable threshold
 abbrev pub IsThresholdColumn : Option (List ℕ) → Threshold → List ℕ → Type 0
 IsThresholdColumn None threshold text = text ≡ codes "-"
 IsThresholdColumn (Some bytes) threshold text =
@@ -40,28 +39,28 @@ from_lowest =
 
 -- ---- lines
 
--- a text of which `IsText` holds, filled up to a width, is appended
+-- new is old followed by a text that satisfies `IsText`, padded to a width
 pub record AppendsPadded (width : ℕ) (IsText : List ℕ → Type 0) (old new : List ℕ) : Type 0 where
   pub part : List ℕ
   pub is_text : IsText part
   pub text_is : new ≡ old ++ padded_to width part
 
--- so are the columns of thresholds, ` | ` before each
+-- new is old followed by the columns of thresholds, ` | ` before each
 pub record AppendsColumns (record_ : Option (List ℕ)) (thresholds : List Threshold)
     (old new : List ℕ) : Type 0 where
   pub columns : List (List ℕ)
   pub are_columns : AreThresholdColumns record_ thresholds columns
   pub text_is : new ≡ old ++ flat_map (λ column. codes " | " ++ column) columns
 
--- name, number and entity, ` | ` after each
+-- the record's name, the sensor's number and its entity, ` | ` after each
 abbrev pub head_columns : SdrView → Sensor → List ℕ
 head_columns view sensor =
-    padded_to 16 (sensor_name view sensor.number)
+    padded_to 16 (printed_name view)
     ++ (codes " | " ++ (byte_h sensor.number
     ++ (codes " | " ++ (entity_in_words sensor.entity ++ codes " | "))))
 
--- name, number, entity, reading, status, and the thresholds from the lowest to the highest; of the sensors that share a
--- record, it is the line of the first, with the entity instance that the record has
+-- the record's name, as it is searched for by name; number, entity, reading, status, and the thresholds from the lowest
+-- to the highest. Of the sensors that share a record, the number and the reading are those of the first.
 pub record IsLineOfSensor (view : SdrView) (sensor : Sensor) (reading : Option Reading)
     (text : List ℕ) : Type 0 where
   pub column : List ℕ
@@ -69,14 +68,14 @@ pub record IsLineOfSensor (view : SdrView) (sensor : Sensor) (reading : Option R
   pub is_column : IsReadingInWords view reading column
   pub are_thresholds : AreThresholdColumns (with_thresholds view) from_lowest thresholds
   pub text_is : text ≡ columns_line (
-      padded_to 16 (sensor_name view sensor.number)
+      padded_to 16 (printed_name view)
       ∷ byte_h sensor.number
       ∷ entity_in_words sensor.entity
       ∷ padded_to 17 column
       ∷ padded_to 3 (status_in_words sensor (shown_of sensor reading))
       ∷ thresholds)
 
--- the line of a full or a compact record; any other has its line of `sdr list`
+-- the line of a full or a compact record; any other record has the line of `sdr list`
 abbrev pub IsSensorLine : SdrView → Option Reading → List ℕ → Type 0
 IsSensorLine (SdrView.Full bytes) reading text =
     IsLineOfSensor (SdrView.Full bytes) (sensor_in bytes) reading text

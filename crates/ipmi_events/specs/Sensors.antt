@@ -8,14 +8,14 @@ use Rattle.ipmi_records.specs.declared.sdr.SdrView.{SdrView}
 use Rattle.ipmi_records.specs.declared.sensor.Sensor.{Sensor}
 use Rattle.ipmi_records.specs.declared.sharing.Sharing.{Sharing}
 
--- ---- records one after another
+-- ---- concatenated records
 
--- the record that bytes begin with, if all of its bytes are there
+-- the record at the start of the bytes, if it is complete
 abbrev pub first_record : List ℕ → Option (List ℕ)
 first_record bytes =
     if nat_le (sdr_len bytes) (length bytes) then Some (take (sdr_len bytes) bytes) else None
 
--- the records that follow one another from the first byte on, at most so many
+-- the concatenated records from the first byte, at most this many
 unfoldable pub first_records : ℕ → List ℕ → List (List ℕ)
 first_records zero bytes = []
 first_records (suc most) bytes =
@@ -23,24 +23,26 @@ first_records (suc most) bytes =
     then take (sdr_len bytes) bytes ∷ first_records most (drop (sdr_len bytes) bytes)
     else []
 
--- all of them: a record has at least 5 bytes, so that there are not more records than bytes; bytes at the end that are
--- no whole record are left out
+-- all records: a record has at least 5 bytes, so there are at most as many records as bytes; bytes
+-- at the end that are not a whole record are ignored
 unfoldable pub records_in : List ℕ → List (List ℕ)
 records_in bytes = first_records (length bytes) bytes
 
--- a record has its header, and as many bytes as that says
+-- a record has a header and as many bytes as the header says
 abbrev pub is_whole_record : List ℕ → Bool
 is_whole_record bytes = not (nat_lt (length bytes) 5) && (length bytes == sdr_len bytes)
 
 -- ---- the record of a sensor
 
--- how many sensors a record is of; a count of 0 is taken for that of a record which is not shared
+-- the number of sensors that a record describes; a count of 0 is treated as a record that is not
+-- shared
 abbrev pub count_of : Option Sharing → ℕ
 count_of None = 1
 count_of (Some sharing) = if sharing.count == 0 then 1 else sharing.count
 
--- a record of so many sensors is of this one: it has the owner and the LUN, and the numbers follow each other from its
--- own on. Channels are not compared: controllers with one address on two channels are taken for one.
+-- A record of `count` sensors describes this one: it has this owner and LUN, and the numbers of its
+-- sensors are consecutive, starting with its own. Channels are not compared: two controllers with
+-- the same address on different channels are not distinguished.
 abbrev pub is_among : ℕ → ℕ → ℕ → ℕ → Option Sensor → Bool
 is_among owner lun number count None = false
 is_among owner lun number count (Some sensor) =
@@ -55,14 +57,14 @@ is_of_sensor owner lun number view =
 abbrev pub view_of : List ℕ → Option SdrView
 view_of bytes = result_ok (sdr_view_of bytes)
 
--- the record of the sensor with this owner, LUN and number: the first one; records with a fault are passed over
+-- the first record of the sensor with this owner, LUN and number; records with a fault are skipped
 abbrev pub sensor_for : ℕ → ℕ → ℕ → List (List ℕ) → Option SdrView
 sensor_for owner lun number records =
     find (is_of_sensor owner lun number) (filter_map view_of records)
 
 -- ---- the index
 
--- where the place of a sensor's record is kept
+-- the index in the table of places for a sensor
 abbrev pub slot_of : ℕ → ℕ → ℕ → ℕ
 slot_of owner lun number = (lun * 256 + owner) * 256 + number
 
@@ -71,7 +73,7 @@ abbrev pub view_at : List ℕ → ℕ → Option SdrView
 view_at bytes place =
     option_and_then view_of (first_record (drop place bytes))
 
--- a sensor's place is that of its record, or the end of the bytes where it has none
+-- a sensor's place is that of its record, or the end of the bytes if it has none
 abbrev pub IsPlaceOf : List ℕ → ℕ → Option SdrView → Type 0
 IsPlaceOf bytes place view =
     MatchOption view (place ≡ length bytes) (λ v. view_at bytes place ≡ Some v)
@@ -81,11 +83,11 @@ IsIndex bytes records places = (owner lun number : ℕ) → owner < 256 → numb
     → IsPlaceOf bytes (slice_index_or places (slot_of owner lun number) (length bytes))
     (sensor_for owner lun number records)
 
--- a place, where a record is of the sensor and no record before it was
+-- the place of a record, if it is the first record of the sensor; otherwise the old value
 abbrev pub noted : Bool → ℕ → ℕ → ℕ → ℕ
 noted named place none old = if named && (old == none) then place else old
 
--- whether there is a view, and its record is of a sensor
+-- whether there is a view, and its record describes the sensor
 abbrev pub names : ℕ → ℕ → ℕ → Option SdrView → Bool
 names owner lun number None = false
 names owner lun number (Some view) = is_of_sensor owner lun number view

@@ -1,4 +1,4 @@
--- The words of sensor-specific events (IPMI v2.0, table 42-3), its remarks in brackets left out.
+-- The words of sensor-specific events (IPMI v2.0, table 42-3), without the remarks in brackets.
 use Rattle.std.specs.Prelude.{ℕ, List, [], ◌∷◌, ◌++◌, codes, Option}
 use Rattle.ipmi_events.specs.Table.{reserved, table_from_one, words_at}
 
@@ -333,7 +333,7 @@ fru_state =
     codes "FRU Deactivation In Progress" ∷
     codes "FRU Communication Lost" ∷ []
 
--- from sensor type 01h on; [] for a type without sensor-specific offsets
+-- starting at sensor type 01h; [] for a type without sensor-specific offsets
 abbrev pub specific_tables : List (List (List ℕ))
 specific_tables =
     [] ∷

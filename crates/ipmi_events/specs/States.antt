@@ -4,12 +4,12 @@ use Rattle.std.specs.List.{join_by, range_with_len}
 use Rattle.ipmi_events.specs.Below.{Sensor, has_bit}
 use Rattle.ipmi_events.specs.Words.{event_words}
 
--- the words of the event that tells of a state, or else the state's number
+-- the words of a state's event, or else the state's number
 abbrev pub state_words : ℕ → ℕ → ℕ → List ℕ
 state_words event_type sensor_type state =
     unwrap_or (event_words event_type sensor_type state) (codes "state " ++ decimal state)
 
--- the states that are set, of the 15 that there are (IPMI v2.0, section 35.14)
+-- the states that are set, out of 15 (IPMI v2.0, section 35.14)
 abbrev pub set_states : ℕ → List ℕ
 set_states states = filter (λ state. has_bit state states) (range_with_len 0 15)
 

@@ -1,4 +1,5 @@
--- The status of a sensor, with the direction in which it is out of its range (the project's own).
+-- The status of a sensor, which says whether the reading is too low or too high (the project's
+-- own).
 use Rattle.std.specs.Prelude.{ℕ, List, [], ◌∷◌, codes, Option, Some, None, if◌then◌else◌}
 use Rattle.std.specs.List.{find}
 use Rattle.ipmi_events.specs.Below.{Sensor, Shown, Threshold, has_bit, has_thresholds, threshold_bit}
@@ -18,7 +19,7 @@ from_worst =
     ∷ Threshold.UpperCritical ∷ Threshold.LowerCritical
     ∷ Threshold.UpperNonCritical ∷ Threshold.LowerNonCritical ∷ []
 
--- the first of several thresholds that a reading passes: it sets the threshold's bit
+-- the first of several thresholds that the reading has passed: the threshold's bit is set
 abbrev pub first_passed : List Threshold → ℕ → Option Threshold
 first_passed thresholds bits =
     find (λ threshold. has_bit (threshold_bit threshold) bits) thresholds

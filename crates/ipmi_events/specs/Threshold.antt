@@ -1,4 +1,4 @@
--- What event data 2 and 3 of a threshold event say (IPMI v2.0, table 29-6).
+-- The details in event data 2 and 3 of a threshold event (IPMI v2.0, table 29-6).
 use Rattle.std.specs.Prelude.{◌≡◌, ℕ, ◌%◌, ◌==◌, ◌||◌, Bool, true, false, if◌then◌else◌, List, [], ◌++◌, codes, Option, Some, None}
 use Rattle.ipmi_text.specs.Appended.{Appends}
 use Rattle.ipmi_records.specs.Columns.{IsRawText, IsRawValue, raw_byte_text}
@@ -10,34 +10,35 @@ use Rattle.ipmi_events.specs.Parts.{parts_text}
 
 -- ---- the reading and the threshold
 
--- the byte holds a reading or a threshold
+-- the byte contains a reading or a threshold
 abbrev pub has_value : Holding → Bool
 has_value Holding.Value = true
 has_value _ = false
 
--- a raw byte with its units, by the full record of the sensor if there is one
+-- the value of a raw byte with its units, converted by the full record of the sensor if there is
+-- one
 abbrev pub IsReading : Option (List ℕ) → ℕ → List ℕ → Type 0
 IsReading None raw text = text ≡ raw_byte_text raw
 IsReading (Some full) raw text = IsRawText full raw text
 
--- and without its units
+-- the same without units
 abbrev pub IsLimit : Option (List ℕ) → ℕ → List ℕ → Type 0
 IsLimit None raw text = text ≡ raw_byte_text raw
 IsLimit (Some full) raw text = IsRawValue full raw text
 
--- how the reading of an asserted event stands to the threshold: where the two are not equal, an odd offset is of a
--- reading that went high, an even one of a reading that went low (table 42-2)
+-- how the reading of an assertion event compares to the threshold: if they are not equal, an odd
+-- offset means that the reading went high, and an even offset that it went low (table 42-2)
 abbrev pub sign : EventData → List ℕ
 sign event =
     if event.second == event.third then codes " = "
     else if event.offset % 2 == 1 then codes " > "
     else codes " < "
 
--- the reading of a deasserted event is back, so that no sign would be true of it
+-- in a deassertion event the reading has crossed back, so no sign would be correct
 abbrev pub comparison : EventData → List ℕ
 comparison event = if event.is_deasserted then codes ", " else sign event
 
--- the reading, and after it the threshold
+-- the reading, then the threshold
 pub record IsComparison (full : Option (List ℕ)) (event : EventData) (text : List ℕ)
     : Type 0 where
   pub reading : List ℕ
@@ -47,7 +48,7 @@ pub record IsComparison (full : Option (List ℕ)) (event : EventData) (text : L
   pub text_is : text ≡ codes "Reading "
       ++ (reading ++ (comparison event ++ (codes "threshold " ++ limit)))
 
--- of an event that has a reading or not, and a threshold or not
+-- the text for an event with or without a reading, and with or without a threshold
 abbrev pub IsCompared : Bool → Bool → Option (List ℕ) → EventData → List ℕ → Type 0
 IsCompared true true full event text = IsComparison full event text
 IsCompared true false full event text =
@@ -62,7 +63,7 @@ IsComparedOf full event text =
 
 -- ---- codes
 
--- a byte that holds a code, to which the standard gives no words for these events
+-- a byte that contains a code; the standard has no words for it in these events
 abbrev pub code_parts : Byte → Holding → ℕ → List (List ℕ)
 code_parts byte Holding.Nothing value = []
 code_parts byte Holding.Value value = []

@@ -4,7 +4,8 @@ use Rattle.ipmi_text.specs.Hex.{hex_byte}
 use Rattle.ipmi_events.specs.Generic.{generic_words}
 use Rattle.ipmi_events.specs.Specific.{specific_words}
 
--- the words at an offset, if the standard has some: by the event/reading type, and for type 6Fh by the sensor type
+-- the words at an offset, if the standard has any: by the event/reading type, and for type 6Fh by
+-- the sensor type
 unfoldable pub event_words : ℕ → ℕ → ℕ → Option (List ℕ)
 event_words event_type sensor_type offset =
     if event_type == 0x6f then specific_words sensor_type offset

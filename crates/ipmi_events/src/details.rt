@@ -1,4 +1,4 @@
-//! What event data 2 and 3 say (IPMI v2.0, section 29.7).
+//! The details in event data 2 and 3 (IPMI v2.0, section 29.7).
 ghost use Rattle.std.specs.Prelude.{OnOk, option_map, string_bytes};
 ghost use Rattle.ipmi_text.specs.Appended.{Appends};
 ghost use Rattle.ipmi_events.specs.Details.{IsDetails};
@@ -10,9 +10,10 @@ use ipmi_records::{EventEntry, FullSensor};
 use ipmi_text::THRESHOLD_EVENT_TYPE;
 use std::alloc::AllocError;
 
-/// Appends what event data 2 and 3 of an event say (IPMI v2.0, section 29.7, and table 42-3 for the codes of
-/// sensor-specific events), in parts joined by `, `, and nothing where they say nothing. `full` is the full sensor
-/// record of the event's sensor, if it has one: it gives a reading and a threshold their values and units.
+/// Appends the details in event data 2 and 3 of an event (IPMI v2.0, section 29.7, and table 42-3 for the codes of
+/// sensor-specific events). The parts are joined by `, `; without details it appends nothing. `full` is the full
+/// sensor record of the event's sensor, if there is one. It defines the values and units of a reading and a
+/// threshold.
 pub fn push_details(
     text: &mut String,
     event: &EventEntry,

@@ -1,4 +1,4 @@
-//! What event data 2 and 3 of a discrete event say (IPMI v2.0, table 29-6).
+//! The details in event data 2 and 3 of a discrete event (IPMI v2.0, table 29-6).
 ghost use Rattle.std.specs.Prelude.{◌≡◌, ◌++◌, OnOk, IfOk, option_map, string_bytes};
 ghost use Rattle.ipmi_events.specs.Discrete.{byte_parts, data_label, discrete_details, extension_parts, raw_part, state_part, states_parts};
 ghost use Rattle.ipmi_events.specs.Extensions.{field_parts, fields_of, fields_text, words_parts};
@@ -15,10 +15,10 @@ use std::alloc::AllocError;
 /// The event/reading type whose offsets are severities.
 const SEVERITY: u8 = 0x07;
 
-/// The offset that says that a state or a severity is not specified.
+/// The offset of an unspecified state or severity.
 const UNSPECIFIED: u8 = 0x0F;
 
-/// What is printed before a byte of event data.
+/// The label of a byte of event data.
 fn data_label(byte: Byte) -> &'static str
     ensures { result.now ≡ data_label byte }
 {
@@ -28,7 +28,7 @@ fn data_label(byte: Byte) -> &'static str
     }
 }
 
-/// Appends a byte that no table gives words.
+/// Appends a byte without words in a table.
 pub(crate) fn push_raw_part(
     text: &mut String,
     before: bool,
@@ -44,7 +44,7 @@ pub(crate) fn push_raw_part(
     write!(text, "{label}{value}")
 }
 
-/// Appends a state after its label, if it is specified. Gives back whether it is.
+/// Appends a state after its label, if it is specified. Returns whether it is.
 #[tactic(auto, unfolding(crate::specs::Discrete::state_part))]
 fn push_state(
     text: &mut String,
@@ -65,7 +65,7 @@ fn push_state(
     Ok(true)
 }
 
-/// Appends the previous state and the severity that event data 2 holds. Gives back whether it holds one of them.
+/// Appends the previous state and the severity in event data 2. Returns whether there is one of them.
 #[tactic(auto, using(crate::proofs::PartsLemmas::has_parts_append))]
 fn push_states(text: &mut String, before: bool, event: &EventData) -> Result<bool, AllocError>
     ensures text { OnOk result (string_bytes text.new ≡ string_bytes text.old
@@ -87,7 +87,7 @@ fn push_states(text: &mut String, before: bool, event: &EventData) -> Result<boo
     Ok(has_previous | has_severity)
 }
 
-/// Appends words after their label, if there are some. Gives back whether there are.
+/// Appends words after their label, if there are any. Returns whether there are.
 fn push_words(
     text: &mut String,
     before: bool,
@@ -107,7 +107,7 @@ fn push_words(
     Ok(true)
 }
 
-/// Appends what a field says of a byte, if the event has it. Gives back whether it says something.
+/// Appends the text of a field of a byte, if the event has that field. Returns whether anything was appended.
 #[tactic(auto, unfolding(crate::specs::Extensions::field_parts))]
 fn push_field(
     text: &mut String,
@@ -146,7 +146,7 @@ fn push_field(
     }
 }
 
-/// Appends what fields say of a byte. Gives back whether one says something.
+/// Appends the texts of several fields of a byte. Returns whether anything was appended.
 #[tactic(auto, unfolding(crate::specs::Extensions::fields_text))]
 fn push_fields(
     text: &mut String,
@@ -168,7 +168,7 @@ fn push_fields(
     Ok(said)
 }
 
-/// Appends what the table of fields says of a byte. Gives back whether it says something.
+/// Appends the texts of all fields of a byte. Returns whether anything was appended.
 #[tactic(auto, unfolding(crate::specs::Extensions::fields_of))]
 fn push_table(
     text: &mut String,
@@ -188,7 +188,7 @@ fn push_table(
     }
 }
 
-/// Appends what a byte says that holds an extension code.
+/// Appends the text of a byte with an extension code.
 fn push_extension(
     text: &mut String,
     before: bool,
@@ -206,7 +206,7 @@ fn push_extension(
     push_raw_part(text, before, byte, value)
 }
 
-/// Appends what event data 2 or 3 says. Gives back whether it says something.
+/// Appends the text of event data 2 or 3. Returns whether anything was appended.
 #[tactic(auto, using(crate::proofs::PartsLemmas::has_parts_or_raw))]
 fn push_byte(
     text: &mut String,
@@ -238,7 +238,7 @@ fn push_byte(
     }
 }
 
-/// Appends what event data 2 and 3 of a discrete event say.
+/// Appends the details in event data 2 and 3 of a discrete event.
 pub(crate) fn push_discrete_details(text: &mut String, event: &EventData) -> Result<(), AllocError>
     ensures { OnOk result
         (string_bytes text.new ≡ string_bytes text.old ++ discrete_details event.now) }

@@ -7,8 +7,8 @@ use ipmi_records::Entity;
 use ipmi_text::HexByte;
 use std::fmt;
 
-/// The names, from entity id 00h on, some of them shortened. Ids 40h to 42h mean the same as 37h, 03h and 07h. The
-/// standard names none above them (IPMI v2.0, table 43-13).
+/// The names, starting at entity id 00h, some of them shortened. Ids 40h to 42h mean the same as 37h, 03h and 07h.
+/// The standard names no higher ids (IPMI v2.0, table 43-13).
 const ENTITIES: [&str; 67] = [
     "unspecified",
     "other",
@@ -86,7 +86,7 @@ fn entity_name(id: u8) -> Option<&'static str>
     words_at(&ENTITIES, id)
 }
 
-/// An entity id, printed as its name (IPMI v2.0, table 43-13), or as `entity 0xNN` where it has none.
+/// An entity id, printed as its name (IPMI v2.0, table 43-13), or as `entity 0xNN` if it has none.
 #[derive(Clone, Copy, Debug, PartialEq, Eq)]
 pub struct EntityWords(pub u8);
 

@@ -7,13 +7,13 @@ use ipmi_records::EventEntry;
 /// Bits 3:0 of event data 1: the offset.
 const OFFSET_BITS: u8 = 0x0F;
 
-/// Bits 1:0.
+/// The two lowest bits.
 const TWO_BITS: u8 = 0x03;
 
-/// A byte of event data after the first that is unspecified (table 29-6).
+/// The value of an unspecified event data 2 or 3 (table 29-6).
 const UNSPECIFIED: u8 = 0xFF;
 
-/// A byte of event data after the first.
+/// Event data 2 or 3.
 #[derive(Clone, Copy, Debug, PartialEq, Eq)]
 pub(crate) enum Byte {
     /// Event data 2.
@@ -22,21 +22,21 @@ pub(crate) enum Byte {
     Three,
 }
 
-/// What such a byte holds, as two bits of event data 1 say (table 29-6).
+/// What event data 2 or 3 contains, according to two bits of event data 1 (table 29-6).
 #[derive(Clone, Copy, Debug, PartialEq, Eq)]
 pub(crate) enum Holding {
-    /// 00b, or a byte of FFh under 01b or 10b: nothing that is specified.
+    /// 00b, or 01b or 10b with a byte of FFh: unspecified.
     Nothing,
-    /// 01b: in a threshold event the reading or the threshold. In a discrete event event data 2 has the previous state
-    /// and the severity, and the bits of event data 3 are reserved.
+    /// 01b: in a threshold event, the reading or the threshold. In a discrete event, the previous state and the
+    /// severity in event data 2; for event data 3 this is reserved.
     Value,
-    /// 10b: a code of the manufacturer's.
+    /// 10b: an OEM code.
     Oem,
     /// 11b: a sensor-specific extension code.
     Extension,
 }
 
-/// What an event says by its type and data.
+/// The type and the data of an event.
 #[derive(Clone, Copy, Debug, PartialEq, Eq)]
 pub(crate) struct EventData {
     pub(crate) event_type: u8,
@@ -49,7 +49,7 @@ pub(crate) struct EventData {
     pub(crate) third: u8,
 }
 
-/// What two bits of event data 1 say that a byte holds. FFh is no value and no code of the manufacturer's.
+/// What a byte contains, according to two bits of event data 1. FFh is neither a value nor an OEM code.
 fn held_by(bits: u8, byte: u8) -> Holding
     ensures { result ≡ held_by bits byte }
 {
@@ -62,7 +62,7 @@ fn held_by(bits: u8, byte: u8) -> Holding
     }
 }
 
-/// The type and the data of an event.
+/// Reads the type and the data of an event.
 pub(crate) fn data_of(event: &EventEntry) -> EventData
     ensures { result ≡ data_of event.now }
 {

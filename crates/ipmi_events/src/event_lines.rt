@@ -1,4 +1,4 @@
-//! The lines of the event log's entries, with events in words.
+//! The lines of event log entries, with events in words.
 ghost use Rattle.std.specs.Prelude.{◌≡◌, ◌++◌, IfOk, OnOk, option_map, string_bytes};
 ghost use Rattle.ipmi_records.specs.Prelude.{event_type, sensor_type};
 ghost use Rattle.ipmi_events.specs.EventLines.{details_column, event_offset, full_of, IsEventInWords, IsEventLineInWords, record_for, sensor_column};
@@ -26,15 +26,15 @@ const LUN_BITS: u8 = 0x03;
 /// Bits 3:0 of an event's first data byte: its offset.
 const OFFSET_BITS: u8 = 0x0F;
 
-/// The record of the sensor that an event is from.
-fn record_for<'a>(event: &EventEntry, sensors: &'a Sensors) -> Option<SdrView<'a>>
+/// The record of the sensor that an event is from, by a table of sensors.
+pub fn record_for<'a>(event: &EventEntry, sensors: &'a Sensors) -> Option<SdrView<'a>>
     ensures { result ≡ record_for event.now sensors.now }
 {
     let [owner, channel_and_lun] = event.generator_id().to_le_bytes();
     sensors.find(owner, channel_and_lun & LUN_BITS, event.sensor_number())
 }
 
-/// The full sensor record that a record is, if it is one.
+/// The full sensor record, if the record is one.
 fn full_of<'a, 'b>(view: Option<&'b SdrView<'a>>) -> Option<&'b FullSensor<'a>>
     ensures { option_map (λ f. f.now) result ≡ full_of (option_map (λ v. v.now) view.entry) }
 {
@@ -56,7 +56,7 @@ fn words_of(event: &EventEntry) -> EventInWords
     }
 }
 
-/// Appends the name of an event's sensor, or what it senses and its number where it has no name.
+/// Appends the name of an event's sensor, or its type and number if it has no name.
 fn push_sensor(
     alloc: Global,
     line: &mut String,
@@ -88,7 +88,7 @@ fn push_details_column(line: &mut String, details: &str) -> Result<(), AllocErro
     write!(line, " | {details}")
 }
 
-/// The line of an event, whose sensor has this record, if it has one.
+/// The line of an event. `view` is the record of its sensor, if there is one.
 fn event_line_of(
     alloc: Global,
     id: u16,
@@ -113,8 +113,8 @@ fn event_line_of(
     Ok(line)
 }
 
-/// The line of an entry under its id. Of an event it has the time, the name of the sensor, the words, whether it came
-/// or went, and what its data say, in columns joined by ` | `; of any other entry it is what `sel_line` gives.
+/// The line of an entry, with its id. For an event, the columns are the time, the name of the sensor, the words, the
+/// event direction and the details, joined by ` | `. For any other entry it is the line of `sel_line`.
 pub fn event_line(
     alloc: Global,
     id: u16,

@@ -1,4 +1,4 @@
-//! What event data 2 and 3 say by an extension code (IPMI v2.0, table 42-3).
+//! The extension codes in event data 2 and 3 (IPMI v2.0, table 42-3).
 ghost use Rattle.std.specs.Prelude.{◌≡◌, ◌&&◌};
 ghost use Rattle.ipmi_events.specs.Extensions.{bits_of, is_of, value_in};
 
@@ -7,7 +7,7 @@ use crate::specific::{ACPI_STATES, ACPI_STATES_OR_UNKNOWN, FRU_STATE};
 use crate::table::{RESERVED, SILENT};
 use std::marker::Model;
 
-/// The bits of a byte that are a field.
+/// The bits of a field in its byte.
 #[derive(Clone, Copy, Debug, PartialEq, Eq)]
 pub(crate) enum Bits {
     All,
@@ -30,27 +30,27 @@ pub(crate) enum Bits {
 /// How a field is printed.
 #[derive(Clone, Copy, Debug, PartialEq, Eq)]
 pub(crate) enum Form {
-    /// As words out of a table. A field without words is not printed.
+    /// As words from a table. A field without words is not printed.
     Words,
-    /// As its label alone, where its bit is set.
+    /// As its label alone, if its bit is set.
     Flag,
-    /// As a number in decimal, or as words where the table has some of it.
+    /// As words if the table has words for it, otherwise as a decimal number.
     Decimal,
     /// As a byte in hex.
     Hex,
 }
 
-/// A field of an extension code: what bits of event data 2 or 3 say under some offsets of a sensor type.
+/// A field of an extension code: bits of event data 2 or 3 for some offsets of a sensor type.
 #[derive(Clone, Debug, Drop)]
 pub(crate) struct Field {
     sensor_type: u8,
     first_offset: u8,
     last_offset: u8,
     bits: Bits,
-    /// What is printed before it.
+    /// The label printed before it.
     pub(crate) label: &'static str,
     pub(crate) form: Form,
-    /// The words of its codes, none for most numbers.
+    /// The words of its codes. Most numbers have none.
     pub(crate) words: &'static [&'static str],
 }
 
@@ -98,7 +98,7 @@ const FIRMWARE_ERRORS: [&str; 14] = [
     "CPU speed matching failure",
 ];
 
-/// How far the system firmware has come.
+/// System firmware progress codes.
 const FIRMWARE_STAGES: [&str; 26] = [
     "Unspecified",
     "Memory initialization",
@@ -128,13 +128,13 @@ const FIRMWARE_STAGES: [&str; 26] = [
     "Primary processor initialization",
 ];
 
-/// Directions of events.
+/// Event directions.
 const DIRECTIONS: [&str; 2] = ["deassertion", "assertion"];
 
-/// What the number of a processor is.
+/// Kinds of processor numbers.
 const PROCESSOR_NUMBERS: [&str; 2] = ["Entity Instance number", "Vendor-specific processor number"];
 
-/// What was done to the auxiliary log.
+/// Actions on the auxiliary log.
 const LOG_ENTRY_ACTIONS: [&str; 6] = [
     "entry added",
     "entry added because event did not map to standard IPMI event",
@@ -147,13 +147,13 @@ const LOG_ENTRY_ACTIONS: [&str; 6] = [
 /// Auxiliary logs.
 const LOG_TYPES: [&str; 3] = ["MCA Log", "OEM 1", "OEM 2"];
 
-/// Which event of a pair this is.
+/// The position of an event in a pair of events.
 const OF_PAIR: [&str; 2] = ["first of pair", "second of pair"];
 
-/// Clocks of time stamps.
+/// Time stamp clocks.
 const CLOCKS: [&str; 2] = ["SEL Timestamp Clock updated", "SDR Timestamp Clock updated"];
 
-/// Causes of a restart, as Get System Restart Cause gives them (section 28.11).
+/// Causes of a restart, as in Get System Restart Cause (section 28.11).
 const RESTART_CAUSES: [&str; 12] = [
     "unknown",
     "Chassis Control command",
@@ -186,7 +186,7 @@ const SLOT_TYPES: [&str; 13] = [
     "USB",
 ];
 
-/// Interrupts before the watchdog's timer expires.
+/// Interrupts of the watchdog timer.
 const WATCHDOG_INTERRUPTS: [&str; 16] = [
     "none",
     "SMI",
@@ -206,7 +206,7 @@ const WATCHDOG_INTERRUPTS: [&str; 16] = [
     "unspecified",
 ];
 
-/// What the watchdog's timer was used for.
+/// Uses of the watchdog timer.
 const WATCHDOG_USES: [&str; 16] = [
     RESERVED,
     "BIOS FRB2",
@@ -226,10 +226,10 @@ const WATCHDOG_USES: [&str; 16] = [
     "unspecified",
 ];
 
-/// Whether a FRU device is a logical one.
+/// Whether a FRU device is logical.
 const LOGICAL_DEVICES: [&str; 2] = ["not a logical FRU device", "logical FRU device"];
 
-/// User ids that are no user's.
+/// User ids that do not identify a user.
 const UNSPECIFIED_USER: [&str; 1] = ["unspecified"];
 
 /// Why a session was deactivated, if it was.
@@ -240,7 +240,7 @@ const SESSION_ENDS: [&str; 4] = [
     "Session deactivated by configuration change",
 ];
 
-/// Changes of a version.
+/// Version changes.
 const VERSION_CHANGES: [&str; 24] = [
     "unspecified",
     "management controller device ID",
@@ -268,7 +268,7 @@ const VERSION_CHANGES: [&str; 24] = [
     "board/FRU hardware configuration change",
 ];
 
-/// Causes of a change of a FRU's state.
+/// Causes of a FRU state change.
 const FRU_STATE_CAUSES: [&str; 16] = [
     "Normal State Change",
     "Change Commanded by software external to FRU",
@@ -288,7 +288,7 @@ const FRU_STATE_CAUSES: [&str; 16] = [
     "State Change, Cause Unknown",
 ];
 
-/// The table of a flag or a number.
+/// The empty table of a flag or a number.
 const NO_WORDS: [&str; 0] = [];
 
 /// A row of the table of fields.
@@ -439,7 +439,7 @@ pub(crate) const THIRD: [Field; 13] = [
 ];
 
 impl Bits {
-    /// The number that these bits of a byte are.
+    /// The number in these bits of a byte.
     pub(crate) fn of(self, byte: u8) -> u8
         ensures { result ≡ bits_of self byte }
     {
@@ -464,7 +464,7 @@ impl Bits {
 }
 
 impl Field {
-    /// Whether an event has this field, by its sensor type and offset.
+    /// Whether an event has this field, according to its sensor type and offset.
     pub(crate) fn is_of(&self, event: &EventData) -> bool
         ensures { result ≡ is_of self.now event.now }
     {

@@ -21,7 +21,7 @@ const PREDICTIVE_FAILURE: [&str; 2] = [
     "Predictive Failure asserted",
 ];
 
-/// Type 05h: a limit.
+/// Type 05h: limit exceeded.
 const LIMIT: [&str; 2] = ["Limit Not Exceeded", "Limit Exceeded"];
 
 /// Type 06h: performance.
@@ -40,13 +40,13 @@ const SEVERITIES: [&str; 9] = [
     "Informational",
 ];
 
-/// Type 08h: presence of a device.
+/// Type 08h: device presence.
 const DEVICE_PRESENCE: [&str; 2] = [
     "Device Removed / Device Absent",
     "Device Inserted / Device Present",
 ];
 
-/// Type 09h: a device that is disabled or enabled.
+/// Type 09h: device enabled.
 const DEVICE_ENABLED: [&str; 2] = ["Device Disabled", "Device Enabled"];
 
 /// Type 0Ah: availability.
@@ -82,10 +82,10 @@ const DEVICE_POWER_STATES: [&str; 4] = [
     "D3 Power State",
 ];
 
-/// No words: those of type 01h are `ipmi_text::event_name`'s.
+/// No words here: those of type 01h are in `ipmi_text::event_name`.
 const ELSEWHERE: [&str; 0] = [];
 
-/// The tables, from type 01h on.
+/// The tables, starting at type 01h.
 const GENERIC: [&[&str]; 12] = [
     &ELSEWHERE,
     &USAGE_STATES,

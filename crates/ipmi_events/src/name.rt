@@ -1,4 +1,4 @@
-//! The names of sensors, also of those that share a record (IPMI v2.0, section 43.2).
+//! The names of sensors, including sensors that share a record (IPMI v2.0, section 43.2).
 ghost use Rattle.std.specs.Prelude.{◌≡◌, ◌<◌, ◌++◌, OnOk, string_bytes};
 ghost use Rattle.ipmi_records.specs.Prelude.{sensor_of, sharing_of};
 ghost use Rattle.ipmi_events.specs.Name.{letter, letters, modifier_text, sensor_name, suffix_of};
@@ -6,10 +6,10 @@ ghost use Rattle.ipmi_events.specs.Name.{letter, letters, modifier_text, sensor_
 use ipmi_records::{Modifier, SdrView, push_name};
 use std::alloc::{AllocError, Global};
 
-/// How many letters there are.
+/// The number of letters.
 const LETTERS: u16 = 26;
 
-/// A letter, counted from 0.
+/// The letter with this number, counted from 0.
 fn letter(n: u16) -> u8
     requires { n < 26 }
     ensures value { result ≡ letter n }
@@ -29,7 +29,7 @@ fn push_letters(text: &mut String, n: u16) -> Result<(), AllocError>
     text.push(letter(n % LETTERS) as char)
 }
 
-/// Appends a number in the form that a modifier has.
+/// Appends a number in the form of a modifier.
 fn push_modifier(text: &mut String, modifier: Modifier, n: u16) -> Result<(), AllocError>
     requires { n < 702 }
     ensures { OnOk result
@@ -42,7 +42,7 @@ fn push_modifier(text: &mut String, modifier: Modifier, n: u16) -> Result<(), Al
     }
 }
 
-/// Appends what tells the sensor with this number from the others that share its record.
+/// Appends the suffix that distinguishes the sensor with this number from the others that share its record.
 fn push_suffix(text: &mut String, view: &SdrView, number: u8) -> Result<(), AllocError>
     ensures { OnOk result (string_bytes text.new ≡ string_bytes text.old
         ++ suffix_of (sensor_of view.now) (sharing_of view.now) number) }
@@ -60,8 +60,8 @@ fn push_suffix(text: &mut String, view: &SdrView, number: u8) -> Result<(), Allo
     }
 }
 
-/// Appends the name of the sensor with this number, by the record of it: the record's name, and after it, where several
-/// sensors share the record, a number or letters that tell them apart. Nothing for a record without a name.
+/// Appends the name of the sensor with this number, from its record: the record's name, followed by a number or
+/// letters if several sensors share the record. Appends nothing if the record has no name.
 pub fn push_sensor_name(
     alloc: Global,
     text: &mut String,

@@ -4,7 +4,7 @@ ghost use Rattle.ipmi_events.specs.Parts.{comma};
 
 use std::alloc::AllocError;
 
-/// Appends `, ` where other parts stand before.
+/// Appends `, ` if there are parts before.
 pub(crate) fn push_comma(text: &mut String, before: bool) -> Result<(), AllocError>
     ensures { OnOk result (string_bytes text.new ≡ string_bytes text.old ++ comma before) }
 {

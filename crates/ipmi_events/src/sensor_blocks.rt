@@ -1,13 +1,13 @@
 //! The block of a sensor.
-ghost use Rattle.std.specs.Prelude.{◌≡◌, IfOk, string_bytes};
-ghost use Rattle.ipmi_events.specs.SensorBlocks.{AreShownLines, AreThresholdLines, IsBlockOfSensor, IsSensorBlock, identity_lines};
+ghost use Rattle.std.specs.Prelude.{◌≡◌, ◌++◌, IfOk, OnOk, string_bytes};
+ghost use Rattle.ipmi_events.specs.Below.{sharing_of};
+ghost use Rattle.ipmi_events.specs.SensorBlocks.{AreShownLines, AreThresholdLines, IsBlockOfSensor, IsSensorBlock, identity_lines, sharing_line};
 
 use crate::entities::EntityInWords;
-use crate::name::push_sensor_name;
 use crate::shown::push_reading_in_words;
 use crate::status::status_in_words;
 use ipmi_records::SdrView::{self, Compact, Controller, EventOnly, Fru, Full, Generic, Other};
-use ipmi_records::{Sensor, sdr_block, threshold_lines};
+use ipmi_records::{Sensor, push_name, sdr_block, threshold_lines};
 use ipmi_text::{ByteH, Reading, SensorType, WordH};
 use std::alloc::{AllocError, Global};
 
@@ -17,7 +17,22 @@ const PART_CAPACITY: usize = 128;
 /// The capacity for most blocks.
 const BLOCK_CAPACITY: usize = 384;
 
-/// The lines that say which sensor it is: its record, its name and number, where it is asked for, and what it senses.
+/// Appends the line with the number of sensors that share the record, if it is more than one.
+fn push_sharing_line(text: &mut String, view: &SdrView) -> Result<(), AllocError>
+    ensures { OnOk result
+        (string_bytes text.new ≡ string_bytes text.old ++ sharing_line (sharing_of view.now)) }
+{
+    match view.sharing() {
+        Some(sharing) if sharing.count > 1 => {
+            let count = sharing.count;
+            write!(text, "Shared by: {count} sensors\n")
+        }
+        _ => Ok(()),
+    }
+}
+
+/// The lines that identify the sensor: its record with the name, its number, the number of sensors that share the
+/// record, its owner and LUN, its entity and its type.
 fn identity_lines(
     alloc: Global,
     id: u16,
@@ -34,15 +49,17 @@ fn identity_lines(
     let kind = SensorType(sensor.sensor_type);
     let mut text = String::with_capacity(alloc, PART_CAPACITY)?;
     write!(text, "Record: {id}\nName: ")?;
-    push_sensor_name(alloc, &mut text, view, sensor.number)?;
+    push_name(alloc, &mut text, view)?;
+    write!(text, "\nSensor: {number}\n")?;
+    push_sharing_line(&mut text, view)?;
     write!(
         text,
-        "\nSensor: {number}\nOwner: {owner} LUN {lun}\nEntity: {entity}\nKind: {kind}\n"
+        "Owner: {owner} LUN {lun}\nEntity: {entity}\nKind: {kind}\n"
     )?;
     Ok(text)
 }
 
-/// The lines of what the sensor shows and of its status.
+/// The lines of the sensor's reading and status.
 fn shown_lines(
     alloc: Global,
     view: &SdrView,
@@ -59,7 +76,7 @@ fn shown_lines(
     Ok(text)
 }
 
-/// The lines of the thresholds that can be read, which only a full record tells.
+/// The lines of the readable thresholds. Only a full record has them.
 fn thresholds_of(alloc: Global, view: &SdrView, sensor: &Sensor) -> Result<String, AllocError>
     ensures { IfOk result (λ text. AreThresholdLines view.now sensor.now (string_bytes text)) }
 {
@@ -69,7 +86,7 @@ fn thresholds_of(alloc: Global, view: &SdrView, sensor: &Sensor) -> Result<Strin
     }
 }
 
-/// The block of a full or a compact record's sensor.
+/// The block of the sensor of a full or compact record.
 fn block_of_sensor(
     alloc: Global,
     id: u16,
@@ -88,10 +105,10 @@ fn block_of_sensor(
     Ok(text)
 }
 
-/// The block of a sensor under the id of its record: a line for each thing that is known of it, in words, its
-/// thresholds from the upper non-recoverable one down, and an empty line. The reading is as for `sensor_line`. Of the
-/// sensors that share a record it is the block of the first. A record that is neither full nor compact has its block of
-/// `sdr_block`.
+/// The block of a sensor, with the id of its record: one line per field, in words, then its thresholds, starting with
+/// the upper non-recoverable one, then an empty line. `reading` is as for `sensor_line`. If sensors share the record,
+/// the number is that of the first, and a line has the number of sensors. A record that is neither full nor compact
+/// has its block of `sdr_block`.
 pub fn sensor_block(
     alloc: Global,
     id: u16,

@@ -1,7 +1,7 @@
-//! What follows from the definitions of sensors' lines and blocks by themselves, whatever wrote them.
+//! Laws of the lines and blocks of sensors: what follows from their definitions alone, whatever code wrote the text.
 ghost use Rattle.ipmi_events.specs.SensorLaws.{SensorBlockExists, SensorBlockIsUnique, SensorLineExists, SensorLineIsUnique};
 
-/// A record has at most one line of its sensor under a reading, so what `sensor_line` gives is the only one.
+/// A record has at most one line of its sensor for a reading, so the result of `sensor_line` is the only one.
 pub fn one_sensor_line()
     ensures { SensorLineIsUnique }
 {
@@ -10,7 +10,7 @@ pub fn one_sensor_line()
     ipmi_records::laws::one_sdr_line();
 }
 
-/// A record has at most one block of its sensor under an id and a reading, so what `sensor_block` gives is the only
+/// A record has at most one block of its sensor for an id and a reading, so the result of `sensor_block` is the only
 /// one.
 pub fn one_sensor_block()
     ensures { SensorBlockIsUnique }
@@ -20,7 +20,7 @@ pub fn one_sensor_block()
     ipmi_records::laws::one_sdr_block();
 }
 
-/// Each record has a line of its sensor under a reading.
+/// Each record has a line of its sensor for each reading.
 pub fn each_record_has_a_sensor_line()
     ensures { SensorLineExists }
 {
@@ -29,7 +29,7 @@ pub fn each_record_has_a_sensor_line()
     ipmi_records::laws::each_record_has_texts();
 }
 
-/// Each record has a block of its sensor under an id and a reading.
+/// Each record has a block of its sensor for each id and reading.
 pub fn each_record_has_a_sensor_block()
     ensures { SensorBlockExists }
 {

@@ -5,24 +5,22 @@ ghost use Rattle.ipmi_events.specs.SensorLines.{AppendsColumns, AppendsPadded, I
 ghost use Rattle.ipmi_events.specs.Shown.{IsReadingInWords};
 
 use crate::entities::EntityInWords;
-use crate::name::push_sensor_name;
 use crate::shown::push_reading_in_words;
 use crate::status::status_in_words;
 use ipmi_records::SdrView::{self, Compact, Controller, EventOnly, Fru, Full, Generic, Other};
-use ipmi_records::{FullSensor, Sensor, Threshold, has_thresholds, pad, push_value, sdr_line};
+use ipmi_records::{
+    FullSensor, Sensor, Threshold, has_thresholds, pad, push_name_column, push_value, sdr_line,
+};
 use ipmi_text::{ByteH, Reading};
 use std::alloc::{AllocError, Global};
 
 /// The capacity for most lines.
 const LINE_CAPACITY: usize = 128;
 
-/// How many characters the column of names has at least.
-const NAME_WIDTH: usize = 16;
-
-/// How many that of readings has.
+/// The minimum width of the reading column, in characters.
 const READING_WIDTH: usize = 17;
 
-/// How many that of statuses has.
+/// The minimum width of the status column.
 const STATUS_WIDTH: usize = 3;
 
 /// The thresholds in the order of their columns.
@@ -35,7 +33,7 @@ const FROM_LOWEST: [Threshold; 6] = [
     Threshold::UpperNonRecoverable,
 ];
 
-/// The full record of a sensor with thresholds: no other tells their values.
+/// The full record of a sensor with thresholds, if the record is one. Only full records have threshold values.
 fn with_thresholds<'v, 'a>(view: &'v SdrView<'a>) -> Option<&'v FullSensor<'a>>
     ensures { option_map (λ full. full.now) result ≡ with_thresholds view.now }
 {
@@ -45,7 +43,7 @@ fn with_thresholds<'v, 'a>(view: &'v SdrView<'a>) -> Option<&'v FullSensor<'a>>
     }
 }
 
-/// Appends the value of a threshold, without its unit; a dash where there is none, or none that can be read.
+/// Appends the value of a threshold, without its unit, or a dash if there is none that is readable.
 fn push_threshold(
     line: &mut String,
     full: Option<&FullSensor>,
@@ -63,7 +61,7 @@ fn push_threshold(
     }
 }
 
-/// Appends the columns of all thresholds, ` | ` before each.
+/// Appends the columns of all thresholds, with ` | ` before each.
 fn push_thresholds(line: &mut String, full: Option<&FullSensor>) -> Result<(), AllocError>
     ensures { OnOk result (AppendsColumns (option_map (λ full. full.now) full.entry) from_lowest
         (string_bytes line.old) (string_bytes line.new)) }
@@ -75,7 +73,7 @@ fn push_thresholds(line: &mut String, full: Option<&FullSensor>) -> Result<(), A
     Ok(())
 }
 
-/// Appends the columns of a sensor's name, number and entity, ` | ` after each.
+/// Appends the columns of the record's name, the sensor's number and its entity, with ` | ` after each.
 fn push_head_columns(
     alloc: Global,
     line: &mut String,
@@ -85,15 +83,13 @@ fn push_head_columns(
     ensures { OnOk result
         (string_bytes line.new ≡ string_bytes line.old ++ head_columns view.now sensor.now) }
 {
-    let start = line.as_bytes().len();
-    push_sensor_name(alloc, line, view, sensor.number)?;
-    pad(line, start, NAME_WIDTH)?;
+    push_name_column(alloc, line, view)?;
     let number = ByteH(sensor.number);
     let entity = EntityInWords(sensor.entity);
     write!(line, " | {number} | {entity} | ")
 }
 
-/// Appends the reading column, filled up to its width.
+/// Appends the reading column, padded to its width.
 fn push_reading_column(
     line: &mut String,
     view: &SdrView,
@@ -107,7 +103,7 @@ fn push_reading_column(
     pad(line, start, READING_WIDTH)
 }
 
-/// Appends a status after ` | `, filled up to the width of its column.
+/// Appends ` | ` and a status, padded to the width of its column.
 fn push_status_column(line: &mut String, status: &str) -> Result<(), AllocError>
     ensures { OnOk result
         (string_bytes line.new ≡ string_bytes line.old ++ (codes " | " ++ padded_to 3 status.now)) }
@@ -118,7 +114,7 @@ fn push_status_column(line: &mut String, status: &str) -> Result<(), AllocError>
     pad(line, start, STATUS_WIDTH)
 }
 
-/// The line of a full or a compact record's sensor.
+/// The line of the sensor of a full or compact record.
 fn line_of_sensor(
     alloc: Global,
     view: &SdrView,
@@ -136,10 +132,10 @@ fn line_of_sensor(
     Ok(line)
 }
 
-/// The line of a sensor: its name, its number, its entity, what it shows, its status, and the thresholds of its record
-/// from the lowest to the highest. Of a discrete sensor it shows the states in words. `reading` is the answer of Get
-/// Sensor Reading for the sensor that `SdrView::reading_of` names. Of the sensors that share a record it is the line of
-/// the first. A record that is neither full nor compact has its line of `sdr_line`.
+/// The line of a sensor: the name of its record, its number, its entity, its reading, its status, and the thresholds
+/// of its record, from lowest to highest. For a discrete sensor, the reading column has the states in words.
+/// `reading` is the answer of Get Sensor Reading for the sensor that `SdrView::reading_of` names. If sensors share
+/// the record, the number is that of the first. A record that is neither full nor compact has its line of `sdr_line`.
 pub fn sensor_line(
     alloc: Global,
     view: &SdrView,

@@ -1,4 +1,4 @@
-//! Sensors and the records that tell of them (IPMI v2.0, section 43).
+//! Finds the record of a sensor (IPMI v2.0, section 43).
 ghost use Rattle.std.specs.Prelude.{◌≡◌, ℕ, ◌+◌, ◌<◌, ◌≤◌, ◌&&◌, IfOk, nat_le, nat_lt, length, option_map, slice_index_or};
 ghost use Rattle.ipmi_events.specs.Sensors.{count_of, first_record, IsIndex, names, noted, records_in, sensor_for, slot_of, view_of};
 
@@ -7,19 +7,19 @@ use ipmi_text::{SDR_HEADER_LEN, sdr_len};
 use std::alloc::{AllocError, Global};
 use std::marker::Model;
 
-/// How many sensors there can be: 256 of each of 256 owners at each of four LUNs.
+/// The number of possible sensors: 256 numbers for each of 256 owners at each of four LUNs.
 const SENSOR_SLOTS: usize = 4 * 256 * SENSOR_NUMBERS;
 
-/// How many numbers there are at one LUN of an owner.
+/// The number of possible sensors at one LUN of an owner.
 const SENSOR_NUMBERS: usize = 256;
 
-/// Sensor data records in their order, and an index by which a sensor's record is found.
+/// Sensor data records, in order, with an index from sensors to records.
 #[derive(Drop)]
 pub struct Sensors {
-    /// The records, one after another.
+    /// The concatenated records.
     bytes: Vec<u8>,
-    /// Where the record of each sensor begins, by LUN, owner and number. A sensor without one has the end of the bytes,
-    /// where no record begins.
+    /// The offset of each sensor's record, indexed by LUN, owner and number. For a sensor without a record it is the
+    /// end of the bytes, where no record begins.
     places: Vec<usize>,
 }
 
@@ -34,7 +34,7 @@ impl Model for Sensors {
     ghost invariant = { λ s. IsIndex s.bytes.items (records_in s.bytes.items) s.places.items };
 }
 
-/// The record that bytes begin with, if all of its bytes are there.
+/// The record at the start of the bytes, if it is complete.
 fn first_record(bytes: &[u8]) -> Option<&[u8]>
     ensures { option_map (λ r. r.now) result ≡ first_record bytes.now }
 {
@@ -44,14 +44,14 @@ fn first_record(bytes: &[u8]) -> Option<&[u8]>
     bytes.get(..sdr_len(bytes))
 }
 
-/// Where the place of a sensor's record is kept.
+/// The index in `places` for a sensor.
 fn slot_of(owner: u8, lun: u8, number: u8) -> usize
     ensures { result ≡ slot_of owner lun number }
 {
     (usize::from(lun) * 256 + usize::from(owner)) * SENSOR_NUMBERS + usize::from(number)
 }
 
-/// How many sensors a record is of. A count of 0 is taken for that of a record which is not shared.
+/// The number of sensors that a record describes. A count of 0 is treated as a record that is not shared.
 fn count_of(sharing: Option<Sharing>) -> u8
     ensures { result ≡ count_of sharing }
 {
@@ -61,7 +61,7 @@ fn count_of(sharing: Option<Sharing>) -> u8
     }
 }
 
-/// Puts a place into each of the slots from `first` up to `end` that has none, which is what `none` says.
+/// Stores `place` in each empty slot from `first` to before `end`. An empty slot has the value `none`.
 fn note_slots(places: &mut [usize], first: usize, end: usize, place: usize, none: usize)
     requires order { first ≤ end }
     requires end { end ≤ length places.old }
@@ -77,7 +77,7 @@ fn note_slots(places: &mut [usize], first: usize, end: usize, place: usize, none
     }
 }
 
-/// Puts the place of a record into the slots of its sensors.
+/// Stores the place of a record in the empty slots of its sensors.
 fn note_record(places: &mut [usize], bytes: &[u8], place: usize, none: usize)
     requires { length places.old ≡ 262144 }
     ensures noted { (owner lun number : ℕ) → owner < 256 → number < 256 →
@@ -98,7 +98,7 @@ fn note_record(places: &mut [usize], bytes: &[u8], place: usize, none: usize)
     note_slots(places, row + first, row + end, place, none);
 }
 
-/// Puts the place of each sensor's record into the sensor's slot.
+/// Stores the place of each sensor's record in the slot of the sensor.
 fn note_records(places: &mut [usize], records: &[u8])
     requires len { length places.old ≡ 262144 }
     requires empty { (slot : ℕ) →
@@ -113,8 +113,8 @@ fn note_records(places: &mut [usize], records: &[u8])
 }
 
 impl Sensors {
-    /// The table of sensor data records, given as their bytes, one record after another: each has as many as its header
-    /// says. Bytes at the end that are no whole record are left out. An index of 2 MiB is made, whatever their number.
+    /// Builds the index for concatenated sensor data records, each as long as its header says. Bytes at the end that
+    /// are not a whole record are ignored. The index takes 2 MiB, for any number of records.
     pub fn of(alloc: Global, records: Vec<u8>) -> Result<Sensors, AllocError>
         ensures { IfOk result (λ s. s ≡ records_in records.items) }
     {
@@ -126,9 +126,8 @@ impl Sensors {
         })
     }
 
-    /// The record of a sensor by its owner, LUN and number: the first one of it. A record that several sensors share is
-    /// found by the number of each. A record with a fault is passed over. It takes the same time for any number of
-    /// records.
+    /// The first record of the sensor with this owner, LUN and number. A record that several sensors share is found
+    /// by each of their numbers. Records with a fault are skipped. The time does not depend on the number of records.
     pub fn find(&self, owner: u8, lun: u8, number: u8) -> Option<SdrView<'_>>
         ensures { result ≡ sensor_for owner lun number self.now }
     {

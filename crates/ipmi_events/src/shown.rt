@@ -1,4 +1,4 @@
-//! What a sensor shows, in words.
+//! The reading column of a sensor in words.
 ghost use Rattle.std.specs.Prelude.{◌≡◌, ◌++◌, OnOk, string_bytes};
 ghost use Rattle.ipmi_events.specs.Below.{Appends, shown_of};
 ghost use Rattle.ipmi_events.specs.Shown.{IsReadingInWords, discrete_column, discrete_sensor, unless_thresholds};
@@ -9,7 +9,7 @@ use ipmi_records::{Sensor, Shown, has_thresholds, push_reading, shown_of, states
 use ipmi_text::{NO_ANALOG_READING, Reading};
 use std::alloc::AllocError;
 
-/// A sensor that has no thresholds.
+/// The sensor, if it has no thresholds.
 fn unless_thresholds(sensor: Sensor) -> Option<Sensor>
     ensures { result ≡ unless_thresholds sensor }
 {
@@ -20,7 +20,7 @@ fn unless_thresholds(sensor: Sensor) -> Option<Sensor>
     }
 }
 
-/// The discrete sensor of a record that does not tell how a reading is a value: what it shows are its states.
+/// The discrete sensor of a record that defines no conversion of readings. Such a sensor shows states.
 fn discrete_sensor(view: &SdrView) -> Option<Sensor>
     ensures { result ≡ discrete_sensor view.now }
 {
@@ -33,7 +33,7 @@ fn discrete_sensor(view: &SdrView) -> Option<Sensor>
     }
 }
 
-/// Appends what a discrete sensor shows.
+/// Appends the reading column of a discrete sensor.
 fn push_discrete(
     text: &mut String,
     sensor: &Sensor,
@@ -49,8 +49,8 @@ fn push_discrete(
     }
 }
 
-/// Appends what the sensor of a record shows: of a discrete sensor its states in words, of any other the reading column
-/// of `sdr_line`.
+/// Appends the reading column of a record's sensor: for a discrete sensor its states in words, for any other the
+/// reading column of `sdr_line`.
 pub(crate) fn push_reading_in_words(
     text: &mut String,
     view: &SdrView,

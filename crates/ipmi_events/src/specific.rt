@@ -231,7 +231,7 @@ const SLOT: [&str; 10] = [
     "Slot holds spare device",
 ];
 
-/// The System ACPI power states, and what follows them in a table.
+/// A table of the System ACPI power states, followed by the given items.
 macro_rules! acpi_states {
     ($($more:expr),*) => {
         [
@@ -256,7 +256,7 @@ macro_rules! acpi_states {
 /// System ACPI power states.
 pub(crate) const ACPI_STATES: [&str; 13] = acpi_states!();
 
-/// Those at the time of a request for another.
+/// System ACPI power states, or unknown: the state when another state was requested.
 pub(crate) const ACPI_STATES_OR_UNKNOWN: [&str; 14] = acpi_states!("unknown");
 
 /// Sensor type 22h: System ACPI Power State.
@@ -338,7 +338,7 @@ pub(crate) const FRU_STATE: [&str; 8] = [
     "FRU Communication Lost",
 ];
 
-/// The tables, from sensor type 01h on.
+/// The tables, starting at sensor type 01h.
 const SPECIFIC: [&[&str]; 44] = [
     &NO_WORDS,
     &NO_WORDS,

@@ -8,11 +8,11 @@ use ipmi_records::Sensor;
 use std::alloc::AllocError;
 use std::fmt;
 
-/// How many states a discrete sensor has (IPMI v2.0, section 35.14).
+/// The number of states of a discrete sensor (IPMI v2.0, section 35.14).
 const STATES: u8 = 15;
 
-/// A state of a discrete sensor, printed as the words of the event that tells of it, or as `state 3` where the standard
-/// has none.
+/// A state of a discrete sensor, printed as the words of its event, or as `state 3` if the standard has no words for
+/// it.
 #[derive(Clone, Copy)]
 struct StateWords {
     event_type: u8,
@@ -34,7 +34,7 @@ impl fmt::Display for StateWords {
     }
 }
 
-/// Whether a state is among those that are set.
+/// Whether a state is set.
 fn is_set(states: u16, state: u8) -> bool
     requires { state < 15 }
     ensures { result ≡ has_bit state states }
@@ -42,7 +42,7 @@ fn is_set(states: u16, state: u8) -> bool
     states >> state & 1 == 1
 }
 
-/// Appends the states that are set, from state 0 on, joined by `, `; `no state` where none is.
+/// Appends the states that are set, starting with state 0, joined by `, `. Appends `no state` if none is set.
 pub(crate) fn push_states(text: &mut String, sensor: &Sensor, states: u16) -> Result<(), AllocError>
     ensures { OnOk result
         (string_bytes text.new ≡ string_bytes text.old ++ states_in_words sensor.now states) }

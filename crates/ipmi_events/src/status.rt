@@ -1,4 +1,4 @@
-//! The status of a sensor, with the direction in which it is out of its range.
+//! The status of a sensor. It says whether the reading is too low or too high.
 ghost use Rattle.std.specs.Prelude.{◌≡◌};
 ghost use Rattle.ipmi_records.specs.Prelude.{shown_of};
 ghost use Rattle.ipmi_events.specs.Status.{first_passed, from_worst, passed_status, status_in_words, threshold_code};
@@ -20,7 +20,7 @@ fn threshold_code(threshold: Threshold) -> &'static str
     }
 }
 
-/// The thresholds from the worst on.
+/// The thresholds, starting with the worst.
 const FROM_WORST: [Threshold; 6] = [
     Threshold::UpperNonRecoverable,
     Threshold::LowerNonRecoverable,
@@ -30,7 +30,7 @@ const FROM_WORST: [Threshold; 6] = [
     Threshold::LowerNonCritical,
 ];
 
-/// The first of several thresholds that a reading passes, by the bits of its status.
+/// The first of several thresholds that the reading has passed, according to the bits of its status.
 fn first_passed(thresholds: &[Threshold], bits: u8) -> Option<Threshold>
     ensures { result ≡ first_passed thresholds.now bits }
 {
@@ -40,7 +40,7 @@ fn first_passed(thresholds: &[Threshold], bits: u8) -> Option<Threshold>
         .find(|threshold| threshold.is_in(bits))
 }
 
-/// The status of a threshold sensor: the worst threshold that its reading passes, or `ok`.
+/// The status of a threshold sensor: the worst threshold that its reading has passed, or `ok`.
 fn passed_status(bits: u8) -> &'static str
     ensures { result.now ≡ passed_status (first_passed from_worst bits) }
 {
@@ -50,8 +50,10 @@ fn passed_status(bits: u8) -> &'static str
     }
 }
 
-/// The status of a sensor whose reading this is.
-pub(crate) fn status_in_words(sensor: &Sensor, reading: Option<Reading>) -> &'static str
+/// The status of a sensor by the answer of Get Sensor Reading for it, if there is one: `ok`, or of a threshold sensor the
+/// worst threshold that its reading passes, as `ucr` for the upper critical one; `ns` without a reading, and `na` where
+/// another controller owns the sensor.
+pub fn status_in_words(sensor: &Sensor, reading: Option<Reading>) -> &'static str
     ensures { result.now ≡ status_in_words sensor.now (shown_of sensor.now reading) }
 {
     match shown_of(sensor, reading) {

@@ -1,14 +1,14 @@
-//! Words out of tables.
+//! Words from tables.
 ghost use Rattle.std.specs.Prelude.{◌≡◌, map, option_map};
 ghost use Rattle.ipmi_events.specs.Table.{table_from_one, words_at};
 
-/// What stands in a table for a code that the standard reserves.
+/// The table entry of a reserved code.
 pub(crate) const RESERVED: &str = "";
 
-/// And for one that says nothing.
+/// The table entry of a code for which nothing is printed.
 pub(crate) const SILENT: &str = "";
 
-/// The words at a place of a table, if the standard has some there.
+/// The words at an index of a table, if the standard has any.
 pub(crate) fn words_at(table: &[&'static str], at: u8) -> Option<&'static str>
     ensures { option_map (λ s. s.now) result ≡ words_at (map (λ s. s.now) table.now) at }
 {
@@ -16,7 +16,7 @@ pub(crate) fn words_at(table: &[&'static str], at: u8) -> Option<&'static str>
     if words.is_empty() { None } else { Some(words) }
 }
 
-/// The table of a code, out of tables that begin with that of code 1. An empty one where there is none.
+/// The table of a code, from tables that begin with code 1. An empty table if there is none.
 pub(crate) fn table_from_one(
     tables: &[&'static [&'static str]],
     code: u8,

@@ -1,4 +1,4 @@
-//! What event data 2 and 3 of a threshold event say (IPMI v2.0, table 29-6).
+//! The details in event data 2 and 3 of a threshold event (IPMI v2.0, table 29-6).
 ghost use Rattle.std.specs.Prelude.{◌≡◌, ◌++◌, ◌||◌, OnOk, IfOk, option_map, string_bytes};
 ghost use Rattle.ipmi_text.specs.Appended.{Appends};
 ghost use Rattle.ipmi_events.specs.Parts.{has_parts, parts_text};
@@ -9,7 +9,7 @@ use crate::event_data::{Byte, EventData, Holding};
 use ipmi_records::{FullSensor, push_raw, push_raw_byte, push_value};
 use std::alloc::AllocError;
 
-/// Whether a byte holds a reading or a threshold.
+/// Whether a byte contains a reading or a threshold.
 fn has_value(holds: Holding) -> bool
     ensures { result ≡ has_value holds }
 {
@@ -19,7 +19,7 @@ fn has_value(holds: Holding) -> bool
     }
 }
 
-/// Appends a raw byte with its units, by the sensor's record if there is one.
+/// Appends the value of a raw byte with its units, converted by the sensor's record if there is one.
 fn push_reading(text: &mut String, full: Option<&FullSensor>, raw: u8) -> Result<(), AllocError>
     ensures { OnOk result (Appends (IsReading (option_map (λ f. f.now) full.entry) raw)
         (string_bytes text.old) (string_bytes text.new)) }
@@ -30,7 +30,7 @@ fn push_reading(text: &mut String, full: Option<&FullSensor>, raw: u8) -> Result
     }
 }
 
-/// Appends a raw byte without units, by the sensor's record if there is one.
+/// Appends the value of a raw byte without units, converted by the sensor's record if there is one.
 fn push_limit(text: &mut String, full: Option<&FullSensor>, raw: u8) -> Result<(), AllocError>
     ensures { OnOk result (Appends (IsLimit (option_map (λ f. f.now) full.entry) raw)
         (string_bytes text.old) (string_bytes text.new)) }
@@ -41,8 +41,8 @@ fn push_limit(text: &mut String, full: Option<&FullSensor>, raw: u8) -> Result<(
     }
 }
 
-/// What stands between the reading and the threshold of an event. The reading of a deasserted event is back, so that no
-/// sign would be true of it. An odd offset is of a reading that went high.
+/// The text between the reading and the threshold of an event. In a deassertion event the reading has crossed back,
+/// so no sign would be correct. An odd offset means that the reading went high.
 fn comparison(event: &EventData) -> &'static str
     ensures { result.now ≡ comparison event.now }
 {
@@ -57,7 +57,7 @@ fn comparison(event: &EventData) -> &'static str
     }
 }
 
-/// Appends the reading and the threshold of an event, as far as it has them.
+/// Appends the reading and the threshold of an event, if it has them.
 fn push_compared(
     text: &mut String,
     event: &EventData,
@@ -83,7 +83,7 @@ fn push_compared(
     Ok(())
 }
 
-/// Appends a byte that holds a code, which no table gives words. Gives back whether it holds one.
+/// Appends a byte that contains a code. No table has words for it. Returns whether it contains one.
 fn push_code(
     text: &mut String,
     before: bool,
@@ -104,7 +104,7 @@ fn push_code(
     }
 }
 
-/// Appends those of the two bytes that hold codes.
+/// Appends each of the two bytes that contains a code.
 fn push_codes(text: &mut String, before: bool, event: &EventData) -> Result<(), AllocError>
     ensures { OnOk result (string_bytes text.new ≡ string_bytes text.old
         ++ parts_text before (codes_parts event.now)) }
@@ -120,7 +120,7 @@ fn push_codes(text: &mut String, before: bool, event: &EventData) -> Result<(), 
     Ok(())
 }
 
-/// Appends what event data 2 and 3 of a threshold event say.
+/// Appends the details in event data 2 and 3 of a threshold event.
 pub(crate) fn push_threshold_details(
     text: &mut String,
     event: &EventData,

@@ -10,8 +10,8 @@ use std::fmt;
 /// The event/reading type of sensor-specific events (IPMI v2.0, table 42-1).
 pub(crate) const SENSOR_SPECIFIC: u8 = 0x6F;
 
-/// The words of an event at an offset, if the standard has some: for the generic event/reading types 01h to 0Ch by
-/// table 42-2, for 6Fh by the sensor type and table 42-3 (IPMI v2.0).
+/// The words of an event at an offset, if the standard has any: from table 42-2 for the generic event/reading types
+/// 01h to 0Ch, and from table 42-3 by the sensor type for 6Fh (IPMI v2.0).
 #[tactic(auto, unfolding(crate::specs::Words::event_words))]
 pub fn event_words(event_type: u8, sensor_type: u8, offset: u8) -> Option<&'static str>
     ensures { option_map (λ s. s.now) result ≡ event_words event_type sensor_type offset }
@@ -23,12 +23,12 @@ pub fn event_words(event_type: u8, sensor_type: u8, offset: u8) -> Option<&'stat
     }
 }
 
-/// The words of an event, or `offset 3 of type 0x6f` where the standard has none.
+/// The words of an event, or `offset 3 of type 0x6f` if the standard has none.
 #[derive(Clone, Copy, Debug, PartialEq, Eq)]
 pub struct EventInWords {
     /// The event/reading type code.
     pub event_type: u8,
-    /// The sensor type, which gives the offsets of event/reading type 6Fh their meaning.
+    /// The sensor type. It defines the offsets of event/reading type 6Fh.
     pub sensor_type: u8,
     /// The offset.
     pub offset: u8,

@@ -7,28 +7,28 @@ use Rattle.ipmi_fru.specs.declared.area.AreaFault.{AreaFault}
 use Rattle.ipmi_fru.specs.Header.{is_zero_sum, offset_of}
 use Rattle.ipmi_fru.specs.Field.{AreaField, Spells, fields_in}
 
--- the place of the area's offset in the header
+-- the position of the area's offset in the header
 abbrev pub place_of : AreaKind → ℕ
 place_of Chassis = 2
 place_of Board = 3
 place_of Product = 4
 
--- how many bytes are between the length byte and the first field. Chassis: its type; board: the language and three
--- bytes of the date; product: the language
+-- The number of bytes between the length byte and the first field. Chassis: its type. Board: the
+-- language and three bytes of the date. Product: the language.
 abbrev pub head_len : AreaKind → ℕ
 head_len Chassis = 1
 head_len Board = 4
 head_len Product = 1
 
--- the area from an offset on: its second byte says its length in units of eight bytes
+-- the area at an offset: its second byte is its length in units of eight bytes
 abbrev pub area_at : ℕ → List ℕ → List ℕ
 area_at offset bytes = take (8 * slice_index bytes (offset + 1)) (drop offset bytes)
 
--- the bytes between the head and the checksum, which is the last byte
+-- the bytes between the head and the checksum; the checksum is the last byte
 abbrev pub field_bytes : AreaKind → List ℕ → List ℕ
 field_bytes kind area = drop (2 + head_len kind) (take (length area - 1) area)
 
--- why the bytes from an offset on are no area, whatever its fields are
+-- why there is no area at an offset, without regard to its fields
 abbrev pub area_fault : ℕ → List ℕ → Option AreaFault
 area_fault offset bytes =
     if nat_lt (length bytes) (offset + 2) then Some AreaFault.Outside
@@ -39,7 +39,7 @@ area_fault offset bytes =
     else if not (is_zero_sum (area_at offset bytes)) then Some AreaFault.Sum
     else None
 
--- the name of a fault, which is the project's own, as those of the other faults are
+-- the name of a fault (like the names of all faults, the project's own)
 abbrev pub area_fault_name : AreaFault → List ℕ
 area_fault_name AreaFault.Outside = codes "outside"
 area_fault_name AreaFault.Version = codes "version"
@@ -47,7 +47,7 @@ area_fault_name AreaFault.Length = codes "length"
 area_fault_name AreaFault.Sum = codes "checksum"
 area_fault_name AreaFault.FieldPastEnd = codes "field past end"
 
--- an area as it is seen: its kind, its bytes and its fields
+-- an area as contracts see it: its kind, its bytes and its fields
 pub record Area : Type 0 where
   pub kind : AreaKind
   pub bytes : List ℕ
@@ -60,7 +60,7 @@ pub record IsArea (kind : AreaKind) (offset : ℕ) (bytes : List ℕ) (area : Ar
   pub bytes_are : area.bytes ≡ area_at offset bytes
   pub fields_are : Spells (field_bytes kind area.bytes) area.fields
 
--- no list of fields is spelt by the bytes between the head and the checksum
+-- the bytes between the head and the checksum encode no list of fields
 pub record HasFieldPastEnd (kind : AreaKind) (offset : ℕ) (bytes : List ℕ) : Type 0 where
   pub fine : area_fault offset bytes ≡ None
   pub no_list : (fields : List AreaField) → Spells (field_bytes kind (area_at offset bytes)) fields
@@ -72,9 +72,9 @@ IsAreaFault kind offset bytes f =
     (area_fault offset bytes ≡ Some f)
     ⊎ (HasFieldPastEnd kind offset bytes × (f ≡ AreaFault.FieldPastEnd))
 
--- ---- how the fields are found
+-- ---- computing the fields
 
--- an area with the fields that are found in it
+-- an area with the fields computed from its bytes
 abbrev pub area_in : AreaKind → List ℕ → Area
 area_in kind bytes = record {
   kind = kind;
@@ -82,12 +82,12 @@ area_in kind bytes = record {
   fields = unwrap_or (fields_in (field_bytes kind bytes)) [];
 }
 
--- it has at least a head and a checksum, and fields are found in it
+-- the area has at least a head and a checksum, and its bytes encode fields
 pub record HasFields (kind : AreaKind) (bytes : List ℕ) : Type 0 where
   pub room : 2 + head_len kind < length bytes
   pub found : IsTrue (is_some (fields_in (field_bytes kind bytes)))
 
--- what an inventory has of a kind: no area, an area, or a fault
+-- an inventory has no area of this kind, or it has one, or the area has a fault
 abbrev pub IsFound : AreaKind → List ℕ → Option (Result Area AreaFault) → Type 0
 IsFound kind bytes None = offset_of (place_of kind) bytes ≡ None
 IsFound kind bytes (Some (Ok area)) =

@@ -6,8 +6,8 @@ use Rattle.ipmi_fru.specs.declared.header.FruFault.{FruFault}
 abbrev pub is_zero_sum : List ℕ → Bool
 is_zero_sum bytes = sum bytes % 256 == 0
 
--- why bytes are no inventory: too few for a header, another format version (bits 3:0 of the first byte), a header that
--- does not sum to zero, in this order
+-- why bytes are not an inventory. The checks, in this order: the length of a header, the format
+-- version (bits 3:0 of the first byte), the checksum of the header
 abbrev pub header_fault : List ℕ → Option FruFault
 header_fault bytes =
     if nat_lt (length bytes) 8 then Some FruFault.Short
@@ -21,9 +21,9 @@ fru_fault_name FruFault.Short = codes "header short"
 fru_fault_name FruFault.HeaderVersion = codes "header version"
 fru_fault_name FruFault.HeaderSum = codes "header checksum"
 
--- The header's bytes: version, the offsets of internal use, chassis, board, product and records, pad, checksum.
--- where the area begins whose offset has this place in the header: offsets are in units of eight bytes, and 0 is no
--- area
+-- The header's bytes: version, the offsets of internal use, chassis, board, product and records,
+-- pad, checksum. This is the offset in bytes of the area whose offset is at this position in the
+-- header: there it is in units of eight bytes, and 0 means no area.
 abbrev pub offset_of : ℕ → List ℕ → Option ℕ
 offset_of place bytes =
     if slice_index bytes place == 0 then None else Some (8 * slice_index bytes place)

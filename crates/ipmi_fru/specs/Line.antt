@@ -9,13 +9,14 @@ use Rattle.ipmi_fru.specs.Field.{AreaField}
 use Rattle.ipmi_fru.specs.Area.{Area, IsFound}
 use Rattle.ipmi_fru.specs.Print.{language_of}
 
--- ---- what an inventory tells
+-- ---- the fields of an inventory
 
 abbrev pub text_of : ℕ → Option AreaField → List ℕ
 text_of language None = []
 text_of language (Some field) = fru_text_of field.code language field.bytes
 
--- the text of the field at a place of an area, counted from 0; none where there is no area without a fault
+-- the text of the field at an index of an area, counted from 0; empty if there is no area, or if it
+-- has a fault
 abbrev pub field_text : Option (Result Area AreaFault) → ℕ → List ℕ
 field_text (Some (Ok area)) place =
     text_of (language_of area.kind area.bytes) (slice_get area.fields place)
@@ -25,17 +26,21 @@ abbrev pub or_dash : List ℕ → List ℕ
 or_dash [] = codes "-"
 or_dash (character ∷ text) = character ∷ text
 
--- what the product area tells, or else the board area
+-- the text from the product area, or else from the board area
 abbrev pub told_text : List ℕ → List ℕ → List ℕ
 told_text [] board = or_dash board
 told_text (character ∷ text) board = character ∷ text
 
 -- ---- the line
 
--- the line of a device that tells nothing
+-- the line of a device without a readable inventory
 abbrev pub bare_line : ℕ → List ℕ → List ℕ → List ℕ
 bare_line id name state =
     decimal id ++ (codes " | " ++ (name ++ (codes " | " ++ (state ++ codes " | - | - | -\n"))))
+
+-- the line of a device that is reached by another controller, which is not asked
+abbrev pub elsewhere_line : List ℕ → List ℕ
+elsewhere_line name = codes "- | " ++ (or_dash name ++ codes " | elsewhere | - | - | -\n")
 
 -- of the product area the second, third and fifth field, of the board area the second, fourth and third: the product's
 -- name, its part number and its serial number (Platform Management FRU Information Storage Definition v1.0, sections 11
@@ -55,7 +60,7 @@ abbrev pub IsLineByFault : Option FruFault → ℕ → List ℕ → List ℕ →
 IsLineByFault None id name bytes text = IsPresentLine id name bytes text
 IsLineByFault (Some fault) id name bytes text = text ≡ bare_line id name (codes "faulty")
 
--- the line of a device: it is not present, its header has a fault, or it is present
+-- the line of a device that is not present, whose header has a fault, or that is present
 abbrev pub IsFruLine : ℕ → Option (List ℕ) → Option (List ℕ) → List ℕ → Type 0
 IsFruLine id name None text =
     text ≡ bare_line id (or_dash (unwrap_or name [])) (codes "not present")

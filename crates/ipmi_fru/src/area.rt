@@ -10,25 +10,26 @@ use ipmi_text::ENGLISH;
 use std::marker::Model;
 use thiserror::Error;
 
-/// Where an area has its length, in units of eight bytes, counted from 0. Its version comes first.
+/// The offset of an area's length byte, counted from 0. The length is in units of eight bytes. The version byte comes
+/// first.
 const LENGTH: usize = 1;
 
-/// Where an area's head begins, after the bytes of its version and its length.
+/// The offset of an area's head, after the version and the length byte.
 const HEAD_START: usize = 2;
 
-/// An area that has fields.
+/// The kind of an area that has fields.
 #[derive(Clone, Copy, Debug, PartialEq, Eq)]
-pub(crate) enum AreaKind {
+pub enum AreaKind {
     /// Of the chassis: its type, then its fields.
     Chassis,
-    /// Of a board: the language, the date of its making, then its fields.
+    /// The board area: the language, the manufacturing date, then its fields.
     Board,
-    /// Of a product: the language, then its fields.
+    /// The product area: the language, then its fields.
     Product,
 }
 
 impl AreaKind {
-    /// Where the header has the area's offset.
+    /// The position of the area's offset in the header.
     pub(crate) fn place(self) -> usize
         ensures place { result ≡ place_of self }
         ensures below { result ≤ 4 }
@@ -40,7 +41,7 @@ impl AreaKind {
         }
     }
 
-    /// How many bytes are between the length byte and the first field.
+    /// The number of bytes between the length byte and the first field.
     fn head_len(self) -> usize
         ensures len { result ≡ head_len self }
         ensures below { result ≤ 4 }
@@ -53,8 +54,8 @@ impl AreaKind {
     }
 }
 
-/// Why an area can't be read. The first one that applies is the answer: Outside for the first two bytes, Version, Length,
-/// Outside for the others, Sum, FieldPastEnd.
+/// Why an area cannot be read. The first fault that applies is reported, in this order: Outside for the first two
+/// bytes, Version, Length, Outside for the rest, Sum, FieldPastEnd.
 #[derive(Clone, Copy, Debug, PartialEq, Eq, Error)]
 pub enum AreaFault {
     /// The inventory ends before the area does.
@@ -75,7 +76,7 @@ pub enum AreaFault {
 }
 
 impl AreaFault {
-    /// The name of the fault, as `print_fru` prints it.
+    /// The name of the fault, as printed by `print_fru`.
     pub fn name(self) -> &'static str
         ensures { result.now ≡ area_fault_name self }
     {
@@ -89,7 +90,7 @@ impl AreaFault {
     }
 }
 
-/// The whole area that begins at the offset, whatever its fields are.
+/// The area that begins at the offset. Its fields are not checked.
 fn whole_area(bytes: &[u8], offset: usize) -> Result<&[u8], AreaFault>
     requires { offset ≤ 2040 }
     ensures ok { IfOk result (λ area. (area_fault offset bytes.now ≡ None) ×
@@ -126,8 +127,8 @@ fn field_part(kind: AreaKind, area: &[u8]) -> &[u8]
     &area[..area.len() - 1][HEAD_START + kind.head_len()..]
 }
 
-/// An area without a fault: that of the chassis, the board or the product (Platform Management FRU Information Storage
-/// Definition v1.0, sections 10 to 12).
+/// A chassis, board or product area without a fault (Platform Management FRU Information Storage Definition v1.0,
+/// sections 10 to 12).
 #[derive(Clone, Debug, Drop)]
 pub struct AreaView<'a> {
     kind: AreaKind,
@@ -145,7 +146,7 @@ impl<'a> Model for AreaView<'a> {
 }
 
 impl<'a> AreaView<'a> {
-    /// The area of the kind that begins at the offset.
+    /// Reads the area of this kind that begins at the offset.
     pub(crate) fn read(
         kind: AreaKind,
         bytes: &'a [u8],
@@ -163,14 +164,14 @@ impl<'a> AreaView<'a> {
     }
 
     /// Whose area it is.
-    pub(crate) fn kind(&self) -> AreaKind
+    pub fn kind(&self) -> AreaKind
         ensures { result ≡ self.now.kind }
     {
         self.kind
     }
 
     /// The type of a chassis.
-    pub(crate) fn chassis_type(&self) -> u8
+    pub fn chassis_type(&self) -> u8
         requires { self.now.kind ≡ Chassis }
         ensures { result ≡ slice_index self.now.bytes 2 }
     {
@@ -178,7 +179,7 @@ impl<'a> AreaView<'a> {
     }
 
     /// When a board was made, in minutes since 1996.
-    pub(crate) fn minutes(&self) -> u32
+    pub fn minutes(&self) -> u32
         requires { self.now.kind ≡ Board }
         ensures number { result ≡ little_from 3 3 self.now.bytes }
         ensures below { result ≤ 0xff_ffff }
@@ -188,7 +189,7 @@ impl<'a> AreaView<'a> {
     }
 
     /// The language of the area's texts; that of a chassis is English.
-    pub(crate) fn language(&self) -> u8
+    pub fn language(&self) -> u8
         ensures { result ≡ language_of self.now.kind self.now.bytes }
     {
         match self.kind {
@@ -197,8 +198,8 @@ impl<'a> AreaView<'a> {
         }
     }
 
-    /// The bytes between the length byte and the first field. Chassis: its type; board: the language and the date in minutes,
-    /// low byte first; product: the language.
+    /// The bytes between the length byte and the first field. For a chassis, its type; for a board, the language and
+    /// the date in minutes, low byte first; for a product, the language.
     pub fn head(&self) -> &'a [u8]
         ensures bytes { result.now ≡ take (head_len self.now.kind) (drop 2 self.now.bytes) }
         ensures len { length result.now ≡ head_len self.now.kind }
@@ -206,15 +207,15 @@ impl<'a> AreaView<'a> {
         &self.bytes[HEAD_START..HEAD_START + self.kind.head_len()]
     }
 
-    /// The fields, in their order.
+    /// The fields, in order.
     pub fn fields(&self) -> Fields<'a>
         ensures { result ≡ self.now.fields }
     {
         Fields::new(field_part(self.kind, self.bytes))
     }
 
-    /// The field at this place, counted from 0; none past the last one. Each call goes over the
-    /// fields before it, so use `fields` to list them.
+    /// The field at this index, counted from 0. None past the last field. Each call iterates over the fields before
+    /// it, so use `fields` to list them.
     pub fn field(&self, place: usize) -> Option<Field<'a>>
         ensures field { option_map field_of result ≡ slice_get self.now.fields place }
         ensures code { IfSome result (λ field. field.code < 4) }

@@ -1,4 +1,4 @@
-//! The lines of a chassis, a board and a product.
+//! The lines of a chassis, board and product area.
 ghost use Rattle.std.specs.Prelude.{◌≡◌, ◌++◌, OnOk, IfOk, codes, map, string_bytes};
 ghost use Rattle.ipmi_text.specs.FieldText.{fru_text_of};
 ghost use Rattle.ipmi_text.specs.Lines.{labelled};
@@ -9,7 +9,7 @@ use crate::field::Field;
 use ipmi_text::{chassis_text, fru_text, minutes_text};
 use std::alloc::{AllocError, Global};
 
-/// What the lines of an area are labelled with.
+/// The labels of an area's lines.
 #[derive(Clone, Copy)]
 struct Labels {
     area: &'static str,
@@ -67,7 +67,7 @@ fn push_line(text: &mut String, label: &str, value: &str) -> Result<(), AllocErr
     text.push('\n')
 }
 
-/// Appends the line of a field; none where it has no text.
+/// Appends the line of a field. Appends nothing if the field has no text.
 fn push_field(
     alloc: Global,
     text: &mut String,
@@ -105,7 +105,7 @@ fn push_fields(
     Ok(())
 }
 
-/// The line before those of the fields: the type of a chassis, the date of a board.
+/// The line before the fields: the type of a chassis, the date of a board.
 fn lead_text(alloc: Global, area: &AreaView) -> Result<String, AllocError>
     ensures { IfOk result (λ text. IsLead area.now.kind area.now.bytes (string_bytes text)) }
 {
@@ -122,7 +122,7 @@ fn lead_text(alloc: Global, area: &AreaView) -> Result<String, AllocError>
     }
 }
 
-/// The lines of an area that has no fault.
+/// The lines of an area without a fault.
 fn area_text(alloc: Global, area: &AreaView) -> Result<String, AllocError>
     ensures { IfOk result (λ text. IsAreaText area.now (string_bytes text)) }
 {
@@ -131,7 +131,7 @@ fn area_text(alloc: Global, area: &AreaView) -> Result<String, AllocError>
     Ok(text)
 }
 
-/// What is printed of an area: its lines, its fault, or nothing where there is none.
+/// The text printed for an area: its lines, its fault, or nothing if there is no such area.
 pub(crate) fn found_text(
     alloc: Global,
     kind: AreaKind,

@@ -1,55 +1,55 @@
-//! The fields of an area, as their type/length bytes and their data spell them (Platform Management FRU Information Storage
+//! The fields of an area, encoded as type/length bytes and data (Platform Management FRU Information Storage
 //! Definition v1.0, section 13).
 ghost use Rattle.std.specs.Prelude.{◌≡◌, ◌/◌, ◌%◌, ◌<◌, [], IsTrue, is_some, unwrap_or};
 
 use std::marker::Model;
 
-/// The byte that comes after the last field.
+/// The byte after the last field.
 const NO_MORE_FIELDS: u8 = 0xC1;
 
-/// Bits 5:0 of a type/length byte: how many bytes of data come after it.
+/// Bits 5:0 of a type/length byte: the number of data bytes that follow.
 const LEN_BITS: u8 = 0x3F;
 
-/// A field of an area: what its type/length byte says, and its data.
+/// A field of an area: the type code of its type/length byte, and its data.
 #[derive(Clone, Copy, Debug, PartialEq, Eq)]
 pub struct Field<'a> {
     /// Bits 7:6 of the type/length byte: 0 binary, 1 BCD plus, 2 6-bit ASCII, 3 by the language.
     pub code: u8,
-    /// The data, as many bytes as bits 5:0 of the type/length byte say.
+    /// The data. Bits 5:0 of the type/length byte are its length.
     pub bytes: &'a [u8],
-    /// What `fru_text` asks of a code.
+    /// The precondition of `fru_text`.
     pub ghost two_bits: { code < 4 },
 }
 
-/// Bits 7:6 of a type/length byte: the code of the field.
+/// Bits 7:6 of a type/length byte: the type code of the field.
 fn code_of(type_length: u8) -> u8
     ensures { result ≡ type_length / 64 }
 {
     type_length >> 6
 }
 
-/// How many bytes of data come after a type/length byte.
+/// The number of data bytes that follow a type/length byte.
 fn len_of(type_length: u8) -> usize
     ensures { result ≡ type_length % 64 }
 {
     usize::from(type_length & LEN_BITS)
 }
 
-/// What comes first in bytes that are to be read as fields.
+/// The first item in bytes that are read as fields.
 #[derive(Clone, Copy)]
 enum Beginning<'a> {
     /// No more fields.
     End,
-    /// A field that is longer than the bytes that are left.
+    /// A field that is longer than the remaining bytes.
     PastEnd,
-    /// A field, and what is after it.
+    /// A field, and the bytes after it.
     Field(Field<'a>, &'a [u8]),
 }
 
 impl<'a> Beginning<'a> {
     ghost use Rattle.ipmi_fru.specs.Field.{Begins};
 
-    /// What the bytes begin with.
+    /// The first item in the bytes.
     fn of(bytes: &'a [u8]) -> Beginning<'a>
         ensures { Begins bytes.now result }
     {
@@ -68,8 +68,7 @@ impl<'a> Beginning<'a> {
     }
 }
 
-/// An iterator over the fields of an area, in their order. Contracts see it as the list of the
-/// fields that are left.
+/// An iterator over the fields of an area, in order. In contracts it is the list of the remaining fields.
 #[derive(Clone, Debug, Drop)]
 pub struct Fields<'a> {
     left: &'a [u8],
@@ -89,7 +88,7 @@ impl<'a> Model for Fields<'a> {
 impl<'a> Fields<'a> {
     ghost use Rattle.ipmi_fru.specs.Field.{fields_in};
 
-    /// Whether the bytes spell a list of fields.
+    /// Whether the bytes encode a list of fields.
     pub(crate) fn are_spelt(bytes: &[u8]) -> bool
         ensures { result ≡ is_some (fields_in bytes.now) }
     {
@@ -103,7 +102,7 @@ impl<'a> Fields<'a> {
         }
     }
 
-    /// The fields that the bytes spell.
+    /// The fields that the bytes encode.
     pub(crate) fn new(bytes: &'a [u8]) -> Fields<'a>
         requires { IsTrue (is_some (fields_in bytes.now)) }
         ensures { result ≡ unwrap_or (fields_in bytes.now) [] }

@@ -1,4 +1,4 @@
-//! The common header of an inventory, which says where its areas begin.
+//! The common header of an inventory, with the offsets of its areas.
 ghost use Rattle.std.specs.Prelude.{◌≡◌, ◌%◌, ◌≤◌, ◌*◌, ◌==◌, IfOk, IfErr, IfSome, Some, None, drop, sum};
 ghost use Rattle.ipmi_fru.specs.Prelude.{is_zero_sum, header_fault, fru_fault_name, offset_of, Chassis, Board, Product, IsFound, HasItems, items_left};
 
@@ -7,22 +7,22 @@ use crate::multirecord::Records;
 use std::marker::Model;
 use thiserror::Error;
 
-/// How many bytes a header has.
+/// The length of a header in bytes.
 const HEADER_LEN: usize = 8;
 
 /// Bits 3:0 of the first byte of a header or an area, and of the second byte of a record: its format version.
 pub(crate) const VERSION_BITS: u8 = 0x0F;
 
-/// Where the header has its format version, counted from 0.
+/// The position of the format version in the header, counted from 0.
 const VERSION: usize = 0;
 
-/// Where the header has the offset of the multirecord area.
+/// The position of the multirecord area's offset in the header.
 const RECORDS_PLACE: usize = 5;
 
-/// Why bytes are not an inventory. The first that applies, in this order, is the answer.
+/// Why bytes are not an inventory. The first fault that applies, in this order, is reported.
 #[derive(Clone, Copy, Debug, PartialEq, Eq, Error)]
 pub enum FruFault {
-    /// There are fewer bytes than the eight of a header.
+    /// Fewer than the eight bytes of a header.
     #[error("fewer bytes than a header has")]
     Short,
     /// The header's format version is not 1.
@@ -34,7 +34,7 @@ pub enum FruFault {
 }
 
 impl FruFault {
-    /// The name of the fault, as `print_fru` prints it.
+    /// The name of the fault, as printed by `print_fru`.
     pub fn name(self) -> &'static str
         ensures { result.now ≡ fru_fault_name self }
     {
@@ -46,15 +46,15 @@ impl FruFault {
     }
 }
 
-/// How many bytes so many units of eight are. Offsets in a header and the length of an area are in
-/// such units.
+/// The number of bytes in this many units of eight bytes. Offsets in a header and the length of an area are in such
+/// units.
 pub(crate) fn bytes_of(units: u8) -> usize
     ensures { result ≡ 8 * units }
 {
     8 * usize::from(units)
 }
 
-/// Whether the first byte of a header or an area has the format version 1, the only one.
+/// Whether the first byte of a header or an area has the format version 1. There is no other version.
 pub(crate) fn has_version_1(byte: u8) -> bool
     ensures { result ≡ (byte % 16 == 1) }
 {
@@ -79,8 +79,8 @@ pub(crate) fn is_zero_sum(bytes: &[u8]) -> bool
     sum_of(bytes) == 0
 }
 
-/// The inventory of a FRU device, whose header has no fault (Platform Management FRU Information Storage Definition v1.0,
-/// section 8).
+/// The inventory of a FRU device, with a header without a fault (Platform Management FRU Information Storage
+/// Definition v1.0, section 8).
 #[derive(Clone, Debug, Drop)]
 pub struct FruView<'a> {
     bytes: &'a [u8],
@@ -98,8 +98,8 @@ impl<'a> Model for FruView<'a> {
 }
 
 impl<'a> FruView<'a> {
-    /// Reads bytes as an inventory; Err names the first fault of the header. The header's pad byte
-    /// is only summed. Areas and records are not looked at before they are asked for.
+    /// Reads bytes as an inventory. Err is the first fault of the header. The header's pad byte is only part of the
+    /// checksum. Areas and records are read only when requested.
     pub fn read(bytes: &'a [u8]) -> Result<FruView<'a>, FruFault>
         ensures ok { IfOk result (λ view. (header_fault bytes.now ≡ None) × (view ≡ bytes.now)) }
         ensures err { IfErr result (λ fault. header_fault bytes.now ≡ Some fault) }
@@ -116,8 +116,7 @@ impl<'a> FruView<'a> {
         Ok(FruView { bytes })
     }
 
-    /// Where the area begins whose offset is at this place in the header; none where the offset is
-    /// 0.
+    /// The offset in bytes of the area whose offset is at this position in the header. None if that is 0.
     fn offset(&self, place: usize) -> Option<usize>
         requires { place ≤ 5 }
         ensures offset { result ≡ offset_of place self.now }
@@ -137,36 +136,36 @@ impl<'a> FruView<'a> {
         Some(AreaView::read(kind, self.bytes, offset))
     }
 
-    /// The chassis info area, or its first fault; none where the header has no offset of it.
+    /// The chassis info area, or its first fault. None if the header has no offset for it.
     pub fn chassis(&self) -> Option<Result<AreaView<'a>, AreaFault>>
         ensures { IsFound Chassis self.now result }
     {
         self.area(AreaKind::Chassis)
     }
 
-    /// The board info area, or its first fault; none where the header has no offset of it.
+    /// The board info area, or its first fault. None if the header has no offset for it.
     pub fn board(&self) -> Option<Result<AreaView<'a>, AreaFault>>
         ensures { IsFound Board self.now result }
     {
         self.area(AreaKind::Board)
     }
 
-    /// The product info area, or its first fault; none where the header has no offset of it.
+    /// The product info area, or its first fault. None if the header has no offset for it.
     pub fn product(&self) -> Option<Result<AreaView<'a>, AreaFault>>
         ensures { IsFound Product self.now result }
     {
         self.area(AreaKind::Product)
     }
 
-    /// The bytes from an offset on; none where they end before.
+    /// The bytes that start at an offset. Empty if the offset is past the end.
     fn bytes_from(&self, offset: usize) -> &'a [u8]
         ensures { result.now ≡ drop offset self.now }
     {
         self.bytes.get(offset..).unwrap_or(&[])
     }
 
-    /// The records of the multirecord area, up to the one that is marked as the last, or to the first fault; none where the
-    /// header has no offset of it.
+    /// The records of the multirecord area, up to the one marked as the last, or up to the first fault. There are
+    /// none if the header has no offset for the area.
     pub fn records(&self) -> Records<'a>
         ensures { HasItems self.now (items_left result) }
     {

@@ -1,22 +1,22 @@
-//! Laws of fields, records and texts, each the contract of a function that does nothing.
+//! Laws of fields, records and texts. Each law is the contract of an empty function.
 ghost use Rattle.std.specs.Prelude.{◌≡◌, ℕ, List, None, Option, Some};
 ghost use Rattle.ipmi_text.specs.Bytes.{AreBytes};
 ghost use Rattle.ipmi_fru.specs.Prelude.{AreaField, Spells, MultiFault, MultiRecord, IsRecordList, IsFruLine, IsFruText};
 
-/// Bytes spell at most one list of fields.
+/// Bytes encode at most one list of fields.
 #[tactic(auto, using(crate::proofs::UniqueLemmas::one_list_of_fields))]
 pub fn one_list_of_fields()
     ensures { (bytes : List ℕ) (a b : List AreaField) → Spells bytes a → Spells bytes b → a ≡ b }
 {}
 
-/// Bytes are at most one list of records, with one end.
+/// Bytes encode at most one list of records, with one end.
 #[tactic(auto, using(crate::proofs::UniqueLemmas::one_list_of_records))]
 pub fn one_list_of_records()
     ensures { (bytes : List ℕ) (a b : List MultiRecord) (e f : Option MultiFault) →
         IsRecordList bytes a e → IsRecordList bytes b f → (a ≡ b) × (e ≡ f) }
 {}
 
-/// An inventory has at most one text, so what `print_fru` gives is the only one.
+/// An inventory has at most one text, so the result of `print_fru` is the only one.
 pub fn one_fru_text()
     ensures { (bytes text other : List ℕ) → IsFruText bytes text → IsFruText bytes other →
         text ≡ other }
@@ -25,7 +25,7 @@ pub fn one_fru_text()
     ipmi_text::laws::one_minutes_text();
 }
 
-/// A device has at most one line under an id, a name and an inventory, so what `fru_line` gives is the only one.
+/// A device has at most one line for an id, a name and an inventory, so the result of `fru_line` is the only one.
 pub fn one_fru_line()
     ensures { (id : ℕ) (name inventory : Option (List ℕ)) (text other : List ℕ) →
         IsFruLine id name inventory text → IsFruLine id name inventory other → text ≡ other }
@@ -34,7 +34,7 @@ pub fn one_fru_line()
     ipmi_text::laws::one_minutes_text();
 }
 
-/// The bytes of an inventory have a text, whatever they are.
+/// All bytes have a text as an inventory.
 pub fn each_inventory_has_a_text()
     ensures { (bytes : List ℕ) → AreBytes bytes → (text : List ℕ) × IsFruText bytes text }
 {
@@ -42,7 +42,7 @@ pub fn each_inventory_has_a_text()
     ipmi_text::laws::each_time_has_a_text();
 }
 
-/// A device has a line, whatever the bytes of its inventory are.
+/// A device has a line for all bytes of its inventory, and without an inventory.
 pub fn each_device_has_a_line()
     ensures bare { (id : ℕ) (name : Option (List ℕ)) →
         (text : List ℕ) × IsFruLine id name None text }

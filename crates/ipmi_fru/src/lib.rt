@@ -1,5 +1,5 @@
-//! The inventory of a FRU device: its header, areas, fields and multirecords, and the text of all of it
-//! (Platform Management FRU Information Storage Definition v1.0).
+//! The inventory of a FRU device: its header, areas, fields and multirecords, and its text (Platform Management FRU
+//! Information Storage Definition v1.0).
 #![tactic(auto)]
 
 mod area;
@@ -12,9 +12,10 @@ mod multirecord;
 mod print;
 mod record_text;
 
-pub use area::{AreaFault, AreaView};
+pub use area::{AreaFault, AreaKind, AreaView};
 pub use field::{Field, Fields};
 pub use header::{FruFault, FruView};
-pub use line::fru_line;
+pub use line::{elsewhere_line, fru_line};
 pub use multirecord::{MultiFault, MultiView, Records};
 pub use print::print_fru;
+pub use record_text::{DcFields, DcKind, RecordForm, access_text, form_of};

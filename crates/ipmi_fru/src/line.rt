@@ -1,6 +1,6 @@
 //! The line of a FRU device.
 ghost use Rattle.std.specs.Prelude.{◌≡◌, IfOk, option_map, string_bytes};
-ghost use Rattle.ipmi_fru.specs.Prelude.{IsFruLine, IsPresentLine, bare_line, field_text, or_dash, told_text};
+ghost use Rattle.ipmi_fru.specs.Prelude.{IsFruLine, IsPresentLine, bare_line, elsewhere_line, field_text, or_dash, told_text};
 
 use crate::area::{AreaFault, AreaView};
 use crate::header::FruView;
@@ -10,7 +10,7 @@ use std::alloc::{AllocError, Global};
 /// The capacity for most lines.
 const LINE_CAPACITY: usize = 96;
 
-/// Where a field stands in the area of the product and in that of the board, counted from 0.
+/// The index of a field in the product area and in the board area, counted from 0.
 #[derive(Clone, Copy)]
 struct Place {
     product: usize,
@@ -35,7 +35,7 @@ const SERIAL: Place = Place {
     board: 2,
 };
 
-/// The text of the field at a place of an area; an empty one where there is no area, no such field, or a fault.
+/// The text of the field at an index of an area. Empty if there is no area, no such field, or a fault.
 fn field_text(
     alloc: Global,
     found: &Option<Result<AreaView, AreaFault>>,
@@ -52,14 +52,14 @@ fn field_text(
     }
 }
 
-/// A text; a dash in place of an empty one.
+/// The text, or a dash if it is empty.
 fn or_dash(text: &str) -> &str
     ensures { result.now ≡ or_dash text.now }
 {
     if text.is_empty() { "-" } else { text }
 }
 
-/// What the area of the product tells, or else that of the board; a dash where neither does.
+/// The text from the product area, or else from the board area. A dash if both are empty.
 fn told_text(
     alloc: Global,
     product: &Option<Result<AreaView, AreaFault>>,
@@ -77,7 +77,7 @@ fn told_text(
     String::from_str(alloc, or_dash(&text))
 }
 
-/// The line of a device whose inventory tells nothing.
+/// The line of a device without a readable inventory.
 fn bare_line(alloc: Global, id: u8, name: &str, state: &str) -> Result<String, AllocError>
     ensures { IfOk result (λ text. string_bytes text ≡ bare_line id name.now state.now) }
 {
@@ -86,7 +86,7 @@ fn bare_line(alloc: Global, id: u8, name: &str, state: &str) -> Result<String, A
     Ok(line)
 }
 
-/// The line of a device whose inventory can be read.
+/// The line of a device with a readable inventory.
 fn present_line(
     alloc: Global,
     id: u8,
@@ -108,10 +108,10 @@ fn present_line(
     Ok(line)
 }
 
-/// The line of a FRU device: its id, its name, whether it is there, and the name, the part number and the serial number
-/// of the product, all joined by ` | `. Each of the last three is of the product area, or where that has none of the
-/// board area. A dash stands for what there is none of. `inventory` is what the device holds, None where it is not
-/// present. A device is `faulty` where `print_fru` names a fault of the header.
+/// The line of a FRU device: its id, its name, its state, and the name, part number and serial number of the product,
+/// joined by ` | `. Each of the last three is from the product area, or from the board area if the product area has
+/// none. A dash replaces an empty text. `inventory` holds the bytes of the inventory, and is None if the device is
+/// not present. The state is `present`, `not present`, or `faulty` if `print_fru` reports a fault of the header.
 pub fn fru_line(
     alloc: Global,
     id: u8,
@@ -129,4 +129,15 @@ pub fn fru_line(
         Ok(inventory) => present_line(alloc, id, name, &inventory),
         Err(_) => bare_line(alloc, id, name, "faulty"),
     }
+}
+
+/// The line of a FRU device that is reached elsewhere, and is therefore not read: its name and `elsewhere`. The id
+/// and the columns of the product are dashes, and so is an empty name.
+pub fn elsewhere_line(alloc: Global, name: &str) -> Result<String, AllocError>
+    ensures { IfOk result (λ text. string_bytes text ≡ elsewhere_line name.now) }
+{
+    let name = or_dash(name);
+    let mut line = String::with_capacity(alloc, LINE_CAPACITY)?;
+    write!(line, "- | {name} | elsewhere | - | - | -\n")?;
+    Ok(line)
 }

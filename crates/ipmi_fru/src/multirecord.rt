@@ -1,30 +1,30 @@
-//! The multirecord area of an inventory: records one after the other, up to one that is marked as the last.
+//! The multirecord area of an inventory: a sequence of records, up to the one marked as the last.
 ghost use Rattle.std.specs.Prelude.{◌≡◌, ◌<◌, IfOk, IfErr, Some, None, length};
 ghost use Rattle.ipmi_fru.specs.Prelude.{record_in, record_fault, multi_fault_name, after_record, record_of, items_after, items_left};
 
 use crate::header::{VERSION_BITS, is_zero_sum, sum_of};
 use thiserror::Error;
 
-/// How many bytes a record's header has.
+/// The length of a record's header in bytes.
 const HEADER_LEN: usize = 5;
 
-/// Where the header has the record's type, counted from 0.
+/// The offset of the record's type in the header, counted from 0.
 const TYPE: usize = 0;
 
-/// Where it has the end of list and the format version.
+/// The offset of the byte with the end of list and the format version.
 const END_AND_VERSION: usize = 1;
 
-/// Where it has the length of the data.
+/// The offset of the length of the data.
 const DATA_LENGTH: usize = 2;
 
-/// Where it has the checksum of the data.
+/// The offset of the checksum of the data.
 const DATA_CHECKSUM: usize = 3;
 
 /// Bit 7 of a record's second byte: the record is the last one.
 const LAST: u8 = 0x80;
 
-/// Why a record can't be read. The first one that applies is the answer: Outside for the header, HeaderSum, Outside for the
-/// data, DataSum.
+/// Why a record cannot be read. The first fault that applies is reported, in this order: Outside for the header,
+/// HeaderSum, Outside for the data, DataSum.
 #[derive(Clone, Copy, Debug, PartialEq, Eq, Error)]
 pub enum MultiFault {
     /// The inventory ends before the record does.
@@ -33,13 +33,13 @@ pub enum MultiFault {
     /// The bytes of the record's header do not sum to a multiple of 256.
     #[error("the checksum of the header is wrong")]
     HeaderSum,
-    /// The record's data and their checksum do not sum to a multiple of 256.
+    /// The record's data and its checksum do not sum to a multiple of 256.
     #[error("the checksum of the data is wrong")]
     DataSum,
 }
 
 impl MultiFault {
-    /// The name of the fault, as `print_fru` prints it.
+    /// The name of the fault, as printed by `print_fru`.
     pub fn name(self) -> &'static str
         ensures { result.now ≡ multi_fault_name self }
     {
@@ -56,15 +56,15 @@ impl MultiFault {
 pub struct MultiView<'a> {
     /// The type of the record.
     pub kind: u8,
-    /// The version of its format, bits 3:0 of the second byte, which is not checked.
+    /// The version of its format, bits 3:0 of the second byte. It is not checked.
     pub version: u8,
-    /// Whether it is marked as the last one.
+    /// Whether it is marked as the last record.
     pub last: bool,
     /// The data, without the record's header.
     pub bytes: &'a [u8],
 }
 
-/// The record that bytes begin with, and what comes after it.
+/// Reads the record at the start of the bytes. Returns it and the bytes after it.
 fn read_record(bytes: &[u8]) -> Result<(MultiView<'_>, &[u8]), MultiFault>
     ensures fine { IfOk result (λ r. record_fault bytes.now ≡ None) }
     ensures record { IfOk result (λ r. record_of r.0 ≡ record_in bytes.now) }
@@ -95,15 +95,15 @@ fn read_record(bytes: &[u8]) -> Result<(MultiView<'_>, &[u8]), MultiFault>
     Ok((view, &bytes[end..]))
 }
 
-/// An iterator over the records of the multirecord area, in their order. It ends after the record
-/// that is marked as the last, or after the first fault.
+/// An iterator over the records of the multirecord area, in order. It ends after the record marked as the last, or
+/// after the first fault.
 #[derive(Clone, Debug, Drop)]
 pub struct Records<'a> {
     left: Option<&'a [u8]>,
 }
 
 impl<'a> Records<'a> {
-    /// The records that these bytes begin with; none for None.
+    /// The records at the start of these bytes. There are none for None.
     pub(crate) fn new(left: Option<&'a [u8]>) -> Records<'a>
         ensures { items_left result ≡ items_after left.entry }
     {

@@ -8,12 +8,11 @@ use crate::header::FruView;
 use crate::record_text::records_text;
 use std::alloc::{AllocError, Global};
 
-/// The text of an inventory, a line for each thing that it has: chassis, board and product, and
-/// then the records with their volts, millivolts and milliamperes (Platform Management FRU
-/// Information Storage Definition v1.0; the lines and labels are this project's own). An area with
-/// a fault is one line that names the fault, and the other areas and the records are printed all
-/// the same. A record with a fault is such a line too, and ends the text. A header with a fault is
-/// such a line, and nothing else is printed. The only error is want of memory.
+/// The text of an inventory, one line per item: chassis, board and product, then the records with their volts,
+/// millivolts and milliamperes (Platform Management FRU Information Storage Definition v1.0; the lines and labels are
+/// this project's own). For an area with a fault, one line names the fault, and the other areas and the records are
+/// still printed. For a record with a fault, one line names the fault and ends the text. For a header with a fault,
+/// one line names the fault, and nothing else is printed. Fails only when out of memory.
 pub fn print_fru(alloc: Global, bytes: &[u8]) -> Result<String, AllocError>
     ensures { IfOk result (λ text. IsFruText bytes.now (string_bytes text)) }
 {

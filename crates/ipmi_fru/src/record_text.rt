@@ -1,7 +1,7 @@
 //! The lines of multirecords.
-ghost use Rattle.std.specs.Prelude.{◌≡◌, ◌%◌, ◌≤◌, ◌+◌, IfOk, length, string_bytes};
+ghost use Rattle.std.specs.Prelude.{◌≡◌, ◌%◌, ◌≤◌, ◌+◌, IfOk, length, nat_le, string_bytes};
 ghost use Rattle.byteorder.specs.Endian.{little_from, twos_complement};
-ghost use Rattle.ipmi_fru.specs.Prelude.{item_of, items_left, record_of, IsVoltsAt, current_text, dc_start, before_low, before_high, standby_text, IsDcText, access_text, access_line, other_line, form_of, IsTextInForm, IsItemText, AreItemTexts};
+ghost use Rattle.ipmi_fru.specs.Prelude.{item_of, items_left, record_of, IsVoltsAt, volts_at, dc_fields, current_text, dc_start, before_low, before_high, standby_text, IsDcText, access_text, access_line, other_line, form_of, IsTextInForm, IsItemText, AreItemTexts};
 
 use crate::multirecord::{MultiFault, MultiView, Records};
 use byteorder::{ByteOrder, LittleEndian};
@@ -11,10 +11,10 @@ use std::alloc::{AllocError, Global};
 /// 10 mV, the unit of the voltages in a record, as a `Fixed`.
 const TEN_MILLIVOLTS: i128 = 100_000_000_000_000;
 
-/// The code of a field that is binary.
+/// The type code of a binary field.
 const BINARY: u8 = 0;
 
-/// The code of a field whose form the language decides: Latin-1 in English.
+/// The type code of a field whose encoding depends on the language: Latin-1 for English.
 const BY_LANGUAGE: u8 = 3;
 
 /// The type of a DC output record.
@@ -26,63 +26,63 @@ const DC_LOAD: u8 = 2;
 /// The type of a management access record.
 const MANAGEMENT_ACCESS: u8 = 3;
 
-/// The least number of data bytes of a DC output and of a DC load.
+/// The minimum number of data bytes of a DC output and of a DC load.
 const DC_LEN: usize = 13;
 
-/// Where the data of a DC record have the number of the output or the load, counted from 0.
+/// The offset of the number of the output or the load in the data of a DC record, counted from 0.
 const NUMBER: usize = 0;
 
-/// Where they have the nominal voltage.
+/// The offset of the nominal voltage.
 const NOMINAL_VOLTAGE: usize = 1;
 
-/// Where they have the negative deviation of an output, or the least voltage of a load.
+/// The offset of the negative deviation of an output, or of the minimum voltage of a load.
 const LOW_VOLTAGE: usize = 3;
 
-/// Where they have the positive deviation of an output, or the greatest voltage of a load.
+/// The offset of the positive deviation of an output, or of the maximum voltage of a load.
 const HIGH_VOLTAGE: usize = 5;
 
-/// Where they have the ripple.
+/// The offset of the ripple.
 const RIPPLE: usize = 7;
 
-/// Where they have the least current.
+/// The offset of the minimum current.
 const LEAST_CURRENT: usize = 9;
 
-/// Where they have the greatest current.
+/// The offset of the maximum current.
 const GREATEST_CURRENT: usize = 11;
 
-/// Bit 7 of the first data byte of a DC output: it is a standby one.
+/// Bit 7 of the first data byte of a DC output: it is a standby output.
 const STANDBY: u8 = 0x80;
 
 /// Bits 3:0 of the first data byte of a DC record: the number of the output or the load.
 const NUMBER_BITS: u8 = 0x0F;
 
-/// The first subtype of a management access record whose data are text.
+/// The first subtype of a management access record whose data is text.
 const FIRST_TEXT: u8 = 0x01;
 
-/// The last of these subtypes.
+/// The last subtype of a management access record whose data is text.
 const LAST_TEXT: u8 = 0x06;
 
 /// Which record of direct current it is.
-#[derive(Clone, Copy)]
-enum DcKind {
+#[derive(Clone, Copy, Debug, PartialEq, Eq)]
+pub enum DcKind {
     /// What a supply gives.
     Output,
-    /// What a load takes.
+    /// A load.
     Load,
 }
 
 /// What a record is printed as.
-#[derive(Clone, Copy)]
-enum RecordForm {
+#[derive(Clone, Copy, Debug, PartialEq, Eq)]
+pub enum RecordForm {
     /// A DC output or a DC load.
     Dc(DcKind),
     /// A management access record.
     Access,
-    /// A record of another type, or with too few data.
+    /// A record of another type, or with too few data bytes.
     Other,
 }
 
-/// The number of two data bytes from a place on.
+/// The number in the two data bytes at `place`.
 fn number_at(bytes: &[u8], place: usize) -> u16
     requires { place + 2 ≤ length bytes.now }
     ensures { result ≡ little_from place 2 bytes.now }
@@ -90,7 +90,7 @@ fn number_at(bytes: &[u8], place: usize) -> u16
     LittleEndian::read_u16(&bytes[place..])
 }
 
-/// The signed number of two data bytes from a place on.
+/// The signed number in the two data bytes at `place`.
 fn signed_at(bytes: &[u8], place: usize) -> i16
     requires { place + 2 ≤ length bytes.now }
     ensures { result ≡ twos_complement 2 (little_from place 2 bytes.now) }
@@ -98,15 +98,60 @@ fn signed_at(bytes: &[u8], place: usize) -> i16
     number_at(bytes, place).cast_signed()
 }
 
+/// What a DC output or a DC load says (sections 18.2 and 18.3), with voltages in volts.
+#[derive(Clone, Copy, Debug, PartialEq, Eq)]
+pub struct DcFields {
+    /// The number of the output or the load, 4 bits.
+    pub number: u8,
+    /// Bit 7 of the byte that has the number: an output is a standby one.
+    pub standby: bool,
+    /// The nominal voltage.
+    pub nominal: Fixed,
+    /// The negative deviation of an output, or the least voltage of a load.
+    pub low: Fixed,
+    /// The positive deviation of an output, or the greatest voltage of a load.
+    pub high: Fixed,
+    /// The ripple in millivolts.
+    pub ripple: u16,
+    /// The least current in milliamperes.
+    pub least_current: u16,
+    /// The greatest current in milliamperes.
+    pub greatest_current: u16,
+}
+
+impl DcFields {
+    /// What the data of such a record say.
+    pub fn of(bytes: &[u8]) -> DcFields
+        requires { 13 ≤ length bytes.now }
+        ensures { result ≡ dc_fields bytes.now }
+    {
+        DcFields {
+            number: number_of(bytes[NUMBER]),
+            standby: is_standby(bytes[NUMBER]),
+            nominal: volts_at(bytes, NOMINAL_VOLTAGE),
+            low: volts_at(bytes, LOW_VOLTAGE),
+            high: volts_at(bytes, HIGH_VOLTAGE),
+            ripple: number_at(bytes, RIPPLE),
+            least_current: number_at(bytes, LEAST_CURRENT),
+            greatest_current: number_at(bytes, GREATEST_CURRENT),
+        }
+    }
+}
+
 /// The volts of two data bytes from a place on.
+fn volts_at(bytes: &[u8], place: usize) -> Fixed
+    requires { place + 2 ≤ length bytes.now }
+    ensures { result ≡ volts_at place bytes.now }
+{
+    Fixed(i128::from(signed_at(bytes, place)) * TEN_MILLIVOLTS)
+}
+
+/// The same as a text.
 fn volts_text(alloc: Global, bytes: &[u8], place: usize) -> Result<String, AllocError>
     requires { place + 2 ≤ length bytes.now }
     ensures { IfOk result (λ text. IsVoltsAt place bytes.now (string_bytes text)) }
 {
-    fixed_text(
-        alloc,
-        Fixed(i128::from(signed_at(bytes, place)) * TEN_MILLIVOLTS),
-    )
+    fixed_text(alloc, volts_at(bytes, place))
 }
 
 /// The ripple and the currents of an output or a load.
@@ -120,7 +165,7 @@ fn current_text(alloc: Global, bytes: &[u8]) -> Result<String, AllocError>
     format!(in alloc; "ripple {ripple} mV, current {least} to {most} mA\n")
 }
 
-/// What the line of a DC record says beside its numbers.
+/// The words in the line of a DC record.
 struct DcWords {
     start: &'static str,
     before_low: &'static str,
@@ -147,11 +192,18 @@ fn words_of(kind: DcKind) -> DcWords
     }
 }
 
-/// The number of an output or a load, by the first data byte of its record.
+/// The number of an output or a load, from the first data byte of its record.
 fn number_of(byte: u8) -> u8
     ensures { result ≡ byte % 16 }
 {
     byte & NUMBER_BITS
+}
+
+/// Bit 7 of that byte.
+fn is_standby(byte: u8) -> bool
+    ensures { result ≡ nat_le 128 byte }
+{
+    byte & STANDBY != 0
 }
 
 /// ` standby` for a standby output, otherwise nothing. `byte` is the one that has the output's
@@ -160,7 +212,7 @@ fn standby_text(kind: DcKind, byte: u8) -> &'static str
     ensures { result.now ≡ standby_text kind byte }
 {
     match kind {
-        DcKind::Output if byte & STANDBY != 0 => " standby",
+        DcKind::Output if is_standby(byte) => " standby",
         DcKind::Output | DcKind::Load => "",
     }
 }
@@ -186,8 +238,8 @@ fn dc_text(alloc: Global, kind: DcKind, bytes: &[u8]) -> Result<String, AllocErr
     )
 }
 
-/// The data of a management access record after its subtype, as text or in hex, by its subtype.
-fn access_text(alloc: Global, bytes: &[u8]) -> Result<String, AllocError>
+/// The data of a management access record after its subtype, as text or in hex, by its subtype, which is the first byte.
+pub fn access_text(alloc: Global, bytes: &[u8]) -> Result<String, AllocError>
     requires { 1 ≤ length bytes.now }
     ensures { IfOk result (λ text. string_bytes text ≡ access_text bytes.now) }
 {
@@ -208,7 +260,7 @@ fn access_line(alloc: Global, bytes: &[u8]) -> Result<String, AllocError>
     format!(in alloc; "Management Access 0x{subtype}: {value}\n")
 }
 
-/// The line of a record that is printed as it is.
+/// The line of a record that is printed in hex.
 fn other_line(alloc: Global, view: &MultiView) -> Result<String, AllocError>
     ensures { IfOk result (λ text. string_bytes text ≡ other_line (record_of view.now)) }
 {
@@ -217,8 +269,9 @@ fn other_line(alloc: Global, view: &MultiView) -> Result<String, AllocError>
     format!(in alloc; "Record 0x{kind}: {data}\n")
 }
 
-/// What a record is printed as, by its type and the number of its data bytes.
-fn form_of(view: &MultiView) -> RecordForm
+/// What a record is printed as, by its type and the number of its data bytes: a DC output and a DC load have at least 13
+/// of them, and a management access record one.
+pub fn form_of(view: &MultiView) -> RecordForm
     ensures { result ≡ form_of (record_of view.now) }
 {
     let len = view.bytes.len();
@@ -230,7 +283,7 @@ fn form_of(view: &MultiView) -> RecordForm
     }
 }
 
-/// The line of a record, by what it is printed as.
+/// The line of a record, in the form in which it is printed.
 fn record_text(alloc: Global, view: &MultiView) -> Result<String, AllocError>
     ensures { IfOk result (λ text. IsTextInForm (form_of (record_of view.now)) (record_of view.now)
         (string_bytes text)) }
@@ -242,7 +295,7 @@ fn record_text(alloc: Global, view: &MultiView) -> Result<String, AllocError>
     }
 }
 
-/// The line of a record, or of a fault after the last one.
+/// The line of a record, or of the fault after the last record.
 fn item_text(alloc: Global, item: &Result<MultiView, MultiFault>) -> Result<String, AllocError>
     ensures { IfOk result (λ text. IsItemText (item_of item.now) (string_bytes text)) }
 {
@@ -255,7 +308,7 @@ fn item_text(alloc: Global, item: &Result<MultiView, MultiFault>) -> Result<Stri
     }
 }
 
-/// The lines of the records, and of the fault that ends them.
+/// The lines of the records, and of the fault that ends them, if there is one.
 pub(crate) fn records_text(alloc: Global, records: Records) -> Result<String, AllocError>
     ensures { IfOk result (λ text. AreItemTexts (items_left records.entry) (string_bytes text)) }
 {
