@@ -1,4 +1,4 @@
--- What an honest controller may answer to each call, and what a plain one has to.
+-- What an honest controller may answer to each call, and what a plain controller must answer.
 use Rattle.std.specs.Prelude.{◌≡◌, ℕ, ◌+◌, ◌<◌, ◌≤◌, ◌==◌, Bool, true, false, IsTrue, Option, None, Some, MatchOption, Result, Ok, Err, IsOk, MatchResult, List, length, take, drop}
 use Rattle.ipmi_bus.specs.Types.{Busy, Cancelled, Code, CodeClass, FruSize, NotPresent, Part, Refusal, Sdr, Sel, Shelf, SmallerPart}
 use Rattle.ipmi_bus.specs.Shelf.{Row, look}
@@ -10,12 +10,13 @@ abbrev pub other : Shelf → Shelf
 other Sdr = Sel
 other Sel = Sdr
 
--- data up to the last byte finishes what is read in parts
+-- data that includes the last byte finishes what is read in parts
 abbrev pub CountsPiece : Bool → Seen → Seen → Type 0
 CountsPiece true old new = IsFinished old new
 CountsPiece false old new = IsQuiet old new
 
--- what a failing call counts, where a smaller part may be asked for under one condition, and CBh comes under another
+-- what a failed call counts; a code that asks for a smaller part needs one condition, and CBh
+-- another
 abbrev pub FailsWith : Type 0 → Type 0 → CodeClass → ℕ → Seen → Seen → Type 0
 FailsWith may_be_smaller is_absent Cancelled code old new = IsTroubled old new
 FailsWith may_be_smaller is_absent Busy code old new = IsTroubled old new
@@ -28,7 +29,7 @@ not_present = record { 0 = 0xCB }
 
 -- ---- a reservation
 
--- its number, which becomes current
+-- its number becomes the current reservation
 pub record ReserveAnswers (shelf : Shelf) (result : Result ℕ Code) (old new : Seen) : Type 0 where
   pub change : IsChange old new
   pub gives : MatchResult result (λ r. IsQuiet old new × (current shelf new ≡ Some r))
@@ -38,7 +39,7 @@ pub record ReserveAnswers (shelf : Shelf) (result : Result ℕ Code) (old new : 
 
 -- ---- a part of a record
 
--- a request for as many bytes as `len` says
+-- a request for `len` bytes
 pub record Asked : Type 0 where
   pub shelf : Shelf
   pub reservation : ℕ
@@ -46,7 +47,7 @@ pub record Asked : Type 0 where
   pub offset : ℕ
   pub len : ℕ
 
--- as a call has it
+-- the request of a call with these parameters
 abbrev pub part_asked : Shelf → ℕ → ℕ → ℕ → ℕ → Asked
 part_asked shelf reservation id offset len = record {
   shelf = shelf;
@@ -56,15 +57,15 @@ part_asked shelf reservation id offset len = record {
   len = len;
 }
 
--- bytes of these, at least one and no more than asked, from the offset on
+-- a piece of these bytes that starts at the offset: at least one byte and at most as many as asked
 pub record IsPiece (whole : List ℕ) (offset asked got : ℕ) (into : List ℕ) : Type 0 where
   pub some : 0 < got
   pub fits : got ≤ asked
   pub within : offset + got ≤ length whole
   pub bytes : take got into ≡ take got (drop offset whole)
 
--- Data is of a row of the store as it is after the call. Past the first byte it comes only under the current
--- reservation.
+-- The data is from a row of the store as it is after the call. At an offset above 0, data comes
+-- only under the current reservation.
 pub record GivesPiece (ask : Asked) (part : Part) (into : List ℕ) (old new : Seen)
     (row : Row) : Type 0 where
   pub found : look (rows_of ask.shelf new.store) ask.id ≡ Some row
@@ -73,8 +74,8 @@ pub record GivesPiece (ask : Asked) (part : Part) (into : List ℕ) (old new : S
   pub reserved : 0 < ask.offset → current ask.shelf new ≡ Some ask.reservation
   pub counts : CountsPiece (ask.offset + part.got == length row.bytes) old new
 
--- a plain controller gives what is there, past the first byte under the current reservation, and says CBh of what is
--- not
+-- a plain controller returns data of a row that is present, at an offset above 0 under the current
+-- reservation; if no such row is present, it answers CBh
 pub record PartAnswers (ask : Asked) (result : Result Part Code) (into : List ℕ)
     (old new : Seen) : Type 0 where
   pub change : IsChange old new
@@ -90,7 +91,8 @@ pub record PartAnswers (ask : Asked) (result : Result Part Code) (into : List �
 
 -- ---- a value: an info, a reading
 
--- the answer to a request for a value of the store; a plain controller gives what is there, and says CBh of what is not
+-- the answer to a request for a value of the store; a plain controller returns a value that is
+-- present, and otherwise answers CBh
 pub record ValueAnswers {V : Type 0} (value : Store → Option V) (result : Result V Code)
     (old new : Seen) : Type 0 where
   pub change : IsChange old new
@@ -103,7 +105,8 @@ pub record ValueAnswers {V : Type 0} (value : Store → Option V) (result : Resu
 
 -- ---- an inventory
 
--- its size, in bytes, and that it is accessed by bytes: an inventory of a store always is; a size of 0 finishes it
+-- its size in bytes, and access by bytes, as for every inventory of a store; a size of 0 finishes
+-- it
 pub record SizeAnswers (id : ℕ) (result : Result FruSize Code) (old new : Seen) : Type 0 where
   pub change : IsChange old new
   pub gives : MatchResult result
@@ -116,7 +119,7 @@ pub record SizeAnswers (id : ℕ) (result : Result FruSize Code) (old new : Seen
   pub plain : IsTrue old.plain
       → MatchOption (inventory_of id old.store) (result ≡ Err not_present) (λ bytes. IsOk result)
 
--- data of it, from an offset on
+-- its data, starting at an offset
 pub record BytesAnswers (id offset asked : ℕ) (result : Result ℕ Code) (into : List ℕ)
     (old new : Seen) : Type 0 where
   pub change : IsChange old new

@@ -1,12 +1,12 @@
--- What is to be done after a call that failed.
+-- How to proceed after a failed call.
 use Rattle.std.specs.Prelude.{◌≡◌, ℕ, ◌/◌, ◌<◌, ◌≤◌, ◌⊎◌, nat_lt, if◌then◌else◌, Option, None, Some}
 use Rattle.ipmi_bus.specs.Types.{Busy, Cancelled, CodeClass, Failure, NotPresent, Refusal, SmallerPart}
 
--- half of what was asked for, rounded down; none where that was one byte
+-- half of the bytes asked for, rounded down; none if that was one byte
 abbrev pub smaller_part : ℕ → Option ℕ
 smaller_part asked = if nat_lt 1 asked then Some (asked / 2) else None
 
--- what is to be done after a failing call, by the class of its code and the troubles before it
+-- how to proceed after a failed call, by the class of its code and the number of earlier troubles
 abbrev pub FailureIs : Failure → CodeClass → ℕ → ℕ → Type 0
 FailureIs Failure.Again class troubles tries = (class ≡ Busy) × (troubles < tries)
 FailureIs Failure.Anew class troubles tries = (class ≡ Cancelled) × (troubles < tries)

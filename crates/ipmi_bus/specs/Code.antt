@@ -1,4 +1,4 @@
--- Completion codes by what they mean for a retrieval.
+-- The classes of completion codes: what they mean for a retrieval.
 use Rattle.std.specs.Prelude.{ℕ, ◌==◌, ◌||◌, if◌then◌else◌}
 use Rattle.ipmi_bus.specs.Types.{Busy, Cancelled, CodeClass, NotPresent, Refusal, SmallerPart}
 

@@ -1,4 +1,4 @@
--- Numbers that clauses see of a controller, without a greatest value.
+-- The counters of a controller that contracts see. They have no upper limit.
 use Rattle.std.specs.Prelude.{ℕ, Option}
 
 pub record Counts : Type 0 where

@@ -1,11 +1,11 @@
--- What contracts see of a cursor.
+-- The state of a cursor that contracts see.
 use Rattle.std.specs.Prelude.{ℕ, Option, None, Some}
 use Rattle.std.specs.Ordering.{nat_cmp}
 use Rattle.std.specs.FinSet as set
 use Rattle.ipmi_bus.specs.Types.{First, Id, Place, Shelf}
 
--- its shelf, its place, its part size in bytes, its tries, the ids that it has handed out, and the reservation that it
--- holds
+-- its shelf, place, part size in bytes, tries, the ids of the records returned, and the reservation
+-- that it holds
 pub record CursorState : Type 0 where
   pub shelf : Shelf
   pub place : Place

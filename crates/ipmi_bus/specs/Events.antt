@@ -1,4 +1,4 @@
--- What an event adds to the counts.
+-- How an event changes the counts.
 use Rattle.std.specs.Prelude.{ℕ, ◌+◌, max, None, Some}
 use Rattle.ipmi_bus.specs.Code.{class_of}
 use Rattle.ipmi_bus.specs.Counts.{Counts}

@@ -1,4 +1,4 @@
--- An inventory that is being read in parts: what is there so far, and what one call may leave of it.
+-- An inventory being read in parts: what is read so far, and the state after one call.
 use Rattle.std.specs.Prelude.{◌≡◌, ℕ, min, ◌+◌, ◌-◌, ◌<◌, ◌≤◌, true, false, IsTrue, None, Some, IsSome, Result, Ok, Err, List, length, take}
 use Rattle.ipmi_bus.specs.Types.{Busy, Cancelled, Code, CodeClass, FruEnded, FruRetrieval, FruSize, Size, SmallerPart}
 use Rattle.ipmi_bus.specs.Store.{inventory_of}
@@ -8,7 +8,7 @@ use Rattle.ipmi_bus.specs.Failures.{HasMet, TroubleIs}
 use Rattle.ipmi_bus.specs.Bounds.{digits}
 use Rattle.ipmi_bus.specs.Calls.{smaller_part}
 
--- an inventory of which some bytes are there
+-- an inventory with its first `have` bytes read
 pub record IsBegun (r : FruRetrieval) : Type 0 where
   pub part : 0 < r.part
   pub part_fits : r.part < 255
@@ -16,16 +16,16 @@ pub record IsBegun (r : FruRetrieval) : Type 0 where
   pub fits : length r.bytes.items ≤ 65535
   pub troubles : r.troubles ≤ r.tries
 
--- and not all
+-- and with bytes missing
 pub record IsOpenInventory (r : FruRetrieval) : Type 0 where
   pub begun : IsBegun r
   pub more : r.have < length r.bytes.items
 
--- how many bytes the next request asks for
+-- the number of bytes in the next request
 abbrev pub request_len : FruRetrieval → ℕ
 request_len r = min r.part (length r.bytes.items - r.have)
 
--- what stays over a call
+-- what a call does not change
 pub record SameInventory (old new : FruRetrieval) : Type 0 where
   pub id : new.id ≡ old.id
   pub tries : new.tries ≡ old.tries
@@ -36,25 +36,25 @@ pub record SameInventory (old new : FruRetrieval) : Type 0 where
   pub have : new.have ≤ length new.bytes.items
   pub troubles : new.troubles ≤ new.tries
 
--- the most calls that it can still take
+-- an upper bound on the remaining calls
 abbrev pub calls_left : FruRetrieval → ℕ
 calls_left r = (r.tries - r.troubles) + (length r.bytes.items - r.have) + digits r.part
 
--- one more trouble is counted, or it was one too many
+-- one more trouble is counted, or it exceeds the tries
 abbrev pub CountsTrouble : FruRetrieval → FruRetrieval → Result (Unit {0}) FruEnded → Type 0
 CountsTrouble old new (Ok u) =
     (new ≡ record old { troubles = old.troubles + 1 }) × (old.troubles < old.tries)
 CountsTrouble old new (Err ended) =
     (ended ≡ FruEnded.GaveUp) × (new ≡ old) × (old.troubles ≡ old.tries)
 
--- a smaller part is to be asked for; a part of less than one byte can't be
+-- the part size is reduced, or the read stalls because it is already one byte
 abbrev pub MakesSmaller : ℕ → FruRetrieval → FruRetrieval → Result (Unit {0}) FruEnded → Type 0
 MakesSmaller asked old new (Ok u) =
     (smaller_part asked ≡ Some new.part) × (new ≡ record old { part = new.part })
 MakesSmaller asked old new (Err ended) =
     (ended ≡ FruEnded.Stalled) × (smaller_part asked ≡ None) × (new ≡ old)
 
--- a failing call for a part of so many bytes, by the class of its code: CBh is a refusal
+-- a failed call for a part of `asked` bytes, by the class of its code: CBh is a refusal
 abbrev pub PartFails : CodeClass → Code → ℕ → FruRetrieval → FruRetrieval
     → Result (Unit {0}) FruEnded → Type 0
 PartFails Cancelled code asked old new result = CountsTrouble old new result
@@ -62,21 +62,22 @@ PartFails Busy code asked old new result = CountsTrouble old new result
 PartFails SmallerPart code asked old new result = MakesSmaller asked old new result
 PartFails _ code asked old new result = (result ≡ Err (FruEnded.Refused code)) × (new ≡ old)
 
--- so many bytes came, or none
+-- `got` bytes were received; with none, the read stalls
 abbrev pub TakesInventoryPart : ℕ → FruRetrieval → FruRetrieval → Result (Unit {0}) FruEnded
     → Type 0
 TakesInventoryPart got old new (Ok u) = (0 < got) × (new ≡ record old { have = old.have + got })
 TakesInventoryPart got old new (Err ended) = (got ≡ 0) × (ended ≡ FruEnded.Stalled) × (new ≡ old)
 
--- the bytes so far are the inventory's
+-- the bytes read so far are those of the inventory
 pub record HasRead (r : FruRetrieval) (s : Seen) : Type 0 where
   pub whole : List ℕ
   pub found : inventory_of r.id s.store ≡ Some whole
   pub size : length whole ≡ length r.bytes.items
   pub bytes : take r.have r.bytes.items ≡ take r.have whole
 
--- Since the reading began, over an honest controller: the troubles that came are those that were counted, and nothing
--- was refused. Before all bytes are there something is finished only where a store was added.
+-- What holds since the read began, over an honest controller: the retrieval counted all troubles,
+-- and nothing was refused. Before all bytes are read, something is finished only if a store was
+-- added.
 pub record FruSince (r : FruRetrieval) (s s' : Seen) : Type 0 where
   pub stays : StaysHonest s s'
   pub read : s'.stores_added ≡ s.stores_added → HasRead r s
@@ -87,34 +88,34 @@ pub record FruSince (r : FruRetrieval) (s s' : Seen) : Type 0 where
       → s'.fresh_troubles ≡ s.fresh_troubles + r.troubles
   pub plain : IsTrue s.plain → (r.troubles ≡ 0) × KeepsReservations s s'
 
--- the reading ends without an inventory, over an honest controller
+-- the read fails, over an honest controller
 pub record FruEnds (id tries : ℕ) (s s' : Seen) (ended : FruEnded) : Type 0 where
   pub stays : StaysHonest s s'
   pub counts : InventoryCounts id tries s s' (Err ended)
   pub is : s'.stores_added ≡ s.stores_added → InventoryIs id tries s s' (Err ended)
   pub plain : IsTrue s.plain → PlainMayAnswer (Err ended) × KeepsReservations s s'
 
--- what one more call leaves
+-- the state after one more call
 abbrev pub FruNext : FruRetrieval → FruRetrieval → Seen → Seen → Result (Unit {0}) FruEnded → Type 0
 FruNext old new s s' (Ok u) = FruSince new s s'
 FruNext old new s s' (Err ended) = FruEnds old.id old.tries s s' ended
 
 -- ---- its size
 
--- a failing call for the size, by the class of its code: CBh and a smaller part are refusals; Ok where it is asked for
--- again
+-- a failed call for the size, by the class of its code: CBh and a request for a smaller part are
+-- refusals; Ok if the call is to be repeated
 abbrev pub SizeFails : CodeClass → Code → ℕ → ℕ → Result (Unit {0}) FruEnded → Type 0
 SizeFails Cancelled code troubles tries result = TroubleIs tt FruEnded.GaveUp troubles tries result
 SizeFails Busy code troubles tries result = TroubleIs tt FruEnded.GaveUp troubles tries result
 SizeFails _ code troubles tries result = result ≡ Err (FruEnded.Refused code)
 
--- a size that was told, unless the device is accessed by words
+-- the size in the answer, unless the device is accessed by words
 abbrev pub TakesSize : FruSize → ℕ → Result Size FruEnded → Type 0
 TakesSize told troubles (Ok size) =
     (told.words ≡ false) × (size ≡ record { bytes = told.size; troubles = troubles })
 TakesSize told troubles (Err ended) = (told.words ≡ true) × (ended ≡ FruEnded.Words)
 
--- the size is that of the inventory which the store has when the call returns
+-- the size is that of the inventory in the store when the call returns
 pub record HasSize (id : ℕ) (size : Size) (s s' : Seen) : Type 0 where
   pub stays : StaysHonest s s'
   pub found : (bytes : List ℕ) × (inventory_of id s'.store ≡ Some bytes)

@@ -1,4 +1,4 @@
--- A cursor's fields as contracts see them, and what it hands out.
+-- The state of a cursor's fields, and what it returns.
 use Rattle.std.specs.Prelude.{◌≡◌, ◌≢◌, ℕ, ◌<◌, ◌⊎◌, Option, None, Some, Result, Ok, Err, take}
 use Rattle.std.specs.FinSet as set
 use Rattle.ipmi_bus.specs.Types.{End, Ended, First, Handed, Next, Place, Progress}
@@ -22,7 +22,7 @@ pub record IsCursor (p : Progress) : Type 0 where
   pub fits : p.retrieval.part < 255
   pub first : p.place ≡ First → p.ids ≡ set.empty
 
--- a step's answer, with the row that was handed out
+-- the result of a step, with the returned record as a row
 abbrev pub handed_result : Progress → Result (Option Handed) Ended → Result (Option Row) Ended
 handed_result p (Ok (Some handed)) =
     Ok (Some (record {
@@ -33,7 +33,7 @@ handed_result p (Ok (Some handed)) =
 handed_result p (Ok None) = Ok None
 handed_result p (Err ended) = Err ended
 
--- an id is asked for: 0000h at the start, and later one that was not handed out, for which there is room
+-- the id to request: 0000h at the start, later an id not returned yet, so the table is not full
 pub record IsAsked (place : Place) (ids : set.FinSet nat_cmp) (asked : ℕ) : Type 0 where
   pub none : cycle_at place ids ≡ None
   pub id : asked ≡ asked_at place

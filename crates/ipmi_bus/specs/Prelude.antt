@@ -1,4 +1,4 @@
--- The words of this crate that its code and proofs cite, passed on from one place. Declares nothing.
+-- Re-exports the definitions of this crate that its code and proofs use. Declares nothing.
 pub use Rattle.ipmi_bus.specs.Answers.{BytesAnswers, CountsPiece, FailsWith, GivesPiece, PartAnswers, ReserveAnswers, SizeAnswers, ValueAnswers, Asked, part_asked, not_present}
 pub use Rattle.ipmi_bus.specs.Bounds.{AreWithin, digits, DigitsAreFew, fru_call_bound, step_call_bound}
 pub use Rattle.ipmi_bus.specs.Calls.{FailureIs, smaller_part}

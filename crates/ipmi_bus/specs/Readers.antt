@@ -1,4 +1,4 @@
--- What the readers of infos, sensor readings and inventories leave.
+-- The results of the readers of infos, sensor readings and inventories.
 use Rattle.std.specs.Prelude.{◌≡◌, ℕ, ◌+◌, ◌≤◌, ◌==◌, Bool, true, false, IsTrue, Option, None, Some, IsSome, unwrap_or, Result, Ok, Err, List, [], length, Vec}
 use Rattle.std.specs.declared.alloc.Global.{Global}
 use Rattle.ipmi_bus.specs.Types.{Ended, FruEnded, GaveUp, NotPresent, Refused, Sdr, Sel}
@@ -9,20 +9,22 @@ use Rattle.ipmi_bus.specs.Tries.{LastCallSays, LastFailed, RefusesValue, WithinT
 
 -- ---- a value: an info, a reading
 
--- over any controller a value is given up or refused under this id, and nothing else ends it
+-- over any controller: the read of a value fails only by giving up or by a refusal, and names this
+-- id
 abbrev pub EndsUnder : {V : Type 0} → ℕ → Result V Ended → Type 0
 EndsUnder id (Ok o) = Unit {0}
 EndsUnder id (Err (GaveUp n)) = n ≡ id
 EndsUnder id (Err (Refused n code)) = n ≡ id
 EndsUnder id _ = ⊥
 
--- the last call was such as the answer says: a value came, or there is none
+-- the last call agrees with the result: a value came, or there is none
 abbrev pub ValueSays : {V : Type 0} → Result (Option V) Ended → Seen → Type 0
 ValueSays (Ok (Some v)) seen = seen.last_failure ≡ None
 ValueSays (Ok None) seen = LastFailed (λ class. class ≡ NotPresent) seen
 ValueSays (Err ended) seen = LastCallSays RefusesValue ended seen
 
--- over an honest controller it is the value that the store has when the call returns, or none where that store has none
+-- over an honest controller: the value in the store when the call returns, or none if that store
+-- has none
 abbrev pub ValueIs : {V : Type 0} → (Store → Option V) → ℕ → Seen → Seen → Result (Option V) Ended
     → Type 0
 ValueIs value tries s s' (Ok o) = WithinTries tries s s' × (o ≡ value s'.store)
@@ -30,12 +32,13 @@ ValueIs value tries s s' (Err (GaveUp n)) = GivesUp tries s s'
 ValueIs value tries s s' (Err (Refused n code)) = IsRefusedWith tries code.0 s s'
 ValueIs value tries s s' _ = ⊥
 
--- the current reservations stay
+-- the current reservations are unchanged
 pub record KeepsReservations (s s' : Seen) : Type 0 where
   pub sdr : current Sdr s' ≡ current Sdr s
   pub sel : current Sel s' ≡ current Sel s
 
--- the reading of a value, over an honest controller: over a plain one it is the store's, and the reservations stay
+-- reading a value, over an honest controller; over a plain one, the value is that of the store, and
+-- the reservations are unchanged
 pub record ReadsValue {V : Type 0} (value : Store → Option V) (tries : ℕ) (s s' : Seen)
     (result : Result (Option V) Ended) : Type 0 where
   pub stays : StaysHonest s s'
@@ -44,14 +47,14 @@ pub record ReadsValue {V : Type 0} (value : Store → Option V) (tries : ℕ) (s
 
 -- ---- an inventory
 
--- CBh is no refusal that is counted, and comes only where the store has no such inventory
+-- CBh does not count as a refusal, and is returned only if the store has no such inventory
 abbrev pub IsRefusedInventory : Bool → ℕ → ℕ → ℕ → Seen → Seen → Type 0
 IsRefusedInventory true id tries code s s' =
     WithinTries tries s s' × (inventory_of id s.store ≡ None)
 IsRefusedInventory false id tries code s s' = IsRefusedWith tries code s s'
 
--- what the reading gives while no store is added: the inventory's bytes, or why there are none; memory can fail only
--- where there is such an inventory
+-- the result if no store is added: the inventory's bytes, or why there are none; it is out of
+-- memory only if there is such an inventory
 abbrev pub InventoryIs : ℕ → ℕ → Seen → Seen → Result (List ℕ) FruEnded → Type 0
 InventoryIs id tries s s' (Ok bytes) =
     WithinTries tries s s' × (inventory_of id s.store ≡ Some bytes)
@@ -62,14 +65,15 @@ InventoryIs id tries s s' (Err (FruEnded.Refused code)) =
 InventoryIs id tries s s' (Err FruEnded.GaveUp) = GivesUp tries s s'
 InventoryIs id tries s s' _ = ⊥
 
--- CBh is no refusal that is counted, and comes only where the store has no such inventory when the call returns
+-- CBh does not count as a refusal, and is returned only if the store has no such inventory when the
+-- call returns
 abbrev pub IsRefusedOverChange : Bool → ℕ → ℕ → ℕ → Seen → Seen → Type 0
 IsRefusedOverChange true id tries code s s' =
     WithinTries tries s s' × (inventory_of id s'.store ≡ None)
 IsRefusedOverChange false id tries code s s' = IsRefusedWith tries code s s'
 
--- what the reading counts, whatever stores are added; bytes come, and memory can fail, only where the store has such an
--- inventory when the call returns
+-- the counts of the read, whatever stores are added; bytes, or out of memory, are returned only if
+-- the store has such an inventory when the call returns
 abbrev pub InventoryCounts : ℕ → ℕ → Seen → Seen → Result (List ℕ) FruEnded → Type 0
 InventoryCounts id tries s s' (Ok bytes) =
     WithinTries tries s s' × IsSome (inventory_of id s'.store)
@@ -80,18 +84,19 @@ InventoryCounts id tries s s' (Err (FruEnded.Refused code)) =
 InventoryCounts id tries s s' (Err FruEnded.GaveUp) = GivesUpOverChange tries s s'
 InventoryCounts id tries s s' _ = ⊥
 
--- over a plain controller nothing but an inventory that is not there is refused, and nothing is given up
+-- over a plain controller the read is refused only if there is no such inventory, and it never
+-- gives up
 abbrev pub PlainMayAnswer : Result (List ℕ) FruEnded → Type 0
 PlainMayAnswer (Ok bytes) = Unit {0}
 PlainMayAnswer (Err FruEnded.Memory) = Unit {0}
 PlainMayAnswer (Err (FruEnded.Refused code)) = code.0 ≡ 0xCB
 PlainMayAnswer _ = ⊥
 
--- how many bytes the inventory has, 0 where there is none
+-- the length of the inventory in bytes, 0 if there is none
 abbrev pub inventory_len : ℕ → Store → ℕ
 inventory_len id store = length (unwrap_or (inventory_of id store) [])
 
--- the reading of an inventory, over an honest controller
+-- reading an inventory, over an honest controller
 pub record ReadsInventory (id tries : ℕ) (s s' : Seen)
     (result : Result (List ℕ) FruEnded) : Type 0 where
   pub stays : StaysHonest s s'

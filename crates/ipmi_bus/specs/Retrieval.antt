@@ -1,4 +1,4 @@
--- A record that is being read in parts: what is there so far, and what one call may leave of it.
+-- A record being read in parts: what is read so far, and the state after one call.
 use Rattle.std.specs.Prelude.{◌≡◌, ℕ, min, ◌+◌, ◌-◌, ◌*◌, ◌<◌, ◌≤◌, Bool, true, false, MatchResult, nat_lt, if◌then◌else◌, Option, None, Some, IsSome, Result, Ok, Err, List, length, take, slice_index}
 use Rattle.ipmi_text.specs.SdrHeader.{sdr_len}
 use Rattle.ipmi_bus.specs.Types.{Absent, Again, Busy, CallOutcome, Cancelled, Code, CodeClass, Ended, GaveUp, Malformed, NotPresent, Over, Part, Refusal, Refused, Retrieval, Sdr, Sel, Shelf, SmallerPart, Stalled, Whole}
@@ -9,12 +9,13 @@ use Rattle.ipmi_bus.specs.Tries.{LastCallSays, LastFailed, RefusesRecord}
 use Rattle.ipmi_bus.specs.Bounds.{digits}
 use Rattle.ipmi_bus.specs.Calls.{smaller_part}
 
--- how many bytes are asked for, by those that are there: of a sensor data record the header comes first
+-- the number of bytes to read, as known from the bytes read so far: the header of a sensor data
+-- record comes first
 abbrev pub wanted_len : Shelf → ℕ → List ℕ → ℕ
 wanted_len Sdr have buffer = if nat_lt have 5 then 5 else sdr_len buffer
 wanted_len Sel have buffer = 16
 
--- how many bytes the next request asks for
+-- the number of bytes in the next request
 abbrev pub request_len : Retrieval → ℕ
 request_len r = min r.part (wanted_len r.shelf r.have r.buffer - r.have)
 
@@ -27,7 +28,7 @@ pub record IsOpenRecord (r : Retrieval) : Type 0 where
   pub troubles : r.troubles ≤ r.tries
   pub reserved : 0 < r.have → IsSome r.reservation
 
--- what stays over a call
+-- what a call does not change, and that the part size does not grow
 pub record SameRequest (old new : Retrieval) : Type 0 where
   pub shelf : new.shelf ≡ old.shelf
   pub tries : new.tries ≡ old.tries
@@ -35,14 +36,14 @@ pub record SameRequest (old new : Retrieval) : Type 0 where
   pub part : new.part ≤ old.part
   pub some : 0 < new.part
 
--- the bytes so far are the row's
+-- the bytes read so far are those of the row
 pub record HasRead (r : Retrieval) (seen : Seen) (row : Row) : Type 0 where
   pub found : look (rows_of r.shelf seen.store) r.id ≡ Some row
   pub within : r.have ≤ length row.bytes
   pub bytes : take r.have r.buffer ≡ take r.have row.bytes
   pub next : r.next ≡ row.next
 
--- while the reservation is current, the bytes so far are of a row that is there
+-- while the reservation is current, the bytes read so far are those of a row that is present
 pub record IsReading (r : Retrieval) (seen : Seen) : Type 0 where
   pub piece : 0 < r.have → current r.shelf seen ≡ r.reservation → (row : Row) × HasRead r seen row
 
@@ -50,12 +51,13 @@ pub record IsReading (r : Retrieval) (seen : Seen) : Type 0 where
 pub record HoldsCurrent (r : Retrieval) (seen : Seen) : Type 0 where
   pub held : (n : ℕ) → r.reservation ≡ Some n → current r.shelf seen ≡ Some n
 
--- the reservation is held on, and no other became current
+-- the retrieval keeps its reservation, and no other became current
 pub record KeepsHeld (old new : Retrieval) (s s' : Seen) : Type 0 where
   pub held : new.reservation ≡ old.reservation
   pub none_given : (n : ℕ) → current old.shelf s' ≡ Some n → current old.shelf s ≡ Some n
 
--- the retrieval after one more trouble; where that cancelled the reservation, without it and without the bytes so far
+-- the retrieval after one more trouble; if that cancelled the reservation, it drops the reservation
+-- and the bytes read so far
 abbrev pub after_trouble : Bool → Retrieval → Retrieval
 after_trouble is_cancelled r =
     record r {
@@ -65,27 +67,28 @@ after_trouble is_cancelled r =
           if is_cancelled then 0 else r.have;
     }
 
--- the trouble is counted, or it was one too many
+-- the trouble is counted, or it exceeds the tries
 abbrev pub CountsTrouble : Bool → Retrieval → Retrieval → Result CallOutcome Ended → Type 0
 CountsTrouble is_cancelled old new result = MatchResult result
     (λ turn. (turn ≡ Again) × (new ≡ after_trouble is_cancelled old) × (old.troubles < old.tries))
     (λ ended. (ended ≡ GaveUp old.id) × (new ≡ old) × (old.troubles ≡ old.tries))
 
--- a failing call for a reservation, by the class of its code: CBh and a smaller part are refusals
+-- a failed call for a reservation, by the class of its code: CBh and a request for a smaller part
+-- are refusals
 abbrev pub ReserveFails : CodeClass → Code → Retrieval → Retrieval → Result CallOutcome Ended
     → Type 0
 ReserveFails Cancelled code old new result = CountsTrouble false old new result
 ReserveFails Busy code old new result = CountsTrouble false old new result
 ReserveFails _ code old new result = (result ≡ Err (Refused old.id code)) × (new ≡ old)
 
--- a smaller part is to be asked for; a part of less than one byte can't be
+-- the part size is reduced, or the read stalls because it is already one byte
 abbrev pub MakesSmaller : ℕ → Retrieval → Retrieval → Result CallOutcome Ended → Type 0
 MakesSmaller asked old new result = MatchResult result
     (λ turn. (turn ≡ Again) × (smaller_part asked ≡ Some new.part)
     × (new ≡ record old { part = new.part }))
     (λ ended. (ended ≡ Stalled old.id) × (smaller_part asked ≡ None) × (new ≡ old))
 
--- a failing call for a part of so many bytes, by the class of its code
+-- a failed call for a part of `asked` bytes, by the class of its code
 abbrev pub PartFails : CodeClass → Code → ℕ → Retrieval → Retrieval → Result CallOutcome Ended
     → Type 0
 PartFails Cancelled code asked old new result = CountsTrouble true old new result
@@ -95,11 +98,12 @@ PartFails NotPresent code asked old new result = (result ≡ Ok (Over Absent)) �
 PartFails Refusal code asked old new result =
     (result ≡ Err (Refused old.id code)) × (new ≡ old)
 
--- with a part taken
+-- the retrieval after a part is received
 abbrev pub after_part : Part → Retrieval → Retrieval
 after_part part r = record r { have = r.have + part.got; next = part.next }
 
--- the taken bytes make the record whole, or they don't; a header that says too much, or no bytes, end it
+-- the received bytes make the record whole or not; the read ends if the header's length is too
+-- large, or if there are no bytes
 abbrev pub TakesRecordPart : Part → Retrieval → Retrieval → Result CallOutcome Ended → Type 0
 TakesRecordPart part old new (Ok Again) =
     (0 < part.got) × (new ≡ after_part part old)
@@ -115,7 +119,7 @@ TakesRecordPart part old new (Err (Malformed id)) =
     × (new.have ≡ 5) × (0xFB < slice_index old.buffer 4)
 TakesRecordPart part old new _ = ⊥
 
--- the call was such as its outcome says: the last part came, or there is no such record
+-- the call agrees with its outcome: the last part came, or there is no such record
 abbrev pub CallSays : Result CallOutcome Ended → Seen → Type 0
 CallSays (Ok Again) seen = Unit {0}
 CallSays (Ok (Over Whole)) seen = (0 < seen.last_asked) × (seen.last_failure ≡ None)
@@ -123,17 +127,17 @@ CallSays (Ok (Over Absent)) seen =
     (0 < seen.last_asked) × LastFailed (λ class. class ≡ NotPresent) seen
 CallSays (Err ended) seen = LastCallSays RefusesRecord ended seen
 
--- one call, for a reservation, where none is held
+-- one call for a reservation, if none is held
 abbrev pub unreserved : Option ℕ → ℕ
 unreserved None = 1
 unreserved (Some n) = 0
 
--- the most calls that a record of this length can still take
+-- an upper bound on the remaining calls for a record of this length
 abbrev pub calls_left : ℕ → Retrieval → ℕ
 calls_left len r = (r.tries - r.troubles) * (len + 2) + unreserved r.reservation + (len - r.have)
     + 1 + digits r.part
 
--- what ends the reading of a record names its id
+-- a failed read of a record names its id
 abbrev pub NamesId : ℕ → Shelf → Ended → Type 0
 NamesId id shelf (GaveUp n) = n ≡ id
 NamesId id shelf (Refused n code) = n ≡ id
@@ -141,7 +145,7 @@ NamesId id shelf (Stalled n) = n ≡ id
 NamesId id shelf (Malformed n) = (n ≡ id) × (shelf ≡ Sdr)
 NamesId id shelf _ = ⊥
 
--- after a call there is less to do, or the record is whole, or an answer ends it
+-- after a call fewer calls remain, or the record is whole, or the read ends
 abbrev pub CallLeaves : Retrieval → Retrieval → Result CallOutcome Ended → Type 0
 CallLeaves old new (Ok Again) =
     IsOpenRecord new × ((len : ℕ) → new.have ≤ len → calls_left len new + 1 ≤ calls_left len old)

@@ -1,12 +1,14 @@
--- What contracts see of a management controller, and which controllers are honest and plain.
+-- The state of a management controller that contracts see, and which controllers are honest and
+-- plain.
 use Rattle.std.proofs.Common.{◌∙◌, arith}
 use Rattle.std.specs.Prelude.{◌≡◌, ℕ, ◌+◌, ◌<◌, ◌≤◌, max, Bool, IsTrue, Option, None, Some, Result, Ok, Err, refl}
 use Rattle.ipmi_bus.specs.Types.{Code, Sdr, Sel, Shelf}
 use Rattle.ipmi_bus.specs.Store.{Store, IsStore}
 
--- The numbers have no greatest value. Parts were asked for of at most so many bytes, and the last call asked for one of so
--- many, 0 where it asked for none, and failed with this code, if it did. Fresh troubles are those since something was
--- finished; the last code is that of the last refusal; a store is added where another one takes the place of the store.
+-- The counters have no upper limit. `most_asked` is the largest part asked for, in bytes;
+-- `last_asked` is that of the last call, 0 if it was not for a part; `last_failure` is its code, if
+-- it failed. Fresh troubles are those since something was finished. `last_code` is the code of the
+-- last refusal. A store is added when another one replaces the store.
 pub record Seen : Type 0 where
   pub store : Store
   pub honest : Bool
@@ -28,34 +30,36 @@ abbrev pub current : Shelf → Seen → Option ℕ
 current Sdr seen = seen.sdr_reservation
 current Sel seen = seen.sel_reservation
 
--- it says that it is honest, and what it holds is a store: the premise of all that is said of its answers
+-- it claims to be honest, and its store is well formed: the premise of all statements about its
+-- answers
 pub record IsHonest (seen : Seen) : Type 0 where
   pub said : IsTrue seen.honest
   pub store : IsStore seen.store
 
--- an honest one that says that it is plain: what a plain one owes is said with each answer, and it adds no store
+-- an honest controller that claims to be plain: the definition of each answer says what it must
+-- answer, and it adds no store
 pub record IsPlain (seen : Seen) : Type 0 where
   pub said : IsTrue seen.plain
   pub honest : IsHonest seen
 
--- ---- what each call counts, of any controller
+-- ---- what each call counts, for any controller
 
 -- the code with which a call failed, if it did
 abbrev pub failing_code : {T : Type 0} → Result T Code → Option ℕ
 failing_code (Ok answer) = None
 failing_code (Err code) = Some code.0
 
--- a call that asked for a part of so many bytes, 0 where it asked for none
+-- a call for a part of `asked` bytes, 0 if it was not for a part
 pub record IsCall (asked : ℕ) (old new : Seen) : Type 0 where
   pub calls : new.calls ≡ old.calls + 1
   pub most_asked : new.most_asked ≡ max old.most_asked asked
   pub last_asked : new.last_asked ≡ asked
 
--- no part of more bytes than these was asked for
+-- no part of more than `part` bytes was asked for
 abbrev pub AsksAtMost : ℕ → Seen → Seen → Type 0
 AsksAtMost part old new = new.most_asked ≤ max old.most_asked part
 
--- ---- what an answer counts, beside the call
+-- ---- what an answer counts, in addition to the call
 
 pub record IsQuiet (old new : Seen) : Type 0 where
   pub troubles : new.troubles ≡ old.troubles
@@ -81,21 +85,22 @@ pub record IsRefused (code : ℕ) (old new : Seen) : Type 0 where
   pub refusals : new.refusals ≡ old.refusals + 1
   pub last_code : new.last_code ≡ code
 
--- ---- what stays
+-- ---- what does not change
 
--- the store stays unless a store is added
+-- the store is unchanged unless a store is added
 pub record KeepsStore (old new : Seen) : Type 0 where
   pub grows : old.stores_added ≤ new.stores_added
   pub stays : new.stores_added ≡ old.stores_added → new.store ≡ old.store
 
--- an honest controller stays honest, and a plain one plain, which adds no store
+-- an honest controller stays honest; a plain one stays plain and adds no store
 pub record StaysHonest (old new : Seen) : Type 0 where
   pub honest : IsHonest new
   pub plain : IsTrue old.plain → IsTrue new.plain
   pub store : KeepsStore old new
   pub plain_store : IsTrue old.plain → new.stores_added ≡ old.stores_added
 
--- this holds over no call at all, and over two stretches of calls where it holds over each
+-- reflexive and transitive: it holds over no calls, and over two sequences of calls if it holds
+-- over each
 pub stays_refl : (s : Seen) → IsHonest s → StaysHonest s s
 stays_refl s honest = record {
   honest = honest;
@@ -116,13 +121,13 @@ stays_trans a b c first then_ = record {
   plain_store = λ p. then_.plain_store (first.plain p) ∙ first.plain_store p;
 }
 
--- what any call of an honest controller may change: it adds at most one store
+-- what a call of an honest controller may change: it adds at most one store
 pub record IsChange (old new : Seen) : Type 0 where
   pub stays : StaysHonest old new
   pub one : new.stores_added ≤ old.stores_added + 1
 
--- No reservation of the shelf becomes current, and none stays so where a store is added. An honest controller may
--- cancel one at any call, a plain one cancels none.
+-- No reservation of the shelf becomes current, and none stays current if a store is added. An
+-- honest controller may cancel a reservation at any call; a plain one cancels none.
 pub record MayLoseReservation (shelf : Shelf) (old new : Seen) : Type 0 where
   pub none_given : (r : ℕ) → current shelf new ≡ Some r → current shelf old ≡ Some r
   pub none_over_change : old.stores_added < new.stores_added → current shelf new ≡ None

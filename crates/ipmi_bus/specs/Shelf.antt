@@ -4,7 +4,7 @@ use Rattle.ipmi_text.specs.Bytes.{AreBytes}
 use Rattle.ipmi_text.specs.SdrHeader.{sdr_len}
 use Rattle.ipmi_bus.specs.Types.{Sdr, Sel, Shelf}
 
--- a record of a shelf: its id, the id of the next one (FFFFh where there is no more), its bytes
+-- a record of a shelf: its id, the id of the next record (FFFFh after the last one), its bytes
 pub record Row : Type 0 where
   pub id : ℕ
   pub next : ℕ
@@ -18,28 +18,28 @@ abbrev pub row_with_id : ℕ → List Row → Option Row
 row_with_id n [] = None
 row_with_id n (row ∷ rows) = if row.id == n then Some row else row_with_id n rows
 
--- the row that is asked for by an id: 0000h asks for the first
+-- the row that an id requests: 0000h requests the first
 abbrev pub look : List Row → ℕ → Option Row
 look rows n = if n == 0 then first_row rows else row_with_id n rows
 
--- how many bytes the row has, 0 where there is none
+-- the length of the row in bytes, 0 if there is none
 abbrev pub len_of : Option Row → ℕ
 len_of None = 0
 len_of (Some row) = length row.bytes
 
 -- ---- a well-formed shelf
 
--- how many bytes a whole record has: a sensor data record says it in its header
+-- the length of a whole record in bytes: for a sensor data record, the one in its header
 abbrev pub whole_len : Shelf → List ℕ → ℕ
 whole_len Sdr bytes = sdr_len bytes
 whole_len Sel bytes = 16
 
--- the most bytes that a record may have
+-- the largest length of a record in bytes
 abbrev pub largest_len : Shelf → ℕ
 largest_len Sdr = 256
 largest_len Sel = 16
 
--- a row that may be on the shelf
+-- a well-formed row of the shelf
 pub record IsRow (shelf : Shelf) (row : Row) : Type 0 where
   pub id : row.id < 65535
   pub next : row.next < 65536
@@ -56,12 +56,12 @@ abbrev pub LacksId : ℕ → List Row → Type 0
 LacksId n [] = Unit {0}
 LacksId n (row ∷ rows) = (row.id ≢ n) × LacksId n rows
 
--- no id comes twice
+-- no id occurs twice
 abbrev pub DistinctIds : List Row → Type 0
 DistinctIds [] = Unit {0}
 DistinctIds (row ∷ rows) = LacksId row.id rows × DistinctIds rows
 
--- the number that the first two bytes are, low first
+-- the number in the first two bytes, the low byte first
 abbrev pub id_in : List ℕ → ℕ
 id_in bytes = slice_index bytes 0 + 256 * slice_index bytes 1
 
@@ -74,7 +74,7 @@ pub record IsShelf (shelf : Shelf) (rows : List Row) : Type 0 where
 
 -- ---- a law
 
--- a record that is found on a well-formed shelf is a row
+-- a record found on a well-formed shelf is a well-formed row
 abbrev pub FoundIsRow : Type 0
 FoundIsRow = (shelf : Shelf) (rows : List Row) (n : ℕ) (row : Row) → IsShelf shelf rows
     → look rows n ≡ Some row → IsRow shelf row

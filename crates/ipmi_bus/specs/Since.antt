@@ -1,4 +1,4 @@
--- What holds since the reading of a record began, and when it ends.
+-- What holds since the read of a record began, and when it ends.
 use Rattle.std.specs.Prelude.{◌≡◌, ℕ, ◌+◌, ◌≤◌, IsTrue, IsSome, None, Result, Ok, Err, length}
 use Rattle.ipmi_bus.specs.Types.{Absent, Again, CallOutcome, Ended, Found, GaveUp, Over, Refused, Retrieval, Whole}
 use Rattle.ipmi_bus.specs.Shelf.{Row, look, largest_len, len_of}
@@ -12,7 +12,7 @@ use Rattle.ipmi_bus.specs.Retrieval.{HasRead, IsReading, HoldsCurrent, KeepsHeld
 abbrev pub begun : Retrieval → ℕ → Retrieval
 begun r id = record r { id = id; troubles = 0; have = 0 }
 
--- over a plain controller a reservation that is held is current, and the part size is that of the start
+-- over a plain controller, a held reservation is current, and the part size is unchanged
 pub record IsPlainSince (start now : Retrieval) (seen : Seen) : Type 0 where
   pub holds : HoldsCurrent now seen
   pub part : now.part ≡ start.part
@@ -27,7 +27,7 @@ pub record HonestSince (start now : Retrieval) (s s' : Seen) : Type 0 where
   pub within : s'.stores_added ≡ s.stores_added
       → now.have ≤ len_of (look (rows_of start.shelf s.store) start.id)
 
--- a whole row, of the store that the controller has now, or none where that store has none
+-- a whole row of the controller's current store, or none if that store has none
 abbrev pub ReadAnswers : Retrieval → Retrieval → Seen → Seen → Result Found Ended → Type 0
 ReadAnswers start new s s' (Ok Whole) =
     WithinTries start.tries s s'
@@ -38,7 +38,8 @@ ReadAnswers start new s s' (Err (GaveUp n)) = GivesUp start.tries s s'
 ReadAnswers start new s s' (Err (Refused n code)) = IsRefusedWith start.tries code.0 s s'
 ReadAnswers start new s s' _ = ⊥
 
--- over an honest controller: where a reservation is held and no trouble comes, none is asked for
+-- over an honest controller; if a reservation is held and there is no trouble, no new one is
+-- requested
 pub record ReadIsHonest (start new : Retrieval) (s s' : Seen)
     (result : Result Found Ended) : Type 0 where
   pub stays : StaysHonest s s'
@@ -47,18 +48,18 @@ pub record ReadIsHonest (start new : Retrieval) (s s' : Seen)
   pub plain : IsTrue s.plain → HoldsCurrent start s
       → IsPlainSince start new s' × NotGivenUpOrRefused result
 
--- what one more call leaves
+-- the state after one more call
 abbrev pub ReadNext : Retrieval → Retrieval → Seen → Seen → Result CallOutcome Ended → Type 0
 ReadNext start new s s' (Ok Again) = HonestSince start new s s'
 ReadNext start new s s' (Ok (Over found)) = ReadIsHonest start new s s' (Ok found)
 ReadNext start new s s' (Err ended) = ReadIsHonest start new s s' (Err ended)
 
--- the last call was such as the end of the reading says
+-- the last call agrees with how the read ended
 abbrev pub ReadSays : Result Found Ended → Seen → Type 0
 ReadSays (Ok found) seen = CallSays (Ok (Over found)) seen
 ReadSays (Err ended) seen = CallSays (Err ended) seen
 
--- what a reading leaves over any controller
+-- the state after a read, over any controller
 abbrev pub ReadLeaves : ℕ → Retrieval → Result Found Ended → Type 0
 ReadLeaves id new (Ok Whole) =
     (5 ≤ new.have) × (new.have ≤ largest_len new.shelf)

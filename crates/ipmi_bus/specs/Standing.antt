@@ -8,7 +8,7 @@ use Rattle.ipmi_bus.specs.Store.{rows_of}
 use Rattle.ipmi_bus.specs.Seen.{Seen}
 use Rattle.ipmi_bus.specs.CursorState.{CursorState}
 
--- the cursor has handed out the first k rows of the walk, and no others
+-- the cursor has returned the first k rows of the walk, and no others
 pub record StandsAt (rows : List Row) (start : Place) (walk : List Row) (k : ℕ)
     (c : CursorState) : Type 0 where
   pub within : k ≤ length walk
@@ -16,14 +16,14 @@ pub record StandsAt (rows : List Row) (start : Place) (walk : List Row) (k : ℕ
       ⊎ ((c.place ≡ End) × (start ≡ First) × (first_row rows ≡ None))
   pub ids : (n : ℕ) → set.contains c.ids n ≡ has_id (take k walk) n
 
--- a step at a walk's end may give up or be refused: there is a call to make
+-- a step at a walk's end may give up or be refused if it makes a call
 abbrev pub MayFail : WalkEnd → Place → Type 0
 MayFail Done place = place ≡ First
 MayFail (CycleAt n) place = ⊥
 MayFail (MissingAt n) place = Unit {0}
 
--- What a step of a cursor that is at k does: before the walk's end it hands out row k + 1, at the end it answers by
--- that end, or it gives up or is refused and stays.
+-- The step of a cursor at k: before the walk's end it returns row k + 1, at the end it reports that
+-- end; or it gives up or is refused, and the cursor does not move.
 abbrev pub WalkStep : List Row → Place → List Row → WalkEnd → ℕ → CursorState → CursorState
     → Result (Option Row) Ended → Type 0
 WalkStep rows start walk end k old new (Ok (Some row)) =
@@ -40,7 +40,7 @@ WalkStep rows start walk end k old new (Err (Refused n code)) =
     StandsAt rows start walk k new × (k ≡ length walk → MayFail end old.place)
 WalkStep rows start walk end k old new _ = ⊥
 
--- where no store is added, the step is one along each walk that has an end and on which the cursor is
+-- if no store is added, the step follows each walk that has an end and on which the cursor is
 pub record FollowsWalks (old new : CursorState) (s s' : Seen)
     (result : Result (Option Row) Ended) : Type 0 where
   pub follows : s'.stores_added ≡ s.stores_added

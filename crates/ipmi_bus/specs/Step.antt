@@ -1,4 +1,4 @@
--- One step of a cursor: what it leaves over any controller, and what it answers over an honest one.
+-- One step of a cursor: the state after it over any controller, and its result over an honest one.
 use Rattle.std.specs.Prelude.{◌≡◌, ◌≢◌, ℕ, ◌<◌, ◌≤◌, ◌==◌, ◌||◌, false, IsTrue, if◌then◌else◌, Option, None, Some, IsSome, ◌⊎◌, Result, Ok, Err, IsOk, List, length, drop}
 use Rattle.std.specs.FinSet as set
 use Rattle.std.specs.Ordering.{nat_cmp}
@@ -12,32 +12,32 @@ use Rattle.ipmi_bus.specs.Bounds.{AreWithin}
 use Rattle.ipmi_bus.specs.CursorState.{CursorState}
 use Rattle.ipmi_bus.specs.Standing.{StandsAt, FollowsWalks}
 
--- the id that is asked for: 0000h for the first record (at the end no call is made, and 0 is taken)
+-- the requested id: 0000h for the first record (at the end there is no call, and this is 0)
 abbrev pub asked_at : Place → ℕ
 asked_at First = 0
 asked_at (Id n) = n
 asked_at End = 0
 
--- the id at which the chain closes, if it does: 0000h, or one that was handed out
+-- the id of a cycle, if there is one: 0000h, or an id that was already returned
 abbrev pub cycle_at : Place → set.FinSet nat_cmp → Option ℕ
 cycle_at (Id n) ids = if (n == 0) || set.contains ids n then Some n else None
 cycle_at _ ids = None
 
 -- ---- over any controller
 
--- the shelf and the tries stay, and the part size never rises
+-- the shelf and the tries are unchanged, and the part size does not grow
 pub record KeepsSettings (old new : CursorState) : Type 0 where
   pub shelf : new.shelf ≡ old.shelf
   pub tries : new.tries ≡ old.tries
   pub part : new.part ≤ old.part
   pub part_not_zero : 0 < new.part
 
--- the id of a record that was asked for by this id: at the start the one with which its bytes begin
+-- the id of a record requested with this id: at the start, the id in its bytes
 abbrev pub handed_id : Place → ℕ → List ℕ → ℕ
 handed_id First asked bytes = id_in bytes
 handed_id _ asked bytes = asked
 
--- the cursor is after a record that it handed out, and that it had not handed out before
+-- the cursor is after a record that it returned for the first time
 pub record HandsOut (old new : CursorState) (row : Row) : Type 0 where
   pub place : new.place ≡ place_after row.next
   pub ids : new.ids ≡ set.insert old.ids row.id
@@ -50,25 +50,25 @@ pub record HandsOut (old new : CursorState) (row : Row) : Type 0 where
   pub next : row.next < 65536
   pub reserved : IsSome new.reservation
 
--- the cursor is where it was, without a reservation
+-- the cursor did not move, and holds no reservation
 pub record StaysThere (old new : CursorState) : Type 0 where
   pub place : new.place ≡ old.place
   pub ids : new.ids ≡ old.ids
   pub reservation : new.reservation ≡ None
 
--- there is no more: the cursor was at the start or at the end, and is at the end
+-- there are no more records: the cursor was at the start or at the end, and is now at the end
 pub record GoesToEnd (old new : CursorState) : Type 0 where
   pub place : new.place ≡ End
   pub ids : new.ids ≡ old.ids
   pub from : (n : ℕ) → old.place ≢ Id n
 
--- the record that was asked for did not come, and the cursor stays
+-- the requested record did not come, and the cursor did not move
 pub record FailsAt (n : ℕ) (old new : CursorState) : Type 0 where
   pub stays : StaysThere old new
   pub asked : n ≡ asked_at old.place
   pub not_at_end : old.place ≢ End
 
--- Cycle comes exactly where the chain closes
+-- Cycle is returned exactly if there is a cycle
 abbrev pub StepLeaves : CursorState → CursorState → Result (Option Row) Ended → Type 0
 StepLeaves old new (Ok (Some row)) = (cycle_at old.place old.ids ≡ None) × HandsOut old new row
 StepLeaves old new (Ok None) = (cycle_at old.place old.ids ≡ None) × GoesToEnd old new
@@ -81,18 +81,19 @@ StepLeaves old new (Err (Stalled n)) = (cycle_at old.place old.ids ≡ None) × 
 StepLeaves old new (Err (Malformed n)) =
     (cycle_at old.place old.ids ≡ None) × FailsAt n old new × (old.shelf ≡ Sdr)
 
--- the last call was such as the answer says: a part came, or at the start there is none
+-- the last call agrees with the result: a part came, or at the start there is no record
 abbrev pub StepSays : Place → Result (Option Row) Ended → Seen → Type 0
 StepSays place (Ok (Some row)) seen = (0 < seen.last_asked) × (seen.last_failure ≡ None)
 StepSays place (Ok None) seen =
     place ≡ First → (0 < seen.last_asked) × LastFailed (λ class. class ≡ NotPresent) seen
 StepSays place (Err ended) seen = LastCallSays RefusesRecord ended seen
 
--- a step from here asks nothing of the controller: the cursor is at the end, or the chain closes
+-- a step from here makes no call: the cursor is at the end, or there is a cycle
 abbrev pub AsksNothing : CursorState → Type 0
 AsksNothing c = (c.place ≡ End) ⊎ IsSome (cycle_at c.place c.ids)
 
--- on a walk it asks for the row that is next, or at the walk's end for none, or asks nothing
+-- on a walk, the step requests the next row of the walk, or at the walk's end no row, or makes no
+-- call
 abbrev pub AsksAlong : CursorState → Seen → Type 0
 AsksAlong c s =
     (start : Place) (walk : List Row) (end : WalkEnd) (k : ℕ)
@@ -104,14 +105,15 @@ AsksAlong c s =
 
 -- ---- over an honest controller, whatever its store does
 
--- there is nothing more: the cursor is at the end, or at the start of an empty shelf
+-- there are no more records: the cursor is at the end, or at the start of an empty shelf
 abbrev pub NoneAt : Place → Shelf → Seen → Type 0
 NoneAt First shelf seen = look (rows_of shelf seen.store) 0 ≡ None
 NoneAt (Id n) shelf seen = ⊥
 NoneAt End shelf seen = Unit {0}
 
--- What is handed out is a whole row of the store as it is when the step ends, Missing and the end at First come only
--- where that store has no such row, and the troubles and refusals say what else the answer is.
+-- The returned record is a whole row of the store as it is when the step ends. Missing, and None at
+-- First, are returned only if that store has no such row. The troubles and refusals determine the
+-- other results.
 abbrev pub StepAnswers : CursorState → Seen → Seen → Result (Option Row) Ended → Type 0
 StepAnswers old s s' (Ok (Some row)) =
     WithinTries old.tries s s' × (look (rows_of old.shelf s'.store) (asked_at old.place) ≡ Some row)
@@ -123,18 +125,19 @@ StepAnswers old s s' (Err (GaveUp n)) = GivesUp old.tries s s'
 StepAnswers old s s' (Err (Refused n code)) = IsRefusedWith old.tries code.0 s s'
 StepAnswers old s s' _ = ⊥
 
--- a reservation that the cursor holds is current
+-- the reservation that the cursor holds is current
 pub record CursorHoldsCurrent (c : CursorState) (seen : Seen) : Type 0 where
   pub held : (n : ℕ) → c.reservation ≡ Some n → current c.shelf seen ≡ Some n
 
--- over a plain controller the part size stays
+-- over a plain controller the part size is unchanged, and the step neither gives up nor is refused
 pub record StepIsPlain (old new : CursorState) (s' : Seen)
     (result : Result (Option Row) Ended) : Type 0 where
   pub holds : CursorHoldsCurrent new s'
   pub part : new.part ≡ old.part
   pub fine : NotGivenUpOrRefused result
 
--- where a reservation is held and no trouble comes, none became current, and it is kept unless the step fails
+-- if a reservation is held and there is no trouble, no new one becomes current, and the cursor
+-- keeps it unless the step fails
 abbrev pub KeepsReservation : CursorState → CursorState → Seen → Seen
     → Result (Option Row) Ended → Type 0
 KeepsReservation old new s s' result =
@@ -153,10 +156,10 @@ pub record StepIsHonest (old new : CursorState) (s s' : Seen)
       → AreWithin old.tries (len_of (look (rows_of old.shelf s.store) (asked_at old.place)))
       old.part new.part s s'
 
--- ---- all of it
+-- ---- the whole step
 
--- a step, by the cursor and the controller before and after it; a cursor that asks for a record has handed out fewer
--- than all ids
+-- a step, with the cursor and the controller before and after it; a cursor that requests a record
+-- has not returned all ids
 pub record IsStep (old new : CursorState) (s s' : Seen)
     (result : Result (Option Row) Ended) : Type 0 where
   pub same : KeepsSettings old new

@@ -1,4 +1,4 @@
--- Steps of a cursor, one after another.
+-- A sequence of steps of a cursor.
 use Rattle.std.specs.Prelude.{◌≡◌, ℕ, Option, Some, Result, Ok, List, [], ◌∷◌, take}
 use Rattle.ipmi_bus.specs.Types.{Ended, Place}
 use Rattle.ipmi_bus.specs.Shelf.{Row}
@@ -9,15 +9,15 @@ use Rattle.ipmi_bus.specs.CursorState.{CursorState}
 use Rattle.ipmi_bus.specs.Standing.{StandsAt}
 use Rattle.ipmi_bus.specs.Step.{IsStep}
 
--- what a step answered, the controller when it began, and the cursor and the controller after it
+-- the result of a step, the controller before it, and the cursor and the controller after it
 pub record Stepped : Type 0 where
   pub before : Seen
   pub result : Result (Option Row) Ended
   pub cursor : CursorState
   pub seen : Seen
 
--- each step begins with the cursor that the one before it left, and between them other things may be asked of the
--- controller
+-- each step begins with the cursor as the previous step left it; between steps the controller may
+-- get other requests
 abbrev pub AreSteps : CursorState → Seen → List Stepped → Type 0
 AreSteps c s [] = Unit {0}
 AreSteps c s (step ∷ steps) =
@@ -32,7 +32,7 @@ abbrev pub seen_after : Seen → List Stepped → Seen
 seen_after s [] = s
 seen_after s (step ∷ steps) = seen_after step.seen steps
 
--- the row that an answer hands out comes before these
+-- these rows, preceded by the row that the result returns
 abbrev pub with_handed : Result (Option Row) Ended → List Row → List Row
 with_handed (Ok (Some row)) rows = row ∷ rows
 with_handed _ rows = rows
@@ -41,8 +41,9 @@ abbrev pub handed_out : List Stepped → List Row
 handed_out [] = []
 handed_out (step ∷ steps) = with_handed step.result (handed_out steps)
 
--- over an honest controller, while no store is added, steps hand out the first rows of the walk, none left out and none
--- twice, whatever gave up or was refused, and whatever else was asked of the controller, between them
+-- over an honest controller, if no store is added, steps return the first rows of the walk, without
+-- gaps or repetitions, whatever steps gave up or were refused, and whatever other requests the
+-- controller got between them
 abbrev pub StepsFollowWalk : Type 0
 StepsFollowWalk = (c : CursorState) (s : Seen) (steps : List Stepped) (start : Place)
     (walk : List Row) (end : WalkEnd) → IsHonest s → IsWalk (rows_of c.shelf s.store) start walk

@@ -1,4 +1,5 @@
--- What a management controller holds: both shelves, FRU inventories, sensor readings and repository info.
+-- The contents of a management controller: both shelves, FRU inventories, sensor readings and
+-- repository info.
 use Rattle.std.specs.Prelude.{◌≡◌, ◌≢◌, ℕ, ◌<◌, ◌≤◌, ◌==◌, ◌&&◌, if◌then◌else◌, Option, None, Some, IfSome, List, [], ◌∷◌, length, All, AllPairs}
 use Rattle.ipmi_text.specs.declared.reading.Reading.{Reading}
 use Rattle.ipmi_bus.specs.Types.{Sdr, Sel, Shelf}
@@ -10,7 +11,7 @@ pub record Inventory : Type 0 where
   pub id : ℕ
   pub bytes : List ℕ
 
--- what the sensor with this number answers at this LUN
+-- the answer of the sensor with this number at this LUN
 pub record SensorReading : Type 0 where
   pub lun : ℕ
   pub number : ℕ
@@ -57,12 +58,12 @@ pub record IsInventory (inventory : Inventory) : Type 0 where
   pub fits : length inventory.bytes ≤ 65535
   pub bytes : AreBytes inventory.bytes
 
--- the answer of Get SDR Repository Info or Get SEL Info, after its completion code
+-- the answer of Get SDR Repository Info or Get SEL Info, without its completion code
 pub record IsInfo (bytes : List ℕ) : Type 0 where
   pub len : length bytes ≡ 14
   pub all : AreBytes bytes
 
--- its numbers are bytes
+-- all its numbers are bytes
 pub record IsSensorReading (sensor : SensorReading) : Type 0 where
   pub lun : sensor.lun < 256
   pub number : sensor.number < 256
@@ -71,7 +72,7 @@ pub record IsSensorReading (sensor : SensorReading) : Type 0 where
   pub status : sensor.reading.status < 256
   pub more : sensor.reading.more < 256
 
--- not the same sensor
+-- two different sensors
 abbrev pub OtherSensor : SensorReading → SensorReading → Type 0
 OtherSensor a b = (a.lun ≡ b.lun) → (a.number ≢ b.number)
 
@@ -86,7 +87,7 @@ pub record IsStore (store : Store) : Type 0 where
   pub sdr_info : IfSome store.sdr_info IsInfo
   pub sel_info : IfSome store.sel_info IsInfo
 
--- so both of its shelves are well formed
+-- both shelves of a well-formed store are well formed
 pub store_shelf : (shelf : Shelf) (store : Store) → IsStore store
     → IsShelf shelf (rows_of shelf store)
 store_shelf Sdr store ok = ok.sdr

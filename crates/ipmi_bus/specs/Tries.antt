@@ -1,25 +1,26 @@
--- How many troubles and refusals a record, a reading, an info or an inventory met, by how its retrieval ended.
+-- The number of troubles and refusals in the retrieval of a record, a reading, an info or an
+-- inventory, by how it ended.
 use Rattle.std.specs.Prelude.{◌≡◌, ℕ, ◌+◌, ◌<◌, ◌≤◌, ◌⊎◌, None, Some, IsSomeAnd, Result, Err}
 use Rattle.ipmi_bus.specs.Types.{Busy, Cancelled, CodeClass, Cycle, Ended, FruEnded, GaveUp, Malformed, Missing, NotPresent, Refusal, Refused, SmallerPart, Stalled}
 use Rattle.ipmi_bus.specs.Code.{class_of}
 use Rattle.ipmi_bus.specs.Seen.{Seen}
 
--- no more troubles than the tries, and no refusal
+-- at most `tries` troubles, and no refusal
 pub record WithinTries (tries : ℕ) (old new : Seen) : Type 0 where
   pub grows : old.troubles ≤ new.troubles
   pub troubles : new.troubles ≤ old.troubles + tries
   pub refusals : new.refusals ≡ old.refusals
   pub last_code : new.last_code ≡ old.last_code
 
--- one trouble more than the tries, nothing finished between them, and no refusal
+-- `tries` + 1 troubles, nothing finished between them, and no refusal
 pub record GivesUp (tries : ℕ) (old new : Seen) : Type 0 where
   pub troubles : new.troubles ≡ old.troubles + tries + 1
   pub fresh_troubles : new.fresh_troubles ≡ old.fresh_troubles + tries + 1
   pub refusals : new.refusals ≡ old.refusals
   pub last_code : new.last_code ≡ old.last_code
 
--- One trouble more than the tries, and no refusal. Where stores are added something may be finished between the
--- troubles, and then fewer are fresh, but the last one is.
+-- `tries` + 1 troubles, and no refusal. If stores are added, something may be finished between the
+-- troubles. Then fewer are fresh, but the last one still is.
 pub record GivesUpOverChange (tries : ℕ) (old new : Seen) : Type 0 where
   pub troubles : new.troubles ≡ old.troubles + tries + 1
   pub some_fresh : 0 < new.fresh_troubles
@@ -27,7 +28,7 @@ pub record GivesUpOverChange (tries : ℕ) (old new : Seen) : Type 0 where
   pub refusals : new.refusals ≡ old.refusals
   pub last_code : new.last_code ≡ old.last_code
 
--- no more troubles than the tries, and one refusal, with this code
+-- at most `tries` troubles, and one refusal, with this code
 pub record IsRefusedWith (tries code : ℕ) (old new : Seen) : Type 0 where
   pub grows : old.troubles ≤ new.troubles
   pub troubles : new.troubles ≤ old.troubles + tries
@@ -39,14 +40,15 @@ NotGivenUpOrRefused (Err (GaveUp id)) = ⊥
 NotGivenUpOrRefused (Err (Refused id code)) = ⊥
 NotGivenUpOrRefused _ = Unit {0}
 
--- ---- over any controller: the last call was such as the ending says
+-- ---- over any controller: the last call agrees with how the retrieval ended
 
 abbrev pub IsTrouble : CodeClass → Type 0
 IsTrouble Cancelled = Unit {0}
 IsTrouble Busy = Unit {0}
 IsTrouble _ = ⊥
 
--- the codes that refuse a call for so many bytes: 0 of a record is a reservation, and of an inventory its size
+-- the classes of codes that refuse a call for `asked` bytes; 0 means a reservation for a record,
+-- and the size for an inventory
 abbrev pub RefusesRecord : ℕ → CodeClass → Type 0
 RefusesRecord asked Refusal = Unit {0}
 RefusesRecord asked NotPresent = asked ≡ 0
@@ -64,17 +66,18 @@ RefusesInventory asked NotPresent = Unit {0}
 RefusesInventory asked SmallerPart = asked ≡ 0
 RefusesInventory asked _ = ⊥
 
--- the last call failed with a code of such a class
+-- the last call failed with a code of a class that satisfies `Is`
 abbrev pub LastFailed : (CodeClass → Type 0) → Seen → Type 0
 LastFailed Is seen = IsSomeAnd seen.last_failure (λ code. Is (class_of code))
 
--- the last call was for a part, and gave no byte, as far as its code tells, or asked for less than one byte
+-- the last call was for a part, and succeeded; or it was for one byte, and its code asked for a
+-- smaller part
 abbrev pub LastGaveNothing : Seen → Type 0
 LastGaveNothing seen =
     (0 < seen.last_asked) × ((seen.last_failure ≡ None)
     ⊎ (LastFailed (λ class. class ≡ SmallerPart) seen × (seen.last_asked ≡ 1)))
 
--- a cycle is found without a call
+-- how the last call agrees with the end of a retrieval; a cycle is found without a call
 abbrev pub LastCallSays : (ℕ → CodeClass → Type 0) → Ended → Seen → Type 0
 LastCallSays Refuses (Cycle n) seen = Unit {0}
 LastCallSays Refuses (Missing n) seen =
@@ -85,7 +88,7 @@ LastCallSays Refuses (GaveUp n) seen = LastFailed IsTrouble seen
 LastCallSays Refuses (Stalled n) seen = LastGaveNothing seen
 LastCallSays Refuses (Malformed n) seen = (0 < seen.last_asked) × (seen.last_failure ≡ None)
 
--- memory runs out between calls
+-- the same for an inventory; out of memory happens between calls
 abbrev pub LastFruCallSays : FruEnded → Seen → Type 0
 LastFruCallSays FruEnded.Memory seen = Unit {0}
 LastFruCallSays (FruEnded.Refused code) seen =

@@ -1,4 +1,4 @@
--- The types that the code declares, passed on from one place. Declares nothing.
+-- Re-exports the types that the code declares. Declares nothing.
 pub use Rattle.ipmi_bus.specs.declared.calls.Failure.{Failure}
 pub use Rattle.ipmi_bus.specs.declared.code.Code.{Code}
 pub use Rattle.ipmi_bus.specs.declared.code.CodeClass.{CodeClass}

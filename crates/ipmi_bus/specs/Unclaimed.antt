@@ -1,9 +1,9 @@
--- What contracts see of a controller that says what it was asked for and how its calls failed, and claims nothing else.
+-- The state that contracts see of a controller that only counts its calls and keeps their failures.
 use Rattle.std.specs.Prelude.{false, None, []}
 use Rattle.ipmi_bus.specs.Counts.{Counts}
 use Rattle.ipmi_bus.specs.Seen.{Seen}
 
--- it doesn't say that it is honest, so nothing is known of its answers
+-- it does not claim to be honest, so nothing is known about its answers
 abbrev pub calls_only : Counts → Seen
 calls_only counts = record {
   store = record {

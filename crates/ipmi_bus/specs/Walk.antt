@@ -1,26 +1,26 @@
--- Walks along the next ids of a shelf, as lists of rows, and how a walk ends.
+-- Walks that follow the next ids of a shelf, as lists of rows, and how a walk ends.
 use Rattle.std.specs.Prelude.{◌≡◌, ◌≢◌, ℕ, ◌==◌, if◌then◌else◌, Option, Some, None, IfSome, List, [], ◌∷◌, ◌++◌, Bool, false, ◌||◌, IsTrue}
 use Rattle.ipmi_bus.specs.Types.{End, First, Id, Place, Shelf}
 use Rattle.ipmi_bus.specs.Shelf.{Row, look, first_row, DistinctIds, IsShelf}
 
--- the row that a walk from a place may begin with
+-- the first row of a walk from a place
 abbrev pub row_at : Place → List Row → Option Row
 row_at First rows = first_row rows
 row_at (Id n) rows = if n == 0 then None else look rows n
 row_at End rows = None
 
--- each row's next is the id of the row after it, which is not 0000h
+-- each row's next id is the id of the row after it, and that is not 0000h
 abbrev pub Links : List Row → Type 0
 Links [] = Unit {0}
 Links (row ∷ []) = Unit {0}
 Links (row ∷ (after ∷ rows)) = (row.next ≡ after.id) × (after.id ≢ 0) × Links (after ∷ rows)
 
--- each of these is the row of the shelf that has its id
+-- each row is the row of the shelf with its id
 abbrev pub AllOf : List Row → List Row → Type 0
 AllOf rows [] = Unit {0}
 AllOf rows (row ∷ walk) = (look rows row.id ≡ Some row) × AllOf rows walk
 
--- a walk from a place along the next ids of the shelf's rows
+-- a walk from a place that follows the next ids of the shelf's rows
 pub record IsWalk (rows : List Row) (start : Place) (walk : List Row) : Type 0 where
   pub of_shelf : AllOf rows walk
   pub distinct : DistinctIds walk
@@ -31,7 +31,7 @@ pub record IsWalk (rows : List Row) (start : Place) (walk : List Row) : Type 0 w
 abbrev pub place_after : ℕ → Place
 place_after next = if next == 0xFFFF then End else Id next
 
--- the place after these rows, or the start where there are none
+-- the place after these rows, or the start if there are none
 abbrev pub place_after_rows : Place → List Row → Place
 place_after_rows start [] = start
 place_after_rows start (row ∷ rows) = place_after_rows (place_after row.next) rows
@@ -43,7 +43,7 @@ has_id (row ∷ rows) n = (n == row.id) || has_id rows n
 
 -- ---- how a walk ends
 
--- all rows to the last; at an id that comes again, or 0000h; at an id that no row has
+-- after the last row; at a repeated id or 0000h; at an id that no row has
 pub data WalkEnd : Type 0 where
   Done : WalkEnd
   CycleAt : ℕ → WalkEnd
@@ -65,38 +65,39 @@ EndsEmpty rows (Id id) (MissingAt n) = (n ≡ id) × (id ≢ 0) × (look rows id
 EndsEmpty rows End Done = Unit {0}
 EndsEmpty rows _ _ = ⊥
 
--- the next id of the last of these rows, or the one given where there are none
+-- the next id of the last of these rows, or `next` if there are none
 abbrev pub last_next : ℕ → List Row → ℕ
 last_next next [] = next
 last_next next (row ∷ rows) = last_next row.next rows
 
--- the walk ends so; a walk that can go on has no end
+-- the walk ends this way; a walk that can continue has no end
 abbrev pub EndsBy : List Row → Place → List Row → WalkEnd → Type 0
 EndsBy rows start [] end = EndsEmpty rows start end
 EndsBy rows start (row ∷ walk) end = EndsAfter rows (row ∷ walk) (last_next row.next walk) end
 
 -- ---- laws
 
--- on a well-formed shelf the rest of a walk after its first row is a walk from the place after that
+-- on a well-formed shelf, a walk without its first row is a walk from the place after that row
 abbrev pub TailIsWalk : Type 0
 TailIsWalk =
     (shelf : Shelf) (rows : List Row) (start : Place) (row : Row) (walk : List Row)
     → IsShelf shelf rows
     → IsWalk rows start (row ∷ walk) → IsWalk rows (place_after row.next) walk
 
--- on each well-formed shelf there is a walk with an end from each place
+-- on a well-formed shelf, from each place there is a walk that has an end
 abbrev pub WalkExists : Type 0
 WalkExists = (shelf : Shelf) (rows : List Row) (start : Place) → IsShelf shelf rows
     → (walk : List Row) × (end : WalkEnd) × IsWalk rows start walk × EndsBy rows start walk end
 
--- and no other, with one end
+-- and only one such walk, with only one end
 abbrev pub WalkIsUnique : Type 0
 WalkIsUnique = (shelf : Shelf) (rows : List Row) (start : Place) (a b : List Row) (e f : WalkEnd)
     → IsShelf shelf rows
     → IsWalk rows start a → EndsBy rows start a e → IsWalk rows start b → EndsBy rows start b f
     → (a ≡ b) × (e ≡ f)
 
--- the rest of a walk that ends by Done is the walk from its first row's id, where that is not 0000h, and ends by Done
+-- if a walk ends with Done, its rest from a row is a walk from that row's id, unless that is 0000h,
+-- and ends with Done
 abbrev pub RestIsWalk : Type 0
 RestIsWalk = (shelf : Shelf) (rows : List Row) (start : Place) (before : List Row) (row : Row)
     (after : List Row) → IsShelf shelf rows → IsWalk rows start (before ++ row ∷ after)

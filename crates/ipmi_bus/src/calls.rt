@@ -1,18 +1,17 @@
-//! How many bytes a call asks for, and what is to be done after one that failed.
+//! How many bytes a request asks for, and how to proceed after a failed request.
 ghost use Rattle.std.specs.Prelude.{◌≡◌, ◌<◌, min};
 ghost use Rattle.ipmi_bus.specs.Prelude.{class_of, smaller_part, FailureIs};
 
 use crate::code::{Code, CodeClass};
 
-/// How many bytes to ask for, with this part size, where so many are missing.
+/// The number of bytes to ask for, given the part size and the number of missing bytes.
 pub(crate) fn asked_len(part: u8, missing: usize) -> usize
     ensures { result ≡ min part missing }
 {
     usize::from(part).min(missing)
 }
 
-/// The part size after a request for `asked` bytes that was too long: half of them. None where it
-/// was for one byte.
+/// The part size after a request for `asked` bytes that was too long: half of `asked`. None if `asked` is 1.
 pub(crate) fn smaller_part(asked: usize) -> Option<u8>
     requires { asked < 255 }
     ensures { result ≡ smaller_part asked }
@@ -20,24 +19,24 @@ pub(crate) fn smaller_part(asked: usize) -> Option<u8>
     (asked > 1).then_some((asked / 2) as u8)
 }
 
-/// What is to be done after a call that failed.
+/// How to proceed after a failed request.
 #[derive(Clone, Copy)]
 pub(crate) enum Failure {
-    /// After a trouble: to make the same call again.
+    /// After a trouble: repeat the request.
     Again,
-    /// After a trouble that cancelled the reservation: to begin again, where something is read in parts under one.
+    /// After a trouble that cancelled the reservation: what is read in parts under a reservation starts over.
     Anew,
-    /// To ask for a smaller part.
+    /// Ask for a smaller part.
     Smaller,
-    /// Nothing: what was asked for is not there.
+    /// Stop: the requested thing is not present.
     Absent,
-    /// To give up: it was one trouble too many.
+    /// Give up: there were more troubles than the tries allow.
     GiveUp,
-    /// To give up: the call was refused.
+    /// Stop: the request was refused.
     Refuse,
 }
 
-/// What is to be done after a call that failed, where so many troubles came before it.
+/// How to proceed after a failed request. `troubles` is the number of earlier troubles.
 pub(crate) fn after_failure(code: Code, troubles: u16, tries: u8) -> Failure
     ensures { FailureIs result (class_of code.0) troubles tries }
 {

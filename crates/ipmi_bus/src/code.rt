@@ -3,19 +3,20 @@
 /// What a completion code means for a retrieval. The division into these five is this project's own.
 #[derive(Clone, Copy, Debug, PartialEq, Eq)]
 pub enum CodeClass {
-    /// C5h: the reservation was cancelled. A trouble: a record that is read in parts begins again.
+    /// C5h: the reservation was cancelled. A trouble: a record that is read in parts is read from its start again.
     Cancelled,
-    /// C0h (node busy), C3h (timeout), 81h (FRU device busy, or the event log being erased). A trouble: the same call may succeed later.
+    /// C0h (node busy), C3h (timeout), 81h (FRU device busy, or the event log being erased). A trouble: the same
+    /// request may succeed later.
     Busy,
-    /// C7h, C8h, CAh: this many bytes can't be had at once.
+    /// C7h, C8h, CAh: too many bytes for one request.
     SmallerPart,
-    /// CBh: what was asked for is not there.
+    /// CBh: the requested thing is not present.
     NotPresent,
     /// Every other code.
     Refusal,
 }
 
-/// A completion code that comes in place of an answer.
+/// The completion code of a failed request.
 #[derive(Clone, Copy, Debug, PartialEq, Eq)]
 pub struct Code(pub u8);
 
@@ -38,16 +39,16 @@ impl Code {
     /// The length of the request is wrong.
     pub const WRONG_LENGTH: Code = Code(0xC7);
 
-    /// The length of the request is more than the field has.
+    /// The requested length exceeds the length of the field.
     pub const TOO_LONG: Code = Code(0xC8);
 
     /// A parameter is out of range: there is no byte at the offset.
     pub const OUT_OF_RANGE: Code = Code(0xC9);
 
-    /// As many bytes as are asked for can't be given.
+    /// The controller cannot return this many bytes.
     pub const TOO_MANY_BYTES: Code = Code(0xCA);
 
-    /// What was asked for is not there.
+    /// The requested thing is not present.
     pub const NOT_PRESENT: Code = Code(0xCB);
 
     /// What the code means for a retrieval.

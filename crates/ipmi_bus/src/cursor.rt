@@ -1,4 +1,4 @@
-//! Hands out the records of a shelf, one a step, along their next ids.
+//! Returns the records of a shelf one by one, following their next ids.
 ghost use Rattle.std.specs.Prelude.{◌≡◌, ◌<◌, ◌≤◌, Ok, Err, Some, None, IfOk, IfSome, List, length, ◌⊎◌};
 ghost use Rattle.std.specs.FinSet as set;
 ghost use Rattle.std.specs.Option.{ForSome};
@@ -12,8 +12,8 @@ use crate::step::{Ended, Place, Record, record_id};
 use std::alloc::{AllocError, Global};
 use std::marker::Model;
 
-/// A record in the buffer that is to be handed out. It is not a `Record`, as that would borrow the
-/// buffer, of which the contract of `advance` has to speak.
+/// A record in the buffer, ready to be returned. It is not a `Record`: that would borrow the buffer, which the
+/// contract of `advance` has to mention.
 #[derive(Clone, Copy)]
 pub(crate) struct Handed {
     pub(crate) id: u16,
@@ -21,7 +21,8 @@ pub(crate) struct Handed {
     pub(crate) len: usize,
 }
 
-/// A cursor's retrieval, its place and the ids that it has handed out. It is apart from `Cursor`, whose view has no buffer.
+/// A cursor's retrieval, its place and the ids of the records that it has returned. It is a type of its own because
+/// the view of `Cursor` has no buffer.
 #[derive(Drop)]
 pub(crate) struct Progress {
     pub(crate) retrieval: Retrieval,
@@ -32,16 +33,16 @@ pub(crate) struct Progress {
 /// What a step does.
 #[derive(Clone, Copy)]
 pub(crate) enum Next {
-    /// Nothing, as the cursor is at the end.
+    /// Nothing: the cursor is at the end.
     End,
-    /// It reports a cycle: the chain closes at this id.
+    /// It reports a cycle at this id.
     Cycle(u16),
-    /// It asks for the record with this id.
+    /// It reads the record with this id.
     Asks(u16),
 }
 
 impl Progress {
-    /// What is to be asked for next.
+    /// What the next step does.
     fn next(&self) -> Next
         ensures { IsNext self.now.place self.now.ids result }
     {
@@ -58,7 +59,7 @@ impl Progress {
         }
     }
 
-    /// Hands out the record that is whole in the buffer, and moves to the place after it.
+    /// Returns the complete record in the buffer, and moves to the place after it.
     fn hand_out(&mut self, asked: u16) -> Handed
         requires within { self.old.retrieval.have ≤ 256 }
         requires some { 5 ≤ self.old.retrieval.have }
@@ -90,7 +91,7 @@ impl Progress {
         }
     }
 
-    /// Lets the reservation go: a later step asks for a new one.
+    /// Drops the reservation. A later step requests a new one.
     fn fail(&mut self, ended: Ended) -> Result<Option<Handed>, Ended>
         ensures answers { result ≡ Err ended }
         ensures leaves { self.new ≡ record self.old
@@ -100,7 +101,7 @@ impl Progress {
         Err(ended)
     }
 
-    /// Makes a step. A record that it hands out is in the buffer.
+    /// Makes a step. A record that it returns is in the buffer.
     #[tactic(auto, using(crate::proofs::CursorLemmas::empty_ids))]
     fn advance<C: Controller>(&mut self, ctl: &mut C) -> Result<Option<Handed>, Ended>
         requires { IsCursor self.old }
@@ -138,7 +139,7 @@ impl Progress {
     }
 }
 
-/// Hands out the records of a shelf, along their next ids.
+/// Returns the records of a shelf, following their next ids.
 #[derive(Drop)]
 pub struct Cursor {
     progress: Progress,
@@ -164,8 +165,8 @@ impl Model for Cursor {
 impl Cursor {
     ghost use Rattle.ipmi_bus.specs.Lent.{CursorRests, as_rows};
 
-    /// A cursor at the start of the shelf, or at the record with the id `from`. It asks for at most `part`
-    /// bytes at once, and lets each record meet `tries` troubles. All the memory that it ever needs is taken here.
+    /// A cursor at the start of the shelf, or at the record with the id `from`. It asks for at most `part` bytes per
+    /// request and allows `tries` troubles per record. It allocates all its memory here.
     pub fn start(
         alloc: Global,
         shelf: Shelf,
@@ -209,22 +210,22 @@ impl Cursor {
         })
     }
 
-    /// Where the next step begins.
+    /// The place where the next step begins.
     pub fn resume_at(&self) -> Place
         ensures { result ≡ self.now.place }
     {
         self.progress.place
     }
 
-    /// Hands out the next record, lent out of the cursor until the next step; None means that there
-    /// are no more. After an `Err` the cursor is where it was and holds no reservation, so that a
-    /// later step tries again.
-    // An answer is the same search. These lemmas are for a wrong body, whose ways out have other names.
+    /// Returns the next record, which borrows from the cursor until the next step, or None if there are no more.
+    /// After an `Err` the cursor is where it was and holds no reservation, so a later step tries again.
+    // An answer in proofs/ would run the same search. The lemmas are named here for a wrong body, whose exits have
+    // other names.
     #[tactic(auto, using(crate::proofs::WalkLemmas::follows_walks, crate::proofs::WalkLemmas::asks_along))]
     pub fn step<C: Controller>(&mut self, ctl: &mut C) -> Result<Option<Record<'_>>, Ended>
         ensures* after { sem 𝓛 (CursorRests self.entry
             (λ new. IsStep self.old new (C.seen ctl.old) (C.seen ctl.new) (as_rows result))) }
-        // what follows is known at once, while the record is lent
+        // the clauses below hold at once, while the record is still borrowed
         ensures at_end { self.old.place ≡ End → as_rows result ≡ Ok None }
         ensures no_call { AsksNothing self.old → C.seen ctl.new ≡ C.seen ctl.old }
         ensures whole { IfOk result (λ o. IfSome o

@@ -1,14 +1,14 @@
-//! The ids that a cursor has handed out, in a table of bits.
+//! The ids of the records that a cursor has returned, as a bit table.
 ghost use Rattle.std.specs.Prelude.{◌≡◌, ◌≤◌, ◌<◌, false, IfOk};
 ghost use Rattle.std.specs.FinSet as set;
 
 use std::alloc::{AllocError, Global};
 use std::marker::Model;
 
-/// The bytes of the table, which has a bit for each of the 65,536 ids.
+/// The size of the table in bytes: one bit for each of the 65,536 ids.
 const TABLE_LEN: usize = 8192;
 
-/// A set of ids, a bit for each.
+/// A set of ids, one bit each.
 #[derive(Drop)]
 pub(crate) struct IdTable {
     bytes: Vec<u8>,
@@ -31,7 +31,7 @@ impl Model for IdTable {
 }
 
 impl IdTable {
-    /// A table that has no id. It takes all the memory that it ever needs.
+    /// An empty table. It allocates all its memory here.
     pub(crate) fn new(alloc: Global) -> Result<Self, AllocError>
         ensures { IfOk result (λ table. table ≡ set.empty) }
     {
@@ -40,7 +40,7 @@ impl IdTable {
         })
     }
 
-    /// Whether the table has the id.
+    /// Whether the table contains the id.
     pub(crate) fn contains(&self, id: u16) -> bool
         ensures is { result ≡ set.contains self.now id }
         ensures not_full { result ≡ false → set.len self.now < 65536 }

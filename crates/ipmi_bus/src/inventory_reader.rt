@@ -8,20 +8,20 @@ use crate::controller::{Controller, FruSize};
 use std::alloc::{AllocError, Global};
 use thiserror::Error;
 
-/// Why the reading of a FRU inventory gave none.
+/// Why reading a FRU inventory failed.
 #[derive(Clone, Copy, Debug, PartialEq, Eq, Error)]
 pub enum FruEnded {
-    /// No memory was left for the inventory.
+    /// Out of memory for the inventory.
     #[error("out of memory")]
     Memory,
     /// The controller refused with this code. From an honest controller CBh means that it has no
     /// such inventory.
     #[error("refused with code {code:02X}h", code = .0.0)]
     Refused(Code),
-    /// More troubles came than the tries allow.
+    /// There were more troubles than the tries allow.
     #[error("gave up")]
     GaveUp,
-    /// The controller gave no byte, or answered a request for one byte by a code that asks for a smaller part.
+    /// The controller returned no byte, or refused even a request for one byte as too long.
     #[error("stalled")]
     Stalled,
     /// The device is accessed by words.
@@ -39,26 +39,26 @@ impl From<AllocError> for FruEnded {
     }
 }
 
-/// An inventory that is being read.
+/// An inventory being read.
 #[derive(Drop)]
 struct FruRetrieval {
     id: u8,
-    /// The most bytes to ask for at once, 1 to 254.
+    /// The largest number of bytes per request, 1 to 254.
     part: u8,
-    /// How many troubles the inventory may meet.
+    /// The number of troubles allowed.
     tries: u8,
-    /// The troubles that it has met.
+    /// The number of troubles so far.
     troubles: u16,
-    /// How many bytes of it are there.
+    /// The number of bytes read so far.
     have: usize,
-    /// As many bytes as the inventory has, of which the first `have` are read.
+    /// A buffer of the inventory's size. The first `have` bytes are read.
     bytes: Vec<u8>,
 }
 
 impl FruRetrieval {
     ghost use Rattle.ipmi_bus.specs.FruRetrieval.{IsBegun, IsOpenInventory, SameInventory, request_len, TakesInventoryPart, PartFails, FruSince, FruNext, calls_left};
 
-    /// Asks for some of the bytes that are missing, into their place.
+    /// Requests some of the missing bytes and stores them in their place.
     fn request<C: Controller>(&mut self, ctl: &mut C, asked: usize) -> Result<u8, Code>
         requires some { 0 < asked }
         requires fits { asked < 255 }
@@ -83,7 +83,7 @@ impl FruRetrieval {
         ctl.fru_part(self.id, have as u16, into)
     }
 
-    /// Takes the bytes that came in.
+    /// Counts the received bytes.
     fn take_part(&mut self, got: u8) -> Result<(), FruEnded>
         requires is_open { IsOpenInventory self.old }
         requires fits { self.old.have + got ≤ vec_len self.old.bytes }
@@ -96,8 +96,7 @@ impl FruRetrieval {
         Ok(())
     }
 
-    /// After a failed call for `asked` bytes: counts a trouble, makes the parts smaller, or ends
-    /// the reading.
+    /// Handles a failed request for `asked` bytes: counts a trouble, reduces the part size, or ends the read.
     fn fail_part(&mut self, code: Code, asked: usize) -> Result<(), FruEnded>
         requires is_open { IsOpenInventory self.old }
         requires asked { asked ≤ self.old.part }
@@ -119,7 +118,7 @@ impl FruRetrieval {
         }
     }
 
-    /// Makes one call for the bytes that are missing.
+    /// Makes one call for missing bytes.
     fn ask_part<C: Controller>(&mut self, ctl: &mut C) -> Result<(), FruEnded>
         requires { IsOpenInventory self.old }
         ensures counted { IsCall (request_len self.old) (C.seen ctl.old) (C.seen ctl.new) }
@@ -137,7 +136,7 @@ impl FruRetrieval {
         }
     }
 
-    /// Makes calls until all bytes are there.
+    /// Makes calls until all bytes are read.
     fn read_all<C: Controller>(&mut self, ctl: &mut C) -> Result<(), FruEnded>
         requires { IsBegun self.old }
         ensures same { SameInventory self.old self.new }
@@ -156,14 +155,14 @@ impl FruRetrieval {
     }
 }
 
-/// The size of an inventory, and the troubles that came before it was told.
+/// The size of an inventory, and the number of troubles before the controller answered it.
 #[derive(Clone, Copy)]
 struct Size {
     bytes: u16,
     troubles: u16,
 }
 
-/// The size that was told, after so many troubles.
+/// The size from the answer, after this many troubles. Err if the device is accessed by words.
 fn take_size(told: FruSize, troubles: u16) -> Result<Size, FruEnded>
     ensures { TakesSize told troubles result }
 {
@@ -176,7 +175,7 @@ fn take_size(told: FruSize, troubles: u16) -> Result<Size, FruEnded>
     })
 }
 
-/// Why there is no size after a failing call; Ok where it is to be asked for again.
+/// How to proceed after a failed request for the size: Ok if it is to be repeated, otherwise Err.
 fn fail_size(code: Code, troubles: u16, tries: u8) -> Result<(), FruEnded>
     ensures { SizeFails (class_of code.0) code troubles tries result }
 {
@@ -207,8 +206,8 @@ fn read_size<C: Controller>(ctl: &mut C, id: u8, tries: u8) -> Result<Size, FruE
     }
 }
 
-/// The bytes of the inventory of the FRU device with this id (IPMI v2.0, section 34). It is asked for in parts of at
-/// most `part` bytes, and may meet `tries` troubles; `FruEnded` says why there is none.
+/// The bytes of the inventory of the FRU device with this id (IPMI v2.0, section 34). Each request is for at most
+/// `part` bytes, and `tries` troubles are allowed. `FruEnded` says why reading failed.
 pub fn read_fru<C: Controller>(
     alloc: Global,
     ctl: &mut C,

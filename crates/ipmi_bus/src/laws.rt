@@ -1,38 +1,39 @@
-//! Laws of walks, of steps along them, and of part sizes, each the contract of a function that does nothing.
+//! Laws of walks, of steps along walks, and of part sizes. Each law is the contract of an empty function.
 ghost use Rattle.ipmi_bus.specs.Prelude.{DigitsAreFew, FoundIsRow, WalkExists, WalkIsUnique, RestIsWalk, TailIsWalk, StepsFollowWalk};
 
-/// From each place of a shelf exactly one walk has an end.
+/// From each place of a shelf exactly one walk reaches an end.
 #[tactic(auto, using(crate::proofs::WalkLaws::same_walk))]
 pub fn one_walk_has_an_end()
     ensures exists { WalkExists }
     ensures unique { WalkIsUnique }
 {}
 
-/// The rest of a walk after its first row is a walk from the place after that.
+/// A walk without its first row is a walk from the place after that row.
 #[tactic(auto, using(crate::proofs::WalkLemmas::walk_tail))]
 pub fn the_tail_is_a_walk()
     ensures { TailIsWalk }
 {}
 
-/// A record that is found on a well-formed shelf is a row.
+/// A record found on a well-formed shelf is a well-formed row.
 pub fn what_is_found_is_a_row()
     ensures { FoundIsRow }
 {}
 
-/// Where a walk ends by Done, the walk from the id of any of its rows, other than 0000h, is its rest from that row, and ends
-/// by Done.
+/// If a walk ends with Done, then for each of its rows whose id is not 0000h, the walk from that id is the rest of
+/// the walk from that row, and it ends with Done.
 pub fn the_rest_is_a_walk()
     ensures { RestIsWalk }
 {}
 
-/// However often a cursor gives up or is refused, and whatever else is asked of the controller between its steps, they hand
-/// out the first rows of the walk from its start, in order, none left out and none twice.
+/// The steps of a cursor return the first rows of the walk from its start, in order, without gaps or repetitions.
+/// This holds however often a step gives up or is refused, and whatever other requests the controller gets between
+/// the steps.
 #[tactic(auto, using(crate::proofs::StepsLaws::steps_follow))]
 pub fn steps_follow_the_walk()
     ensures { StepsFollowWalk }
 {}
 
-/// A part size has at most eight binary digits, so that it falls at most seven times.
+/// A part size has at most eight binary digits, so it is reduced at most seven times.
 #[tactic(auto, using(crate::proofs::DigitLemmas::digits_most))]
 pub fn a_part_size_has_few_digits()
     ensures { DigitsAreFew }

@@ -1,4 +1,4 @@
-//! Records of a management controller, retrieved in parts and handed out along their next ids.
+//! Retrieves the records of a management controller in parts, following their next ids.
 #![tactic(auto)]
 
 mod calls;

@@ -8,16 +8,16 @@ use crate::controller::{Controller, Shelf};
 use crate::step::Ended;
 use ipmi_text::Reading;
 
-/// What a failing call for a value leaves to do.
+/// How to proceed after a failed request for a value.
 #[derive(Clone, Copy)]
 enum ValueFailure {
-    /// To make the call again.
+    /// Repeat the request.
     Again,
-    /// Nothing: what was asked for is not there.
+    /// Stop: there is no such value.
     Absent,
 }
 
-/// What to do after a failing call for a value, where so many troubles came before it.
+/// How to proceed after a failed request for a value. `troubles` is the number of earlier troubles.
 fn after_value_failure(code: Code, id: u16, troubles: u16, tries: u8) -> Result<ValueFailure, Ended>
     ensures { ValueFailureIs (class_of code.0) code id troubles tries result }
 {
@@ -29,9 +29,9 @@ fn after_value_failure(code: Code, id: u16, troubles: u16, tries: u8) -> Result<
     }
 }
 
-/// The reading of the sensor with this number at this LUN (IPMI v2.0, section 35.14), None where the controller has none.
-/// The call is made again after a trouble, up to `tries` times. An `Ended` names `id`, which the caller chooses: the
-/// controller never sees it.
+/// The reading of the sensor with this number at this LUN (IPMI v2.0, section 35.14), or None if the controller has
+/// none. The request is repeated after a trouble, at most `tries` times. The caller chooses `id`, which an `Ended`
+/// names; it is not sent to the controller.
 pub fn read_reading<C: Controller>(
     ctl: &mut C,
     id: u16,
@@ -58,8 +58,8 @@ pub fn read_reading<C: Controller>(
     }
 }
 
-/// The 14 bytes of the shelf's info (IPMI v2.0, sections 33.9 and 31.2), None where there is none. The call is made again
-/// after a trouble, up to `tries` times. An `Ended` carries 0000h.
+/// The 14 bytes of the shelf's info (IPMI v2.0, sections 33.9 and 31.2), or None if there is none. The request is
+/// repeated after a trouble, at most `tries` times. An `Ended` names 0000h.
 pub fn read_info<C: Controller>(
     ctl: &mut C,
     shelf: Shelf,

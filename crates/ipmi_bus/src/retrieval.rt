@@ -1,4 +1,5 @@
-//! Reads one record in parts (IPMI v2.0, section 33.12): of a sensor data record the header first, then the rest.
+//! Reads one record in parts (IPMI v2.0, section 33.12). Of a sensor data record, it reads the header first, then the
+//! rest.
 ghost use Rattle.std.specs.Prelude.{◌≡◌, ◌+◌, ◌<◌, ◌≤◌, None, Some, Ok, OnOk, OnErr, IfOk, IsOk, length, take, slice_range};
 ghost use Rattle.ipmi_bus.specs.Prelude.{Retrieval, Seen, AsksAtMost, IsCall, failing_code, IsHonest, StaysHonest, PartAnswers, class_of, largest_len, AreWithin, part_asked, len_of, look, rows_of};
 
@@ -8,40 +9,40 @@ use crate::controller::{Controller, LARGEST_SDR_LEN, Part, SEL_ENTRY_LEN, Shelf}
 use crate::step::Ended;
 use ipmi_text::{SDR_HEADER_LEN, sdr_len};
 
-/// What the reading of a record found.
+/// The result of reading a record.
 #[derive(Clone, Copy)]
 pub(crate) enum Found {
-    /// The record, which is whole.
+    /// The whole record was read.
     Whole,
-    /// That there is no such record.
+    /// There is no such record.
     Absent,
 }
 
-/// What a call brought.
+/// The result of one call.
 #[derive(Clone, Copy)]
 pub(crate) enum CallOutcome {
-    /// There is more to ask for.
+    /// The record is not whole yet.
     Again,
-    /// The reading is over, and found this.
+    /// The read is over, with this result.
     Over(Found),
 }
 
-/// A record that is being read, and what is kept from record to record.
+/// A record being read, and the state kept from record to record.
 #[derive(Drop)]
 pub(crate) struct Retrieval {
     pub(crate) shelf: Shelf,
-    /// The most bytes to ask for at once, 1 to 254.
+    /// The largest number of bytes per request, 1 to 254.
     pub(crate) part: u8,
-    /// How many troubles one record may meet.
+    /// The number of troubles allowed per record.
     pub(crate) tries: u8,
     pub(crate) reservation: Option<u16>,
-    /// The id that is asked for.
+    /// The requested id.
     pub(crate) id: u16,
-    /// The troubles that the record has met.
+    /// The number of troubles with this record so far.
     pub(crate) troubles: u16,
-    /// How many bytes of the record are there.
+    /// The number of bytes of the record read so far.
     pub(crate) have: usize,
-    /// The next id of the last part.
+    /// The next id in the last part received.
     pub(crate) next: u16,
     pub(crate) buffer: [u8; LARGEST_SDR_LEN],
 }
@@ -50,7 +51,7 @@ impl Retrieval {
     ghost use Rattle.ipmi_bus.specs.Retrieval.{IsOpenRecord, SameRequest, wanted_len, request_len, ReserveFails, PartFails, TakesRecordPart, CallSays, CallLeaves};
     ghost use Rattle.ipmi_bus.specs.Since.{begun, HonestSince, ReadIsHonest, ReadLeaves, ReadNext, ReadSays};
 
-    /// How many bytes are asked for in all, as far as the bytes that are there tell.
+    /// The number of bytes to read in all, as known from the bytes read so far.
     fn wanted(&self) -> usize
         ensures { result ≡ wanted_len self.now.shelf self.now.have self.now.buffer }
     {
@@ -66,7 +67,7 @@ impl Retrieval {
         }
     }
 
-    /// Does what is to be done after a failing call for a reservation.
+    /// Handles a failed request for a reservation.
     fn fail_reserve(&mut self, code: Code) -> Result<CallOutcome, Ended>
         requires is_open { IsOpenRecord self.old }
         ensures fails { ReserveFails (class_of code.0) code self.old self.new result }
@@ -106,7 +107,7 @@ impl Retrieval {
         }
     }
 
-    /// Counts the bytes that came into the buffer, and judges a header once it is there.
+    /// Counts the bytes received into the buffer, and checks the header once it is complete.
     fn take_part(&mut self, part: Part) -> Result<CallOutcome, Ended>
         requires is_open { IsOpenRecord self.old }
         requires fits { self.old.have + part.got ≤ wanted_len self.old.shelf self.old.have
@@ -129,7 +130,7 @@ impl Retrieval {
         }
     }
 
-    /// Asks for some of the bytes that are missing, into their place in the buffer.
+    /// Requests some of the missing bytes and stores them in their place in the buffer.
     fn request<C: Controller>(
         &mut self,
         ctl: &mut C,
@@ -157,8 +158,7 @@ impl Retrieval {
         ctl.part(self.shelf, reservation, self.id, have as u8, into)
     }
 
-    /// After a failed call for `asked` bytes: counts a trouble, makes the parts smaller, or ends
-    /// the reading.
+    /// Handles a failed request for `asked` bytes: counts a trouble, reduces the part size, or ends the read.
     fn fail_part(&mut self, code: Code, asked: usize) -> Result<CallOutcome, Ended>
         requires is_open { IsOpenRecord self.old }
         requires asked { asked ≤ self.old.part }
@@ -187,7 +187,7 @@ impl Retrieval {
         }
     }
 
-    /// Asks for the next part under the reservation.
+    /// Requests the next part under the reservation.
     fn ask_part<C: Controller>(
         &mut self,
         ctl: &mut C,
@@ -211,7 +211,7 @@ impl Retrieval {
         }
     }
 
-    /// Makes one call: for a part, or first for the reservation that it needs.
+    /// Makes one call: for a part, or for a reservation if none is held.
     fn make_call<C: Controller>(&mut self, ctl: &mut C) -> Result<CallOutcome, Ended>
         requires { IsOpenRecord self.old }
         ensures counted { (C.seen ctl.new).calls ≡ (C.seen ctl.old).calls + 1 }
@@ -230,7 +230,7 @@ impl Retrieval {
         }
     }
 
-    /// Reads the record with this id, whole, where it is there.
+    /// Reads the whole record with this id, if there is one.
     pub(crate) fn read<C: Controller>(&mut self, ctl: &mut C, id: u16) -> Result<Found, Ended>
         requires some { 0 < self.old.part }
         requires fits { self.old.part < 255 }

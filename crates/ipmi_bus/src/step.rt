@@ -1,4 +1,4 @@
-//! Where a step of a cursor begins, and what it gives.
+//! Where a step of a cursor begins, and what it returns.
 ghost use Rattle.std.specs.Prelude.{◌≡◌, ◌≤◌, length};
 ghost use Rattle.ipmi_bus.specs.Shelf.{id_in};
 
@@ -6,7 +6,7 @@ use crate::code::Code;
 use byteorder::{ByteOrder, LittleEndian};
 use thiserror::Error;
 
-/// Where a cursor is.
+/// The position of a cursor.
 #[derive(Clone, Copy, Debug, PartialEq, Eq)]
 pub enum Place {
     /// Before the shelf's first record.
@@ -17,18 +17,18 @@ pub enum Place {
     End,
 }
 
-/// A whole record, lent out of the cursor that read it.
+/// A whole record, borrowed from the cursor that read it.
 #[derive(Clone, Copy, Debug)]
 pub struct Record<'a> {
-    /// The id by which the record was asked for; of a shelf's first record the one in its bytes.
+    /// The id with which the record was requested. For a shelf's first record, the id in its bytes.
     pub id: u16,
-    /// The id of the next record, FFFFh where there is no more.
+    /// The id of the next record, FFFFh after the last one.
     pub next: u16,
-    /// All bytes of the record, its header first.
+    /// All bytes of the record, including its header.
     pub bytes: &'a [u8],
 }
 
-/// The record id that a sensor data record or an entry of the event log begins with.
+/// The record id in the first two bytes of a sensor data record or an event log entry.
 pub fn record_id(bytes: &[u8]) -> u16
     requires { 2 ≤ length bytes.now }
     ensures { result ≡ id_in bytes.now }
@@ -36,10 +36,10 @@ pub fn record_id(bytes: &[u8]) -> u16
     LittleEndian::read_u16(bytes)
 }
 
-/// Why a step gave no record. Each names the id that was to be asked for: 0000h for the first record.
+/// Why a step returned no record. Each variant names the id to be requested: 0000h for the first record.
 #[derive(Clone, Copy, Debug, PartialEq, Eq, Error)]
 pub enum Ended {
-    /// The next id is 0000h, or that of a record that was handed out before.
+    /// The next id is 0000h, or the id of a record that was already returned.
     #[error("cycle at {0:04X}h")]
     Cycle(u16),
     /// No record has this id.
@@ -48,10 +48,10 @@ pub enum Ended {
     /// The controller refused with this code.
     #[error("record {0:04X}h refused with code {code:02X}h", code = .1.0)]
     Refused(u16, Code),
-    /// More troubles came than the tries allow.
+    /// There were more troubles than the tries allow.
     #[error("gave up at {0:04X}h")]
     GaveUp(u16),
-    /// The controller gave no byte, or answered a request for one byte by a code that asks for a smaller part.
+    /// The controller returned no byte, or refused even a request for one byte as too long.
     #[error("stalled at {0:04X}h")]
     Stalled(u16),
     /// The header of a sensor data record says that the record is longer than 256 bytes.

@@ -1,4 +1,4 @@
-//! What a controller counts for contracts only.
+//! Counters of a controller that exist only for contracts.
 ghost use Rattle.std.specs.Prelude.{◌≡◌};
 ghost use Rattle.std.specs.Borrow.{ftrue};
 ghost use Rattle.ipmi_bus.specs.Counts.{Counts};
@@ -6,24 +6,24 @@ ghost use Rattle.ipmi_bus.specs.Counts.{Counts};
 use crate::code::Code;
 use std::marker::Model;
 
-/// What a controller counts.
+/// An event that a controller counts.
 #[derive(Clone, Copy, Debug, PartialEq, Eq)]
 pub enum Event {
-    /// A call came in, for a part of so many bytes, or 0 for anything else.
+    /// A call for a part of this many bytes; 0 for a call for anything else.
     Called(u8),
-    /// The call failed with this code, which by its class is a trouble, a refusal, that a smaller part is wanted, or that
-    /// nothing is there.
+    /// The call failed with this code. Its class says whether that is a trouble, a refusal, a request for a smaller
+    /// part, or that nothing is present.
     Failed(Code),
-    /// An answer finished something, such as data up to the last byte of a record.
+    /// An answer completed something, such as a record by its last byte.
     Finished,
-    /// Another store took the place of the one before.
+    /// Another store replaced the previous one.
     Stored,
 }
 
-/// Counts that only clauses read. They take no bytes and have no greatest value.
+/// Counters that only contracts read. They take no memory and have no upper limit.
 #[derive(Drop)]
 pub struct Tally {
-    /// What the events so far come to.
+    /// The counts of the events so far.
     pub ghost counts: { Counts },
 }
 
@@ -35,7 +35,7 @@ impl Tally {
     ghost use Rattle.ipmi_bus.specs.Events.{counts_after, zero_counts};
     ghost use Rattle.ipmi_bus.specs.declared.tally.Event.{Event};
 
-    /// Nothing was counted yet.
+    /// All counts are zero.
     pub fn new() -> Tally
         ensures { result.counts ≡ zero_counts }
     {
@@ -55,7 +55,7 @@ impl Tally {
         *self = Tally::after(self, &event);
     }
 
-    /// Counts that the call fails with this code, and gives it back.
+    /// Counts a failure of the call with this code, and returns the code.
     pub fn fail(&mut self, code: Code) -> Code
         ensures counts { self.new.counts ≡ counts_after self.old.counts (Event.Failed code) }
         ensures code { result ≡ code }

@@ -1,4 +1,4 @@
--- What a command line means.
+-- The meaning of a command line.
 use Rattle.std.specs.Prelude.{◌≤◌, ◌==◌, ℕ, length, ◌&&◌, not, List, Option, Some, None, option_map, is_some, Result, Ok, Err, ⊤, codes, IfSome, OnSome, IsTrue, if◌then◌else◌}
 use Rattle.clap.specs.Words.{Row, first_of}
 use Rattle.ipmi_command_line.specs.declared.task.Count.{Count}
@@ -9,7 +9,7 @@ use Rattle.ipmi_command_line.specs.Number.{decimal_of, digits_of, within}
 use Rattle.ipmi_command_line.specs.Table.{task_of}
 use Rattle.ipmi_command_line.specs.Task.{takes_from}
 
--- a command, as clauses see it
+-- a command as contracts see it
 pub record CommandState : Type 0 where
   pub task : Task
   pub from : Option ℕ
@@ -40,18 +40,20 @@ pub record IsCommand (task : Task) (from : Option ℕ) (part : ℕ) : Type 0 whe
 
 -- ---- the options
 
--- without `--from` Some None; where its text is not four hex digits from 0001 to FFFE, None
+-- Some None without `--from`; None if its text is not four hex digits from 0001 to FFFE
 abbrev pub start_of_text : Option (List ℕ) → Option (Option ℕ)
 start_of_text None = Some None
 start_of_text (Some text) =
     if length text == 4 then option_map (λ id. Some id) (within 1 65534 (digits_of 16 text)) else None
 
--- the number of an option, in decimal, or its default where the option is not given; None out of its range
+-- the number of an option, in decimal, or its default if the option is not given; None if malformed
+-- or out of range
 abbrev pub number_or : ℕ → ℕ → ℕ → Option (List ℕ) → Option ℕ
 number_or default low high None = Some default
 number_or default low high (Some text) = within low high (decimal_of text)
 
--- a task with its options, `--from` before `--part` before `--tries`; an id to start from is given only to one that takes it
+-- a task with its options `--from`, `--part` and `--tries`; only a task that takes an id to start
+-- from may have one
 abbrev pub with_options : Option (List ℕ) → Task → Option (Option ℕ) → Option ℕ → Option ℕ
     → Result CommandState UsageFault
 with_options image task (Some from) (Some part) (Some tries) =
@@ -68,7 +70,7 @@ command_of_task rows (Some task) = with_options (first_of (codes "image") rows) 
     (number_or 32 1 254 (first_of (codes "part") rows))
     (number_or 5 0 255 (first_of (codes "tries") rows))
 
--- what the words mean, the first of which is the program's name
+-- the meaning of the words; the first is the program's name
 unfoldable pub meaning_of : List (List ℕ) → Result CommandState UsageFault
 meaning_of words = if is_taken words
     then command_of_task (rows_of_words words) (task_of (free_words (rows_of_words words)))

@@ -1,5 +1,5 @@
--- The table of commands: the task that the words of a command line name. There is a function for each number of words,
--- and in it a line for each command.
+-- The table of commands: the task for the words of a command line. There is a function for each
+-- number of words, with a line for each command.
 use Rattle.std.specs.Prelude.{ℕ, Bool, ◌&&◌, List, [], ◌∷◌, zero, suc, Option, Some, None, option_map, codes, if◌then◌else◌, bytes_eq}
 use Rattle.ipmi_bus.specs.declared.controller.Shelf.{Shelf}
 use Rattle.ipmi_command_line.specs.declared.task.Count.{Count}
@@ -7,11 +7,11 @@ use Rattle.ipmi_command_line.specs.declared.task.Kind.{Kind}
 use Rattle.ipmi_command_line.specs.declared.task.Task.{Task}
 use Rattle.ipmi_command_line.specs.Number.{number_of, within}
 
--- the first words of a line are these two
+-- the first two words of a command are these
 abbrev pub are : List ℕ → List ℕ → List ℕ → List ℕ → Bool
 are a b first second = bytes_eq a first && bytes_eq b second
 
--- ---- what the last word of a line names
+-- ---- the last word of a command
 
 -- a kind of sensor data record
 abbrev pub kind_of : List ℕ → Option Kind
@@ -25,12 +25,12 @@ kind_of word =
     else (if bytes_eq word (codes "fru") then Some Kind.Fru
     else None))))))
 
--- the oldest entries of the event log, so many; 0 stands for all of them
+-- the n oldest entries of the event log; 0 means all entries
 abbrev pub oldest : ℕ → Count
 oldest zero = Count.All
 oldest (suc n) = Count.First (suc n)
 
--- the newest ones
+-- the n newest entries; 0 means all entries
 abbrev pub newest : ℕ → Count
 newest zero = Count.All
 newest (suc n) = Count.Last (suc n)
@@ -38,7 +38,7 @@ newest (suc n) = Count.Last (suc n)
 abbrev pub inventory_of : List ℕ → Option Task
 inventory_of word = option_map (λ id. Task.Fru (Some id)) (within 0 254 (number_of word))
 
--- that many entries are listed
+-- list this many entries
 abbrev pub entries_of : (ℕ → Count) → List ℕ → Option Task
 entries_of listed word = option_map (λ n. Task.SelList (listed n)) (within 0 65535 (number_of word))
 
@@ -79,7 +79,7 @@ task_of_four a b c d =
     else (if are a b (codes "sel") (codes "list") && bytes_eq c (codes "last") then entries_of newest d
     else None)
 
--- no words are `sdr hex`, and more than four are nothing
+-- no words mean `sdr hex`; more than four words are not a command
 abbrev pub task_of : List (List ℕ) → Option Task
 task_of [] = Some Task.Hex
 task_of (a ∷ []) = task_of_one a

@@ -1,9 +1,9 @@
--- What may be asked of each task.
+-- Properties of each task.
 use Rattle.std.specs.Prelude.{Bool, true, false}
 use Rattle.ipmi_command_line.specs.declared.task.Count.{Count}
 use Rattle.ipmi_command_line.specs.declared.task.Task.{Task}
 
--- it takes an id to start from
+-- the task takes an id to start from
 abbrev pub takes_from : Task → Bool
 takes_from Task.Hex = true
 takes_from (Task.List kind) = true
@@ -12,7 +12,7 @@ takes_from (Task.Get name) = true
 takes_from (Task.SelList entries) = true
 takes_from _ = false
 
--- it lists all records of a shelf, so that it can be done in pages
+-- the task lists all records of a shelf, so it can be done in pages
 abbrev pub is_listing : Task → Bool
 is_listing Task.Hex = true
 is_listing (Task.List kind) = true

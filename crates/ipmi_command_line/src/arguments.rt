@@ -1,4 +1,4 @@
-//! The words of a command line, as `clap` reads them.
+//! Parses the words of a command line with `clap`.
 ghost use Rattle.std.specs.Prelude.{◌≡◌, ◌⊎◌, IfOk, IfErr, false, option_map, true};
 ghost use Rattle.clap.specs.Words.{app_of, first_of, found_of, rows_of, rule_of};
 ghost use Rattle.ipmi_command_line.specs.Arguments.{command_line, is_taken, option_rule, rows_of_words};
@@ -17,7 +17,7 @@ fn option_rule<'a>(alloc: Global, name: &'a str) -> Arg<'a>
     Arg::new(alloc, name).long(name)
 }
 
-/// Four options with a value, and any number of words.
+/// The command line: four options with a value, and any number of words.
 fn command_line<'a>(alloc: Global) -> Result<Command<'a>, AllocError>
     ensures { IfOk result (λ c. app_of c ≡ command_line) }
 {
@@ -29,7 +29,7 @@ fn command_line<'a>(alloc: Global) -> Result<Command<'a>, AllocError>
         .arg(Arg::new(alloc, "words").action(ArgAction::Append))
 }
 
-/// The options and words of a command line, the first word of which is the program's name.
+/// The options and words of a command line. The first word is the program's name.
 pub(crate) fn arguments<'a>(alloc: Global, words: &'a Words) -> Result<ArgMatches<'a>, UsageFault>
     ensures ok { IfOk result (λ m. (is_taken words.entry.now ≡ true) ×
         (rows_of (found_of m) ≡ rows_of_words words.entry.now)) }
@@ -45,7 +45,7 @@ pub(crate) fn arguments<'a>(alloc: Global, words: &'a Words) -> Result<ArgMatche
     }
 }
 
-/// The value of the option of this name, if it was given.
+/// The value of the option with this name, if it was given.
 #[tactic(auto, using(crate::proofs::ArgumentLemmas::values))]
 pub(crate) fn value<'a>(matches: &ArgMatches<'a>, name: &str) -> Option<&'a str>
     ensures { option_map (λ t. t.now) result ≡ first_of name.now (rows_of (found_of matches.now)) }

@@ -1,4 +1,4 @@
-//! What a command line asks for.
+//! The command of a command line.
 ghost use Rattle.std.specs.Prelude.{◌≡◌, ◌≤◌, ◌<◌, ◌⊎◌, Err, IfOk, IfSome, IsSome, IsTrue, MatchResult, None, Ok, Some, length, option_map};
 ghost use Rattle.clap.specs.Words.{found_of, rows_of};
 ghost use Rattle.ipmi_command_line.specs.Command.{CommandState, IsCommand, IsTask, command_of_task, meaning_of, number_or, start_of_text};
@@ -16,28 +16,28 @@ use std::alloc::{AllocError, Global};
 use std::marker::Model;
 use thiserror::Error;
 
-/// The least id of a record that a command line may name; 0000h asks for the first record.
+/// The smallest record id allowed on a command line; 0000h requests the first record.
 pub(crate) const FIRST_ID: u16 = 1;
 
-/// The greatest one; FFFFh says that there is no next record.
+/// The largest record id allowed; FFFFh means that there is no next record.
 pub(crate) const LAST_ID: u16 = 0xFFFE;
 
-/// The most bytes that a request asks for, where `--part` is not given.
+/// The largest number of bytes per request, if `--part` is not given.
 pub const DEFAULT_PART: u8 = 32;
 
-/// How often a request is tried again for one record, reading, info or inventory, where `--tries` is not given.
+/// The number of retries for one record, reading, info or inventory, if `--tries` is not given.
 pub const DEFAULT_TRIES: u8 = 5;
 
-/// Why a command line is no command.
+/// Why parsing a command line failed.
 #[derive(Clone, Copy, Debug, PartialEq, Eq, Error)]
 pub enum UsageFault {
-    /// No memory was left to read it.
+    /// Out of memory.
     #[error("out of memory")]
     Memory,
-    /// The options and words cannot be told apart.
+    /// `clap` does not accept the options and words, such as an unknown option.
     #[error("the command line cannot be read")]
     Line,
-    /// The words name no command, or what should be a number among them is none, or is out of range.
+    /// The words name no command, or a number among them is malformed or out of range.
     #[error("no such command")]
     Command,
     /// The value of an option is malformed or out of range, or the command does not take the option.
@@ -53,7 +53,8 @@ impl From<AllocError> for UsageFault {
     }
 }
 
-/// What a command line asks for. Its numbers are in their ranges, and it has an id to start from only where its task takes one.
+/// The command of a command line. Its numbers are in their ranges. It has an id to start from only if its task takes
+/// one.
 #[derive(Debug, Drop)]
 pub struct Command {
     task: Task,
@@ -72,7 +73,7 @@ impl Model for Command {
 }
 
 impl Command {
-    /// A command. The numbers have to be in their ranges, and the task has to take `from`, if there is one.
+    /// A command. The numbers must be in their ranges, and if there is a `from`, the task must take it.
     pub fn new(task: Task, from: Option<u16>, part: u8, tries: u8, image: Option<Word>) -> Command
         requires { IsCommand task from part }
         ensures { result ≡
@@ -87,7 +88,7 @@ impl Command {
         }
     }
 
-    /// What is to be done.
+    /// The task.
     pub fn task(&self) -> &Task
         ensures value { result.now ≡ self.now.task }
         ensures range { IsTask result.now }
@@ -104,7 +105,7 @@ impl Command {
         self.from
     }
 
-    /// How many bytes a request asks for at most, `--part`.
+    /// The largest number of bytes per request, `--part`.
     pub fn part(&self) -> u8
         ensures value { result ≡ self.now.part }
         ensures range { (1 ≤ result) × (result ≤ 254) }
@@ -112,14 +113,14 @@ impl Command {
         self.part
     }
 
-    /// How many troubles each record, reading, info or inventory may meet, `--tries`.
+    /// The number of troubles allowed for each record, reading, info or inventory, `--tries`.
     pub fn tries(&self) -> u8
         ensures { result ≡ self.now.tries }
     {
         self.tries
     }
 
-    /// Whether it is a listing of a shelf that no count and no name limits, so that it can be done in pages.
+    /// Whether it lists a whole shelf, without a count or a name, so that it can be done in pages.
     pub fn is_listing(&self) -> bool
         ensures { result ≡ is_listing self.now.task }
     {
@@ -129,7 +130,7 @@ impl Command {
         )
     }
 
-    /// The file that the image is in, `--image`; None for standard input.
+    /// The file of the image, `--image`. None for standard input.
     pub fn image(&self) -> Option<&Word>
         ensures { option_map (λ w. w.now) result ≡ self.now.image }
     {
@@ -137,7 +138,7 @@ impl Command {
     }
 }
 
-/// The id that the text of `--from` names: four hex digits, neither `0000` nor `FFFF`; None where the option is not given.
+/// The id in the text of `--from`: four hex digits, neither `0000` nor `FFFF`. None if the option is not given.
 fn start_of_text(text: Option<&str>) -> Result<Option<u16>, UsageFault>
     ensures value { let meant = start_of_text (option_map (λ t. t.now) text.entry) in
         MatchResult result (λ from. meant ≡ Some from) (λ e. (e ≡ UsageFault.Option) × (meant ≡ None)) }
@@ -152,7 +153,7 @@ fn start_of_text(text: Option<&str>) -> Result<Option<u16>, UsageFault>
     }
 }
 
-/// The number of an option, in decimal from `low` to `high`, or `default` where there is no such option.
+/// The number of an option, in decimal from `low` to `high`, or `default` if the option is not given.
 fn number_or(text: Option<&str>, default: u8, low: u8, high: u8) -> Result<u8, UsageFault>
     requires { (low ≤ default) × (default ≤ high) }
     ensures value { let meant = number_or default low high (option_map (λ t. t.now) text.entry) in
@@ -187,7 +188,8 @@ fn command_of_task(
     Ok(Command::new(task, from, part, tries, image))
 }
 
-/// The command that the words mean, or why they mean none; `Memory` may come in place of either. The first word is the program's name.
+/// Parses the words of a command line, the first of which is the program's name. The result is the command, or the
+/// fault of the words, or `Memory`.
 #[tactic(auto, using(crate::proofs::ArgumentLemmas::free_words_are), unfolding(crate::specs::Command::meaning_of))]
 pub fn command_of(alloc: Global, words: &Words) -> Result<Command, UsageFault>
     requires { 0 < length words.now }

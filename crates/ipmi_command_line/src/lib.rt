@@ -1,4 +1,4 @@
-//! The command line of `ipmitool`: its words, its options, and the command that they mean.
+//! The command line of `ipmitool`: its words, its options, and the command that they form.
 #![tactic(auto)]
 
 mod arguments;

@@ -2,7 +2,7 @@
 ghost use Rattle.std.specs.Prelude.{◌≡◌, ◌≤◌, ◌⊎◌, IfSome, Some};
 ghost use Rattle.ipmi_command_line.specs.Number.{decimal_of, digits_of, number_of, within};
 
-/// Digits of this radix, as a number from `low` to `high`.
+/// Reads digits of this radix as a number from `low` to `high`.
 pub(crate) fn digits(text: &str, radix: u32, low: u16, high: u16) -> Option<u16>
     requires { (radix ≡ 10) ⊎ (radix ≡ 16) }
     ensures value { result ≡ within low high (digits_of radix text.now) }
@@ -15,7 +15,7 @@ pub(crate) fn digits(text: &str, radix: u32, low: u16, high: u16) -> Option<u16>
     if low <= n && n <= high { Some(n) } else { None }
 }
 
-/// A number in decimal, from `low` to `high`.
+/// Reads a number from `low` to `high` in decimal.
 pub(crate) fn decimal(text: &str, low: u16, high: u16) -> Option<u16>
     ensures value { result ≡ within low high (decimal_of text.now) }
     ensures range { IfSome result (λ n. (low ≤ n) × (n ≤ high)) }
@@ -26,7 +26,7 @@ pub(crate) fn decimal(text: &str, low: u16, high: u16) -> Option<u16>
     digits(text, 10, low, high)
 }
 
-/// A number from `low` to `high`, in decimal or after `0x` in at most four hex digits.
+/// Reads a number from `low` to `high`, in decimal, or as `0x` and at most four hex digits.
 pub(crate) fn number(text: &str, low: u16, high: u16) -> Option<u16>
     ensures value { result ≡ within low high (number_of text.now) }
     ensures range { IfSome result (λ n. (low ≤ n) × (n ≤ high)) }

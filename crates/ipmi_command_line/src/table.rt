@@ -1,4 +1,4 @@
-//! The table of commands: what is to be done by the words of a command line.
+//! The table of commands: the task for the words of a command line.
 ghost use Rattle.std.specs.Prelude.{◌≡◌, IfOk, IfSome, map};
 ghost use Rattle.ipmi_command_line.specs.Command.{IsCount, IsTask};
 ghost use Rattle.ipmi_command_line.specs.Table.{inventory_of, kind_of, newest, oldest, task_of, task_of_four, task_of_one, task_of_three, task_of_two};
@@ -10,7 +10,7 @@ use crate::words::Word;
 use ipmi_bus::{LAST_FRU_DEVICE_ID, Shelf};
 use std::alloc::{AllocError, Global};
 
-/// The kind of sensor data record that a word names.
+/// The kind of sensor data record named by a word.
 fn kind_of(word: &str) -> Option<Kind>
     ensures { result ≡ kind_of word.now }
 {
@@ -35,7 +35,7 @@ fn inventory_of(word: &str) -> Option<Task>
     Some(Task::Fru(Some(id as u8)))
 }
 
-/// So many of the oldest entries, or all of them for 0.
+/// The `n` oldest entries, or all entries if `n` is 0.
 fn oldest(n: u16) -> Count
     ensures value { result ≡ oldest n }
     ensures range { IsCount result }
@@ -43,7 +43,7 @@ fn oldest(n: u16) -> Count
     if n == 0 { Count::All } else { Count::First(n) }
 }
 
-/// So many of the newest entries, or all of them for 0.
+/// The `n` newest entries, or all entries if `n` is 0.
 fn newest(n: u16) -> Count
     ensures value { result ≡ newest n }
     ensures range { IsCount result }
@@ -106,8 +106,8 @@ fn task_of_four(a: &str, b: &str, c: &str, d: &str) -> Option<Task>
     }
 }
 
-/// The task that the words name, without the program's name and the options; None where they name
-/// none. Without any words it is `sdr hex`.
+/// The task named by the words, without the program's name and the options. None if they name no task. No words at
+/// all mean `sdr hex`.
 #[tactic(auto, using(crate::proofs::TableLemmas::rows))]
 pub(crate) fn task_of(alloc: Global, words: &[&str]) -> Result<Option<Task>, AllocError>
     ensures value { IfOk result (λ task. task ≡ task_of (map (λ word. word.now) words.now)) }

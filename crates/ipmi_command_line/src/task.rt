@@ -1,14 +1,14 @@
-//! What is to be done.
+//! The task of a command.
 ghost use Rattle.std.specs.Prelude.{◌≡◌};
 ghost use Rattle.ipmi_command_line.specs.Task.{takes_from};
 
 use crate::words::Word;
 use ipmi_bus::Shelf;
 
-/// Which sensor data records are listed, by their type.
+/// Which sensor data records are listed, by type.
 #[derive(Clone, Copy, Debug, PartialEq, Eq)]
 pub enum Kind {
-    /// No kind is named: full and compact sensors.
+    /// If no kind is named: full and compact sensor records.
     Sensors,
     /// Every record.
     All,
@@ -37,16 +37,16 @@ pub enum Count {
     Last(u16),
 }
 
-/// What is to be done.
+/// The task of a command.
 #[derive(Debug, Drop)]
 pub enum Task {
-    /// `fru print`: the inventory with this id, 0 to 254, or every one.
+    /// `fru print`: the inventory with this id, 0 to 254, or all inventories.
     Fru(Option<u8>),
     /// `sdr hex`: the image line of each sensor data record.
     Hex,
     /// `sdr list`: a line for each sensor data record of the kind.
     List(Kind),
-    /// `sdr elist`: a longer line for each.
+    /// `sdr elist`: a longer line for each sensor data record of the kind.
     Elist(Kind),
     /// `sdr get`: the block of each record with this printed name.
     Get(Word),
@@ -56,12 +56,12 @@ pub enum Task {
     SelList(Count),
     /// `sel get`: the block of the entry with this id, 1 to 65534.
     SelGet(u16),
-    /// `image rewrite`: the image in its one spelling.
+    /// `image rewrite`: the image in its canonical spelling.
     Rewrite,
 }
 
 impl Task {
-    /// Whether the task may be given an id to start from, `--from`.
+    /// Whether the task takes an id to start from, `--from`.
     pub fn takes_from(&self) -> bool
         ensures { result ≡ takes_from self.now }
     {

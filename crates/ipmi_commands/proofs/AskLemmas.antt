@@ -30,6 +30,7 @@ refuses_record asked class refuses = grind arith
 -- what is not found ends a listing as it may end
 pub unread_ends : (form : Form) (unread : Unread) (seen : Seen) → LacksPiece form unread seen
     → EndsListing form seen (Err (failure_of unread))
+unread_ends (Form.Device wording) (Unread.Inventory id ended) seen lacks = (wording, (refl, lacks))
 unread_ends form unread seen lacks = grind (arith, refuses_record)
 
 -- and so does one whose last record came

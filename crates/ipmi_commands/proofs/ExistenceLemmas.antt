@@ -2,8 +2,8 @@
 use Rattle.std.proofs.Common.{◌≡◌, ℕ, zero, suc, ◌<◌, Bool, true, false, cond, nat_eq, Option, None, Some, Result, Ok, Err, List, [], ◌∷◌, ◌++◌, All, length, refl, arith}
 use Rattle.ipmi_bus.specs.Store.{Inventory, IsInventory, inventory_in}
 use Rattle.ipmi_records.specs.declared.sel.SelView.{SelView}
-use Rattle.ipmi_commands.specs.Below.{AreBytes, EventInWordsExists, SensorBlockExists, SensorLineExists, fru_of, Reading, Row, Store, IsStore, inventory_of, IsExtendedLine, IsFruText, IsInfoBlock, IsSdrBlock, IsSdrLine, IsSelBlock, IsSelLine, SdrFault, SdrView, sdr_view_of, sel_view_of}
-use Rattle.ipmi_commands.specs.Prelude.{AreTexts, Detail, Form, IfChosen, IsBlockIn, IsBlockOfName, IsDevicePiece, IsEntryLine, IsInventoryPiece, IsInventoryText, IsRecordLine, IsLocatorPiece, IsRowText, IsTextOver, Item, ItemsHaveAText, OfImage, OfInfo, OfInventory, OfRow, reading_for, row_is_of_kind, Subject, Wording}
+use Rattle.ipmi_commands.specs.Below.{AreBytes, EventInWordsExists, SensorBlockExists, SensorLineExists, fru_of, Reading, Row, Store, IsStore, inventory_of, IsExtendedLine, IsFruLine, IsFruText, IsInfoBlock, IsSdrBlock, IsSdrLine, IsSelBlock, IsSelLine, SdrFault, SdrView, printed_name, sdr_view_of, sel_view_of}
+use Rattle.ipmi_commands.specs.Prelude.{AreTexts, Detail, Form, IfChosen, IsBlockIn, IsBlockOfName, IsDevicePiece, IsEntryLine, IsInventoryIn, IsInventoryText, IsRecordLine, IsLocatorPiece, IsRowText, IsTextOver, Item, ItemsHaveAText, OfImage, OfInfo, OfInventory, OfRow, reading_for, row_is_of_kind, Subject, Wording}
 
 -- there is such a text
 abbrev HasText : (List ℕ → Type 0) → Type 0
@@ -33,6 +33,8 @@ module _ (line : (view : SdrView) (reading : Option Reading) → HasText (IsSdrL
     (entry_block : (id : ℕ) (view : SelView) → HasText (IsSelBlock id view))
     (info : (bytes : List ℕ) → HasText (IsInfoBlock bytes))
     (fru : (bytes : List ℕ) → AreBytes bytes → HasText (IsFruText bytes))
+    (bare : (id : ℕ) (name : Option (List ℕ)) → HasText (IsFruLine id name None))
+    (present : (id : ℕ) (name : Option (List ℕ)) (bytes : List ℕ) → AreBytes bytes → HasText (IsFruLine id name (Some bytes)))
     (in_words : EventInWordsExists) (sensor_line : SensorLineExists)
     (sensor_block : SensorBlockExists) where
   has_listed : (detail : Detail) (store : Store) (id : ℕ) (view : Result SdrView SdrFault)
@@ -57,21 +59,30 @@ module _ (line : (view : SdrView) (reading : Option Reading) → HasText (IsSdrL
   has_inventory_text None are = (_, refl)
   has_inventory_text (Some bytes) are = fru bytes (are bytes refl)
 
-  has_inventory : (store : Store) (id : ℕ) (name : List ℕ) → IsStore store
-      → HasText (IsInventoryPiece store id name)
-  has_inventory store id name ok =
-      let has = has_inventory_text (inventory_of id store) (λ bytes is. inventory_bytes store.inventories id bytes ok.inventories is) in
-      (_, record { inventory = has.0; is_inventory = has.1; text_is = refl })
+  has_in : (wording : Wording) (id : ℕ) (name inventory : Option (List ℕ))
+      → ((bytes : List ℕ) → inventory ≡ Some bytes → AreBytes bytes)
+      → HasText (IsInventoryIn wording id name inventory)
+  has_in Wording.Codes id name inventory are =
+      let has = has_inventory_text inventory are in
+      (_, record { part = has.0; is_part = has.1; text_is = refl })
+  has_in Wording.Words id name None are = bare id name
+  has_in Wording.Words id name (Some bytes) are = present id name bytes (are bytes refl)
 
-  has_device : (store : Store) (view : SdrView) (id : Option ℕ) → IsStore store
-      → HasText (IsDevicePiece store view id)
-  has_device store view None ok = (_, refl)
-  has_device store view (Some id) ok = has_chosen _ _ (has_inventory store id _ ok)
+  has_inventory : (wording : Wording) (store : Store) (id : ℕ) (name : Option (List ℕ)) → IsStore store
+      → HasText (IsInventoryIn wording id name (inventory_of id store))
+  has_inventory wording store id name ok =
+      has_in wording id name (inventory_of id store) (λ bytes is. inventory_bytes store.inventories id bytes ok.inventories is)
 
-  has_locator : (store : Store) (view : Result SdrView SdrFault) → IsStore store
-      → HasText (IsLocatorPiece store view)
-  has_locator store (Ok (SdrView.Fru bytes)) ok = has_device store (SdrView.Fru bytes) (fru_of (SdrView.Fru bytes)) ok
-  has_locator store _ ok = ([], refl)
+  has_device : (wording : Wording) (store : Store) (name : List ℕ) (id : Option ℕ) → IsStore store
+      → HasText (IsDevicePiece wording store name id)
+  has_device wording store name None ok = (_, refl)
+  has_device wording store name (Some id) ok = has_chosen _ _ (has_inventory wording store id (Some name) ok)
+
+  has_locator : (wording : Wording) (store : Store) (view : Result SdrView SdrFault) → IsStore store
+      → HasText (IsLocatorPiece wording store view)
+  has_locator wording store (Ok (SdrView.Fru bytes)) ok =
+      has_device wording store (printed_name (SdrView.Fru bytes)) (fru_of (SdrView.Fru bytes)) ok
+  has_locator wording store _ ok = ([], refl)
 
   has_entry_line : (names : Option (List (List ℕ))) (id : ℕ) (view : SelView)
       → HasText (IsEntryLine names id view)
@@ -82,7 +93,7 @@ module _ (line : (view : SdrView) (reading : Option Reading) → HasText (IsSdrL
       → HasText (IsRowText store form row)
   has_row (Form.Line detail kind) store row ok = has_chosen (row_is_of_kind kind row) _ (has_listed detail store row.id (sdr_view_of row.bytes))
   has_row (Form.Block wording name) store row ok = has_block_of_name wording name store row.id (sdr_view_of row.bytes)
-  has_row Form.Device store row ok = has_locator store (sdr_view_of row.bytes) ok
+  has_row (Form.Device wording) store row ok = has_locator wording store (sdr_view_of row.bytes) ok
   has_row (Form.EntryLine names) store row ok = has_entry_line names row.id (sel_view_of row.bytes)
   has_row Form.EntryBlock store row ok = entry_block row.id (sel_view_of row.bytes)
   has_row _ store row ok = (_, refl)
@@ -90,7 +101,7 @@ module _ (line : (view : SdrView) (reading : Option Reading) → HasText (IsSdrL
   has_item : (store : Store) (subject : Subject) → IsStore store
       → HasText (IsTextOver store subject)
   has_item store (OfRow form row) ok = has_row form store row ok
-  has_item store (OfInventory id) ok = has_inventory store id [] ok
+  has_item store (OfInventory wording id) ok = has_inventory wording store id None ok
   has_item store (OfInfo bytes) ok = info bytes
   has_item store OfImage ok = (_, refl)
 

@@ -25,7 +25,7 @@ plan_kept Holds (Job.Events count from) tries store More keep on = λ sensors en
     named_kept (λ plan. Holds (after_names sensors end plan)) (Some (bytes_of_rows sensors)) count from tries store
     (λ plan calls. More (after_names sensors end plan) (walk_call_bound Form.Bytes store tries sensors + calls))
     (λ plan calls more. keep _ _ more) (on sensors end w ends)
-plan_kept Holds Job.AllInventories tries store More keep on = λ walk end w ends. keep _ _ (on walk end w ends)
+plan_kept Holds (Job.AllInventories wording) tries store More keep on = λ walk end w ends. keep _ _ (on walk end w ends)
 plan_kept Holds _ tries store More keep on = keep _ _ on
 
 -- a run over a plain controller with the store of the image
@@ -53,7 +53,7 @@ plan_all Holds (Job.Records l) store holds = λ walk end w ends. holds _
 plan_all Holds (Job.Last names n from) store holds = λ walk end w ends. holds _
 plan_all Holds (Job.Events count from) store holds = λ sensors end w ends.
     named_all (Some (bytes_of_rows sensors)) from 0 store (λ plan calls. Holds (after_names sensors end plan)) count (λ plan calls. holds _)
-plan_all Holds Job.AllInventories store holds = λ walk end w ends. holds _
+plan_all Holds (Job.AllInventories wording) store holds = λ walk end w ends. holds _
 plan_all Holds _ store holds = holds _
 
 -- whatever it is, memory may be wanted

@@ -1,7 +1,7 @@
 -- What is printed has one text, and so has a finished run.
 use Rattle.std.proofs.Common.{◌≡◌, ℕ, zero, suc, ◌-◌, Bool, Option, None, Some, Result, List, [], ◌∷◌, length, take, drop, sym, ◌∙◌, arith}
-use Rattle.ipmi_commands.specs.Below.{Count, IsStore, WalkEnd, Shelf, Sdr, Sel, Place, First, start_of, Row, IsShelf, FoundIsRow, AreBytes, Reading, Store, info_of, inventory_of, rows_of, store_shelf, AllOf, WalkExists, place_after, place_after_rows, IsFruText, SdrFault, SdrView, IsInfoBlock, IsSdrBlock, entry_bytes, sel_view_of, SdrLineIsUnique, ExtendedLineIsUnique, SelLineIsUnique, SelBlockIsUnique, EventInWordsIsUnique, SensorBlockIsUnique, SensorLineIsUnique, Ending}
-use Rattle.ipmi_commands.specs.Prelude.{after_names, bytes_of_rows, OnNamed, PrintsAll, AreOfBytes, first_rows, FinishedRunsAreOne, Form, IfChosen, info_plan, Printed, IsInventoryPiece, IsInventoryText, IsLocatorPiece, IsOfBytes, IsRowText, IsTextOver, Item, ItemsHaveOneText, Job, last_items, last_rows, row_items, shelf_of, Spot, spots_of_walk, Subject, with_first_spots}
+use Rattle.ipmi_commands.specs.Below.{Count, IsStore, WalkEnd, Shelf, Sdr, Sel, Place, First, start_of, Row, IsShelf, FoundIsRow, AreBytes, Reading, Store, info_of, rows_of, store_shelf, AllOf, WalkExists, place_after, place_after_rows, IsFruLine, IsFruText, SdrFault, SdrView, IsInfoBlock, IsSdrBlock, entry_bytes, sel_view_of, SdrLineIsUnique, ExtendedLineIsUnique, SelLineIsUnique, SelBlockIsUnique, EventInWordsIsUnique, SensorBlockIsUnique, SensorLineIsUnique, Ending}
+use Rattle.ipmi_commands.specs.Prelude.{after_names, bytes_of_rows, OnNamed, PrintsAll, AreOfBytes, first_rows, FinishedRunsAreOne, Form, IfChosen, info_plan, Printed, IsInventoryIn, IsInventoryText, IsLocatorPiece, IsOfBytes, IsRowText, IsTextOver, Item, ItemsHaveOneText, Job, last_items, last_rows, row_items, shelf_of, Spot, spots_of_walk, Subject, with_first_spots, Wording}
 
 -- there is one such text at most
 abbrev IsOne : (List ℕ → Type 0) → Type 0
@@ -24,18 +24,22 @@ module _ (one_sdr_line : SdrLineIsUnique) (one_extended_line : ExtendedLineIsUni
     (one_info_block : (info text other : List ℕ)
     → AreBytes info → IsInfoBlock info text → IsInfoBlock info other → text ≡ other)
     (one_fru_text : (bytes : List ℕ) → IsOne (IsFruText bytes))
+    (one_fru_line : (id : ℕ) (name inventory : Option (List ℕ)) → IsOne (IsFruLine id name inventory))
     (one_event_in_words : EventInWordsIsUnique) (one_sensor_line : SensorLineIsUnique)
     (one_sensor_block : SensorBlockIsUnique) where
   one_inventory_text : (o : Option (List ℕ)) → IsOne (IsInventoryText o)
   one_inventory_text None = one_equation _
   one_inventory_text (Some bytes) = one_fru_text bytes
 
-  one_inventory : (store : Store) (id : ℕ) (name : List ℕ) → IsOne (IsInventoryPiece store id name)
-  one_inventory store id name a b x y =
-      x.text_is ∙ rw (one_inventory_text (inventory_of id store) x.inventory y.inventory x.is_inventory y.is_inventory) (sym y.text_is)
+  one_inventory : (wording : Wording) (id : ℕ) (name inventory : Option (List ℕ))
+      → IsOne (IsInventoryIn wording id name inventory)
+  one_inventory Wording.Codes id name inventory a b x y =
+      x.text_is ∙ rw (one_inventory_text inventory x.part y.part x.is_part y.is_part) (sym y.text_is)
+  one_inventory Wording.Words id name inventory a b x y = one_fru_line id name inventory a b x y
 
-  one_locator : (store : Store) (view : Result SdrView SdrFault) → IsOne (IsLocatorPiece store view)
-  one_locator store view = grind (arith, one_chosen, one_inventory)
+  one_locator : (wording : Wording) (store : Store) (view : Result SdrView SdrFault)
+      → IsOne (IsLocatorPiece wording store view)
+  one_locator wording store view = grind (arith, one_chosen, one_inventory)
 
   one_row : (form : Form) (store : Store) (row : Row) → AreBytes row.bytes
       → IsOne (IsRowText store form row)
@@ -72,10 +76,10 @@ first_kept spots items are = grind arith
 -- ---- one output
 
 module _ (one : ItemsHaveOneText) (exists : WalkExists) (look_row : FoundIsRow) where
-  one_plan : {store : Store} {items : List Item} {end : Ending} {old a b : List ℕ} {e f : Ending}
+  one_plan : (store : Store) {items : List Item} {end : Ending} {old a b : List ℕ} {e f : Ending}
       → AreOfBytes items → Printed (IsTextOver store) items old a × (e ≡ end)
       → Printed (IsTextOver store) items old b × (f ≡ end) → (a ≡ b) × (e ≡ f)
-  one_plan {store = store} {items = items} bytes x y =
+  one_plan store {items} bytes x y =
       (x.0.new_is ∙ rw (one store items x.0.text y.0.text bytes x.0.are y.0.are) (sym y.0.new_is), x.1 ∙ sym y.1)
 
   -- after the names were read
@@ -87,16 +91,16 @@ module _ (one : ItemsHaveOneText) (exists : WalkExists) (look_row : FoundIsRow) 
       → (a ≡ b) × (e ≡ f)
   one_named store old a b e f names Count.All from tries tries' sensors end ok x y =
       let there = exists Sel store.sel (start_of from) ok.sel in
-      one_plan (first_kept _ _ (rows_are_bytes look_row (Form.EntryLine names) Sel store.sel (start_of from) there.0 ok.sel there.2.of_shelf))
+      one_plan store (first_kept _ _ (rows_are_bytes look_row (Form.EntryLine names) Sel store.sel (start_of from) there.0 ok.sel there.2.of_shelf))
       (x there.0 there.1 there.2 there.3) (y there.0 there.1 there.2 there.3)
   one_named store old a b e f names (Count.First n) from tries tries' sensors end ok x y =
       let there = exists Sel store.sel (start_of from) ok.sel in
-      one_plan (first_kept _ _ (rows_are_bytes look_row (Form.EntryLine names) Sel store.sel (start_of from) (take n there.0) ok.sel (parts_of_shelf n store.sel there.0 there.2.of_shelf).0))
+      one_plan store (first_kept _ _ (rows_are_bytes look_row (Form.EntryLine names) Sel store.sel (start_of from) (take n there.0) ok.sel (parts_of_shelf n store.sel there.0 there.2.of_shelf).0))
       (x there.0 there.1 there.2 there.3) (y there.0 there.1 there.2 there.3)
   one_named store old a b e f names (Count.Last n) from tries tries' sensors end ok x y =
       let start = start_of from in
       let there = exists Sel store.sel start ok.sel in
-      one_plan (first_kept _ _ (first_kept (spots_of_walk start there.0 there.1) (last_items names n start there.0 there.1)
+      one_plan store (first_kept _ _ (first_kept (spots_of_walk start there.0 there.1) (last_items names n start there.0 there.1)
       (rows_are_bytes look_row (Form.EntryLine names) Sel store.sel (place_after_rows start (take (length there.0 - n) there.0)) (last_rows n there.0 there.1) ok.sel (grind (arith, parts_of_shelf (length there.0 - n) store.sel there.0 there.2.of_shelf)))))
       (x there.0 there.1 there.2 there.3) (y there.0 there.1 there.2 there.3)
 
@@ -105,22 +109,22 @@ module _ (one : ItemsHaveOneText) (exists : WalkExists) (look_row : FoundIsRow) 
       let rows = rows_of (shelf_of l.form) store in
       let shelf = store_shelf (shelf_of l.form) store ok in
       let there = exists (shelf_of l.form) rows l.start shelf in
-      one_plan (rows_are_bytes look_row l.form (shelf_of l.form) rows l.start (first_rows l.most there.0) shelf (grind (arith, parts_of_shelf, there.2.of_shelf)))
+      one_plan store (rows_are_bytes look_row l.form (shelf_of l.form) rows l.start (first_rows l.most there.0) shelf (grind (arith, parts_of_shelf, there.2.of_shelf)))
       (x there.0 there.1 there.2 there.3) (y there.0 there.1 there.2 there.3)
   one_output (Job.Last names n from) tries tries' store old a b e f ok x y =
       let start = start_of from in
       let there = exists Sel store.sel start ok.sel in
-      one_plan (first_kept (spots_of_walk start there.0 there.1) (last_items names n start there.0 there.1)
+      one_plan store (first_kept (spots_of_walk start there.0 there.1) (last_items names n start there.0 there.1)
       (rows_are_bytes look_row (Form.EntryLine names) Sel store.sel (place_after_rows start (take (length there.0 - n) there.0)) (last_rows n there.0 there.1) ok.sel (grind (arith, parts_of_shelf (length there.0 - n) store.sel there.0 there.2.of_shelf))))
       (x there.0 there.1 there.2 there.3) (y there.0 there.1 there.2 there.3)
   one_output (Job.Events count from) tries tries' store old a b e f ok x y =
       let there = exists Sdr store.sdr First ok.sdr in
       one_named store old a b e f (Some (bytes_of_rows there.0)) count from tries tries' there.0 there.1 ok
       (x there.0 there.1 there.2 there.3) (y there.0 there.1 there.2 there.3)
-  one_output (Job.Info shelf) tries tries' store old a b e f ok x y = let bytes : AreOfBytes (info_plan (info_of shelf store)).items = grind arith in one_plan bytes x y
-  one_output (Job.Inventory id) tries tries' store old a b e f ok x y = one_plan (tt, tt) x y
-  one_output Job.AllInventories tries tries' store old a b e f ok x y =
+  one_output (Job.Info shelf) tries tries' store old a b e f ok x y = let bytes : AreOfBytes (info_plan (info_of shelf store)).items = grind arith in one_plan store bytes x y
+  one_output (Job.Inventory wording id) tries tries' store old a b e f ok x y = one_plan store (tt, tt) x y
+  one_output (Job.AllInventories wording) tries tries' store old a b e f ok x y =
       let there = exists Sdr store.sdr First ok.sdr in
-      one_plan (tt, rows_are_bytes look_row Form.Device Sdr store.sdr First there.0 ok.sdr there.2.of_shelf)
+      one_plan store (tt, rows_are_bytes look_row (Form.Device wording) Sdr store.sdr First there.0 ok.sdr there.2.of_shelf)
       (x there.0 there.1 there.2 there.3) (y there.0 there.1 there.2 there.3)
-  one_output Job.Rewrite tries tries' store old a b e f ok x y = one_plan tt x y
+  one_output Job.Rewrite tries tries' store old a b e f ok x y = one_plan store tt x y

@@ -1,13 +1,14 @@
--- What may be in the output of a run by how it ended, and what the controller counted. Everywhere `old` and `new` are what
--- the output holds before and after, and `s` and `s'`, or `seen` and `seen'`, what contracts see of the controller then.
+-- The possible outputs of a run by how it ended, and what the controller counted. Everywhere, `old`
+-- and `new` are the contents of the output before and after, and `s` and `s'`, or `seen` and
+-- `seen'`, are the states of the controller that contracts see before and after.
 use Rattle.std.specs.Prelude.{◌≡◌, ℕ, ◌+◌, ◌<◌, ◌≤◌, Result, Ok, Err, List, [], ◌∷◌, ◌++◌, length, ◌⊎◌}
 use Rattle.ipmi_commands.specs.Below.{Ended, FruEnded, ImageFault, Seen, StaysHonest, TakesPart, Ending, Failure}
 use Rattle.ipmi_commands.specs.Texts.{Subject}
 use Rattle.ipmi_commands.specs.Plan.{Spot, AtRecord, AtInventory, Item, Plan, next_spots}
 
--- ---- texts, by a relation of what a text of each subject is
+-- ---- texts, given a relation between a subject and its texts
 
--- a text of an item, and then one of the items after it
+-- a text of the first item, followed by texts of the rest
 pub record TextsJoined (IsFirst IsRest : List ℕ → Type 0) (text : List ℕ) : Type 0 where
   pub first : List ℕ
   pub rest : List ℕ
@@ -15,7 +16,7 @@ pub record TextsJoined (IsFirst IsRest : List ℕ → Type 0) (text : List ℕ) 
   pub is_rest : IsRest rest
   pub joined : text ≡ first ++ rest
 
--- texts of the items, one after another
+-- texts of the items, concatenated in order
 abbrev pub AreTexts : (Subject → List ℕ → Type 0) → List Item → List ℕ → Type 0
 AreTexts IsText [] text = text ≡ []
 AreTexts IsText (item ∷ items) text =
@@ -35,9 +36,10 @@ abbrev pub ending_of : {T : Type 0} → Result T Failure → Ending
 ending_of (Ok value) = Ok tt
 ending_of (Err failure) = Err failure
 
--- `AtEnd`: as the plan ends, whole or by a failure that lies in the store or in what is asked for. `GaveUp` and `Refused`: at
--- this spot, with this code. `NoMemory`: memory ran out. `NoOutput`: the output took no more. `Dishonest`: the controller gave
--- what no honest one gives
+-- `AtEnd`: the end of the plan, which is a success, or a failure due to the store or the command.
+-- `GaveUp` and `Refused`: at this spot, and with this code. `NoMemory`: out of memory. `NoOutput`:
+-- the output accepted no more bytes. `Dishonest`: the controller gave an answer that no honest one
+-- gives.
 pub data Cause : Type 0 where
   AtEnd : Cause
   GaveUp : Spot → Cause
@@ -67,7 +69,7 @@ abbrev pub IsAmong : List Spot → Spot → Type 0
 IsAmong [] spot = ⊥
 IsAmong (first ∷ spots) spot = (spot ≡ first) ⊎ IsAmong spots spot
 
--- texts of the first items were printed, and no more
+-- texts of the first items were printed, and nothing else
 pub record HasFirstItems (IsText : Subject → List ℕ → Type 0) (plan : Plan)
     (old new : List ℕ) : Type 0 where
   pub done : List Item
@@ -75,14 +77,15 @@ pub record HasFirstItems (IsText : Subject → List ℕ → Type 0) (plan : Plan
   pub items_are : plan.items ≡ done ++ rest
   pub printed : Printed IsText done old new
 
--- texts of the first items were printed, and the run stopped at a spot of what comes next
+-- texts of the first items were printed, and the run stopped at a spot of the next item, or of the
+-- end
 pub record StopsAt (spot : Spot) (IsText : Subject → List ℕ → Type 0) (plan : Plan)
     (old new : List ℕ) : Type 0 where
   pub first : HasFirstItems IsText plan old new
   pub there : IsAmong (next_spots first.rest plan.end_spots) spot
 
--- texts of the first items were printed, and of a text of the next one, which is not empty, the first bytes, perhaps
--- none or all
+-- texts of the first items were printed, then a prefix of a nonempty text of the next item; the
+-- prefix may be empty or the whole text
 pub record HasCutItem (IsText : Subject → List ℕ → Type 0) (plan : Plan)
     (old new : List ℕ) : Type 0 where
   pub whole : List ℕ
@@ -95,11 +98,11 @@ pub record HasCutItem (IsText : Subject → List ℕ → Type 0) (plan : Plan)
   pub some : 0 < length text
   pub part : TakesPart whole new text
 
--- all was printed, and the plan ends so
+-- all items were printed, and the run ends as the plan does
 abbrev pub PrintsAll : (Subject → List ℕ → Type 0) → Plan → List ℕ → List ℕ → Ending → Type 0
 PrintsAll IsText plan old new ending = Printed IsText plan.items old new × (ending ≡ plan.end)
 
--- what may be in the output, by the cause
+-- the possible outputs for each cause
 abbrev pub Leaves : (Subject → List ℕ → Type 0) → Plan → List ℕ → List ℕ → Ending → Cause → Type 0
 Leaves IsText plan old new ending AtEnd = PrintsAll IsText plan old new ending
 Leaves IsText plan old new ending (GaveUp spot) = StopsAt spot IsText plan old new
@@ -113,15 +116,16 @@ IsAllowed IsText plan old new ending = Leaves IsText plan old new ending (cause_
 
 -- ---- what the controller counted
 
--- to give up takes more troubles than the tries since the last whole answer. At an inventory, if a store was added, only one
--- is promised: a shorter inventory may have been answered whole in between
+-- giving up takes more than `tries` troubles since something was last finished; at an inventory, if
+-- a store was added, at least one: a shorter inventory may have been finished in between
 abbrev pub HasFreshTroubles : ℕ → Seen → Seen → Spot → Type 0
 HasFreshTroubles tries s s' (AtRecord n) = tries < s'.fresh_troubles
 HasFreshTroubles tries s s' (AtInventory id) =
     (0 < s'.fresh_troubles) × (s'.stores_added ≡ s.stores_added → tries < s'.fresh_troubles)
 
--- `GaveUp`: no refusal, and more troubles than the tries in this run and since the last whole answer. `Refused`: one refusal,
--- with this code. Otherwise no refusal
+-- `GaveUp`: no refusal, and more than `tries` troubles, both in this run and since something was
+-- last finished. `Refused`: one refusal, with this code. `Dishonest`: impossible. Otherwise no
+-- refusal.
 abbrev pub CountsSo : ℕ → Seen → Seen → Cause → Type 0
 CountsSo tries s s' (GaveUp spot) =
     (s'.refusals ≡ s.refusals) × (s.troubles + tries < s'.troubles)
@@ -130,13 +134,15 @@ CountsSo tries s s' (Refused spot code) = (s'.refusals ≡ s.refusals + 1) × (s
 CountsSo tries s s' Dishonest = ⊥
 CountsSo tries s s' _ = s'.refusals ≡ s.refusals
 
--- the run neither gave up nor was refused: a plain controller, which cancels nothing and is never busy, gives no cause for it
+-- the run neither gave up nor was refused; a plain controller, which cancels nothing and is never
+-- busy, causes neither
 abbrev pub IsFine : Cause → Type 0
 IsFine (GaveUp spot) = ⊥
 IsFine (Refused spot code) = ⊥
 IsFine _ = Unit {0}
 
--- why a run ended so: an honest controller stays so, and its counts are those of this cause
+-- why a run over an honest controller ended: the controller stays honest, and its counts agree with
+-- this cause
 pub record EndsFor (tries : ℕ) (IsPlain : Type 0) (s s' : Seen) (cause : Cause) : Type 0 where
   pub stays : StaysHonest s s'
   pub grows : s.troubles ≤ s'.troubles
@@ -145,7 +151,7 @@ pub record EndsFor (tries : ℕ) (IsPlain : Type 0) (s s' : Seen) (cause : Cause
 
 -- ---- before and after
 
--- the controller, as contracts see it, and what the output holds
+-- the state of the controller that contracts see, and the contents of the output
 pub record Change : Type 0 where
   pub seen : Seen
   pub seen' : Seen

@@ -1,4 +1,5 @@
--- What is asked for because of a record, an info or an inventory, and what it leaves: for the contracts of private functions.
+-- Requests for a reading, an info or an inventory, and their results: for the contracts of private
+-- functions.
 use Rattle.std.specs.Prelude.{◌≡◌, ℕ, ◌+◌, ◌≤◌, ◌==◌, Bool, false, IsTrue, Option, None, Some, Result, Ok, Err, string_bytes, List}
 use Rattle.ipmi_commands.specs.Below.{Ended, FruEnded, KeepsReservations, LastFailed, LastFruCallSays, NotPresent, Store, IsInfoBlock, Seen, Failure}
 use Rattle.ipmi_commands.specs.declared.job.Form.{Form}
@@ -9,22 +10,22 @@ use Rattle.ipmi_commands.specs.Calls.{calls_for_spots}
 use Rattle.ipmi_commands.specs.Plan.{Spot}
 use Rattle.ipmi_commands.specs.Run.{LacksValue}
 
--- ---- what is found, or not
+-- ---- found, or not
 
--- what holds over an honest controller after something was asked for at these spots, which leads to this
+-- what holds over an honest controller after requests at these spots that end with this cause
 pub record AsksAt (spots : List Spot) (tries : ℕ) (s s' : Seen) (cause : Cause) : Type 0 where
   pub ends : EndsFor tries (IsTrue s.plain) s s' cause
   pub calls : s'.stores_added ≡ s.stores_added
       → s'.calls ≤ s.calls + calls_for_spots tries s.store spots
   pub keeps : IsTrue s.plain → KeepsReservations s s'
 
--- it is found, and the run goes on
+-- the value is found, and the run continues
 pub record FindsIt (Is : Store → Type 0) (spots : List Spot) (tries : ℕ)
     (s s' : Seen) : Type 0 where
   pub asks : AsksAt spots tries s s' AtEnd
   pub is : s'.stores_added ≡ s.stores_added → Is s.store
 
--- the failure of a run for which this was not read
+-- the failure of a run that ends for this reason
 abbrev pub failure_of : Unread → Failure
 failure_of (Unread.Ended ended) = Failure.Ended ended
 failure_of (Unread.Inventory id ended) = Failure.Inventory id ended
@@ -33,25 +34,25 @@ failure_of Unread.Memory = Failure.OutOfMemory
 abbrev pub cause_of_unread : Unread → Cause
 cause_of_unread unread = cause_of (Err (failure_of unread))
 
--- what is asked for is given up or refused at one of the spots, or memory is wanted
+-- the request gives up or is refused at one of the spots, or is out of memory
 abbrev pub IsStopAmong : List Spot → Cause → Type 0
 IsStopAmong spots (GaveUp spot) = IsAmong spots spot
 IsStopAmong spots (Refused spot code) = IsAmong spots spot
 IsStopAmong spots NoMemory = Unit {0}
 IsStopAmong spots _ = ⊥
 
--- it is not found
+-- the value is not found; the run ends with this cause
 pub record FindsNone (spots : List Spot) (tries : ℕ) (s s' : Seen) (cause : Cause) : Type 0 where
   pub asks : AsksAt spots tries s s' cause
   pub there : IsStopAmong spots cause
 
--- what is asked for at these spots is found, or not
+-- the result of requests at these spots: the value is found, or not
 abbrev pub Finds : {T : Type 0} → (Store → T → Type 0) → List Spot → ℕ → Seen → Seen
     → Result T Unread → Type 0
 Finds Is spots tries s s' (Ok found) = FindsIt (λ store. Is store found) spots tries s s'
 Finds Is spots tries s s' (Err unread) = FindsNone spots tries s s' (cause_of_unread unread)
 
--- the bytes of a piece, where this is the line that was written
+-- the bytes of a piece; `line` is the contents of the line buffer
 abbrev pub bytes_of : List ℕ → Piece → List ℕ
 bytes_of line Piece.Line = line
 bytes_of line (Piece.Text text) = string_bytes text
@@ -61,28 +62,28 @@ abbrev pub is_absent : FruEnded → Bool
 is_absent (FruEnded.Refused code) = code.0 == 0xCB
 is_absent _ = false
 
--- the block of a shelf's info, where the store has one, and otherwise none
+-- the block of a shelf's info, if the store has one; otherwise none
 abbrev pub IsInfoText : Option (List ℕ) → Option (List ℕ) → Type 0
 IsInfoText None None = Unit {0}
 IsInfoText (Some info) (Some text) = IsInfoBlock info text
 IsInfoText _ _ = ⊥
 
--- ---- over any controller: why it is not found, as the last call says
+-- ---- over any controller: the last call agrees with why nothing was found
 
--- an inventory ends so, or memory is wanted
+-- an inventory was not read, or out of memory
 abbrev pub LacksInventory : Unread → Seen → Type 0
 LacksInventory (Unread.Inventory id ended) seen = LastFruCallSays ended seen
 LacksInventory Unread.Memory seen = Unit {0}
 LacksInventory _ seen = ⊥
 
--- of a record in this form
+-- the text of a record in this form is missing
 abbrev pub LacksPiece : Form → Unread → Seen → Type 0
 LacksPiece (Form.Line detail kind) unread seen = LacksValue unread seen
 LacksPiece (Form.Block wording name) unread seen = LacksValue unread seen
-LacksPiece Form.Device unread seen = LacksInventory unread seen
+LacksPiece (Form.Device wording) unread seen = LacksInventory unread seen
 LacksPiece _ unread seen = unread ≡ Unread.Memory
 
--- an info, or that there is none
+-- an info was read, or the last call says that there is none or why it was not read
 abbrev pub InfoSays : {T : Type 0} → Result (Option T) Unread → Seen → Type 0
 InfoSays (Ok (Some found)) seen = Unit {0}
 InfoSays (Ok None) seen = LastFailed (λ class. class ≡ NotPresent) seen

@@ -1,6 +1,7 @@
--- The words of the crates below that this crate cites, passed on from one place. Declares nothing.
+-- Re-exports the definitions of lower crates that this crate uses. Declares nothing.
 pub use Rattle.ipmi_text.specs.Bytes.{AreBytes}
 pub use Rattle.ipmi_text.specs.declared.reading.Reading.{Reading}
+pub use Rattle.ipmi_fru.specs.Line.{elsewhere_line, IsFruLine}
 pub use Rattle.ipmi_fru.specs.Print.{IsFruText}
 pub use Rattle.ipmi_records.specs.Info.{IsInfoBlock}
 pub use Rattle.ipmi_records.specs.Laws.{ExtendedLineIsUnique, SdrLineIsUnique, SelBlockIsUnique, SelLineIsUnique}

@@ -1,5 +1,5 @@
--- What a listing by a cursor leaves, and what is known of the two walks of the last entries: for the contracts of private
--- functions.
+-- The results of a listing by a cursor, and of the two walks for the last entries: for the
+-- contracts of private functions.
 use Rattle.std.specs.Prelude.{◌≡◌, Bool, false, ℕ, ◌+◌, ◌-◌, ◌*◌, ◌<◌, ◌≤◌, ◌==◌, IsTrue, Option, None, Some, IfOk, Result, Ok, Err, List, length, take, drop}
 use Rattle.std.specs.FinSet as set
 use Rattle.ipmi_commands.specs.Below.{step_call_bound, digits, Ended, Place, Row, Shelf, Sel, Store, rows_of, IsWalk, WalkEnd, Done, EndsBy, place_after_rows, Seen, IsHonest, CursorState, StandsAt, CursorHoldsCurrent, Ending, Failure}
@@ -12,17 +12,18 @@ use Rattle.ipmi_commands.specs.Texts.{IsTextOver}
 
 -- ---- over any controller
 
--- as many were handed out as are wanted
+-- the limit is reached
 abbrev pub is_reached : Option ℕ → ℕ → Bool
 is_reached None count = false
 is_reached (Some n) count = n == count
 
--- how a listing ends after its last record: with this, where something was written or no name is asked for
+-- the result of a listing after its last record: Ok, unless the listing searches for a name and
+-- wrote nothing
 abbrev pub end_of : {T : Type 0} → Form → Bool → T → Result T Failure
 end_of (Form.Block wording name) false with_ = Err (Failure.NoName name)
 end_of _ wrote with_ = Ok with_
 
--- the cursor can go on
+-- the cursor can continue the listing
 pub record KeepsListing (begun now : CursorState) : Type 0 where
   pub shelf : now.shelf ≡ begun.shelf
   pub tries : now.tries ≡ begun.tries
@@ -31,9 +32,10 @@ pub record KeepsListing (begun now : CursorState) : Type 0 where
   pub room : set.len now.ids ≤ 65536
   pub place : IsPlace begun.place → IsPlace now.place
 
--- where each record takes so many calls at most, a cursor takes no more than for the records that it can still hand out, of
--- 65,536 in all, and for the falls of its part size; and after as many as are wanted, no more than for those (the sums are
--- written without a subtraction)
+-- If each record takes at most `each` calls, a listing takes no more calls than for the records
+-- that the cursor can still return, of 65,536 in all, and for the reductions of its part size. If
+-- it stops at its limit, it takes no more than for the records that it returned, and for the
+-- reductions. The sums are written without subtraction.
 pub record ListingCalls (each : ℕ) (most : Option ℕ) (begun now : CursorState) (s s' : Seen)
     (result : Result ℕ Failure) : Type 0 where
   pub all : 0 < begun.part
@@ -44,7 +46,7 @@ pub record ListingCalls (each : ℕ) (most : Option ℕ) (begun now : CursorStat
 
 -- ---- along a walk
 
--- a walk of a shelf, its end, and the cursor after the first k rows of it
+-- a walk of a shelf, its end, and a cursor after the first k rows of the walk
 pub record IsOnWalk (rows : List Row) (start : Place) (walk : List Row) (end : WalkEnd) (k : ℕ)
     (cursor : CursorState) : Type 0 where
   pub walks : IsWalk rows start walk
@@ -57,15 +59,15 @@ OnEachWalk shelf begun store Holds =
     (start : Place) (walk : List Row) (end : WalkEnd) (k : ℕ)
     → IsOnWalk (rows_of shelf store) start walk end k begun → Holds start walk end k
 
--- the calls of a cursor along these rows, and for a step that finds no more
+-- the calls of a cursor along these rows, and of a step that finds no more rows
 abbrev pub CallsAlong : Form → ℕ → List Row → CursorState → Seen → Seen → Type 0
 CallsAlong form tries rows begun s s' =
     0 < begun.part
     → s'.calls + 1 ≤ s.calls + calls_for form s.store tries rows + step_call_bound tries 0
     + digits begun.part
 
--- all rows that are wanted were handed out, so many, and the cursor is after them; where there were more, no call was made
--- for those
+-- all rows within the limit were returned, `count` of them, and the cursor is after them; if the
+-- limit was reached, no call was made for later rows
 pub record ListsAll (form : Form) (tries : ℕ) (most : Option ℕ) (begun now : CursorState)
     (s s' : Seen) (start : Place) (walk : List Row) (k count : ℕ) : Type 0 where
   pub count_is : count ≡ length (first_rows most (drop k walk))
@@ -73,7 +75,8 @@ pub record ListsAll (form : Form) (tries : ℕ) (most : Option ℕ) (begun now :
   pub calls : most ≡ Some count → s'.calls + digits now.part
       ≤ s.calls + calls_for form s.store tries (first_rows most (drop k walk)) + digits begun.part
 
--- what it leaves: what the listing of the rest of the walk may leave, its calls, and where its cursor is
+-- along a walk: the output is possible for a listing of the rest of the walk, the number of calls
+-- is bounded, and after Ok the cursor is after the returned rows
 pub record ListsAlong (form : Form) (tries : ℕ) (most : Option ℕ) (begun now : CursorState)
     (c : Change) (result : Result ℕ Failure) (start : Place) (walk : List Row) (end : WalkEnd)
     (k : ℕ) : Type 0 where
@@ -83,7 +86,7 @@ pub record ListsAlong (form : Form) (tries : ℕ) (most : Option ℕ) (begun now
   pub calls : CallsAlong form tries (first_rows most (drop k walk)) begun c.seen c.seen'
   pub all : IfOk result (λ count. ListsAll form tries most begun now c.seen c.seen' start walk k count)
 
--- over an honest controller
+-- a listing by a cursor, over an honest controller
 pub record ListsHonestly (form : Form) (tries : ℕ) (most : Option ℕ) (begun now : CursorState)
     (c : Change) (result : Result ℕ Failure) : Type 0 where
   pub ends : EndsFor tries (IsTrue c.seen.plain × CursorHoldsCurrent begun c.seen) c.seen c.seen'
@@ -94,7 +97,7 @@ pub record ListsHonestly (form : Form) (tries : ℕ) (most : Option ℕ) (begun 
       → OnEachWalk (shelf_of form) begun c.seen.store
       (λ start walk end k. ListsAlong form tries most begun now c result start walk end k)
 
--- all that is known of a listing by a cursor
+-- the contract of a listing by a cursor
 pub record Lists (form : Form) (tries : ℕ) (most : Option ℕ) (begun now : CursorState) (c : Change)
     (result : Result ℕ Failure) : Type 0 where
   pub keeps : KeepsListing begun now
@@ -103,7 +106,8 @@ pub record Lists (form : Form) (tries : ℕ) (most : Option ℕ) (begun now : Cu
 
 -- ---- the last entries
 
--- all entries were counted, and nothing was printed; or the run ends so, whatever number of the last ones is wanted
+-- all entries were counted, and nothing was printed; or the run fails in a way that is possible for
+-- any number of last entries
 abbrev pub Counted : Store → Place → List Row → WalkEnd → List ℕ → List ℕ → Result ℕ Failure
     → Type 0
 Counted store start walk end old new (Ok count) =
@@ -120,7 +124,8 @@ pub record CountsEntries (start : Place) (tries : ℕ) (c : Change)
       Counted c.seen.store start walk end c.old c.new result
       × (c.seen'.calls ≤ c.seen.calls + walk_call_bound Form.Passed c.seen.store tries walk))
 
--- entries were passed, and those after them listed, which are the last ones of a walk that is done
+-- `passed` entries were skipped and those after them listed; these are the last entries of a walk
+-- that ends with `Done`
 pub record ListsAfter (names : Option (List (List ℕ))) (start : Place) (passed tries : ℕ)
     (c : Change) (ending : Ending) : Type 0 where
   pub ends : EndsFor tries (IsTrue c.seen.plain) c.seen c.seen' (cause_of ending)

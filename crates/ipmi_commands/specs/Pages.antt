@@ -1,4 +1,4 @@
--- A listing in pages: each page has a cursor of its own, from where the page before it stopped.
+-- A listing in pages: each page has its own cursor, which starts where the page before it stopped.
 use Rattle.std.specs.Prelude.{◌≡◌, ℕ, ◌+◌, ◌*◌, ◌<◌, ◌≤◌, ◌==◌, if◌then◌else◌, ◌⊎◌, IsTrue, Option, None, Some, IfOk, Result, Ok, Err, List, [], ◌∷◌}
 use Rattle.std.specs.FinSet as set
 use Rattle.ipmi_commands.specs.Below.{step_call_bound, digits, Place, First, End, Row, first_row, rows_of, WalkEnd, CycleAt, place_after_rows, CursorState, StandsAt, start_of, Seen, CommandState, Ending, Failure}
@@ -9,7 +9,8 @@ use Rattle.ipmi_commands.specs.Job.{shelf_of, listing}
 use Rattle.ipmi_commands.specs.Plan.{OnWalk, first_rows, listing_plan}
 use Rattle.ipmi_commands.specs.Texts.{IsTextOver}
 
--- the cursor of a listing as it starts, from the id or from the first record: it has the command's part size and tries
+-- the initial cursor of a listing, at the id `from` or at the first record, with the command's part
+-- size and tries
 abbrev pub listing_cursor : CommandState → Form → Option ℕ → CursorState
 listing_cursor command form from = record {
   shelf = shelf_of form;
@@ -20,7 +21,8 @@ listing_cursor command form from = record {
   reservation = None;
 }
 
--- as it starts
+-- the cursor is the initial one: its part size is at least 1 and has at most eight binary digits,
+-- and it has returned no rows
 pub record IsFresh (command : CommandState) (form : Form) (from : Option ℕ)
     (cursor : CursorState) : Type 0 where
   pub is : cursor ≡ listing_cursor command form from
@@ -30,13 +32,14 @@ pub record IsFresh (command : CommandState) (form : Form) (from : Option ℕ)
 
 -- ---- a page
 
--- where a listing goes on after these rows; on an empty shelf the end will do in place of the start
+-- where a listing continues after these rows; on an empty shelf it may be the end instead of the
+-- start
 abbrev pub GoesOn : List Row → Place → List Row → Place → Type 0
 GoesOn rows start used next =
     (next ≡ place_after_rows start used)
     ⊎ ((next ≡ End) × (start ≡ First) × (first_row rows ≡ None))
 
--- along the walk from its place: what it leaves, its calls, and where the next page begins
+-- a page along the walk from its start: its output, its calls, and where the next page begins
 pub record PageAlong (form : Form) (start : Place) (tries : ℕ) (most : Option ℕ) (c : Change)
     (result : Result Place Failure) (walk : List Row) (end : WalkEnd) : Type 0 where
   pub leaves : IsAllowed (IsTextOver c.seen.store)
@@ -46,7 +49,7 @@ pub record PageAlong (form : Form) (start : Place) (tries : ℕ) (most : Option 
   pub goes_on : IfOk result (λ next. GoesOn (rows_of (shelf_of form) c.seen.store) start
       (first_rows most walk) next)
 
--- of so many records at most, over an honest controller
+-- a page of at most `most` records if that is Some, over an honest controller
 pub record IsPage (form : Form) (start : Place) (tries : ℕ) (most : Option ℕ) (c : Change)
     (result : Result Place Failure) : Type 0 where
   pub ends : EndsFor tries (IsTrue c.seen.plain) c.seen c.seen' (cause_of (ending_of result))
@@ -57,7 +60,7 @@ pub record IsPage (form : Form) (start : Place) (tries : ℕ) (most : Option ℕ
 
 -- ---- pages
 
--- a page after which the listing goes on
+-- a page, and then the rest of the listing
 pub record PageThen (form : Form) (start : Place) (tries size : ℕ) (s : Seen) (old : List ℕ)
     (Rest : Place → Seen → List ℕ → Type 0) : Type 0 where
   pub next : Place
@@ -66,7 +69,7 @@ pub record PageThen (form : Form) (start : Place) (tries size : ℕ) (s : Seen) 
   pub page : IsPage form start tries (Some size) (change s seen old text) (Ok next)
   pub rest : Rest next seen text
 
--- pages of these sizes, and then one without a limit; a page that ends by a failure ends all
+-- pages of these sizes, then a page without a limit; a page that fails ends the listing
 abbrev pub ArePages : Form → ℕ → Place → List ℕ → Change → Ending → Type 0
 ArePages form tries start [] c ending =
     (result : Result Place Failure) × (ending ≡ ending_of result)
@@ -77,20 +80,20 @@ ArePages form tries start (size ∷ sizes) c ending =
     ⊎ PageThen form start tries size c.seen c.old (λ next seen text.
     ArePages form tries next sizes (change seen c.seen' text c.new) ending)
 
--- how many pages may make calls: each that wants a record, and the last one
+-- the number of pages that may make calls: those of a size above 0, and the last one
 abbrev pub pages_made : List ℕ → ℕ
 pages_made [] = 1
 pages_made (size ∷ sizes) = if size == 0 then pages_made sizes else pages_made sizes + 1
 
 -- ---- the theorem of pages
 
--- the walk does not end by a cycle
+-- the walk does not end with a cycle
 abbrev pub IsOpen : WalkEnd → Type 0
 IsOpen (CycleAt n) = ⊥
 IsOpen _ = Unit {0}
 
--- along a walk that does not end by a cycle the pages leave what one listing may leave, for no more calls than for the
--- rows and for each page that may make calls
+-- along a walk that does not end with a cycle, the pages have an output that is possible for one
+-- listing; they take no more calls than for the rows, and for each page that may make calls
 abbrev pub IsOneListing : Form → Place → ℕ → List ℕ → Change → Ending → Type 0
 IsOneListing form start tries sizes c ending =
     OnWalk (shelf_of form) start c.seen.store (λ walk end. IsOpen end

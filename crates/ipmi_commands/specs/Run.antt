@@ -1,4 +1,4 @@
--- What a run of a command promises: over any controller, over an honest one, in pages, and over an image.
+-- The contract of a run: over any controller, over an honest one, in pages, and over an image.
 use Rattle.std.specs.Prelude.{◌≡◌, ◌⊎◌, ℕ, ◌+◌, ◌*◌, ◌<◌, ◌≤◌, Bool, true, false, IsTrue, Option, None, Some, Result, Ok, Err, List, [], ◌++◌, length}
 use Rattle.ipmi_commands.specs.Below.{Count, Ended, fru_call_bound, LastCallSays, LastFailed, LastFruCallSays, NotPresent, RefusesRecord, RefusesValue, Seen, Shelf, start_of, Place, First, Sdr, Sel, Row, Store, info_of, WalkEnd, IsHonest, ImageFault, UsageFault, CommandState, Received, ReceivesText, TakesPart, Ending, Failure, failure_of_usage, said_of, status_of}
 use Rattle.ipmi_commands.specs.declared.job.Form.{Form}
@@ -15,7 +15,7 @@ use Rattle.ipmi_commands.specs.Texts.{IsTextOver}
 
 -- ---- over any controller
 
--- at most so many calls; an inventory has at most 65,535 bytes
+-- the largest number of calls; an inventory has at most 65,535 bytes
 abbrev pub most_calls : Job → ℕ → ℕ
 most_calls (Job.Records l) tries = most_on_walk l.form tries
 most_calls (Job.Last names n from) tries =
@@ -23,8 +23,9 @@ most_calls (Job.Last names n from) tries =
 most_calls (Job.Events count from) tries = most_on_walk Form.Bytes tries
     + (most_on_walk Form.Passed tries + most_on_walk Form.Passed tries)
 most_calls (Job.Info shelf) tries = tries + 1
-most_calls (Job.Inventory id) tries = fru_call_bound tries 65535
-most_calls Job.AllInventories tries = fru_call_bound tries 65535 + most_on_walk Form.Device tries
+most_calls (Job.Inventory wording id) tries = fru_call_bound tries 65535
+most_calls (Job.AllInventories wording) tries =
+    fru_call_bound tries 65535 + most_on_walk (Form.Device wording) tries
 most_calls Job.Rewrite tries = 0
 
 -- an entry of the log has a fixed length, so only a sensor data record can be malformed
@@ -32,27 +33,29 @@ abbrev pub MayEndOn : Shelf → Ended → Type 0
 MayEndOn Sel (Ended.Malformed n) = ⊥
 MayEndOn shelf ended = Unit {0}
 
--- it ends by a record as the last call says, by an inventory only where devices are listed, and by a name that is missing
--- only where it is asked for; no info, command line or image is at fault
+-- The possible ends of a listing. A failure at a record or an inventory agrees with the last call.
+-- A failure at an inventory is possible only if devices are listed, and a missing name only if the
+-- listing searches for it. A failure due to an info, the command line or an image is impossible.
 abbrev pub EndsListing : Form → Seen → Ending → Type 0
 EndsListing form seen (Ok done) = Unit {0}
 EndsListing form seen (Err (Failure.Ended ended)) =
     LastCallSays RefusesRecord ended seen × MayEndOn (shelf_of form) ended
 EndsListing form seen (Err (Failure.Inventory id ended)) =
-    (form ≡ Form.Device) × LastFruCallSays ended seen
+    (wording : Wording) × ((form ≡ Form.Device wording) × LastFruCallSays ended seen)
 EndsListing form seen (Err (Failure.NoName name)) =
     (wording : Wording) × (form ≡ Form.Block wording name)
 EndsListing form seen (Err Failure.WriteFault) = Unit {0}
 EndsListing form seen (Err Failure.OutOfMemory) = Unit {0}
 EndsListing form seen _ = ⊥
 
--- a listing of entries after a walk of the sensor data records, which was not done where names may be missing
+-- the possible ends of a listing of entries after a walk of the sensor data records; names may be
+-- missing if that walk did not end with `Done`
 abbrev pub EndsEvents : Seen → Ending → Type 0
 EndsEvents seen (Err (Failure.NamesCycle n)) = Unit {0}
 EndsEvents seen (Err (Failure.NamesMissing n)) = Unit {0}
 EndsEvents seen ending = EndsListing Form.Bytes seen ending
 
--- a reading or an info is given up or refused, or memory is wanted
+-- a reading or an info was given up or refused, or out of memory
 abbrev pub LacksValue : Unread → Seen → Type 0
 LacksValue (Unread.Ended (Ended.GaveUp n)) seen =
     LastCallSays RefusesValue (Ended.GaveUp n) seen
@@ -61,7 +64,7 @@ LacksValue (Unread.Ended (Ended.Refused n code)) seen =
 LacksValue Unread.Memory seen = Unit {0}
 LacksValue _ seen = ⊥
 
--- an info: the last call says that there is none, or why it was not read
+-- the possible ends for an info: the last call says that there is none, or why it was not read
 abbrev pub EndsInfo : Seen → Ending → Type 0
 EndsInfo seen (Ok done) = Unit {0}
 EndsInfo seen (Err Failure.NoInfo) = LastFailed (λ class. class ≡ NotPresent) seen
@@ -77,20 +80,20 @@ EndsInventory seen (Err Failure.WriteFault) = Unit {0}
 EndsInventory seen (Err Failure.OutOfMemory) = Unit {0}
 EndsInventory seen _ = ⊥
 
--- how a run may end; no run over a controller writes an image again: it does nothing
+-- the possible ends of a run; over a controller, `image rewrite` does nothing and fails
 abbrev pub MayEnd : Job → Change → Ending → Type 0
 MayEnd (Job.Records l) c ending = EndsListing l.form c.seen' ending
 MayEnd (Job.Last names n from) c ending = EndsListing (Form.EntryLine names) c.seen' ending
 MayEnd (Job.Events count from) c ending = EndsEvents c.seen' ending
 MayEnd (Job.Info shelf) c ending = EndsInfo c.seen' ending
-MayEnd (Job.Inventory id) c ending = EndsInventory c.seen' ending
-MayEnd Job.AllInventories c ending = EndsListing Form.Device c.seen' ending
+MayEnd (Job.Inventory wording id) c ending = EndsInventory c.seen' ending
+MayEnd (Job.AllInventories wording) c ending = EndsListing (Form.Device wording) c.seen' ending
 MayEnd Job.Rewrite c ending =
     (ending ≡ Err Failure.Usage) × (c.seen' ≡ c.seen) × (c.new ≡ c.old)
 
 -- ---- over an honest controller
 
--- the last entries are listed on a second walk, where there are any
+-- the last entries are listed on a second walk, if there are any
 abbrev pub second_walk_bound : ℕ → List Row → ℕ
 second_walk_bound bound [] = 0
 second_walk_bound bound _ = bound
@@ -111,7 +114,7 @@ OnLast names n from tries store Holds =
     OnWalk Sel (start_of from) store (λ walk end. Holds (last_plan names n (start_of from) walk end)
     (last_call_bound n store tries walk end))
 
--- entries with these names
+-- the entries that `count` selects, with the names of these sensors
 abbrev pub OnNamed : Option (List (List ℕ)) → Count → Option ℕ → ℕ → Store → (Plan → ℕ → Type 0)
     → Type 0
 OnNamed names Count.All from tries store Holds =
@@ -120,8 +123,8 @@ OnNamed names (Count.First n) from tries store Holds =
     OnListing (listing (Form.EntryLine names) (start_of from) (Some n)) tries store Holds
 OnNamed names (Count.Last n) from tries store Holds = OnLast names n from tries store Holds
 
--- `Holds` of the job's plan over a store and of the most calls that it takes, for each walk from the start that has an end;
--- the tries bound only the calls
+-- `Holds` for the job's plan over a store and the largest number of its calls, for each walk from
+-- the start that has an end; `tries` affects only the number of calls
 abbrev pub OnPlan : Job → ℕ → Store → (Plan → ℕ → Type 0) → Type 0
 OnPlan (Job.Records l) tries store Holds = OnListing l tries store Holds
 OnPlan (Job.Last names n from) tries store Holds = OnLast names n from tries store Holds
@@ -130,14 +133,16 @@ OnPlan (Job.Events count from) tries store Holds =
     store (λ plan calls. Holds (after_names sensors end plan)
     (walk_call_bound Form.Bytes store tries sensors + calls)))
 OnPlan (Job.Info shelf) tries store Holds = Holds (info_plan (info_of shelf store)) (tries + 1)
-OnPlan (Job.Inventory id) tries store Holds =
-    Holds (inventory_plan id) (calls_for_spot tries store (AtInventory id))
-OnPlan Job.AllInventories tries store Holds =
-    OnWalk Sdr First store (λ walk end. Holds (inventories_plan walk end)
-    (calls_for_spot tries store (AtInventory 0) + walk_call_bound Form.Device store tries walk))
+OnPlan (Job.Inventory wording id) tries store Holds =
+    Holds (inventory_plan wording id) (calls_for_spot tries store (AtInventory id))
+OnPlan (Job.AllInventories wording) tries store Holds =
+    OnWalk Sdr First store (λ walk end. Holds (inventories_plan wording walk end)
+    (calls_for_spot tries store (AtInventory 0)
+    + walk_call_bound (Form.Device wording) store tries walk))
 OnPlan Job.Rewrite tries store Holds = Holds no_plan 0
 
--- what was printed of the plan, by how the run ended, for at most so many calls
+-- the output agrees with the plan and with how the run ended, and the number of calls is within the
+-- bound
 abbrev pub Prints : Job → ℕ → Change → Ending → Type 0
 Prints job tries c ending =
     OnPlan job tries c.seen.store (λ plan calls.
@@ -146,8 +151,9 @@ Prints job tries c ending =
 
 -- ---- a run
 
--- over any controller: how many calls at most, and how it may end; over an honest one: why it ended so, and, if no store was
--- added, what it printed. Where one was added, or the controller is not honest, nothing is said of the output
+-- A run. Over any controller: the largest number of calls, and the possible ends. Over an honest
+-- one: why it ended, and, if no store was added, its output. If a store was added, or if the
+-- controller is not honest, this says nothing about the output.
 pub record Runs (job : Job) (tries : ℕ) (c : Change) (ending : Ending) : Type 0 where
   pub calls : c.seen'.calls ≤ c.seen.calls + most_calls job tries
   pub ends : MayEnd job c ending
@@ -155,15 +161,16 @@ pub record Runs (job : Job) (tries : ℕ) (c : Change) (ending : Ending) : Type 
   pub prints : IsHonest c.seen → c.seen'.stores_added ≡ c.seen.stores_added
       → Prints job tries c ending
 
--- what a command is to do, in codes and in these words
+-- the job of a command, in codes and in a wording
 abbrev pub job_of_command : CommandState → Job
 job_of_command command = job_of command.task command.from
 
 abbrev pub job_of_command_in : Wording → CommandState → Job
 job_of_command_in wording command = job_in wording command.task command.from
 
--- as `Runs`, for a listing in pages of these sizes: each page by itself is a listing from its place, of at most as many rows
--- as its size, and along a walk that does not end by a cycle all of them print what one listing may print
+-- Like `Runs`, for a listing in pages of these sizes. Each page is itself a listing from its place,
+-- with its size as the limit. Along a walk that does not end with a cycle, the pages together print
+-- what one listing may print.
 pub record RunsInPages (form : Form) (start : Place) (tries : ℕ) (sizes : List ℕ) (c : Change)
     (ending : Ending) : Type 0 where
   pub calls : c.seen'.calls ≤ c.seen.calls + pages_made sizes * most_on_walk form tries
@@ -173,14 +180,14 @@ pub record RunsInPages (form : Form) (start : Place) (tries : ℕ) (sizes : List
   pub prints : IsHonest c.seen → c.seen'.stores_added ≡ c.seen.stores_added
       → IsOneListing form start tries sizes c ending
 
--- of a command that lists all records of a shelf
+-- a run in pages of a command that lists all records of a shelf
 pub record RunsPaged (command : CommandState) (sizes : List ℕ) (c : Change)
     (ending : Ending) : Type 0 where
   pub form : Form
   pub is : job_of_command command ≡ Job.Records (listing form (start_of command.from) None)
   pub runs : RunsInPages form (start_of command.from) command.tries sizes c ending
 
--- a text that is written
+-- the result of writing a text
 abbrev pub WritesText : List ℕ → List ℕ → List ℕ → Ending → Type 0
 WritesText text old new (Ok done) = new ≡ old ++ text
 WritesText text old new (Err Failure.WriteFault) = (0 < length text) × TakesPart old new text
@@ -188,24 +195,26 @@ WritesText text old new (Err failure) = ⊥
 
 -- ---- over an image
 
--- the fault for which the bytes are no image, or out of memory, which may come first; nothing is written
+-- the run fails with this fault of the image, or is out of memory before it finds the fault;
+-- nothing is written
 abbrev pub FailsToRead : ImageFault → List ℕ → List ℕ → Ending → Type 0
 FailsToRead fault old new ending =
     (new ≡ old) × ((ending ≡ Err (Failure.Image fault)) ⊎ (ending ≡ Err Failure.OutOfMemory))
 
--- an image written again; nothing of it where memory runs out
+-- the canonical text of an image is written; if out of memory, nothing is written
 pub record IsRewriting (store : Store) (old new : List ℕ) (ending : Ending) : Type 0 where
   pub allowed : IsAllowed (IsTextOver store) rewrite_plan old new ending
   pub unwritten : cause_of ending ≡ NoMemory → new ≡ old
 
--- over the store of an image, by whether the image is written again; if it is not, nothing is refused, nor given up
+-- a run over the store of an image: `image rewrite`, or another job, which never gives up and is
+-- never refused
 abbrev pub RunsOver : Bool → Job → Store → List ℕ → List ℕ → Ending → Type 0
 RunsOver true job store old new ending = IsRewriting store old new ending
 RunsOver false job store old new ending =
     OnPlan job 0 store (λ plan calls. IsAllowed (IsTextOver store) plan old new ending)
     × IsFine (cause_of ending)
 
--- by what the image gives
+-- a job over an image, which has a store or a fault
 abbrev pub AnswersJob : Job → Result Store ImageFault → List ℕ → List ℕ → Ending → Type 0
 AnswersJob job (Ok store) old new ending = RunsOver (is_rewrite job) job store old new ending
 AnswersJob job (Err fault) old new ending = FailsToRead fault old new ending
@@ -213,16 +222,16 @@ AnswersJob job (Err fault) old new ending = FailsToRead fault old new ending
 abbrev pub AnswersCommand : CommandState → Result Store ImageFault → List ℕ → List ℕ → Ending → Type 0
 AnswersCommand command image old new ending = AnswersJob (job_of_command command) image old new ending
 
--- the answer to a command line over an image
+-- the result of a command line over an image
 abbrev pub AnswersLine : Result CommandState UsageFault → Result Store ImageFault → List ℕ → List ℕ
     → Ending → Type 0
 AnswersLine (Ok command) image old new ending = AnswersCommand command image old new ending
 AnswersLine (Err fault) image old new ending =
     (ending ≡ Err (failure_of_usage fault)) × (new ≡ old)
 
--- ---- what is said
+-- ---- the status and the message
 
--- there is an ending of which this holds, and the status and the message are its own
+-- the status and the message are those of an ending for which `Holds` is true
 pub record Says (said said' : Received) (status : ℕ) (Holds : Ending → Type 0) : Type 0 where
   pub ending : Ending
   pub holds : Holds ending

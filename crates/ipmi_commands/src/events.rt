@@ -1,4 +1,4 @@
-//! Lists events in words, with the names of their sensors, which the sensor data records give.
+//! Lists events in words, with the names of their sensors from the sensor data records.
 ghost use Rattle.std.specs.Prelude.{◌≡◌, ◌+◌};
 ghost use Rattle.ipmi_commands.specs.Below.{AsksAtMost, IsCount, write_faults};
 ghost use Rattle.ipmi_commands.specs.Events.{end_after, walk_of};
@@ -17,16 +17,16 @@ use std::alloc::Global;
 /// How a walk of the sensor data records ended.
 #[derive(Clone, Copy)]
 pub(crate) enum Walked {
-    /// After the last of them.
+    /// After the last record.
     Whole,
-    /// In a circle, at this id.
+    /// With a cycle at this id.
     Cycle(u16),
     /// At this id, which no record has.
     Missing(u16),
 }
 
 impl Walked {
-    /// How the listing of events that was finished ends after it: names of sensors may be missing where it was not whole.
+    /// The end of a finished listing of events: names of sensors may be missing if this walk was not whole.
     fn end<'a>(self) -> Result<(), Failure<'a>>
         ensures { result ≡ end_after self }
     {
@@ -38,7 +38,8 @@ impl Walked {
     }
 }
 
-/// How the walk ended, by how the listing of the records into memory did, which takes no more where none is left.
+/// How the walk ended, from the result of listing the records into memory. A write fault of that listing means out of
+/// memory.
 fn walk_of<'a>(listed: Result<Place, Failure<'a>>) -> Result<Walked, Failure<'a>>
     ensures { result ≡ walk_of listed.entry }
 {
@@ -51,8 +52,8 @@ fn walk_of<'a>(listed: Result<Place, Failure<'a>>) -> Result<Walked, Failure<'a>
     }
 }
 
-/// Lists so many events in words, from this id on or from the first. It reads all sensor data records first, of which it keeps
-/// the bytes and a table of a place for each sensor that there can be.
+/// Lists the entries that `count` selects, with events in words, starting at the id `from` or at the first entry.
+/// First it reads all sensor data records. It keeps their bytes, and a table with one slot for each possible sensor.
 pub(crate) fn list_events<'a, C: Controller, O: Sink>(
     alloc: Global,
     ctl: &mut C,

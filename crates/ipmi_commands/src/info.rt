@@ -1,4 +1,4 @@
-//! The text of the info of a shelf.
+//! The text of a shelf's info.
 ghost use Rattle.std.specs.Prelude.{◌+◌, ◌≤◌, ◌∷◌, [], option_map, string_bytes};
 ghost use Rattle.ipmi_commands.specs.Below.{AsksAtMost, info_of, IsHonest};
 ghost use Rattle.ipmi_commands.specs.Prelude.{InfoSays, AtRecord, Finds, IsInfoText};
@@ -8,7 +8,7 @@ use ipmi_bus::{Controller, Shelf, read_info};
 use ipmi_records::info_block;
 use std::alloc::Global;
 
-/// The block of the shelf's info; None where the controller has none.
+/// The block of the shelf's info. None if the controller has none.
 pub(crate) fn info_text<C: Controller>(
     alloc: Global,
     ctl: &mut C,

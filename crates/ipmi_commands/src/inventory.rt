@@ -1,13 +1,14 @@
 //! Prints the inventories of FRU devices.
-ghost use Rattle.std.specs.Prelude.{◌≡◌, ℕ, ◌+◌, ◌≤◌, ◌∷◌, [], None, Err, IfErr, IfOk, string_bytes};
-ghost use Rattle.ipmi_commands.specs.Below.{AsksAtMost, LastFruCallSays, fru_call_bound, row_of_record, ReadsInventory, Seen, IsHonest, Store, inventory_of, fru_of, sdr_view_of};
-ghost use Rattle.ipmi_commands.specs.Prelude.{LacksInventory, is_absent, Finds, IsDevicePiece, IsInventoryPiece, IsInventoryText, IsLocatorPiece, name_of_locator, AtInventory, device_spots, locator_spots};
+ghost use Rattle.std.specs.Prelude.{◌≡◌, ℕ, ◌+◌, ◌≤◌, ◌∷◌, [], Some, Err, IfErr, IfOk, option_map, string_bytes};
+ghost use Rattle.ipmi_commands.specs.Below.{AsksAtMost, LastFruCallSays, fru_call_bound, row_of_record, ReadsInventory, Seen, IsHonest, inventory_of, fru_of, printed_name, sdr_view_of};
+ghost use Rattle.ipmi_commands.specs.Prelude.{LacksInventory, elsewhere_in, in_parentheses, is_absent, Finds, IsDevicePiece, IsInventoryIn, IsInventoryPiece, IsInventoryText, IsLocatorPiece, AtInventory, device_spots, locator_spots};
 
+use crate::job::Wording;
 use crate::unread::Unread;
 use ipmi_bus::{Code, Controller, FruEnded, Record, read_fru};
 use ipmi_command_line::Command;
-use ipmi_fru::print_fru;
-use ipmi_records::SdrView;
+use ipmi_fru::{elsewhere_line, fru_line, print_fru};
+use ipmi_records::{SdrView, push_name};
 use std::alloc::{AllocError, Global};
 
 /// Whether the controller has no such inventory.
@@ -17,87 +18,143 @@ fn is_absent(ended: FruEnded) -> bool
     ended == FruEnded::Refused(Code::NOT_PRESENT)
 }
 
-/// The text for an inventory that was not read: `not present` where the controller has none. Any other reason is passed on.
-fn unread_text(alloc: Global, id: u8, ended: FruEnded) -> Result<String, Unread>
+/// The result for an inventory that was not read: None if the controller has no such inventory, otherwise Err with
+/// the reason.
+fn unread_inventory(id: u8, ended: FruEnded) -> Result<Option<Vec<u8>>, Unread>
     ensures finds { (tries : ℕ) (s s' : Seen) → ReadsInventory id tries s s' (Err ended) →
-        Finds (λ store text. IsInventoryText (inventory_of id store) (string_bytes text)) (AtInventory id ∷ [])
-        tries s s' result }
+        Finds (λ store found. option_map (λ bytes. bytes.items) found ≡ inventory_of id store)
+        (AtInventory id ∷ []) tries s s' result }
     ensures says { (seen : Seen) → LastFruCallSays ended seen →
         IfErr result (λ unread. LacksInventory unread seen) }
 {
     if !is_absent(ended) {
         return Err(Unread::Inventory(id, ended));
     }
-    Ok(String::from_str(alloc, "not present\n")?)
+    Ok(None)
 }
 
-/// The text of a device's inventory, or that there is none. Its bytes are let go before the answer.
-fn inventory_text<C: Controller>(
+/// The bytes of a device's inventory. None if the controller has no such inventory.
+fn read_inventory<C: Controller>(
     alloc: Global,
     ctl: &mut C,
     cmd: &Command,
     id: u8,
-) -> Result<String, Unread>
+) -> Result<Option<Vec<u8>>, Unread>
     ensures calls { (C.seen ctl.new).calls ≤ (C.seen ctl.old).calls + fru_call_bound cmd.now.tries
         65535 }
     ensures asked { AsksAtMost cmd.now.part (C.seen ctl.old) (C.seen ctl.new) }
     ensures says { IfErr result (λ unread. LacksInventory unread (C.seen ctl.new)) }
     ensures honest { IsHonest (C.seen ctl.old) →
-        Finds (λ store text. IsInventoryText (inventory_of id store) (string_bytes text)) (AtInventory id ∷ [])
-        cmd.now.tries (C.seen ctl.old) (C.seen ctl.new) result }
+        Finds (λ store found. option_map (λ bytes. bytes.items) found ≡ inventory_of id store)
+        (AtInventory id ∷ []) cmd.now.tries (C.seen ctl.old) (C.seen ctl.new) result }
 {
     match read_fru(alloc, ctl, id, cmd.part(), cmd.tries()) {
-        Ok(bytes) => Ok(print_fru(alloc, &bytes)?),
-        Err(ended) => unread_text(alloc, id, ended),
+        Ok(bytes) => Ok(Some(bytes)),
+        Err(ended) => unread_inventory(id, ended),
     }
 }
 
-/// The inventory of a device: a line that names it, its text, and an empty line.
-pub(crate) fn inventory_piece<C: Controller>(
+/// The text of an inventory, or `not present` if there is none.
+fn inventory_text(alloc: Global, inventory: Option<&[u8]>) -> Result<String, AllocError>
+    ensures { IfOk result (λ text. IsInventoryText (option_map (λ bytes. bytes.now) inventory.entry)
+        (string_bytes text)) }
+{
+    match inventory {
+        Some(bytes) => print_fru(alloc, bytes),
+        None => String::from_str(alloc, "not present\n"),
+    }
+}
+
+/// The name of a device in parentheses, after a space. Empty if there is no name.
+fn in_parentheses(alloc: Global, name: Option<&str>) -> Result<String, AllocError>
+    ensures { IfOk result (λ text.
+        string_bytes text ≡ in_parentheses (option_map (λ name. name.now) name.entry)) }
+{
+    match name {
+        Some(name) => format!(in alloc; " ({name})"),
+        None => Ok(String::new(alloc)),
+    }
+}
+
+/// A line that names the device, the text of its inventory, and an empty line.
+fn inventory_piece(
+    alloc: Global,
+    id: u8,
+    name: Option<&str>,
+    inventory: Option<&[u8]>,
+) -> Result<String, AllocError>
+    ensures { IfOk result (λ text. IsInventoryPiece id (option_map (λ name. name.now) name.entry)
+        (option_map (λ bytes. bytes.now) inventory.entry) (string_bytes text)) }
+{
+    let name = in_parentheses(alloc, name)?;
+    let text = inventory_text(alloc, inventory)?;
+    format!(in alloc; "FRU {id}{name}\n{text}\n")
+}
+
+/// The text of a device with its name and its inventory, in this wording.
+fn text_in(
+    alloc: Global,
+    wording: Wording,
+    id: u8,
+    name: Option<&str>,
+    inventory: Option<&[u8]>,
+) -> Result<String, AllocError>
+    ensures { IfOk result (λ text. IsInventoryIn wording id (option_map (λ name. name.now) name.entry)
+        (option_map (λ bytes. bytes.now) inventory.entry) (string_bytes text)) }
+{
+    match wording {
+        Wording::Codes => inventory_piece(alloc, id, name, inventory),
+        Wording::Words => fru_line(alloc, id, name, inventory),
+    }
+}
+
+/// Reads the inventory of a device, and returns its text with this name, in this wording.
+pub(crate) fn inventory_in<C: Controller>(
     alloc: Global,
     ctl: &mut C,
     cmd: &Command,
+    wording: Wording,
     id: u8,
-    name: &str,
+    name: Option<&str>,
 ) -> Result<String, Unread>
     ensures calls { (C.seen ctl.new).calls ≤ (C.seen ctl.old).calls + fru_call_bound cmd.now.tries
         65535 }
     ensures asked { AsksAtMost cmd.now.part (C.seen ctl.old) (C.seen ctl.new) }
     ensures says { IfErr result (λ unread. LacksInventory unread (C.seen ctl.new)) }
-    ensures honest { IsHonest (C.seen ctl.old) →
-        Finds (λ store text. IsInventoryPiece store id name.now (string_bytes text)) (AtInventory id ∷ [])
-        cmd.now.tries (C.seen ctl.old) (C.seen ctl.new) result }
+    ensures honest { let named = option_map (λ name. name.now) name.entry in IsHonest (C.seen ctl.old) →
+        Finds (λ store text. IsInventoryIn wording id named (inventory_of id store) (string_bytes text))
+        (AtInventory id ∷ []) cmd.now.tries (C.seen ctl.old) (C.seen ctl.new) result }
 {
-    let text = inventory_text(alloc, ctl, cmd, id)?;
-    Ok(format!(in alloc; "FRU {id}{name}\n{text}\n")?)
+    let inventory = read_inventory(alloc, ctl, cmd, id)?;
+    Ok(text_in(alloc, wording, id, name, inventory.as_deref())?)
 }
 
-/// The name of a locator in parentheses, after a space.
-fn name_of_locator(alloc: Global, view: &SdrView<'_>) -> Result<String, AllocError>
-    ensures { IfOk result (λ text. string_bytes text ≡ name_of_locator view.now) }
+/// The name of a locator, as printed.
+fn name_of(alloc: Global, view: &SdrView<'_>) -> Result<String, AllocError>
+    ensures { IfOk result (λ text. string_bytes text ≡ printed_name view.now) }
 {
-    let name = match view.name(alloc)? {
-        Some(name) => name,
-        None => String::new(alloc),
-    };
-    format!(in alloc; " ({name})")
+    let mut name = String::new(alloc);
+    push_name(alloc, &mut name, view)?;
+    Ok(name)
 }
 
-/// That the device of a locator is reached elsewhere.
-fn elsewhere_text(alloc: Global, view: &SdrView<'_>) -> Result<String, AllocError>
-    ensures { IfOk result (λ text. (store : Store) → IsDevicePiece store view.now None
-        (string_bytes text)) }
+/// The text for a device of this name that is reached elsewhere, in this wording.
+fn elsewhere_in(alloc: Global, wording: Wording, name: &str) -> Result<String, AllocError>
+    ensures { IfOk result (λ text. string_bytes text ≡ elsewhere_in wording name.now) }
 {
-    let name = name_of_locator(alloc, view)?;
-    format!(in alloc; "FRU{name}: elsewhere, not read\n\n")
+    match wording {
+        Wording::Codes => format!(in alloc; "FRU ({name}): elsewhere, not read\n\n"),
+        Wording::Words => elsewhere_line(alloc, name),
+    }
 }
 
-/// What is printed of a locator's device: its inventory, nothing of device 0, which was printed first, or that it is
-/// elsewhere.
+/// The text for a locator's device: its inventory, or that it is elsewhere. Empty for device 0, which was already
+/// printed.
 fn device_piece<C: Controller>(
     alloc: Global,
     ctl: &mut C,
     cmd: &Command,
+    wording: Wording,
     view: &SdrView<'_>,
 ) -> Result<String, Unread>
     ensures calls { (C.seen ctl.new).calls ≤ (C.seen ctl.old).calls + fru_call_bound cmd.now.tries
@@ -105,24 +162,25 @@ fn device_piece<C: Controller>(
     ensures asked { AsksAtMost cmd.now.part (C.seen ctl.old) (C.seen ctl.new) }
     ensures says { IfErr result (λ unread. LacksInventory unread (C.seen ctl.new)) }
     ensures honest { IsHonest (C.seen ctl.old) →
-        Finds (λ store text. IsDevicePiece store view.now (fru_of view.now) (string_bytes text))
-        (device_spots (fru_of view.now)) cmd.now.tries (C.seen ctl.old) (C.seen ctl.new) result }
+        Finds (λ store text. IsDevicePiece wording store (printed_name view.now) (fru_of view.now)
+        (string_bytes text)) (device_spots (fru_of view.now)) cmd.now.tries (C.seen ctl.old)
+        (C.seen ctl.new) result }
 {
+    let name = name_of(alloc, view)?;
     match view.fru_of() {
-        None => Ok(elsewhere_text(alloc, view)?),
+        None => Ok(elsewhere_in(alloc, wording, &name)?),
         Some(0) => Ok(String::new(alloc)),
-        Some(id) => {
-            let name = name_of_locator(alloc, view)?;
-            inventory_piece(alloc, ctl, cmd, id, name.as_str())
-        }
+        Some(id) => inventory_in(alloc, ctl, cmd, wording, id, Some(&name)),
     }
 }
 
-/// What is printed of a record by `fru print`: the device of a FRU device locator, and nothing of any other.
+/// The text for a record in a listing of inventories: that of the device for a FRU device locator, empty for any
+/// other record.
 pub(crate) fn locator_piece<C: Controller>(
     alloc: Global,
     ctl: &mut C,
     cmd: &Command,
+    wording: Wording,
     lent: &Record<'_>,
 ) -> Result<String, Unread>
     ensures calls { (C.seen ctl.new).calls ≤ (C.seen ctl.old).calls + fru_call_bound cmd.now.tries
@@ -130,7 +188,7 @@ pub(crate) fn locator_piece<C: Controller>(
     ensures asked { AsksAtMost cmd.now.part (C.seen ctl.old) (C.seen ctl.new) }
     ensures says { IfErr result (λ unread. LacksInventory unread (C.seen ctl.new)) }
     ensures honest { let row = row_of_record lent.now in IsHonest (C.seen ctl.old) →
-        Finds (λ store text. IsLocatorPiece store (sdr_view_of row.bytes) (string_bytes text))
+        Finds (λ store text. IsLocatorPiece wording store (sdr_view_of row.bytes) (string_bytes text))
         (locator_spots (sdr_view_of row.bytes)) cmd.now.tries (C.seen ctl.old) (C.seen ctl.new)
         result }
 {
@@ -138,7 +196,7 @@ pub(crate) fn locator_piece<C: Controller>(
         return Ok(String::new(alloc));
     };
     match &view {
-        SdrView::Fru(_) => device_piece(alloc, ctl, cmd, &view),
+        SdrView::Fru(_) => device_piece(alloc, ctl, cmd, wording, &view),
         _ => Ok(String::new(alloc)),
     }
 }

@@ -1,4 +1,4 @@
-//! What each command is to do: each command once, in the few shapes that differ.
+//! The job of each command. A few kinds of jobs cover all commands.
 ghost use Rattle.std.specs.Prelude.{◌≡◌};
 ghost use Rattle.ipmi_commands.specs.Below.{IsCount, start_of};
 ghost use Rattle.ipmi_commands.specs.Job.{IsFrom, IsJob, IsPlace, is_rewrite, job_in, job_of, listing, listing_in, named_job, shelf_of};
@@ -11,24 +11,24 @@ use ipmi_command_line::{Command, Count, Kind, Task};
 use ipmi_events::Sensors;
 use ipmi_output::{Failure, Name};
 
-/// In which words a command prints what it prints.
+/// The wording of a command's output.
 #[derive(Clone, Copy, Debug, PartialEq, Eq)]
 pub enum Wording {
-    /// In those of the specified texts, in which most events and states are numbers.
+    /// The wording of the specified texts, in which most events and states are numbers.
     Codes,
-    /// In those of the standard's tables: events, states and entities in words, events with the names of their sensors. What
-    /// has no such text is printed as in [`Wording::Codes`].
+    /// The words of the standard's tables: events, states and entities in words, events with the names of their
+    /// sensors, and one line per device for all inventories. Everything else is printed as in [`Wording::Codes`].
     Words,
 }
 
-/// How much is printed of a sensor data record that is listed.
+/// Which line is printed for a sensor data record.
 #[derive(Clone, Copy)]
 pub(crate) enum Detail {
     /// The line of `sdr list`.
     Short,
-    /// The longer one of `sdr elist`.
+    /// The longer line of `sdr elist`.
     Extended,
-    /// The one in words, with the thresholds.
+    /// The line in words, with the thresholds.
     Words,
 }
 
@@ -39,21 +39,21 @@ pub(crate) enum Form<'a> {
     Raw,
     /// The bytes of a sensor data record.
     Bytes,
-    /// The line of a sensor data record of the kind.
+    /// The line of a sensor data record, if it is of this kind.
     Line(Detail, Kind),
-    /// The block of a sensor data record with this printed name.
+    /// The block of a sensor data record, if this is its printed name.
     Block(Wording, Name<'a>),
-    /// The inventory that a FRU device locator names.
-    Device,
-    /// The line of an entry of the event log: in words, with the names of these sensors, or in codes.
+    /// The inventory of the device that a FRU device locator names, in this wording.
+    Device(Wording),
+    /// The line of an event log entry. With sensors, it is in words, with their names; without, it is in codes.
     EntryLine(Option<Sensors>),
-    /// The block of an entry.
+    /// The block of an event log entry.
     EntryBlock,
-    /// Nothing: an entry is passed.
+    /// Nothing: an event log entry is skipped.
     Passed,
 }
 
-/// A listing of the records from a place on, so many at most where there is a limit.
+/// A listing of records that starts at `start`, with at most `most` records if that is Some.
 #[derive(Drop)]
 pub(crate) struct Listing<'a> {
     pub(crate) form: Form<'a>,
@@ -61,41 +61,40 @@ pub(crate) struct Listing<'a> {
     pub(crate) most: Option<u32>,
 }
 
-/// What a command is to do.
+/// What a command does.
 #[derive(Drop)]
 pub(crate) enum Job<'a> {
     /// Lists records along one walk.
     Records(Listing<'a>),
-    /// Lists the last entries of the event log, so many, of those from this id on or from the first; in words, with the names of
-    /// these sensors, or in codes.
+    /// Lists the last entries of a walk of the event log, at most this many. The walk starts at this id, or at the
+    /// first entry. With sensors, events are in words, with their names; without, they are in codes.
     Last(Option<Sensors>, u16, Option<u16>),
-    /// Lists entries of the event log in words, after the sensor data records were read for the names of sensors.
+    /// Reads the sensor data records for the names of sensors, then lists entries of the event log in words.
     Events(Count, Option<u16>),
     /// Prints the info of the shelf.
     Info(Shelf),
-    /// Prints the inventory of this device.
-    Inventory(u8),
-    /// Prints the inventory of device 0 and of each device that a locator names.
-    AllInventories,
-    /// Writes the image again.
+    /// Prints the inventory of this device, in this wording.
+    Inventory(Wording, u8),
+    /// Prints the inventory of device 0 and of each device that a locator names, in this wording.
+    AllInventories(Wording),
+    /// Writes the canonical text of the image.
     Rewrite,
 }
 
 impl<'a> Form<'a> {
-    /// The shelf whose records are printed so.
+    /// The shelf of the records that are printed in this form.
     pub(crate) fn shelf(&self) -> Shelf
         ensures { result ≡ shelf_of self.now }
     {
         match self {
             Form::EntryLine(_) | Form::EntryBlock | Form::Passed => Shelf::Sel,
-            Form::Raw | Form::Bytes | Form::Line(_, _) | Form::Block(_, _) | Form::Device => {
-                Shelf::Sdr
-            }
+            Form::Raw | Form::Bytes | Form::Line(_, _) | Form::Block(_, _) | Form::Device(_) =>
+                Shelf::Sdr,
         }
     }
 
-    /// How a listing ends after its last record, by whether it wrote anything: with this, where no name that is asked for is
-    /// missing.
+    /// The result of a listing after its last record: Ok of `with`, or Err if the listing searches for a name and
+    /// wrote nothing.
     pub(crate) fn end<T: Copy>(&self, wrote: bool, with: T) -> Result<T, Failure<'a>>
         ensures { result ≡ end_of self.now wrote with }
     {
@@ -107,7 +106,7 @@ impl<'a> Form<'a> {
 }
 
 impl<'a> Listing<'a> {
-    /// The records from an id on, or from the first one, so many at most where there is a limit.
+    /// A listing that starts at the id `from`, or at the first record, with at most `most` records if that is Some.
     pub(crate) fn new(form: Form<'a>, from: Option<u16>, most: Option<u32>) -> Listing<'a>
         requires { IsFrom from }
         ensures value { result ≡ listing form.entry (start_of from) most }
@@ -122,7 +121,7 @@ impl<'a> Listing<'a> {
 }
 
 impl<'a> Job<'a> {
-    /// The records from an id on, or from the first one.
+    /// The job of such a listing.
     fn records(form: Form<'a>, from: Option<u16>, most: Option<u32>) -> Job<'a>
         requires { IsFrom from }
         ensures value { result ≡ Job.Records (listing form.entry (start_of from) most) }
@@ -131,7 +130,8 @@ impl<'a> Job<'a> {
         Job::Records(Listing::new(form, from, most))
     }
 
-    /// Lists so many entries, in words, with the names of these sensors, or in codes.
+    /// The job of listing the entries that `count` selects. With `names`, events are in words, with the names of
+    /// these sensors; without, they are in codes.
     fn named(names: Option<Sensors>, count: Count, from: Option<u16>) -> Job<'a>
         requires count { IsCount count }
         requires from { IsFrom from }
@@ -145,7 +145,7 @@ impl<'a> Job<'a> {
         }
     }
 
-    /// What the command is to do in these words.
+    /// The job of the command, in this wording.
     pub(crate) fn of(cmd: &'a Command, wording: Wording) -> Job<'a>
         ensures value { result ≡ job_in wording cmd.now.task cmd.now.from }
         ensures range { IsJob result }
@@ -156,7 +156,7 @@ impl<'a> Job<'a> {
         }
     }
 
-    /// What the command is to do in words.
+    /// The job of the command, in words.
     fn in_words(cmd: &'a Command) -> Job<'a>
         ensures value { result ≡ job_in Wording.Words cmd.now.task cmd.now.from }
         ensures range { IsJob result }
@@ -169,11 +169,12 @@ impl<'a> Job<'a> {
                 Job::records(Form::Block(Wording::Words, name), from, None)
             }
             Task::SelList(count) => Job::Events(*count, from),
+            Task::Fru(None) => Job::AllInventories(Wording::Words),
             _ => Job::in_codes(cmd),
         }
     }
 
-    /// What the command is to do in codes.
+    /// The job of the command, in codes.
     fn in_codes(cmd: &'a Command) -> Job<'a>
         ensures value { result ≡ job_of cmd.now.task cmd.now.from }
         ensures range { IsJob result }
@@ -190,20 +191,20 @@ impl<'a> Job<'a> {
             Task::SelList(count) => Job::named(None, *count, from),
             Task::SelGet(id) => Job::records(Form::EntryBlock, Some(*id), Some(1)),
             Task::Info(shelf) => Job::Info(*shelf),
-            Task::Fru(None) => Job::AllInventories,
-            Task::Fru(Some(id)) => Job::Inventory(*id),
+            Task::Fru(None) => Job::AllInventories(Wording::Codes),
+            Task::Fru(Some(id)) => Job::Inventory(Wording::Codes, *id),
             Task::Rewrite => Job::Rewrite,
         }
     }
 
-    /// Whether the image is to be written again, which no run over a controller can do.
+    /// Whether the job is to write the canonical text of an image. No run over a controller can do this.
     pub(crate) fn is_rewrite(&self) -> bool
         ensures { result ≡ is_rewrite self.now }
     {
         matches!(self, Job::Rewrite)
     }
 
-    /// The listing, where it is one.
+    /// The listing, if the job is `Job::Records`.
     pub(crate) fn listing(self) -> Option<Listing<'a>>
         ensures { result ≡ listing_in self.entry }
     {

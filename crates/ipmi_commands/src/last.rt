@@ -1,4 +1,4 @@
-//! Lists the last entries of the event log, on a second walk after one that counts them.
+//! Lists the last entries of the event log: one walk counts the entries, a second one lists the last of them.
 ghost use Rattle.std.specs.Prelude.{◌≡◌, ◌+◌, ◌≤◌};
 ghost use Rattle.ipmi_commands.specs.Below.{AsksAtMost, start_of, IsHonest, write_faults};
 ghost use Rattle.ipmi_commands.specs.declared.job.Form.{Form};
@@ -14,7 +14,7 @@ use ipmi_events::Sensors;
 use ipmi_output::{Failure, Sink};
 use std::alloc::Global;
 
-/// Counts the entries from this id on or from the first, and writes nothing.
+/// Counts the entries, starting at the id `from` or at the first entry. Writes nothing.
 fn count_entries<'a, C: Controller, O: Sink>(
     alloc: Global,
     ctl: &mut C,
@@ -36,8 +36,8 @@ fn count_entries<'a, C: Controller, O: Sink>(
     list_records(alloc, &mut cursor, ctl, cmd, &Form::Passed, None, out)
 }
 
-/// Passes so many entries from this id on or from the first, and lists those after them; nothing where there are fewer, as the
-/// log has become shorter.
+/// Skips the first `passed` entries, starting at the id `from` or at the first entry, and lists those after them. If
+/// there are fewer entries, because the log became shorter, it lists nothing.
 fn list_after<'a, C: Controller, O: Sink>(
     alloc: Global,
     ctl: &mut C,
@@ -74,7 +74,8 @@ fn list_after<'a, C: Controller, O: Sink>(
     Ok(())
 }
 
-/// Lists the last `wanted` entries, with these names: it counts them all, and passes those before them on a second walk.
+/// Lists the last `wanted` entries. The first walk counts all entries, the second skips those before the last ones.
+/// With `names`, events are in words, with the names of these sensors.
 pub(crate) fn list_last<'a, C: Controller, O: Sink>(
     alloc: Global,
     ctl: &mut C,

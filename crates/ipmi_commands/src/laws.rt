@@ -1,7 +1,8 @@
-//! What follows from the definitions of plans by themselves, each the contract of a function that does nothing.
+//! Laws of plans: what follows from their definitions alone. Each law is the contract of a function that does
+//! nothing.
 ghost use Rattle.ipmi_commands.specs.Prelude.{FinishedRunsAreOne, ItemsHaveAText, ItemsHaveOneText};
 
-/// Items have a text, over a well-formed store.
+/// Over a well-formed store, each list of items has a text.
 pub fn items_have_a_text()
     ensures { ItemsHaveAText }
 {
@@ -9,12 +10,13 @@ pub fn items_have_a_text()
     ipmi_records::laws::each_entry_has_texts();
     ipmi_records::laws::each_info_has_a_block();
     ipmi_fru::laws::each_inventory_has_a_text();
+    ipmi_fru::laws::each_device_has_a_line();
     ipmi_events::laws::each_entry_has_a_line_in_words();
     ipmi_events::sensor_laws::each_record_has_a_sensor_line();
     ipmi_events::sensor_laws::each_record_has_a_sensor_block();
 }
 
-/// The texts of items, over a store, are one text.
+/// Over a store, a list of items has at most one text, if its numbers are bytes.
 pub fn items_have_one_text()
     ensures { ItemsHaveOneText }
 {
@@ -25,12 +27,13 @@ pub fn items_have_one_text()
     ipmi_records::laws::one_sel_block();
     ipmi_records::laws::one_info_block();
     ipmi_fru::laws::one_fru_text();
+    ipmi_fru::laws::one_fru_line();
     ipmi_events::laws::one_event_in_words();
     ipmi_events::sensor_laws::one_sensor_line();
     ipmi_events::sensor_laws::one_sensor_block();
 }
 
-/// So over a well-formed store a finished run leaves one output, and ends in one way.
+/// Over a well-formed store, a finished run has only one possible output and one possible end.
 pub fn finished_runs_are_one()
     ensures { FinishedRunsAreOne }
 {

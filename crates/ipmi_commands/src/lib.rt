@@ -1,4 +1,4 @@
-//! The commands of `ipmitool`, run over any controller or answered over a saved image.
+//! Runs the commands of `ipmitool` over any controller or over a saved image.
 #![tactic(auto)]
 
 mod events;

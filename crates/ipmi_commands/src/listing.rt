@@ -1,4 +1,4 @@
-//! Writes what is printed for each record that a cursor hands out.
+//! Writes the text of each record that a cursor returns.
 ghost use Rattle.std.specs.Prelude.{◌≡◌, ◌≤◌, ◌+◌};
 ghost use Rattle.std.specs.FinSet as set;
 ghost use Rattle.ipmi_commands.specs.Below.{AsksAtMost, write_faults};
@@ -12,15 +12,15 @@ use ipmi_image::LineBuffer;
 use ipmi_output::{Failure, Sink, write_all};
 use std::alloc::Global;
 
-/// Whether as many records were handed out as are wanted.
+/// Whether the limit is reached.
 pub(crate) fn is_reached(most: Option<u32>, count: u32) -> bool
     ensures { result ≡ is_reached most count }
 {
     most == Some(count)
 }
 
-/// Writes what is printed for each record from where the cursor is, while the record is lent: for so many records at most where
-/// there is a limit. Says how many there were.
+/// Writes the text of each record, starting at the cursor's place, while the record is borrowed. Stops after `most`
+/// records if that is Some. Returns the number of records.
 pub(crate) fn list_records<'a, C: Controller, O: Sink>(
     alloc: Global,
     cursor: &mut Cursor,
@@ -61,7 +61,7 @@ pub(crate) fn list_records<'a, C: Controller, O: Sink>(
             Ok(()) => {
                 wrote |= !bytes.is_empty();
                 count += 1;
-                // here, so that the loop has one way back, whether there is a text or not
+                // dropped here, so that there is one path back to the start of the loop, with or without a text
                 drop(piece);
             }
             Err(_) => return Err(Failure::WriteFault),

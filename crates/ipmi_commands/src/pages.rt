@@ -10,8 +10,8 @@ use ipmi_command_line::Command;
 use ipmi_output::{Failure, Sink};
 use std::alloc::{AllocError, Global};
 
-/// A cursor over the records that are printed in this form, from this id on or from the first. It asks for parts, and tries
-/// again, as the command says.
+/// A cursor over the records that are printed in this form, starting at the id `from` or at the first record. It has
+/// the command's part size and tries.
 pub(crate) fn start_cursor(
     alloc: Global,
     cmd: &Command,
@@ -25,8 +25,8 @@ pub(crate) fn start_cursor(
     Cursor::start(alloc, form.shelf(), from, cmd.part(), cmd.tries())
 }
 
-/// Lists the records from this id on or from the first, so many at most where there is a limit, with a cursor of its own, and
-/// says where the next page begins.
+/// Lists records with a new cursor, starting at the id `from` or at the first record, at most `most` of them if that
+/// is Some. Returns the place where the next page begins.
 fn list_from<'a, C: Controller, O: Sink>(
     alloc: Global,
     ctl: &mut C,
@@ -52,8 +52,8 @@ fn list_from<'a, C: Controller, O: Sink>(
     Ok(cursor.resume_at())
 }
 
-/// Lists the records from the place, so many at most where there is a limit, with a cursor of its own, and says where the next
-/// page begins.
+/// Lists records with a new cursor, starting at `place`, at most `most` of them if that is Some. Returns the place
+/// where the next page begins.
 pub(crate) fn list_page<'a, C: Controller, O: Sink>(
     alloc: Global,
     ctl: &mut C,
@@ -86,7 +86,7 @@ pub(crate) fn list_page<'a, C: Controller, O: Sink>(
     }
 }
 
-/// Lists the records from the place in pages of these sizes, and then in one without a limit.
+/// Lists records in pages of these sizes, and then in a page without a limit, starting at `start`.
 pub(crate) fn list_pages<'a, C: Controller, O: Sink>(
     alloc: Global,
     ctl: &mut C,

@@ -1,4 +1,4 @@
-//! Does what a command asks for, over any controller.
+//! Runs commands over any controller.
 ghost use Rattle.std.specs.Prelude.{◌≡◌, ◌+◌, true};
 ghost use Rattle.ipmi_commands.specs.Below.{AsksAtMost, IsCount, is_listing, write_faults};
 ghost use Rattle.ipmi_commands.specs.declared.job.Job.{Job};
@@ -7,7 +7,7 @@ ghost use Rattle.ipmi_commands.specs.Prelude.{change, IsFrom, IsPlace, job_of_co
 
 use crate::events::list_events;
 use crate::info::info_text;
-use crate::inventory::inventory_piece;
+use crate::inventory::inventory_in;
 use crate::job::{Form, Job, Listing, Wording};
 use crate::last::list_last;
 use crate::pages::{list_page, list_pages};
@@ -51,7 +51,8 @@ fn list<'a, C: Controller, O: Sink>(
     Ok(())
 }
 
-/// Lists so many entries, from this id on or from the first, with these names.
+/// Lists the entries that `count` selects, starting at the id `from` or at the first entry. With `names`, events are
+/// in words, with the names of these sensors.
 pub(crate) fn list_named<'a, C: Controller, O: Sink>(
     alloc: Global,
     ctl: &mut C,
@@ -100,42 +101,45 @@ fn print_info<'a, C: Controller, O: Sink>(
     }
 }
 
-/// Prints the inventory of one device.
+/// Prints the inventory of one device, in this wording.
 fn print_inventory<'a, C: Controller, O: Sink>(
     alloc: Global,
     ctl: &mut C,
     cmd: &Command,
+    wording: Wording,
     id: u8,
     out: &mut O,
 ) -> Result<(), Failure<'a>>
     ensures faults { O.faults out.new ≡ O.faults out.old + write_faults result }
     ensures asked { AsksAtMost cmd.now.part (C.seen ctl.old) (C.seen ctl.new) }
-    ensures runs { Runs (Job.Inventory id) cmd.now.tries
+    ensures runs { Runs (Job.Inventory wording id) cmd.now.tries
         (change (C.seen ctl.old) (C.seen ctl.new) (O.taken out.old) (O.taken out.new)) result }
 {
-    let text = inventory_piece(alloc, ctl, cmd, id, "")?;
+    let text = inventory_in(alloc, ctl, cmd, wording, id, None)?;
     write_text(text.as_bytes(), out)
 }
 
-/// Prints all inventories: that of device 0, and then the locators.
+/// Prints all inventories, in this wording: that of device 0, then those of the locators.
 fn print_inventories<'a, C: Controller, O: Sink>(
     alloc: Global,
     ctl: &mut C,
     cmd: &Command,
+    wording: Wording,
     out: &mut O,
 ) -> Result<(), Failure<'a>>
     ensures faults { O.faults out.new ≡ O.faults out.old + write_faults result }
     ensures asked { AsksAtMost cmd.now.part (C.seen ctl.old) (C.seen ctl.new) }
-    ensures runs { Runs Job.AllInventories cmd.now.tries
+    ensures runs { Runs (Job.AllInventories wording) cmd.now.tries
         (change (C.seen ctl.old) (C.seen ctl.new) (O.taken out.old) (O.taken out.new)) result }
 {
-    print_inventory(alloc, ctl, cmd, 0, out)?;
-    list_page(alloc, ctl, cmd, &Form::Device, Place::First, None, out)?;
+    print_inventory(alloc, ctl, cmd, wording, 0, out)?;
+    let form = Form::Device(wording);
+    list_page(alloc, ctl, cmd, &form, Place::First, None, out)?;
     Ok(())
 }
 
-/// Does what the command asks for over the controller, and says why it did not finish. `image rewrite` is
-/// [`Failure::Usage`], as only an image can be written again ([`execute_image`](crate::execute_image)).
+/// Runs the command over the controller. Err says why it did not finish. `image rewrite` is [`Failure::Usage`], as it
+/// works only over an image ([`execute_image`](crate::execute_image)).
 pub fn execute<'a, C: Controller, O: Sink>(
     alloc: Global,
     ctl: &mut C,
@@ -150,7 +154,7 @@ pub fn execute<'a, C: Controller, O: Sink>(
     execute_in(alloc, ctl, cmd, Wording::Codes, out)
 }
 
-/// As [`execute`], in these words.
+/// Like [`execute`], in this wording.
 pub fn execute_in<'a, C: Controller, O: Sink>(
     alloc: Global,
     ctl: &mut C,
@@ -168,14 +172,14 @@ pub fn execute_in<'a, C: Controller, O: Sink>(
         Job::Last(names, wanted, from) => list_last(alloc, ctl, cmd, names, wanted, from, out),
         Job::Events(count, from) => list_events(alloc, ctl, cmd, count, from, out),
         Job::Info(shelf) => print_info(alloc, ctl, cmd, shelf, out),
-        Job::Inventory(id) => print_inventory(alloc, ctl, cmd, id, out),
-        Job::AllInventories => print_inventories(alloc, ctl, cmd, out),
+        Job::Inventory(wording, id) => print_inventory(alloc, ctl, cmd, wording, id, out),
+        Job::AllInventories(wording) => print_inventories(alloc, ctl, cmd, wording, out),
         Job::Rewrite => Err(Failure::Usage),
     }
 }
 
-/// As [`execute`], for a listing in pages: each hands out at most as many records as its number says, by a cursor of its own,
-/// from where the page before it stopped, and after the last one comes a page without a limit.
+/// Like [`execute`], for a listing in pages. Each page lists at most as many records as its number in `pages`, with a
+/// new cursor that starts where the page before it stopped. After the last of these comes a page without a limit.
 pub fn execute_pages<'a, C: Controller, O: Sink>(
     alloc: Global,
     ctl: &mut C,

@@ -1,4 +1,5 @@
-//! What a command prints for a record. Where the text needs a reading, it is asked for here, while the record is lent.
+//! The text that a command prints for a record. If the text needs a reading, it is requested here, while the record
+//! is borrowed.
 ghost use Rattle.std.specs.Prelude.{◌≡◌, ◌+◌, ◌≤◌, IfErr, IfOk, length, Ok, option_map, string_bytes};
 ghost use Rattle.ipmi_commands.specs.Below.{AsksAtMost, row_of_record, IsHonest, largest_len, whole_len, sdr_view_of};
 ghost use Rattle.ipmi_records.specs.Sdr.{name_of};
@@ -18,7 +19,7 @@ use ipmi_records::{
 use ipmi_text::Reading;
 use std::alloc::{AllocError, Global};
 
-/// The bytes of an entry of the event log.
+/// The bytes of an event log entry, as an array.
 fn entry_bytes(bytes: &[u8]) -> &[u8; SEL_ENTRY_LEN]
     requires { length bytes.now ≡ 16 }
     ensures { result.now ≡ bytes.now }
@@ -26,7 +27,7 @@ fn entry_bytes(bytes: &[u8]) -> &[u8; SEL_ENTRY_LEN]
     bytes.first_chunk::<SEL_ENTRY_LEN>().unwrap()
 }
 
-/// Whether a record is of the kind, by its type byte.
+/// Whether a record is of this kind, according to its type byte.
 fn is_of_kind(kind: Kind, record_type: u8) -> bool
     ensures { result ≡ is_of_kind kind record_type }
 {
@@ -42,7 +43,7 @@ fn is_of_kind(kind: Kind, record_type: u8) -> bool
     }
 }
 
-/// Asks for the reading that goes with a record, if there is one. An `Ended` in the reason names the record's id.
+/// Requests the reading that belongs to a record, if there is one. An `Ended` in the error names the record's id.
 fn reading_for<C: Controller>(
     ctl: &mut C,
     id: u16,
@@ -62,7 +63,7 @@ fn reading_for<C: Controller>(
     }
 }
 
-/// The line of a record with its reading, in one of its forms.
+/// The line of a record with its reading, in this form.
 fn line_of(
     alloc: Global,
     detail: Detail,
@@ -78,7 +79,7 @@ fn line_of(
     }
 }
 
-/// The line of a record of the kind, or of its fault; nothing for one of another kind.
+/// The line of a record of this kind, or of its fault. Empty for a record of another kind.
 fn listed_line<C: Controller>(
     alloc: Global,
     ctl: &mut C,
@@ -106,7 +107,7 @@ fn listed_line<C: Controller>(
     Ok(line_of(alloc, detail, &view, reading)?)
 }
 
-/// Whether a record of this printed name has the one that is asked for.
+/// Whether a record with the printed name `own` has this name.
 fn is_name(name: &str, own: &Option<String>) -> bool
     ensures { result ≡ is_name name.now (option_map (λ text. string_bytes text) own.now) }
 {
@@ -116,7 +117,7 @@ fn is_name(name: &str, own: &Option<String>) -> bool
     }
 }
 
-/// The block of a record with its reading, in these words.
+/// The block of a record with its reading, in this wording.
 fn block_of(
     alloc: Global,
     wording: Wording,
@@ -132,7 +133,7 @@ fn block_of(
     }
 }
 
-/// The line of an entry, in codes or in words with these names.
+/// The line of an entry. With `names`, it is in words, with the names of these sensors; without, it is in codes.
 fn entry_line(
     alloc: Global,
     names: &Option<Sensors>,
@@ -147,7 +148,7 @@ fn entry_line(
     }
 }
 
-/// The block of a record with the name, nothing for one without it or with a fault.
+/// The block of a record with this name. Empty for a record without it, or with a fault.
 fn named_block<C: Controller>(
     alloc: Global,
     ctl: &mut C,
@@ -176,17 +177,17 @@ fn named_block<C: Controller>(
     Ok(block_of(alloc, wording, id, &view, reading)?)
 }
 
-/// What is printed for a record.
+/// The text of a record.
 #[derive(Drop)]
 pub(crate) enum Piece {
-    /// The line that was written for it.
+    /// The contents of the line buffer.
     Line,
-    /// A text.
+    /// A text of its own.
     Text(String),
 }
 
 impl Piece {
-    /// The bytes of the piece. `line` is the line that was written for it.
+    /// The bytes of the piece. `line` is the line buffer.
     pub(crate) fn bytes<'a>(&'a self, line: &'a LineBuffer) -> &'a [u8]
         ensures { result.now ≡ bytes_of line.now.items self.now }
     {
@@ -197,7 +198,7 @@ impl Piece {
     }
 }
 
-/// Writes the bytes of a record into `line`, in place of what it holds.
+/// Replaces the contents of `line` with the bytes of a record.
 fn copy_bytes(lent: &Record<'_>, line: &mut LineBuffer)
     requires { length lent.now.bytes.now ≤ 256 }
     ensures { line.new.items ≡ lent.now.bytes.now }
@@ -206,7 +207,7 @@ fn copy_bytes(lent: &Record<'_>, line: &mut LineBuffer)
     line.try_extend_from_slice(lent.bytes).unwrap();
 }
 
-/// What is printed of the record in this form, nothing of one that is left out.
+/// The text of the record in this form. Empty for a record that is left out. A `Piece::Line` is written to `line`.
 pub(crate) fn record_piece<C: Controller>(
     alloc: Global,
     ctl: &mut C,
@@ -242,7 +243,9 @@ pub(crate) fn record_piece<C: Controller>(
             let block = named_block(alloc, ctl, *wording, name.as_str(), tries, lent)?;
             Ok(Piece::Text(block))
         }
-        Form::Device => Ok(Piece::Text(locator_piece(alloc, ctl, cmd, lent)?)),
+        Form::Device(wording) => {
+            Ok(Piece::Text(locator_piece(alloc, ctl, cmd, *wording, lent)?))
+        }
         Form::EntryLine(names) => {
             let entry = SelView::read(entry_bytes(lent.bytes));
             Ok(Piece::Text(entry_line(alloc, names, lent.id, &entry)?))

@@ -1,4 +1,4 @@
-//! Runs a command and says how it ended, or answers it over a saved image.
+//! Runs a command over a controller or over a saved image, and reports how it ended.
 ghost use Rattle.std.specs.Prelude.{◌≡◌, ◌+◌, ◌==◌, if◌then◌else◌, true};
 ghost use Rattle.ipmi_commands.specs.Below.{AsksAtMost, is_listing, store_of_image, of_writer, write_faults};
 ghost use Rattle.ipmi_commands.specs.Prelude.{AnswersCommand, AnswersJob, AnswersLine, change, IsRewriting, job_of_command, job_of_command_in, Runs, RunsPaged, Says};
@@ -12,24 +12,26 @@ use ipmi_output::{Failure, MessageSink, Sink, say};
 use std::alloc::Global;
 use std::io::Write;
 
-/// Says to `err` why a run did not finish, and gives the exit status; 0, and nothing is said, where it did.
+/// Writes to `err` why a run did not finish, and returns the exit status. If it did finish, writes nothing and
+/// returns 0.
 pub fn report<E: MessageSink>(ending: Result<(), Failure<'_>>, err: &mut E) -> u8
     ensures { Says (E.received err.old) (E.received err.new) result (λ e. e ≡ ending.entry) }
 {
     match ending {
         Ok(()) => 0,
         Err(failure) => {
-            // there is nowhere left to tell that this failed
+            // there is nowhere left to report that this failed
             let _ = say(err, &failure);
             failure.status()
         }
     }
 }
 
-/// Does what the command asks for over the controller, says to `err` why it did not finish, and gives the exit status: 0 where
-/// all was printed, 1 where the message says what is missing or why it stopped, 2 for `image rewrite`, which only `answer` can
-/// do, 4 for a write fault, 5 where memory ran out. Of the message no clause says more than what `err` tells of its bytes: a
-/// writer that tells none may have got nothing. [`execute`] answers what is said here.
+/// Runs the command over the controller, writes to `err` why it did not finish, and returns the exit status: 0 if
+/// everything was printed, 1 if the message says what is missing or why the run stopped, 2 for `image rewrite`, which
+/// only `answer` can do, 4 for a write fault, 5 if out of memory. About the message, the contract says no more than
+/// `err` shows of its contents: a writer that shows none may have received nothing. [`execute`] returns the failure
+/// instead of writing it.
 pub fn run<C: Controller, O: Sink, E: Write>(
     alloc: Global,
     ctl: &mut C,
@@ -46,7 +48,7 @@ pub fn run<C: Controller, O: Sink, E: Write>(
     report(execute(alloc, ctl, cmd, out), err)
 }
 
-/// As [`run`], for a listing in pages ([`execute_pages`]).
+/// Like [`run`], for a listing in pages ([`execute_pages`]).
 pub fn run_pages<C: Controller, O: Sink, E: MessageSink>(
     alloc: Global,
     ctl: &mut C,
@@ -65,7 +67,7 @@ pub fn run_pages<C: Controller, O: Sink, E: MessageSink>(
     report(execute_pages(alloc, ctl, cmd, out, pages), err)
 }
 
-/// Does what the command asks for over a saved image, and says why it did not finish.
+/// Runs the command over a saved image. Err says why it did not finish.
 pub fn execute_image<'a, O: Sink>(
     alloc: Global,
     cmd: &'a Command,
@@ -79,7 +81,7 @@ pub fn execute_image<'a, O: Sink>(
     execute_image_in(alloc, cmd, Wording::Codes, image, out)
 }
 
-/// As [`execute_image`], in these words.
+/// Like [`execute_image`], in this wording.
 pub fn execute_image_in<'a, O: Sink>(
     alloc: Global,
     cmd: &'a Command,
@@ -98,7 +100,7 @@ pub fn execute_image_in<'a, O: Sink>(
     execute_in(alloc, &mut ImageController::new(image), cmd, wording, out)
 }
 
-/// Writes the text of the image.
+/// Writes the canonical text of the image.
 fn write_image<'a, O: Sink>(alloc: Global, image: &Image, out: &mut O) -> Result<(), Failure<'a>>
     ensures faults { O.faults out.new ≡ O.faults out.old + write_faults result }
     ensures answers { IsRewriting image.now (O.taken out.old) (O.taken out.new) result }
@@ -106,8 +108,9 @@ fn write_image<'a, O: Sink>(alloc: Global, image: &Image, out: &mut O) -> Result
     write_text(&image_text(alloc, image)?, out)
 }
 
-/// Answers a command line over a saved image: says to `err` why it was not done in full, and gives the exit status, as [`run`],
-/// 2 for a command line that is not valid, and 3 for an image that is not read. After a usage fault the image is not looked at.
+/// Runs a command line over a saved image, writes to `err` why it did not finish, and returns the exit status: that
+/// of [`run`], 2 for an invalid command line, and 3 if the bytes are not an image. After a usage fault the image is
+/// not read.
 pub fn answer<O: Sink, E: MessageSink>(
     alloc: Global,
     line: &Result<Command, UsageFault>,

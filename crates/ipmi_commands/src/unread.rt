@@ -1,4 +1,4 @@
-//! Why something that is to be printed was not read.
+//! Why a text to be printed is missing.
 ghost use Rattle.std.specs.Prelude.{◌≡◌};
 ghost use Rattle.ipmi_commands.specs.declared.unread.Unread.{Unread};
 
@@ -6,14 +6,14 @@ use ipmi_bus::{Ended, FruEnded};
 use ipmi_output::Failure;
 use std::alloc::AllocError;
 
-/// Why the text of a record, an info or an inventory is not there.
+/// Why the text of a record, an info or an inventory is missing.
 #[derive(Clone, Copy)]
 pub(crate) enum Unread {
     /// A reading or an info was not read, for this reason.
     Ended(Ended),
     /// The inventory of the FRU device with this id was not read, for this reason.
     Inventory(u8, FruEnded),
-    /// No memory was left.
+    /// Out of memory.
     Memory,
 }
 

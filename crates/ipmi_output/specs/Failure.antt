@@ -30,7 +30,7 @@ inventory_text id FruEnded.Stalled = codes "fru " ++ (decimal id ++ codes " stal
 inventory_text id FruEnded.Words = codes "fru " ++ (decimal id ++ codes " uses words")
 inventory_text id FruEnded.Memory = codes "out of memory"
 
--- the line of an image that is at fault
+-- the faulty line of an image
 abbrev pub fault_line : ImageFault → Option ℕ
 fault_line (ImageFault.Line line) = Some line
 fault_line (ImageFault.Hex line) = Some line
@@ -42,7 +42,7 @@ fault_line (ImageFault.AfterEnd line) = Some line
 fault_line (ImageFault.TooMany line) = Some line
 fault_line _ = None
 
--- what is wrong with it
+-- the fault of an image in words
 abbrev pub fault_words : ImageFault → List ℕ
 fault_words ImageFault.Memory = codes "out of memory"
 fault_words ImageFault.Header = codes "header"
@@ -56,7 +56,7 @@ fault_words ImageFault.NoEnd = codes "no end"
 fault_words (ImageFault.AfterEnd line) = codes "after end"
 fault_words (ImageFault.TooMany line) = codes "too many bytes"
 
--- why the input is no image
+-- why the input is not an image
 abbrev pub image_fault_words : Option ℕ → List ℕ → List ℕ
 image_fault_words (Some line) words = codes "image line " ++ (decimal line ++ (codes ": " ++ words))
 image_fault_words None words = codes "image: " ++ words
@@ -88,19 +88,19 @@ status_of_failure (Failure.Image fault) = 3
 status_of_failure Failure.Usage = 2
 status_of_failure _ = 1
 
--- of a command line that is not valid
+-- the failure for an invalid command line
 abbrev pub failure_of_usage : UsageFault → Failure
 failure_of_usage UsageFault.Memory = Failure.OutOfMemory
 failure_of_usage _ = Failure.Usage
 
--- of bytes that are no image
+-- the failure for bytes that are not an image
 abbrev pub failure_of_image : ImageFault → Failure
 failure_of_image ImageFault.Memory = Failure.OutOfMemory
 failure_of_image fault = Failure.Image fault
 
 -- ---- a run
 
--- how a run ended: whole, or by a failure
+-- how a run ended: in full, or with a failure
 abbrev pub Ending : Type 0
 Ending = Result (Unit {0}) Failure
 
@@ -113,17 +113,17 @@ status_of (Err failure) = status_of_failure failure
 abbrev pub line_text : List ℕ → List ℕ
 line_text text = text ++ codes "\n"
 
--- what is said: the message of the failure as a line, and otherwise nothing
+-- the message: that of the failure as a line; nothing after a full run
 abbrev pub said_of : Ending → List ℕ
 said_of (Ok done) = []
 said_of (Err failure) = line_text (failure_text failure)
 
--- a write fault is one fault of the output, and nothing else is
+-- the number of faults of the output: one for a write fault, otherwise none
 abbrev pub write_faults : Ending → ℕ
 write_faults (Err Failure.WriteFault) = 1
 write_faults _ = 0
 
--- ---- the pieces that messages are written in
+-- ---- the pieces of messages
 
 abbrev pub piece_text : Piece → List ℕ
 piece_text (Piece.Text text) = text.now
@@ -140,19 +140,19 @@ message_text message =
 
 -- ---- a file that can't be read
 
--- a byte of a file's name as it is printed: a control byte, below 20h or 7Fh, as `\x` and two upper-case hex digits,
--- any other as it is, a backslash too
+-- a byte of a file's name as printed: a control byte, below 20h or 7Fh, as `\x` and two upper-case
+-- hex digits; any other byte as it is, including a backslash
 abbrev pub escaped_byte : ℕ → List ℕ
 escaped_byte byte = if is_ascii_control byte then codes "\\x" ++ upper_byte byte else byte ∷ []
 
--- a file's name as it is printed: it has no line feed, so that its message is one line
+-- a file's name as printed, without line feeds, so that its message is one line
 abbrev pub escaped_name : List ℕ → List ℕ
 escaped_name name = flat_map escaped_byte name
 
 abbrev pub unreadable_text : List ℕ → List ℕ
 unreadable_text name = codes "cannot read " ++ escaped_name name
 
--- ---- the parts of a line that is said
+-- ---- the parts of a message line
 
 abbrev pub part_text : Part → List ℕ
 part_text (Part.Text text) = text.now

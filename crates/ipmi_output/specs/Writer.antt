@@ -1,4 +1,4 @@
--- The writer of a sink, and whether flushing it was a fault.
+-- The writer of a sink, and whether a flush was a fault.
 use Rattle.std.specs.Prelude.{ℕ, Result, Ok, Err}
 use Rattle.std.specs.declared.io.traits.Write.{Ghosts}
 use Rattle.ipmi_output.specs.declared.sink.Written.{Written}

@@ -1,4 +1,4 @@
-//! Why a run did not finish: the message of each failure, and its exit status.
+//! Why a run failed: the message and the exit status of each failure.
 ghost use Rattle.std.specs.Prelude.{◌≡◌, Some};
 ghost use Rattle.ipmi_output.specs.Failure.{ended_text, failure_of_image, failure_of_usage, failure_text, fault_line, fault_words, image_fault_text, inventory_text, message_text, status_of_failure};
 ghost use Rattle.ipmi_output.specs.declared.failure.Failure.{Failure};
@@ -14,7 +14,7 @@ use std::error::Error;
 use std::fmt;
 use std::marker::Model;
 
-/// A name that was asked for.
+/// A name given on the command line.
 #[derive(Clone, Debug, Drop)]
 pub struct Name<'a> {
     text: &'a str,
@@ -44,34 +44,35 @@ impl<'a> Name<'a> {
     }
 }
 
-/// Why a run did not finish. It is displayed as the message that the program says, without a line feed.
+/// Why a run failed. It displays as the program's message, without a line feed.
 #[derive(Clone, Debug, Drop)]
 pub enum Failure<'a> {
-    /// The command line is not valid, or its command can't be run over a controller.
+    /// The command line is invalid, or its command cannot be run over a controller.
     Usage,
-    /// The input is no image.
+    /// The input is not an image.
     Image(ImageFault),
     /// A record, a reading or an info was not read, for this reason.
     Ended(Ended),
     /// The inventory of the FRU device with this id was not read, for this reason.
     Inventory(u8, FruEnded),
-    /// All was printed, but names of sensors may be missing: the sensor data records go in a circle at this id.
+    /// Everything was printed, but names of sensors may be missing: the sensor data records have a cycle at this id.
     NamesCycle(u16),
-    /// All was printed, but names of sensors may be missing: no sensor data record has this id, which one names as its next.
+    /// Everything was printed, but names of sensors may be missing: a sensor data record has this next id, but no
+    /// record has that id.
     NamesMissing(u16),
     /// No record has this name.
     NoName(Name<'a>),
     /// The controller has no such info.
     NoInfo,
-    /// The output took no more.
+    /// The output failed or accepted no more bytes.
     WriteFault,
-    /// No memory was left.
+    /// Out of memory.
     OutOfMemory,
 }
 
 impl<'a> Failure<'a> {
-    /// The exit status: 1 where a record, a reading, an info or an inventory is missing or was not read, 2 for the command
-    /// line, 3 for an image that is none, 4 for the output, 5 where memory ran out.
+    /// The exit status: 1 if a record, a reading, an info or an inventory is missing or was not read, 2 for the
+    /// command line, 3 for input that is not an image, 4 for the output, 5 if out of memory.
     pub fn status(&self) -> u8
         ensures { result ≡ status_of_failure self.now }
     {
@@ -179,7 +180,7 @@ impl From<UsageFault> for Failure<'_> {
     }
 }
 
-/// No piece.
+/// The empty piece.
 const NONE: Piece<'static> = Text("");
 
 /// A message of one piece.
@@ -219,7 +220,7 @@ fn of_inventory<'a>(id: u8, ended: FruEnded) -> Message<'a>
     }
 }
 
-/// The line of an image that is at fault, counted from 1; none where it is not one line.
+/// The faulty line of an image, counted from 1. None if the fault is not in one line.
 pub fn fault_line(fault: ImageFault) -> Option<usize>
     ensures { result ≡ fault_line fault }
 {
@@ -236,7 +237,7 @@ pub fn fault_line(fault: ImageFault) -> Option<usize>
     }
 }
 
-/// What is wrong with an image, in words.
+/// The fault of an image in words.
 pub fn fault_words(fault: ImageFault) -> &'static str
     ensures { result.now ≡ fault_words fault }
 {
@@ -255,7 +256,7 @@ pub fn fault_words(fault: ImageFault) -> &'static str
     }
 }
 
-/// Why the input is no image.
+/// Why the input is not an image.
 fn of_image<'a>(fault: ImageFault) -> Message<'a>
     ensures { message_text result ≡ image_fault_text fault }
 {

@@ -1,4 +1,4 @@
-//! Where a command's output and messages go, and why a run did not finish: its message and its exit status.
+//! Sinks for a command's output and messages, and failures with their messages and exit statuses.
 #![tactic(auto)]
 
 mod failure;

@@ -1,5 +1,5 @@
-//! Says why a run did not finish, or what else a program has to say. A message is one line, written piece by piece and not made
-//! as a whole text first: so none takes memory, and the want of memory can be told as well.
+//! Writes messages: why a run failed, and others. A message is one line, written piece by piece without first
+//! building its text. So it needs no memory, and out of memory can be reported too.
 ghost use Rattle.std.specs.Prelude.{◌≡◌, ◌<◌, Some, not, true};
 ghost use Rattle.std.specs.Char.{is_ascii_control};
 ghost use Rattle.std.specs.List.{list_all};
@@ -22,13 +22,13 @@ pub(crate) enum Piece<'a> {
     Text(&'a str),
     /// A number in decimal.
     Number(usize),
-    /// A number of two bytes as four upper-case hex digits and an `h`.
+    /// A two-byte number as four upper-case hex digits and an `h`.
     Word(u16),
     /// A byte as two upper-case hex digits and an `h`.
     Byte(u8),
 }
 
-/// A message, as the texts and pieces that it has one after another.
+/// A message: its texts and pieces, in order.
 pub(crate) struct Message<'a>(pub &'a str, pub Piece<'a>, pub &'a str, pub Piece<'a>);
 
 impl<'a> fmt::Display for Piece<'a> {
@@ -44,13 +44,13 @@ impl<'a> fmt::Display for Piece<'a> {
     }
 }
 
-/// A part of a line that is said.
+/// A part of a message line.
 #[derive(Clone, Copy, Debug)]
 pub enum Part<'a> {
     /// A text as it is.
     Text(&'a str),
-    /// A name, or whatever else was typed. A control byte, below 20h or 7Fh, is written as `\x` and two upper-case hex digits, so
-    /// that the message stays one line; all others are written as they are.
+    /// A name, or other user input. A control byte, below 20h or 7Fh, is written as `\x` and two upper-case hex
+    /// digits, so that the message stays one line. All other bytes are written as they are.
     Name(&'a str),
     /// A number in decimal.
     Number(usize),
@@ -58,7 +58,7 @@ pub enum Part<'a> {
     Failure(&'a Failure<'a>),
 }
 
-/// Writes the parts as a line. Where the sink does not take all of it, it has a first part.
+/// Writes the parts as a line. After Err the sink has taken a prefix of the line.
 pub fn say_line<E: MessageSink>(err: &mut E, parts: &[Part<'_>]) -> Result<(), SinkFault>
     ensures { WritesAll (E.received err.old) (E.received err.new) result
         (line_text (joined_parts parts.now)) }
@@ -75,7 +75,7 @@ pub fn say<E: MessageSink>(err: &mut E, failure: &Failure<'_>) -> Result<(), Sin
     say_line(err, &[Part::Failure(failure)])
 }
 
-/// Writes, as a line, that what has this name could not be read, or is too long ([`say_line`]).
+/// Writes a line: the input with this name could not be read, or is too long ([`say_line`]).
 pub fn say_unreadable<E: MessageSink>(err: &mut E, name: &str) -> Result<(), SinkFault>
     ensures { WritesAll (E.received err.old) (E.received err.new) result
         (line_text (unreadable_text name.now)) }
@@ -165,7 +165,7 @@ fn write_piece<E: MessageSink>(err: &mut E, piece: &Piece<'_>) -> Result<(), Sin
     }
 }
 
-/// A number of two bytes as four upper-case hex digits and an `h`.
+/// A two-byte number as four upper-case hex digits and an `h`.
 fn word_h(word: u16) -> [u8; 5]
     ensures { result ≡ word_h word }
 {

@@ -1,17 +1,17 @@
-//! Where messages go: any writer, or a `Written`, and writing a whole text to one.
+//! Sinks for messages: any writer, or a `Written`; and writing a whole text to a sink.
 ghost use Rattle.std.specs.Prelude.{ℕ, ◌≤◌, ◌<◌, length, IfOk, Some};
 ghost use Rattle.ipmi_output.specs.Received.{Received, Receives, WritesAll, of_writer};
 
 use crate::sink::{Sink, SinkFault, Written};
 use std::io::Write;
 
-/// What takes messages, some of the bytes offered at each call. Every writer does; of a [`Written`] it is known as well
-/// how many calls were faults.
+/// A sink for messages. Each call takes some of the bytes offered. Every writer is one. For a [`Written`], contracts
+/// also know how many calls were faults.
 pub trait MessageSink {
-    /// What was taken so far, and how many calls took none or failed, where these are known.
+    /// The bytes taken so far, and the number of calls that took none or failed, as far as known.
     ghost received: { Self → Received };
 
-    /// Takes the first of the bytes, as many as it answers; where it fails, it takes none.
+    /// Takes the first `n` bytes and returns `Ok(n)`. If it fails, it takes none.
     fn offer(&mut self, bytes: &[u8]) -> Result<usize, SinkFault>
         requires { 0 < length bytes.now }
         ensures bound { IfOk result (λ n. n ≤ length bytes.now) }
@@ -34,7 +34,7 @@ impl<W: Write> MessageSink for Written<W> {
     }
 }
 
-/// Writes all the bytes, by as many calls as it takes, until one fails or takes none.
+/// Writes all bytes, in as many calls as necessary, until one fails or takes none.
 pub(crate) fn offer_all<E: MessageSink>(err: &mut E, bytes: &[u8]) -> Result<(), SinkFault>
     ensures { WritesAll (E.received err.old) (E.received err.new) result bytes.now }
 {

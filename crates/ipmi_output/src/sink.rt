@@ -1,4 +1,4 @@
-//! Where output goes: a sink, any writer as one, and writing a whole text to one.
+//! Sinks for output: any writer can be one; and writing a whole text to a sink.
 ghost use Rattle.std.specs.Prelude.{◌≡◌, ℕ, ◌≤◌, ◌<◌, ◌+◌, List, [], ◌++◌, length, IfOk, OnOk, OnErr, IsSome, Some, option_map, unwrap_or};
 ghost use Rattle.std.specs.Borrow.{ftrue};
 ghost use Rattle.ipmi_output.specs.Sink.{taken_by, faults_by, TakesPart};
@@ -8,20 +8,20 @@ use std::marker::Model;
 use std::snapshot::Snapshot;
 use thiserror::Error;
 
-/// A sink gave up: a call of it failed, or took no byte.
+/// A call of a sink failed, or took no byte.
 #[derive(Clone, Copy, Debug, PartialEq, Eq, Error)]
 #[error("write fault")]
 pub struct SinkFault;
 
-/// What takes bytes, some of those offered at each call.
+/// A sink for bytes. Each call takes some of the bytes offered.
 pub trait Sink {
     /// The bytes taken so far.
     ghost taken: { Self → List ℕ };
 
-    /// How many calls took none or failed.
+    /// The number of calls that took none or failed.
     ghost faults: { Self → ℕ };
 
-    /// Takes the first of the bytes, as many as it answers; where it fails, it takes none.
+    /// Takes the first `n` bytes and returns `Ok(n)`. If it fails, it takes none.
     fn write(&mut self, bytes: &[u8]) -> Result<usize, SinkFault>
         requires { 0 < length bytes.now }
         ensures bound { IfOk result (λ n. n ≤ length bytes.now) }
@@ -29,12 +29,12 @@ pub trait Sink {
         ensures count { faults self.new ≡ faults self.old + faults_by result };
 }
 
-/// What all calls of a sink did so far. Only contracts see it, so it costs no memory and no time.
+/// The effect of all calls of a sink so far. Only contracts see it, so it has no cost at run time.
 #[derive(Drop)]
 struct History {
-    /// The bytes taken so far, in their order.
+    /// The bytes taken so far, in order.
     pub ghost taken: { List ℕ },
-    /// How many calls took none or failed.
+    /// The number of calls that took none or failed.
     pub ghost faults: { ℕ },
 }
 
@@ -42,12 +42,12 @@ impl Model for History {
     ghost also_owns = { λ _. ftrue };
 }
 
-/// A call of a sink: what all calls before it did, if there was one; the bytes that were offered; and the answer.
+/// A call of a sink: the history before it, if there was one; the bytes offered; and the result.
 #[derive(Clone, Copy)]
 struct Call<'h, 'b>(Option<&'h History>, &'b [u8], Result<usize, SinkFault>);
 
 impl History {
-    /// What was taken before the call, and then by it.
+    /// The history after the call.
     fn after(_call: &Call<'_, '_>) -> History
         ensures { (result.taken ≡ unwrap_or (option_map (λ h. h.now.taken) _call.now.0) []
             ++ taken_by _call.now.2 _call.now.1.now)
@@ -58,11 +58,11 @@ impl History {
     }
 }
 
-/// A writer as a sink: each call is one call of the writer.
+/// A writer as a sink. Each call makes one call of the writer.
 #[derive(Drop)]
 pub struct Written<W: Write> {
     writer: W,
-    // the writer as it was handed in
+    // the writer as passed to `new`
     begun: Snapshot<W>,
     history: History,
     ghost told: { ((w : W) → IsSome (W.contents w)) → W.contents writer ≡ Some (unwrap_or (W.contents begun.value) [] ++ history.taken) },
@@ -84,7 +84,7 @@ impl<W: Write> Sink for Written<W> {
 impl<W: Write> Written<W> {
     ghost use Rattle.ipmi_output.specs.Writer.{writer_of};
 
-    /// A sink over the writer. What the writer holds already counts as taken, and no fault is counted yet.
+    /// A sink over the writer. The bytes that the writer already holds count as taken. There are no faults yet.
     pub fn new(writer: W) -> Written<W>
         ensures taken { ⟦<Written<W> as Sink>⟧.taken result ≡ unwrap_or (W.contents writer) [] }
         ensures faults { ⟦<Written<W> as Sink>⟧.faults result ≡ 0 }
@@ -93,7 +93,7 @@ impl<W: Write> Written<W> {
         Written {
             writer,
             begun,
-            // before the first call: one that took none of no bytes, and was no fault
+            // before the first call: a call with no bytes, which took none and was not a fault
             history: History::after(&Call(None, &[], Ok(1))),
         }
     }
@@ -105,7 +105,7 @@ impl<W: Write> Written<W> {
         &self.writer
     }
 
-    /// Gives back the writer. Where contracts see what a writer holds, as of a `Vec<u8>`, it holds the bytes taken.
+    /// Returns the writer. If contracts see the contents of a writer, as for a `Vec<u8>`, these are the bytes taken.
     pub fn into_inner(self) -> W
         ensures writer { result ≡ writer_of self }
         ensures bytes { ((w : W) → IsSome (W.contents w)) →
@@ -119,7 +119,7 @@ impl<W: Write + Drop> Written<BufWriter<W>> {
     ghost use Rattle.std.specs.Io.Buffered.{writer_buffer};
     ghost use Rattle.ipmi_output.specs.Writer.{flush_faults, writer_of};
 
-    /// Hands on what is in the buffer to the writer below it; where that fails, it is a fault. No byte counts as taken by it.
+    /// Flushes the buffer to the underlying writer. A failure counts as a fault. The bytes taken do not change.
     pub fn flush(&mut self) -> Result<(), SinkFault>
         ensures empty { OnOk result (writer_buffer (writer_of self.new) ≡ []) }
         ensures taken { ⟦<Written<BufWriter<W>> as Sink>⟧.taken self.new ≡ ⟦<Written<BufWriter<W>> as Sink>⟧.taken self.old }
@@ -135,7 +135,7 @@ impl<W: Write + Drop> Written<BufWriter<W>> {
     }
 }
 
-/// Writes all the bytes, by as many calls as it takes, until one fails or takes none.
+/// Writes all bytes, in as many calls as necessary, until one fails or takes none.
 #[tactic(auto, using(crate::proofs::MessageLemmas::next_bytes))]
 pub fn write_all<O: Sink>(out: &mut O, bytes: &[u8]) -> Result<(), SinkFault>
     ensures ok { OnOk result ((O.taken out.new ≡ O.taken out.old ++ bytes.now) ×

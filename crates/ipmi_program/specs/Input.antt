@@ -1,14 +1,14 @@
--- The words of a process, and why an image was not read.
+-- The words of a process, and why reading an image failed.
 use Rattle.std.specs.Prelude.{◌≡◌, ◌≢◌, ◌↔◌, ℕ, List, [], ◌∷◌, Option, Some, None, codes}
 use Rattle.std.specs.declared.io.ErrorKind.{ErrorKind}
 use Rattle.ipmi_program.specs.declared.input.InputFault.{InputFault}
 
--- its arguments, or the program's name where there are none at all
+-- its arguments, or the program's name if there are none
 abbrev pub named : List (List ℕ) → List (List ℕ)
 named [] = codes "ipmitool" ∷ []
 named (name ∷ arguments) = name ∷ arguments
 
--- of an error of this kind; that there is too much to read is none
+-- the fault for an error of this kind; it is never `TooLong`
 pub record IsFaultOf (kind : ErrorKind) (fault : InputFault) : Type 0 where
   pub memory : (kind ≡ ErrorKind.OutOfMemory) ↔ (fault ≡ InputFault.Memory)
   pub not_found : (kind ≡ ErrorKind.NotFound) ↔ (fault ≡ InputFault.NotFound)
@@ -24,7 +24,7 @@ input_fault_words InputFault.PermissionDenied = codes "permission denied"
 input_fault_words InputFault.TooLong = codes "longer than 64 MiB"
 input_fault_words InputFault.Other = codes "can't be opened or read"
 
--- what messages call the input
+-- the name of the input in messages
 abbrev pub input_name : Option (List ℕ) → List ℕ
 input_name (Some file) = file
 input_name None = codes "standard input"

@@ -1,4 +1,4 @@
-//! What a program reads: its words, and its image.
+//! The input of a program: its command-line words and its image.
 ghost use Rattle.std.specs.Prelude.{◌≡◌, ◌⊎◌, ◌<◌, ◌≤◌, IfErr, IfOk, IfSome, Some, length, map, option_map, string_bytes, vec_len};
 ghost use Rattle.std.specs.IoError.{error_kind};
 ghost use Rattle.ipmi_command_line.specs.declared.command.UsageFault.{UsageFault};
@@ -13,23 +13,23 @@ use std::fmt;
 use std::fs::{File, Files};
 use std::io::{self, ErrorKind, Input, Read};
 
-/// The most bytes of an image that are read: 64 MiB.
+/// The largest size of an image in bytes: 64 MiB.
 pub const MOST_BYTES: u64 = 64 * 1024 * 1024;
 
-/// Why an image was not read.
+/// Why reading an image failed.
 #[derive(Clone, Copy, Debug, PartialEq, Eq)]
 pub enum InputFault {
-    /// No memory was left for it.
+    /// Out of memory.
     Memory,
     /// There is no such file.
     NotFound,
-    /// It is a directory.
+    /// The file is a directory.
     IsDirectory,
-    /// The file may not be read.
+    /// There is no permission to read the file.
     PermissionDenied,
-    /// There are more than 64 MiB.
+    /// The image is longer than 64 MiB.
     TooLong,
-    /// The file can't be opened, or a read failed, for another reason.
+    /// Opening or reading failed for another reason.
     Other,
 }
 
@@ -73,8 +73,8 @@ impl From<io::Error> for InputFault {
     }
 }
 
-/// The words of a command line: the arguments of a process, the first of which is the program's name. Where there is none at
-/// all, that name is `ipmitool`.
+/// The words of a command line: the arguments of a process, starting with the program's name. Without any arguments,
+/// that name is `ipmitool`.
 pub fn words_of(alloc: Global, arguments: &[String]) -> Result<Words, AllocError>
     ensures { IfOk result (λ words. words ≡ named (map (λ argument. string_bytes argument) arguments.now)) }
 {
@@ -101,7 +101,7 @@ pub fn read_words<R: Env + AllocGlobal>(rt: &R) -> Result<Words, UsageFault>
     Ok(words_of(rt.alloc(), &arguments)?)
 }
 
-/// All bytes of the reader, up to its first empty read; more than 64 MiB are `InputFault::TooLong`.
+/// All bytes of the reader, up to its first empty read. More than 64 MiB is `InputFault::TooLong`.
 pub fn read_image<R: Read + Drop>(alloc: Global, reader: R) -> Result<Vec<u8>, InputFault>
     ensures fits { IfOk result (λ bytes. vec_len bytes ≤ 67108864) }
     ensures all { IfOk result (λ bytes. IfSome (R.remaining reader) (λ all. bytes.items ≡ all)) }
@@ -113,19 +113,19 @@ pub fn read_image<R: Read + Drop>(alloc: Global, reader: R) -> Result<Vec<u8>, I
     if bytes.len() as u64 > MOST_BYTES {
         return Err(InputFault::TooLong);
     }
-    // up to half of what the reader filled is spare
+    // up to half of the capacity is spare
     bytes.shrink_to_fit();
     Ok(bytes)
 }
 
-/// What messages call the input: the file, or standard input where none is named.
+/// The name of the input in messages: the file, or standard input if no file is given.
 pub fn input_name(file: Option<&Word>) -> &str
     ensures { result.now ≡ input_name (option_map (λ word. word.now) file.entry) }
 {
     file.map_or("standard input", |file| file.as_str())
 }
 
-/// All bytes of the file, or of standard input where none is named ([`read_image`]).
+/// All bytes of the file, or of standard input if no file is given ([`read_image`]).
 pub fn read_input<R: Files + Input + AllocGlobal>(
     rt: &R,
     file: Option<&Word>,

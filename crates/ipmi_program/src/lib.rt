@@ -1,4 +1,4 @@
-//! What a program does around a command: it reads its words and its image, and hands on what was printed.
+//! The frame of a program around a command: it reads the words and the image, and flushes the output.
 #![tactic(auto)]
 
 mod input;

@@ -1,4 +1,4 @@
-//! Prints what a command asks for, over an image or a controller, and hands on all of it.
+//! Runs a command over an image or a controller, and flushes its output.
 ghost use Rattle.std.specs.Prelude.{◌≡◌, ◌⊎◌, ◌+◌, Err, [], IsSome, unwrap_or};
 ghost use Rattle.std.specs.Io.Buffered.{writer_buffer, writer_inner};
 ghost use Rattle.ipmi_bus.specs.Seen.{AsksAtMost};
@@ -16,8 +16,8 @@ use ipmi_output::{Failure, Sink, Written};
 use std::alloc::Global;
 use std::io::{BufWriter, Write};
 
-/// Hands on what a run with this ending printed to the writer below the buffer, unless that writer took no more already. Where
-/// that fails, the run ends by a write fault.
+/// Flushes the output of a run with this ending to the writer below the buffer, unless the run already ended with a
+/// write fault. If the flush fails, the run ends with a write fault.
 fn hand_on<'a, W: Write + Drop>(
     ending: Result<(), Failure<'a>>,
     out: &mut Written<BufWriter<W>>,
@@ -34,8 +34,8 @@ fn hand_on<'a, W: Write + Drop>(
     ending
 }
 
-/// Does what the command asks for over the image, in these words, and then hands on what was printed to the writer below the buffer. Where that
-/// fails, the run ends by a write fault.
+/// Runs the command over the image with this wording, and then flushes the output to the writer below the buffer. If
+/// the flush fails, the run ends with a write fault.
 pub fn print<'a, W: Write + Drop>(
     alloc: Global,
     cmd: &'a Command,
@@ -54,7 +54,7 @@ pub fn print<'a, W: Write + Drop>(
     hand_on(ending, out)
 }
 
-/// Does what the command asks for over the controller, as [`print()`] does over an image. `image rewrite` is `Failure::Usage`.
+/// Runs the command over the controller, like [`print()`] over an image. `image rewrite` is `Failure::Usage`.
 pub fn print_live<'a, C: Controller, W: Write + Drop>(
     alloc: Global,
     ctl: &mut C,

@@ -1,4 +1,4 @@
-//! What the program does once its command line and its image are read.
+//! Runs the program after its command line and its image are read.
 ghost use Rattle.std.specs.Prelude.{◌≡◌, ◌+◌, ◌==◌, if◌then◌else◌};
 ghost use Rattle.std.specs.Io.Buffered.{writer_buffer};
 ghost use Rattle.ipmi_commands.specs.Run.{AnswersCommand};
@@ -14,25 +14,25 @@ use ipmi_program::{InputFault, input_name, print};
 use std::alloc::Global;
 use std::io::{BufWriter, Write};
 
-/// The exit status where the image can't be read.
+/// The exit status if the image cannot be read.
 const UNREADABLE: u8 = 3;
 
-/// Says that the image was not read, and gives the exit status.
+/// Reports that the image was not read, and returns the exit status.
 fn say_unread<E: MessageSink>(fault: InputFault, name: &str, err: &mut E) -> u8
     ensures { SaysUnread fault name.now (E.received err.old) (E.received err.new) result }
 {
     match fault {
         InputFault::Memory => report(Err(Failure::OutOfMemory), err),
         _ => {
-            // there is nowhere left to tell that this failed
+            // a failure here cannot be reported anywhere
             let _ = say_unreadable(err, name);
             UNREADABLE
         }
     }
 }
 
-/// Prints what the command asks for over the image, and hands all of it on to the writer below the buffer; then says to `err`
-/// why that was not done in full, if it was not, and gives the exit status.
+/// Runs the command over the image, and flushes the output to the writer below the buffer. If it did not finish, it
+/// reports why to `err`. Returns the exit status.
 pub(crate) fn answer_buffered<W: Write + Drop, E: MessageSink>(
     alloc: Global,
     line: &Result<Command, UsageFault>,

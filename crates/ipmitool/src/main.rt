@@ -1,4 +1,5 @@
-//! Lists what a saved image of a management controller holds, by the commands `fru`, `sdr` and `sel` of `ipmitool`.
+//! Lists the contents of a saved image of a management controller with the commands `fru`, `sdr` and `sel` of
+//! `ipmitool`.
 #![tactic(auto)]
 
 mod buffered;
@@ -15,8 +16,8 @@ fn main(rt: HostRuntime) -> ExitCode {
     ExitCode::from(program(&rt))
 }
 
-/// Reads the command line and, if it is a command, its image, and answers it on buffered standard output. Gives the exit
-/// status.
+/// Reads the command line and, if that is valid, the image, and runs the command with buffered standard output.
+/// Returns the exit status.
 fn program(rt: &HostRuntime) -> u8 {
     let mut err = Written::new(rt.stderr());
     let Ok(buffer) = BufWriter::new(rt.alloc(), io::writer(rt)) else {
@@ -29,12 +30,12 @@ fn program(rt: &HostRuntime) -> u8 {
         Err(_) => Ok(Vec::new(rt.alloc())),
     };
     let status = answer_buffered(rt.alloc(), &line, &input, &mut out, &mut err);
-    // what a failing flush left is not tried once more
+    // bytes left by a failed flush are not written again
     let _ = out.into_inner().into_parts();
     status
 }
 
-/// The command of the program's words.
+/// Parses the program's command line.
 fn read_command(rt: &HostRuntime) -> Result<Command, UsageFault> {
     command_of(rt.alloc(), &read_words(rt)?)
 }

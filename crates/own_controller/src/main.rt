@@ -1,7 +1,7 @@
-//! A program over a controller of its own, which has two records, the reading of the first one and
-//! an inventory, all in memory and without an image. The controller gives at most eight bytes at a
-//! time, and is busy at every third call. The program lists the records and reads the serial number
-//! of the board, both by calls of the libraries. A second example is `RawController` of ipmi_raw.
+//! An example program with its own controller. The controller has two records, the reading of the first one and an
+//! inventory, all in memory and without an image. It returns at most eight bytes per call, and is busy at every third
+//! call. The program uses the libraries to list the records and to read the serial number of the board. Another
+//! example of a controller is `RawController` of ipmi_raw.
 #![tactic(auto)]
 
 ghost use Rattle.std.specs.Prelude.{◌≡◌, ◌≤◌, MatchOption, length, drop};
@@ -20,21 +20,21 @@ use std::alloc::{AllocError, Global};
 use std::io;
 use thiserror::Error;
 
-/// A full sensor record, a temperature with the name `Temp`.
+/// A full sensor record: a temperature sensor with the name `Temp`.
 const SENSOR: &[u8] =
     b"\x01\0\x51\x01\x2f\x20\0\x01\x07\x01\x7f\x44\x01\x01\x80\x02\x80\x32\x18\0\0\x01\0\0\x01\0\0\0\0\0\0\0\0\0\0\xff\0\0\x50\x46\0\0\0\0\0\0\0\xc4Temp";
 
-/// A FRU device locator, device 0, with the name `Board`.
+/// A FRU device locator for device 0, with the name `Board`.
 const LOCATOR: &[u8] = b"\x02\0\x51\x11\x10\x20\0\x80\0\0\x10\0\x07\x01\0\xc5Board";
 
-/// A header, and a board: manufacturer, product and serial number.
+/// An inventory: a header, and a board area with manufacturer, product and serial number.
 const INVENTORY: &[u8] =
     b"\x01\0\0\x01\0\0\0\xfe\x01\x04\0\0\0\0\xc4ACME\xc2B1\xc7SN-0042\xc0\xc0\xc1\0\0\0\0\0\0\x50";
 
-/// The most bytes that one answer has.
+/// The largest number of bytes in one answer.
 const MOST: usize = 8;
 
-/// The controller, which counts its calls and claims nothing else.
+/// The controller. It counts its calls, and does not claim to be honest.
 #[derive(Drop)]
 struct Board {
     tally: Tally,
@@ -42,7 +42,7 @@ struct Board {
 }
 
 impl Board {
-    /// Counts a call for a part of so many bytes, 0 for anything else, and answers whether the board can serve it.
+    /// Counts a call for a part of `asked` bytes (0 if it is not for a part). Err if the board is busy.
     fn begin(&mut self, asked: u8) -> Result<(), Code>
         ensures counted { IsCall asked (calls_only self.old.tally.counts)
             (calls_only self.new.tally.counts) }
@@ -57,7 +57,7 @@ impl Board {
     }
 }
 
-/// Bytes from the offset on, as many as there is room for, and at most eight.
+/// Copies the bytes that start at the offset, as many as fit into `into`, but at most eight.
 fn copy_part(bytes: &[u8], offset: usize, into: &mut [u8]) -> Option<u8>
     ensures { MatchOption result (into.new ≡ into.old)
         (λ got. (got ≤ length into.old) × (drop got into.new ≡ drop got into.old)) }
@@ -137,22 +137,22 @@ impl Controller for Board {
     }
 }
 
-/// Why the serial number was not found.
+/// Why reading the serial number failed.
 #[derive(Clone, Copy, Debug, Error)]
 enum SerialError {
     /// The inventory was not read.
     #[error("the inventory was not read")]
     Unread(#[from] FruEnded),
-    /// It is no inventory.
+    /// The bytes are not an inventory.
     #[error("the inventory has no valid header")]
     Header(#[from] FruFault),
-    /// Its board area is damaged.
+    /// The board area is damaged.
     #[error("the board area is damaged")]
     Area(#[from] AreaFault),
-    /// It has no board area, or one without a serial number.
+    /// The inventory has no board area, or one without a serial number.
     #[error("the inventory has no serial number")]
     Missing,
-    /// No memory was left.
+    /// Out of memory.
     #[error("memory ran out")]
     Memory(#[from] AllocError),
 }
@@ -166,7 +166,7 @@ fn board_serial<C: Controller>(alloc: Global, ctl: &mut C) -> Result<String, Ser
     Ok(fru_text(alloc, serial.code, language, serial.bytes)?)
 }
 
-/// Prints why the listing is not whole.
+/// Prints why the listing is incomplete.
 fn explain<R: Print>(rt: &R, failure: &Failure<'_>) -> io::Result<()> {
     match failure {
         Failure::Ended(Ended::GaveUp(id)) => {
