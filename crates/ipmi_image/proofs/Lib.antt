@@ -1,7 +1,9 @@
 pub mod AgainLemmas
 pub mod BuildLemmas
+pub mod DigitLemmas
 pub mod LineLemmas
 pub mod ParseLemmas
+pub mod PlacesLemmas
 pub mod ReadLemmas
 pub mod RespondLemmas
 pub mod RewriteLemmas

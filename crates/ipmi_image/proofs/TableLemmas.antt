@@ -1,5 +1,5 @@
 -- Items found by their keys.
-use Rattle.std.proofs.Common.{◌≡◌, ℕ, zero, suc, ◌<◌, ◌≤◌, Bool, true, false, cond, nat_eq, ◌&&◌, Option, None, Some, IfSome, List, [], ◌∷◌, ◌++◌, length, drop, get_or, set, map, refl, sym, ap, subst, ◌∙◌, option_map, arith, option_and_then, is_some, slice_get, All, is_eq, nat_cmp, not, unwrap_or, true≢false}
+use Rattle.std.proofs.Common.{◌≡◌, ℕ, zero, suc, ◌<◌, ◌≤◌, Bool, true, false, cond, nat_eq, ◌&&◌, Option, None, Some, IfSome, List, [], ◌∷◌, ◌++◌, length, length-append, drop, get_or, set, map, refl, sym, ap, subst, ◌∙◌, option_map, arith, option_and_then, is_some, slice_get, All, not, unwrap_or, true≢false}
 use Rattle.std.specs.Option.{option_or}
 use Rattle.std.specs.List.{list_any, IsDistinct}
 use Rattle.std.proofs.lemmas.Option.{none-some}
@@ -158,6 +158,22 @@ index_push key items item old new index lt absent puts = record {
   below = λ q place is. grind (arith, nat_tests, index.below q place, place_of_snoc key q items item);
 }
 
+-- no item has a key that has no place
+pub absent_key : {T : Type 0} (key : T → ℕ) (items : List T) (k : ℕ) (places : ℕ → Option ℕ)
+    (found : Option ℕ) → IsIndex key items places → found ≡ places k → is_some found ≡ false
+    → place_of key k items ≡ None
+absent_key key items k places None index is none = sym (index.found k) ∙ sym is
+absent_key key items k places (Some place) index is none = absurd (true≢false none)
+
+-- before a new key comes there is room for its place
+pub index_room : {T : Type 0} (key : T → ℕ) (items : List T) (item : T) (places : ℕ → Option ℕ)
+    → IsIndex key items places → key item < 65535 → place_of key (key item) items ≡ None
+    → length items < 65535
+index_room key items item places index lt absent =
+    let few = index_len key (items ++ item ∷ []) (λ q. cond (nat_eq (key item) q) (Some (length items)) (places q)) (index_push key items item places _ index lt absent (λ q. refl)) in
+    let len = length-append items (item ∷ []) in
+    omega (arith, few, len)
+
 -- what is not there is not found
 pub not_found : {o : Option ℕ} → o ≡ None → is_some o ≡ true → ⊥
 not_found none found = true≢false (sym found ∙ ap is_some none)
@@ -178,6 +194,3 @@ index_set key items places place item d index is = record {
   distinct = subst (IsDistinct nat_eq) (sym (map-set_same key items place item d is)) index.distinct;
   below = λ q at found. index.below q at (sym (place_of_set key q items place item d is) ∙ found);
 }
-
-pub is_eq_nat_cmp : (a b : ℕ) → is_eq (nat_cmp a b) ≡ nat_eq a b
-is_eq_nat_cmp a b = grind (arith, nat_tests)

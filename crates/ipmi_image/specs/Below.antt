@@ -1,4 +1,4 @@
--- The words of the crates below that this crate cites, passed on from one place. Declares nothing.
+-- Re-exports the definitions of lower crates that this crate uses. Declares nothing.
 pub use Rattle.ipmi_text.specs.Bytes.{AreBytes}
 pub use Rattle.ipmi_text.specs.declared.reading.Reading.{Reading}
 pub use Rattle.ipmi_bus.specs.Answers.{Asked, BytesAnswers, CountsPiece, FailsWith, IsPiece, not_present, other, PartAnswers, ReserveAnswers, SizeAnswers, ValueAnswers, part_asked}

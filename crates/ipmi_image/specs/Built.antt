@@ -1,4 +1,4 @@
--- What a builder puts into an image, and the store that it makes.
+-- How each item that a builder adds changes its store.
 use Rattle.std.specs.Prelude.{ℕ, Bool, not, Option, None, Some, IsSome, is_some, if◌then◌else◌, List, [], ◌∷◌, ◌++◌}
 use Rattle.ipmi_image.specs.Below.{Reading, Row, Shelf, Sdr, Sel, Store, IsStore}
 use Rattle.ipmi_image.specs.declared.contents.Contents.{Contents}
@@ -7,7 +7,7 @@ use Rattle.ipmi_image.specs.Line.{SavedRow}
 use Rattle.ipmi_image.specs.Rewritten.{IsSaved}
 use Rattle.ipmi_image.specs.Stored.{store_of}
 
--- nothing at all
+-- a store without any items
 abbrev pub empty_store : Store
 empty_store = record {
   sdr = [];
@@ -25,19 +25,19 @@ abbrev pub with_rows : Shelf → List Row → Store → Store
 with_rows Sdr rows store = record store { sdr = rows }
 with_rows Sel rows store = record store { sel = rows }
 
--- a row as a line that says its next id
+-- a row as a line that states its next id
 abbrev pub saved_row : Row → SavedRow
 saved_row row = record { id = row.id; next = Some row.next; bytes = row.bytes }
 
--- a line for the row may come after those of these rows
+-- a line for the row is allowed after the lines of these rows
 abbrev pub may_follow : Shelf → List Row → Row → Bool
 may_follow shelf rows row = not (is_some (row_fault shelf rows (saved_row row)))
 
--- the rows, and this one after them where it may be there
+-- the rows, followed by this one if it is allowed
 abbrev pub rows_and : Bool → List Row → Row → List Row
 rows_and may rows row = if may then rows ++ row ∷ [] else rows
 
--- ---- all else
+-- ---- other items
 
 abbrev pub with_inventory : ℕ → List ℕ → Store → Store
 with_inventory id bytes store =
@@ -53,14 +53,14 @@ abbrev pub with_info : Shelf → Option (List ℕ) → Store → Store
 with_info Sdr info store = record store { sdr_info = info }
 with_info Sel info store = record store { sel_info = info }
 
--- ---- what a builder keeps
+-- ---- the invariant of a builder
 
--- each row's line says its next id
+-- each row's line states its next id
 abbrev pub HaveNext : List SavedRow → Type 0
 HaveNext [] = Unit {0}
 HaveNext (row ∷ rows) = IsSome row.next × HaveNext rows
 
--- contents that are the store of an image
+-- contents whose store is that of an image
 pub record IsBuilt (contents : Contents) : Type 0 where
   pub store : IsStore (store_of contents)
   pub saved : IsSaved (store_of contents)

@@ -1,4 +1,4 @@
--- The text of an image: its lines, the first fault among them, and the store that they make.
+-- The text of an image: its lines, their first fault, and the store that they define.
 use Rattle.std.specs.Prelude.{◌≡◌, ℕ, ◌+◌, ◌==◌, nat_lt, not, ◌&&◌, ◌||◌, Bool, true, false, if◌then◌else◌, is_some, Option, Some, None, unwrap_or, Result, Ok, Err, List, [], ◌∷◌, ◌++◌, length, slice_index, filter_map, fold, codes, bytes_eq}
 use Rattle.ipmi_image.specs.Below.{Reading, first_row, Shelf, Sdr, Sel, Row, whole_len, largest_len, id_in, Store, IsStore, Inventory, SensorReading, rows_of, info_of, inventory_of, reading_of, has_id}
 use Rattle.ipmi_image.specs.declared.image_line.LineFault.{LineFault}
@@ -7,27 +7,28 @@ use Rattle.ipmi_image.specs.declared.version.Version.{Version}
 use Rattle.ipmi_image.specs.Text.{pieces}
 use Rattle.ipmi_image.specs.Line.{SavedRow, Line, a_row, an_inventory, a_reading, an_info, the_end, line_of, id_of}
 
--- ---- the store of some lines
+-- ---- the store of a list of lines
 
--- the rows of a shelf, as their lines have them
+-- the row in a line of this shelf
 abbrev pub row_on : Shelf → Line → Option SavedRow
 row_on Sdr (a_row Sdr row) = Some row
 row_on Sel (a_row Sel row) = Some row
 row_on shelf line = None
 
--- the first row's id, FFFFh where there is no row
+-- the first row's id, FFFFh if there is no row
 abbrev pub first_id : {R : Type 0} → (R → ℕ) → List R → ℕ
 first_id id [] = 65535
 first_id id (row ∷ rows) = id row
 
--- each row with its next id: where its line has none it is the following row's, FFFFh for the last row
+-- each row with its next id: if its line has none, it is the id of the following row, and FFFFh for
+-- the last row
 abbrev pub chained : List SavedRow → List Row
 chained [] = []
 chained (row ∷ rows) =
     record { id = row.id; next = unwrap_or row.next (first_id id_of rows); bytes = row.bytes }
     ∷ chained rows
 
--- the inventories, with bytes put after those of the one with this id, or as a new one after all
+-- the inventories with these bytes appended to the one with this id, or as a new one at the end
 abbrev pub with_bytes : ℕ → List ℕ → List Inventory → List Inventory
 with_bytes id bytes [] = record { id = id; bytes = bytes } ∷ []
 with_bytes id bytes (inventory ∷ inventories) =
@@ -39,7 +40,7 @@ abbrev pub with_inventory_line : List Inventory → Line → List Inventory
 with_inventory_line inventories (an_inventory id bytes) = with_bytes id bytes inventories
 with_inventory_line inventories line = inventories
 
--- the four bytes of a reading
+-- the reading in four bytes
 abbrev pub reading_of_bytes : List ℕ → Reading
 reading_of_bytes bytes =
     record {
@@ -63,7 +64,7 @@ abbrev pub first_of : List (List ℕ) → Option (List ℕ)
 first_of [] = None
 first_of (bytes ∷ rest) = Some bytes
 
--- what these lines say, in their order
+-- the store that these lines define
 abbrev pub store_of_lines : List Line → Store
 store_of_lines lines = record {
   sdr = chained (filter_map (row_on Sdr) lines);
@@ -74,28 +75,28 @@ store_of_lines lines = record {
   sel_info = first_of (filter_map (info_on Sel) lines);
 }
 
--- ---- a line after others
+-- ---- a line after earlier lines
 
--- the fault of the first condition that holds
+-- the fault whose condition is the first to hold
 abbrev pub first_fault : List (Bool × LineFault) → Option LineFault
 first_fault [] = None
 first_fault (condition ∷ rest) = if condition.0 then Some condition.1 else first_fault rest
 
--- no whole record of the shelf, or a longer one than it may have
+-- the bytes are not a whole record of the shelf, or too long for it
 abbrev pub is_no_record : Shelf → List ℕ → Bool
 is_no_record shelf bytes =
     not (length bytes == whole_len shelf bytes) || nat_lt (largest_len shelf) (length bytes)
 
--- no id of a row after these: 0000h is only the first row's, and FFFFh none's
+-- the next row must not have this id: only the first row may have 0000h, and none may have FFFFh
 abbrev pub is_no_id : List Row → ℕ → Bool
 is_no_id rows id = ((id == 0) && is_some (first_row rows)) || (id == 65535)
 
--- the first row's bytes begin with another id than its own
+-- the row is the first one, and its bytes begin with another id than its own
 abbrev pub begins_with_another : List Row → SavedRow → Bool
 begins_with_another rows row = not (is_some (first_row rows)) && not (id_in row.bytes == row.id)
 
--- a row after these: its id, an id that one of them has, its length, and the first bytes of the first one, in this
--- order
+-- the fault of a row after these. The checks, in this order: its id, whether another row has that
+-- id, its length, and the id in the first row's bytes
 abbrev pub row_fault : Shelf → List Row → SavedRow → Option LineFault
 row_fault shelf rows row = first_fault (
     (is_no_id rows row.id, LineFault.Id)
@@ -104,14 +105,16 @@ row_fault shelf rows row = first_fault (
     ∷ (begins_with_another rows row, LineFault.FirstId)
     ∷ [])
 
--- bytes of an inventory, which may have some already: FFh is no FRU device, and it has at most 65,535 bytes
+-- the fault of bytes for an inventory, which may already have some: FFh is no FRU device, and an
+-- inventory has at most 65,535 bytes
 abbrev pub inventory_fault : ℕ → Option (List ℕ) → List ℕ → Option LineFault
 inventory_fault id already bytes = first_fault (
     (id == 255, LineFault.Id)
     ∷ (nat_lt 65535 (length (unwrap_or already []) + length bytes), LineFault.TooMany)
     ∷ [])
 
--- the reading of a sensor, which may be given already: its LUN, that it is given, its length, in this order
+-- the fault of a sensor's reading. The checks, in this order: its LUN, whether there already is a
+-- reading, its length
 abbrev pub reading_fault : ℕ → Option Reading → List ℕ → Option LineFault
 reading_fault lun already bytes = first_fault (
     (nat_lt 3 lun, LineFault.Id)
@@ -119,14 +122,14 @@ reading_fault lun already bytes = first_fault (
     ∷ (not (length bytes == 4), LineFault.Length)
     ∷ [])
 
--- an info, which may be given already: that it is given, its length
+-- the fault of an info. The checks, in this order: whether there already is one, its length
 abbrev pub info_fault : Option (List ℕ) → List ℕ → Option LineFault
 info_fault already bytes = first_fault (
     (is_some already, LineFault.Twice)
     ∷ (not (length bytes == 14), LineFault.Length)
     ∷ [])
 
--- why the line may not come after others that make this store
+-- the fault of a line after lines that define this store
 abbrev pub fault_in : Store → Line → Option LineFault
 fault_in store (a_row shelf row) = row_fault shelf (rows_of shelf store) row
 fault_in store (an_inventory id bytes) = inventory_fault id (inventory_of id store) bytes
@@ -134,7 +137,7 @@ fault_in store (a_reading lun number bytes) = reading_fault lun (reading_of lun 
 fault_in store (an_info shelf bytes) = info_fault (info_of shelf store) bytes
 fault_in store the_end = None
 
--- what the line says after these lines
+-- the contents of the line after these lines, or its fault
 abbrev pub line_judged : Version → List Line → List ℕ → Result Line LineFault
 line_judged version before text =
     elim (line_of version text) [
@@ -145,7 +148,7 @@ line_judged version before text =
 
 -- ---- all lines
 
--- a line's fault, with the line's number from 1 on; want of memory has none
+-- a line's fault with the line's number, counted from 1; out of memory has no number
 abbrev pub at_line : ℕ → LineFault → ImageFault
 at_line n LineFault.Memory = ImageFault.Memory
 at_line n LineFault.Line = ImageFault.Line n
@@ -160,13 +163,13 @@ abbrev pub is_end : Line → Bool
 is_end the_end = true
 is_end line = false
 
--- no byte comes after the line feed before these pieces
+-- no byte follows the line feed before these pieces
 abbrev pub ends_here : List (List ℕ) → Bool
 ends_here ([] ∷ []) = true
 ends_here more = false
 
--- the store of the lines before and of these up to `end`, the last one; of the pieces of a text the last is no whole
--- line
+-- the store of the earlier lines and of these lines up to `end`, which must be the last; the last
+-- piece of a text is not a whole line
 unfoldable pub store_after : Version → List Line → List (List ℕ) → Result Store ImageFault
 store_after version before (text ∷ (following ∷ rest)) =
     elim (line_judged version before text) [
@@ -178,7 +181,7 @@ store_after version before (text ∷ (following ∷ rest)) =
     ]
 store_after version before rest = Err ImageFault.NoEnd
 
--- the first line says the version
+-- the version in the first line
 abbrev pub version_in : List ℕ → Option Version
 version_in first =
     if bytes_eq first (codes "ipmi-image 1") then Some Version.One
@@ -193,13 +196,13 @@ store_of_pieces (first ∷ (following ∷ rest)) =
     ]
 store_of_pieces rest = Err ImageFault.Header
 
--- the store that the bytes of an image give, or its first fault
+-- the store of an image's bytes, or their first fault
 abbrev pub store_of_image : List ℕ → Result Store ImageFault
 store_of_image bytes = store_of_pieces (pieces 10 bytes)
 
 -- ---- a law
 
--- what the bytes of an image give is well formed
+-- the store of an image's bytes is well formed
 abbrev pub ImagesGiveStores : Type 0
 ImagesGiveStores =
     (bytes : List ℕ) (store : Store) → store_of_image bytes ≡ Ok store → IsStore store

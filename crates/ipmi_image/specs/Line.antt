@@ -1,4 +1,4 @@
--- What a line of an image says by itself, or the fault that keeps it from saying anything.
+-- The contents of one line of an image, or its fault, without regard to other lines.
 use Rattle.std.specs.Prelude.{ℕ, ◌==◌, ◌&&◌, ◌||◌, Bool, true, false, if◌then◌else◌, Option, Some, None, Result, Ok, Err, ok_or, option_map, option_and_then, List, [], ◌∷◌, length, codes, bytes_eq}
 use Rattle.std.specs.Result.{result_ok}
 use Rattle.byteorder.specs.Endian.{big_number}
@@ -8,17 +8,18 @@ use Rattle.ipmi_image.specs.declared.image_line.LineFault.{LineFault}
 use Rattle.ipmi_image.specs.declared.version.Version.{Version}
 use Rattle.ipmi_image.specs.Text.{pieces}
 
--- a row as its line has it: no next id stands for the id of the following row, or for FFFFh where none follows
+-- a row as in its line; if it has no next id, that is the id of the following row, or FFFFh if none
+-- follows
 pub record SavedRow : Type 0 where
   pub id : ℕ
   pub next : Option ℕ
   pub bytes : List ℕ
 
--- what a row is found by
+-- the key of a row
 abbrev pub id_of : SavedRow → ℕ
 id_of row = row.id
 
--- what a line says
+-- the contents of a line
 pub data Line : Type 0 where
   a_row : Shelf → SavedRow → Line
   an_inventory : (id : ℕ) → (bytes : List ℕ) → Line
@@ -32,18 +33,18 @@ abbrev pub is_some_text : List ℕ → Bool
 is_some_text [] = false
 is_some_text (character ∷ field) = true
 
--- the bytes that pairs of hex digits of either case are
+-- the bytes in pairs of hex digits of either case
 abbrev pub bytes_in : List ℕ → Option (List ℕ)
 bytes_in hex = result_ok (decode_of hex)
 
--- the number that two hex digits for each of n bytes are, the highest first
+-- the number in n bytes of two hex digits each, the highest first
 abbrev pub number_in : ℕ → List ℕ → Option ℕ
 number_in n hex = option_map (big_number n) (bytes_in hex)
 
 abbrev pub is_dash : List ℕ → Bool
 is_dash field = bytes_eq field (codes "-")
 
--- the next id: a dash stands for that of the following row, or for FFFFh where none follows
+-- the next id; a dash means the id of the following row, or FFFFh if none follows
 abbrev pub next_in : List ℕ → Option (Option ℕ)
 next_in field = if is_dash field then Some None else option_map (λ id. Some id) (number_in 2 field)
 
@@ -53,10 +54,10 @@ shelf_in word =
     else if bytes_eq word (codes "sel") then Some Sel
     else None
 
--- ---- lines, by their first word: first the fields' lengths, of which that of HEX is not 0, and then the hex digits;
--- how many bytes HEX has to be is asked after the other lines
+-- ---- lines, by their first word. The lengths of the fields are checked first (HEX must not be
+-- empty), then the hex digits. The length of HEX is checked with the other lines.
 
--- the line of two fields, or of three
+-- a line of two fields, or of three
 abbrev pub with_two : (List ℕ → List ℕ → Result Line LineFault) → List (List ℕ)
     → Result Line LineFault
 with_two line (first ∷ second ∷ []) = line first second
@@ -67,12 +68,12 @@ abbrev pub with_three : (List ℕ → List ℕ → List ℕ → Result Line Line
 with_three line (first ∷ second ∷ third ∷ []) = line first second third
 with_three line fields = Err LineFault.Line
 
--- a dash may stand for a next id
+-- a next id may be a dash
 abbrev pub takes_dashes : Version → Bool
 takes_dashes Version.One = false
 takes_dashes Version.Two = true
 
--- `sdr ID NEXT HEX` and `sel ID NEXT HEX`; NEXT may be a dash where dashes are taken
+-- `sdr ID NEXT HEX` and `sel ID NEXT HEX`; NEXT may be a dash if the version takes dashes
 abbrev pub row_line : Version → Shelf → List ℕ → List ℕ → List ℕ → Result Line LineFault
 row_line version shelf id next hex =
     if (length id == 4) && (((length next == 4) || (takes_dashes version && is_dash next)) && is_some_text hex)
@@ -90,7 +91,7 @@ inventory_line id hex =
     (number_in 1 id)) LineFault.Hex
     else Err LineFault.Line
 
--- `reading LUN NUM HEX8`; LUN is one digit, the low one of two
+-- `reading LUN NUM HEX8`; LUN is a single digit
 abbrev pub reading_line : List ℕ → List ℕ → List ℕ → Result Line LineFault
 reading_line lun number hex =
     if (length lun == 1) && ((length number == 2) && is_some_text hex)

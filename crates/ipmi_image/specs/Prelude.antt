@@ -1,4 +1,4 @@
--- The words of this crate that its code and proofs cite, passed on from one place. Declares nothing.
+-- Re-exports the definitions of this crate that its code and proofs use. Declares nothing.
 pub use Rattle.ipmi_image.specs.Built.{empty_store, HaveNext, IsBuilt, may_follow, rows_and, saved_row, with_info, with_inventory, with_reading, with_rows}
 pub use Rattle.ipmi_image.specs.Controllers.{after_mood, last_number, mood_turn, moods_left, next_mood, ReservesAfterMood, script_answer, script_last_number, script_seen, seen_after_mood, seen_of, StaysAfterMood, TurnCounts, Turns}
 pub use Rattle.ipmi_image.specs.Image.{at_line, begins_with_another, chained, ends_here, fault_in, first_fault, first_id, first_of, ImagesGiveStores, info_fault, info_on, inventory_fault, is_end, is_no_id, is_no_record, line_judged, reading_fault, reading_of_bytes, row_fault, row_on, sensor_on, store_of_image, store_of_lines, store_of_pieces, version_in, with_bytes, with_inventory_line}
@@ -10,7 +10,7 @@ pub use Rattle.ipmi_image.specs.Rewritten.{first_parts, hex_of, info_lines, inve
 unfoldable pub use Rattle.ipmi_image.specs.Rewritten.{image_text_of}
 pub use Rattle.ipmi_image.specs.Rows.{row_in, row_of}
 pub use Rattle.ipmi_image.specs.Stored.{AreInventories, AreReadings, HoldsLines, IsRead, Puts, said, sensor_of, store_of}
-pub use Rattle.ipmi_image.specs.Table.{kept_inventory, IsIndex, place_of, sensor_key}
+pub use Rattle.ipmi_image.specs.Table.{HasRoom, kept_inventory, IsIndex, place_in, place_of, sensor_key}
 unfoldable pub use Rattle.ipmi_image.specs.Text.{pieces}
 pub use Rattle.ipmi_image.specs.declared.contents.Contents.{Contents}
 pub use Rattle.ipmi_image.specs.declared.image.ImageFault.{ImageFault}

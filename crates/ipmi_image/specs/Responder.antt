@@ -1,21 +1,21 @@
--- What contracts see of an image that answers calls.
+-- The state and the answers of an image that answers calls.
 use Rattle.std.specs.Prelude.{◌≡◌, ℕ, ◌+◌, ◌-◌, ◌≤◌, ◌==◌, nat_lt, nat_le, min, if◌then◌else◌, Bool, true, false, ◌&&◌, not, Option, None, Some, Result, Ok, Err, List, [], ◌∷◌, length, drop}
 use Rattle.ipmi_image.specs.Below.{Code, FruSize, Part, Shelf, Sdr, Sel, Row, Seen, Asked, IsPiece, not_present}
 use Rattle.ipmi_image.specs.declared.responder.Responder.{Responder}
 use Rattle.ipmi_image.specs.Line.{SavedRow, id_of}
 use Rattle.ipmi_image.specs.Table.{place_of}
 
--- the place of the record that the id asks for: 0000h asks for the first
+-- the index of the record that the id requests; 0000h requests the first
 abbrev pub place_asked : ℕ → List SavedRow → Option ℕ
 place_asked id [] = None
 place_asked id (row ∷ rows) = if id == 0 then Some 0 else place_of id_of id (row ∷ rows)
 
--- how many bytes come: the least of what is asked for, of what may be given at most, and of what is
--- left after the offset
+-- the number of bytes returned: the smallest of the number requested, the largest number allowed,
+-- and the number left after the offset
 abbrev pub len_given : ℕ → ℕ → ℕ → ℕ → ℕ
 len_given asked most offset len = min (min asked most) (len - offset)
 
--- so many bytes were copied, at least one, or there is none at the offset
+-- this many bytes were copied, at least one, or there is no byte at the offset
 abbrev pub IsCopied : List ℕ → ℕ → ℕ → List ℕ → List ℕ → Option ℕ → Type 0
 IsCopied bytes offset most old new None = (length bytes ≤ offset) × (new ≡ old)
 IsCopied bytes offset most old new (Some got) =
@@ -24,28 +24,29 @@ IsCopied bytes offset most old new (Some got) =
 
 -- ---- reservations
 
--- the number after this one: 1 comes after FFFFh
+-- the number after this one; after FFFFh that is 1
 abbrev pub number_after : ℕ → ℕ
 number_after number = if number == 0xFFFF then 1 else number + 1
 
--- this is the last reservation that was given, and that of the shelf; the other shelf's stays
+-- this reservation is the last one given, and the current one of the shelf; that of the other shelf
+-- is unchanged
 abbrev pub with_reservation : Shelf → ℕ → Responder → Responder
 with_reservation Sdr number r = record r { given = number; sdr_reservation = Some number }
 with_reservation Sel number r = record r { given = number; sel_reservation = Some number }
 
--- past the first byte, and not under the last reservation of the shelf
+-- at an offset above 0, and not under the last reservation of the shelf
 abbrev pub is_stale : ℕ → ℕ → Option ℕ → Bool
 is_stale offset reservation None = nat_lt 0 offset
 is_stale offset reservation (Some last) = nat_lt 0 offset && not (last == reservation)
 
--- ---- parts: CBh for what is not there comes before C5h for a stale reservation, and that before
--- C9h for an offset at or past the end
+-- ---- parts: CBh for a missing item is checked first, then C5h for a stale reservation, then C9h
+-- for an offset at or past the end
 
 abbrev pub out_of_range : Code
 out_of_range = record { 0 = 0xC9 }
 
--- the answer to a request for a part of the record, of which so many bytes may be given at most,
--- where this is the shelf's last reservation
+-- the answer to a request for a part of the record; at most `most` bytes may be returned, and
+-- `last` is the shelf's last reservation
 abbrev pub part_answer : Asked → ℕ → Option ℕ → Option Row → Result Part Code
 part_answer ask most last None = Err not_present
 part_answer ask most last (Some row) =
@@ -53,7 +54,7 @@ part_answer ask most last (Some row) =
     else if nat_le (length row.bytes) ask.offset then Err out_of_range
     else Ok (record { next = row.next; got = len_given ask.len most ask.offset (length row.bytes) })
 
--- the answer to a request for so many bytes of the inventory, of which so many may be given at most
+-- the answer to a request for `asked` bytes of the inventory; at most `most` bytes may be returned
 abbrev pub fru_answer : ℕ → ℕ → ℕ → Option (List ℕ) → Result ℕ Code
 fru_answer offset asked most None = Err not_present
 fru_answer offset asked most (Some bytes) =
@@ -65,7 +66,8 @@ abbrev pub size_answer : Option (List ℕ) → Result FruSize Code
 size_answer None = Err not_present
 size_answer (Some bytes) = Ok (record { size = length bytes; words = false })
 
--- an image as a controller's contracts see it, where it says that it is plain or not
+-- the state of an image that a controller's contracts see; `plain` says whether it claims to be
+-- plain
 abbrev pub seen_as : Bool → Responder → Seen
 seen_as plain r = record {
   store = r.image;

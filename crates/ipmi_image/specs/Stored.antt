@@ -1,4 +1,4 @@
--- What an image keeps, as contracts see it.
+-- The contents of an image as contracts see them.
 use Rattle.std.specs.Prelude.{ℕ, ◌≡◌, ◌≢◌, ◌⊎◌, [], Option, Some, None, Result, Ok, Err, MatchResult, List, map, filter_map, fold, All, AllPairs}
 use Rattle.ipmi_image.specs.Below.{Sdr, Sel, Store, Inventory, SensorReading, IsInventory, IsSensorReading, OtherSensor}
 use Rattle.ipmi_image.specs.declared.contents.Contents.{Contents}
@@ -12,7 +12,7 @@ use Rattle.ipmi_image.specs.Image.{chained, row_on, with_inventory_line, sensor_
 abbrev pub sensor_of : StoredSensor → SensorReading
 sensor_of sensor = record { lun = sensor.lun; number = sensor.number; reading = sensor.reading }
 
--- what a line that was read says of these bytes
+-- the line that was read, with these bytes
 abbrev pub said : List ℕ → ReadLine → Line
 said bytes (ReadLine.Row shelf id next) =
     a_row shelf (record { id = id; next = next; bytes = bytes })
@@ -21,13 +21,13 @@ said bytes (ReadLine.Reading lun number) = a_reading lun number bytes
 said bytes (ReadLine.Info shelf) = an_info shelf bytes
 said bytes ReadLine.End = the_end
 
--- the line with these bytes or its fault was found, or no memory was left for it
+-- the line with these bytes was read, or its fault is returned, or memory ran out
 abbrev pub IsRead : Result Line LineFault → List ℕ → Result ReadLine LineFault → Type 0
 IsRead wanted bytes result =
     MatchResult result (λ l. wanted ≡ Ok (said bytes l))
     (λ e. (e ≡ LineFault.Memory) ⊎ (wanted ≡ Err e))
 
--- what the contents of an image are
+-- the store of an image's contents
 abbrev pub store_of : Contents → Store
 store_of contents = record {
   sdr = chained contents.sdr;
@@ -38,7 +38,7 @@ store_of contents = record {
   sel_info = contents.sel_info;
 }
 
--- inventories, and readings, that may be those of a store
+-- inventories that a store may have, and below, readings that it may have
 pub record AreInventories (inventories : List Inventory) : Type 0 where
   pub all : All IsInventory inventories
   pub distinct : AllPairs (λ a b. a.id ≢ b.id) inventories
@@ -47,7 +47,7 @@ pub record AreReadings (readings : List SensorReading) : Type 0 where
   pub all : All IsSensorReading readings
   pub distinct : AllPairs OtherSensor readings
 
--- the contents are what these lines say
+-- the contents are those of these lines
 pub record HoldsLines (contents : Contents) (lines : List Line) : Type 0 where
   pub sdr : contents.sdr ≡ filter_map (row_on Sdr) lines
   pub sel : contents.sel ≡ filter_map (row_on Sel) lines
@@ -56,7 +56,7 @@ pub record HoldsLines (contents : Contents) (lines : List Line) : Type 0 where
   pub sdr_info : contents.sdr_info ≡ first_of (filter_map (info_on Sdr) lines)
   pub sel_info : contents.sel_info ≡ first_of (filter_map (info_on Sel) lines)
 
--- this was done where there is no fault, or there is one, or no memory was left
+-- `Done` holds if there is no fault; otherwise the fault is returned; or memory ran out
 abbrev pub Puts : Option LineFault → Type 0 → Result (Unit {0}) LineFault → Type 0
 Puts fault Done result =
     MatchResult result (λ done. (fault ≡ None) × Done)

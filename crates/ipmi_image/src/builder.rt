@@ -1,4 +1,4 @@
-//! Puts an image together, thing by thing.
+//! Builds an image item by item.
 ghost use Rattle.std.specs.Prelude.{◌≡◌, ◌<◌, ◌≤◌, None, Some, IfOk, IfSome, OnErr, OnOk, [], ◌++◌, ◌∷◌, map, option_map, slice_get, vec_len};
 ghost use Rattle.ipmi_image.specs.Below.{AreBytes, inventory_in, IsShelf, IsStore, reading_in, row_of_record, rows_of, inventory_of, reading_of};
 ghost use Rattle.ipmi_image.specs.Prelude.{AreInventories, AreReadings, chained, empty_store, kept_inventory, sensor_of, HaveNext, may_follow, rows_and, with_info, with_inventory, with_reading, with_rows};
@@ -14,7 +14,7 @@ use ipmi_text::Reading;
 use std::alloc::{AllocError, Global};
 use std::marker::Model;
 
-/// An image that is being put together.
+/// An image under construction.
 #[derive(Drop)]
 pub struct ImageBuilder {
     contents: Contents,
@@ -32,7 +32,7 @@ impl Model for ImageBuilder {
     ghost invariant = { λ builder. IsBuilt builder.contents };
 }
 
-/// Puts a record after those of its shelf, and says whether it may be there.
+/// Appends a record to its shelf if it is allowed there, and returns whether it is.
 fn put_record(shelf: Shelf, rows: &mut Rows, lent: &Record<'_>) -> Result<bool, AllocError>
     requires shelf { IsShelf shelf (chained rows.old) }
     requires next { HaveNext rows.old }
@@ -55,12 +55,12 @@ fn put_record(shelf: Shelf, rows: &mut Rows, lent: &Record<'_>) -> Result<bool, 
     }
 }
 
-/// Bytes are below 256. It does nothing, and is called where that has to be known.
+/// States that bytes are below 256. It does nothing; a caller uses it to get that fact.
 fn are_bytes(_bytes: &[u8])
     ensures { AreBytes _bytes.now }
 {}
 
-/// Puts an inventory after the others.
+/// Appends an inventory.
 fn put_inventory(
     inventories: &mut Table<StoredInventory>,
     id: u8,
@@ -82,7 +82,7 @@ fn put_inventory(
     }
 }
 
-/// Puts the reading of a sensor after the others.
+/// Appends the reading of a sensor.
 fn put_reading(
     sensors: &mut Table<StoredSensor>,
     lun: u8,
@@ -110,7 +110,7 @@ fn put_reading(
 }
 
 impl ImageBuilder {
-    /// Nothing yet.
+    /// A builder without any items.
     pub fn new(alloc: Global) -> ImageBuilder
         ensures { result ≡ empty_store }
     {
@@ -119,9 +119,9 @@ impl ImageBuilder {
         }
     }
 
-    /// Puts a record after those of its shelf, and says whether it did. It does not where the record may not be there: its id
-    /// is FFFFh, or there already, or 0000h after the first record; its bytes are no whole record; or it is the first one, and
-    /// its bytes begin with another id. Err leaves all as it was.
+    /// Appends a record to its shelf, and returns whether it did. It does not if the record is not allowed there: its
+    /// id is FFFFh, or already used, or 0000h after the first record; its bytes are not a whole record; or it is the
+    /// first record, and its bytes begin with another id. After Err nothing has changed.
     pub fn put_record(&mut self, shelf: Shelf, lent: &Record<'_>) -> Result<bool, AllocError>
         ensures put { IfOk result (λ put.
             (put ≡ may_follow shelf (rows_of shelf self.old) (row_of_record lent.now)) ×
@@ -135,7 +135,7 @@ impl ImageBuilder {
         }
     }
 
-    /// Takes all records from the shelf.
+    /// Removes all records from the shelf.
     pub fn clear_records(&mut self, alloc: Global, shelf: Shelf)
         ensures { self.new ≡ with_rows shelf [] self.old }
     {
@@ -145,7 +145,7 @@ impl ImageBuilder {
         }
     }
 
-    /// The bytes of the record at a place of the shelf, counted from 0.
+    /// The bytes of the record at an index of the shelf, counted from 0.
     pub fn record_bytes(&self, shelf: Shelf, place: usize) -> Option<&[u8]>
         ensures bytes { option_map (λ bytes. bytes.now) result ≡
             option_map (λ row. row.bytes) (slice_get (rows_of shelf self.now) place) }
@@ -155,7 +155,8 @@ impl ImageBuilder {
         Some(row.bytes)
     }
 
-    /// Puts the inventory of the FRU device with this id after the others. An image has no empty one. Err leaves all as it was.
+    /// Appends the inventory of the FRU device with this id. It must not be empty, as an image has no empty
+    /// inventory. After Err nothing has changed.
     pub fn put_inventory(&mut self, id: u8, bytes: Vec<u8>) -> Result<(), AllocError>
         requires id { id < 255 }
         requires some { 0 < vec_len bytes }
@@ -167,7 +168,7 @@ impl ImageBuilder {
         put_inventory(&mut self.contents.inventories, id, bytes)
     }
 
-    /// Puts what a sensor answers after what the others do. Err leaves all as it was.
+    /// Appends the reading of a sensor. After Err nothing has changed.
     pub fn put_reading(&mut self, lun: u8, number: u8, reading: Reading) -> Result<(), AllocError>
         requires lun { lun < 4 }
         requires none { reading_of lun number self.old ≡ None }
@@ -177,7 +178,7 @@ impl ImageBuilder {
         put_reading(&mut self.contents.sensors, lun, number, reading)
     }
 
-    /// Keeps the info of a shelf, in place of the one that was there.
+    /// Sets the info of a shelf. It replaces an earlier one.
     pub fn put_info(&mut self, shelf: Shelf, info: [u8; INFO_LEN])
         ensures { self.new ≡ with_info shelf (Some info) self.old }
     {
@@ -188,7 +189,7 @@ impl ImageBuilder {
         }
     }
 
-    /// The image that was put together.
+    /// The finished image.
     pub fn finish(self) -> Image
         ensures is { result ≡ self }
         ensures store { IsStore result }

@@ -1,4 +1,4 @@
-//! What the lines of an image say, one after the other.
+//! Collects the contents of an image line by line.
 ghost use Rattle.std.specs.Prelude.{◌≡◌, ◌++◌, ◌∷◌, [], ◌≤◌, List, not, IsTrue, IfErr, IfSome, OnErr, OnOk, Some, None, unwrap_or, is_some, length, map};
 ghost use Rattle.ipmi_image.specs.Below.{IsShelf, IsStore, rows_of, IsInfo, inventory_in, reading_in};
 ghost use Rattle.ipmi_image.specs.Line as lines;
@@ -15,13 +15,13 @@ use ipmi_bus::{
 use ipmi_text::{Reading, SDR_HEADER_LEN, sdr_len};
 use std::alloc::Global;
 
-/// The highest LUN, which is a number of two bits.
+/// The highest LUN: a LUN has two bits.
 const LARGEST_LUN: u8 = 3;
 
-/// The bytes of a reading.
+/// The length of a reading in bytes.
 const READING_LEN: usize = 4;
 
-/// What the lines so far say.
+/// The contents of the lines read so far.
 #[derive(Drop)]
 pub(crate) struct Contents {
     pub(crate) sdr: Rows,
@@ -32,7 +32,7 @@ pub(crate) struct Contents {
     pub(crate) sel_info: Option<[u8; INFO_LEN]>,
 }
 
-/// Whether the bytes are as many as a whole record of the shelf.
+/// Whether the number of bytes is that of a whole record of the shelf.
 fn is_whole(shelf: Shelf, bytes: &[u8]) -> bool
     ensures whole { result ≡ not (is_no_record shelf bytes.now) }
     ensures some { IsTrue result → 5 ≤ length bytes.now }
@@ -45,7 +45,7 @@ fn is_whole(shelf: Shelf, bytes: &[u8]) -> bool
     }
 }
 
-/// Whether a record after these may not have this id: FFFFh, or 0000h where it is not the first.
+/// Whether the next record must not have this id: it is FFFFh, or 0000h after the first record.
 #[tactic(auto, using(crate::proofs::TableLemmas::is_empty_chained))]
 fn is_no_id(rows: &Rows, id: u16) -> bool
     ensures { result ≡ is_no_id (chained rows.now) id }
@@ -53,7 +53,7 @@ fn is_no_id(rows: &Rows, id: u16) -> bool
     (id == FIRST_RECORD_ID && !rows.is_empty()) || id == NO_NEXT_ID
 }
 
-/// Whether the record is the first, and its bytes begin with another id.
+/// Whether the record is the first one and its bytes begin with another id.
 #[tactic(auto, using(crate::proofs::TableLemmas::is_empty_chained))]
 fn begins_with_another(rows: &Rows, row: &StoredRow) -> bool
     requires { 2 ≤ length row.now.bytes.now }
@@ -62,7 +62,7 @@ fn begins_with_another(rows: &Rows, row: &StoredRow) -> bool
     rows.is_empty() && record_id(row.bytes) != row.id
 }
 
-/// Why the bytes of the record do not fit: their number, or the id that they begin with.
+/// The fault of the record's bytes: a wrong length, or a wrong id at their start.
 fn bytes_fault(shelf: Shelf, rows: &Rows, row: &StoredRow) -> Option<LineFault>
     ensures { result ≡ first_fault ((is_no_record shelf row.now.bytes.now, LineFault.Length) ∷
         (begins_with_another (chained rows.now) (row_of row.now), LineFault.FirstId) ∷ []) }
@@ -76,7 +76,7 @@ fn bytes_fault(shelf: Shelf, rows: &Rows, row: &StoredRow) -> Option<LineFault>
     None
 }
 
-/// Puts a record after those of its shelf, or says why it may not come there.
+/// Appends a record to its shelf, or returns why it is not allowed there.
 #[tactic(auto, using(crate::proofs::TableLemmas::has_id_chained))]
 pub(crate) fn put_row(
     shelf: Shelf,
@@ -107,7 +107,7 @@ pub(crate) fn put_row(
     Ok(())
 }
 
-/// How many bytes the inventory has so far.
+/// The length of the inventory so far, in bytes.
 #[tactic(auto, using(crate::proofs::TableLemmas::inventory_in_place))]
 fn inventory_len(inventories: &Table<StoredInventory>, id: u8) -> usize
     ensures { result ≡ length (unwrap_or (inventory_in (map kept_inventory inventories.now) id)
@@ -118,7 +118,7 @@ fn inventory_len(inventories: &Table<StoredInventory>, id: u8) -> usize
         .map_or(0, |inventory| inventory.bytes.len())
 }
 
-/// Why the bytes may not be those of the inventory, or more of it.
+/// Why these bytes cannot be appended to the inventory.
 #[tactic(auto, using(crate::proofs::StoreLemmas::inventory_fits))]
 fn inventory_fault(inventories: &Table<StoredInventory>, id: u8, bytes: &[u8]) -> Option<LineFault>
     requires { AreInventories (map kept_inventory inventories.now) }
@@ -134,7 +134,7 @@ fn inventory_fault(inventories: &Table<StoredInventory>, id: u8, bytes: &[u8]) -
     None
 }
 
-/// Puts the bytes after those of their inventory.
+/// Appends the bytes to their inventory.
 fn put_inventory(
     alloc: Global,
     inventories: &mut Table<StoredInventory>,
@@ -161,7 +161,7 @@ fn put_inventory(
     Ok(())
 }
 
-/// Whether the sensor has a reading already.
+/// Whether the sensor already has a reading.
 #[tactic(auto, using(crate::proofs::TableLemmas::is_some_reading_in))]
 fn has_reading(sensors: &Table<StoredSensor>, lun: u8, number: u8) -> bool
     requires { AreReadings (map sensor_of sensors.now) }
@@ -170,7 +170,7 @@ fn has_reading(sensors: &Table<StoredSensor>, lun: u8, number: u8) -> bool
     sensors.place(sensor_key(lun, number)).is_some()
 }
 
-/// Why the bytes may not be the reading of the sensor.
+/// Why these bytes cannot be the reading of the sensor.
 fn reading_fault(
     sensors: &Table<StoredSensor>,
     lun: u8,
@@ -193,7 +193,7 @@ fn reading_fault(
     None
 }
 
-/// Puts the reading of a sensor after the others.
+/// Appends the reading of a sensor.
 fn put_reading(
     sensors: &mut Table<StoredSensor>,
     lun: u8,
@@ -223,7 +223,7 @@ fn put_reading(
     Ok(())
 }
 
-/// Keeps the info of a shelf, or says why it may not come.
+/// Sets the info of a shelf, or returns why it is not allowed.
 fn put_info(info: &mut Option<[u8; INFO_LEN]>, bytes: &[u8]) -> Result<(), LineFault>
     ensures keeps { OnOk result (IfSome info.new IsInfo) }
     ensures put { Puts (info_fault info.old bytes.now) (info.new ≡ Some bytes.now) result }
@@ -240,7 +240,7 @@ fn put_info(info: &mut Option<[u8; INFO_LEN]>, bytes: &[u8]) -> Result<(), LineF
 }
 
 impl Contents {
-    /// The records of the shelf, in their order.
+    /// The records of the shelf, in order.
     pub(crate) fn rows(&self, shelf: Shelf) -> &Rows
         ensures { chained result.now ≡ rows_of shelf (store_of self.now) }
     {
@@ -250,7 +250,7 @@ impl Contents {
         }
     }
 
-    /// Nothing yet.
+    /// The contents of no lines.
     pub(crate) fn new(alloc: Global) -> Contents
         ensures empty { HoldsLines result [] }
         ensures store { IsStore (store_of result) }
@@ -266,7 +266,7 @@ impl Contents {
         }
     }
 
-    /// Puts what a line with these bytes says after what the lines before say.
+    /// Adds the contents of a line with these bytes to those of the lines before it.
     pub(crate) fn put(&mut self, alloc: Global, line: Line, bytes: &[u8]) -> Result<(), LineFault>
         requires { IsStore (store_of self.old) }
         ensures keeps { OnOk result (IsStore (store_of self.new)) }

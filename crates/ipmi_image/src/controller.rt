@@ -8,19 +8,18 @@ use crate::responder::Responder;
 use ipmi_bus::{Code, Controller, FruSize, LARGEST_PART, Part, Shelf};
 use ipmi_text::Reading;
 
-/// A controller over an image. A part has as many bytes as were asked for, or as are left. The
-/// reservations of both shelves are numbered together: 1, 2, and so on, and 1 again after FFFFh.
+/// A controller over an image. A part has as many bytes as requested, or fewer if fewer are left. The reservations of
+/// both shelves share one sequence of numbers: 1, 2, and so on, and 1 again after FFFFh.
 ///
-/// The first of these codes that applies is the answer: CBh for what the image does not have; C5h
-/// for a part past the first byte under another reservation than the last one given for the shelf;
-/// C9h for an offset at or past the end.
+/// It answers with the first of these codes that applies: CBh if the image does not have the item; C5h for an offset
+/// above 0 under a reservation that is not the last one given for the shelf; C9h for an offset at or past the end.
 #[derive(Drop)]
 pub struct ImageController {
     responder: Responder,
 }
 
 impl ImageController {
-    /// A controller that holds what the image does. No reservation is current.
+    /// A controller with the contents of the image. No reservation is current.
     pub fn new(image: Image) -> ImageController
         ensures plain { IsPlain (seen_of result) }
         ensures store { (seen_of result).store ≡ image }

@@ -15,35 +15,36 @@ use std::alloc::Global;
 use std::marker::Model;
 use thiserror::Error;
 
-/// Why an image was not read. Lines are numbered from 1; the first faulty line decides.
+/// Why reading an image failed. Lines are numbered from 1; the first faulty line is reported.
 #[derive(Clone, Copy, Debug, PartialEq, Eq, Error)]
 pub enum ImageFault {
-    /// No memory was left.
+    /// Out of memory.
     #[error("out of memory")]
     Memory,
-    /// The bytes do not begin with `ipmi-image 1` or `ipmi-image 2` and a line feed.
+    /// The bytes do not begin with the line `ipmi-image 1` or `ipmi-image 2`.
     #[error("header")]
     Header,
-    /// The line has an unknown first word, a wrong number of fields, a field before HEX that is too short or too long, an
-    /// empty HEX, or after `info` neither `sdr` nor `sel`.
+    /// The line has an unknown first word, a wrong number of fields, a field before HEX that is too short or too
+    /// long, an empty HEX, or `info` without `sdr` or `sel` after it.
     #[error("line {0}: not a line")]
     Line(usize),
-    /// A hex field has a character that is no hex digit, or an odd number of them.
+    /// A hex field has a character that is not a hex digit, or an odd number of digits.
     #[error("line {0}: hex")]
     Hex(usize),
-    /// A record's id FFFFh, or 0000h after the first record of its shelf; the FRU device FFh; or a LUN above 3.
+    /// A record has the id FFFFh, or 0000h after the first record of its shelf; the FRU device is FFh; or the LUN is
+    /// above 3.
     #[error("line {0}: id")]
     Id(usize),
-    /// The id is on its shelf already, or the reading or the info is given already.
+    /// The shelf already has a record with this id, or there already is such a reading or info.
     #[error("line {0}: twice")]
     Twice(usize),
-    /// The record, the reading or the info does not have its number of bytes.
+    /// The record, the reading or the info has the wrong length.
     #[error("line {0}: length")]
     Length(usize),
     /// The bytes of the first record of its shelf do not begin with its id.
     #[error("line {0}: first id")]
     FirstId(usize),
-    /// The whole lines run out before `end`.
+    /// There is no whole line `end`.
     #[error("no end")]
     NoEnd,
     /// Something comes after the line `end`.
@@ -72,7 +73,7 @@ impl LineFault {
     }
 }
 
-/// What the lines after the first one say, up to `end`, the last one.
+/// The contents of the lines after the first one. The last line must be `end`.
 fn read_lines(alloc: Global, version: Version, text: &[u8]) -> Result<Contents, ImageFault>
     ensures ok { IfOk result (λ contents. IsStore (store_of contents) ×
         (store_after version [] (pieces 10 text.now) ≡ Ok (store_of contents))) }
@@ -105,7 +106,7 @@ fn read_lines(alloc: Global, version: Version, text: &[u8]) -> Result<Contents, 
     }
 }
 
-/// What a management controller holds, as saved in an image.
+/// The contents of a management controller, as saved in an image.
 #[derive(Drop)]
 pub struct Image {
     contents: Contents,
@@ -152,7 +153,7 @@ impl Image {
         Image { contents }
     }
 
-    /// What the image holds.
+    /// The contents of the image.
     pub(crate) fn contents(&self) -> &Contents
         ensures is { store_of result.now ≡ self.now }
         ensures luns { All (λ sensor. sensor.lun ≤ 3) result.now.sensors }
@@ -162,7 +163,7 @@ impl Image {
         &self.contents
     }
 
-    /// The records of the shelf, in their order.
+    /// The records of the shelf, in order.
     pub(crate) fn rows(&self, shelf: Shelf) -> &Rows
         ensures { chained result.now ≡ rows_of shelf self.now }
     {

@@ -1,14 +1,14 @@
-//! What one line of an image says, and how it is read.
+//! Reads one line of an image.
 ghost use Rattle.ipmi_image.specs.declared.image_line.LineFault.{LineFault};
-ghost use Rattle.std.specs.Prelude.{◌≡◌, ℕ, List, ◌==◌, ◌&&◌, ◌||◌, [], ◌∷◌, ◌≢◌, MatchBool, MatchOption, IsTrue, Some, None, Ok, Err, ok_or, length};
+ghost use Rattle.std.specs.Prelude.{◌≡◌, ℕ, List, ◌==◌, ◌&&◌, ◌||◌, [], ◌∷◌, ◌++◌, ◌≢◌, IfSome, MatchBool, MatchOption, IsTrue, Some, None, Ok, Err, ok_or, length};
 ghost use Rattle.ipmi_image.specs.Prelude.{pieces, is_dash, next_in, shelf_in, with_two, with_three, row_line, inventory_line, reading_line, info_line, line_of, is_end, said, IsRead};
 
-use crate::text::{cut, read_bytes, read_digit, read_u8, read_u16};
+use crate::text::{cut, cut_at, read_bytes, read_digit, read_u8, read_u16};
 use crate::version::Version;
 use ipmi_bus::Shelf;
 use std::alloc::AllocError;
 
-/// Why a line is refused, or no memory was left for it. Each variant comes when the `ImageFault` of its name does.
+/// Why reading a line failed. Each variant has the meaning of the `ImageFault` of the same name.
 #[derive(Clone, Copy)]
 pub(crate) enum LineFault {
     Memory,
@@ -22,7 +22,7 @@ pub(crate) enum LineFault {
 }
 
 impl LineFault {
-    /// Whether no memory was left.
+    /// Whether the fault is out of memory.
     pub(crate) fn is_memory(self) -> bool
         ensures { MatchBool result (self ≡ LineFault.Memory) (self ≢ LineFault.Memory) }
     {
@@ -38,11 +38,11 @@ impl From<AllocError> for LineFault {
     }
 }
 
-/// What a line says, without the bytes of its last field, which are kept apart.
+/// The contents of a line, without the bytes of its last field, which are kept separately.
 #[derive(Clone, Copy)]
 pub(crate) enum Line {
-    /// A record of a shelf. Where `next` is None, its next id is that of the following record, or
-    /// FFFFh for the last one.
+    /// A record of a shelf. If `next` is None, its next id is the id of the following record, or FFFFh for the last
+    /// record.
     Row {
         shelf: Shelf,
         id: u16,
@@ -50,12 +50,12 @@ pub(crate) enum Line {
     },
     /// More bytes of the inventory of the FRU device with this id.
     Inventory(u8),
-    /// What the sensor with this number answers at this LUN.
+    /// The reading of the sensor with this number at this LUN.
     Reading {
         lun: u8,
         number: u8,
     },
-    /// What the shelf's repository info is.
+    /// The shelf's repository info.
     Info(Shelf),
     /// The last line.
     End,
@@ -70,6 +70,19 @@ impl Line {
     }
 }
 
+/// The first word, and what comes after it and a space. A shelf's, which most lines have, is looked at first.
+fn first_word(line: &[u8]) -> Option<(&[u8], &[u8])>
+    ensures { MatchOption result (pieces 32 line.now ≡ line.now ∷ [])
+        (λ parts. pieces 32 line.now ≡ parts.0.now ∷ pieces 32 parts.1.now) }
+{
+    if let Some((word, fields)) = cut_at(line, b' ', 3) {
+        if parse_shelf(word).is_some() {
+            return Some((word, fields));
+        }
+    }
+    cut(line, b' ')
+}
+
 /// The two fields, where there are two.
 fn two(fields: &[u8]) -> Option<(&[u8], &[u8])>
     ensures { MatchOption result ((line : _) → with_two line (pieces 32 fields.now) ≡ Err
@@ -82,7 +95,7 @@ fn two(fields: &[u8]) -> Option<(&[u8], &[u8])>
     }
 }
 
-/// The three fields, where there are three.
+/// The three fields, if there are exactly three.
 #[tactic(auto, using(crate::proofs::LineLemmas::with_three_two))]
 fn three(fields: &[u8]) -> Option<(&[u8], &[u8], &[u8])>
     ensures { MatchOption result ((line : _) → with_three line (pieces 32 fields.now) ≡ Err
@@ -93,7 +106,7 @@ fn three(fields: &[u8]) -> Option<(&[u8], &[u8], &[u8])>
     Some((first, second, third))
 }
 
-/// The next id; a dash stands for that of the following row.
+/// The next id; a dash means the id of the following row.
 fn parse_next(field: &[u8]) -> Result<Option<u16>, LineFault>
     requires { IsTrue ((length field.now == 4) || is_dash field.now) }
     ensures { result ≡ ok_or (next_in field.now) LineFault.Hex }
@@ -105,7 +118,7 @@ fn parse_next(field: &[u8]) -> Result<Option<u16>, LineFault>
     Ok(Some(id))
 }
 
-/// The shelf that a word names.
+/// The shelf named by a word.
 fn parse_shelf(word: &[u8]) -> Option<Shelf>
     ensures { result ≡ shelf_in word.now }
 {
@@ -114,6 +127,36 @@ fn parse_shelf(word: &[u8]) -> Option<Shelf>
         b"sel" => Some(Shelf::Sel),
         _ => None,
     }
+}
+
+/// The three fields, where a space comes after four characters, and again after four more or after one.
+fn three_at_places(fields: &[u8]) -> Option<(&[u8], &[u8], &[u8])>
+    ensures { IfSome result (λ t. fields.now ≡ t.0.now ++ 32 ∷ (t.1.now ++ 32 ∷ t.2.now)) }
+{
+    let (first, rest) = cut_at(fields, b' ', 4)?;
+    let (second, third) = cut_at(rest, b' ', 4).or_else(|| cut_at(rest, b' ', 1))?;
+    Some((first, second, third))
+}
+
+/// Reads `ID NEXT HEX`, cut at its spaces.
+fn read_row(
+    bytes: &mut Vec<u8>,
+    version: Version,
+    shelf: Shelf,
+    id: &[u8],
+    next: &[u8],
+    hex: &[u8],
+) -> Result<Line, LineFault>
+    ensures { IsRead (row_line version shelf id.now next.now hex.now) bytes.new.items result }
+{
+    let is_next = next.len() == 4 || (version.takes_dashes() && matches!(next, b"-"));
+    if id.len() != 4 || !is_next || hex.is_empty() {
+        return Err(LineFault::Line);
+    }
+    let id = read_u16(id).ok_or(LineFault::Hex)?;
+    let next = parse_next(next)?;
+    read_bytes(bytes, hex)?;
+    Ok(Line::Row { shelf, id, next })
 }
 
 /// Reads `ID NEXT HEX` after the name of a shelf.
@@ -125,15 +168,17 @@ fn parse_row(
 ) -> Result<Line, LineFault>
     ensures { IsRead (with_three (row_line version shelf) (pieces 32 fields.now)) bytes.new.items result }
 {
-    let (id, next, hex) = three(fields).ok_or(LineFault::Line)?;
-    let is_next = next.len() == 4 || (version.takes_dashes() && matches!(next, b"-"));
-    if id.len() != 4 || !is_next || hex.is_empty() {
-        return Err(LineFault::Line);
+    if let Some((id, next, hex)) = three_at_places(fields) {
+        match read_row(bytes, version, shelf, id, next, hex) {
+            // what is read has no space, so that it is three fields
+            Ok(line) => return Ok(line),
+            Err(LineFault::Memory) => return Err(LineFault::Memory),
+            // a space may be where a digit is missing
+            Err(_) => {}
+        }
     }
-    let id = read_u16(id).ok_or(LineFault::Hex)?;
-    let next = parse_next(next)?;
-    read_bytes(bytes, hex)?;
-    Ok(Line::Row { shelf, id, next })
+    let (id, next, hex) = three(fields).ok_or(LineFault::Line)?;
+    read_row(bytes, version, shelf, id, next, hex)
 }
 
 /// Reads `ID HEX` after `fru`.
@@ -176,7 +221,8 @@ fn parse_info(bytes: &mut Vec<u8>, fields: &[u8]) -> Result<Line, LineFault>
     Ok(Line::Info(shelf))
 }
 
-/// Reads a line without its line feed, and the bytes that it has; in version 2 a row's NEXT may be a dash.
+/// Reads a line (without its line feed), and stores the bytes of its last field in `bytes`. In version 2 a row's NEXT
+/// may be a dash.
 #[tactic(auto, using(crate::proofs::TextLemmas::length_pieces), unfolding(crate::specs::Line::line_of))]
 pub(crate) fn read_line(
     bytes: &mut Vec<u8>,
@@ -185,13 +231,13 @@ pub(crate) fn read_line(
 ) -> Result<Line, LineFault>
     ensures { IsRead (line_of version line.now) bytes.new.items result }
 {
-    let Some((word, fields)) = cut(line, b' ') else {
+    let Some((word, fields)) = first_word(line) else {
         if matches!(line, b"end") {
             return Ok(Line::End);
         }
         return Err(LineFault::Line);
     };
-    // a match on these words has 18 default arms, each with a goal of its own
+    // a match on these words would have 18 default arms, each with its own goal
     if word == b"sdr".as_slice() {
         parse_row(bytes, version, Shelf::Sdr, fields)
     } else if word == b"sel".as_slice() {

@@ -4,10 +4,12 @@
 mod builder;
 mod contents;
 mod controller;
+mod digits;
 mod image;
 mod image_line;
 pub mod laws;
 mod line_buffer;
+mod places;
 mod responder;
 mod rewrite;
 mod rows;

@@ -1,4 +1,4 @@
-//! The line of a single record, written with no memory taken.
+//! The line of a single record, written without allocation.
 ghost use Rattle.std.specs.Prelude.{◌≡◌, ◌+◌, ◌*◌, ◌++◌, ◌≤◌, ◌∷◌, [], length};
 ghost use Rattle.hex.specs.Hex.{encode_lower};
 ghost use Rattle.ipmi_image.specs.Below.{row_of_record};
@@ -7,11 +7,11 @@ ghost use Rattle.ipmi_image.specs.Prelude.{hex_of, record_line_of};
 use arrayvec::ArrayVec;
 use ipmi_bus::Record;
 
-/// A line of a record, with room for the longest: a word, two ids of four digits, 256 bytes in hex, three spaces and a
-/// line feed.
+/// A buffer for the line of a record. The longest line has a word, two ids of four digits, 256 bytes in hex, three
+/// spaces and a line feed.
 pub type LineBuffer = ArrayVec<u8, 527>;
 
-/// Appends bytes that there is room for.
+/// Appends bytes that fit.
 fn push(line: &mut LineBuffer, bytes: &[u8])
     requires { length line.old.items + length bytes.now ≤ 527 }
     ensures items { line.new.items ≡ line.old.items ++ bytes.now }
@@ -44,9 +44,9 @@ fn push_hex(line: &mut LineBuffer, bytes: &[u8])
     push(line, digits);
 }
 
-/// Writes into `line`, in place of what it holds, the line of a record as an image of version 1 has it:
-/// `sdr ID NEXT HEX` and a line feed, ids in four hex digits, all hex in lower case. NEXT is never a dash, so that the
-/// line says it by itself. A record of at most 256 bytes has room, and no memory is taken.
+/// Overwrites `line` with the line of a record as in an image of version 1: `sdr ID NEXT HEX` and a line feed, ids in
+/// four hex digits, all hex in lower case. NEXT is never a dash, so the line is complete by itself. The line of a
+/// record of at most 256 bytes fits, and nothing is allocated.
 pub fn record_line(lent: &Record<'_>, line: &mut LineBuffer)
     requires { length lent.now.bytes.now ≤ 256 }
     ensures { line.new.items ≡ record_line_of (row_of_record lent.now) }

@@ -1,4 +1,4 @@
-//! What an image answers to a controller's calls.
+//! The answers of an image to a controller's calls.
 ghost use Rattle.std.specs.Prelude.{◌≡◌, ◌+◌, ◌<◌, ◌≤◌, ◌≢◌, true, false, MatchBool, IfOk, OnErr, Ok, ok_or, Some, None, length, drop, option_map, unwrap_or};
 ghost use Rattle.ipmi_image.specs.Below.{IsCall, failing_code, look, current, not_present, row_of_record, class_of, IsStore, rows_of, info_of, reading_of, inventory_of, IsHonest, FailsWith, ReserveAnswers, PartAnswers, ValueAnswers, SizeAnswers, BytesAnswers, part_asked};
 ghost use Rattle.ipmi_image.specs.Prelude.{chained, first_id, seen_as, place_asked, IsCopied, number_after, with_reservation, part_answer, fru_answer, size_answer, id_of};
@@ -8,7 +8,7 @@ use crate::rows::Rows;
 use ipmi_bus::{Code, Event, FIRST_RECORD_ID, FruSize, INFO_LEN, Part, Record, Shelf, Tally};
 use ipmi_text::Reading;
 
-/// The place of the record that the id asks for: 0000h asks for the first. It is looked for near a place first.
+/// The index of the record that the id requests; 0000h requests the first. The search begins near the index `near`.
 #[tactic(auto, using(crate::proofs::RespondLemmas::place_asked_id, crate::proofs::RespondLemmas::place_asked_first))]
 fn place_of(rows: &Rows, near: usize, id: u16) -> Option<usize>
     ensures { result ≡ place_asked id rows.now }
@@ -22,7 +22,7 @@ fn place_of(rows: &Rows, near: usize, id: u16) -> Option<usize>
     Some(0)
 }
 
-/// The next id of the record at the place: the following record's where it has none.
+/// The next id of the record at the index: `next`, or if that is None the id of the following record.
 fn next_of(rows: &Rows, place: usize, next: Option<u16>) -> u16
     requires { place < 65535 }
     ensures { result ≡ unwrap_or next (first_id id_of (drop (place + 1) rows.now)) }
@@ -30,7 +30,7 @@ fn next_of(rows: &Rows, place: usize, next: Option<u16>) -> u16
     next.unwrap_or_else(|| rows.id_at(place + 1))
 }
 
-/// The record that the id asks for, with its place. It is looked for near a place first.
+/// The record that the id requests, with its index. The search begins near the index `near`.
 #[tactic(auto, using(crate::proofs::RespondLemmas::look_chained))]
 fn look_up(rows: &Rows, near: usize, id: u16) -> Option<(usize, Record<'_>)>
     ensures { option_map (λ found. row_of_record found.1) result ≡ look (chained rows.now) id }
@@ -45,7 +45,7 @@ fn look_up(rows: &Rows, near: usize, id: u16) -> Option<(usize, Record<'_>)>
     Some((place, record))
 }
 
-/// Copies bytes from the offset on, as many as there is room for, and at most so many.
+/// Copies the bytes that start at the offset, as many as fit into `into`, but at most `most`.
 fn copy_piece(bytes: &[u8], offset: usize, most: u8, into: &mut [u8]) -> Option<u8>
     requires some { 0 < length into.old }
     requires fits { length into.old < 255 }
@@ -60,21 +60,21 @@ fn copy_piece(bytes: &[u8], offset: usize, most: u8, into: &mut [u8]) -> Option<
     Some(got as u8)
 }
 
-/// An image that answers calls, and counts them.
+/// An image that answers and counts calls.
 #[derive(Drop)]
 pub(crate) struct Responder {
     image: Image,
-    /// The last reservation's number.
+    /// The number of the last reservation.
     given: u16,
     sdr_reservation: Option<u16>,
     sel_reservation: Option<u16>,
-    /// The place of the record that was found last: a listing asks for it again, or for one next to it.
+    /// The index of the record found last. A listing requests it again, or a neighbour of it.
     near: usize,
     tally: Tally,
 }
 
 impl Responder {
-    /// An image that has given no reservation yet.
+    /// An image before its first reservation.
     pub(crate) fn new(image: Image) -> Responder
         ensures store { result.image ≡ image }
         ensures none_current { (result.sdr_reservation ≡ None) × (result.sel_reservation ≡ None) }
@@ -90,7 +90,7 @@ impl Responder {
         }
     }
 
-    /// Forgets both reservations.
+    /// Cancels both reservations.
     pub(crate) fn forget(&mut self)
         ensures { self.new ≡ record self.old { sdr_reservation = None; sel_reservation = None } }
     {
@@ -98,7 +98,7 @@ impl Responder {
         self.sel_reservation = None;
     }
 
-    /// Another image takes the place of this one, and no reservation stays.
+    /// Replaces the image with another, and cancels both reservations.
     pub(crate) fn change(&mut self, image: Image)
         ensures store { IsStore self.new.image }
         ensures changed { self.new.tally.counts ≡ record self.old.tally.counts
@@ -112,7 +112,7 @@ impl Responder {
         self.tally.count(Event::Stored);
     }
 
-    /// Counts a call for so many bytes that fails with this code.
+    /// Counts a call for `asked` bytes that fails with this code, and returns the code.
     pub(crate) fn fail(&mut self, asked: u8, code: Code) -> Code
         ensures code { result ≡ code }
         ensures same { self.new ≡ record self.old { tally = self.new.tally } }
@@ -126,7 +126,7 @@ impl Responder {
         self.tally.fail(code)
     }
 
-    /// Gives the next reservation number. 1 comes again after FFFFh.
+    /// Returns the next reservation number; after FFFFh that is 1.
     pub(crate) fn reserve(&mut self, shelf: Shelf) -> u16
         ensures counted { IsCall 0 (seen_as true self.old) (seen_as true self.new) }
         ensures failure { self.new.tally.counts.last_failure ≡ None }
@@ -151,8 +151,8 @@ impl Responder {
         number
     }
 
-    /// Whether bytes from the offset on may be asked for under the reservation: past the first byte it has to be
-    /// the last one given for the shelf.
+    /// Whether bytes at the offset may be requested under the reservation. At an offset above 0 it must be the last
+    /// one given for the shelf.
     fn is_reserved(&self, shelf: Shelf, reservation: u16, offset: u8) -> bool
         ensures { MatchBool result
             (0 < offset → current shelf (seen_as true self.now) ≡ Some reservation)
@@ -165,7 +165,7 @@ impl Responder {
         offset == 0 || last == Some(reservation)
     }
 
-    /// Bytes of a record, at most so many.
+    /// Bytes of a record, at most `most` of them.
     pub(crate) fn part(
         &mut self,
         shelf: Shelf,
@@ -268,7 +268,7 @@ impl Responder {
         Ok(FruSize { size, words: false })
     }
 
-    /// Bytes of an inventory, at most so many.
+    /// Bytes of an inventory, at most `most` of them.
     pub(crate) fn fru_part(
         &mut self,
         id: u8,

@@ -1,4 +1,4 @@
-//! The one text of version 2 that an image has.
+//! Writes an image as its canonical text of version 2.
 ghost use Rattle.std.specs.Prelude.{◌≡◌, ◌++◌, ◌∷◌, [], ◌≤◌, OnOk, IfOk, Ok, All, map, flat_map, drop, codes, unwrap_or};
 ghost use Rattle.hex.specs.Hex.{encode_lower};
 ghost use Rattle.ipmi_image.specs.Prelude.{chained, store_of_image, sensor_of, store_of, hex_of, next_field, row_fields, rows_lines, part_fields, inventory_lines, reading_fields, info_lines, other_lines, kept_inventory, line_text, lines_text, image_text_of};
@@ -10,13 +10,13 @@ use crate::stored::{StoredInventory, StoredSensor};
 use ipmi_bus::INFO_LEN;
 use std::alloc::{AllocError, Global};
 
-/// The most bytes of an inventory on one line.
+/// The largest number of an inventory's bytes on one line.
 const LINE_BYTES: usize = 64;
 
-/// The bytes of the first and the last line of a text, and of what most images say beside their records.
+/// Enough bytes for the first and the last line, and for everything but the records in most images.
 const OTHER_BYTES: usize = 4096;
 
-/// A text that grows.
+/// A text to append to.
 #[derive(Drop)]
 struct Text {
     bytes: Vec<u8>,
@@ -47,7 +47,7 @@ impl Text {
         Ok(())
     }
 
-    /// Appends a row's next id, a dash where it is the following row's.
+    /// Appends a row's next id, or a dash if it is the id of the following row.
     fn push_next(&mut self, following: u16, next: u16) -> Result<(), AllocError>
         ensures { OnOk result (self.new.bytes.items ≡ self.old.bytes.items ++ next_field following
             next) }
@@ -158,7 +158,7 @@ impl Text {
         self.push(&[b'0' + lun])
     }
 
-    /// Appends the LUN and the number of a sensor, and the word before them.
+    /// Appends the word `reading`, and the LUN and the number of a sensor.
     fn push_sensor(&mut self, lun: u8, number: u8) -> Result<(), AllocError>
         requires { lun ≤ 3 }
         ensures { OnOk result (self.new.bytes.items ≡ self.old.bytes.items ++
@@ -184,7 +184,7 @@ impl Text {
         self.push(b"\n")
     }
 
-    /// Appends the line of an info, where there is one.
+    /// Appends the line of an info, if there is one.
     fn push_info(&mut self, word: &[u8], info: Option<[u8; INFO_LEN]>) -> Result<(), AllocError>
         ensures { OnOk result (self.new.bytes.items ≡ self.old.bytes.items ++ lines_text
             (info_lines word.now info)) }
@@ -211,7 +211,7 @@ impl Text {
         Ok(())
     }
 
-    /// Appends the lines of everything but the rows, and the last line.
+    /// Appends all lines after the rows, including the last line.
     #[tactic(auto, using(crate::proofs::RewriteLemmas::texts))]
     fn push_others(&mut self, contents: &Contents) -> Result<(), AllocError>
         requires { All (λ sensor. sensor.lun ≤ 3) contents.now.sensors }
@@ -239,9 +239,9 @@ impl Text {
     }
 }
 
-/// The image as a text of version 2: rows of each shelf in their order, `sdr` first, then inventories in lines of at
-/// most 64 bytes, readings and infos; hex in lower case, and a dash for each next id that is the following row's, or
-/// FFFFh at the last row.
+/// The image as a text of version 2: the rows of each shelf in order, `sdr` first, then inventories in lines of at
+/// most 64 bytes, readings and infos. Hex is in lower case. A dash replaces each next id that is the id of the
+/// following row, or FFFFh in the last row.
 #[tactic(auto, using(crate::proofs::AgainLemmas::store_of_image_image_text_of))]
 pub fn image_text(alloc: Global, image: &Image) -> Result<Vec<u8>, AllocError>
     ensures text { IfOk result (λ text. text.items ≡ image_text_of image.now) }

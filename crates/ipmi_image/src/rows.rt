@@ -1,4 +1,4 @@
-//! The records of a shelf, with their bytes one after the other.
+//! The records of a shelf, with all their bytes in one buffer.
 ghost use Rattle.ipmi_image.specs.declared.image_line.LineFault.{LineFault};
 ghost use Rattle.std.specs.Prelude.{◌≡◌, ◌≤◌, ◌<◌, ◌==◌, ◌^◌, ◌++◌, ◌∷◌, [], MatchBool, IfOk, IfSome, None, true, is_some, option_map, length, drop, slice_get, MatchResult, OnErr, ◌⊎◌};
 ghost use Rattle.ipmi_image.specs.Prelude.{first_id, place_of, id_of, row_of};
@@ -9,8 +9,8 @@ use ipmi_bus::NO_NEXT_ID;
 use std::alloc::Global;
 use std::marker::Model;
 
-/// A record of a shelf. Where `next` is None, its next id is that of the following record, or
-/// FFFFh for the last one.
+/// A record of a shelf. If `next` is None, its next id is the id of the following record, or FFFFh for the last
+/// record.
 #[derive(Clone, Copy)]
 pub(crate) struct StoredRow<'a> {
     pub(crate) id: u16,
@@ -18,7 +18,7 @@ pub(crate) struct StoredRow<'a> {
     pub(crate) bytes: &'a [u8],
 }
 
-/// A record of a shelf, with the place and the number of its bytes among those of the shelf.
+/// A record of a shelf, with the offset and the number of its bytes in the buffer of the shelf.
 #[derive(Clone, Copy)]
 pub(crate) struct RowHead {
     id: u16,
@@ -35,7 +35,7 @@ impl TableItem for RowHead {
     }
 }
 
-/// The records of a shelf, in their order. Their bytes are in one `Vec`, so that a record costs no memory of its own.
+/// The records of a shelf, in order. Their bytes are in one `Vec`, so a record needs no allocation of its own.
 #[derive(Drop)]
 pub(crate) struct Rows {
     heads: Table<RowHead>,
@@ -66,14 +66,14 @@ impl Rows {
         }
     }
 
-    /// Whether there are none.
+    /// Whether there are no records.
     pub(crate) fn is_empty(&self) -> bool
         ensures { result ≡ (length self.now == 0) }
     {
         self.heads.as_slice().is_empty()
     }
 
-    /// How many there are.
+    /// The number of records.
     pub(crate) fn len(&self) -> usize
         ensures len { result ≡ length self.now }
         ensures few { result ≤ 65535 }
@@ -81,14 +81,14 @@ impl Rows {
         self.heads.as_slice().len()
     }
 
-    /// The bytes that lines of these take in an image, at most: 15 beside the hex of each.
+    /// An upper bound on the length of the records' lines in an image: 15 bytes each, plus the hex.
     pub(crate) fn line_bytes(&self) -> usize
         ensures few { result ≤ 2 ^ 26 }
     {
         self.len() * 15 + self.bytes.len() * 2
     }
 
-    /// The record at the place.
+    /// The record at the index.
     pub(crate) fn get(&self, place: usize) -> Option<StoredRow<'_>>
         ensures row { option_map row_of result ≡ slice_get self.now place }
         ensures few { IfSome result (λ row. place < 65535) }
@@ -103,7 +103,7 @@ impl Rows {
         })
     }
 
-    /// The id of the record at the place, FFFFh where there is none.
+    /// The id of the record at the index, FFFFh if there is none.
     #[tactic(auto, using(crate::proofs::RowsLemmas::first_id_at, std::proofs::lemmas::Option::slice_get_cases))]
     pub(crate) fn id_at(&self, place: usize) -> u16
         ensures { result ≡ first_id id_of (drop place self.now) }
@@ -112,7 +112,7 @@ impl Rows {
         head.map_or(NO_NEXT_ID, |head| head.id)
     }
 
-    /// Whether one of them has this id.
+    /// Whether one of the records has this id.
     #[tactic(auto, using(crate::proofs::RowsLemmas::place_of_row_in))]
     pub(crate) fn has_id(&self, id: u16) -> bool
         ensures { result ≡ is_some (place_of id_of id self.now) }
@@ -120,7 +120,7 @@ impl Rows {
         self.heads.place(id).is_some()
     }
 
-    /// The place of the record with this id. It is looked for at a place and next to it before it is looked up.
+    /// The index of the record with this id. The search tries `near` and its neighbours before the lookup.
     #[tactic(auto, using(crate::proofs::RowsLemmas::place_of_row_in))]
     pub(crate) fn place_near(&self, id: u16, near: usize) -> Option<usize>
         ensures { result ≡ place_of id_of id self.now }
@@ -128,7 +128,7 @@ impl Rows {
         self.heads.place_near(id, near)
     }
 
-    /// Puts a record at the end. Err says that one has its id already, or that no memory was left.
+    /// Appends a record. Err means that another record has its id, or out of memory.
     #[tactic(auto, using(crate::proofs::RowsLemmas::place_of_row_in))]
     pub(crate) fn push(&mut self, row: &StoredRow) -> Result<(), LineFault>
         requires id { row.now.id < 65535 }

@@ -9,40 +9,40 @@ use ipmi_bus::{Code, CodeClass, Controller, FruSize, LARGEST_PART, Part, Shelf};
 use ipmi_text::Reading;
 use std::vec::IntoIter;
 
-/// What a scripted controller makes of one call.
+/// How a scripted controller treats one call.
 #[derive(Drop)]
 pub enum Mood {
-    /// It answers plainly, with at most this many bytes; 0 counts as 1.
+    /// It answers like an `ImageController`, but with at most this many bytes; 0 counts as 1.
     Grant(u8),
-    /// It forgets both reservations and answers C5h.
+    /// It cancels both reservations and answers C5h.
     Cancel,
     /// It answers C0h.
     Busy,
-    /// It answers CAh where more than one byte was asked for, otherwise plainly.
+    /// It answers CAh if more than one byte was requested, otherwise like an `ImageController`.
     TooLong,
-    /// It answers this code; if the code is 00h or not a refusal, it answers plainly.
+    /// It answers this code. If the code is 00h or not a refusal, it answers like an `ImageController`.
     Refuse(Code),
-    /// Its store becomes this image's, it forgets both reservations, and then it answers plainly.
+    /// It takes this image as its store, cancels both reservations, and then answers like an `ImageController`.
     Change(Image),
 }
 
-/// What a mood makes of a call.
+/// The effect of a mood on a call.
 enum Turn {
-    /// The answer is still to come, with so many bytes at most.
+    /// The call is still to be answered, with at most this many bytes.
     Answers(u8),
-    /// The call has failed with this code.
+    /// The call failed with this code.
     Failed(Code),
 }
 
-/// A controller over an image, of which each call, of any kind, uses up one mood. Once they are used up it answers
-/// as an `ImageController` does.
+/// A controller over an image and a list of moods. Each call, of any kind, uses up one mood. Without moods left it
+/// answers like an `ImageController`.
 #[derive(Drop)]
 pub struct Scripted {
     responder: Responder,
     moods: IntoIter<Mood>,
 }
 
-/// Makes of a call for so many bytes what the mood says.
+/// Applies the mood to a call for `asked` bytes.
 fn mood_turn(responder: &mut Responder, mood: Mood, asked: u8) -> Turn
     ensures counts { TurnCounts asked result (seen_as false responder.old) (seen_as false responder.new) }
     ensures turns { IsHonest (seen_as false responder.old) →
@@ -78,7 +78,7 @@ fn mood_turn(responder: &mut Responder, mood: Mood, asked: u8) -> Turn
 }
 
 impl Scripted {
-    /// A controller that holds what the image does, with moods for its first calls. No reservation is current.
+    /// A controller with the contents of the image, and moods for its first calls. No reservation is current.
     pub fn new(image: Image, moods: Vec<Mood>) -> Scripted
         ensures honest { IsHonest (script_seen result) }
         ensures store { (script_seen result).store ≡ image }
@@ -93,7 +93,7 @@ impl Scripted {
         }
     }
 
-    /// Uses up a mood on a call for `asked` bytes. Calls for no part are given 0.
+    /// Uses up one mood on a call for `asked` bytes; `asked` is 0 for a call that requests no part.
     #[tactic(auto, using(crate::proofs::ScriptLemmas::no_moods_left))]
     fn turn(&mut self, asked: u8) -> Turn
         ensures counts { TurnCounts asked result (script_seen self.old) (script_seen self.new) }

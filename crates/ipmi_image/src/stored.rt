@@ -1,4 +1,4 @@
-//! The inventories and readings that an image keeps.
+//! The inventories and readings of an image.
 ghost use Rattle.std.specs.Prelude.{◌≡◌};
 ghost use Rattle.ipmi_image.specs.Prelude.{sensor_key};
 
@@ -20,7 +20,7 @@ impl TableItem for StoredInventory {
     }
 }
 
-/// What a sensor answers.
+/// The reading of a sensor.
 #[derive(Drop)]
 pub(crate) struct StoredSensor {
     pub(crate) lun: u8,
@@ -36,7 +36,7 @@ impl TableItem for StoredSensor {
     }
 }
 
-/// What a sensor is found by: its LUN in the high byte, its number in the low one.
+/// The key of a sensor: its LUN in the high byte, its number in the low byte.
 pub(crate) fn sensor_key(lun: u8, number: u8) -> u16
     ensures { result ≡ sensor_key lun number }
 {

@@ -1,70 +1,68 @@
-//! Items in the order of their lines, and an index to find them by.
+//! Items in the order of their lines, with an index.
 ghost use Rattle.ipmi_image.specs.declared.image_line.LineFault.{LineFault};
 ghost use Rattle.std.specs.Prelude.{◌≡◌, ℕ, ◌<◌, ◌≤◌, ◌⊎◌, ◌++◌, ◌∷◌, [], None, Some, true, IsTrue, MatchResult, OnErr, is_some, option_map, option_and_then, slice_get, length, OnOk, map};
 ghost use Rattle.ipmi_image.specs.Prelude.{place_of, kept_inventory, with_bytes};
 
 use crate::image_line::LineFault;
+use crate::places::Places;
 use crate::stored::StoredInventory;
 use std::alloc::{AllocError, Global};
-use std::collections::BTreeMap;
 use std::marker::Model;
 
-/// What a table holds: it is found by a number of its own, its key.
+/// An item of a table. It has a unique number, its key.
 pub(crate) trait TableItem {
     ghost key: { Self → ℕ };
 
-    /// The number that it is found by.
+    /// The key.
     fn key(&self) -> u16
         ensures { result ≡ key self.now };
 }
 
-/// Items in their order, found by their keys in logarithmic time.
+/// Items in their order, found by their keys.
 #[derive(Drop)]
 pub(crate) struct Table<T: TableItem + Drop> {
     items: Vec<T>,
     /// The place of each key's item.
-    places: BTreeMap<u16, u16>,
+    places: Places,
 }
 
 impl<T: TableItem + Drop> Model for Table<T> {
     ghost use Rattle.std.specs.Prelude.{List};
-    ghost use Rattle.std.specs.Ordering.{nat_cmp};
-    ghost use Rattle.std.specs.BTreeMap.{get};
-    ghost use Rattle.ipmi_image.specs.Table.{IsIndex};
+    ghost use Rattle.ipmi_image.specs.Table.{IsIndex, place_in};
 
     ghost Value = { List T };
 
     ghost view = { λ t. t.items.items };
 
-    ghost invariant = { λ t. IsIndex T.key t.items.items (get nat_cmp t.places) };
+    ghost invariant = { λ t. IsIndex T.key t.items.items (place_in t.places) };
 }
 
 impl<T: TableItem + Drop> Table<T> {
-    /// No items yet.
+    /// A table without items.
     pub(crate) fn new(alloc: Global) -> Table<T>
         ensures { result ≡ [] }
     {
         Table {
             items: Vec::new(alloc),
-            places: BTreeMap::new(alloc),
+            places: Places::new(alloc),
         }
     }
 
-    /// The items, in their order.
+    /// The items, in order.
     pub(crate) fn as_slice(&self) -> &[T]
         ensures { result.now ≡ self.now }
     {
         self.items.as_slice()
     }
 
-    /// The place of the item with this key.
+    /// The index of the item with this key.
     pub(crate) fn place(&self, key: u16) -> Option<usize>
         ensures { result ≡ place_of T.key key self.now }
     {
-        self.places.get(&key).copied().map(usize::from)
+        self.places.get(key).map(usize::from)
     }
 
-    /// Whether the item at the place has this key. It says so exactly where that is the item's place.
+    /// Whether the item at the index has this key. That is true exactly if the index is that of the key.
     #[tactic(auto, using(crate::proofs::TableLemmas::place_of_at))]
     fn is_at(&self, place: usize, key: u16) -> bool
         ensures yes { IsTrue result → place_of T.key key self.now ≡ Some place }
@@ -76,7 +74,7 @@ impl<T: TableItem + Drop> Table<T> {
         }
     }
 
-    /// The place of the item with this key. It is looked for at a place and next to it before it is looked up.
+    /// The index of the item with this key. The search tries `near` and its neighbours before the lookup.
     pub(crate) fn place_near(&self, key: u16, near: usize) -> Option<usize>
         ensures { result ≡ place_of T.key key self.now }
     {
@@ -104,7 +102,7 @@ impl<T: TableItem + Drop> Table<T> {
         self.items.get(place)
     }
 
-    /// Puts an item at the end. Err says that one has its key already, or that no memory was left.
+    /// Appends an item. Err means that another item has its key, or out of memory.
     pub(crate) fn push(&mut self, item: T) -> Result<(), LineFault>
         requires { T.key item < 65535 }
         ensures put { MatchResult result
@@ -115,29 +113,23 @@ impl<T: TableItem + Drop> Table<T> {
         ensures few { length self.new ≤ 65535 }
     {
         let key = item.key();
+        if self.places.get(key).is_some() {
+            return Err(LineFault::Twice);
+        }
         let place = self.items.len() as u16;
+        let Ok(()) = self.places.reserve(key) else {
+            return Err(LineFault::Memory);
+        };
         let Ok(()) = self.items.push(item) else {
             return Err(LineFault::Memory);
         };
-        match self.places.insert(key, place) {
-            Ok(None) => Ok(()),
-            Ok(Some(first)) => {
-                self.items.pop();
-                match self.places.insert(key, first) {
-                    Ok(_) => Err(LineFault::Twice),
-                    Err(_) => Err(LineFault::Memory),
-                }
-            }
-            Err(_) => {
-                self.items.pop();
-                Err(LineFault::Memory)
-            }
-        }
+        self.places.put(key, place);
+        Ok(())
     }
 }
 
 impl Table<StoredInventory> {
-    /// Puts the bytes after those of the inventory at this place.
+    /// Appends the bytes to the inventory at this index.
     pub(crate) fn append(&mut self, place: usize, bytes: &[u8]) -> Result<(), AllocError>
         requires { place < length self.old }
         ensures { (id : ℕ) → place_of (λ inventory. inventory.id) id self.old ≡ Some place →

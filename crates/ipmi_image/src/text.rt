@@ -1,13 +1,12 @@
 //! Lines of a text and fields of a line, over the borrowed bytes, and numbers in hex.
-ghost use Rattle.std.specs.Prelude.{◌≡◌, ◌⊎◌, [], ◌∷◌, ◌<◌, MatchOption, MatchResult, IfSome, Some, None, length};
+ghost use Rattle.std.specs.Prelude.{◌≡◌, ◌⊎◌, [], ◌∷◌, ◌++◌, ◌<◌, MatchOption, MatchResult, IfSome, Some, None, length};
 ghost use Rattle.ipmi_image.specs.Prelude.{pieces, bytes_in, number_in};
 
+use crate::digits::read_pairs;
 use crate::image_line::LineFault;
-use byteorder::{BigEndian, ByteOrder};
-use hex::FromHex;
 use memchr::memchr;
 
-/// The bytes before the first separator, and those after it.
+/// The bytes before and after the first separator.
 pub(crate) fn cut(bytes: &[u8], separator: u8) -> Option<(&[u8], &[u8])>
     ensures cut { MatchOption result (pieces separator bytes.now ≡ bytes.now ∷ [])
         (λ parts. pieces separator bytes.now ≡ parts.0.now ∷ pieces separator parts.1.now) }
@@ -17,25 +16,35 @@ pub(crate) fn cut(bytes: &[u8], separator: u8) -> Option<(&[u8], &[u8])>
     Some((&bytes[..at], &bytes[at + 1..]))
 }
 
+/// The bytes before a separator at this place, and those after it.
+pub(crate) fn cut_at(bytes: &[u8], separator: u8, at: usize) -> Option<(&[u8], &[u8])>
+    ensures { IfSome result (λ parts. bytes.now ≡ parts.0.now ++ separator ∷ parts.1.now) }
+{
+    if *bytes.get(at)? != separator {
+        return None;
+    }
+    Some((&bytes[..at], &bytes[at + 1..]))
+}
+
 /// The number that four hex digits are, the highest first.
 pub(crate) fn read_u16(digits: &[u8]) -> Option<u16>
     requires { length digits.now ≡ 4 }
     ensures { result ≡ number_in 2 digits.now }
 {
-    let bytes = <[u8; 2] as FromHex>::from_hex(digits).ok()?;
-    Some(BigEndian::read_u16(&bytes))
+    let mut bytes = [0; 2];
+    read_pairs(digits, &mut bytes).then_some(u16::from_be_bytes(bytes))
 }
 
-/// The number that two hex digits are, the high one first.
+/// The number in two hex digits, the high digit first.
 pub(crate) fn read_u8(digits: &[u8]) -> Option<u8>
     requires { length digits.now ≡ 2 }
     ensures { result ≡ number_in 1 digits.now }
 {
-    let [byte] = <[u8; 1] as FromHex>::from_hex(digits).ok()?;
-    Some(byte)
+    let mut bytes = [0];
+    read_pairs(digits, &mut bytes).then_some(bytes[0])
 }
 
-/// The number that one hex digit is.
+/// The number in one hex digit.
 pub(crate) fn read_digit(digit: &[u8]) -> Option<u8>
     requires { length digit.now ≡ 1 }
     ensures { result ≡ number_in 1 (48 ∷ digit.now) }
@@ -43,11 +52,17 @@ pub(crate) fn read_digit(digit: &[u8]) -> Option<u8>
     read_u8(&[b'0', digit[0]])
 }
 
-/// Reads the bytes that pairs of hex digits are.
+/// Reads bytes from pairs of hex digits.
 pub(crate) fn read_bytes(bytes: &mut Vec<u8>, digits: &[u8]) -> Result<(), LineFault>
     ensures { MatchResult result (λ done. bytes_in digits.now ≡ Some bytes.new.items)
         (λ e. (e ≡ LineFault.Memory) ⊎ ((e ≡ LineFault.Hex) × (bytes_in digits.now ≡ None))) }
 {
+    if digits.len() % 2 != 0 {
+        return Err(LineFault::Hex);
+    }
     bytes.resize(digits.len() / 2, 0)?;
-    hex::decode_to_slice(digits, bytes).map_err(|_| LineFault::Hex)
+    if !read_pairs(digits, bytes) {
+        return Err(LineFault::Hex);
+    }
+    Ok(())
 }

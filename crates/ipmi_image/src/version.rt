@@ -5,14 +5,14 @@ ghost use Rattle.ipmi_image.specs.Prelude.{takes_dashes, version_in};
 /// A version of the text of an image.
 #[derive(Clone, Copy)]
 pub(crate) enum Version {
-    /// Each record has its next id.
+    /// Each record states its next id.
     One,
-    /// A dash may stand for the next id of a record.
+    /// The next id of a record may be a dash.
     Two,
 }
 
 impl Version {
-    /// Whether a dash may stand for a next id.
+    /// Whether a next id may be a dash.
     pub(crate) fn takes_dashes(self) -> bool
         ensures { result ≡ takes_dashes self }
     {
@@ -20,11 +20,11 @@ impl Version {
     }
 }
 
-/// The version that the first line of an image says. None where it is not the first line of one.
+/// The version in the first line of an image. None if that is not the first line of an image.
 pub(crate) fn read_version(line: &[u8]) -> Option<Version>
     ensures { result ≡ version_in line.now }
 {
-    // a match on these texts has goals that the search does not prove
+    // a match on these texts would have goals that the search does not prove
     if line == b"ipmi-image 1".as_slice() {
         return Some(Version::One);
     }

@@ -1,0 +1,57 @@
+//! The bytes that pairs of hex digits are.
+ghost use Rattle.std.specs.Prelude.{◌≡◌, ℕ, ◌*◌, length, Some, None, MatchBool, unwrap_or};
+ghost use Rattle.std.specs.Result.{result_ok};
+ghost use Rattle.hex.specs.Hex.{hex_digit_value, pair_value};
+ghost use Rattle.ipmi_image.specs.Prelude.{bytes_in};
+
+/// Stands in the table for a character that is no hex digit.
+const NO_DIGIT: u8 = 64;
+
+/// The value of the digit of each character.
+const VALUES: [u8; 256] = [
+    64, 64, 64, 64, 64, 64, 64, 64, 64, 64, 64, 64, 64, 64, 64, 64, 64, 64, 64, 64, 64, 64, 64, 64,
+    64, 64, 64, 64, 64, 64, 64, 64, 64, 64, 64, 64, 64, 64, 64, 64, 64, 64, 64, 64, 64, 64, 64, 64,
+    0, 1, 2, 3, 4, 5, 6, 7, 8, 9, 64, 64, 64, 64, 64, 64, 64, 10, 11, 12, 13, 14, 15, 64, 64, 64,
+    64, 64, 64, 64, 64, 64, 64, 64, 64, 64, 64, 64, 64, 64, 64, 64, 64, 64, 64, 64, 64, 64, 64, 10,
+    11, 12, 13, 14, 15, 64, 64, 64, 64, 64, 64, 64, 64, 64, 64, 64, 64, 64, 64, 64, 64, 64, 64, 64,
+    64, 64, 64, 64, 64, 64, 64, 64, 64, 64, 64, 64, 64, 64, 64, 64, 64, 64, 64, 64, 64, 64, 64, 64,
+    64, 64, 64, 64, 64, 64, 64, 64, 64, 64, 64, 64, 64, 64, 64, 64, 64, 64, 64, 64, 64, 64, 64, 64,
+    64, 64, 64, 64, 64, 64, 64, 64, 64, 64, 64, 64, 64, 64, 64, 64, 64, 64, 64, 64, 64, 64, 64, 64,
+    64, 64, 64, 64, 64, 64, 64, 64, 64, 64, 64, 64, 64, 64, 64, 64, 64, 64, 64, 64, 64, 64, 64, 64,
+    64, 64, 64, 64, 64, 64, 64, 64, 64, 64, 64, 64, 64, 64, 64, 64, 64, 64, 64, 64, 64, 64, 64, 64,
+    64, 64, 64, 64, 64, 64, 64, 64, 64, 64, 64, 64, 64, 64,
+];
+
+/// The value of a hex digit of either case.
+fn value(digit: u8) -> u8
+    ensures { result ≡ unwrap_or (hex_digit_value digit) 64 }
+{
+    VALUES[usize::from(digit)]
+}
+
+/// The byte that two hex digits are.
+fn pair(high: u8, low: u8) -> Option<u8>
+    ensures { (place : ℕ) → result ≡ result_ok (pair_value high low place) }
+{
+    let high = value(high);
+    let low = value(low);
+    // one branch for both
+    if high + low >= NO_DIGIT {
+        return None;
+    }
+    Some(high * 16 + low)
+}
+
+/// Reads the bytes that pairs of hex digits are, and says whether all are digits.
+pub(crate) fn read_pairs(digits: &[u8], bytes: &mut [u8]) -> bool
+    requires { length digits.now ≡ 2 * length bytes.old }
+    ensures { MatchBool result (bytes_in digits.now ≡ Some bytes.new) (bytes_in digits.now ≡ None) }
+{
+    'pairs: for place in 0..bytes.len() {
+        let Some(byte) = pair(digits[2 * place], digits[2 * place + 1]) else {
+            return false;
+        };
+        bytes[place] = byte;
+    }
+    true
+}
