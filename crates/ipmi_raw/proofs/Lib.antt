@@ -7,3 +7,4 @@ mod ThroughLemmas
 mod ReplyLemmas
 mod AskLemmas
 mod StreamLemmas
+mod PipedLemmas

@@ -1,5 +1,5 @@
--- What a reply says to a call, and which replies to a request come of an honest controller (IPMI v2.0, sections 31.2, 31.4, 31.5,
--- 33.9, 33.11, 33.12, 34.1, 34.2 and 35.14).
+-- What a call returns for a reply, and which replies an honest controller gives to a request (IPMI
+-- v2.0, sections 31.2, 31.4, 31.5, 33.9, 33.11, 33.12, 34.1, 34.2 and 35.14).
 use Rattle.std.specs.Prelude.{ℕ, ◌≡◌, ◌+◌, ◌-◌, ◌%◌, ◌≤◌, ◌==◌, ◌||◌, Bool, false, if◌then◌else◌, Result, Ok, Err, List, [], ◌∷◌, length, slice_index, drop}
 use Rattle.ipmi_text.specs.declared.reading.Reading as sensor
 use Rattle.ipmi_bus.specs.declared.code.Code.{Code}
@@ -16,8 +16,8 @@ use Rattle.ipmi_raw.specs.declared.request.Request.TheVariants.{Reserve, Get, In
 
 -- ---- the data of a reply, after its completion code
 
--- It has the length that the standard says. In a part, after the id of the next record or after the count, there are no more
--- bytes than were asked for.
+-- Its length is as in the standard. A part has at most as many bytes as asked, not counting the
+-- next id or the count before them.
 abbrev pub IsDataOf : Request → List ℕ → Type 0
 IsDataOf (Reserve shelf) bytes = length bytes ≡ 2
 IsDataOf (Get part) bytes = (2 ≤ length bytes) × (length bytes ≤ 2 + part.count)
@@ -26,19 +26,19 @@ IsDataOf (InventorySize id) bytes = length bytes ≡ 3
 IsDataOf (ReadInventory part) bytes = (length bytes ≡ 1 + slice_index bytes 0) × (slice_index bytes 0 ≤ part.count)
 IsDataOf (Reading lun number) bytes = (2 ≤ length bytes) × (length bytes ≤ 4)
 
--- the id of the next record, the low byte first, and then bytes of this one
+-- the id of the next record, the low byte first, then bytes of this record
 abbrev pub part_in : List ℕ → Part
 part_in bytes = record { next = id_in bytes; got = length bytes - 2 }
 
--- the count of the bytes that come after it
+-- the count of the bytes that follow
 abbrev pub first_in : List ℕ → ℕ
 first_in bytes = slice_index bytes 0
 
--- the size in bytes, the low byte first, and how the device is accessed: bit 0 is set where it is by words
+-- the size in bytes, the low byte first, then the access: bit 0 is set if it is by words
 abbrev pub size_in : List ℕ → FruSize
 size_in bytes = record { size = id_in bytes; words = slice_index bytes 2 % 2 == 1 }
 
--- four bytes, of which the last two may be absent
+-- four bytes, of which the last two may be absent; what is absent is 00h
 abbrev pub reading_in : List ℕ → sensor.Reading
 reading_in bytes = record {
   raw = slice_index bytes 0;
@@ -47,9 +47,9 @@ reading_in bytes = record {
   more = slice_index bytes 3;
 }
 
--- ---- what a call gives back
+-- ---- the result of a call
 
--- codes by which controllers say that there is no such sensor, or no such device
+-- codes other than CBh by which controllers say that there is no such sensor or device
 abbrev pub says_absent : Request → ℕ → Bool
 says_absent (Reserve shelf) code = false
 says_absent (Get part) code = false
@@ -58,11 +58,11 @@ says_absent (InventorySize id) code = code == 0xCC
 says_absent (ReadInventory part) code = false
 says_absent (Reading lun number) code = (code == 0xCC) || ((code == 0xCD) || (code == 0xD5))
 
--- the code that a call gives back for one of a reply: CBh where it says that there is none
+-- the code that a call returns for a code of a reply: CBh if it says that the thing is absent
 abbrev pub code_given : Request → ℕ → Code
 code_given request code = record { 0 = if says_absent request code then 0xCB else code }
 
--- a controller that does not know the command by which a shelf is reserved has no reservations
+-- a controller that does not know the command to reserve a shelf has no reservations
 abbrev pub says_unreserved : Request → ℕ → Bool
 says_unreserved (Reserve shelf) code = code == 0xC1
 says_unreserved (Get part) code = false
@@ -71,14 +71,14 @@ says_unreserved (InventorySize id) code = false
 says_unreserved (ReadInventory part) code = false
 says_unreserved (Reading lun number) code = false
 
--- The data, or a code; C3h where the controller was silent. Where there are no reservations, 0000h is the number of one, which
--- requests for parts have in its place (sections 31.5 and 33.12).
+-- The data, or a code; C3h if the controller was silent. If there are no reservations, the number
+-- is 0000h, and requests for parts have that number (sections 31.5 and 33.12).
 abbrev pub given : Request → Reply → Result (List ℕ) Code
 given request (Data bytes) = Ok bytes
 given request (Refused code) = if says_unreserved request code then Ok (0 ∷ 0 ∷ []) else Err (code_given request code)
 given request Silent = Err (record { 0 = 0xC3 })
 
--- what the data says, or the code
+-- the value read from the data, or the code
 abbrev pub value_in : {V : Type 0} → (List ℕ → V) → Result (List ℕ) Code → Result V Code
 value_in read (Ok bytes) = Ok (read bytes)
 value_in read (Err code) = Err code
@@ -87,14 +87,14 @@ abbrev pub data_in : Result (List ℕ) Code → List ℕ
 data_in (Ok bytes) = bytes
 data_in (Err code) = []
 
--- where it is data, it is data of a reply to the request
+-- if it is data, it is data of a reply to the request
 abbrev pub IsDataIfAny : Request → Result (List ℕ) Code → Type 0
 IsDataIfAny request (Ok bytes) = IsDataOf request bytes
 IsDataIfAny request (Err code) = Unit {0}
 
 -- ---- an honest controller
 
--- what a reply gives is what an honest controller may answer to the call that asks for it
+-- the result is what an honest controller may answer to the call of this request
 abbrev pub IsAnswer : Request → Result (List ℕ) Code → Seen → Seen → Type 0
 IsAnswer (Reserve shelf) result old new = ReserveAnswers shelf (value_in id_in result) old new
 IsAnswer (Get part) result old new =

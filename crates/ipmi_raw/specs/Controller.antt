@@ -1,5 +1,5 @@
 -- What contracts see of a controller at the other end of a peer.
-use Rattle.std.specs.Prelude.{ℕ, ◌≡◌, Bool, true, false, if◌then◌else◌, Option, None, Some, Result, Ok, List}
+use Rattle.std.specs.Prelude.{ℕ, ◌≡◌, ⊤, Bool, true, false, if◌then◌else◌, MatchBool, Option, None, Some, Result, Ok, Err, List}
 use Rattle.ipmi_bus.specs.declared.code.Code.{Code}
 use Rattle.ipmi_bus.specs.Counts.{Counts}
 use Rattle.ipmi_bus.specs.Seen.{Seen}
@@ -12,8 +12,8 @@ use Rattle.ipmi_raw.specs.Answer.{given, IsDataIfAny}
 use Rattle.ipmi_raw.specs.Peer.{IsReplyText, request_text}
 use Rattle.ipmi_raw.specs.Request.{lun_of}
 
--- The controller at the other end, but for the counts of calls, which are those of the calls that came in here. Once the
--- connection is lost, nothing is said of its answers.
+-- The controller at the other end, but with the counts of the calls made here. Once the connection
+-- is lost, it does not claim to be honest.
 abbrev pub seen_through : Seen → Counts → Bool → Seen
 seen_through seen counts is_lost = record seen {
   honest = if is_lost then false else seen.honest;
@@ -23,39 +23,48 @@ seen_through seen counts is_lost = record seen {
   last_failure = counts.last_failure;
 }
 
--- the same of a controller, where this is what contracts see of one at the other end of its peer
+-- the same for a controller, given the state at the other end of its peer
 abbrev pub seen_of : {P K : Type 0} → (P → Seen) → RawController P K → Seen
 seen_of seen raw = seen_through (seen raw.peer) raw.tally.counts raw.is_lost
 
--- the tool of its peer, where this is the one of a peer
+-- the tool of the controller's peer, given the tool of a peer
 abbrev pub tool_of : {P K : Type 0} → (P → Tool) → RawController P K → Tool
 tool_of tool raw = tool raw.peer
 
--- what the tool said when the connection was lost, if it was
+-- the tool's output when the connection was lost, if it was
 abbrev pub last_words : {P K : Type 0} → RawController P K → Option (List ℕ)
 last_words raw = if raw.is_lost then Some raw.text.items else None
 
--- what is known of the exchanges of a peer
+-- the type of a peer's `brings`: what is known of its exchanges
 abbrev pub Exchanges : Type 0 → Type 1
 Exchanges P = P → P → ℕ → List ℕ → Result (Unit {0}) Lost → List ℕ → Type 0
 
--- the text of the request went to its logical unit, and what came is what the peer brought
+-- the text of the request was sent to its logical unit, and the received text is that of the peer
 abbrev pub Exchanged : {P K : Type 0} → Exchanges P → Tool → Request → RawController P K → RawController P K
     → Result (Unit {0}) Lost → Type 0
 Exchanged brings tool request old new came =
     brings old.peer new.peer (lun_of request) (request_text tool request) came new.text.items
 
--- what a call sends, over any peer: if the connection was not lost before it, the request; if it lasts, a reply came
+-- no reply came, or a text of no reply to the request that has data of the right length, if any
+abbrev pub IsUnheard : Tool → Request → Result (Unit {0}) Lost → List ℕ → Type 0
+IsUnheard tool request (Err lost) text = ⊤
+IsUnheard tool request (Ok done) text =
+    (reply : Reply) → IsReplyText tool request reply text → ¬ IsDataIfAny request (given request reply)
+
+-- What a call sends, over any peer: if the connection was not lost before it, the request. If it lasts, a reply came, and if it
+-- does not, none that can be heard.
 abbrev pub Sends : {P K : Type 0} → Exchanges P → Tool → Request → RawController P K → RawController P K → Type 0
 Sends brings tool request old new = old.is_lost ≡ false
-    → (came : Result (Unit {0}) Lost) × Exchanged brings tool request old new came × (new.is_lost ≡ false → came ≡ Ok tt)
+    → (came : Result (Unit {0}) Lost) × Exchanged brings tool request old new came
+    × MatchBool new.is_lost (IsUnheard tool request came new.text.items) (came ≡ Ok tt)
 
--- What a call gives, over any peer. While the connection lasts, the text that came is of a reply to the request, with data of the
+-- What a call hears, over any peer. While the connection lasts, the text that came is of a reply to the request, with data of the
 -- right length, and the call gives what this says. If it is lost after the call, the call fails with FFh. If it was lost before,
--- nothing is sent, and nothing but counts changes.
-pub record Asks {P K : Type 0} (tool : Tool) (request : Request) (Gives : Result (List ℕ) Code → Type 0) (old new : RawController P K)
+-- nothing is sent, and nothing but counts changes. The clock and the pause always stay.
+pub record Hears {P K : Type 0} (tool : Tool) (request : Request) (Gives : Result (List ℕ) Code → Type 0) (old new : RawController P K)
     (failure : Option ℕ) : Type 0 where
-  pub hears : new.is_lost ≡ false → (reply : Reply) × IsReplyText tool request reply new.text.items
+  pub lasts : new.is_lost ≡ false → (reply : Reply) × IsReplyText tool request reply new.text.items
       × IsDataIfAny request (given request reply) × Gives (given request reply)
   pub fails : new.is_lost ≡ true → failure ≡ Some 0xFF
   pub stays : old.is_lost ≡ true → new ≡ record old { tally = new.tally }
+  pub waits : (new.clock ≡ old.clock) × (new.pause ≡ old.pause)

@@ -1,4 +1,4 @@
--- What FreeIPMI's `ipmi-raw` reads for a request, and what it prints for a reply.
+-- The input of FreeIPMI's `ipmi-raw` for a request, and its output for a reply.
 use Rattle.std.specs.Prelude.{ℕ, ◌≡◌, ◌<◌, ◌++◌, List, codes}
 use Rattle.ipmi_raw.specs.declared.reply.Reply.{Reply}
 use Rattle.ipmi_raw.specs.declared.reply.Reply.TheVariants.{Data, Refused, Silent}
@@ -7,16 +7,17 @@ use Rattle.ipmi_raw.specs.declared.tool.Tool.TheVariants.{FreeIpmi}
 use Rattle.ipmi_raw.specs.Words.{two_digits, bytes_after, word, words_from, AreData}
 use Rattle.ipmi_raw.specs.Request.{lun_of, command_of, message_of}
 
--- a line of two digits for each: the logical unit, the network function, the command and the data
+-- a line of bytes in two digits: the logical unit, the network function, the command and the data
 abbrev pub request_text : Request → List ℕ
 request_text request = two_digits FreeIpmi (lun_of request) ++ bytes_after FreeIpmi (codes " ") (message_of request) ++ codes "\n"
 
--- a line of the request's command, a completion code, and data
+-- a line with the request's command, a completion code and data
 abbrev pub received : Request → ℕ → List ℕ → List ℕ
 received request code bytes =
     codes "rcvd:" ++ (word FreeIpmi (command_of request) ++ (word FreeIpmi code ++ words_from FreeIpmi 0 bytes))
 
--- The text of a reply to the request, all of it. Bytes after a completion code that refuses it say nothing.
+-- The whole text of a reply to the request. Bytes after a completion code other than 00h are
+-- ignored.
 abbrev pub IsReplyText : Request → Reply → List ℕ → Type 0
 IsReplyText request (Data bytes) text = AreData bytes × (text ≡ received request 0 bytes)
 IsReplyText request (Refused code) text =

@@ -8,3 +8,4 @@ pub mod Answer
 pub mod Peer
 pub mod Controller
 pub mod Streams
+pub mod Piped

@@ -1,4 +1,4 @@
--- What carries requests to a controller, as texts of one of the tools, and brings back what the tool prints.
+-- The texts of requests and replies for each tool, and the replies over an honest controller.
 use Rattle.std.specs.Prelude.{ℕ, List}
 use Rattle.ipmi_bus.specs.Seen.{Seen}
 use Rattle.ipmi_raw.specs.declared.reply.Reply.{Reply}
@@ -17,7 +17,7 @@ abbrev pub IsReplyText : Tool → Request → Reply → List ℕ → Type 0
 IsReplyText Ipmitool request reply text = ipmitool_text.IsReplyText request reply text
 IsReplyText FreeIpmi request reply text = freeipmi_text.IsReplyText request reply text
 
--- the text is of a reply that an honest controller gives to the request
+-- the text is that of a reply that an honest controller may give to the request
 pub record Replies (tool : Tool) (request : Request) (text : List ℕ) (old new : Seen) : Type 0 where
   pub reply : Reply
   pub text_is : IsReplyText tool request reply text

@@ -7,7 +7,7 @@ use Rattle.ipmi_raw.specs.declared.request.RecordPart.{RecordPart}
 use Rattle.ipmi_raw.specs.declared.request.Request.{Request}
 use Rattle.ipmi_raw.specs.declared.request.Request.TheVariants.{Reserve, Get, Info, InventorySize, ReadInventory, Reading}
 
--- storage, or a sensor
+-- 0Ah is storage, 04h is sensor
 abbrev pub network_function_of : Request → ℕ
 network_function_of (Reserve shelf) = 0x0A
 network_function_of (Get part) = 0x0A
@@ -37,13 +37,13 @@ command_of (InventorySize id) = 0x10
 command_of (ReadInventory part) = 0x11
 command_of (Reading lun number) = 0x2D
 
--- FFh asks for the whole of a record. An entry of the event log has sixteen bytes, and some controllers give no part of one,
--- so that a whole entry is asked for as such. A sensor data record is asked for by the count that is wanted, as the buffers
--- of some controllers are smaller than a whole one.
+-- FFh requests a whole record. An event log entry has sixteen bytes, and some controllers do not
+-- return parts of one, so a whole entry is requested with FFh. A sensor data record is requested
+-- with the actual count, as the buffers of some controllers are smaller than a whole record.
 abbrev pub count_asked : RecordPart → ℕ
 count_asked part = for_shelf part.shelf part.count (if (part.offset == 0) && nat_le 16 part.count then 0xFF else part.count)
 
--- a number of two bytes, the low one first
+-- a two-byte number, the low byte first
 abbrev pub two_bytes : ℕ → List ℕ
 two_bytes n = (n % 256) ∷ (n / 256) ∷ []
 
@@ -59,7 +59,7 @@ data_of (Reading lun number) = number ∷ []
 abbrev pub message_of : Request → List ℕ
 message_of request = network_function_of request ∷ command_of request ∷ data_of request
 
--- ---- requests of the calls
+-- ---- the requests of calls
 
 abbrev pub record_part : Shelf → ℕ → ℕ → ℕ → ℕ → RecordPart
 record_part shelf reservation id offset count = record {
@@ -73,8 +73,8 @@ record_part shelf reservation id offset count = record {
 abbrev pub inventory_part : ℕ → ℕ → ℕ → InventoryPart
 inventory_part id offset count = record { id = id; offset = offset; count = count }
 
--- Each number fits its field of the message, and a part is asked to have 1 to 254 bytes. The logical unit may be any byte: a
--- message has room for 0 to 3, and no sensor answers at another one.
+-- Each number fits its field of the message, and a part has 1 to 254 bytes. The logical unit may be
+-- any byte: a message can hold only 0 to 3, and no sensor answers at another unit.
 abbrev pub IsRequest : Request → Type 0
 IsRequest (Reserve shelf) = Unit {0}
 IsRequest (Get part) =

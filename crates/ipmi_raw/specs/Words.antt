@@ -5,7 +5,7 @@ use Rattle.ipmi_text.specs.Bytes.{AreBytes}
 use Rattle.ipmi_raw.specs.declared.tool.Tool.{Tool}
 use Rattle.ipmi_raw.specs.declared.tool.Tool.TheVariants.{Ipmitool, FreeIpmi}
 
--- the sixteen digits, in the case in which the tool prints them
+-- the sixteen digits, in the tool's letter case
 abbrev pub digits : Tool → List ℕ
 digits Ipmitool = lower_digits
 digits FreeIpmi = upper_digits
@@ -14,7 +14,7 @@ digits FreeIpmi = upper_digits
 abbrev pub two_digits : Tool → ℕ → List ℕ
 two_digits tool byte = slice_index (digits tool) (byte / 16) ∷ slice_index (digits tool) (byte % 16) ∷ []
 
--- a byte with no leading zero, as `%x` of C prints it
+-- a byte without a leading zero, like `%x` in C
 abbrev pub number : Tool → ℕ → List ℕ
 number tool byte = if nat_lt byte 16 then slice_index (digits tool) byte ∷ [] else two_digits tool byte
 
@@ -27,21 +27,23 @@ bytes_after tool before (byte ∷ bytes) = before ++ two_digits tool byte ++ byt
 abbrev pub word : Tool → ℕ → List ℕ
 word tool byte = 32 ∷ two_digits tool byte
 
--- what is printed before the word of this number: ipmitool breaks the line after each sixteen words that more follow
+-- the text before word number i: ipmitool breaks the line after each sixteen words that are not the
+-- last
 abbrev pub break_before : Tool → ℕ → List ℕ
 break_before Ipmitool i = if nat_lt 0 i && (i % 16 == 0) then codes "\n" else []
 break_before FreeIpmi i = []
 
--- what is printed after the last word: of ipmitool the line's end, and the line that `echo .` prints, the mark of the reply's end
+-- the text after the last word; for ipmitool, the line's end, and the end mark, which is the output
+-- of `echo .`
 abbrev pub ending : Tool → List ℕ
 ending Ipmitool = codes "\n. \n"
 ending FreeIpmi = codes " \n"
 
--- the words of these bytes, the first of them with this number, and the end of the text
+-- the words of these bytes, the first of which is word number i, and the ending
 abbrev pub words_from : Tool → ℕ → List ℕ → List ℕ
 words_from tool i [] = ending tool
 words_from tool i (byte ∷ bytes) = break_before tool i ++ (word tool byte ++ words_from tool (i + 1) bytes)
 
--- bytes that a reply can have after its completion code
+-- the bytes that a reply can have after its completion code
 abbrev pub AreData : List ℕ → Type 0
 AreData bytes = (length bytes ≤ 255) × AreBytes bytes

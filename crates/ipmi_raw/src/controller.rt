@@ -1,11 +1,11 @@
-//! A management controller that is asked through a peer.
+//! A management controller behind a peer.
 ghost use Rattle.std.specs.Prelude.{Result, Ok, ◌≡◌, ◌+◌, ◌<◌, ◌≤◌, IfSome, MatchOption, IfOk, OnErr, false, length, take, drop, option_map};
 ghost use Rattle.ipmi_bus.specs.Counts.{Counts};
 ghost use Rattle.ipmi_bus.specs.Shelf.{id_in};
 ghost use Rattle.ipmi_bus.specs.Prelude.{IsCall, failing_code, IsHonest, info_of, reading_of, ReserveAnswers, PartAnswers, ValueAnswers, SizeAnswers, BytesAnswers, part_asked, counts_after, zero_counts};
 ghost use Rattle.ipmi_bus.specs.declared.tally.Event.{Event};
 ghost use Rattle.ipmi_raw.specs.Answer.{data_in, first_in, given, IsAnswer, IsDataIfAny, IsDataOf, part_in, reading_in, size_in, value_in};
-ghost use Rattle.ipmi_raw.specs.Controller.{Asks, Exchanged, last_words, seen_of, Sends, seen_through, tool_of};
+ghost use Rattle.ipmi_raw.specs.Controller.{Exchanged, Hears, IsUnheard, last_words, seen_of, Sends, seen_through, tool_of};
 ghost use Rattle.ipmi_raw.specs.Peer.{IsReplyText};
 ghost use Rattle.ipmi_raw.specs.Request.{inventory_part, IsRequest, record_part};
 ghost use Rattle.ipmi_raw.specs.declared.peer.Lost.{Lost};
@@ -19,34 +19,36 @@ use ipmi_text::Reading;
 use std::thread;
 use std::time::{Clock, Duration};
 
-/// The code of each call once the connection is lost: an unspecified error (IPMI v2.0, table 5-2).
+/// The code with which each call fails once the connection is lost: an unspecified error (IPMI v2.0, table 5-2).
 const CONNECTION_LOST: Code = Code(0xFF);
 
-/// The number of a reservation where there are none, as a reply has it.
+/// The reservation number for a controller without reservations, as bytes of a reply.
 const NO_RESERVATION: [u8; 2] = [0; 2];
 
-/// A management controller that is asked through a peer.
+/// A management controller behind a peer.
 ///
-/// The connection is lost when the peer says so, or brings what is no reply to the request. From then on nothing is sent, and
-/// each call fails with FFh.
+/// The connection is lost if the peer reports that, or if its text is not a reply to the request. From then on
+/// nothing is sent, and each call fails with FFh.
 ///
-/// A controller that is busy says so at once, and callers ask again at once. So each call that fails with C0h, C3h or 81h takes
-/// as long as the pause.
+/// A busy controller answers at once, and callers repeat the request at once. So each call that fails with C0h, C3h
+/// or 81h waits for the pause.
 #[derive(Drop)]
 pub struct RawController<P, K> {
     peer: P,
     clock: K,
     pause: Duration,
     tally: Tally,
-    /// What the peer brought last.
+    /// The last text received from the peer.
     text: ReplyText,
     is_lost: bool,
 }
 
 impl<P: Peer, K: Clock> RawController<P, K> {
-    /// The controller that the peer leads to.
+    /// The controller behind the peer.
     pub fn new(peer: P, clock: K, pause: Duration) -> RawController<P, K>
         ensures seen { seen_of P.seen result ≡ seen_through (P.seen peer) zero_counts false }
+        ensures clock { result.clock ≡ clock }
+        ensures pause { result.pause ≡ pause }
     {
         RawController {
             peer,
@@ -58,7 +60,7 @@ impl<P: Peer, K: Clock> RawController<P, K> {
         }
     }
 
-    /// What the tool printed last, where the connection is lost: as a rule why.
+    /// The last output of the tool, if the connection is lost. It usually says why.
     pub fn lost(&self) -> Option<&[u8]>
         ensures { option_map (λ text. text.now) result ≡ last_words self.now }
     {
@@ -69,21 +71,25 @@ impl<P: Peer, K: Clock> RawController<P, K> {
         }
     }
 
-    /// Sends the request, and reads the reply. None where the connection is lost by it.
+    /// Sends the request and reads the reply. None if the connection is lost.
     fn exchange(&mut self, request: Request) -> Option<Reply>
         ensures same { self.new ≡ record self.old { peer = self.new.peer; text = self.new.text } }
         ensures fits { IfSome result (λ reply. IsDataIfAny request (given request reply)) }
         ensures text { IfSome result (λ reply. IsReplyText (P.tool self.old.peer) request reply self.new.text.items) }
         ensures sends { (came : Result (Unit {0}) Lost) ×
-            Exchanged P.brings (P.tool self.old.peer) request self.old self.new came × IfSome result (λ reply. came ≡ Ok tt) }
+            Exchanged P.brings (P.tool self.old.peer) request self.old self.new came ×
+            MatchOption result (IsUnheard (P.tool self.old.peer) request came self.new.text.items) (λ reply. came ≡ Ok tt) }
         ensures honest { IsHonest (P.seen self.old.peer) → IsRequest request → MatchOption result ⊥
             (λ reply. IsAnswer request (given request reply) (P.seen self.old.peer) (P.seen self.new.peer)) }
     {
         let tool = self.peer.tool();
         let line = tool.request_text(request);
-        self.peer
-            .exchange(request.lun(), line.as_slice(), &mut self.text)
-            .ok()?;
+        let came = self
+            .peer
+            .exchange(request.lun(), line.as_slice(), &mut self.text);
+        if came.is_err() {
+            return None;
+        }
         let reply = tool.read_reply(request, self.text.as_slice())?;
         if reply.is_to(request) {
             Some(reply)
@@ -92,7 +98,8 @@ impl<P: Peer, K: Clock> RawController<P, K> {
         }
     }
 
-    /// Counts that the call fails with this code, and gives it back: a code that says that the controller is busy after the pause.
+    /// Counts a failure of the call with this code, and returns the code. If the code means that the controller is
+    /// busy, it waits for the pause first.
     fn fail(&mut self, code: Code) -> Code
         ensures counts { self.new ≡ record self.old { tally = self.new.tally } }
         ensures failed { self.new.tally.counts ≡ counts_after self.old.tally.counts (Event.Failed code) }
@@ -104,15 +111,15 @@ impl<P: Peer, K: Clock> RawController<P, K> {
         self.tally.fail(code)
     }
 
-    /// Makes a call for a part of so many bytes, 0 for anything else: counts it, sends the request, and gives the data of the
-    /// reply.
+    /// Makes a call for a part of `asked` bytes (0 if it is not for a part): counts it, sends the request, and
+    /// returns the data of the reply.
     #[tactic(auto, using(crate::proofs::ThroughLemmas::answered))]
     fn ask(&mut self, asked: u8, request: Request) -> Result<ReplyBytes, Code>
         ensures counted { IsCall asked (seen_of P.seen self.old) (seen_of P.seen self.new) }
         ensures failure { (seen_of P.seen self.new).last_failure ≡ failing_code result }
         ensures data { IfOk result (λ bytes. IsDataOf request bytes) }
         ensures sends { Sends P.brings (tool_of P.tool self.old) request self.old self.new }
-        ensures asks { Asks (tool_of P.tool self.old) request (λ given. given ≡ result)
+        ensures hears { Hears (tool_of P.tool self.old) request (λ given. given ≡ result)
             self.old self.new (failing_code result) }
         ensures honest { IsHonest (seen_of P.seen self.old) → IsRequest request →
             IsAnswer request result (seen_of P.seen self.old) (seen_of P.seen self.new) }
@@ -136,7 +143,7 @@ impl<P: Peer, K: Clock> RawController<P, K> {
     }
 }
 
-/// Copies bytes to the front of a slice that has room for them, and says how many they are.
+/// Copies bytes to the front of a slice that is long enough, and returns their number.
 fn copy_front(bytes: &[u8], into: &mut [u8]) -> u8
     requires room { length bytes.now ≤ length into.old }
     requires few { length into.old < 255 }
@@ -157,7 +164,7 @@ impl<P: Peer, K: Clock> Controller for RawController<P, K> {
         ensures honest { IsHonest (seen_of P.seen self.old) →
             ReserveAnswers shelf result (seen_of P.seen self.old) (seen_of P.seen self.new) }
         ensures sends { Sends P.brings (tool_of P.tool self.old) (Request.Reserve shelf) self.old self.new }
-        ensures asks { Asks (tool_of P.tool self.old) (Request.Reserve shelf) (λ given. result ≡ value_in id_in given)
+        ensures hears { Hears (tool_of P.tool self.old) (Request.Reserve shelf) (λ given. result ≡ value_in id_in given)
             self.old self.new (failing_code result) }
     {
         let reply = self.ask(0, Request::Reserve(shelf))?;
@@ -185,7 +192,7 @@ impl<P: Peer, K: Clock> Controller for RawController<P, K> {
             (seen_of P.seen self.old) (seen_of P.seen self.new) }
         ensures sends { Sends P.brings (tool_of P.tool self.old)
             (Request.Get (record_part shelf reservation id offset (length into.old))) self.old self.new }
-        ensures asks { Asks (tool_of P.tool self.old)
+        ensures hears { Hears (tool_of P.tool self.old)
             (Request.Get (record_part shelf reservation id offset (length into.old)))
             (λ given. (result ≡ value_in part_in given)
             × IfOk result (λ part. take part.got into.new ≡ drop 2 (data_in given)))
@@ -214,7 +221,7 @@ impl<P: Peer, K: Clock> Controller for RawController<P, K> {
         ensures honest { IsHonest (seen_of P.seen self.old) →
             ValueAnswers (info_of shelf) result (seen_of P.seen self.old) (seen_of P.seen self.new) }
         ensures sends { Sends P.brings (tool_of P.tool self.old) (Request.Info shelf) self.old self.new }
-        ensures asks { Asks (tool_of P.tool self.old) (Request.Info shelf) (λ given. result ≡ given)
+        ensures hears { Hears (tool_of P.tool self.old) (Request.Info shelf) (λ given. result ≡ given)
             self.old self.new (failing_code result) }
     {
         let reply = self.ask(0, Request::Info(shelf))?;
@@ -229,7 +236,7 @@ impl<P: Peer, K: Clock> Controller for RawController<P, K> {
         ensures honest { IsHonest (seen_of P.seen self.old) →
             ValueAnswers (reading_of lun number) result (seen_of P.seen self.old) (seen_of P.seen self.new) }
         ensures sends { Sends P.brings (tool_of P.tool self.old) (Request.Reading lun number) self.old self.new }
-        ensures asks { Asks (tool_of P.tool self.old) (Request.Reading lun number) (λ given. result ≡ value_in reading_in given)
+        ensures hears { Hears (tool_of P.tool self.old) (Request.Reading lun number) (λ given. result ≡ value_in reading_in given)
             self.old self.new (failing_code result) }
     {
         let reply = self.ask(0, Request::Reading(lun, number))?;
@@ -248,7 +255,7 @@ impl<P: Peer, K: Clock> Controller for RawController<P, K> {
         ensures honest { IsHonest (seen_of P.seen self.old) →
             SizeAnswers id result (seen_of P.seen self.old) (seen_of P.seen self.new) }
         ensures sends { Sends P.brings (tool_of P.tool self.old) (Request.InventorySize id) self.old self.new }
-        ensures asks { Asks (tool_of P.tool self.old) (Request.InventorySize id) (λ given. result ≡ value_in size_in given)
+        ensures hears { Hears (tool_of P.tool self.old) (Request.InventorySize id) (λ given. result ≡ value_in size_in given)
             self.old self.new (failing_code result) }
     {
         let reply = self.ask(0, Request::InventorySize(id))?;
@@ -272,7 +279,7 @@ impl<P: Peer, K: Clock> Controller for RawController<P, K> {
             (seen_of P.seen self.old) (seen_of P.seen self.new) }
         ensures sends { Sends P.brings (tool_of P.tool self.old)
             (Request.ReadInventory (inventory_part id offset (length into.old))) self.old self.new }
-        ensures asks { Asks (tool_of P.tool self.old)
+        ensures hears { Hears (tool_of P.tool self.old)
             (Request.ReadInventory (inventory_part id offset (length into.old)))
             (λ given. (result ≡ value_in first_in given)
             × IfOk result (λ got. take got into.new ≡ drop 1 (data_in given)))

@@ -1,7 +1,7 @@
-//! The dialect of FreeIPMI's `ipmi-raw`, which reads a line for each request and prints a line for each reply.
+//! The dialect of FreeIPMI's `ipmi-raw`, which reads one line per request and prints one line per reply.
 ghost use Rattle.std.specs.Prelude.{◌≡◌};
 ghost use Rattle.ipmi_raw.specs.FreeIpmi.{IsReplyText, request_text};
-ghost use Rattle.ipmi_raw.specs.Reply.{IsReading};
+ghost use Rattle.ipmi_raw.specs.Reply.{ReadsReply};
 
 use crate::line::{Line, push, push_bytes, push_digits};
 use crate::reply::{Reply, read_words};
@@ -9,7 +9,7 @@ use crate::request::Request;
 use crate::tool::Tool;
 use crate::words::{first_word, strip};
 
-/// What the tool prints where no reply came in its time.
+/// The output of the tool after a timeout.
 const SILENCE: &[u8] = b"ipmi_cmd_raw: session timeout\n";
 
 /// The line that sends the request.
@@ -29,9 +29,9 @@ pub fn request_text(request: Request) -> Line
     line
 }
 
-/// The reply to the request whose text this is, a line with its line feed; None where it is the text of none.
+/// Reads the reply to the request from its text, a line with its line feed. None if the text is not of a reply.
 pub fn read_reply(request: Request, text: &[u8]) -> Option<Reply>
-    ensures { IsReading (IsReplyText request) text.now result }
+    ensures { ReadsReply (IsReplyText request) text.now result }
 {
     if text == SILENCE {
         return Some(Reply::Silent);

@@ -1,8 +1,8 @@
-//! The dialect of `ipmitool exec`, which reads commands of its own, a line each. It does not say where a reply ends, so that
-//! each request is followed by one for a mark.
+//! The dialect of `ipmitool exec`, which reads its own commands, one per line. It does not mark the end of a reply,
+//! so after each request an `echo` asks it to print a mark.
 ghost use Rattle.std.specs.Prelude.{ℕ, List, ◌≡◌, ◌≢◌, ◌<◌, ◌++◌, MatchBool, MatchOption, codes};
 ghost use Rattle.ipmi_raw.specs.Ipmitool.{IsMeaning, IsReplyText, refusal, request_text};
-ghost use Rattle.ipmi_raw.specs.Reply.{IsReading};
+ghost use Rattle.ipmi_raw.specs.Reply.{ReadsReply};
 ghost use Rattle.ipmi_raw.specs.Words.{ending, number};
 ghost use Rattle.ipmi_raw.specs.declared.tool.Tool.TheVariants.{Ipmitool};
 
@@ -12,10 +12,10 @@ use crate::request::Request;
 use crate::tool::Tool;
 use crate::words::{digit_value, strip};
 
-/// How the line goes on that says that no reply came in the tool's time, to the end.
+/// The rest of the tool's output after a timeout, including the mark.
 const SILENCE: &[u8] = b")\n. \n";
 
-/// The lines that send the request, and then ask for the mark of the reply's end.
+/// The lines that send the request and then request the end mark.
 pub fn request_text(request: Request) -> Line
     ensures { result.items ≡ request_text request }
 {
@@ -32,7 +32,7 @@ pub fn request_text(request: Request) -> Line
     line
 }
 
-/// How the tool says that no data came for the request, up to the completion code.
+/// The tool's message for a request that returned no data, up to the completion code.
 pub fn refusal(request: Request) -> Line
     ensures { result.items ≡ refusal request }
 {
@@ -49,7 +49,7 @@ pub fn refusal(request: Request) -> Line
     line
 }
 
-/// The completion code at the front, and what comes after it and the brackets' end.
+/// The completion code at the front, and the text after it and the closing bracket.
 fn first_code(text: &[u8]) -> Option<(u8, &[u8])>
     ensures { MatchOption result
         ((code : ℕ) (after : List ℕ) → code < 256 → text.now ≢ number Ipmitool code ++ (codes "): " ++ after))
@@ -73,7 +73,7 @@ fn first_code(text: &[u8]) -> Option<(u8, &[u8])>
     Some((high * 16 + low, after))
 }
 
-/// Whether the text is what the tool says of a completion code, and then the mark of the reply's end.
+/// Whether the text is the tool's explanation of a completion code, followed by the end mark.
 fn is_meaning(text: &[u8]) -> bool
     ensures { MatchBool result
         ((meaning : List ℕ) × IsMeaning meaning × (text.now ≡ meaning ++ ending Ipmitool))
@@ -85,9 +85,9 @@ fn is_meaning(text: &[u8]) -> bool
     !meaning.contains(&b'\n')
 }
 
-/// The reply to the request whose text this is, with the mark of its end; None where it is the text of none.
+/// Reads the reply to the request from its text, which includes the end mark. None if the text is not of a reply.
 pub fn read_reply(request: Request, text: &[u8]) -> Option<Reply>
-    ensures { IsReading (IsReplyText request) text.now result }
+    ensures { ReadsReply (IsReplyText request) text.now result }
 {
     if let Some(bytes) = read_words(Tool::Ipmitool, text) {
         return Some(Reply::Data(bytes));

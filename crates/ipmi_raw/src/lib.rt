@@ -1,9 +1,9 @@
-//! Requests to a live management controller, and its replies, as the texts by which two stock tools pass them on.
+//! Requests to a live management controller and its replies, as input and output text of two stock tools.
 //!
-//! `ipmitool exec` and FreeIPMI's `ipmi-raw` hold a session with a machine: each reads a request from its standard input as a
-//! line of hex, and prints the reply. Here are the bytes of the requests (IPMI v2.0), the text that asks each tool to send one,
-//! and the reading of what it prints: exact, so that a reply is read only from a text of that reply, and complete, so that each
-//! text of a reply is read.
+//! `ipmitool exec` and FreeIPMI's `ipmi-raw` hold a session with a machine: each reads requests from its standard
+//! input as lines of hex, and prints the replies. This crate has the bytes of the requests (IPMI v2.0), the text that
+//! makes each tool send one, and a reader for its output. The reader is exact: it reads a reply only from a text of
+//! that reply. It is also complete: it reads every text of a reply.
 #![tactic(auto)]
 
 mod controller;

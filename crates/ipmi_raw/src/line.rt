@@ -1,14 +1,14 @@
-//! A line of text that is put together with no memory taken.
+//! A line of text, built without allocation.
 ghost use Rattle.std.specs.Prelude.{◌≡◌, ◌+◌, ◌*◌, ◌++◌, ◌≤◌, ◌<◌, length};
 ghost use Rattle.ipmi_raw.specs.Words.{two_digits, number, bytes_after};
 
 use crate::tool::Tool;
 use arrayvec::ArrayVec;
 
-/// Text for a tool or of one, with room for the longest.
+/// A buffer for the longest text to or from a tool.
 pub type Line = ArrayVec<u8, 96>;
 
-/// Appends bytes that there is room for.
+/// Appends bytes that fit.
 pub(crate) fn push(line: &mut Line, bytes: &[u8])
     requires { length line.old.items + length bytes.now ≤ 96 }
     ensures items { line.new.items ≡ line.old.items ++ bytes.now }
@@ -29,7 +29,7 @@ pub(crate) fn push_digits(line: &mut Line, tool: Tool, byte: u8)
     push(line, &[high, low]);
 }
 
-/// Appends a byte as `%x` of C prints it: with no leading zero.
+/// Appends a byte like `%x` in C: without a leading zero.
 pub(crate) fn push_number(line: &mut Line, tool: Tool, byte: u8)
     requires { length line.old.items + 2 ≤ 96 }
     ensures items { line.new.items ≡ line.old.items ++ number tool byte }

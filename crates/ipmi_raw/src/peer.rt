@@ -1,4 +1,4 @@
-//! What carries requests to a controller and brings back replies, as texts of one of the tools.
+//! A peer passes requests to a controller and returns the replies, as texts of one of the tools.
 ghost use Rattle.std.specs.Prelude.{ℕ, List, Result, ◌≡◌, IsOk};
 ghost use Rattle.ipmi_bus.specs.Seen.{IsHonest, Seen};
 ghost use Rattle.ipmi_raw.specs.Peer.{Replies, request_text};
@@ -11,37 +11,37 @@ use crate::tool::Tool;
 use arrayvec::ArrayVec;
 use thiserror::Error;
 
-/// Room for the longest reply, or for what a tool says when it fails.
+/// The size of a buffer for the longest reply, or for the error output of a tool.
 pub(crate) const REPLY_ROOM: usize = 1024;
 
-/// What a tool prints for a request.
+/// The output of a tool for a request.
 pub type ReplyText = ArrayVec<u8, REPLY_ROOM>;
 
-/// No reply came: the tool has ended, takes no request, or prints what is no end of a reply.
+/// No reply came: the tool has ended, does not accept a request, or its output does not end as a reply does.
 #[derive(Clone, Copy, Debug, PartialEq, Eq, Error)]
 #[error("the connection is lost")]
 pub struct Lost;
 
-/// What carries requests to a controller and brings back replies, as texts of one of the tools.
+/// A peer passes requests to a controller and returns the replies, as texts of one of the tools.
 ///
-/// The clause `honest` speaks only of a peer that has an honest controller at its other end. A peer counts no calls.
+/// The clause `honest` holds for a peer with an honest controller at the other end. A peer counts no calls.
 pub trait Peer {
-    /// What contracts see of the controller at the other end. It costs nothing when the program runs.
+    /// The state of the controller at the other end that contracts see. It has no cost at run time.
     ghost seen: { Self → Seen };
 
     /// The tool.
     ghost tool: { Self → Tool };
 
-    /// What is known of an exchange, also where the controller is not honest: of the peer before it and after it, the logical
-    /// unit, the text that was to be sent, whether a reply came, and what the tool printed.
+    /// What is known of an exchange, even if the controller is not honest. It relates the peer before and after, the
+    /// logical unit, the text to send, whether a reply came, and the tool's output.
     ghost brings: { Self → Self → ℕ → List ℕ → Result (Unit {0}) Lost → List ℕ → Type 0 };
 
-    /// The tool whose texts the peer takes and brings.
+    /// The tool whose texts the peer passes on.
     fn tool(&self) -> Tool
         ensures { result ≡ tool self.now };
 
-    /// Sends the text of a request to this logical unit of the controller, and puts into `reply` what the tool prints, up to
-    /// the end of the reply. Where the connection is lost, it is what the tool printed so far.
+    /// Sends the text of a request to this logical unit of the controller, and stores the tool's output in `reply`,
+    /// up to the end of the reply. If the connection is lost, that is the output so far.
     fn exchange(&mut self, lun: u8, request: &[u8], reply: &mut ReplyText) -> Result<(), Lost>
         ensures tool { tool self.new ≡ tool self.old }
         ensures brings { brings self.old self.new lun request.now result reply.new.items }

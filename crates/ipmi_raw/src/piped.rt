@@ -1,68 +1,79 @@
 //! A peer over streams: a tool for all logical units of a controller, or one for each.
-ghost use Rattle.std.specs.Prelude.{◌≡◌, [], IsOk, OnOk};
+ghost use Rattle.std.specs.Prelude.{◌≡◌, [], Ok, IfSome, IsOk, OnOk};
 ghost use Rattle.ipmi_bus.specs.Prelude.{IsHonest, zero_counts};
 ghost use Rattle.ipmi_bus.specs.Unclaimed.{calls_only};
 ghost use Rattle.ipmi_raw.specs.Peer.{Replies, request_text};
 ghost use Rattle.ipmi_raw.specs.Request.{IsRequest, lun_of};
 ghost use Rattle.ipmi_raw.specs.Streams.{IsEnded, IsNotEndedWithin};
+ghost use Rattle.ipmi_raw.specs.Piped.{IsOverUnit, streams_of, unit_of, with_streams};
 ghost use Rattle.ipmi_raw.specs.declared.request.Request.{Request};
 
 use crate::peer::{Lost, Peer, ReplyText};
 use crate::streams::Streams;
 use crate::tool::Tool;
 use std::io::{self, Read, Write};
+use std::mem;
 
-/// What ipmitool is sent first: Get Device ID (IPMI v2.0, section 20.1). By it the tool opens its session, and what it warns of
-/// then is not taken for a reply.
+/// The first request sent to ipmitool: Get Device ID (IPMI v2.0, section 20.1). It makes the tool open its session,
+/// so that warnings printed then are not taken for a reply.
 const FIRST_REQUEST: &[u8] = b"raw 0x06 0x01\necho .\n";
+
+/// The last logical unit that a message has room for (IPMI v2.0, section 7.2).
+const LAST_UNIT: u8 = 3;
 
 /// What opens the streams of a tool.
 pub trait Open {
-    /// What the tool prints to. It is read byte by byte.
+    /// The tool's output. It is read byte by byte.
     type Replies: Read + Drop;
-    /// What the tool reads from.
+    /// The tool's input.
     type Requests: Write + Drop;
 
-    /// Opens the streams of the tool that sends requests to this logical unit, 0 to 3: what it prints to, and what it reads
-    /// from.
+    /// Opens the streams of the tool that sends requests to this logical unit, 0 to 3: its output and its input.
     fn open(&mut self, lun: u8) -> io::Result<(Self::Replies, Self::Requests)>;
 }
 
-/// The streams of the tools that an `Open` opens, of one for each logical unit (IPMI v2.0, section 7.2).
+/// The streams of the tools opened by an `Open`, one tool for each logical unit (IPMI v2.0, section 7.2).
 #[derive(Drop)]
-struct Units<O: Open> {
-    zero: Option<Streams<O::Replies, O::Requests>>,
-    one: Option<Streams<O::Replies, O::Requests>>,
-    two: Option<Streams<O::Replies, O::Requests>>,
-    three: Option<Streams<O::Replies, O::Requests>>,
+struct Units<R, W> {
+    zero: Option<Streams<R, W>>,
+    one: Option<Streams<R, W>>,
+    two: Option<Streams<R, W>>,
+    three: Option<Streams<R, W>>,
 }
 
-impl<O: Open> Units<O> {
-    /// Where the streams of a unit are, once they are open.
-    fn slot(&mut self, unit: u8) -> Option<&mut Option<Streams<O::Replies, O::Requests>>> {
-        match unit {
-            0 => Some(&mut self.zero),
-            1 => Some(&mut self.one),
-            2 => Some(&mut self.two),
-            3 => Some(&mut self.three),
-            _ => None,
+impl<R: Drop, W: Drop> Units<R, W> {
+    /// Puts these in the place of the streams of a unit, and gives what was there. A unit above 3 has none.
+    fn replace(&mut self, unit: u8, streams: Option<Streams<R, W>>) -> Option<Streams<R, W>>
+        ensures was { result ≡ streams_of unit self.old }
+        ensures now { self.new ≡ with_streams unit streams self.old }
+    {
+        if unit == 0 {
+            mem::replace(&mut self.zero, streams)
+        } else if unit == 1 {
+            mem::replace(&mut self.one, streams)
+        } else if unit == 2 {
+            mem::replace(&mut self.two, streams)
+        } else if unit == 3 {
+            mem::replace(&mut self.three, streams)
+        } else {
+            None
         }
     }
 }
 
-/// A peer over the streams of a tool, which are opened when a request is to be sent.
+/// A peer over the streams of a tool, which it opens when a request is to be sent.
 ///
-/// A request to `ipmi-raw` names its logical unit. `ipmitool exec` sends all requests to one, so that there is one such tool for
-/// each unit that is asked, and none for a unit above 3: there the connection is lost.
+/// A request to `ipmi-raw` names its logical unit. `ipmitool exec` sends all its requests to one unit, so there is
+/// one such tool for each unit used. There is none for a unit above 3: a request to it loses the connection.
 #[derive(Drop)]
 pub struct Piped<O: Open> {
     tool: Tool,
     opener: O,
-    units: Units<O>,
+    units: Units<O::Replies, O::Requests>,
 }
 
 impl<O: Open> Piped<O> {
-    /// A peer whose streams are opened by this.
+    /// A peer whose streams are opened by `opener`.
     pub fn new(tool: Tool, opener: O) -> Piped<O>
         ensures { ⟦<Piped<O> as Peer>⟧.tool result ≡ tool }
     {
@@ -79,28 +90,38 @@ impl<O: Open> Piped<O> {
     }
 }
 
+/// The unit whose streams have a request to this logical unit.
+fn unit_of(tool: Tool, lun: u8) -> u8
+    ensures { result ≡ unit_of tool lun }
+{
+    match tool {
+        Tool::Ipmitool => lun,
+        Tool::FreeIpmi => 0,
+    }
+}
+
 /// The streams of the tool that sends requests to the unit, which are opened if they are not. `reply` gets what ipmitool prints
 /// as it opens its session.
-fn opened<'u, O: Open>(
-    units: &'u mut Units<O>,
+fn opened<O: Open>(
+    streams: Option<Streams<O::Replies, O::Requests>>,
     opener: &mut O,
     tool: Tool,
     unit: u8,
     reply: &mut ReplyText,
-) -> Result<&'u mut Streams<O::Replies, O::Requests>, Lost>
+) -> Result<Streams<O::Replies, O::Requests>, Lost>
     requires { reply.old.items ≡ [] }
-    ensures { IsNotEndedWithin tool reply.new.items }
+    ensures same { IfSome streams (λ streams. result ≡ Ok streams) }
+    ensures first { IsNotEndedWithin tool reply.new.items }
 {
-    let slot = units.slot(unit).ok_or(Lost)?;
-    if slot.is_none() {
-        let (replies, requests) = opener.open(unit).or(Err(Lost))?;
-        let mut streams = Streams { replies, requests };
-        if tool == Tool::Ipmitool {
-            streams.exchange(tool, FIRST_REQUEST, reply)?;
-        }
-        *slot = Some(streams);
+    if let Some(streams) = streams {
+        return Ok(streams);
     }
-    slot.as_mut().ok_or(Lost)
+    let (replies, requests) = opener.open(unit).or(Err(Lost))?;
+    let mut streams = Streams { replies, requests };
+    if tool == Tool::Ipmitool {
+        streams.exchange(tool, FIRST_REQUEST, reply)?;
+    }
+    Ok(streams)
 }
 
 impl<O: Open> Peer for Piped<O> {
@@ -108,7 +129,8 @@ impl<O: Open> Peer for Piped<O> {
 
     ghost tool = { λ piped. piped.tool };
 
-    ghost brings = { λ old new lun request result reply. OnOk result (IsEnded old.tool reply) × IsNotEndedWithin old.tool reply };
+    ghost brings = { λ old new lun request result reply. OnOk result (IsEnded old.tool reply) × IsNotEndedWithin old.tool reply
+        × IsOverUnit O.Replies.remaining O.Requests.contents (unit_of old.tool lun) request result reply old.units new.units };
 
     fn tool(&self) -> Tool {
         self.tool
@@ -123,11 +145,14 @@ impl<O: Open> Peer for Piped<O> {
         ensures brings { ⟦<Piped<O> as Peer>⟧.brings self.old self.new lun request.now result reply.new.items }
     {
         reply.clear();
-        let unit = match self.tool {
-            Tool::Ipmitool => lun,
-            Tool::FreeIpmi => 0,
-        };
-        let streams = opened(&mut self.units, &mut self.opener, self.tool, unit, reply)?;
-        streams.exchange(self.tool, request, reply)
+        let unit = unit_of(self.tool, lun);
+        if LAST_UNIT < unit {
+            return Err(Lost);
+        }
+        let open = self.units.replace(unit, None);
+        let mut streams = opened(open, &mut self.opener, self.tool, unit, reply)?;
+        let came = streams.exchange(self.tool, request, reply);
+        self.units.replace(unit, Some(streams));
+        came
     }
 }

@@ -1,4 +1,4 @@
-//! What a management controller replies, and the bytes of a reply in a tool's text.
+//! The replies of a management controller, and the bytes of a reply in a tool's text.
 ghost use Rattle.std.specs.Prelude.{ℕ, List, ◌≡◌, ◌≢◌, ◌<◌, ◌≤◌, MatchBool, MatchOption, length};
 ghost use Rattle.ipmi_raw.specs.Answer.{given, IsDataIfAny, IsDataOf};
 ghost use Rattle.ipmi_raw.specs.Words.{AreData, words_from};
@@ -10,7 +10,7 @@ use arrayvec::ArrayVec;
 use ipmi_bus::INFO_LEN;
 use std::marker::Model;
 
-/// The most bytes of a reply after its completion code.
+/// The largest number of bytes in a reply after its completion code.
 const LARGEST_REPLY_LEN: usize = 255;
 
 /// The bytes of a reply after its completion code: at most 255.
@@ -49,18 +49,18 @@ impl ReplyBytes {
     }
 }
 
-/// What came of a request.
+/// The reply to a request.
 #[derive(Drop)]
 pub enum Reply {
     /// The bytes after the completion code 00h.
     Data(ReplyBytes),
     /// A completion code other than 00h (IPMI v2.0, section 5.2).
     Refused(u8),
-    /// The controller did not reply in the time for which the tool waits.
+    /// The controller did not reply before the tool's timeout.
     Silent,
 }
 
-/// The bytes whose words, from the first to the end, are all of the text.
+/// The bytes of which this is the whole text, as words with the tool's ending.
 pub(crate) fn read_words(tool: Tool, text: &[u8]) -> Option<ReplyBytes>
     ensures { MatchOption result
         ((bytes : List ℕ) → AreData bytes → text.now ≢ words_from tool 0 bytes)
@@ -84,8 +84,8 @@ pub(crate) fn read_words(tool: Tool, text: &[u8]) -> Option<ReplyBytes>
 }
 
 impl Reply {
-    /// Whether it can be a reply to the request: where it has data, as many bytes as the standard says, and of a record or an
-    /// inventory no more than were asked for.
+    /// Whether it can be a reply to the request. If it has data, the number of bytes must be as in the standard, and
+    /// for a record or an inventory at most the number asked for.
     pub(crate) fn is_to(&self, request: Request) -> bool
         ensures { MatchBool result (IsDataIfAny request (given request self.now)) (¬ IsDataIfAny request (given request self.now)) }
     {
@@ -96,7 +96,7 @@ impl Reply {
     }
 }
 
-/// Whether the data of a reply to the request can be these bytes.
+/// Whether these bytes can be the data of a reply to the request.
 fn is_data_of(request: Request, bytes: &[u8]) -> bool
     ensures { MatchBool result (IsDataOf request bytes.now) (¬ IsDataOf request bytes.now) }
 {

@@ -1,4 +1,4 @@
-//! The requests that a listing sends, as bytes (IPMI v2.0).
+//! The requests to a controller, as bytes (IPMI v2.0).
 ghost use Rattle.std.specs.Prelude.{◌≡◌, ◌≤◌, length};
 ghost use Rattle.ipmi_raw.specs.Answer.{code_given, says_unreserved};
 ghost use Rattle.ipmi_raw.specs.Request.{command_of, count_asked, data_of, lun_of, network_function_of};
@@ -6,18 +6,18 @@ ghost use Rattle.ipmi_raw.specs.Request.{command_of, count_asked, data_of, lun_o
 use arrayvec::ArrayVec;
 use ipmi_bus::{Code, SEL_ENTRY_LEN, Shelf};
 
-/// A part of a sensor data record or of an entry of the event log.
+/// A part of a sensor data record or of an event log entry.
 #[derive(Clone, Copy, Debug, PartialEq, Eq)]
 pub struct RecordPart {
-    /// Where the record is.
+    /// The repository of the record.
     pub shelf: Shelf,
     /// The reservation's number.
     pub reservation: u16,
-    /// The record's id, 0000h for the first.
+    /// The id of the record, 0000h for the first.
     pub id: u16,
-    /// The first byte that is asked for, counted from 0.
+    /// The first byte to read, counted from 0.
     pub offset: u8,
-    /// How many bytes are asked for.
+    /// The number of bytes to read.
     pub count: u8,
 }
 
@@ -26,9 +26,9 @@ pub struct RecordPart {
 pub struct InventoryPart {
     /// The device's id.
     pub id: u8,
-    /// The first byte that is asked for, counted from 0.
+    /// The first byte to read, counted from 0.
     pub offset: u16,
-    /// How many bytes are asked for.
+    /// The number of bytes to read.
     pub count: u8,
 }
 
@@ -45,12 +45,12 @@ pub enum Request {
     InventorySize(u8),
     /// Read FRU Data (section 34.2).
     ReadInventory(InventoryPart),
-    /// Get Sensor Reading (section 35.14): the logical unit of a controller (section 7.2), 0 to 3, and the number of a sensor at
-    /// it.
+    /// Get Sensor Reading (section 35.14): a logical unit of a controller (section 7.2), and the number of a sensor at it. The
+    /// unit may be any byte, and a message has room for 0 to 3.
     Reading(u8, u8),
 }
 
-/// The bytes of a request after its command, with room for the most.
+/// The bytes of a request after its command, at most 6.
 pub type RequestData = ArrayVec<u8, 6>;
 
 /// The network function of requests to sensors (IPMI v2.0, table 5-1).
@@ -59,10 +59,11 @@ const SENSOR: u8 = 0x04;
 /// The network function of requests to storage (IPMI v2.0, table 5-1).
 const STORAGE: u8 = 0x0A;
 
-/// The count that asks for the whole of a record.
+/// The count that requests a whole record.
 const WHOLE_RECORD: u8 = 0xFF;
 
-/// The count by which a part is asked for: FFh for a whole entry of the event log, as some controllers give no part of one.
+/// The count in a request for a part: FFh for a whole event log entry, as some controllers do not return parts of
+/// one.
 fn count_asked(part: RecordPart) -> u8
     ensures { result ≡ count_asked part }
 {
@@ -72,7 +73,7 @@ fn count_asked(part: RecordPart) -> u8
     }
 }
 
-/// The data of these bytes.
+/// These bytes as request data.
 fn data(bytes: &[u8]) -> RequestData
     requires { length bytes.now ≤ 6 }
     ensures { result.items ≡ bytes.now }
@@ -83,7 +84,7 @@ fn data(bytes: &[u8]) -> RequestData
 }
 
 impl Request {
-    /// The network function to which the request goes.
+    /// The network function of the request.
     pub fn network_function(self) -> u8
         ensures { result ≡ network_function_of self }
     {
@@ -97,7 +98,7 @@ impl Request {
         }
     }
 
-    /// The number of the logical unit to which the request goes: 0 for all but readings.
+    /// The logical unit of the request: 0 for all but readings.
     pub fn lun(self) -> u8
         ensures { result ≡ lun_of self }
     {
@@ -128,7 +129,7 @@ impl Request {
         }
     }
 
-    /// The bytes after the command. Numbers of two bytes have the low one first.
+    /// The bytes after the command. Two-byte numbers have the low byte first.
     pub fn data(self) -> RequestData
         ensures { result.items ≡ data_of self }
     {
@@ -148,8 +149,8 @@ impl Request {
         }
     }
 
-    /// What a completion code of the reply says: CBh, that there is none, for the codes by which controllers say so of a sensor
-    /// or of an inventory.
+    /// The code that a call returns for a completion code of the reply. Other codes by which controllers say that
+    /// there is no such sensor or inventory become CBh.
     pub fn code_given(self, code: u8) -> Code
         ensures { result ≡ code_given self code }
     {
@@ -160,8 +161,9 @@ impl Request {
         }
     }
 
-    /// Whether a completion code of the reply says that the shelf has no reservations: C1h, where the controller does not know
-    /// the command that reserves it. Its parts are asked for with the reservation 0000h then (sections 31.5 and 33.12).
+    /// Whether a completion code of the reply says that the shelf has no reservations: C1h, if the controller does
+    /// not know the command that reserves it. Parts are then requested with reservation 0000h (sections 31.5 and
+    /// 33.12).
     pub fn says_unreserved(self, code: u8) -> bool
         ensures { result ≡ says_unreserved self code }
     {

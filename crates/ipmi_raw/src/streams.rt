@@ -1,4 +1,4 @@
-//! The two streams of a tool: one that it reads requests from, and one that it prints replies to.
+//! The two streams of a tool: its input for requests and its output with replies.
 ghost use Rattle.std.specs.Prelude.{◌≡◌, [], ◌∷◌, MatchBool, MatchOption, OnOk};
 ghost use Rattle.std.specs.Io.KnownBytes.{Appends, Consumes};
 ghost use Rattle.ipmi_raw.specs.Streams.{IsEnded, IsNotEndedWithin};
@@ -7,10 +7,10 @@ use crate::peer::{Lost, REPLY_ROOM, ReplyText};
 use crate::tool::Tool;
 use std::io::{ErrorKind, Read, Write};
 
-/// What ipmitool prints where it is asked for the mark of a reply's end.
+/// ipmitool's output for the end mark of a reply.
 const MARK: &[u8] = b". \n";
 
-/// Whether the tool has printed all of a reply.
+/// Whether the tool's output has reached the end of a reply.
 fn is_ended(tool: Tool, text: &[u8]) -> bool
     ensures { MatchBool result (IsEnded tool text.now) (¬ IsEnded tool text.now) }
 {
@@ -20,7 +20,7 @@ fn is_ended(tool: Tool, text: &[u8]) -> bool
     }
 }
 
-/// The next byte; None at the end, and where reading fails.
+/// The next byte. None at the end of the stream, or if reading fails.
 fn read_byte<R: Read>(reader: &mut R) -> Option<u8>
     ensures { MatchOption result
         (Consumes (R.remaining reader.old) (R.remaining reader.new) [])
@@ -38,7 +38,7 @@ fn read_byte<R: Read>(reader: &mut R) -> Option<u8>
     None
 }
 
-/// Reads what the tool prints, up to the end of a reply.
+/// Reads the tool's output, up to the end of a reply.
 fn read_reply<R: Read>(tool: Tool, reader: &mut R, reply: &mut ReplyText) -> Result<(), Lost>
     ensures read { Consumes (R.remaining reader.old) (R.remaining reader.new) reply.new.items }
     ensures ended { OnOk result (IsEnded tool reply.new.items) }
@@ -60,16 +60,16 @@ fn read_reply<R: Read>(tool: Tool, reader: &mut R, reply: &mut ReplyText) -> Res
 /// The two streams of a tool.
 #[derive(Drop)]
 pub struct Streams<R, W> {
-    /// What the tool prints to. It is read byte by byte.
+    /// The tool's output. It is read byte by byte.
     pub replies: R,
-    /// What the tool reads from.
+    /// The tool's input.
     pub requests: W,
 }
 
 impl<R: Read, W: Write> Streams<R, W> {
-    /// Sends the text of a request, and puts into `reply` what the tool prints, up to the end of a reply. The connection is lost
-    /// where the tool takes no request, prints no more, or more than `reply` has room for. A tool that takes no request may
-    /// have said why.
+    /// Sends the text of a request, and stores the tool's output in `reply`, up to the end of a reply. The connection
+    /// is lost if the tool does not accept the request, if its output ends, or if the output does not fit into
+    /// `reply`. A tool that does not accept a request may have printed the reason.
     pub fn exchange(
         &mut self,
         tool: Tool,

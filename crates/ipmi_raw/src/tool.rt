@@ -1,7 +1,7 @@
-//! The tools that pass requests on, and how they print hex.
+//! The tools that pass on requests, and how they print hex.
 ghost use Rattle.std.specs.Prelude.{◌≡◌};
 ghost use Rattle.ipmi_raw.specs.Peer.{IsReplyText, request_text};
-ghost use Rattle.ipmi_raw.specs.Reply.{IsReading};
+ghost use Rattle.ipmi_raw.specs.Reply.{ReadsReply};
 ghost use Rattle.ipmi_raw.specs.Words.{digits, ending};
 
 use crate::line::Line;
@@ -9,7 +9,7 @@ use crate::reply::Reply;
 use crate::request::Request;
 use crate::{freeipmi, ipmitool};
 
-/// A tool that passes requests on.
+/// A tool that passes on requests.
 #[derive(Clone, Copy, Debug, PartialEq, Eq)]
 pub enum Tool {
     /// `ipmitool exec`.
@@ -19,7 +19,7 @@ pub enum Tool {
 }
 
 impl Tool {
-    /// The hex digits, in the case in which the tool prints them.
+    /// The hex digits, in the tool's letter case.
     pub fn digits(self) -> &'static [u8; 16]
         ensures { result.now ≡ digits self }
     {
@@ -29,7 +29,7 @@ impl Tool {
         }
     }
 
-    /// What the tool prints after the last byte of a reply.
+    /// The tool's output after the last byte of a reply.
     pub fn ending(self) -> &'static [u8]
         ensures { result.now ≡ ending self }
     {
@@ -39,7 +39,7 @@ impl Tool {
         }
     }
 
-    /// The text by which the tool is asked to send the request.
+    /// The text that makes the tool send the request.
     pub fn request_text(self, request: Request) -> Line
         ensures { result.items ≡ request_text self request }
     {
@@ -49,9 +49,9 @@ impl Tool {
         }
     }
 
-    /// The reply to the request whose text this is, as the tool prints it; None where it is the text of none.
+    /// Reads the reply to the request from the tool's output. None if the text is not of a reply.
     pub fn read_reply(self, request: Request, text: &[u8]) -> Option<Reply>
-        ensures { IsReading (IsReplyText self request) text.now result }
+        ensures { ReadsReply (IsReplyText self request) text.now result }
     {
         match self {
             Tool::Ipmitool => ipmitool::read_reply(request, text),

@@ -1,10 +1,10 @@
-//! What stands at the front of a text: hex digits, words of them, and what the reader expects.
+//! Reads the front of a text: hex digits, hex words, and expected text.
 ghost use Rattle.std.specs.Prelude.{ℕ, List, ◌≡◌, ◌≢◌, ◌<◌, ◌++◌, MatchOption, slice_index};
 ghost use Rattle.ipmi_raw.specs.Words.{break_before, digits, two_digits, word};
 
 use crate::tool::Tool;
 
-/// What comes after `front`, where the text begins with it.
+/// The text after `front`, if the text begins with it.
 pub fn strip<'a>(front: &[u8], text: &'a [u8]) -> Option<&'a [u8]>
     ensures { MatchOption result
         ((rest : List ℕ) → text.now ≢ front.now ++ rest)
@@ -17,7 +17,7 @@ pub fn strip<'a>(front: &[u8], text: &'a [u8]) -> Option<&'a [u8]>
     if start == front { Some(rest) } else { None }
 }
 
-/// The value of a digit, in the case in which the tool prints it.
+/// The value of a hex digit in the letter case of the tool.
 pub(crate) fn digit_value(tool: Tool, digit: u8) -> Option<u8>
     ensures { MatchOption result
         ((value : ℕ) → value < 16 → slice_index (digits tool) value ≢ digit)
@@ -32,7 +32,7 @@ pub(crate) fn digit_value(tool: Tool, digit: u8) -> Option<u8>
     None
 }
 
-/// The byte whose two digits are at the front, and what comes after them.
+/// The byte in the two digits at the front, and the text after them.
 pub fn first_byte(tool: Tool, text: &[u8]) -> Option<(u8, &[u8])>
     ensures { MatchOption result
         ((byte : ℕ) (after : List ℕ) → byte < 256 → text.now ≢ two_digits tool byte ++ after)
@@ -46,7 +46,7 @@ pub fn first_byte(tool: Tool, text: &[u8]) -> Option<(u8, &[u8])>
     Some((high * 16 + low, after))
 }
 
-/// The byte of the word at the front, and what comes after it.
+/// The byte of the word at the front, and the text after it.
 pub(crate) fn first_word(tool: Tool, text: &[u8]) -> Option<(u8, &[u8])>
     ensures { MatchOption result
         ((byte : ℕ) (after : List ℕ) → byte < 256 → text.now ≢ word tool byte ++ after)
@@ -56,7 +56,7 @@ pub(crate) fn first_word(tool: Tool, text: &[u8]) -> Option<(u8, &[u8])>
     first_byte(tool, digits)
 }
 
-/// What comes after the break before the word of this number.
+/// The text after the line break (if any) before word number `i`.
 fn after_break(tool: Tool, i: usize, text: &[u8]) -> Option<&[u8]>
     ensures { MatchOption result
         ((rest : List ℕ) → text.now ≢ break_before tool i ++ rest)
@@ -68,7 +68,7 @@ fn after_break(tool: Tool, i: usize, text: &[u8]) -> Option<&[u8]>
     }
 }
 
-/// The byte of the word of this number, with the break before it, and what comes after it.
+/// The byte of word number `i`, which may follow a line break, and the text after the word.
 pub(crate) fn next_word(tool: Tool, i: usize, text: &[u8]) -> Option<(u8, &[u8])>
     ensures { MatchOption result
         ((byte : ℕ) (after : List ℕ) → byte < 256 → text.now ≢ break_before tool i ++ (word tool byte ++ after))

@@ -3,12 +3,12 @@ use Rattle.ipmi_bus.specs.declared.controller.Part.{Part}
 use Rattle.ipmi_raw.specs.Answer.{data_in, part_in, value_in}
 use Rattle.ipmi_raw.specs.Request.{record_part}
 use Rattle.ipmi_raw.specs.declared.request.Request.TheVariants as Request
-use Rattle.ipmi_raw.proofs.AskLemmas.{asks_failed}
+use Rattle.ipmi_raw.proofs.AskLemmas.{hears_failed}
 use Rattle.ipmi_raw.proofs.controller.RawControllerController.part.Goals as goal
 
-pub returns-in_err-reply-clause-asks : goal.returns-in_err-reply-clause-asks
-returns-in_err-reply-clause-asks g c =
+pub returns-in_err-reply-clause-hears : goal.returns-in_err-reply-clause-hears
+returns-in_err-reply-clause-hears g c =
     let same : c.from_residual.result ≡ Err c.in_err-reply.field-0.0 = search rules in
-    asks_failed {V = Part} (g.P.Peer.tool c.args.self.now.peer) (Request.Get (record_part c.args.shelf c.args.reservation c.args.id c.args.offset (length c.args.into.now)))
+    hears_failed {V = Part} (g.P.Peer.tool c.args.self.now.peer) (Request.Get (record_part c.args.shelf c.args.reservation c.args.id c.args.offset (length c.args.into.now)))
     (λ r given. (r ≡ value_in part_in given) × IfOk r (λ part. take part.got c.args.into.now ≡ drop 2 (data_in given))) c.args.self.now c.ask.new.self c.from_residual.result c.in_err-reply.field-0.0 same
-    c.in_err-reply.ensures.asks (refl, tt)
+    c.in_err-reply.ensures.hears (refl, tt)
