@@ -4,16 +4,16 @@ use Rattle.std.proofs.lemmas.List.{append-nil, length-map}
 use Rattle.std.proofs.lemmas.List.Folds.{list_all_at}
 use Rattle.std.proofs.lemmas.Bool.Decides.{nat_tests}
 use Rattle.std.proofs.Math.ListN.{get_or-map}
-use Rattle.ipmi_capture.specs.Below.{Cycle, Ended, EndsBy, First, GaveUp, IsWalk, Malformed, Missing, Refused, Row, Seen, Shelf, Stalled, StaysHonest, WalkEnd, info_of, inventory_of, IsStore, reading_of, reading_in, rows_of, Sdr, Sel, SensorReading, stays_trans, Store, with_info, with_rows}
-use Rattle.ipmi_capture.specs.Capture.{devices_of, InventoryOrLeft, IsCaptureBut, IsCaptureOf, ReadingOrLeft, SameWalk, sensors_of, WalkOrLeft}
+use Rattle.ipmi_capture.specs.Below.{Cycle, CycleAt, MissingAt, Ended, EndsBy, First, GaveUp, IsWalk, Malformed, Missing, Refused, Row, Seen, Shelf, Stalled, StaysHonest, WalkEnd, info_of, inventory_of, IsHonest, IsStore, reading_of, reading_in, rows_of, Sdr, Sel, SensorReading, stays_trans, Store, with_info, with_rows}
+use Rattle.ipmi_capture.specs.Capture.{devices_of, HasWalk, InventoryOrLeft, IsCaptureBut, IsCaptureOf, NoneOrSame, OwnInventories, OwnReadings, ReadingOrLeft, SameWalk, sensors_of, WalkOrLeft}
 use Rattle.ipmi_capture.specs.Named.{AreMarks, IsSensorKey, Names, sensor_place}
-use Rattle.ipmi_capture.specs.Phases.{AreWalk, CameOf, Captures, HasInventories, HasReadings, PlainEnds, Walks}
-use Rattle.ipmi_capture.specs.Left.{LacksInfo, LacksInventory, LacksReading, LacksRecords, leaves_nothing, PlainLeaves, SameOrLeft}
+use Rattle.ipmi_capture.specs.Phases.{Adds, AreRowsOf, AreWalk, CameOf, Captures, HasInventories, HasReadings, IsUnkept, IsUnread, PlainEnds, Walks}
+use Rattle.ipmi_capture.specs.Left.{EndIsNoted, IsLeftOut, IsTrueOf, NotesEnd, LacksInfo, LacksInventory, LacksReading, LacksRecords, leaves_nothing, PlainLeaves, SameOrLeft}
 use Rattle.ipmi_capture.specs.declared.left.Left.{Left}
 use Rattle.std.specs.List.{Any, list_all}
-use Rattle.std.proofs.lemmas.List.Elements.{All-cons, All-nil}
+use Rattle.std.proofs.lemmas.List.Elements.{All-append, All-cons, All-nil}
 use Rattle.ipmi_capture.proofs.FoundLemmas.{is_marked, no_device}
-use Rattle.ipmi_capture.proofs.ReadLemmas.{any_of_one, captures_with, front_more, Lasts, same_more}
+use Rattle.ipmi_capture.proofs.ReadLemmas.{adds_weaker, any_of_one, captures_with, Lasts, same_more, walk_more}
 use Rattle.ipmi_capture.proofs.WalkLemmas.{same_walk}
 
 module _ (left : List Left) (image store : Store) where
@@ -24,7 +24,7 @@ module _ (left : List Left) (image store : Store) where
   named_readings sensors keys are marks has = λ k d lt.
       let len = length-map keys sensor_place in
       let at = is_marked (map sensor_place keys) k (sensor_place d) (omega (arith, lt, len)) in
-      has (get_or keys k d) (are k d lt) (marks _ ∙ rw (get_or-map sensor_place keys k d) at at)
+      has.named (get_or keys k d) (are k d lt) (marks _ ∙ rw (get_or-map sensor_place keys k d) at at)
 
   pub named_inventories : IsStore image → IsStore store → (devices : List Bool) (ids : List ℕ)
       → All (λ id. id < 256) ids → AreMarks devices ids → HasInventories devices left image store
@@ -36,14 +36,14 @@ module _ (left : List Left) (image store : Store) where
 
       real : (id : ℕ) → (id < 255) ⊎ (id ≡ 255) → slice_index_or devices id false ≡ true
           → InventoryOrLeft left image store id
-      real id (inl lt) mark = has id lt (grind (arith, mark))
+      real id (inl lt) mark = has.named id lt (grind (arith, mark))
       real id (inr none) mark = inl (neither id none)
 
       decide : (id : ℕ) → id < 256 → (id < 255) ⊎ (id ≡ 255)
       decide id lt = grind (arith, nat_tests)
 
       by : (k d : ℕ) → k < length (0 ∷ ids) → InventoryOrLeft left image store (get_or (0 ∷ ids) k d)
-      by zero d lt = has 0 (omega arith) refl
+      by zero d lt = has.named 0 (omega arith) refl
       by (suc k) d lt =
           let id = get_or ids k d in
           let below : k < length ids = omega (arith, lt) in
@@ -55,14 +55,16 @@ module _ (left : List Left) (image store : Store) where
       → SameOrLeft (LacksInfo Sel) left (info_of Sel image) (info_of Sel store)
       → All (ReadingOrLeft left image store) (sensors_of image.sdr)
       → All (InventoryOrLeft left image store) (0 ∷ devices_of image.sdr)
-      → IsCaptureBut left image store
-  is_capture is_image is_store sdr sel sdr_info sel_info readings inventories = record {
+      → OwnReadings image store → OwnInventories image store → IsCaptureBut left image store
+  is_capture is_image is_store sdr sel sdr_info sel_info readings inventories own_readings own_inventories = record {
     sdr = same_walk Sdr left image store sdr;
     sel = same_walk Sel left image store sel;
     sdr_info = sdr_info;
     sel_info = sel_info;
     readings = readings;
     inventories = inventories;
+    own_readings = own_readings;
+    own_inventories = own_inventories;
   }
 
 -- ---- where nothing was left out
@@ -121,10 +123,10 @@ module _ (left : List Left) (nothing : IsTrue (list_all leaves_nothing left)) wh
   walk_of shelf image store walks = λ walk end is ends. by walk end (walks walk end is ends)
     where
       by : (walk : List Row) (end : WalkEnd)
-          → (IsWalk (rows_of shelf image) First walk × EndsBy (rows_of shelf image) First walk end)
+          → (HasWalk shelf image walk end × EndIsNoted shelf left end)
           ⊎ ((rows_of shelf image ≡ take (length (rows_of shelf image)) walk) × Any (LacksRecords shelf) left)
-          → IsWalk (rows_of shelf image) First walk × EndsBy (rows_of shelf image) First walk end
-      by walk end (inl same) = same
+          → HasWalk shelf image walk end
+      by walk end (inl same) = same.0
       by walk end (inr front) = absurd (none_of (LacksRecords shelf) (no_records shelf) front.1)
 
   pub whole_capture : (image store : Store) → IsCaptureBut left image store → IsCaptureOf image store
@@ -139,29 +141,48 @@ module _ (left : List Left) (nothing : IsTrue (list_all leaves_nothing left)) wh
     inventories = λ k d lt.
         let id = get_or (0 ∷ devices_of image.sdr) k d in
         same_of (LacksInventory id) (inventory_of id image) (inventory_of id store) (no_inventory id) (but.inventories k d lt);
+    own_readings = but.own_readings;
+    own_inventories = but.own_inventories;
   }
 
 -- the records of a shelf, of which more are not there for this reason
-pub captures_walk : {s s' : Seen} (shelf : Shelf) (rows : List Row) (ended : Ended)
-    → StaysHonest s s' → Walks shelf s s' rows (Some ended)
-    → Captures s s' [] (Left.Records shelf ended ∷ [])
+pub captures_walk : {tries : ℕ} {s s' : Seen} (shelf : Shelf) (rows : List Row) (ended : Ended)
+    → StaysHonest s s' → Walks shelf tries s s' rows (Some ended)
+    → Captures tries s s' [] (Left.Records shelf ended ∷ [])
     (AreWalk shelf (Left.Records shelf ended ∷ []) s.store rows)
 captures_walk {s = s} {s' = s'} shelf rows ended stays walks = record {
   more = Left.Records shelf ended ∷ [];
   grows = refl;
+  counts = walks.counts;
   fact = λ same walk end is ends. by walk end ended (walks.along same walk end is ends);
+  told = λ same. All-cons (IsTrueOf s.store) (Left.Records shelf ended) [] (told ended (walks.along same)) (All-nil (IsTrueOf s.store));
   plain = λ p all. All-cons (PlainLeaves s.store) (Left.Records shelf ended) []
       (fine ended (walks.plain p) (λ walk end is ends. walks.along (stays.plain_store p) walk end is ends)) (All-nil (PlainLeaves s.store));
 }
   where
+    noted : (e : Ended) (at end : WalkEnd) → NotesEnd shelf at (Left.Records shelf e) → end ≡ at
+        → EndIsNoted shelf (Left.Records shelf e ∷ []) end
+    noted e at end notes is = inr (any_of_one (NotesEnd shelf end) (Left.Records shelf e)
+        (subst (λ (x : WalkEnd). NotesEnd shelf x (Left.Records shelf e)) (sym is) notes))
+
     by : (walk : List Row) (end : WalkEnd) (e : Ended) → CameOf walk end rows (Some e)
-        → (rows ≡ walk) ⊎ ((rows ≡ take (length rows) walk) × Any (LacksRecords shelf) (Left.Records shelf e ∷ []))
-    by walk end (Cycle n) came = inl came.0
-    by walk end (Missing n) came = inl came.0
+        → AreRowsOf shelf (Left.Records shelf e ∷ []) rows walk end
+    by walk end (Cycle n) came = inl (came.0, noted (Cycle n) (CycleAt n) end refl came.1)
+    by walk end (Missing n) came = inl (came.0, noted (Missing n) (MissingAt n) end refl came.1)
     by walk end (GaveUp n) came = inr (came, any_of_one (LacksRecords shelf) (Left.Records shelf (GaveUp n)) refl)
     by walk end (Refused n code) came = inr (came, any_of_one (LacksRecords shelf) (Left.Records shelf (Refused n code)) refl)
     by walk end (Stalled n) came = inr (came, any_of_one (LacksRecords shelf) (Left.Records shelf (Stalled n)) refl)
     by walk end (Malformed n) came = inr (came, any_of_one (LacksRecords shelf) (Left.Records shelf (Malformed n)) refl)
+
+    told : (e : Ended) → ((walk : List Row) (end : WalkEnd)
+        → IsWalk (rows_of shelf s.store) First walk → EndsBy (rows_of shelf s.store) First walk end
+        → CameOf walk end rows (Some e)) → IsTrueOf s.store (Left.Records shelf e)
+    told (Cycle n) came = λ walk end is ends. (came walk end is ends).1
+    told (Missing n) came = λ walk end is ends. (came walk end is ends).1
+    told (GaveUp n) came = tt
+    told (Refused n code) came = tt
+    told (Stalled n) came = tt
+    told (Malformed n) came = tt
 
     fine : (e : Ended) → PlainEnds (Some e) → ((walk : List Row) (end : WalkEnd)
         → IsWalk (rows_of shelf s.store) First walk → EndsBy (rows_of shelf s.store) First walk end
@@ -174,16 +195,22 @@ captures_walk {s = s} {s' = s'} shelf rows ended stays walks = record {
     fine (Malformed n) plain came = plain
 
 -- and of which there are no more
-pub captures_whole_walk : {s s' : Seen} (shelf : Shelf) (rows : List Row) (left : List Left)
-    → Walks shelf s s' rows None → Captures s s' left left (AreWalk shelf left s.store rows)
-captures_whole_walk shelf rows left walks = record {
+pub captures_whole_walk : {tries : ℕ} {s s' : Seen} (shelf : Shelf) (rows : List Row) (left : List Left)
+    → Walks shelf tries s s' rows None → Captures tries s s' left left (AreWalk shelf left s.store rows)
+captures_whole_walk {s = s} shelf rows left walks = record {
   more = [];
   grows = sym (append-nil left);
-  fact = λ same walk end is ends. inl (walks.along same walk end is ends).0;
+  counts = walks.counts;
+  fact = λ same walk end is ends. let came = walks.along same walk end is ends in inl (came.0, inl came.1);
+  told = λ same. All-nil (IsTrueOf s.store);
   plain = λ p all. all;
 }
 
 -- ---- all parts, where each of them stays honest
+
+pub stays_on : {a b c : Seen} → (IsHonest a → StaysHonest a b) → (IsHonest b → StaysHonest b c)
+    → IsHonest a → StaysHonest a c
+stays_on {a = a} {b = b} {c = c} first later h = stays_trans a b c (first h) (later (first h).honest)
 
 both_last : (A B : Store → List Left → Type 0) → Lasts A → Lasts B → Lasts (λ s l. A s l × B s l)
 both_last A B la lb store left more h = (la store left more h.0, lb store left more h.1)
@@ -203,15 +230,12 @@ module _ {s0 s1 s2 s3 s4 s5 s6 : Seen} (k1 : StaysHonest s0 s1) (k2 : StaysHones
   five : StaysHonest s0 s5
   five = stays_trans s0 s4 s5 four k5
 
-  pub six : StaysHonest s0 s6
-  six = stays_trans s0 s5 s6 five k6
-
-  pub all_parts : {l0 l1 l2 l3 l4 l5 l6 : List Left} (A B C D E F : Store → List Left → Type 0)
+  pub all_parts : {tries : ℕ} {l0 l1 l2 l3 l4 l5 l6 : List Left} (A B C D E F : Store → List Left → Type 0)
       → Lasts A → Lasts B → Lasts C → Lasts D → Lasts E
-      → Captures s0 s1 l0 l1 (A s0.store l1) → Captures s1 s2 l1 l2 (B s1.store l2)
-      → Captures s2 s3 l2 l3 (C s2.store l3) → Captures s3 s4 l3 l4 (D s3.store l4)
-      → Captures s4 s5 l4 l5 (E s4.store l5) → Captures s5 s6 l5 l6 (F s5.store l6)
-      → Captures s0 s6 l0 l6
+      → Captures tries s0 s1 l0 l1 (A s0.store l1) → Captures tries s1 s2 l1 l2 (B s1.store l2)
+      → Captures tries s2 s3 l2 l3 (C s2.store l3) → Captures tries s3 s4 l3 l4 (D s3.store l4)
+      → Captures tries s4 s5 l4 l5 (E s4.store l5) → Captures tries s5 s6 l5 l6 (F s5.store l6)
+      → Captures tries s0 s6 l0 l6
       (((((A s0.store l6 × B s0.store l6) × C s0.store l6) × D s0.store l6) × E s0.store l6) × F s0.store l6)
   all_parts A B C D E F la lb lc ld le a b c d e f =
       let ab = captures_with A B la k1 k2 a b in
@@ -225,14 +249,17 @@ module _ {s0 s1 s2 s3 s4 s5 s6 : Seen} (k1 : StaysHonest s0 s1) (k2 : StaysHones
       captures_with (λ s l. (((A s l × B s l) × C s l) × D s l) × E s l) F labcde five k6 abcde f
 
 walk_lasts : (shelf : Shelf) (rows : List Row) → Lasts (λ s l. AreWalk shelf l s rows)
-walk_lasts shelf rows store left more are = λ walk end is ends. front_more (LacksRecords shelf) left more rows walk (are walk end is ends)
+walk_lasts shelf rows store left more are = walk_more shelf left more rows store are
 
 info_lasts : (shelf : Shelf) (image : Store)
     → Lasts (λ s l. SameOrLeft (LacksInfo shelf) l (info_of shelf image) (info_of shelf s))
 info_lasts shelf image store left more same = same_more (LacksInfo shelf) left more _ _ same
 
 readings_last : (marks : List Bool) (image : Store) → Lasts (λ s l. HasReadings marks l image s)
-readings_last marks image store left more has = λ key is mark. same_more (LacksReading key.0 key.1) left more _ _ (has key is mark)
+readings_last marks image store left more has = record {
+  named = λ key is mark. same_more (LacksReading key.0 key.1) left more _ _ (has.named key is mark);
+  own = has.own;
+}
 
 -- what the parts put into images, each into the one that the part before it left
 abbrev pub Parts : List Bool → List Bool → Store → Store → Store → Store → Store → Store → List Left → Store → Type 0
@@ -242,23 +269,31 @@ Parts sensors devices i1 i2 i3 i4 i5 i6 left store =
     × SameOrLeft (LacksInfo Sel) left (info_of Sel i4) (info_of Sel store))
     × HasReadings sensors left i5 store) × HasInventories devices left i6 store
 
-pub captures_parts : {s0 s1 s2 s3 s4 s5 s6 : Seen} {l0 l1 l2 l3 l4 l5 l6 : List Left}
+pub captures_parts : {tries : ℕ} {s0 s1 s2 s3 s4 s5 s6 : Seen} {l0 l1 l2 l3 l4 l5 l6 : List Left}
     (i1 i2 i3 i4 i5 i6 : Store) (sensors devices : List Bool)
-    → StaysHonest s0 s1 → StaysHonest s1 s2 → StaysHonest s2 s3 → StaysHonest s3 s4
-    → StaysHonest s4 s5 → StaysHonest s5 s6
-    → Captures s0 s1 l0 l1 (AreWalk Sdr l1 s0.store (rows_of Sdr i1))
-    → Captures s1 s2 l1 l2 (AreWalk Sel l2 s1.store (rows_of Sel i2))
-    → Captures s2 s3 l2 l3 (SameOrLeft (LacksInfo Sdr) l3 (info_of Sdr i3) (info_of Sdr s2.store))
-    → Captures s3 s4 l3 l4 (SameOrLeft (LacksInfo Sel) l4 (info_of Sel i4) (info_of Sel s3.store))
-    → Captures s4 s5 l4 l5 (HasReadings sensors l5 i5 s4.store)
-    → Captures s5 s6 l5 l6 (HasInventories devices l6 i6 s5.store)
-    → Captures s0 s6 l0 l6 (Parts sensors devices i1 i2 i3 i4 i5 i6 l6 s0.store)
-captures_parts i1 i2 i3 i4 i5 i6 sensors devices k1 k2 k3 k4 k5 k6 a b c d e f =
+    → (IsHonest s0 → StaysHonest s0 s1) → (IsHonest s1 → StaysHonest s1 s2)
+    → (IsHonest s2 → StaysHonest s2 s3) → (IsHonest s3 → StaysHonest s3 s4)
+    → (IsHonest s4 → StaysHonest s4 s5) → (IsHonest s5 → StaysHonest s5 s6)
+    → (IsHonest s0 → Captures tries s0 s1 l0 l1 (AreWalk Sdr l1 s0.store (rows_of Sdr i1)))
+    → (IsHonest s1 → Captures tries s1 s2 l1 l2 (AreWalk Sel l2 s1.store (rows_of Sel i2)))
+    → (IsHonest s2 → Captures tries s2 s3 l2 l3 (SameOrLeft (LacksInfo Sdr) l3 (info_of Sdr i3) (info_of Sdr s2.store)))
+    → (IsHonest s3 → Captures tries s3 s4 l3 l4 (SameOrLeft (LacksInfo Sel) l4 (info_of Sel i4) (info_of Sel s3.store)))
+    → (IsHonest s4 → Captures tries s4 s5 l4 l5 (HasReadings sensors l5 i5 s4.store))
+    → (IsHonest s5 → Captures tries s5 s6 l5 l6 (HasInventories devices l6 i6 s5.store))
+    → IsHonest s0 → Captures tries s0 s6 l0 l6 (Parts sensors devices i1 i2 i3 i4 i5 i6 l6 s0.store)
+captures_parts i1 i2 i3 i4 i5 i6 sensors devices stays1 stays2 stays3 stays4 stays5 stays6 a b c d e f h =
+    let k1 = stays1 h in
+    let k2 = stays2 k1.honest in
+    let k3 = stays3 k2.honest in
+    let k4 = stays4 k3.honest in
+    let k5 = stays5 k4.honest in
+    let k6 = stays6 k5.honest in
     all_parts k1 k2 k3 k4 k5 k6
     (λ s l. AreWalk Sdr l s (rows_of Sdr i1)) (λ s l. AreWalk Sel l s (rows_of Sel i2))
     (λ s l. SameOrLeft (LacksInfo Sdr) l (info_of Sdr i3) (info_of Sdr s)) (λ s l. SameOrLeft (LacksInfo Sel) l (info_of Sel i4) (info_of Sel s))
     (λ s l. HasReadings sensors l i5 s) (λ s l. HasInventories devices l i6 s)
-    (walk_lasts Sdr (rows_of Sdr i1)) (walk_lasts Sel (rows_of Sel i2)) (info_lasts Sdr i3) (info_lasts Sel i4) (readings_last sensors i5) a b c d e f
+    (walk_lasts Sdr (rows_of Sdr i1)) (walk_lasts Sel (rows_of Sel i2)) (info_lasts Sdr i3) (info_lasts Sel i4) (readings_last sensors i5)
+    (a h) (b k1.honest) (c k2.honest) (d k3.honest) (e k4.honest) (f k5.honest)
 
 -- what was put in one part stays in the image
 pub assemble : (left : List Left) (store i0 i1 i2 i3 i4 i5 i6 : Store) → i1 ≡ with_rows Sdr (rows_of Sdr i1) i0
@@ -276,9 +311,68 @@ assemble left store i0 i1 i2 i3 i4 i5 i6 e1 e2 e3 e4 e5 e6 is_image is_store sen
     let readings : i6.readings ≡ i5.readings = ap (λ (x : Store). x.readings) e6 in
     let named : Names i6.sdr sensors devices = rw sdr_four names in
     let has : HasReadings sensors left i6 store =
-    λ key is mark. subst (λ (l : List SensorReading). SameOrLeft (LacksReading key.0 key.1) left (reading_in l key.0 key.1) (reading_of key.0 key.1 store)) (sym readings) (facts.0.1 key is mark) in
+    record {
+      named = λ key is mark. subst (λ (l : List SensorReading). SameOrLeft (LacksReading key.0 key.1) left (reading_in l key.0 key.1) (reading_of key.0 key.1 store)) (sym readings) (facts.0.1.named key is mark);
+      own = λ lun number. subst (λ (l : List SensorReading). NoneOrSame (reading_in l lun number) (reading_of lun number store)) (sym readings) (facts.0.1.own lun number);
+    } in
     is_capture left i6 store is_image is_store (rw sdr_one facts.0.0.0.0.0) (rw sel_two facts.0.0.0.0.1)
     (subst (λ (o : _). SameOrLeft (LacksInfo Sdr) left o (info_of Sdr store)) (sym sdr_info) facts.0.0.0.1)
     (subst (λ (o : _). SameOrLeft (LacksInfo Sel) left o (info_of Sel store)) (sym sel_info) facts.0.0.1)
     (named_readings left i6 store sensors (sensors_of i6.sdr) named.keys named.sensors_are has)
     (named_inventories left i6 store is_image is_store devices (devices_of i6.sdr) named.ids named.devices_are facts.1)
+    has.own facts.1.own
+
+-- ---- what is left out is not in the image
+
+out_info : (shelf : Shelf) (image : Store) (l : Left) → LacksInfo shelf l
+    → info_of shelf image ≡ None → IsLeftOut image l
+out_info shelf image (Left.Records s ended) lacks none = absurd lacks
+out_info shelf image (Left.Info s unread) lacks none = rw lacks none
+out_info shelf image (Left.Reading l n unread) lacks none = absurd lacks
+out_info shelf image (Left.Size i code) lacks none = absurd lacks
+out_info shelf image (Left.Empty i) lacks none = absurd lacks
+out_info shelf image (Left.Inventory i ended) lacks none = absurd lacks
+
+out_reading : (lun number : ℕ) (image : Store) (l : Left) → LacksReading lun number l
+    → reading_of lun number image ≡ None → IsLeftOut image l
+out_reading lun number image (Left.Records s ended) lacks none = absurd lacks
+out_reading lun number image (Left.Info s unread) lacks none = absurd lacks
+out_reading lun number image (Left.Reading l n unread) lacks none = rw (lacks.0, lacks.1) none
+out_reading lun number image (Left.Size i code) lacks none = absurd lacks
+out_reading lun number image (Left.Empty i) lacks none = absurd lacks
+out_reading lun number image (Left.Inventory i ended) lacks none = absurd lacks
+
+out_inventory : (id : ℕ) (image : Store) (l : Left) → LacksInventory id l
+    → inventory_of id image ≡ None → IsLeftOut image l
+out_inventory id image (Left.Records s ended) lacks none = absurd lacks
+out_inventory id image (Left.Info s unread) lacks none = absurd lacks
+out_inventory id image (Left.Reading l n unread) lacks none = absurd lacks
+out_inventory id image (Left.Size i code) lacks none = rw lacks none
+out_inventory id image (Left.Empty i) lacks none = rw lacks none
+out_inventory id image (Left.Inventory i ended) lacks none = rw lacks none
+
+module _ (image : Store) where
+  out_more : {left left' : List Left} (P : Left → Type 0) → ((l : Left) → P l → IsLeftOut image l)
+      → All (IsLeftOut image) left → Adds P left left' → All (IsLeftOut image) left'
+  out_more {left = left} P out all adds =
+      let more = adds_weaker P (IsLeftOut image) out adds in
+      rw more.grows (All-append (IsLeftOut image) left more.more all more.all)
+
+  pub left_out : {l0 l1 l2 l3 l4 l5 l6 : List Left} (i3 i4 i5 : Store)
+      → i4 ≡ with_info Sel (info_of Sel i4) i3 → i5 ≡ record i4 { readings = i5.readings }
+      → image ≡ record i5 { inventories = image.inventories } → l0 ≡ []
+      → Adds (λ l. (i : Store) → IsLeftOut i l) l0 l1 → Adds (λ l. (i : Store) → IsLeftOut i l) l1 l2
+      → Adds (λ l. LacksInfo Sdr l × (info_of Sdr i3 ≡ None)) l2 l3
+      → Adds (λ l. LacksInfo Sel l × (info_of Sel i4 ≡ None)) l3 l4
+      → Adds (IsUnread i5) l4 l5 → Adds (IsUnkept image) l5 l6 → All (IsLeftOut image) l6
+  left_out {l0 = l0} i3 i4 i5 e4 e5 e6 empty a b c d e f =
+      let sdr_info : image.sdr_info ≡ i3.sdr_info = ap (λ (x : Store). x.sdr_info) e6 ∙ ap (λ (x : Store). x.sdr_info) e5 ∙ ap (λ (x : Store). x.sdr_info) e4 in
+      let sel_info : image.sel_info ≡ i4.sel_info = ap (λ (x : Store). x.sel_info) e6 ∙ ap (λ (x : Store). x.sel_info) e5 in
+      let readings : image.readings ≡ i5.readings = ap (λ (x : Store). x.readings) e6 in
+      let none : All (IsLeftOut image) l0 = rw empty (All-nil (IsLeftOut image)) in
+      let one = out_more (λ l. (i : Store) → IsLeftOut i l) (λ l out. out image) none a in
+      let two = out_more (λ l. (i : Store) → IsLeftOut i l) (λ l out. out image) one b in
+      let three = out_more (λ l. LacksInfo Sdr l × (info_of Sdr i3 ≡ None)) (λ l out. out_info Sdr image l out.0 (sdr_info ∙ out.1)) two c in
+      let four = out_more (λ l. LacksInfo Sel l × (info_of Sel i4 ≡ None)) (λ l out. out_info Sel image l out.0 (sel_info ∙ out.1)) three d in
+      let five = out_more (IsUnread i5) (λ l out. out_reading out.key.0 out.key.1 image l out.lacks (ap (λ (list : List SensorReading). reading_in list out.key.0 out.key.1) readings ∙ out.none)) four e in
+      out_more (IsUnkept image) (λ l out. out_inventory out.id image l out.lacks out.none) five f

@@ -1,4 +1,5 @@
 pub mod CaptureLemmas
+pub mod CountLemmas
 pub mod FoundLemmas
 pub mod FromLemmas
 pub mod LawLemmas

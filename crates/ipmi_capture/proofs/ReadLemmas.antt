@@ -1,17 +1,20 @@
 -- The readings of marked sensors, and the inventories of marked devices, put into an image one after the other.
-use Rattle.std.proofs.Common.{◌≡◌, ℕ, ◌+◌, ◌*◌, ◌<◌, ◌≤◌, Bool, true, false, cond, IsTrue, ◌&&◌, ◌||◌, ◌==◌, nat_eq, Option, None, Some, Result, Ok, Err, IfOk, OnOk, MatchOption, List, [], ◌∷◌, ◌++◌, length, slice_index_or, take, ◌⊎◌, inl, inr, All, refl, sym, ap, subst, ◌∙◌, arith}
+use Rattle.std.proofs.Common.{◌≡◌, ℕ, ◌+◌, ◌*◌, ◌<◌, ◌≤◌, Bool, true, false, cond, IsTrue, ◌&&◌, ◌||◌, ◌==◌, nat_eq, Option, None, Some, Result, Ok, Err, IfOk, IfSome, OnOk, MatchOption, List, [], ◌∷◌, ◌++◌, length, slice_index_or, ◌⊎◌, inl, inr, All, refl, sym, ap, subst, ◌∙◌, arith}
 use Rattle.std.specs.declared.alloc.AllocError.{AllocError}
 use Rattle.std.specs.List.{Any}
 use Rattle.std.specs.Option.{option_or, option_to_list}
 use Rattle.std.proofs.lemmas.Bool.Decides.{nat_tests}
-use Rattle.std.proofs.lemmas.List.Elements.{All-append, All-nil}
-use Rattle.std.proofs.lemmas.List.{append_assoc, get_or-append-add, get_or_append_left, length-append}
-use Rattle.ipmi_capture.specs.Below.{AsksAtMost, Ended, IsHonest, inventory_in, inventory_of, Reading, reading_in, reading_of, FruEnded, InventoryIs, not_present, ReadsInventory, ReadsValue, Row, Seen, stays_trans, StaysHonest, Store, with_inventory, with_reading}
-use Rattle.ipmi_capture.specs.Capture.{InventoryOrLeft, ReadingOrLeft}
-use Rattle.ipmi_capture.specs.Left.{LacksInventory, LacksReading, PlainLeaves, SameOrLeft}
+use Rattle.std.proofs.lemmas.Option.{none-some}
+use Rattle.std.proofs.lemmas.List.Elements.{All-append, All-cons, All-nil, All-weaker}
+use Rattle.std.proofs.lemmas.List.{append-nil, append_assoc, get_or-append-add, get_or_append_left, length-append}
+use Rattle.ipmi_capture.specs.Below.{AsksAtMost, Cycle, Ended, GaveUp, Malformed, Missing, Refused, Stalled, IsHonest, Inventory, inventory_in, inventory_of, Reading, SensorReading, reading_in, reading_of, FruEnded, InventoryCounts, InventoryIs, not_present, ReadsInventory, ReadsValue, Row, Seen, Shelf, stays_refl, stays_trans, StaysHonest, Store, with_inventory, with_reading, WalkEnd, WithinTries}
+use Rattle.ipmi_capture.specs.Capture.{InventoryOrLeft, NoneOrSame, OwnInventories, OwnReadings, ReadingOrLeft}
+use Rattle.ipmi_capture.specs.Left.{AreCounted, EndIsNoted, IsTrueOf, LacksInventory, LacksReading, LacksRecords, NotesEnd, PlainLeaves, SameOrLeft, unread_in, unread_of}
 use Rattle.ipmi_capture.specs.Named.{IsSensorKey, sensor_place}
-use Rattle.ipmi_capture.specs.Phases.{Captures, HasInventory, HasRead, IsNotPlain, most_for_inventory}
+use Rattle.ipmi_capture.specs.Phases.{Adds, AreRowsOf, AreWalk, Captures, HasInventories, HasInventory, HasRead, HasReadings, IsNotPlain, IsUnkept, IsUnread, most_for_inventory}
 use Rattle.ipmi_capture.specs.declared.left.Left.{Left}
+use Rattle.ipmi_capture.specs.declared.left.Unread.{Unread}
+use Rattle.ipmi_capture.proofs.CountLemmas.{counted_inventory, counted_less, counted_none, counted_nothing, counted_then, counted_value, counted_within}
 use Rattle.ipmi_capture.proofs.FoundLemmas.{inventory_in-snoc, kept_more, kept_next, KeptBelow, read_more, read_next, ReadBelow, reading_in-snoc}
 use Rattle.ipmi_capture.proofs.StepLemmas.{between}
 
@@ -42,40 +45,117 @@ module _ (P : Left → Type 0) where
     same_after (inl same) = inl same
     same_after (inr lacks) = inr (lacks.0, any_after left other lacks.1)
 
-  module _ (left other : List Left) (rows walk : List Row) where
-    pub front_more : (rows ≡ walk) ⊎ ((rows ≡ take (length rows) walk) × Any P left)
-        → (rows ≡ walk) ⊎ ((rows ≡ take (length rows) walk) × Any P (left ++ other))
-    front_more (inl same) = inl same
-    front_more (inr lacks) = inr (lacks.0, any_more left other lacks.1)
+module _ (shelf : Shelf) (left other : List Left) where
+  noted_more : (end : WalkEnd) → EndIsNoted shelf left end → EndIsNoted shelf (left ++ other) end
+  noted_more end (inl done) = inl done
+  noted_more end (inr noted) = inr (any_more (NotesEnd shelf end) left other noted)
 
-    pub front_after : (rows ≡ walk) ⊎ ((rows ≡ take (length rows) walk) × Any P other)
-        → (rows ≡ walk) ⊎ ((rows ≡ take (length rows) walk) × Any P (left ++ other))
-    front_after (inl same) = inl same
-    front_after (inr lacks) = inr (lacks.0, any_after left other lacks.1)
+  noted_after : (end : WalkEnd) → EndIsNoted shelf other end → EndIsNoted shelf (left ++ other) end
+  noted_after end (inl done) = inl done
+  noted_after end (inr noted) = inr (any_after (NotesEnd shelf end) left other noted)
+
+  module _ (rows : List Row) where
+    rows_more : (walk : List Row) (end : WalkEnd) → AreRowsOf shelf left rows walk end
+        → AreRowsOf shelf (left ++ other) rows walk end
+    rows_more walk end (inl same) = inl (same.0, noted_more end same.1)
+    rows_more walk end (inr lacks) = inr (lacks.0, any_more (LacksRecords shelf) left other lacks.1)
+
+    rows_after : (walk : List Row) (end : WalkEnd) → AreRowsOf shelf other rows walk end
+        → AreRowsOf shelf (left ++ other) rows walk end
+    rows_after walk end (inl same) = inl (same.0, noted_after end same.1)
+    rows_after walk end (inr lacks) = inr (lacks.0, any_after (LacksRecords shelf) left other lacks.1)
+
+    pub walk_more : (store : Store) → AreWalk shelf left store rows
+        → AreWalk shelf (left ++ other) store rows
+    walk_more store are = λ walk end is ends. rows_more walk end (are walk end is ends)
+
+    pub walk_after : (store : Store) → AreWalk shelf other store rows
+        → AreWalk shelf (left ++ other) store rows
+    walk_after store are = λ walk end is ends. rows_after walk end (are walk end is ends)
+
+-- what was asked for in vain says nothing of the store
+told_unread : (store : Store) (l : Left) (unread : Unread) → unread_in l ≡ Some unread
+    → IsTrueOf store l
+told_unread store (Left.Records shelf (Cycle n)) unread is = absurd (none-some unread is)
+told_unread store (Left.Records shelf (Missing n)) unread is = absurd (none-some unread is)
+told_unread store (Left.Records shelf (GaveUp n)) unread is = tt
+told_unread store (Left.Records shelf (Refused n code)) unread is = tt
+told_unread store (Left.Records shelf (Stalled n)) unread is = tt
+told_unread store (Left.Records shelf (Malformed n)) unread is = tt
+told_unread store (Left.Info shelf u) unread is = tt
+told_unread store (Left.Reading lun number u) unread is = tt
+told_unread store (Left.Size id code) unread is = tt
+told_unread store (Left.Empty id) unread is = absurd (none-some unread is)
+told_unread store (Left.Inventory id ended) unread is = tt
+
+one_told : (store : Store) (l : Left) → IsTrueOf store l → All (IsTrueOf store) (l ∷ [])
+one_told store l is = All-cons (IsTrueOf store) l [] is (All-nil (IsTrueOf store))
+
+none_or_same : {V : Type 0} (P : Left → Type 0) (left : List Left) (a b : Option V)
+    → SameOrLeft P left a b → NoneOrSame a b
+none_or_same P left a b (inl same) = inr same
+none_or_same P left a b (inr lacks) = inl lacks.0
+
+-- ---- more that was left out
+
+of_option : (P : Left → Type 0) (o : Option Left) → IfSome o P → All P (option_to_list o)
+of_option P None is = All-nil P
+of_option P (Some l) is = All-cons P l [] is (All-nil P)
+
+pub adds_none : (P : Left → Type 0) (left : List Left) → Adds P left left
+adds_none P left = record { more = []; grows = sym (append-nil left); all = All-nil P }
+
+pub adds_some : (P : Left → Type 0) (left : List Left) (o : Option Left) → IfSome o P
+    → Adds P left (left ++ option_to_list o)
+adds_some P left o is = record { more = option_to_list o; grows = refl; all = of_option P o is }
+
+pub adds_weaker : {left left' : List Left} (P Q : Left → Type 0) → ((l : Left) → P l → Q l)
+    → Adds P left left' → Adds Q left left'
+adds_weaker P Q weaker adds = record {
+  more = adds.more;
+  grows = adds.grows;
+  all = All-weaker P Q weaker adds.more adds.all;
+}
+
+adds_then : {left left' : List Left} (P Q : Left → Type 0) (o : Option Left)
+    → ((l : Left) → P l → Q l) → Adds P left left' → IfSome o Q
+    → Adds Q left (left' ++ option_to_list o)
+adds_then {left = left} P Q o weaker adds is = record {
+  more = adds.more ++ option_to_list o;
+  grows = ap (λ (l : List Left). l ++ option_to_list o) adds.grows ∙ append_assoc left adds.more (option_to_list o);
+  all = All-append Q adds.more (option_to_list o) (All-weaker P Q weaker adds.more adds.all) (of_option Q o is);
+}
 
 -- ---- two parts of a capture, one after the other
 
 -- what is left out comes after what was
-pub captures_after : {s s' : Seen} {Fact Fact' : Type 0} (left later : List Left) → (Fact → Fact')
-    → Captures s s' [] later Fact → Captures s s' left (left ++ later) Fact'
+pub captures_after : {tries : ℕ} {s s' : Seen} {Fact Fact' : Type 0} (left later : List Left) → (Fact → Fact')
+    → Captures tries s s' [] later Fact → Captures tries s s' left (left ++ later) Fact'
 captures_after {s = s} left later to captures = record {
   more = later;
   grows = refl;
+  counts = rw (sym captures.grows) at captures.counts;
   fact = λ same. to (captures.fact same);
+  told = λ same. rw (sym captures.grows) at (captures.told same);
   plain = λ p all. All-append (PlainLeaves s.store) left later all (captures.plain p (All-nil (PlainLeaves s.store)));
 }
 
-pub captures_then : {s s' s'' : Seen} {left left' left'' : List Left} {First Second Both : Type 0}
-    → StaysHonest s s' → StaysHonest s' s'' → Captures s s' left left' First
-    → Captures s' s'' left' left'' Second
+pub captures_then : {tries : ℕ} {s s' s'' : Seen} {left left' left'' : List Left} {First Second Both : Type 0}
+    → StaysHonest s s' → StaysHonest s' s'' → Captures tries s s' left left' First
+    → Captures tries s' s'' left' left'' Second
     → (s'.store ≡ s.store → (more : List Left) → left'' ≡ left' ++ more → First → Second → Both)
-    → Captures s s'' left left'' Both
+    → Captures tries s s'' left left'' Both
 captures_then {s = s} {s' = s'} {s'' = s''} {left = left} {left' = left'} {left'' = left''} before later first second both = record {
   more = first.more ++ second.more;
   grows = second.grows ∙ ap (λ (l : List Left). l ++ second.more) first.grows ∙ append_assoc left first.more second.more;
+  counts = counted_then first.more second.more first.counts second.counts;
   fact = λ same.
       let parts = between s s' s'' before later same in
       both (before.store.stays parts.0) second.more second.grows (first.fact parts.0) (second.fact parts.1);
+  told = λ same.
+      let parts = between s s' s'' before later same in
+      All-append (IsTrueOf s.store) first.more second.more (first.told parts.0)
+      (subst (λ (x : Store). All (IsTrueOf x) second.more) (before.store.stays parts.0) (second.told parts.1));
   plain = λ p all.
       let store = before.store.stays (before.plain_store p) in
       subst (λ (x : Store). All (PlainLeaves x) left'') store (second.plain (before.plain p)
@@ -85,9 +165,14 @@ captures_then {s = s} {s' = s'} {s'' = s''} {left = left} {left' = left'} {left'
 -- ---- readings
 
 -- those of the places before this one
-abbrev pub ReadTo : ℕ → List Bool → List Left → Store → Store → Type 0
-ReadTo place marks left image store = (key : ℕ × ℕ) → IsSensorKey key → sensor_place key < place
-    → slice_index_or marks (sensor_place key) false ≡ true → ReadingOrLeft left image store key
+pub record ReadTo (place : ℕ) (marks : List Bool) (left : List Left) (image store : Store) : Type 0 where
+  pub named : (key : ℕ × ℕ) → IsSensorKey key → sensor_place key < place
+      → slice_index_or marks (sensor_place key) false ≡ true → ReadingOrLeft left image store key
+  pub own : OwnReadings image store
+
+-- a reading of a place before this one, that the image has not
+abbrev pub UnreadTo : ℕ → Store → Left → Type 0
+UnreadTo place image left = (unread : IsUnread image left) × (sensor_place unread.key < place)
 
 pub record IsReading (place part tries : ℕ) (marks : List Bool) (s s' : Seen)
     (left left' : List Left) (old new : Store) : Type 0 where
@@ -96,7 +181,53 @@ pub record IsReading (place part tries : ℕ) (marks : List Bool) (s s' : Seen)
   pub calls : s'.calls ≤ s.calls + place * (tries + 1)
   pub asked : AsksAtMost part s s'
   pub stays : IsHonest s → StaysHonest s s'
-  pub read : IsHonest s → Captures s s' left left' (ReadTo place marks left' new s.store)
+  pub lacks : Adds (UnreadTo place new) left left'
+  pub read : IsHonest s → Captures tries s s' left left' (ReadTo place marks left' new s.store)
+
+-- none was read yet
+pub reading_begun : (part tries : ℕ) (marks : List Bool) (s : Seen) (left : List Left) (image : Store)
+    → image.readings ≡ [] → IsReading 0 part tries marks s s left left image image
+reading_begun part tries marks s left image none = record {
+  beside = refl;
+  below = rw none tt;
+  calls = omega arith;
+  asked = omega arith;
+  stays = λ h. stays_refl s h;
+  lacks = adds_none (UnreadTo 0 image) left;
+  read = λ h. record {
+    more = [];
+    grows = sym (append-nil left);
+    counts = counted_none s;
+    fact = λ same. record {
+      named = λ key is below. absurd (omega (arith, below));
+      own = λ lun number. inl (ap (λ (l : List SensorReading). reading_in l lun number) none);
+    };
+    told = λ same. All-nil (IsTrueOf s.store);
+    plain = λ p all. all;
+  };
+}
+
+-- all were read
+pub reading_done : {place part tries : ℕ} {marks : List Bool} {s s' : Seen}
+    {left left' : List Left} {old new : Store}
+    → IsReading place part tries marks s s' left left' old new → 1024 ≤ place → IsHonest s
+    → Captures tries s s' left left' (HasReadings marks left' new s.store)
+reading_done so all h = record {
+  more = (so.read h).more;
+  grows = (so.read h).grows;
+  counts = (so.read h).counts;
+  fact = λ same. record {
+    named = λ key is mark. ((so.read h).fact same).named key is (omega (arith, all, is.lun, is.number)) mark;
+    own = ((so.read h).fact same).own;
+  };
+  told = (so.read h).told;
+  plain = (so.read h).plain;
+}
+
+pub reading_lacks : {place part tries : ℕ} {marks : List Bool} {s s' : Seen}
+    {left left' : List Left} {old new : Store}
+    → IsReading place part tries marks s s' left left' old new → Adds (IsUnread new) left left'
+reading_lacks {place = place} {new = new} so = adds_weaker (UnreadTo place new) (IsUnread new) (λ l unread. unread.0) so.lacks
 
 -- the next place is not marked
 pub reading_skipped : {place part tries : ℕ} {marks : List Bool} {s s' : Seen}
@@ -110,10 +241,16 @@ reading_skipped {place = place} {marks = marks} {s = s} {left' = left'} {new = n
   calls = omega (arith, so.calls);
   asked = so.asked;
   stays = so.stays;
+  lacks = adds_weaker (UnreadTo place new) (UnreadTo (place + 1) new) (λ l unread. (unread.0, omega (arith, unread.1))) so.lacks;
   read = λ h. record {
     more = (so.read h).more;
     grows = (so.read h).grows;
-    fact = λ same key is below mark. by s.store key is mark (decide key below) ((so.read h).fact same);
+    counts = (so.read h).counts;
+    fact = λ same. record {
+      named = λ key is below mark. by s.store key is mark (decide key below) ((so.read h).fact same);
+      own = ((so.read h).fact same).own;
+    };
+    told = (so.read h).told;
     plain = (so.read h).plain;
   };
 }
@@ -126,7 +263,7 @@ reading_skipped {place = place} {marks = marks} {s = s} {left' = left'} {new = n
         → slice_index_or marks (sensor_place key) false ≡ true
         → (sensor_place key < place) ⊎ (sensor_place key ≡ place)
         → ReadTo place marks left' new store → ReadingOrLeft left' new store key
-    by store key is mark (inl lt) to = to key is lt mark
+    by store key is mark (inl lt) to = to.named key is lt mark
     by store key is mark (inr here) to = absurd (grind (arith, unmarked, rw here at mark))
 
 -- what a reading that came leaves of the image
@@ -156,6 +293,33 @@ module _ (lun number : ℕ) where
           → option_or found (cond (nat_eq lun key.0 && nat_eq number key.1) (Some reading) None) ≡ found
       other found = grind (arith, nat_tests, lt)
 
+  -- and each is the store's still
+  own_read : (new more store : Store) (o : Option Reading) → HasRead lun number o new more
+      → OwnReadings new store
+      → NoneOrSame (reading_of lun number more) (reading_of lun number store)
+      → OwnReadings more store
+  own_read new more store None has own this = λ l n. subst (λ (x : Store). NoneOrSame (reading_of l n x) (reading_of l n store)) (sym has) (own l n)
+  own_read new more store (Some reading) has own this = λ l n. by l n (nat_eq lun l && nat_eq number n) refl
+    where
+      found : (l n : ℕ) → reading_of l n more
+          ≡ option_or (reading_of l n new) (cond (nat_eq lun l && nat_eq number n) (Some reading) None)
+      found l n = ap (reading_of l n) has ∙ reading_in-snoc new.readings (record { lun = lun; number = number; reading = reading }) l n
+
+      nothing : (o : Option Reading) → option_or o None ≡ o
+      nothing None = refl
+      nothing (Some r) = refl
+
+      by : (l n : ℕ) (b : Bool) → (nat_eq lun l && nat_eq number n) ≡ b
+          → NoneOrSame (reading_of l n more) (reading_of l n store)
+      by l n true e =
+          let lun_is : lun ≡ l = grind (arith, nat_tests, e) in
+          let number_is : number ≡ n = grind (arith, nat_tests, e) in
+          subst (λ (x : ℕ). NoneOrSame (reading_of l x more) (reading_of l x store)) number_is
+          (subst (λ (x : ℕ). NoneOrSame (reading_of x number more) (reading_of x number store)) lun_is this)
+      by l n false e =
+          let stays : reading_of l n more ≡ reading_of l n new = found l n ∙ rw e (nothing (reading_of l n new)) in
+          subst (λ (o : Option Reading). NoneOrSame o (reading_of l n store)) (sym stays) (own l n)
+
 -- two sensors at one place are one
 same_key : (key : ℕ × ℕ) (lun number : ℕ) → IsSensorKey key → number < 256
     → sensor_place key ≡ sensor_place (lun, number) → (key.0 ≡ lun) × (key.1 ≡ number)
@@ -166,24 +330,47 @@ pub reading_read : {place part tries : ℕ} {marks : List Bool} {s s' s'' : Seen
     → IsReading place part tries marks s s' left left' old new
     → sensor_place (lun, number) ≡ place → number < 256
     → HasRead lun number (reading_of lun number more) new more
+    → IfSome lacks (λ l. LacksReading lun number l × (reading_of lun number more ≡ None))
     → s''.calls ≤ s'.calls + (tries + 1) → AsksAtMost part s' s''
     → (IsHonest s' → StaysHonest s' s'')
-    → (IsHonest s' → Captures s' s'' [] (option_to_list lacks)
+    → (IsHonest s' → Captures tries s' s'' [] (option_to_list lacks)
     (ReadingOrLeft (option_to_list lacks) more s'.store (lun, number)))
     → IsReading (place + 1) part tries marks s s'' left (left' ++ option_to_list lacks) old more
-reading_read {place = place} {marks = marks} {s = s} {s' = s'} {s'' = s''} {left' = left'} {old = old} {new = new} {more = more} lacks lun number so at fits has calls asked stays read = record {
+reading_read {place = place} {marks = marks} {s = s} {s' = s'} {s'' = s''} {left' = left'} {old = old} {new = new} {more = more} lacks lun number so at fits has none calls asked stays read = record {
   beside = read_beside lun number old new more (reading_of lun number more) has so.beside;
   below = rw at at (read_below lun number new more (reading_of lun number more) has (rw (sym at) at so.below));
   calls = omega (arith, so.calls, calls);
   asked = omega (arith, so.asked, asked);
   stays = λ h. stays_trans s s' s'' (so.stays h) (stays (so.stays h).honest);
+  lacks = adds_then (UnreadTo place new) (UnreadTo (place + 1) more) lacks still so.lacks (here lacks none);
   read = λ h.
       let before = so.stays h in
       captures_then before (stays before.honest) (so.read h)
       (captures_after left' (option_to_list lacks) (same_after (LacksReading lun number) left' (option_to_list lacks) _ _) (read before.honest))
-      (λ store grown grows to this key is below mark. by key is mark (decide key below) to this store);
+      (λ store grown grows to this. record {
+        named = λ key is below mark. by key is mark (decide key below) to this store;
+        own = own_read lun number new more s.store (reading_of lun number more) has to.own
+            (none_or_same (LacksReading lun number) (left' ++ option_to_list lacks) (reading_of lun number more) (reading_of lun number s.store)
+            (subst (λ (x : Store). ReadingOrLeft (left' ++ option_to_list lacks) more x (lun, number)) store this));
+      });
 }
   where
+    still : (l : Left) → UnreadTo place new l → UnreadTo (place + 1) more l
+    still l unread = (
+      record {
+        key = unread.0.key;
+        lacks = unread.0.lacks;
+        none = others_stay lun number new more (reading_of lun number more) has unread.0.key (omega (arith, unread.1, at)) ∙ unread.0.none;
+      },
+      omega (arith, unread.1),
+    )
+
+    here : (o : Option Left)
+        → IfSome o (λ l. LacksReading lun number l × (reading_of lun number more ≡ None))
+        → IfSome o (UnreadTo (place + 1) more)
+    here None is = tt
+    here (Some l) is = (record { key = (lun, number); lacks = is.0; none = is.1 }, omega (arith, at))
+
     decide : (key : ℕ × ℕ) → sensor_place key < place + 1
         → (sensor_place key < place) ⊎ (sensor_place key ≡ place)
     decide key below = grind (arith, nat_tests)
@@ -196,16 +383,21 @@ reading_read {place = place} {marks = marks} {s = s} {s' = s'} {s'' = s''} {left
     by key is mark (inl lt) to this store =
         let stays = others_stay lun number new more (reading_of lun number more) has key (omega (arith, lt, at)) in
         same_more (LacksReading key.0 key.1) left' (option_to_list lacks) _ _
-        (subst (λ (o : Option Reading). SameOrLeft (LacksReading key.0 key.1) left' o (reading_of key.0 key.1 s.store)) (sym stays) (to key is lt mark))
+        (subst (λ (o : Option Reading). SameOrLeft (LacksReading key.0 key.1) left' o (reading_of key.0 key.1 s.store)) (sym stays) (to.named key is lt mark))
     by key is mark (inr here) to this store =
         let same = same_key key lun number is fits (here ∙ sym at) in
         rw (same.0, same.1) (subst (λ (x : Store). ReadingOrLeft (left' ++ option_to_list lacks) more x (lun, number)) store this)
 
 -- ---- inventories
 
-abbrev pub KeptTo : ℕ → List Bool → List Left → Store → Store → Type 0
-KeptTo to marks left image store = (id : ℕ) → id < to
-    → IsTrue ((id == 0) || slice_index_or marks id false) → InventoryOrLeft left image store id
+pub record KeptTo (to : ℕ) (marks : List Bool) (left : List Left) (image store : Store) : Type 0 where
+  pub named : (id : ℕ) → id < to → IsTrue ((id == 0) || slice_index_or marks id false)
+      → InventoryOrLeft left image store id
+  pub own : OwnInventories image store
+
+-- an inventory of a device before this one, that the image has not
+abbrev pub UnkeptTo : ℕ → Store → Left → Type 0
+UnkeptTo to image left = (unkept : IsUnkept image left) × (unkept.id < to)
 
 pub record IsKeeping (to part tries : ℕ) (marks : List Bool) (s s' : Seen)
     (left left' : List Left) (old new : Store) : Type 0 where
@@ -214,7 +406,53 @@ pub record IsKeeping (to part tries : ℕ) (marks : List Bool) (s s' : Seen)
   pub calls : s'.calls ≤ s.calls + to * most_for_inventory tries
   pub asked : AsksAtMost part s s'
   pub stays : IsHonest s → StaysHonest s s'
-  pub read : IsHonest s → Captures s s' left left' (KeptTo to marks left' new s.store)
+  pub lacks : Adds (UnkeptTo to new) left left'
+  pub read : IsHonest s → Captures tries s s' left left' (KeptTo to marks left' new s.store)
+
+-- none was read yet
+pub keeping_begun : (part tries : ℕ) (marks : List Bool) (s : Seen) (left : List Left) (image : Store)
+    → image.inventories ≡ [] → IsKeeping 0 part tries marks s s left left image image
+keeping_begun part tries marks s left image none = record {
+  beside = refl;
+  below = rw none tt;
+  calls = omega arith;
+  asked = omega arith;
+  stays = λ h. stays_refl s h;
+  lacks = adds_none (UnkeptTo 0 image) left;
+  read = λ h. record {
+    more = [];
+    grows = sym (append-nil left);
+    counts = counted_none s;
+    fact = λ same. record {
+      named = λ id below. absurd (omega (arith, below));
+      own = λ id. inl (ap (λ (l : List Inventory). inventory_in l id) none);
+    };
+    told = λ same. All-nil (IsTrueOf s.store);
+    plain = λ p all. all;
+  };
+}
+
+-- all were read
+pub keeping_done : {to part tries : ℕ} {marks : List Bool} {s s' : Seen}
+    {left left' : List Left} {old new : Store}
+    → IsKeeping to part tries marks s s' left left' old new → 255 ≤ to → IsHonest s
+    → Captures tries s s' left left' (HasInventories marks left' new s.store)
+keeping_done so all h = record {
+  more = (so.read h).more;
+  grows = (so.read h).grows;
+  counts = (so.read h).counts;
+  fact = λ same. record {
+    named = λ id below mark. ((so.read h).fact same).named id (omega (arith, all, below)) mark;
+    own = ((so.read h).fact same).own;
+  };
+  told = (so.read h).told;
+  plain = (so.read h).plain;
+}
+
+pub keeping_lacks : {to part tries : ℕ} {marks : List Bool} {s s' : Seen}
+    {left left' : List Left} {old new : Store}
+    → IsKeeping to part tries marks s s' left left' old new → Adds (IsUnkept new) left left'
+keeping_lacks {to = to} {new = new} so = adds_weaker (UnkeptTo to new) (IsUnkept new) (λ l unkept. unkept.0) so.lacks
 
 -- the next device is not marked
 pub keeping_skipped : {to part tries : ℕ} {marks : List Bool} {s s' : Seen}
@@ -228,10 +466,16 @@ keeping_skipped {to = to} {tries = tries} {marks = marks} {s = s} {left' = left'
   calls = omega (arith, so.calls);
   asked = so.asked;
   stays = so.stays;
+  lacks = adds_weaker (UnkeptTo to new) (UnkeptTo (to + 1) new) (λ l unkept. (unkept.0, omega (arith, unkept.1))) so.lacks;
   read = λ h. record {
     more = (so.read h).more;
     grows = (so.read h).grows;
-    fact = λ same id below mark. by s.store id mark (decide id below) ((so.read h).fact same);
+    counts = (so.read h).counts;
+    fact = λ same. record {
+      named = λ id below mark. by s.store id mark (decide id below) ((so.read h).fact same);
+      own = ((so.read h).fact same).own;
+    };
+    told = (so.read h).told;
     plain = (so.read h).plain;
   };
 }
@@ -242,7 +486,7 @@ keeping_skipped {to = to} {tries = tries} {marks = marks} {s = s} {left' = left'
     by : (store : Store) (id : ℕ) → IsTrue ((id == 0) || slice_index_or marks id false)
         → (id < to) ⊎ (id ≡ to) → KeptTo to marks left' new store
         → InventoryOrLeft left' new store id
-    by store id mark (inl lt) done = done id lt mark
+    by store id mark (inl lt) done = done.named id lt mark
     by store id mark (inr here) done = absurd (grind (arith, unmarked, rw here at mark))
 
 module _ (id : ℕ) where
@@ -269,28 +513,74 @@ module _ (id : ℕ) where
       stays : (found : Option (List ℕ)) → option_or found (cond (nat_eq id other) (Some bytes) None) ≡ found
       stays found = grind (arith, nat_tests, lt)
 
+  own_kept : (new more store : Store) (o : Option (List ℕ)) → HasInventory id o new more
+      → OwnInventories new store → NoneOrSame (inventory_of id more) (inventory_of id store)
+      → OwnInventories more store
+  own_kept new more store None has own this = λ other. subst (λ (x : Store). NoneOrSame (inventory_of other x) (inventory_of other store)) (sym has) (own other)
+  own_kept new more store (Some bytes) has own this = λ other. by other (nat_eq id other) refl
+    where
+      found : (other : ℕ) → inventory_of other more
+          ≡ option_or (inventory_of other new) (cond (nat_eq id other) (Some bytes) None)
+      found other = ap (inventory_of other) has ∙ inventory_in-snoc new.inventories (record { id = id; bytes = bytes }) other
+
+      nothing : (o : Option (List ℕ)) → option_or o None ≡ o
+      nothing None = refl
+      nothing (Some b) = refl
+
+      by : (other : ℕ) (b : Bool) → nat_eq id other ≡ b
+          → NoneOrSame (inventory_of other more) (inventory_of other store)
+      by other true e =
+          let is : id ≡ other = grind (arith, nat_tests, e) in
+          subst (λ (x : ℕ). NoneOrSame (inventory_of x more) (inventory_of x store)) is this
+      by other false e =
+          let stays : inventory_of other more ≡ inventory_of other new = found other ∙ rw e (nothing (inventory_of other new)) in
+          subst (λ (o : Option (List ℕ)). NoneOrSame o (inventory_of other store)) (sym stays) (own other)
+
 pub keeping_read : {part tries : ℕ} {marks : List Bool} {s s' s'' : Seen}
     {left left' : List Left} {old new more : Store} (lacks : Option Left) (id : ℕ)
     → IsKeeping id part tries marks s s' left left' old new
     → HasInventory id (inventory_of id more) new more
+    → IfSome lacks (λ l. LacksInventory id l × (inventory_of id more ≡ None))
     → s''.calls ≤ s'.calls + most_for_inventory tries → AsksAtMost part s' s''
     → (IsHonest s' → StaysHonest s' s'')
-    → (IsHonest s' → Captures s' s'' [] (option_to_list lacks)
+    → (IsHonest s' → Captures tries s' s'' [] (option_to_list lacks)
     (InventoryOrLeft (option_to_list lacks) more s'.store id))
     → IsKeeping (id + 1) part tries marks s s'' left (left' ++ option_to_list lacks) old more
-keeping_read {tries = tries} {marks = marks} {s = s} {s' = s'} {s'' = s''} {left' = left'} {old = old} {new = new} {more = more} lacks id so has calls asked stays read = record {
+keeping_read {tries = tries} {marks = marks} {s = s} {s' = s'} {s'' = s''} {left' = left'} {old = old} {new = new} {more = more} lacks id so has none calls asked stays read = record {
   beside = kept_beside id old new more (inventory_of id more) has so.beside;
   below = kept_below id new more (inventory_of id more) has so.below;
   calls = let next : (id + 1) * most_for_inventory tries ≡ id * most_for_inventory tries + most_for_inventory tries = omega arith in omega (arith, so.calls, calls, next);
   asked = omega (arith, so.asked, asked);
   stays = λ h. stays_trans s s' s'' (so.stays h) (stays (so.stays h).honest);
+  lacks = adds_then (UnkeptTo id new) (UnkeptTo (id + 1) more) lacks still so.lacks (here lacks none);
   read = λ h.
       let before = so.stays h in
       captures_then before (stays before.honest) (so.read h)
       (captures_after left' (option_to_list lacks) (same_after (LacksInventory id) left' (option_to_list lacks) _ _) (read before.honest))
-      (λ store grown grows done this other below mark. by other mark (decide other below) done this store);
+      (λ store grown grows done this. record {
+        named = λ other below mark. by other mark (decide other below) done this store;
+        own = own_kept id new more s.store (inventory_of id more) has done.own
+            (none_or_same (LacksInventory id) (left' ++ option_to_list lacks) (inventory_of id more) (inventory_of id s.store)
+            (subst (λ (x : Store). InventoryOrLeft (left' ++ option_to_list lacks) more x id) store this));
+      });
 }
   where
+    still : (l : Left) → UnkeptTo id new l → UnkeptTo (id + 1) more l
+    still l unkept = (
+      record {
+        id = unkept.0.id;
+        lacks = unkept.0.lacks;
+        none = others_kept id new more (inventory_of id more) has unkept.0.id unkept.1 ∙ unkept.0.none;
+      },
+      omega (arith, unkept.1),
+    )
+
+    here : (o : Option Left)
+        → IfSome o (λ l. LacksInventory id l × (inventory_of id more ≡ None))
+        → IfSome o (UnkeptTo (id + 1) more)
+    here None is = tt
+    here (Some l) is = (record { id = id; lacks = is.0; none = is.1 }, omega arith)
+
     decide : (other : ℕ) → other < id + 1 → (other < id) ⊎ (other ≡ id)
     decide other below = grind (arith, nat_tests)
 
@@ -301,7 +591,7 @@ keeping_read {tries = tries} {marks = marks} {s = s} {s' = s'} {s'' = s''} {left
     by other mark (inl lt) done this store =
         let stays = others_kept id new more (inventory_of id more) has other lt in
         same_more (LacksInventory other) left' (option_to_list lacks) _ _
-        (subst (λ (o : Option (List ℕ)). SameOrLeft (LacksInventory other) left' o (inventory_of other s.store)) (sym stays) (done other lt mark))
+        (subst (λ (o : Option (List ℕ)). SameOrLeft (LacksInventory other) left' o (inventory_of other s.store)) (sym stays) (done.named other lt mark))
     by other mark (inr here) done this store = rw here (subst (λ (x : Store). InventoryOrLeft (left' ++ option_to_list lacks) more x id) store this)
 
 -- what a result that is Ok has
@@ -314,30 +604,36 @@ on_ok (Err e) has to = tt
 module _ {V : Type 0} {tries : ℕ} {s s' : Seen} (value : Store → Option V) (Lacks : Left → Type 0) where
   pub came_value : (v : V) (in_image : Option V) → in_image ≡ Some v
       → ReadsValue value tries s s' (Ok (Some v))
-      → Captures s s' [] [] (SameOrLeft Lacks [] in_image (value s.store))
+      → Captures tries s s' [] [] (SameOrLeft Lacks [] in_image (value s.store))
   came_value v in_image has reads = record {
     more = [];
     grows = refl;
+    counts = counted_within reads.is.0;
     fact = λ same. inl (has ∙ reads.is.1 ∙ ap value (reads.stays.store.stays same));
+    told = λ same. All-nil (IsTrueOf s.store);
     plain = λ p all. all;
   }
 
   pub absent_value : (in_image : Option V) → in_image ≡ None → ReadsValue value tries s s' (Ok None)
-      → Captures s s' [] [] (SameOrLeft Lacks [] in_image (value s.store))
+      → Captures tries s s' [] [] (SameOrLeft Lacks [] in_image (value s.store))
   absent_value in_image none reads = record {
     more = [];
     grows = refl;
+    counts = counted_within reads.is.0;
     fact = λ same. inl (none ∙ reads.is.1 ∙ ap value (reads.stays.store.stays same));
+    told = λ same. All-nil (IsTrueOf s.store);
     plain = λ p all. all;
   }
 
   pub left_value : (ended : Ended) (lacks : Left) (in_image : Option V) → in_image ≡ None
-      → Lacks lacks → ReadsValue value tries s s' (Err ended)
-      → Captures s s' [] (lacks ∷ []) (SameOrLeft Lacks (lacks ∷ []) in_image (value s.store))
-  left_value ended lacks in_image none lacks_it reads = record {
+      → Lacks lacks → unread_in lacks ≡ Some (unread_of ended) → ReadsValue value tries s s' (Err ended)
+      → Captures tries s s' [] (lacks ∷ []) (SameOrLeft Lacks (lacks ∷ []) in_image (value s.store))
+  left_value ended lacks in_image none lacks_it unread reads = record {
     more = lacks ∷ [];
     grows = refl;
+    counts = counted_value value lacks ended unread reads.is;
     fact = λ same. inr (none, any_of_one Lacks lacks lacks_it);
+    told = λ same. one_told s.store lacks (told_unread s.store lacks (unread_of ended) unread);
     plain = λ p all. let never : Err ended ≡ Ok (value s.store) = (reads.plain p).0 in cc;
   }
 
@@ -358,7 +654,7 @@ pub came_reading : {tries : ℕ} {s s' : Seen} (lun number : ℕ) (reading : Rea
     (old new : Store) → reading_of lun number old ≡ None
     → new ≡ with_reading lun number reading old
     → ReadsValue (reading_of lun number) tries s s' (Ok (Some reading))
-    → Captures s s' [] [] (ReadingOrLeft [] new s.store (lun, number))
+    → Captures tries s s' [] [] (ReadingOrLeft [] new s.store (lun, number))
 came_reading lun number reading old new none is reads =
     came_value (reading_of lun number) (LacksReading lun number) reading (reading_of lun number new) (read_again lun number reading old new none is) reads
 
@@ -376,38 +672,81 @@ has_inventory id bytes old new none is = rw (kept_again id bytes old new none is
 pub came_inventory : {tries : ℕ} {s s' : Seen} (id : ℕ) (bytes : List ℕ) (old new : Store)
     → inventory_of id old ≡ None → new ≡ with_inventory id bytes old
     → ReadsInventory id tries s s' (Ok bytes)
-    → Captures s s' [] [] (InventoryOrLeft [] new s.store id)
-came_inventory id bytes old new none is reads = record {
+    → Captures tries s s' [] [] (InventoryOrLeft [] new s.store id)
+came_inventory {s = s} id bytes old new none is reads = record {
   more = [];
   grows = refl;
+  counts = counted_within reads.counts.0;
   fact = λ same. inl (kept_again id bytes old new none is ∙ sym (reads.is same).1);
+  told = λ same. All-nil (IsTrueOf s.store);
   plain = λ p all. all;
 }
+
+-- one without bytes is not put into the image
+pub came_empty : {tries : ℕ} {s s' : Seen} (id : ℕ) (bytes : List ℕ) (image : Store)
+    → inventory_of id image ≡ None → bytes ≡ [] → ReadsInventory id tries s s' (Ok bytes)
+    → Captures tries s s' [] (Left.Empty id ∷ []) (InventoryOrLeft (Left.Empty id ∷ []) image s.store id)
+came_empty {s = s} {s' = s'} id bytes image none no_bytes reads = record {
+  more = Left.Empty id ∷ [];
+  grows = refl;
+  counts = counted_nothing (Left.Empty id) refl (counted_within reads.counts.0);
+  fact = λ same. inr (none, any_of_one (LacksInventory id) (Left.Empty id) refl);
+  told = λ same. one_told s.store (Left.Empty id) (empty same);
+  plain = λ p all. All-cons (PlainLeaves s.store) (Left.Empty id) [] (empty (reads.stays.plain_store p)) (All-nil (PlainLeaves s.store));
+}
+  where
+    empty : s'.stores_added ≡ s.stores_added → inventory_of id s.store ≡ Some []
+    empty same = (reads.is same).1 ∙ ap Some no_bytes
 
 -- where it was not read, nothing is left out only where there is none
 pub left_inventory : {tries : ℕ} {s s' s'' : Seen} (id : ℕ) (ended : FruEnded)
     (result : Result (Option Left) AllocError) (image : Store) → inventory_of id image ≡ None
-    → ReadsInventory id tries s s' (Err ended) → StaysHonest s' s''
+    → ReadsInventory id tries s s' (Err ended) → StaysHonest s' s'' → AreCounted 0 [] s' s''
     → IfOk result (λ o. MatchOption o (ended ≡ FruEnded.Refused not_present)
-    (λ left. LacksInventory id left × IsNotPlain ended))
-    → IfOk result (λ o. Captures s s'' [] (option_to_list o)
+    (λ left. LacksInventory id left × IsNotPlain ended × (unread_in left ≡ unread_in (Left.Inventory id ended))))
+    → IfOk result (λ o. Captures tries s s'' [] (option_to_list o)
     (InventoryOrLeft (option_to_list o) image s.store id))
-left_inventory id ended (Err e) image none reads later left = tt
-left_inventory {tries = tries} {s = s} {s' = s'} {s'' = s''} id ended (Ok None) image none reads later left = record {
+left_inventory id ended (Err e) image none reads later after left = tt
+left_inventory {tries = tries} {s = s} {s' = s'} {s'' = s''} id ended (Ok None) image none reads later after left = record {
   more = [];
   grows = refl;
+  counts = counted_then [] [] (counted_within (counts (rw left at reads.counts))) (counted_less after);
   fact = λ same. inl (none ∙ sym (absent (rw left at ((reads.is (between s s' s'' reads.stays later same).0)))));
+  told = λ same. All-nil (IsTrueOf s.store);
   plain = λ p all. all;
 }
   where
     absent : InventoryIs id tries s s' (Err (FruEnded.Refused not_present)) → inventory_of id s.store ≡ None
     absent is = is.1
-left_inventory {s = s} id ended (Ok (Some lacks)) image none reads later left = record {
+
+    counts : InventoryCounts id tries s s' (Err (FruEnded.Refused not_present)) → WithinTries tries s s'
+    counts is = is.0
+left_inventory {tries = tries} {s = s} {s' = s'} id ended (Ok (Some lacks)) image none reads later after left = record {
   more = lacks ∷ [];
   grows = refl;
+  counts = counted_then (lacks ∷ []) [] (counted_inventory id lacks ended left.2 left.1 reads.counts) (counted_less after);
   fact = λ same. inr (none, any_of_one (LacksInventory id) lacks left.0);
+  told = λ same. one_told s.store lacks (told ended left.2 left.1 reads.counts);
   plain = λ p all. absurd (left.1 (reads.plain p).0);
 }
+  where
+    told : (e : FruEnded) → unread_in lacks ≡ unread_in (Left.Inventory id e) → IsNotPlain e
+        → InventoryCounts id tries s s' (Err e) → IsTrueOf s.store lacks
+    told FruEnded.Memory is not counts = absurd (not tt)
+    told FruEnded.GaveUp is not counts = told_unread s.store lacks Unread.GaveUp is
+    told (FruEnded.Refused code) is not counts = told_unread s.store lacks (Unread.Refused code) is
+    told FruEnded.Stalled is not counts = absurd counts
+    told FruEnded.Words is not counts = absurd counts
+
+-- what is left out is of this device, and it is not in the image
+pub lacks_left : (id : ℕ) (ended : FruEnded) (result : Result (Option Left) AllocError)
+    (image : Store) → inventory_of id image ≡ None
+    → IfOk result (λ o. MatchOption o (ended ≡ FruEnded.Refused not_present)
+    (λ left. LacksInventory id left × IsNotPlain ended × (unread_in left ≡ unread_in (Left.Inventory id ended))))
+    → IfOk result (λ o. IfSome o (λ l. LacksInventory id l × (inventory_of id image ≡ None)))
+lacks_left id ended (Err e) image none left = tt
+lacks_left id ended (Ok None) image none left = tt
+lacks_left id ended (Ok (Some l)) image none left = (left.0, none)
 
 -- ---- all parts
 
@@ -415,11 +754,11 @@ left_inventory {s = s} id ended (Ok (Some lacks)) image none reads later left = 
 abbrev pub Lasts : (Store → List Left → Type 0) → Type 0
 Lasts Fact = (store : Store) (left more : List Left) → Fact store left → Fact store (left ++ more)
 
-pub captures_with : {s s' s'' : Seen} {left left' left'' : List Left}
+pub captures_with : {tries : ℕ} {s s' s'' : Seen} {left left' left'' : List Left}
     (First Second : Store → List Left → Type 0) → Lasts First → StaysHonest s s'
-    → StaysHonest s' s'' → Captures s s' left left' (First s.store left')
-    → Captures s' s'' left' left'' (Second s'.store left'')
-    → Captures s s'' left left'' (First s.store left'' × Second s.store left'')
+    → StaysHonest s' s'' → Captures tries s s' left left' (First s.store left')
+    → Captures tries s' s'' left' left'' (Second s'.store left'')
+    → Captures tries s s'' left left'' (First s.store left'' × Second s.store left'')
 captures_with {s = s} {left' = left'} {left'' = left''} First Second lasts before later first second =
     captures_then before later first second (λ store more grows a b. (
       subst (λ (l : List Left). First s.store l) (sym grows) (lasts s.store left' more a),

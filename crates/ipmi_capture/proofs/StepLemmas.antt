@@ -1,5 +1,6 @@
 -- The records of a shelf, put into an image one step of a cursor after another.
-use Rattle.std.proofs.Common.{◌≡◌, ◌≢◌, ◌⊎◌, nat_eq, nat_lt, true≢false, ℕ, ◌+◌, ◌*◌, ◌<◌, ◌≤◌, true, false, IsTrue, Option, None, Some, Result, Ok, Err, List, [], ◌∷◌, ◌++◌, length, take, drop, inl, inr, refl, sym, ap, ◌∙◌, arith, take_all, length-append, take-add}
+use Rattle.std.proofs.Common.{◌≡◌, ◌≢◌, ◌⊎◌, nat_eq, nat_lt, true≢false, ℕ, ◌+◌, ◌*◌, ◌<◌, ◌≤◌, true, false, IsTrue, Option, None, Some, Result, Ok, Err, IfOk, List, [], ◌∷◌, ◌++◌, length, map, take, drop, inl, inr, refl, sym, ap, ◌∙◌, arith, take_all, length-append, take-add}
+use Rattle.std.specs.declared.alloc.AllocError.{AllocError}
 use Rattle.std.specs.FinSet as set
 use Rattle.std.specs.Ordering.{nat_cmp}
 use Rattle.std.specs.FinSet.{len-empty, len-insert}
@@ -10,8 +11,12 @@ use Rattle.std.proofs.lemmas.Nat.{mul-le}
 use Rattle.ipmi_bus.proofs.DigitLemmas.{digits_most}
 use Rattle.ipmi_bus.proofs.ShelfLemmas.{look_row}
 use Rattle.ipmi_bus.proofs.WalkLaws.{has_walk}
-use Rattle.ipmi_capture.specs.Below.{asked_at, AsksAtMost, Cycle, cycle_at, CursorHoldsCurrent, CursorState, digits, End, Id, id_in, has_id, handed_id, may_follow, NotGivenUpOrRefused, Place, place_after, place_after_rows, StepAnswers, StepIsHonest, StepIsPlain, store_shelf, whole_len, Ended, EndsBy, First, first_row, GaveUp, HandsOut, IsHonest, IsStep, IsWalk, largest_len, Malformed, Missing, Refused, Row, rows_of, Sdr, Seen, Sel, Shelf, StandsAt, Stalled, stays_refl, stays_trans, StaysHonest, step_call_bound, Store, WalkEnd, WalkStep, with_rows}
+use Rattle.ipmi_capture.specs.Below.{asked_at, AsksAtMost, Cycle, cycle_at, CursorHoldsCurrent, CursorState, digits, End, Id, id_in, has_id, handed_id, may_follow, NotGivenUpOrRefused, Place, place_after, place_after_rows, StepAnswers, StepIsHonest, StepIsPlain, store_shelf, whole_len, Ended, EndsBy, First, first_row, GaveUp, HandsOut, IsHonest, IsStep, IsWalk, largest_len, Malformed, Missing, Refused, Row, rows_of, Sdr, Seen, Sel, Shelf, StandsAt, Stalled, stays_refl, stays_trans, StaysHonest, step_call_bound, Store, WalkEnd, WalkStep, with_rows, WithinTries}
+use Rattle.ipmi_capture.specs.Left.{AreCounted}
 use Rattle.ipmi_capture.specs.Phases.{CameOf, most_on_walk, PlainEnds, Walks}
+use Rattle.ipmi_capture.specs.declared.left.Left.{Left}
+use Rattle.std.specs.Option.{option_to_list}
+use Rattle.ipmi_capture.proofs.CountLemmas.{counted_less, counted_none, counted_nothing, counted_record, counted_then, counted_within}
 
 -- ---- the rows of a shelf
 
@@ -108,6 +113,7 @@ pub record Walked (shelf : Shelf) (part tries : ℕ) (s s' : Seen) (cursor : Cur
       ≤ s.calls + set.len cursor.ids * step_call_bound tries (largest_len shelf) + digits part
   pub asked : AsksAtMost part s s'
   pub stays : IsHonest s → StaysHonest s s'
+  pub counts : IsHonest s → AreCounted tries [] s s'
   pub along : IsHonest s → Along shelf s s' cursor (rows_of shelf new)
   pub holds : IsHonest s → IsTrue s.plain → CursorHoldsCurrent cursor s'
 
@@ -136,6 +142,7 @@ walked_none shelf part tries s cursor old some none fresh stands =
       calls = rw (ids, part_is) (omega arith);
       asked = omega arith;
       stays = λ h. stays_refl s h;
+      counts = λ h. counted_none s;
       along = λ h same walk end is ends. rw none (refl, stands (rows_of shelf s.store) walk);
       holds = λ h p. record { held = λ n is. absurd (none-some n (sym (ap (λ (x : CursorState). x.reservation) fresh) ∙ is)) };
     }
@@ -185,10 +192,11 @@ module _ {shelf : Shelf} {part tries : ℕ} {s s' s'' : Seen} {now next : Cursor
 
   -- why there are no more
   pub came_ended : (ended : Ended) → result ≡ Err ended → IsHonest s
-      → Walks shelf s s'' (rows_of shelf new) (Some ended)
+      → Walks shelf tries s s'' (rows_of shelf new) (Some ended)
   came_ended ended is h = record {
     along = λ same walk end walks ends. by walk end ended (stepped h same walk end walks ends).0 (rw is at (stepped h same walk end walks ends).1);
     plain = λ p. fine ended (rw is at (step_honest h).answers) (rw is at (step_plain h p).fine);
+    counts = counted_then [] (Left.Records shelf ended ∷ []) (walked.counts h) (counted_record shelf now ended walked.tries_are (rw is at (step_honest h).answers));
   }
     where
       fine : (e : Ended) → StepAnswers now s' s'' (Err e) → NotGivenUpOrRefused {V = Option Row} (Err e) → PlainEnds (Some e)
@@ -210,14 +218,25 @@ module _ {shelf : Shelf} {part tries : ℕ} {s s' s'' : Seen} {now next : Cursor
       by walk end (Stalled n) rows step = rows
       by walk end (Malformed n) rows step = rows
 
-  pub came_done : result ≡ Ok None → IsHonest s → Walks shelf s s'' (rows_of shelf new) None
+  pub came_done : result ≡ Ok None → IsHonest s → Walks shelf tries s s'' (rows_of shelf new) None
   came_done is h = record {
     along = λ same walk end walks ends.
         let at = stepped h same walk end walks ends in
         let step = rw is at at.1 in
         (all_rows walk (rows_of shelf new) at.0 step.0, step.1);
     plain = λ p. tt;
+    counts = counted_then [] [] (walked.counts h) (counted_within (none (rw is at (step_honest h).answers)));
   }
+    where
+      none : StepAnswers now s' s'' (Ok None) → WithinTries now.tries s' s''
+      none answers = answers.0
+
+  -- a record came
+  came_record : {row : Row} → result ≡ Ok (Some row) → IsHonest s → AreCounted tries [] s s''
+  came_record {row = row} is h = counted_then [] [] (walked.counts h) (counted_within (one (rw is at (step_honest h).answers)))
+    where
+      one : StepAnswers now s' s'' (Ok (Some row)) → WithinTries now.tries s' s''
+      one answers = answers.0
 
   -- over a plain controller a record may come after those before it
   may_put : IsHonest s → IsTrue s.plain → (row : Row) → result ≡ Ok (Some row)
@@ -239,10 +258,11 @@ module _ {shelf : Shelf} {part tries : ℕ} {s s' s'' : Seen} {now next : Cursor
   -- a record that is left out
   pub came_malformed : (n : ℕ) {row : Row} → result ≡ Ok (Some row)
       → may_follow shelf (rows_of shelf new) row ≡ false
-      → IsHonest s → Walks shelf s s'' (rows_of shelf new) (Some (Malformed n))
+      → IsHonest s → Walks shelf tries s s'' (rows_of shelf new) (Some (Malformed n))
   came_malformed n {row = row} is left h = record {
     along = λ same walk end walks ends. (stepped h same walk end walks ends).0;
     plain = λ p. absurd (true≢false (sym (may_put h p row is) ∙ left));
+    counts = counted_nothing (Left.Records shelf (Malformed n)) refl (came_record is h);
   }
 
   -- a record is one id more
@@ -297,6 +317,7 @@ module _ {shelf : Shelf} {part tries : ℕ} {s s' s'' : Seen} {now next : Cursor
           calls = rw ids_more (omega (arith, walked.calls, rw (walked.shelf_is, walked.tries_are) at step.calls, one));
           asked = asked_on;
           stays = stays_on;
+          counts = came_record is;
           along = along_more;
           holds = λ h p. (step_plain h p).holds;
         }
@@ -308,6 +329,7 @@ pub record IsAgain (shelf : Shelf) (part tries times : ℕ) (s s' : Seen) (old n
   pub calls : s'.calls ≤ s.calls + times * most_on_walk shelf tries
   pub asked : AsksAtMost part s s'
   pub stays : IsHonest s → StaysHonest s s'
+  pub counts : IsHonest s → AreCounted tries [] s s'
 
 module _ {shelf : Shelf} {part tries times : ℕ} {s s' s'' : Seen} {old now new : Store}
     (again : IsAgain shelf part tries times s s' old now)
@@ -328,23 +350,32 @@ module _ {shelf : Shelf} {part tries times : ℕ} {s s' s'' : Seen} {old now new
   pub asked_all : AsksAtMost part s s''
   asked_all = omega (arith, again.asked, asked)
 
-  pub walks_all : {ended : Option Ended} → (IsHonest s' → Walks shelf s' s'' (rows_of shelf new) ended)
-      → IsHonest s → Walks shelf s s'' (rows_of shelf new) ended
-  walks_all walks h = record {
+  pub walks_all : {ended : Option Ended} → (IsHonest s' → Walks shelf tries s' s'' (rows_of shelf new) ended)
+      → IsHonest s → Walks shelf tries s s'' (rows_of shelf new) ended
+  walks_all {ended = ended} walks h = record {
     along = λ same walk end is ends.
         let before = again.stays h in
         let parts = between s s' s'' before (stays before.honest) same in
         let rows : rows_of shelf s'.store ≡ rows_of shelf s.store = ap (rows_of shelf) (before.store.stays parts.0) in
         (rw rows at ((walks before.honest).along parts.1 walk end)) is ends;
     plain = λ p. let before = again.stays h in (walks before.honest).plain (before.plain p);
+    counts = counted_then [] (map (Left.Records shelf) (option_to_list ended)) (again.counts h) (walks (again.stays h).honest).counts;
   }
 
+  pub walks_all_ok : (result : Result (Option Ended) AllocError)
+      → (IsHonest s' → IfOk result (λ ended. Walks shelf tries s' s'' (rows_of shelf new) ended))
+      → IsHonest s → IfOk result (λ ended. Walks shelf tries s s'' (rows_of shelf new) ended)
+  walks_all_ok (Ok ended) walks h = walks_all walks h
+  walks_all_ok (Err e) walks h = tt
+
   -- and cleared
-  pub again_cleared : {cleared : Store} → cleared ≡ with_rows shelf [] new
+  pub again_cleared : {cleared : Store} {ended : Option Ended} → cleared ≡ with_rows shelf [] new
+      → (IsHonest s' → Walks shelf tries s' s'' (rows_of shelf new) ended)
       → IsAgain shelf part tries (times + 1) s s'' old cleared
-  again_cleared is = record {
+  again_cleared is walks = record {
     beside = is ∙ ap (with_rows shelf []) beside_all ∙ with_rows-again shelf [] (rows_of shelf new) old;
     calls = let next : (times + 1) * most_on_walk shelf tries ≡ times * most_on_walk shelf tries + most_on_walk shelf tries = omega arith in omega (arith, again.calls, calls, next);
     asked = asked_all;
     stays = stays_all;
+    counts = λ h. counted_then [] [] (again.counts h) (counted_less (walks (again.stays h).honest).counts);
   }

@@ -3,10 +3,10 @@ use Rattle.std.proofs.Common.{◌≡◌, ℕ, false, None, Some, IfSome, List, [
 use Rattle.std.specs.List.{Any}
 use Rattle.std.proofs.lemmas.Bool.Decides.{nat_tests}
 use Rattle.ipmi_capture.specs.Below.{AllOf, CycleAt, DistinctIds, Done, EndsBy, First, first_row, has_id, IsWalk, LacksId, last_next, Links, MissingAt, Row, row_with_id, rows_of, Shelf, Store, WalkEnd}
-use Rattle.ipmi_capture.specs.Capture.{WalkOrLeft}
-use Rattle.ipmi_capture.specs.Left.{LacksRecords}
+use Rattle.ipmi_capture.specs.Capture.{HasWalk, WalkOrLeft}
+use Rattle.ipmi_capture.specs.Left.{EndIsNoted, LacksRecords}
 use Rattle.ipmi_capture.specs.declared.left.Left.{Left}
-use Rattle.ipmi_capture.specs.Phases.{AreWalk}
+use Rattle.ipmi_capture.specs.Phases.{AreRowsOf, AreWalk}
 
 -- each of these rows is found by its id among others
 abbrev AllFound : List Row → List Row → Type 0
@@ -73,9 +73,10 @@ same_walk shelf left image store are = λ walk end is ends. by walk end is ends 
   where
     by : (walk : List Row) (end : WalkEnd) → IsWalk (rows_of shelf store) First walk
         → EndsBy (rows_of shelf store) First walk end
-        → (rows_of shelf image ≡ walk) ⊎ ((rows_of shelf image ≡ take (length (rows_of shelf image)) walk) × Any (LacksRecords shelf) left)
-        → (IsWalk (rows_of shelf image) First walk × EndsBy (rows_of shelf image) First walk end)
+        → AreRowsOf shelf left (rows_of shelf image) walk end
+        → (HasWalk shelf image walk end × EndIsNoted shelf left end)
         ⊎ ((rows_of shelf image ≡ take (length (rows_of shelf image)) walk) × Any (LacksRecords shelf) left)
     by walk end is ends (inl same) =
-        inl (subst (λ (rows : List Row). IsWalk rows First walk × EndsBy rows First walk end) (sym same) (walk_of_itself (rows_of shelf store) walk end is ends))
+        let own = subst (λ (rows : List Row). IsWalk rows First walk × EndsBy rows First walk end) (sym same.0) (walk_of_itself (rows_of shelf store) walk end is ends) in
+        inl ((same.0, own.0, own.1), same.1)
     by walk end is ends (inr front) = inr front

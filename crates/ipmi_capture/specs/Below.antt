@@ -1,19 +1,19 @@
 -- The words of the crates below that this crate cites, passed on from one place. Declares nothing.
 pub use Rattle.ipmi_text.specs.declared.reading.Reading.{Reading}
+pub use Rattle.ipmi_text.specs.Hex.{byte_h, hex_byte}
 pub use Rattle.ipmi_records.specs.declared.sdr.SdrFault.{SdrFault}
 pub use Rattle.ipmi_records.specs.declared.sdr.SdrView.{SdrView}
-pub use Rattle.ipmi_records.specs.Sdr.{fru_of, sdr_view_of}
+pub use Rattle.ipmi_records.specs.Sdr.{sdr_view_of}
 pub use Rattle.ipmi_bus.specs.Answers.{not_present}
-pub use Rattle.ipmi_bus.specs.Bounds.{AreWithin, digits, fru_call_bound, step_call_bound}
+pub use Rattle.ipmi_bus.specs.Bounds.{digits, fru_call_bound, step_call_bound}
 pub use Rattle.ipmi_bus.specs.CursorState.{CursorState, start_of}
-pub use Rattle.ipmi_bus.specs.Lent.{row_of_record}
-pub use Rattle.ipmi_bus.specs.Readers.{InventoryIs, PlainMayAnswer, ReadsInventory, ReadsValue, ValueIs, ValueSays}
+pub use Rattle.ipmi_bus.specs.Readers.{InventoryCounts, InventoryIs, PlainMayAnswer, ReadsInventory, ReadsValue, ValueIs}
 pub use Rattle.ipmi_bus.specs.Seen.{AsksAtMost, IsHonest, IsPlain, Seen, stays_refl, stays_trans, StaysHonest}
 pub use Rattle.ipmi_bus.specs.Shelf.{DistinctIds, first_row, FoundIsRow, id_in, IsShelf, largest_len, LacksId, look, Row, row_with_id, whole_len}
 pub use Rattle.ipmi_bus.specs.Standing.{StandsAt, WalkStep}
-pub use Rattle.ipmi_bus.specs.Step.{asked_at, AsksNothing, CursorHoldsCurrent, cycle_at, handed_id, HandsOut, IsStep, StepAnswers, StepIsHonest, StepIsPlain, StepLeaves}
+pub use Rattle.ipmi_bus.specs.Step.{asked_at, CursorHoldsCurrent, cycle_at, handed_id, HandsOut, IsStep, StepAnswers, StepIsHonest, StepIsPlain}
 pub use Rattle.ipmi_bus.specs.Store.{info_of, Inventory, inventory_in, inventory_of, IsInventory, IsStore, reading_in, reading_of, rows_of, SensorReading, Store, store_shelf}
-pub use Rattle.ipmi_bus.specs.Tries.{NotGivenUpOrRefused}
+pub use Rattle.ipmi_bus.specs.Tries.{IsRefusedWith, NotGivenUpOrRefused, WithinTries}
 pub use Rattle.ipmi_bus.specs.Walk.{AllOf, CycleAt, Done, EndsAfter, EndsBy, EndsEmpty, has_id, IsWalk, last_next, Links, MissingAt, place_after, place_after_rows, row_at, WalkEnd, WalkExists, WalkIsUnique}
 pub use Rattle.ipmi_bus.specs.declared.code.Code.{Code}
 pub use Rattle.ipmi_bus.specs.declared.controller.Shelf.{Shelf}
@@ -23,4 +23,5 @@ pub use Rattle.ipmi_bus.specs.declared.step.Ended.{Ended}
 pub use Rattle.ipmi_bus.specs.declared.step.Ended.TheVariants.{Cycle, GaveUp, Malformed, Missing, Refused, Stalled}
 pub use Rattle.ipmi_bus.specs.declared.step.Place.TheVariants.{End, First, Id}
 pub use Rattle.ipmi_bus.specs.declared.step.Place.{Place}
-pub use Rattle.ipmi_image.specs.Built.{empty_store, may_follow, rows_and, with_info, with_inventory, with_reading, with_rows}
+pub use Rattle.ipmi_image.specs.Built.{may_follow, with_info, with_inventory, with_reading, with_rows}
+pub use Rattle.ipmi_output.specs.Failure.{ended_text}

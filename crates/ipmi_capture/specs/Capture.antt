@@ -2,7 +2,7 @@
 use Rattle.std.specs.Prelude.{◌≡◌, ℕ, Option, None, Result, Ok, Err, List, ◌∷◌, All, filter_map, length, take, ◌⊎◌}
 use Rattle.std.specs.List.{Any}
 use Rattle.ipmi_capture.specs.Below.{First, info_of, inventory_of, EndsBy, IsWalk, reading_of, Row, rows_of, Sdr, SdrFault, SdrView, sdr_view_of, Sel, Shelf, Store, WalkEnd}
-use Rattle.ipmi_capture.specs.Left.{LacksInfo, LacksInventory, LacksReading, LacksRecords, SameOrLeft}
+use Rattle.ipmi_capture.specs.Left.{EndIsNoted, LacksInfo, LacksInventory, LacksReading, LacksRecords, SameOrLeft}
 use Rattle.ipmi_capture.specs.declared.left.Left.{Left}
 use Rattle.ipmi_records.specs.Sdr as sdr
 
@@ -26,11 +26,16 @@ devices_of rows = filter_map (λ row. device_named (sdr_view_of row.bytes)) rows
 
 -- ---- a capture
 
--- the walk of the store's shelf from its first record, and how it ends, are those of the image's
+-- the rows of the image's shelf are these and no others, and are their own walk from the first record, which ends so
+abbrev pub HasWalk : Shelf → Store → List Row → WalkEnd → Type 0
+HasWalk shelf image walk end = (rows_of shelf image ≡ walk)
+    × IsWalk (rows_of shelf image) First walk × EndsBy (rows_of shelf image) First walk end
+
+-- the walk of the store's shelf from its first record, and how it ends, are those of the image's, which has no other rows
 abbrev pub SameWalk : Shelf → Store → Store → Type 0
 SameWalk shelf image store = (walk : List Row) (end : WalkEnd)
     → IsWalk (rows_of shelf store) First walk → EndsBy (rows_of shelf store) First walk end
-    → IsWalk (rows_of shelf image) First walk × EndsBy (rows_of shelf image) First walk end
+    → HasWalk shelf image walk end
 
 abbrev pub SameReading : Store → Store → ℕ × ℕ → Type 0
 SameReading image store key = reading_of key.0 key.1 image ≡ reading_of key.0 key.1 store
@@ -38,8 +43,20 @@ SameReading image store key = reading_of key.0 key.1 image ≡ reading_of key.0 
 abbrev pub SameInventory : Store → Store → ℕ → Type 0
 SameInventory image store id = inventory_of id image ≡ inventory_of id store
 
+-- the image has none, or what the store has
+abbrev pub NoneOrSame : {V : Type 0} → Option V → Option V → Type 0
+NoneOrSame of_image of_store = (of_image ≡ None) ⊎ (of_image ≡ of_store)
+
+abbrev pub OwnReadings : Store → Store → Type 0
+OwnReadings image store =
+    (lun number : ℕ) → NoneOrSame (reading_of lun number image) (reading_of lun number store)
+
+abbrev pub OwnInventories : Store → Store → Type 0
+OwnInventories image store =
+    (id : ℕ) → NoneOrSame (inventory_of id image) (inventory_of id store)
+
 -- the image has of the store both walks, both infos, the reading of each sensor that a record names, and the inventories of
--- device 0 and of each device that a record names
+-- device 0 and of each device that a record names; and it has no record, reading or inventory that is not the store's
 pub record IsCaptureOf (image store : Store) : Type 0 where
   pub sdr : SameWalk Sdr image store
   pub sel : SameWalk Sel image store
@@ -47,14 +64,17 @@ pub record IsCaptureOf (image store : Store) : Type 0 where
   pub sel_info : info_of Sel image ≡ info_of Sel store
   pub readings : All (SameReading image store) (sensors_of image.sdr)
   pub inventories : All (SameInventory image store) (0 ∷ devices_of image.sdr)
+  pub own_readings : OwnReadings image store
+  pub own_inventories : OwnInventories image store
 
 -- ---- a capture that lacks something
 
--- the same walk; or the image has the first records of it, and more were left out
+-- the same walk, and its end is noted unless it is done; or the image has the first records of it, and no others, and the
+-- records after them were left out, maybe none
 abbrev pub WalkOrLeft : Shelf → List Left → Store → Store → Type 0
 WalkOrLeft shelf left image store = (walk : List Row) (end : WalkEnd)
     → IsWalk (rows_of shelf store) First walk → EndsBy (rows_of shelf store) First walk end
-    → (IsWalk (rows_of shelf image) First walk × EndsBy (rows_of shelf image) First walk end)
+    → (HasWalk shelf image walk end × EndIsNoted shelf left end)
     ⊎ ((rows_of shelf image ≡ take (length (rows_of shelf image)) walk) × Any (LacksRecords shelf) left)
 
 abbrev pub ReadingOrLeft : List Left → Store → Store → ℕ × ℕ → Type 0
@@ -65,7 +85,7 @@ abbrev pub InventoryOrLeft : List Left → Store → Store → ℕ → Type 0
 InventoryOrLeft left image store id =
     SameOrLeft (LacksInventory id) left (inventory_of id image) (inventory_of id store)
 
--- of each of these the image has what the store has, unless just that was left out
+-- of each of these the image has what the store has, unless just that was left out; and it has nothing that is not the store's
 pub record IsCaptureBut (left : List Left) (image store : Store) : Type 0 where
   pub sdr : WalkOrLeft Sdr left image store
   pub sel : WalkOrLeft Sel left image store
@@ -73,3 +93,5 @@ pub record IsCaptureBut (left : List Left) (image store : Store) : Type 0 where
   pub sel_info : SameOrLeft (LacksInfo Sel) left (info_of Sel image) (info_of Sel store)
   pub readings : All (ReadingOrLeft left image store) (sensors_of image.sdr)
   pub inventories : All (InventoryOrLeft left image store) (0 ∷ devices_of image.sdr)
+  pub own_readings : OwnReadings image store
+  pub own_inventories : OwnInventories image store

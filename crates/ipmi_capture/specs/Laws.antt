@@ -1,9 +1,8 @@
 -- What a command prints over a capture: the same as over the store of the controller.
-use Rattle.std.specs.Prelude.{◌≡◌, ℕ, IsTrue, Option, None, Some, List, ◌∷◌}
+use Rattle.std.specs.Prelude.{◌≡◌, ℕ, IsTrue, Option, None, Some, List, ◌∷◌, All}
 use Rattle.std.specs.List.{Contains}
 use Rattle.ipmi_capture.specs.Below.{EndsBy, First, has_id, Id, IsStore, IsWalk, Place, Row, rows_of, Sdr, Sel, Shelf, start_of, Store, WalkEnd}
 use Rattle.ipmi_capture.specs.Capture.{devices_of, IsCaptureOf}
-use Rattle.ipmi_commands.specs.Allowed.{AreTexts}
 use Rattle.ipmi_commands.specs.Job.{job_in}
 use Rattle.ipmi_commands.specs.declared.job.Wording.{Wording}
 use Rattle.ipmi_commands.specs.Plan.{Item}
@@ -33,16 +32,17 @@ IsOfCapture image (Task.Info shelf) from = Unit {0}
 IsOfCapture image Task.Rewrite from = ⊥
 IsOfCapture image task from = IsKnownPlace Sdr image (start_of from)
 
--- texts of the items over one store are texts of them over the other
-abbrev pub SameTexts : Store → Store → List Item → Type 0
-SameTexts image store items = (text : List ℕ)
-    → (AreTexts (IsTextOver image) items text → AreTexts (IsTextOver store) items text)
-    × (AreTexts (IsTextOver store) items text → AreTexts (IsTextOver image) items text)
+-- a text of the item over one store is one over the other
+abbrev pub SameText : Store → Store → Item → Type 0
+SameText image store item = (text : List ℕ)
+    → (IsTextOver image item.subject text → IsTextOver store item.subject text)
+    × (IsTextOver store item.subject text → IsTextOver image item.subject text)
 
--- such a command has over a capture the plan that it has over the controller's store, and its items have the same texts
+-- such a command has over a capture the plan that it has over the controller's store, and each of its items has the same
+-- texts, so that what a run printed before it stopped is the same too; with whatever tries, which bound only the calls
 abbrev pub CapturesPrintTheSame : Type 0
-CapturesPrintTheSame = (image store : Store) (wording : Wording) (task : Task) (from : Option ℕ) (tries : ℕ)
+CapturesPrintTheSame = (image store : Store) (wording : Wording) (task : Task) (from : Option ℕ) (tries tries' : ℕ)
     → IsStore image → IsStore store → IsCaptureOf image store → IsOfCapture image task from
     → OnPlan (job_in wording task from) tries store (λ plan calls.
-    OnPlan (job_in wording task from) tries image (λ plan' calls'.
-    (plan' ≡ plan) × SameTexts image store plan.items))
+    OnPlan (job_in wording task from) tries' image (λ plan' calls'.
+    (plan' ≡ plan) × All (SameText image store) plan.items))

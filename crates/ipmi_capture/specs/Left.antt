@@ -1,7 +1,8 @@
--- What is not in an image: which of it an image is whole without, and which of it is nothing.
-use Rattle.std.specs.Prelude.{◌≡◌, ℕ, Bool, true, false, Option, None, Some, List, [], ◌⊎◌}
-use Rattle.std.specs.List.{Any}
-use Rattle.ipmi_capture.specs.Below.{Cycle, CycleAt, Ended, EndsBy, First, inventory_of, IsWalk, Missing, MissingAt, Refused, Row, rows_of, Shelf, Store, WalkEnd}
+-- What is not in an image: which of it an image is whole without, which of it is nothing, what a controller counts meanwhile, and
+-- the line that says it.
+use Rattle.std.specs.Prelude.{◌≡◌, ℕ, ◌+◌, ◌≤◌, All, Bool, true, false, codes, decimal, Option, None, Some, List, [], ◌++◌, ◌⊎◌}
+use Rattle.std.specs.List.{Any, sum_by}
+use Rattle.ipmi_capture.specs.Below.{byte_h, Cycle, CycleAt, Done, Ended, ended_text, EndsBy, First, FruEnded, GaveUp, hex_byte, info_of, inventory_of, IsWalk, Missing, MissingAt, reading_of, Refused, Row, rows_of, Sdr, Seen, Sel, Shelf, Store, WalkEnd}
 use Rattle.ipmi_capture.specs.declared.left.Left.{Left}
 use Rattle.ipmi_capture.specs.declared.left.Unread.{Unread}
 
@@ -10,7 +11,7 @@ abbrev pub unread_of : Ended → Unread
 unread_of (Refused id code) = Unread.Refused code
 unread_of _ = Unread.GaveUp
 
--- a cycle, what a controller refuses to tell, and an inventory without bytes
+-- a cycle, an info, a reading or a size that a controller refuses to tell, and an inventory without bytes
 abbrev pub leaves_whole : Left → Bool
 leaves_whole (Left.Records shelf (Cycle n)) = true
 leaves_whole (Left.Info shelf (Unread.Refused code)) = true
@@ -42,17 +43,36 @@ LacksInventory id (Left.Empty i) = i ≡ id
 LacksInventory id (Left.Inventory i ended) = i ≡ id
 LacksInventory id _ = ⊥
 
+-- of what is left out the image has nothing; of a shelf it may have the records before
+abbrev pub IsLeftOut : Store → Left → Type 0
+IsLeftOut image (Left.Records shelf ended) = Unit {0}
+IsLeftOut image (Left.Info shelf unread) = info_of shelf image ≡ None
+IsLeftOut image (Left.Reading lun number unread) = reading_of lun number image ≡ None
+IsLeftOut image (Left.Size id code) = inventory_of id image ≡ None
+IsLeftOut image (Left.Empty id) = inventory_of id image ≡ None
+IsLeftOut image (Left.Inventory id ended) = inventory_of id image ≡ None
+
 -- none of these
 abbrev pub leaves_nothing : Left → Bool
 leaves_nothing (Left.Records shelf (Cycle n)) = true
 leaves_nothing (Left.Records shelf (Missing n)) = true
 leaves_nothing _ = false
 
+-- it notes that the walk of the shelf ends so
+abbrev pub NotesEnd : Shelf → WalkEnd → Left → Type 0
+NotesEnd shelf Done left = ⊥
+NotesEnd shelf (CycleAt n) left = left ≡ Left.Records shelf (Cycle n)
+NotesEnd shelf (MissingAt n) left = left ≡ Left.Records shelf (Missing n)
+
+-- the walk of the shelf is done, or just its end is noted
+abbrev pub EndIsNoted : Shelf → List Left → WalkEnd → Type 0
+EndIsNoted shelf left end = (end ≡ Done) ⊎ Any (NotesEnd shelf end) left
+
 -- the image has the value that the store has, or none where it was left out
 abbrev pub SameOrLeft : {V : Type 0} → (Left → Type 0) → List Left → Option V → Option V → Type 0
 SameOrLeft Lacks left of_image of_store = (of_image ≡ of_store) ⊎ ((of_image ≡ None) × Any Lacks left)
 
--- ---- a plain controller
+-- ---- what is said of the store
 
 -- the walk of the shelf from its first record ends so
 abbrev pub WalkEndsBy : Shelf → Store → WalkEnd → Type 0
@@ -60,9 +80,79 @@ WalkEndsBy shelf store by = (walk : List Row) (end : WalkEnd)
     → IsWalk (rows_of shelf store) First walk → EndsBy (rows_of shelf store) First walk end
     → end ≡ by
 
+-- that the walk ends so, and that an inventory has no bytes, is true of the store
+abbrev pub IsTrueOf : Store → Left → Type 0
+IsTrueOf store (Left.Records shelf (Cycle n)) = WalkEndsBy shelf store (CycleAt n)
+IsTrueOf store (Left.Records shelf (Missing n)) = WalkEndsBy shelf store (MissingAt n)
+IsTrueOf store (Left.Empty id) = inventory_of id store ≡ Some []
+IsTrueOf store _ = Unit {0}
+
 -- what is left out over a plain controller: that the walk ends so is said, and an inventory without bytes has no line
 abbrev pub PlainLeaves : Store → Left → Type 0
 PlainLeaves store (Left.Records shelf (Cycle n)) = WalkEndsBy shelf store (CycleAt n)
 PlainLeaves store (Left.Records shelf (Missing n)) = WalkEndsBy shelf store (MissingAt n)
 PlainLeaves store (Left.Empty id) = inventory_of id store ≡ Some []
 PlainLeaves store _ = ⊥
+
+-- ---- what a controller counts meanwhile
+
+-- how it was asked for in vain: refused, or given up
+abbrev pub unread_in : Left → Option Unread
+unread_in (Left.Records shelf (GaveUp n)) = Some Unread.GaveUp
+unread_in (Left.Records shelf (Refused n code)) = Some (Unread.Refused code)
+unread_in (Left.Info shelf unread) = Some unread
+unread_in (Left.Reading lun number unread) = Some unread
+unread_in (Left.Size id code) = Some (Unread.Refused code)
+unread_in (Left.Inventory id FruEnded.GaveUp) = Some Unread.GaveUp
+unread_in (Left.Inventory id (FruEnded.Refused code)) = Some (Unread.Refused code)
+unread_in _ = None
+
+-- to give up takes one trouble more than the tries
+abbrev pub troubles_for : ℕ → Option Unread → ℕ
+troubles_for tries (Some Unread.GaveUp) = tries + 1
+troubles_for tries _ = 0
+
+abbrev pub refusals_for : Option Unread → ℕ
+refusals_for (Some (Unread.Refused code)) = 1
+refusals_for _ = 0
+
+abbrev pub HasCode : ℕ → Option Unread → Type 0
+HasCode last (Some (Unread.Refused code)) = code.0 ≡ last
+HasCode last _ = Unit {0}
+
+-- The troubles of all that was given up came, and the refusals of all that was refused. Where none came the last code stays;
+-- where one came, what was refused has its code.
+pub record AreCounted (tries : ℕ) (left : List Left) (s s' : Seen) : Type 0 where
+  pub troubles : s.troubles + sum_by (λ l. troubles_for tries (unread_in l)) left ≤ s'.troubles
+  pub refusals : s.refusals + sum_by (λ l. refusals_for (unread_in l)) left ≤ s'.refusals
+  pub none : s'.refusals ≡ s.refusals → s'.last_code ≡ s.last_code
+  pub one : s'.refusals ≡ s.refusals + 1 → All (λ l. HasCode s'.last_code (unread_in l)) left
+
+-- ---- its line
+
+abbrev pub unread_text : Unread → List ℕ
+unread_text (Unread.Refused code) = codes "refused with code " ++ byte_h code.0
+unread_text Unread.GaveUp = codes "gave up"
+
+-- why an inventory was not read
+abbrev pub fru_ended_text : FruEnded → List ℕ
+fru_ended_text FruEnded.Memory = codes "out of memory"
+fru_ended_text (FruEnded.Refused code) = unread_text (Unread.Refused code)
+fru_ended_text FruEnded.GaveUp = unread_text Unread.GaveUp
+fru_ended_text FruEnded.Stalled = codes "stalled"
+fru_ended_text FruEnded.Words = codes "uses words"
+
+abbrev pub shelf_text : Shelf → List ℕ
+shelf_text Sdr = codes "sdr"
+shelf_text Sel = codes "sel"
+
+abbrev pub left_text : Left → List ℕ
+left_text (Left.Records shelf ended) = shelf_text shelf ++ (codes ": " ++ ended_text ended)
+left_text (Left.Info shelf unread) =
+    codes "info " ++ (shelf_text shelf ++ (codes ": " ++ unread_text unread))
+left_text (Left.Reading lun number unread) =
+    codes "reading " ++ (decimal lun ++ (codes " " ++ (hex_byte number ++ (codes ": " ++ unread_text unread))))
+left_text (Left.Size id code) =
+    codes "fru " ++ (hex_byte id ++ (codes ": size " ++ unread_text (Unread.Refused code)))
+left_text (Left.Empty id) = codes "fru " ++ (hex_byte id ++ codes ": empty")
+left_text (Left.Inventory id ended) = codes "fru " ++ (hex_byte id ++ (codes ": " ++ fru_ended_text ended))

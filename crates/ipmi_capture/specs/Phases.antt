@@ -1,27 +1,55 @@
 -- What each part of a capture leaves, for the contracts of private functions.
-use Rattle.std.specs.Prelude.{◌≡◌, ℕ, ◌+◌, ◌*◌, ◌<◌, ◌==◌, ◌||◌, IsTrue, Bool, false, true, Option, Some, None, Err, List, ◌++◌, All, take, length, slice_index_or, ◌⊎◌}
+use Rattle.std.specs.Prelude.{◌≡◌, ℕ, ◌+◌, ◌*◌, ◌<◌, ◌==◌, ◌||◌, IsTrue, Bool, false, true, Option, Some, None, Err, List, ◌++◌, All, map, take, length, slice_index_or, ◌⊎◌}
 use Rattle.std.specs.List.{Any}
-use Rattle.ipmi_capture.specs.Below.{Cycle, CycleAt, Done, Ended, EndsBy, First, FruEnded, fru_call_bound, IsWalk, largest_len, Missing, MissingAt, PlainMayAnswer, Reading, Row, rows_of, Sdr, Seen, Sel, Shelf, step_call_bound, Store, WalkEnd, with_inventory, with_reading}
-use Rattle.ipmi_capture.specs.Capture.{InventoryOrLeft, ReadingOrLeft}
-use Rattle.ipmi_capture.specs.Left.{LacksRecords, PlainLeaves}
+use Rattle.std.specs.Option.{option_to_list}
+use Rattle.ipmi_capture.specs.Below.{Cycle, CycleAt, Done, Ended, EndsBy, First, FruEnded, fru_call_bound, inventory_of, IsWalk, largest_len, Missing, MissingAt, PlainMayAnswer, Reading, reading_of, Row, rows_of, Sdr, Seen, Sel, Shelf, step_call_bound, Store, WalkEnd, with_inventory, with_reading}
+use Rattle.ipmi_capture.specs.Capture.{InventoryOrLeft, OwnInventories, OwnReadings, ReadingOrLeft}
+use Rattle.ipmi_capture.specs.Left.{AreCounted, EndIsNoted, IsTrueOf, LacksInventory, LacksReading, LacksRecords, PlainLeaves}
 use Rattle.ipmi_capture.specs.Named.{IsSensorKey, sensor_place}
 use Rattle.ipmi_capture.specs.declared.left.Left.{Left}
+
+-- ---- over any controller
+
+-- more was left out, and this holds of each
+pub record Adds (P : Left → Type 0) (left left' : List Left) : Type 0 where
+  pub more : List Left
+  pub grows : left' ≡ left ++ more
+  pub all : All P more
+
+-- a reading that the image has not
+pub record IsUnread (image : Store) (left : Left) : Type 0 where
+  pub key : ℕ × ℕ
+  pub lacks : LacksReading key.0 key.1 left
+  pub none : reading_of key.0 key.1 image ≡ None
+
+-- an inventory that the image has not
+pub record IsUnkept (image : Store) (left : Left) : Type 0 where
+  pub id : ℕ
+  pub lacks : LacksInventory id left
+  pub none : inventory_of id image ≡ None
 
 -- ---- over an honest controller
 
 -- a part of a capture, with what was left out before it and after it: more was left out after what was, and where no store is
--- added the fact holds; over a plain controller only so much is left out
-pub record Captures (s s' : Seen) (left left' : List Left) (Fact : Type 0) : Type 0 where
+-- added the fact holds, and what is said of the store is true; over a plain controller only so much is left out
+pub record Captures (tries : ℕ) (s s' : Seen) (left left' : List Left) (Fact : Type 0) : Type 0 where
   pub more : List Left
   pub grows : left' ≡ left ++ more
+  pub counts : AreCounted tries more s s'
   pub fact : s'.stores_added ≡ s.stores_added → Fact
+  pub told : s'.stores_added ≡ s.stores_added → All (IsTrueOf s.store) more
   pub plain : IsTrue s.plain → All (PlainLeaves s.store) left → All (PlainLeaves s.store) left'
 
--- these are the rows of the walk of the shelf from its first record, or the first of them
+-- these are the rows of the walk, and its end is noted; or they are the first of them, and the others were left out
+abbrev pub AreRowsOf : Shelf → List Left → List Row → List Row → WalkEnd → Type 0
+AreRowsOf shelf left rows walk end = ((rows ≡ walk) × EndIsNoted shelf left end)
+    ⊎ ((rows ≡ take (length rows) walk) × Any (LacksRecords shelf) left)
+
+-- so of the walk of the shelf from its first record
 abbrev pub AreWalk : Shelf → List Left → Store → List Row → Type 0
 AreWalk shelf left store rows = (walk : List Row) (end : WalkEnd)
     → IsWalk (rows_of shelf store) First walk → EndsBy (rows_of shelf store) First walk end
-    → (rows ≡ walk) ⊎ ((rows ≡ take (length rows) walk) × Any (LacksRecords shelf) left)
+    → AreRowsOf shelf left rows walk end
 
 -- the rows that came, by why there are no more: all of the walk, or the first ones
 abbrev pub CameOf : List Row → WalkEnd → List Row → Option Ended → Type 0
@@ -38,11 +66,12 @@ PlainEnds (Some (Missing n)) = Unit {0}
 PlainEnds (Some ended) = ⊥
 
 -- a shelf was read: where no store is added, along its walk
-pub record Walks (shelf : Shelf) (s s' : Seen) (rows : List Row) (ended : Option Ended) : Type 0 where
+pub record Walks (shelf : Shelf) (tries : ℕ) (s s' : Seen) (rows : List Row) (ended : Option Ended) : Type 0 where
   pub along : s'.stores_added ≡ s.stores_added → (walk : List Row) (end : WalkEnd)
       → IsWalk (rows_of shelf s.store) First walk → EndsBy (rows_of shelf s.store) First walk end
       → CameOf walk end rows ended
   pub plain : IsTrue s.plain → PlainEnds ended
+  pub counts : AreCounted tries (map (Left.Records shelf) (option_to_list ended)) s s'
 
 -- ---- what is put into the image
 
@@ -55,15 +84,17 @@ abbrev pub HasInventory : ℕ → Option (List ℕ) → Store → Store → Type
 HasInventory id None old new = new ≡ old
 HasInventory id (Some bytes) old new = new ≡ with_inventory id bytes old
 
--- the reading of each marked sensor is the store's, or was left out
-abbrev pub HasReadings : List Bool → List Left → Store → Store → Type 0
-HasReadings marks left image store = (key : ℕ × ℕ) → IsSensorKey key
-    → slice_index_or marks (sensor_place key) false ≡ true → ReadingOrLeft left image store key
+-- the reading of each marked sensor is the store's, or was left out, and there is none that is not the store's
+pub record HasReadings (marks : List Bool) (left : List Left) (image store : Store) : Type 0 where
+  pub named : (key : ℕ × ℕ) → IsSensorKey key
+      → slice_index_or marks (sensor_place key) false ≡ true → ReadingOrLeft left image store key
+  pub own : OwnReadings image store
 
--- and so is the inventory of device 0, and of each marked device but FFh, which is none
-abbrev pub HasInventories : List Bool → List Left → Store → Store → Type 0
-HasInventories marks left image store = (id : ℕ) → id < 255
-    → IsTrue ((id == 0) || slice_index_or marks id false) → InventoryOrLeft left image store id
+-- and so it is with the inventory of device 0, and of each marked device but FFh, which is none
+pub record HasInventories (marks : List Bool) (left : List Left) (image store : Store) : Type 0 where
+  pub named : (id : ℕ) → id < 255 → IsTrue ((id == 0) || slice_index_or marks id false)
+      → InventoryOrLeft left image store id
+  pub own : OwnInventories image store
 
 -- over a plain controller the reading of an inventory does not end so
 abbrev pub IsNotPlain : FruEnded → Type 0

@@ -1,10 +1,10 @@
 //! Captures a controller: reads all that it holds into an image.
 ghost use Rattle.std.specs.Prelude.{◌≡◌, ◌+◌, ◌<◌, ◌≤◌, All, IfOk, IsTrue, None, OnOk, []};
 ghost use Rattle.std.specs.List.{list_all};
-ghost use Rattle.ipmi_capture.specs.Below.{AsksAtMost, info_of, IsHonest, IsPlain, rows_of, StaysHonest, with_info, with_rows};
+ghost use Rattle.ipmi_capture.specs.Below.{AsksAtMost, info_of, IsHonest, IsPlain, rows_of, StaysHonest, Store, with_info, with_rows};
 ghost use Rattle.ipmi_capture.specs.Capture.{IsCaptureBut, IsCaptureOf};
-ghost use Rattle.ipmi_capture.specs.Left.{LacksInfo, leaves_nothing, leaves_whole, PlainLeaves, SameOrLeft};
-ghost use Rattle.ipmi_capture.specs.Phases.{AreWalk, Captures, most_calls, most_on_shelf};
+ghost use Rattle.ipmi_capture.specs.Left.{AreCounted, IsLeftOut, IsTrueOf, LacksInfo, leaves_nothing, leaves_whole, PlainLeaves, SameOrLeft};
+ghost use Rattle.ipmi_capture.specs.Phases.{Adds, AreWalk, Captures, most_calls, most_on_shelf};
 
 use crate::inventories::capture_inventories;
 use crate::left::{Left, is_whole, note};
@@ -31,7 +31,8 @@ pub struct Captured {
     pub image: Image,
     /// What did not come, and why.
     pub left: Vec<Left>,
-    /// Whether all came that the controller did not refuse to tell. A connection that is lost refuses all that is asked after it.
+    /// Whether all came but infos, readings and sizes that the controller refused to tell, and inventories without bytes. A
+    /// connection that is lost refuses all that is asked after it: `RawController::lost` of `ipmi_raw` says so.
     pub is_whole: bool,
 }
 
@@ -48,10 +49,11 @@ fn note_shelf<C: Controller, P: Progress>(
     requires fits { asking.part < 255 }
     requires none { rows_of shelf image.old ≡ [] }
     ensures beside { image.new ≡ with_rows shelf (rows_of shelf image.new) image.old }
+    ensures lacks { OnOk result (Adds (λ l. (i : Store) → IsLeftOut i l) left.old.items left.new.items) }
     ensures calls { (C.seen ctl.new).calls ≤ (C.seen ctl.old).calls + most_on_shelf shelf asking.tries }
     ensures asked { AsksAtMost asking.part (C.seen ctl.old) (C.seen ctl.new) }
     ensures stays { IsHonest (C.seen ctl.old) → StaysHonest (C.seen ctl.old) (C.seen ctl.new) }
-    ensures honest { IsHonest (C.seen ctl.old) → OnOk result (Captures (C.seen ctl.old) (C.seen ctl.new)
+    ensures honest { IsHonest (C.seen ctl.old) → OnOk result (Captures asking.tries (C.seen ctl.old) (C.seen ctl.new)
         left.old.items left.new.items (AreWalk shelf left.new.items (C.seen ctl.old).store (rows_of shelf image.new))) }
 {
     match capture_shelf(asking, ctl, shelf, image, progress) {
@@ -71,10 +73,12 @@ fn note_info<C: Controller>(
 ) -> Result<(), AllocError>
     requires none { info_of shelf image.old ≡ None }
     ensures beside { image.new ≡ with_info shelf (info_of shelf image.new) image.old }
+    ensures lacks { OnOk result (Adds (λ l. LacksInfo shelf l × (info_of shelf image.new ≡ None))
+        left.old.items left.new.items) }
     ensures calls { (C.seen ctl.new).calls ≤ (C.seen ctl.old).calls + (asking.tries + 1) }
     ensures asked { AsksAtMost asking.part (C.seen ctl.old) (C.seen ctl.new) }
     ensures stays { IsHonest (C.seen ctl.old) → StaysHonest (C.seen ctl.old) (C.seen ctl.new) }
-    ensures honest { IsHonest (C.seen ctl.old) → OnOk result (Captures (C.seen ctl.old) (C.seen ctl.new)
+    ensures honest { IsHonest (C.seen ctl.old) → OnOk result (Captures asking.tries (C.seen ctl.old) (C.seen ctl.new)
         left.old.items left.new.items (SameOrLeft (LacksInfo shelf) left.new.items (info_of shelf image.new) (info_of shelf (C.seen ctl.old).store))) }
 {
     let lacks = capture_info(asking, ctl, shelf, image);
@@ -85,9 +89,12 @@ fn note_info<C: Controller>(
 /// sensors and the inventories of the devices that records name, each once, and the inventory of device 0. It asks for at most
 /// `part` bytes at once, and lets each thing meet `tries` troubles; after a refusal it goes on with what is next.
 ///
-/// Of a controller that is honest, and adds no store meanwhile, the image has each thing as it is there, unless just that was
-/// left out: where nothing was, it is a capture. Over a plain controller nothing is left out but an inventory without bytes. Where
-/// stores are added, each record is one that the controller had when it came: `Cursor::step` says so.
+/// What is left out is not in the image, over any controller. Of each thing left out as given up an honest controller counted
+/// one trouble more than the tries, of each refused one a refusal. Of a controller that is honest, and adds no store meanwhile,
+/// the image has each thing as it is there, unless just that was left out, and nothing else. How each walk ends is noted, unless
+/// it is done, and an end that is noted is so, and an inventory that is called empty. Where nothing was left out, it is a capture.
+/// Over a plain controller nothing is left out but an inventory without bytes. Where stores are added, `Cursor::step` says of each
+/// record that it lends that the controller had it then; that the image has just these records is only tested.
 pub fn capture<C: Controller, P: Progress>(
     alloc: Global,
     ctl: &mut C,
@@ -99,8 +106,11 @@ pub fn capture<C: Controller, P: Progress>(
     requires fits { part < 255 }
     ensures calls { (C.seen ctl.new).calls ≤ (C.seen ctl.old).calls + most_calls tries }
     ensures asked { AsksAtMost part (C.seen ctl.old) (C.seen ctl.new) }
+    ensures lacks { IfOk result (λ c. All (IsLeftOut c.image) c.left.items) }
     ensures whole { IfOk result (λ c. c.is_whole ≡ list_all leaves_whole c.left.items) }
     ensures stays { IsHonest (C.seen ctl.old) → StaysHonest (C.seen ctl.old) (C.seen ctl.new) }
+    ensures counts { IsHonest (C.seen ctl.old) →
+        IfOk result (λ c. AreCounted tries c.left.items (C.seen ctl.old) (C.seen ctl.new)) }
     ensures honest { IsHonest (C.seen ctl.old) →
         (C.seen ctl.new).stores_added ≡ (C.seen ctl.old).stores_added →
         IfOk result (λ c. IsCaptureBut c.left.items c.image (C.seen ctl.old).store) }
@@ -108,6 +118,9 @@ pub fn capture<C: Controller, P: Progress>(
         (C.seen ctl.new).stores_added ≡ (C.seen ctl.old).stores_added →
         IfOk result (λ c. IsTrue (list_all leaves_nothing c.left.items) →
         IsCaptureOf c.image (C.seen ctl.old).store) }
+    ensures told { IsHonest (C.seen ctl.old) →
+        (C.seen ctl.new).stores_added ≡ (C.seen ctl.old).stores_added →
+        IfOk result (λ c. All (IsTrueOf (C.seen ctl.old).store) c.left.items) }
     ensures plain { IsPlain (C.seen ctl.old) →
         IfOk result (λ c. All (PlainLeaves (C.seen ctl.old).store) c.left.items) }
 {

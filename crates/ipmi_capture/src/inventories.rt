@@ -1,10 +1,12 @@
 //! Reads inventories of FRU devices into an image.
-ghost use Rattle.std.specs.Prelude.{◌≡◌, ◌≢◌, ◌+◌, ◌*◌, ◌<◌, ◌≤◌, IfOk, MatchOption, OnErr, OnOk, [], None, false};
+ghost use Rattle.std.specs.Prelude.{◌≡◌, ◌≢◌, ◌+◌, ◌*◌, ◌<◌, ◌≤◌, IfOk, IfSome, MatchOption, OnErr, OnOk, [], None, Some, false};
 ghost use Rattle.std.specs.Option.{option_to_list};
 ghost use Rattle.ipmi_capture.specs.Below.{AsksAtMost, FruEnded, inventory_of, IsHonest, not_present, StaysHonest};
 ghost use Rattle.ipmi_capture.specs.Capture.{InventoryOrLeft};
-ghost use Rattle.ipmi_capture.specs.Left.{LacksInventory};
-ghost use Rattle.ipmi_capture.specs.Phases.{Captures, IsNotPlain, HasInventories, HasInventory, most_for_inventory};
+ghost use Rattle.ipmi_capture.specs.Left.{AreCounted, LacksInventory, unread_in};
+ghost use Rattle.ipmi_capture.specs.declared.left.Left.{Left};
+ghost use Rattle.ipmi_capture.specs.declared.left.Unread.{Unread};
+ghost use Rattle.ipmi_capture.specs.Phases.{Adds, Captures, IsNotPlain, IsUnkept, HasInventories, HasInventory, most_for_inventory};
 
 use crate::capturing::Asking;
 use crate::left::{Left, note};
@@ -23,8 +25,9 @@ fn left_by_refusal<C: Controller>(ctl: &mut C, id: u8, code: Code) -> Option<Lef
     ensures calls { (C.seen ctl.new).calls ≤ (C.seen ctl.old).calls + 1 }
     ensures asked { AsksAtMost 0 (C.seen ctl.old) (C.seen ctl.new) }
     ensures stays { IsHonest (C.seen ctl.old) → StaysHonest (C.seen ctl.old) (C.seen ctl.new) }
+    ensures counts { IsHonest (C.seen ctl.old) → AreCounted 0 [] (C.seen ctl.old) (C.seen ctl.new) }
     ensures left { MatchOption result (code ≡ not_present) (λ left.
-        LacksInventory id left × (code ≢ not_present)) }
+        LacksInventory id left × (code ≢ not_present) × (unread_in left ≡ Some (Unread.Refused code))) }
 {
     if code == Code::NOT_PRESENT {
         return None;
@@ -40,8 +43,9 @@ fn left_by<C: Controller>(ctl: &mut C, id: u8, ended: FruEnded) -> Result<Option
     ensures calls { (C.seen ctl.new).calls ≤ (C.seen ctl.old).calls + 1 }
     ensures asked { AsksAtMost 0 (C.seen ctl.old) (C.seen ctl.new) }
     ensures stays { IsHonest (C.seen ctl.old) → StaysHonest (C.seen ctl.old) (C.seen ctl.new) }
+    ensures counts { IsHonest (C.seen ctl.old) → AreCounted 0 [] (C.seen ctl.old) (C.seen ctl.new) }
     ensures left { IfOk result (λ o. MatchOption o (ended ≡ FruEnded.Refused not_present)
-        (λ left. LacksInventory id left × IsNotPlain ended)) }
+        (λ left. LacksInventory id left × IsNotPlain ended × (unread_in left ≡ unread_in (Left.Inventory id ended)))) }
 {
     match ended {
         FruEnded::Memory => Err(AllocError),
@@ -64,10 +68,12 @@ fn capture_inventory<C: Controller, P: Progress>(
     requires none { inventory_of id image.old ≡ None }
     ensures image { OnOk result (HasInventory id (inventory_of id image.new) image.old image.new) }
     ensures err { OnErr result (image.new ≡ image.old) }
+    ensures lacks { IfOk result (λ o. IfSome o (λ left.
+        LacksInventory id left × (inventory_of id image.new ≡ None))) }
     ensures calls { (C.seen ctl.new).calls ≤ (C.seen ctl.old).calls + most_for_inventory asking.tries }
     ensures asked { AsksAtMost asking.part (C.seen ctl.old) (C.seen ctl.new) }
     ensures stays { IsHonest (C.seen ctl.old) → StaysHonest (C.seen ctl.old) (C.seen ctl.new) }
-    ensures honest { IsHonest (C.seen ctl.old) → IfOk result (λ left. Captures (C.seen ctl.old) (C.seen ctl.new) []
+    ensures honest { IsHonest (C.seen ctl.old) → IfOk result (λ left. Captures asking.tries (C.seen ctl.old) (C.seen ctl.new) []
         (option_to_list left) (InventoryOrLeft (option_to_list left) image.new (C.seen ctl.old).store id)) }
 {
     match read_fru(asking.alloc, ctl, id, asking.part, asking.tries) {
@@ -96,10 +102,11 @@ pub(crate) fn capture_inventories<C: Controller, P: Progress>(
     requires fits { asking.part < 255 }
     requires none { image.old.inventories ≡ [] }
     ensures beside { image.new ≡ record image.old { inventories = image.new.inventories } }
+    ensures lacks { OnOk result (Adds (IsUnkept image.new) left.old.items left.new.items) }
     ensures calls { (C.seen ctl.new).calls ≤ (C.seen ctl.old).calls + 255 * most_for_inventory asking.tries }
     ensures asked { AsksAtMost asking.part (C.seen ctl.old) (C.seen ctl.new) }
     ensures stays { IsHonest (C.seen ctl.old) → StaysHonest (C.seen ctl.old) (C.seen ctl.new) }
-    ensures honest { IsHonest (C.seen ctl.old) → OnOk result (Captures (C.seen ctl.old) (C.seen ctl.new)
+    ensures honest { IsHonest (C.seen ctl.old) → OnOk result (Captures asking.tries (C.seen ctl.old) (C.seen ctl.new)
         left.old.items left.new.items (HasInventories named.now.devices.items left.new.items image.new (C.seen ctl.old).store)) }
 {
     'devices: for id in 0..NO_DEVICE {

@@ -1,24 +1,36 @@
 //! What of a controller is not in its image.
-ghost use Rattle.std.specs.Prelude.{◌≡◌, ◌++◌, OnOk};
+ghost use Rattle.std.specs.Prelude.{◌≡◌, ◌++◌, OnOk, Some};
 ghost use Rattle.std.specs.Option.{option_to_list};
 ghost use Rattle.std.specs.List.{list_all};
-ghost use Rattle.ipmi_capture.specs.Left.{leaves_whole, unread_of};
+ghost use Rattle.ipmi_capture.specs.Left.{fru_ended_text, leaves_whole, left_text, shelf_text, unread_of, unread_text};
 
 use ipmi_bus::{Code, Ended, FruEnded, Shelf};
-use ipmi_text::HexByte;
+use ipmi_output::Failure;
+use ipmi_text::{ByteH, HexByte};
 use std::alloc::AllocError;
 use std::fmt;
-use thiserror::Error;
 
 /// Why a reading or an info did not come.
-#[derive(Clone, Copy, Debug, PartialEq, Eq, Error)]
+#[derive(Clone, Copy, Debug, PartialEq, Eq)]
 pub enum Unread {
     /// The controller refused with this code.
-    #[error("refused with code {code:02X}h", code = .0.0)]
     Refused(Code),
     /// More troubles came than the tries allow.
-    #[error("gave up")]
     GaveUp,
+}
+
+impl fmt::Display for Unread {
+    ghost output = { λ unread. Some (unread_text unread) };
+
+    fn fmt<W: fmt::Write>(&self, f: &mut fmt::Formatter<W>) -> fmt::Result {
+        match self {
+            Unread::Refused(code) => {
+                let code = ByteH(code.0);
+                write!(f, "refused with code {code}")
+            }
+            Unread::GaveUp => f.write_str("gave up"),
+        }
+    }
 }
 
 impl Unread {
@@ -36,7 +48,8 @@ impl Unread {
 /// What of a controller is not in its image, and why. It is displayed as one line, without a line feed.
 #[derive(Clone, Copy, Debug, PartialEq, Eq)]
 pub enum Left {
-    /// The records of the shelf after those that came. At a cycle there are no others: it is only said.
+    /// The records of the shelf after those that came. At a cycle, or at a record that is missing, there are no others: it is only
+    /// said.
     Records(Shelf, Ended),
     /// The info of the shelf.
     Info(Shelf, Unread),
@@ -50,8 +63,28 @@ pub enum Left {
     Inventory(u8, FruEnded),
 }
 
+/// Why an inventory was not read, as a line says it.
+#[derive(Clone, Copy)]
+struct Why(FruEnded);
+
+impl fmt::Display for Why {
+    ghost output = { λ why. Some (fru_ended_text why.0) };
+
+    fn fmt<W: fmt::Write>(&self, f: &mut fmt::Formatter<W>) -> fmt::Result {
+        match self.0 {
+            FruEnded::Memory => f.write_str("out of memory"),
+            FruEnded::Refused(code) => fmt::Display::fmt(&Unread::Refused(code), f),
+            FruEnded::GaveUp => fmt::Display::fmt(&Unread::GaveUp, f),
+            FruEnded::Stalled => f.write_str("stalled"),
+            FruEnded::Words => f.write_str("uses words"),
+        }
+    }
+}
+
 /// The word of a shelf in an image.
-fn shelf_word(shelf: Shelf) -> &'static str {
+fn shelf_word(shelf: Shelf) -> &'static str
+    ensures { result.now ≡ shelf_text shelf }
+{
     match shelf {
         Shelf::Sdr => "sdr",
         Shelf::Sel => "sel",
@@ -59,11 +92,14 @@ fn shelf_word(shelf: Shelf) -> &'static str {
 }
 
 impl fmt::Display for Left {
+    ghost output = { λ left. Some (left_text left) };
+
     fn fmt<W: fmt::Write>(&self, f: &mut fmt::Formatter<W>) -> fmt::Result {
         match self {
             Left::Records(shelf, ended) => {
                 let word = shelf_word(*shelf);
-                write!(f, "{word}: {ended}")
+                let why = Failure::Ended(*ended);
+                write!(f, "{word}: {why}")
             }
             Left::Info(shelf, unread) => {
                 let word = shelf_word(*shelf);
@@ -88,14 +124,15 @@ impl fmt::Display for Left {
             }
             Left::Inventory(id, ended) => {
                 let id = HexByte(*id);
-                write!(f, "fru {id}: {ended}")
+                let why = Why(*ended);
+                write!(f, "fru {id}: {why}")
             }
         }
     }
 }
 
 impl Left {
-    /// Whether an image is whole without it: what the controller refuses to tell is not missed.
+    /// Whether an image is whole without it: an info, a reading or a size that the controller refuses to tell is not missed.
     pub(crate) fn leaves_whole(&self) -> bool
         ensures { result ≡ leaves_whole self.now }
     {

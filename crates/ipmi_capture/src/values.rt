@@ -1,10 +1,10 @@
 //! Reads infos and sensor readings into an image.
-ghost use Rattle.std.specs.Prelude.{◌≡◌, ◌+◌, ◌*◌, ◌<◌, ◌≤◌, IfOk, OnErr, OnOk, [], None, Some};
+ghost use Rattle.std.specs.Prelude.{◌≡◌, ◌+◌, ◌*◌, ◌<◌, ◌≤◌, IfOk, IfSome, OnErr, OnOk, [], None, Some};
 ghost use Rattle.std.specs.Option.{option_to_list};
 ghost use Rattle.ipmi_capture.specs.Below.{AsksAtMost, info_of, IsHonest, StaysHonest, reading_of, with_info};
 ghost use Rattle.ipmi_capture.specs.Capture.{ReadingOrLeft};
-ghost use Rattle.ipmi_capture.specs.Left.{LacksInfo, SameOrLeft};
-ghost use Rattle.ipmi_capture.specs.Phases.{Captures, HasRead, HasReadings};
+ghost use Rattle.ipmi_capture.specs.Left.{LacksInfo, LacksReading, SameOrLeft};
+ghost use Rattle.ipmi_capture.specs.Phases.{Adds, Captures, HasRead, HasReadings, IsUnread};
 
 use crate::capturing::Asking;
 use crate::left::{Left, Unread, note};
@@ -23,10 +23,11 @@ pub(crate) fn capture_info<C: Controller>(
 ) -> Option<Left>
     requires none { info_of shelf image.old ≡ None }
     ensures beside { image.new ≡ with_info shelf (info_of shelf image.new) image.old }
+    ensures lacks { IfSome result (λ left. LacksInfo shelf left × (info_of shelf image.new ≡ None)) }
     ensures calls { (C.seen ctl.new).calls ≤ (C.seen ctl.old).calls + (asking.tries + 1) }
     ensures asked { AsksAtMost asking.part (C.seen ctl.old) (C.seen ctl.new) }
     ensures stays { IsHonest (C.seen ctl.old) → StaysHonest (C.seen ctl.old) (C.seen ctl.new) }
-    ensures honest { IsHonest (C.seen ctl.old) → Captures (C.seen ctl.old) (C.seen ctl.new) []
+    ensures honest { IsHonest (C.seen ctl.old) → Captures asking.tries (C.seen ctl.old) (C.seen ctl.new) []
         (option_to_list result) (SameOrLeft (LacksInfo shelf) (option_to_list result)
         (info_of shelf image.new) (info_of shelf (C.seen ctl.old).store)) }
 {
@@ -53,10 +54,12 @@ fn capture_reading<C: Controller, P: Progress>(
     requires none { reading_of lun number image.old ≡ None }
     ensures image { OnOk result (HasRead lun number (reading_of lun number image.new) image.old image.new) }
     ensures err { OnErr result (image.new ≡ image.old) }
+    ensures lacks { IfOk result (λ o. IfSome o (λ left.
+        LacksReading lun number left × (reading_of lun number image.new ≡ None))) }
     ensures calls { (C.seen ctl.new).calls ≤ (C.seen ctl.old).calls + (asking.tries + 1) }
     ensures asked { AsksAtMost asking.part (C.seen ctl.old) (C.seen ctl.new) }
     ensures stays { IsHonest (C.seen ctl.old) → StaysHonest (C.seen ctl.old) (C.seen ctl.new) }
-    ensures honest { IsHonest (C.seen ctl.old) → IfOk result (λ left. Captures (C.seen ctl.old) (C.seen ctl.new) []
+    ensures honest { IsHonest (C.seen ctl.old) → IfOk result (λ left. Captures asking.tries (C.seen ctl.old) (C.seen ctl.new) []
         (option_to_list left) (ReadingOrLeft (option_to_list left) image.new (C.seen ctl.old).store (lun, number))) }
 {
     match read_reading(ctl, 0, lun, number, asking.tries) {
@@ -88,10 +91,11 @@ pub(crate) fn capture_readings<C: Controller, P: Progress>(
 ) -> Result<(), AllocError>
     requires none { image.old.readings ≡ [] }
     ensures beside { image.new ≡ record image.old { readings = image.new.readings } }
+    ensures lacks { OnOk result (Adds (IsUnread image.new) left.old.items left.new.items) }
     ensures calls { (C.seen ctl.new).calls ≤ (C.seen ctl.old).calls + 1024 * (asking.tries + 1) }
     ensures asked { AsksAtMost asking.part (C.seen ctl.old) (C.seen ctl.new) }
     ensures stays { IsHonest (C.seen ctl.old) → StaysHonest (C.seen ctl.old) (C.seen ctl.new) }
-    ensures honest { IsHonest (C.seen ctl.old) → OnOk result (Captures (C.seen ctl.old) (C.seen ctl.new)
+    ensures honest { IsHonest (C.seen ctl.old) → OnOk result (Captures asking.tries (C.seen ctl.old) (C.seen ctl.new)
         left.old.items left.new.items (HasReadings named.now.sensors.items left.new.items image.new (C.seen ctl.old).store)) }
 {
     'places: for place in 0..SENSOR_PLACES {

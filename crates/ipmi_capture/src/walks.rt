@@ -30,7 +30,7 @@ fn walk_shelf<C: Controller, P: Progress>(
     ensures asked { AsksAtMost asking.part (C.seen ctl.old) (C.seen ctl.new) }
     ensures stays { IsHonest (C.seen ctl.old) → StaysHonest (C.seen ctl.old) (C.seen ctl.new) }
     ensures honest { IsHonest (C.seen ctl.old) → IfOk result (λ ended.
-        Walks shelf (C.seen ctl.old) (C.seen ctl.new) (rows_of shelf image.new) ended) }
+        Walks shelf asking.tries (C.seen ctl.old) (C.seen ctl.new) (rows_of shelf image.new) ended) }
 {
     let mut cursor = Cursor::start(asking.alloc, shelf, None, asking.part, asking.tries)?;
     'records: loop {
@@ -65,7 +65,7 @@ pub(crate) fn capture_shelf<C: Controller, P: Progress>(
     ensures asked { AsksAtMost asking.part (C.seen ctl.old) (C.seen ctl.new) }
     ensures stays { IsHonest (C.seen ctl.old) → StaysHonest (C.seen ctl.old) (C.seen ctl.new) }
     ensures honest { IsHonest (C.seen ctl.old) → IfOk result (λ ended.
-        Walks shelf (C.seen ctl.old) (C.seen ctl.new) (rows_of shelf image.new) ended) }
+        Walks shelf asking.tries (C.seen ctl.old) (C.seen ctl.new) (rows_of shelf image.new) ended) }
 {
     'walks: for _ in 0..TIMES_AGAIN {
         match walk_shelf(asking, ctl, shelf, image, progress) {

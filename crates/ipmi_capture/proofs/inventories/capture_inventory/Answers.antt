@@ -1,4 +1,4 @@
-use Rattle.ipmi_capture.proofs.ReadLemmas.{came_inventory, has_inventory, left_inventory}
+use Rattle.ipmi_capture.proofs.ReadLemmas.{came_inventory, has_inventory, lacks_left, left_inventory}
 use Rattle.ipmi_capture.proofs.inventories.capture_inventory.Goals as goal
 
 pub returns-in_ok-put_inventory-in-Ok-clause-image : goal.returns-in_ok-put_inventory-in-Ok-clause-image
@@ -11,4 +11,9 @@ returns-in_ok-put_inventory-in-Ok-clause-honest g c = λ h.
 
 pub returns-in-Err-clause-honest : goal.returns-in-Err-clause-honest
 returns-in-Err-clause-honest g c = λ h.
-    left_inventory c.args.id c.in-Err.ended c.left_by.result c.args.image.now c.requires.none (c.in-Err.ensures.honest h) (c.left_by.ensures.stays (c.in-Err.ensures.honest h).stays.honest) c.left_by.ensures.left
+    let read = c.in-Err.ensures.honest h in
+    left_inventory c.args.id c.in-Err.ended c.left_by.result c.args.image.now c.requires.none read (c.left_by.ensures.stays read.stays.honest) (c.left_by.ensures.counts read.stays.honest) c.left_by.ensures.left
+
+pub returns-in-Err-clause-lacks : goal.returns-in-Err-clause-lacks
+returns-in-Err-clause-lacks g c =
+    lacks_left c.args.id c.in-Err.ended c.left_by.result c.args.image.now c.requires.none c.left_by.ensures.left
