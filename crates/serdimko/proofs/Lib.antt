@@ -1,3 +1,4 @@
 pub mod AskedLemmas
 pub mod OwnLemmas
 pub mod ProblemLemmas
+pub mod RunLemmas

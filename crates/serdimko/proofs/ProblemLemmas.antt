@@ -3,7 +3,7 @@ use Rattle.std.proofs.Common.{◌≡◌, Bool, List, ℕ, Option, Some, String, 
 use Rattle.std.specs.declared.alloc.Global.{Global}
 use Rattle.ipmi_output.specs.Failure.{Ending, line_text, write_faults}
 use Rattle.serdimko.specs.Problem.{faults_of_problem, lost_problem, problem_of, problem_text, said_of_problem}
-use Rattle.serdimko.specs.declared.problem.Looks.{Looks}
+use Rattle.serdimko.specs.declared.looks.Looks.{Looks}
 use Rattle.serdimko.specs.declared.problem.Problem.{Problem}
 
 pub said_unless_closed : (name : List ℕ) (is_one : Bool) (problem : Problem) → (problem ≡ Problem.Closed → ⊥)

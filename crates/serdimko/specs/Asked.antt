@@ -1,5 +1,7 @@
 -- The commands that this program has beside the specified ones, and the specified command lines that they stand for.
-use Rattle.std.specs.Prelude.{ℕ, ◌&&◌, List, [], ◌∷◌, ◌++◌, codes, drop, map, if◌then◌else◌, bytes_eq}
+use Rattle.std.specs.Prelude.{ℕ, ◌&&◌, Result, Ok, Err, List, [], ◌∷◌, ◌++◌, codes, drop, map, if◌then◌else◌, bytes_eq}
+use Rattle.ipmi_command_line.specs.Command.{CommandState, meaning_of}
+use Rattle.ipmi_command_line.specs.declared.command.UsageFault.{UsageFault}
 use Rattle.ipmi_commands.specs.declared.job.Wording.{Wording}
 use Rattle.serdimko.specs.declared.asked.Kind.{Kind}
 
@@ -12,7 +14,8 @@ abbrev pub kind_of_two : List ℕ → List ℕ → Kind
 kind_of_two a b =
     if bytes_eq a (codes "sel") && bytes_eq b (codes "elist") then Kind.Events
     else (if bytes_eq a (codes "sensor") && bytes_eq b (codes "list") then Kind.Sensors
-    else Kind.Others)
+    else (if bytes_eq a (codes "fru") && bytes_eq b (codes "list") then Kind.Devices
+    else Kind.Others))
 
 -- a third word comes after them
 abbrev pub kind_of_more : List ℕ → List ℕ → Kind
@@ -44,9 +47,27 @@ lines_asked Kind.Events line options words =
     line_of options (codes "sel") (codes "list") (drop 2 words) ∷ []
 lines_asked Kind.Sensors line options words = line_of options (codes "sdr") (codes "list") [] ∷ []
 lines_asked Kind.Names line options words = lines_of_names options (drop 2 words)
+lines_asked Kind.Devices line options words = line_of options (codes "fru") (codes "print") [] ∷ []
 lines_asked Kind.Others line options words = line ∷ []
 
 -- the wording in which they print
 abbrev pub wording_asked : Kind → Wording
 wording_asked Kind.Others = Wording.Codes
 wording_asked _ = Wording.Words
+
+-- ---- their commands
+
+-- a line's command before those of others
+abbrev pub with_command : Result CommandState UsageFault → Result (List CommandState) UsageFault → Result (List CommandState) UsageFault
+with_command (Ok command) (Ok commands) = Ok (command ∷ commands)
+with_command (Ok command) (Err fault) = Err fault
+with_command (Err fault) commands = Err fault
+
+-- the command of each line, or the fault of the first one that is none
+abbrev pub commands_of_lines : List (List (List ℕ)) → Result (List CommandState) UsageFault
+commands_of_lines [] = Ok []
+commands_of_lines (line ∷ lines) = with_command (meaning_of line) (commands_of_lines lines)
+
+-- the commands of a line with these options and words
+abbrev pub commands_asked : List (List ℕ) → List (List ℕ) → List (List ℕ) → Result (List CommandState) UsageFault
+commands_asked line options words = commands_of_lines (lines_asked (kind_of_words words) line options words)

@@ -1,3 +1,4 @@
 pub mod Asked
+pub mod Looks
 pub mod Own
 pub mod Problem

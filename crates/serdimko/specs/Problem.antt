@@ -1,15 +1,23 @@
 -- Why nothing, or not all, was printed of an image: when, in which words, and with which status.
-use Rattle.std.specs.Prelude.{◌≡◌, ℕ, Bool, true, false, List, [], ◌++◌, codes, decimal, Option, Some, None, Result, Ok, Err, String, string_bytes}
+use Rattle.std.specs.Prelude.{◌≡◌, ◌==◌, ◌⊎◌, ℕ, max, ◌∷◌, Bool, true, false, List, [], ◌++◌, codes, decimal, Option, Some, None, Result, Ok, Err, String, string_bytes, unwrap_or, Vec}
 use Rattle.std.specs.declared.alloc.Global.{Global}
 use Rattle.ipmi_bus.specs.declared.inventory_reader.FruEnded.{FruEnded}
 use Rattle.ipmi_bus.specs.declared.step.Ended.{Ended}
+use Rattle.ipmi_command_line.specs.Command.{CommandState}
 use Rattle.ipmi_image.specs.declared.image.ImageFault.{ImageFault}
 use Rattle.ipmi_output.specs.Failure.{Ending, escaped_name, failure_text, fault_line, fault_words, line_text, status_of_failure, write_faults}
 use Rattle.ipmi_output.specs.Received.{Received, ReceivesText}
+use Rattle.std.specs.declared.io.traits.Write.{Ghosts}
+use Rattle.ipmi_output.specs.declared.sink.Written.{Written}
 use Rattle.ipmi_output.specs.declared.failure.Failure.{Failure}
 use Rattle.ipmi_program.specs.Input.{input_fault_words}
+use Rattle.ipmi_commands.specs.Prelude.{AnswersJob, job_of_command_in}
+use Rattle.ipmi_commands.specs.declared.job.Wording.{Wording}
+use Rattle.ipmi_image.specs.Image.{store_of_image}
+use Rattle.ipmi_program.specs.Printing.{EndsBy, IsHandedOn}
 use Rattle.ipmi_program.specs.declared.input.InputFault.{InputFault}
-use Rattle.serdimko.specs.declared.problem.Looks.{Looks}
+use Rattle.serdimko.specs.Looks.{explanation}
+use Rattle.serdimko.specs.declared.looks.Looks.{Looks}
 use Rattle.serdimko.specs.declared.problem.Problem.{Problem}
 
 -- ---- when
@@ -42,54 +50,6 @@ lost_problem (Some said) (Some (Problem.Failed (Failure.Inventory id (FruEnded.R
 lost_problem said problem = problem
 
 -- ---- words
-
--- what is known of input that does not begin as an image
-abbrev pub header_words : Looks → List ℕ
-header_words Looks.Empty = codes " (it is empty)"
-header_words Looks.Compressed = codes " (compressed: unpack it first)"
-header_words Looks.ByteOrderMark = codes " (begins with a byte order mark: save it without)"
-header_words Looks.Wide = codes " (is UTF-16 or UTF-32: save it as UTF-8)"
-header_words Looks.CrLf = codes " (line ends are CR LF: use LF alone)"
-header_words _ =
-    codes " (the first line has to be exactly 'ipmi-image 1' or 'ipmi-image 2', ended by a line feed)"
-
--- what would be a line in place of one that is none
-abbrev pub line_words : Looks → List ℕ
-line_words Looks.CrLf = codes " (it ends with CR LF: use LF alone)"
-line_words Looks.Dash = codes " (NEXT is a dash: the first line has to be 'ipmi-image 2')"
-line_words Looks.Record =
-    codes " (sdr and sel take ID NEXT HEX: four digits, four digits, bytes; single spaces)"
-line_words Looks.Inventory = codes " (fru takes ID HEX: two digits, bytes; single spaces)"
-line_words Looks.Reading =
-    codes " (reading takes LUN NUM HEX: one digit, two digits, bytes; single spaces)"
-line_words Looks.Info = codes " (info takes sdr HEX or sel HEX: bytes; single spaces)"
-line_words Looks.End = codes " (end stands alone)"
-line_words _ = codes " (it begins with none of sdr, sel, fru, reading, info and end)"
-
--- what is wrong with the digits of a line
-abbrev pub digit_words : Looks → List ℕ
-digit_words Looks.CrLf = codes " (it ends with CR LF: use LF alone)"
-digit_words Looks.Odd = codes " (an odd number of digits)"
-digit_words _ = codes " (a character is no hex digit)"
-
--- what a fault of an image means, given what the image looks like there
-abbrev pub explanation : ImageFault → Looks → List ℕ
-explanation ImageFault.Header looks = header_words looks
-explanation (ImageFault.Line line) looks = line_words looks
-explanation (ImageFault.Hex line) looks = digit_words looks
-explanation (ImageFault.Id line) looks =
-    codes " (not allowed: FFFF, FRU FF, 0000 after the first record, a LUN above 3)"
-explanation (ImageFault.Twice line) looks =
-    codes " (an earlier line has this record id, this reading's LUN and number, or this info)"
-explanation (ImageFault.Length line) looks =
-    codes " (bytes: sel 16, info 14, reading 4; sdr 5 and as many more as its fifth byte says)"
-explanation (ImageFault.FirstId line) looks =
-    codes " (the first record's bytes have to begin with its own id, low byte first: id 0001 as 0100)"
-explanation (ImageFault.AfterEnd line) looks = codes " (the line 'end' has to be the last)"
-explanation (ImageFault.TooMany line) looks = codes " (an inventory has at most 65,535)"
-explanation ImageFault.NoEnd looks =
-    codes " (the file is cut off, or its last line is not 'end' with a line feed)"
-explanation ImageFault.Memory looks = []
 
 -- what is wrong with an image: on a line, or as a whole
 abbrev pub image_problem : List ℕ → Option ℕ → List ℕ → List ℕ
@@ -151,6 +111,18 @@ Prints Leaves Idle (Ok image) problem =
     (ending : Ending) × (looks : Looks) × (faulty : Bool) × (closed : Bool) × Leaves image ending
     × (problem ≡ problem_of ending looks faulty closed)
 
+-- what the sink of a writer took
+abbrev pub taken_of : {W : Type 0} {write : Ghosts W} → Written W write → List ℕ
+taken_of {write = write} out = unwrap_or (write.contents out.begun.value) [] ++ out.history.taken
+
+-- what a command prints of it, where `taken` is what the output took and `held` what it still holds
+abbrev pub PrintsInput : {S : Type 0} → (S → List ℕ) → (S → List ℕ) → Wording → Result (Vec ℕ Global) InputFault
+    → CommandState → S → S → Option Problem → Type 0
+PrintsInput taken held wording input command old new problem =
+    Prints (λ image ending. EndsBy (λ done. AnswersJob (job_of_command_in wording command)
+    (store_of_image image.items) (taken old) (taken new) done) ending × IsHandedOn (held new) ending)
+    (new ≡ old) input problem
+
 -- what `Leaves` tells of how the run over a controller ended; what a tool said is told only where the connection was lost
 abbrev pub PrintsLive : (Ending → Type 0) → Option (List ℕ) → Option Problem → Type 0
 PrintsLive Leaves lost problem =
@@ -161,3 +133,32 @@ PrintsLive Leaves lost problem =
 abbrev pub Tells : List ℕ → Bool → Option Problem → Received → Received → ℕ → Type 0
 Tells name is_one problem said said' status =
     (status ≡ status_of_problem problem) × ReceivesText said said' (said_of_problem name is_one problem)
+
+-- ---- several commands, one after another
+
+-- another command may do better over the same input
+abbrev pub goes_on : Option Problem → Bool
+goes_on None = true
+goes_on (Some (Problem.Failed failure)) = status_of_failure failure == 1
+goes_on (Some Problem.Faulty) = true
+goes_on problem = false
+
+-- more can be printed
+abbrev pub has_room : Option Problem → Bool
+has_room (Some Problem.Closed) = false
+has_room (Some (Problem.Failed Failure.WriteFault)) = false
+has_room problem = true
+
+-- Each command is run, as `Runs` says by the state before and after it, and its problem is told, as `Told` says, one after the
+-- other, to the first problem that is not the command's own. The status is the highest.
+abbrev pub RunsEach : {S : Type 0} → (CommandState → S → S → Option Problem → Type 0)
+    → (Option Problem → Received → Received → ℕ → Type 0) → List CommandState
+    → S → S → Received → Received → ℕ × Bool → Type 0
+RunsEach Runs Told [] old new said said' result =
+    (new ≡ old) × (said' ≡ said) × (result ≡ (0, true))
+RunsEach {S = S} Runs Told (command ∷ commands) old new said said'' result =
+    (now : S) × (problem : Option Problem) × (said' : Received) × (status : ℕ)
+    × Runs command old now problem × Told problem said said' status
+    × (((goes_on problem ≡ true) × ((rest : ℕ × Bool)
+    × RunsEach Runs Told commands now new said' said'' rest × (result ≡ (max status rest.0, rest.1))))
+    ⊎ ((goes_on problem ≡ false) × (new ≡ now) × (said'' ≡ said') × (result ≡ (status, has_room problem))))

@@ -1,6 +1,8 @@
 //! The commands that this program has beside the specified ones, and the specified command lines that they stand for.
-ghost use Rattle.std.specs.Prelude.{◌≡◌, ◌<◌, ◌++◌, ◌∷◌, [], All, drop, IfOk, length, OnOk};
-ghost use Rattle.serdimko.specs.Asked.{kind_of_more, kind_of_one, kind_of_two, kind_of_words, line_of, lines_asked, lines_of_names, wording_asked};
+ghost use Rattle.std.specs.Prelude.{◌≡◌, ◌<◌, ◌++◌, ◌∷◌, ◌⊎◌, [], All, codes, drop, Err, IfOk, length, MatchResult, Ok, OnOk};
+ghost use Rattle.ipmi_command_line.specs.Command.{meaning_of};
+ghost use Rattle.ipmi_command_line.specs.declared.command.UsageFault.{UsageFault};
+ghost use Rattle.serdimko.specs.Asked.{commands_asked, commands_of_lines, kind_of_more, kind_of_one, kind_of_two, kind_of_words, line_of, lines_asked, lines_of_names, wording_asked};
 
 use crate::scan::Scan;
 use ipmi_command_line::{Command, UsageFault, Word, Words, command_of};
@@ -16,6 +18,8 @@ enum Kind {
     Sensors,
     /// `sensor get` and names.
     Names,
+    /// `fru list`.
+    Devices,
     /// Any others: those of the specified program, and those of no command.
     Others,
 }
@@ -42,6 +46,7 @@ fn kind_of_two(a: &str, b: &str) -> Kind
     match (a, b) {
         ("sel", "elist") => Kind::Events,
         ("sensor", "list") => Kind::Sensors,
+        ("fru", "list") => Kind::Devices,
         _ => Kind::Others,
     }
 }
@@ -157,6 +162,10 @@ pub(crate) fn asked_of(
             let wording = Wording::Words;
             Ok(Asked { lines, wording })
         }
+        Kind::Devices => {
+            let line = line_of(alloc, options, "fru", "print", &[])?;
+            one_line(alloc, line, Wording::Words)
+        }
         Kind::Others => {
             let mut copy = Words::new(alloc);
             push_all(&mut copy, line.as_slice())?;
@@ -172,9 +181,11 @@ pub(crate) struct Commands {
     pub(crate) wording: Wording,
 }
 
-/// The commands of the lines; the fault of the first one that is none.
+/// The commands of the lines; the fault of the first one that is none. `Memory` may come in place of either.
 fn commands_of_lines(alloc: Global, lines: &[Words]) -> Result<Vec<Command>, UsageFault>
     requires { All (λ line. 0 < length line) lines.now }
+    ensures { MatchResult result (λ commands. commands_of_lines lines.now ≡ Ok commands.items)
+        (λ e. (e ≡ UsageFault.Memory) ⊎ (commands_of_lines lines.now ≡ Err e)) }
 {
     let mut commands = Vec::new(alloc);
     for line in lines {
@@ -184,7 +195,7 @@ fn commands_of_lines(alloc: Global, lines: &[Words]) -> Result<Vec<Command>, Usa
     Ok(commands)
 }
 
-/// The commands that the line asks for, of which the options of this program were taken out.
+/// The commands that the line asks for, of which the options of this program were taken out. `Memory` may come in place of either.
 #[tactic(auto, using(crate::proofs::AskedLemmas::lines_have_words))]
 pub(crate) fn commands_of(
     alloc: Global,
@@ -192,6 +203,9 @@ pub(crate) fn commands_of(
     scanned: &Scan<'_>,
 ) -> Result<Commands, UsageFault>
     requires { 0 < length line.now }
+    ensures all { MatchResult result (λ commands. commands_asked line.now scanned.now.options scanned.now.plain ≡ Ok commands.all.items)
+        (λ e. (e ≡ UsageFault.Memory) ⊎ (commands_asked line.now scanned.now.options scanned.now.plain ≡ Err e)) }
+    ensures wording { IfOk result (λ commands. commands.wording ≡ wording_asked (kind_of_words scanned.now.plain)) }
 {
     let asked = asked_of(alloc, line, &scanned.options, &scanned.plain)?;
     let all = commands_of_lines(alloc, asked.lines.as_slice())?;
@@ -201,7 +215,11 @@ pub(crate) fn commands_of(
 
 /// The command that has nothing but the options, as `capture` takes them.
 #[tactic(auto, using(crate::proofs::AskedLemmas::its_line_has_words))]
-pub(crate) fn command_of_options(alloc: Global, scanned: &Scan<'_>) -> Result<Command, UsageFault> {
+pub(crate) fn command_of_options(alloc: Global, scanned: &Scan<'_>) -> Result<Command, UsageFault>
+    ensures { MatchResult result
+        (λ c. meaning_of (line_of scanned.now.options (codes "sdr") (codes "hex") []) ≡ Ok c)
+        (λ e. (e ≡ UsageFault.Memory) ⊎ (meaning_of (line_of scanned.now.options (codes "sdr") (codes "hex") []) ≡ Err e)) }
+{
     let line = line_of(alloc, &scanned.options, "sdr", "hex", &[])?;
     command_of(alloc, &line)
 }

@@ -79,7 +79,7 @@ pub(crate) fn next_of(words: &[&str]) -> Next {
         ["sel", "list" | "elist"] => Next::Count(COUNT),
         ["sel", "list" | "elist", "first" | "last"] => Next::Number(COUNT),
         ["sel", "get"] => Next::Number(ENTRY),
-        ["fru"] => Next::Names(&["print"]),
+        ["fru"] => Next::Names(&["print", "list"]),
         ["fru", "print"] => Next::Number(DEVICE),
         ["image"] => Next::Names(&["rewrite"]),
         _ => Next::Nothing,

@@ -29,6 +29,7 @@ Commands (more on each: serdimko COMMAND --help):
   sel elist ..            the same as sel list .., with names and in words
   sel get ID              all about one event
   fru, fru print [ID]     the inventory of each device, or of one
+  fru list                a line for each device: name, product, part, serial
   capture                 a live controller as an image (serdimko-live)
   image rewrite           the image as version 2, in a fixed order and spelling
   help [COMMAND]          this help, or more on a command
@@ -81,8 +82,10 @@ const SENSOR: &str = "Prints sensors in words.
   sensor get NAME..    a block for each sensor of these names; quote a name with
                        spaces: sensor get 'CPU1 Temp' 'CPU2 Temp'
 
-The thresholds are non-recoverable, critical, non-critical (lower), then
-non-critical, critical, non-recoverable (upper); - where there is none.
+The thresholds are lnr, lcr, lnc, unc, ucr, unr: lower (l) or upper (u), and
+non-recoverable (nr), critical (cr) or non-critical (nc); - where there is none.
+The status is the worst that is passed, as unc; ok: none is, or there is none;
+ns: no reading; na: not a sensor of this controller. sdr list has no l and u.
 --from HEX4 starts at this record id, in the order of the next ids.
 ";
 
@@ -106,6 +109,8 @@ const FRU: &str = "Prints inventories of field replaceable units.
 
   fru print       that of device 0, and of each that a locator names; also fru
   fru print ID    that of one device
+  fru list        a line for each of these devices: id, name, whether it is
+                  present, and the product's name, part number and serial
 
 ID is 0 to 254, decimal, or hex after 0x.
 With --strict the status is 1 if an inventory has a fault or is not present.

@@ -1,15 +1,13 @@
 //! Prints what a command asks for of each image, one after another.
 ghost use Rattle.std.specs.Prelude.{◌≡◌, ◌+◌, Some};
 ghost use Rattle.std.specs.Io.Buffered.{writer_buffer};
-ghost use Rattle.ipmi_commands.specs.Prelude.{AnswersJob, job_of_command_in};
-ghost use Rattle.ipmi_image.specs.Image.{store_of_image};
 ghost use Rattle.ipmi_output.specs.Writer.{writer_of};
-ghost use Rattle.ipmi_program.specs.Printing.{EndsBy, IsHandedOn};
-ghost use Rattle.serdimko.specs.Problem.{faults_of_problem, Prints, Tells};
+ghost use Rattle.serdimko.specs.Problem.{faults_of_problem, PrintsInput, RunsEach, taken_of, Tells};
 
 use crate::asked::Commands;
+use crate::looks::Looks;
 use crate::own::Own;
-use crate::problem::{CLOSED, Looks, Problem};
+use crate::problem::{CLOSED, Problem};
 use crate::watch::Watch;
 use ipmi_command_line::{Command, Word};
 use ipmi_commands::Wording;
@@ -45,11 +43,8 @@ fn print_input<'a, W: Write + Drop>(
 ) -> Option<Problem<'a>>
     ensures faults { ⟦<Written<BufWriter<Watch<W>>> as Sink>⟧.faults out.new ≡
         ⟦<Written<BufWriter<Watch<W>>> as Sink>⟧.faults out.old + faults_of_problem result }
-    ensures prints { Prints (λ image ending. EndsBy (λ done. AnswersJob (job_of_command_in wording command.now)
-        (store_of_image image.items) (⟦<Written<BufWriter<Watch<W>>> as Sink>⟧.taken out.old)
-        (⟦<Written<BufWriter<Watch<W>>> as Sink>⟧.taken out.new) done) ending
-        × IsHandedOn (writer_buffer (writer_of out.new)) ending)
-        (out.new ≡ out.old) input.now result }
+    ensures prints { PrintsInput taken_of (λ o. writer_buffer (writer_of o))
+        wording input.now command.now out.old out.new result }
 {
     let image = match input {
         Ok(image) => image,
@@ -110,19 +105,17 @@ fn print_each<W: Write + Drop, E: MessageSink>(
     is_one: bool,
     out: &mut Output<W>,
     err: &mut E,
-) -> (u8, bool) {
+) -> (u8, bool)
+    ensures { RunsEach (PrintsInput taken_of (λ o. writer_buffer (writer_of o))
+        commands.now.wording input.now) (Tells name.now is_one) commands.now.all.items
+        out.old out.new (E.received err.old) (E.received err.new) result }
+{
     let mut highest = 0;
     for command in &commands.all {
         let problem = print_input(alloc, command, commands.wording, input, out);
         highest = highest.max(say_problem(&problem, name, is_one, err));
-        if problem
-            .as_ref()
-            .is_some_and(|problem| !problem.is_of_command())
-        {
-            return (
-                highest,
-                !problem.as_ref().is_some_and(|problem| problem.is_last()),
-            );
+        if !Problem::goes_on(&problem) {
+            return (highest, Problem::has_room(&problem));
         }
     }
     (highest, true)

@@ -10,7 +10,8 @@ ghost use Rattle.serdimko.specs.Problem.{faults_of_problem, PrintsLive};
 
 use crate::asked::Commands;
 use crate::images::{Output, say_problem};
-use crate::problem::{Looks, Problem};
+use crate::looks::Looks;
+use crate::problem::Problem;
 use ipmi_command_line::Command;
 use ipmi_commands::Wording;
 use ipmi_output::{MessageSink, Sink};
@@ -153,10 +154,7 @@ pub(crate) fn print_live_controller<
     for command in &commands.all {
         let problem = print_over(rt.alloc(), command, commands.wording, &mut controller, out);
         highest = highest.max(say_problem(&problem, "the controller", true, err));
-        if problem
-            .as_ref()
-            .is_some_and(|problem| !problem.is_of_command())
-        {
+        if !Problem::goes_on(&problem) {
             break;
         }
     }

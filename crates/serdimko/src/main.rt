@@ -10,6 +10,7 @@ mod grammar;
 mod help;
 mod images;
 mod live;
+mod looks;
 mod mistake;
 mod own;
 mod problem;

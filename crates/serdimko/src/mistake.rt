@@ -60,7 +60,7 @@ pub(crate) fn no_value_of<'a>(
     value: &'a str,
 ) -> Result<Line<'a>, AllocError> {
     let rule = Text(rule_of(option));
-    line(
+    let mut parts = line(
         alloc,
         &[
             Name(option),
@@ -69,7 +69,14 @@ pub(crate) fn no_value_of<'a>(
             Text("' is not "),
             rule,
         ],
-    )
+    )?;
+    match value.strip_prefix("0x") {
+        Some(digits) if option == "--from" && is_taken(alloc, &[option], digits)? => {
+            push_all(&mut parts, &[Text(": write "), Name(digits)])?;
+        }
+        _ => {}
+    }
+    Ok(parts)
 }
 
 /// Whether the specified command line takes this word after those.
@@ -228,9 +235,39 @@ fn push_advice<'a>(
     if let Some(hint) = hint(scanned, before, word) {
         return push_all(parts, &[Text(hint)]);
     }
-    match nearest(alloc, word, names)? {
+    if let Some(command) = skipped(alloc, before, word)? {
+        let advice = [
+            Text("did you mean '"),
+            Text(command),
+            Name(word),
+            Text("'?"),
+        ];
+        return push_all(parts, &advice);
+    }
+    // a command of ipmitool that is not here, and no mistyped `get`
+    let near = if word == "set" {
+        None
+    } else {
+        nearest(alloc, word, names)?
+    };
+    match near {
         Some(name) => push_all(parts, &[Text("did you mean '"), Text(name), Text("'?")]),
         None => push_choice(parts, names),
+    }
+}
+
+/// The words of which the last one is left out before a number.
+fn skipped(alloc: Global, before: &[&str], word: &str) -> Result<Option<&'static str>, AllocError> {
+    let (words, command) = match before {
+        ["sel"] => (["sel", "list"], "sel list "),
+        ["fru"] => (["fru", "print"], "fru print "),
+        _ => return Ok(None),
+    };
+    match next_of(&words) {
+        Next::Number(number) | Next::Count(number) if is_number(alloc, number, word)? => {
+            Ok(Some(command))
+        }
+        _ => Ok(None),
     }
 }
 
@@ -279,9 +316,21 @@ pub(crate) fn too_many<'a>(
         alloc,
         &[Text("unexpected word '"), Name(word), Text("' after '")],
     )?;
-    push_joined(&mut parts, words.get(..place).unwrap_or(&[]))?;
+    let before = words.get(..place).unwrap_or(&[]);
+    push_joined(&mut parts, before)?;
     parts.push(Text("'"))?;
+    parts.push(Text(instead_after(before)))?;
     Ok(parts)
+}
+
+/// What is meant by a word after these, if it is known.
+fn instead_after(words: &[&str]) -> &'static str {
+    match words {
+        ["sensor", "list"] => ": one sensor is 'sensor get NAME'",
+        ["sel", "get", _] | ["fru", "print", _] => ": it takes one ID",
+        ["sel", "list" | "elist", _] => ": for the oldest or newest events use first N or last N",
+        _ => "",
+    }
 }
 
 /// A name of several words, or several names: those that have a space were quoted.

@@ -1,8 +1,9 @@
 //! Why nothing, or not all, was printed of an image: its line and its exit status.
 ghost use Rattle.std.specs.Prelude.{◌≡◌, Some, true};
 ghost use Rattle.ipmi_output.specs.Failure.{joined_parts, part_text};
-ghost use Rattle.serdimko.specs.Problem.{digit_words, explanation, header_words, line_words, lost_problem, named_text, problem_of, problem_text, status_of_problem, unread};
+ghost use Rattle.serdimko.specs.Problem.{goes_on, has_room, lost_problem, named_text, problem_of, problem_text, status_of_problem, unread};
 
+use crate::looks::{Looks, explanation};
 use ipmi_bus::{Ended, FruEnded};
 use ipmi_image::ImageFault;
 use ipmi_output::Part::{self, Name, Number, Text};
@@ -23,120 +24,6 @@ const FAULTY: u8 = 1;
 
 /// The exit status where the output was closed: what shells say of a program that SIGPIPE ends, as `cat` is.
 pub(crate) const CLOSED: u8 = 141;
-
-/// What input that is no image looks like at its beginning, or at the line that is at fault.
-#[derive(Clone, Copy, PartialEq, Eq)]
-pub(crate) enum Looks {
-    /// There is no byte.
-    Empty,
-    /// It is compressed.
-    Compressed,
-    /// It begins with a byte order mark.
-    ByteOrderMark,
-    /// It begins as UTF-16 or UTF-32.
-    Wide,
-    /// The line ends with CR LF.
-    CrLf,
-    /// The line has a dash for NEXT, and is one of version 1.
-    Dash,
-    /// The line has the first word of a record.
-    Record,
-    /// The line has the first word of an inventory.
-    Inventory,
-    /// The line has the first word of a reading.
-    Reading,
-    /// The line has the first word of an info.
-    Info,
-    /// The line has more than the word `end`.
-    End,
-    /// The line has an odd number of digits.
-    Odd,
-    /// Like nothing that is known here.
-    Unknown,
-}
-
-/// How compressed files begin: those of gzip, xz, zstd, bzip2, zip, lz4 and compress.
-const COMPRESSED: [&[u8]; 7] = [
-    b"\x1f\x8b",
-    b"\xfd7zXZ\0",
-    b"\x28\xb5\x2f\xfd",
-    b"BZh",
-    b"PK\x03\x04",
-    b"\x04\x22\x4d\x18",
-    b"\x1f\x9d",
-];
-
-impl Looks {
-    /// What these bytes, which have this fault, look like.
-    pub(crate) fn of(bytes: &[u8], fault: ImageFault) -> Looks {
-        match fault {
-            ImageFault::Header => Looks::of_beginning(bytes),
-            ImageFault::Line(line) => {
-                Looks::of_line(line_at(bytes, line), bytes.starts_with(b"ipmi-image 1"))
-            }
-            ImageFault::Hex(line) => Looks::of_digits(line_at(bytes, line)),
-            _ => Looks::Unknown,
-        }
-    }
-
-    /// What bytes that do not begin as an image look like.
-    fn of_beginning(bytes: &[u8]) -> Looks {
-        if bytes.is_empty() {
-            Looks::Empty
-        } else if COMPRESSED.iter().any(|start| bytes.starts_with(start)) {
-            Looks::Compressed
-        } else if bytes.starts_with(b"\xef\xbb\xbf") {
-            Looks::ByteOrderMark
-        } else if bytes.starts_with(b"\xff\xfe") || bytes.starts_with(b"\xfe\xff") {
-            Looks::Wide
-        } else if bytes.starts_with(b"ipmi-image 1\r\n") || bytes.starts_with(b"ipmi-image 2\r\n") {
-            Looks::CrLf
-        } else {
-            Looks::Unknown
-        }
-    }
-
-    /// What a line that is none looks like.
-    fn of_line(line: &str, is_first_version: bool) -> Looks {
-        if line.ends_with('\r') {
-            return Looks::CrLf;
-        }
-        let (word, fields) = line.split_once(' ').unwrap_or((line, ""));
-        match word {
-            "sdr" | "sel" if is_first_version && fields.split(' ').nth(1) == Some("-") => {
-                Looks::Dash
-            }
-            "sdr" | "sel" => Looks::Record,
-            "fru" => Looks::Inventory,
-            "reading" => Looks::Reading,
-            "info" => Looks::Info,
-            "end" => Looks::End,
-            _ => Looks::Unknown,
-        }
-    }
-
-    /// What a line whose digits are at fault looks like.
-    fn of_digits(line: &str) -> Looks {
-        if line.ends_with('\r') {
-            return Looks::CrLf;
-        }
-        let (_, digits) = line.rsplit_once(' ').unwrap_or(("", line));
-        let is_hex = digits.bytes().all(|byte| byte.is_ascii_hexdigit());
-        if is_hex && digits.len() % 2 == 1 {
-            return Looks::Odd;
-        }
-        Looks::Unknown
-    }
-}
-
-/// The line with this number, counted from 1; empty if it is no text.
-fn line_at(bytes: &[u8], line: usize) -> &str {
-    let line = bytes
-        .split(|byte| *byte == b'\n')
-        .nth(line.saturating_sub(1));
-    line.and_then(|line| str::from_utf8(line).ok())
-        .unwrap_or("")
-}
 
 /// Why nothing, or not all, was printed of an image.
 #[derive(Drop)]
@@ -216,18 +103,25 @@ impl<'a> Problem<'a> {
         }
     }
 
-    /// Whether another command may do better over the same input.
-    pub(crate) fn is_of_command(&self) -> bool {
-        match self {
-            Problem::Failed(failure) => failure.status() == INCOMPLETE,
-            Problem::Faulty => true,
-            _ => false,
+    /// Whether another command may do better over the same input, if this one had a problem.
+    pub(crate) fn goes_on(problem: &Option<Problem<'_>>) -> bool
+        ensures { result ≡ goes_on problem.now }
+    {
+        match problem {
+            None | Some(Problem::Faulty) => true,
+            Some(Problem::Failed(failure)) => failure.status() == INCOMPLETE,
+            Some(_) => false,
         }
     }
 
-    /// Whether nothing more can be printed.
-    pub(crate) fn is_last(&self) -> bool {
-        matches!(self, Problem::Closed | Problem::Failed(Failure::WriteFault))
+    /// Whether more can be printed.
+    pub(crate) fn has_room(problem: &Option<Problem<'_>>) -> bool
+        ensures { result ≡ has_room problem.now }
+    {
+        !matches!(
+            problem,
+            Some(Problem::Closed | Problem::Failed(Failure::WriteFault))
+        )
     }
 
     /// The parts of its line. With several inputs every one names its input, otherwise only what is said about the input itself.
@@ -269,82 +163,6 @@ impl<'a> Problem<'a> {
                 of_run(text, name, is_one)
             }
         }
-    }
-}
-
-/// What is known of bytes that do not begin as an image.
-fn header_words(looks: Looks) -> &'static str
-    ensures { result.now ≡ header_words looks }
-{
-    match looks {
-        Looks::Empty => " (it is empty)",
-        Looks::Compressed => " (compressed: unpack it first)",
-        Looks::ByteOrderMark => " (begins with a byte order mark: save it without)",
-        Looks::Wide => " (is UTF-16 or UTF-32: save it as UTF-8)",
-        Looks::CrLf => " (line ends are CR LF: use LF alone)",
-        _ => {
-            " (the first line has to be exactly 'ipmi-image 1' or 'ipmi-image 2', ended by a line feed)"
-        }
-    }
-}
-
-/// What would be a line in place of one that is none.
-fn line_words(looks: Looks) -> &'static str
-    ensures { result.now ≡ line_words looks }
-{
-    match looks {
-        Looks::CrLf => " (it ends with CR LF: use LF alone)",
-        Looks::Dash => " (NEXT is a dash: the first line has to be 'ipmi-image 2')",
-        Looks::Record => {
-            " (sdr and sel take ID NEXT HEX: four digits, four digits, bytes; single spaces)"
-        }
-        Looks::Inventory => " (fru takes ID HEX: two digits, bytes; single spaces)",
-        Looks::Reading => {
-            " (reading takes LUN NUM HEX: one digit, two digits, bytes; single spaces)"
-        }
-        Looks::Info => " (info takes sdr HEX or sel HEX: bytes; single spaces)",
-        Looks::End => " (end stands alone)",
-        _ => " (it begins with none of sdr, sel, fru, reading, info and end)",
-    }
-}
-
-/// What is wrong with the digits of a line.
-fn digit_words(looks: Looks) -> &'static str
-    ensures { result.now ≡ digit_words looks }
-{
-    match looks {
-        Looks::CrLf => " (it ends with CR LF: use LF alone)",
-        Looks::Odd => " (an odd number of digits)",
-        _ => " (a character is no hex digit)",
-    }
-}
-
-/// What a fault of an image means, given what the image looks like there.
-fn explanation(fault: ImageFault, looks: Looks) -> &'static str
-    ensures { result.now ≡ explanation fault looks }
-{
-    match fault {
-        ImageFault::Header => header_words(looks),
-        ImageFault::Line(_) => line_words(looks),
-        ImageFault::Hex(_) => digit_words(looks),
-        ImageFault::Id(_) => {
-            " (not allowed: FFFF, FRU FF, 0000 after the first record, a LUN above 3)"
-        }
-        ImageFault::Twice(_) => {
-            " (an earlier line has this record id, this reading's LUN and number, or this info)"
-        }
-        ImageFault::Length(_) => {
-            " (bytes: sel 16, info 14, reading 4; sdr 5 and as many more as its fifth byte says)"
-        }
-        ImageFault::FirstId(_) => {
-            " (the first record's bytes have to begin with its own id, low byte first: id 0001 as 0100)"
-        }
-        ImageFault::AfterEnd(_) => " (the line 'end' has to be the last)",
-        ImageFault::TooMany(_) => " (an inventory has at most 65,535)",
-        ImageFault::NoEnd => {
-            " (the file is cut off, or its last line is not 'end' with a line feed)"
-        }
-        ImageFault::Memory => "",
     }
 }
 

@@ -31,7 +31,10 @@ const VALUED: [&str; 7] = [
 const FLAGS: [&str; 6] = ["--strict", "--quiet", "--help", "--version", "-h", "-V"];
 
 /// Those by which `ipmitool` is told where a controller is, which `serdimko-live` gives it.
-const OF_TOOL: [&str; 6] = ["-I", "-H", "-U", "-P", "-E", "-L"];
+const OF_TOOL: [&str; 4] = ["-E", "-p", "-f", "-t"];
+
+/// And those whose value may follow at once.
+const OF_TOOL_WITH_VALUE: [&str; 6] = ["-I", "-H", "-U", "-P", "-L", "-N"];
 
 /// The specified options, and the words that belong to none.
 #[derive(Drop)]
@@ -126,16 +129,30 @@ impl<'a> Scan<'a> {
             }
             _ => {}
         }
-        let (before, name, after) = match nearest(alloc, word, &OPTIONS)? {
-            Some(option) => ("did you mean '", option, "'?"),
-            None if OF_TOOL.contains(&word) => {
+        let near = nearest(alloc, word, &OPTIONS)?;
+        let tool = option_of_tool(word);
+        let (before, name, after) = match (near, tool) {
+            (Some(option), _) => ("did you mean '", option, "'?"),
+            (None, Some("-P")) => {
                 (
-                    "for a live machine write serdimko-live ",
-                    word,
+                    "for a live machine put the password in IPMI_PASSWORD, and write serdimko-live ",
+                    "-E",
                     " .. -- COMMAND",
                 )
             }
-            None => ("see serdimko --help", "", ""),
+            (None, Some(option)) => {
+                (
+                    "for a live machine write serdimko-live ",
+                    option,
+                    " .. -- COMMAND",
+                )
+            }
+            (None, None) => ("see serdimko --help", "", ""),
+        };
+        // a password is not shown
+        let word = match (near, tool) {
+            (None, Some("-P")) => "-P",
+            _ => word,
         };
         let (before, after) = (Text(before), Text(after));
         let parts = [
@@ -170,6 +187,13 @@ impl<'a> Scan<'a> {
         self.options.push(word)?;
         self.take_option(alloc, word)
     }
+}
+
+/// The option of `ipmitool` that the word is, or begins with.
+fn option_of_tool(word: &str) -> Option<&'static str> {
+    let alone = OF_TOOL.iter().copied().find(|option| *option == word);
+    let mut valued = OF_TOOL_WITH_VALUE.iter().copied();
+    alone.or_else(|| valued.find(|option| word.starts_with(*option)))
 }
 
 /// Whether the word begins as a number below zero.

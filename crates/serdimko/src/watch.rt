@@ -5,7 +5,7 @@ use ipmi_fru::{AreaFault, FruFault, MultiFault};
 use std::io::{ErrorKind, Result, Write};
 
 /// How many bytes of a line are kept: more than the longest line with a fault has.
-const KEPT: usize = 40;
+const KEPT: usize = 72;
 
 const HEADER: [FruFault; 3] = [
     FruFault::Short,
@@ -40,8 +40,25 @@ fn tells_of_inventory(part: &str, fault: &str) -> bool {
     }
 }
 
+/// What the line of a device ends with, after its id and its name, which has at most 32 bytes as it is printed. That of a
+/// device which is present ends so only where the name of its product does.
+const DEVICE: [&str; 2] = [" | not present | - | - | -", " | faulty | - | - | -"];
+
+/// Whether it is the line of a device that is not present, or whose inventory has a fault.
+fn tells_of_device(line: &str) -> bool {
+    match line.split_once(" | ") {
+        Some((id, _)) => {
+            id.parse::<u8>().is_ok() && DEVICE.iter().any(|end| line.ends_with(*end))
+        }
+        None => false,
+    }
+}
+
 /// Whether the whole line tells a fault, or that a device is not present.
 fn tells_fault(line: &str) -> bool {
+    if tells_of_device(line) {
+        return true;
+    }
     if let Some((part, fault)) = line.split_once(" fault: ") {
         return tells_of_inventory(part, fault);
     }
@@ -61,7 +78,7 @@ pub(crate) struct Watch<W> {
     len: usize,
     faults: usize,
     is_closed: bool,
-    ghost within: { len ≤ 40 },
+    ghost within: { len ≤ 72 },
 }
 
 impl<W: Write> Watch<W> {
