@@ -1,0 +1,11 @@
+use Rattle.std.proofs.Common.{◌∙◌}
+use Rattle.std.proofs.lemmas.Result.{on_ok_weaker}
+use Rattle.ipmi_json.proofs.SdrLemmas.{full_told}
+use Rattle.ipmi_json.proofs.sdr.write_full.Goals as goal
+
+pub returns : goal.returns
+returns c =
+    let sensor = c.sensor-sensor.ensures in
+    let one = rw sensor at c.in_ok-write_sensor.ensures in
+    let two = rw (c.value_shown-value.ensures, c.shown_of.ensures, c.units.ensures, sensor) at c.in_ok-write_reading.ensures in
+    on_ok_weaker c.write_thresholds.result (λ three. full_told c.args.full.now c.args.reading c.args.status.now _ _ _ one _ two three) c.write_thresholds.ensures

@@ -1,0 +1,104 @@
+-- The object of an inventory (Platform Management FRU Information Storage Definition v1.0). The keys are always there,
+-- and a value never changes its type, but for null.
+use Rattle.std.specs.Prelude.{◌≡◌, ℕ, Option, Some, None, option_map, Result, List, [], ◌∷◌, ◌++◌, length, codes}
+use Rattle.json.specs.Json.{null, string}
+use Rattle.ipmi_text.specs.FieldText.{binary_text}
+use Rattle.ipmi_fru.specs.Prelude.{Area, HasItems, IsFound, MultiRecord, header_fault}
+use Rattle.ipmi_fru.specs.declared.area.AreaFault.{AreaFault}
+use Rattle.ipmi_fru.specs.declared.area.AreaKind.{AreaKind}
+use Rattle.ipmi_fru.specs.declared.header.FruFault.{FruFault}
+use Rattle.ipmi_fru.specs.declared.multirecord.MultiFault.{MultiFault}
+use Rattle.ipmi_json.specs.declared.object.Label.{Label}
+use Rattle.ipmi_json.specs.Areas.{AreAreaMembers}
+use Rattle.ipmi_json.specs.Multirecords.{AreRecordMembers}
+use Rattle.ipmi_json.specs.Object.{integer_or_null, IsLineOf, Pair, text_or_null}
+
+-- the words for faults of the header
+abbrev pub header_fault_word : FruFault → List ℕ
+header_fault_word FruFault.Short = codes "header_short"
+header_fault_word FruFault.HeaderVersion = codes "header_version"
+header_fault_word FruFault.HeaderSum = codes "header_checksum"
+
+-- what is known of a device: its id, if it is this controller's, its name, if there is a locator, its state, and the
+-- fault of its inventory's header
+abbrev pub device_members : Option ℕ → Option (List ℕ) → List ℕ → Option (List ℕ) → List Pair
+device_members id name state fault =
+    (codes "object", string (codes "fru"))
+    ∷ (codes "fru_device_id", integer_or_null id)
+    ∷ (codes "name", text_or_null name)
+    ∷ (codes "state", string state)
+    ∷ (codes "fault", text_or_null fault)
+    ∷ []
+
+-- where there is nothing to read
+abbrev pub no_content : List Pair
+no_content =
+    (codes "chassis", null)
+    ∷ (codes "chassis_fault", null)
+    ∷ (codes "board", null)
+    ∷ (codes "board_fault", null)
+    ∷ (codes "product", null)
+    ∷ (codes "product_fault", null)
+    ∷ (codes "records", null)
+    ∷ (codes "records_fault", null)
+    ∷ []
+
+-- what an inventory has of a kind of area
+pub record AreFoundMembers (kind : AreaKind) (key fault_key bytes : List ℕ)
+    (ms : List Pair) : Type 0 where
+  pub found : Option (Result Area AreaFault)
+  pub is_found : IsFound kind bytes found
+  pub are_members : AreAreaMembers key fault_key found ms
+
+-- the areas and the records
+pub record AreContentMembers (bytes : List ℕ) (ms : List Pair) : Type 0 where
+  pub chassis : List Pair
+  pub board : List Pair
+  pub product : List Pair
+  pub items : List (Result MultiRecord MultiFault)
+  pub records : List Pair
+  pub are_chassis : AreFoundMembers AreaKind.Chassis (codes "chassis") (codes "chassis_fault") bytes chassis
+  pub are_board : AreFoundMembers AreaKind.Board (codes "board") (codes "board_fault") bytes board
+  pub are_product : AreFoundMembers AreaKind.Product (codes "product") (codes "product_fault") bytes product
+  pub are_items : HasItems bytes items
+  pub are_records : AreRecordMembers items records
+  pub are : ms ≡ ((chassis ++ board) ++ product) ++ records
+
+-- the bytes of an inventory, and how many there are
+abbrev pub bytes_members : Option (List ℕ) → List Pair
+bytes_members bytes =
+    (codes "size", integer_or_null (option_map length bytes))
+    ∷ (codes "raw", text_or_null (option_map binary_text bytes))
+    ∷ []
+
+-- a device whose inventory tells nothing
+abbrev pub bare_members : Option ℕ → Option (List ℕ) → List ℕ → Option (List ℕ) → Option (List ℕ)
+    → List Pair
+bare_members id name state fault bytes =
+    (device_members id name state fault ++ no_content) ++ bytes_members bytes
+
+-- a device whose inventory has no fault in its header
+pub record IsReadLine (id : ℕ) (name : Option (List ℕ)) (bytes : List ℕ) (labels : List Label)
+    (text : List ℕ) : Type 0 where
+  pub content : List Pair
+  pub are_content : AreContentMembers bytes content
+  pub is_line : IsLineOf ((device_members (Some id) name (codes "read") None ++ content)
+      ++ bytes_members (Some bytes)) labels text
+
+abbrev pub IsLineByFault : Option FruFault → ℕ → Option (List ℕ) → List ℕ → List Label → List ℕ
+    → Type 0
+IsLineByFault None id name bytes labels text = IsReadLine id name bytes labels text
+IsLineByFault (Some f) id name bytes labels text =
+    IsLineOf (bare_members (Some id) name (codes "faulty") (Some (header_fault_word f)) (Some bytes))
+    labels text
+
+-- the line of a device: it is not present, the header of its inventory has a fault, or it can be read
+abbrev pub IsFruLine : ℕ → Option (List ℕ) → Option (List ℕ) → List Label → List ℕ → Type 0
+IsFruLine id name None labels text =
+    IsLineOf (bare_members (Some id) name (codes "not_present") None None) labels text
+IsFruLine id name (Some bytes) labels text =
+    IsLineByFault (header_fault bytes) id name bytes labels text
+
+-- a device that is reached in another way than through the controller itself
+abbrev pub elsewhere_members : Option (List ℕ) → List Pair
+elsewhere_members name = bare_members None name (codes "elsewhere") None None

@@ -1,0 +1,45 @@
+-- The objects of what a repository or a log tells of itself, and the object at the end of a listing.
+use Rattle.std.specs.Prelude.{ℕ, Option, List, [], ◌∷◌, codes}
+use Rattle.json.specs.Json.{boolean, string}
+use Rattle.ipmi_records.specs.Prelude.{byte_at, has_bit, number_at}
+use Rattle.ipmi_json.specs.declared.object.Label.{Label}
+use Rattle.ipmi_json.specs.Object.{integer, IsLineOf, Pair, text_or_null}
+use Rattle.ipmi_json.specs.Time.{IsIsoTimeOf}
+
+-- ---- infos
+
+-- the answers of Get SDR Repository Info and Get SEL Info (IPMI v2.0, sections 33.9 and 31.2), after their completion
+-- code: 14 bytes, alike in both. Bytes 6 to 9 are the time of the most recent addition, 10 to 13 that of the most recent
+-- erase; bit 7 of byte 14 says that a record was lost for want of room
+abbrev pub info_members : List ℕ → Option (List ℕ) → Option (List ℕ) → List ℕ → List Pair
+info_members name addition erase bytes =
+    (codes "object", string name)
+    ∷ (codes "version", integer (byte_at 1 bytes))
+    ∷ (codes "record_count", integer (number_at 2 2 bytes))
+    ∷ (codes "free_space", integer (number_at 4 2 bytes))
+    ∷ (codes "last_addition", text_or_null addition)
+    ∷ (codes "last_addition_raw", integer (number_at 6 4 bytes))
+    ∷ (codes "last_erase", text_or_null erase)
+    ∷ (codes "last_erase_raw", integer (number_at 10 4 bytes))
+    ∷ (codes "overflow", boolean (has_bit 7 (byte_at 14 bytes)))
+    ∷ (codes "operation_support", integer (byte_at 14 bytes))
+    ∷ []
+
+-- the line of an info, by the name of its object
+pub record IsInfoLine (name bytes : List ℕ) (labels : List Label) (text : List ℕ) : Type 0 where
+  pub addition : Option (List ℕ)
+  pub erase : Option (List ℕ)
+  pub is_addition : IsIsoTimeOf (number_at 6 4 bytes) addition
+  pub is_erase : IsIsoTimeOf (number_at 10 4 bytes) erase
+  pub is_line : IsLineOf (info_members name addition erase bytes) labels text
+
+-- ---- the end
+
+-- how a run ended: its status, its message, if there is one, and how many objects came before
+abbrev pub end_members : ℕ → Option (List ℕ) → ℕ → List Pair
+end_members status message count =
+    (codes "object", string (codes "end"))
+    ∷ (codes "status", integer status)
+    ∷ (codes "message", text_or_null message)
+    ∷ (codes "count", integer count)
+    ∷ []

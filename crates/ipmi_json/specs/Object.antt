@@ -1,0 +1,137 @@
+-- A JSON object as a list of its members, and the line that it is written as: RFC 8259 with no space, in UTF-8.
+use Rattle.std.specs.Prelude.{◌≡◌, ℕ, ◌≤◌, ℤ, Option, Some, None, List, [], ◌∷◌, ◌++◌, codes, decimal, flat_map, map, string_bytes}
+use Rattle.std.specs.Borrow.{Bor}
+use Rattle.json.specs.Json.{Json, Items, Members, array, boolean, document, item, member, no_items, no_members, null, number, object, string}
+use Rattle.json.specs.Print.{print}
+use Rattle.json.specs.Token.{Token, begin_object, key}
+use Rattle.json.specs.Tree.{depth, items_depth, json_tokens, members_depth}
+use Rattle.json.specs.Written.{Written}
+use Rattle.ipmi_text.specs.Decimal.{IsDecimalOf}
+use Rattle.ipmi_json.specs.declared.object.Value.{Value}
+use Rattle.ipmi_json.specs.declared.object.Label.{Label}
+
+-- ---- arrays and objects
+
+abbrev pub items_in : List Json → Items
+items_in [] = no_items
+items_in (j ∷ js) = item j (items_in js)
+
+abbrev pub array_in : List Json → Json
+array_in js = array (items_in js)
+
+-- a key and its value
+abbrev pub Pair : Type 0
+Pair = List ℕ × Json
+
+abbrev pub members_in : List Pair → Members
+members_in [] = no_members
+members_in (m ∷ ms) = member m.0 m.1 (members_in ms)
+
+abbrev pub object_in : List Pair → Json
+object_in ms = object (members_in ms)
+
+-- the text is that of a value and a line feed, and the grammar of RFC 8259 reads what comes before the line feed as that
+-- value
+pub record IsLineOfJson (j : Json) (text : List ℕ) : Type 0 where
+  pub line_is : text ≡ print (json_tokens j) ++ codes "\n"
+  pub reads_back : document (print (json_tokens j)) ≡ Some j
+
+-- ---- values
+
+abbrev pub integer : ℕ → Json
+integer n = number (decimal n)
+
+abbrev pub integer_or_null : Option ℕ → Json
+integer_or_null None = null
+integer_or_null (Some n) = integer n
+
+abbrev pub text_or_null : Option (List ℕ) → Json
+text_or_null None = null
+text_or_null (Some text) = string text
+
+-- an empty text says as much as none
+abbrev pub text_unless_empty : List ℕ → Json
+text_unless_empty [] = null
+text_unless_empty (c ∷ text) = string (c ∷ text)
+
+abbrev pub texts : List (List ℕ) → Json
+texts ts = array_in (map string ts)
+
+-- a number that counts units of 10^-16, as its exact decimal
+abbrev pub IsDecimalOrNull : Option ℤ → Json → Type 0
+IsDecimalOrNull None j = j ≡ null
+IsDecimalOrNull (Some value) j = (text : List ℕ) × (IsDecimalOf value text × (j ≡ number text))
+
+-- ---- members as the code has them
+
+abbrev pub json_of : Value → Json
+json_of Value.Null = null
+json_of (Value.Bool b) = boolean b
+json_of (Value.Integer n) = integer n
+json_of (Value.Word text) = string text.now
+json_of (Value.Decimal number_text) = number (string_bytes number_text.text)
+json_of (Value.Text text) = string (string_bytes text)
+json_of (Value.Texts list) = texts (map (λ text. string_bytes text) list.items)
+
+-- a member as it is seen
+abbrev pub pair_of : Bor (List ℕ) × Value → Pair
+pair_of m = (m.0.now, json_of m.1)
+
+abbrev pub pairs_of : List (Bor (List ℕ) × Value) → List Pair
+pairs_of ms = map pair_of ms
+
+-- a label as a member
+abbrev pub pair_of_label : Label → Pair
+pair_of_label label = (label.key.now, string label.value.now)
+
+abbrev pub labels_of : List Label → List Pair
+labels_of labels = map pair_of_label labels
+
+-- the line of the object with these members, and after them those of the labels
+abbrev pub IsLineOf : List Pair → List Label → List ℕ → Type 0
+IsLineOf ms labels text = IsLineOfJson (object_in (ms ++ labels_of labels)) text
+
+-- ---- what is written
+
+-- the tokens of members, with no bracket
+abbrev pub tokens_in : List Pair → List Token
+tokens_in [] = []
+tokens_in (m ∷ ms) = (key m.0 ∷ json_tokens m.1) ++ tokens_in ms
+
+-- arrays and objects nest no deeper than this in the values
+abbrev pub AreWithin : ℕ → List Pair → Type 0
+AreWithin deep ms = members_depth (members_in ms) ≤ deep
+
+-- these members were written
+pub record Adds (deep : ℕ) (ms : List Pair) (old new : Written) : Type 0 where
+  pub before : new.before ≡ old.before
+  pub tokens : new.tokens ≡ old.tokens ++ tokens_in ms
+  pub within : AreWithin deep ms
+
+-- members of which this holds were written
+pub record AddsSome (deep : ℕ) (Are : List Pair → Type 0) (old new : Written) : Type 0 where
+  pub ms : List Pair
+  pub are : Are ms
+  pub adds : Adds deep ms old new
+
+-- a value of which this holds was written
+pub record AddsValue (deep : ℕ) (Is : Json → Type 0) (old new : Written) : Type 0 where
+  pub value : Json
+  pub is : Is value
+  pub before : new.before ≡ old.before
+  pub tokens : new.tokens ≡ old.tokens ++ json_tokens value
+  pub within : depth value ≤ deep
+
+-- the items of an array, of which this holds, were written
+pub record AddsItems (deep : ℕ) (Are : List Json → Type 0) (old new : Written) : Type 0 where
+  pub items : List Json
+  pub are : Are items
+  pub before : new.before ≡ old.before
+  pub tokens : new.tokens ≡ old.tokens ++ flat_map json_tokens items
+  pub within : items_depth (items_in items) ≤ deep
+
+-- an object was begun, and these members were written
+pub record IsOpen (ms : List Pair) (out : Written) : Type 0 where
+  pub before : out.before ≡ []
+  pub tokens : out.tokens ≡ begin_object ∷ tokens_in ms
+  pub within : AreWithin 3 ms

@@ -1,0 +1,214 @@
+-- The object of a sensor data record with its reading. The keys of each kind are always there, and a value never
+-- changes its type, but for null.
+use Rattle.std.specs.Prelude.{◌≡◌, ℕ, ◌/◌, ◌%◌, ℤ, ◌&&◌, if◌then◌else◌, Option, Some, None, List, [], ◌∷◌, ◌++◌, codes, slice_get}
+use Rattle.json.specs.Json.{Json, boolean, string}
+use Rattle.ipmi_text.specs.FieldText.{binary_text}
+use Rattle.ipmi_text.specs.ReadingValue.{reading_value}
+use Rattle.ipmi_text.specs.SensorTypes.{sensor_type_text_of}
+use Rattle.ipmi_text.specs.Units.{unit_text_of}
+use Rattle.ipmi_text.specs.declared.reading.Reading.{Reading}
+use Rattle.ipmi_text.specs.declared.units.Units.{Units}
+use Rattle.ipmi_records.specs.Prelude.{byte_at, event_only_sensor, factors_in, has_bit, has_thresholds, is_readable, locator_in, name_of, record_bytes, record_type, sensor_in, shown_of, states_of, status_of, threshold_in, units_in}
+use Rattle.ipmi_records.specs.declared.column.Shown.{Shown}
+use Rattle.ipmi_records.specs.declared.entity.Entity.{Entity}
+use Rattle.ipmi_records.specs.declared.locator.Locator.{Locator}
+use Rattle.ipmi_records.specs.declared.sdr.SdrFault.{SdrFault}
+use Rattle.ipmi_records.specs.declared.sdr.SdrView.{SdrView}
+use Rattle.ipmi_records.specs.declared.sensor.Sensor.{Sensor}
+use Rattle.ipmi_records.specs.declared.threshold.Threshold.{Threshold}
+use Rattle.ipmi_events.specs.Entities.{entity_words}
+use Rattle.ipmi_events.specs.Status.{status_in_words}
+use Rattle.ipmi_json.specs.declared.object.Label.{Label}
+use Rattle.ipmi_json.specs.Object.{integer, integer_or_null, IsDecimalOrNull, IsLineOf, Pair}
+
+-- ---- every record
+
+abbrev pub kind_word : SdrView → List ℕ
+kind_word (SdrView.Full bytes) = codes "full"
+kind_word (SdrView.Compact bytes) = codes "compact"
+kind_word (SdrView.EventOnly bytes) = codes "event_only"
+kind_word (SdrView.Generic bytes) = codes "generic_locator"
+kind_word (SdrView.Fru bytes) = codes "fru_locator"
+kind_word (SdrView.Controller bytes) = codes "mc_locator"
+kind_word (SdrView.Other bytes) = codes "other"
+
+abbrev pub head_members : ℕ → ℕ → List ℕ → List Pair
+head_members id type kind =
+    (codes "object", string (codes "sdr_record"))
+    ∷ (codes "record_id", integer id)
+    ∷ (codes "record_type", integer type)
+    ∷ (codes "kind", string kind)
+    ∷ []
+
+-- a record of another type has no name
+abbrev pub name_members : Option (List ℕ) → List Pair
+name_members None = []
+name_members (Some name) = (codes "name", string name) ∷ []
+
+abbrev pub raw_members : List ℕ → List Pair
+raw_members bytes = (codes "raw", string (binary_text bytes)) ∷ []
+
+-- ---- sensors
+
+abbrev pub sensor_members : Sensor → List Pair
+sensor_members sensor =
+    (codes "owner_id", integer sensor.owner)
+    ∷ (codes "owner_lun", integer sensor.lun)
+    ∷ (codes "sensor_number", integer sensor.number)
+    ∷ (codes "entity_id", integer sensor.entity.id)
+    ∷ (codes "entity_name", string (entity_words sensor.entity.id))
+    ∷ (codes "entity_instance", integer sensor.entity.instance)
+    ∷ (codes "sensor_type", integer sensor.sensor_type)
+    ∷ (codes "sensor_type_name", string (sensor_type_text_of sensor.sensor_type))
+    ∷ (codes "event_type", integer sensor.event_type)
+    ∷ []
+
+-- ---- readings
+
+-- of a reading that is there: its raw byte, and its states, a bit for each
+abbrev pub raw_shown : Shown → Option ℕ
+raw_shown (Shown.Value reading) = Some reading.raw
+raw_shown _ = None
+
+abbrev pub states_shown : Shown → Option ℕ
+states_shown (Shown.Value reading) = Some (states_of reading)
+states_shown _ = None
+
+-- its value by the bytes of a full record: none where the sensor has no analog reading or is not linear
+abbrev pub value_shown : List ℕ → Shown → Option ℤ
+value_shown bytes (Shown.Value reading) = reading_value (factors_in bytes) reading.raw
+value_shown bytes _ = None
+
+pub record AreReadingMembers (sensor : Sensor) (value : Option ℤ) (units : Units) (shown : Shown)
+    (status : List ℕ) (ms : List Pair) : Type 0 where
+  pub number : Json
+  pub is_number : IsDecimalOrNull value number
+  pub are : ms ≡
+      (codes "reading", number)
+      ∷ (codes "unit", string (unit_text_of units.units1 units.base units.modifier))
+      ∷ (codes "reading_raw", integer_or_null (raw_shown shown))
+      ∷ (codes "states", integer_or_null (states_shown shown))
+      ∷ (codes "status", string status)
+      ∷ (codes "status_words", string (status_in_words sensor shown))
+      ∷ []
+
+-- ---- thresholds
+
+-- the value of a threshold: none where the sensor has no thresholds, where this one can't be read, and where a reading
+-- has no value either
+abbrev pub threshold_value : Threshold → List ℕ → Option ℤ
+threshold_value threshold bytes =
+    if has_thresholds (sensor_in bytes) && is_readable threshold bytes
+    then reading_value (factors_in bytes) (threshold_in threshold bytes)
+    else None
+
+pub record AreThresholdMembers (bytes : List ℕ) (ms : List Pair) : Type 0 where
+  pub upper_non_recoverable : Json
+  pub upper_critical : Json
+  pub upper_non_critical : Json
+  pub lower_non_recoverable : Json
+  pub lower_critical : Json
+  pub lower_non_critical : Json
+  pub is_upper_non_recoverable : IsDecimalOrNull (threshold_value Threshold.UpperNonRecoverable bytes) upper_non_recoverable
+  pub is_upper_critical : IsDecimalOrNull (threshold_value Threshold.UpperCritical bytes) upper_critical
+  pub is_upper_non_critical : IsDecimalOrNull (threshold_value Threshold.UpperNonCritical bytes) upper_non_critical
+  pub is_lower_non_recoverable : IsDecimalOrNull (threshold_value Threshold.LowerNonRecoverable bytes) lower_non_recoverable
+  pub is_lower_critical : IsDecimalOrNull (threshold_value Threshold.LowerCritical bytes) lower_critical
+  pub is_lower_non_critical : IsDecimalOrNull (threshold_value Threshold.LowerNonCritical bytes) lower_non_critical
+  pub are : ms ≡
+      (codes "upper_non_recoverable", upper_non_recoverable)
+      ∷ (codes "upper_critical", upper_critical)
+      ∷ (codes "upper_non_critical", upper_non_critical)
+      ∷ (codes "lower_non_recoverable", lower_non_recoverable)
+      ∷ (codes "lower_critical", lower_critical)
+      ∷ (codes "lower_non_critical", lower_non_critical)
+      ∷ []
+
+-- ---- locators
+
+abbrev pub locator_members : Locator → List Pair
+locator_members locator =
+    (codes "device_address", integer locator.address)
+    ∷ (codes "entity_id", integer locator.entity.id)
+    ∷ (codes "entity_name", string (entity_words locator.entity.id))
+    ∷ (codes "entity_instance", integer locator.entity.instance)
+    ∷ []
+
+abbrev pub fru_members : List ℕ → List Pair
+fru_members bytes =
+    (codes "fru_device_id", integer (byte_at 7 bytes))
+    ∷ (codes "is_logical", boolean (has_bit 7 (byte_at 8 bytes)))
+    ∷ (codes "access_lun", integer (byte_at 8 bytes / 8 % 4))
+    ∷ []
+
+-- ---- records
+
+-- a full record: its sensor, its reading with the status, and its thresholds
+pub record AreFullMembers (bytes : List ℕ) (reading : Option Reading) (status : List ℕ)
+    (ms : List Pair) : Type 0 where
+  pub shown : List Pair
+  pub thresholds : List Pair
+  pub are_shown : AreReadingMembers (sensor_in bytes)
+      (value_shown bytes (shown_of (sensor_in bytes) reading)) (units_in bytes)
+      (shown_of (sensor_in bytes) reading) status shown
+  pub are_thresholds : AreThresholdMembers bytes thresholds
+  pub are : ms ≡ (sensor_members (sensor_in bytes) ++ shown) ++ thresholds
+
+-- a compact record, which tells no way to make a reading a value
+pub record AreCompactMembers (bytes : List ℕ) (reading : Option Reading) (status : List ℕ)
+    (ms : List Pair) : Type 0 where
+  pub shown : List Pair
+  pub are_shown : AreReadingMembers (sensor_in bytes) None (units_in bytes)
+      (shown_of (sensor_in bytes) reading) status shown
+  pub are : ms ≡ sensor_members (sensor_in bytes) ++ shown
+
+-- by the kind of the record; only a full and a compact one have a reading
+abbrev pub AreTold : SdrView → Option Reading → List Pair → Type 0
+AreTold (SdrView.Full bytes) reading ms =
+    AreFullMembers bytes reading (status_of (SdrView.Full bytes) reading) ms
+AreTold (SdrView.Compact bytes) reading ms =
+    AreCompactMembers bytes reading (status_of (SdrView.Compact bytes) reading) ms
+AreTold (SdrView.EventOnly bytes) reading ms = ms ≡ sensor_members (event_only_sensor bytes)
+AreTold (SdrView.Generic bytes) reading ms = ms ≡ locator_members (locator_in bytes)
+AreTold (SdrView.Fru bytes) reading ms =
+    ms ≡ locator_members (locator_in bytes) ++ fru_members bytes
+AreTold (SdrView.Controller bytes) reading ms = ms ≡ locator_members (locator_in bytes)
+AreTold (SdrView.Other bytes) reading ms = ms ≡ []
+
+-- the line of a record under its id
+pub record IsSdrLine (id : ℕ) (view : SdrView) (reading : Option Reading) (labels : List Label)
+    (text : List ℕ) : Type 0 where
+  pub told : List Pair
+  pub are_told : AreTold view reading told
+  pub is_line : IsLineOf (
+      ((head_members id (record_type (record_bytes view)) (kind_word view)
+      ++ name_members (name_of view)) ++ told) ++ raw_members (record_bytes view)) labels text
+
+-- ---- a record that has no view
+
+abbrev pub fault_word : SdrFault → List ℕ
+fault_word SdrFault.Short = codes "short"
+fault_word SdrFault.Length = codes "wrong_length"
+fault_word SdrFault.BodyShort = codes "body_too_short"
+
+-- there may be too few bytes for a record type, the fourth
+abbrev pub fault_members : ℕ → SdrFault → List ℕ → List Pair
+fault_members id fault bytes =
+    (codes "object", string (codes "sdr_record"))
+    ∷ (codes "record_id", integer id)
+    ∷ (codes "record_type", integer_or_null (slice_get bytes 3))
+    ∷ (codes "kind", string (codes "faulty"))
+    ∷ (codes "fault", string (fault_word fault))
+    ∷ (codes "raw", string (binary_text bytes))
+    ∷ []
+
+-- ---- a record as it is
+
+-- with the id of the next one
+abbrev pub bytes_members : ℕ → ℕ → List ℕ → List Pair
+bytes_members id next bytes =
+    (codes "object", string (codes "sdr_raw"))
+    ∷ (codes "record_id", integer id)
+    ∷ (codes "next_record_id", integer next)
+    ∷ (codes "raw", string (binary_text bytes))
+    ∷ []

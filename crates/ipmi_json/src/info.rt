@@ -1,0 +1,89 @@
+//! The objects of infos, and of the end of a listing.
+ghost use Rattle.std.specs.Prelude.{IfOk, codes, option_map};
+ghost use Rattle.ipmi_json.specs.Info.{IsInfoLine, end_members};
+ghost use Rattle.ipmi_json.specs.Object.{IsLineOf};
+
+use crate::object::{Label, Value, copy_or_null, object_line, text_or_null};
+use crate::time::time_text;
+use ipmi_records::Info;
+use std::alloc::{AllocError, Global};
+
+/// The line of an info.
+fn info_line(
+    alloc: Global,
+    name: &'static str,
+    bytes: &[u8; 14],
+    labels: &[Label],
+) -> Result<Vec<u8>, AllocError>
+    ensures { IfOk result (λ line. IsInfoLine name.entry.now bytes.now labels.now line.items) }
+{
+    let info = Info::read(bytes);
+    let addition = time_text(alloc, info.last_addition)?;
+    let erase = time_text(alloc, info.last_erase)?;
+    object_line(
+        alloc,
+        &[
+            ("object", Value::Word(name)),
+            ("version", Value::Integer(u64::from(info.version))),
+            ("record_count", Value::Integer(u64::from(info.record_count))),
+            ("free_space", Value::Integer(u64::from(info.free_space))),
+            ("last_addition", text_or_null(addition)),
+            (
+                "last_addition_raw",
+                Value::Integer(u64::from(info.last_addition)),
+            ),
+            ("last_erase", text_or_null(erase)),
+            ("last_erase_raw", Value::Integer(u64::from(info.last_erase))),
+            ("overflow", Value::Bool(info.overflow)),
+            ("operation_support", Value::Integer(u64::from(info.support))),
+        ],
+        labels,
+    )
+}
+
+/// The line of the answer of Get SDR Repository Info (IPMI v2.0, section 33.9) after its completion code: its object.
+pub fn sdr_info_line(
+    alloc: Global,
+    bytes: &[u8; 14],
+    labels: &[Label],
+) -> Result<Vec<u8>, AllocError>
+    ensures { IfOk result
+        (λ line. IsInfoLine (codes "sdr_info") bytes.now labels.now line.items) }
+{
+    info_line(alloc, "sdr_info", bytes, labels)
+}
+
+/// The line of the answer of Get SEL Info (IPMI v2.0, section 31.2) after its completion code: its object.
+pub fn sel_info_line(
+    alloc: Global,
+    bytes: &[u8; 14],
+    labels: &[Label],
+) -> Result<Vec<u8>, AllocError>
+    ensures { IfOk result
+        (λ line. IsInfoLine (codes "sel_info") bytes.now labels.now line.items) }
+{
+    info_line(alloc, "sel_info", bytes, labels)
+}
+
+/// The last line of a listing: how it ended, and how many objects came before. A listing without it was cut.
+pub fn end_line(
+    alloc: Global,
+    status: u8,
+    message: Option<&str>,
+    count: u64,
+    labels: &[Label],
+) -> Result<Vec<u8>, AllocError>
+    ensures { IfOk result (λ line. IsLineOf (end_members status
+        (option_map (λ text. text.now) message.entry) count) labels.now line.items) }
+{
+    object_line(
+        alloc,
+        &[
+            ("object", Value::Word("end")),
+            ("status", Value::Integer(u64::from(status))),
+            ("message", copy_or_null(alloc, message)?),
+            ("count", Value::Integer(count)),
+        ],
+        labels,
+    )
+}

@@ -1,0 +1,18 @@
+//! Records, entries and inventories as JSON: an object in a line for each.
+#![tactic(auto)]
+
+mod areas;
+mod fru;
+mod info;
+mod multirecords;
+mod number;
+mod object;
+mod sdr;
+mod sel;
+mod time;
+
+pub use fru::{fru_elsewhere_line, fru_line};
+pub use info::{end_line, sdr_info_line, sel_info_line};
+pub use object::Label;
+pub use sdr::{sdr_fault_line, sdr_raw_line, sdr_record_line};
+pub use sel::sel_entry_line;

@@ -1,0 +1,124 @@
+//! Sensor data records.
+use crate::cases::{assert_line, bytes_of};
+use ipmi_json::{sdr_fault_line, sdr_raw_line, sdr_record_line};
+use ipmi_records::{SdrFault, SdrView};
+use ipmi_text::Reading;
+
+/// A full record of a temperature in tenths of a degree. Its upper thresholds, 9.5, 9 and 8.5, can be read.
+pub(crate) const FULL: &str =
+    "010051013320000103017f680101000000003838000100000100000000f00000000000005f5a550000000202000000c84350552054656d70";
+
+pub(crate) const READ_LINE: &str =
+    r#"{"object":"sdr_record","record_id":1,"record_type":1,"kind":"full","name":"CPU Temp","owner_id":32,"owner_lun":0,"sensor_number":1,"entity_id":3,"entity_name":"processor","entity_instance":1,"sensor_type":1,"sensor_type_name":"Temperature","event_type":1,"reading":9.2,"unit":"degrees C","reading_raw":92,"states":24,"status":"cr","status_words":"ucr","upper_non_recoverable":9.5,"upper_critical":9,"upper_non_critical":8.5,"lower_non_recoverable":null,"lower_critical":null,"lower_non_critical":null,"raw":"010051013320000103017f680101000000003838000100000100000000f00000000000005f5a550000000202000000c84350552054656d70"}"#;
+
+const UNREAD_LINE: &str =
+    r#"{"object":"sdr_record","record_id":1,"record_type":1,"kind":"full","name":"CPU Temp","owner_id":32,"owner_lun":0,"sensor_number":1,"entity_id":3,"entity_name":"processor","entity_instance":1,"sensor_type":1,"sensor_type_name":"Temperature","event_type":1,"reading":null,"unit":"degrees C","reading_raw":null,"states":null,"status":"ns","status_words":"ns","upper_non_recoverable":9.5,"upper_critical":9,"upper_non_critical":8.5,"lower_non_recoverable":null,"lower_critical":null,"lower_non_critical":null,"raw":"010051013320000103017f680101000000003838000100000100000000f00000000000005f5a550000000202000000c84350552054656d70"}"#;
+
+/// What the sensor of the full record answers: above the upper critical threshold.
+pub(crate) const HOT: Reading = Reading {
+    raw: 92,
+    flags: 0xc0,
+    status: 0x18,
+    more: 0,
+};
+
+/// A compact record of a discrete sensor, whose state 1 is set.
+const COMPACT: &str = "030051021f200305070100000503000000000000c000000000000000000000c4446f6f72";
+
+const COMPACT_LINE: &str =
+    r#"{"object":"sdr_record","record_id":163,"record_type":2,"kind":"compact","name":"Door","owner_id":32,"owner_lun":3,"sensor_number":5,"entity_id":7,"entity_name":"system board","entity_instance":1,"sensor_type":5,"sensor_type_name":"Physical Security","event_type":3,"reading":null,"unit":"","reading_raw":0,"states":2,"status":"ok","status_words":"ok","raw":"030051021f200305070100000503000000000000c000000000000000000000c4446f6f72"}"#;
+
+const DOOR: Reading = Reading {
+    raw: 0,
+    flags: 0x40,
+    status: 0x02,
+    more: 0x80,
+};
+
+/// Records without a reading, each with its line after `record_id`: an event-only one; a generic locator, whose name has
+/// quotes, a backslash, a control character and letters of Latin-1; a FRU locator; a locator of a controller; and one of
+/// another type.
+const OTHERS: &str =
+    r#"05005103102000302281126f00000000c445565431 "record_type":3,"kind":"event_only","name":"EVT1","owner_id":32,"owner_lun":0,"sensor_number":48,"entity_id":34,"entity_name":"system firmware","entity_instance":1,"sensor_type":18,"sensor_type_name":"System Event","event_type":111,"raw":"05005103102000302281126f00000000c445565431"}
+060051101120a00000000000070200c6225ce901ff20 "record_type":16,"kind":"generic_locator","name":"\"\\é.ÿ ","device_address":32,"entity_id":7,"entity_name":"system board","entity_instance":2,"raw":"060051101120a00000000000070200c6225ce901ff20"}
+020051110f200180000000000a0100c450535531 "record_type":17,"kind":"fru_locator","name":"PSU1","device_address":32,"entity_id":10,"entity_name":"power supply","entity_instance":1,"fru_device_id":1,"is_logical":true,"access_lun":0,"raw":"020051110f200180000000000a0100c450535531"}
+020051110f22a118000000000a0100c450535531 "record_type":17,"kind":"fru_locator","name":"PSU1","device_address":34,"entity_id":10,"entity_name":"power supply","entity_instance":1,"fru_device_id":161,"is_logical":false,"access_lun":3,"raw":"020051110f22a118000000000a0100c450535531"}
+070051120f24000000000000900100c4424d4331 "record_type":18,"kind":"mc_locator","name":"BMC1","device_address":36,"entity_id":144,"entity_name":"entity 0x90","entity_instance":1,"raw":"070051120f24000000000000900100c4424d4331"}
+080051c003570100 "record_type":192,"kind":"other","raw":"080051c003570100"}"#;
+
+const FAULT_LINE: &str =
+    r#"{"object":"sdr_record","record_id":3,"record_type":1,"kind":"faulty","fault":"wrong_length","raw":"03005101ff"}"#;
+
+const SHORT_LINE: &str =
+    r#"{"object":"sdr_record","record_id":65535,"record_type":null,"kind":"faulty","fault":"short","raw":"030051"}"#;
+
+const BODY_LINE: &str =
+    r#"{"object":"sdr_record","record_id":4,"record_type":1,"kind":"faulty","fault":"body_too_short","raw":"0400510100"}"#;
+
+const RAW_LINE: &str =
+    r#"{"object":"sdr_raw","record_id":8,"next_record_id":65535,"raw":"080051c003570100"}"#;
+
+#[test]
+fn sensors(rt: HostRuntime) {
+    let alloc = rt.alloc();
+    let bytes = bytes_of(&rt, alloc, FULL);
+    let view = SdrView::read(&bytes).expect(&rt, "a record");
+    assert_line(
+        &rt,
+        sdr_record_line(alloc, 1, &view, Some(HOT), &[]),
+        READ_LINE,
+    );
+    assert_line(
+        &rt,
+        sdr_record_line(alloc, 1, &view, None, &[]),
+        UNREAD_LINE,
+    );
+    let bytes = bytes_of(&rt, alloc, COMPACT);
+    let view = SdrView::read(&bytes).expect(&rt, "a record");
+    assert_line(
+        &rt,
+        sdr_record_line(alloc, 163, &view, Some(DOOR), &[]),
+        COMPACT_LINE,
+    );
+}
+
+#[test]
+fn records_without_a_reading(rt: HostRuntime) {
+    let alloc = rt.alloc();
+    for line in OTHERS.lines() {
+        let (digits, rest) = line.split_once(' ').expect(&rt, line);
+        let bytes = bytes_of(&rt, alloc, digits);
+        let view = SdrView::read(&bytes).expect(&rt, digits);
+        let wanted = format!(in alloc; "{{\"object\":\"sdr_record\",\"record_id\":7,{rest}");
+        let wanted = wanted.expect(&rt, "memory");
+        assert_line(
+            &rt,
+            sdr_record_line(alloc, 7, &view, None, &[]),
+            wanted.as_str(),
+        );
+    }
+}
+
+#[test]
+fn faults_and_raw_rows(rt: HostRuntime) {
+    let alloc = rt.alloc();
+    let bytes = [0x03, 0x00, 0x51, 0x01, 0xff];
+    assert_line(
+        &rt,
+        sdr_fault_line(alloc, 3, SdrFault::Length, &bytes, &[]),
+        FAULT_LINE,
+    );
+    assert_line(
+        &rt,
+        sdr_fault_line(alloc, 65535, SdrFault::Short, &bytes[..3], &[]),
+        SHORT_LINE,
+    );
+    let bytes = [0x04, 0x00, 0x51, 0x01, 0x00];
+    assert_line(
+        &rt,
+        sdr_fault_line(alloc, 4, SdrFault::BodyShort, &bytes, &[]),
+        BODY_LINE,
+    );
+    let bytes = [0x08, 0x00, 0x51, 0xc0, 0x03, 0x57, 0x01, 0x00];
+    assert_line(&rt, sdr_raw_line(alloc, 8, 65535, &bytes, &[]), RAW_LINE);
+}
