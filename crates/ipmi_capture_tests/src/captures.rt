@@ -1,12 +1,12 @@
-//! Captures of controllers over an image, as the text of what came and as lines of what was left out.
-use ipmi_bus::{Code, Controller, Shelf};
-use ipmi_capture::{Captured, Progress, capture};
+//! Captures of controllers over an image: the text of the captured image, and a line for each thing that is left out.
+use ipmi_bus::{Code, Controller, Ended, FruEnded, Shelf};
+use ipmi_capture::{Captured, Left, Progress, Unread, capture};
 use ipmi_image::{Image, ImageController, Mood, Scripted, image_text};
 use std::alloc::Global;
 use std::process::Abort;
 
-/// A compact sensor, 30h at LUN 0; the locator of FRU device 1; and all else that an image can hold.
-const SAVED: &str = "ipmi-image 2
+/// A compact sensor 30h at LUN 0, a locator of FRU device 1, and one of each other thing that an image can hold.
+pub(crate) const SAVED: &str = "ipmi-image 2
 sdr 0001 - 010051021b2000300000000000000000000000000000000000000000000000c0
 sdr 0002 - 020051110b20018000000000000000c0
 sel 0001 - 01000201000020200004013001595f5a
@@ -18,7 +18,7 @@ info sel 510100000201000000ffffffff00
 end
 ";
 
-/// The same without the reading.
+/// `SAVED` without the reading.
 const WITHOUT_READING: &str = "ipmi-image 2
 sdr 0001 - 010051021b2000300000000000000000000000000000000000000000000000c0
 sdr 0002 - 020051110b20018000000000000000c0
@@ -30,7 +30,7 @@ info sel 510100000201000000ffffffff00
 end
 ";
 
-/// The same without the inventory of device 0.
+/// `SAVED` without the inventory of device 0.
 const WITHOUT_INVENTORY: &str = "ipmi-image 2
 sdr 0001 - 010051021b2000300000000000000000000000000000000000000000000000c0
 sdr 0002 - 020051110b20018000000000000000c0
@@ -42,9 +42,9 @@ info sel 510100000201000000ffffffff00
 end
 ";
 
-/// How many records, readings and inventories came.
-#[derive(Drop)]
-struct Came {
+/// The number of records, readings and inventories that were reported.
+#[derive(Default, Drop)]
+pub(crate) struct Came {
     records: u32,
     readings: u32,
     inventories: u32,
@@ -68,8 +68,8 @@ fn image(rt: &impl Abort, alloc: Global, text: &str) -> Image {
     Image::read(alloc, text.as_bytes()).expect(rt, text)
 }
 
-/// What of the controller is left out, a line for each, and `not whole` where the image is not.
-fn left_of(rt: &impl Abort, alloc: Global, captured: &Captured) -> String {
+/// A line for each thing that is left out, and `not whole` if the image is not.
+fn left_out_text(rt: &impl Abort, alloc: Global, captured: &Captured) -> String {
     let mut text = String::new(alloc);
     for left in captured.left.as_slice() {
         let line = left.to_string(alloc).expect(rt, "memory");
@@ -82,8 +82,8 @@ fn left_of(rt: &impl Abort, alloc: Global, captured: &Captured) -> String {
     text
 }
 
-/// Captures the controller, and compares what came, and what was left out.
-fn is_captured<C: Controller>(
+/// Asserts the captured image, and what is left out.
+fn assert_capture<C: Controller>(
     rt: &impl Abort,
     alloc: Global,
     ctl: &mut C,
@@ -92,24 +92,20 @@ fn is_captured<C: Controller>(
     wanted: &str,
     left: &str,
 ) -> Came {
-    let mut came = Came {
-        records: 0,
-        readings: 0,
-        inventories: 0,
-    };
+    let mut came = Came::default();
     let part = part.clamp(1, 254);
     let captured = capture(alloc, ctl, part, tries, &mut came).expect(rt, "memory");
     let text = image_text(alloc, &captured.image).expect(rt, "memory");
     let got = std::str::from_utf8(&text).expect(rt, wanted);
     assert!(rt; got == wanted, "got {got}");
-    let got = left_of(rt, alloc, &captured);
+    let got = left_out_text(rt, alloc, &captured);
     assert!(rt; got.as_str() == left, "got {got}");
     drop(captured);
     came
 }
 
-/// So many plain moods, and then those that these words are: `busy`, `cancel`, `plain`, `grant` for parts of 3 bytes, `refuse` for C1h, `none` for
-/// CCh, and `change` where the image changes to `WITHOUT_READING`.
+/// As many plain moods, and then the moods of these words: `busy`, `cancel`, `plain`, `grant` for parts of 3 bytes,
+/// `refuse` for C1h, `none` for CCh, and `change` to `WITHOUT_READING`.
 fn moods(rt: &impl Abort, alloc: Global, plain: u8, words: &str) -> Vec<Mood> {
     let mut list = Vec::new(alloc);
     for _ in 0..plain {
@@ -130,17 +126,24 @@ fn moods(rt: &impl Abort, alloc: Global, plain: u8, words: &str) -> Vec<Mood> {
     list
 }
 
-/// Captures a controller over `SAVED` whose calls meet these moods, after so many plain ones.
-fn is_met(rt: &impl Abort, alloc: Global, plain: u8, words: &str, wanted: &str, left: &str) {
+/// Asserts the capture of a controller over `SAVED`. Its calls meet these moods, after `plain` plain ones.
+fn assert_capture_in_moods(
+    rt: &impl Abort,
+    alloc: Global,
+    plain: u8,
+    words: &str,
+    wanted: &str,
+    left: &str,
+) {
     let mut ctl = Scripted::new(image(rt, alloc, SAVED), moods(rt, alloc, plain, words));
-    is_captured(rt, alloc, &mut ctl, 254, 3, wanted, left);
+    assert_capture(rt, alloc, &mut ctl, 254, 3, wanted, left);
     drop(ctl);
 }
 
-/// Captures a plain controller over the image of this text.
-fn is_plainly_captured(rt: &impl Abort, alloc: Global, text: &str, wanted: &str, left: &str) {
+/// Asserts the capture of a plain controller over the image of this text.
+fn assert_plain_capture(rt: &impl Abort, alloc: Global, text: &str, wanted: &str, left: &str) {
     let mut ctl = ImageController::new(image(rt, alloc, text));
-    is_captured(rt, alloc, &mut ctl, 254, 3, wanted, left);
+    assert_capture(rt, alloc, &mut ctl, 254, 3, wanted, left);
     drop(ctl);
 }
 
@@ -148,7 +151,7 @@ fn is_plainly_captured(rt: &impl Abort, alloc: Global, text: &str, wanted: &str,
 fn all_of_a_plain_controller_comes(rt: HostRuntime) {
     let alloc = rt.alloc();
     let mut ctl = ImageController::new(image(&rt, alloc, SAVED));
-    let came = is_captured(&rt, alloc, &mut ctl, 254, 0, SAVED, "");
+    let came = assert_capture(&rt, alloc, &mut ctl, 254, 0, SAVED, "");
     assert!(&rt; came.records == 3 && came.readings == 1 && came.inventories == 2);
     drop(ctl);
 }
@@ -157,14 +160,14 @@ fn all_of_a_plain_controller_comes(rt: HostRuntime) {
 fn all_comes_in_parts_of_one_byte(rt: HostRuntime) {
     let alloc = rt.alloc();
     let mut ctl = ImageController::new(image(&rt, alloc, SAVED));
-    is_captured(&rt, alloc, &mut ctl, 1, 0, SAVED, "");
+    assert_capture(&rt, alloc, &mut ctl, 1, 0, SAVED, "");
     drop(ctl);
 }
 
 #[test]
 fn all_comes_through_troubles(rt: HostRuntime) {
     let alloc = rt.alloc();
-    is_met(
+    assert_capture_in_moods(
         &rt,
         alloc,
         0,
@@ -172,7 +175,7 @@ fn all_comes_through_troubles(rt: HostRuntime) {
         SAVED,
         "",
     );
-    is_met(
+    assert_capture_in_moods(
         &rt,
         alloc,
         5,
@@ -188,7 +191,7 @@ fn all_comes_through_troubles(rt: HostRuntime) {
 #[test]
 fn what_is_refused_leaves_the_image_whole(rt: HostRuntime) {
     let alloc = rt.alloc();
-    is_met(
+    assert_capture_in_moods(
         &rt,
         alloc,
         9,
@@ -196,7 +199,7 @@ fn what_is_refused_leaves_the_image_whole(rt: HostRuntime) {
         WITHOUT_READING,
         "reading 0 30: refused with code C1h\n",
     );
-    is_met(
+    assert_capture_in_moods(
         &rt,
         alloc,
         10,
@@ -210,13 +213,13 @@ fn what_is_refused_leaves_the_image_whole(rt: HostRuntime) {
 fn an_inventory_that_breaks_off_is_missed(rt: HostRuntime) {
     let alloc = rt.alloc();
     let left = "fru 00: refused with code C1h\nnot whole\n";
-    is_met(&rt, alloc, 11, "refuse", WITHOUT_INVENTORY, left);
+    assert_capture_in_moods(&rt, alloc, 11, "refuse", WITHOUT_INVENTORY, left);
 }
 
 #[test]
 fn what_is_given_up_is_missed(rt: HostRuntime) {
     let alloc = rt.alloc();
-    is_met(
+    assert_capture_in_moods(
         &rt,
         alloc,
         9,
@@ -240,12 +243,12 @@ end
 fn after_a_record_that_is_refused_the_rest_comes(rt: HostRuntime) {
     let alloc = rt.alloc();
     let left = "sdr: record 0002h refused with code C1h\nnot whole\n";
-    is_met(&rt, alloc, 3, "refuse", ENTRY_REFUSED, left);
+    assert_capture_in_moods(&rt, alloc, 3, "refuse", ENTRY_REFUSED, left);
 }
 
 #[test]
 fn a_changed_controller_is_read_as_it_is(rt: HostRuntime) {
-    is_met(&rt, rt.alloc(), 3, "change", WITHOUT_READING, "");
+    assert_capture_in_moods(&rt, rt.alloc(), 3, "change", WITHOUT_READING, "");
 }
 
 const LOST: &str = "ipmi-image 2
@@ -262,12 +265,96 @@ end
 #[test]
 fn a_chain_that_breaks_off_is_not_whole_and_one_that_turns_is(rt: HostRuntime) {
     let alloc = rt.alloc();
-    is_plainly_captured(
+    assert_plain_capture(
         &rt,
         alloc,
         LOST,
         LOST,
         "sdr: record 0007h not present\nnot whole\n",
     );
-    is_plainly_captured(&rt, alloc, TURNED, TURNED, "sdr: cycle at 0005h\n");
+    assert_plain_capture(&rt, alloc, TURNED, TURNED, "sdr: cycle at 0005h\n");
+}
+
+#[test]
+fn the_shelf_that_is_given_up_is_missed(rt: HostRuntime) {
+    let left = "sel: gave up at 0000h\nnot whole\n";
+    assert_capture_in_moods(&rt, rt.alloc(), 5, "busy busy busy busy", WITHOUT_SEL, left);
+}
+
+/// `SAVED` without the event log.
+const WITHOUT_SEL: &str = "ipmi-image 2
+sdr 0001 - 010051021b2000300000000000000000000000000000000000000000000000c0
+sdr 0002 - 020051110b20018000000000000000c0
+fru 00 0100
+fru 01 010203
+reading 0 30 2dc00000
+info sdr 510300000401000020ffffffff02
+info sel 510100000201000000ffffffff00
+end
+";
+
+/// Asserts the line of a thing that is left out.
+fn assert_line(rt: &impl Abort, alloc: Global, left: Left, wanted: &str) {
+    let line = left.to_string(alloc).expect(rt, "memory");
+    assert!(rt; line.as_str() == wanted, "got {line}");
+}
+
+#[test]
+fn each_thing_has_its_line(rt: HostRuntime) {
+    let (alloc, code) = (rt.alloc(), Code(0xD4));
+    let sdr = |ended| Left::Records(Shelf::Sdr, ended);
+    assert_line(&rt, alloc, sdr(Ended::Cycle(0)), "sdr: cycle at 0000h");
+    assert_line(
+        &rt,
+        alloc,
+        sdr(Ended::Missing(0x00AB)),
+        "sdr: record 00ABh not present",
+    );
+    assert_line(
+        &rt,
+        alloc,
+        sdr(Ended::Refused(0x1F, code)),
+        "sdr: record 001Fh refused with code D4h",
+    );
+    assert_line(
+        &rt,
+        alloc,
+        sdr(Ended::GaveUp(0xFFFE)),
+        "sdr: gave up at FFFEh",
+    );
+    assert_line(&rt, alloc, sdr(Ended::Stalled(2)), "sdr: stalled at 0002h");
+    assert_line(
+        &rt,
+        alloc,
+        sdr(Ended::Malformed(16)),
+        "sdr: malformed record 0010h",
+    );
+    let left = Left::Info(Shelf::Sel, Unread::Refused(Code(7)));
+    assert_line(&rt, alloc, left, "info sel: refused with code 07h");
+    let left = Left::Info(Shelf::Sdr, Unread::GaveUp);
+    assert_line(&rt, alloc, left, "info sdr: gave up");
+    let left = Left::Reading {
+        lun: 3,
+        number: 0x0A,
+        unread: Unread::Refused(code),
+    };
+    assert_line(&rt, alloc, left, "reading 3 0a: refused with code D4h");
+    assert_line(
+        &rt,
+        alloc,
+        Left::Size(0xFE, code),
+        "fru fe: size refused with code D4h",
+    );
+    assert_line(&rt, alloc, Left::Empty(0), "fru 00: empty");
+    let fru = |ended| Left::Inventory(9, ended);
+    assert_line(
+        &rt,
+        alloc,
+        fru(FruEnded::Refused(code)),
+        "fru 09: refused with code D4h",
+    );
+    assert_line(&rt, alloc, fru(FruEnded::GaveUp), "fru 09: gave up");
+    assert_line(&rt, alloc, fru(FruEnded::Stalled), "fru 09: stalled");
+    assert_line(&rt, alloc, fru(FruEnded::Words), "fru 09: uses words");
+    assert_line(&rt, alloc, fru(FruEnded::Memory), "fru 09: out of memory");
 }

@@ -1,6 +1,8 @@
-//! Tests of ipmi_capture: captures of controllers that answer plainly, and of such as are busy, cancel, refuse, change, or
+//! Tests of ipmi_capture: captures of plain controllers, and of controllers that are busy, cancel, refuse, change, or
 //! give small parts.
 #![tactic(auto)]
 
 #[cfg(test)]
 mod captures;
+#[cfg(test)]
+mod memory;

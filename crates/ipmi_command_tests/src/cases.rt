@@ -1,28 +1,27 @@
-//! How cases are written: parts of a line with bars between them, and a first line before what is wanted. A case that
-//! is not written so fails by its own text.
+//! The parts of a case. A case that lacks one fails, and names itself.
 use std::process::Abort;
 
-/// The parts of a line before and after its first bar.
+/// A line before and after its first bar.
 pub(crate) fn parts<'a>(rt: &impl Abort, line: &'a str) -> (&'a str, &'a str) {
     line.split_once('|').expect(rt, line)
 }
 
-/// The first line of a case, and the other ones.
+/// The first line of a case, and the lines after it.
 pub(crate) fn first_line<'a>(rt: &impl Abort, case: &'a str) -> (&'a str, &'a str) {
     case.split_once('\n').expect(rt, case)
 }
 
-/// The number that a text is.
+/// The number in a text.
 pub(crate) fn number(rt: &impl Abort, text: &str) -> u32 {
     text.parse::<u32>().expect(rt, text)
 }
 
-/// The byte that two hex digits stand for.
+/// The byte of two hex digits.
 pub(crate) fn byte_of(rt: &impl Abort, digits: &str) -> u8 {
     u8::from_str_radix(digits, 16).expect(rt, digits)
 }
 
-/// The first and the last number of a text, which has a dash between them.
+/// The two numbers of a text such as `8-71`.
 pub(crate) fn range(rt: &impl Abort, text: &str) -> (usize, usize) {
     let (first, last) = text.split_once('-').expect(rt, text);
     (number(rt, first) as usize, number(rt, last) as usize)
@@ -41,8 +40,7 @@ pub(crate) struct Case<'a> {
     pub wanted: &'a str,
 }
 
-/// The case whose first line is words, the name of an image and one part more, with bars between them, and whose other
-/// lines are what is wanted.
+/// The case of a text: `words|image|more`, then the lines that are wanted.
 pub(crate) fn case_of<'a>(rt: &impl Abort, case: &'a str) -> Case<'a> {
     let (line, wanted) = first_line(rt, case);
     let (words, rest) = parts(rt, line);

@@ -1,5 +1,5 @@
-//! Controllers for tests: one counts the calls of another and may answer one of them with a code, one replays a written
-//! list of answers, and one has a record for every id. None of them claims to be honest.
+//! Controllers for tests. `Counting` counts the calls of another one and may answer one of them with a code. `Replay`
+//! answers from a list. `Endless` has a record for every id. None of them claims to be honest.
 ghost use Rattle.std.specs.Prelude.{◌≡◌, ◌<◌, ◌≤◌, None, length, drop};
 ghost use Rattle.ipmi_bus.specs.Seen.{IsCall, failing_code};
 ghost use Rattle.ipmi_bus.specs.Unclaimed.{calls_only};
@@ -8,10 +8,10 @@ use ipmi_bus::{Code, Controller, Event, FruSize, Part, Shelf, Tally};
 use ipmi_text::Reading;
 use std::process::Abort;
 
-/// The code of an answer to a call that a controller of the tests has no answer for.
+/// The answer to a call that a controller has no other answer for.
 const NO_ANSWER: Code = Code(0xFF);
 
-/// Passes each call on and counts it, but for one, which it answers with a code.
+/// Counts each call, and passes it on. One call may be answered with a code instead.
 #[derive(Drop)]
 pub struct Counting<C: Controller + Drop> {
     pub inner: C,
@@ -26,7 +26,7 @@ impl<C: Controller + Drop> Counting<C> {
         Counting::interrupting(inner, 0, 0)
     }
 
-    /// The call with this number, from 1 on, is answered with the code.
+    /// Answers the call with this number, counted from 1, with the code.
     pub fn interrupting(inner: C, interrupted: u32, code: u8) -> Counting<C> {
         Counting {
             inner,
@@ -37,7 +37,7 @@ impl<C: Controller + Drop> Counting<C> {
         }
     }
 
-    /// Counts a call for a part of so many bytes, 0 for anything else. It fails where it is the interrupted one.
+    /// Counts a call for a part of this many bytes, or 0 for any other call. The interrupted call fails.
     fn count_call(&mut self, asked: u8) -> Result<(), Code>
         ensures counted { IsCall asked (calls_only self.old.tally.counts)
             (calls_only self.new.tally.counts) }
@@ -111,14 +111,14 @@ impl<C: Controller + Drop> Controller for Counting<C> {
     }
 }
 
-/// What a call is answered.
+/// The answer to a call.
 #[derive(Clone, Copy, Debug)]
 pub enum Reply {
     /// This code.
     Fails(u8),
     /// This reservation.
     Reserves(u16),
-    /// These bytes, as many as there is room for, with this next id.
+    /// As many of these bytes as fit, with this next id.
     Gives(&'static [u8], u16),
     /// This info.
     Tells([u8; 14]),
@@ -129,7 +129,7 @@ pub enum Reply {
 }
 
 impl Reply {
-    /// The code that a call of another kind is answered.
+    /// The answer to a call of another kind.
     fn code(self) -> Code {
         match self {
             Reply::Fails(code) => Code(code),
@@ -138,7 +138,8 @@ impl Reply {
     }
 }
 
-/// Answers each call by the next reply, the last one again and again, and keeps what the last part was asked for.
+/// Answers each call with the next reply, and repeats the last reply. It keeps the offset and the length of the last
+/// part that was asked for.
 #[derive(Drop)]
 pub struct Replay<'a> {
     replies: &'a [Reply],
@@ -159,8 +160,8 @@ impl<'a> Replay<'a> {
         }
     }
 
-    /// Counts a call for a part of so many bytes, 0 for anything else, and gives its reply, which is used up unless it is
-    /// the last.
+    /// Counts a call for a part of this many bytes, or 0 for any other call, and gives the next reply. The last reply is
+    /// never used up.
     fn next_reply(&mut self, asked: u8) -> Reply
         ensures counted { IsCall asked (calls_only self.old.tally.counts)
             (calls_only self.new.tally.counts) }
@@ -178,7 +179,7 @@ impl<'a> Replay<'a> {
         }
     }
 
-    /// The same for a part from this offset on, of so many bytes.
+    /// The same for a part of `room` bytes from this offset on.
     fn next_part(&mut self, offset: u16, room: usize) -> Reply
         requires { room < 255 }
         ensures counted { IsCall room (calls_only self.old.tally.counts)
@@ -191,15 +192,15 @@ impl<'a> Replay<'a> {
     }
 }
 
-/// Compares the offset and the length of the last part that was asked for.
-pub fn asked_last(rt: &impl Abort, ctl: &Replay, offset: u16, room: usize) {
+/// Asserts the offset and the length of the last part that was asked for.
+pub fn assert_last_request(rt: &impl Abort, ctl: &Replay, offset: u16, room: usize) {
     let got = ctl.offset;
     assert!(rt; got == offset, "asked from {got} on, not from {offset}");
     let got = ctl.room;
     assert!(rt; got == room, "asked for {got} bytes, not for {room}");
 }
 
-/// Copies the bytes that there is room for, and says how many.
+/// Copies as many bytes as fit, and returns their number.
 fn give(bytes: &[u8], into: &mut [u8]) -> usize
     ensures fits { result ≤ length into.old }
     ensures rest { drop result into.new ≡ drop result into.old }
@@ -265,8 +266,8 @@ impl Controller for Replay<'_> {
     }
 }
 
-/// Has a record of five bytes for every id, whose next id is one higher, and refuses all but records. It counts the
-/// calls for reservations and parts.
+/// Has a record of five bytes for every id. The next id is one higher. It refuses all other calls, and counts calls for
+/// reservations and parts.
 #[derive(Drop)]
 pub struct Endless {
     pub calls: u32,
@@ -281,7 +282,7 @@ impl Endless {
         }
     }
 
-    /// Counts a call for a reservation, or for a part of so many bytes.
+    /// Counts a call for a reservation, or for a part of this many bytes.
     fn count_call(&mut self, asked: u8)
         ensures counted { IsCall asked (calls_only self.old.tally.counts)
             (calls_only self.new.tally.counts) }

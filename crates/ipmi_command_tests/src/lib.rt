@@ -1,8 +1,8 @@
-//! Tests of what the commands use, and of the commands: the bus, the command line, output and messages, listings,
-//! and what a program does around them.
+//! Tests of the commands, and of what they use: the bus, the command line, output and messages, and what a program does
+//! around a command.
 //!
-//! A controller, a command, words, or what a command left is dropped by a call of `drop`, or handed to a helper that makes it:
-//! its parts are then dropped in one proof, not in each body.
+//! A controller, a command, words and an outcome end by a call of `drop`, or are moved into a helper. Their parts are then
+//! dropped in one proof, not on each way out of a body.
 #![tactic(auto)]
 
 #[cfg(test)]

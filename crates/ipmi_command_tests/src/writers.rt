@@ -1,17 +1,17 @@
-//! A writer that falls short or is slow, and a comparison of what was written.
+//! Writers that fail, fill up or are slow, and a comparison of what was written.
 ghost use Rattle.std.specs.Prelude.{◌≤◌, IfOk, length};
 
 use std::alloc::Global;
 use std::io::{Error, ErrorKind, Result, Write};
 use std::process::Abort;
 
-/// Compares the bytes that were written with a text.
-pub fn is_written(rt: &impl Abort, bytes: &[u8], text: &str) {
+/// Asserts that the bytes are this text.
+pub fn assert_written_text(rt: &impl Abort, bytes: &[u8], text: &str) {
     let written = str::from_utf8(bytes).expect(rt, text);
     assert!(rt; written == text, "{written:?} is written, not {text:?}");
 }
 
-/// Puts the first of the bytes after those that are there, this many at most.
+/// Appends the first of the bytes, at most `most`, and returns their number.
 fn take_first(got: &mut Vec<u8>, bytes: &[u8], most: usize) -> Result<usize>
     ensures offered { IfOk result (λ count. count ≤ length bytes.now) }
     ensures most { IfOk result (λ count. count ≤ most) }
@@ -21,7 +21,7 @@ fn take_first(got: &mut Vec<u8>, bytes: &[u8], most: usize) -> Result<usize>
     Ok(count)
 }
 
-/// Takes so many bytes a call at most, and so many in all; then it fails, or takes none.
+/// Takes at most `most` bytes a call, and at most `room` in all. Then it fails, or takes none.
 #[derive(Drop)]
 pub struct Limited {
     pub got: Vec<u8>,
@@ -31,7 +31,7 @@ pub struct Limited {
 }
 
 impl Limited {
-    /// Takes so many bytes in all, and then fails.
+    /// Takes `room` bytes in all, and then fails.
     pub fn failing_after(alloc: Global, room: usize) -> Limited {
         Limited {
             got: Vec::new(alloc),
@@ -41,7 +41,7 @@ impl Limited {
         }
     }
 
-    /// Takes so many bytes in all, and then none.
+    /// Takes `room` bytes in all, and then none.
     pub fn full_after(alloc: Global, room: usize) -> Limited {
         Limited {
             got: Vec::new(alloc),
@@ -51,7 +51,7 @@ impl Limited {
         }
     }
 
-    /// Takes so many bytes a call at most.
+    /// Takes at most `most` bytes a call.
     pub fn slow(alloc: Global, most: usize) -> Limited {
         Limited {
             got: Vec::new(alloc),

@@ -1,23 +1,17 @@
-//! What event data 2 and 3 say. The texts were put together by hand, from tables 29-6, 42-2 and 42-3 of the standard.
-use crate::cases::{byte_of, is_text, parts};
+//! The details in event data 2 and 3. The texts were put together by hand, from tables 29-6, 42-2 and 42-3 of the
+//! standard.
+use crate::cases::{assert_text, byte_of, parts};
 use hex::FromHex;
 use ipmi_events::push_details;
+use ipmi_fixtures::CPU_TEMP;
 use ipmi_records::{EventEntry, FullSensor, SdrView, SelView};
 use std::alloc::{AllocError, Global};
 use std::process::Abort;
 
-/// The full record of a temperature sensor in degrees C, whose values are its raw readings.
-const CPU_TEMP: [u8; 56] = [
-    0x01, 0x00, 0x51, 0x01, 0x33, 0x20, 0x00, 0x01, 0x03, 0x01, 0x7f, 0x68, 0x01, 0x01, 0x00, 0x00,
-    0x00, 0x00, 0x38, 0x38, 0x00, 0x01, 0x00, 0x00, 0x01, 0x00, 0x00, 0x00, 0x00, 0x00, 0x00, 0x00,
-    0x00, 0x00, 0x00, 0x00, 0x5f, 0x5a, 0x55, 0x00, 0x00, 0x00, 0x02, 0x02, 0x00, 0x00, 0x00, 0xc8,
-    0x43, 0x50, 0x55, 0x20, 0x54, 0x65, 0x6d, 0x70,
-];
-
-/// Where the record has the linearization.
+/// Where `CPU_TEMP` has the linearization.
 const LINEARIZATION: usize = 23;
 
-/// The event data of an asserted threshold event, and the details by the full record, and by none, with a `;` between.
+/// `event data|details by CPU_TEMP;details by no record` of asserted threshold events.
 const THRESHOLDS: &str =
     "595c5a|Reading 92 degrees C > threshold 90;Reading raw 0x5c > threshold raw 0x5a
 500405|Reading 4 degrees C < threshold 5;Reading raw 0x04 < threshold raw 0x05
@@ -37,7 +31,7 @@ f90c0a|data 2 0x0c, data 3 0x0a;data 2 0x0c, data 3 0x0a
 a9ffff|;
 f9ffff|data 2 0xff, data 3 0xff;data 2 0xff, data 3 0xff";
 
-/// The same of a deasserted event.
+/// The same of deasserted events.
 const DEASSERTED: &str =
     "575455|Reading 84 degrees C, threshold 85;Reading raw 0x54, threshold raw 0x55
 570005|Reading 0 degrees C, threshold 5;Reading raw 0x00, threshold raw 0x05
@@ -45,8 +39,7 @@ const DEASSERTED: &str =
 475455|Reading 84 degrees C;Reading raw 0x54
 175455|Threshold 85 degrees C;Threshold raw 0x55";
 
-/// An event/reading type and a sensor type, the event data, and the details: states, severities and codes of
-/// manufacturers.
+/// `event/reading type and sensor type, event data|details`: states, severities and codes of manufacturers.
 const STATES: &str =
     "0701 422102|was transition to Non-Critical from OK, severity transition to Critical from less severe
 6f0d 41f000|was Drive Presence
@@ -64,7 +57,7 @@ const STATES: &str =
 6f0d a15cff|data 2 0x5c
 6f0d 61f0ff|was Drive Presence";
 
-/// A sensor type, the event data, and the details: extension codes of sensor-specific events.
+/// `sensor type, event data|details` of sensor-specific events with extension codes.
 const EXTENSIONS: &str = "05 c402ff|network controller 2
 05 c302ff|data 2 0x02
 08 36ff03|Power Supply rating mismatch
@@ -111,7 +104,7 @@ const EXTENSIONS: &str = "05 c402ff|network controller 2
 01 f05c5a|data 2 0x5c, data 3 0x5a
 01 f0ffff|data 2 0xff, data 3 0xff";
 
-/// The event of a type, of a sensor type, with the digits of its data.
+/// An event of this event/reading type and sensor type, with these digits as event data.
 fn entry_of(rt: &impl Abort, event_type: u8, sensor_type: u8, digits: &str) -> [u8; 16] {
     let [one, two, three] = <[u8; 3]>::from_hex(digits).expect(rt, digits);
     [
@@ -142,7 +135,7 @@ fn event_of<'a>(rt: &impl Abort, bytes: &'a [u8; 16]) -> EventEntry<'a> {
     }
 }
 
-/// The details of an event, after what was there before.
+/// The details of an event after a bar, which was there before.
 fn details_text(
     alloc: Global,
     event: &EventEntry<'_>,
@@ -153,8 +146,8 @@ fn details_text(
     Ok(text)
 }
 
-/// Asserts the details of an event with no full record.
-fn has_details(rt: &impl Abort, alloc: Global, bytes: &[u8; 16], wanted: &str, case: &str) {
+/// Asserts the details of an event whose sensor has no full record.
+fn assert_details(rt: &impl Abort, alloc: Global, bytes: &[u8; 16], wanted: &str, case: &str) {
     let text = details_text(alloc, &event_of(rt, bytes), None).expect(rt, "memory");
     assert!(rt;
         text.as_str().strip_prefix("|") == Some(wanted),
@@ -163,7 +156,13 @@ fn has_details(rt: &impl Abort, alloc: Global, bytes: &[u8; 16], wanted: &str, c
 }
 
 /// Asserts the details of an event whose sensor has a full record.
-fn has_details_by(rt: &impl Abort, alloc: Global, record: &[u8], bytes: &[u8; 16], wanted: &str) {
+fn assert_details_by_record(
+    rt: &impl Abort,
+    alloc: Global,
+    record: &[u8],
+    bytes: &[u8; 16],
+    wanted: &str,
+) {
     let Ok(SdrView::Full(full)) = SdrView::read(record) else {
         panic!(rt; "no full sensor record: {wanted}");
     };
@@ -174,23 +173,23 @@ fn has_details_by(rt: &impl Abort, alloc: Global, record: &[u8], bytes: &[u8; 16
     );
 }
 
-/// Asserts the details of a threshold event, with the full record and without it. Bit 7 of its type tells whether it is
+/// Asserts the details of a threshold event, with and without `CPU_TEMP`. Bit 7 of the event type is set when it is
 /// deasserted.
-fn is_threshold(rt: &impl Abort, alloc: Global, event_type: u8, case: &str) {
+fn assert_threshold_details(rt: &impl Abort, alloc: Global, event_type: u8, case: &str) {
     let (digits, wanted) = parts(rt, case);
     let (by_record, raw) = wanted.split_once(';').expect(rt, case);
     let bytes = entry_of(rt, event_type, 0x01, digits);
-    has_details_by(rt, alloc, &CPU_TEMP, &bytes, by_record);
-    has_details(rt, alloc, &bytes, raw, case);
+    assert_details_by_record(rt, alloc, &CPU_TEMP, &bytes, by_record);
+    assert_details(rt, alloc, &bytes, raw, case);
 }
 
 #[test]
 fn a_threshold_event_has_its_reading_and_threshold(rt: HostRuntime) {
     for case in THRESHOLDS.lines() {
-        is_threshold(&rt, rt.alloc(), 0x01, case);
+        assert_threshold_details(&rt, rt.alloc(), 0x01, case);
     }
     for case in DEASSERTED.lines() {
-        is_threshold(&rt, rt.alloc(), 0x81, case);
+        assert_threshold_details(&rt, rt.alloc(), 0x81, case);
     }
 }
 
@@ -200,11 +199,11 @@ fn a_reading_that_no_formula_gives_a_value_is_raw(rt: HostRuntime) {
     record[LINEARIZATION] = 0x01;
     let bytes = entry_of(&rt, 0x01, 0x01, "595c5a");
     let wanted = "Reading raw 0x5c > threshold raw 0x5a";
-    has_details_by(&rt, rt.alloc(), &record, &bytes, wanted);
+    assert_details_by_record(&rt, rt.alloc(), &record, &bytes, wanted);
 }
 
 /// Asserts the details of a discrete event.
-fn is_state(rt: &impl Abort, alloc: Global, case: &str) {
+fn assert_discrete_details(rt: &impl Abort, alloc: Global, case: &str) {
     let (code, wanted) = parts(rt, case);
     let (types, digits) = code.split_once(' ').expect(rt, case);
     let (event_type, sensor_type) = types.split_at_checked(2).expect(rt, case);
@@ -214,33 +213,33 @@ fn is_state(rt: &impl Abort, alloc: Global, case: &str) {
         byte_of(rt, sensor_type),
         digits,
     );
-    has_details(rt, alloc, &bytes, wanted, case);
+    assert_details(rt, alloc, &bytes, wanted, case);
 }
 
 #[test]
 fn a_discrete_event_has_its_states_and_codes(rt: HostRuntime) {
     for case in STATES.lines() {
-        is_state(&rt, rt.alloc(), case);
+        assert_discrete_details(&rt, rt.alloc(), case);
     }
 }
 
 /// Asserts the details of a sensor-specific event.
-fn is_extension(rt: &impl Abort, alloc: Global, case: &str) {
+fn assert_extension_details(rt: &impl Abort, alloc: Global, case: &str) {
     let (code, wanted) = parts(rt, case);
     let (sensor_type, digits) = code.split_once(' ').expect(rt, case);
     let bytes = entry_of(rt, 0x6f, byte_of(rt, sensor_type), digits);
-    has_details(rt, alloc, &bytes, wanted, case);
+    assert_details(rt, alloc, &bytes, wanted, case);
 }
 
 #[test]
 fn a_sensor_specific_event_has_its_extension_codes(rt: HostRuntime) {
     for case in EXTENSIONS.lines() {
-        is_extension(&rt, rt.alloc(), case);
+        assert_extension_details(&rt, rt.alloc(), case);
     }
 }
 
 #[test]
 fn only_a_sensor_specific_event_has_extension_codes(rt: HostRuntime) {
     let bytes = entry_of(&rt, 0x03, 0x0c, "f15c05");
-    has_details(&rt, rt.alloc(), &bytes, "data 2 0x5c, data 3 0x05", "03h");
+    assert_details(&rt, rt.alloc(), &bytes, "data 2 0x5c, data 3 0x05", "03h");
 }

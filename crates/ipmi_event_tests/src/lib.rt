@@ -1,4 +1,4 @@
-//! Worked examples of ipmi_events: what it makes of bytes, compared with texts that were put together by hand.
+//! Worked examples of ipmi_events. The texts were put together by hand.
 #![tactic(auto)]
 
 #[cfg(test)]

@@ -7,7 +7,7 @@ use ipmi_records::SelView;
 use std::alloc::Global;
 use std::process::Abort;
 
-/// An entry, which begins with its id, and its line without the LF.
+/// `entry|line`. The entry begins with its id.
 const LINES: &str = "01000201000020200004010101595f5a|\
     0001 | 1987-01-05 18:48:33 | CPU Temp | Upper Critical going high | Asserted | \
     Reading 95 degrees C > threshold 90
@@ -33,7 +33,7 @@ const LINES: &str = "01000201000020200004010101595f5a|\
 0400e00102030405060708090a0b0c0d|0004 | OEM record 0xe0 | 0102030405060708090a0b0c0d
 0700030102030405060708090a0b0c0d|0007 | record type 0x03 | 0102030405060708090a0b0c0d";
 
-fn is_line(rt: &impl Abort, alloc: Global, sensors: &Sensors, case: &str) {
+fn assert_line(rt: &impl Abort, alloc: Global, sensors: &Sensors, case: &str) {
     let (digits, wanted) = parts(rt, case);
     let bytes = <[u8; 16]>::from_hex(digits).expect(rt, case);
     let entry = SelView::read(&bytes);
@@ -46,7 +46,7 @@ fn is_line(rt: &impl Abort, alloc: Global, sensors: &Sensors, case: &str) {
 fn each_entry_has_its_line(rt: HostRuntime) {
     let sensors = sensors(&rt, rt.alloc());
     for case in LINES.lines() {
-        is_line(&rt, rt.alloc(), &sensors, case);
+        assert_line(&rt, rt.alloc(), &sensors, case);
     }
     drop(sensors);
 }

@@ -1,16 +1,17 @@
-//! The calls that make a text of an event or a name, once: with ample memory, and with requests for memory refused.
-use crate::cases::{is_text, is_text_or_refused};
+//! The calls that make a text of an event or a name, once with ample memory, and once with requests refused.
+use crate::cases::{assert_text, assert_text_or_refused};
 use ipmi_events::{Sensors, event_line, push_sensor_name};
 use ipmi_records::{SdrView, SelView};
 use std::alloc::{AllocError, Global};
 
-/// An event-only record of three sensors from number 30h on, whose letters begin with Z. Its ID string is 6-bit ASCII.
+/// An event-only record of three sensors from number 30h on. Their letters begin with Z, and the ID string is 6-bit
+/// ASCII.
 const FANS: [u8; 20] = [
     0x01, 0x00, 0x51, 0x03, 0x0f, 0x20, 0x00, 0x30, 0x1d, 0x01, 0x04, 0x03, 0x13, 0x19, 0x00, 0x00,
     0x84, 0x66, 0xe8, 0x02,
 ];
 
-/// An event of the second of them: event data 2 has the state before.
+/// An event of the second sensor. Event data 2 has the state before.
 const EVENT: [u8; 16] = [
     0x01, 0x00, 0x02, 0x01, 0x00, 0x00, 0x20, 0x20, 0x00, 0x04, 0x04, 0x31, 0x03, 0x41, 0xf0, 0xff,
 ];
@@ -19,7 +20,7 @@ const LINE: &str =
     "0001 | 1987-01-05 18:48:33 | FAN AA | State Asserted | Asserted | was State Deasserted
 ";
 
-/// The line of the event, by a table of the record.
+/// The line of the event, with the sensors of the record.
 fn line(alloc: Global) -> Result<String, AllocError> {
     let mut records = Vec::new(alloc);
     records.extend_from_slice(&FANS)?;
@@ -27,25 +28,25 @@ fn line(alloc: Global) -> Result<String, AllocError> {
     event_line(alloc, 1, &SelView::read(&EVENT), &sensors)
 }
 
-/// The name of the third sensor of a record.
+/// The name of the record's third sensor.
 fn name(alloc: Global, view: &SdrView<'_>) -> Result<String, AllocError> {
     let mut name = String::new(alloc);
     push_sensor_name(alloc, &mut name, view, 0x32)?;
     Ok(name)
 }
 
-/// Neither is always out of memory: with ample memory each answers with its text.
+// With ample memory each call gives its text.
 #[test]
 fn not_always_out_of_memory(rt: HostRuntime) {
     let view = SdrView::read(&FANS).expect(&rt, "a record");
-    is_text(&rt, line(rt.alloc()), LINE, "line");
-    is_text(&rt, name(rt.alloc(), &view), "FAN AB", "name");
+    assert_text(&rt, line(rt.alloc()), LINE, "line");
+    assert_text(&rt, name(rt.alloc(), &view), "FAN AB", "name");
 }
 
-/// Where memory is refused, each of them answers with its text or with want of memory.
+// With memory refused each call gives its text, or fails when out of memory.
 #[test]
 fn memory_may_be_refused(rt: HostRuntime) {
     let view = SdrView::read(&FANS).expect(&rt, "a record");
-    is_text_or_refused(&rt, line(rt.alloc()), LINE);
-    is_text_or_refused(&rt, name(rt.alloc(), &view), "FAN AB");
+    assert_text_or_refused(&rt, line(rt.alloc()), LINE);
+    assert_text_or_refused(&rt, name(rt.alloc(), &view), "FAN AB");
 }

@@ -1,15 +1,14 @@
 //! Records that several tests use, and the table of their sensors.
 use ipmi_events::Sensors;
+use ipmi_fixtures::CPU_TEMP;
 use std::alloc::Global;
 use std::process::Abort;
 
-/// Records, one a line: a full one; a compact one of four sensors from number 10h on; an event-only one of three from
-/// 30h on; one of a sensor that an earlier record is of; one that is too short for its type; another of its sensor,
-/// 40h; an event-only one of five sensors from FEh on, of a software id at LUN 3; a FRU locator; compact ones with a
-/// share count of 0, without a name, and of 1; and one whose last byte is missing.
-const RECORDS: &str = "010051013320000103017f680101000000003838000100\
-000100000000000000000000005f5a550000000202000000c84350552054656d70
-0200510220200010200100000c6f0000000000000000000401000000000000c544494d4d20
+/// Records beside `CPU_TEMP`, one a line. A compact one of four sensors from number 10h on. An event-only one of three
+/// from 30h on. One of a sensor that an earlier record is of. One that is too short for its type. Another of its
+/// sensor, 40h. An event-only one of five sensors from FEh on, of a software id at LUN 3. A FRU locator. Compact ones
+/// with a share count of 0, without a name, and of 1. One whose last byte is missing.
+const RECORDS: &str = "0200510220200010200100000c6f0000000000000000000401000000000000c544494d4d20
 03005103102000301d01040313190000c446616e20
 0400510220200012200100000c6f0000000000000000000000000000000000c54c61746572
 0500510103200040
@@ -20,9 +19,9 @@ const RECORDS: &str = "010051013320000103017f680101000000003838000100\
 0a00510221200060200100000c6f0000000000000000000100000000000000c653696e676c65
 0b00510222200070200100000c6f0000000000000000000100000000000000c7437574206f66";
 
-/// The bytes of the records, one record after another.
+/// The bytes of `CPU_TEMP` and the other records, one record after another.
 fn record_bytes(rt: &impl Abort, alloc: Global) -> Vec<u8> {
-    let mut bytes = Vec::new(alloc);
+    let mut bytes = CPU_TEMP.to_vec(alloc).expect(rt, "memory");
     for line in RECORDS.lines() {
         let part = hex::decode(alloc, line).expect(rt, line);
         bytes.extend_from_slice(&part).expect(rt, "memory");
@@ -30,7 +29,7 @@ fn record_bytes(rt: &impl Abort, alloc: Global) -> Vec<u8> {
     bytes
 }
 
-/// The table of the records.
+/// The sensors of the records.
 pub(crate) fn sensors(rt: &impl Abort, alloc: Global) -> Sensors {
     let bytes = record_bytes(rt, alloc);
     Sensors::of(alloc, bytes).expect(rt, "memory")

@@ -1,22 +1,14 @@
 //! Lines and blocks of sensors in words. The texts were put together by hand, from the tables of the standard and the
 //! layout of each line.
-use crate::cases::{byte_of, is_text, is_text_or_refused, parts};
-use hex::FromHex;
+use crate::cases::{assert_text, assert_text_or_refused, byte_of, parts};
 use ipmi_events::{EntityWords, sensor_block, sensor_line};
+use ipmi_fixtures::{CPU_TEMP, PSU1, PSU1_BLOCK};
 use ipmi_records::SdrView;
 use ipmi_text::Reading;
 use std::alloc::{AllocError, Global};
 use std::process::Abort;
 
-/// A full sensor record: number 01h, entity 3.1, a temperature. Its upper thresholds, 85, 90 and 95, can be read.
-const CPU_TEMP: [u8; 56] = [
-    0x01, 0x00, 0x51, 0x01, 0x33, 0x20, 0x00, 0x01, 0x03, 0x01, 0x7f, 0x68, 0x01, 0x01, 0x00, 0x00,
-    0x00, 0x00, 0x38, 0x38, 0x00, 0x01, 0x00, 0x00, 0x01, 0x00, 0x00, 0x00, 0x00, 0x00, 0x00, 0x00,
-    0x00, 0x00, 0x00, 0x00, 0x5f, 0x5a, 0x55, 0x00, 0x00, 0x00, 0x02, 0x02, 0x00, 0x00, 0x00, 0xc8,
-    0x43, 0x50, 0x55, 0x20, 0x54, 0x65, 0x6d, 0x70,
-];
-
-/// Changes of the full record, what the sensor answered, and the line after the name.
+/// `changes of CPU_TEMP|what the sensor answered|line after the name`.
 const FULL_LINES: &str =
     "|2dc00000|01h | processor 1 | 45 degrees C      | ok  | - | - | - | 85 | 90 | 95
 |none|01h | processor 1 | no reading        | ns  | - | - | - | 85 | 90 | 95
@@ -53,26 +45,24 @@ const FULL_LINES: &str =
 8=af,9=0a,10=ff|2dc00000|AFh | power supply 127 | 45 degrees C      | ok  | - | - | - | 85 | 90 | 95
 9=43|2dc00000|01h | entity 0x43 1 | 45 degrees C      | ok  | - | - | - | 85 | 90 | 95";
 
-/// A compact record: number 05h, LUN 3, entity 7.1, event/reading type 03h.
+/// A compact record: sensor 05h, LUN 3, entity 7.1, event/reading type 03h.
 const DOOR: &str = "030051021f2003050701000005030000000000\
     00c000000000000000000000c4446f6f72";
 
-/// A compact record of four memory sensors from number 10h on, whose names end in their numbers from 1 on.
+/// A compact record of four memory sensors from number 10h on. Its name ends in a space, to which the names of the
+/// sensors add the numbers 1 to 4.
 const DIMMS: &str = "0200510220200010200100000c6f00000000\
     00000000000401000000000000c544494d4d20";
-
-/// A FRU device locator.
-const PSU1: &str = "020051110f200180000000000a0100c450535531";
 
 /// An event-only record.
 const EVT1: &str = "05005103102000302281126f00000000c445565431";
 
-/// What a sensor answered, and the line of the compact record.
+/// `what the sensor of DOOR answered|line`.
 const COMPACT_LINES: &str =
     "00400200|Door             | 05h | system board 1 | State Asserted    | ok  | - | - | - | - | - | -
 none|Door             | 05h | system board 1 | no reading        | ns  | - | - | - | - | - | -";
 
-/// The block of the full record.
+/// The block of `CPU_TEMP` with a reading.
 const CPU_TEMP_BLOCK: &str = "Record: 0001h
 Name: CPU Temp
 Sensor: 01h
@@ -87,7 +77,7 @@ Upper non-critical: 85 degrees C
 
 ";
 
-/// The block of the full record with event/reading type 03h.
+/// The block of `CPU_TEMP` with event/reading type 03h.
 const DISCRETE_BLOCK: &str = "Record: 0001h
 Name: CPU Temp
 Sensor: 01h
@@ -99,7 +89,7 @@ Status: ok
 
 ";
 
-/// The block of the compact record.
+/// The block of `DOOR`.
 const DOOR_BLOCK: &str = "Record: 00A3h
 Name: Door
 Sensor: 05h
@@ -111,14 +101,15 @@ Status: ok
 
 ";
 
-/// The line of the record of four sensors, whose first has state 6.
-const DIMMS_LINE: &str = "DIMM 1           | 10h | memory device 1 | Presence detected | ok  | \
+/// The line of `DIMMS`. The first sensor has state 6.
+const DIMMS_LINE: &str = "DIMM             | 10h | memory device 1 | Presence detected | ok  | \
     - | - | - | - | - | -";
 
-/// Its block.
+/// The block of `DIMMS`.
 const DIMMS_BLOCK: &str = "Record: 0002h
-Name: DIMM 1
+Name: DIMM \n\
 Sensor: 10h
+Shared by: 4 sensors
 Owner: 20h LUN 0
 Entity: memory device 1
 Kind: Memory
@@ -127,16 +118,23 @@ Status: ok
 
 ";
 
-/// The block of the FRU device locator.
-const PSU1_BLOCK: &str = "Record: 0002h
-Type: FRU locator
-Name: PSU1
-Address: 20h
-Entity: 10.1
+/// A compact record without a name. Its share count is 1, so that its sensor is alone.
+const ALONE: &str = "0a0051021b200060200100000c6f00000000\
+    00000000000100000000000000c0";
+
+/// The block of `ALONE`.
+const ALONE_BLOCK: &str = "Record: 000Ah
+Name: \n\
+Sensor: 60h
+Owner: 20h LUN 0
+Entity: memory device 1
+Kind: Memory
+Reading: no state
+Status: ok
 
 ";
 
-/// Entity ids and their names.
+/// `entity id, name`.
 const ENTITIES: &str = "00 unspecified
 01 other
 02 unknown
@@ -158,93 +156,72 @@ const ENTITIES: &str = "00 unspecified
 90 entity 0x90
 ff entity 0xff";
 
-/// What a sensor answered, by the digits of its four bytes, or `none`.
-fn answer_of(rt: &impl Abort, digits: &str) -> Option<Reading> {
-    if digits == "none" {
-        return None;
-    }
-    let bytes = <[u8; 4]>::from_hex(digits).expect(rt, digits);
-    Some(Reading {
-        raw: bytes[0],
-        flags: bytes[1],
-        status: bytes[2],
-        more: bytes[3],
-    })
+/// What a sensor answered: the digits of its four bytes, or `none`.
+fn answer_of(rt: &impl Abort, text: &str) -> Option<Reading> {
+    ipmi_fixtures::answer_of(text).expect(rt, text)
 }
 
-/// Makes a change such as `14=6f` to a record: byte 14, counted from 1, gets the value 6Fh.
-fn change(rt: &impl Abort, record: &mut [u8; 56], change: &str) {
-    let (place, value) = change.split_once('=').expect(rt, change);
-    let place = place.parse::<usize>().expect(rt, change);
-    let byte = record.get_mut(place.wrapping_sub(1));
-    *byte.expect(rt, change) = byte_of(rt, value);
-}
-
-/// The full record with changes, which commas separate.
+/// `CPU_TEMP` with changes such as `14=6f`, which commas separate.
 fn changed(rt: &impl Abort, changes: &str) -> [u8; 56] {
-    let mut record = CPU_TEMP;
-    for part in changes.split_terminator(',') {
-        change(rt, &mut record, part);
-    }
-    record
+    ipmi_fixtures::changed(changes).expect(rt, changes)
 }
 
 /// Asserts the line of a record.
-fn is_line(rt: &impl Abort, alloc: Global, bytes: &[u8], answer: &str, wanted: &str) {
+fn assert_line(rt: &impl Abort, alloc: Global, bytes: &[u8], answer: &str, wanted: &str) {
     let view = SdrView::read(bytes).expect(rt, wanted);
     let line = sensor_line(alloc, &view, answer_of(rt, answer));
     let wanted_line = format!(in alloc; "{wanted}\n").expect(rt, wanted);
-    is_text(rt, line, wanted_line.as_str(), wanted);
+    assert_text(rt, line, wanted_line.as_str(), wanted);
 }
 
-/// Asserts the line of the full record with changes, after its name.
-fn is_full_line(rt: &impl Abort, alloc: Global, case: &str) {
+/// Asserts the line of `CPU_TEMP` with changes, after its name.
+fn assert_full_line(rt: &impl Abort, alloc: Global, case: &str) {
     let (changes, rest) = parts(rt, case);
     let (answer, wanted) = parts(rt, rest);
     let view_bytes = changed(rt, changes);
     let wanted = format!(in alloc; "CPU Temp         | {wanted}").expect(rt, case);
-    is_line(rt, alloc, &view_bytes, answer, wanted.as_str());
+    assert_line(rt, alloc, &view_bytes, answer, wanted.as_str());
 }
 
 #[test]
 fn each_full_record_has_its_line(rt: HostRuntime) {
     for case in FULL_LINES.lines() {
-        is_full_line(&rt, rt.alloc(), case);
+        assert_full_line(&rt, rt.alloc(), case);
     }
 }
 
 /// Asserts the line of a record in hex.
-fn is_line_of_hex(rt: &impl Abort, alloc: Global, digits: &str, answer: &str, wanted: &str) {
+fn assert_line_of_hex(rt: &impl Abort, alloc: Global, digits: &str, answer: &str, wanted: &str) {
     let bytes = hex::decode(alloc, digits).expect(rt, digits);
-    is_line(rt, alloc, &bytes, answer, wanted);
+    assert_line(rt, alloc, &bytes, answer, wanted);
 }
 
 #[test]
 fn each_compact_record_has_its_line(rt: HostRuntime) {
     for case in COMPACT_LINES.lines() {
         let (answer, wanted) = parts(&rt, case);
-        is_line_of_hex(&rt, rt.alloc(), DOOR, answer, wanted);
+        assert_line_of_hex(&rt, rt.alloc(), DOOR, answer, wanted);
     }
 }
 
 #[test]
 fn any_other_record_has_the_line_of_sdr_list(rt: HostRuntime) {
     let line = "PSU1             | FRU 1             | na";
-    is_line_of_hex(&rt, rt.alloc(), PSU1, "none", line);
+    assert_line(&rt, rt.alloc(), &PSU1, "none", line);
     let line = "EVT1             | event only        | na";
-    is_line_of_hex(&rt, rt.alloc(), EVT1, "2dc00000", line);
+    assert_line_of_hex(&rt, rt.alloc(), EVT1, "2dc00000", line);
 }
 
-/// Asserts the block of a record under an id.
-fn is_block(rt: &impl Abort, alloc: Global, id: u16, bytes: &[u8], answer: &str, wanted: &str) {
+/// Asserts the block of a record with this id.
+fn assert_block(rt: &impl Abort, alloc: Global, id: u16, bytes: &[u8], answer: &str, wanted: &str) {
     let view = SdrView::read(bytes).expect(rt, wanted);
     let block = sensor_block(alloc, id, &view, answer_of(rt, answer));
-    is_text(rt, block, wanted, wanted);
+    assert_text(rt, block, wanted, wanted);
 }
 
 #[test]
 fn a_full_record_has_its_block(rt: HostRuntime) {
-    is_block(
+    assert_block(
         &rt,
         rt.alloc(),
         0x0001,
@@ -253,7 +230,7 @@ fn a_full_record_has_its_block(rt: HostRuntime) {
         CPU_TEMP_BLOCK,
     );
     let discrete = changed(&rt, "14=03,21=c0");
-    is_block(
+    assert_block(
         &rt,
         rt.alloc(),
         0x0001,
@@ -264,43 +241,44 @@ fn a_full_record_has_its_block(rt: HostRuntime) {
 }
 
 #[test]
-fn a_record_of_several_sensors_has_the_name_of_the_first(rt: HostRuntime) {
-    is_line_of_hex(&rt, rt.alloc(), DIMMS, "00404000", DIMMS_LINE);
+fn a_record_of_several_sensors_has_its_own_name(rt: HostRuntime) {
+    assert_line_of_hex(&rt, rt.alloc(), DIMMS, "00404000", DIMMS_LINE);
     let dimms = hex::decode(rt.alloc(), DIMMS).expect(&rt, DIMMS);
-    is_block(&rt, rt.alloc(), 0x0002, &dimms, "00404000", DIMMS_BLOCK);
+    assert_block(&rt, rt.alloc(), 0x0002, &dimms, "00404000", DIMMS_BLOCK);
 }
 
 #[test]
 fn any_other_record_has_its_block(rt: HostRuntime) {
     let door = hex::decode(rt.alloc(), DOOR).expect(&rt, DOOR);
-    is_block(&rt, rt.alloc(), 0x00A3, &door, "00400200", DOOR_BLOCK);
-    let psu = hex::decode(rt.alloc(), PSU1).expect(&rt, PSU1);
-    is_block(&rt, rt.alloc(), 0x0002, &psu, "none", PSU1_BLOCK);
+    assert_block(&rt, rt.alloc(), 0x00A3, &door, "00400200", DOOR_BLOCK);
+    let alone = hex::decode(rt.alloc(), ALONE).expect(&rt, ALONE);
+    assert_block(&rt, rt.alloc(), 0x000A, &alone, "00400000", ALONE_BLOCK);
+    assert_block(&rt, rt.alloc(), 0x0002, &PSU1, "none", PSU1_BLOCK);
 }
 
 /// Asserts the name of an entity.
-fn is_entity(rt: &impl Abort, alloc: Global, case: &str) {
+fn assert_entity(rt: &impl Abort, alloc: Global, case: &str) {
     let (id, wanted) = case.split_once(' ').expect(rt, case);
     let entity = EntityWords(byte_of(rt, id));
-    is_text(rt, format!(in alloc; "{entity}"), wanted, case);
+    assert_text(rt, format!(in alloc; "{entity}"), wanted, case);
 }
 
 #[test]
 fn each_entity_has_its_name(rt: HostRuntime) {
     for case in ENTITIES.lines() {
-        is_entity(&rt, rt.alloc(), case);
+        assert_entity(&rt, rt.alloc(), case);
     }
 }
 
-/// The line of the full record with a reading.
+/// The line of `CPU_TEMP` with a reading.
 const CPU_TEMP_LINE: &str =
     "CPU Temp         | 01h | processor 1 | 90 degrees C      | ucr | - | - | - | 85 | 90 | 95
 ";
 
-/// A text, or want of memory.
+/// A text, unless memory runs out.
 type Made = Result<String, AllocError>;
 
-/// The calls that make a text of a sensor, with the texts that they have to give.
+/// The calls that make a text of a sensor, each with its text.
 fn calls(alloc: Global, view: &SdrView<'_>, answer: Option<Reading>) -> [(Made, &'static str); 2] {
     [
         (sensor_line(alloc, view, answer), CPU_TEMP_LINE),
@@ -308,20 +286,20 @@ fn calls(alloc: Global, view: &SdrView<'_>, answer: Option<Reading>) -> [(Made, 
     ]
 }
 
-/// Neither is always out of memory: with ample memory each answers with its text.
+// With ample memory each call gives its text.
 #[test]
 fn not_always_out_of_memory(rt: HostRuntime) {
     let view = SdrView::read(&CPU_TEMP).expect(&rt, "a record");
     for (text, wanted) in calls(rt.alloc(), &view, answer_of(&rt, "5ac01800")) {
-        is_text(&rt, text, wanted, wanted);
+        assert_text(&rt, text, wanted, wanted);
     }
 }
 
-/// Where memory is refused, each of them answers with its text or with want of memory.
+// With memory refused each call gives its text, or fails when out of memory.
 #[test]
 fn memory_may_be_refused(rt: HostRuntime) {
     let view = SdrView::read(&CPU_TEMP).expect(&rt, "a record");
     for (text, wanted) in calls(rt.alloc(), &view, answer_of(&rt, "5ac01800")) {
-        is_text_or_refused(&rt, text, wanted);
+        assert_text_or_refused(&rt, text, wanted);
     }
 }

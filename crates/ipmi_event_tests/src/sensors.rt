@@ -1,13 +1,14 @@
-//! Records that are found by a sensor's owner, LUN and number, and the names of sensors.
-use crate::cases::{byte_of, is_text, parts};
+//! Records found by the owner, LUN and number of a sensor, and the names of sensors.
+use crate::cases::{assert_text, byte_of, parts};
 use crate::records::sensors;
 use hex::FromHex;
-use ipmi_events::{Sensors, push_sensor_name};
-use ipmi_records::SdrView;
+use ipmi_events::{Sensors, push_sensor_name, record_for, status_in_words};
+use ipmi_records::{SdrView, SelView};
+use ipmi_text::Reading;
 use std::alloc::{AllocError, Global};
 use std::process::Abort;
 
-/// The digits of an owner, a LUN and a number, and the id of the record that is found, or 0.
+/// `owner, LUN and number|id of the record`, which is 0 where there is none.
 const FOUND: &str = "200001|1
 200002|0
 20000f|0
@@ -40,8 +41,8 @@ const FOUND: &str = "200001|1
 000000|0
 ffffff|0";
 
-/// The byte with modifier and share count of a compact record of sensors from number 10h on, the byte with the offset,
-/// the number of a sensor, and its name.
+/// `modifier and share count, offset, number of the sensor|name` of sensors that share `DIMM`. Bytes 24 and 25 of the
+/// record have the first two.
 const NAMES: &str = "040110|DIMM 1
 040111|DIMM 2
 040113|DIMM 4
@@ -63,14 +64,14 @@ const NAMES: &str = "040110|DIMM 1
 010510|DIMM \n\
 110510|DIMM ";
 
-/// A compact record whose ID string is `DIMM `, of sensors from number 10h on.
+/// A compact record of sensors from number 10h on. The ID string is `DIMM `.
 const DIMM: [u8; 37] = [
     0x02, 0x00, 0x51, 0x02, 0x20, 0x20, 0x00, 0x10, 0x20, 0x01, 0x00, 0x00, 0x0c, 0x6f, 0x00, 0x00,
     0x00, 0x00, 0x00, 0x00, 0x00, 0x00, 0x00, 0x04, 0x01, 0x00, 0x00, 0x00, 0x00, 0x00, 0x00, 0xc5,
     0x44, 0x49, 0x4d, 0x4d, 0x20,
 ];
 
-/// Other records: the bytes, the number of a sensor, and its name.
+/// `record|number of the sensor|name` of other records.
 const OTHER_NAMES: &str = "\
 03005103102000301d01040313190000c446616e20|31|Fan AA
 03005103102000301d01040303190000c446616e20|31|Fan 26
@@ -78,7 +79,7 @@ const OTHER_NAMES: &str = "\
 090051021b200050200100000c6f0000000000000000000405000000000000c0|51|
 0c0051c003aabbcc|00|";
 
-/// The id of the record that is found, 0 where none is.
+/// The id of the record that is found, or 0.
 fn found_id(sensors: &Sensors, key: [u8; 3]) -> u16 {
     let [owner, lun, number] = key;
     match sensors.find(owner, lun, number) {
@@ -87,7 +88,7 @@ fn found_id(sensors: &Sensors, key: [u8; 3]) -> u16 {
     }
 }
 
-fn is_found(rt: &impl Abort, sensors: &Sensors, case: &str) {
+fn assert_found_id(rt: &impl Abort, sensors: &Sensors, case: &str) {
     let (digits, wanted) = parts(rt, case);
     let key = <[u8; 3]>::from_hex(digits).expect(rt, case);
     let wanted = wanted.parse::<u16>().expect(rt, case);
@@ -98,7 +99,7 @@ fn is_found(rt: &impl Abort, sensors: &Sensors, case: &str) {
 fn each_sensor_has_its_record(rt: HostRuntime) {
     let sensors = sensors(&rt, rt.alloc());
     for case in FOUND.lines() {
-        is_found(&rt, &sensors, case);
+        assert_found_id(&rt, &sensors, case);
     }
     drop(sensors);
 }
@@ -110,41 +111,85 @@ fn no_records_are_of_no_sensor(rt: HostRuntime) {
     drop(sensors);
 }
 
-/// The name of a sensor with this number.
+/// The name of the sensor with this number.
 fn name_of(alloc: Global, view: &SdrView<'_>, number: u8) -> Result<String, AllocError> {
     let mut name = String::new(alloc);
     push_sensor_name(alloc, &mut name, view, number)?;
     Ok(name)
 }
 
-fn has_name(rt: &impl Abort, alloc: Global, case: &str) {
+fn assert_name(rt: &impl Abort, alloc: Global, case: &str) {
     let (digits, wanted) = parts(rt, case);
     let [sharing, offset, number] = <[u8; 3]>::from_hex(digits).expect(rt, case);
     let mut bytes = DIMM;
     bytes[23] = sharing;
     bytes[24] = offset;
     let view = SdrView::read(&bytes).expect(rt, case);
-    is_text(rt, name_of(alloc, &view, number), wanted, case);
+    assert_text(rt, name_of(alloc, &view, number), wanted, case);
 }
 
 #[test]
 fn sensors_that_share_a_record_have_names_of_their_own(rt: HostRuntime) {
     for case in NAMES.lines() {
-        has_name(&rt, rt.alloc(), case);
+        assert_name(&rt, rt.alloc(), case);
     }
 }
 
-fn has_other_name(rt: &impl Abort, alloc: Global, case: &str) {
+fn assert_name_of_other(rt: &impl Abort, alloc: Global, case: &str) {
     let (digits, rest) = parts(rt, case);
     let (number, wanted) = parts(rt, rest);
     let bytes = hex::decode(alloc, digits).expect(rt, case);
     let view = SdrView::read(&bytes).expect(rt, case);
-    is_text(rt, name_of(alloc, &view, byte_of(rt, number)), wanted, case);
+    assert_text(rt, name_of(alloc, &view, byte_of(rt, number)), wanted, case);
 }
 
 #[test]
 fn records_of_other_kinds_give_names(rt: HostRuntime) {
     for case in OTHER_NAMES.lines() {
-        has_other_name(&rt, rt.alloc(), case);
+        assert_name_of_other(&rt, rt.alloc(), case);
     }
+}
+
+/// An event of the third memory sensor, at the controller's own address, over channel 1.
+const DIMM_EVENT: [u8; 16] = [
+    0x01, 0x00, 0x02, 0x00, 0x00, 0x00, 0x00, 0x20, 0x10, 0x04, 0x0c, 0x12, 0x6f, 0x01, 0xff, 0xff,
+];
+
+/// The id of the record of an event's sensor, or 0.
+fn id_for(entry: &[u8; 16], sensors: &Sensors) -> u16 {
+    let SelView::Event(event) = SelView::read(entry) else {
+        return 0;
+    };
+    match record_for(&event, sensors) {
+        Some(view) => view.id(),
+        None => 0,
+    }
+}
+
+#[test]
+fn an_event_has_the_record_of_its_sensor(rt: HostRuntime) {
+    let sensors = sensors(&rt, rt.alloc());
+    assert_eq!(&rt; id_for(&DIMM_EVENT, &sensors), 2);
+    drop(sensors);
+}
+
+/// The status in words of the first temperature sensor.
+fn status(rt: &impl Abort, sensors: &Sensors, reading: Option<Reading>) -> &'static str {
+    let view = sensors.find(0x20, 0, 1).expect(rt, "a record");
+    let sensor = view.sensor().expect(rt, "a sensor");
+    status_in_words(&sensor, reading)
+}
+
+#[test]
+fn a_sensor_has_its_status_in_words(rt: HostRuntime) {
+    let sensors = sensors(&rt, rt.alloc());
+    let hot = Reading {
+        raw: 0x5a,
+        flags: 0xc0,
+        status: 0x18,
+        more: 0,
+    };
+    assert_eq!(&rt; status(&rt, &sensors, Some(hot)), "ucr");
+    assert_eq!(&rt; status(&rt, &sensors, None), "ns");
+    drop(sensors);
 }

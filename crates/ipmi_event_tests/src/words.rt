@@ -1,6 +1,6 @@
 //! The words of events, compared with a second list of them, which another person typed from the standard. Where the
 //! tables shorten the standard's words, the list has the short ones.
-use crate::cases::{byte_of, is_text, parts};
+use crate::cases::{assert_text, byte_of, parts};
 use ipmi_events::{EventInWords, event_words};
 use std::alloc::Global;
 use std::process::Abort;
@@ -8,7 +8,7 @@ use std::process::Abort;
 /// The event/reading type of sensor-specific events.
 const SENSOR_SPECIFIC: u8 = 0x6f;
 
-/// A generic event/reading type and an offset, and the words (IPMI v2.0, table 42-2).
+/// `event/reading type, offset|words` of generic types (IPMI v2.0, table 42-2).
 const GENERIC: &str = "01 00|Lower Non-critical going low
 01 01|Lower Non-critical going high
 01 02|Lower Critical going low
@@ -67,7 +67,7 @@ const GENERIC: &str = "01 00|Lower Non-critical going low
 0c 02|D2 Power State
 0c 03|D3 Power State";
 
-/// A sensor type and a sensor-specific offset, and the words (table 42-3).
+/// `sensor type, offset|words` of sensor-specific events (IPMI v2.0, table 42-3).
 const SPECIFIC: &str = "05 00|General Chassis Intrusion
 05 01|Drive Bay intrusion
 05 02|I/O Card area intrusion
@@ -273,7 +273,7 @@ const SPECIFIC: &str = "05 00|General Chassis Intrusion
 2c 06|FRU Deactivation In Progress
 2c 07|FRU Communication Lost";
 
-/// A generic event/reading type, and how many offsets have words.
+/// `event/reading type|how many offsets have words`.
 const GENERIC_COUNTS: &str = "01|12
 02|3
 03|2
@@ -287,7 +287,7 @@ const GENERIC_COUNTS: &str = "01|12
 0b|8
 0c|4";
 
-/// A sensor type, and how many sensor-specific offsets have words.
+/// `sensor type|how many sensor-specific offsets have words`.
 const SPECIFIC_COUNTS: &str = "05|7
 06|6
 07|13
@@ -319,7 +319,7 @@ const SPECIFIC_COUNTS: &str = "05|7
 2b|8
 2c|8";
 
-/// An event/reading type, a sensor type and an offset without words, and what is printed.
+/// `event/reading type and sensor type, offset|what is printed`.
 const WITHOUT_WORDS: &str = "0001 00|offset 0 of type 0x00
 0101 0c|offset 12 of type 0x01
 0c01 04|offset 4 of type 0x0c
@@ -334,14 +334,14 @@ const WITHOUT_WORDS: &str = "0001 00|offset 0 of type 0x00
 ff23 08|offset 8 of type 0xff";
 
 /// Asserts the words of an event, and that they are printed.
-fn has_words(rt: &impl Abort, alloc: Global, event: EventInWords, wanted: &str, case: &str) {
+fn assert_words(rt: &impl Abort, alloc: Global, event: EventInWords, wanted: &str, case: &str) {
     let words = event_words(event.event_type, event.sensor_type, event.offset);
     assert!(rt; words == Some(wanted), "{case}: got {words:?}");
-    is_text(rt, format!(in alloc; "{event}"), wanted, case);
+    assert_text(rt, format!(in alloc; "{event}"), wanted, case);
 }
 
-/// Asserts the words of a generic type.
-fn is_generic(rt: &impl Abort, alloc: Global, case: &str) {
+/// Asserts the words of an event of a generic type.
+fn assert_generic_words(rt: &impl Abort, alloc: Global, case: &str) {
     let (code, wanted) = parts(rt, case);
     let (event_type, offset) = code.split_once(' ').expect(rt, case);
     let event = EventInWords {
@@ -349,18 +349,18 @@ fn is_generic(rt: &impl Abort, alloc: Global, case: &str) {
         sensor_type: 0x01,
         offset: byte_of(rt, offset),
     };
-    has_words(rt, alloc, event, wanted, case);
+    assert_words(rt, alloc, event, wanted, case);
 }
 
 #[test]
 fn generic_events_have_the_words_of_the_second_list(rt: HostRuntime) {
     for case in GENERIC.lines() {
-        is_generic(&rt, rt.alloc(), case);
+        assert_generic_words(&rt, rt.alloc(), case);
     }
 }
 
 /// Asserts the words of a sensor-specific event.
-fn is_specific(rt: &impl Abort, alloc: Global, case: &str) {
+fn assert_specific_words(rt: &impl Abort, alloc: Global, case: &str) {
     let (code, wanted) = parts(rt, case);
     let (sensor_type, offset) = code.split_once(' ').expect(rt, case);
     let event = EventInWords {
@@ -368,50 +368,50 @@ fn is_specific(rt: &impl Abort, alloc: Global, case: &str) {
         sensor_type: byte_of(rt, sensor_type),
         offset: byte_of(rt, offset),
     };
-    has_words(rt, alloc, event, wanted, case);
+    assert_words(rt, alloc, event, wanted, case);
 }
 
 #[test]
 fn sensor_specific_events_have_the_words_of_the_second_list(rt: HostRuntime) {
     for case in SPECIFIC.lines() {
-        is_specific(&rt, rt.alloc(), case);
+        assert_specific_words(&rt, rt.alloc(), case);
     }
 }
 
-/// Asserts how many offsets of a type have words.
-fn has_count(rt: &impl Abort, event_type: u8, sensor_type: u8, wanted: usize) {
+/// Asserts the number of offsets of a type that have words.
+fn assert_count(rt: &impl Abort, event_type: u8, sensor_type: u8, wanted: usize) {
     let count = (0..=u8::MAX)
         .filter(|offset| event_words(event_type, sensor_type, *offset).is_some())
         .count();
     assert!(rt; count == wanted, "{event_type} {sensor_type}: got {count}");
 }
 
-/// Asserts that a generic type has as many words as a line of the table says.
-fn has_generic_count(rt: &impl Abort, case: &str) {
+/// The same for a generic type of the table.
+fn assert_generic_count(rt: &impl Abort, case: &str) {
     let (event_type, count) = parts(rt, case);
     let count = count.parse::<usize>().expect(rt, case);
-    has_count(rt, byte_of(rt, event_type), 0x01, count);
+    assert_count(rt, byte_of(rt, event_type), 0x01, count);
 }
 
-/// Asserts it of a sensor type.
-fn has_specific_count(rt: &impl Abort, case: &str) {
+/// The same for a sensor type of the table.
+fn assert_specific_count(rt: &impl Abort, case: &str) {
     let (sensor_type, count) = parts(rt, case);
     let count = count.parse::<usize>().expect(rt, case);
-    has_count(rt, SENSOR_SPECIFIC, byte_of(rt, sensor_type), count);
+    assert_count(rt, SENSOR_SPECIFIC, byte_of(rt, sensor_type), count);
 }
 
 #[test]
 fn each_type_has_its_count_of_words(rt: HostRuntime) {
     for case in GENERIC_COUNTS.lines() {
-        has_generic_count(&rt, case);
+        assert_generic_count(&rt, case);
     }
     for case in SPECIFIC_COUNTS.lines() {
-        has_specific_count(&rt, case);
+        assert_specific_count(&rt, case);
     }
 }
 
-/// Asserts that a type has as many words as the second list has lines for it.
-fn has_count_of_list(
+/// Asserts that a type has as many words as the list has lines for it.
+fn assert_count_of_list(
     rt: &impl Abort,
     alloc: Global,
     list: &str,
@@ -424,28 +424,28 @@ fn has_count_of_list(
         .lines()
         .filter(|line| line.starts_with(start.as_str()))
         .count();
-    has_count(rt, event_type, sensor_type, wanted);
+    assert_count(rt, event_type, sensor_type, wanted);
 }
 
 #[test]
 fn no_more_generic_events_have_words(rt: HostRuntime) {
     for code in 0..SENSOR_SPECIFIC {
-        has_count_of_list(&rt, rt.alloc(), GENERIC, code, code, 0x01);
+        assert_count_of_list(&rt, rt.alloc(), GENERIC, code, code, 0x01);
     }
     for code in SENSOR_SPECIFIC + 1..=u8::MAX {
-        has_count_of_list(&rt, rt.alloc(), GENERIC, code, code, 0x01);
+        assert_count_of_list(&rt, rt.alloc(), GENERIC, code, code, 0x01);
     }
 }
 
 #[test]
 fn no_more_sensor_specific_events_have_words(rt: HostRuntime) {
     for code in 0..=u8::MAX {
-        has_count_of_list(&rt, rt.alloc(), SPECIFIC, code, SENSOR_SPECIFIC, code);
+        assert_count_of_list(&rt, rt.alloc(), SPECIFIC, code, SENSOR_SPECIFIC, code);
     }
 }
 
-/// Asserts that an event has no words, and what is printed in their place.
-fn is_without_words(rt: &impl Abort, alloc: Global, case: &str) {
+/// Asserts that an event has no words, and what is printed instead.
+fn assert_no_words(rt: &impl Abort, alloc: Global, case: &str) {
     let (code, wanted) = parts(rt, case);
     let (types, offset) = code.split_once(' ').expect(rt, case);
     let (event_type, sensor_type) = types.split_at_checked(2).expect(rt, case);
@@ -456,12 +456,12 @@ fn is_without_words(rt: &impl Abort, alloc: Global, case: &str) {
     };
     let words = event_words(event.event_type, event.sensor_type, event.offset);
     assert!(rt; words.is_none(), "{case}: got {words:?}");
-    is_text(rt, format!(in alloc; "{event}"), wanted, case);
+    assert_text(rt, format!(in alloc; "{event}"), wanted, case);
 }
 
 #[test]
 fn an_event_without_words_has_its_offset_and_type(rt: HostRuntime) {
     for case in WITHOUT_WORDS.lines() {
-        is_without_words(&rt, rt.alloc(), case);
+        assert_no_words(&rt, rt.alloc(), case);
     }
 }

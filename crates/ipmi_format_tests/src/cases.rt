@@ -1,44 +1,53 @@
-//! What the tests share: the parts of a case's line, bytes in hex, and a text compared with the wanted one.
+//! The parts of a case, bytes in hex, and texts that are compared with what is wanted.
 use std::alloc::{AllocError, Global};
 use std::process::Abort;
 
-/// The parts of a line before and after its first bar.
+/// A line before and after its first bar.
 pub(crate) fn parts<'a>(rt: &impl Abort, line: &'a str) -> (&'a str, &'a str) {
     line.split_once('|').expect(rt, line)
 }
 
-/// The parts of a line around its first two bars.
+/// A line before, between and after its first two bars.
 pub(crate) fn three_parts<'a>(rt: &impl Abort, line: &'a str) -> (&'a str, &'a str, &'a str) {
     let (first, rest) = parts(rt, line);
     let (second, third) = rest.split_once('|').expect(rt, line);
     (first, second, third)
 }
 
-/// The byte that two hex digits stand for.
+/// The byte of two hex digits.
 pub(crate) fn byte_of(rt: &impl Abort, digits: &str) -> u8 {
     u8::from_str_radix(digits, 16).expect(rt, digits)
 }
 
-/// The bytes that hex digits stand for.
+/// The bytes of hex digits.
 pub(crate) fn bytes_of(rt: &impl Abort, alloc: Global, digits: &str) -> Vec<u8> {
     hex::decode(alloc, digits).expect(rt, digits)
 }
 
-/// Asserts that a call gave the wanted text.
-pub(crate) fn is_text(rt: &impl Abort, got: Result<String, AllocError>, wanted: &str, case: &str) {
+/// Asserts that a call gave this text.
+pub(crate) fn assert_text(
+    rt: &impl Abort,
+    got: Result<String, AllocError>,
+    wanted: &str,
+    case: &str,
+) {
     let got = got.expect(rt, case);
     assert!(rt; got.as_str() == wanted, "{case}: got {got}");
 }
 
-/// Asserts that a call gave the wanted text, or that memory was refused.
-pub(crate) fn is_text_or_refused(rt: &impl Abort, got: Result<String, AllocError>, wanted: &str) {
+/// Asserts that a call gave this text, or that memory was refused.
+pub(crate) fn assert_text_or_refused(
+    rt: &impl Abort,
+    got: Result<String, AllocError>,
+    wanted: &str,
+) {
     if let Ok(got) = got {
         assert!(rt; got.as_str() == wanted, "wanted {wanted}: got {got}");
     }
 }
 
-/// Asserts that a call gave the wanted text, with this end after it.
-pub(crate) fn is_text_with_end(
+/// Asserts that a call gave this text, followed by this end.
+pub(crate) fn assert_text_with_end(
     rt: &impl Abort,
     got: Result<String, AllocError>,
     wanted: &str,
@@ -50,7 +59,7 @@ pub(crate) fn is_text_with_end(
     assert!(rt; start == Some(wanted), "{case}: got {got}");
 }
 
-/// The bytes that several lines of hex digits stand for.
+/// The bytes of hex digits on several lines.
 pub(crate) fn bytes_of_lines(rt: &impl Abort, alloc: Global, lines: &str) -> Vec<u8> {
     let mut bytes = Vec::new(alloc);
     for line in lines.lines() {
@@ -60,12 +69,12 @@ pub(crate) fn bytes_of_lines(rt: &impl Abort, alloc: Global, lines: &str) -> Vec
     bytes
 }
 
-/// The line at this place of a case of several lines.
+/// The line of a case at a place, counted from 0.
 pub(crate) fn line_of<'a>(rt: &impl Abort, case: &'a str, place: usize) -> &'a str {
     case.lines().nth(place).expect(rt, case)
 }
 
-/// The id that four hex digits stand for.
+/// The id of four hex digits.
 pub(crate) fn id_of(rt: &impl Abort, digits: &str) -> u16 {
     u16::from_str_radix(digits, 16).expect(rt, digits)
 }

@@ -4,4 +4,5 @@ mod examples;
 mod inventories;
 mod lines;
 mod memory;
+mod values;
 mod views;

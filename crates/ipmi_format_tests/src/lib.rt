@@ -1,5 +1,5 @@
-//! Worked examples of ipmi_text, ipmi_fru and ipmi_records: what each makes of bytes, compared with texts and values
-//! that were put together by hand, or by another program.
+//! Worked examples of ipmi_text, ipmi_fru and ipmi_records. The texts and values were put together by hand, or by
+//! another program.
 #![tactic(auto)]
 
 #[cfg(test)]

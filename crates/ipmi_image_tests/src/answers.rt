@@ -1,22 +1,24 @@
-//! What a controller over an image answers, call by call.
-use crate::calls::{are_answered, is_answered};
-use crate::images::{ANSWERS, SAVED, image_is_answered, over};
+//! The answers of a controller over an image.
+use crate::calls::{assert_answer, assert_answers};
+use crate::images::{ANSWERS, SAVED, assert_answers_of_text, over};
 use ipmi_bus::{Code, Controller, Part, Shelf};
 use ipmi_image::ImageController;
 use std::alloc::Global;
 use std::process::Abort;
 
+/// `call|answer`.
 const OF_THE_EVENT_LOG: &str = "info sel|510100000201000000ffffffff00
 part sel 0 1 0 11|ffff 10 01000201000020200004013001595f5aee";
 
 #[test]
 fn each_call_is_answered_from_the_image(rt: HostRuntime) {
     let mut ctl = over(&rt, rt.alloc(), SAVED);
-    are_answered(&rt, &mut ctl, ANSWERS);
-    are_answered(&rt, &mut ctl, OF_THE_EVENT_LOG);
+    assert_answers(&rt, &mut ctl, ANSWERS);
+    assert_answers(&rt, &mut ctl, OF_THE_EVENT_LOG);
     drop(ctl);
 }
 
+/// `call|answer`.
 const EMPTY_ANSWERS: &str = "reserve sdr|0001
 part sdr 0 1 0 8|code cb
 info sdr|code cb
@@ -27,9 +29,10 @@ part sdr 1 0 0 1|code cb";
 
 #[test]
 fn an_empty_image_has_only_reservations(rt: HostRuntime) {
-    image_is_answered(&rt, rt.alloc(), "ipmi-image 1\nend\n", EMPTY_ANSWERS);
+    assert_answers_of_text(&rt, rt.alloc(), "ipmi-image 1\nend\n", EMPTY_ANSWERS);
 }
 
+/// `call|answer`.
 const PARTS: &str = "reserve sdr|0001
 part sdr 1 1 0 8|0002 06 010051c001aaeeee
 part sdr 1 1 0 5|0002 05 010051c001
@@ -41,21 +44,23 @@ part sdr 1 0 5 8|0002 01 aaeeeeeeeeeeeeee
 part sdr 1 2 0 7|ffff 07 020051c002bbcc
 part sdr 1 2 6 2|ffff 01 ccee";
 
-// Id 0000h asks for the first record.
+// Id 0000h is that of the first record.
 #[test]
 fn a_part_is_as_long_as_asked_or_as_the_record_has(rt: HostRuntime) {
-    image_is_answered(&rt, rt.alloc(), SAVED, PARTS);
+    assert_answers_of_text(&rt, rt.alloc(), SAVED, PARTS);
 }
 
+/// `call|answer`.
 const FRU_PARTS: &str = "fru_part 0 0 3|03 010051
 fru_part 0 2 3|03 51c001
 fru_part 0 4 3|02 01aaee";
 
 #[test]
 fn an_inventory_is_given_as_long_as_asked_or_as_it_is(rt: HostRuntime) {
-    image_is_answered(&rt, rt.alloc(), SAVED, FRU_PARTS);
+    assert_answers_of_text(&rt, rt.alloc(), SAVED, FRU_PARTS);
 }
 
+/// `call|answer`.
 const RESERVATIONS: &str = "part sdr 0 1 0 1|0002 01 01
 part sdr 0 1 2 1|code c5
 reserve sdr|0001
@@ -77,12 +82,13 @@ part sel 1 1 0 1|ffff 01 01
 part sel 3 1 2 1|code c5
 part sel 3 1 0 1|ffff 01 01";
 
-// Without the last reservation of its shelf only the first byte of a record is given.
+// The last reservation of a shelf is valid. Without it only the first byte of a record is given.
 #[test]
 fn the_last_reservation_of_a_shelf_serves(rt: HostRuntime) {
-    image_is_answered(&rt, rt.alloc(), SAVED, RESERVATIONS);
+    assert_answers_of_text(&rt, rt.alloc(), SAVED, RESERVATIONS);
 }
 
+/// `call|answer`.
 const PAST_THE_END: &str = "reserve sdr|0001
 part sdr 1 1 5 1|0002 01 aa
 part sdr 1 1 6 1|code c9
@@ -98,13 +104,13 @@ fru_part 0 ff 1|code c9
 fru_part 0 100 1|code c9
 fru_part 0 ffff 1|code c9";
 
-// Where both are wrong, the reservation comes first.
+// If both are wrong, the answer is about the reservation.
 #[test]
 fn there_is_no_byte_past_the_end(rt: HostRuntime) {
-    image_is_answered(&rt, rt.alloc(), SAVED, PAST_THE_END);
+    assert_answers_of_text(&rt, rt.alloc(), SAVED, PAST_THE_END);
 }
 
-/// A byte that may be asked for: of a record, from an offset on, with a reservation.
+/// The byte that a call asks for.
 #[derive(Clone, Copy, Debug)]
 struct Asked {
     shelf: Shelf,
@@ -113,8 +119,8 @@ struct Asked {
     offset: u8,
 }
 
-/// The controller has no record of which this byte could be.
-fn is_absent(rt: &impl Abort, ctl: &mut ImageController, asked: Asked) {
+/// Asserts that there is no record of this byte.
+fn assert_no_byte(rt: &impl Abort, ctl: &mut ImageController, asked: Asked) {
     let mut into = [0xEE];
     let part = ctl.part(
         asked.shelf,
@@ -126,8 +132,8 @@ fn is_absent(rt: &impl Abort, ctl: &mut ImageController, asked: Asked) {
     assert!(rt; part == Err(Code(0xCB)), "{asked:?}: {part:?}");
 }
 
-/// The controller has no such record, whatever the reservation and the offset.
-fn has_no_record(rt: &impl Abort, ctl: &mut ImageController, shelf: Shelf, id: u16) {
+/// Asserts that there is no such record, for any reservation and offset.
+fn assert_no_record(rt: &impl Abort, ctl: &mut ImageController, shelf: Shelf, id: u16) {
     for reservation in 0..3 {
         for offset in [0, 1, 255] {
             let asked = Asked {
@@ -136,11 +142,12 @@ fn has_no_record(rt: &impl Abort, ctl: &mut ImageController, shelf: Shelf, id: u
                 id,
                 offset,
             };
-            is_absent(rt, ctl, asked);
+            assert_no_byte(rt, ctl, asked);
         }
     }
 }
 
+/// `call|answer`.
 const ABSENT: &str = "reading 0 0|code cb
 reading 0 2|code cb
 reading 1 1|code cb
@@ -159,20 +166,20 @@ fru_part ff 0 1|code cb
 fru_part ff 1 1|code cb
 fru_part ff ffff 1|code cb";
 
-/// The controller, which has given reservation 1, has no record with one of these ids.
-fn has_no_other_records(rt: &impl Abort, ctl: &mut ImageController) {
-    has_no_record(rt, ctl, Shelf::Sdr, 0x0003);
-    has_no_record(rt, ctl, Shelf::Sdr, 0x0100);
-    has_no_record(rt, ctl, Shelf::Sdr, 0xFFFF);
-    has_no_record(rt, ctl, Shelf::Sel, 0x0002);
+/// Asserts that records with other ids are not there. Reservation 1 was given before.
+fn assert_no_other_records(rt: &impl Abort, ctl: &mut ImageController) {
+    assert_no_record(rt, ctl, Shelf::Sdr, 0x0003);
+    assert_no_record(rt, ctl, Shelf::Sdr, 0x0100);
+    assert_no_record(rt, ctl, Shelf::Sdr, 0xFFFF);
+    assert_no_record(rt, ctl, Shelf::Sel, 0x0002);
 }
 
 #[test]
 fn what_the_image_has_not_is_not_present(rt: HostRuntime) {
     let mut ctl = over(&rt, rt.alloc(), SAVED);
-    is_answered(&rt, &mut ctl, "reserve sdr|0001");
-    has_no_other_records(&rt, &mut ctl);
-    are_answered(&rt, &mut ctl, ABSENT);
+    assert_answer(&rt, &mut ctl, "reserve sdr|0001");
+    assert_no_other_records(&rt, &mut ctl);
+    assert_answers(&rt, &mut ctl, ABSENT);
     drop(ctl);
 }
 
@@ -185,8 +192,8 @@ fn long_image(rt: &impl Abort, alloc: Global) -> String {
     ).expect(rt, "memory")
 }
 
-/// A part for 254 bytes from the offset on has so many.
-fn part_has(rt: &impl Abort, ctl: &mut ImageController, offset: u8, got: u8) {
+/// Asserts the length of a part for 254 bytes from this offset on.
+fn assert_part_length(rt: &impl Abort, ctl: &mut ImageController, offset: u8, got: u8) {
     let part = ctl.part(Shelf::Sdr, 1, 1, offset, &mut [0xEE; 254]);
     assert!(rt;
         part == Ok(Part { next: 0xFFFF, got }),
@@ -194,43 +201,43 @@ fn part_has(rt: &impl Abort, ctl: &mut ImageController, offset: u8, got: u8) {
     );
 }
 
-/// A part of the inventory for 254 bytes from the offset on has so many.
-fn fru_part_has(rt: &impl Abort, ctl: &mut ImageController, offset: u16, wanted: u8) {
+/// The same for a part of the inventory.
+fn assert_fru_part_length(rt: &impl Abort, ctl: &mut ImageController, offset: u16, wanted: u8) {
     let got = ctl.fru_part(0, offset, &mut [0xEE; 254]);
     assert!(rt; got == Ok(wanted), "{offset}: {got:?}");
 }
 
-/// Parts of the record have as many bytes as are there, and 254 at most.
-fn parts_have(rt: &impl Abort, ctl: &mut ImageController) {
+/// Asserts that a part has the bytes that are left, and at most 254.
+fn assert_part_lengths(rt: &impl Abort, ctl: &mut ImageController) {
     for (offset, got) in [(0, 254), (1, 254), (2, 254), (3, 253), (255, 1)] {
-        part_has(rt, ctl, offset, got);
+        assert_part_length(rt, ctl, offset, got);
     }
 }
 
 /// The same for parts of the inventory.
-fn fru_parts_have(rt: &impl Abort, ctl: &mut ImageController) {
+fn assert_fru_part_lengths(rt: &impl Abort, ctl: &mut ImageController) {
     for (offset, got) in [(0, 254), (46, 254), (47, 253), (256, 44), (299, 1)] {
-        fru_part_has(rt, ctl, offset, got);
+        assert_fru_part_length(rt, ctl, offset, got);
     }
 }
 
 #[test]
 fn the_longest_part_of_a_record_has_254_bytes(rt: HostRuntime) {
     let mut ctl = over(&rt, rt.alloc(), &long_image(&rt, rt.alloc()));
-    is_answered(&rt, &mut ctl, "reserve sdr|0001");
-    parts_have(&rt, &mut ctl);
+    assert_answer(&rt, &mut ctl, "reserve sdr|0001");
+    assert_part_lengths(&rt, &mut ctl);
     drop(ctl);
 }
 
 #[test]
 fn the_longest_part_of_an_inventory_has_254_bytes(rt: HostRuntime) {
     let mut ctl = over(&rt, rt.alloc(), &long_image(&rt, rt.alloc()));
-    fru_parts_have(&rt, &mut ctl);
+    assert_fru_part_lengths(&rt, &mut ctl);
     drop(ctl);
 }
 
-/// A reservation with this number is given, of the event log where three divide the number.
-fn is_numbered(rt: &impl Abort, ctl: &mut ImageController, number: u16) {
+/// Asserts that the next reservation has this number. The event log gets it if three divide the number.
+fn assert_reservation(rt: &impl Abort, ctl: &mut ImageController, number: u16) {
     let shelf = if number % 3 == 0 {
         Shelf::Sel
     } else {
@@ -241,21 +248,22 @@ fn is_numbered(rt: &impl Abort, ctl: &mut ImageController, number: u16) {
 }
 
 /// The same for each number.
-fn are_numbered(rt: &impl Abort, ctl: &mut ImageController) {
+fn assert_reservations(rt: &impl Abort, ctl: &mut ImageController) {
     for number in 1..=65_535 {
-        is_numbered(rt, ctl, number);
+        assert_reservation(rt, ctl, number);
     }
 }
 
-// The number after FFFFh is 1.
+// After FFFFh comes 1.
 #[test]
 fn reservations_are_numbered_over_both_shelves(rt: HostRuntime) {
     let mut ctl = over(&rt, rt.alloc(), SAVED);
-    are_numbered(&rt, &mut ctl);
-    are_answered(&rt, &mut ctl, "reserve sel|0001\nreserve sdr|0002");
+    assert_reservations(&rt, &mut ctl);
+    assert_answers(&rt, &mut ctl, "reserve sel|0001\nreserve sdr|0002");
     drop(ctl);
 }
 
+/// `call|answer`.
 const OF_OTHER_LINES: &str = "part sel 0 0 0 3|ffff 03 010002
 part sdr 0 1 1 1|code c5
 part sel 0 1 1 1|code c5
@@ -266,13 +274,13 @@ part sel 1 1 10 1|code c9
 part sel 2 1 10 1|code c5
 part sdr 1 1 2 1|code c5";
 
-// Id 0000h asks for the first record of the event log too.
+// Id 0000h is that of the first entry too.
 #[test]
 fn the_event_log_is_asked_as_the_other_shelf(rt: HostRuntime) {
-    image_is_answered(&rt, rt.alloc(), SAVED, OF_OTHER_LINES);
+    assert_answers_of_text(&rt, rt.alloc(), SAVED, OF_OTHER_LINES);
 }
 
-/// The ids and numbers at the ends of their ranges.
+/// Ids and numbers at the ends of their ranges.
 const ENDS: &str = "ipmi-image 2
 sdr 0000 - 000051c000
 sdr fffe 0000 010051c001aa
@@ -284,6 +292,7 @@ info sel 510100000201000000ffffffff00
 end
 ";
 
+/// `call|answer`.
 const ENDS_ANSWERS: &str = "part sdr 0 0 0 5|fffe 05 000051c000
 part sdr 0 fffe 0 8|0000 06 010051c001aaeeee
 part sdr 0 1 0 1|code cb
@@ -301,5 +310,5 @@ fru_part 0 0 2|01 0bee";
 
 #[test]
 fn what_is_at_the_end_of_a_range_is_found(rt: HostRuntime) {
-    image_is_answered(&rt, rt.alloc(), ENDS, ENDS_ANSWERS);
+    assert_answers_of_text(&rt, rt.alloc(), ENDS, ENDS_ANSWERS);
 }

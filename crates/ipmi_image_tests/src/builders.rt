@@ -1,32 +1,25 @@
-//! Images that are put together, thing by thing.
-use crate::images::{ANSWERS, REWRITTEN, image_itself_is_answered};
-use crate::rewritten::is_text;
+//! Images that are built, record by record.
+use crate::images::{ANSWERS, REWRITTEN, assert_answers_of_image};
+use crate::rewritten::assert_text;
 use ipmi_bus::{Record, Shelf};
+use ipmi_fixtures::{EVENT, INFO};
 use ipmi_image::{ImageBuilder, image_text};
 use ipmi_text::Reading;
 use std::alloc::Global;
 use std::process::Abort;
 
-/// The bytes of the records of `SAVED`.
+/// The sensor data records of `SAVED`.
 const FIRST: [u8; 6] = [0x01, 0x00, 0x51, 0xc0, 0x01, 0xaa];
 
 const SECOND: [u8; 7] = [0x02, 0x00, 0x51, 0xc0, 0x02, 0xbb, 0xcc];
 
-const ENTRY: [u8; 16] = [
-    0x01, 0x00, 0x02, 0x01, 0x00, 0x00, 0x20, 0x20, 0x00, 0x04, 0x01, 0x30, 0x01, 0x59, 0x5f, 0x5a,
-];
-
-/// The infos of `SAVED`.
-const SDR_INFO: [u8; 14] = [
-    0x51, 0x03, 0x00, 0x00, 0x04, 0x01, 0x00, 0x00, 0x20, 0xff, 0xff, 0xff, 0xff, 0x02,
-];
-
+/// The info of the event log of `SAVED`.
 const SEL_INFO: [u8; 14] = [
     0x51, 0x01, 0x00, 0x00, 0x02, 0x01, 0x00, 0x00, 0x00, 0xff, 0xff, 0xff, 0xff, 0x00,
 ];
 
-/// Whether the record is put.
-fn is_put(
+/// Puts a record, and returns whether it was taken.
+fn put(
     rt: &impl Abort,
     image: &mut ImageBuilder,
     shelf: Shelf,
@@ -40,9 +33,9 @@ fn is_put(
 
 /// Puts the records of `SAVED`.
 fn put_records(rt: &impl Abort, image: &mut ImageBuilder) {
-    assert!(rt; is_put(rt, image, Shelf::Sdr, 0x0001, 0x0002, &FIRST));
-    assert!(rt; is_put(rt, image, Shelf::Sdr, 0x0002, 0xffff, &SECOND));
-    assert!(rt; is_put(rt, image, Shelf::Sel, 0x0001, 0xffff, &ENTRY));
+    assert!(rt; put(rt, image, Shelf::Sdr, 0x0001, 0x0002, &FIRST));
+    assert!(rt; put(rt, image, Shelf::Sdr, 0x0002, 0xffff, &SECOND));
+    assert!(rt; put(rt, image, Shelf::Sel, 0x0001, 0xffff, &EVENT));
 }
 
 /// All of `SAVED`.
@@ -58,35 +51,41 @@ fn saved(rt: &impl Abort, alloc: Global) -> ImageBuilder {
     };
     image.put_reading(0, 1, reading).expect(rt, "memory");
     put_records(rt, &mut image);
-    image.put_info(Shelf::Sdr, SDR_INFO);
+    image.put_info(Shelf::Sdr, INFO);
     image.put_info(Shelf::Sel, SEL_INFO);
     image
 }
 
-/// Compares the text of what was put together with this one.
-fn has_text(rt: &impl Abort, alloc: Global, image: ImageBuilder, wanted: &str, case: &str) {
+/// Asserts the text of an image that was built.
+fn assert_built_text(
+    rt: &impl Abort,
+    alloc: Global,
+    image: ImageBuilder,
+    wanted: &str,
+    case: &str,
+) {
     let image = image.finish();
     let text = image_text(alloc, &image).expect(rt, "memory");
     drop(image);
-    is_text(rt, &text, wanted, case);
+    assert_text(rt, &text, wanted, case);
 }
 
 #[test]
 fn what_is_put_is_in_the_image(rt: HostRuntime) {
     let alloc = rt.alloc();
-    has_text(
+    assert_built_text(
         &rt,
         alloc,
         ImageBuilder::new(alloc),
         "ipmi-image 2\nend\n",
         "nothing",
     );
-    has_text(&rt, alloc, saved(&rt, alloc), REWRITTEN, "all of it");
+    assert_built_text(&rt, alloc, saved(&rt, alloc), REWRITTEN, "all of it");
 }
 
 #[test]
 fn a_controller_answers_from_what_was_put(rt: HostRuntime) {
-    image_itself_is_answered(&rt, saved(&rt, rt.alloc()).finish(), ANSWERS);
+    assert_answers_of_image(&rt, saved(&rt, rt.alloc()).finish(), ANSWERS);
 }
 
 const ONE_RECORD: &str = "ipmi-image 2
@@ -98,16 +97,16 @@ end
 fn a_record_that_may_not_be_there_is_not_put(rt: HostRuntime) {
     let alloc = rt.alloc();
     let mut image = ImageBuilder::new(alloc);
-    // an id that is none, another id than the bytes begin with, an entry of the log, and a byte too few
-    assert!(rt; !is_put(&rt, &mut image, Shelf::Sdr, 0xffff, 7, &FIRST));
-    assert!(rt; !is_put(&rt, &mut image, Shelf::Sdr, 0x0003, 7, &FIRST));
-    assert!(rt; !is_put(&rt, &mut image, Shelf::Sel, 0x0001, 7, &FIRST));
-    assert!(rt; !is_put(&rt, &mut image, Shelf::Sdr, 0x0001, 7, &FIRST[..5]));
-    assert!(rt; is_put(&rt, &mut image, Shelf::Sdr, 0x0001, 7, &FIRST));
+    // an invalid id, an id other than that of the bytes, an entry of the other shelf, and a byte too few
+    assert!(rt; !put(&rt, &mut image, Shelf::Sdr, 0xffff, 7, &FIRST));
+    assert!(rt; !put(&rt, &mut image, Shelf::Sdr, 0x0003, 7, &FIRST));
+    assert!(rt; !put(&rt, &mut image, Shelf::Sel, 0x0001, 7, &FIRST));
+    assert!(rt; !put(&rt, &mut image, Shelf::Sdr, 0x0001, 7, &FIRST[..5]));
+    assert!(rt; put(&rt, &mut image, Shelf::Sdr, 0x0001, 7, &FIRST));
     // the same id again, and that of a first record
-    assert!(rt; !is_put(&rt, &mut image, Shelf::Sdr, 0x0001, 7, &FIRST));
-    assert!(rt; !is_put(&rt, &mut image, Shelf::Sdr, 0x0000, 7, &FIRST));
-    has_text(&rt, alloc, image, ONE_RECORD, "one record");
+    assert!(rt; !put(&rt, &mut image, Shelf::Sdr, 0x0001, 7, &FIRST));
+    assert!(rt; !put(&rt, &mut image, Shelf::Sdr, 0x0000, 7, &FIRST));
+    assert_built_text(&rt, alloc, image, ONE_RECORD, "one record");
 }
 
 #[test]
@@ -120,6 +119,6 @@ fn records_are_found_by_place_and_cleared(rt: HostRuntime) {
     image.clear_records(alloc, Shelf::Sel);
     assert!(rt; image.record_bytes(Shelf::Sel, 0).is_none());
     image.clear_records(alloc, Shelf::Sdr);
-    assert!(rt; is_put(&rt, &mut image, Shelf::Sdr, 0x0001, 7, &FIRST));
-    has_text(&rt, alloc, image, ONE_RECORD, "cleared");
+    assert!(rt; put(&rt, &mut image, Shelf::Sdr, 0x0001, 7, &FIRST));
+    assert_built_text(&rt, alloc, image, ONE_RECORD, "cleared");
 }

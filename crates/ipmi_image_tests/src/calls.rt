@@ -1,17 +1,17 @@
-//! Calls as lines of text, and what a controller answers them. No memory is taken here.
+//! Calls of a controller and its answers, as lines of text. No memory is taken here.
 ghost use Rattle.std.specs.Prelude.{◌<◌, ◌≤◌};
 
 use ipmi_bus::{Code, Controller, Part, Shelf};
 use std::process::Abort;
 use std::str::SplitWhitespace;
 
-/// The most bytes that a call here asks for.
+/// The most bytes that a call asks for.
 const MOST: usize = 17;
 
-/// The most characters that an answer here has.
+/// The most characters of an answer.
 const LONGEST: usize = 48;
 
-/// What a call was answered, as a text: its numbers and its bytes in hex, or `code` and the completion code.
+/// An answer as a text: its numbers and its bytes in hex, or `code` and the completion code.
 #[derive(Drop)]
 pub struct Answer {
     text: [u8; LONGEST],
@@ -75,7 +75,7 @@ impl Answer {
         answer
     }
 
-    /// A part of a record, with the bytes that came and those after them.
+    /// A part of a record: the next id, the number of its bytes, and the whole buffer.
     fn of_part(part: Result<Part, Code>, into: &[u8]) -> Answer {
         match part {
             Ok(part) => Answer::of_three(&part.next.to_be_bytes(), &[part.got], into),
@@ -96,14 +96,14 @@ impl Answer {
         std::str::from_utf8(text).expect(rt, "text")
     }
 
-    /// Compares the text with this one. A failure names the case.
-    fn has_text(&self, rt: &impl Abort, wanted: &str, case: &str) {
+    /// Asserts the text. A failure names the case.
+    fn assert_text(&self, rt: &impl Abort, wanted: &str, case: &str) {
         let text = self.text(rt);
         assert!(rt; text == wanted, "{case}: got {text}");
     }
 }
 
-/// The words of a line that are left, and the line, by which a failure names the case.
+/// The rest of a line's words, and the line itself, which names the case.
 #[derive(Drop)]
 pub struct LineWords<'a> {
     line: &'a str,
@@ -133,7 +133,7 @@ impl<'a> LineWords<'a> {
         u16::from_str_radix(self.next(rt), 16).expect(rt, self.line)
     }
 
-    /// How many bytes are asked for.
+    /// The number of bytes that are asked for.
     fn next_len(&mut self, rt: &impl Abort) -> usize
         ensures some { 0 < result }
         ensures fits { result ≤ 17 }
@@ -209,7 +209,7 @@ fn fru_part<C: Controller>(rt: &impl Abort, ctl: &mut C, words: &mut LineWords) 
     Answer::of_fru_part(got, into)
 }
 
-/// Makes the call of a line, whose numbers are in hex:
+/// Makes the call of a line. Its numbers are in hex:
 ///
 /// | line | answer |
 /// |---|---|
@@ -234,25 +234,25 @@ pub fn ask<C: Controller>(rt: &impl Abort, ctl: &mut C, call: &str) -> Answer {
     }
 }
 
-/// The parts of a line before and after its first bar.
+/// A line before and after its first bar.
 pub fn parts<'a>(rt: &impl Abort, line: &'a str) -> (&'a str, &'a str) {
     line.split_once('|').expect(rt, line)
 }
 
-/// Makes the call of a line, and compares its answer with the one after the bar. A failure names the case.
-pub fn case_is_answered<C: Controller>(rt: &impl Abort, ctl: &mut C, line: &str, case: &str) {
+/// Asserts the answer to the call of a line `call|answer`. A failure names the case.
+pub fn assert_answer_of_case<C: Controller>(rt: &impl Abort, ctl: &mut C, line: &str, case: &str) {
     let (call, wanted) = parts(rt, line);
-    ask(rt, ctl, call).has_text(rt, wanted, case);
+    ask(rt, ctl, call).assert_text(rt, wanted, case);
 }
 
-/// The same for a line that is the case.
-pub fn is_answered<C: Controller>(rt: &impl Abort, ctl: &mut C, line: &str) {
-    case_is_answered(rt, ctl, line, line);
+/// The same. The line is the case.
+pub fn assert_answer<C: Controller>(rt: &impl Abort, ctl: &mut C, line: &str) {
+    assert_answer_of_case(rt, ctl, line, line);
 }
 
-/// The same for each of the lines.
-pub fn are_answered<C: Controller>(rt: &impl Abort, ctl: &mut C, lines: &str) {
+/// The same for each line.
+pub fn assert_answers<C: Controller>(rt: &impl Abort, ctl: &mut C, lines: &str) {
     for line in lines.lines() {
-        is_answered(rt, ctl, line);
+        assert_answer(rt, ctl, line);
     }
 }

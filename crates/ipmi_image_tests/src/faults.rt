@@ -1,11 +1,10 @@
-//! Images with a fault and without, by their lines.
+//! Images with and without a fault.
 use crate::calls::parts;
 use crate::images::fault_of;
 use std::alloc::Global;
 use std::process::Abort;
 
-/// Puts the text at the end of the image, with a line feed for each semicolon, and for each tilde FFh, a byte that
-/// no UTF-8 has.
+/// Appends the text to an image. A semicolon is a line feed, and a tilde is FFh, a byte that UTF-8 never has.
 fn push_lines(rt: &impl Abort, image: &mut Vec<u8>, text: &str) {
     for byte in text.bytes() {
         let byte = match byte {
@@ -17,7 +16,7 @@ fn push_lines(rt: &impl Abort, image: &mut Vec<u8>, text: &str) {
     }
 }
 
-/// The image of these lines, one text after the other.
+/// The image of two texts, one after the other.
 fn image_of(rt: &impl Abort, alloc: Global, first: &str, second: &str) -> Vec<u8> {
     let mut image = Vec::new(alloc);
     push_lines(rt, &mut image, first);
@@ -25,7 +24,7 @@ fn image_of(rt: &impl Abort, alloc: Global, first: &str, second: &str) -> Vec<u8
     image
 }
 
-/// What is said of the image of these lines, and `read` where it has no fault.
+/// The fault of an image, or `read` if it has none.
 fn verdict(rt: &impl Abort, alloc: Global, first: &str, second: &str) -> String {
     match fault_of(alloc, &image_of(rt, alloc, first, second)) {
         Some(fault) => fault.to_string(alloc).expect(rt, "memory"),
@@ -33,21 +32,21 @@ fn verdict(rt: &impl Abort, alloc: Global, first: &str, second: &str) -> String 
     }
 }
 
-/// Reads these lines and those of the case, and compares what is said of them with what comes after the bar.
-fn has_verdict(rt: &impl Abort, alloc: Global, before: &str, case: &str) {
+/// Asserts the fault of an image: the lines before, and those of the case.
+fn assert_verdict(rt: &impl Abort, alloc: Global, before: &str, case: &str) {
     let (lines, wanted) = parts(rt, case);
     let got = verdict(rt, alloc, before, lines);
     assert!(rt; got.as_str() == wanted, "{case}: got {got}");
 }
 
-/// The same for each of the cases.
-pub fn have_verdicts(rt: &impl Abort, alloc: Global, before: &str, cases: &str) {
+/// The same for each case.
+pub fn assert_verdicts(rt: &impl Abort, alloc: Global, before: &str, cases: &str) {
     for case in cases.lines() {
-        has_verdict(rt, alloc, before, case);
+        assert_verdict(rt, alloc, before, case);
     }
 }
 
-/// Whole images.
+/// `image|fault`. A semicolon is a line feed.
 const FIRST_LINES: &str = "|header
 ipmi-image 1|header
 ipmi-image 3;end;|header
@@ -62,10 +61,10 @@ ipmi-image 2;end;|read";
 
 #[test]
 fn the_first_line_is_the_version(rt: HostRuntime) {
-    have_verdicts(&rt, rt.alloc(), "", FIRST_LINES);
+    assert_verdicts(&rt, rt.alloc(), "", FIRST_LINES);
 }
 
-/// Records after the first line, up to the end of the image.
+/// `records up to the end of the image|fault`.
 const ROWS: &str = "sdr 0001 ffff;end;|line 2: not a line
 sdr 0001 ffff 010051c00;end;|line 2: hex
 sdr 0001 0000 010051c000;sdr 0000 ffff 000051c000;end;|line 3: id
@@ -86,10 +85,10 @@ sdr 0001 ffff ;end;|line 2: not a line";
 
 #[test]
 fn a_fault_of_a_record_names_its_line(rt: HostRuntime) {
-    have_verdicts(&rt, rt.alloc(), "ipmi-image 1;", ROWS);
+    assert_verdicts(&rt, rt.alloc(), "ipmi-image 1;", ROWS);
 }
 
-/// Inventories, readings and infos after the first line, up to the end of the image.
+/// `inventories, readings and infos up to the end of the image|fault`.
 const OTHERS: &str = "reading 4 01 2dc00000;end;|line 2: id
 reading 0 01 2dc000;end;|line 2: length
 reading 0 01 2dc0000000;end;|line 2: length
@@ -103,10 +102,10 @@ info fru 00;end;|line 2: not a line";
 
 #[test]
 fn a_fault_of_another_line_names_its_line(rt: HostRuntime) {
-    have_verdicts(&rt, rt.alloc(), "ipmi-image 1;", OTHERS);
+    assert_verdicts(&rt, rt.alloc(), "ipmi-image 1;", OTHERS);
 }
 
-/// Images that end well or not, after the first line.
+/// `lines after the first|fault`, of images that end well or not.
 const ENDS: &str = "frob|no end
 end;x|line 3: after end
 end ;|line 2: not a line
@@ -118,10 +117,10 @@ end;fru 00 00;end;|line 3: after end";
 
 #[test]
 fn the_line_end_is_the_last_one(rt: HostRuntime) {
-    have_verdicts(&rt, rt.alloc(), "ipmi-image 1;", ENDS);
+    assert_verdicts(&rt, rt.alloc(), "ipmi-image 1;", ENDS);
 }
 
-/// Lines after the first one, with a character too many, too few or another.
+/// `lines after the first|fault`, with a character too many, too few or another.
 const SPELLINGS: &str = "sdr  0001 ffff 010051c000;end;|line 2: not a line
 sdr 0001 ffff 010051c000 ;end;|line 2: not a line
  sdr 0001 ffff 010051c000;end;|line 2: not a line
@@ -144,13 +143,13 @@ end x;|line 2: not a line
 end\r;|line 2: not a line
 End;|line 2: not a line";
 
-// Fields are between single spaces, words are as they are written, and a carriage return is a character like others.
+// Single spaces separate fields. Words are case-sensitive. A carriage return is an ordinary character.
 #[test]
 fn a_line_is_taken_to_the_letter(rt: HostRuntime) {
-    have_verdicts(&rt, rt.alloc(), "ipmi-image 1;", SPELLINGS);
+    assert_verdicts(&rt, rt.alloc(), "ipmi-image 1;", SPELLINGS);
 }
 
-/// Lines after the first one, with a letter of two bytes or more.
+/// `lines after the first|fault`, with a letter of two bytes or more.
 const TWO_BYTES: &str = "sdr 00é ffff 010051c000;end;|line 2: hex
 sdr 000é ffff 010051c000;end;|line 2: not a line
 sdr 0001 é00 010051c000;end;|line 2: hex
@@ -162,20 +161,20 @@ sdré 0001 ffff 010051c000;end;|line 2: not a line
 ende\u{301};|line 2: not a line
 end\u{a0};|line 2: not a line";
 
-// A letter of two bytes is two characters, neither of which is a hex digit.
+// A letter of two bytes counts as two characters. Neither is a hex digit.
 #[test]
 fn each_byte_is_a_character(rt: HostRuntime) {
-    have_verdicts(&rt, rt.alloc(), "ipmi-image 1;", TWO_BYTES);
+    assert_verdicts(&rt, rt.alloc(), "ipmi-image 1;", TWO_BYTES);
 }
 
-/// Whole images that begin with bytes that are no UTF-8, or have them in their first line.
+/// `image|fault`, with bytes at the start or in the first line that are not UTF-8. A tilde is FFh.
 const NO_TEXT_FIRST: &str = "~|header
 ~;end;|header
 ~ipmi-image 1;end;|header
 ipmi-image ~;end;|header
 ipmi-image 1~;end;|header";
 
-/// Lines after the first one, with bytes that are no UTF-8.
+/// `lines after the first|fault`, with bytes that are not UTF-8.
 const NO_TEXT: &str = "~|no end
 fru 00 00;~|no end
 ~;end;|line 2: not a line
@@ -196,14 +195,14 @@ end~;|line 2: not a line
 end;~|line 3: after end
 end;~;|line 3: after end";
 
-// An image is bytes, of which those that no text has are no digits, no separators and no words.
+// An image may have bytes that are not UTF-8. They are neither digits nor separators nor words.
 #[test]
 fn bytes_that_are_no_utf8_have_a_fault(rt: HostRuntime) {
-    have_verdicts(&rt, rt.alloc(), "", NO_TEXT_FIRST);
-    have_verdicts(&rt, rt.alloc(), "ipmi-image 1;", NO_TEXT);
+    assert_verdicts(&rt, rt.alloc(), "", NO_TEXT_FIRST);
+    assert_verdicts(&rt, rt.alloc(), "ipmi-image 1;", NO_TEXT);
 }
 
-/// Lines after the first one, with several faults.
+/// `lines after the first|fault`, with several faults.
 const SEVERAL: &str = "sdr 000g fff 010;end;|line 2: not a line
 info fru 0;end;|line 2: not a line
 sdr ffff ffff 01g0;end;|line 2: hex
@@ -217,10 +216,10 @@ sel 0001 ffff 01;frob;|line 2: length";
 
 #[test]
 fn the_first_fault_decides(rt: HostRuntime) {
-    have_verdicts(&rt, rt.alloc(), "ipmi-image 1;", SEVERAL);
+    assert_verdicts(&rt, rt.alloc(), "ipmi-image 1;", SEVERAL);
 }
 
-/// Lines after the first one, with no fault.
+/// `lines after the first|fault`, without a fault.
 const CLEAN: &str = "sdr 0000 0000 000051c000;end;|read
 sdr 0001 0000 010051c000;sdr 0002 0001 ffff51c000;end;|read
 sdr 0001 ffff 010051c000;sel 0001 ffff 01000201000020200004013001595f5a;end;|read
@@ -229,28 +228,28 @@ reading 3 ff 2dc00000;end;|read
 fru fe 00;end;|read
 info sdr 510300000401000020ffffffff02;info sel 510300000401000020ffffffff02;end;|read";
 
-// What one line may not have beside another on its own shelf is no fault beside a line of another kind.
+// Two lines of different kinds may have the same id.
 #[test]
 fn a_line_of_another_kind_or_shelf_is_no_fault(rt: HostRuntime) {
-    have_verdicts(&rt, rt.alloc(), "ipmi-image 1;", CLEAN);
+    assert_verdicts(&rt, rt.alloc(), "ipmi-image 1;", CLEAN);
 }
 
-/// Lines after the first one, with digits of both cases.
+/// `lines after the first|fault`, with digits of both cases.
 const EITHER_CASE: &str = "sdr 00AB ffff AB0051C000;sdr 00ab ffff ab0051c000;end;|line 3: twice
 reading 0 0A 2dc00000;reading 0 0a 2dc00000;end;|line 3: twice
 fru FF 00;end;|line 2: id";
 
 #[test]
 fn an_id_is_the_same_in_either_case(rt: HostRuntime) {
-    have_verdicts(&rt, rt.alloc(), "ipmi-image 1;", EITHER_CASE);
+    assert_verdicts(&rt, rt.alloc(), "ipmi-image 1;", EITHER_CASE);
 }
 
-/// Whole images of version 2.
+/// `image of version 2|fault`.
 const DASHES: &str = "ipmi-image 2;sdr - ffff 010051c000;end;|line 2: not a line
 ipmi-image 2;sdr 0001 -- 010051c000;end;|line 2: not a line
 ipmi-image 2;sdr 0001 - -;end;|line 2: hex";
 
 #[test]
 fn a_dash_is_for_a_next_id(rt: HostRuntime) {
-    have_verdicts(&rt, rt.alloc(), "", DASHES);
+    assert_verdicts(&rt, rt.alloc(), "", DASHES);
 }

@@ -1,18 +1,10 @@
-//! Images that several files of tests read, and what a controller over one answers first.
-use crate::calls::are_answered;
+//! Images that several tests use, and the first answers of a controller over one.
+use crate::calls::assert_answers;
 use ipmi_image::{Image, ImageController, ImageFault};
 use std::alloc::Global;
 use std::process::Abort;
 
-/// Three sensor data records.
-pub const THREE_ROWS: &str = "ipmi-image 1
-sdr 0001 0002 010051c001aa
-sdr 0002 0003 020051c002bbcc
-sdr 0003 ffff 030051c000
-end
-";
-
-/// Lines of every kind. Those of its inventory are apart, and the inventory has the first record's bytes.
+/// Lines of each kind. The inventory has two lines, which are apart, and the bytes of the first record.
 pub const SAVED: &str = "ipmi-image 1
 sdr 0001 0002 010051c001aa
 fru 00 010051
@@ -37,7 +29,7 @@ info sel 510100000201000000ffffffff00
 end
 ";
 
-/// Has other answers than `SAVED` to the calls of `ANSWERS`, but for the first.
+/// An image whose answers to `ANSWERS` are not those of `SAVED`, but for the first.
 pub const OTHER: &str = "ipmi-image 1
 sdr 0001 ffff 010051c000
 fru 00 0a0b
@@ -46,7 +38,7 @@ info sdr 510100000501000020ffffffff02
 end
 ";
 
-/// The first answers of a controller over `SAVED`, to a call of each kind.
+/// `call|answer` of a controller over `SAVED`: one call of each kind.
 pub const ANSWERS: &str = "reserve sdr|0001
 part sdr 0 1 0 8|0002 06 010051c001aaeeee
 info sdr|510300000401000020ffffffff02
@@ -58,24 +50,24 @@ pub fn image(rt: &impl Abort, alloc: Global, text: &str) -> Image {
     Image::read(alloc, text.as_bytes()).expect(rt, text)
 }
 
-/// A controller over the image that the text is.
+/// A controller over the image of a text.
 pub fn over(rt: &impl Abort, alloc: Global, text: &str) -> ImageController {
     ImageController::new(image(rt, alloc, text))
 }
 
-/// Asks a controller over the image the calls of these lines, each with its answer after a bar.
-pub fn image_itself_is_answered(rt: &impl Abort, image: Image, lines: &str) {
+/// Asserts the answers of a controller over an image to the calls of these lines.
+pub fn assert_answers_of_image(rt: &impl Abort, image: Image, lines: &str) {
     let mut ctl = ImageController::new(image);
-    are_answered(rt, &mut ctl, lines);
+    assert_answers(rt, &mut ctl, lines);
     drop(ctl);
 }
 
-/// The same for the image that the text is.
-pub fn image_is_answered(rt: &impl Abort, alloc: Global, text: &str, lines: &str) {
-    image_itself_is_answered(rt, image(rt, alloc, text), lines);
+/// The same over the image of a text.
+pub fn assert_answers_of_text(rt: &impl Abort, alloc: Global, text: &str, lines: &str) {
+    assert_answers_of_image(rt, image(rt, alloc, text), lines);
 }
 
-/// What is wrong with an image, if anything is.
+/// The fault of an image, if it has one.
 pub fn fault_of(alloc: Global, image: &[u8]) -> Option<ImageFault> {
     Image::read(alloc, image).err()
 }

@@ -1,63 +1,64 @@
-//! Images cut short, and records and inventories as long as they may be, and longer.
-use crate::images::{THREE_ROWS, fault_of, image_is_answered};
-use crate::rewritten::has_text;
+//! Images cut short, and records and inventories up to their greatest length and beyond.
+use crate::images::{assert_answers_of_text, fault_of};
+use crate::rewritten::assert_image_text;
+use ipmi_fixtures::THREE_ROWS;
 use ipmi_image::ImageFault;
 use std::alloc::Global;
 use std::fmt::Write;
 use std::process::Abort;
 
-/// Compares the fault of the image, if it has one.
-fn has_fault(rt: &impl Abort, alloc: Global, image: &[u8], wanted: Option<ImageFault>) {
+/// Asserts the fault of an image, or that it has none.
+fn assert_fault(rt: &impl Abort, alloc: Global, image: &[u8], wanted: Option<ImageFault>) {
     let fault = fault_of(alloc, image);
     assert!(rt; fault == wanted, "{} bytes: {fault:?}", image.len());
 }
 
-/// The same of the first bytes of `THREE_ROWS`.
-fn cut_has_fault(rt: &impl Abort, alloc: Global, len: usize, wanted: Option<ImageFault>) {
+/// The same for the first `len` bytes of `THREE_ROWS`.
+fn assert_fault_of_cut(rt: &impl Abort, alloc: Global, len: usize, wanted: Option<ImageFault>) {
     let image = THREE_ROWS.as_bytes().get(..len).expect(rt, "as many bytes");
-    has_fault(rt, alloc, image, wanted);
+    assert_fault(rt, alloc, image, wanted);
 }
 
-/// How many bytes the first line of `THREE_ROWS` has, with its line feed.
+/// The length of the first line of `THREE_ROWS`, with its line feed.
 const FIRST_LINE: usize = 13;
 
-/// How many bytes `THREE_ROWS` has.
+/// The length of `THREE_ROWS`.
 const WHOLE: usize = 98;
 
 #[test]
 fn an_image_cut_short_has_no_end(rt: HostRuntime) {
     for len in 0..FIRST_LINE {
-        cut_has_fault(&rt, rt.alloc(), len, Some(ImageFault::Header));
+        assert_fault_of_cut(&rt, rt.alloc(), len, Some(ImageFault::Header));
     }
     for len in FIRST_LINE..WHOLE {
-        cut_has_fault(&rt, rt.alloc(), len, Some(ImageFault::NoEnd));
+        assert_fault_of_cut(&rt, rt.alloc(), len, Some(ImageFault::NoEnd));
     }
-    cut_has_fault(&rt, rt.alloc(), WHOLE, None);
+    assert_fault_of_cut(&rt, rt.alloc(), WHOLE, None);
     let len = THREE_ROWS.len();
     assert!(rt; len == WHOLE, "{len} bytes");
 }
 
-/// An image of a record that has its fifth byte and so many after it, as that byte says.
-fn has_record_of(rt: &impl Abort, alloc: Global, after: u8, wanted: Option<ImageFault>) {
+/// The same for an image of a record with `after` bytes after its fifth, which says so.
+fn assert_fault_of_record(rt: &impl Abort, alloc: Global, after: u8, wanted: Option<ImageFault>) {
     let bytes = "00".repeat(alloc, usize::from(after)).expect(rt, "memory");
     let image = format!(in alloc;
         "ipmi-image 1\nsdr 0001 ffff 010051c0{after:02x}{bytes}\nend\n"
     ).expect(rt, "memory");
-    has_fault(rt, alloc, image.as_bytes(), wanted);
+    assert_fault(rt, alloc, image.as_bytes(), wanted);
 }
 
-// The most bytes are 5 + 251.
+// 5 + 251 bytes.
 #[test]
 fn a_record_has_256_bytes_at_most(rt: HostRuntime) {
     for after in [0, 1, 250, 251] {
-        has_record_of(&rt, rt.alloc(), after, None);
+        assert_fault_of_record(&rt, rt.alloc(), after, None);
     }
     for after in [252, 253, 255] {
-        has_record_of(&rt, rt.alloc(), after, Some(ImageFault::Length(2)));
+        assert_fault_of_record(&rt, rt.alloc(), after, Some(ImageFault::Length(2)));
     }
 }
 
-/// Puts bytes of the longest inventory at the end of the text, in hex. Each is its place, modulo 251.
+/// Appends bytes of the longest inventory, in hex. The byte at a place is the place modulo 251.
 fn push_bytes(rt: &impl Abort, text: &mut String, from: u32, to: u32) {
     for place in from..to {
         let byte = place % 251;
@@ -65,7 +66,7 @@ fn push_bytes(rt: &impl Abort, text: &mut String, from: u32, to: u32) {
     }
 }
 
-/// An image whose only line is an inventory of 65,535 bytes, and then this text.
+/// An image of an inventory of 65,535 bytes on one line, and then this text.
 fn full_inventory(rt: &impl Abort, alloc: Global, after: &str) -> String {
     let mut image = String::from_str(alloc, "ipmi-image 1\nfru 00 ").expect(rt, "memory");
     push_bytes(rt, &mut image, 0, 65_535);
@@ -76,16 +77,16 @@ fn full_inventory(rt: &impl Abort, alloc: Global, after: &str) -> String {
 #[test]
 fn an_inventory_has_65535_bytes_at_most(rt: HostRuntime) {
     let image = full_inventory(&rt, rt.alloc(), "\nend\n");
-    has_fault(&rt, rt.alloc(), image.as_bytes(), None);
+    assert_fault(&rt, rt.alloc(), image.as_bytes(), None);
     let image = full_inventory(&rt, rt.alloc(), "\nfru 00 00\nend\n");
-    has_fault(
+    assert_fault(
         &rt,
         rt.alloc(),
         image.as_bytes(),
         Some(ImageFault::TooMany(3)),
     );
     let image = full_inventory(&rt, rt.alloc(), "00\nend\n");
-    has_fault(
+    assert_fault(
         &rt,
         rt.alloc(),
         image.as_bytes(),
@@ -93,14 +94,14 @@ fn an_inventory_has_65535_bytes_at_most(rt: HostRuntime) {
     );
 }
 
-/// Puts a line of the longest inventory at the end of the text.
+/// Appends a line of the longest inventory.
 fn push_line(rt: &impl Abort, text: &mut String, from: u32, to: u32) {
     text.push_str("fru 00 ").expect(rt, "memory");
     push_bytes(rt, text, from, to);
     text.push_str("\n").expect(rt, "memory");
 }
 
-/// The longest inventory as it is written: lines of 64 bytes, and 63 on the last one.
+/// The longest inventory as it is written: 64 bytes a line, and 63 on the last.
 fn full_inventory_rewritten(rt: &impl Abort, alloc: Global) -> String {
     let mut text = String::from_str(alloc, "ipmi-image 2\n").expect(rt, "memory");
     for line in 0..1_023 {
@@ -115,11 +116,11 @@ fn full_inventory_rewritten(rt: &impl Abort, alloc: Global) -> String {
 fn the_longest_inventory_is_written_again(rt: HostRuntime) {
     let image = full_inventory(&rt, rt.alloc(), "\nend\n");
     let wanted = full_inventory_rewritten(&rt, rt.alloc());
-    has_text(&rt, rt.alloc(), &image, &wanted);
-    has_text(&rt, rt.alloc(), &wanted, &wanted);
+    assert_image_text(&rt, rt.alloc(), &image, &wanted);
+    assert_image_text(&rt, rt.alloc(), &wanted, &wanted);
 }
 
-/// The last byte is at FFFEh.
+/// `call|answer`. The last byte is at FFFEh.
 const LAST_BYTES: &str = "fru_size 0|ffff 00
 fru_part 0 fffd 3|02 1617ee
 fru_part 0 fffd 2|02 1617
@@ -133,5 +134,5 @@ fru_part 0 0 2|02 0001";
 #[test]
 fn the_longest_inventory_is_given_to_its_last_byte(rt: HostRuntime) {
     let image = full_inventory(&rt, rt.alloc(), "\nend\n");
-    image_is_answered(&rt, rt.alloc(), &image, LAST_BYTES);
+    assert_answers_of_text(&rt, rt.alloc(), &image, LAST_BYTES);
 }

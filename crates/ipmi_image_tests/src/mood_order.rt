@@ -1,6 +1,7 @@
 //! Moods of calls of the event log, before what is absent, and one after another.
-use crate::moods::{are_met, moods_are_met};
+use crate::moods::{assert_answers_after_moods, assert_answers_in_moods};
 
+/// `mood|call|answer`.
 const OF_THE_EVENT_LOG: &str = "cancel|reserve sel|code c5
 cancel|part sel 0 1 0 1|code c5
 cancel|info sel|code c5
@@ -17,10 +18,10 @@ other|info sel|code cb";
 
 #[test]
 fn a_call_of_the_event_log_meets_a_mood(rt: HostRuntime) {
-    are_met(&rt, rt.alloc(), OF_THE_EVENT_LOG);
+    assert_answers_in_moods(&rt, rt.alloc(), OF_THE_EVENT_LOG);
 }
 
-/// A mood comes before the answer that something is not there.
+/// `mood|call|answer`. A mood comes before the answer that something is not there.
 const ABSENT: &str = "cancel|part sdr 0 3 0 1|code c5
 busy|reading 1 1|code c0
 too_long|part sdr 0 3 0 2|code ca
@@ -34,10 +35,10 @@ other|part sdr 0 2 0 8|code cb";
 
 #[test]
 fn a_mood_comes_before_what_is_absent(rt: HostRuntime) {
-    are_met(&rt, rt.alloc(), ABSENT);
+    assert_answers_in_moods(&rt, rt.alloc(), ABSENT);
 }
 
-/// The image stays changed until the next change.
+/// `call|answer`. The image stays changed until the next change.
 const CHANGED_TWICE: &str = "reading 0 1|2ec00001
 part sdr 0 1 0 6|ffff 05 010051c000ee
 info sel|510100000201000000ffffffff00
@@ -46,10 +47,10 @@ reading 0 1|2dc00000";
 
 #[test]
 fn a_change_lasts_to_the_next_one(rt: HostRuntime) {
-    moods_are_met(&rt, rt.alloc(), "other, grant fe, saved", CHANGED_TWICE);
+    assert_answers_after_moods(&rt, rt.alloc(), "other, grant fe, saved", CHANGED_TWICE);
 }
 
-/// A reservation that fails takes no number, and a change does not begin to count again.
+/// `call|answer`. A reservation that fails takes no number, and a change does not begin to count again.
 const NUMBERS: &str = "reserve sdr|code c0
 reserve sdr|code c5
 reserve sdr|code d4
@@ -61,10 +62,10 @@ part sdr 1 1 2 1|code c5";
 #[test]
 fn a_failed_reservation_takes_no_number(rt: HostRuntime) {
     let moods = "busy, cancel, refuse d4, too_long, other";
-    moods_are_met(&rt, rt.alloc(), moods, NUMBERS);
+    assert_answers_after_moods(&rt, rt.alloc(), moods, NUMBERS);
 }
 
-/// Past the first byte, and where less is left than is granted.
+/// `call|answer`, past the first byte, and where fewer bytes are left than are granted.
 const GRANTED_LATER: &str = "reserve sdr|0001
 part sdr 1 1 2 4|0002 02 51c0eeee
 part sdr 1 1 5 4|0002 01 aaeeeeee
@@ -75,5 +76,5 @@ part sdr 2 1 2 1|code c5";
 #[test]
 fn a_grant_counts_from_the_offset(rt: HostRuntime) {
     let moods = "grant 1, grant 2, grant 2, grant 2, grant 2, grant 2";
-    moods_are_met(&rt, rt.alloc(), moods, GRANTED_LATER);
+    assert_answers_after_moods(&rt, rt.alloc(), moods, GRANTED_LATER);
 }

@@ -1,5 +1,5 @@
-//! What a scripted controller makes of each call, mood by mood.
-use crate::calls::{LineWords, are_answered, case_is_answered, parts};
+//! The effect of each mood on each call of a scripted controller.
+use crate::calls::{LineWords, assert_answer_of_case, assert_answers, parts};
 use crate::images::{ANSWERS, OTHER, SAVED, image};
 use ipmi_bus::Code;
 use ipmi_image::{Mood, Scripted};
@@ -18,8 +18,8 @@ fn change(rt: &impl Abort, alloc: Global, text: &str) -> Mood {
     Mood::Change(image(rt, alloc, text))
 }
 
-/// The mood that these words are: `grant` with the most bytes, `refuse` with a code, `cancel`, `busy` or `too_long`,
-/// and `saved` or `other` where the image changes to that one.
+/// The mood of these words: `grant` with the most bytes, `refuse` with a code, `cancel`, `busy` or `too_long`, and
+/// `saved` or `other` for a change to that image.
 fn mood(rt: &impl Abort, alloc: Global, text: &str) -> Mood {
     let mut words = LineWords::of(text);
     match words.next(rt) {
@@ -34,7 +34,7 @@ fn mood(rt: &impl Abort, alloc: Global, text: &str) -> Mood {
     }
 }
 
-/// A controller over `SAVED` whose first calls meet these moods.
+/// A controller over `SAVED`. Its first calls meet these moods.
 fn scripted(rt: &impl Abort, alloc: Global, moods: &str) -> Scripted {
     let mut list = Vec::new(alloc);
     for text in moods.split(", ") {
@@ -43,29 +43,29 @@ fn scripted(rt: &impl Abort, alloc: Global, moods: &str) -> Scripted {
     Scripted::new(image(rt, alloc, SAVED), list)
 }
 
-/// Compares the first answer of a controller that meets a call. The line has the mood, the call and the answer.
-fn is_met(rt: &impl Abort, alloc: Global, line: &str) {
+/// Asserts the answer to a call that meets a mood: `mood|call|answer`.
+fn assert_answer_in_mood(rt: &impl Abort, alloc: Global, line: &str) {
     let (mood, rest) = parts(rt, line);
     let mut ctl = scripted(rt, alloc, mood);
-    case_is_answered(rt, &mut ctl, rest, line);
+    assert_answer_of_case(rt, &mut ctl, rest, line);
     drop(ctl);
 }
 
-/// The same for each of these lines.
-pub fn are_met(rt: &impl Abort, alloc: Global, lines: &str) {
+/// The same for each line.
+pub fn assert_answers_in_moods(rt: &impl Abort, alloc: Global, lines: &str) {
     for line in lines.lines() {
-        is_met(rt, alloc, line);
+        assert_answer_in_mood(rt, alloc, line);
     }
 }
 
-/// Asks the calls of these lines, the first of which meet these moods.
-pub fn moods_are_met(rt: &impl Abort, alloc: Global, moods: &str, lines: &str) {
+/// Asserts the answers to the calls of these lines. The first calls meet these moods.
+pub fn assert_answers_after_moods(rt: &impl Abort, alloc: Global, moods: &str, lines: &str) {
     let mut ctl = scripted(rt, alloc, moods);
-    are_answered(rt, &mut ctl, lines);
+    assert_answers(rt, &mut ctl, lines);
     drop(ctl);
 }
 
-/// A mood, the call that meets it, and its answer.
+/// `mood|call|answer`.
 const FAILED: &str = "cancel|reserve sdr|code c5
 cancel|part sdr 0 1 0 8|code c5
 cancel|info sdr|code c5
@@ -81,10 +81,10 @@ busy|fru_part 0 0 8|code c0";
 
 #[test]
 fn a_cancelled_or_busy_call_is_answered_by_its_code(rt: HostRuntime) {
-    are_met(&rt, rt.alloc(), FAILED);
+    assert_answers_in_moods(&rt, rt.alloc(), FAILED);
 }
 
-/// Where no byte is granted, one comes all the same.
+/// `mood|call|answer`. Where no byte is granted, one comes all the same.
 const GRANTED: &str = "grant 0|reserve sdr|0001
 grant 0|part sdr 0 1 0 8|0002 01 01eeeeeeeeeeeeee
 grant 0|info sdr|510300000401000020ffffffff02
@@ -124,9 +124,10 @@ grant fe|fru_part 0 0 8|06 010051c001aaeeee";
 
 #[test]
 fn a_grant_limits_only_bytes(rt: HostRuntime) {
-    are_met(&rt, rt.alloc(), GRANTED);
+    assert_answers_in_moods(&rt, rt.alloc(), GRANTED);
 }
 
+/// `mood|call|answer`.
 const TOO_LONG: &str = "too_long|reserve sdr|0001
 too_long|part sdr 0 1 0 8|code ca
 too_long|info sdr|510300000401000020ffffffff02
@@ -134,15 +135,15 @@ too_long|reading 0 1|2dc00000
 too_long|fru_size 0|0006 00
 too_long|fru_part 0 0 8|code ca";
 
-/// Three calls of a controller that meets each of them in this mood.
+/// `call|answer` of three calls, each in this mood.
 const TOO_LONG_PARTS: &str = "part sdr 0 2 0 1|ffff 01 02
 fru_part 0 4 1|01 01
 fru_part 0 4 2|code ca";
 
 #[test]
 fn more_than_a_byte_may_be_too_long(rt: HostRuntime) {
-    are_met(&rt, rt.alloc(), TOO_LONG);
-    moods_are_met(
+    assert_answers_in_moods(&rt, rt.alloc(), TOO_LONG);
+    assert_answers_after_moods(
         &rt,
         rt.alloc(),
         "too_long, too_long, too_long",
@@ -150,6 +151,7 @@ fn more_than_a_byte_may_be_too_long(rt: HostRuntime) {
     );
 }
 
+/// `mood|call|answer`.
 const CHANGED: &str = "other|reserve sdr|0001
 other|part sdr 0 1 0 8|ffff 05 010051c000eeeeee
 other|info sdr|510100000501000020ffffffff02
@@ -159,16 +161,16 @@ other|fru_part 0 0 8|02 0a0beeeeeeeeeeee";
 
 #[test]
 fn a_changed_image_answers_the_same_call(rt: HostRuntime) {
-    are_met(&rt, rt.alloc(), CHANGED);
+    assert_answers_in_moods(&rt, rt.alloc(), CHANGED);
 }
 
-/// Whether the code is none of those after which a caller may ask again or go on.
+/// Whether a caller can neither ask again nor go on after the code.
 fn is_refusal(code: u8) -> bool {
     ![0x00, 0xC0, 0xC3, 0xC5, 0x81, 0xC7, 0xC8, 0xCA, 0xCB].contains(&code)
 }
 
-/// The case in which the call of the line meets the mood to refuse with this code. Its answer is the code, or the plain one that
-/// the line has.
+/// The case of a call that meets the mood to refuse with this code. The answer is the code, if it is a refusal, and
+/// else the plain one of the line.
 fn refusal_case(
     rt: &impl Abort,
     alloc: Global,
@@ -182,63 +184,70 @@ fn refusal_case(
     format!(in alloc; "refuse {code:x}|{call}|code {code:02x}")
 }
 
-/// The code is the answer to the call, or the call is answered plainly, as the line has it.
-fn refusal_is_met(rt: &impl Abort, alloc: Global, code: u8, line: &str) {
+/// Asserts the answer of that case.
+fn assert_answer_to_refusal(rt: &impl Abort, alloc: Global, code: u8, line: &str) {
     let case = refusal_case(rt, alloc, code, line).expect(rt, "memory");
-    is_met(rt, alloc, &case);
+    assert_answer_in_mood(rt, alloc, &case);
 }
 
 /// The same for a call of each kind.
-fn refusals_are_met(rt: &impl Abort, alloc: Global, code: u8) {
+fn assert_answers_to_refusal(rt: &impl Abort, alloc: Global, code: u8) {
     for line in ANSWERS.lines() {
-        refusal_is_met(rt, alloc, code, line);
+        assert_answer_to_refusal(rt, alloc, code, line);
     }
 }
 
 #[test]
 fn a_call_is_refused_only_by_a_refusal(rt: HostRuntime) {
     for code in 0..=255 {
-        refusals_are_met(&rt, rt.alloc(), code);
+        assert_answers_to_refusal(&rt, rt.alloc(), code);
     }
 }
 
-/// Calls after reservation 1 was given for sensor data records and 2 for the event log, and both were forgotten.
+/// `call|answer`, after reservation 1 of the sensor data records and 2 of the event log were given and forgotten.
 const FORGOTTEN: &str = "part sdr 1 1 2 1|code c5
 part sel 2 1 2 1|code c5
 part sdr 1 1 0 1|0002 01 01
 part sel 2 1 0 1|ffff 01 01";
 
-/// Calls after both were kept.
+/// `call|answer`, after both were kept.
 const KEPT: &str = "part sdr 1 1 2 1|0002 01 51
 part sel 2 1 2 1|ffff 01 02";
 
-/// Reserves both shelves, makes the call of a line in this mood, and then those of the other lines.
-fn is_met_after_reserving(rt: &impl Abort, alloc: Global, mood: &str, line: &str, lines: &str) {
+/// Reserves both shelves, makes the call of `line` in this mood, and asserts its answer and those to the other lines.
+fn assert_answers_after_reserving(
+    rt: &impl Abort,
+    alloc: Global,
+    mood: &str,
+    line: &str,
+    lines: &str,
+) {
     let moods = format!(in alloc; "grant fe, grant fe, {mood}").expect(rt, "memory");
     let calls = format!(in alloc; "reserve sdr|0001\nreserve sel|0002\n{line}\n{lines}");
-    moods_are_met(rt, alloc, &moods, &calls.expect(rt, "memory"));
+    assert_answers_after_moods(rt, alloc, &moods, &calls.expect(rt, "memory"));
 }
 
-// Past the first byte of a record its reservation has to be the last one given.
+// Past the first byte of a record the last reservation is needed.
 #[test]
 fn cancelled_and_changed_reservations_are_forgotten(rt: HostRuntime) {
     let alloc = rt.alloc();
-    is_met_after_reserving(&rt, alloc, "cancel", "reading 0 1|code c5", FORGOTTEN);
-    is_met_after_reserving(&rt, alloc, "saved", "reading 0 1|2dc00000", FORGOTTEN);
-    is_met_after_reserving(&rt, alloc, "saved", "part sdr 1 1 2 1|code c5", FORGOTTEN);
+    assert_answers_after_reserving(&rt, alloc, "cancel", "reading 0 1|code c5", FORGOTTEN);
+    assert_answers_after_reserving(&rt, alloc, "saved", "reading 0 1|2dc00000", FORGOTTEN);
+    assert_answers_after_reserving(&rt, alloc, "saved", "part sdr 1 1 2 1|code c5", FORGOTTEN);
 }
 
 #[test]
 fn other_moods_keep_the_reservations(rt: HostRuntime) {
     let alloc = rt.alloc();
-    is_met_after_reserving(&rt, alloc, "grant 1", "reading 0 1|2dc00000", KEPT);
-    is_met_after_reserving(&rt, alloc, "busy", "reading 0 1|code c0", KEPT);
-    is_met_after_reserving(&rt, alloc, "too_long", "reading 0 1|2dc00000", KEPT);
-    is_met_after_reserving(&rt, alloc, "refuse d4", "reading 0 1|code d4", KEPT);
+    assert_answers_after_reserving(&rt, alloc, "grant 1", "reading 0 1|2dc00000", KEPT);
+    assert_answers_after_reserving(&rt, alloc, "busy", "reading 0 1|code c0", KEPT);
+    assert_answers_after_reserving(&rt, alloc, "too_long", "reading 0 1|2dc00000", KEPT);
+    assert_answers_after_reserving(&rt, alloc, "refuse d4", "reading 0 1|code d4", KEPT);
 }
 
 const SIX_REFUSALS: &str = "refuse d0, refuse d1, refuse d2, refuse d3, refuse d4, refuse d5";
 
+/// `call|answer`.
 const ONE_EACH: &str = "reserve sdr|code d0
 part sdr 0 1 0 8|code d1
 info sdr|code d2
@@ -252,8 +261,8 @@ reading 0 1|2dc00000
 fru_size 0|0006 00
 fru_part 0 0 8|06 010051c001aaeeee";
 
-// When the moods are used up, each call is answered plainly.
+// When the moods are used up, each call has its plain answer.
 #[test]
 fn each_call_uses_up_one_mood(rt: HostRuntime) {
-    moods_are_met(&rt, rt.alloc(), SIX_REFUSALS, ONE_EACH);
+    assert_answers_after_moods(&rt, rt.alloc(), SIX_REFUSALS, ONE_EACH);
 }

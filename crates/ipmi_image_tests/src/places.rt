@@ -1,7 +1,7 @@
 //! Each fault of each kind of line, at each place of the line.
-use crate::faults::have_verdicts;
+use crate::faults::assert_verdicts;
 
-/// Records after the first line, up to the end of the image.
+/// `records up to the end of the image|fault`. A semicolon is a line feed.
 const RECORDS: &str = "sel;end;|line 2: not a line
 sdr ;end;|line 2: not a line
 sel 0001 ffff;end;|line 2: not a line
@@ -38,10 +38,10 @@ frob;sdr 0001 ffff 0g;end;|line 2: not a line";
 
 #[test]
 fn each_fault_of_a_record_is_found(rt: HostRuntime) {
-    have_verdicts(&rt, rt.alloc(), "ipmi-image 1;", RECORDS);
+    assert_verdicts(&rt, rt.alloc(), "ipmi-image 1;", RECORDS);
 }
 
-/// Inventories, readings and infos after the first line, up to the end of the image.
+/// `inventories, readings and infos up to the end of the image|fault`.
 const OTHERS: &str = "fru;end;|line 2: not a line
 reading;end;|line 2: not a line
 info;end;|line 2: not a line
@@ -82,10 +82,10 @@ info fru 0g;end;|line 2: not a line";
 
 #[test]
 fn each_fault_of_another_line_is_found(rt: HostRuntime) {
-    have_verdicts(&rt, rt.alloc(), "ipmi-image 1;", OTHERS);
+    assert_verdicts(&rt, rt.alloc(), "ipmi-image 1;", OTHERS);
 }
 
-/// Whole images.
+/// `image|fault`.
 const WHOLE: &str = "ipmi-image 1;end|no end
 ipmi-image 2|header
 ipmi-image 2\r;end;|header
@@ -114,5 +114,5 @@ ipmi-image 2;end;x|line 3: after end";
 
 #[test]
 fn each_fault_of_version_2_is_found(rt: HostRuntime) {
-    have_verdicts(&rt, rt.alloc(), "", WHOLE);
+    assert_verdicts(&rt, rt.alloc(), "", WHOLE);
 }

@@ -1,19 +1,20 @@
-//! Images written again in the one spelling of version 2, and the lines of single records.
+//! Images in the one spelling of version 2, and the lines of single records.
 ghost use Rattle.std.specs.Prelude.{◌≤◌, length};
 
-use crate::images::{REWRITTEN, SAVED, THREE_ROWS, image};
+use crate::images::{REWRITTEN, SAVED, image};
 use ipmi_bus::Record;
+use ipmi_fixtures::THREE_ROWS;
 use ipmi_image::{LineBuffer, image_text, record_line};
 use std::alloc::Global;
 use std::process::Abort;
 
 /// Asserts that bytes are this text. A failure names the case.
-pub fn is_text(rt: &impl Abort, bytes: &[u8], wanted: &str, case: &str) {
+pub fn assert_text(rt: &impl Abort, bytes: &[u8], wanted: &str, case: &str) {
     let got = std::str::from_utf8(bytes).expect(rt, case);
     assert!(rt; got == wanted, "{case}: got {got}");
 }
 
-/// The image that the text is, written again.
+/// The text that the image of a text is written as.
 fn written_again(rt: &impl Abort, alloc: Global, text: &str) -> Vec<u8> {
     let image = image(rt, alloc, text);
     let bytes = image_text(alloc, &image).expect(rt, "memory");
@@ -21,15 +22,15 @@ fn written_again(rt: &impl Abort, alloc: Global, text: &str) -> Vec<u8> {
     bytes
 }
 
-/// Compares the text of the image with this one.
-pub fn has_text(rt: &impl Abort, alloc: Global, text: &str, wanted: &str) {
-    is_text(rt, &written_again(rt, alloc, text), wanted, text);
+/// Asserts the text that the image of `text` is written as.
+pub fn assert_image_text(rt: &impl Abort, alloc: Global, text: &str, wanted: &str) {
+    assert_text(rt, &written_again(rt, alloc, text), wanted, text);
 }
 
-/// The same, and compares the text of that text with itself.
-fn is_rewritten(rt: &impl Abort, alloc: Global, text: &str, wanted: &str) {
-    has_text(rt, alloc, text, wanted);
-    has_text(rt, alloc, wanted, wanted);
+/// The same, and that this text is written as itself.
+fn assert_rewrite(rt: &impl Abort, alloc: Global, text: &str, wanted: &str) {
+    assert_image_text(rt, alloc, text, wanted);
+    assert_image_text(rt, alloc, wanted, wanted);
 }
 
 const THREE_ROWS_REWRITTEN: &str = "ipmi-image 2
@@ -41,7 +42,7 @@ end
 
 #[test]
 fn next_ids_are_dashes_where_the_rows_follow_each_other(rt: HostRuntime) {
-    is_rewritten(&rt, rt.alloc(), THREE_ROWS, THREE_ROWS_REWRITTEN);
+    assert_rewrite(&rt, rt.alloc(), THREE_ROWS, THREE_ROWS_REWRITTEN);
 }
 
 const CYCLE: &str = "ipmi-image 1
@@ -76,9 +77,9 @@ end
 
 #[test]
 fn rows_keep_their_order(rt: HostRuntime) {
-    is_rewritten(&rt, rt.alloc(), CYCLE, CYCLE_REWRITTEN);
-    is_rewritten(&rt, rt.alloc(), FALLING, FALLING_REWRITTEN);
-    is_rewritten(&rt, rt.alloc(), BACKWARD, BACKWARD);
+    assert_rewrite(&rt, rt.alloc(), CYCLE, CYCLE_REWRITTEN);
+    assert_rewrite(&rt, rt.alloc(), FALLING, FALLING_REWRITTEN);
+    assert_rewrite(&rt, rt.alloc(), BACKWARD, BACKWARD);
 }
 
 const MIXED: &str = "ipmi-image 1
@@ -102,12 +103,12 @@ info sel 510100000201000000ffffffff00
 end
 ";
 
-// Lines of all kinds are in one order, and an inventory's lines are one.
+// The lines have one order by kind, and the lines of an inventory are joined.
 #[test]
 fn lines_are_ordered_by_their_kind(rt: HostRuntime) {
-    is_rewritten(&rt, rt.alloc(), SAVED, REWRITTEN);
-    is_rewritten(&rt, rt.alloc(), MIXED, MIXED_REWRITTEN);
-    is_rewritten(
+    assert_rewrite(&rt, rt.alloc(), SAVED, REWRITTEN);
+    assert_rewrite(&rt, rt.alloc(), MIXED, MIXED_REWRITTEN);
+    assert_rewrite(
         &rt,
         rt.alloc(),
         "ipmi-image 1\nend\n",
@@ -115,21 +116,21 @@ fn lines_are_ordered_by_their_kind(rt: HostRuntime) {
     );
 }
 
-/// An image whose first line of an inventory has 64 bytes, and then this text.
+/// An image whose first line is 64 bytes of an inventory, and then this text.
 fn with_64_bytes(rt: &impl Abort, alloc: Global, after: &str) -> String {
     let bytes = "a5".repeat(alloc, 64).expect(rt, "memory");
     format!(in alloc; "ipmi-image 2\nfru 00 {bytes}{after}").expect(rt, "memory")
 }
 
-// 64 bytes fit on a line; of 65 the last one has a line of its own.
+// 64 bytes fit on a line. The 65th byte has a line of its own.
 #[test]
 fn a_line_has_64_bytes_of_an_inventory_at_most(rt: HostRuntime) {
     let one_line = with_64_bytes(&rt, rt.alloc(), "\nend\n");
-    is_rewritten(&rt, rt.alloc(), &one_line, &one_line);
+    assert_rewrite(&rt, rt.alloc(), &one_line, &one_line);
     let two_lines = with_64_bytes(&rt, rt.alloc(), "\nfru 00 3c\nend\n");
-    is_rewritten(&rt, rt.alloc(), &two_lines, &two_lines);
+    assert_rewrite(&rt, rt.alloc(), &two_lines, &two_lines);
     let long_line = with_64_bytes(&rt, rt.alloc(), "3c\nend\n");
-    is_rewritten(&rt, rt.alloc(), &long_line, &two_lines);
+    assert_rewrite(&rt, rt.alloc(), &long_line, &two_lines);
 }
 
 const INFOS: &str = "ipmi-image 1
@@ -152,18 +153,18 @@ end
 
 #[test]
 fn the_shelves_are_in_one_order(rt: HostRuntime) {
-    is_rewritten(&rt, rt.alloc(), INFOS, INFOS_REWRITTEN);
+    assert_rewrite(&rt, rt.alloc(), INFOS, INFOS_REWRITTEN);
 }
 
-/// Writes the line of the record, and compares it with this one.
-fn has_line(rt: &impl Abort, line: &mut LineBuffer, lent: &Record<'_>, wanted: &str)
+/// Asserts the line of a record.
+fn assert_record_line(rt: &impl Abort, line: &mut LineBuffer, lent: &Record<'_>, wanted: &str)
     requires { length lent.now.bytes.now ≤ 256 }
 {
     record_line(lent, line);
-    is_text(rt, line.as_slice(), wanted, wanted);
+    assert_text(rt, line.as_slice(), wanted, wanted);
 }
 
-// One buffer is used for all. No next id is a dash, and of the first line nothing is left.
+// One buffer serves all. The next id is never a dash, and nothing is left of the line before.
 #[test]
 fn a_single_record_has_a_line(rt: HostRuntime) {
     let mut line = LineBuffer::new();
@@ -172,11 +173,11 @@ fn a_single_record_has_a_line(rt: HostRuntime) {
         next: 0xABCD,
         bytes: &[0x0A, 0x00, 0x51, 0xC0, 0x02, 0xBB, 0xCC],
     };
-    has_line(&rt, &mut line, &first, "sdr 000a abcd 0a0051c002bbcc\n");
+    assert_record_line(&rt, &mut line, &first, "sdr 000a abcd 0a0051c002bbcc\n");
     let last = Record {
         id: 0xABCD,
         next: 0xFFFF,
         bytes: &[0xCD, 0xAB, 0x51, 0xC0, 0x00],
     };
-    has_line(&rt, &mut line, &last, "sdr abcd ffff cdab51c000\n");
+    assert_record_line(&rt, &mut line, &last, "sdr abcd ffff cdab51c000\n");
 }

@@ -1,7 +1,7 @@
-//! Lines that together say one thing: inventories on several lines, ids in either case, and dashes.
-use crate::images::image_is_answered;
+//! Lines that belong together: inventories on several lines, ids in either case, and dashes.
+use crate::images::assert_answers_of_text;
 
-/// Inventory 00 has two lines, with lines of another kind and of inventory 01 between them.
+/// The lines of inventory 00 have lines of another kind and of inventory 01 between them.
 const APART: &str = "ipmi-image 1
 fru 00 0102
 sdr 0001 ffff 010051c000
@@ -10,6 +10,7 @@ fru 00 03
 end
 ";
 
+/// `call|answer`.
 const APART_ANSWERS: &str = "fru_size 0|0003 00
 fru_part 0 0 4|03 010203ee
 fru_size 1|0001 00
@@ -17,7 +18,7 @@ fru_part 1 0 4|01 ffeeeeee";
 
 #[test]
 fn lines_of_an_inventory_are_joined(rt: HostRuntime) {
-    image_is_answered(&rt, rt.alloc(), APART, APART_ANSWERS);
+    assert_answers_of_text(&rt, rt.alloc(), APART, APART_ANSWERS);
 }
 
 const EITHER_CASE: &str = "ipmi-image 1
@@ -28,6 +29,7 @@ fru 0a 0b
 end
 ";
 
+/// `call|answer`.
 const EITHER_CASE_ANSWERS: &str = "part sdr 0 abcd 0 6|abce 05 cdab51c000ee
 fru_size 0a|0002 00
 fru_part 0a 0 3|02 0b0bee
@@ -35,7 +37,7 @@ reading 3 ef|2dc00000";
 
 #[test]
 fn hex_digits_are_of_either_case(rt: HostRuntime) {
-    image_is_answered(&rt, rt.alloc(), EITHER_CASE, EITHER_CASE_ANSWERS);
+    assert_answers_of_text(&rt, rt.alloc(), EITHER_CASE, EITHER_CASE_ANSWERS);
 }
 
 const DASHES: &str = "ipmi-image 2
@@ -48,6 +50,7 @@ sdr 0004 - 040051c000
 end
 ";
 
+/// `call|answer`.
 const DASHES_ANSWERS: &str = "part sdr 0 1 0 1|0003 01 01
 part sdr 0 3 0 1|0002 01 03
 part sdr 0 2 0 1|0001 01 02
@@ -55,8 +58,8 @@ part sdr 0 4 0 1|ffff 01 04
 part sel 0 5 0 1|0009 01 05
 part sel 0 9 0 1|ffff 01 09";
 
-// In version 2 a dash is the id of the following row of the same shelf, and FFFFh in the last one.
+// In version 2 a dash is the id of the next row of the same shelf, and FFFFh in the last row.
 #[test]
 fn a_dash_is_the_following_row_of_the_shelf(rt: HostRuntime) {
-    image_is_answered(&rt, rt.alloc(), DASHES, DASHES_ANSWERS);
+    assert_answers_of_text(&rt, rt.alloc(), DASHES, DASHES_ANSWERS);
 }

@@ -1,5 +1,5 @@
 -- A reply to the request as a controller reads it is one to the request.
-use Rattle.std.proofs.Common.{◌≡◌, ◌<◌, ◌≤◌, ◌+◌, ◌==◌, ◌&&◌, nat_le, nat_lt, if◌then◌else◌, ℕ, ◌%◌, ◌/◌, ◌*◌, Bool, true, false, Some, None, Ok, Err, Result, List, [], ◌∷◌, length, drop, refl, sym, subst, arith}
+use Rattle.std.proofs.Common.{◌≡◌, ◌<◌, ◌≤◌, ◌+◌, ◌==◌, ◌&&◌, nat_le, if◌then◌else◌, ℕ, ◌%◌, ◌/◌, ◌*◌, Some, None, Ok, Err, Result, List, [], drop, refl, sym, subst, arith}
 use Rattle.std.proofs.lemmas.Bool.Decides.{nat_tests}
 use Rattle.ipmi_bus.specs.declared.code.Code.{Code}
 use Rattle.ipmi_bus.specs.declared.code.CodeClass.{CodeClass}
@@ -7,7 +7,7 @@ use Rattle.ipmi_bus.specs.declared.code.CodeClass.TheVariants.{Busy, Cancelled, 
 use Rattle.ipmi_bus.specs.declared.controller.Part.{Part}
 use Rattle.ipmi_bus.specs.declared.controller.Shelf.{Shelf}
 use Rattle.ipmi_bus.specs.declared.controller.Shelf.TheVariants.{Sdr, Sel}
-use Rattle.ipmi_bus.specs.Answers.{Asked, FailsWith, PartAnswers, part_asked}
+use Rattle.ipmi_bus.specs.Answers.{FailsWith, PartAnswers, part_asked}
 use Rattle.ipmi_bus.specs.Code.{class_of}
 use Rattle.ipmi_bus.specs.Seen.{Seen}
 use Rattle.ipmi_bus.specs.Shelf.{look}
@@ -19,11 +19,21 @@ use Rattle.ipmi_raw.specs.declared.request.Request.{Request}
 use Rattle.ipmi_raw.specs.declared.request.Request.TheVariants.{Reserve, Get, Info, InventorySize, ReadInventory, Reading}
 use Rattle.ipmi_raw.specs.declared.tool.Tool.{Tool}
 use Rattle.ipmi_raw.specs.declared.tool.Tool.TheVariants.{Ipmitool, FreeIpmi}
-use Rattle.ipmi_raw.specs.Answer.{data_in, part_in, value_in}
+use Rattle.ipmi_raw.specs.Answer.{part_in}
 use Rattle.ipmi_raw.specs.Peer.{IsReplyText, Replies}
-use Rattle.ipmi_raw.specs.Request.{count_asked, for_shelf, IsRequest, lun_of, message_of}
-use Rattle.ipmi_raw_tests.specs.Asked.{as_read, asked_by, of_eight}
+use Rattle.ipmi_raw.specs.Request.{for_shelf, IsRequest, lun_of, message_of}
+use Rattle.ipmi_raw_tests.specs.Asked.{asked_by, of_eight}
 use Rattle.ipmi_raw_tests.specs.Replied.{IsReply}
+
+-- the request as the controller reads it, which does not see how many bytes more than a whole entry were asked for
+abbrev pub as_read : Request → Request
+as_read (Reserve shelf) = Reserve shelf
+as_read (Get part) =
+    Get (record part { count = for_shelf part.shelf part.count (if (part.offset == 0) && nat_le 16 part.count then 16 else part.count) })
+as_read (Info shelf) = Info shelf
+as_read (InventorySize id) = InventorySize id
+as_read (ReadInventory part) = ReadInventory part
+as_read (Reading lun number) = Reading lun number
 
 fails_more : (A : Type 0) (few more : ℕ) (class : CodeClass) (code : ℕ) (s t : Seen) → few ≤ more → FailsWith (1 < few) A class code s t
     → FailsWith (1 < more) A class code s t

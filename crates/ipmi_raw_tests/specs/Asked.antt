@@ -1,10 +1,9 @@
 -- The request that a message asks for, as a controller reads it.
-use Rattle.std.specs.Prelude.{ℕ, ◌+◌, ◌*◌, ◌==◌, ◌&&◌, nat_lt, nat_le, if◌then◌else◌, Option, Some, None, List, [], ◌∷◌}
+use Rattle.std.specs.Prelude.{ℕ, ◌+◌, ◌*◌, ◌==◌, ◌&&◌, nat_lt, if◌then◌else◌, Option, Some, None, List, [], ◌∷◌}
 use Rattle.ipmi_bus.specs.declared.controller.Shelf.{Shelf}
 use Rattle.ipmi_bus.specs.declared.controller.Shelf.TheVariants.{Sdr, Sel}
 use Rattle.ipmi_raw.specs.declared.request.Request.{Request}
 use Rattle.ipmi_raw.specs.declared.request.Request.TheVariants.{Reserve, Get, Info, InventorySize, ReadInventory, Reading}
-use Rattle.ipmi_raw.specs.Request.{for_shelf}
 
 -- of a network function and a command alone
 abbrev pub of_two : ℕ → ℕ → Option Request
@@ -55,13 +54,3 @@ asked_by lun (function ∷ command ∷ id ∷ low ∷ high ∷ count ∷ []) = o
 asked_by lun (function ∷ command ∷ low ∷ high ∷ id_low ∷ id_high ∷ offset ∷ count ∷ []) =
     of_eight function command (number low high) (number id_low id_high) offset count
 asked_by lun _ = None
-
--- the request as the controller reads it, which does not see how many bytes more than a whole entry were asked for
-abbrev pub as_read : Request → Request
-as_read (Reserve shelf) = Reserve shelf
-as_read (Get part) =
-    Get (record part { count = for_shelf part.shelf part.count (if (part.offset == 0) && nat_le 16 part.count then 16 else part.count) })
-as_read (Info shelf) = Info shelf
-as_read (InventorySize id) = InventorySize id
-as_read (ReadInventory part) = ReadInventory part
-as_read (Reading lun number) = Reading lun number

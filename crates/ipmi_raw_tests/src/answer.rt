@@ -1,4 +1,4 @@
-//! What a controller over an image replies to a request.
+//! The replies of a controller over an image.
 ghost use Rattle.ipmi_bus.specs.Seen.{IsHonest};
 ghost use Rattle.ipmi_image.specs.Controllers.{seen_of};
 ghost use Rattle.ipmi_raw.specs.Request.{IsRequest};
@@ -65,7 +65,7 @@ fn inventory_size(ctl: &mut ImageController, id: u8) -> Reply
     }
 }
 
-/// Bytes, and then others.
+/// Bytes followed by others.
 fn joined(front: &[u8], rest: &[u8]) -> ReplyBytes
     requires { length front.now + length rest.now ≤ 255 }
     ensures bytes { result ≡ front.now ++ rest.now }
@@ -77,10 +77,10 @@ fn joined(front: &[u8], rest: &[u8]) -> ReplyBytes
     ReplyBytes::new(bytes.as_slice())
 }
 
-/// The most bytes of a record in a reply, which has the id of the next record before them.
+/// The most bytes of a record in a reply. The id of the next record comes before them.
 const LARGEST_RECORD_PART: u8 = 253;
 
-/// The reply to Get SDR or Get SEL Entry of so many bytes as a reply has room for.
+/// The reply to Get SDR or Get SEL Entry, when its bytes fit.
 fn part_that_fits(ctl: &mut ImageController, part: RecordPart) -> Reply
     requires some { 0 < part.count }
     requires fits { part.count ≤ 253 }

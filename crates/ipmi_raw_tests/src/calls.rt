@@ -1,4 +1,4 @@
-//! A call of a controller, and what came of it, as a line.
+//! Calls of a controller, and their results as texts.
 use ipmi_bus::{Code, Controller, Shelf};
 use std::alloc::Global;
 use std::process::Abort;
@@ -7,19 +7,19 @@ use std::process::Abort;
 #[derive(Clone, Copy, Debug)]
 pub enum Call {
     Reserve(Shelf),
-    /// Of the record 1234h, from the offset on, so many bytes.
+    /// The offset and the number of bytes of record 1234h.
     Part(Shelf, u8, usize),
     Info(Shelf),
     Reading(u8, u8),
     FruSize(u8),
-    /// From the offset 0102h on, so many bytes.
+    /// The device and the number of bytes from offset 0102h on.
     FruPart(u8, usize),
 }
 
 /// The most bytes that a test asks for.
 const ROOM: usize = 32;
 
-/// Bytes of a record, after the id of the next one.
+/// Bytes of a record after the id of the next one.
 fn part<C: Controller>(
     rt: &impl Abort,
     alloc: Global,
@@ -49,7 +49,7 @@ fn fru_part<C: Controller>(
     Ok(hex::encode(alloc, &into[..usize::from(got)]).expect(rt, "memory"))
 }
 
-/// Makes the call, and says what came of it.
+/// Makes the call, and gives its result as a text.
 fn answer<C: Controller>(
     rt: &impl Abort,
     alloc: Global,
@@ -81,8 +81,14 @@ fn answer<C: Controller>(
     Ok(text.expect(rt, "memory"))
 }
 
-/// Makes the call, and compares what came of it: numbers in hex, or `code` and the code.
-pub fn gives<C: Controller>(rt: &impl Abort, alloc: Global, ctl: &mut C, call: Call, wanted: &str) {
+/// Asserts the result of a call: numbers in hex, or `code` and the code.
+pub fn assert_call<C: Controller>(
+    rt: &impl Abort,
+    alloc: Global,
+    ctl: &mut C,
+    call: Call,
+    wanted: &str,
+) {
     let got = match answer(rt, alloc, ctl, call) {
         Ok(text) => text,
         Err(Code(code)) => format!(in alloc; "code {code:02x}").expect(rt, "memory"),

@@ -1,10 +1,10 @@
-//! A text and what is read of it, as a line.
+//! The replies that are read of a text.
 use ipmi_bus::Shelf;
 use ipmi_raw::{RecordPart, Reply, Request};
 use std::alloc::Global;
 use std::process::Abort;
 
-/// A tool's reader of replies.
+/// The reader of a tool's replies.
 #[derive(Clone, Copy)]
 pub enum Reader {
     Ipmitool,
@@ -22,7 +22,7 @@ pub fn get_sdr() -> Request {
     })
 }
 
-/// The reply that the reader reads of a text.
+/// The reply in a text.
 fn read(reader: Reader, request: Request, text: &[u8]) -> Option<Reply> {
     match reader {
         Reader::Ipmitool => ipmi_raw::ipmitool::read_reply(request, text),
@@ -30,7 +30,7 @@ fn read(reader: Reader, request: Request, text: &[u8]) -> Option<Reply> {
     }
 }
 
-/// A reply in words: `data` and the bytes, `code` and the code, `silent`, or `none`.
+/// A reply as a text: `data` and the bytes, `code` and the code, `silent`, or `none`.
 fn words(rt: &impl Abort, alloc: Global, reply: Option<Reply>) -> String {
     let text = match reply {
         Some(Reply::Data(bytes)) => {
@@ -44,8 +44,8 @@ fn words(rt: &impl Abort, alloc: Global, reply: Option<Reply>) -> String {
     text.expect(rt, "memory")
 }
 
-/// Compares what is read of the text.
-pub fn is_read(
+/// Asserts the reply in a text.
+pub fn assert_reply(
     rt: &impl Abort,
     alloc: Global,
     reader: Reader,
@@ -57,8 +57,14 @@ pub fn is_read(
     assert!(rt; got.as_str() == wanted, "wanted {wanted}: got {got}");
 }
 
-/// Compares what is read of a text with what comes after the bar. A semicolon in the text is a line feed.
-fn case_is_read(rt: &impl Abort, alloc: Global, reader: Reader, request: Request, case: &str) {
+/// Asserts the reply of a case `text|reply`. A semicolon in the text is a line feed.
+fn assert_reply_of_case(
+    rt: &impl Abort,
+    alloc: Global,
+    reader: Reader,
+    request: Request,
+    case: &str,
+) {
     let (line, wanted) = case.split_once('|').expect(rt, case);
     let mut text = Vec::new(alloc);
     for byte in line.bytes() {
@@ -69,9 +75,15 @@ fn case_is_read(rt: &impl Abort, alloc: Global, reader: Reader, request: Request
     assert!(rt; got.as_str() == wanted, "{case}: got {got}");
 }
 
-/// The same for each of the cases.
-pub fn are_read(rt: &impl Abort, alloc: Global, reader: Reader, request: Request, cases: &str) {
+/// The same for each case.
+pub fn assert_replies(
+    rt: &impl Abort,
+    alloc: Global,
+    reader: Reader,
+    request: Request,
+    cases: &str,
+) {
     for case in cases.lines() {
-        case_is_read(rt, alloc, reader, request, case);
+        assert_reply_of_case(rt, alloc, reader, request, case);
     }
 }

@@ -1,5 +1,5 @@
-//! Calls of a controller that is asked through a tool, in both dialects. The numbers are those of the tables of IPMI v2.0.
-use crate::calls::{Call, gives};
+//! Calls of a controller behind a tool, in both dialects. The numbers are those of the tables of IPMI v2.0.
+use crate::calls::{Call, assert_call};
 use crate::tools::{Script, Sleeper, controller};
 use ipmi_bus::Shelf;
 use ipmi_raw::Tool;
@@ -7,12 +7,11 @@ use std::alloc::Global;
 use std::cell::Cell;
 use std::process::Abort;
 
-/// What a call is to come to: what it gives, what the tool said if the connection is lost, and for how many milliseconds the
-/// controller slept.
+/// The outcome of a call: its result, what the tool said if the connection is lost, and the milliseconds of sleep.
 type Outcome<'s> = (&'s str, Option<&'s str>, u128);
 
-/// Makes a call through a tool with this script, and compares what comes of it.
-fn through(
+/// Asserts the outcome of a call through a tool with this script.
+fn assert_call_through(
     rt: &impl Abort,
     alloc: Global,
     tool: Tool,
@@ -24,7 +23,7 @@ fn through(
     let sleeper = Sleeper(Cell::new(0));
     let scripts = [script];
     let mut ctl = controller(tool, &scripts, &sleeper);
-    gives(rt, alloc, &mut ctl, call, wanted);
+    assert_call(rt, alloc, &mut ctl, call, wanted);
     assert!(rt;
         ctl.lost() == lost.map(str::as_bytes),
         "{call:?} gives {wanted}: lost"
@@ -33,7 +32,7 @@ fn through(
     assert!(rt; sleeper.0.get() == slept, "{call:?} gives {wanted}: sleeps");
 }
 
-/// Calls with what ipmitool and then FreeIPMI's tool is sent and prints, and what they give.
+/// `(call, (what ipmitool is sent, what it prints), (what FreeIPMI's tool is sent, what it prints), result)`.
 const CALLS: &[(Call, (&str, &str), (&str, &str), &str)] = &[
     (
         Call::Reserve(Shelf::Sdr),
@@ -161,7 +160,7 @@ const CALLS: &[(Call, (&str, &str), (&str, &str), &str)] = &[
 fn what_a_reply_says_is_given(rt: HostRuntime) {
     for (call, (words, printed), (line, received), wanted) in CALLS {
         let outcome = (*wanted, None, 0);
-        through(
+        assert_call_through(
             &rt,
             rt.alloc(),
             Tool::Ipmitool,
@@ -169,7 +168,7 @@ fn what_a_reply_says_is_given(rt: HostRuntime) {
             *call,
             outcome,
         );
-        through(
+        assert_call_through(
             &rt,
             rt.alloc(),
             Tool::FreeIpmi,
@@ -180,7 +179,7 @@ fn what_a_reply_says_is_given(rt: HostRuntime) {
     }
 }
 
-/// Calls that a reply refuses with a code, the code that they fail with, and for how many milliseconds the controller sleeps.
+/// `(call, code of the reply, code of the result, milliseconds of sleep)`.
 const REFUSALS: &[(Call, &str, &str, u128)] = &[
     (Call::Reserve(Shelf::Sdr), "D4", "d4", 0),
     (Call::Part(Shelf::Sdr, 5, 8), "C5", "c5", 0),
@@ -207,7 +206,7 @@ const REFUSALS: &[(Call, &str, &str, u128)] = &[
     (Call::FruPart(7, 4), "81", "81", 500),
 ];
 
-/// The line by which FreeIPMI's tool is asked for the call, and the command in what it prints.
+/// The line that asks FreeIPMI's tool for the call, and the command byte in its reply.
 fn line_of(call: Call) -> (&'static str, &'static str) {
     match call {
         Call::Reserve(Shelf::Sdr) => ("00 0A 22\n", "22"),
@@ -230,7 +229,7 @@ fn a_call_fails_with_the_code_of_its_reply(rt: HostRuntime) {
         let printed = format!(in alloc; "rcvd: {command} {code} \n").expect(&rt, "memory");
         let wanted = format!(in alloc; "code {wanted}").expect(&rt, "memory");
         let script = (0, line, printed.as_str());
-        through(
+        assert_call_through(
             &rt,
             alloc,
             Tool::FreeIpmi,
@@ -247,7 +246,7 @@ fn without_reservations_0000h_stands_for_one(rt: HostRuntime) {
         (Shelf::Sdr, "00 0A 22\n", "rcvd: 22 C1 \n"),
         (Shelf::Sel, "00 0A 42\n", "rcvd: 42 C1 \n"),
     ] {
-        through(
+        assert_call_through(
             &rt,
             rt.alloc(),
             Tool::FreeIpmi,
@@ -266,7 +265,7 @@ fn codes_and_silence_of_ipmitool(rt: HostRuntime) {
     let silence = "Unable to send RAW command (channel=0x0 netfn=0xa lun=0x0 cmd=0x10)\n. \n";
     let words = "raw 0x0a 0x10 0x07\necho .\n";
     let alloc = rt.alloc();
-    through(
+    assert_call_through(
         &rt,
         alloc,
         Tool::Ipmitool,
@@ -274,7 +273,7 @@ fn codes_and_silence_of_ipmitool(rt: HostRuntime) {
         call,
         ("code cb", None, 0),
     );
-    through(
+    assert_call_through(
         &rt,
         alloc,
         Tool::Ipmitool,
@@ -287,7 +286,7 @@ fn codes_and_silence_of_ipmitool(rt: HostRuntime) {
 #[test]
 fn silence_of_freeipmi(rt: HostRuntime) {
     let script = (0, "00 0A 10 07\n", "ipmi_cmd_raw: session timeout\n");
-    through(
+    assert_call_through(
         &rt,
         rt.alloc(),
         Tool::FreeIpmi,
@@ -297,7 +296,7 @@ fn silence_of_freeipmi(rt: HostRuntime) {
     );
 }
 
-/// Calls, and texts that are of no reply to them.
+/// `(call, text that is not a reply to it)`.
 const OTHERS: &[(Call, &str)] = &[
     (Call::Reserve(Shelf::Sdr), ""),
     (Call::Reserve(Shelf::Sdr), "rcvd: 22 00 34 12"),
@@ -333,7 +332,7 @@ fn where_no_reply_comes_the_connection_is_lost(rt: HostRuntime) {
     for (call, text) in OTHERS {
         let (line, _) = line_of(*call);
         let outcome = ("code ff", Some(*text), 0);
-        through(
+        assert_call_through(
             &rt,
             rt.alloc(),
             Tool::FreeIpmi,
@@ -345,7 +344,7 @@ fn where_no_reply_comes_the_connection_is_lost(rt: HostRuntime) {
     let text = "Error: Unable to establish LAN session\n";
     let script = (0, "", text);
     let outcome = ("code ff", Some(text), 0);
-    through(
+    assert_call_through(
         &rt,
         rt.alloc(),
         Tool::Ipmitool,
@@ -371,7 +370,7 @@ fn nothing_is_sent_once_the_connection_is_lost(rt: HostRuntime) {
         Call::FruSize(7),
         Call::FruPart(7, 4),
     ] {
-        gives(&rt, rt.alloc(), &mut ctl, call, "code ff");
+        assert_call(&rt, rt.alloc(), &mut ctl, call, "code ff");
         let said = ctl.lost().expect(&rt, "it is lost");
         assert!(&rt; said == b"out of memory\n".as_slice(), "{said:?}");
     }
@@ -398,7 +397,7 @@ fn ipmitool_is_opened_once_for_each_logical_unit(rt: HostRuntime) {
         (0, 0x31, "02c00000"),
         (2, 0x31, "22c00000"),
     ] {
-        gives(
+        assert_call(
             &rt,
             rt.alloc(),
             &mut ctl,
@@ -406,7 +405,7 @@ fn ipmitool_is_opened_once_for_each_logical_unit(rt: HostRuntime) {
             wanted,
         );
     }
-    gives(&rt, rt.alloc(), &mut ctl, Call::Reading(4, 0x30), "code ff");
+    assert_call(&rt, rt.alloc(), &mut ctl, Call::Reading(4, 0x30), "code ff");
     assert!(&rt; ctl.lost() == Some(b"".as_slice()), "there is no unit 4");
 }
 
@@ -415,7 +414,7 @@ fn a_tool_that_does_not_open_is_no_connection(rt: HostRuntime) {
     let sleeper = Sleeper(Cell::new(0));
     let scripts = [(0, "raw 0x0a 0x20\necho .\n", "\n. \n")];
     let mut ctl = controller(Tool::Ipmitool, &scripts, &sleeper);
-    gives(&rt, rt.alloc(), &mut ctl, Call::Reading(1, 0x30), "code ff");
+    assert_call(&rt, rt.alloc(), &mut ctl, Call::Reading(1, 0x30), "code ff");
     assert!(&rt; ctl.lost() == Some(b"".as_slice()), "no tool for unit 1");
 }
 
@@ -427,6 +426,6 @@ fn freeipmi_is_one_tool_for_all_logical_units(rt: HostRuntime) {
     let scripts = [(0, lines, replies)];
     let mut ctl = controller(Tool::FreeIpmi, &scripts, &sleeper);
     for (lun, wanted) in [(1, "11c00000"), (0, "01c00000"), (3, "31c00000")] {
-        gives(&rt, rt.alloc(), &mut ctl, Call::Reading(lun, 0x30), wanted);
+        assert_call(&rt, rt.alloc(), &mut ctl, Call::Reading(lun, 0x30), wanted);
     }
 }

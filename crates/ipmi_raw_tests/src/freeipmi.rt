@@ -1,8 +1,9 @@
 //! What `ipmi-raw` of FreeIPMI prints for replies to Get SDR.
-use crate::cases::{Reader, are_read, get_sdr, is_read};
+use crate::cases::{Reader, assert_replies, assert_reply, get_sdr};
 use std::alloc::Global;
 use std::process::Abort;
 
+/// `text|reply`. A semicolon is a line feed.
 const REPLIES: &str = "rcvd: 23 00 ;|data 
 rcvd: 23 00 02 00 01 ;|data 020001
 rcvd: 23 00 0A F9 ;|data 0af9
@@ -12,6 +13,7 @@ rcvd: 23 01 ;|code 01
 rcvd: 23 C5 02 00 ;|code c5
 ipmi_cmd_raw: session timeout;|silent";
 
+/// `text|reply`. A semicolon is a line feed.
 const OTHERS: &str = "|none
 ;|none
 rcvd: ;|none
@@ -31,19 +33,19 @@ ipmi_cmd_raw: driver busy;|none";
 
 #[test]
 fn replies_are_read(rt: HostRuntime) {
-    are_read(&rt, rt.alloc(), Reader::FreeIpmi, get_sdr(), REPLIES);
+    assert_replies(&rt, rt.alloc(), Reader::FreeIpmi, get_sdr(), REPLIES);
 }
 
 #[test]
 fn other_texts_are_not(rt: HostRuntime) {
-    are_read(&rt, rt.alloc(), Reader::FreeIpmi, get_sdr(), OTHERS);
+    assert_replies(&rt, rt.alloc(), Reader::FreeIpmi, get_sdr(), OTHERS);
 }
 
-/// The text of so many bytes A7h, and what is read of it.
-fn many_are_read(rt: &impl Abort, alloc: Global, count: usize, wanted: &str) {
+/// Asserts the reply in a text of `count` bytes A7h.
+fn assert_long_reply(rt: &impl Abort, alloc: Global, count: usize, wanted: &str) {
     let bytes = " A7".repeat(alloc, count).expect(rt, "memory");
     let text = format!(in alloc; "rcvd: 23 00{bytes} \n").expect(rt, "memory");
-    is_read(
+    assert_reply(
         rt,
         alloc,
         Reader::FreeIpmi,
@@ -58,6 +60,6 @@ fn a_reply_has_255_bytes_at_most(rt: HostRuntime) {
     let alloc = rt.alloc();
     let digits = "a7".repeat(alloc, 255).expect(&rt, "memory");
     let wanted = format!(in alloc; "data {digits}").expect(&rt, "memory");
-    many_are_read(&rt, alloc, 255, &wanted);
-    many_are_read(&rt, alloc, 256, "none");
+    assert_long_reply(&rt, alloc, 255, &wanted);
+    assert_long_reply(&rt, alloc, 256, "none");
 }

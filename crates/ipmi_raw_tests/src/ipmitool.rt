@@ -1,9 +1,10 @@
 //! What `ipmitool exec` prints for replies to Get SDR, and for its mark.
-use crate::cases::{Reader, are_read, get_sdr, is_read};
+use crate::cases::{Reader, assert_replies, assert_reply, get_sdr};
 use ipmi_raw::Request;
 use std::alloc::Global;
 use std::process::Abort;
 
+/// `text|reply`. A semicolon is a line feed.
 const DATA: &str = ";. ;|data 
  02;. ;|data 02
  0a f9;. ;|data 0af9
@@ -14,6 +15,7 @@ const DATA: &str = ";. ;|data
  00 01 02 03 04 05 06 07 08 09 0a 0b 0c 0d 0e 0f; 10 11 12 13 14 15 16 17 18 19 1a 1b 1c 1d 1e 1f;. ;|data 000102030405060708090a0b0c0d0e0f101112131415161718191a1b1c1d1e1f
  00 01 02 03 04 05 06 07 08 09 0a 0b 0c 0d 0e 0f; 10 11 12 13 14 15 16 17 18 19 1a 1b 1c 1d 1e 1f; 20;. ;|data 000102030405060708090a0b0c0d0e0f101112131415161718191a1b1c1d1e1f20";
 
+/// `text|reply`. A semicolon is a line feed.
 const OTHERS: &str = "|none
 ;|none
 . ;|none
@@ -35,6 +37,7 @@ const OTHERS: &str = "|none
 Error: Unable to establish LAN session;|none
 Error: Unable to establish LAN session;. ;|none";
 
+/// `text|reply`. A semicolon is a line feed.
 const REFUSALS: &str =
     "Unable to send RAW command (channel=0x0 netfn=0xa lun=0x0 cmd=0x23 rsp=0xcb): Requested sensor, data, or record not found;. ;|code cb
 Unable to send RAW command (channel=0x0 netfn=0xa lun=0x0 cmd=0x23 rsp=0xc5): Reservation cancelled or invalid;. ;|code c5
@@ -45,6 +48,7 @@ Unable to send RAW command (channel=0x0 netfn=0xa lun=0x0 cmd=0x23 rsp=0xff): Un
 Unable to send RAW command (channel=0x0 netfn=0xa lun=0x0 cmd=0x23 rsp=0xcb): ;. ;|code cb
 Unable to send RAW command (channel=0x0 netfn=0xa lun=0x0 cmd=0x23);. ;|silent";
 
+/// `text|reply`. A semicolon is a line feed.
 const OTHER_REFUSALS: &str =
     "Unable to send RAW command (channel=0x0 netfn=0xa lun=0x0 cmd=0x23 rsp=0xcb): Requested sensor, data, or record not found;|none
 Unable to send RAW command (channel=0x0 netfn=0xa lun=0x0 cmd=0x43 rsp=0xcb): Requested sensor, data, or record not found;. ;|none
@@ -61,7 +65,7 @@ Unable to send RAW command (channel=0x0 netfn=0xa lun=0x0 cmd=0x23);|none
 Unable to send RAW command (channel=0x0 netfn=0xa lun=0x0 cmd=0x23)|none
 Unable to send RAW command (channel=0x0 netfn=0xa|none";
 
-/// Get Sensor Reading at LUN 1.
+/// `text|reply` to Get Sensor Reading at LUN 1.
 const READINGS: &str = " 41 c0 c0 00;. ;|data 41c0c000
 Unable to send RAW command (channel=0x0 netfn=0x4 lun=0x1 cmd=0x2d rsp=0xcd): Command illegal for specified sensor or record type;. ;|code cd
 Unable to send RAW command (channel=0x0 netfn=0x4 lun=0x1 cmd=0x2d);. ;|silent
@@ -69,38 +73,38 @@ Unable to send RAW command (channel=0x0 netfn=0x4 lun=0x0 cmd=0x2d);. ;|none";
 
 #[test]
 fn data_is_read(rt: HostRuntime) {
-    are_read(&rt, rt.alloc(), Reader::Ipmitool, get_sdr(), DATA);
+    assert_replies(&rt, rt.alloc(), Reader::Ipmitool, get_sdr(), DATA);
 }
 
 #[test]
 fn other_texts_are_not(rt: HostRuntime) {
-    are_read(&rt, rt.alloc(), Reader::Ipmitool, get_sdr(), OTHERS);
+    assert_replies(&rt, rt.alloc(), Reader::Ipmitool, get_sdr(), OTHERS);
 }
 
 #[test]
 fn codes_and_silence_are_read(rt: HostRuntime) {
-    are_read(&rt, rt.alloc(), Reader::Ipmitool, get_sdr(), REFUSALS);
+    assert_replies(&rt, rt.alloc(), Reader::Ipmitool, get_sdr(), REFUSALS);
 }
 
 #[test]
 fn codes_and_silence_of_others_are_not(rt: HostRuntime) {
-    are_read(&rt, rt.alloc(), Reader::Ipmitool, get_sdr(), OTHER_REFUSALS);
+    assert_replies(&rt, rt.alloc(), Reader::Ipmitool, get_sdr(), OTHER_REFUSALS);
 }
 
 #[test]
 fn a_reading_has_its_own_command_and_unit(rt: HostRuntime) {
     let request = Request::Reading(1, 0x30);
-    are_read(&rt, rt.alloc(), Reader::Ipmitool, request, READINGS);
+    assert_replies(&rt, rt.alloc(), Reader::Ipmitool, request, READINGS);
 }
 
-/// The text of fifteen lines of sixteen bytes A7h and one of so many, and what is read of it.
-fn many_are_read(rt: &impl Abort, alloc: Global, last: usize, wanted: &str) {
+/// Asserts the reply in a text of fifteen lines of sixteen bytes A7h, and one of `last` bytes.
+fn assert_long_reply(rt: &impl Abort, alloc: Global, last: usize, wanted: &str) {
     let line = " a7".repeat(alloc, 16).expect(rt, "memory");
     let lines = format!(in alloc; "{line}\n").expect(rt, "memory");
     let lines = lines.repeat(alloc, 15).expect(rt, "memory");
     let rest = " a7".repeat(alloc, last).expect(rt, "memory");
     let text = format!(in alloc; "{lines}{rest}\n. \n").expect(rt, "memory");
-    is_read(
+    assert_reply(
         rt,
         alloc,
         Reader::Ipmitool,
@@ -115,6 +119,6 @@ fn a_reply_has_255_bytes_at_most(rt: HostRuntime) {
     let alloc = rt.alloc();
     let digits = "a7".repeat(alloc, 255).expect(&rt, "memory");
     let wanted = format!(in alloc; "data {digits}").expect(&rt, "memory");
-    many_are_read(&rt, alloc, 15, &wanted);
-    many_are_read(&rt, alloc, 16, "none");
+    assert_long_reply(&rt, alloc, 15, &wanted);
+    assert_long_reply(&rt, alloc, 16, "none");
 }

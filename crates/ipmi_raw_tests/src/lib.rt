@@ -1,5 +1,5 @@
-//! Tests of ipmi_raw: the texts of requests and of replies, in both dialects, and a controller that is asked by them: through tools
-//! that a test plays, and through one in memory whose controller is an image, which is proved honest.
+//! Tests of ipmi_raw: the texts of requests and replies in both dialects, and controllers behind them. One controller
+//! is behind tools that a test plays. Another is behind a tool in memory over an image, and is proved honest.
 #![tactic(auto)]
 
 mod answer;

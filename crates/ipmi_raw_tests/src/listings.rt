@@ -1,5 +1,5 @@
-//! Commands over an image that is asked for through a tool, in both dialects: each prints what it prints over the image.
-use crate::calls::{Call, gives};
+//! Commands over an image behind a tool, in both dialects. Each prints the same as over the image.
+use crate::calls::{Call, assert_call};
 use crate::memory::controller_over;
 use crate::tools::Sleeper;
 use ipmi_bus::Shelf;
@@ -28,7 +28,7 @@ info sel 510300000401000020ffffffff02
 end
 ";
 
-/// Command lines, whose words are split at commas, and what they print.
+/// The words, split at commas, then what they print.
 const LISTINGS: &str = "sdr,list,all
 CPU Temp         | 45 degrees C      | ok
 PSU1             | FRU 1             | na
@@ -89,8 +89,8 @@ fn command(rt: &impl Abort, alloc: Global, line: &str) -> Command {
     command
 }
 
-/// Runs the command over the image through the tool, and compares what it prints.
-fn is_listed(rt: &impl Abort, alloc: Global, tool: Tool, line: &str, wanted: &str) {
+/// Asserts what a command prints over the image behind the tool.
+fn assert_output(rt: &impl Abort, alloc: Global, tool: Tool, line: &str, wanted: &str) {
     let image = Image::read(alloc, IMAGE.as_bytes()).expect(rt, "an image");
     let sleeper = Sleeper(Cell::new(0));
     let mut ctl = controller_over(tool, image, &sleeper);
@@ -111,12 +111,12 @@ fn is_listed(rt: &impl Abort, alloc: Global, tool: Tool, line: &str, wanted: &st
 fn each_command_prints_what_it_prints_over_the_image(rt: HostRuntime) {
     for listing in LISTINGS.split("====\n") {
         let (line, wanted) = listing.split_once('\n').expect(&rt, "a line");
-        is_listed(&rt, rt.alloc(), Tool::Ipmitool, line, wanted);
-        is_listed(&rt, rt.alloc(), Tool::FreeIpmi, line, wanted);
+        assert_output(&rt, rt.alloc(), Tool::Ipmitool, line, wanted);
+        assert_output(&rt, rt.alloc(), Tool::FreeIpmi, line, wanted);
     }
 }
 
-/// Calls in their order, and what the controller over the image gives. Of the record 1234h there is none.
+/// `(call, result)`, in order. The image has no record 1234h.
 const CALLS: &[(Call, &str)] = &[
     (Call::Reserve(Shelf::Sdr), "0001"),
     (Call::Reserve(Shelf::Sel), "0002"),
@@ -140,7 +140,7 @@ fn calls_are_answered_by_the_image(rt: HostRuntime) {
         let sleeper = Sleeper(Cell::new(0));
         let mut ctl = controller_over(tool, image, &sleeper);
         for (call, wanted) in CALLS {
-            gives(&rt, rt.alloc(), &mut ctl, *call, wanted);
+            assert_call(&rt, rt.alloc(), &mut ctl, *call, wanted);
         }
         assert!(&rt; ctl.lost().is_none(), "{tool:?} loses the connection");
     }

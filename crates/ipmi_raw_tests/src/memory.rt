@@ -58,7 +58,7 @@ impl Peer for MemoryPeer {
     }
 }
 
-/// A controller that is asked through a tool over the image: plain, and with the image's store, so that all that is promised of a
+/// A controller behind a tool over the image. It is plain and has the image's store. So all that is promised of a
 /// listing over a plain controller is promised here, through requests and replies as texts.
 pub fn controller_over<K: Clock>(tool: Tool, image: Image, clock: K) -> RawController<MemoryPeer, K>
     ensures plain { IsPlain (⟦<RawController<MemoryPeer, K> as Controller>⟧.seen result) }

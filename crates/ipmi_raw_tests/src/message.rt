@@ -1,4 +1,4 @@
-//! The message of a request, read from the text by which a tool is asked to send it.
+//! The message of a request, read from the text that a tool is sent.
 ghost use Rattle.std.specs.Prelude.{ℕ, List, ◌≡◌, ◌≤◌, ◌++◌, MatchOption, length};
 ghost use Rattle.ipmi_text.specs.Bytes.{AreBytes};
 ghost use Rattle.ipmi_raw.specs.Peer.{request_text};
@@ -16,7 +16,7 @@ const LARGEST_MESSAGE_LEN: usize = 8;
 /// Network function, command and data.
 pub type Message = ArrayVec<u8, LARGEST_MESSAGE_LEN>;
 
-/// The bytes whose digits stand in the text, with the same before each, up to the end.
+/// The bytes in a text, with the same word before the digits of each.
 fn read_bytes(tool: Tool, before: &[u8], end: &[u8], text: &[u8]) -> Option<Message>
     ensures { (bytes : List ℕ) → length bytes ≤ 8 → AreBytes bytes → text.now ≡ bytes_after tool before.now bytes ++ end.now →
         MatchOption result ⊥ (λ message. message.items ≡ bytes) }
@@ -35,7 +35,7 @@ fn read_bytes(tool: Tool, before: &[u8], end: &[u8], text: &[u8]) -> Option<Mess
     if rest == end { Some(bytes) } else { None }
 }
 
-/// The message of the request that the text asks to send.
+/// The message of the request in the text.
 pub fn read_message(tool: Tool, text: &[u8]) -> Option<Message>
     ensures { (sent : Request) → IsRequest sent → request_text tool sent ≡ text.now →
         MatchOption result ⊥ (λ message. message.items ≡ message_of sent) }

@@ -9,7 +9,7 @@ ghost use Rattle.ipmi_raw_tests.specs.Replied.{CanBePrinted};
 
 use ipmi_raw::{Reply, ReplyText, Request, Tool, ipmitool};
 
-/// Appends bytes that there is room for.
+/// Appends as many bytes as fit.
 fn push(text: &mut ReplyText, bytes: &[u8])
     requires { length text.old.items + length bytes.now ≤ 1024 }
     ensures items { text.new.items ≡ text.old.items ++ bytes.now }
@@ -35,7 +35,7 @@ fn push_word(tool: Tool, text: &mut ReplyText, byte: u8)
     );
 }
 
-/// Appends what is printed before the word of this number.
+/// Appends what is printed before the word with this number.
 fn push_break(tool: Tool, text: &mut ReplyText, i: usize)
     requires { length text.old.items + 1 ≤ 1024 }
     ensures items { text.new.items ≡ text.old.items ++ break_before tool i }
@@ -131,7 +131,7 @@ fn push_freeipmi(request: Request, reply: &Reply, text: &mut ReplyText)
     }
 }
 
-/// Puts into the text what the tool prints of a reply to the request.
+/// Replaces the text with what the tool prints of a reply to the request.
 pub fn print_reply(tool: Tool, request: Request, reply: &Reply, text: &mut ReplyText)
     requires { CanBePrinted reply.now }
     ensures { IsReplyText tool request reply.now text.new.items }

@@ -1,15 +1,21 @@
-//! What is read of a tool, and how far.
+//! How far the output of a tool is read.
 use crate::tools::Wanted;
 use ipmi_raw::{Lost, Piped, ReplyText, Streams, Tool};
 use std::alloc::Global;
-use std::io::{self, Error, ErrorKind, Read};
+use std::io::{self, Error, ErrorKind, Read, Write};
 use std::process::Abort;
 
-/// A request of ipmitool's, and one of FreeIPMI's.
+/// A request. Tools of both kinds are sent it here.
 const REQUEST: &[u8] = b"raw 0x0a 0x22\necho .\n";
 
-/// Compares what comes of one request, sent to a tool that prints this, with what it leaves as the reply's text.
-fn is_read(rt: &impl Abort, tool: Tool, printed: &[u8], wanted: Result<(), Lost>, text: &[u8]) {
+/// Asserts the result of one request to a tool that prints this, and the text of its reply.
+fn assert_exchange(
+    rt: &impl Abort,
+    tool: Tool,
+    printed: &[u8],
+    wanted: Result<(), Lost>,
+    text: &[u8],
+) {
     let mut streams = Streams {
         replies: printed,
         requests: Wanted(REQUEST, b""),
@@ -29,15 +35,15 @@ fn a_reply_of_ipmitool_ends_with_the_mark(rt: HostRuntime) {
         b" 00 01 02 03 04 05 06 07 08 09 0a 0b 0c 0d 0e 0f\n 10\n. \n".as_slice(),
         b"Error: . \n. \n".as_slice(),
     ] {
-        is_read(&rt, Tool::Ipmitool, text, Ok(()), text);
+        assert_exchange(&rt, Tool::Ipmitool, text, Ok(()), text);
     }
 }
 
 #[test]
 fn a_reply_of_freeipmi_is_a_line(rt: HostRuntime) {
     let text = b"rcvd: 22 00 34 12 \n";
-    is_read(&rt, Tool::FreeIpmi, text, Ok(()), text);
-    is_read(&rt, Tool::FreeIpmi, b"\n", Ok(()), b"\n");
+    assert_exchange(&rt, Tool::FreeIpmi, text, Ok(()), text);
+    assert_exchange(&rt, Tool::FreeIpmi, b"\n", Ok(()), b"\n");
 }
 
 #[test]
@@ -50,18 +56,18 @@ fn where_no_end_comes_the_connection_is_lost(rt: HostRuntime) {
         b" 34 12. \n".as_slice(),
         b"Error: Unable to establish LAN session\n".as_slice(),
     ] {
-        is_read(&rt, Tool::Ipmitool, text, Err(Lost), text);
+        assert_exchange(&rt, Tool::Ipmitool, text, Err(Lost), text);
     }
     let cut = b"rcvd: 22 00";
-    is_read(&rt, Tool::FreeIpmi, cut, Err(Lost), cut);
+    assert_exchange(&rt, Tool::FreeIpmi, cut, Err(Lost), cut);
 }
 
 #[test]
 fn no_more_than_there_is_room_for_is_read(rt: HostRuntime) {
     let text = "x".repeat(rt.alloc(), 1500).expect(&rt, "memory");
     let text = text.as_bytes();
-    is_read(&rt, Tool::Ipmitool, text, Err(Lost), &text[..1024]);
-    is_read(&rt, Tool::FreeIpmi, text, Err(Lost), &text[..1024]);
+    assert_exchange(&rt, Tool::Ipmitool, text, Err(Lost), &text[..1024]);
+    assert_exchange(&rt, Tool::FreeIpmi, text, Err(Lost), &text[..1024]);
 }
 
 #[test]
@@ -96,7 +102,34 @@ fn a_tool_that_takes_no_request_may_say_why(rt: HostRuntime) {
     assert!(&rt; reply.as_slice() == printed.as_slice(), "it says why");
 }
 
-/// Gives one byte at each second call; the others are interrupted. Then it fails.
+/// Takes each request, and fails to hand it on.
+#[derive(Drop)]
+struct Stuck;
+
+impl Write for Stuck {
+    fn write(&mut self, buf: &[u8]) -> io::Result<usize> {
+        Ok(buf.len())
+    }
+
+    fn flush(&mut self) -> io::Result<()> {
+        Err(Error::from(ErrorKind::BrokenPipe))
+    }
+}
+
+#[test]
+fn a_request_that_is_not_handed_on_is_not_sent(rt: HostRuntime) {
+    let printed = b" 34 12\n. \n";
+    let mut streams = Streams {
+        replies: printed.as_slice(),
+        requests: Stuck,
+    };
+    let mut reply = ReplyText::new();
+    let result = streams.exchange(Tool::Ipmitool, REQUEST, &mut reply);
+    assert!(&rt; result == Err(Lost), "it is not handed on");
+    assert!(&rt; reply.as_slice() == printed.as_slice(), "what is printed");
+}
+
+/// Gives one byte at each second call, and is interrupted at the others. After its text it fails.
 #[derive(Drop)]
 struct Halting {
     text: &'static [u8],
@@ -120,8 +153,8 @@ impl Read for Halting {
     }
 }
 
-/// What comes of a request to a tool that is read haltingly.
-fn is_read_haltingly(rt: &impl Abort, text: &'static [u8], wanted: Result<(), Lost>) {
+/// Asserts the result of a request to a tool that is read haltingly.
+fn assert_halting_exchange(rt: &impl Abort, text: &'static [u8], wanted: Result<(), Lost>) {
     let reader = Halting { text, gives: false };
     let mut streams = Streams {
         replies: reader,
@@ -135,6 +168,6 @@ fn is_read_haltingly(rt: &impl Abort, text: &'static [u8], wanted: Result<(), Lo
 
 #[test]
 fn reading_goes_on_where_it_is_interrupted_and_not_where_it_fails(rt: HostRuntime) {
-    is_read_haltingly(&rt, b" 34 12\n. \n", Ok(()));
-    is_read_haltingly(&rt, b" 34 12\n. ", Err(Lost));
+    assert_halting_exchange(&rt, b" 34 12\n. \n", Ok(()));
+    assert_halting_exchange(&rt, b" 34 12\n. ", Err(Lost));
 }

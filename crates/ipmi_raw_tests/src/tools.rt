@@ -1,4 +1,4 @@
-//! Tools as a test plays them: what each is sent, and what it prints.
+//! Tools for tests: what each has to be sent, and what it prints.
 ghost use Rattle.std.specs.Prelude.{◌≤◌, IfOk, length};
 
 use ipmi_raw::{Open, Piped, RawController, Tool};
@@ -6,7 +6,7 @@ use std::cell::Cell;
 use std::io::{self, Chain, Error, ErrorKind, Read, Write};
 use std::time::{Clock, Duration};
 
-/// What a tool is to be sent: first, and then. It takes no other bytes, as a tool that has ended.
+/// What a tool has to be sent: first, and then. It takes no other bytes, as if it had ended.
 #[derive(Drop)]
 pub struct Wanted<'s>(pub &'s [u8], pub &'s [u8]);
 
@@ -33,7 +33,7 @@ impl Write for Wanted<'_> {
 /// A tool: its logical unit, what it is sent, and what it prints.
 pub type Script<'s> = (u8, &'s str, &'s str);
 
-/// What ipmitool is sent first, so that it opens its session, and what it prints for that, a warning before it.
+/// What ipmitool is sent first, to open its session, and what it prints. A warning comes before the reply.
 const FIRST: (&[u8], &[u8]) = (
     b"raw 0x06 0x01\necho .\n",
     b"Unable to Get Channel Cipher Suites\n 20 81 02 30 02\n. \n",
@@ -63,7 +63,7 @@ impl<'s> Open for Scripts<'s> {
     }
 }
 
-/// A clock that only counts the milliseconds for which it is to sleep.
+/// A clock that counts the milliseconds of sleep, and no other time.
 #[derive(Drop)]
 pub struct Sleeper(pub Cell<u128>);
 
@@ -85,7 +85,7 @@ impl Clock for Sleeper {
 /// A controller that is asked through these tools.
 pub type Asked<'s, 'c> = RawController<Piped<Scripts<'s>>, &'c Sleeper>;
 
-/// The controller that the tools lead to, with a pause of half a second.
+/// A controller over these tools, with a pause of half a second.
 pub fn controller<'s, 'c>(
     tool: Tool,
     scripts: &'s [Script<'s>],

@@ -1,4 +1,4 @@
-//! What stands at the front of a text, and what is read and written for either tool.
+//! The start of a text, and the dialects of the tools.
 use crate::cases::get_sdr;
 use ipmi_bus::{Code, Shelf};
 use ipmi_raw::words::{first_byte, strip};

@@ -1,14 +1,14 @@
 //! Codes and their classes, the ends of a listing by name, a later step, parts and ids.
-use crate::bus::listings::{is_done, listed, listed_by_bytes};
-use crate::commands::left::{Left, is_left};
+use crate::bus::listings::{assert_listing, listing, listing_by_bytes};
+use crate::commands::outcome::{Outcome, assert_outcome};
 use crate::commands::over_images::over;
-use crate::controllers::{Counting, Endless, Replay, Reply, asked_last};
+use crate::controllers::{Counting, Endless, Replay, Reply, assert_last_request};
 use ipmi_bus::{Code, CodeClass, Cursor, Ended, Event, Place, Record, Shelf, Tally};
 use std::alloc::Global;
 use std::process::Abort;
 
-/// Compares the class of the code with that of the table of codes.
-fn has_its_class(rt: &impl Abort, code: u8) {
+/// Asserts the class of a code. The table is written once more here.
+fn assert_class(rt: &impl Abort, code: u8) {
     let wanted = match code {
         0xC5 => CodeClass::Cancelled,
         0x81 | 0xC0 | 0xC3 => CodeClass::Busy,
@@ -23,7 +23,7 @@ fn has_its_class(rt: &impl Abort, code: u8) {
 #[test]
 fn every_code_has_its_class(rt: HostRuntime) {
     for code in 0..=255u8 {
-        has_its_class(&rt, code);
+        assert_class(&rt, code);
     }
 }
 
@@ -118,26 +118,26 @@ const ENDINGS: [Case; 9] = [
     },
 ];
 
-/// Asserts that a listing ended after so many calls and before its first line, and that this was said.
-fn is_ended(rt: &impl Abort, alloc: Global, left: Left, case: &Case, name: &str) {
+/// Asserts that a listing ended before its first line, with this message after this many calls.
+fn assert_ending(rt: &impl Abort, alloc: Global, outcome: Outcome, case: &Case, name: &str) {
     let calls = case.calls;
     let said = case.said;
     let wanted = format!(in alloc; "1 {calls}\n{said}--\n").expect(rt, "memory");
-    is_left(rt, alloc, left, wanted.as_str(), name);
+    assert_outcome(rt, alloc, outcome, wanted.as_str(), name);
 }
 
-/// Lists over a controller with these replies, and compares what is said after how many calls.
-fn ends_by_name(rt: &impl Abort, alloc: Global, case: &Case) {
+/// Asserts how a listing over these replies ends.
+fn assert_ending_of_case(rt: &impl Abort, alloc: Global, case: &Case) {
     let mut ctl = Counting::new(Replay::new(case.replies));
-    let left = listed(alloc, &mut ctl, case.tries);
+    let outcome = listing(alloc, &mut ctl, case.tries);
     let name = format!(in alloc; "{case:?}").expect(rt, "memory");
-    is_ended(rt, alloc, left, case, name.as_str());
+    assert_ending(rt, alloc, outcome, case, name.as_str());
 }
 
 #[test]
 fn answers_end_a_listing_by_name(rt: HostRuntime) {
     for case in &ENDINGS {
-        ends_by_name(&rt, rt.alloc(), case);
+        assert_ending_of_case(&rt, rt.alloc(), case);
     }
 }
 
@@ -149,44 +149,44 @@ fn a_short_part_is_kept(rt: HostRuntime) {
         Reply::Gives(&[0x51, 0xC0, 0x00], 0xFFFF),
     ];
     let mut ctl = Counting::new(Replay::new(&replies));
-    let left = listed(rt.alloc(), &mut ctl, 5);
+    let outcome = listing(rt.alloc(), &mut ctl, 5);
     let line = "sdr 0001 ffff 010051c000\n";
-    is_done(&rt, rt.alloc(), left, line, 3, "a short part");
-    asked_last(&rt, &ctl.inner, 2, 3);
+    assert_listing(&rt, rt.alloc(), outcome, line, 3, "a short part");
+    assert_last_request(&rt, &ctl.inner, 2, 3);
 }
 
-/// The image line of a record of 256 bytes.
+/// The image line of a record of 256 bytes, the longest.
 fn longest_line(rt: &impl Abort, alloc: Global) -> String {
     let bytes = "a5".repeat(alloc, 251).expect(rt, "memory");
     format!(in alloc; "sdr 0001 ffff 010051c0fb{bytes}\n").expect(rt, "memory")
 }
 
-/// Lists the record of this line in parts of one byte: it comes again, after so many calls.
-fn is_listed_again(rt: &impl Abort, alloc: Global, line: &str, calls: u32) {
+/// Asserts that the record of a line, read in parts of one byte, gives that line after this many calls.
+fn assert_listing_by_bytes(rt: &impl Abort, alloc: Global, line: &str, calls: u32) {
     let image = format!(in alloc; "ipmi-image 1\n{line}end\n").expect(rt, "memory");
-    let left = listed_by_bytes(alloc, over(rt, alloc, &image));
-    is_done(rt, alloc, left, line, calls, "the longest record");
+    let outcome = listing_by_bytes(alloc, over(rt, alloc, &image));
+    assert_listing(rt, alloc, outcome, line, calls, "the longest record");
 }
 
 // A reservation, and a call for each of the 256 bytes.
 #[test]
 fn the_longest_record_is_read(rt: HostRuntime) {
     let line = longest_line(&rt, rt.alloc());
-    is_listed_again(&rt, rt.alloc(), &line, 257);
+    assert_listing_by_bytes(&rt, rt.alloc(), &line, 257);
 }
 
-/// A cursor over sensor data records, which asks for 32 bytes at once.
+/// A cursor over sensor data records that asks for parts of 32 bytes.
 fn cursor(rt: &impl Abort, alloc: Global, tries: u8) -> Cursor {
     Cursor::start(alloc, Shelf::Sdr, None, 32, tries).expect(rt, "memory")
 }
 
-fn stands_at(rt: &impl Abort, cursor: &Cursor, wanted: Place) {
+fn assert_place(rt: &impl Abort, cursor: &Cursor, wanted: Place) {
     let place = cursor.resume_at();
     assert!(rt; place == wanted, "wanted {wanted:?}: got {place:?}");
 }
 
-/// Compares a record of five bytes that comes last.
-fn is_last_record(rt: &impl Abort, record: &Record) {
+/// Asserts a record of five bytes that is the last.
+fn assert_last_record(rt: &impl Abort, record: &Record) {
     assert!(rt; record.id == 1, "{record:?}");
     assert!(rt; record.next == 0xFFFF, "{record:?}");
     assert!(rt;
@@ -195,9 +195,9 @@ fn is_last_record(rt: &impl Abort, record: &Record) {
     );
 }
 
-fn hands_out_record(rt: &impl Abort, cursor: &mut Cursor, ctl: &mut Replay) {
+fn assert_step(rt: &impl Abort, cursor: &mut Cursor, ctl: &mut Replay) {
     match cursor.step(ctl) {
-        Ok(Some(record)) => is_last_record(rt, &record),
+        Ok(Some(record)) => assert_last_record(rt, &record),
         _ => panic!(rt; "no record"),
     }
 }
@@ -213,9 +213,9 @@ fn a_later_step_tries_again(rt: HostRuntime) {
     let mut cursor = cursor(&rt, rt.alloc(), 0);
     let step = cursor.step(&mut ctl);
     assert!(rt; matches!(step, Err(Ended::GaveUp(0))), "first: {step:?}");
-    stands_at(&rt, &cursor, Place::First);
-    hands_out_record(&rt, &mut cursor, &mut ctl);
-    stands_at(&rt, &cursor, Place::End);
+    assert_place(&rt, &cursor, Place::First);
+    assert_step(&rt, &mut cursor, &mut ctl);
+    assert_place(&rt, &cursor, Place::End);
     let step = cursor.step(&mut ctl);
     assert!(rt; matches!(step, Ok(None)), "third: {step:?}");
     assert!(rt; ctl.calls == 3, "{} calls", ctl.calls);
@@ -228,7 +228,7 @@ fn next_id(cursor: &mut Cursor, ctl: &mut Endless) -> Option<u16> {
     }
 }
 
-/// How many records are handed out whose ids count up from 0000h.
+/// The number of records that a walk hands out while their ids count up from 0000h.
 fn records_in_order(cursor: &mut Cursor, ctl: &mut Endless) -> u32 {
     let mut count = 0u32;
     for _ in 0..70_000u32 {
@@ -246,6 +246,6 @@ fn every_id_is_handed_out_once(rt: HostRuntime) {
     let mut cursor = cursor(&rt, rt.alloc(), 5);
     let records = records_in_order(&mut cursor, &mut ctl);
     assert!(rt; records == 65_535, "{records} records");
-    stands_at(&rt, &cursor, Place::End);
+    assert_place(&rt, &cursor, Place::End);
     assert!(rt; ctl.calls == 65_536, "{} calls", ctl.calls);
 }

@@ -1,30 +1,30 @@
-//! A listing with one of its calls answered by a busy code.
-use crate::bus::listings::{is_done, listed};
+//! A listing with one call answered with a busy code.
+use crate::bus::listings::{assert_listing, listing};
 use crate::commands::over_images::interrupting;
 use crate::commands::saved::{THREE_LINES, THREE_ROWS};
 use std::alloc::Global;
 use std::process::Abort;
 
-/// Lists the three records with one try, where the call with this number is answered with the code: three lines after
-/// seven calls.
-fn is_one_call_more(rt: &impl Abort, alloc: Global, call: u32, code: u8) {
+/// Asserts that a listing of the three records outlives the code at this call: three lines after seven calls, with one
+/// try.
+fn assert_one_call_more(rt: &impl Abort, alloc: Global, call: u32, code: u8) {
     let mut ctl = interrupting(rt, alloc, THREE_ROWS, call, code);
-    let left = listed(alloc, &mut ctl, 1);
+    let outcome = listing(alloc, &mut ctl, 1);
     drop(ctl);
     let case = format!(in alloc; "code {code:02X}h at call {call}").expect(rt, "memory");
-    is_done(rt, alloc, left, THREE_LINES, 7, case.as_str());
+    assert_listing(rt, alloc, outcome, THREE_LINES, 7, case.as_str());
 }
 
-/// The same for each of the six calls: a reservation, and two calls for the first record, two for the second and one
-/// for the third.
-fn is_always_one_call_more(rt: &impl Abort, alloc: Global, code: u8) {
+/// The same at each of the six calls: the reservation, two calls for the first record, two for the second, one for the
+/// third.
+fn assert_one_call_more_at_each(rt: &impl Abort, alloc: Global, code: u8) {
     for call in 1..=6 {
-        is_one_call_more(rt, alloc, call, code);
+        assert_one_call_more(rt, alloc, call, code);
     }
 }
 
 #[test]
 fn a_busy_code_is_one_call_more(rt: HostRuntime) {
-    is_always_one_call_more(&rt, rt.alloc(), 0xC3);
-    is_always_one_call_more(&rt, rt.alloc(), 0x81);
+    assert_one_call_more_at_each(&rt, rt.alloc(), 0xC3);
+    assert_one_call_more_at_each(&rt, rt.alloc(), 0x81);
 }

@@ -7,7 +7,7 @@ use std::alloc::Global;
 use std::fmt::Write;
 use std::process::Abort;
 
-/// The byte at a place of the inventory. Bytes at places 254 or 32 apart are not the same.
+/// The byte at a place of the inventory. It differs from the bytes 32 and 254 places before it.
 fn byte_at(place: u16) -> u8 {
     let [low, high] = place.to_le_bytes();
     low ^ high
@@ -30,7 +30,7 @@ fn push_line(rt: &impl Abort, image: &mut String, place: u16) {
     write!(image, "fru 00 {byte:02x}\n").expect(rt, "memory");
 }
 
-/// An image of the inventory, with a line for each byte.
+/// An image of the inventory, one byte a line.
 fn image_text(rt: &impl Abort, alloc: Global) -> String {
     let mut image = String::from_str(alloc, "ipmi-image 1\n").expect(rt, "memory");
     for place in 0..0xFFFFu16 {
@@ -40,8 +40,8 @@ fn image_text(rt: &impl Abort, alloc: Global) -> String {
     image
 }
 
-/// Asserts that the inventory is read from its image in parts of at most so many bytes, after so many calls.
-fn is_read(rt: &impl Abort, alloc: Global, image: &str, part: u8, calls: u32)
+/// Asserts that the inventory is read whole, in parts of at most `part` bytes, with this many calls.
+fn assert_inventory(rt: &impl Abort, alloc: Global, image: &str, part: u8, calls: u32)
     requires some { 0 < part }
     requires fits { part < 255 }
 {
@@ -57,12 +57,12 @@ fn is_read(rt: &impl Abort, alloc: Global, image: &str, part: u8, calls: u32)
 #[test]
 fn the_longest_inventory_is_read_in_long_parts(rt: HostRuntime) {
     let image = image_text(&rt, rt.alloc());
-    is_read(&rt, rt.alloc(), image.as_str(), 254, 260);
+    assert_inventory(&rt, rt.alloc(), image.as_str(), 254, 260);
 }
 
 // The size takes a call, 2,047 parts of 32 bytes are 65,504 bytes, and the last part has 31 bytes.
 #[test]
 fn the_longest_inventory_is_read_in_short_parts(rt: HostRuntime) {
     let image = image_text(&rt, rt.alloc());
-    is_read(&rt, rt.alloc(), image.as_str(), 32, 2_049);
+    assert_inventory(&rt, rt.alloc(), image.as_str(), 32, 2_049);
 }

@@ -1,12 +1,13 @@
-//! Readings, infos and inventories over replayed answers, and how many calls they take.
-use crate::controllers::{Replay, Reply, asked_last};
+//! Readings, infos and inventories read over replayed answers, and the calls that they take.
+use crate::controllers::{Replay, Reply, assert_last_request};
 use ipmi_bus::{Code, Ended, FruEnded, FruSize, Shelf, read_fru, read_info, read_reading};
+use ipmi_fixtures::INFO;
 use ipmi_text::Reading;
 use std::alloc::Global;
 use std::fmt::Debug;
 use std::process::Abort;
 
-/// Replies, the number of tries, and what is read with how many calls.
+/// Replies and a number of tries, and the result after this many calls.
 #[derive(Clone, Copy, Debug)]
 struct Case<T> {
     replies: &'static [Reply],
@@ -15,7 +16,8 @@ struct Case<T> {
     calls: u32,
 }
 
-fn compare<T: Debug + PartialEq>(rt: &impl Abort, case: &Case<T>, got: &T, calls: u32) {
+/// Asserts the result and the number of calls.
+fn assert_case<T: Debug + PartialEq>(rt: &impl Abort, case: &Case<T>, got: &T, calls: u32) {
     assert!(rt; *got == case.wanted, "{case:?}: {got:?}");
     assert!(rt; calls == case.calls, "{case:?}: {calls} calls");
 }
@@ -70,23 +72,19 @@ const READINGS: [Case<Result<Option<Reading>, Ended>>; 6] = [
     },
 ];
 
-/// Reads a reading for the record 0007h.
-fn reading_is_read(rt: &impl Abort, case: &Case<Result<Option<Reading>, Ended>>) {
+/// Asserts a reading that is read for record 0007h.
+fn assert_reading(rt: &impl Abort, case: &Case<Result<Option<Reading>, Ended>>) {
     let mut ctl = Replay::new(case.replies);
     let reading = read_reading(&mut ctl, 7, 0, 1, case.tries);
-    compare(rt, case, &reading, ctl.calls);
+    assert_case(rt, case, &reading, ctl.calls);
 }
 
 #[test]
 fn a_reading_is_asked_for_until_it_comes(rt: HostRuntime) {
     for case in &READINGS {
-        reading_is_read(&rt, case);
+        assert_reading(&rt, case);
     }
 }
-
-const INFO: [u8; 14] = [
-    0x51, 3, 0, 0, 4, 1, 0, 0, 0x20, 0xFF, 0xFF, 0xFF, 0xFF, 0x02,
-];
 
 const INFOS: [Case<Result<Option<[u8; 14]>, Ended>>; 5] = [
     Case {
@@ -121,17 +119,17 @@ const INFOS: [Case<Result<Option<[u8; 14]>, Ended>>; 5] = [
     },
 ];
 
-/// Reads the info of the event log.
-fn info_is_read(rt: &impl Abort, case: &Case<Result<Option<[u8; 14]>, Ended>>) {
+/// Asserts the info of the event log.
+fn assert_info(rt: &impl Abort, case: &Case<Result<Option<[u8; 14]>, Ended>>) {
     let mut ctl = Replay::new(case.replies);
     let info = read_info(&mut ctl, Shelf::Sel, case.tries);
-    compare(rt, case, &info, ctl.calls);
+    assert_case(rt, case, &info, ctl.calls);
 }
 
 #[test]
 fn an_info_is_asked_for_until_it_comes(rt: HostRuntime) {
     for case in &INFOS {
-        info_is_read(&rt, case);
+        assert_info(&rt, case);
     }
 }
 
@@ -188,23 +186,23 @@ const ENDED_INVENTORIES: [Case<FruEnded>; 7] = [
     },
 ];
 
-/// Asks for an inventory in parts of 32 bytes, which doesn't come.
-fn inventory_ends(rt: &impl Abort, alloc: Global, case: &Case<FruEnded>) {
+/// Asserts why an inventory, in parts of 32 bytes, is not read.
+fn assert_inventory_end(rt: &impl Abort, alloc: Global, case: &Case<FruEnded>) {
     let mut ctl = Replay::new(case.replies);
     match read_fru(alloc, &mut ctl, 0, 32, case.tries) {
         Ok(bytes) => panic!(rt; "{case:?}: {bytes:?}"),
-        Err(ended) => compare(rt, case, &ended, ctl.calls),
+        Err(ended) => assert_case(rt, case, &ended, ctl.calls),
     }
 }
 
 #[test]
 fn an_inventory_ends_by_name(rt: HostRuntime) {
     for case in &ENDED_INVENTORIES {
-        inventory_ends(&rt, rt.alloc(), case);
+        assert_inventory_end(&rt, rt.alloc(), case);
     }
 }
 
-/// An inventory of three bytes in two parts, with two troubles on the way.
+/// An inventory of three bytes in two parts, with two busy answers on the way.
 const TWO_TROUBLES: [Reply; 5] = [
     Reply::Fails(0x81),
     Reply::Has(FruSize {
@@ -222,7 +220,7 @@ fn an_inventory_is_read_in_parts(rt: HostRuntime) {
     let bytes = read_fru(rt.alloc(), &mut ctl, 0, 2, 2).expect(&rt, "an inventory");
     assert!(rt; bytes.as_slice() == [1, 2, 3].as_slice(), "{bytes:?}");
     assert!(rt; ctl.calls == 5, "{} calls", ctl.calls);
-    asked_last(&rt, &ctl, 2, 1);
+    assert_last_request(&rt, &ctl, 2, 1);
 }
 
 #[test]
@@ -240,7 +238,7 @@ const ONE_BYTE: [Reply; 2] = [
     Reply::Gives(&[7], 0),
 ];
 
-fn is_one_byte(rt: &impl Abort, bytes: &[u8]) {
+fn assert_one_byte(rt: &impl Abort, bytes: &[u8]) {
     assert!(rt; bytes == [7].as_slice(), "{bytes:?}");
 }
 
@@ -248,7 +246,7 @@ fn is_one_byte(rt: &impl Abort, bytes: &[u8]) {
 fn not_always_out_of_memory(rt: HostRuntime) {
     let mut ctl = Replay::new(&ONE_BYTE);
     let bytes = read_fru(rt.alloc(), &mut ctl, 0, 32, 5).expect(&rt, "an inventory");
-    is_one_byte(&rt, &bytes);
+    assert_one_byte(&rt, &bytes);
 }
 
 // Where memory is refused, only the size was asked for.
@@ -256,7 +254,7 @@ fn not_always_out_of_memory(rt: HostRuntime) {
 fn memory_may_be_refused(rt: HostRuntime) {
     let mut ctl = Replay::new(&ONE_BYTE);
     match read_fru(rt.alloc(), &mut ctl, 0, 32, 5) {
-        Ok(bytes) => is_one_byte(&rt, &bytes),
+        Ok(bytes) => assert_one_byte(&rt, &bytes),
         Err(ended) => {
             assert!(rt; ended == FruEnded::Memory, "{ended:?}");
             assert!(rt; ctl.calls == 1, "{} calls", ctl.calls);

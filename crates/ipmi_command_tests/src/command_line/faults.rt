@@ -1,37 +1,41 @@
-//! Command lines that are no command, each with its fault, which is answered by the usage line.
+//! Command lines with a fault. Each is answered with the usage line.
 use super::lines::{read_line, read_words};
-use crate::commands::answers::is_usage;
+use crate::commands::answers::assert_usage_answer;
 use ipmi_command_line::{Command, UsageFault};
 use std::alloc::{AllocError, Global};
 use std::process::Abort;
 
-fn is_fault(rt: &impl Abort, got: &Result<Command, UsageFault>, wanted: UsageFault, line: &str) {
+fn assert_fault(
+    rt: &impl Abort,
+    got: &Result<Command, UsageFault>,
+    wanted: UsageFault,
+    line: &str,
+) {
     match got {
         Ok(_) => panic!(rt; "{line}: taken as a command"),
         Err(fault) => assert!(rt; *fault == wanted, "{line}: got {fault:?}"),
     }
 }
 
-/// Asserts that the words of a line have this fault, and that the answer over an image is the usage line.
-fn fails(rt: &impl Abort, alloc: Global, line: &str, fault: UsageFault) {
+/// Asserts the fault of a line, and that it is answered with the usage line.
+fn assert_fault_of_line(rt: &impl Abort, alloc: Global, line: &str, fault: UsageFault) {
     let got = read_line(rt, alloc, line);
-    is_fault(rt, &got, fault, line);
-    is_usage(rt, alloc, got, line);
+    assert_fault(rt, &got, fault, line);
+    assert_usage_answer(rt, alloc, got, line);
 }
 
-/// The same for each of these lines.
-fn all_fail(rt: &impl Abort, alloc: Global, lines: &str, fault: UsageFault) {
+/// The same for each line.
+fn assert_fault_of_lines(rt: &impl Abort, alloc: Global, lines: &str, fault: UsageFault) {
     for line in lines.lines() {
-        fails(rt, alloc, line, fault);
+        assert_fault_of_line(rt, alloc, line, fault);
     }
 }
 
-/// Asserts that the words of a line, which are split at commas, are no command, and that the answer over an image is
-/// the usage line.
-fn no_command(rt: &impl Abort, alloc: Global, line: &str) {
+/// The same for a line of unknown words, split at commas.
+fn assert_no_command(rt: &impl Abort, alloc: Global, line: &str) {
     let got = read_words(rt, alloc, line);
-    is_fault(rt, &got, UsageFault::Command, line);
-    is_usage(rt, alloc, got, line);
+    assert_fault(rt, &got, UsageFault::Command, line);
+    assert_usage_answer(rt, alloc, got, line);
 }
 
 const OTHER_WORDS: &str = "hex
@@ -76,7 +80,7 @@ sel get first 1
 fru print 0 1
 image rewrite a b c";
 
-/// Words with a comma between two, of which some are empty or have a space.
+/// Words split at commas. Some are empty or have a space.
 const ODD_WORDS: &str = "
 sdr,hex,
 ,sdr
@@ -85,9 +89,9 @@ sel,get, 1";
 
 #[test]
 fn other_words_are_no_command(rt: HostRuntime) {
-    all_fail(&rt, rt.alloc(), OTHER_WORDS, UsageFault::Command);
+    assert_fault_of_lines(&rt, rt.alloc(), OTHER_WORDS, UsageFault::Command);
     for line in ODD_WORDS.lines() {
-        no_command(&rt, rt.alloc(), line);
+        assert_no_command(&rt, rt.alloc(), line);
     }
 }
 
@@ -126,7 +130,7 @@ sel list last ten";
 
 #[test]
 fn numbers_out_of_range_or_unreadable_are_no_command(rt: HostRuntime) {
-    all_fail(&rt, rt.alloc(), NUMBERS, UsageFault::Command);
+    assert_fault_of_lines(&rt, rt.alloc(), NUMBERS, UsageFault::Command);
 }
 
 const OPTIONS: &str = "--from 0000
@@ -158,7 +162,7 @@ const OPTIONS: &str = "--from 0000
 
 #[test]
 fn options_out_of_range_or_unreadable_are_faults(rt: HostRuntime) {
-    all_fail(&rt, rt.alloc(), OPTIONS, UsageFault::Option);
+    assert_fault_of_lines(&rt, rt.alloc(), OPTIONS, UsageFault::Option);
 }
 
 const STARTS: &str = "fru --from 0002
@@ -172,7 +176,7 @@ sel get 2 --from 0002
 
 #[test]
 fn other_commands_take_no_start(rt: HostRuntime) {
-    all_fail(&rt, rt.alloc(), STARTS, UsageFault::Option);
+    assert_fault_of_lines(&rt, rt.alloc(), STARTS, UsageFault::Option);
 }
 
 const UNREADABLE: &str = "--help
@@ -200,7 +204,7 @@ sdr get -h";
 
 #[test]
 fn some_lines_cannot_be_read(rt: HostRuntime) {
-    all_fail(&rt, rt.alloc(), UNREADABLE, UsageFault::Line);
+    assert_fault_of_lines(&rt, rt.alloc(), UNREADABLE, UsageFault::Line);
 }
 
 const UNREADABLE_WITH_OTHERS: &str = "--nope sdr frob --part 0
@@ -216,17 +220,17 @@ sel get 0 --tries 256
 const SEVERAL_OPTIONS: &str = "--from 0000 --part 0 --tries 256 sdr hex
 --from 0000 sel info";
 
-// That a line cannot be read comes before words that name no command, and these before an option that does not fit.
+// The order of faults: an unreadable line, unknown words, an option that is out of range or not allowed.
 #[test]
 fn the_first_fault_counts(rt: HostRuntime) {
-    all_fail(&rt, rt.alloc(), UNREADABLE_WITH_OTHERS, UsageFault::Line);
-    all_fail(
+    assert_fault_of_lines(&rt, rt.alloc(), UNREADABLE_WITH_OTHERS, UsageFault::Line);
+    assert_fault_of_lines(
         &rt,
         rt.alloc(),
         NO_COMMAND_WITH_OPTIONS,
         UsageFault::Command,
     );
-    all_fail(&rt, rt.alloc(), SEVERAL_OPTIONS, UsageFault::Option);
+    assert_fault_of_lines(&rt, rt.alloc(), SEVERAL_OPTIONS, UsageFault::Option);
 }
 
 #[test]

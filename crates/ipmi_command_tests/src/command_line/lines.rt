@@ -1,17 +1,17 @@
-//! Command lines as they are written in tests.
+//! Command lines of tests.
 use ipmi_command_line::{Command, UsageFault, Words, command_of};
 use std::alloc::Global;
 use std::process::Abort;
 use std::str::SplitWhitespace;
 
-/// A line of the program's name.
+/// The words of a line that has only the program's name.
 fn name_only(rt: &impl Abort, alloc: Global) -> Words {
     let mut words = Words::new(alloc);
     words.push("ipmitool").expect(rt, "memory");
     words
 }
 
-/// The command of these words, which begin with the program's name.
+/// The command of these words, the first of which is the program's name.
 pub(crate) fn command_of_words(
     rt: &impl Abort,
     alloc: Global,
@@ -23,7 +23,7 @@ pub(crate) fn command_of_words(
     command
 }
 
-/// The command of a line with all these words, which are split at spaces.
+/// The command of a line, split at spaces.
 pub(crate) fn read_line(rt: &impl Abort, alloc: Global, line: &str) -> Result<Command, UsageFault> {
     let mut words = name_only(rt, alloc);
     for word in line.split_whitespace() {
@@ -32,7 +32,7 @@ pub(crate) fn read_line(rt: &impl Abort, alloc: Global, line: &str) -> Result<Co
     command_of_words(rt, alloc, words)
 }
 
-/// The command of a line with all these words, which are split at commas.
+/// The command of a line, split at commas.
 pub(crate) fn read_words(
     rt: &impl Abort,
     alloc: Global,
@@ -45,12 +45,12 @@ pub(crate) fn read_words(
     command_of_words(rt, alloc, words)
 }
 
-/// The command that these words are, which are split at spaces.
+/// The command of a line without a fault, split at spaces.
 pub(crate) fn command(rt: &impl Abort, alloc: Global, line: &str) -> Command {
     read_line(rt, alloc, line).expect(rt, line)
 }
 
-/// The command that these words are, which are split at commas where there is one, and else at spaces.
+/// The same, but split at commas if there is one.
 pub(crate) fn command_of_case(rt: &impl Abort, alloc: Global, line: &str) -> Command {
     if line.find(',').is_none() {
         return command(rt, alloc, line);

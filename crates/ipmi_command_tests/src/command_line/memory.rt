@@ -1,4 +1,4 @@
-//! Each call that takes memory, once: with ample memory, and with requests for memory refused.
+//! Each call that takes memory, once with ample memory, and once with requests refused.
 use super::lines::command_of_words;
 use ipmi_command_line::{Command, Task, UsageFault, Word, Words};
 use std::alloc::{AllocError, Global};
@@ -19,15 +19,15 @@ fn command(rt: &impl Abort, alloc: Global) -> Result<Command, UsageFault> {
     command_of_words(rt, alloc, words)
 }
 
-fn is_name(rt: &impl Abort, word: &Word) {
+fn assert_name(rt: &impl Abort, word: &Word) {
     let got = word.as_str();
     assert!(rt; got == "Fan 1", "the name: got {got}");
 }
 
-/// Asserts that the command has the name and the image. It takes no memory.
-fn is_whole(rt: &impl Abort, command: &Command) {
+/// Asserts the name and the image of the command. It takes no memory.
+fn assert_command(rt: &impl Abort, command: &Command) {
     match command.task() {
-        Task::Get(name) => is_name(rt, name),
+        Task::Get(name) => assert_name(rt, name),
         _ => panic!(rt; "another task"),
     }
     let image = command.image().expect(rt, "an image");
@@ -35,21 +35,21 @@ fn is_whole(rt: &impl Abort, command: &Command) {
     assert!(rt; got == "server.image", "the image: got {got}");
 }
 
-/// With ample memory each of them gives what it is asked for.
+// With ample memory each call succeeds.
 #[test]
 fn not_always_out_of_memory(rt: HostRuntime) {
-    is_name(&rt, &Word::new(rt.alloc(), "Fan 1").expect(&rt, "memory"));
-    is_whole(&rt, &command(&rt, rt.alloc()).expect(&rt, "a command"));
+    assert_name(&rt, &Word::new(rt.alloc(), "Fan 1").expect(&rt, "memory"));
+    assert_command(&rt, &command(&rt, rt.alloc()).expect(&rt, "a command"));
 }
 
-/// Where memory is refused, each of them gives what it is asked for, or wants memory.
+// With memory refused each call succeeds, or fails when out of memory.
 #[test]
 fn memory_may_be_refused(rt: HostRuntime) {
     if let Ok(word) = Word::new(rt.alloc(), "Fan 1") {
-        is_name(&rt, &word);
+        assert_name(&rt, &word);
     }
     match command(&rt, rt.alloc()) {
-        Ok(command) => is_whole(&rt, &command),
+        Ok(command) => assert_command(&rt, &command),
         Err(fault) => assert!(rt; fault == UsageFault::Memory, "{fault:?}"),
     }
 }

@@ -1,11 +1,11 @@
-//! The options of a command line, and what a command gives of what it was made of.
+//! The options of a command line, and the getters of a command.
 use super::lines::command;
 use crate::cases::parts;
 use ipmi_command_line::{Command, Task, Word};
 use std::alloc::Global;
 use std::process::Abort;
 
-/// A task as a text: as it is written in code, but for a name without quotes.
+/// A task as it is written in code, but with names unquoted.
 fn task_text(rt: &impl Abort, alloc: Global, task: &Task) -> String {
     match task {
         Task::Get(name) => {
@@ -16,7 +16,7 @@ fn task_text(rt: &impl Abort, alloc: Global, task: &Task) -> String {
     }
 }
 
-/// What the image option of a command says, or a dash.
+/// The image option, or a dash.
 fn image_text(command: &Command) -> &str {
     match command.image() {
         Some(image) => image.as_str(),
@@ -24,7 +24,7 @@ fn image_text(command: &Command) -> &str {
     }
 }
 
-/// The options of a command as a text: start, part, tries and image.
+/// The options of a command: start, part, tries and image.
 fn options_text(rt: &impl Abort, alloc: Global, command: &Command) -> String {
     let from = command.from();
     let part = command.part();
@@ -33,8 +33,8 @@ fn options_text(rt: &impl Abort, alloc: Global, command: &Command) -> String {
     format!(in alloc; "{from:?} {part} {tries} {image}").expect(rt, "memory")
 }
 
-/// Asserts that a command is of this task and has these options.
-pub(super) fn is_command(
+/// Asserts the task and the options of a command.
+pub(super) fn assert_command(
     rt: &impl Abort,
     alloc: Global,
     command: Command,
@@ -49,24 +49,31 @@ pub(super) fn is_command(
     assert!(rt; got.as_str() == options, "{case}: got {got}");
 }
 
-/// Asserts that a command is of this task, with no option.
-pub(super) fn is_task(rt: &impl Abort, alloc: Global, command: Command, task: &str, case: &str) {
-    is_command(rt, alloc, command, task, "None 32 5 -", case);
+/// Asserts that a command is this task with no option.
+pub(super) fn assert_task(
+    rt: &impl Abort,
+    alloc: Global,
+    command: Command,
+    task: &str,
+    case: &str,
+) {
+    assert_command(rt, alloc, command, task, "None 32 5 -", case);
 }
 
-/// Asserts that a line is `sdr hex` with options: those after its bar.
-fn is_hex(rt: &impl Abort, alloc: Global, case: &str) {
+/// Asserts that a line is `sdr hex` with these options.
+fn assert_hex_options(rt: &impl Abort, alloc: Global, case: &str) {
     let (words, options) = parts(rt, case);
-    is_command(rt, alloc, command(rt, alloc, words), "Hex", options, case);
+    assert_command(rt, alloc, command(rt, alloc, words), "Hex", options, case);
 }
 
-/// The same for each of these lines.
-fn are_hex(rt: &impl Abort, alloc: Global, cases: &str) {
+/// The same for each line.
+fn assert_hex_options_of_lines(rt: &impl Abort, alloc: Global, cases: &str) {
     for case in cases.lines() {
-        is_hex(rt, alloc, case);
+        assert_hex_options(rt, alloc, case);
     }
 }
 
+/// `words|start part tries image`.
 const ORDERS: &str = "--from 00fe --part 7 --tries 0 --image a.image sdr hex|Some(254) 7 0 a.image
 sdr hex --image a.image --tries 0 --part 7 --from 00FE|Some(254) 7 0 a.image
 --part 7 sdr --from 00fE --image a.image hex --tries 0|Some(254) 7 0 a.image
@@ -76,9 +83,10 @@ sdr hex --image a.image --tries 0 --part 7 --from 00FE|Some(254) 7 0 a.image
 
 #[test]
 fn options_may_be_anywhere(rt: HostRuntime) {
-    are_hex(&rt, rt.alloc(), ORDERS);
+    assert_hex_options_of_lines(&rt, rt.alloc(), ORDERS);
 }
 
+/// `words|start part tries image`.
 const EDGES: &str = "--from 0001|Some(1) 32 5 -
 --from FFFE|Some(65534) 32 5 -
 --from fffe|Some(65534) 32 5 -
@@ -89,9 +97,10 @@ const EDGES: &str = "--from 0001|Some(1) 32 5 -
 
 #[test]
 fn options_reach_the_edges_of_their_ranges(rt: HostRuntime) {
-    are_hex(&rt, rt.alloc(), EDGES);
+    assert_hex_options_of_lines(&rt, rt.alloc(), EDGES);
 }
 
+/// `words|task`.
 const STARTS: &str = "--from 0002|Hex
 --from 0002 sdr|List(Sensors)
 --from 0002 sdr hex|Hex
@@ -105,17 +114,17 @@ const STARTS: &str = "--from 0002|Hex
 --from 0002 sel list first 3|SelList(First(3))
 --from 0002 sel list last 3|SelList(Last(3))";
 
-/// Asserts that a line is this task with a start at 2, and no other option.
-fn starts_at_two(rt: &impl Abort, alloc: Global, case: &str) {
+/// Asserts that a line is this task with the start 2 and no other option.
+fn assert_start_at_two(rt: &impl Abort, alloc: Global, case: &str) {
     let (words, task) = parts(rt, case);
     let command = command(rt, alloc, words);
-    is_command(rt, alloc, command, task, "Some(2) 32 5 -", case);
+    assert_command(rt, alloc, command, task, "Some(2) 32 5 -", case);
 }
 
 #[test]
 fn some_commands_take_a_start(rt: HostRuntime) {
     for case in STARTS.lines() {
-        starts_at_two(&rt, rt.alloc(), case);
+        assert_start_at_two(&rt, rt.alloc(), case);
     }
 }
 
@@ -123,7 +132,7 @@ fn word(rt: &impl Abort, alloc: Global, text: &str) -> Word {
     Word::new(alloc, text).expect(rt, "memory")
 }
 
-/// A command of a name, with each option at an edge.
+/// A command with a name and with each option at an end of its range.
 fn whole_command(rt: &impl Abort, alloc: Global) -> Command {
     let task = Task::Get(word(rt, alloc, "Fan 1"));
     let image = word(rt, alloc, "server.image");
@@ -134,5 +143,5 @@ fn whole_command(rt: &impl Abort, alloc: Global) -> Command {
 fn a_command_gives_what_it_was_made_of(rt: HostRuntime) {
     let command = whole_command(&rt, rt.alloc());
     let options = "Some(65534) 254 0 server.image";
-    is_command(&rt, rt.alloc(), command, "Get(Fan 1)", options, "made");
+    assert_command(&rt, rt.alloc(), command, "Get(Fan 1)", options, "made");
 }

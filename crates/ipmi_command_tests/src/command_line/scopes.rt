@@ -1,11 +1,11 @@
-//! Which commands take an id to start from, and which can be done in pages.
+//! The commands that take a first id, and those that may be done in pages.
 use super::lines::command;
 use crate::cases::parts;
 use std::alloc::Global;
 use std::process::Abort;
 
-/// Asserts that the command before the bar takes a start, and can be done in pages, as is said after it.
-fn has_scope(rt: &impl Abort, alloc: Global, case: &str) {
+/// Asserts whether a command takes a start, and whether it may be done in pages.
+fn assert_scope(rt: &impl Abort, alloc: Global, case: &str) {
     let (words, wanted) = parts(rt, case);
     let command = command(rt, alloc, words);
     let takes = command.task().takes_from();
@@ -15,6 +15,7 @@ fn has_scope(rt: &impl Abort, alloc: Global, case: &str) {
     assert!(rt; got.as_str() == wanted, "{case}: got {got}");
 }
 
+/// `words|whether they take a start, and may be done in pages`.
 const SCOPES: &str = "sdr hex|true true
 sdr --from 00a0 hex|true true
 sdr list|true true
@@ -35,6 +36,6 @@ image rewrite|false false";
 #[test]
 fn each_command_has_its_scope(rt: HostRuntime) {
     for case in SCOPES.lines() {
-        has_scope(&rt, rt.alloc(), case);
+        assert_scope(&rt, rt.alloc(), case);
     }
 }

@@ -1,31 +1,33 @@
-//! The task that the words of a command line name.
+//! The task of a command line.
 use super::lines::{command, read_words};
-use super::options::is_task;
+use super::options::assert_task;
 use crate::cases::parts;
 use std::alloc::Global;
 use std::process::Abort;
 
-/// Asserts that the words of a line, before its bar, are this task with no option.
-fn is_plain(rt: &impl Abort, alloc: Global, case: &str) {
+/// Asserts that a line is this task with no option.
+fn assert_plain_task(rt: &impl Abort, alloc: Global, case: &str) {
     let (words, task) = parts(rt, case);
-    is_task(rt, alloc, command(rt, alloc, words), task, case);
+    assert_task(rt, alloc, command(rt, alloc, words), task, case);
 }
 
-/// The same for each of these lines.
-fn are_plain(rt: &impl Abort, alloc: Global, cases: &str) {
+/// The same for each line.
+fn assert_plain_tasks(rt: &impl Abort, alloc: Global, cases: &str) {
     for case in cases.lines() {
-        is_plain(rt, alloc, case);
+        assert_plain_task(rt, alloc, case);
     }
 }
 
+/// `words|task`.
 const BARE: &str = "|Hex
 sdr hex|Hex";
 
 #[test]
 fn no_words_are_sdr_hex(rt: HostRuntime) {
-    are_plain(&rt, rt.alloc(), BARE);
+    assert_plain_tasks(&rt, rt.alloc(), BARE);
 }
 
+/// `words|task`.
 const INVENTORIES: &str = "fru|Fru(None)
 fru print|Fru(None)
 fru print 0|Fru(Some(0))
@@ -38,9 +40,10 @@ fru print 0x00fE|Fru(Some(254))";
 
 #[test]
 fn fru_is_one_inventory_or_every_one(rt: HostRuntime) {
-    are_plain(&rt, rt.alloc(), INVENTORIES);
+    assert_plain_tasks(&rt, rt.alloc(), INVENTORIES);
 }
 
+/// `words|task`.
 const SENSOR_DATA_RECORDS: &str = "sdr|List(Sensors)
 sdr list|List(Sensors)
 sdr elist|Elist(Sensors)
@@ -62,9 +65,10 @@ sdr info|Info(Sdr)";
 
 #[test]
 fn sdr_lists_records_of_a_kind(rt: HostRuntime) {
-    are_plain(&rt, rt.alloc(), SENSOR_DATA_RECORDS);
+    assert_plain_tasks(&rt, rt.alloc(), SENSOR_DATA_RECORDS);
 }
 
+/// `words|task`.
 const NAMES: &str = "sdr,get,CPU Temp|Get(CPU Temp)
 sdr,get,|Get()
 sdr,get,list|Get(list)
@@ -74,20 +78,21 @@ sdr,get,-|Get(-)
 sdr,get,a=b|Get(a=b)
 sdr,get,--,--part|Get(--part)";
 
-/// Asserts that the words of a line, which are split at commas, are this task with no option.
-fn is_plain_with_name(rt: &impl Abort, alloc: Global, case: &str) {
+/// The same for a line that is split at commas.
+fn assert_plain_task_with_commas(rt: &impl Abort, alloc: Global, case: &str) {
     let (words, task) = parts(rt, case);
     let command = read_words(rt, alloc, words).expect(rt, case);
-    is_task(rt, alloc, command, task, case);
+    assert_task(rt, alloc, command, task, case);
 }
 
 #[test]
 fn a_name_is_any_word(rt: HostRuntime) {
     for case in NAMES.lines() {
-        is_plain_with_name(&rt, rt.alloc(), case);
+        assert_plain_task_with_commas(&rt, rt.alloc(), case);
     }
 }
 
+/// `words|task`.
 const EVENT_LOG: &str = "sel|Info(Sel)
 sel info|Info(Sel)
 sel get 1|SelGet(1)
@@ -102,9 +107,10 @@ sel get 0xFFFE|SelGet(65534)";
 
 #[test]
 fn sel_is_info_or_one_entry(rt: HostRuntime) {
-    are_plain(&rt, rt.alloc(), EVENT_LOG);
+    assert_plain_tasks(&rt, rt.alloc(), EVENT_LOG);
 }
 
+/// `words|task`.
 const COUNTS: &str = "sel list|SelList(All)
 sel list 0|SelList(All)
 sel list 0x0|SelList(All)
@@ -123,17 +129,18 @@ sel list last 0x0A|SelList(Last(10))
 sel list last 65535|SelList(Last(65535))
 sel list last 0xFFFF|SelList(Last(65535))";
 
-// A count of 0 is no count.
+// The count 0 lists all.
 #[test]
 fn sel_lists_the_oldest_or_the_newest_entries(rt: HostRuntime) {
-    are_plain(&rt, rt.alloc(), COUNTS);
+    assert_plain_tasks(&rt, rt.alloc(), COUNTS);
 }
 
 #[test]
 fn image_rewrite_is_a_task(rt: HostRuntime) {
-    is_plain(&rt, rt.alloc(), "image rewrite|Rewrite");
+    assert_plain_task(&rt, rt.alloc(), "image rewrite|Rewrite");
 }
 
+/// `words|whether they are a listing`.
 const LISTINGS: &str = "|true
 sdr|true
 sdr list fru|true
@@ -151,8 +158,8 @@ sel list last 2|false
 sel get 1|false
 image rewrite|false";
 
-/// Asserts whether the words of a line are a listing.
-fn is_listing(rt: &impl Abort, alloc: Global, case: &str) {
+/// Asserts whether a line is a listing.
+fn assert_listing(rt: &impl Abort, alloc: Global, case: &str) {
     let (words, wanted) = parts(rt, case);
     let command = command(rt, alloc, words);
     let is_listing = command.is_listing();
@@ -166,6 +173,6 @@ fn is_listing(rt: &impl Abort, alloc: Global, case: &str) {
 #[test]
 fn some_commands_are_listings(rt: HostRuntime) {
     for case in LISTINGS.lines() {
-        is_listing(&rt, rt.alloc(), case);
+        assert_listing(&rt, rt.alloc(), case);
     }
 }

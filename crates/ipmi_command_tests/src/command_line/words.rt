@@ -6,8 +6,8 @@ fn push(rt: &impl Abort, words: &mut Words, word: &str) {
     words.push(word).expect(rt, "memory");
 }
 
-/// Asserts that the word at this place is this one.
-fn has(rt: &impl Abort, words: &Words, place: usize, wanted: &str) {
+/// Asserts the word at a place.
+fn assert_word(rt: &impl Abort, words: &Words, place: usize, wanted: &str) {
     let word = words.as_slice().get(place).expect(rt, "a word");
     let got = word.as_str();
     assert!(rt; got == wanted, "word {place}: got {got}");
@@ -22,9 +22,9 @@ fn words_are_in_order(rt: HostRuntime) {
     }
     let len = words.as_slice().len();
     assert!(rt; len == 3, "{len} words");
-    has(&rt, &words, 0, "ipmitool");
-    has(&rt, &words, 1, "");
-    has(&rt, &words, 2, "hex");
+    assert_word(&rt, &words, 0, "ipmitool");
+    assert_word(&rt, &words, 1, "");
+    assert_word(&rt, &words, 2, "hex");
 }
 
 #[test]

@@ -1,5 +1,5 @@
-//! What the answer to a command line leaves over the bytes of an image, and how it is compared with what is wanted.
-use super::left::text_of;
+//! The answer to a command line over the bytes of an image, and how it is compared with what is wanted.
+use super::outcome::text_of;
 use super::saved::THREE_ROWS;
 use crate::cases::first_line;
 use crate::command_line::lines::{command, read_line};
@@ -9,53 +9,59 @@ use ipmi_output::Written;
 use std::alloc::Global;
 use std::process::Abort;
 
-/// What a usage fault leaves, in the form of `answered_text`.
+/// The outcome of a usage fault, in the form of `answer_text`.
 pub(super) const USAGE: &str = "2
 usage: ipmitool [--image FILE] [--from HEX4] [--part N] [--tries N] fru|sdr|sel WORDS
 --
 ";
 
-/// What the answer to a command line left: output, messages and status.
+/// What the answer to a command line leaves: output, messages and status.
 #[derive(Drop)]
-pub(super) struct Answered {
+pub(super) struct AnswerOutcome {
     pub out: Vec<u8>,
     pub err: Vec<u8>,
     pub status: u8,
 }
 
-/// What the answer to the command line over these bytes leaves.
-pub(super) fn left_by_answer(
+/// The outcome of a command line over these bytes.
+pub(super) fn outcome_of_answer(
     alloc: Global,
     line: &Result<Command, UsageFault>,
     image: &[u8],
-) -> Answered {
+) -> AnswerOutcome {
     let mut err = Vec::new(alloc);
     let mut out = Written::new(Vec::new(alloc));
     let status = answer(alloc, line, image, &mut out, &mut err);
-    Answered {
+    AnswerOutcome {
         out: out.into_inner(),
         err,
         status,
     }
 }
 
-/// What an answer left as a text: as `left_text`, without calls.
-fn answered_text(rt: &impl Abort, alloc: Global, left: &Answered, case: &str) -> String {
-    let out = text_of(rt, &left.out, case);
-    let err = text_of(rt, &left.err, case);
-    let status = left.status;
+/// An outcome as a text: as `outcome_text`, without the number of calls.
+fn answer_text(rt: &impl Abort, alloc: Global, outcome: &AnswerOutcome, case: &str) -> String {
+    let out = text_of(rt, &outcome.out, case);
+    let err = text_of(rt, &outcome.err, case);
+    let status = outcome.status;
     format!(in alloc; "{status}\n{err}--\n{out}").expect(rt, "memory")
 }
 
-/// Asserts that this was left, in the form of `answered_text`.
-pub(super) fn is_answer(rt: &impl Abort, alloc: Global, left: Answered, wanted: &str, case: &str) {
-    let got = answered_text(rt, alloc, &left, case);
-    drop(left);
+/// Asserts an outcome, in the form of `answer_text`.
+pub(super) fn assert_answer_outcome(
+    rt: &impl Abort,
+    alloc: Global,
+    outcome: AnswerOutcome,
+    wanted: &str,
+    case: &str,
+) {
+    let got = answer_text(rt, alloc, &outcome, case);
+    drop(outcome);
     assert!(rt; got.as_str() == wanted, "{case}: got {got}");
 }
 
-/// Asserts that this is left by the answer to a command line over an image, in the form of `answered_text`.
-pub(super) fn is_answered(
+/// Asserts the answer to a command line over an image, in the form of `answer_text`.
+pub(super) fn assert_answer(
     rt: &impl Abort,
     alloc: Global,
     line: Result<Command, UsageFault>,
@@ -63,38 +69,38 @@ pub(super) fn is_answered(
     wanted: &str,
     case: &str,
 ) {
-    let left = left_by_answer(alloc, &line, image);
+    let outcome = outcome_of_answer(alloc, &line, image);
     drop(line);
-    is_answer(rt, alloc, left, wanted, case);
+    assert_answer_outcome(rt, alloc, outcome, wanted, case);
 }
 
-/// Asserts that the answer to a command line over three records is the usage line, with no output.
-pub(crate) fn is_usage(
+/// Asserts that a command line over three records is answered with the usage line alone.
+pub(crate) fn assert_usage_answer(
     rt: &impl Abort,
     alloc: Global,
     line: Result<Command, UsageFault>,
     case: &str,
 ) {
-    is_answered(rt, alloc, line, THREE_ROWS.as_bytes(), USAGE, case);
+    assert_answer(rt, alloc, line, THREE_ROWS.as_bytes(), USAGE, case);
 }
 
-/// Asserts what the answer to these words leaves. The case is an image, a line of dashes, and what is left.
-fn is_answered_over(rt: &impl Abort, alloc: Global, words: &str, case: &str) {
+/// Asserts the answer to these words. The case is an image, a line of dashes, and the outcome.
+fn assert_answer_of_case(rt: &impl Abort, alloc: Global, words: &str, case: &str) {
     let (image, wanted) = case.split_once("--\n").expect(rt, case);
     let line = Ok(command(rt, alloc, words));
-    is_answered(rt, alloc, line, image.as_bytes(), wanted, case);
+    assert_answer(rt, alloc, line, image.as_bytes(), wanted, case);
 }
 
-/// Asserts what the words in the first line of the case leave over this image: the rest of the case.
-pub(super) fn words_are_answered(rt: &impl Abort, alloc: Global, image: &str, case: &str) {
+/// Asserts the answer over this image. The case is the words in a line, and the outcome.
+pub(super) fn assert_answer_to_words(rt: &impl Abort, alloc: Global, image: &str, case: &str) {
     let (words, wanted) = first_line(rt, case);
     let line = read_line(rt, alloc, words);
-    is_answered(rt, alloc, line, image.as_bytes(), wanted, case);
+    assert_answer(rt, alloc, line, image.as_bytes(), wanted, case);
 }
 
-/// Asserts what the answer to these words leaves over the image of each case.
-pub(super) fn all_are_answered(rt: &impl Abort, alloc: Global, words: &str, cases: &str) {
+/// Asserts the answer to these words over the image of each case.
+pub(super) fn assert_answers(rt: &impl Abort, alloc: Global, words: &str, cases: &str) {
     for case in cases.split("====\n") {
-        is_answered_over(rt, alloc, words, case);
+        assert_answer_of_case(rt, alloc, words, case);
     }
 }

@@ -1,6 +1,7 @@
 //! The blocks of the records with a name: which are printed, with which reading, and how a walk without one ends.
-use super::printed::all_print;
+use super::printed::assert_outputs;
 
+/// `words|image|moods`, then the outcome.
 const FOUND: &str = "sdr,get,PSU1|sensor and locator|
 0 6
 --
@@ -94,12 +95,13 @@ Entity: 10.2
 
 ";
 
-// The reading of a sensor takes a call where the sensor has the name. Each record with the name has a block.
+// A sensor with the name takes a call for its reading. Each record with the name has a block.
 #[test]
 fn a_record_is_shown_by_its_name(rt: HostRuntime) {
-    all_print(&rt, rt.alloc(), FOUND);
+    assert_outputs(&rt, rt.alloc(), FOUND);
 }
 
+/// `words|image|moods`, then the outcome.
 const WITHOUT_READINGS: &str = "sdr,get,CPU Temp|sensor without reading|
 0 5
 --
@@ -140,9 +142,10 @@ Upper non-critical: 85 degrees C
 // The reading of another owner's sensor is not asked for.
 #[test]
 fn a_sensor_without_a_reading_has_its_thresholds(rt: HostRuntime) {
-    all_print(&rt, rt.alloc(), WITHOUT_READINGS);
+    assert_outputs(&rt, rt.alloc(), WITHOUT_READINGS);
 }
 
+/// `words|image|moods`, then the outcome.
 const NOT_FOUND: &str = "sdr,get,Foo|sensor|
 1 4
 no record named Foo
@@ -184,12 +187,13 @@ no record named Foo
 --
 ";
 
-// The whole walk is made, and no reading is asked for.
+// The walk goes to its end, and no reading is asked for.
 #[test]
 fn a_name_that_no_record_has_is_told_after_the_last_one(rt: HostRuntime) {
-    all_print(&rt, rt.alloc(), NOT_FOUND);
+    assert_outputs(&rt, rt.alloc(), NOT_FOUND);
 }
 
+/// `words|image|moods`, then the outcome.
 const ENDED: &str = "sdr,get,Foo|cycle|
 1 3
 cycle at 0007h
@@ -222,12 +226,13 @@ Entity: 10.1
 
 ";
 
-// That no record has the name is not known then.
+// No message says that the name was not found, since the walk did not come to its end.
 #[test]
 fn a_walk_that_ends_by_name_says_nothing_of_the_record(rt: HostRuntime) {
-    all_print(&rt, rt.alloc(), ENDED);
+    assert_outputs(&rt, rt.alloc(), ENDED);
 }
 
+/// `words|image|moods`, then the outcome.
 const OF_NO_CHARACTER: &str = "sdr,get,|nameless|
 0 4
 --
@@ -244,12 +249,13 @@ no record named
 --
 ";
 
-// The locator's name is the empty text. A record of another type has no name, not even that one.
+// The locator's name is empty. A record of another type has no name at all.
 #[test]
 fn a_name_may_be_the_empty_text(rt: HostRuntime) {
-    all_print(&rt, rt.alloc(), OF_NO_CHARACTER);
+    assert_outputs(&rt, rt.alloc(), OF_NO_CHARACTER);
 }
 
+/// `words|image|moods`, then the outcome.
 const OF_EACH_SORT: &str = "sdr,get,123|names of each sort|
 0 13
 --
@@ -314,9 +320,10 @@ Entity: 10.6
 // BCD plus, 6-bit ASCII, two-byte characters in hex, and Latin-1.
 #[test]
 fn a_name_is_asked_for_as_it_is_printed(rt: HostRuntime) {
-    all_print(&rt, rt.alloc(), OF_EACH_SORT);
+    assert_outputs(&rt, rt.alloc(), OF_EACH_SORT);
 }
 
+/// `words|image|moods`, then the outcome.
 const OF_CONTROL_BYTES: &str = "sdr,get,a.b|control bytes|
 0 3
 --
@@ -338,9 +345,9 @@ no record named \u{1b}[31m\té
 --
 ";
 
-// The printed name has a dot for a control byte, and that name is asked for. A message has the name as it was asked
-// for.
+// A control byte is a dot in the printed name, by which the record is found. A message repeats the name of the command
+// line.
 #[test]
 fn a_record_has_its_printed_name(rt: HostRuntime) {
-    all_print(&rt, rt.alloc(), OF_CONTROL_BYTES);
+    assert_outputs(&rt, rt.alloc(), OF_CONTROL_BYTES);
 }

@@ -1,5 +1,5 @@
-//! Each call of a command answered that what it asks for is not present.
-use super::left::one_leaves;
+//! Each call of a command, answered with `not present`, CBh.
+use super::outcome::assert_outcome_of_one;
 use super::over_images::interrupting;
 use super::saved::image_named;
 use crate::cases::{case_of, number};
@@ -7,23 +7,23 @@ use crate::command_line::lines::command_of_case;
 use std::alloc::Global;
 use std::process::Abort;
 
-/// Asserts what a command leaves over an image where one call is answered CBh. The first line of the case is the words,
-/// the name of the image and the number of the call, with bars between them; the other lines are what is left.
-fn is_left_without(rt: &impl Abort, alloc: Global, case: &str) {
+/// Asserts the outcome of a command over an image, with one call answered with CBh.
+fn assert_outcome_without_call(rt: &impl Abort, alloc: Global, case: &str) {
     let case = case_of(rt, case);
     let call = number(rt, case.more);
     let ctl = interrupting(rt, alloc, image_named(rt, case.image), call, 0xCB);
     let command = command_of_case(rt, alloc, case.words);
-    one_leaves(rt, alloc, ctl, command, case.wanted, case.line);
+    assert_outcome_of_one(rt, alloc, ctl, command, case.wanted, case.line);
 }
 
-/// The same for each of these cases.
-fn all_are_left(rt: &impl Abort, alloc: Global, cases: &str) {
+/// The same for each case.
+fn assert_outcomes(rt: &impl Abort, alloc: Global, cases: &str) {
     for case in cases.split("====\n") {
-        is_left_without(rt, alloc, case);
+        assert_outcome_without_call(rt, alloc, case);
     }
 }
 
+/// `words|image|number of the call`, then the outcome.
 const OF_A_NAME: &str = "sdr,get,CPU Temp|sensor and locator|1
 1 1
 record 0000h refused with code CBh
@@ -105,9 +105,10 @@ Upper non-critical: 85 degrees C
 // broken. A sensor may have no reading.
 #[test]
 fn a_named_record_may_be_away(rt: HostRuntime) {
-    all_are_left(&rt, rt.alloc(), OF_A_NAME);
+    assert_outcomes(&rt, rt.alloc(), OF_A_NAME);
 }
 
+/// `words|image|number of the call`, then the outcome.
 const OF_THE_NEWEST: &str = "sel list last 2|log|1
 1 1
 record 0000h refused with code CBh
@@ -148,13 +149,14 @@ record 0003h not present
 0002 | +536870912 s | Temperature #0x30 | Upper Non-critical going high | Deasserted
 ";
 
-// The first four calls are those of the walk that counts. A shelf whose first entry goes away before the second walk is
-// empty.
+// The first four calls are those of the walk that counts. If the first entry is gone before the second walk, the log
+// is empty.
 #[test]
 fn a_counted_entry_may_be_away(rt: HostRuntime) {
-    all_are_left(&rt, rt.alloc(), OF_THE_NEWEST);
+    assert_outcomes(&rt, rt.alloc(), OF_THE_NEWEST);
 }
 
+/// `words|image|number of the call`, then the outcome.
 const OF_A_DEVICE: &str = "fru print 0|inventory|1
 0 1
 --
@@ -190,9 +192,10 @@ info not present
 // The size's call, and those for parts of eight bytes.
 #[test]
 fn a_device_may_be_away(rt: HostRuntime) {
-    all_are_left(&rt, rt.alloc(), OF_A_DEVICE);
+    assert_outcomes(&rt, rt.alloc(), OF_A_DEVICE);
 }
 
+/// `words|image|number of the call`, then the outcome.
 const OF_ALL_DEVICES: &str = "fru|two locators|1
 0 10
 --
@@ -316,8 +319,9 @@ not present
 
 ";
 
-// An inventory that is not present is no end, but a locator that is not is one, unless it is the first record.
+// The command goes on after an inventory that is not present. It ends at a locator that is not, unless it is the first
+// record.
 #[test]
 fn a_device_or_a_locator_may_be_away(rt: HostRuntime) {
-    all_are_left(&rt, rt.alloc(), OF_ALL_DEVICES);
+    assert_outcomes(&rt, rt.alloc(), OF_ALL_DEVICES);
 }

@@ -1,6 +1,7 @@
 //! Logs that change at a call of a listing: each entry that is printed is one of the log that gave it.
-use super::changing::all_are_left;
+use super::changing::assert_outcomes_of_changes;
 
+/// `words|first image|second image|moods`, then the outcome.
 const ENTRIES: &str = "sel list last 2|log|another log|x
 0 8
 --
@@ -71,9 +72,10 @@ sel list last 2|log|another log|.......x.y
 // The seventh call asks for the second entry and the eighth for the third.
 #[test]
 fn an_entry_is_of_the_log_that_gives_it(rt: HostRuntime) {
-    all_are_left(&rt, rt.alloc(), ENTRIES);
+    assert_outcomes_of_changes(&rt, rt.alloc(), ENTRIES);
 }
 
+/// `words|first image|second image|moods`, then the outcome.
 const GROWN: &str = "sel list last 2|log|grown log|...x
 0 10
 --
@@ -103,13 +105,14 @@ sel list last 9|log|grown log|....x
 0004 | OEM record 0xe0 | 04040404040404040404040404
 ";
 
-// The fourth call ends the walk that counts. Of four entries two are passed, of three one, and the entry that comes
-// after them is printed too.
+// The fourth call ends the walk that counts. Two of four entries are passed, or one of three. An entry added after
+// that is printed too.
 #[test]
 fn entries_that_come_after_the_count_are_printed(rt: HostRuntime) {
-    all_are_left(&rt, rt.alloc(), GROWN);
+    assert_outcomes_of_changes(&rt, rt.alloc(), GROWN);
 }
 
+/// `words|first image|second image|moods`, then the outcome.
 const CLEARED: &str = "sel list last 2|log|empty|x
 0 2
 --
@@ -148,8 +151,8 @@ record 0003h not present
 0002 | +536870912 s | Temperature #0x30 | Upper Non-critical going high | Deasserted
 ";
 
-// An empty log has no entry to count, or none to print. Within a walk the next entry is not there.
+// The log is empty for the walk that counts, or for the walk that prints. Within a walk the next entry is missing.
 #[test]
 fn a_log_may_be_cleared(rt: HostRuntime) {
-    all_are_left(&rt, rt.alloc(), CLEARED);
+    assert_outcomes_of_changes(&rt, rt.alloc(), CLEARED);
 }

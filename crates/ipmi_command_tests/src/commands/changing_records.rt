@@ -1,7 +1,8 @@
 //! Records, infos and inventories that change at a call, or at every one: what is printed is of one image, or ends by
 //! name.
-use super::changing::all_are_left;
+use super::changing::assert_outcomes_of_changes;
 
+/// `words|first image|second image|moods`, then the outcome.
 const BLOCKS: &str = "sdr,get,PSU1|sensor and locator|another sensor and locator|x
 0 6
 --
@@ -155,13 +156,13 @@ no record named PSU1
 --
 ";
 
-// A record that is under way begins again with a reservation. A reading is the changed image's, whichever the record is
-// of.
+// A change makes a record begin again with a reservation. A reading is always of the changed image.
 #[test]
 fn a_block_is_of_one_record(rt: HostRuntime) {
-    all_are_left(&rt, rt.alloc(), BLOCKS);
+    assert_outcomes_of_changes(&rt, rt.alloc(), BLOCKS);
 }
 
+/// `words|first image|second image|moods`, then the outcome.
 const INFOS_AND_INVENTORIES: &str = "sel info|log|another log|x
 0 1
 --
@@ -251,13 +252,14 @@ Chassis fault: outside
 
 ";
 
-// An info comes in one call. Inventories have no reservations: a size and parts of bytes are each of the image that
-// gives them. At the end of a shorter inventory the rest is refused.
+// An info takes one call. Inventories have no reservations: the size and each part are of the image at that call. Past
+// the end of a shorter inventory the rest is refused.
 #[test]
 fn infos_and_inventories_may_change(rt: HostRuntime) {
-    all_are_left(&rt, rt.alloc(), INFOS_AND_INVENTORIES);
+    assert_outcomes_of_changes(&rt, rt.alloc(), INFOS_AND_INVENTORIES);
 }
 
+/// `words|first image|second image|moods`, then the outcome.
 const ALWAYS: &str = "sdr,get,PSU1|sensor and locator|another sensor and locator|xyxyxyxyxyxyxyxyxy
 1 18
 gave up at 0000h
@@ -285,9 +287,9 @@ sel list last 3|log|another log|yxyxyxyx
 0003 | OEM record 0xe2 | 03030303030303030303030303
 ";
 
-// A record of two parts needs a reservation that is current, and has none: three calls for each of six tries. An entry
+// A record of two parts needs a current reservation, and never has one: three calls for each of six tries. An entry
 // needs none.
 #[test]
 fn an_image_may_change_at_every_call(rt: HostRuntime) {
-    all_are_left(&rt, rt.alloc(), ALWAYS);
+    assert_outcomes_of_changes(&rt, rt.alloc(), ALWAYS);
 }

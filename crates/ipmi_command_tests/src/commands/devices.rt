@@ -1,6 +1,7 @@
 //! The inventories of device 0 and of all locators.
-use super::printed::all_print;
+use super::printed::assert_outputs;
 
+/// `words|image|moods`, then the outcome.
 const ALL: &str = "fru|inventories|
 0 10
 --
@@ -52,9 +53,10 @@ Chassis fault: outside
 // reading is asked for. In parts of one byte the three inventories take 17, 2 and 9 calls, and the locators 20 each.
 #[test]
 fn device_0_comes_before_the_locators(rt: HostRuntime) {
-    all_print(&rt, rt.alloc(), ALL);
+    assert_outputs(&rt, rt.alloc(), ALL);
 }
 
+/// `words|image|moods`, then the outcome.
 const NOT_PRESENT: &str = "fru print|one inventory|
 0 9
 --
@@ -90,12 +92,13 @@ not present
 
 ";
 
-// That there is no inventory shows its size's call.
+// The call for the size shows that there is no inventory.
 #[test]
 fn a_device_may_have_no_inventory(rt: HostRuntime) {
-    all_print(&rt, rt.alloc(), NOT_PRESENT);
+    assert_outputs(&rt, rt.alloc(), NOT_PRESENT);
 }
 
+/// `words|image|moods`, then the outcome.
 const ELSEWHERE: &str = "fru print|inventory elsewhere|
 0 8
 --
@@ -122,9 +125,10 @@ FRU (EF): elsewhere, not read
 // At another address, at another LUN, or not logical. No call asks for such a device.
 #[test]
 fn a_device_that_is_elsewhere_is_named(rt: HostRuntime) {
-    all_print(&rt, rt.alloc(), ELSEWHERE);
+    assert_outputs(&rt, rt.alloc(), ELSEWHERE);
 }
 
+/// `words|image|moods`, then the outcome.
 const SORTS: &str = "fru|locators of each sort|
 0 17
 --
@@ -141,13 +145,14 @@ not present
 
 ";
 
-// The first locator is device 0's, which was printed first, and the second one's device 0 is elsewhere. The fifth
-// locator is too short, and the sixth is a controller's. No image has an inventory of device 255.
+// The first locator is of device 0, which is printed already. The second is of a device 0 elsewhere. The fifth is too
+// short, and the sixth is of a controller. No image has an inventory of device 255.
 #[test]
 fn locators_of_each_sort_are_printed(rt: HostRuntime) {
-    all_print(&rt, rt.alloc(), SORTS);
+    assert_outputs(&rt, rt.alloc(), SORTS);
 }
 
+/// `words|image|moods`, then the outcome.
 const NAMES: &str = "fru|names of each sort|
 0 20
 --
@@ -174,13 +179,14 @@ not present
 
 ";
 
-// BCD plus, 6-bit ASCII, two-byte characters in hex, and Latin-1 with a dot for a control byte; fewer bytes than the
-// name has, and a name that ends before a byte 00h.
+// BCD plus, 6-bit ASCII, two-byte characters in hex, and Latin-1 with a dot for a control byte. Then a name that is
+// cut short, and a name that ends at a byte 00h.
 #[test]
 fn a_device_has_the_name_of_its_locator(rt: HostRuntime) {
-    all_print(&rt, rt.alloc(), NAMES);
+    assert_outputs(&rt, rt.alloc(), NAMES);
 }
 
+/// `words|image|moods`, then the outcome.
 const ENDED: &str = "fru|locator to nowhere|
 1 7
 record 0009h not present
@@ -217,5 +223,5 @@ not present
 
 #[test]
 fn inventories_are_printed_before_a_walk_ends_by_name(rt: HostRuntime) {
-    all_print(&rt, rt.alloc(), ENDED);
+    assert_outputs(&rt, rt.alloc(), ENDED);
 }

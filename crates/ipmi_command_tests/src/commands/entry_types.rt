@@ -1,15 +1,15 @@
-//! Entries of each type, 00h to FFh: what their lines are, and which of them are the newest.
-use super::left::is_left;
-use super::over_images::left_over;
+//! Entries of each type, 00h to FFh: their lines, and which are the newest.
+use super::outcome::assert_outcome;
+use super::over_images::outcome_over;
 use crate::cases::{byte_of, parts};
 use std::alloc::Global;
 use std::fmt::Write;
 use std::process::Abort;
 
-/// The bytes of an entry after its type: a time that is not specified, and ten other bytes.
+/// The bytes of an entry after its type: an unspecified time, and ten other bytes.
 const ENTRY: &str = "ffffffff08090a0b0c0d0e0f10";
 
-/// The line of an entry of this type, after its id.
+/// The line of an entry of this type, without its id.
 fn entry_text(rt: &impl Abort, alloc: Global, entry_type: u8) -> String {
     let text = match entry_type {
         0x02 => format!(in alloc;
@@ -24,13 +24,12 @@ fn entry_text(rt: &impl Abort, alloc: Global, entry_type: u8) -> String {
     text.expect(rt, "memory")
 }
 
-/// The id of the entry of this type, which is above it by 1.
+/// The id of the entry of this type: one above the type.
 fn id_of(entry_type: u8) -> u16 {
     u16::from(entry_type).saturating_add(1)
 }
 
-/// Puts the row of the entry of this type at the end. The next one's id is above its own by 1; after the last type
-/// there is none.
+/// Appends the row of the entry of this type. Its next id is one above its own, and FFFFh after the last type.
 fn push_row(rt: &impl Abort, rows: &mut String, entry_type: u8) {
     let id = id_of(entry_type);
     let next = if entry_type == 0xFF {
@@ -46,14 +45,14 @@ fn push_row(rt: &impl Abort, rows: &mut String, entry_type: u8) {
     .expect(rt, "memory");
 }
 
-/// Puts the line of the entry of this type at the end.
+/// Appends the line of the entry of this type.
 fn push_line(rt: &impl Abort, alloc: Global, lines: &mut String, entry_type: u8) {
     let id = id_of(entry_type);
     let text = entry_text(rt, alloc, entry_type);
     write!(lines, "{id:04x} | {text}\n").expect(rt, "memory");
 }
 
-/// An image of a log of an entry of each type.
+/// An image of a log with one entry of each type.
 fn log_of_all(rt: &impl Abort, alloc: Global) -> String {
     let mut image = String::from_str(alloc, "ipmi-image 1\n").expect(rt, "memory");
     for entry_type in 0..=0xFF {
@@ -63,7 +62,7 @@ fn log_of_all(rt: &impl Abort, alloc: Global) -> String {
     image
 }
 
-/// The lines of the entries from one type to another.
+/// The lines of the entries from the first type to the last.
 fn lines_of(rt: &impl Abort, alloc: Global, first: u8, last: u8) -> String {
     let mut lines = String::new(alloc);
     for entry_type in first..=last {
@@ -72,23 +71,23 @@ fn lines_of(rt: &impl Abort, alloc: Global, first: u8, last: u8) -> String {
     lines
 }
 
-/// The lines of the entries from one type to another, which have a dash between them.
+/// The same for types such as `e0-ff`.
 fn lines_between(rt: &impl Abort, alloc: Global, types: &str) -> String {
     let (first, last) = types.split_once('-').expect(rt, types);
     lines_of(rt, alloc, byte_of(rt, first), byte_of(rt, last))
 }
 
-/// Asserts what the words of a case leave over the log of an entry of each type.
-fn is_listed(rt: &impl Abort, alloc: Global, case: &str) {
+/// Asserts the listing of a case over the log of all types.
+fn assert_listing(rt: &impl Abort, alloc: Global, case: &str) {
     let (words, rest) = parts(rt, case);
     let (types, calls) = parts(rt, rest);
-    let left = left_over(rt, alloc, words, log_of_all(rt, alloc).as_str());
+    let outcome = outcome_over(rt, alloc, words, log_of_all(rt, alloc).as_str());
     let lines = lines_between(rt, alloc, types);
     let wanted = format!(in alloc; "0 {calls}\n--\n{lines}").expect(rt, "memory");
-    is_left(rt, alloc, left, wanted.as_str(), case);
+    assert_outcome(rt, alloc, outcome, wanted.as_str(), case);
 }
 
-/// Words, the first and the last type that they list, and how many calls they make.
+/// `words|first type-last type|calls`.
 const CASES: &str = "sel list|00-ff|257
 sel list last 256|00-ff|514
 sel list last 257|00-ff|514
@@ -103,6 +102,6 @@ sel list first 3|00-02|4
 #[test]
 fn an_entry_of_each_type_is_listed(rt: HostRuntime) {
     for case in CASES.lines() {
-        is_listed(&rt, rt.alloc(), case);
+        assert_listing(&rt, rt.alloc(), case);
     }
 }

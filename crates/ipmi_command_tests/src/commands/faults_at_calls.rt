@@ -1,11 +1,12 @@
-//! A fault at each call of a command: a busy or a cancelled call that is outlived, one too many of them, a refusal, and
-//! a part that is too long.
-use super::left::{Left, is_left, left_by_one};
-use super::outputs::{INFO, INVENTORIES, INVENTORY, LOCATOR_BLOCK, NEWEST, SENSOR_BLOCK};
+//! A fault at each call of a command: a busy or a cancelled call that is made again, one too many of them, a refusal,
+//! and a part that is too long.
+use super::outcome::{Outcome, assert_outcome, outcome_of_one};
+use super::outputs::{INVENTORIES, INVENTORY, NEWEST};
 use super::over_images::scripted;
 use super::saved::image_named;
 use crate::cases::{number, parts};
 use crate::command_line::lines::command_of_case;
+use ipmi_fixtures::{CPU_TEMP_BLOCK, INFO_BLOCK, PSU1_BLOCK};
 use std::alloc::Global;
 use std::process::Abort;
 
@@ -25,7 +26,7 @@ struct Course<'a> {
     out: &'a str,
 }
 
-/// What a fault does at a call.
+/// The effect of a fault at a call.
 #[derive(Clone, Copy)]
 struct Fault<'a> {
     names: &'a str,
@@ -46,14 +47,13 @@ fn fault_of<'a>(rt: &impl Abort, line: &'a str) -> Fault<'a> {
     }
 }
 
-// A record that is cancelled begins again with a reservation, and its calls so far are made twice. Where a reading or
-// an inventory is cancelled the reservation is lost too, so that the next record begins again after its header.
+// A cancelled record begins again with a reservation, and repeats its calls so far. A cancelled reading or inventory
+// loses the reservation too. The next record then begins again after its header.
 //
-// A part that is too long is asked for again in parts of half as many bytes, and so is all that comes after it on the
-// same walk, or of the same inventory. After a header of 5 bytes parts have 2: a header takes 3 calls then, 51 bytes
-// after one 26, and 15 bytes 8. After 32 bytes they have 16, after 19 they have 9, and after 15 they have 7. Of an
-// entry or an inventory of 16 bytes they have 8, and after 8 bytes 4. A call for no part, or for a part of one byte, is
-// never too long.
+// A part that is too long is asked for again in parts of half its length. These serve for the rest of the walk, or of
+// the inventory. A header of 5 bytes leads to parts of 2 bytes: a header then takes 3 calls, 51 bytes after it 26, and
+// 15 bytes 8. A part of 32 bytes leads to 16, one of 19 to 9, one of 15 to 7, one of 16 to 8, and one of 8 to 4. A
+// call for no part, or for a part of one byte, is never too long.
 const COURSES: [Course<'static>; 10] = [
     Course {
         words: "sdr,get,CPU Temp",
@@ -66,7 +66,7 @@ const COURSES: [Course<'static>; 10] = [
 0002h|14|9|17
 0002h|14|10|10",
         said: "",
-        out: SENSOR_BLOCK,
+        out: CPU_TEMP_BLOCK,
     },
     Course {
         words: "sdr,get,PSU1",
@@ -78,7 +78,7 @@ const COURSES: [Course<'static>; 10] = [
 0002h|0|8|16
 0002h|0|9|9",
         said: "",
-        out: LOCATOR_BLOCK,
+        out: PSU1_BLOCK,
     },
     Course {
         words: "sdr,get,Foo",
@@ -97,14 +97,14 @@ const COURSES: [Course<'static>; 10] = [
         image: "infos",
         faults: "0000h|0|2|1",
         said: "",
-        out: INFO,
+        out: INFO_BLOCK,
     },
     Course {
         words: "sel,info",
         image: "log",
         faults: "0000h|0|2|1",
         said: "",
-        out: INFO,
+        out: INFO_BLOCK,
     },
     Course {
         words: "sdr,info",
@@ -163,7 +163,7 @@ fru 2|6|12|13",
     },
 ];
 
-/// How many calls the course makes without a fault.
+/// The number of calls without a fault.
 fn calls_of(course: &Course) -> u32 {
     let mut calls: u32 = 0;
     for _ in course.faults.lines() {
@@ -172,15 +172,21 @@ fn calls_of(course: &Course) -> u32 {
     calls
 }
 
-/// What the course leaves with so many tries, where its calls meet these moods.
-fn left_of(rt: &impl Abort, alloc: Global, course: &Course, tries: u8, moods: &str) -> Left {
+/// The outcome of a course with this number of tries. Its calls meet these moods.
+fn outcome_of_course(
+    rt: &impl Abort,
+    alloc: Global,
+    course: &Course,
+    tries: u8,
+    moods: &str,
+) -> Outcome {
     let words = course.words;
     let words = format!(in alloc; "--tries,{tries},{words}").expect(rt, "memory");
     let ctl = scripted(rt, alloc, image_named(rt, course.image), moods);
-    left_by_one(alloc, ctl, command_of_case(rt, alloc, words.as_str()))
+    outcome_of_one(alloc, ctl, command_of_case(rt, alloc, words.as_str()))
 }
 
-/// All that the course leaves, after so many calls.
+/// The outcome of a course that comes to its end after this many calls.
 fn whole_text(rt: &impl Abort, alloc: Global, course: &Course, calls: u32) -> String {
     let status = if course.said.is_empty() { 0 } else { 1 };
     let said = course.said;
@@ -193,7 +199,7 @@ fn push_line(rt: &impl Abort, lines: &mut String, line: &str) {
     lines.push_str("\n").expect(rt, "memory");
 }
 
-/// The first lines of a text, so many.
+/// The first lines of a text.
 fn first_lines(rt: &impl Abort, alloc: Global, text: &str, count: usize) -> String {
     let mut lines = String::new(alloc);
     for line in text.lines().take(count) {
@@ -202,7 +208,7 @@ fn first_lines(rt: &impl Abort, alloc: Global, text: &str, count: usize) -> Stri
     lines
 }
 
-/// What a course leaves that ends at its call of this number, with this message after the first lines.
+/// The outcome of a course that ends at this call, with this message after the first lines.
 fn ended_text(
     rt: &impl Abort,
     alloc: Global,
@@ -215,7 +221,7 @@ fn ended_text(
     format!(in alloc; "1 {call}\n{said}\n--\n{lines}").expect(rt, "memory")
 }
 
-/// That the tries for what is named were used up.
+/// The message that the tries for a record or an inventory were used up.
 fn gave_up(rt: &impl Abort, alloc: Global, names: &str) -> String {
     if names.starts_with("fru") {
         return format!(in alloc; "{names} gave up").expect(rt, "memory");
@@ -223,7 +229,7 @@ fn gave_up(rt: &impl Abort, alloc: Global, names: &str) -> String {
     format!(in alloc; "gave up at {names}").expect(rt, "memory")
 }
 
-/// That what is named was refused.
+/// The message that a record or an inventory was refused.
 fn refused(rt: &impl Abort, alloc: Global, names: &str) -> String {
     if names.starts_with("fru") {
         return format!(in alloc; "{names} refused with code D4h").expect(rt, "memory");
@@ -231,7 +237,7 @@ fn refused(rt: &impl Abort, alloc: Global, names: &str) -> String {
     format!(in alloc; "record {names} refused with code D4h").expect(rt, "memory")
 }
 
-/// Moods that grant the calls before one, which meets this mood.
+/// Moods that grant each call before this one, which meets the last mood.
 fn moods_at(rt: &impl Abort, alloc: Global, call: u32, mood: &str) -> String {
     let granted = ".".repeat(alloc, call.saturating_sub(1) as usize);
     let granted = granted.expect(rt, "memory");
@@ -255,7 +261,7 @@ enum Meeting {
     TooLong,
 }
 
-/// How many tries there are, and the mood that the call meets.
+/// The number of tries, and the mood that the call meets.
 fn script_of(meeting: Meeting) -> (u8, &'static str) {
     match meeting {
         Meeting::Busy => (1, "B"),
@@ -267,7 +273,7 @@ fn script_of(meeting: Meeting) -> (u8, &'static str) {
     }
 }
 
-/// What the course leaves where its call of this number meets this.
+/// The outcome of a course whose call with this number meets this.
 fn wanted_of(
     rt: &impl Abort,
     alloc: Global,
@@ -291,8 +297,8 @@ fn wanted_of(
     }
 }
 
-/// Asserts what the course leaves where its call of this number meets this.
-fn is_met(
+/// Asserts that outcome.
+fn assert_outcome_of_meeting(
     rt: &impl Abort,
     alloc: Global,
     course: &Course,
@@ -302,69 +308,69 @@ fn is_met(
 ) {
     let (tries, mood) = script_of(meeting);
     let moods = moods_at(rt, alloc, call, mood);
-    let left = left_of(rt, alloc, course, tries, moods.as_str());
+    let outcome = outcome_of_course(rt, alloc, course, tries, moods.as_str());
     let wanted = wanted_of(rt, alloc, course, call, fault, meeting);
     let words = course.words;
     let case = format!(in alloc; "{words}: {moods}").expect(rt, "memory");
-    is_left(rt, alloc, left, wanted.as_str(), case.as_str());
+    assert_outcome(rt, alloc, outcome, wanted.as_str(), case.as_str());
 }
 
-/// The same for each call of the course.
-fn is_met_at_each_call(rt: &impl Abort, alloc: Global, course: &Course, meeting: Meeting) {
+/// The same at each call of the course.
+fn assert_outcome_at_each_call(rt: &impl Abort, alloc: Global, course: &Course, meeting: Meeting) {
     let mut call: u32 = 0;
     for line in course.faults.lines() {
         call = call.saturating_add(1);
-        is_met(rt, alloc, course, call, &fault_of(rt, line), meeting);
+        assert_outcome_of_meeting(rt, alloc, course, call, &fault_of(rt, line), meeting);
     }
 }
 
 /// The same for each course.
-fn all_are_met(rt: &impl Abort, alloc: Global, meeting: Meeting) {
+fn assert_outcome_of_each_course(rt: &impl Abort, alloc: Global, meeting: Meeting) {
     for course in &COURSES {
-        is_met_at_each_call(rt, alloc, course, meeting);
+        assert_outcome_at_each_call(rt, alloc, course, meeting);
     }
 }
 
-/// Asserts that the course leaves all after a call for each of its lines, where no call meets a fault.
-fn is_whole_without_faults(rt: &impl Abort, alloc: Global, course: &Course) {
-    let left = left_of(rt, alloc, course, 0, "");
+/// Asserts that a course without a fault comes to its end, one call for each of its lines.
+fn assert_outcome_without_faults(rt: &impl Abort, alloc: Global, course: &Course) {
+    let outcome = outcome_of_course(rt, alloc, course, 0, "");
     let wanted = whole_text(rt, alloc, course, calls_of(course));
-    is_left(rt, alloc, left, wanted.as_str(), course.words);
+    assert_outcome(rt, alloc, outcome, wanted.as_str(), course.words);
 }
 
 #[test]
 fn without_a_fault_no_try_is_needed(rt: HostRuntime) {
     for course in &COURSES {
-        is_whole_without_faults(&rt, rt.alloc(), course);
+        assert_outcome_without_faults(&rt, rt.alloc(), course);
     }
 }
 
 #[test]
 fn a_busy_call_is_made_again(rt: HostRuntime) {
-    all_are_met(&rt, rt.alloc(), Meeting::Busy);
+    assert_outcome_of_each_course(&rt, rt.alloc(), Meeting::Busy);
 }
 
 #[test]
 fn a_cancelled_call_changes_no_output(rt: HostRuntime) {
-    all_are_met(&rt, rt.alloc(), Meeting::Cancelled);
+    assert_outcome_of_each_course(&rt, rt.alloc(), Meeting::Cancelled);
 }
 
 #[test]
 fn without_tries_a_busy_call_is_the_last(rt: HostRuntime) {
-    all_are_met(&rt, rt.alloc(), Meeting::BusyAtLast);
+    assert_outcome_of_each_course(&rt, rt.alloc(), Meeting::BusyAtLast);
 }
 
 #[test]
 fn without_tries_a_cancelled_call_is_the_last(rt: HostRuntime) {
-    all_are_met(&rt, rt.alloc(), Meeting::CancelledAtLast);
+    assert_outcome_of_each_course(&rt, rt.alloc(), Meeting::CancelledAtLast);
 }
 
 #[test]
 fn a_refused_call_is_the_last(rt: HostRuntime) {
-    all_are_met(&rt, rt.alloc(), Meeting::Refused);
+    assert_outcome_of_each_course(&rt, rt.alloc(), Meeting::Refused);
 }
 
 #[test]
 fn a_part_that_is_too_long_changes_no_output(rt: HostRuntime) {
-    all_are_met(&rt, rt.alloc(), Meeting::TooLong);
+    assert_outcome_of_each_course(&rt, rt.alloc(), Meeting::TooLong);
 }

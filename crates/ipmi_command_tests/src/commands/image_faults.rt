@@ -1,5 +1,5 @@
-//! Images with a fault: too long, cut short, or with a line that is none. Each fault has a message.
-use super::answers::{all_are_answered, is_answered};
+//! Images with a fault: too long, cut short, or with an invalid line. Each fault has a message.
+use super::answers::{assert_answer, assert_answers};
 use super::saved::{THREE_LINES, THREE_ROWS};
 use crate::command_line::lines::command;
 use std::alloc::Global;
@@ -108,19 +108,19 @@ image line 6: after end
 // An image or more for each fault that a short image can have.
 #[test]
 fn each_fault_has_a_message(rt: HostRuntime) {
-    all_are_answered(&rt, rt.alloc(), "sdr hex", FAULTS);
+    assert_answers(&rt, rt.alloc(), "sdr hex", FAULTS);
 }
 
-/// An image of a text with so many bytes of zero within it.
+/// An image of a text with zero bytes inside.
 fn padded(rt: &impl Abort, alloc: Global, before: &str, zeros: usize, after: &str) -> String {
     let zeros = "00".repeat(alloc, zeros).expect(rt, "memory");
     format!(in alloc; "{before}{zeros}{after}").expect(rt, "memory")
 }
 
-/// Asserts what is left by a listing of an image in hex.
-fn is_listed(rt: &impl Abort, alloc: Global, image: &[u8], wanted: &str, case: &str) {
+/// Asserts the answer to `sdr hex` over an image.
+fn assert_listing(rt: &impl Abort, alloc: Global, image: &[u8], wanted: &str, case: &str) {
     let line = Ok(command(rt, alloc, "sdr hex"));
-    is_answered(rt, alloc, line, image, wanted, case);
+    assert_answer(rt, alloc, line, image, wanted, case);
 }
 
 // A record of 257 bytes, and an inventory of 65,536.
@@ -129,17 +129,17 @@ fn long_images_have_messages_too(rt: HostRuntime) {
     let start = "ipmi-image 1\nsdr 0001 ffff 010051c0fc";
     let record = padded(&rt, rt.alloc(), start, 252, "\nend\n");
     let wanted = "3\nimage line 2: length\n--\n";
-    is_listed(&rt, rt.alloc(), record.as_bytes(), wanted, "record");
+    assert_listing(&rt, rt.alloc(), record.as_bytes(), wanted, "record");
     let end = "\nfru 00 00\nend\n";
     let inventory = padded(&rt, rt.alloc(), "ipmi-image 1\nfru 00 ", 65_535, end);
     let wanted = "3\nimage line 3: too many bytes\n--\n";
-    is_listed(&rt, rt.alloc(), inventory.as_bytes(), wanted, "inventory");
+    assert_listing(&rt, rt.alloc(), inventory.as_bytes(), wanted, "inventory");
 }
 
-/// Asserts what is left by a listing of three records of which only so many bytes are there.
-fn is_listed_when_cut(rt: &impl Abort, alloc: Global, len: usize, wanted: &str) {
+/// The same over the first bytes of the three records.
+fn assert_listing_of_cut(rt: &impl Abort, alloc: Global, len: usize, wanted: &str) {
     let image = THREE_ROWS.get(..len).expect(rt, "a part");
-    is_listed(rt, alloc, image.as_bytes(), wanted, image);
+    assert_listing(rt, alloc, image.as_bytes(), wanted, image);
 }
 
 #[test]
@@ -147,11 +147,11 @@ fn an_image_cut_short_is_not_listed(rt: HostRuntime) {
     let len = THREE_ROWS.len();
     assert!(rt; len == 98, "{len} bytes");
     for len in 0..13 {
-        is_listed_when_cut(&rt, rt.alloc(), len, "3\nimage: header\n--\n");
+        assert_listing_of_cut(&rt, rt.alloc(), len, "3\nimage: header\n--\n");
     }
     for len in 13..98 {
-        is_listed_when_cut(&rt, rt.alloc(), len, "3\nimage: no end\n--\n");
+        assert_listing_of_cut(&rt, rt.alloc(), len, "3\nimage: no end\n--\n");
     }
     let whole = format!(in rt.alloc(); "0\n--\n{THREE_LINES}").expect(&rt, "memory");
-    is_listed_when_cut(&rt, rt.alloc(), 98, whole.as_str());
+    assert_listing_of_cut(&rt, rt.alloc(), 98, whole.as_str());
 }

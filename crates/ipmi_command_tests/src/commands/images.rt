@@ -1,5 +1,5 @@
 //! Images that are listed in hex, or written again.
-use super::answers::all_are_answered;
+use super::answers::assert_answers;
 
 const ENDS: &str = "ipmi-image 1
 sdr 0001 0002 010051c001aa
@@ -57,7 +57,7 @@ sdr 0001 0000 010051c000
 
 #[test]
 fn images_are_listed_to_their_end(rt: HostRuntime) {
-    all_are_answered(&rt, rt.alloc(), "sdr hex", ENDS);
+    assert_answers(&rt, rt.alloc(), "sdr hex", ENDS);
 }
 
 const DASHES: &str = "ipmi-image 2
@@ -80,10 +80,10 @@ image line 2: not a line
 --
 ";
 
-// A dash means the following row's id, and in the last row ffff.
+// A dash is the id of the next row, and ffff in the last row.
 #[test]
 fn dashes_are_for_version_2(rt: HostRuntime) {
-    all_are_answered(&rt, rt.alloc(), "sdr hex", DASHES);
+    assert_answers(&rt, rt.alloc(), "sdr hex", DASHES);
 }
 
 const WRITTEN_AGAIN: &str = "ipmi-image 1
@@ -145,5 +145,5 @@ image: header
 // A dash means the next row's id, and in the last row none.
 #[test]
 fn images_are_written_again(rt: HostRuntime) {
-    all_are_answered(&rt, rt.alloc(), "image rewrite", WRITTEN_AGAIN);
+    assert_answers(&rt, rt.alloc(), "image rewrite", WRITTEN_AGAIN);
 }

@@ -1,8 +1,8 @@
-//! What commands print in words over a saved image, and how many calls they make.
-use super::left::{Left, is_left};
+//! Commands in words over a saved image: their output and the number of their calls.
+use super::outcome::{Outcome, assert_outcome};
 use super::over_images::scripted;
 use super::saved::image_in;
-use crate::cases::case_of;
+use crate::cases::{Case, case_of};
 use crate::command_line::lines::command_of_case;
 use crate::controllers::Counting;
 use ipmi_bus::Controller;
@@ -12,19 +12,20 @@ use ipmi_output::Written;
 use std::alloc::Global;
 use std::process::Abort;
 
-/// Images, each after a line with its name, with a line of dashes after each. The sensor is a full sensor record, whose next id
-/// is its own in a cycle, and one that no record has where it leads nowhere. The first event of a log is the sensor's.
+/// Each image comes after a line with its name and before a line of dashes. The sensor is `CPU_TEMP`. In a cycle its
+/// next id is its own, and nowhere is a next id that no record has. The first event of a log is of this sensor. Of the
+/// sensors with statuses H has no reading, and I another owner. Among the shared ones four memory sensors from number
+/// 10h on have one record, and three fans from 30h on an event-only record. The memory sensor 50h has no name, and 14h
+/// no record.
 const IMAGES: &str = "sensor
 ipmi-image 1
-sdr 0001 ffff \
-    010051013320000103017f680101000000003838000100000100000000000000000000005f5a550000000202000000c84350552054656d70
+sdr 0001 ffff CPU_TEMP
 reading 0 01 2dc00000
 end
 --
 log
 ipmi-image 1
-sdr 0001 ffff \
-    010051013320000103017f680101000000003838000100000100000000000000000000005f5a550000000202000000c84350552054656d70
+sdr 0001 ffff CPU_TEMP
 sel 0001 0002 01000201000020200004010101595f5a
 sel 0002 0003 020002010000202000040d406f01ffff
 sel 0003 ffff 0300c0ffffffff571300010203040506
@@ -32,8 +33,7 @@ end
 --
 cycle
 ipmi-image 1
-sdr 0001 0001 \
-    010051013320000103017f680101000000003838000100000100000000000000000000005f5a550000000202000000c84350552054656d70
+sdr 0001 0001 CPU_TEMP
 sel 0001 0002 01000201000020200004010101595f5a
 sel 0002 0003 020002010000202000040d406f01ffff
 sel 0003 ffff 0300c0ffffffff571300010203040506
@@ -41,8 +41,7 @@ end
 --
 nowhere
 ipmi-image 1
-sdr 0001 0009 \
-    010051013320000103017f680101000000003838000100000100000000000000000000005f5a550000000202000000c84350552054656d70
+sdr 0001 0009 CPU_TEMP
 sel 0001 0002 01000201000020200004010101595f5a
 sel 0002 0003 020002010000202000040d406f01ffff
 sel 0003 ffff 0300c0ffffffff571300010203040506
@@ -54,14 +53,55 @@ sel 0001 0002 01000201000020200004010101595f5a
 sel 0002 ffff 02000200000020200004013081570000
 end
 --
+statuses
+ipmi-image 1
+sdr 0001 0002 \
+    010051012c20000103017f680101000000003838000100000100000000000000000000005f5a550000000202000000c141
+sdr 0002 0003 \
+    020051012c20000203017f680101000000003838000100000100000000000000000000005f5a550000000202000000c142
+sdr 0003 0004 \
+    030051012c20000303017f680101000000003838000100000100000000000000000000005f5a550000000202000000c143
+sdr 0004 0005 \
+    040051012c20000403017f680101000000003838000100000100000000000000000000005f5a550000000202000000c144
+sdr 0005 0006 \
+    050051012c20000503017f680101000000003838000100000100000000000000000000005f5a550000000202000000c145
+sdr 0006 0007 \
+    060051012c20000603017f680101000000003838000100000100000000000000000000005f5a550000000202000000c146
+sdr 0007 0008 \
+    070051012c20000703017f680101000000003838000100000100000000000000000000005f5a550000000202000000c147
+sdr 0008 0009 \
+    080051012c20000803017f680101000000003838000100000100000000000000000000005f5a550000000202000000c148
+sdr 0009 ffff \
+    090051012c22000903017f680101000000003838000100000100000000000000000000005f5a550000000202000000c149
+reading 0 01 2dc00400
+reading 0 02 2dc00200
+reading 0 03 2dc00100
+reading 0 04 2dc00000
+reading 0 05 2dc00800
+reading 0 06 2dc01000
+reading 0 07 2dc02000
+reading 0 09 2dc00000
+end
+--
+shared
+ipmi-image 1
+sdr 0002 0003 0200510220200010200100000c6f0000000000000000000401000000000000c544494d4d20
+sdr 0003 0009 03005103102000301d01040313190000c446616e20
+sdr 0009 ffff 090051021b200050200100000c6f0000000000000000000000000000000000c0
+sel 0001 0002 010002010000202000040c116f06ffff
+sel 0002 0003 0200020100002020000404310301ffff
+sel 0003 0004 030002010000202000040c506f06ffff
+sel 0004 ffff 040002010000202000040c146f06ffff
+end
+--
 ";
 
-/// What the command leaves in words over the controller.
-fn left_in_words<C: Controller + Drop>(
+/// The outcome of a command in words over the controller.
+fn outcome_in_words<C: Controller + Drop>(
     alloc: Global,
     mut ctl: Counting<C>,
     command: Command,
-) -> Left {
+) -> Outcome {
     let mut out = Written::new(Vec::new(alloc));
     let mut err = Vec::new(alloc);
     let ending = execute_in(alloc, &mut ctl, &command, Wording::Words, &mut out);
@@ -69,7 +109,7 @@ fn left_in_words<C: Controller + Drop>(
     let calls = ctl.calls;
     drop(ctl);
     drop(command);
-    Left {
+    Outcome {
         out: out.into_inner(),
         err,
         status,
@@ -77,21 +117,32 @@ fn left_in_words<C: Controller + Drop>(
     }
 }
 
-/// Asserts what a command leaves in words over an image, with the case as `printed` has it.
-fn prints(rt: &impl Abort, alloc: Global, case: &str) {
-    let case = case_of(rt, case);
-    let ctl = scripted(rt, alloc, image_in(rt, IMAGES, case.image), case.more);
-    let left = left_in_words(alloc, ctl, command_of_case(rt, alloc, case.words));
-    is_left(rt, alloc, left, case.wanted, case.line);
+/// Asserts the outcome of a case in words over this image.
+pub(super) fn assert_output_in_words_over(
+    rt: &impl Abort,
+    alloc: Global,
+    image: &str,
+    case: Case<'_>,
+) {
+    let ctl = scripted(rt, alloc, image, case.more);
+    let outcome = outcome_in_words(alloc, ctl, command_of_case(rt, alloc, case.words));
+    assert_outcome(rt, alloc, outcome, case.wanted, case.line);
 }
 
-/// The same for each of these cases.
-fn all_print(rt: &impl Abort, alloc: Global, cases: &str) {
+/// The same over the image that the case names.
+fn assert_output_in_words(rt: &impl Abort, alloc: Global, case: &str) {
+    let case = case_of(rt, case);
+    assert_output_in_words_over(rt, alloc, image_in(rt, IMAGES, case.image), case);
+}
+
+/// The same for each case.
+fn assert_outputs_in_words(rt: &impl Abort, alloc: Global, cases: &str) {
     for case in cases.split("====\n") {
-        prints(rt, alloc, case);
+        assert_output_in_words(rt, alloc, case);
     }
 }
 
+/// `words|image|moods`, then the outcome.
 const EVENTS: &str = "sel list|log|
 0 8
 --
@@ -126,9 +177,10 @@ sel list|no sensor|
 // A reservation, a header and two parts of the sensor come first, or a reservation and the answer that there is none.
 #[test]
 fn events_have_the_names_of_their_sensors(rt: HostRuntime) {
-    all_print(&rt, rt.alloc(), EVENTS);
+    assert_outputs_in_words(&rt, rt.alloc(), EVENTS);
 }
 
+/// `words|image|moods`, then the outcome.
 const ENDED: &str = "sel list|cycle|
 1 8
 names of sensors may be missing: cycle at 0001h
@@ -159,12 +211,13 @@ names of sensors may be missing: record 0009h not present
 0001 | 1987-01-05 18:48:33 | CPU Temp | Upper Critical going high | Asserted | Reading 95 degrees C > threshold 90
 ";
 
-// What was named before the walk of the sensors ended so keeps its name.
+// Sensors found before the walk ended keep their names.
 #[test]
 fn a_walk_of_the_sensors_that_is_not_whole_is_told_at_the_end(rt: HostRuntime) {
-    all_print(&rt, rt.alloc(), ENDED);
+    assert_outputs_in_words(&rt, rt.alloc(), ENDED);
 }
 
+/// `words|image|moods`, then the outcome.
 const TROUBLES: &str = "--tries 1 sel list|log|.B
 0 9
 --
@@ -211,9 +264,10 @@ record 0002h refused with code D4h
 // A cancelled reservation is asked for once more, and the record from its beginning.
 #[test]
 fn troubles_on_either_walk_are_overcome_or_told(rt: HostRuntime) {
-    all_print(&rt, rt.alloc(), TROUBLES);
+    assert_outputs_in_words(&rt, rt.alloc(), TROUBLES);
 }
 
+/// `words|image|moods`, then the outcome.
 const SENSORS: &str = "sdr list|sensor|
 0 5
 --
@@ -251,8 +305,85 @@ sdr elist|sensor|
 CPU Temp         | 01h | ok  | 3.1   | 45 degrees C
 ";
 
-// What has no text in words is printed as in codes.
+// A record without a text in words is printed as in codes.
 #[test]
 fn sensors_have_a_line_and_a_block(rt: HostRuntime) {
-    all_print(&rt, rt.alloc(), SENSORS);
+    assert_outputs_in_words(&rt, rt.alloc(), SENSORS);
+}
+
+/// `words|image|moods`, then the outcome.
+const STATUSES: &str = "sdr list|statuses|
+0 36
+--
+A                | 01h | processor 1 | 45 degrees C      | lnr | - | - | - | 85 | 90 | 95
+B                | 02h | processor 1 | 45 degrees C      | lcr | - | - | - | 85 | 90 | 95
+C                | 03h | processor 1 | 45 degrees C      | lnc | - | - | - | 85 | 90 | 95
+D                | 04h | processor 1 | 45 degrees C      | ok  | - | - | - | 85 | 90 | 95
+E                | 05h | processor 1 | 45 degrees C      | unc | - | - | - | 85 | 90 | 95
+F                | 06h | processor 1 | 45 degrees C      | ucr | - | - | - | 85 | 90 | 95
+G                | 07h | processor 1 | 45 degrees C      | unr | - | - | - | 85 | 90 | 95
+H                | 08h | processor 1 | no reading        | ns  | - | - | - | 85 | 90 | 95
+I                | 09h | processor 1 | other owner       | na  | - | - | - | 85 | 90 | 95
+";
+
+// A reservation, three calls for each record, and one for each reading but the other owner's.
+#[test]
+fn sensors_have_each_status(rt: HostRuntime) {
+    assert_outputs_in_words(&rt, rt.alloc(), STATUSES);
+}
+
+/// `words|image|moods`, then the outcome.
+const SHARED_EVENTS: &str = "sel list|shared|
+0 12
+--
+0001 | 1987-01-05 18:48:33 | DIMM 2 | Presence detected | Asserted
+0002 | 1987-01-05 18:48:33 | Fan AA | State Asserted | Asserted
+0003 | 1987-01-05 18:48:33 | Memory #0x50 | Presence detected | Asserted
+0004 | 1987-01-05 18:48:33 | Memory #0x14 | Presence detected | Asserted
+";
+
+// Two calls for each record, after a reservation. The numbers of the memory sensors begin at 1, and the letters of the fans at Z.
+#[test]
+fn events_have_the_suffixes_of_sensors_that_share_a_record(rt: HostRuntime) {
+    assert_outputs_in_words(&rt, rt.alloc(), SHARED_EVENTS);
+}
+
+/// `words|image|moods`, then the outcome.
+const SHARED_SENSORS: &str = "sdr list|shared|
+0 9
+--
+DIMM             | 10h | memory device 1 | no reading        | ns  | - | - | - | - | - | -
+                 | 50h | memory device 1 | no reading        | ns  | - | - | - | - | - | -
+====
+sdr list all|shared|
+0 9
+--
+DIMM             | 10h | memory device 1 | no reading        | ns  | - | - | - | - | - | -
+Fan              | event only        | na
+                 | 50h | memory device 1 | no reading        | ns  | - | - | - | - | - | -
+====
+sdr,get,DIMM |shared|
+0 8
+--
+Record: 0002h
+Name: DIMM \n\
+Sensor: 10h
+Shared by: 4 sensors
+Owner: 20h LUN 0
+Entity: memory device 1
+Kind: Memory
+Reading: no reading
+Status: ns
+
+====
+sdr,get,DIMM 1|shared|
+1 7
+no record named DIMM 1
+--
+";
+
+// A record has one name, by which it is found, however many sensors share it.
+#[test]
+fn a_shared_record_has_its_own_name(rt: HostRuntime) {
+    assert_outputs_in_words(&rt, rt.alloc(), SHARED_SENSORS);
 }

@@ -1,13 +1,14 @@
 //! The infos of the two shelves: seven lines, none where there is no info, and what troubles and refusals make of them.
-use super::left::one_leaves;
+use super::outcome::assert_outcome_of_one;
 use super::over_images::interrupting;
-use super::printed::all_print;
+use super::printed::assert_outputs;
 use super::saved::image_named;
 use crate::cases::{byte_of, first_line};
 use crate::command_line::lines::command;
 use std::alloc::Global;
 use std::process::Abort;
 
+/// `words|image|moods`, then the outcome.
 const BLOCKS: &str = "sel info|log|
 0 1
 --
@@ -67,9 +68,10 @@ Support: 0x02
 // Each shelf has its own info, and a call asks for all of it.
 #[test]
 fn an_info_is_seven_lines(rt: HostRuntime) {
-    all_print(&rt, rt.alloc(), BLOCKS);
+    assert_outputs(&rt, rt.alloc(), BLOCKS);
 }
 
+/// `words|image|moods`, then the outcome.
 const NONE: &str = "sdr info|three|
 1 1
 info not present
@@ -93,9 +95,10 @@ info not present
 
 #[test]
 fn an_image_may_have_no_info(rt: HostRuntime) {
-    all_print(&rt, rt.alloc(), NONE);
+    assert_outputs(&rt, rt.alloc(), NONE);
 }
 
+/// `words|image|moods`, then the outcome.
 const MOODS: &str = "--tries 0 sel info|log|B
 1 1
 gave up at 0000h
@@ -157,19 +160,19 @@ Support: 0x02
 // With five tries a sixth trouble is the end.
 #[test]
 fn an_info_is_asked_for_until_it_comes(rt: HostRuntime) {
-    all_print(&rt, rt.alloc(), MOODS);
+    assert_outputs(&rt, rt.alloc(), MOODS);
 }
 
-/// Asserts what is left by a request for the log's info that is answered a code. The first line of the case is the code
-/// in hex, and the other lines are what is left.
-fn is_left_after(rt: &impl Abort, alloc: Global, case: &str) {
+/// Asserts the outcome of `sel` when the request for the info is answered with a code.
+fn assert_outcome_of_code(rt: &impl Abort, alloc: Global, case: &str) {
     let (digits, wanted) = first_line(rt, case);
     let image = image_named(rt, "log");
     let ctl = interrupting(rt, alloc, image, 1, byte_of(rt, digits));
     let command = command(rt, alloc, "--tries 0 sel");
-    one_leaves(rt, alloc, ctl, command, wanted, digits);
+    assert_outcome_of_one(rt, alloc, ctl, command, wanted, digits);
 }
 
+/// The code of the only call, then the outcome.
 const CODES: &str = "c7
 1 1
 record 0000h refused with code C7h
@@ -211,10 +214,10 @@ gave up at 0000h
 --
 ";
 
-// An info has no parts, so that no smaller one can be asked for.
+// An info has no parts, so there is no smaller one to ask for.
 #[test]
 fn each_code_ends_a_request_for_an_info_in_its_way(rt: HostRuntime) {
     for case in CODES.split("====\n") {
-        is_left_after(&rt, rt.alloc(), case);
+        assert_outcome_of_code(&rt, rt.alloc(), case);
     }
 }

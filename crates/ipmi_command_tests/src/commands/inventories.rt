@@ -1,26 +1,25 @@
-//! One device's inventory: its text, its calls, and what troubles and refusals make of them.
-use super::left::is_left;
-use super::over_images::left_over;
-use super::printed::all_print;
+//! The inventory of one device: its text, its calls, and the effect of troubles and refusals.
+use super::outcome::assert_outcome;
+use super::over_images::outcome_over;
+use super::printed::assert_outputs;
 use super::saved::EMPTY;
 use crate::cases::first_line;
 use std::alloc::Global;
 use std::process::Abort;
 
-/// Asserts what is printed of device 0's inventory after two calls. The first line of the case is its bytes in hex, and
-/// the other lines are its text.
-fn is_printed(rt: &impl Abort, alloc: Global, case: &str) {
+/// Asserts the text of device 0's inventory, after two calls. The case is the bytes in a line, then the text.
+fn assert_inventory_text(rt: &impl Abort, alloc: Global, case: &str) {
     let (hex, text) = first_line(rt, case);
     let image = format!(in alloc; "ipmi-image 1\nfru 00 {hex}\nend\n").expect(rt, "memory");
     let wanted = format!(in alloc; "0 2\n--\nFRU 0\n{text}\n").expect(rt, "memory");
-    let left = left_over(rt, alloc, "fru print 0", image.as_str());
-    is_left(rt, alloc, left, wanted.as_str(), hex);
+    let outcome = outcome_over(rt, alloc, "fru print 0", image.as_str());
+    assert_outcome(rt, alloc, outcome, wanted.as_str(), hex);
 }
 
-/// The same for each of these cases.
-fn all_are_printed(rt: &impl Abort, alloc: Global, cases: &str) {
+/// The same for each case.
+fn assert_inventory_texts(rt: &impl Abort, alloc: Global, cases: &str) {
     for case in cases.split("====\n") {
-        is_printed(rt, alloc, case);
+        assert_inventory_text(rt, alloc, case);
     }
 }
 
@@ -64,10 +63,10 @@ FRU fault: header short
 FRU fault: header version
 ";
 
-// A fault is told in a line, and the inventory with one is still printed.
+// A fault is a line. The rest of the inventory is still printed.
 #[test]
 fn the_areas_of_an_inventory_are_printed(rt: HostRuntime) {
-    all_are_printed(&rt, rt.alloc(), AREAS);
+    assert_inventory_texts(&rt, rt.alloc(), AREAS);
 }
 
 const MULTIRECORDS: &str = "01000000000100fe01820d432d01b0043c003c007800000024f4
@@ -88,9 +87,10 @@ Record 0xc0: \n";
 
 #[test]
 fn the_multirecords_of_an_inventory_are_printed(rt: HostRuntime) {
-    all_are_printed(&rt, rt.alloc(), MULTIRECORDS);
+    assert_inventory_texts(&rt, rt.alloc(), MULTIRECORDS);
 }
 
+/// `words|image|moods`, then the outcome.
 const DEVICES: &str = "fru print 0|inventory|
 0 2
 --
@@ -141,27 +141,28 @@ not present
 
 ";
 
-// A call asks for the size, and one for each part. The name of a locator of the device is not looked for.
+// A call asks for the size, and one for each part. No locator is looked for.
 #[test]
 fn the_inventory_of_a_device_is_printed_by_its_id(rt: HostRuntime) {
-    all_print(&rt, rt.alloc(), DEVICES);
+    assert_outputs(&rt, rt.alloc(), DEVICES);
 }
 
-/// Asserts what is printed of a device without an inventory, after a call for its size.
-fn is_not_present(rt: &impl Abort, alloc: Global, id: u8) {
+/// Asserts the text of a device without an inventory, after one call for its size.
+fn assert_not_present(rt: &impl Abort, alloc: Global, id: u8) {
     let words = format!(in alloc; "fru print {id}").expect(rt, "memory");
-    let left = left_over(rt, alloc, words.as_str(), EMPTY);
+    let outcome = outcome_over(rt, alloc, words.as_str(), EMPTY);
     let wanted = format!(in alloc; "0 1\n--\nFRU {id}\nnot present\n\n").expect(rt, "memory");
-    is_left(rt, alloc, left, wanted.as_str(), words.as_str());
+    assert_outcome(rt, alloc, outcome, wanted.as_str(), words.as_str());
 }
 
 #[test]
 fn a_device_of_any_id_may_have_no_inventory(rt: HostRuntime) {
     for id in 0..255 {
-        is_not_present(&rt, rt.alloc(), id);
+        assert_not_present(&rt, rt.alloc(), id);
     }
 }
 
+/// `words|image|moods`, then the outcome.
 const MOODS: &str = "--tries 0 fru print 0|inventory|B
 1 1
 fru 0 gave up
@@ -216,9 +217,9 @@ Chassis Type: Rack Mount Chassis
 
 ";
 
-// Troubles are counted over the whole inventory. A part of 16 bytes that is too long is asked for in two of 8. After
-// eight parts of one byte one of eight comes.
+// Troubles are counted over the whole inventory. A part of 16 bytes that is too long becomes two parts of 8. After
+// eight parts of one byte a part of eight bytes comes.
 #[test]
 fn an_inventory_is_asked_for_until_it_comes(rt: HostRuntime) {
-    all_print(&rt, rt.alloc(), MOODS);
+    assert_outputs(&rt, rt.alloc(), MOODS);
 }

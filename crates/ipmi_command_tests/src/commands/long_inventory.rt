@@ -1,6 +1,6 @@
 //! An inventory of 512 bytes, the parts of its text, and what is printed of it.
-use super::left::is_left;
-use super::over_images::left_over;
+use super::outcome::assert_outcome;
+use super::over_images::outcome_over;
 use std::alloc::Global;
 use std::process::Abort;
 
@@ -60,7 +60,7 @@ const SECOND: &str =
     0123456789012345678901234567890123456789012
 ";
 
-/// Where the digits of the byte at a place are in the image.
+/// The place of a byte's digits in the image.
 pub(super) fn digits_at(place: usize) -> usize {
     let line = 20_usize.saturating_add((place / 32).saturating_mul(72));
     line.saturating_add((place % 32).saturating_mul(2))
@@ -70,7 +70,7 @@ fn push(rt: &impl Abort, text: &mut String, part: &str) {
     text.push_str(part).expect(rt, "memory");
 }
 
-/// Puts a part of the text at the end: one of the inventory by its name, or the line of a fault.
+/// Appends a part of the text: a named one of the inventory, or the line of a fault.
 fn push_part(rt: &impl Abort, text: &mut String, part: &str) {
     match part {
         "chassis" => push(rt, text, CHASSIS),
@@ -85,7 +85,7 @@ fn push_part(rt: &impl Abort, text: &mut String, part: &str) {
     }
 }
 
-/// The text of all parts, which have bars between them.
+/// The text of parts with bars between them.
 fn text_of_parts(rt: &impl Abort, alloc: Global, parts: &str) -> String {
     let mut text = String::new(alloc);
     for part in parts.split('|') {
@@ -94,8 +94,8 @@ fn text_of_parts(rt: &impl Abort, alloc: Global, parts: &str) -> String {
     text
 }
 
-/// Asserts that the inventory is printed with these parts, after a call for its size and one for each 32 bytes.
-pub(super) fn has_parts(
+/// Asserts the parts of the text of an inventory, after a call for its size and one for each 32 bytes.
+pub(super) fn assert_parts(
     rt: &impl Abort,
     alloc: Global,
     image: &str,
@@ -103,15 +103,15 @@ pub(super) fn has_parts(
     parts: &str,
     case: &str,
 ) {
-    let left = left_over(rt, alloc, "fru print 0", image);
+    let outcome = outcome_over(rt, alloc, "fru print 0", image);
     let calls = len.div_ceil(32).saturating_add(1);
     let text = text_of_parts(rt, alloc, parts);
     let wanted = format!(in alloc; "0 {calls}\n--\nFRU 0\n{text}\n").expect(rt, "memory");
-    is_left(rt, alloc, left, wanted.as_str(), case);
+    assert_outcome(rt, alloc, outcome, wanted.as_str(), case);
 }
 
 #[test]
 fn an_inventory_of_512_bytes_is_printed(rt: HostRuntime) {
     let parts = "chassis|board|product|first|second";
-    has_parts(&rt, rt.alloc(), INVENTORY, 512, parts, "whole");
+    assert_parts(&rt, rt.alloc(), INVENTORY, 512, parts, "whole");
 }

@@ -1,6 +1,7 @@
 //! The newest entries of the event log: counted on a first walk, and printed on a second one.
-use super::printed::all_print;
+use super::printed::assert_outputs;
 
+/// `words|image|moods`, then the outcome.
 const LAST: &str = "sel list last 2|log|
 0 8
 --
@@ -57,9 +58,10 @@ sel list last 1|one entry|
 // Each walk has a reservation of its own, and a call for each entry, or one for each part of an entry of 16 bytes.
 #[test]
 fn the_newest_entries_take_two_walks(rt: HostRuntime) {
-    all_print(&rt, rt.alloc(), LAST);
+    assert_outputs(&rt, rt.alloc(), LAST);
 }
 
+/// `words|image|moods`, then the outcome.
 const OF_NONE: &str = "sel list last 2|empty|
 0 2
 --
@@ -69,12 +71,13 @@ sel list last 65535|sensor|
 --
 ";
 
-// One walk shows that there is no entry.
+// The first walk shows that the log is empty.
 #[test]
 fn an_empty_log_takes_one_walk(rt: HostRuntime) {
-    all_print(&rt, rt.alloc(), OF_NONE);
+    assert_outputs(&rt, rt.alloc(), OF_NONE);
 }
 
+/// `words|image|moods`, then the outcome.
 const FROM: &str = "--from 0002 sel list last 1|log|
 0 6
 --
@@ -100,9 +103,10 @@ record 0009h not present
 // The entries before the start are not counted.
 #[test]
 fn both_walks_start_from_the_same_entry(rt: HostRuntime) {
-    all_print(&rt, rt.alloc(), FROM);
+    assert_outputs(&rt, rt.alloc(), FROM);
 }
 
+/// `words|image|moods`, then the outcome.
 const ENDED: &str = "sel list last 2|log to nowhere|
 1 5
 record 0009h not present
@@ -119,8 +123,8 @@ cycle at 0007h
 --
 ";
 
-// Nothing is printed, for how many entries there are is not known.
+// Nothing is printed, since the number of entries is not known.
 #[test]
 fn a_first_walk_that_ends_by_name_is_the_last(rt: HostRuntime) {
-    all_print(&rt, rt.alloc(), ENDED);
+    assert_outputs(&rt, rt.alloc(), ENDED);
 }

@@ -1,6 +1,6 @@
-//! The outcomes of runs and of answers: the status, the messages and the output, and how many calls are made.
-use super::answers::{USAGE, is_answered, words_are_answered};
-use super::left::one_leaves;
+//! Outcomes of runs and of answers: status, messages, output and the number of calls.
+use super::answers::{USAGE, assert_answer, assert_answer_to_words};
+use super::outcome::assert_outcome_of_one;
 use super::over_images::over;
 use super::saved::THREE_ROWS;
 use crate::cases::first_line;
@@ -9,11 +9,11 @@ use ipmi_command_line::{Command, UsageFault};
 use std::alloc::Global;
 use std::process::Abort;
 
-/// Asserts what the words in the first line of a case leave over three records: the rest of the case.
-fn leaves(rt: &impl Abort, alloc: Global, case: &str) {
+/// Asserts the outcome of a command over three records. The case is the words in a line, then the outcome.
+fn assert_outcome_of_case(rt: &impl Abort, alloc: Global, case: &str) {
     let (words, wanted) = first_line(rt, case);
     let ctl = over(rt, alloc, THREE_ROWS);
-    one_leaves(rt, alloc, ctl, command(rt, alloc, words), wanted, words);
+    assert_outcome_of_one(rt, alloc, ctl, command(rt, alloc, words), wanted, words);
 }
 
 const IN_ONE_RESERVATION: &str = "sdr hex
@@ -28,7 +28,7 @@ sdr 0003 ffff 030051c000
 // its header.
 #[test]
 fn one_reservation_serves_all_records(rt: HostRuntime) {
-    leaves(&rt, rt.alloc(), IN_ONE_RESERVATION);
+    assert_outcome_of_case(&rt, rt.alloc(), IN_ONE_RESERVATION);
 }
 
 const FROM_THE_SECOND: &str = "--from 0002 --part 1 sdr hex
@@ -40,7 +40,7 @@ sdr 0003 ffff 030051c000
 
 #[test]
 fn a_cursor_starts_from_the_command(rt: HostRuntime) {
-    leaves(&rt, rt.alloc(), FROM_THE_SECOND);
+    assert_outcome_of_case(&rt, rt.alloc(), FROM_THE_SECOND);
 }
 
 const REWRITE: &str = "image rewrite
@@ -49,10 +49,10 @@ usage: ipmitool [--image FILE] [--from HEX4] [--part N] [--tries N] fru|sdr|sel 
 --
 ";
 
-// No call is made for a command that only `answer` serves.
+// A command that only `answer` serves makes no call.
 #[test]
 fn no_controller_is_written_as_an_image(rt: HostRuntime) {
-    leaves(&rt, rt.alloc(), REWRITE);
+    assert_outcome_of_case(&rt, rt.alloc(), REWRITE);
 }
 
 const OVER_THREE_RECORDS: &str = "
@@ -158,7 +158,7 @@ not present
 #[test]
 fn lines_are_answered_over_an_image(rt: HostRuntime) {
     for case in OVER_THREE_RECORDS.split("====\n") {
-        words_are_answered(&rt, rt.alloc(), THREE_ROWS, case);
+        assert_answer_to_words(&rt, rt.alloc(), THREE_ROWS, case);
     }
 }
 
@@ -167,30 +167,30 @@ out of memory
 --
 ";
 
-/// Asserts what the answer to a command line leaves where there is no image.
-fn is_answered_without_image(
+/// Asserts the answer to a command line over bytes that are not an image.
+fn assert_answer_without_image(
     rt: &impl Abort,
     alloc: Global,
     line: Result<Command, UsageFault>,
     wanted: &str,
     case: &str,
 ) {
-    is_answered(rt, alloc, line, b"no image", wanted, case);
+    assert_answer(rt, alloc, line, b"no image", wanted, case);
 }
 
-/// Asserts what the answer to a fault of the command line leaves where there is no image.
-fn looks_at_no_image(rt: &impl Abort, alloc: Global, fault: UsageFault, wanted: &str) {
+/// Asserts the answer to a fault of the command line, which comes before the image is read.
+fn assert_answer_to_fault(rt: &impl Abort, alloc: Global, fault: UsageFault, wanted: &str) {
     let case = format!(in alloc; "{fault:?}").expect(rt, "memory");
-    is_answered_without_image(rt, alloc, Err(fault), wanted, case.as_str());
+    assert_answer_without_image(rt, alloc, Err(fault), wanted, case.as_str());
 }
 
 #[test]
 fn usage_faults_look_at_no_image(rt: HostRuntime) {
-    looks_at_no_image(&rt, rt.alloc(), UsageFault::Command, USAGE);
-    looks_at_no_image(&rt, rt.alloc(), UsageFault::Memory, OUT_OF_MEMORY);
+    assert_answer_to_fault(&rt, rt.alloc(), UsageFault::Command, USAGE);
+    assert_answer_to_fault(&rt, rt.alloc(), UsageFault::Memory, OUT_OF_MEMORY);
 }
 
-/// What an image that is none leaves.
+/// The answer over bytes that are not an image.
 const NO_IMAGE: &str = "3
 image: header
 --
@@ -205,15 +205,15 @@ fru
 fru print 0
 image rewrite";
 
-/// Asserts that these words are answered by the fault of what is no image.
-fn looks_at_the_image(rt: &impl Abort, alloc: Global, words: &str) {
+/// Asserts the answer to these words over bytes that are not an image.
+fn assert_image_fault(rt: &impl Abort, alloc: Global, words: &str) {
     let line = read_line(rt, alloc, words);
-    is_answered_without_image(rt, alloc, line, NO_IMAGE, words);
+    assert_answer_without_image(rt, alloc, line, NO_IMAGE, words);
 }
 
 #[test]
 fn each_command_looks_at_its_image(rt: HostRuntime) {
     for words in COMMANDS.lines() {
-        looks_at_the_image(&rt, rt.alloc(), words);
+        assert_image_fault(&rt, rt.alloc(), words);
     }
 }

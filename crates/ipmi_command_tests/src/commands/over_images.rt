@@ -1,6 +1,6 @@
-//! Controllers over saved images: plain ones, and those whose calls meet moods, each of which is written as a letter.
-use super::left::{Left, left_by_one};
-use super::saved::{CHANGED_ROWS, EMPTY};
+//! Controllers over saved images: plain ones, and ones whose calls meet moods. Each mood is a letter.
+use super::outcome::{Outcome, outcome_of_one};
+use super::saved::{CHANGED_ROWS, EMPTY, with_record};
 use crate::command_line::lines::command_of_case;
 use crate::controllers::Counting;
 use ipmi_bus::Code;
@@ -8,15 +8,17 @@ use ipmi_image::{Image, ImageController, Mood, Scripted};
 use std::alloc::Global;
 use std::process::Abort;
 
+/// The image of a text, in which `CPU_TEMP` stands for the bytes of that record.
 pub(crate) fn image_of(rt: &impl Abort, alloc: Global, text: &str) -> Image {
-    Image::read(alloc, text.as_bytes()).expect(rt, text)
+    let image = with_record(alloc, text).expect(rt, "memory");
+    Image::read(alloc, image.as_bytes()).expect(rt, text)
 }
 
 pub(crate) fn over(rt: &impl Abort, alloc: Global, image: &str) -> Counting<ImageController> {
     Counting::new(ImageController::new(image_of(rt, alloc, image)))
 }
 
-/// A controller over the image, with the call of this number answered with the code.
+/// A controller over the image. The call with this number is answered with the code.
 pub(crate) fn interrupting(
     rt: &impl Abort,
     alloc: Global,
@@ -28,15 +30,15 @@ pub(crate) fn interrupting(
     Counting::interrupting(ctl, call, code)
 }
 
-/// Two images, the second of which a controller over the first changes to.
+/// Two images. A controller over the first may change to the second.
 #[derive(Clone, Copy)]
 pub(crate) struct Two<'a> {
     pub first: &'a str,
     pub second: &'a str,
 }
 
-/// The mood that a letter means. A dot grants all, `1` one byte; `x` changes to the second image and `y` to the first,
-/// `N` changes the second of three records, and `E` leaves none.
+/// The mood of a letter. A dot grants all, and `1` one byte. `x` changes to the second image, `y` to the first, `N` to
+/// `CHANGED_ROWS`, and `E` to `EMPTY`.
 fn mood(rt: &impl Abort, alloc: Global, images: Two<'_>, letter: u8) -> Mood {
     match letter {
         b'.' => Mood::Grant(254),
@@ -53,7 +55,7 @@ fn mood(rt: &impl Abort, alloc: Global, images: Two<'_>, letter: u8) -> Mood {
     }
 }
 
-/// Puts the mood of a letter at the end.
+/// Appends the mood of a letter.
 fn push(rt: &impl Abort, alloc: Global, moods: &mut Vec<Mood>, images: Two<'_>, letter: u8) {
     moods
         .push(mood(rt, alloc, images, letter))
@@ -61,7 +63,7 @@ fn push(rt: &impl Abort, alloc: Global, moods: &mut Vec<Mood>, images: Two<'_>, 
         .expect(rt, "memory");
 }
 
-/// A controller over the first image whose calls meet the moods of these letters, and then none.
+/// A controller over the first image. Its first calls meet the moods of these letters, and the others none.
 pub(crate) fn changing(
     rt: &impl Abort,
     alloc: Global,
@@ -89,8 +91,8 @@ pub(crate) fn scripted(
     changing(rt, alloc, images, letters)
 }
 
-/// What a command leaves over the image.
-pub(super) fn left_over(rt: &impl Abort, alloc: Global, words: &str, image: &str) -> Left {
+/// The outcome of a command over the image.
+pub(super) fn outcome_over(rt: &impl Abort, alloc: Global, words: &str, image: &str) -> Outcome {
     let ctl = over(rt, alloc, image);
-    left_by_one(alloc, ctl, command_of_case(rt, alloc, words))
+    outcome_of_one(alloc, ctl, command_of_case(rt, alloc, words))
 }

@@ -2,13 +2,13 @@
 ghost use Rattle.std.specs.Prelude.{◌≡◌, true};
 ghost use Rattle.ipmi_command_line.specs.Task.{is_listing};
 
-use super::left::{Left, is_left};
+use super::outcome::{Outcome, assert_outcome};
 use super::over_images::{over, scripted};
 use super::saved::{THREE_LINES, THREE_ROWS, image_named};
 use crate::cases::{Case, case_of, number};
 use crate::command_line::lines::command;
 use crate::controllers::Counting;
-use crate::writers::is_written;
+use crate::writers::assert_written_text;
 use ipmi_bus::Controller;
 use ipmi_command_line::{Command, Task};
 use ipmi_commands::run_pages;
@@ -17,13 +17,13 @@ use ipmi_output::Written;
 use std::alloc::Global;
 use std::process::Abort;
 
-/// What a listing over the controller in pages of these sizes leaves.
-fn left_in_pages<C: Controller + Drop>(
+/// The outcome of a listing over the controller in pages of these sizes.
+fn outcome_in_pages<C: Controller + Drop>(
     alloc: Global,
     ctl: Counting<C>,
     command: &Command,
     pages: &[u32],
-) -> Left
+) -> Outcome
     requires { is_listing command.now.task ≡ true }
 {
     let mut ctl = ctl;
@@ -32,7 +32,7 @@ fn left_in_pages<C: Controller + Drop>(
     let status = run_pages(alloc, &mut ctl, command, &mut out, &mut err, pages);
     let calls = ctl.calls;
     drop(ctl);
-    Left {
+    Outcome {
         out: out.into_inner(),
         err,
         status,
@@ -44,7 +44,7 @@ fn push_size(rt: &impl Abort, pages: &mut Vec<u32>, size: &str) {
     pages.push(number(rt, size)).expect(rt, "memory");
 }
 
-/// The sizes of pages in a text, which is split at spaces.
+/// The sizes of pages in a text, split at spaces.
 fn sizes(rt: &impl Abort, alloc: Global, text: &str) -> Vec<u32> {
     let mut pages = Vec::new(alloc);
     for size in text.split_whitespace() {
@@ -53,8 +53,8 @@ fn sizes(rt: &impl Abort, alloc: Global, text: &str) -> Vec<u32> {
     pages
 }
 
-/// Asserts what the words of a case leave over the controller, in pages of the sizes that it has more.
-fn leaves_in_pages<C: Controller + Drop>(
+/// Asserts the outcome of a case over the controller, in pages of its sizes.
+fn assert_outcome_in_pages<C: Controller + Drop>(
     rt: &impl Abort,
     alloc: Global,
     ctl: Counting<C>,
@@ -64,26 +64,26 @@ fn leaves_in_pages<C: Controller + Drop>(
     if !command.is_listing() {
         panic!(rt; "{}: no listing", case.line);
     }
-    let left = left_in_pages(alloc, ctl, &command, &sizes(rt, alloc, case.more));
+    let outcome = outcome_in_pages(alloc, ctl, &command, &sizes(rt, alloc, case.more));
     drop(command);
-    is_left(rt, alloc, left, case.wanted, case.line);
+    assert_outcome(rt, alloc, outcome, case.wanted, case.line);
 }
 
-/// Asserts what a listing leaves over an image in pages. The first line of the case is the words, the name of the image
-/// and the sizes; the other lines are what is left.
-fn lists_in_pages(rt: &impl Abort, alloc: Global, case: &str) {
+/// The same over the image of the case.
+fn assert_listing_in_pages(rt: &impl Abort, alloc: Global, case: &str) {
     let case = case_of(rt, case);
     let ctl = over(rt, alloc, image_named(rt, case.image));
-    leaves_in_pages(rt, alloc, ctl, &case);
+    assert_outcome_in_pages(rt, alloc, ctl, &case);
 }
 
-/// The same for each of these cases.
-fn all_list_in_pages(rt: &impl Abort, alloc: Global, cases: &str) {
+/// The same for each case.
+fn assert_listings_in_pages(rt: &impl Abort, alloc: Global, cases: &str) {
     for case in cases.split("====\n") {
-        lists_in_pages(rt, alloc, case);
+        assert_listing_in_pages(rt, alloc, case);
     }
 }
 
+/// `words|image|size of each page`, then the outcome.
 const THREE_IN_PAGES: &str = "sdr hex|three|1 0 1
 0 8
 --
@@ -127,12 +127,13 @@ sdr 0002 0003 020051c002bbcc
 sdr 0003 ffff 030051c000
 ";
 
-// A page asks for a reservation of its own. Three calls read the first record or the second with it, two the third.
+// Each page has its own reservation. With it the first and the second record take three calls each, and the third two.
 #[test]
 fn pages_are_one_listing(rt: HostRuntime) {
-    all_list_in_pages(&rt, rt.alloc(), THREE_IN_PAGES);
+    assert_listings_in_pages(&rt, rt.alloc(), THREE_IN_PAGES);
 }
 
+/// `words|image|size of each page`, then the outcome.
 const ENTRIES_AND_SENSORS: &str = "sel list|log|2
 0 5
 --
@@ -151,9 +152,10 @@ PSU1             | FRU 1             | na
 // and two parts, and then a locator.
 #[test]
 fn entries_and_sensors_are_listed_in_pages(rt: HostRuntime) {
-    all_list_in_pages(&rt, rt.alloc(), ENTRIES_AND_SENSORS);
+    assert_listings_in_pages(&rt, rt.alloc(), ENTRIES_AND_SENSORS);
 }
 
+/// `words|image|size of each page`, then the outcome.
 const EMPTY_IN_PAGES: &str = "sdr hex|empty|1 1
 0 2
 --
@@ -162,9 +164,10 @@ const EMPTY_IN_PAGES: &str = "sdr hex|empty|1 1
 // A reservation, and a call that finds no record. No other page is begun.
 #[test]
 fn an_empty_image_ends_on_the_first_page(rt: HostRuntime) {
-    all_list_in_pages(&rt, rt.alloc(), EMPTY_IN_PAGES);
+    assert_listings_in_pages(&rt, rt.alloc(), EMPTY_IN_PAGES);
 }
 
+/// `words|image|size of each page`, then the outcome.
 const CYCLES: &str = "sdr hex|cycle|2
 1 6
 cycle at 0007h
@@ -181,12 +184,13 @@ cycle at 0000h
 sdr 0001 0000 010051c000
 ";
 
-// A cycle is seen only within a page. The id 0000h is one wherever it comes.
+// A cycle is found only within a page. The next id 0000h is always one.
 #[test]
 fn each_page_sees_its_own_cycle(rt: HostRuntime) {
-    all_list_in_pages(&rt, rt.alloc(), CYCLES);
+    assert_listings_in_pages(&rt, rt.alloc(), CYCLES);
 }
 
+/// `words|image|size of each page`, then the outcome.
 const GIVEN_UP: &str = "--tries 0 sdr hex|three|1 1
 1 4
 gave up at 0002h
@@ -194,55 +198,56 @@ gave up at 0002h
 sdr 0001 0002 010051c001aa
 ";
 
-// The fourth call begins the second page, and the third page is not begun.
+// The fourth call begins the second page. The third page does not begin.
 #[test]
 fn a_page_that_ends_by_name_ends_all(rt: HostRuntime) {
     let case = case_of(&rt, GIVEN_UP);
     let ctl = scripted(&rt, rt.alloc(), image_named(&rt, case.image), "...B");
-    leaves_in_pages(&rt, rt.alloc(), ctl, &case);
+    assert_outcome_in_pages(&rt, rt.alloc(), ctl, &case);
 }
 
-/// What a listing of three records in hex leaves in three pages. It takes no memory but for the listing.
-fn three_in_pages(alloc: Global) -> Result<Left, ImageFault> {
+/// The outcome of a listing of three records in three pages. Only the listing takes memory.
+fn three_in_pages(alloc: Global) -> Result<Outcome, ImageFault> {
     let image = Image::read(alloc, THREE_ROWS.as_bytes())?;
     let ctl = Counting::new(ImageController::new(image));
     let hex = Command::new(Task::Hex, None, 32, 5, None);
-    Ok(left_in_pages(alloc, ctl, &hex, &[1, 0, 1]))
+    Ok(outcome_in_pages(alloc, ctl, &hex, &[1, 0, 1]))
 }
 
-fn is_whole(rt: &impl Abort, left: &Left) {
-    assert!(rt; left.status == 0, "status {}", left.status);
-    is_written(rt, &left.out, THREE_LINES);
-    is_written(rt, &left.err, "");
+fn assert_lines(rt: &impl Abort, outcome: &Outcome) {
+    assert!(rt; outcome.status == 0, "status {}", outcome.status);
+    assert_written_text(rt, &outcome.out, THREE_LINES);
+    assert_written_text(rt, &outcome.err, "");
 }
 
 #[test]
 fn not_always_out_of_memory(rt: HostRuntime) {
-    let left = three_in_pages(rt.alloc()).expect(&rt, "memory");
-    is_whole(&rt, &left);
+    let outcome = three_in_pages(rt.alloc()).expect(&rt, "memory");
+    assert_lines(&rt, &outcome);
 }
 
-/// Asserts that all is left, or first bytes after a write fault, or first lines where memory was refused.
-fn is_whole_or_refused(rt: &impl Abort, left: &Left) {
-    match left.status {
-        0 => is_whole(rt, left),
-        4 => is_written(rt, &left.err, "write fault\n"),
+/// Asserts that all lines are written, or first bytes of them after a write fault, or first lines where memory was
+/// refused.
+fn assert_lines_or_refused(rt: &impl Abort, outcome: &Outcome) {
+    match outcome.status {
+        0 => assert_lines(rt, outcome),
+        4 => assert_written_text(rt, &outcome.err, "write fault\n"),
         5 => {
-            let len = left.out.len();
+            let len = outcome.out.len();
             assert!(rt; matches!(len, 0 | 27 | 56), "{len} bytes");
-            is_written(rt, &left.err, "out of memory\n");
+            assert_written_text(rt, &outcome.err, "out of memory\n");
         }
         status => panic!(rt; "status {status}"),
     }
-    let is_first_part = THREE_LINES.as_bytes().starts_with(&left.out);
-    assert!(rt; is_first_part, "status {}: other lines", left.status);
+    let is_first_part = THREE_LINES.as_bytes().starts_with(&outcome.out);
+    assert!(rt; is_first_part, "status {}: other lines", outcome.status);
 }
 
-// Where memory is refused, to the run or to what takes its output, it has first lines, or first bytes of them.
+// Memory may be refused to the run, or to the output.
 #[test]
 fn memory_may_be_refused(rt: HostRuntime) {
     match three_in_pages(rt.alloc()) {
-        Ok(left) => is_whole_or_refused(&rt, &left),
+        Ok(outcome) => assert_lines_or_refused(&rt, &outcome),
         Err(fault) => assert!(rt; fault == ImageFault::Memory, "{fault:?}"),
     }
 }

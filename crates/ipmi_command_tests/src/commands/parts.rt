@@ -1,16 +1,15 @@
-//! Listings in parts of other sizes than 32: the same lines, after other numbers of calls.
-use super::left::left_by_one;
+//! Listings in parts of other sizes than 32: the same lines with other numbers of calls.
+use super::outcome::outcome_of_one;
 use super::over_images::over;
 use super::saved::image_named;
-use crate::bus::listings::is_done;
+use crate::bus::listings::assert_listing;
 use crate::cases::{case_of, number};
 use crate::command_line::lines::command;
 use std::alloc::Global;
 use std::process::Abort;
 
-/// Asserts that the words leave these lines over an image, in parts of the size before a colon, after as many calls as
-/// the colon is followed by.
-fn lists_in_parts(
+/// Asserts the lines of a listing in parts of one size. A part such as `5:18` has the size and the number of calls.
+fn assert_listing_in_parts(
     rt: &impl Abort,
     alloc: Global,
     words: &str,
@@ -22,12 +21,12 @@ fn lists_in_parts(
     let calls = number(rt, calls);
     let words = format!(in alloc; "--part {size} {words}").expect(rt, "memory");
     let ctl = over(rt, alloc, image);
-    let left = left_by_one(alloc, ctl, command(rt, alloc, words.as_str()));
-    is_done(rt, alloc, left, lines, calls, words.as_str());
+    let outcome = outcome_of_one(alloc, ctl, command(rt, alloc, words.as_str()));
+    assert_listing(rt, alloc, outcome, lines, calls, words.as_str());
 }
 
-/// The same for each part in a text.
-fn lists_in_all_parts(
+/// The same for each part of a text.
+fn assert_listing_in_parts_of_each_size(
     rt: &impl Abort,
     alloc: Global,
     words: &str,
@@ -36,25 +35,25 @@ fn lists_in_all_parts(
     lines: &str,
 ) {
     for part in parts.split_whitespace() {
-        lists_in_parts(rt, alloc, words, image, part, lines);
+        assert_listing_in_parts(rt, alloc, words, image, part, lines);
     }
 }
 
-/// The same for a case: its first line is the words, the name of the image and the parts, and the other lines are those
-/// that are left.
-fn lists(rt: &impl Abort, alloc: Global, case: &str) {
+/// The same for a case.
+fn assert_listing_of_case(rt: &impl Abort, alloc: Global, case: &str) {
     let case = case_of(rt, case);
     let image = image_named(rt, case.image);
-    lists_in_all_parts(rt, alloc, case.words, image, case.more, case.wanted);
+    assert_listing_in_parts_of_each_size(rt, alloc, case.words, image, case.more, case.wanted);
 }
 
-/// The same for each of these cases.
-fn all_list(rt: &impl Abort, alloc: Global, cases: &str) {
+/// The same for each case.
+fn assert_listings(rt: &impl Abort, alloc: Global, cases: &str) {
     for case in cases.split("====\n") {
-        lists(rt, alloc, case);
+        assert_listing_of_case(rt, alloc, case);
     }
 }
 
+/// `words|image|size of a part:calls ..`, then the lines.
 const HEX: &str = "sdr hex|three|1:19 2:12 5:6 16:6 254:6
 sdr 0001 0002 010051c001aa
 sdr 0002 0003 020051c002bbcc
@@ -70,9 +69,10 @@ sdr 0002 ffff 020051110f200180000000000a0100c450535531
 // The three records have 1, 2 and no byte after their headers, and the sensor and the locator 51 and 15.
 #[test]
 fn records_are_listed_in_parts_of_any_size(rt: HostRuntime) {
-    all_list(&rt, rt.alloc(), HEX);
+    assert_listings(&rt, rt.alloc(), HEX);
 }
 
+/// `words|image|size of a part:calls ..`, then the lines.
 const SENSORS: &str = "sdr list|sensor and locator|1:78 5:18 16:9 254:6
 CPU Temp         | 45 degrees C      | ok
 ====
@@ -90,12 +90,13 @@ sdr elist fru|sensor and locator|1:77 5:17 16:8 254:5
 PSU1             | --h | na  | 10.1  | FRU 1
 ";
 
-// The calls for the records in hex, and one for the reading of the sensor where its line is printed.
+// The calls for the records in hex, and one for the reading of a sensor whose line is printed.
 #[test]
 fn sensors_are_listed_in_parts_of_any_size(rt: HostRuntime) {
-    all_list(&rt, rt.alloc(), SENSORS);
+    assert_listings(&rt, rt.alloc(), SENSORS);
 }
 
+/// `words|image|size of a part:calls ..`, then the lines.
 const ENTRIES: &str = "sel list|log|1:49 5:13 16:4 254:4
 0001 | 1987-01-05 18:48:33 | Temperature #0x30 | Upper Critical going high | Asserted
 0002 | +536870912 s | Temperature #0x30 | Upper Non-critical going high | Deasserted
@@ -117,5 +118,5 @@ Data: 010203040506
 // A reservation, and for each entry the parts of its 16 bytes.
 #[test]
 fn entries_are_listed_in_parts_of_any_size(rt: HostRuntime) {
-    all_list(&rt, rt.alloc(), ENTRIES);
+    assert_listings(&rt, rt.alloc(), ENTRIES);
 }

@@ -1,5 +1,5 @@
-//! What commands print over a saved image, and how many calls they make.
-use super::left::one_leaves;
+//! Commands over a saved image: their output and the number of their calls.
+use super::outcome::assert_outcome_of_one;
 use super::over_images::scripted;
 use super::saved::image_named;
 use crate::cases::case_of;
@@ -7,22 +7,22 @@ use crate::command_line::lines::command_of_case;
 use std::alloc::Global;
 use std::process::Abort;
 
-/// Asserts what a command leaves over an image. The first line of the case is the words, the name of the image and the
-/// moods that the calls meet, with bars between them; the other lines are what is left.
-fn prints(rt: &impl Abort, alloc: Global, case: &str) {
+/// Asserts the outcome of a command over an image. The calls meet the moods of the case.
+fn assert_output(rt: &impl Abort, alloc: Global, case: &str) {
     let case = case_of(rt, case);
     let ctl = scripted(rt, alloc, image_named(rt, case.image), case.more);
     let command = command_of_case(rt, alloc, case.words);
-    one_leaves(rt, alloc, ctl, command, case.wanted, case.line);
+    assert_outcome_of_one(rt, alloc, ctl, command, case.wanted, case.line);
 }
 
-/// The same for each of these cases.
-pub(super) fn all_print(rt: &impl Abort, alloc: Global, cases: &str) {
+/// The same for each case.
+pub(super) fn assert_outputs(rt: &impl Abort, alloc: Global, cases: &str) {
     for case in cases.split("====\n") {
-        prints(rt, alloc, case);
+        assert_output(rt, alloc, case);
     }
 }
 
+/// `words|image|moods`, then the outcome.
 const RECORDS_IN_HEX: &str = "sdr hex|leading zeros and upper case|
 0 5
 --
@@ -31,12 +31,13 @@ sdr 0345 abcd 450351c000
 sdr abcd ffff cdab51c001ef
 ";
 
-// Four digits in lower case are an id, and two a byte.
+// An id has four digits and a byte two, in lower case.
 #[test]
 fn records_are_lines_in_hex(rt: HostRuntime) {
-    all_print(&rt, rt.alloc(), RECORDS_IN_HEX);
+    assert_outputs(&rt, rt.alloc(), RECORDS_IN_HEX);
 }
 
+/// `words|image|moods`, then the outcome.
 const SENSORS: &str = "sdr list|sensor|
 0 5
 --
@@ -73,9 +74,10 @@ PSU1             | --h | na  | 10.1  | FRU 1
 // body.
 #[test]
 fn sensors_are_listed_with_their_readings(rt: HostRuntime) {
-    all_print(&rt, rt.alloc(), SENSORS);
+    assert_outputs(&rt, rt.alloc(), SENSORS);
 }
 
+/// `words|image|moods`, then the outcome.
 const FAULTS: &str = "sdr list|fault and locator|
 0 4
 --
@@ -98,12 +100,13 @@ sdr list compact|fault and locator|
 --
 ";
 
-// A record with a fault is of the kind of its type byte.
+// A faulty record is of the kind that its type byte names.
 #[test]
 fn a_listing_goes_on_after_a_record_with_a_fault(rt: HostRuntime) {
-    all_print(&rt, rt.alloc(), FAULTS);
+    assert_outputs(&rt, rt.alloc(), FAULTS);
 }
 
+/// `words|image|moods`, then the outcome.
 const TROUBLES: &str = "sdr list|sensor|....R
 1 5
 record 0001h refused with code D4h
@@ -127,12 +130,13 @@ gave up at 0002h
 PSU1             | --h | na  | 10.1  | FRU 1
 ";
 
-// The message has the id of the record, and the lines before it are printed.
+// The message names the record, and the lines before it are printed.
 #[test]
 fn a_reading_is_refused_or_given_up(rt: HostRuntime) {
-    all_print(&rt, rt.alloc(), TROUBLES);
+    assert_outputs(&rt, rt.alloc(), TROUBLES);
 }
 
+/// `words|image|moods`, then the outcome.
 const ENTRIES: &str = "sel list|log|
 0 4
 --
@@ -194,12 +198,13 @@ cycle at 0007h
 0009 | record type 0x03 | 05060708090a0b0c0d0e0f1011
 ";
 
-// A reservation, and a call for each entry. After as many as are wanted no call is made.
+// A reservation, and a call for each entry. No call is made after the limit is reached.
 #[test]
 fn entries_are_listed(rt: HostRuntime) {
-    all_print(&rt, rt.alloc(), ENTRIES);
+    assert_outputs(&rt, rt.alloc(), ENTRIES);
 }
 
+/// `words|image|moods`, then the outcome.
 const ONE_ENTRY: &str = "sel get 1|log|
 0 2
 --
@@ -232,5 +237,5 @@ record 0009h not present
 
 #[test]
 fn an_entry_is_shown_by_its_id(rt: HostRuntime) {
-    all_print(&rt, rt.alloc(), ONE_ENTRY);
+    assert_outputs(&rt, rt.alloc(), ONE_ENTRY);
 }

@@ -1,14 +1,15 @@
-//! Commands whose requests for memory are refused: they have written whole pieces, and nothing more.
-use super::answers::{Answered, left_by_answer};
-use super::outputs::{INFO, INVENTORIES, INVENTORY, NEWEST, SENSOR_BLOCK};
-use super::saved::image_named;
-use crate::writers::is_written;
+//! Commands whose requests for memory are refused. They write whole pieces, and nothing more.
+use super::answers::{AnswerOutcome, outcome_of_answer};
+use super::outputs::{INVENTORIES, INVENTORY, NEWEST};
+use super::saved::{image_named, with_record};
+use crate::writers::assert_written_text;
 use ipmi_bus::Shelf;
 use ipmi_command_line::{Command, Count, Task, UsageFault, Word};
+use ipmi_fixtures::{CPU_TEMP_BLOCK, INFO_BLOCK};
 use std::alloc::{AllocError, Global};
 use std::process::Abort;
 
-/// A command over an image with a name, its words, the text that it prints, and how each piece of the text ends.
+/// A command, its words, the name of its image, the text that it prints, and the end of each piece of the text.
 #[derive(Drop)]
 struct Printed {
     words: &'static str,
@@ -29,8 +30,8 @@ fn block(alloc: Global) -> Printed {
         words: "sdr get \"CPU Temp\"",
         command: get_command(alloc).ok().ok_or(UsageFault::Memory),
         image: "sensor",
-        text: SENSOR_BLOCK,
-        end: SENSOR_BLOCK,
+        text: CPU_TEMP_BLOCK,
+        end: CPU_TEMP_BLOCK,
     }
 }
 
@@ -39,8 +40,8 @@ fn info() -> Printed {
         words: "sel info",
         command: Ok(Command::new(Task::Info(Shelf::Sel), None, 32, 5, None)),
         image: "log",
-        text: INFO,
-        end: INFO,
+        text: INFO_BLOCK,
+        end: INFO_BLOCK,
     }
 }
 
@@ -75,70 +76,76 @@ fn inventories() -> Printed {
     }
 }
 
-/// What is left of it.
-fn left_of(rt: &impl Abort, alloc: Global, printed: &Printed) -> Answered {
-    let image = image_named(rt, printed.image);
-    left_by_answer(alloc, &printed.command, image.as_bytes())
+/// The outcome of the command, unless memory for its image is refused.
+fn outcome_of(
+    rt: &impl Abort,
+    alloc: Global,
+    printed: &Printed,
+) -> Result<AnswerOutcome, AllocError> {
+    let image = with_record(alloc, image_named(rt, printed.image))?;
+    Ok(outcome_of_answer(alloc, &printed.command, image.as_bytes()))
 }
 
-/// Asserts that all is left.
-fn is_whole(rt: &impl Abort, left: &Answered, printed: &Printed) {
-    assert!(rt; left.status == 0, "{}: status", printed.words);
-    is_written(rt, &left.out, printed.text);
-    assert!(rt; left.err.is_empty(), "{}: message", printed.words);
+/// Asserts that the whole text is written.
+fn assert_text(rt: &impl Abort, outcome: &AnswerOutcome, printed: &Printed) {
+    assert!(rt; outcome.status == 0, "{}: status", printed.words);
+    assert_written_text(rt, &outcome.out, printed.text);
+    assert!(rt; outcome.err.is_empty(), "{}: message", printed.words);
 }
 
-/// Asserts that whole pieces are left, and that memory is said to be wanted.
-fn is_out_of_memory(rt: &impl Abort, left: &Answered, printed: &Printed) {
-    is_written(rt, &left.err, "out of memory\n");
-    let is_of_pieces = left.out.is_empty() || left.out.ends_with(printed.end.as_bytes());
+/// Asserts that whole pieces are written, and the message `out of memory`.
+fn assert_pieces(rt: &impl Abort, outcome: &AnswerOutcome, printed: &Printed) {
+    assert_written_text(rt, &outcome.err, "out of memory\n");
+    let is_of_pieces = outcome.out.is_empty() || outcome.out.ends_with(printed.end.as_bytes());
     assert!(rt; is_of_pieces, "{}: a piece", printed.words);
 }
 
-/// Asserts that all is left, or first bytes after a write fault, or first pieces where memory was refused.
-fn is_whole_or_refused(rt: &impl Abort, left: &Answered, printed: &Printed) {
-    match left.status {
-        0 => is_whole(rt, left, printed),
-        4 => is_written(rt, &left.err, "write fault\n"),
-        5 => is_out_of_memory(rt, left, printed),
+/// Asserts that the whole text is written, or first bytes after a write fault, or first pieces where memory was
+/// refused.
+fn assert_text_or_pieces(rt: &impl Abort, outcome: &AnswerOutcome, printed: &Printed) {
+    match outcome.status {
+        0 => assert_text(rt, outcome, printed),
+        4 => assert_written_text(rt, &outcome.err, "write fault\n"),
+        5 => assert_pieces(rt, outcome, printed),
         status => panic!(rt; "{}: status {status}", printed.words),
     }
-    let is_first_part = printed.text.as_bytes().starts_with(&left.out);
+    let is_first_part = printed.text.as_bytes().starts_with(&outcome.out);
     assert!(rt; is_first_part, "{}: another text", printed.words);
 }
 
-/// Asserts that all is left of it.
-fn prints_all(rt: &impl Abort, alloc: Global, printed: Printed) {
-    let left = left_of(rt, alloc, &printed);
-    is_whole(rt, &left, &printed);
-    drop(left);
+/// Asserts that the command prints its whole text.
+fn assert_printed_text(rt: &impl Abort, alloc: Global, printed: Printed) {
+    let outcome = outcome_of(rt, alloc, &printed).expect(rt, "memory");
+    assert_text(rt, &outcome, &printed);
+    drop(outcome);
     drop(printed);
 }
 
-/// Asserts that all is left of it, or first pieces.
-fn prints_pieces(rt: &impl Abort, alloc: Global, printed: Printed) {
-    let left = left_of(rt, alloc, &printed);
-    is_whole_or_refused(rt, &left, &printed);
-    drop(left);
+/// The same for a command, where memory may be refused for its image too.
+fn assert_printed_text_or_pieces(rt: &impl Abort, alloc: Global, printed: Printed) {
+    if let Ok(outcome) = outcome_of(rt, alloc, &printed) {
+        assert_text_or_pieces(rt, &outcome, &printed);
+        drop(outcome);
+    }
     drop(printed);
 }
 
-/// With ample memory each of them prints all.
+// With ample memory each command prints its whole text.
 #[test]
 fn not_always_out_of_memory(rt: HostRuntime) {
-    prints_all(&rt, rt.alloc(), block(rt.alloc()));
-    prints_all(&rt, rt.alloc(), info());
-    prints_all(&rt, rt.alloc(), newest());
-    prints_all(&rt, rt.alloc(), inventory());
-    prints_all(&rt, rt.alloc(), inventories());
+    assert_printed_text(&rt, rt.alloc(), block(rt.alloc()));
+    assert_printed_text(&rt, rt.alloc(), info());
+    assert_printed_text(&rt, rt.alloc(), newest());
+    assert_printed_text(&rt, rt.alloc(), inventory());
+    assert_printed_text(&rt, rt.alloc(), inventories());
 }
 
-/// Where memory is refused, to the run or to what takes its output, it has first pieces, or first bytes of them.
+// Memory may be refused to the run, or to the output.
 #[test]
 fn memory_may_be_refused(rt: HostRuntime) {
-    prints_pieces(&rt, rt.alloc(), block(rt.alloc()));
-    prints_pieces(&rt, rt.alloc(), info());
-    prints_pieces(&rt, rt.alloc(), newest());
-    prints_pieces(&rt, rt.alloc(), inventory());
-    prints_pieces(&rt, rt.alloc(), inventories());
+    assert_printed_text_or_pieces(&rt, rt.alloc(), block(rt.alloc()));
+    assert_printed_text_or_pieces(&rt, rt.alloc(), info());
+    assert_printed_text_or_pieces(&rt, rt.alloc(), newest());
+    assert_printed_text_or_pieces(&rt, rt.alloc(), inventory());
+    assert_printed_text_or_pieces(&rt, rt.alloc(), inventories());
 }

@@ -1,22 +1,17 @@
-//! Saved images that the tests share, each with a name.
+//! Saved images, each with a name.
 use crate::cases::first_line;
+use ipmi_fixtures::CPU_TEMP;
+pub(crate) use ipmi_fixtures::THREE_ROWS;
+use std::alloc::{AllocError, Global};
 use std::process::Abort;
 
-/// Three records, of 27, 29 and 25 bytes as lines.
-pub(crate) const THREE_ROWS: &str = "ipmi-image 1
-sdr 0001 0002 010051c001aa
-sdr 0002 0003 020051c002bbcc
-sdr 0003 ffff 030051c000
-end
-";
-
-/// The lines of the three records.
+/// The lines of `THREE_ROWS`, of 27, 29 and 25 bytes.
 pub(crate) const THREE_LINES: &str = "sdr 0001 0002 010051c001aa
 sdr 0002 0003 020051c002bbcc
 sdr 0003 ffff 030051c000
 ";
 
-/// The three records with another second one, as long as the first one.
+/// `THREE_ROWS` with another second record of the same length.
 pub(super) const CHANGED_ROWS: &str = "ipmi-image 1
 sdr 0001 0002 010051c001aa
 sdr 0002 0003 020051c102ddee
@@ -24,44 +19,41 @@ sdr 0003 ffff 030051c000
 end
 ";
 
-/// The lines of the changed records.
+/// The lines of `CHANGED_ROWS`.
 pub(super) const CHANGED_LINES: &str = "sdr 0001 0002 010051c001aa
 sdr 0002 0003 020051c102ddee
 sdr 0003 ffff 030051c000
 ";
 
-/// An image of nothing.
+/// An image without a line.
 pub(super) const EMPTY: &str = "ipmi-image 1
 end
 ";
 
-/// An image of one record, whose next id no record has.
+/// An image of one record, whose next id is of no record.
 pub(super) const TO_NOWHERE: &str = "ipmi-image 1
 sdr 0001 0009 010051c000
 end
 ";
 
-/// Images, each after a line with its name, with a line of dashes after each. The sensors are full sensor records, and
-/// the locators are those of FRU devices; the fault is a full sensor record that is too short. In a cycle the next id
-/// of each row is the other one's, and nowhere is the next id that no row has. What is called another is as long as
-/// what it takes the place of, and has the same ids.
+/// Each image comes after a line with its name and before a line of dashes. `CPU_TEMP` stands for the bytes of that
+/// record, and the locators are of FRU devices. The fault is a full sensor record that is too short. In a cycle the
+/// next id of each row is that of the other row. Nowhere is a next id that no row has. An image that is called another
+/// has the ids and lengths of the one whose place it takes.
 const IMAGES: &str = "sensor
 ipmi-image 1
-sdr 0001 ffff \
-    010051013320000103017f680101000000003838000100000100000000000000000000005f5a550000000202000000c84350552054656d70
+sdr 0001 ffff CPU_TEMP
 reading 0 01 2dc00000
 end
 --
 sensor without reading
 ipmi-image 1
-sdr 0001 ffff \
-    010051013320000103017f680101000000003838000100000100000000000000000000005f5a550000000202000000c84350552054656d70
+sdr 0001 ffff CPU_TEMP
 end
 --
 sensor and locator
 ipmi-image 1
-sdr 0001 0002 \
-    010051013320000103017f680101000000003838000100000100000000000000000000005f5a550000000202000000c84350552054656d70
+sdr 0001 0002 CPU_TEMP
 sdr 0002 ffff 020051110f200180000000000a0100c450535531
 reading 0 01 2dc00000
 end
@@ -216,8 +208,7 @@ end
 --
 inventories
 ipmi-image 1
-sdr 0001 0002 \
-    010051013320000103017f680101000000003838000100000100000000000000000000005f5a550000000202000000c84350552054656d70
+sdr 0001 0002 CPU_TEMP
 sdr 0002 ffff 020051110f200180000000000a0100c450535531
 reading 0 01 2dc00000
 fru 00 01000100000000fe010117c100000026
@@ -226,8 +217,7 @@ end
 --
 one inventory
 ipmi-image 1
-sdr 0001 0002 \
-    010051013320000103017f680101000000003838000100000100000000000000000000005f5a550000000202000000c84350552054656d70
+sdr 0001 0002 CPU_TEMP
 sdr 0002 ffff 020051110f200180000000000a0100c450535531
 reading 0 01 2dc00000
 fru 00 01000100000000fe010117c100000026
@@ -235,8 +225,7 @@ end
 --
 inventory elsewhere
 ipmi-image 1
-sdr 0001 0002 \
-    010051013320000103017f680101000000003838000100000100000000000000000000005f5a550000000202000000c84350552054656d70
+sdr 0001 0002 CPU_TEMP
 sdr 0002 ffff 020051110f200100000000000a0100c450535531
 reading 0 01 2dc00000
 fru 00 01000100000000fe010117c100000026
@@ -261,6 +250,15 @@ sdr 0005 0006 0500511100
 sdr 0006 ffff 060051120b20000000000000070100c0
 fru 00 01000100000000fe010117c100000026
 fru 02 01
+end
+--
+products
+ipmi-image 1
+sdr 0001 0002 010051110d200080000000000a0100c24142
+sdr 0002 ffff 020051110f200180000000000a0100c450535531
+fru 00 01000001040000fa0103000100008329dca642123bc441e90042c1000000004d
+fru 00 010319c24142c0c25051c25631c25358c100000000000004
+fru 01 01000000010000fe010219c24142c24344c1000000000095
 end
 --
 two locators
@@ -299,13 +297,13 @@ end
 --
 ";
 
-/// The text of an image that has this name, and nothing where it has another.
+/// The text of an image, if it has this name.
 fn text_if_named<'a>(rt: &impl Abort, image: &'a str, name: &str) -> Option<&'a str> {
     let (first, text) = first_line(rt, image);
     if first == name { Some(text) } else { None }
 }
 
-/// The image among these that has this name.
+/// The image with this name.
 pub(super) fn image_in(rt: &impl Abort, images: &'static str, name: &str) -> &'static str {
     for image in images.split_terminator("--\n") {
         if let Some(text) = text_if_named(rt, image, name) {
@@ -313,6 +311,12 @@ pub(super) fn image_in(rt: &impl Abort, images: &'static str, name: &str) -> &'s
         }
     }
     panic!(rt; "no image {name}")
+}
+
+/// The text of an image in which `CPU_TEMP` stands for the bytes of that record.
+pub(super) fn with_record(alloc: Global, image: &str) -> Result<String, AllocError> {
+    let digits = hex::encode(alloc, &CPU_TEMP)?;
+    image.replace(alloc, "CPU_TEMP", digits.as_str())
 }
 
 /// The image with this name: one of `IMAGES`, `three` or `empty`.

@@ -1,19 +1,19 @@
-//! Two images that take each other's place, at any two calls of a command: each piece of its output is a whole one, of
-//! one of them.
-use super::changing::left_over;
-use super::left::text_of;
+//! Two images that take each other's place at any two calls of a command. Each piece of the output is a whole one of
+//! one image.
+use super::changing::outcome_over;
+use super::outcome::text_of;
 use super::over_images::Two;
 use std::alloc::Global;
 use std::process::Abort;
 
-/// Moods that change to the second image after so many calls, and to the first after so many others.
+/// Moods that change to the second image after `before` calls, and back after `between` more.
 fn there_and_back(rt: &impl Abort, alloc: Global, before: usize, between: usize) -> String {
     let before = ".".repeat(alloc, before).expect(rt, "memory");
     let between = ".".repeat(alloc, between).expect(rt, "memory");
     format!(in alloc; "{before}x{between}y").expect(rt, "memory")
 }
 
-/// Whether a piece is one of the texts, each of which ends so.
+/// Whether a piece is one of the texts, which end so.
 fn is_one_of(piece: &str, texts: &str, end: &str) -> bool {
     for text in texts.split_terminator(end) {
         if text == piece {
@@ -23,15 +23,15 @@ fn is_one_of(piece: &str, texts: &str, end: &str) -> bool {
     false
 }
 
-/// Asserts that an output ends so, as each piece of it, and that each piece is one of the texts.
-fn are_pieces(rt: &impl Abort, out: &str, end: &str, texts: &str, case: &str) {
+/// Asserts that each piece of an output ends so, and is one of the texts.
+fn assert_pieces(rt: &impl Abort, out: &str, end: &str, texts: &str, case: &str) {
     for piece in out.split_terminator(end) {
         assert!(rt; is_one_of(piece, texts, end), "{case}: {piece}");
     }
     assert!(rt; out.is_empty() || out.ends_with(end), "{case}: {out}");
 }
 
-/// Words over two images, how each piece of their output ends, and all the pieces that the two images can have.
+/// A command over two images, the end of each piece of its output, and all pieces that the images can have.
 #[derive(Clone, Copy)]
 struct Pieces<'a> {
     words: &'a str,
@@ -40,26 +40,31 @@ struct Pieces<'a> {
     texts: &'a str,
 }
 
-/// Asserts that each piece is a whole one of an image, where it changes after so many calls and back after so many
-/// others.
-fn are_whole(rt: &impl Abort, alloc: Global, pieces: &Pieces, before: usize, between: usize) {
+/// Asserts the pieces of an output when the image changes after `before` calls, and back after `between` more.
+fn assert_pieces_of_change(
+    rt: &impl Abort,
+    alloc: Global,
+    pieces: &Pieces,
+    before: usize,
+    between: usize,
+) {
     let words = pieces.words;
     let letters = there_and_back(rt, alloc, before, between);
     let case = format!(in alloc; "{words}: {letters}").expect(rt, "memory");
     let case = case.as_str();
-    let left = left_over(rt, alloc, words, pieces.two, letters.as_str());
-    let status = left.status;
+    let outcome = outcome_over(rt, alloc, words, pieces.two, letters.as_str());
+    let status = outcome.status;
     assert!(rt; status < 2, "{case}: status {status}");
-    let out = text_of(rt, &left.out, case);
-    are_pieces(rt, out, pieces.end, pieces.texts, case);
-    drop(left);
+    let out = text_of(rt, &outcome.out, case);
+    assert_pieces(rt, out, pieces.end, pieces.texts, case);
+    drop(outcome);
 }
 
-/// The same for each number of calls before the change, and after it, up to twelve.
-fn are_always_whole(rt: &impl Abort, alloc: Global, pieces: &Pieces) {
+/// The same for each change within the first twelve calls, and each change back within the next twelve.
+fn assert_pieces_of_each_change(rt: &impl Abort, alloc: Global, pieces: &Pieces) {
     for before in 0..12 {
         for between in 0..12 {
-            are_whole(rt, alloc, pieces, before, between);
+            assert_pieces_of_change(rt, alloc, pieces, before, between);
         }
     }
 }
@@ -152,11 +157,11 @@ const PIECES: [Pieces<'static>; 4] = [
     },
 ];
 
-// The log is turned where its entries have another order. A device may have its name of one image, and its inventory of
-// the other.
+// A turned log has its entries in another order. A device may have its name from one image, and its inventory from the
+// other.
 #[test]
 fn no_record_is_of_two_images(rt: HostRuntime) {
     for pieces in &PIECES {
-        are_always_whole(&rt, rt.alloc(), pieces);
+        assert_pieces_of_each_change(&rt, rt.alloc(), pieces);
     }
 }

@@ -1,12 +1,12 @@
-//! Commands over written answers, as no image gives them: empty parts, sizes in words, records that never end.
-use super::left::one_leaves;
+//! Commands over written answers that no image gives: empty parts, sizes in words, records that never end.
+use super::outcome::assert_outcome_of_one;
 use crate::command_line::lines::command;
 use crate::controllers::{Counting, Endless, Replay, Reply};
 use ipmi_bus::FruSize;
 use std::alloc::Global;
 use std::process::Abort;
 
-/// Words, what their calls are answered, and what they leave.
+/// Words, the answers to their calls, and the outcome.
 #[derive(Clone, Copy, Debug)]
 struct Case {
     words: &'static str,
@@ -19,18 +19,18 @@ const EIGHT: Reply = Reply::Has(FruSize {
     words: false,
 });
 
-/// Asserts what the words leave over these answers.
-fn is_left_over_answers(rt: &impl Abort, alloc: Global, case: &Case) {
+/// Asserts the outcome of the words over these answers.
+fn assert_outcome_over_answers(rt: &impl Abort, alloc: Global, case: &Case) {
     let ctl = Counting::new(Replay::new(case.replies));
     let command = command(rt, alloc, case.words);
     let name = format!(in alloc; "{case:?}").expect(rt, "memory");
-    one_leaves(rt, alloc, ctl, command, case.wanted, name.as_str());
+    assert_outcome_of_one(rt, alloc, ctl, command, case.wanted, name.as_str());
 }
 
-/// The same for each of these cases.
-fn all_are_left(rt: &impl Abort, alloc: Global, cases: &[Case]) {
+/// The same for each case.
+fn assert_outcomes_over_answers(rt: &impl Abort, alloc: Global, cases: &[Case]) {
     for case in cases {
-        is_left_over_answers(rt, alloc, case);
+        assert_outcome_over_answers(rt, alloc, case);
     }
 }
 
@@ -78,11 +78,11 @@ const STALLED: [Case; 7] = [
     },
 ];
 
-// Words are not read. An empty part, or one of one byte that is too long, goes no further: after eight bytes four, two
-// and one are asked for, and after three bytes one.
+// An inventory of words is not read. An empty part ends it, and so does a part of one byte that is too long. After
+// eight bytes four, two and one are asked for, and after three bytes one.
 #[test]
 fn an_inventory_by_words_or_without_bytes_is_named(rt: HostRuntime) {
-    all_are_left(&rt, rt.alloc(), &STALLED);
+    assert_outcomes_over_answers(&rt, rt.alloc(), &STALLED);
 }
 
 const REFUSED: [Case; 7] = [
@@ -128,10 +128,10 @@ const REFUSED: [Case; 7] = [
     },
 ];
 
-// A size has no parts, so that no smaller one can be asked for. Of CBh it is no matter which call is answered it.
+// A size has no parts, so there is no smaller one to ask for. CBh means the same at each call.
 #[test]
 fn an_inventory_is_refused_by_code(rt: HostRuntime) {
-    all_are_left(&rt, rt.alloc(), &REFUSED);
+    assert_outcomes_over_answers(&rt, rt.alloc(), &REFUSED);
 }
 
 const DISHONEST: [Case; 4] = [
@@ -182,11 +182,11 @@ const DISHONEST: [Case; 4] = [
     },
 ];
 
-// Nothing, more than any device has, and parts of one byte whatever was asked for. 65,535 bytes take 2,048 parts of 32
-// bytes, or 259 of 254. The last part has no room for more than the eighth byte.
+// An empty inventory, the longest one, and parts of one byte whatever was asked for. 65,535 bytes take 2,048 parts of
+// 32 bytes, or 259 of 254. The last part asks for the eighth byte only.
 #[test]
 fn an_inventory_of_any_size_is_printed(rt: HostRuntime) {
-    all_are_left(&rt, rt.alloc(), &DISHONEST);
+    assert_outcomes_over_answers(&rt, rt.alloc(), &DISHONEST);
 }
 
 const RESERVED: Reply = Reply::Reserves(1);
@@ -313,7 +313,7 @@ const WALKS: [Case; 14] = [
 // prints what it finds.
 #[test]
 fn a_walk_over_written_answers_ends_by_name(rt: HostRuntime) {
-    all_are_left(&rt, rt.alloc(), &WALKS);
+    assert_outcomes_over_answers(&rt, rt.alloc(), &WALKS);
 }
 
 const ALWAYS_CANCELLED: [Case; 3] = [
@@ -353,13 +353,13 @@ const CANCELLED: [Reply; 12] = [
 // Five tries after the first one.
 #[test]
 fn a_sixth_cancelled_part_is_the_last(rt: HostRuntime) {
-    all_are_left(&rt, rt.alloc(), &ALWAYS_CANCELLED);
+    assert_outcomes_over_answers(&rt, rt.alloc(), &ALWAYS_CANCELLED);
 }
 
-/// Asserts what the words leave over records without a last one.
-fn is_left_endless(rt: &impl Abort, alloc: Global, words: &str, wanted: &str) {
+/// Asserts the outcome of the words over records without a last one.
+fn assert_outcome_over_endless(rt: &impl Abort, alloc: Global, words: &str, wanted: &str) {
     let ctl = Counting::new(Endless::new());
-    one_leaves(rt, alloc, ctl, command(rt, alloc, words), wanted, words);
+    assert_outcome_of_one(rt, alloc, ctl, command(rt, alloc, words), wanted, words);
 }
 
 const NO_NAME: &str = "1 65536
@@ -378,11 +378,11 @@ fru 0 refused with code FFh
 --
 ";
 
-// 65,535 records in one call each, and as many entries in four each, since a part has at most five bytes here. The
-// entries are counted, and are all passed but for two.
+// 65,535 records take one call each. As many entries take four each, since a part has at most five bytes here. They
+// are counted first, and then all but two are passed.
 #[test]
 fn a_walk_without_a_last_record_ends(rt: HostRuntime) {
-    is_left_endless(&rt, rt.alloc(), "sdr get Foo", NO_NAME);
-    is_left_endless(&rt, rt.alloc(), "sel list last 2", NEWEST);
-    is_left_endless(&rt, rt.alloc(), "fru", REFUSED_DEVICE);
+    assert_outcome_over_endless(&rt, rt.alloc(), "sdr get Foo", NO_NAME);
+    assert_outcome_over_endless(&rt, rt.alloc(), "sel list last 2", NEWEST);
+    assert_outcome_over_endless(&rt, rt.alloc(), "fru", REFUSED_DEVICE);
 }

@@ -1,5 +1,5 @@
-//! The message and the status of each failure, the line that says it, and what writers that fall short hold of one.
-use crate::writers::{Limited, is_written};
+//! The message and the status of each failure, and what writers that fail or are slow hold of a message.
+use crate::writers::{Limited, assert_written_text};
 use ipmi_bus::{Code, Ended, FruEnded};
 use ipmi_image::ImageFault;
 use ipmi_output::{Failure, MessageSink, Name, SinkFault, Written, say, say_unreadable};
@@ -26,11 +26,12 @@ const TWICE: Case = Case {
     status: 3,
 };
 
-fn is_said(rt: &impl Abort, alloc: Global, case: &Case) {
+/// Asserts the line and the status of a failure.
+fn assert_message(rt: &impl Abort, alloc: Global, case: &Case) {
     let mut err = Vec::new(alloc);
     let result = say(&mut err, &case.failure);
     assert!(rt; result == Ok(()), "{case:?}: {result:?}");
-    is_written(rt, &err, case.line);
+    assert_written_text(rt, &err, case.line);
     let failure = &case.failure;
     let shown = format!(in alloc; "{failure}\n").expect(rt, "memory");
     assert!(rt; shown.as_str() == case.line, "{case:?}: shown as {shown:?}");
@@ -38,25 +39,26 @@ fn is_said(rt: &impl Abort, alloc: Global, case: &Case) {
     assert!(rt; status == case.status, "{case:?}: status {status}");
 }
 
-fn are_said(rt: &impl Abort, alloc: Global, cases: &[Case]) {
+/// The same for each failure.
+fn assert_messages(rt: &impl Abort, alloc: Global, cases: &[Case]) {
     for case in cases {
-        is_said(rt, alloc, case);
+        assert_message(rt, alloc, case);
     }
 }
 
-/// Asserts that this is said of a file with this name that can't be read.
-fn is_unreadable(rt: &impl Abort, alloc: Global, name: &str, line: &str) {
+/// Asserts the line about a file that can't be read.
+fn assert_unreadable_message(rt: &impl Abort, alloc: Global, name: &str, line: &str) {
     let mut err = Vec::new(alloc);
     let result = say_unreadable(&mut err, name);
     assert!(rt; result == Ok(()), "{name:?}: {result:?}");
-    is_written(rt, &err, line);
+    assert_written_text(rt, &err, line);
 }
 
 #[test]
 fn a_file_that_cannot_be_read_is_named_in_one_line(rt: HostRuntime) {
-    is_unreadable(&rt, rt.alloc(), "FILE", "cannot read FILE\n");
-    is_unreadable(&rt, rt.alloc(), "", "cannot read \n");
-    is_unreadable(
+    assert_unreadable_message(&rt, rt.alloc(), "FILE", "cannot read FILE\n");
+    assert_unreadable_message(&rt, rt.alloc(), "", "cannot read \n");
+    assert_unreadable_message(
         &rt,
         rt.alloc(),
         "\na\u{1f}\u{7f} \\x0A~\u{e9}\u{85}\t\u{0}",
@@ -71,7 +73,7 @@ fn a_name_that_no_record_has_is_said(rt: HostRuntime) {
         line: "no record named Foo\n",
         status: 1,
     };
-    is_said(&rt, rt.alloc(), &case);
+    assert_message(&rt, rt.alloc(), &case);
     drop(case);
 }
 
@@ -125,7 +127,7 @@ const OF_RUNS: [Case; 9] = [
 
 #[test]
 fn failures_of_runs_are_lines(rt: HostRuntime) {
-    are_said(&rt, rt.alloc(), &OF_RUNS);
+    assert_messages(&rt, rt.alloc(), &OF_RUNS);
 }
 
 const OF_ENDED_LISTINGS: [Case; 8] = [
@@ -169,7 +171,7 @@ const OF_ENDED_LISTINGS: [Case; 8] = [
 
 #[test]
 fn ended_listings_name_the_record(rt: HostRuntime) {
-    are_said(&rt, rt.alloc(), &OF_ENDED_LISTINGS);
+    assert_messages(&rt, rt.alloc(), &OF_ENDED_LISTINGS);
 }
 
 const OF_IMAGE_FAULTS: [Case; 11] = [
@@ -228,7 +230,7 @@ const OF_IMAGE_FAULTS: [Case; 11] = [
 
 #[test]
 fn image_faults_name_the_line(rt: HostRuntime) {
-    are_said(&rt, rt.alloc(), &OF_IMAGE_FAULTS);
+    assert_messages(&rt, rt.alloc(), &OF_IMAGE_FAULTS);
 }
 
 #[test]
@@ -238,52 +240,52 @@ fn a_line_comes_after_the_last_one(rt: HostRuntime) {
     assert!(rt; result == Ok(()), "the first line: {result:?}");
     let result = say(&mut err, &Failure::OutOfMemory);
     assert!(rt; result == Ok(()), "the second line: {result:?}");
-    is_written(
+    assert_written_text(
         &rt,
         &err,
         "record 0002h refused with code D4h\nout of memory\n",
     );
 }
 
-/// Says the failure where only this many bytes are taken.
-fn is_cut_short(rt: &impl Abort, alloc: Global, case: &Case, room: usize) {
+/// Asserts that a writer which takes `room` bytes holds as much of the line.
+fn assert_cut_message(rt: &impl Abort, alloc: Global, case: &Case, room: usize) {
     let mut err = Limited::failing_after(alloc, room);
     let result = say(&mut err, &case.failure);
     assert!(rt; result == Err(SinkFault), "{room} bytes of {}", case.line);
-    is_written(
+    assert_written_text(
         rt,
         &err.got,
         case.line.get(..room).expect(rt, "so many bytes"),
     );
 }
 
-/// The same for each number of bytes below those of the line.
-fn is_cut_short_anywhere(rt: &impl Abort, alloc: Global, case: &Case) {
+/// The same for each room below the length of the line.
+fn assert_cut_messages(rt: &impl Abort, alloc: Global, case: &Case) {
     for room in 0..case.line.len() {
-        is_cut_short(rt, alloc, case, room);
+        assert_cut_message(rt, alloc, case, room);
     }
 }
 
 #[test]
 fn a_writer_that_fails_holds_a_first_part_of_the_line(rt: HostRuntime) {
-    is_cut_short_anywhere(&rt, rt.alloc(), &REFUSED);
-    is_cut_short_anywhere(&rt, rt.alloc(), &TWICE);
+    assert_cut_messages(&rt, rt.alloc(), &REFUSED);
+    assert_cut_messages(&rt, rt.alloc(), &TWICE);
 }
 
-/// Names a file that can't be read where only this many bytes are taken.
-fn is_name_cut_short(rt: &impl Abort, alloc: Global, room: usize) {
+/// The same for the line about a file that can't be read.
+fn assert_cut_unreadable_message(rt: &impl Abort, alloc: Global, room: usize) {
     // first bytes before the line feed, and last ones after it
     let line = "cannot read a\\x0Ab\n";
     let mut err = Limited::failing_after(alloc, room);
     let result = say_unreadable(&mut err, "a\nb");
     assert!(rt; result == Err(SinkFault), "{room} bytes of {line}");
-    is_written(rt, &err.got, line.get(..room).expect(rt, "so many bytes"));
+    assert_written_text(rt, &err.got, line.get(..room).expect(rt, "so many bytes"));
 }
 
 #[test]
 fn a_writer_that_fails_holds_a_first_part_of_a_name(rt: HostRuntime) {
     for room in 0..19 {
-        is_name_cut_short(&rt, rt.alloc(), room);
+        assert_cut_unreadable_message(&rt, rt.alloc(), room);
     }
 }
 
@@ -292,7 +294,7 @@ fn a_slow_writer_gets_the_whole_line(rt: HostRuntime) {
     let mut err = Limited::slow(rt.alloc(), 3);
     let result = say(&mut err, &REFUSED.failure);
     assert!(rt; result == Ok(()), "{result:?}");
-    is_written(&rt, &err.got, REFUSED.line);
+    assert_written_text(&rt, &err.got, REFUSED.line);
 }
 
 #[test]
@@ -309,5 +311,5 @@ fn a_sink_takes_messages_too(rt: HostRuntime) {
     assert!(rt; result == Ok(()), "the message: {result:?}");
     let result = err.offer(b"record");
     assert!(rt; result == Ok(3), "what is offered: {result:?}");
-    is_written(&rt, &err.into_inner().got, "image line 107: twice\nrec");
+    assert_written_text(&rt, &err.into_inner().got, "image line 107: twice\nrec");
 }

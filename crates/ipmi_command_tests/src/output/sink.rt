@@ -1,5 +1,5 @@
 //! Writers as sinks: what one call takes, and whole texts.
-use crate::writers::{Limited, is_written};
+use crate::writers::{Limited, assert_written_text};
 use ipmi_output::{Sink, SinkFault, Written, write_all};
 
 const LINE: &str = "sdr 0001 0002 010051c001aa\n";
@@ -9,7 +9,7 @@ fn one_call_takes_what_the_writer_takes(rt: HostRuntime) {
     let mut out = Written::new(Limited::slow(rt.alloc(), 3));
     let result = out.write(LINE.as_bytes());
     assert!(rt; result == Ok(3), "{result:?}");
-    is_written(&rt, &out.into_inner().got, "sdr");
+    assert_written_text(&rt, &out.into_inner().got, "sdr");
 }
 
 #[test]
@@ -20,7 +20,7 @@ fn a_vector_gets_all_bytes_after_its_own(rt: HostRuntime) {
     assert!(rt; result == Ok(()), "a line: {result:?}");
     let result = write_all(&mut out, b"");
     assert!(rt; result == Ok(()), "no byte: {result:?}");
-    is_written(&rt, &out.into_inner(), "> sdr 0001 0002 010051c001aa\n");
+    assert_written_text(&rt, &out.into_inner(), "> sdr 0001 0002 010051c001aa\n");
 }
 
 #[test]
@@ -28,7 +28,7 @@ fn a_slow_writer_gets_all_bytes(rt: HostRuntime) {
     let mut out = Written::new(Limited::slow(rt.alloc(), 3));
     let result = write_all(&mut out, LINE.as_bytes());
     assert!(rt; result == Ok(()), "{result:?}");
-    is_written(&rt, &out.into_inner().got, LINE);
+    assert_written_text(&rt, &out.into_inner().got, LINE);
 }
 
 #[test]
@@ -36,7 +36,7 @@ fn a_writer_that_fails_keeps_what_it_took(rt: HostRuntime) {
     let mut out = Written::new(Limited::failing_after(rt.alloc(), 10));
     let result = write_all(&mut out, LINE.as_bytes());
     assert!(rt; result == Err(SinkFault), "{result:?}");
-    is_written(&rt, &out.into_inner().got, "sdr 0001 0");
+    assert_written_text(&rt, &out.into_inner().got, "sdr 0001 0");
 }
 
 #[test]

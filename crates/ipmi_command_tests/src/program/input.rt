@@ -4,7 +4,7 @@ use std::alloc::Global;
 use std::io::{Error, ErrorKind, Read, Result};
 use std::process::Abort;
 
-/// The arguments of a process, which are split at spaces.
+/// The arguments of a process, split at spaces.
 fn arguments(rt: &impl Abort, alloc: Global, line: &str) -> Vec<String> {
     let mut arguments = Vec::new(alloc);
     for word in line.split_whitespace() {
@@ -14,8 +14,8 @@ fn arguments(rt: &impl Abort, alloc: Global, line: &str) -> Vec<String> {
     arguments
 }
 
-/// Asserts that these are the words of a process with the arguments of the line, joined by spaces.
-fn are_words(rt: &impl Abort, alloc: Global, line: &str, wanted: &str) {
+/// Asserts the words of a process with these arguments. Each has a space before it.
+fn assert_words(rt: &impl Abort, alloc: Global, line: &str, wanted: &str) {
     let words = words_of(alloc, &arguments(rt, alloc, line)).expect(rt, line);
     let mut got = String::new(alloc);
     for word in words.as_slice() {
@@ -28,13 +28,13 @@ fn are_words(rt: &impl Abort, alloc: Global, line: &str, wanted: &str) {
 
 #[test]
 fn words_are_the_arguments(rt: HostRuntime) {
-    are_words(&rt, rt.alloc(), "serdimko sdr list", " serdimko sdr list");
-    are_words(&rt, rt.alloc(), "x", " x");
+    assert_words(&rt, rt.alloc(), "serdimko sdr list", " serdimko sdr list");
+    assert_words(&rt, rt.alloc(), "x", " x");
 }
 
 #[test]
 fn without_arguments_the_program_has_a_name(rt: HostRuntime) {
-    are_words(&rt, rt.alloc(), "", " ipmitool");
+    assert_words(&rt, rt.alloc(), "", " ipmitool");
 }
 
 #[test]
@@ -48,7 +48,7 @@ fn an_image_is_all_that_a_reader_has(rt: HostRuntime) {
     assert!(rt; bytes.is_empty(), "{bytes:?}");
 }
 
-/// A reader that fails so.
+/// A reader that fails.
 #[derive(Drop)]
 struct Failing(ErrorKind);
 
@@ -58,7 +58,7 @@ impl Read for Failing {
     }
 }
 
-/// Why an image was not read, and the text of that.
+/// `(error of the reader, fault, text of the fault)`.
 const FAULTS: [(ErrorKind, InputFault, &str); 5] = [
     (ErrorKind::OutOfMemory, InputFault::Memory, "out of memory"),
     (ErrorKind::NotFound, InputFault::NotFound, "no such file"),
@@ -79,7 +79,8 @@ const FAULTS: [(ErrorKind, InputFault, &str); 5] = [
     ),
 ];
 
-fn fails(rt: &impl Abort, alloc: Global, kind: ErrorKind, wanted: InputFault, text: &str) {
+/// Asserts the fault of a reader that fails with this kind of error.
+fn assert_fault(rt: &impl Abort, alloc: Global, kind: ErrorKind, wanted: InputFault, text: &str) {
     let result = read_image(alloc, Failing(kind));
     assert!(rt; result == Err(wanted), "{text}: {result:?}");
     let shown = format!(in alloc; "{wanted}").expect(rt, "memory");
@@ -89,13 +90,13 @@ fn fails(rt: &impl Abort, alloc: Global, kind: ErrorKind, wanted: InputFault, te
 #[test]
 fn a_fault_says_why_nothing_was_read(rt: HostRuntime) {
     for (kind, wanted, text) in FAULTS {
-        fails(&rt, rt.alloc(), kind, wanted, text);
+        assert_fault(&rt, rt.alloc(), kind, wanted, text);
     }
-    fails_long(&rt, rt.alloc());
+    assert_too_long(&rt, rt.alloc());
 }
 
-/// A fault that no error of a reader is.
-fn fails_long(rt: &impl Abort, alloc: Global) {
+/// Asserts the fault that has no error of a reader.
+fn assert_too_long(rt: &impl Abort, alloc: Global) {
     let shown = format!(in alloc; "{}", InputFault::TooLong).expect(rt, "memory");
     assert!(rt; shown.as_str() == "longer than 64 MiB", "{shown}");
     assert!(rt; MOST_BYTES == 67108864, "{MOST_BYTES} bytes");

@@ -1,7 +1,7 @@
-//! What a buffered writer has of what was printed.
+//! What a buffered writer holds of what was printed.
 use crate::command_line::lines::command;
-use crate::commands::saved::THREE_ROWS;
-use crate::writers::{Limited, is_written};
+use crate::commands::saved::{THREE_LINES, THREE_ROWS};
+use crate::writers::{Limited, assert_written_text};
 use ipmi_bus::Ended;
 use ipmi_commands::Wording;
 use ipmi_output::{Failure, Written};
@@ -10,12 +10,7 @@ use std::alloc::Global;
 use std::io::{BufWriter, Write};
 use std::process::Abort;
 
-const LINES: &str = "sdr 0001 0002 010051c001aa
-sdr 0002 0003 020051c002bbcc
-sdr 0003 ffff 030051c000
-";
-
-/// A sink with a buffer of eight bytes over the writer.
+/// A sink with a buffer of eight bytes before the writer.
 fn buffered<W: Write + Drop>(rt: &impl Abort, alloc: Global, writer: W) -> Written<BufWriter<W>> {
     Written::new(
         BufWriter::with_capacity(alloc, 8, writer)
@@ -37,7 +32,7 @@ fn all_that_was_printed_is_handed_on(rt: HostRuntime) {
     );
     assert!(rt; ending.is_ok(), "{ending:?}");
     assert!(rt; out.get_ref().buffer().is_empty(), "some of it is left");
-    is_written(&rt, &out.into_inner().into_parts().0, LINES);
+    assert_written_text(&rt, &out.into_inner().into_parts().0, THREE_LINES);
     drop(cmd);
 }
 
@@ -50,12 +45,12 @@ fn what_was_printed_before_a_cycle_is_handed_on(rt: HostRuntime) {
     let is_cycle = matches!(ending, Err(Failure::Ended(Ended::Cycle(1))));
     assert!(rt; is_cycle, "{ending:?}");
     let line = "sdr 0001 0001 010051c000\n";
-    is_written(&rt, &out.into_inner().into_parts().0, line);
+    assert_written_text(&rt, &out.into_inner().into_parts().0, line);
     drop(cmd);
 }
 
-/// Asserts that a writer which takes so many bytes makes a run end by a write fault.
-fn is_fault_after(rt: &impl Abort, alloc: Global, room: usize) {
+/// Asserts that a run ends by a write fault when the writer takes `room` bytes, and what the writer holds.
+fn assert_write_fault(rt: &impl Abort, alloc: Global, room: usize) {
     let cmd = command(rt, alloc, "sdr hex");
     let mut out = buffered(rt, alloc, Limited::failing_after(alloc, room));
     let ending = print(alloc, &cmd, Wording::Codes, THREE_ROWS.as_bytes(), &mut out);
@@ -64,14 +59,14 @@ fn is_fault_after(rt: &impl Abort, alloc: Global, room: usize) {
         "{room} bytes: {ending:?}"
     );
     let (writer, _) = out.into_inner().into_parts();
-    let first = LINES.get(..room).expect(rt, "so many");
-    is_written(rt, &writer.got, first);
+    let first = THREE_LINES.get(..room).expect(rt, "so many");
+    assert_written_text(rt, &writer.got, first);
     drop(cmd);
 }
 
 #[test]
 fn a_writer_that_fails_has_a_first_part(rt: HostRuntime) {
     for room in [0, 10, 27, 80] {
-        is_fault_after(&rt, rt.alloc(), room);
+        assert_write_fault(&rt, rt.alloc(), room);
     }
 }

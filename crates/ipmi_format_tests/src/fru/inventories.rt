@@ -1,11 +1,11 @@
 //! Whole inventories and their texts. The longer ones were put together by hand, area by area.
-use crate::cases::{bytes_of_lines, is_text_with_end};
+use crate::cases::{assert_text_with_end, bytes_of_lines};
 use ipmi_fru::print_fru;
 use std::alloc::Global;
 use std::process::Abort;
 
-/// Inventories with their texts: the bytes area by area or record by record, a line of dashes, and the text. An empty
-/// line comes between two inventories.
+/// The bytes of an inventory, area by area or record by record, then a line of dashes, then the text. An empty line
+/// ends a case.
 const INVENTORIES: &str = "01000001000000fe0103000100008329dca642123bc441e90042c1000000004e
 --
 Board fault: checksum
@@ -186,15 +186,15 @@ Product Manufacturer: ACME
 Record 0xc0: 01
 Record fault: header checksum";
 
-fn is_inventory(rt: &impl Abort, alloc: Global, case: &str) {
+fn assert_inventory_text(rt: &impl Abort, alloc: Global, case: &str) {
     let (areas, wanted) = case.split_once("\n--\n").expect(rt, case);
     let bytes = bytes_of_lines(rt, alloc, areas);
-    is_text_with_end(rt, print_fru(alloc, &bytes), wanted, "\n", case);
+    assert_text_with_end(rt, print_fru(alloc, &bytes), wanted, "\n", case);
 }
 
 #[test]
 fn each_inventory_has_its_text(rt: HostRuntime) {
     for case in INVENTORIES.split("\n\n") {
-        is_inventory(&rt, rt.alloc(), case);
+        assert_inventory_text(&rt, rt.alloc(), case);
     }
 }

@@ -1,7 +1,7 @@
 //! Lines of FRU devices, put together by hand.
 use super::examples::{BOARD, OUTPUT};
-use crate::cases::{bytes_of, is_text_with_end, parts};
-use ipmi_fru::fru_line;
+use crate::cases::{assert_text_with_end, bytes_of, parts};
+use ipmi_fru::{elsewhere_line, fru_line};
 use std::alloc::Global;
 use std::process::Abort;
 
@@ -13,52 +13,52 @@ const BOARD_AND_PRODUCT: &str = "01000001040000fa0103000100008329dca642123bc441e
 const FAULTY_PRODUCT: &str = "01000001040000fa0103000100008329dca642123bc441e90042c1000000004d\
     010319c24142c0c25051c25631c25358c100000000000005";
 
-/// An inventory in hex, and the line of device 7, whose name is PSU 1, after its name.
+/// `inventory|line` of device 7, PSU 1. The line is what comes after the name.
 const LINES: &str = "01000000000000ff|present | - | - | -
 01000000010000fe010219c24142c24344c1000000000095|present | CD | - | -
 |faulty | - | - | -
 02000000000000fe|faulty | - | - | -
 01000000000000fe|faulty | - | - | -";
 
-/// Asserts the line of a device.
-fn is_line(rt: &impl Abort, alloc: Global, inventory: &str, wanted: &str) {
+/// Asserts the line of device 7, PSU 1, with this inventory.
+fn assert_line(rt: &impl Abort, alloc: Global, inventory: &str, wanted: &str) {
     let bytes = bytes_of(rt, alloc, inventory);
     let line = fru_line(alloc, 7, Some("PSU 1"), Some(&bytes));
-    is_text_with_end(rt, line, wanted, "\n", wanted);
+    assert_text_with_end(rt, line, wanted, "\n", wanted);
 }
 
-/// Asserts the line of a device in a table.
-fn is_line_of_case(rt: &impl Abort, alloc: Global, case: &str) {
+/// The same for a case.
+fn assert_line_of_case(rt: &impl Abort, alloc: Global, case: &str) {
     let (inventory, wanted) = parts(rt, case);
     let wanted = format!(in alloc; "7 | PSU 1 | {wanted}").expect(rt, case);
-    is_line(rt, alloc, inventory, wanted.as_str());
+    assert_line(rt, alloc, inventory, wanted.as_str());
 }
 
 #[test]
 fn each_inventory_has_its_line(rt: HostRuntime) {
     for case in LINES.lines() {
-        is_line_of_case(&rt, rt.alloc(), case);
+        assert_line_of_case(&rt, rt.alloc(), case);
     }
 }
 
 #[test]
 fn the_product_is_told_before_the_board(rt: HostRuntime) {
     let line = "7 | PSU 1 | present | 123- | PQ | SX";
-    is_line(&rt, rt.alloc(), BOARD_AND_PRODUCT, line);
+    assert_line(&rt, rt.alloc(), BOARD_AND_PRODUCT, line);
 }
 
 #[test]
 fn the_board_is_told_where_there_is_no_product(rt: HostRuntime) {
     let line = "7 | PSU 1 | present | 123- | - | A\u{e9}";
-    is_line(&rt, rt.alloc(), BOARD, line);
-    is_line(&rt, rt.alloc(), FAULTY_PRODUCT, line);
-    is_line(&rt, rt.alloc(), OUTPUT, "7 | PSU 1 | present | - | - | -");
+    assert_line(&rt, rt.alloc(), BOARD, line);
+    assert_line(&rt, rt.alloc(), FAULTY_PRODUCT, line);
+    assert_line(&rt, rt.alloc(), OUTPUT, "7 | PSU 1 | present | - | - | -");
 }
 
 #[test]
 fn a_device_may_have_no_name_and_no_inventory(rt: HostRuntime) {
     let line = fru_line(rt.alloc(), 255, None, None);
-    is_text_with_end(
+    assert_text_with_end(
         &rt,
         line,
         "255 | - | not present | - | - | -",
@@ -66,11 +66,21 @@ fn a_device_may_have_no_name_and_no_inventory(rt: HostRuntime) {
         "no name",
     );
     let line = fru_line(rt.alloc(), 0, Some(""), None);
-    is_text_with_end(
+    assert_text_with_end(
         &rt,
         line,
         "0 | - | not present | - | - | -",
         "\n",
         "an empty name",
     );
+}
+
+#[test]
+fn a_device_that_is_elsewhere_has_no_id(rt: HostRuntime) {
+    let line = elsewhere_line(rt.alloc(), "PSU 1");
+    let wanted = "- | PSU 1 | elsewhere | - | - | -";
+    assert_text_with_end(&rt, line, wanted, "\n", "a name");
+    let line = elsewhere_line(rt.alloc(), "");
+    let wanted = "- | - | elsewhere | - | - | -";
+    assert_text_with_end(&rt, line, wanted, "\n", "no name");
 }

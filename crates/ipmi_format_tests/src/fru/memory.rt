@@ -1,6 +1,6 @@
-//! The text of an inventory and the line of its device, with ample memory and with requests for memory refused.
-use crate::cases::{is_text, is_text_or_refused};
-use ipmi_fru::{fru_line, print_fru};
+//! The text of an inventory and the line of its device, once with ample memory, and once with requests refused.
+use crate::cases::{assert_text, assert_text_or_refused};
+use ipmi_fru::{elsewhere_line, fru_line, print_fru};
 
 /// Something of each thing that is printed.
 const MIXED: [u8; 91] = [
@@ -29,18 +29,25 @@ Record fault: outside
 /// The line of a device with that inventory: its product area is of another version, so the board is told.
 const MIXED_LINE: &str = "1 | - | present | 12 | - | ab\n";
 
-/// No body is always out of memory: with ample memory the text is whole.
+/// The line of a device that is elsewhere.
+const ELSEWHERE_LINE: &str = "- | PSU2 | elsewhere | - | - | -\n";
+
+// With ample memory the text is whole.
 #[test]
 fn not_always_out_of_memory(rt: HostRuntime) {
-    is_text(&rt, print_fru(rt.alloc(), &MIXED), MIXED_LINES, "mixed");
+    assert_text(&rt, print_fru(rt.alloc(), &MIXED), MIXED_LINES, "mixed");
     let line = fru_line(rt.alloc(), 1, None, Some(&MIXED));
-    is_text(&rt, line, MIXED_LINE, "line");
+    assert_text(&rt, line, MIXED_LINE, "line");
+    let line = elsewhere_line(rt.alloc(), "PSU2");
+    assert_text(&rt, line, ELSEWHERE_LINE, "elsewhere");
 }
 
-/// Where memory is refused, the text is whole all the same, or want of memory is the answer.
+// With memory refused the text is whole, or the call fails when out of memory.
 #[test]
 fn memory_may_be_refused(rt: HostRuntime) {
-    is_text_or_refused(&rt, print_fru(rt.alloc(), &MIXED), MIXED_LINES);
+    assert_text_or_refused(&rt, print_fru(rt.alloc(), &MIXED), MIXED_LINES);
     let line = fru_line(rt.alloc(), 1, None, Some(&MIXED));
-    is_text_or_refused(&rt, line, MIXED_LINE);
+    assert_text_or_refused(&rt, line, MIXED_LINE);
+    let line = elsewhere_line(rt.alloc(), "PSU2");
+    assert_text_or_refused(&rt, line, ELSEWHERE_LINE);
 }

@@ -1,18 +1,18 @@
 //! What is read from an inventory without printing it: the heads of its areas, the fields of an area, and its records.
 use super::examples::BOARD;
-use crate::cases::{bytes_of, is_text, parts};
+use crate::cases::{assert_text, bytes_of, parts};
 use ipmi_fru::{AreaFault, AreaView, Field, FruFault, FruView, MultiFault};
 use std::alloc::{AllocError, Global};
 use std::process::Abort;
 
-/// The place of a field of the board, and the field.
+/// `place of a field of the board|field`.
 const FIELDS: &str = "0|Some(Field { code: 2, bytes: [41, 220, 166] })
 1|Some(Field { code: 1, bytes: [18, 59] })
 2|Some(Field { code: 3, bytes: [65, 233, 0, 66] })
 3|None
 18446744073709551615|None";
 
-/// What five calls of the iterator over the fields of the board give.
+/// The first five results of the iterator over the fields of the board.
 const LISTED: &str =
     "[Some(Field { code: 2, bytes: [41, 220, 166] }), Some(Field { code: 1, bytes: [18, 59] }), \
     Some(Field { code: 3, bytes: [65, 233, 0, 66] }), None, None]";
@@ -26,7 +26,7 @@ const THREE_RECORDS: &str = "01000000000100fec00201023bfec18f0000b0c2820000bc";
 /// Records, of which the first has a wrong checksum.
 const WRONG_RECORD: &str = "01000000000100fec002000040c18f0000b0";
 
-/// What is read from them: nothing after the second one.
+/// The first four results of the iterator over `THREE_RECORDS`: nothing comes after the second.
 const TWO_RECORDS: &str =
     "[Some(Ok(MultiView { kind: 192, version: 2, last: false, bytes: [254] })), \
     Some(Ok(MultiView { kind: 193, version: 15, last: true, bytes: [] })), None, None]";
@@ -42,7 +42,7 @@ fn head_of<'a>(area: Area<'a>) -> Option<Result<&'a [u8], AreaFault>> {
     }
 }
 
-/// The heads of an inventory's chassis, board and product.
+/// The heads of the chassis, the board and the product of an inventory.
 fn heads_of(alloc: Global, inventory: &FruView<'_>) -> Result<String, AllocError> {
     let chassis = head_of(inventory.chassis());
     let board = head_of(inventory.board());
@@ -50,21 +50,21 @@ fn heads_of(alloc: Global, inventory: &FruView<'_>) -> Result<String, AllocError
     format!(in alloc; "{chassis:?} {board:?} {product:?}")
 }
 
-/// Asserts them.
-fn has_heads(rt: &impl Abort, alloc: Global, digits: &str, wanted: &str) {
+/// Asserts the heads of an inventory.
+fn assert_heads(rt: &impl Abort, alloc: Global, digits: &str, wanted: &str) {
     let bytes = bytes_of(rt, alloc, digits);
     let inventory = FruView::read(&bytes).expect(rt, digits);
-    is_text(rt, heads_of(alloc, &inventory), wanted, digits);
+    assert_text(rt, heads_of(alloc, &inventory), wanted, digits);
 }
 
-fn has_field(rt: &impl Abort, alloc: Global, board: &AreaView<'_>, line: &str) {
+fn assert_field(rt: &impl Abort, alloc: Global, board: &AreaView<'_>, line: &str) {
     let (place, wanted) = parts(rt, line);
     let place = place.parse::<usize>().expect(rt, line);
     let field = board.field(place);
-    is_text(rt, format!(in alloc; "{field:?}"), wanted, line);
+    assert_text(rt, format!(in alloc; "{field:?}"), wanted, line);
 }
 
-/// What the iterator over the fields of a board gives at each of five calls.
+/// The first five results of the iterator over the fields of a board.
 fn five_fields<'a>(board: &AreaView<'a>) -> [Option<Field<'a>>; 5] {
     let mut fields = board.fields();
     [
@@ -76,8 +76,8 @@ fn five_fields<'a>(board: &AreaView<'a>) -> [Option<Field<'a>>; 5] {
     ]
 }
 
-/// Asserts that the second field of the board is this one, and the third another.
-fn is_second(rt: &impl Abort, second: &Option<Field<'_>>, third: &Option<Field<'_>>) {
+/// Asserts that the first of these is the second field of the board, and the other is not.
+fn assert_second_field(rt: &impl Abort, second: &Option<Field<'_>>, third: &Option<Field<'_>>) {
     let wanted = Some(Field {
         code: 1,
         bytes: &[18, 59],
@@ -86,15 +86,15 @@ fn is_second(rt: &impl Abort, second: &Option<Field<'_>>, third: &Option<Field<'
     assert!(rt; *third != wanted, "the third field");
 }
 
-/// Asserts what the iterator over the fields of a board gives.
-fn lists_fields(rt: &impl Abort, alloc: Global, board: &AreaView<'_>, wanted: &str) {
+/// Asserts the first five results of the iterator over the fields of a board.
+fn assert_listed_fields(rt: &impl Abort, alloc: Global, board: &AreaView<'_>, wanted: &str) {
     let fields = five_fields(board);
-    is_text(rt, format!(in alloc; "{fields:?}"), wanted, "fields");
-    is_second(rt, &fields[1], &fields[2]);
+    assert_text(rt, format!(in alloc; "{fields:?}"), wanted, "fields");
+    assert_second_field(rt, &fields[1], &fields[2]);
 }
 
-/// Asserts what an inventory's iterator of records gives at each of four calls.
-fn has_records(rt: &impl Abort, alloc: Global, digits: &str, wanted: &str) {
+/// Asserts the first four results of the iterator over the records of an inventory.
+fn assert_records(rt: &impl Abort, alloc: Global, digits: &str, wanted: &str) {
     let bytes = bytes_of(rt, alloc, digits);
     let inventory = FruView::read(&bytes).expect(rt, digits);
     let mut records = inventory.records();
@@ -104,14 +104,14 @@ fn has_records(rt: &impl Abort, alloc: Global, digits: &str, wanted: &str) {
         records.next(),
         records.next(),
     ];
-    is_text(rt, format!(in alloc; "{first:?}"), wanted, digits);
+    assert_text(rt, format!(in alloc; "{first:?}"), wanted, digits);
 }
 
 #[test]
 fn each_area_has_its_head(rt: HostRuntime) {
     let alloc = rt.alloc();
-    has_heads(&rt, alloc, BOARD, "None Some(Ok([0, 1, 0, 0])) None");
-    has_heads(
+    assert_heads(&rt, alloc, BOARD, "None Some(Ok([0, 1, 0, 0])) None");
+    assert_heads(
         &rt,
         alloc,
         CHASSIS_AND_PRODUCT,
@@ -128,9 +128,9 @@ fn board_of<'a>(rt: &impl Abort, bytes: &'a [u8]) -> AreaView<'a> {
 }
 
 /// Asserts the field of each line.
-fn has_fields(rt: &impl Abort, alloc: Global, board: &AreaView<'_>, lines: &str) {
+fn assert_fields(rt: &impl Abort, alloc: Global, board: &AreaView<'_>, lines: &str) {
     for line in lines.lines() {
-        has_field(rt, alloc, board, line);
+        assert_field(rt, alloc, board, line);
     }
 }
 
@@ -138,8 +138,8 @@ fn has_fields(rt: &impl Abort, alloc: Global, board: &AreaView<'_>, lines: &str)
 fn a_board_has_its_fields(rt: HostRuntime) {
     let bytes = bytes_of(&rt, rt.alloc(), BOARD);
     let board = board_of(&rt, &bytes);
-    has_fields(&rt, rt.alloc(), &board, FIELDS);
-    lists_fields(&rt, rt.alloc(), &board, LISTED);
+    assert_fields(&rt, rt.alloc(), &board, FIELDS);
+    assert_listed_fields(&rt, rt.alloc(), &board, LISTED);
 }
 
 #[test]
@@ -148,7 +148,7 @@ fn a_fault_has_a_name(rt: HostRuntime) {
     let area = AreaFault::FieldPastEnd.name();
     let record = MultiFault::DataSum.name();
     let names = format!(in rt.alloc(); "{header}, {area}, {record}");
-    is_text(
+    assert_text(
         &rt,
         names,
         "header version, field past end, data checksum",
@@ -159,9 +159,9 @@ fn a_fault_has_a_name(rt: HostRuntime) {
 #[test]
 fn records_end_after_the_last_or_a_fault(rt: HostRuntime) {
     let alloc = rt.alloc();
-    has_records(&rt, alloc, BOARD, "[None, None, None, None]");
-    has_records(&rt, alloc, THREE_RECORDS, TWO_RECORDS);
-    has_records(
+    assert_records(&rt, alloc, BOARD, "[None, None, None, None]");
+    assert_records(&rt, alloc, THREE_RECORDS, TWO_RECORDS);
+    assert_records(
         &rt,
         alloc,
         WRONG_RECORD,

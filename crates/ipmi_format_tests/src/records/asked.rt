@@ -1,12 +1,13 @@
-//! What is asked for a record: a reading for the sensors of the controller itself, an inventory for its FRU devices.
-use super::examples::{PSU1, changed};
-use crate::cases::{is_text, parts};
+//! The requests for a record: Get Sensor Reading for a sensor of the controller itself, and the inventory for a FRU
+//! device of it.
+use super::examples::changed;
+use crate::cases::{assert_text, parts};
+use ipmi_fixtures::PSU1;
 use ipmi_records::SdrView;
 use std::alloc::Global;
 use std::process::Abort;
 
-/// Changes of the full record; the LUN and the number of the sensor whose reading is asked for; and the FRU device
-/// whose inventory is asked for.
+/// `changes of CPU_TEMP|LUN and number of the sensor that is asked|FRU device that is asked`.
 const ASKED: &str = "7=00|Some((0, 1))|None
 7=03|Some((3, 1))|None
 7=f2|Some((2, 1))|None
@@ -30,20 +31,20 @@ const ASKED: &str = "7=00|Some((0, 1))|None
 4=11,6=00,7=01,8=80|None|None
 |Some((0, 1))|None";
 
-fn is_asked(rt: &impl Abort, alloc: Global, line: &str) {
+fn assert_requests(rt: &impl Abort, alloc: Global, line: &str) {
     let (changes, wanted) = parts(rt, line);
     let bytes = changed(rt, changes);
     let view = SdrView::read(&bytes).expect(rt, line);
     let reading = view.reading_of();
     let inventory = view.fru_of();
     let asked = format!(in alloc; "{reading:?}|{inventory:?}");
-    is_text(rt, asked, wanted, line);
+    assert_text(rt, asked, wanted, line);
 }
 
 #[test]
 fn only_the_controller_itself_is_asked(rt: HostRuntime) {
     for line in ASKED.lines() {
-        is_asked(&rt, rt.alloc(), line);
+        assert_requests(&rt, rt.alloc(), line);
     }
 }
 

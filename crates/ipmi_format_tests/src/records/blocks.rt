@@ -1,13 +1,14 @@
 //! Blocks of sensor data records.
-use super::examples::{CPU_TEMP, CPU_TEMP_BLOCK, answer_of, reading_of};
-use crate::cases::{bytes_of, id_of, is_text, is_text_with_end, three_parts};
+use super::examples::{answer_of, record_of};
+use crate::cases::{assert_text, assert_text_with_end, id_of, three_parts};
+use ipmi_fixtures::{CPU_TEMP, CPU_TEMP_BLOCK, reading_of};
 use ipmi_records::{SdrView, sdr_block};
 use std::alloc::Global;
 use std::process::Abort;
 
-/// An id, what the sensor answered and the record, and then the block. An empty line comes between two cases.
-const BLOCKS: &str = "0001|none|\
-    010051013320000103017f680101000000003838000100000100000000000000000000005f5a550000000202000000c84350552054656d70
+/// `id|what the sensor answered|record`, then the block. An empty line ends a case. A record is its digits, or
+/// `CPU_TEMP` with changes.
+const BLOCKS: &str = "0001|none|CPU_TEMP
 Record: 0001h
 Type: full
 Name: CPU Temp
@@ -88,8 +89,7 @@ Entity: 10.1
 Record: 0001h
 Type: record type 0xc0
 
-1234|2dc00000|\
-    01005101332282fa03857f68c501000000003838000100000100000000000000000000005f5a550000000202000000c84350552054656d70
+1234|2dc00000|CPU_TEMP 6=22,7=82,8=fa,10=85,13=c5
 Record: 1234h
 Type: full
 Name: CPU Temp
@@ -104,8 +104,7 @@ Upper non-recoverable: 95 degrees C
 Upper critical: 90 degrees C
 Upper non-critical: 85 degrees C
 
-0001|2dc00000|\
-    010051013320000103017f680101000000002038000100000100000000000000000000005f5a5502050a0202000000c84350552054656d70
+0001|2dc00000|CPU_TEMP 19=20,40=02,41=05,42=0a
 Record: 0001h
 Type: full
 Name: CPU Temp
@@ -118,8 +117,7 @@ Reading: 45 degrees C
 Status: ok
 Upper non-recoverable: 95 degrees C
 
-0001|2dc00000|\
-    010051013320000103017f680101000000001038000100000100000000000000000000005f5a5502050a0202000000c84350552054656d70
+0001|2dc00000|CPU_TEMP 19=10,40=02,41=05,42=0a
 Record: 0001h
 Type: full
 Name: CPU Temp
@@ -132,8 +130,7 @@ Reading: 45 degrees C
 Status: ok
 Upper critical: 90 degrees C
 
-0001|2dc00000|\
-    010051013320000103017f680101000000000838000100000100000000000000000000005f5a5502050a0202000000c84350552054656d70
+0001|2dc00000|CPU_TEMP 19=08,40=02,41=05,42=0a
 Record: 0001h
 Type: full
 Name: CPU Temp
@@ -146,8 +143,7 @@ Reading: 45 degrees C
 Status: ok
 Upper non-critical: 85 degrees C
 
-0001|2dc00000|\
-    010051013320000103017f680101000000000438000100000100000000000000000000005f5a5502050a0202000000c84350552054656d70
+0001|2dc00000|CPU_TEMP 19=04,40=02,41=05,42=0a
 Record: 0001h
 Type: full
 Name: CPU Temp
@@ -160,8 +156,7 @@ Reading: 45 degrees C
 Status: ok
 Lower non-recoverable: 2 degrees C
 
-0001|2dc00000|\
-    010051013320000103017f680101000000000238000100000100000000000000000000005f5a5502050a0202000000c84350552054656d70
+0001|2dc00000|CPU_TEMP 19=02,40=02,41=05,42=0a
 Record: 0001h
 Type: full
 Name: CPU Temp
@@ -174,8 +169,7 @@ Reading: 45 degrees C
 Status: ok
 Lower critical: 5 degrees C
 
-0001|2dc00000|\
-    010051013320000103017f680101000000000138000100000100000000000000000000005f5a5502050a0202000000c84350552054656d70
+0001|2dc00000|CPU_TEMP 19=01,40=02,41=05,42=0a
 Record: 0001h
 Type: full
 Name: CPU Temp
@@ -188,8 +182,7 @@ Reading: 45 degrees C
 Status: ok
 Lower non-critical: 10 degrees C
 
-0001|2dc00000|\
-    010051013320000103017f680101000000003f38000100000100000000000000000000005f5a5502050a0202000000c84350552054656d70
+0001|2dc00000|CPU_TEMP 19=3f,40=02,41=05,42=0a
 Record: 0001h
 Type: full
 Name: CPU Temp
@@ -207,8 +200,7 @@ Lower non-recoverable: 2 degrees C
 Lower critical: 5 degrees C
 Lower non-critical: 10 degrees C
 
-0001|2dc00000|\
-    010051013320000103017f68010100000000c038000100000100000000000000000000005f5a5502050a0202000000c84350552054656d70
+0001|2dc00000|CPU_TEMP 19=c0,40=02,41=05,42=0a
 Record: 0001h
 Type: full
 Name: CPU Temp
@@ -220,8 +212,7 @@ Event type: 01h
 Reading: 45 degrees C
 Status: ok
 
-0001|2dc03f00|\
-    010051013320000103017f680102000000003f38000100000100000000000000000000005f5a5502050a0202000000c84350552054656d70
+0001|2dc03f00|CPU_TEMP 14=02,19=3f,40=02,41=05,42=0a
 Record: 0001h
 Type: full
 Name: CPU Temp
@@ -233,8 +224,7 @@ Event type: 02h
 Reading: 45 degrees C
 Status: ok
 
-0001|2dc00000|\
-    010051013320000103017f680101000000001138000100010100000000000000000000005f5a5502050a0202000000c84350552054656d70
+0001|2dc00000|CPU_TEMP 19=11,24=01,40=02,41=05,42=0a
 Record: 0001h
 Type: full
 Name: CPU Temp
@@ -248,8 +238,7 @@ Status: ok
 Upper critical: raw 0x5a
 Lower non-critical: raw 0x0a
 
-0001|2dc00201|\
-    010051013320000103017f680101000000002238c00100000100000000000000000000005f5a5502050a0202000000c84350552054656d70
+0001|2dc00201|CPU_TEMP 19=22,21=c0,40=02,41=05,42=0a
 Record: 0001h
 Type: full
 Name: CPU Temp
@@ -263,19 +252,19 @@ Status: cr
 Upper non-recoverable: raw 0x5f
 Lower critical: raw 0x05";
 
-fn is_block(rt: &impl Abort, alloc: Global, case: &str) {
+fn assert_block(rt: &impl Abort, alloc: Global, case: &str) {
     let (head, wanted) = case.split_once('\n').expect(rt, case);
-    let (id, answer, digits) = three_parts(rt, head);
-    let bytes = bytes_of(rt, alloc, digits);
+    let (id, answer, record) = three_parts(rt, head);
+    let bytes = record_of(rt, alloc, record);
     let view = SdrView::read(&bytes).expect(rt, case);
     let block = sdr_block(alloc, id_of(rt, id), &view, answer_of(rt, answer));
-    is_text_with_end(rt, block, wanted, "\n\n", case);
+    assert_text_with_end(rt, block, wanted, "\n\n", case);
 }
 
 #[test]
 fn each_record_has_its_block(rt: HostRuntime) {
     for case in BLOCKS.split("\n\n") {
-        is_block(&rt, rt.alloc(), case);
+        assert_block(&rt, rt.alloc(), case);
     }
 }
 
@@ -284,5 +273,5 @@ fn a_record_with_a_reading_has_its_block(rt: HostRuntime) {
     let view = SdrView::read(&CPU_TEMP).expect(&rt, "a record");
     let answer = Some(reading_of([0x2d, 0xc0, 0, 0]));
     let block = sdr_block(rt.alloc(), 1, &view, answer);
-    is_text(&rt, block, CPU_TEMP_BLOCK, "CPU Temp");
+    assert_text(&rt, block, CPU_TEMP_BLOCK, "CPU Temp");
 }

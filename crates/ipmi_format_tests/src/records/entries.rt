@@ -1,12 +1,13 @@
 //! Lines and blocks of the event log's entries, and the block of an info.
-use super::examples::{EVENT, EVENT_BLOCK, INFO, INFO_LINES};
-use crate::cases::{id_of, is_text, is_text_with_end, parts, three_parts};
+use super::examples::EVENT_BLOCK;
+use crate::cases::{assert_text, assert_text_with_end, id_of, parts, three_parts};
 use hex::FromHex;
-use ipmi_records::{SelView, info_block, sel_block, sel_line};
+use ipmi_fixtures::{EVENT, INFO, INFO_BLOCK};
+use ipmi_records::{Info, SelView, info_block, sel_block, sel_line};
 use std::alloc::Global;
 use std::process::Abort;
 
-/// An id, an entry, and the line.
+/// `id|entry|line`.
 const LINES: &str = "0001|01000201000020200004013001595f5a|\
     0001 | 1987-01-05 18:48:33 | Temperature #0x30 | Upper Critical going high | Asserted
 0002|02000200000020200004013081570000|\
@@ -22,7 +23,7 @@ abcd|0400ff0102030405060708090a0b0cff|abcd | OEM record 0xff | 01020304050607080
     0009 | 1987-01-05 18:48:33 | System Event #0x01 | event 0x6f offset 0x3 | Deasserted
 000a|0a0002ffffffff2000042dff010c0000|000a | unspecified | sensor type 0x2d #0xff | event 0x01 offset 0xc | Asserted";
 
-/// An id and an entry, and then the block. An empty line comes between two cases.
+/// `id|entry`, then the block. An empty line ends a case.
 const BLOCKS: &str = "0003|0300c0ffffffff571300010203040506
 Record: 0003h
 Type: C0h
@@ -57,7 +58,7 @@ const OVERFLOW_INFO: [u8; 14] = [
 ];
 
 /// The block of the info where entries were lost.
-const OVERFLOW_INFO_LINES: &str = "Version: 0x01
+const OVERFLOW_INFO_BLOCK: &str = "Version: 0x01
 Records: 4660
 Free Space: 65535
 Last Addition: +0 s
@@ -66,49 +67,63 @@ Overflow: yes
 Support: 0x80
 ";
 
-fn is_line(rt: &impl Abort, alloc: Global, case: &str) {
+fn assert_line(rt: &impl Abort, alloc: Global, case: &str) {
     let (id, digits, wanted) = three_parts(rt, case);
     let bytes = <[u8; 16]>::from_hex(digits).expect(rt, case);
     let line = sel_line(alloc, id_of(rt, id), &SelView::read(&bytes));
-    is_text_with_end(rt, line, wanted, "\n", case);
+    assert_text_with_end(rt, line, wanted, "\n", case);
 }
 
-fn is_block(rt: &impl Abort, alloc: Global, case: &str) {
+fn assert_block(rt: &impl Abort, alloc: Global, case: &str) {
     let (head, wanted) = case.split_once('\n').expect(rt, case);
     let (id, digits) = parts(rt, head);
     let bytes = <[u8; 16]>::from_hex(digits).expect(rt, case);
     let block = sel_block(alloc, id_of(rt, id), &SelView::read(&bytes));
-    is_text_with_end(rt, block, wanted, "\n\n", case);
+    assert_text_with_end(rt, block, wanted, "\n\n", case);
 }
 
 #[test]
 fn each_entry_has_its_line(rt: HostRuntime) {
     for case in LINES.lines() {
-        is_line(&rt, rt.alloc(), case);
+        assert_line(&rt, rt.alloc(), case);
     }
 }
 
 #[test]
 fn each_entry_has_its_block(rt: HostRuntime) {
     for case in BLOCKS.split("\n\n") {
-        is_block(&rt, rt.alloc(), case);
+        assert_block(&rt, rt.alloc(), case);
     }
 }
 
 #[test]
 fn an_event_has_its_block(rt: HostRuntime) {
     let block = sel_block(rt.alloc(), 1, &SelView::read(&EVENT));
-    is_text(&rt, block, EVENT_BLOCK, "the event");
+    assert_text(&rt, block, EVENT_BLOCK, "the event");
 }
 
 #[test]
 fn each_info_has_its_block(rt: HostRuntime) {
     let alloc = rt.alloc();
-    is_text(&rt, info_block(alloc, &INFO), INFO_LINES, "the info");
-    is_text(
+    assert_text(&rt, info_block(alloc, &INFO), INFO_BLOCK, "the info");
+    assert_text(
         &rt,
         info_block(alloc, &OVERFLOW_INFO),
-        OVERFLOW_INFO_LINES,
+        OVERFLOW_INFO_BLOCK,
         "the info of an overflow",
     );
+}
+
+#[test]
+fn an_info_has_its_numbers(rt: HostRuntime) {
+    let wanted = Info {
+        version: 0x51,
+        record_count: 3,
+        free_space: 1024,
+        last_addition: 0x2000_0001,
+        last_erase: u32::MAX,
+        overflow: false,
+        support: 2,
+    };
+    assert_eq!(&rt; Info::read(&INFO), wanted);
 }

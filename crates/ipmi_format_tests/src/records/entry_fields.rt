@@ -1,12 +1,13 @@
-//! What is read from entries of the event log without printing them.
-use super::examples::EVENT;
-use crate::cases::{is_text, parts};
+//! The fields of entries of the event log.
+use super::examples::event_of;
+use crate::cases::{assert_text, parts};
 use hex::FromHex;
+use ipmi_fixtures::EVENT;
 use ipmi_records::{EventEntry, OemTimestampedEntry, SelView};
 use std::alloc::Global;
 use std::process::Abort;
 
-/// An entry, its id and type, and its data.
+/// `entry|id, type, data`.
 const ENTRIES: &str = "01000201000020200004013001595f5a|1 2 [89, 95, 90]
 0300c004050607571308010203040506|3 192 [1, 2, 3, 4, 5, 6]
 0300e0030405060708090a0b0c0d0e0f|3 224 [3, 4, 5, 6, 7, 8, 9, 10, 11, 12, 13, 14, 15]
@@ -21,8 +22,8 @@ fn data_of<'a>(view: &SelView<'a>) -> &'a [u8] {
     }
 }
 
-/// Asserts what each entry has, whatever its type.
-fn has_fields(rt: &impl Abort, alloc: Global, line: &str) {
+/// Asserts the fields that entries of each type have.
+fn assert_fields(rt: &impl Abort, alloc: Global, line: &str) {
     let (digits, wanted) = parts(rt, line);
     let bytes = <[u8; 16]>::from_hex(digits).expect(rt, line);
     let view = SelView::read(&bytes);
@@ -30,24 +31,17 @@ fn has_fields(rt: &impl Abort, alloc: Global, line: &str) {
     let entry_type = view.entry_type();
     let data = data_of(&view);
     let text = format!(in alloc; "{id} {entry_type} {data:?}");
-    is_text(rt, text, wanted, line);
+    assert_text(rt, text, wanted, line);
 }
 
-fn has_bytes(rt: &impl Abort, alloc: Global, line: &str) {
+fn assert_bytes(rt: &impl Abort, alloc: Global, line: &str) {
     let (digits, _) = parts(rt, line);
     let bytes = <[u8; 16]>::from_hex(digits).expect(rt, line);
     let view = SelView::read(&bytes);
-    is_text(rt, hex::encode(alloc, view.bytes()), digits, line);
+    assert_text(rt, hex::encode(alloc, view.bytes()), digits, line);
 }
 
-fn event_of<'a>(rt: &impl Abort, bytes: &'a [u8; 16]) -> EventEntry<'a> {
-    match SelView::read(bytes) {
-        SelView::Event(event) => event,
-        _ => panic!(rt; "no event: {bytes:?}"),
-    }
-}
-
-/// The view of an OEM entry with a time.
+/// The OEM entry with a time that the bytes are.
 fn oem_entry_of<'a>(rt: &impl Abort, bytes: &'a [u8; 16]) -> OemTimestampedEntry<'a> {
     match SelView::read(bytes) {
         SelView::OemTimed(entry) => entry,
@@ -55,7 +49,7 @@ fn oem_entry_of<'a>(rt: &impl Abort, bytes: &'a [u8; 16]) -> OemTimestampedEntry
     }
 }
 
-/// The time stamp, the generator, the revision, the type and number of the sensor, and the event type.
+/// The time stamp, the generator id, the revision, the sensor type, the sensor number and the event type.
 fn numbers_of(event: &EventEntry<'_>) -> [u32; 6] {
     [
         event.time_stamp(),
@@ -70,14 +64,14 @@ fn numbers_of(event: &EventEntry<'_>) -> [u32; 6] {
 #[test]
 fn each_entry_has_its_id_type_and_data(rt: HostRuntime) {
     for line in ENTRIES.lines() {
-        has_fields(&rt, rt.alloc(), line);
+        assert_fields(&rt, rt.alloc(), line);
     }
 }
 
 #[test]
 fn each_entry_has_its_bytes(rt: HostRuntime) {
     for line in ENTRIES.lines() {
-        has_bytes(&rt, rt.alloc(), line);
+        assert_bytes(&rt, rt.alloc(), line);
     }
 }
 

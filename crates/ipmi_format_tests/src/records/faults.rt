@@ -1,11 +1,13 @@
-//! Bytes that are no record, and the kinds of records: by their type, their length, and what their header says of it.
-use super::examples::{CPU_TEMP, with_byte};
+//! The fault of bytes that are not a record, and the kind of a record: by type, by length, and by the length in its
+//! header.
+use super::examples::with_byte;
 use crate::cases::{byte_of, bytes_of, parts, three_parts};
+use ipmi_fixtures::CPU_TEMP;
 use ipmi_records::{SdrFault, SdrView};
 use std::alloc::Global;
 use std::process::Abort;
 
-/// Bytes, and the first fault that they have, or the kind of the record.
+/// `bytes|first fault, or kind of the record`.
 const FAULTS: &str = "010051c0|short
 010051c001|length
 010051c00000|length
@@ -14,7 +16,7 @@ const FAULTS: &str = "010051c0|short
 010099c000|other
 |short";
 
-/// The type of a record, the least length of one, and its kind.
+/// `record type|least length|kind`.
 const LEAST_LENGTHS: &str = "01|48|full
 02|32|compact
 03|17|event-only
@@ -40,7 +42,7 @@ fn kind_of_record(view: &SdrView<'_>) -> &'static str {
     }
 }
 
-/// The kind of the record that bytes are, or the fault that they have instead.
+/// The kind of a record, or the fault of bytes that are not one.
 fn kind_of(bytes: &[u8]) -> &'static str {
     match SdrView::read(bytes) {
         Ok(view) => kind_of_record(&view),
@@ -50,28 +52,28 @@ fn kind_of(bytes: &[u8]) -> &'static str {
     }
 }
 
-/// Asserts the fault of bytes, or the kind of their record.
-fn has_fault(rt: &impl Abort, alloc: Global, line: &str) {
+/// Asserts the kind of a record, or the fault.
+fn assert_kind_or_fault(rt: &impl Abort, alloc: Global, line: &str) {
     let (digits, wanted) = parts(rt, line);
     let bytes = bytes_of(rt, alloc, digits);
     let kind = kind_of(&bytes);
     assert!(rt; kind == wanted, "{line}: got {kind}");
 }
 
-/// Asserts what the first bytes of a record are.
-fn is_kind_when_cut(rt: &impl Abort, record: &[u8; 56], len: usize, wanted: &str) {
+/// Asserts the kind or the fault of the first `len` bytes of a record.
+fn assert_kind_of_cut(rt: &impl Abort, record: &[u8; 56], len: usize, wanted: &str) {
     let cut = record.get(..len).expect(rt, wanted);
     let kind = kind_of(cut);
     assert!(rt; kind == wanted, "{len} bytes, {wanted}: got {kind}");
 }
 
-/// Asserts what the first bytes of a record are, where its header says that there are so many.
-fn is_kind_of_len(rt: &impl Abort, record: [u8; 56], len: u8, wanted: &str) {
+/// The same with the length in the header set to `len`.
+fn assert_kind_of_len(rt: &impl Abort, record: [u8; 56], len: u8, wanted: &str) {
     let record = with_byte(rt, record, 5, len.wrapping_sub(5));
-    is_kind_when_cut(rt, &record, len as usize, wanted);
+    assert_kind_of_cut(rt, &record, len as usize, wanted);
 }
 
-/// What the first bytes of the full record are.
+/// The kind or the fault of the first `len` bytes of `CPU_TEMP`.
 fn cut_record(len: usize) -> &'static str {
     match len {
         0..=4 => "short",
@@ -80,28 +82,28 @@ fn cut_record(len: usize) -> &'static str {
     }
 }
 
-/// Asserts the kind of a record of the least length, and that one byte less is too few.
-fn has_least_length(rt: &impl Abort, line: &str) {
+/// Asserts the kind of a record of the least length, and the fault of one byte less.
+fn assert_least_length(rt: &impl Abort, line: &str) {
     let (kind, least, wanted) = three_parts(rt, line);
     let least = least.parse::<u8>().expect(rt, line);
     let record = with_byte(rt, CPU_TEMP, 4, byte_of(rt, kind));
-    is_kind_of_len(rt, record, least, wanted);
+    assert_kind_of_len(rt, record, least, wanted);
     if least > 5 {
-        is_kind_of_len(rt, record, least - 1, "body short");
+        assert_kind_of_len(rt, record, least - 1, "body short");
     }
 }
 
 #[test]
 fn the_first_fault_is_found(rt: HostRuntime) {
     for line in FAULTS.lines() {
-        has_fault(&rt, rt.alloc(), line);
+        assert_kind_or_fault(&rt, rt.alloc(), line);
     }
 }
 
 #[test]
 fn a_record_that_is_cut_short_has_a_fault(rt: HostRuntime) {
     for len in 0..57 {
-        is_kind_when_cut(&rt, &CPU_TEMP, len, cut_record(len));
+        assert_kind_of_cut(&rt, &CPU_TEMP, len, cut_record(len));
     }
 }
 
@@ -109,13 +111,13 @@ fn a_record_that_is_cut_short_has_a_fault(rt: HostRuntime) {
 fn a_full_record_has_48_bytes_or_more(rt: HostRuntime) {
     for len in 5..57 {
         let wanted = if len < 48 { "body short" } else { "full" };
-        is_kind_of_len(&rt, CPU_TEMP, len, wanted);
+        assert_kind_of_len(&rt, CPU_TEMP, len, wanted);
     }
 }
 
 #[test]
 fn each_type_has_its_least_length(rt: HostRuntime) {
     for line in LEAST_LENGTHS.lines() {
-        has_least_length(&rt, line);
+        assert_least_length(&rt, line);
     }
 }

@@ -1,13 +1,14 @@
-//! What is read from sensor data records of every kind without printing them.
-use super::examples::{CPU_TEMP, PSU1, with_byte};
-use crate::cases::{bytes_of, is_text, line_of};
+//! The fields that records of several kinds have.
+use super::examples::with_byte;
+use crate::cases::{assert_text, bytes_of, line_of};
+use ipmi_fixtures::{CPU_TEMP, PSU1};
 use ipmi_records::{Entity, FruLocator, IdString, Locator, SdrView, Sensor};
 use ipmi_text::Units;
 use std::alloc::{AllocError, Global};
 use std::process::Abort;
 
-/// A record; its id, version, type and the length of its body; its sensor; its units; its locator; and the type/length
-/// byte and the bytes of its ID string. An empty line comes between two cases.
+/// A record; its id, version, type and body length; its sensor; its units; its locator; and the type/length byte and
+/// bytes of its ID string. Each is a line. An empty line ends a case.
 const RECORDS: &str =
     "010051013320fe0103837f6801010000000038388101188c01800240007f0000000000005f5a551122330202000000c84350552054656d70
 1 81 1 51
@@ -70,7 +71,7 @@ fn header_text(alloc: Global, view: &SdrView<'_>) -> Result<String, AllocError> 
     format!(in alloc; "{id} {version} {record_type} {len}")
 }
 
-/// The sensor, as the view of the record's own kind has it.
+/// The sensor, by the view of the record's own kind.
 fn own_sensor(view: &SdrView<'_>) -> Option<Sensor> {
     match view {
         SdrView::Full(full) => Some(full.sensor()),
@@ -89,7 +90,7 @@ fn own_units(view: &SdrView<'_>) -> Option<Units> {
     }
 }
 
-/// Where a device is, as the view of the record's own kind has it.
+/// The locator, by the view of the record's own kind.
 fn own_locator(view: &SdrView<'_>) -> Option<Locator> {
     match view {
         SdrView::Fru(fru) => Some(fru.locator()),
@@ -99,7 +100,7 @@ fn own_locator(view: &SdrView<'_>) -> Option<Locator> {
     }
 }
 
-/// The ID string, as the view of the record's own kind has it.
+/// The ID string, by the view of the record's own kind.
 fn own_id_string<'a>(view: &SdrView<'a>) -> Option<IdString<'a>> {
     match view {
         SdrView::Full(full) => Some(full.id_string()),
@@ -124,11 +125,11 @@ fn id_string_text(alloc: Global, id: Option<IdString<'_>>) -> Result<String, All
 }
 
 /// Asserts the bytes and the header of a record.
-fn has_header(rt: &impl Abort, alloc: Global, case: &str) {
+fn assert_header(rt: &impl Abort, alloc: Global, case: &str) {
     let bytes = record_of(rt, alloc, case);
     let view = SdrView::read(&bytes).expect(rt, case);
-    is_text(rt, header_text(alloc, &view), line_of(rt, case, 1), case);
-    is_text(
+    assert_text(rt, header_text(alloc, &view), line_of(rt, case, 1), case);
+    assert_text(
         rt,
         hex::encode(alloc, view.bytes()),
         line_of(rt, case, 0),
@@ -136,13 +137,13 @@ fn has_header(rt: &impl Abort, alloc: Global, case: &str) {
     );
 }
 
-/// Asserts the sensor of a record, as any view has it and as that of the record's own kind does.
-fn has_sensor(rt: &impl Abort, alloc: Global, case: &str) {
+/// Asserts the sensor of a record, by any view and by that of its own kind.
+fn assert_sensor(rt: &impl Abort, alloc: Global, case: &str) {
     let bytes = record_of(rt, alloc, case);
     let view = SdrView::read(&bytes).expect(rt, case);
     let wanted = line_of(rt, case, 2);
-    is_text(rt, format!(in alloc; "{:?}", view.sensor()), wanted, case);
-    is_text(
+    assert_text(rt, format!(in alloc; "{:?}", view.sensor()), wanted, case);
+    assert_text(
         rt,
         format!(in alloc; "{:?}", own_sensor(&view)),
         wanted,
@@ -150,11 +151,11 @@ fn has_sensor(rt: &impl Abort, alloc: Global, case: &str) {
     );
 }
 
-fn has_units(rt: &impl Abort, alloc: Global, case: &str) {
+fn assert_units(rt: &impl Abort, alloc: Global, case: &str) {
     let bytes = record_of(rt, alloc, case);
     let view = SdrView::read(&bytes).expect(rt, case);
     let units = own_units(&view);
-    is_text(
+    assert_text(
         rt,
         format!(in alloc; "{units:?}"),
         line_of(rt, case, 3),
@@ -163,12 +164,12 @@ fn has_units(rt: &impl Abort, alloc: Global, case: &str) {
 }
 
 /// The same for the locator.
-fn has_locator(rt: &impl Abort, alloc: Global, case: &str) {
+fn assert_locator(rt: &impl Abort, alloc: Global, case: &str) {
     let bytes = record_of(rt, alloc, case);
     let view = SdrView::read(&bytes).expect(rt, case);
     let wanted = line_of(rt, case, 4);
-    is_text(rt, format!(in alloc; "{:?}", view.locator()), wanted, case);
-    is_text(
+    assert_text(rt, format!(in alloc; "{:?}", view.locator()), wanted, case);
+    assert_text(
         rt,
         format!(in alloc; "{:?}", own_locator(&view)),
         wanted,
@@ -177,12 +178,12 @@ fn has_locator(rt: &impl Abort, alloc: Global, case: &str) {
 }
 
 /// The same for the ID string.
-fn has_id_string(rt: &impl Abort, alloc: Global, case: &str) {
+fn assert_id_string(rt: &impl Abort, alloc: Global, case: &str) {
     let bytes = record_of(rt, alloc, case);
     let view = SdrView::read(&bytes).expect(rt, case);
     let wanted = line_of(rt, case, 5);
-    is_text(rt, id_string_text(alloc, view.id_string()), wanted, case);
-    is_text(
+    assert_text(rt, id_string_text(alloc, view.id_string()), wanted, case);
+    assert_text(
         rt,
         id_string_text(alloc, own_id_string(&view)),
         wanted,
@@ -197,45 +198,45 @@ fn fru_locator_of<'a>(rt: &impl Abort, bytes: &'a [u8]) -> FruLocator<'a> {
     }
 }
 
-/// Asserts the name that a record has, if it has one.
-fn has_name(rt: &impl Abort, alloc: Global, bytes: &[u8], wanted: &str) {
+/// Asserts the name of a record, if it has one.
+fn assert_name(rt: &impl Abort, alloc: Global, bytes: &[u8], wanted: &str) {
     let view = SdrView::read(bytes).expect(rt, wanted);
     let name = view.name(alloc).expect(rt, "memory");
-    is_text(rt, format!(in alloc; "{name:?}"), wanted, wanted);
+    assert_text(rt, format!(in alloc; "{name:?}"), wanted, wanted);
 }
 
 #[test]
 fn each_record_has_its_header(rt: HostRuntime) {
     for case in RECORDS.split("\n\n") {
-        has_header(&rt, rt.alloc(), case);
+        assert_header(&rt, rt.alloc(), case);
     }
 }
 
 #[test]
 fn each_record_has_its_sensor(rt: HostRuntime) {
     for case in RECORDS.split("\n\n") {
-        has_sensor(&rt, rt.alloc(), case);
+        assert_sensor(&rt, rt.alloc(), case);
     }
 }
 
 #[test]
 fn each_record_has_its_units(rt: HostRuntime) {
     for case in RECORDS.split("\n\n") {
-        has_units(&rt, rt.alloc(), case);
+        assert_units(&rt, rt.alloc(), case);
     }
 }
 
 #[test]
 fn each_record_has_its_locator(rt: HostRuntime) {
     for case in RECORDS.split("\n\n") {
-        has_locator(&rt, rt.alloc(), case);
+        assert_locator(&rt, rt.alloc(), case);
     }
 }
 
 #[test]
 fn each_record_has_its_id_string(rt: HostRuntime) {
     for case in RECORDS.split("\n\n") {
-        has_id_string(&rt, rt.alloc(), case);
+        assert_id_string(&rt, rt.alloc(), case);
     }
 }
 
@@ -250,13 +251,13 @@ fn a_fru_locator_has_its_device(rt: HostRuntime) {
 fn a_name_ends_with_its_record(rt: HostRuntime) {
     let record = with_byte(&rt, CPU_TEMP, 5, 45);
     let cut = record.get(..50).expect(&rt, "50 bytes");
-    has_name(&rt, rt.alloc(), cut, "Some(\"CP\")");
+    assert_name(&rt, rt.alloc(), cut, "Some(\"CP\")");
 }
 
 #[test]
 fn a_record_of_another_type_has_no_name(rt: HostRuntime) {
     let record = with_byte(&rt, CPU_TEMP, 4, 0xc0);
-    has_name(&rt, rt.alloc(), &record, "None");
+    assert_name(&rt, rt.alloc(), &record, "None");
 }
 
 #[test]
@@ -266,5 +267,5 @@ fn an_entity_is_printed_with_a_dot(rt: HostRuntime) {
         instance: 1,
     };
     let text = format!(in rt.alloc(); "{entity}");
-    is_text(&rt, text, "10.1", "entity 10, instance 1");
+    assert_text(&rt, text, "10.1", "entity 10, instance 1");
 }

@@ -1,11 +1,11 @@
-//! Lines of a full record: each case of the reading column, each bit of the status, and the factors.
+//! Lines of full records: each case of the reading column, each bit of the status, and the factors.
 use super::examples::{answer_of, changed};
-use crate::cases::{is_text_with_end, three_parts};
+use crate::cases::{assert_text_with_end, three_parts};
 use ipmi_records::{SdrView, sdr_line};
 use std::alloc::Global;
 use std::process::Abort;
 
-/// Changes of the full record, what the sensor answered, and the line.
+/// `changes of CPU_TEMP|what the sensor answered|line`.
 const LINES: &str = "|none|CPU Temp         | no reading        | ns
 |2dc00000|CPU Temp         | 45 degrees C      | ok
 6=21|2dc00000|CPU Temp         | other owner       | na
@@ -89,18 +89,18 @@ const LINES: &str = "|none|CPU Temp         | no reading        | ns
 25=00,26=80,27=00,28=80,30=77|ffc00000|CPU Temp         | -51201305600000000 degrees C | ok
 25=00,27=01,30=88|2dc00000|CPU Temp         | 0.0000000000000001 degrees C | ok";
 
-/// Asserts the line of the full record with changes.
-fn is_line(rt: &impl Abort, alloc: Global, case: &str) {
+/// Asserts the line of `CPU_TEMP` with changes.
+fn assert_line(rt: &impl Abort, alloc: Global, case: &str) {
     let (changes, answer, wanted) = three_parts(rt, case);
     let bytes = changed(rt, changes);
     let view = SdrView::read(&bytes).expect(rt, case);
     let line = sdr_line(alloc, &view, answer_of(rt, answer));
-    is_text_with_end(rt, line, wanted, "\n", case);
+    assert_text_with_end(rt, line, wanted, "\n", case);
 }
 
 #[test]
 fn each_full_record_has_its_line(rt: HostRuntime) {
     for case in LINES.lines() {
-        is_line(&rt, rt.alloc(), case);
+        assert_line(&rt, rt.alloc(), case);
     }
 }

@@ -1,19 +1,18 @@
 //! Lines and extended lines of records of every kind, and the lines of faults.
-use super::examples::answer_of;
-use crate::cases::{bytes_of, is_text_with_end, line_of, parts};
+use super::examples::{answer_of, record_of};
+use crate::cases::{assert_text_with_end, line_of, parts};
 use ipmi_records::{SdrFault, SdrView, sdr_eline, sdr_fault_line, sdr_line};
 use ipmi_text::Reading;
 use std::alloc::Global;
 use std::process::Abort;
 
-/// A record and what the sensor answered, the line, and the extended line. An empty line comes between two cases.
-const LINES: &str =
-    "010051013320000103017f680101000000003838000100000100000000000000000000005f5a550000000202000000c84350552054656d70|\
-    2dc00000
+/// `record|what the sensor answered`, then the line, then the extended line. An empty line ends a case. A record is its
+/// digits, or `CPU_TEMP`.
+const LINES: &str = "CPU_TEMP|2dc00000
 CPU Temp         | 45 degrees C      | ok
 CPU Temp         | 01h | ok  | 3.1   | 45 degrees C
 
-010051013320000103017f680101000000003838000100000100000000000000000000005f5a550000000202000000c84350552054656d70|none
+CPU_TEMP|none
 CPU Temp         | no reading        | ns
 CPU Temp         | 01h | ns  | 3.1   | no reading
 
@@ -137,7 +136,7 @@ ABCDEFGHIJKLMNOPQRSTU | --h | na  | 10.1  | FRU 1
 A.B              | FRU 1             | na
 A.B              | --h | na  | 10.1  | FRU 1";
 
-/// A record and what the sensor answered, and both lines.
+/// A record, what the sensor answered, and both lines.
 #[derive(Drop)]
 struct Case<'a> {
     record: Vec<u8>,
@@ -148,59 +147,59 @@ struct Case<'a> {
 
 /// The case of three lines.
 fn case_of<'a>(rt: &impl Abort, alloc: Global, lines: &'a str) -> Case<'a> {
-    let (digits, answer) = parts(rt, line_of(rt, lines, 0));
+    let (record, answer) = parts(rt, line_of(rt, lines, 0));
     Case {
-        record: bytes_of(rt, alloc, digits),
+        record: record_of(rt, alloc, record),
         answer: answer_of(rt, answer),
         line: line_of(rt, lines, 1),
         extended_line: line_of(rt, lines, 2),
     }
 }
 
-fn is_line(rt: &impl Abort, alloc: Global, lines: &str) {
+fn assert_line(rt: &impl Abort, alloc: Global, lines: &str) {
     let case = case_of(rt, alloc, lines);
     let view = SdrView::read(&case.record).expect(rt, lines);
     let line = sdr_line(alloc, &view, case.answer);
-    is_text_with_end(rt, line, case.line, "\n", lines);
+    assert_text_with_end(rt, line, case.line, "\n", lines);
 }
 
-fn is_extended_line(rt: &impl Abort, alloc: Global, lines: &str) {
+fn assert_extended_line(rt: &impl Abort, alloc: Global, lines: &str) {
     let case = case_of(rt, alloc, lines);
     let view = SdrView::read(&case.record).expect(rt, lines);
     let line = sdr_eline(alloc, &view, case.answer);
-    is_text_with_end(rt, line, case.extended_line, "\n", lines);
+    assert_text_with_end(rt, line, case.extended_line, "\n", lines);
 }
 
-fn is_fault_line(rt: &impl Abort, alloc: Global, id: u16, fault: SdrFault, wanted: &str) {
-    is_text_with_end(rt, sdr_fault_line(alloc, id, fault), wanted, "\n", wanted);
+fn assert_fault_line(rt: &impl Abort, alloc: Global, id: u16, fault: SdrFault, wanted: &str) {
+    assert_text_with_end(rt, sdr_fault_line(alloc, id, fault), wanted, "\n", wanted);
 }
 
 #[test]
 fn each_record_has_its_line(rt: HostRuntime) {
     for lines in LINES.split("\n\n") {
-        is_line(&rt, rt.alloc(), lines);
+        assert_line(&rt, rt.alloc(), lines);
     }
 }
 
 #[test]
 fn each_record_has_its_extended_line(rt: HostRuntime) {
     for lines in LINES.split("\n\n") {
-        is_extended_line(&rt, rt.alloc(), lines);
+        assert_extended_line(&rt, rt.alloc(), lines);
     }
 }
 
 #[test]
 fn each_fault_has_its_line(rt: HostRuntime) {
     let alloc = rt.alloc();
-    is_fault_line(&rt, alloc, 0x0001, SdrFault::Short, "record 0001h: short");
-    is_fault_line(
+    assert_fault_line(&rt, alloc, 0x0001, SdrFault::Short, "record 0001h: short");
+    assert_fault_line(
         &rt,
         alloc,
         0xabcd,
         SdrFault::Length,
         "record ABCDh: wrong length",
     );
-    is_fault_line(
+    assert_fault_line(
         &rt,
         alloc,
         0xff0e,

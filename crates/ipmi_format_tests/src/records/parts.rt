@@ -1,16 +1,17 @@
-//! The parts of a record's texts that other texts take: values with and without units, names, thresholds, and what a
-//! sensor shows.
-use super::examples::{CPU_TEMP, EVENT, PSU1, answer_of, changed, with_byte};
-use crate::cases::{byte_of, is_text, parts, three_parts};
+//! Parts of a record's texts that other texts use: values with and without units, names, thresholds, and what a sensor
+//! shows.
+use super::examples::{answer_of, changed, event_of, full_of, with_byte};
+use crate::cases::{assert_text, byte_of, parts, three_parts};
+use ipmi_fixtures::{CPU_TEMP, EVENT, PSU1};
 use ipmi_records::{
-    EventEntry, FullSensor, SdrView, SelView, direction_text, has_thresholds, pad, push_name,
-    push_raw, push_raw_byte, push_reading, push_value, sensor_of_event, shown_of, states_in,
-    status_of, threshold_lines,
+    EventEntry, FullSensor, SdrView, direction_text, has_thresholds, pad, push_name, push_raw,
+    push_raw_byte, push_reading, push_value, sensor_of_event, shown_of, states_in, status_of,
+    threshold_lines,
 };
 use std::alloc::{AllocError, Global};
 use std::process::Abort;
 
-/// Changes of the full record, a raw byte, and its value with and without units, with a `;` between.
+/// `changes of CPU_TEMP|raw byte|value with units;value without units`.
 const VALUES: &str = "|2d|45 degrees C;45
 22=00|2d|45;45
 21=80,30=f0|ff|-0.1 degrees C;-0.1
@@ -18,14 +19,7 @@ const VALUES: &str = "|2d|45 degrees C;45
 24=01|2d|raw 0x2d;raw 0x2d
 21=c0|5c|raw 0x5c;raw 0x5c";
 
-fn full_of<'a>(rt: &impl Abort, bytes: &'a [u8]) -> FullSensor<'a> {
-    match SdrView::read(bytes) {
-        Ok(SdrView::Full(full)) => full,
-        _ => panic!(rt; "no full sensor record: {bytes:?}"),
-    }
-}
-
-/// A raw byte's value after a bar, with its units, or without.
+/// The value of a raw byte after a bar, with or without its units.
 fn value_text(
     alloc: Global,
     full: &FullSensor<'_>,
@@ -41,8 +35,8 @@ fn value_text(
     Ok(text)
 }
 
-/// Asserts a raw byte's value with and without units.
-fn is_value(rt: &impl Abort, alloc: Global, case: &str) {
+/// Asserts the value of a raw byte, with and without units.
+fn assert_value(rt: &impl Abort, alloc: Global, case: &str) {
     let (changes, raw, wanted) = three_parts(rt, case);
     let (with_units, plain) = wanted.split_once(';').expect(rt, case);
     let bytes = changed(rt, changes);
@@ -63,11 +57,11 @@ fn is_value(rt: &impl Abort, alloc: Global, case: &str) {
 #[test]
 fn each_raw_byte_has_its_value(rt: HostRuntime) {
     for case in VALUES.lines() {
-        is_value(&rt, rt.alloc(), case);
+        assert_value(&rt, rt.alloc(), case);
     }
 }
 
-/// A raw byte with no record.
+/// A raw byte without a record.
 fn raw_byte_text(alloc: Global, raw: u8) -> Result<String, AllocError> {
     let mut text = String::from_str(alloc, "at ")?;
     push_raw_byte(&mut text, raw)?;
@@ -76,10 +70,10 @@ fn raw_byte_text(alloc: Global, raw: u8) -> Result<String, AllocError> {
 
 #[test]
 fn a_raw_byte_is_printed_in_hex(rt: HostRuntime) {
-    is_text(&rt, raw_byte_text(rt.alloc(), 0x0c), "at raw 0x0c", "0Ch");
+    assert_text(&rt, raw_byte_text(rt.alloc(), 0x0c), "at raw 0x0c", "0Ch");
 }
 
-/// The name of a record in a column of ten characters, its reading column and its status.
+/// The name of a record in a column of ten characters, its reading and its status.
 fn columns_text(
     alloc: Global,
     bytes: &[u8],
@@ -100,41 +94,41 @@ fn columns_text(
 #[test]
 fn a_record_has_its_name_reading_and_status(rt: HostRuntime) {
     let text = columns_text(rt.alloc(), &CPU_TEMP, "5ac01800", &rt);
-    is_text(&rt, text, "|CPU Temp  90 degrees C|cr", "CPU Temp");
+    assert_text(&rt, text, "|CPU Temp  90 degrees C|cr", "CPU Temp");
     let text = columns_text(rt.alloc(), &PSU1, "none", &rt);
-    is_text(&rt, text, "|PSU1      FRU 1|na", "PSU1");
+    assert_text(&rt, text, "|PSU1      FRU 1|na", "PSU1");
 }
 
-/// Changes of the full record, what the sensor answered, and what it shows.
+/// `changes of CPU_TEMP|what the sensor answered|what is shown`.
 const SHOWN: &str = "|none|NoReading
 |2d200000|NoReading
 |2d400000|Value(Reading { raw: 45, flags: 64, status: 0, more: 0 })
 6=21|2d400000|OtherOwner";
 
-/// Asserts what the sensor of the full record shows.
-fn is_shown(rt: &impl Abort, alloc: Global, case: &str) {
+/// Asserts what the sensor of `CPU_TEMP` with changes shows.
+fn assert_shown(rt: &impl Abort, alloc: Global, case: &str) {
     let (changes, digits, wanted) = three_parts(rt, case);
     let bytes = changed(rt, changes);
     let sensor = full_of(rt, &bytes).sensor();
     let shown = shown_of(&sensor, answer_of(rt, digits));
-    is_text(rt, format!(in alloc; "{shown:?}"), wanted, case);
+    assert_text(rt, format!(in alloc; "{shown:?}"), wanted, case);
 }
 
 #[test]
 fn each_sensor_shows_what_it_has(rt: HostRuntime) {
     for case in SHOWN.lines() {
-        is_shown(&rt, rt.alloc(), case);
+        assert_shown(&rt, rt.alloc(), case);
     }
 }
 
-/// What a sensor answered, and its states.
+/// `what the sensor answered|states`.
 const STATES: &str = "00400182|513
 0040ff7f|32767
 0040ffff|32767
 00400000|0";
 
 /// Asserts the states of a discrete sensor.
-fn has_states(rt: &impl Abort, case: &str) {
+fn assert_states(rt: &impl Abort, case: &str) {
     let (digits, wanted) = parts(rt, case);
     let states = states_in(answer_of(rt, digits).expect(rt, case));
     assert!(rt; wanted.parse::<u16>() == Ok(states), "{case}: got {states}");
@@ -143,40 +137,32 @@ fn has_states(rt: &impl Abort, case: &str) {
 #[test]
 fn each_answer_has_its_states(rt: HostRuntime) {
     for case in STATES.lines() {
-        has_states(&rt, case);
+        assert_states(&rt, case);
     }
 }
 
-/// The threshold lines of the full record.
+/// The threshold lines of `CPU_TEMP`.
 const THRESHOLDS: &str = "Upper non-recoverable: 95 degrees C
 Upper critical: 90 degrees C
 Upper non-critical: 85 degrees C
 ";
 
-/// Asserts the threshold lines of the full record with another event/reading type.
-fn has_threshold_lines(rt: &impl Abort, alloc: Global, event_type: u8, wanted: &str) {
+/// Asserts the threshold lines of `CPU_TEMP` with another event/reading type.
+fn assert_threshold_lines(rt: &impl Abort, alloc: Global, event_type: u8, wanted: &str) {
     let bytes = with_byte(rt, CPU_TEMP, 14, event_type);
     let full = full_of(rt, &bytes);
     let sensor = full.sensor();
     assert!(rt; has_thresholds(&sensor) != wanted.is_empty(), "{wanted}");
-    is_text(rt, threshold_lines(alloc, &full, &sensor), wanted, wanted);
+    assert_text(rt, threshold_lines(alloc, &full, &sensor), wanted, wanted);
 }
 
 #[test]
 fn only_a_sensor_with_thresholds_has_lines_of_them(rt: HostRuntime) {
-    has_threshold_lines(&rt, rt.alloc(), 0x01, THRESHOLDS);
-    has_threshold_lines(&rt, rt.alloc(), 0x6f, "");
+    assert_threshold_lines(&rt, rt.alloc(), 0x01, THRESHOLDS);
+    assert_threshold_lines(&rt, rt.alloc(), 0x6f, "");
 }
 
-/// The event that the bytes of an entry are.
-fn event_of<'a>(rt: &impl Abort, bytes: &'a [u8; 16]) -> EventEntry<'a> {
-    match SelView::read(bytes) {
-        SelView::Event(event) => event,
-        _ => panic!(rt; "no event: {bytes:?}"),
-    }
-}
-
-/// The sensor of an event and its direction.
+/// The sensor of an event, and its direction.
 fn event_text(alloc: Global, event: &EventEntry<'_>) -> Result<String, AllocError> {
     let sensor = sensor_of_event(event);
     let direction = direction_text(event);
@@ -186,9 +172,9 @@ fn event_text(alloc: Global, event: &EventEntry<'_>) -> Result<String, AllocErro
 #[test]
 fn an_event_has_its_sensor_and_its_direction(rt: HostRuntime) {
     let text = event_text(rt.alloc(), &event_of(&rt, &EVENT));
-    is_text(&rt, text, "Temperature #0x30 Asserted", "the event");
+    assert_text(&rt, text, "Temperature #0x30 Asserted", "the event");
     let mut bytes = EVENT;
     bytes[12] = 0x81;
     let text = event_text(rt.alloc(), &event_of(&rt, &bytes));
-    is_text(&rt, text, "Temperature #0x30 Deasserted", "its end");
+    assert_text(&rt, text, "Temperature #0x30 Deasserted", "its end");
 }

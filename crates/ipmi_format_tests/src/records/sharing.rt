@@ -1,12 +1,11 @@
 //! How sensors share a compact or an event-only record.
 use super::examples::changed;
-use crate::cases::{is_text, parts};
+use crate::cases::{assert_text, parts};
 use ipmi_records::{SdrView, Sharing};
 use std::alloc::Global;
 use std::process::Abort;
 
-/// Changes of the full record, which make another of it, and how sensors share that. Byte 25 of it is 01h, byte 13 is
-/// 01h and byte 14 is 01h.
+/// `changes of CPU_TEMP|sharing`. The first change makes a record of another type. Bytes 13, 14 and 25 are 01h.
 const RECORDS: &str = "4=02|Some(Sharing { count: 0, modifier: Numeric, offset: 1 })
 4=02,24=03,25=85|Some(Sharing { count: 3, modifier: Numeric, offset: 5 })
 4=02,24=1f,25=1a|Some(Sharing { count: 15, modifier: Alpha, offset: 26 })
@@ -23,7 +22,7 @@ const RECORDS: &str = "4=02|Some(Sharing { count: 0, modifier: Numeric, offset: 
 4=12|None
 4=c0|None";
 
-/// How sensors share a record, as the view of the record's own kind has it.
+/// The sharing, by the view of the record's own kind.
 fn own_sharing(view: &SdrView<'_>) -> Option<Sharing> {
     match view {
         SdrView::Compact(compact) => Some(compact.sharing()),
@@ -32,13 +31,13 @@ fn own_sharing(view: &SdrView<'_>) -> Option<Sharing> {
     }
 }
 
-/// Asserts how sensors share a record, as any view has it and as that of the record's own kind does.
-fn is_shared(rt: &impl Abort, alloc: Global, case: &str) {
+/// Asserts the sharing, by any view and by that of the record's own kind.
+fn assert_sharing(rt: &impl Abort, alloc: Global, case: &str) {
     let (changes, wanted) = parts(rt, case);
     let bytes = changed(rt, changes);
     let view = SdrView::read(&bytes).expect(rt, case);
-    is_text(rt, format!(in alloc; "{:?}", view.sharing()), wanted, case);
-    is_text(
+    assert_text(rt, format!(in alloc; "{:?}", view.sharing()), wanted, case);
+    assert_text(
         rt,
         format!(in alloc; "{:?}", own_sharing(&view)),
         wanted,
@@ -49,6 +48,6 @@ fn is_shared(rt: &impl Abort, alloc: Global, case: &str) {
 #[test]
 fn each_record_says_how_it_is_shared(rt: HostRuntime) {
     for case in RECORDS.lines() {
-        is_shared(&rt, rt.alloc(), case);
+        assert_sharing(&rt, rt.alloc(), case);
     }
 }

@@ -1,11 +1,11 @@
 //! Decimals, and the decimals of raw readings by their factors.
-use crate::cases::{is_text, parts};
+use crate::cases::{assert_text, parts};
 use ipmi_text::{Factors, Fixed, convert, fixed_text};
 use std::alloc::{AllocError, Global};
 use std::process::Abort;
 use std::str::{FromStr, SplitWhitespace};
 
-/// Units of 10^-16, and their decimal.
+/// `units of 10^-16|decimal`.
 const DECIMALS: &str = "0|0
 1|0.0000000000000001
 -1|-0.0000000000000001
@@ -27,7 +27,7 @@ const DECIMALS: &str = "0|0
 18446744073709551616|1844.6744073709551616
 12345678901234567890|1234.567890123456789";
 
-/// The factors in the order of `Factors::new`, the raw reading, and its decimal.
+/// `analog format, linearization, M, B, K1, K2, raw reading|decimal`.
 const READINGS: &str = "0 0 6 0 0 -2 201|12.06
 0 0 6 0 0 -2 200|12
 1 0 6 0 0 -2 255|0
@@ -43,7 +43,7 @@ const READINGS: &str = "0 0 6 0 0 -2 201|12.06
 1 0 1 0 0 0 127|127
 0 0 1 5 1 -1 45|9.5";
 
-/// Factors at the ends of their ranges, and factors of which one, or all, are out of its range.
+/// `analog format, linearization, M, B, K1, K2|whether each is in its range`.
 const FACTORS: &str = "0 0 -512 -512 -8 -8|in range
 3 127 511 511 7 7|in range
 0 0 0 0 0 0|in range
@@ -59,13 +59,13 @@ const FACTORS: &str = "0 0 -512 -512 -8 -8|in range
 0 0 0 0 0 -9|out of range
 255 255 32767 -32768 127 -128|out of range";
 
-fn is_decimal(rt: &impl Abort, alloc: Global, line: &str) {
+fn assert_decimal(rt: &impl Abort, alloc: Global, line: &str) {
     let (units, wanted) = parts(rt, line);
     let units = units.parse::<i128>().expect(rt, line);
-    is_text(rt, fixed_text(alloc, Fixed(units)), wanted, line);
+    assert_text(rt, fixed_text(alloc, Fixed(units)), wanted, line);
 }
 
-/// The number that the next word of a line is.
+/// The number in the next word of a line.
 fn next_number<N: FromStr<Err: Drop>>(
     rt: &impl Abort,
     words: &mut SplitWhitespace<'_>,
@@ -78,7 +78,7 @@ fn next_number<N: FromStr<Err: Drop>>(
     }
 }
 
-/// The factors of six words of a line, where they are in range.
+/// The factors in six words of a line, if they are in range.
 fn factors_of(rt: &impl Abort, words: &mut SplitWhitespace<'_>, line: &str) -> Option<Factors> {
     let format = next_number::<u8>(rt, words, line);
     let linear = next_number::<u8>(rt, words, line);
@@ -89,8 +89,8 @@ fn factors_of(rt: &impl Abort, words: &mut SplitWhitespace<'_>, line: &str) -> O
     Factors::new(format, linear, m, b, k1, k2)
 }
 
-/// Asserts whether there are such factors.
-fn is_in_range(rt: &impl Abort, line: &str) {
+/// Asserts whether factors are in range.
+fn assert_range(rt: &impl Abort, line: &str) {
     let (words, wanted) = parts(rt, line);
     let got = match factors_of(rt, &mut words.split_whitespace(), line) {
         Some(_) => "in range",
@@ -99,7 +99,7 @@ fn is_in_range(rt: &impl Abort, line: &str) {
     assert!(rt; got == wanted, "{line}: got {got}");
 }
 
-/// The decimal of a raw reading, and `no value` where it has none.
+/// The decimal of a raw reading, or `no value`.
 fn reading_text(alloc: Global, factors: &Factors, raw: u8) -> Result<String, AllocError> {
     match convert(factors, raw) {
         Some(value) => fixed_text(alloc, value),
@@ -107,31 +107,31 @@ fn reading_text(alloc: Global, factors: &Factors, raw: u8) -> Result<String, All
     }
 }
 
-fn is_reading(rt: &impl Abort, alloc: Global, line: &str) {
+fn assert_reading(rt: &impl Abort, alloc: Global, line: &str) {
     let (words, wanted) = parts(rt, line);
     let mut words = words.split_whitespace();
     let factors = factors_of(rt, &mut words, line).expect(rt, line);
     let raw = next_number::<u8>(rt, &mut words, line);
-    is_text(rt, reading_text(alloc, &factors, raw), wanted, line);
+    assert_text(rt, reading_text(alloc, &factors, raw), wanted, line);
 }
 
 #[test]
 fn each_number_has_its_decimal(rt: HostRuntime) {
     for line in DECIMALS.lines() {
-        is_decimal(&rt, rt.alloc(), line);
+        assert_decimal(&rt, rt.alloc(), line);
     }
 }
 
 #[test]
 fn each_reading_has_its_decimal(rt: HostRuntime) {
     for line in READINGS.lines() {
-        is_reading(&rt, rt.alloc(), line);
+        assert_reading(&rt, rt.alloc(), line);
     }
 }
 
 #[test]
 fn factors_out_of_their_ranges_are_refused(rt: HostRuntime) {
     for line in FACTORS.lines() {
-        is_in_range(&rt, line);
+        assert_range(&rt, line);
     }
 }

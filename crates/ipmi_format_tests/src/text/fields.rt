@@ -1,10 +1,10 @@
 //! The texts of fields: of an inventory by their code and language, and of a record by their type/length byte.
-use crate::cases::{byte_of, bytes_of, is_text, three_parts};
+use crate::cases::{assert_text, byte_of, bytes_of, three_parts};
 use ipmi_text::{fru_text, sdr_text};
 use std::alloc::Global;
 use std::process::Abort;
 
-/// Code and language, the bytes, and the text.
+/// `code and language|bytes|text`.
 const FRU_FIELDS: &str = "0200|29dca6|IPMI
 0200|29dc|IP
 0200|29|I
@@ -79,7 +79,7 @@ const FRU_FIELDS: &str = "0200|29dca6|IPMI
 031a|41|41
 03ff|4100|4100";
 
-/// The type/length byte, the bytes after it, and the text.
+/// `type/length byte|bytes after it|text`.
 const ID_STRINGS: &str = "84|29dca6|IPMI
 84|29dc|IP
 43|123b|123
@@ -118,33 +118,33 @@ c4|41e90042|Aé
 c2||
 e3|414243|ABC";
 
-fn is_fru_field(rt: &impl Abort, alloc: Global, line: &str) {
+fn assert_fru_field(rt: &impl Abort, alloc: Global, line: &str) {
     let (head, digits, wanted) = three_parts(rt, line);
     let (code, language) = head.split_at_checked(2).expect(rt, line);
     let code = byte_of(rt, code);
     assert!(rt; code < 4, "{line}: code {code}");
     let bytes = bytes_of(rt, alloc, digits);
     let text = fru_text(alloc, code, byte_of(rt, language), &bytes);
-    is_text(rt, text, wanted, line);
+    assert_text(rt, text, wanted, line);
 }
 
-fn is_id_string(rt: &impl Abort, alloc: Global, line: &str) {
+fn assert_id_string(rt: &impl Abort, alloc: Global, line: &str) {
     let (type_length, digits, wanted) = three_parts(rt, line);
     let bytes = bytes_of(rt, alloc, digits);
     let text = sdr_text(alloc, byte_of(rt, type_length), &bytes);
-    is_text(rt, text, wanted, line);
+    assert_text(rt, text, wanted, line);
 }
 
 #[test]
 fn each_field_of_an_inventory_has_its_text(rt: HostRuntime) {
     for line in FRU_FIELDS.lines() {
-        is_fru_field(&rt, rt.alloc(), line);
+        assert_fru_field(&rt, rt.alloc(), line);
     }
 }
 
 #[test]
 fn each_id_string_has_its_text(rt: HostRuntime) {
     for line in ID_STRINGS.lines() {
-        is_id_string(&rt, rt.alloc(), line);
+        assert_id_string(&rt, rt.alloc(), line);
     }
 }

@@ -1,10 +1,10 @@
 //! Bytes and words in hex digits: in lower case, and in upper case with an `h`.
-use crate::cases::{byte_of, id_of, is_text, three_parts};
+use crate::cases::{assert_text, byte_of, id_of, three_parts};
 use ipmi_text::{ByteH, HexByte, HexWord, WordH};
 use std::alloc::Global;
 use std::process::Abort;
 
-/// Two hex digits in any case, and how the byte is displayed.
+/// `digits in any case|in lower case|in upper case`.
 const BYTES: &str = "00|00|00h
 09|09|09h
 0a|0a|0Ah
@@ -14,24 +14,24 @@ const BYTES: &str = "00|00|00h
 a0|a0|A0h
 FF|ff|FFh";
 
-/// Asserts how a byte is displayed.
-fn is_byte(rt: &impl Abort, alloc: Global, line: &str) {
+/// Asserts the digits of a byte.
+fn assert_byte(rt: &impl Abort, alloc: Global, line: &str) {
     let (digits, lower, upper) = three_parts(rt, line);
     let byte = byte_of(rt, digits);
     let displayed = HexByte(byte);
-    is_text(rt, format!(in alloc; "{displayed}"), lower, line);
+    assert_text(rt, format!(in alloc; "{displayed}"), lower, line);
     let displayed = ByteH(byte);
-    is_text(rt, format!(in alloc; "{displayed}"), upper, line);
+    assert_text(rt, format!(in alloc; "{displayed}"), upper, line);
 }
 
 #[test]
 fn a_byte_is_two_hex_digits(rt: HostRuntime) {
     for line in BYTES.lines() {
-        is_byte(&rt, rt.alloc(), line);
+        assert_byte(&rt, rt.alloc(), line);
     }
 }
 
-/// Four hex digits in any case, and how the word is displayed: its high byte first.
+/// `digits in any case|in lower case|in upper case`. The high byte comes first.
 const WORDS: &str = "0000|0000|0000h
 0001|0001|0001h
 00A0|00a0|00A0h
@@ -40,18 +40,18 @@ const WORDS: &str = "0000|0000|0000h
 fffe|fffe|FFFEh
 FFFF|ffff|FFFFh";
 
-fn is_word(rt: &impl Abort, alloc: Global, line: &str) {
+fn assert_word(rt: &impl Abort, alloc: Global, line: &str) {
     let (digits, lower, upper) = three_parts(rt, line);
     let word = id_of(rt, digits);
     let displayed = HexWord(word);
-    is_text(rt, format!(in alloc; "{displayed}"), lower, line);
+    assert_text(rt, format!(in alloc; "{displayed}"), lower, line);
     let displayed = WordH(word);
-    is_text(rt, format!(in alloc; "{displayed}"), upper, line);
+    assert_text(rt, format!(in alloc; "{displayed}"), upper, line);
 }
 
 #[test]
 fn a_word_is_four_hex_digits(rt: HostRuntime) {
     for line in WORDS.lines() {
-        is_word(&rt, rt.alloc(), line);
+        assert_word(&rt, rt.alloc(), line);
     }
 }

@@ -1,5 +1,5 @@
-//! Each call that makes a text, once: with ample memory, and with requests for memory refused.
-use crate::cases::{is_text, is_text_or_refused};
+//! Each call that makes a text, once with ample memory, and once with requests refused.
+use crate::cases::{assert_text, assert_text_or_refused};
 use ipmi_text::{
     Fixed, Units, chassis_text, event_text, fixed_text, fru_text, minutes_text, push_fixed,
     push_sdr_text, push_units, sdr_text, sensor_type_text, unit_text, utc_text,
@@ -20,7 +20,7 @@ fn appended(alloc: Global) -> Result<String, AllocError> {
     Ok(text)
 }
 
-/// Each call that takes memory, with the text that it has to give.
+/// Each call that takes memory, with its text.
 fn calls_that_take_memory(alloc: Global) -> [(Result<String, AllocError>, &'static str); 11] {
     [
         (fru_text(alloc, 2, 0, b"\x29\xdc\xa6"), "IPMI"),
@@ -37,18 +37,18 @@ fn calls_that_take_memory(alloc: Global) -> [(Result<String, AllocError>, &'stat
     ]
 }
 
-/// None of them is always out of memory: with ample memory each answers with its text.
+// With ample memory each call gives its text.
 #[test]
 fn not_always_out_of_memory(rt: HostRuntime) {
     for (text, wanted) in calls_that_take_memory(rt.alloc()) {
-        is_text(&rt, text, wanted, wanted);
+        assert_text(&rt, text, wanted, wanted);
     }
 }
 
-/// Where memory is refused, each of them answers with its text or with want of memory.
+// With memory refused each call gives its text, or fails when out of memory.
 #[test]
 fn memory_may_be_refused(rt: HostRuntime) {
     for (text, wanted) in calls_that_take_memory(rt.alloc()) {
-        is_text_or_refused(&rt, text, wanted);
+        assert_text_or_refused(&rt, text, wanted);
     }
 }

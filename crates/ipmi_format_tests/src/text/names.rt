@@ -1,10 +1,10 @@
 //! The names of sensor types, of chassis types and of events, and the codes that have none.
-use crate::cases::{byte_of, is_text, parts};
+use crate::cases::{assert_text, byte_of, parts};
 use ipmi_text::{chassis_text, event_text, sensor_type_text};
 use std::alloc::Global;
 use std::process::Abort;
 
-/// The code of a sensor type, and its name.
+/// `sensor type|name`.
 const SENSOR_TYPES: &str = "01|Temperature
 02|Voltage
 03|Current
@@ -53,7 +53,7 @@ const SENSOR_TYPES: &str = "01|Temperature
 2d|sensor type 0x2d
 ff|sensor type 0xff";
 
-/// The code of a chassis type, and its name.
+/// `chassis type|name`.
 const CHASSIS_TYPES: &str = "01|Other
 02|Unknown
 03|Desktop
@@ -81,7 +81,7 @@ const CHASSIS_TYPES: &str = "01|Other
 18|type 0x18
 ff|type 0xff";
 
-/// The event/reading type and the first byte of an event's data, of which the low half is the offset, and the event.
+/// `event/reading type and event data 1|event`. The low half of event data 1 is the offset.
 const EVENTS: &str = "0100|Lower Non-critical going low
 0101|Lower Non-critical going high
 0102|Lower Critical going low
@@ -112,42 +112,42 @@ const EVENTS: &str = "0100|Lower Non-critical going low
 0000|event 0x00 offset 0x0
 fffa|event 0xff offset 0xa";
 
-fn is_sensor_type(rt: &impl Abort, alloc: Global, line: &str) {
+fn assert_sensor_type(rt: &impl Abort, alloc: Global, line: &str) {
     let (code, wanted) = parts(rt, line);
     let text = sensor_type_text(alloc, byte_of(rt, code));
-    is_text(rt, text, wanted, line);
+    assert_text(rt, text, wanted, line);
 }
 
-fn is_chassis_type(rt: &impl Abort, alloc: Global, line: &str) {
+fn assert_chassis_type(rt: &impl Abort, alloc: Global, line: &str) {
     let (code, wanted) = parts(rt, line);
     let text = chassis_text(alloc, byte_of(rt, code));
-    is_text(rt, text, wanted, line);
+    assert_text(rt, text, wanted, line);
 }
 
-fn is_event(rt: &impl Abort, alloc: Global, line: &str) {
+fn assert_event(rt: &impl Abort, alloc: Global, line: &str) {
     let (bytes, wanted) = parts(rt, line);
     let (event, data) = bytes.split_at_checked(2).expect(rt, line);
     let text = event_text(alloc, byte_of(rt, event), byte_of(rt, data));
-    is_text(rt, text, wanted, line);
+    assert_text(rt, text, wanted, line);
 }
 
 #[test]
 fn each_sensor_type_has_its_name(rt: HostRuntime) {
     for line in SENSOR_TYPES.lines() {
-        is_sensor_type(&rt, rt.alloc(), line);
+        assert_sensor_type(&rt, rt.alloc(), line);
     }
 }
 
 #[test]
 fn each_chassis_type_has_its_name(rt: HostRuntime) {
     for line in CHASSIS_TYPES.lines() {
-        is_chassis_type(&rt, rt.alloc(), line);
+        assert_chassis_type(&rt, rt.alloc(), line);
     }
 }
 
 #[test]
 fn each_event_has_its_text(rt: HostRuntime) {
     for line in EVENTS.lines() {
-        is_event(&rt, rt.alloc(), line);
+        assert_event(&rt, rt.alloc(), line);
     }
 }

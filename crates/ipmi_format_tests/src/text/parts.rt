@@ -1,11 +1,11 @@
-//! Texts that are displayed in another text, or appended to it.
-use crate::cases::is_text;
+//! Texts that are displayed within another text, or appended to one.
+use crate::cases::assert_text;
 use ipmi_text::{
     EventWords, Fixed, SensorType, Units, UtcTime, push_fixed, push_sdr_text, push_units,
 };
 use std::alloc::{AllocError, Global};
 
-/// Units by their bytes.
+/// Units of three bytes.
 fn units(units1: u8, base: u8, modifier: u8) -> Units {
     Units {
         units1,
@@ -14,7 +14,7 @@ fn units(units1: u8, base: u8, modifier: u8) -> Units {
     }
 }
 
-/// One of each type that is displayed, in one text.
+/// A value of each type that is displayed, in one text.
 fn displayed(alloc: Global) -> Result<String, AllocError> {
     let kind = SensorType(0x04);
     let words = EventWords {
@@ -29,7 +29,7 @@ fn displayed(alloc: Global) -> Result<String, AllocError> {
 #[test]
 fn values_are_displayed_in_a_text(rt: HostRuntime) {
     let wanted = "Fan | Upper Critical going high | 1988-06-19 06:04:01 | RPM per s";
-    is_text(&rt, displayed(rt.alloc()), wanted, "displayed");
+    assert_text(&rt, displayed(rt.alloc()), wanted, "displayed");
 }
 
 /// A decimal, units and ID strings after other texts.
@@ -51,7 +51,7 @@ fn appended(alloc: Global) -> Result<String, AllocError> {
 
 #[test]
 fn parts_are_appended(rt: HostRuntime) {
-    is_text(
+    assert_text(
         &rt,
         appended(rt.alloc()),
         "at -1.5 degrees C Joules/second per us % of CPU1, 123, A.",

@@ -3,8 +3,7 @@ use crate::cases::parts;
 use ipmi_text::{Factors, Fixed, convert};
 use std::process::Abort;
 
-/// The analog data format and a raw byte, and the number that it stands for: by format 0 without a sign, by format 1 in
-/// ones' complement, and by format 2 in two's complement.
+/// `analog format, raw byte|number`. Format 0 is unsigned, 1 is ones' complement and 2 is two's complement.
 const NUMBERS: &str = "0 0|0
 0 1|1
 0 127|127
@@ -30,7 +29,7 @@ const OFFSETS: [i16; 5] = [-512, -1, 0, 1, 511];
 
 const EXPONENTS: [i8; 16] = [-8, -7, -6, -5, -4, -3, -2, -1, 0, 1, 2, 3, 4, 5, 6, 7];
 
-/// A raw byte with the number that it stands for, and the factors of a linear sensor.
+/// A raw byte, its number, and the factors of a linear sensor.
 #[derive(Clone, Copy, Debug)]
 struct Case {
     format: u8,
@@ -50,16 +49,16 @@ fn times_ten(number: i128, count: i8) -> i128 {
     number
 }
 
-/// The reading in units of 10^-16: B is multiplied by ten K1 + 8 times, and M times the number 8 times; then their sum
-/// is multiplied by ten K2 + 8 times.
+/// The reading in units of 10^-16. B is multiplied by ten K1 + 8 times, and M times the number 8 times. Their sum is
+/// multiplied by ten K2 + 8 times.
 fn product(case: &Case) -> i128 {
     let slope = times_ten((case.m as i128).wrapping_mul(case.number), 8);
     let offset = times_ten(case.b as i128, case.k1.wrapping_add(8));
     times_ten(slope.wrapping_add(offset), case.k2.wrapping_add(8))
 }
 
-/// Asserts the reading of a raw byte.
-fn is_product(rt: &impl Abort, case: &Case) {
+/// Asserts the reading of a case.
+fn assert_reading(rt: &impl Abort, case: &Case) {
     let factors = Factors::new(case.format, 0, case.m, case.b, case.k1, case.k2);
     let value = convert(&factors.expect(rt, "factors"), case.raw);
     assert!(rt;
@@ -68,25 +67,25 @@ fn is_product(rt: &impl Abort, case: &Case) {
     );
 }
 
-/// The same for all exponents.
-fn is_product_for_all_exponents(rt: &impl Abort, case: Case) {
+/// The same with each pair of exponents.
+fn assert_readings_of_exponents(rt: &impl Abort, case: Case) {
     for k1 in EXPONENTS {
         for k2 in EXPONENTS {
-            is_product(rt, &Case { k1, k2, ..case });
+            assert_reading(rt, &Case { k1, k2, ..case });
         }
     }
 }
 
-/// The same for all slopes and offsets.
-fn is_product_for_all_factors(rt: &impl Abort, case: Case) {
+/// The same with each slope, offset and pair of exponents.
+fn assert_readings_of_factors(rt: &impl Abort, case: Case) {
     for m in SLOPES {
         for b in OFFSETS {
-            is_product_for_all_exponents(rt, Case { m, b, ..case });
+            assert_readings_of_exponents(rt, Case { m, b, ..case });
         }
     }
 }
 
-/// The case that a line stands for, without factors.
+/// The case of a line, with all factors zero.
 fn case_of(rt: &impl Abort, line: &str) -> Case {
     let (bits, number) = parts(rt, line);
     let (format, raw) = bits.split_once(' ').expect(rt, line);
@@ -102,15 +101,15 @@ fn case_of(rt: &impl Abort, line: &str) -> Case {
 }
 
 /// Asserts the readings of the raw byte of a line.
-fn are_products(rt: &impl Abort, line: &str) {
-    is_product_for_all_factors(rt, case_of(rt, line));
+fn assert_readings_of_line(rt: &impl Abort, line: &str) {
+    assert_readings_of_factors(rt, case_of(rt, line));
 }
 
-// 18 raw bytes, each with 8 slopes, 5 offsets, and 16 times 16 exponents: 184,320 readings.
+// 18 raw bytes, 8 slopes, 5 offsets, and 16 times 16 exponents: 184,320 readings.
 #[test]
 fn repeated_multiplication_gives_the_same_readings(rt: HostRuntime) {
     for line in NUMBERS.lines() {
-        are_products(&rt, line);
+        assert_readings_of_line(&rt, line);
     }
     let lines = NUMBERS.lines().count();
     assert!(rt; lines == 18, "{lines} raw bytes");

@@ -1,10 +1,10 @@
 //! Times: of entries, in seconds, and of boards, in minutes.
-use crate::cases::{is_text, parts};
+use crate::cases::{assert_text, parts};
 use ipmi_text::{minutes_text, utc_text};
 use std::alloc::Global;
 use std::process::Abort;
 
-/// Seconds from 1970-01-01, and the text.
+/// `seconds from 1970-01-01|text`.
 const SECONDS: &str = "0|+0 s
 1|+1 s
 536870911|+536870911 s
@@ -32,7 +32,7 @@ const SECONDS: &str = "0|+0 s
 536957312|1987-01-06 18:48:32
 582703441|1988-06-19 06:04:01";
 
-/// Minutes from 1996-01-01, and the text.
+/// `minutes from 1996-01-01|text`.
 const MINUTES: &str = "0|unspecified
 1|1996-01-01 00:01
 59|1996-01-01 00:59
@@ -51,29 +51,29 @@ const MINUTES: &str = "0|unspecified
 7629870|2010-07-04 12:30
 14812207|2024-02-29 06:07";
 
-fn is_time_of_seconds(rt: &impl Abort, alloc: Global, line: &str) {
+fn assert_time_of_seconds(rt: &impl Abort, alloc: Global, line: &str) {
     let (seconds, wanted) = parts(rt, line);
     let seconds = seconds.parse::<u32>().expect(rt, line);
-    is_text(rt, utc_text(alloc, seconds), wanted, line);
+    assert_text(rt, utc_text(alloc, seconds), wanted, line);
 }
 
-fn is_time_of_minutes(rt: &impl Abort, alloc: Global, line: &str) {
+fn assert_time_of_minutes(rt: &impl Abort, alloc: Global, line: &str) {
     let (minutes, wanted) = parts(rt, line);
     let minutes = minutes.parse::<u32>().expect(rt, line);
     assert!(rt; minutes <= 0xff_ffff, "{line}: too many");
-    is_text(rt, minutes_text(alloc, minutes), wanted, line);
+    assert_text(rt, minutes_text(alloc, minutes), wanted, line);
 }
 
 #[test]
 fn each_second_has_its_text(rt: HostRuntime) {
     for line in SECONDS.lines() {
-        is_time_of_seconds(&rt, rt.alloc(), line);
+        assert_time_of_seconds(&rt, rt.alloc(), line);
     }
 }
 
 #[test]
 fn each_minute_has_its_text(rt: HostRuntime) {
     for line in MINUTES.lines() {
-        is_time_of_minutes(&rt, rt.alloc(), line);
+        assert_time_of_minutes(&rt, rt.alloc(), line);
     }
 }

@@ -1,11 +1,11 @@
 //! The texts of units: each base unit, and units with a rate, a modifier unit or a percentage.
-use crate::cases::{is_text, parts};
+use crate::cases::{assert_text, parts};
 use hex::FromHex;
 use ipmi_text::unit_text;
 use std::alloc::Global;
 use std::process::Abort;
 
-/// Sensor units 1, the base unit and the modifier unit, and the text.
+/// `sensor units 1, base unit, modifier unit|text`.
 const UNITS: &str = "000000|
 000100|degrees C
 000200|degrees F
@@ -54,15 +54,15 @@ const UNITS: &str = "000000|
 db07ff|% Joules/unit 0xff per s
 c01900|unit 0x19";
 
-fn is_unit(rt: &impl Abort, alloc: Global, line: &str) {
+fn assert_unit(rt: &impl Abort, alloc: Global, line: &str) {
     let (digits, wanted) = parts(rt, line);
     let [units1, base, modifier] = <[u8; 3]>::from_hex(digits).expect(rt, line);
-    is_text(rt, unit_text(alloc, units1, base, modifier), wanted, line);
+    assert_text(rt, unit_text(alloc, units1, base, modifier), wanted, line);
 }
 
 #[test]
 fn each_unit_has_its_text(rt: HostRuntime) {
     for line in UNITS.lines() {
-        is_unit(&rt, rt.alloc(), line);
+        assert_unit(&rt, rt.alloc(), line);
     }
 }

@@ -1,4 +1,4 @@
-use Rattle.std.proofs.Common.{◌≡◌, ◌≢◌, List, ℕ, arith}
+use Rattle.std.proofs.Common.{arith}
 use Rattle.ipmi_raw.proofs.WordLemmas.{agree, differ}
 use Rattle.ipmi_raw_tests.proofs.MessageLemmas.{read_all, read_no_front, read_no_byte, read_too_many, read_one}
 use Rattle.ipmi_raw_tests.proofs.message.read_bytes.Goals as goal

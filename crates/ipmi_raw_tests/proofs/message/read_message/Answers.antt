@@ -1,4 +1,4 @@
-use Rattle.std.proofs.Common.{◌≡◌, ◌++◌, List, ℕ, subst, sym, codes}
+use Rattle.std.proofs.Common.{◌≡◌, ◌++◌, subst, sym, codes}
 use Rattle.ipmi_raw.specs.declared.tool.Tool.{Tool}
 use Rattle.ipmi_raw.specs.declared.tool.Tool.TheVariants.{FreeIpmi}
 use Rattle.ipmi_raw.specs.Peer.{request_text}

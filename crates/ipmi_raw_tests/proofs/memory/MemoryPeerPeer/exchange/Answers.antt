@@ -1,7 +1,6 @@
 use Rattle.std.proofs.Common.{◌≡◌, Some, refl, sym, ◌∙◌}
 use Rattle.ipmi_image.specs.Controllers.{seen_of}
-use Rattle.ipmi_raw_tests.specs.Asked.{as_read}
-use Rattle.ipmi_raw_tests.proofs.ReadLemmas.{reads, replies}
+use Rattle.ipmi_raw_tests.proofs.ReadLemmas.{as_read, reads, replies}
 use Rattle.ipmi_raw_tests.proofs.memory.MemoryPeerPeer.exchange.Goals as goal
 
 pub returns-clause-honest : goal.returns-clause-honest

@@ -1,0 +1,105 @@
+//! The outcome of a command over a controller, and how it is compared with what is wanted.
+use crate::controllers::Counting;
+use ipmi_bus::Controller;
+use ipmi_command_line::Command;
+use ipmi_commands::run;
+use ipmi_output::Written;
+use std::alloc::Global;
+use std::process::Abort;
+
+/// What a command leaves: output, messages, status and the number of calls.
+#[derive(Drop)]
+pub(crate) struct Outcome {
+    pub out: Vec<u8>,
+    pub err: Vec<u8>,
+    pub status: u8,
+    pub calls: u32,
+}
+
+/// The outcome of a command over the controller.
+pub(crate) fn outcome_of<C: Controller + Drop>(
+    alloc: Global,
+    ctl: &mut Counting<C>,
+    command: &Command,
+) -> Outcome {
+    let mut out = Written::new(Vec::new(alloc));
+    let mut err = Vec::new(alloc);
+    let status = run(alloc, ctl, command, &mut out, &mut err);
+    Outcome {
+        out: out.into_inner(),
+        err,
+        status,
+        calls: ctl.calls,
+    }
+}
+
+/// The same. The controller and the command end with it.
+pub(crate) fn outcome_of_one<C: Controller + Drop>(
+    alloc: Global,
+    mut ctl: Counting<C>,
+    command: Command,
+) -> Outcome {
+    let outcome = outcome_of(alloc, &mut ctl, &command);
+    drop(command);
+    drop(ctl);
+    outcome
+}
+
+pub(crate) fn text_of<'a>(rt: &impl Abort, bytes: &'a [u8], case: &str) -> &'a str {
+    std::str::from_utf8(bytes).expect(rt, case)
+}
+
+/// An outcome as a text: status and number of calls in a line, messages, a line of dashes, output.
+fn outcome_text(rt: &impl Abort, alloc: Global, outcome: &Outcome, case: &str) -> String {
+    let out = text_of(rt, &outcome.out, case);
+    let err = text_of(rt, &outcome.err, case);
+    let status = outcome.status;
+    let calls = outcome.calls;
+    format!(in alloc; "{status} {calls}\n{err}--\n{out}").expect(rt, "memory")
+}
+
+/// Asserts an outcome, in the form of `outcome_text`.
+pub(crate) fn assert_outcome(
+    rt: &impl Abort,
+    alloc: Global,
+    outcome: Outcome,
+    wanted: &str,
+    case: &str,
+) {
+    let got = outcome_text(rt, alloc, &outcome, case);
+    drop(outcome);
+    assert!(rt; got.as_str() == wanted, "{case}: got {got}");
+}
+
+/// Asserts the outcome of one command over the controller, in the form of `outcome_text`.
+pub(crate) fn assert_outcome_of_one<C: Controller + Drop>(
+    rt: &impl Abort,
+    alloc: Global,
+    ctl: Counting<C>,
+    command: Command,
+    wanted: &str,
+    case: &str,
+) {
+    assert_outcome(rt, alloc, outcome_of_one(alloc, ctl, command), wanted, case);
+}
+
+/// An outcome as a text: status, number of calls and number of bytes, then a bar and the messages.
+fn numbers_text(rt: &impl Abort, alloc: Global, outcome: &Outcome, case: &str) -> String {
+    let status = outcome.status;
+    let calls = outcome.calls;
+    let len = outcome.out.len();
+    let err = text_of(rt, &outcome.err, case);
+    format!(in alloc; "{status} {calls} {len}|{err}").expect(rt, "memory")
+}
+
+/// Asserts an outcome, in the form of `numbers_text`.
+pub(crate) fn assert_numbers(
+    rt: &impl Abort,
+    alloc: Global,
+    outcome: &Outcome,
+    wanted: &str,
+    case: &str,
+) {
+    let got = numbers_text(rt, alloc, outcome, case);
+    assert!(rt; got.as_str() == wanted, "{case}: got {got}");
+}
