@@ -38,7 +38,7 @@ _serdimko() {
   # What may follow the words before. Names and numbers are not completed.
   case $line in
     '') next='fru sdr sensor sel capture image help' ;;
-    'fru') next='print' ;;
+    'fru') next='print list' ;;
     'sdr') next='list elist get info hex' ;;
     'sdr list') next='all full compact event generic mclocator fru' ;;
     'sdr elist') next='all full compact event generic mclocator fru' ;;
