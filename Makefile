@@ -1,20 +1,22 @@
-# `make demo` and `make test` are for every reader. They need the toolchain's command `rt`; the tests need bash, git and python3 too.
+# `make demo` and `make test` are for everyone. They need the toolchain's command `rt`; the tests also need bash, git and
+# python3.
 PREFIX ?= /usr/local
-# The name that the program is installed under. It isn't `ipmitool`, which would come before the system's.
+# The name of the installed program. It is not `ipmitool`, which would hide the system's own.
 NAME := serdimko
 PROGRAM := crates/serdimko/out/serdimko
-# The program that the definitions are about, which tests run. It is not installed.
+# The program that the definitions specify. Tests run it; it is not installed.
 SPECIFIED := crates/ipmitool/out/ipmitool
 
-# What a program's crate is built of: its sources and those of the crates that it rests on, and no must-fail edit or document;
-# and crates.txt, unless its lines of these crates are the ones that `make` built the program by last.
+# The prerequisites of a program: the sources of its crate and of the crates it depends on, without must-fail edits and
+# documents; and crates.txt, unless its lines for these crates are unchanged since `make` last built the program.
 built_of = $(shell scripts/rests_on $1 | sed 's/[: ].*//' | while read -r crate; do \
     find "crates/$$crate" \( -name out -o -name must-fail \) -prune -o \( -name '*.rt' -o -name '*.antt' \) -print; done) \
   $(shell cd crates/$1/out 2> /dev/null && ! [ $1 -nt $1.crates ] && ../../../scripts/rests_on $1 | cmp -s - $1.crates || echo crates.txt)
 
 .PHONY: demo try test memory turns bench live-test build install uninstall package package-test
 
-# The program on the image of a server, its sensors, one of them whole, events and inventories, and on three records as they are.
+# Runs the program on the image of a server (its sensors, one sensor in full, events and inventories), and on three records in
+# hex.
 demo: $(PROGRAM)
 	$(PROGRAM) --image examples/server.image sdr list
 	$(PROGRAM) --image examples/server.image sdr get 'CPU1 Temp'
@@ -22,8 +24,8 @@ demo: $(PROGRAM)
 	$(PROGRAM) --image examples/server.image fru
 	$(PROGRAM) --image examples/three-rows.image sdr hex
 
-# A first look: the program compiled and run on an image with no proof of it, in about a minute. Only the copy of the
-# image is a file that it can read. `make try WORDS='sel list'` runs another command.
+# A first look, in about a minute: compiles the program without proofs, and runs it on an image. It can read no other file than
+# the copy of the image. `make try WORDS='sel list'` runs another command.
 WORDS := sdr list
 try:
 	@echo 'unproved: the program is compiled and run, and nothing is proved of it'
@@ -33,48 +35,49 @@ try:
 test:
 	@scripts/test
 
-# Each request for memory refused in turn: seconds after the gate; otherwise the proofs and builds that it needs come first.
+# Refuses each memory allocation in turn. Takes seconds after the gate; otherwise it first makes the proofs and builds it needs.
 memory:
 	@scripts/refuse_memory
 
-# Each turn of a must-fail edit that joins several, refused by itself; an hour and more.
+# Checks that each turn of a must-fail edit with several turns is refused by itself. Takes more than an hour.
 turns:
 	@scripts/refuse_turns
 
-# Time, memory and instructions on long images, against two references in C; some minutes, and no time fails it.
+# Measures time, memory and instructions on long images, compared to two references in C. Takes some minutes; no time fails it.
 bench: $(PROGRAM)
 	@scripts/bench $(PROGRAM)
 
-# Listings and captures by scripts/live over a simulated controller, by each tool and protocol, and over a tool with troubles;
-# minutes. Debian's ipmitool, openipmi and freeipmi-tools are needed.
+# Tests listings and captures by scripts/live over a simulated controller, with each tool and protocol, and over a tool with
+# troubles. Takes minutes. Needs Debian's ipmitool, openipmi and freeipmi-tools.
 live-test: $(PROGRAM)
 	@scripts/live_test
 
 build: $(PROGRAM)
 
-# A program is built only where it and all that it rests on is proved.
+# A program is built only if it and all crates it depends on are proved.
 $(PROGRAM): $(call built_of,serdimko)
 $(SPECIFIED): $(call built_of,ipmitool)
 $(PROGRAM) $(SPECIFIED):
 	cd crates/$(@F) && rt run < ../../examples/three-rows.image > /dev/null
 	@touch $@ && scripts/rests_on $(@F) > $@.crates
 
-# Where `make install` puts the programs, their pages and the completions. Some shells leave the ~ of PREFIX=~/DIR to us. In /usr
-# Debian's zsh looks for completions in vendor-completions; others say ZSH=site-functions.
+# Where `make install` puts the programs, their manual pages and the completions. Some shells do not expand the ~ of
+# PREFIX=~/DIR. With PREFIX=/usr, Debian's zsh looks for completions in vendor-completions; for other systems, set
+# ZSH=site-functions.
 TO = $(DESTDIR)$(patsubst ~/%,$(HOME)/%,$(PREFIX))
 ZSH = $(if $(filter /usr /usr/,$(PREFIX)),vendor-completions,site-functions)
 PROGRAMS = "$(TO)/bin/$(NAME)" "$(TO)/bin/$(NAME)-live"
 TEXTS = "$(TO)/share/man/man1/$(NAME).1" "$(TO)/share/man/man1/$(NAME)-live.1" \
   "$(TO)/share/bash-completion/completions/$(NAME)" "$(TO)/share/zsh/$(ZSH)/_$(NAME)"
 
-# A name is one that is the same in a file name, a shell function and a manual page.
+# NAME may only have characters that mean themselves in a file name, a shell function and a manual page.
 CHECK_NAME = $(if $(shell printf '%s' '$(NAME)' | grep -xE '[A-Za-z0-9_][A-Za-z0-9_.-]*'),,$(error NAME is '$(NAME)', and has to be letters, digits and _ . -))
-# This asks the shell, as `make` itself would not see a program that it has built since it began.
+# This asks the shell, because `make` itself does not see a program that it built after it started.
 CHECK_BUILT = $(if $(shell test -x $(PROGRAM) && echo yes),,$(error the program is not built: run `make build` first))
 
-# Copies the program as it was built last, and neither builds nor proves: it takes no toolchain, and another user than the
-# one who built can run it. So the program is no prerequisite. The pages and the completions get the name on the way. All users
-# can read what is installed, also where the umask of the one who installs lets nobody.
+# Copies the program as last built. It neither builds nor proves, so it needs no toolchain, and another user than the one who
+# built the program can run it. For this reason the program is not a prerequisite. NAME is put into the manual pages and the
+# completions. All users can read the installed files, whatever the umask.
 install:
 	$(CHECK_NAME)$(CHECK_BUILT)@umask 022; for file in $(PROGRAMS) $(TEXTS); do mkdir -p "$${file%/*}" || exit 1; done
 	install -m 755 $(PROGRAM) "$(TO)/bin/$(NAME)"
@@ -89,7 +92,8 @@ install:
 uninstall:
 	$(CHECK_NAME)rm -f $(PROGRAMS) $(TEXTS)
 
-# A Debian package of the program as it was built last, in out/; and a test of it, as root, with lintian and debootstrap.
+# `package` makes a Debian package of the program as last built, in out/. `package-test` tests it as root, with lintian and
+# debootstrap.
 package:
 	$(CHECK_BUILT)@scripts/package $(PROGRAM)
 

@@ -1,14 +1,14 @@
-/* The reference that scripts/bench times the program against, and the stopwatch for both.
+/* The reference for the times of scripts/bench, and the stopwatch for both.
  *
- * Without words it does the work of `ipmitool sdr hex`: it reads an image from standard input, and writes the line of
- * each record along the next ids, from the first record on. Statuses are the program's. It takes images of version 1
- * with only `sdr` lines, checks each line by the same rules before it writes, and keeps the records in an ordered tree.
- * It says of no fault which one it is, leaves out the limit of 64 MiB, and gives no memory back before it ends.
+ * Without arguments it does the work of `ipmitool sdr hex`: it reads an image from standard input, and writes the line of
+ * each record, following the next ids from the first record. Statuses are those of the program. It accepts images of
+ * version 1 with only `sdr` lines, checks each line by the same rules before it writes, and keeps the records in an
+ * ordered tree. It does not name faults, has no limit of 64 MiB, and frees no memory before it ends.
  *
- * With the word `--flat` it keeps them in a table that has a place for each id, which no ordered map can be quicker than.
+ * With `--flat` it keeps the records in a table indexed by id. No ordered map can be faster.
  *
- * With the words `--measure IMAGE PROGRAM [WORD...]` it runs a program over an image again and again, and prints the
- * nanoseconds of the shortest run and the peak of its resident memory in KiB. */
+ * With `--measure IMAGE PROGRAM [WORD...]` it runs a program over an image repeatedly, and prints the nanoseconds of the
+ * shortest run and its peak resident memory in KiB. */
 #include <fcntl.h>
 #include <spawn.h>
 #include <stdbool.h>
@@ -23,7 +23,7 @@
 
 enum { NO_ID = 0xFFFF, HEADER_BYTES = 5, MOST_BYTES = 256 };
 
-/* What is written so far stays written: the end of the process flushes it. */
+/* Keeps the output written so far: exit flushes it. */
 _Noreturn static void stop(int status, const char *message)
 {
     fprintf(stderr, "%s\n", message);
@@ -62,7 +62,7 @@ static struct text read_input(void)
     }
 }
 
-/* Takes the bytes before the first separator off the text, and the separator, which has to be there. */
+/* Removes the first separator and the bytes before it from the text, and returns these bytes. The separator must be there. */
 static struct text cut(struct text *rest, char separator)
 {
     const unsigned char *at = memchr(rest->start, separator, rest->len);
@@ -102,9 +102,9 @@ static uint16_t id_of(struct text digits)
     return (uint16_t)(byte_of(digits.start) << 8 | byte_of(digits.start + 2));
 }
 
-/* The records, in an AA tree by their ids: a balanced tree, where a child stands on the level below its parent's, or,
- * if it is a right one, on the same level, but never two such in a row. So no way down is longer than twice the
- * logarithm of the number of records. */
+/* The records, in an AA tree ordered by id. This is a balanced tree: a child is one level below its parent, except that
+ * a right child may be on the same level, but never two in a row. So no path is longer than twice the logarithm of the
+ * number of records. */
 
 struct row {
     struct row *left, *right;
@@ -113,7 +113,7 @@ struct row {
     uint8_t bytes[];
 };
 
-/* A left child on its parent's level goes up, and its parent becomes its right child. */
+/* Rotates a left child on its parent's level up: the parent becomes its right child. */
 static struct row *skew(struct row *top)
 {
     struct row *left = top->left;
@@ -124,7 +124,7 @@ static struct row *skew(struct row *top)
     return left;
 }
 
-/* Of a row and two right children on one level, the middle one goes up to the next level. */
+/* If a row, its right child and that one's right child are on one level, moves the middle one up a level. */
 static struct row *split(struct row *top)
 {
     struct row *right = top->right;
@@ -136,7 +136,7 @@ static struct row *split(struct row *top)
     return right;
 }
 
-/* The tree with one more row in it. An image in which an id comes twice is not read. */
+/* Inserts a row and returns the tree. An image with a repeated id is refused. */
 static struct row *insert(struct row *top, struct row *row)
 {
     if (top == NULL)
@@ -157,7 +157,7 @@ static const struct row *find_in_tree(const struct row *top, uint16_t id)
     return top;
 }
 
-/* The records, in a table by their ids. */
+/* The records, in a table indexed by id. */
 
 static bool is_flat;
 static struct row *rows_by_id[0x10000];
@@ -178,14 +178,14 @@ static const struct row *find(const struct row *rows, uint16_t id)
     return is_flat ? rows_by_id[id] : find_in_tree(rows, id);
 }
 
-/* The record of a line `sdr ID NEXT HEX`. */
+/* Reads the record of a line `sdr ID NEXT HEX`. */
 static struct row *read_row(struct text line, bool is_first)
 {
     if (!is(cut(&line, ' '), "sdr"))
         refuse();
     uint16_t id = id_of(cut(&line, ' '));
     uint16_t next = id_of(cut(&line, ' '));
-    /* HEX is the rest of the line. One more field would begin with a space, which is no digit. */
+    /* HEX is the rest of the line. Another field would begin with a space, which is not a digit. */
     size_t len = line.len / 2;
     if (line.len % 2 != 0 || len < HEADER_BYTES || len > MOST_BYTES)
         refuse();
@@ -251,7 +251,7 @@ static void write_row(const struct row *row)
     fwrite(line, 1, (size_t)(to - line), stdout);
 }
 
-/* Writes the records along their next ids, and gives the status: 0 after one whose next id is FFFFh. */
+/* Writes the records, following their next ids. Returns the status: 0 after a record whose next id is FFFFh. */
 static int list(struct image image)
 {
     static uint8_t listed[0x10000 / 8];
@@ -262,7 +262,7 @@ static int list(struct image image)
         uint16_t next = row->next;
         if (next == NO_ID)
             return 0;
-        /* As a next id, 0000h means the first record, which was listed. */
+        /* The next id 0000h means the first record, which was already listed. */
         if (next == 0 || (listed[next / 8] >> next % 8 & 1) != 0) {
             fprintf(stderr, "cycle at %04Xh\n", next);
             return 1;
@@ -298,8 +298,8 @@ static void run(const posix_spawn_file_actions_t *files, char **command)
         stop(1, "measure: a run did not end with status 0");
 }
 
-/* Others may use the machine, and whatever they do to a run makes it longer. So the shortest of many runs is the best
- * estimate: of as many as fill half a second, and of 5 at least. What the command writes is thrown away. */
+/* Other users of the machine can only make a run longer. So the shortest of many runs is the best estimate. It runs the
+ * command for half a second, and at least 5 times. The output of the command is discarded. */
 static void measure(const char *image, char **command)
 {
     posix_spawn_file_actions_t files;
@@ -316,8 +316,8 @@ static void measure(const char *image, char **command)
         if (spent < best)
             best = spent;
     }
-    /* The most that a run took, on Linux in KiB. A child starts out with the memory of its parent, so this is never
-     * less than what this process takes, which is little. */
+    /* The peak memory of a run, on Linux in KiB. A child starts with the memory of its parent, so this is at least the
+     * memory of this process, which is small. */
     struct rusage children;
     getrusage(RUSAGE_CHILDREN, &children);
     printf("%lld %ld\n", (long long)best, children.ru_maxrss);

@@ -1,5 +1,5 @@
-/* Preloaded into a program, it refuses one of the program's requests for memory: that whose number, from 1 on, stands in
- * REFUSED_REQUEST. Where COUNTED_REQUESTS names a file, the number of all requests is written there at the end. */
+/* Preloaded into a program, it refuses one of the program's requests for memory: the one whose number, counted from 1, is in
+ * REFUSED_REQUEST. If COUNTED_REQUESTS names a file, it writes the number of all requests there at the end. */
 #define _GNU_SOURCE
 #include <dlfcn.h>
 #include <errno.h>
@@ -9,7 +9,7 @@
 
 static unsigned long requests, refused;
 
-/* The shortest way to the C library's own function; a name stands for each once. */
+/* Looks up the C library's own function, once per name. */
 #define REAL(result, name, ...)                                  \
     static result (*real_##name)(__VA_ARGS__);                   \
     if (real_##name == NULL)                                     \
@@ -48,7 +48,7 @@ int posix_memalign(void **to, size_t alignment, size_t size)
     return is_refused() ? ENOMEM : real_posix_memalign(to, alignment, size);
 }
 
-/* What was asked for before main is the C library's own. */
+/* Requests before main are the C library's own and do not count. */
 __attribute__((constructor)) static void begin(void)
 {
     const char *number = getenv("REFUSED_REQUEST");

@@ -1,5 +1,5 @@
 #!/usr/bin/env bash
-# Each name that docs/definitions.md has in bold is one that the file linked after it defines.
+# Checks that each bold name in docs/definitions.md is defined in the file linked after it.
 set -uo pipefail
 cd "$(dirname "$0")/.." || exit 1
 # shellcheck disable=SC2016

@@ -1,6 +1,6 @@
 #!/usr/bin/env bash
-# What scripts/live prints over a controller that tests/live/tool.py plays, for each dialect: the same as over the image that the
-# controller holds; and what it says where there is no connection, or it is lost.
+# Tests scripts/live over a controller played by tests/live/tool.py, in each dialect. The output must be the same as over the image of the
+# controller. Also tests the messages if there is no connection, or if it is lost.
 set -uo pipefail
 if [ $# -gt 0 ]; then
   SERDIMKO=$(realpath "$1")
@@ -23,14 +23,14 @@ fault() {
   echo "tests/live.sh: $*"
 }
 
-# Runs the words over the controller, and leaves what came in `out`, `err` and `status`. Nothing stays in the folder of folders.
+# Runs the words over the controller, and sets `out`, `err` and `status`. It must leave nothing in TMPDIR.
 live() {
   timeout 60 scripts/live "$@" > "$work/out" 2> "$work/err"
   status=$?
   if [ -n "$(ls -A "$TMPDIR")" ]; then fault "$*: left $(ls -A "$TMPDIR")"; fi
 }
 
-# What is printed live, and with which status, is what is printed of the image.
+# The live output, messages and status must be those over the image.
 same() {
   local dialect=$1
   shift
@@ -38,11 +38,11 @@ same() {
   local wanted=$?
   live "$dialect" -- "$@"
   if [ "$status" -ne "$wanted" ]; then fault "$dialect $*: status $status instead of $wanted"; fi
-  cmp -s "$work/wanted" "$work/out" || fault "$dialect $* ($TOOL_TROUBLES): not as of the image: $(diff "$work/wanted" "$work/out" | head -3)"
+  cmp -s "$work/wanted" "$work/out" || fault "$dialect $* ($TOOL_TROUBLES): differs from the image: $(diff "$work/wanted" "$work/out" | head -3)"
   cmp -s "$work/message" "$work/err" || fault "$dialect $* ($TOOL_TROUBLES): says $(cat "$work/err")"
 }
 
-# The status, and all that is said.
+# Checks the status and the whole message.
 says() {
   local wanted=$1 message=$2
   shift 2
@@ -81,7 +81,7 @@ for dialect in --ipmitool --freeipmi; do
   same $dialect sdr list
   same $dialect sel list
 
-  # the third request asks for the second record
+  # the fourth request is for the second record
   TOOL_TROUBLES='refuse=d4,4'
   says 1 'record 0002h refused with code D4h' $dialect -- --part 254 sdr hex
   if [ "$(cat "$work/out")" != "$("$SERDIMKO" --image "$TOOL_IMAGE" sdr hex | head -n 1)" ]; then
@@ -102,13 +102,13 @@ for dialect in --ipmitool --freeipmi; do
 done
 TOOL_TROUBLES=
 
-# What ipmitool warns of as it opens its session is no reply.
+# A warning of ipmitool as it opens its session is not taken for a reply.
 TOOL_TROUBLES=$'warn=Unable to Get Channel Cipher Suites\n'
 same --ipmitool sdr list
 TOOL_TROUBLES=
 
-# An image of what the controller holds: that which it answers from. Both are compared in one spelling; the order of readings
-# means nothing.
+# A capture must have the contents of the image from which the controller answers. Both are compared in the canonical spelling; the order
+# of readings has no meaning.
 in_order() {
   "$SERDIMKO" --image "$1" image rewrite > "$work/spelled" 2> "$work/message"
   grep -v '^reading ' "$work/spelled"
@@ -118,7 +118,7 @@ in_order "$TOOL_IMAGE" > "$work/one"
 captured() {
   local what=$1 file=$2
   in_order "$file" > "$work/other"
-  cmp -s "$work/one" "$work/other" || fault "$what: another image: $(cat "$work/message" "$work/err") $(diff "$work/one" "$work/other" | head -n 3)"
+  cmp -s "$work/one" "$work/other" || fault "$what: the image differs: $(cat "$work/message" "$work/err") $(diff "$work/one" "$work/other" | head -n 3)"
 }
 for dialect in --ipmitool --freeipmi; do
   for TOOL_TROUBLES in '' 'cancel=13|grant=7' 'most=9' 'busy=150' 'silent=150' 'unreserved=1'; do
@@ -126,7 +126,7 @@ for dialect in --ipmitool --freeipmi; do
     if [ "$status" -ne 0 ]; then fault "$dialect capture ($TOOL_TROUBLES): status $status"; fi
     captured "$dialect capture ($TOOL_TROUBLES)" "$work/out"
   done
-  # of a file: in one step, and only where the image is whole
+  # to a file: in one step, and only if the image is whole
   TOOL_TROUBLES=
   live $dialect -- capture -o "$work/saved" --quiet
   if [ "$status" -ne 0 ] || [ -s "$work/out" ]; then fault "$dialect capture -o: status $status"; fi
@@ -145,7 +145,7 @@ for dialect in --ipmitool --freeipmi; do
   fi
 done
 TOOL_TROUBLES=
-# It asks for no more than it needs: one reservation of each shelf, and what is refused only once.
+# It sends no more requests than necessary: one reservation for each shelf, and a refused request only once.
 : > "$TOOL_LOG"
 live --freeipmi -- --part 254 capture
 if [ "$(grep -c -E '^0 0a (22|42)' "$TOOL_LOG")" -ne 2 ]; then fault 'capture: reservations'; fi
@@ -153,14 +153,14 @@ says 2 "'capture' takes only --part, --tries, --output and --quiet" -- --strict 
 says 2 "unexpected word 'all' after 'capture'" -- capture all
 says 2 "--output and --quiet go only with 'capture'" -- -o x sdr
 
-# Of ipmitool one session for each unit that is asked, of ipmi-raw one for all.
+# ipmitool has one session for each unit used.
 : > "$TOOL_LOG"
 live --ipmitool -- sdr list all
 if [ "$(cut -d ' ' -f 1 "$TOOL_LOG" | sort -u | tr '\n' ' ')" != '0 1 3 ' ]; then fault 'units'; fi
-# A listing asks no more than it needs: one reservation, two parts for each record, or one where it is small.
+# A listing needs only one reservation.
 if [ "$(grep -c '^0 0a 22' "$TOOL_LOG")" -ne 1 ]; then fault 'reservations'; fi
 
-# Words that are wrong start no session, and say so.
+# A wrong command line starts no session, and is reported.
 says 2 "unknown command 'srd': did you mean 'sdr'?" -- srd
 says 2 '--image does not go with a live controller' -- --image x sdr
 says 2 "'image rewrite' needs a saved image" -- image rewrite
@@ -170,17 +170,17 @@ says 2 'live: all users would see the password of -psecret: use -P, or --config-
 live --help
 if [ "$status" -ne 0 ] || ! grep -q '^usage: live ' "$work/out"; then fault '--help'; fi
 
-# A tool that is not there.
+# A tool that does not exist.
 IPMITOOL=$work/none
 live -- sdr list
 if [ "$status" -ne 1 ] || ! grep -q '^no reply from the controller: .*none' "$work/err"; then fault "no tool: status $status, $(cat "$work/err")"; fi
 IPMITOOL=$PWD/tests/live/tool.py
 
-# Whoever reads the output may close it.
+# The reader of the output may close it early.
 scripts/live -- sdr list all 2> "$work/err" | true
 if [ "${PIPESTATUS[0]}" -ne 141 ] || [ -s "$work/err" ]; then fault 'closed output'; fi
 
-# Files in place of pipes, or none.
+# Files in place of pipes, or no files.
 mkdir "$work/plain"
 says_of() {
   "$SERDIMKO" --live "$1" sdr list > "$work/out" 2> "$work/err"
@@ -192,7 +192,7 @@ touch "$work/plain/requests.0" "$work/plain/replies.0"
 says_of "ipmitool:$work/plain" 1 'no reply from the controller: the tool said nothing'
 says_of "$work/plain" 2 "--live '$work/plain' is not ipmitool:FOLDER or freeipmi:FOLDER"
 
-# Ended by a signal it leaves no process and no folder. A shell has what it starts in the background ignore SIGINT.
+# When ended by a signal, it leaves no process and no folder. A shell makes its background processes ignore SIGINT.
 for signal in INT TERM HUP; do
   TOOL_TROUBLES='silent=1' python3 -c '
 import os, signal, sys

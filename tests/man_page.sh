@@ -1,15 +1,15 @@
 #!/usr/bin/env bash
-# The man page and the completions say what README.md and docs/ say. Of the page: its commands, its options with their
-# numbers, its statuses with their messages, the lines of an image and their faults; and each word that the definitions print
-# in a column. Of both completions: each option, and which words may follow which. The completion for bash is also run, that for
-# zsh is read. groff has nothing to say of the pages, and neither page is too long to be read.
-# shellcheck disable=SC2016  # backquotes in single quotes are those of Markdown
+# Checks that the man page and the completions agree with README.md and docs/. On the page: commands, options with their numbers, statuses
+# with their messages, the lines of an image and their faults, and each word that the definitions print in a column. In both completions:
+# each option, and which words may follow which. The completion for bash is also run; the one for zsh is only read. groff must not warn
+# about the pages, and neither page may be too long.
+# shellcheck disable=SC2016  # the backquotes in single quotes belong to Markdown
 set -uo pipefail
 cd "$(dirname "$0")/.." || exit 1
 page=docs/serdimko.1
 failed=0
 
-# The two lists are one, in any order; else what only the first has, and what only the second has.
+# Checks that two lists are equal in any order. Otherwise prints what only one of them has.
 same() {
   local what=$1 wanted=$2 got=$3 differ
   if [ -z "$wanted" ]; then
@@ -22,7 +22,7 @@ same() {
   fi
 }
 
-# The rows of the first table of a file, README.md if none is named, whose head begins with this cell, a tab between two cells.
+# Prints the rows of the first table whose head begins with this cell, with a tab between cells. The file is README.md by default.
 table() {
   awk -v head="| $1 |" '
     index($0, head) == 1 { on = 1; getline; next }
@@ -31,12 +31,12 @@ table() {
   ' "${2:-README.md}"
 }
 
-# What is between backquotes, a line for each.
+# Prints each text between backquotes on a line.
 quoted() {
   grep -o '`[^`]*`' | sed -E 's/^` *//; s/ *`$//'
 }
 
-# The paragraphs with a head of a section of the page: the head, a tab and the text. Heads of one text are lines of their own.
+# Prints the paragraphs with a head in a section of the page: the head, a tab and the text. Several heads of one text are separate lines.
 paragraphs() {
   awk -v section=".SH $1" '
     function flush(  i) { for (i = 1; i <= heads; i++) print head[i] "\t" text; heads = 0; text = "" }
@@ -55,7 +55,7 @@ heads() {
   paragraphs "$1" | cut -f 1
 }
 
-# Each head with the numbers of its text, in their order.
+# Prints each head with the numbers in its text, in order.
 numbers() {
   local head text
   while IFS=$'\t' read -r head text; do
@@ -69,7 +69,7 @@ same 'the commands of the page' "$commands" "$(heads COMMANDS)"
 same 'the options of the page' "$options" "$(heads OPTIONS)"
 same 'the numbers of the options of the page' "$(table option | tr -d '`' | numbers)" "$(paragraphs OPTIONS | numbers)"
 
-# A status, and each message under it; of those that come of the words only the status.
+# Each status with its messages. For 2 and 3, only the status.
 statuses=$({
   table status docs/messages.md | grep -v '^[23]'
   table 'status | message of `serdimko`' docs/messages.md
@@ -80,14 +80,14 @@ done)
 same 'the statuses of the page' "$statuses" "$(heads 'EXIT STATUS' | awk '/^[0-9]+$/ { status = $0; print; next } { print status ": " $0 }')"
 same 'the lines and faults of an image on the page' "$({ table line docs/image.md | grep HEX; table 'fault of a line' docs/messages.md; } | cut -f 1 | quoted)" "$(heads IMAGE)"
 
-# The kinds, and the ranges beside them.
+# The kinds, and the ranges next to them.
 prose=$(awk '/^KIND is / { on = 1 } on && /^$/ { exit } on' README.md | tr '\n' ' ')
 page_prose=$(awk '/^\.I KIND$/ { on = 1 } /^\.SH / { on = 0 } on && !/^\.PP/ { sub(/^\.[A-Z]+ /, ""); gsub(/[",]/, ""); print }' "$page" | tr '\n' ' ')
 kinds=$(sed -E 's/\..*//' <<< "$prose" | quoted)
 same 'the kinds of the page' "$kinds" "$(sed -E 's/^ *KIND is //; s/ *\..*//; s/ or / /' <<< "$page_prose" | tr -s ' ' '\n')"
 same 'the ranges of the page' "$(echo "ranges: $prose" | tr ':' '\t' | numbers)" "$(echo "ranges: $page_prose" | tr ':' '\t' | numbers)"
 
-# Which word may follow which words, by the commands of README.md: a line `WORDS: WORD` for each. Names and numbers are left out.
+# Which word may follow which words, according to the commands of README.md: a line `WORDS: WORD` each. Names and numbers are left out.
 follows=$(while read -r command; do
   case $command in
     'help COMMAND') awk '$1 != "help" { print "help " $1 }' <<< "$commands" ;;
@@ -96,14 +96,14 @@ follows=$(while read -r command; do
   esac
 done <<< "$commands" | awk '{ before = ""; for (i = 1; i <= NF; i++) { print before ": " $i; before = before (i > 1 ? " " : "") $i } }')
 
-# The same by the table of a completion.
+# The same from the table of a completion.
 table_of_words() {
   sed -nE "s/^ *'([^']*)'\) next='([^']*)' ;;\$/\1:\2/p" "$1" | while IFS=: read -r before words; do
     for word in $words; do echo "$before: $word"; done
   done
 }
 
-# groff warns of nothing, and says nothing.
+# groff must print nothing.
 for file in "$page" docs/serdimko-live.1; do
   said=$(man --warnings -E UTF-8 -l -Tutf8 -Z "$file" 2>&1 > /dev/null)
   if [ -n "$said" ]; then
@@ -116,7 +116,7 @@ if [ "$(wc -w < "$page")" -gt 1600 ] || [ "$(wc -w < docs/serdimko-live.1)" -gt 
   echo "a page is too long: $(wc -w docs/*.1)"
 fi
 
-# What the definitions print in the columns of a sensor data record, in an event and as a time.
+# The words that the definitions print in the columns of a sensor data record, in an event and as a time.
 printed=$(sed 's/^ *--.*//' crates/ipmi_records/specs/Columns.antt crates/ipmi_text/specs/Times.antt crates/ipmi_text/specs/Events.antt \
   crates/ipmi_events/specs/{SensorLines,States,Status,Shown,Discrete}.antt |
   grep -oE 'codes "[a-z][^"]*"' | sed -E 's/codes "//; s/ ?"$//' | grep -E '[a-z]')
@@ -128,7 +128,7 @@ fi
 while IFS= read -r words; do
   if ! grep -qE "(^|[^a-z])$words($|[^a-z])" <<< "$shown"; then
     failed=1
-    echo "the page has no: $words"
+    echo "the page does not have: $words"
   fi
 done <<< "$printed"
 
@@ -138,10 +138,10 @@ for completion in completions/serdimko.bash completions/_serdimko; do
   same "the words of $completion" "$follows" "$(table_of_words "$completion")"
   same "the options of $completion" "$long_names" "$(grep -v '^ *#' "$completion" | grep -oE -- '--[a-z]+')"
 done
-same 'the options that zsh is told of' "$names" "$(sed -nE "s/^ *'(--?[A-Za-z]+):.*/\1/p" completions/_serdimko)"
+same 'the options for zsh' "$names" "$(sed -nE "s/^ *'(--?[A-Za-z]+):.*/\1/p" completions/_serdimko)"
 if command -v zsh > /dev/null && ! zsh -n completions/_serdimko; then failed=1; fi
 
-# The completion for bash at the last of the words: what it offers, or `files` where it leaves the word to bash's own file names.
+# Prints the offers of the completion for bash at the last of the words, or `files` if it leaves the word to bash's file names.
 # shellcheck source=completions/serdimko.bash
 source completions/serdimko.bash
 compopt() { [ "$*" = '-o default' ] && echo files; }

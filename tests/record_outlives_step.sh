@@ -1,6 +1,6 @@
 #!/usr/bin/env bash
-# A record is lent out of its cursor: a program that keeps one over the cursor's next step must not compile, for that
-# reason and no other. The same program, with the record let go before the step, compiles.
+# A record borrows from its cursor. A program that keeps a record over the cursor's next step must not compile, for that reason and no
+# other. The same program must compile if it drops the record before the step.
 set -uo pipefail
 cd "$(dirname "$0")/.."
 work=$(mktemp -d)
@@ -41,13 +41,13 @@ RATTLE
 
 program 'let _ = first;' ''
 if ! grep -q 'run=ended status=0' "$work/log"; then
-  echo "a record that is let go before the next step: does not run"
+  echo "a record dropped before the next step: does not run"
   tail -n 5 "$work/log"
   exit 1
 fi
 program '' 'let _ = first;'
 if ! grep -qE 'error\[borrow-e0499\]' "$work/log" || [ "$(grep -cE '^[^ ]+: error' "$work/log")" -ne 1 ]; then
-  echo "a record that is kept over the next step: no borrow error, or another one beside it"
+  echo "a record kept over the next step: no borrow error, or another error too"
   cat "$work/log"
   exit 1
 fi

@@ -1,7 +1,7 @@
 #!/usr/bin/env bash
-# What the specified program, ipmitool of this repository, accepts means the same to serdimko: tests/serdimko/same_as_ipmitool.py
-# sends lines to both, and says which.
-# `tests/same_as_ipmitool.sh SERDIMKO IPMITOOL` compares these two; without words those of this repository are built first.
+# Tests that serdimko treats each command line that the specified program, ipmitool of this repository, accepts in the same way:
+# tests/serdimko/same_as_ipmitool.py sends lines to both, and says which.
+# `tests/same_as_ipmitool.sh SERDIMKO IPMITOOL` compares these two. Without arguments, those of this repository are built first.
 set -uo pipefail
 if [ $# -gt 0 ]; then
   serdimko=$(realpath "$1")

@@ -1,16 +1,16 @@
 #!/usr/bin/env bash
-# The program serdimko on odd command lines, tests/serdimko/lines, and on odd inputs and outputs, tests/serdimko/inputs.
-# `tests/serdimko.sh PROGRAM` tries that program; without a word the one of this repository is built first.
+# Tests serdimko on unusual command lines, tests/serdimko/lines, and on unusual inputs and outputs, tests/serdimko/inputs.
+# `tests/serdimko.sh PROGRAM` tests that program. Without an argument, the one of this repository is built first.
 #
-# A case of these files is a line that bash runs, with columns below it, and ends with an empty line:
-#   status N     the wanted status; with pipes, that of the last command that failed
-#   err TEXT     the next line of standard error, whole; where there is none, nothing is said
-#   says TEXT    in place of err: a line of standard error has this in it
-#   out TEXT     the next line of standard output, whole; where there is none, nothing is printed
-#   out ...      more may follow
-#   has TEXT     in place of out: a line of standard output has this in it
-#   unless TEST  the case is left out where this holds
-# Lines that begin with # are comments. What is wanted comes from the manual, never from what the program printed.
+# A case in these files is a line that bash runs, with columns below it. It ends with an empty line.
+#   status N     the expected status; with pipes, that of the last command that failed
+#   err TEXT     the next whole line of standard error; without any, standard error is empty
+#   says TEXT    in place of err: a line of standard error contains this
+#   out TEXT     the next whole line of standard output; without any, standard output is empty
+#   out ...      more output may follow
+#   has TEXT     in place of out: a line of standard output contains this
+#   unless TEST  the case is skipped if this test succeeds
+# Lines that begin with # are comments. Expected output comes from the manual, never from the program's own output.
 set -uo pipefail
 if [ $# -gt 0 ]; then
   program=$(realpath "$1")
@@ -30,7 +30,7 @@ trap 'rm -rf "$work"' EXIT
 failed=0
 told=
 
-# The version is that of the file VERSION, and the program says by which logic of the toolchain it is proved.
+# The version is that of the file VERSION, and the program names the logic of the toolchain in which it is proved.
 version=$("$program" --version)
 if [ "$version" != "serdimko $(cat VERSION)
 proved with Rattle, $(rt version | grep -o 'logic.*')" ]; then
@@ -54,7 +54,7 @@ cp examples/*.image "$tests"/images/*.image "$work/files" || exit 1
 cd "$work/files" || exit 1
 : > empty
 gzip -k server.image
-# python3 has these two where no program of theirs is installed.
+# python3 can write these two even if their programs are not installed.
 python3 -c '
 import bz2, lzma
 image = open("server.image", "rb").read()
@@ -65,7 +65,7 @@ for name in größe 'a file' $'a\nb'; do echo 'no image' > "$name"; done
 printf 'ipmi-image 1\nend\n' > ./-
 echo 'no image' > secret
 chmod 000 secret
-# Files of zeros that take no room: of 64 MiB, and of a byte more.
+# Sparse files of zeros: of 64 MiB, and of one byte more.
 truncate -s $((64 * 1024 * 1024)) longest
 truncate -s $((64 * 1024 * 1024 + 1)) too_long
 # Its listing is longer than a pipe holds.
@@ -77,15 +77,15 @@ truncate -s $((64 * 1024 * 1024 + 1)) too_long
 
 # ---- the cases
 
-# What a column wants and what came; before the first one of a case its place and its line.
+# Prints the expected and the actual value of a column; for the first one of a case, also its place and its line.
 differs() {
   failed=1
   [ -n "$told" ] || printf '%s\n' "tests/serdimko/$file:$number: $line"
   told=yes
-  printf '  wanted %s\n  got %s\n' "$1" "$2"
+  printf '  expected %s\n  got %s\n' "$1" "$2"
 }
 
-# The stream is these lines, or has each of these texts in one of its lines. With `more` it may go on after the lines.
+# Checks that the stream consists of these lines, or that each of these texts is in one of its lines. With `more`, other lines may follow.
 check_stream() {
   local name=$1 lines=$2 more=$3 texts=$4 got=$work/$1 text came
   came="$name: $(head -c 500 "$got" | tr -d '\0')"
@@ -101,7 +101,7 @@ check_stream() {
   fi
 }
 
-# Runs the case that has been read, if there is one.
+# Runs the case that was read, if there is one.
 run_case() {
   local got told=
   [ -n "$line" ] || return

@@ -1,7 +1,7 @@
 #!/usr/bin/env bash
-# What the program reads: the file of `--image` or standard input, up to 64 MiB and no byte more; nothing after a usage
-# fault; and the words of its command line where the first is empty, or where one is no text.
-# And that it says one message, after the last line.
+# Tests what the program reads: the file of `--image` or standard input, up to 64 MiB and no byte more, and nothing after a usage fault.
+# Also tests a command line whose first word is empty, or with an argument that is not UTF-8, and that there is one message, after the
+# last line.
 set -uo pipefail
 cd "$(dirname "$0")/.."
 make -s crates/ipmitool/out/ipmitool || exit 1
@@ -12,7 +12,7 @@ usage='usage: ipmitool [--image FILE] [--from HEX4] [--part N] [--tries N] fru|s
 line='sdr 0001 ffff 010051c000'
 failed=0
 
-# The program with the words after the first three, over the given standard input: its status, output and message.
+# Runs the command after the first three words, and checks its status, output and message.
 expect() {
   local status=$1 out=$2 err=$3
   shift 3
@@ -24,7 +24,7 @@ expect() {
   fi
 }
 
-# An image of 64 MiB: 13 + 25 + 12 + 10 * 6710881 + 4 bytes, most of them in lines of one byte of an inventory.
+# An image of 64 MiB: 13 + 25 + 12 + 10 * 6710881 + 4 bytes, mostly lines with one byte of an inventory.
 {
   echo 'ipmi-image 1'
   echo "$line"
@@ -55,7 +55,7 @@ expect 3 '' 'cannot read ' "$program" --image '' < "$small"
 expect 3 '' "cannot read $work/a\\x0Ab\\x1B" "$program" --image "$work/a"$'\nb\e' < "$small"
 expect 3 '' 'cannot read standard input' "$program" < "$work"
 
-# After a usage fault the rest of standard input is all of it, and no file is opened.
+# After a usage fault nothing was read from standard input, and no file was opened.
 expect 2 '' "$usage" "$program" sdr frob --image "$work/none" < "$small"
 expect 2 "$(cat "$small")" "$usage" bash -c '"$0" sdr frob; status=$?; cat; exit $status' "$program" < "$small"
 
@@ -63,13 +63,13 @@ expect 2 "$(cat "$small")" "$usage" bash -c '"$0" sdr frob; status=$?; cat; exit
 expect 3 '' "cannot read $work/none" "$program" fru --image "$work/none" < "$small"
 expect 1 '' 'info not present' "$program" sel < "$small"
 
-# A first word that is empty is the program's name too, and a word that is no text is no word.
+# An empty first word is the program's name too. An argument that is not UTF-8 is a usage fault.
 expect 0 "$lines" '' bash -c 'exec -a "" "$0"' "$program" < "$small"
 expect 0 "$lines" '' bash -c 'exec -a "" "$0" sdr hex' "$program" < "$small"
 expect 2 '' "$usage" "$program" $'\xff' < "$small"
 expect 2 '' "$usage" "$program" --image $'a\xff' < "$small"
 
-# A write fault is said once, where a short output meets it as it is flushed, and where a long one meets it before its last line.
+# A write fault is reported once, whether it happens at the flush of a short output, or before the last line of a long one.
 {
   echo 'ipmi-image 2'
   for id in {1..4000}; do printf 'sdr %04x - %02x%02x51c000\n' "$id" $((id % 256)) $((id / 256)); done
@@ -78,7 +78,7 @@ expect 2 '' "$usage" "$program" --image $'a\xff' < "$small"
 expect 4 '' 'write fault' bash -c '"$0" < "$1" > /dev/full' "$program" "$small"
 expect 4 '' 'write fault' bash -c '"$0" < "$1" > /dev/full' "$program" "$work/many"
 
-# A message comes after the last line. Where that can't be flushed, only the write fault is said.
+# A message comes after the last line. If that cannot be flushed, only the write fault is reported.
 printf '%s\n' 'ipmi-image 1' 'sdr 0001 0002 010051c000' 'end' > "$work/missing"
 expect 1 $'sdr 0001 0002 010051c000\nrecord 0002h not present' '' bash -c '"$0" < "$1" 2>&1' "$program" "$work/missing"
 expect 4 '' 'write fault' bash -c '"$0" < "$1" > /dev/full' "$program" "$work/missing"

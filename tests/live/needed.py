@@ -1,8 +1,8 @@
 #!/usr/bin/env python3
-"""Prints how many requests a capture of the image $1 needs, in parts of $2 bytes: a reservation and an info of each shelf; of a
-sensor data record its header, which alone says how long it is, and the rest in parts; each event; the reading of each sensor
-that a full or compact record of the controller names; and of device 0, and of each logical device that a locator of the
-controller names, the size and the inventory in parts (IPMI v2.0, sections 33.12, 34.2 and 43)."""
+"""Prints the number of requests that a capture of the image $1 needs, in parts of $2 bytes: a reservation and an info for each
+shelf; for each sensor data record first the header, because it has the record's length, and then the rest in parts; each event
+in parts; the reading of each sensor of the controller with a full or compact record; and, for device 0 and each logical device
+of the controller with a locator, the size and the inventory in parts (IPMI v2.0, sections 33.12, 34.2 and 43)."""
 import sys
 
 HEADER = 5

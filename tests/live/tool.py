@@ -1,17 +1,17 @@
 #!/usr/bin/env python3
-"""Stands in for `ipmitool .. exec` and for FreeIPMI's `ipmi-raw`: answers the requests on its standard input as a controller
-that holds what the image TOOL_IMAGE has, with the troubles that TOOL_TROUBLES names:
+"""Replaces `ipmitool .. exec` and FreeIPMI's `ipmi-raw` in tests: it answers the requests on its standard input like a
+controller with the contents of the image TOOL_IMAGE, with the troubles in TOOL_TROUBLES:
 
 busy=N        each Nth request is refused with C0h       most=N     a part of more than N bytes is refused with CAh
-cancel=N      each Nth part cancels the reservation      grant=N    at most N bytes come at once
-unreserved=1  there are no reservations: the requests for one are refused with C1h, and 0000h stands for one
+cancel=N      each Nth part cancels the reservation      grant=N    an answer has at most N bytes of data
+unreserved=1  there are no reservations: requests for one are refused with C1h, and 0000h is accepted as one
 silent=N      each Nth request gets no answer            refuse=C,N the Nth request is refused with code C
-garbage=N     the Nth answer is none                     cut=N      it ends in the middle of the Nth answer
-long=N        the Nth answer has no end                  other=N    the Nth answer is one byte short
-say=TEXT      it says this, and ends                     die=N      it ends before the Nth answer
-warn=TEXT     it says this before its first answer
+garbage=N     the Nth answer is malformed                cut=N      the tool exits in the middle of the Nth answer
+long=N        the Nth answer is long and has no end      other=N    the Nth answer is one byte short
+say=TEXT      the tool prints this error and exits       die=N      the tool exits before the Nth answer
+warn=TEXT     the tool prints this before its first answer
 
-Each request is a line of TOOL_LOG: unit, network function, command and data."""
+TOOL_LOG gets one line per request: unit, network function, command and data."""
 import os
 import sys
 
@@ -51,9 +51,9 @@ class Controller:
         return trouble in TROUBLES and self.requests % int(TROUBLES[trouble]) == 0
 
     def answer(self, unit, function, command, data):
-        """A completion code and bytes; None where no answer comes."""
+        """Returns a completion code and bytes, or None for no answer."""
         if (function, command) == (0x06, 0x01):
-            # not counted: a session of ipmitool begins with it
+            # not counted: ipmitool begins a session with this request
             return 0, bytes(15)
         self.requests += 1
         if self.happens("silent"):
@@ -136,7 +136,7 @@ def freeipmi_text(command, answer):
 
 
 def send(controller, is_ipmitool, text):
-    """Prints an answer, or what comes in its place."""
+    """Prints an answer, or what a trouble puts in its place."""
     happens = {trouble: TROUBLES.get(trouble) == str(controller.requests) for trouble in ("garbage", "cut", "long", "other", "die")}
     if happens["die"]:
         sys.exit(1)

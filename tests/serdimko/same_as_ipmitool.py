@@ -1,7 +1,8 @@
-"""Sends command lines to serdimko and to the specified program: each line of the tests' tables, and generated ones.
+"""Compares serdimko with the specified program on command lines: those of the tests' tables, and generated ones.
 
-Both have to print the same with the same status, and to say the same but for what serdimko adds to a message about the
-image. A line that the specified program refuses is refused by both, unless it uses what serdimko alone has.
+Both must have the same output and status, and the same message, except for what serdimko adds to a message about the
+image. If the specified program refuses a line, serdimko must refuse it too, unless the line uses something that only
+serdimko has.
 """
 import glob
 import multiprocessing
@@ -17,7 +18,7 @@ import tempfile
 SERDIMKO, IPMITOOL = sys.argv[1:]
 GENERATED = 10_000
 SEED = 20240229
-# So many differences are told, and each status comes at least so often.
+# The largest number of differences to report, and the smallest number of lines for each status.
 MOST_TOLD = 20
 FEWEST = 500
 
@@ -27,16 +28,16 @@ TABLES = "crates/ipmi_command_tests/src/command*/*.rt"
 
 
 def table_lines():
-    """The words before the first bar of each line of a text constant that may be a command line.
+    """Returns the words before the first bar of each line of a text constant that may be a command line.
 
-    Words are split at commas where there is one, as the tests do. A line of an output that gets among them does no harm: both
+    If there is a comma, words are split at commas, as in the tests. A line of output among them does no harm: both
     programs refuse its words.
     """
     lines = set()
     for file in sorted(glob.glob(TABLES)):
         with open(file, encoding="utf-8") as source:
             constants = re.findall(r'^ *const \w+: &str = "(.*?)";$', source.read(), re.M | re.S)
-        # The other files have images and outputs in their constants too.
+        # Constants of the other files also contain images and outputs.
         may_be_line = r"" if "/command_line/" in file else r"(sdr|sel|fru|image)\b(?! \d)|-"
         for constant in constants:
             for line in constant.split("\n"):
@@ -65,7 +66,7 @@ OPTIONS = {
     "--tries": ["0", "1", "5", "255", "256", "00", "-1", "five", ""],
 }
 UNREADABLE = ["none.image", ".", ""]
-# One of these is put before a word, or in its place.
+# Words to insert before a word, or to replace a word with.
 ODD = [
     "--", "--help", "-h", "--version", "-V", "--strict", "--id", "help", "-", "", "--part", "--from", "--imge", "-x",
     "frob", "Sdr", "sdr", "sel", "fru", "list", "get", "first", "last", "print", "rewrite", "lst", "--tries=5",
@@ -73,7 +74,7 @@ ODD = [
 
 
 def generated_line(rng, images):
-    """Words, and the image that is standard input."""
+    """Returns the words of a line, and the image for standard input."""
     words = []
     for word in rng.choice(COMMANDS).split():
         words.append(rng.choice({"KIND": KINDS, "NAME": NAMES, "N": NUMBERS}.get(word, [word])))
@@ -81,7 +82,7 @@ def generated_line(rng, images):
     image = rng.choice(images)
     if rng.random() < 0.5:
         options.append("--image")
-    # Most values are of the first half, so that most lines are commands.
+    # Most values are from the first half, so that most lines are commands.
     for name in options:
         values = OPTIONS.get(name, images + UNREADABLE)
         value = rng.choice(values if rng.random() < 0.3 else values[: len(values) // 2])
@@ -96,26 +97,27 @@ def generated_line(rng, images):
     return tuple(words), image
 
 
-# ---- what both make of a line
+# ---- comparing the two programs
 
 OWN = {"-h", "--help", "-V", "--version", "--strict", "--id", "help", "sensor"}
 USAGE = b"usage: ipmitool [--image FILE] [--from HEX4] [--part N] [--tries N] fru|sdr|sel WORDS\n"
 WHY_NOT_READ = b": (no such file|is a directory|permission denied|longer than 64 MiB|can't be opened or read)"
 EXPLANATION = rb" \([^\n]+\)"
 WHY_NO_HEADER = (
-    rb"( \((it is empty|compressed: unpack it first|line ends are CR LF: use LF alone|begins with a byte order mark: save it without"
+    rb"( \((it is empty|compressed: unpack it first|line ends are CR LF: use LF alone|line ends are CR: use LF alone|begins with a byte order mark: save it without"
     rb"|is UTF-16 or UTF-32: save it as UTF-8|the first line has to be exactly 'ipmi-image 1' or 'ipmi-image 2', ended by a line feed)\))"
 )
 
 
 def is_own(words):
-    """The line uses an option or a word that serdimko alone has."""
+    """Whether the line uses an option or a word that only serdimko has."""
     names = [word.split("=")[0] for word in words]
-    return not OWN.isdisjoint(names) or names.count("--image") > 1 or {"sel", "elist"} <= set(names)
+    has = lambda command, word: word in names[names.index(command) :] if command in names else False
+    return not OWN.isdisjoint(names) or names.count("--image") > 1 or has("sel", "elist") or has("fru", "list")
 
 
 def image_of(words):
-    """What serdimko calls the image of a line that both accept."""
+    """The name of the image in serdimko's messages, for a line that both accept."""
     name = "standard input"
     rest = iter(words)
     for word in rest:
@@ -131,7 +133,7 @@ def image_of(words):
 
 
 def wanted_message(message, words):
-    """The pattern of what serdimko says where the specified program says this."""
+    """The pattern of serdimko's message if the specified program prints this one."""
     image = re.escape(image_of(words))
     if message == b"image: header\n":
         return image + b": header" + WHY_NO_HEADER + b"\n"
@@ -153,7 +155,7 @@ def run(program, words, image):
 
 
 def compare(case):
-    """The status of the specified program, and how the two differ or None."""
+    """Returns the status of the specified program, and the difference between the two programs or None."""
     words, image = case
     theirs = run(IPMITOOL, words, image)
     ours = run(SERDIMKO, words, image)
@@ -161,7 +163,7 @@ def compare(case):
     if status == 2 and not is_own(words):
         same = theirs == (2, b"", USAGE) and ours[:2] == (2, b"") and re.fullmatch(rb"[^\n]+\n", ours[2])
     elif status == 2 or image_of(words) == b"-":
-        # What serdimko makes of these the table tests/serdimko/lines says.
+        # The table tests/serdimko/lines has the expected results of serdimko for these lines.
         same = 0 <= ours[0] <= 5
     else:
         same = ours[:2] == (status, out) and re.fullmatch(wanted_message(message, words), ours[2])
@@ -182,7 +184,7 @@ def main():
         cases = [(words, image) for words in lines for image in images]
         rng = random.Random(SEED)
         cases += [generated_line(rng, images) for _ in range(GENERATED)]
-        # The tables name this image.
+        # The tables use this image.
         shutil.copy("three-rows.image", "a.image")
         with multiprocessing.Pool(4) as pool:
             found = pool.map(compare, cases, chunksize=50)
@@ -191,7 +193,7 @@ def main():
         print(text)
     if differ:
         sys.exit(f"{len(differ)} of {len(cases)} lines differ")
-    # Without enough of each the lines would show little.
+    # With too few lines of a status, the comparison would show little.
     for status in range(4):
         count = [got for got, _ in found].count(status)
         if count < FEWEST:
