@@ -1,6 +1,6 @@
 -- The chassis, board and product areas (Platform Management FRU Information Storage Definition v1.0, sections 10 to
 -- 12).
-use Rattle.std.specs.Prelude.{◌≡◌, ℕ, ◌<◌, ◌+◌, ◌-◌, ◌*◌, ◌%◌, ◌==◌, nat_lt, not, if◌then◌else◌, ◌⊎◌, IsTrue, is_some, Option, Some, None, unwrap_or, Result, Ok, Err, List, [], length, take, drop, slice_index, codes}
+use Rattle.std.specs.Prelude.{◌≡◌, ℕ, ◌<◌, ◌+◌, ◌-◌, ◌*◌, ◌%◌, ◌==◌, nat_lt, not, if◌then◌else◌, ◌⊎◌, IsTrue, is_some, Option, Some, None, unwrap_or, Result, Ok, Err, List, [], length, take, drop, slice_get, slice_index, codes}
 use Rattle.ipmi_fru.specs.declared.area.AreaKind.{AreaKind}
 use Rattle.ipmi_fru.specs.declared.area.AreaKind.TheVariants.{Chassis, Board, Product}
 use Rattle.ipmi_fru.specs.declared.area.AreaFault.{AreaFault}
@@ -86,6 +86,48 @@ area_in kind bytes = record {
 pub record HasFields (kind : AreaKind) (bytes : List ℕ) : Type 0 where
   pub room : 2 + head_len kind < length bytes
   pub found : IsTrue (is_some (fields_in (field_bytes kind bytes)))
+
+-- ---- the fields that the standard names
+
+-- the indexes of these fields in an area of each kind, counted from 0; None if the kind has no such
+-- field
+abbrev pub manufacturer_index : AreaKind → Option ℕ
+manufacturer_index Chassis = None
+manufacturer_index Board = Some 0
+manufacturer_index Product = Some 0
+
+abbrev pub product_name_index : AreaKind → Option ℕ
+product_name_index Chassis = None
+product_name_index Board = Some 1
+product_name_index Product = Some 1
+
+abbrev pub part_number_index : AreaKind → Option ℕ
+part_number_index Chassis = Some 0
+part_number_index Board = Some 3
+part_number_index Product = Some 2
+
+abbrev pub serial_number_index : AreaKind → Option ℕ
+serial_number_index Chassis = Some 1
+serial_number_index Board = Some 2
+serial_number_index Product = Some 4
+
+abbrev pub version_index : AreaKind → Option ℕ
+version_index Product = Some 3
+version_index _ = None
+
+abbrev pub asset_tag_index : AreaKind → Option ℕ
+asset_tag_index Product = Some 5
+asset_tag_index _ = None
+
+abbrev pub fru_file_id_index : AreaKind → Option ℕ
+fru_file_id_index Chassis = None
+fru_file_id_index Board = Some 4
+fru_file_id_index Product = Some 6
+
+-- the field at this index, if there is one
+abbrev pub field_at : Option ℕ → List AreaField → Option AreaField
+field_at None fields = None
+field_at (Some index) fields = slice_get fields index
 
 -- an inventory has no area of this kind, or it has one, or the area has a fault
 abbrev pub IsFound : AreaKind → List ℕ → Option (Result Area AreaFault) → Type 0

@@ -1,7 +1,7 @@
 //! The chassis, board and product areas of an inventory.
 ghost use Rattle.std.specs.Prelude.{◌≡◌, ◌+◌, ◌<◌, ◌≤◌, IfSome, IfOk, IfErr, Some, None, slice_get, length, take, drop, slice_index, option_map};
 ghost use Rattle.byteorder.specs.Endian.{little_from};
-ghost use Rattle.ipmi_fru.specs.Prelude.{language_of, Board, Chassis, field_of, Area, area_fault_name, place_of, head_len, area_at, field_bytes, area_fault, IsArea, IsAreaFault};
+ghost use Rattle.ipmi_fru.specs.Prelude.{language_of, Board, Chassis, field_of, Area, asset_tag_index, field_at, fru_file_id_index, manufacturer_index, part_number_index, product_name_index, serial_number_index, version_index, area_fault_name, place_of, head_len, area_at, field_bytes, area_fault, IsArea, IsAreaFault};
 
 use crate::field::{Field, Fields};
 use crate::header::{bytes_of, has_version_1, is_zero_sum};
@@ -221,5 +221,100 @@ impl<'a> AreaView<'a> {
         ensures code { IfSome result (λ field. field.code < 4) }
     {
         self.fields().nth(place)
+    }
+
+    /// The field at this index, if there is one.
+    fn field_at(&self, index: Option<usize>) -> Option<Field<'a>>
+        ensures field { option_map field_of result ≡ field_at index self.now.fields }
+        ensures code { IfSome result (λ field. field.code < 4) }
+    {
+        self.field(index?)
+    }
+
+    /// The manufacturer. None if the area has no such field.
+    pub fn manufacturer(&self) -> Option<Field<'a>>
+        ensures field { option_map field_of result ≡
+            field_at (manufacturer_index self.now.kind) self.now.fields }
+        ensures code { IfSome result (λ field. field.code < 4) }
+    {
+        self.field_at(match self.kind {
+            AreaKind::Board | AreaKind::Product => Some(0),
+            AreaKind::Chassis => None,
+        })
+    }
+
+    /// The name of the product. None if the area has no such field.
+    pub fn product_name(&self) -> Option<Field<'a>>
+        ensures field { option_map field_of result ≡
+            field_at (product_name_index self.now.kind) self.now.fields }
+        ensures code { IfSome result (λ field. field.code < 4) }
+    {
+        self.field_at(match self.kind {
+            AreaKind::Board | AreaKind::Product => Some(1),
+            AreaKind::Chassis => None,
+        })
+    }
+
+    /// The part number; of a product, its model number too. None if the area has no such field.
+    pub fn part_number(&self) -> Option<Field<'a>>
+        ensures field { option_map field_of result ≡
+            field_at (part_number_index self.now.kind) self.now.fields }
+        ensures code { IfSome result (λ field. field.code < 4) }
+    {
+        self.field_at(match self.kind {
+            AreaKind::Chassis => Some(0),
+            AreaKind::Board => Some(3),
+            AreaKind::Product => Some(2),
+        })
+    }
+
+    /// The serial number. None if the area has no such field.
+    pub fn serial_number(&self) -> Option<Field<'a>>
+        ensures field { option_map field_of result ≡
+            field_at (serial_number_index self.now.kind) self.now.fields }
+        ensures code { IfSome result (λ field. field.code < 4) }
+    {
+        self.field_at(match self.kind {
+            AreaKind::Chassis => Some(1),
+            AreaKind::Board => Some(2),
+            AreaKind::Product => Some(4),
+        })
+    }
+
+    /// The version of a product. None if the area has no such field.
+    pub fn version(&self) -> Option<Field<'a>>
+        ensures field { option_map field_of result ≡
+            field_at (version_index self.now.kind) self.now.fields }
+        ensures code { IfSome result (λ field. field.code < 4) }
+    {
+        self.field_at(match self.kind {
+            AreaKind::Product => Some(3),
+            AreaKind::Chassis | AreaKind::Board => None,
+        })
+    }
+
+    /// The asset tag of a product. None if the area has no such field.
+    pub fn asset_tag(&self) -> Option<Field<'a>>
+        ensures field { option_map field_of result ≡
+            field_at (asset_tag_index self.now.kind) self.now.fields }
+        ensures code { IfSome result (λ field. field.code < 4) }
+    {
+        self.field_at(match self.kind {
+            AreaKind::Product => Some(5),
+            AreaKind::Chassis | AreaKind::Board => None,
+        })
+    }
+
+    /// The id of the file with which the inventory was written. None if the area has no such field.
+    pub fn fru_file_id(&self) -> Option<Field<'a>>
+        ensures field { option_map field_of result ≡
+            field_at (fru_file_id_index self.now.kind) self.now.fields }
+        ensures code { IfSome result (λ field. field.code < 4) }
+    {
+        self.field_at(match self.kind {
+            AreaKind::Board => Some(4),
+            AreaKind::Product => Some(6),
+            AreaKind::Chassis => None,
+        })
     }
 }

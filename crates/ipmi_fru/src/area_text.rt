@@ -1,8 +1,9 @@
 //! The lines of a chassis, board and product area.
-ghost use Rattle.std.specs.Prelude.{◌≡◌, ◌++◌, OnOk, IfOk, codes, map, string_bytes};
+ghost use Rattle.std.specs.Prelude.{◌≡◌, ◌++◌, OnOk, codes, map, string_bytes};
+ghost use Rattle.ipmi_text.specs.Appended.{Appends};
 ghost use Rattle.ipmi_text.specs.FieldText.{fru_text_of};
 ghost use Rattle.ipmi_text.specs.Lines.{labelled};
-ghost use Rattle.ipmi_fru.specs.Prelude.{area_name, labels_of, field_line, field_lines, language_of, IsLead, IsAreaText, IsTextFound};
+ghost use Rattle.ipmi_fru.specs.Prelude.{area_fault_name, area_name, labels_of, field_line, field_lines, language_of, IsLead, IsAreaText, IsTextFound};
 
 use crate::area::{AreaFault, AreaKind, AreaView};
 use crate::field::Field;
@@ -57,7 +58,7 @@ fn labels_of(kind: AreaKind) -> Labels
 }
 
 /// Appends a line of a label and a text.
-fn push_line(text: &mut String, label: &str, value: &str) -> Result<(), AllocError>
+pub(crate) fn push_line(text: &mut String, label: &str, value: &str) -> Result<(), AllocError>
     ensures { OnOk result (string_bytes text.new ≡ string_bytes text.old ++ labelled label.now
         value.now) }
 {
@@ -105,47 +106,54 @@ fn push_fields(
     Ok(())
 }
 
-/// The line before the fields: the type of a chassis, the date of a board.
-fn lead_text(alloc: Global, area: &AreaView) -> Result<String, AllocError>
-    ensures { IfOk result (λ text. IsLead area.now.kind area.now.bytes (string_bytes text)) }
+/// Appends the line before the fields: the type of a chassis, the date of a board.
+fn push_lead(alloc: Global, text: &mut String, area: &AreaView) -> Result<(), AllocError>
+    ensures { OnOk result (Appends (IsLead area.now.kind area.now.bytes) (string_bytes text.old)
+        (string_bytes text.new)) }
 {
     match area.kind() {
         AreaKind::Chassis => {
             let kind = chassis_text(alloc, area.chassis_type())?;
-            format!(in alloc; "Chassis Type: {kind}\n")
+            push_line(text, "Chassis Type", &kind)
         }
         AreaKind::Board => {
             let date = minutes_text(alloc, area.minutes())?;
-            format!(in alloc; "Board Mfg Date: {date}\n")
+            push_line(text, "Board Mfg Date", &date)
         }
-        AreaKind::Product => Ok(String::new(alloc)),
+        AreaKind::Product => Ok(()),
     }
 }
 
-/// The lines of an area without a fault.
-fn area_text(alloc: Global, area: &AreaView) -> Result<String, AllocError>
-    ensures { IfOk result (λ text. IsAreaText area.now (string_bytes text)) }
+/// Appends the lines of an area without a fault.
+fn push_area(alloc: Global, text: &mut String, area: &AreaView) -> Result<(), AllocError>
+    ensures { OnOk result (Appends (IsAreaText area.now) (string_bytes text.old) (string_bytes text.new)) }
 {
-    let mut text = lead_text(alloc, area)?;
-    push_fields(alloc, &mut text, &labels_of(area.kind()), area)?;
-    Ok(text)
+    push_lead(alloc, text, area)?;
+    push_fields(alloc, text, &labels_of(area.kind()), area)
 }
 
-/// The text printed for an area: its lines, its fault, or nothing if there is no such area.
-pub(crate) fn found_text(
+/// Appends the line of an area's fault.
+fn push_area_fault(text: &mut String, kind: AreaKind, fault: AreaFault) -> Result<(), AllocError>
+    ensures { OnOk result (string_bytes text.new ≡ string_bytes text.old ++ labelled
+        (area_name kind ++ codes " fault") (area_fault_name fault)) }
+{
+    text.push_str(labels_of(kind).area)?;
+    push_line(text, " fault", fault.name())
+}
+
+/// Appends what is printed for an area: its lines, its fault, or nothing if there is no such area.
+pub(crate) fn push_found(
     alloc: Global,
+    text: &mut String,
     kind: AreaKind,
     found: Option<Result<AreaView, AreaFault>>,
-) -> Result<String, AllocError>
-    ensures { IfOk result (λ text. IsTextFound kind found.entry (string_bytes text)) }
+) -> Result<(), AllocError>
+    ensures { OnOk result (Appends (IsTextFound kind found.entry) (string_bytes text.old)
+        (string_bytes text.new)) }
 {
     match found {
-        None => Ok(String::new(alloc)),
-        Some(Ok(area)) => area_text(alloc, &area),
-        Some(Err(fault)) => {
-            let area = labels_of(kind).area;
-            let fault = fault.name();
-            format!(in alloc; "{area} fault: {fault}\n")
-        }
+        None => Ok(()),
+        Some(Ok(area)) => push_area(alloc, text, &area),
+        Some(Err(fault)) => push_area_fault(text, kind, fault),
     }
 }

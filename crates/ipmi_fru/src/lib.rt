@@ -17,5 +17,5 @@ pub use field::{Field, Fields};
 pub use header::{FruFault, FruView};
 pub use line::{elsewhere_line, fru_line};
 pub use multirecord::{MultiFault, MultiView, Records};
-pub use print::print_fru;
+pub use print::{print_fru, push_fru};
 pub use record_text::{DcFields, DcKind, RecordForm, access_text, form_of};

@@ -1,11 +1,13 @@
 //! The lines of multirecords.
-ghost use Rattle.std.specs.Prelude.{◌≡◌, ◌%◌, ◌≤◌, ◌+◌, IfOk, length, nat_le, string_bytes};
+ghost use Rattle.std.specs.Prelude.{◌≡◌, ◌%◌, ◌≤◌, ◌+◌, ◌++◌, IfOk, OnOk, length, nat_le, string_bytes};
+ghost use Rattle.ipmi_text.specs.Appended.{Appends};
 ghost use Rattle.byteorder.specs.Endian.{little_from, twos_complement};
 ghost use Rattle.ipmi_fru.specs.Prelude.{item_of, items_left, record_of, IsVoltsAt, volts_at, dc_fields, current_text, dc_start, before_low, before_high, standby_text, IsDcText, access_text, access_line, other_line, form_of, IsTextInForm, IsItemText, AreItemTexts};
 
+use crate::area_text::push_line;
 use crate::multirecord::{MultiFault, MultiView, Records};
 use byteorder::{ByteOrder, LittleEndian};
-use ipmi_text::{ENGLISH, Fixed, fixed_text, fru_text};
+use ipmi_text::{ENGLISH, Fixed, HexByte, fru_text, push_fixed};
 use std::alloc::{AllocError, Global};
 
 /// 10 mV, the unit of the voltages in a record, as a `Fixed`.
@@ -146,23 +148,24 @@ fn volts_at(bytes: &[u8], place: usize) -> Fixed
     Fixed(i128::from(signed_at(bytes, place)) * TEN_MILLIVOLTS)
 }
 
-/// The same as a text.
-fn volts_text(alloc: Global, bytes: &[u8], place: usize) -> Result<String, AllocError>
+/// Appends the volts of two data bytes from a place on.
+fn push_volts(text: &mut String, bytes: &[u8], place: usize) -> Result<(), AllocError>
     requires { place + 2 ≤ length bytes.now }
-    ensures { IfOk result (λ text. IsVoltsAt place bytes.now (string_bytes text)) }
+    ensures { OnOk result (Appends (IsVoltsAt place bytes.now) (string_bytes text.old)
+        (string_bytes text.new)) }
 {
-    fixed_text(alloc, volts_at(bytes, place))
+    push_fixed(text, volts_at(bytes, place))
 }
 
-/// The ripple and the currents of an output or a load.
-fn current_text(alloc: Global, bytes: &[u8]) -> Result<String, AllocError>
+/// Appends the ripple and the currents of an output or a load.
+fn push_current(text: &mut String, bytes: &[u8]) -> Result<(), AllocError>
     requires { 13 ≤ length bytes.now }
-    ensures { IfOk result (λ text. string_bytes text ≡ current_text bytes.now) }
+    ensures { OnOk result (string_bytes text.new ≡ string_bytes text.old ++ current_text bytes.now) }
 {
     let ripple = number_at(bytes, RIPPLE);
     let least = number_at(bytes, LEAST_CURRENT);
     let most = number_at(bytes, GREATEST_CURRENT);
-    format!(in alloc; "ripple {ripple} mV, current {least} to {most} mA\n")
+    write!(text, "ripple {ripple} mV, current {least} to {most} mA\n")
 }
 
 /// The words in the line of a DC record.
@@ -217,10 +220,11 @@ fn standby_text(kind: DcKind, byte: u8) -> &'static str
     }
 }
 
-/// The line of a DC output or a DC load.
-fn dc_text(alloc: Global, kind: DcKind, bytes: &[u8]) -> Result<String, AllocError>
+/// Appends the line of a DC output or a DC load.
+fn push_dc(text: &mut String, kind: DcKind, bytes: &[u8]) -> Result<(), AllocError>
     requires { 13 ≤ length bytes.now }
-    ensures { IfOk result (λ text. IsDcText kind bytes.now (string_bytes text)) }
+    ensures { OnOk result (Appends (IsDcText kind bytes.now) (string_bytes text.old)
+        (string_bytes text.new)) }
 {
     let DcWords {
         start,
@@ -229,13 +233,14 @@ fn dc_text(alloc: Global, kind: DcKind, bytes: &[u8]) -> Result<String, AllocErr
     } = words_of(kind);
     let number = number_of(bytes[NUMBER]);
     let standby = standby_text(kind, bytes[NUMBER]);
-    let nominal = volts_text(alloc, bytes, NOMINAL_VOLTAGE)?;
-    let low = volts_text(alloc, bytes, LOW_VOLTAGE)?;
-    let high = volts_text(alloc, bytes, HIGH_VOLTAGE)?;
-    let current = current_text(alloc, bytes)?;
-    format!(in alloc;
-        "{start}{number}{standby}: nominal {nominal}{before_low}{low}{before_high}{high} V, {current}"
-    )
+    write!(text, "{start}{number}{standby}: nominal ")?;
+    push_volts(text, bytes, NOMINAL_VOLTAGE)?;
+    text.push_str(before_low)?;
+    push_volts(text, bytes, LOW_VOLTAGE)?;
+    text.push_str(before_high)?;
+    push_volts(text, bytes, HIGH_VOLTAGE)?;
+    text.push_str(" V, ")?;
+    push_current(text, bytes)
 }
 
 /// The data of a management access record after its subtype, as text or in hex, by its subtype, which is the first byte.
@@ -250,23 +255,24 @@ pub fn access_text(alloc: Global, bytes: &[u8]) -> Result<String, AllocError>
     fru_text(alloc, BINARY, ENGLISH, &bytes[1..])
 }
 
-/// The line of a management access record.
-fn access_line(alloc: Global, bytes: &[u8]) -> Result<String, AllocError>
+/// Appends the line of a management access record.
+fn push_access(alloc: Global, text: &mut String, bytes: &[u8]) -> Result<(), AllocError>
     requires { 1 ≤ length bytes.now }
-    ensures { IfOk result (λ text. string_bytes text ≡ access_line bytes.now) }
+    ensures { OnOk result (string_bytes text.new ≡ string_bytes text.old ++ access_line bytes.now) }
 {
-    let subtype = hex::encode(alloc, &bytes[..1])?;
+    let subtype = HexByte(bytes[0]);
     let value = access_text(alloc, bytes)?;
-    format!(in alloc; "Management Access 0x{subtype}: {value}\n")
+    write!(text, "Management Access 0x{subtype}: {value}\n")
 }
 
-/// The line of a record that is printed in hex.
-fn other_line(alloc: Global, view: &MultiView) -> Result<String, AllocError>
-    ensures { IfOk result (λ text. string_bytes text ≡ other_line (record_of view.now)) }
+/// Appends the line of a record that is printed in hex.
+fn push_other(alloc: Global, text: &mut String, view: &MultiView) -> Result<(), AllocError>
+    ensures { OnOk result (string_bytes text.new ≡ string_bytes text.old ++ other_line
+        (record_of view.now)) }
 {
-    let kind = hex::encode(alloc, &[view.kind])?;
+    let kind = HexByte(view.kind);
     let data = hex::encode(alloc, view.bytes)?;
-    format!(in alloc; "Record 0x{kind}: {data}\n")
+    write!(text, "Record 0x{kind}: {data}\n")
 }
 
 /// What a record is printed as, by its type and the number of its data bytes: a DC output and a DC load have at least 13
@@ -283,38 +289,44 @@ pub fn form_of(view: &MultiView) -> RecordForm
     }
 }
 
-/// The line of a record, in the form in which it is printed.
-fn record_text(alloc: Global, view: &MultiView) -> Result<String, AllocError>
-    ensures { IfOk result (λ text. IsTextInForm (form_of (record_of view.now)) (record_of view.now)
-        (string_bytes text)) }
+/// Appends the line of a record, in the form in which it is printed.
+fn push_record(alloc: Global, text: &mut String, view: &MultiView) -> Result<(), AllocError>
+    ensures { OnOk result (Appends (IsTextInForm (form_of (record_of view.now)) (record_of view.now))
+        (string_bytes text.old) (string_bytes text.new)) }
 {
     match form_of(view) {
-        RecordForm::Dc(kind) => dc_text(alloc, kind, view.bytes),
-        RecordForm::Access => access_line(alloc, view.bytes),
-        RecordForm::Other => other_line(alloc, view),
+        RecordForm::Dc(kind) => push_dc(text, kind, view.bytes),
+        RecordForm::Access => push_access(alloc, text, view.bytes),
+        RecordForm::Other => push_other(alloc, text, view),
     }
 }
 
-/// The line of a record, or of the fault after the last record.
-fn item_text(alloc: Global, item: &Result<MultiView, MultiFault>) -> Result<String, AllocError>
-    ensures { IfOk result (λ text. IsItemText (item_of item.now) (string_bytes text)) }
+/// Appends the line of a record, or of the fault after the last record.
+fn push_item(
+    alloc: Global,
+    text: &mut String,
+    item: &Result<MultiView, MultiFault>,
+) -> Result<(), AllocError>
+    ensures { OnOk result (Appends (IsItemText (item_of item.now)) (string_bytes text.old)
+        (string_bytes text.new)) }
 {
     match item {
-        Ok(view) => record_text(alloc, view),
-        Err(fault) => {
-            let fault = fault.name();
-            format!(in alloc; "Record fault: {fault}\n")
-        }
+        Ok(view) => push_record(alloc, text, view),
+        Err(fault) => push_line(text, "Record fault", fault.name()),
     }
 }
 
-/// The lines of the records, and of the fault that ends them, if there is one.
-pub(crate) fn records_text(alloc: Global, records: Records) -> Result<String, AllocError>
-    ensures { IfOk result (λ text. AreItemTexts (items_left records.entry) (string_bytes text)) }
+/// Appends the lines of the records, and of the fault that ends them, if there is one.
+pub(crate) fn push_records(
+    alloc: Global,
+    text: &mut String,
+    records: Records,
+) -> Result<(), AllocError>
+    ensures { OnOk result (Appends (AreItemTexts (items_left records.entry)) (string_bytes text.old)
+        (string_bytes text.new)) }
 {
-    let mut text = String::new(alloc);
     'records: for item in records {
-        text.push_str(&item_text(alloc, &item)?)?;
+        push_item(alloc, text, &item)?;
     }
-    Ok(text)
+    Ok(())
 }

@@ -1,6 +1,7 @@
 //! The text of an inventory and the line of its device, once with ample memory, and once with requests refused.
 use crate::cases::{assert_text, assert_text_or_refused};
-use ipmi_fru::{elsewhere_line, fru_line, print_fru};
+use ipmi_fru::{elsewhere_line, fru_line, print_fru, push_fru};
+use std::alloc::{AllocError, Global};
 
 /// Something of each thing that is printed.
 const MIXED: [u8; 91] = [
@@ -32,10 +33,20 @@ const MIXED_LINE: &str = "1 | - | present | 12 | - | ab\n";
 /// The line of a device that is elsewhere.
 const ELSEWHERE_LINE: &str = "- | PSU2 | elsewhere | - | - | -\n";
 
+/// A line, and what is appended to it for an inventory of no bytes.
+const APPENDED_LINES: &str = "FRU 1\nFRU fault: header short\n";
+
+fn appended_text(alloc: Global) -> Result<String, AllocError> {
+    let mut text = String::from_str(alloc, "FRU 1\n")?;
+    push_fru(alloc, &mut text, &[])?;
+    Ok(text)
+}
+
 // With ample memory the text is whole.
 #[test]
 fn not_always_out_of_memory(rt: HostRuntime) {
     assert_text(&rt, print_fru(rt.alloc(), &MIXED), MIXED_LINES, "mixed");
+    assert_text(&rt, appended_text(rt.alloc()), APPENDED_LINES, "appended");
     let line = fru_line(rt.alloc(), 1, None, Some(&MIXED));
     assert_text(&rt, line, MIXED_LINE, "line");
     let line = elsewhere_line(rt.alloc(), "PSU2");
@@ -46,6 +57,7 @@ fn not_always_out_of_memory(rt: HostRuntime) {
 #[test]
 fn memory_may_be_refused(rt: HostRuntime) {
     assert_text_or_refused(&rt, print_fru(rt.alloc(), &MIXED), MIXED_LINES);
+    assert_text_or_refused(&rt, appended_text(rt.alloc()), APPENDED_LINES);
     let line = fru_line(rt.alloc(), 1, None, Some(&MIXED));
     assert_text_or_refused(&rt, line, MIXED_LINE);
     let line = elsewhere_line(rt.alloc(), "PSU2");

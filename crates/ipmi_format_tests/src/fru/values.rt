@@ -1,8 +1,10 @@
 //! Values that are read from an inventory without printing it: what comes before an area's fields, and what records say.
 use crate::cases::{assert_text, bytes_of};
 use ipmi_fru::{
-    AreaFault, AreaKind, AreaView, DcFields, FruView, MultiView, RecordForm, access_text, form_of,
+    AreaFault, AreaKind, AreaView, DcFields, Field, FruView, MultiView, RecordForm, access_text,
+    form_of,
 };
+use ipmi_text::{ENGLISH, fru_text};
 use std::alloc::{AllocError, Global};
 use std::process::Abort;
 
@@ -12,6 +14,17 @@ const MIXED: &str =
 
 /// What comes before the fields of each area.
 const HEADS: &str = "chassis 23, language 0; board 1, language 0; product, language 25";
+
+/// Three areas, whose fields have the texts `CPN`, `BMF` and so on: the area, and what the field is. Each area has one
+/// more field.
+const NAMED: &str =
+    "01000104090000f1010317c343504ec343534ec56578747261c10000000000f0010519010000c3424d46c3425052c342534ec342504ec3424649c56578747261c10000000000001a010519c3504d46c3505052c350504ec3505645c350534ec3504154c3504649c56578747261c1007f";
+
+/// Manufacturer, product name, part number, serial number, version, asset tag and FRU file id of each area.
+const NAMES: &str = "- - CPN CSN - - -
+BMF BPR BPN BSN - - BFI
+PMF PPR PPN PSN PVE PAT PFI
+";
 
 /// What the records say.
 const SAID: &str =
@@ -54,6 +67,45 @@ fn said(alloc: Global, record: &MultiView<'_>) -> Result<String, AllocError> {
         RecordForm::Access => access_text(alloc, record.bytes),
         RecordForm::Other => String::from_str(alloc, "other"),
     }
+}
+
+/// Appends the text of a field, or a dash if there is none, and then a space or a line feed.
+fn push_field(
+    alloc: Global,
+    text: &mut String,
+    field: Option<Field<'_>>,
+    end: &str,
+) -> Result<(), AllocError> {
+    match field {
+        Some(field) => text.push_str(&fru_text(alloc, field.code, ENGLISH, field.bytes)?)?,
+        None => text.push_str("-")?,
+    }
+    text.push_str(end)
+}
+
+/// Appends the line of an area: its fields by their names.
+fn push_named(alloc: Global, text: &mut String, area: &AreaView<'_>) -> Result<(), AllocError> {
+    push_field(alloc, text, area.manufacturer(), " ")?;
+    push_field(alloc, text, area.product_name(), " ")?;
+    push_field(alloc, text, area.part_number(), " ")?;
+    push_field(alloc, text, area.serial_number(), " ")?;
+    push_field(alloc, text, area.version(), " ")?;
+    push_field(alloc, text, area.asset_tag(), " ")?;
+    push_field(alloc, text, area.fru_file_id(), "\n")
+}
+
+#[test]
+fn fields_have_names(rt: HostRuntime) {
+    let alloc = rt.alloc();
+    let bytes = bytes_of(&rt, alloc, NAMED);
+    let inventory = FruView::read(&bytes).expect(&rt, "an inventory");
+    let areas = [inventory.chassis(), inventory.board(), inventory.product()];
+    let mut text = String::new(alloc);
+    for area in areas {
+        let area = area.expect(&rt, "an area").expect(&rt, "an area");
+        push_named(alloc, &mut text, &area).expect(&rt, "memory");
+    }
+    assert_text(&rt, Ok(text), NAMES, "fields");
 }
 
 #[test]

@@ -1,4 +1,4 @@
-//! The texts of `EVENT`, and what the texts of a case stand for.
+//! The texts of `EVENT`, and the bytes that the texts of a case mean.
 use crate::cases::bytes_of;
 use ipmi_records::{EventEntry, FullSensor, SdrView, SelView};
 use ipmi_text::Reading;
