@@ -1,4 +1,4 @@
-//! The parts of a case, bytes in hex, and texts that are compared with what is wanted.
+//! The parts of a case, bytes in hex, and texts that are compared with the expected ones.
 use std::alloc::AllocError;
 use std::process::Abort;
 

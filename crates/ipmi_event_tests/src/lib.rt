@@ -6,6 +6,8 @@ mod cases;
 #[cfg(test)]
 mod details;
 #[cfg(test)]
+mod devices;
+#[cfg(test)]
 mod lines;
 #[cfg(test)]
 mod memory;

@@ -1,6 +1,6 @@
 //! The calls that make a text of an event or a name, once with ample memory, and once with requests refused.
 use crate::cases::{assert_text, assert_text_or_refused};
-use ipmi_events::{Sensors, event_line, push_sensor_name};
+use ipmi_events::{Sensors, device_name, event_line, push_sensor_name};
 use ipmi_records::{SdrView, SelView};
 use std::alloc::{AllocError, Global};
 
@@ -35,12 +35,24 @@ fn name(alloc: Global, view: &SdrView<'_>) -> Result<String, AllocError> {
     Ok(name)
 }
 
+/// A locator of device 1.
+const PSU1: [u8; 20] = [
+    0x01, 0x00, 0x51, 0x11, 0x0f, 0x20, 0x01, 0x80, 0x00, 0x00, 0x00, 0x00, 0x0a, 0x01, 0x00, 0xc4,
+    0x50, 0x53, 0x55, 0x31,
+];
+
+/// The name of the device.
+fn device(alloc: Global) -> Result<String, AllocError> {
+    Ok(device_name(alloc, &PSU1, 1)?.unwrap_or(String::new(alloc)))
+}
+
 // With ample memory each call gives its text.
 #[test]
 fn not_always_out_of_memory(rt: HostRuntime) {
     let view = SdrView::read(&FANS).expect(&rt, "a record");
     assert_text(&rt, line(rt.alloc()), LINE, "line");
     assert_text(&rt, name(rt.alloc(), &view), "FAN AB", "name");
+    assert_text(&rt, device(rt.alloc()), "PSU1", "device");
 }
 
 // With memory refused each call gives its text, or fails when out of memory.
@@ -49,4 +61,5 @@ fn memory_may_be_refused(rt: HostRuntime) {
     let view = SdrView::read(&FANS).expect(&rt, "a record");
     assert_text_or_refused(&rt, line(rt.alloc()), LINE);
     assert_text_or_refused(&rt, name(rt.alloc(), &view), "FAN AB");
+    assert_text_or_refused(&rt, device(rt.alloc()), "PSU1");
 }

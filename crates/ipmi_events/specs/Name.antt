@@ -1,10 +1,12 @@
--- The names of sensors.
-use Rattle.std.specs.Prelude.{ℕ, ◌+◌, ◌-◌, ◌/◌, ◌%◌, nat_lt, if◌then◌else◌, Option, Some, List, [], ◌∷◌, ◌++◌, decimal}
-use Rattle.ipmi_records.specs.Prelude.{printed_name, sensor_of, sharing_of}
+-- The names of sensors and of FRU devices.
+use Rattle.std.specs.Prelude.{ℕ, ◌+◌, ◌-◌, ◌/◌, ◌%◌, ◌==◌, nat_lt, Bool, false, if◌then◌else◌, Option, Some, None, option_map, List, [], ◌∷◌, ◌++◌, decimal, filter_map}
+use Rattle.std.specs.List.{find}
+use Rattle.ipmi_records.specs.Prelude.{fru_of, printed_name, sensor_of, sharing_of}
 use Rattle.ipmi_records.specs.declared.sdr.SdrView.{SdrView}
 use Rattle.ipmi_records.specs.declared.sensor.Sensor.{Sensor}
 use Rattle.ipmi_records.specs.declared.sharing.Modifier.{Modifier}
 use Rattle.ipmi_records.specs.declared.sharing.Sharing.{Sharing}
+use Rattle.ipmi_events.specs.Sensors.{view_of}
 
 -- ---- ID string instance modifiers (IPMI v2.0, table 43-2)
 
@@ -24,7 +26,7 @@ modifier_text Modifier.Numeric n = decimal n
 modifier_text Modifier.Alpha n = letters n
 modifier_text Modifier.Reserved n = []
 
--- ---- names
+-- ---- sensors
 
 -- the suffix of the sensor with this number among those that share its record: the offset plus the
 -- distance from the record's own number (0 for a number below it); empty if the record is not
@@ -46,3 +48,21 @@ followed_by suffix (c ∷ text) = (c ∷ text) ++ suffix
 abbrev pub sensor_name : SdrView → ℕ → List ℕ
 sensor_name view number =
     followed_by (suffix_of (sensor_of view) (sharing_of view) number) (printed_name view)
+
+-- ---- FRU devices
+
+abbrev pub is_device : ℕ → Option ℕ → Bool
+is_device id None = false
+is_device id (Some device) = device == id
+
+-- a record is a locator of the controller's FRU device with this id
+abbrev pub locates : ℕ → SdrView → Bool
+locates id view = is_device id (fru_of view)
+
+-- the first locator of the device; records with a fault are skipped
+abbrev pub locator_for : ℕ → List (List ℕ) → Option SdrView
+locator_for id records = find (locates id) (filter_map view_of records)
+
+-- the name of the device, if it has a locator
+abbrev pub device_name : ℕ → List (List ℕ) → Option (List ℕ)
+device_name id records = option_map printed_name (locator_for id records)

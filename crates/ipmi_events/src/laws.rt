@@ -1,4 +1,4 @@
-//! Laws of tables and lines: what follows from their definitions alone, whatever code makes them.
+//! Laws of tables and lines. They follow from the definitions, so they hold for any code that makes such a one.
 ghost use Rattle.std.specs.Prelude.{◌≡◌, ℕ, List};
 ghost use Rattle.std.specs.List.{AllPass, concat};
 ghost use Rattle.ipmi_events.specs.Laws.{DetailsAreUnique, DetailsExist, EventInWordsExists, EventInWordsIsUnique};

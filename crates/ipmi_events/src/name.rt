@@ -1,8 +1,10 @@
-//! The names of sensors, including sensors that share a record (IPMI v2.0, section 43.2).
-ghost use Rattle.std.specs.Prelude.{◌≡◌, ◌<◌, ◌++◌, OnOk, string_bytes};
+//! The names of sensors, including sensors that share a record, and of FRU devices (IPMI v2.0, section 43).
+ghost use Rattle.std.specs.Prelude.{◌≡◌, ◌<◌, ◌++◌, ◌∷◌, [], IfOk, OnOk, option_map, string_bytes};
 ghost use Rattle.ipmi_records.specs.Prelude.{sensor_of, sharing_of};
-ghost use Rattle.ipmi_events.specs.Name.{letter, letters, modifier_text, sensor_name, suffix_of};
+ghost use Rattle.ipmi_events.specs.Name.{device_name, letter, letters, locator_for, modifier_text, sensor_name, suffix_of};
+ghost use Rattle.ipmi_events.specs.Sensors.{records_in};
 
+use crate::sensors::first_record;
 use ipmi_records::{Modifier, SdrView, push_name};
 use std::alloc::{AllocError, Global};
 
@@ -77,4 +79,45 @@ pub fn push_sensor_name(
         return Ok(());
     }
     push_suffix(text, view, number)
+}
+
+/// The view of a record, if it is a locator of this FRU device.
+fn locator_in(bytes: &[u8], id: u8) -> Option<SdrView<'_>>
+    ensures { result ≡ locator_for id (bytes.now ∷ []) }
+{
+    let view = SdrView::read(bytes).ok()?;
+    if view.fru_of() == Some(id) {
+        Some(view)
+    } else {
+        None
+    }
+}
+
+/// The first of these concatenated records that is a locator of this FRU device.
+fn locator_for(records: &[u8], id: u8) -> Option<SdrView<'_>>
+    ensures { result ≡ locator_for id (records_in records.now) }
+{
+    let mut rest = records;
+    'records: while let Some(bytes) = first_record(rest) {
+        if let Some(locator) = locator_in(bytes, id) {
+            return Some(locator);
+        }
+        rest = &rest[bytes.len()..];
+    }
+    None
+}
+
+/// The name of a FRU device of the controller: that of its first locator among these concatenated sensor data records,
+/// each as long as its header says. None without a locator. Records with a fault are skipped, and bytes at the end that
+/// are not a whole record are ignored.
+pub fn device_name(alloc: Global, records: &[u8], id: u8) -> Result<Option<String>, AllocError>
+    ensures { IfOk result (λ name.
+        option_map (λ text. string_bytes text) name ≡ device_name id (records_in records.now)) }
+{
+    let Some(locator) = locator_for(records, id) else {
+        return Ok(None);
+    };
+    let mut name = String::new(alloc);
+    push_name(alloc, &mut name, &locator)?;
+    Ok(Some(name))
 }

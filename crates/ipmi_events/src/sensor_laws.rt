@@ -1,4 +1,5 @@
-//! Laws of the lines and blocks of sensors: what follows from their definitions alone, whatever code wrote the text.
+//! Laws of the lines and blocks of sensors. They follow from the definitions, so they hold for any code that writes
+//! such a text.
 ghost use Rattle.ipmi_events.specs.SensorLaws.{SensorBlockExists, SensorBlockIsUnique, SensorLineExists, SensorLineIsUnique};
 
 /// A record has at most one line of its sensor for a reading, so the result of `sensor_line` is the only one.

@@ -35,7 +35,7 @@ impl Model for Sensors {
 }
 
 /// The record at the start of the bytes, if it is complete.
-fn first_record(bytes: &[u8]) -> Option<&[u8]>
+pub(crate) fn first_record(bytes: &[u8]) -> Option<&[u8]>
     ensures { option_map (λ r. r.now) result ≡ first_record bytes.now }
 {
     if bytes.len() < SDR_HEADER_LEN {
