@@ -1,12 +1,12 @@
 -- What is written for an inventory.
-use Rattle.std.proofs.Common.{◌≡◌, ◌≤◌, ℕ, List, ◌++◌, Option, Result, arith, codes, refl}
+use Rattle.std.proofs.Common.{ℕ, List, ◌++◌, Option, Result, arith, codes, refl}
 use Rattle.json.specs.Written.{Written}
 use Rattle.ipmi_fru.specs.Prelude.{Area, HasItems, IsFound, MultiRecord}
 use Rattle.ipmi_fru.specs.declared.area.AreaFault.{AreaFault}
 use Rattle.ipmi_fru.specs.declared.area.AreaKind.{AreaKind}
 use Rattle.ipmi_fru.specs.declared.multirecord.MultiFault.{MultiFault}
 use Rattle.ipmi_json.specs.Areas.{AreAreaMembers}
-use Rattle.ipmi_json.specs.Fru.{AreContentMembers, AreFoundMembers}
+use Rattle.ipmi_json.specs.Fru.{AreContentMembers}
 use Rattle.ipmi_json.specs.Multirecords.{AreRecordMembers}
 use Rattle.ipmi_json.specs.Object.{Adds, AddsSome, AreWithin, Pair}
 use Rattle.ipmi_json.proofs.ObjectLemmas.{adds_both}

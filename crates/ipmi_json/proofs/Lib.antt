@@ -1,6 +1,10 @@
 pub mod AreaLemmas
 pub mod FruLemmas
+pub mod InventoryLawLemmas
+pub mod LineLawLemmas
 pub mod MultirecordLemmas
 pub mod NumberLemmas
 pub mod ObjectLemmas
 pub mod SdrLemmas
+pub mod SelLemmas
+pub mod StateLemmas

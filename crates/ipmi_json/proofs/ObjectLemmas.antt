@@ -2,11 +2,11 @@
 use Rattle.std.proofs.Common.{◌≡◌, ◌≤◌, ◌+◌, ℕ, Option, None, Some, List, [], ◌∷◌, ◌++◌, refl, sym, ap, ◌∙◌, append_assoc, append-nil, option_and_then, arith, map, rules, string_bytes}
 use Rattle.std.specs.Borrow.{Bor}
 use Rattle.json.proofs.Printed.Trees.{value-json_tokens}
-use Rattle.json.specs.Json.{Json, document, if_last, max_depth, null, object, string, value}
+use Rattle.json.specs.Json.{Json, document, if_last, max_depth, null, string, value}
 use Rattle.json.specs.Lex.{tokens}
 use Rattle.json.specs.Print.{print}
 use Rattle.json.specs.Token.{Token, begin_object, end_object, key}
-use Rattle.json.specs.Tree.{depth, items_depth, json_tokens, members_depth, members_tokens}
+use Rattle.json.specs.Tree.{depth, items_depth, json_tokens, members_tokens}
 use Rattle.json.specs.Written.{Written}
 use Rattle.ipmi_json.specs.Object.{Adds, AddsValue, AreWithin, IsOpen, Pair, json_of, items_in, labels_of, members_in, object_in, pairs_of, text_or_null, tokens_in}
 use Rattle.ipmi_json.specs.declared.object.Value.{Value}

@@ -1,5 +1,5 @@
 -- What is written for a record by its kind.
-use Rattle.std.proofs.Common.{◌≡◌, ℕ, List, ◌++◌, Option, None, refl}
+use Rattle.std.proofs.Common.{ℕ, List, ◌++◌, Option, None, refl}
 use Rattle.json.specs.Written.{Written}
 use Rattle.ipmi_text.specs.declared.reading.Reading.{Reading}
 use Rattle.ipmi_records.specs.Prelude.{sensor_in, shown_of, units_in}

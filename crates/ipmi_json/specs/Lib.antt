@@ -1,8 +1,10 @@
 pub mod Areas
 pub mod Fru
 pub mod Info
+pub mod Laws
 pub mod Multirecords
 pub mod Object
+pub mod Record
 pub mod Sdr
 pub mod Sel
 pub mod Time

@@ -2,13 +2,13 @@
 use Rattle.std.specs.Prelude.{◌≡◌, ℕ, nat_le, if◌then◌else◌, Option, Some, None, option_map, Result, Ok, Err, List, [], ◌∷◌, ◌++◌, slice_get, slice_index, codes}
 use Rattle.json.specs.Json.{Json, boolean, number, string}
 use Rattle.ipmi_text.specs.Decimal.{IsDecimalOf}
-use Rattle.ipmi_text.specs.FieldText.{binary_text}
 use Rattle.ipmi_fru.specs.Prelude.{MultiRecord, access_text, dc_fields, form_of}
 use Rattle.ipmi_fru.specs.declared.multirecord.MultiFault.{MultiFault}
 use Rattle.ipmi_fru.specs.declared.record_text.DcFields.{DcFields}
 use Rattle.ipmi_fru.specs.declared.record_text.DcKind.{DcKind}
 use Rattle.ipmi_fru.specs.declared.record_text.RecordForm.{RecordForm}
 use Rattle.ipmi_json.specs.Object.{array_in, integer, object_in, Pair, text_or_null}
+use Rattle.ipmi_json.specs.Record.{raw_members}
 
 -- the names of record types, from 00h on (table 16-2); C0h to FFh are the manufacturer's
 abbrev pub record_types : List (List ℕ)
@@ -30,9 +30,6 @@ record_head kind r =
     ∷ (codes "type", integer r.kind)
     ∷ (codes "type_name", text_or_null (record_type_name r.kind))
     ∷ []
-
-abbrev pub record_raw : MultiRecord → List Pair
-record_raw r = (codes "raw", string (binary_text r.bytes)) ∷ []
 
 -- the number of an output or a load; only an output can be a standby one
 abbrev pub number_members : DcKind → DcFields → List Pair
@@ -92,7 +89,7 @@ AreFormMembers RecordForm.Other r ms = ms ≡ record_head (codes "other") r
 pub record IsRecordObject (r : MultiRecord) (j : Json) : Type 0 where
   pub told : List Pair
   pub are_told : AreFormMembers (form_of r) r told
-  pub is : j ≡ object_in (told ++ record_raw r)
+  pub is : j ≡ object_in (told ++ raw_members r.bytes)
 
 abbrev pub AreObjects : List MultiRecord → List Json → Type 0
 AreObjects [] js = js ≡ []

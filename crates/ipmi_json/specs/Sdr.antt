@@ -1,7 +1,7 @@
 -- The object of a sensor data record with its reading. The keys of each kind are always there, and a value never
 -- changes its type, but for null.
-use Rattle.std.specs.Prelude.{◌≡◌, ℕ, ◌/◌, ◌%◌, ℤ, ◌&&◌, if◌then◌else◌, Option, Some, None, List, [], ◌∷◌, ◌++◌, codes, slice_get}
-use Rattle.json.specs.Json.{Json, boolean, string}
+use Rattle.std.specs.Prelude.{◌≡◌, ℕ, ◌/◌, ◌%◌, ℤ, ◌&&◌, if◌then◌else◌, Option, Some, None, List, [], ◌∷◌, ◌++◌, codes, map, slice_get}
+use Rattle.json.specs.Json.{Json, boolean, null, string}
 use Rattle.ipmi_text.specs.FieldText.{binary_text}
 use Rattle.ipmi_text.specs.ReadingValue.{reading_value}
 use Rattle.ipmi_text.specs.SensorTypes.{sensor_type_text_of}
@@ -10,16 +10,17 @@ use Rattle.ipmi_text.specs.declared.reading.Reading.{Reading}
 use Rattle.ipmi_text.specs.declared.units.Units.{Units}
 use Rattle.ipmi_records.specs.Prelude.{byte_at, event_only_sensor, factors_in, has_bit, has_thresholds, is_readable, locator_in, name_of, record_bytes, record_type, sensor_in, shown_of, states_of, status_of, threshold_in, units_in}
 use Rattle.ipmi_records.specs.declared.column.Shown.{Shown}
-use Rattle.ipmi_records.specs.declared.entity.Entity.{Entity}
 use Rattle.ipmi_records.specs.declared.locator.Locator.{Locator}
 use Rattle.ipmi_records.specs.declared.sdr.SdrFault.{SdrFault}
 use Rattle.ipmi_records.specs.declared.sdr.SdrView.{SdrView}
 use Rattle.ipmi_records.specs.declared.sensor.Sensor.{Sensor}
 use Rattle.ipmi_records.specs.declared.threshold.Threshold.{Threshold}
 use Rattle.ipmi_events.specs.Entities.{entity_words}
+use Rattle.ipmi_events.specs.States.{set_states, state_words}
 use Rattle.ipmi_events.specs.Status.{status_in_words}
 use Rattle.ipmi_json.specs.declared.object.Label.{Label}
-use Rattle.ipmi_json.specs.Object.{integer, integer_or_null, IsDecimalOrNull, IsLineOf, Pair}
+use Rattle.ipmi_json.specs.Object.{integer, integer_or_null, IsDecimalOrNull, IsLineOf, Pair, texts}
+use Rattle.ipmi_json.specs.Record.{head_members, raw_members}
 
 -- ---- every record
 
@@ -32,21 +33,10 @@ kind_word (SdrView.Fru bytes) = codes "fru_locator"
 kind_word (SdrView.Controller bytes) = codes "mc_locator"
 kind_word (SdrView.Other bytes) = codes "other"
 
-abbrev pub head_members : ℕ → ℕ → List ℕ → List Pair
-head_members id type kind =
-    (codes "object", string (codes "sdr_record"))
-    ∷ (codes "record_id", integer id)
-    ∷ (codes "record_type", integer type)
-    ∷ (codes "kind", string kind)
-    ∷ []
-
 -- a record of another type has no name
 abbrev pub name_members : Option (List ℕ) → List Pair
 name_members None = []
 name_members (Some name) = (codes "name", string name) ∷ []
-
-abbrev pub raw_members : List ℕ → List Pair
-raw_members bytes = (codes "raw", string (binary_text bytes)) ∷ []
 
 -- ---- sensors
 
@@ -74,6 +64,17 @@ abbrev pub states_shown : Shown → Option ℕ
 states_shown (Shown.Value reading) = Some (states_of reading)
 states_shown _ = None
 
+-- the words of the states that are set
+abbrev pub texts_of_states : Sensor → ℕ → List (List ℕ)
+texts_of_states sensor states =
+    map (state_words sensor.event_type sensor.sensor_type) (set_states states)
+
+-- of a sensor without thresholds; one with thresholds has its status in words
+abbrev pub state_words_shown : Sensor → Shown → Json
+state_words_shown sensor (Shown.Value reading) =
+    if has_thresholds sensor then null else texts (texts_of_states sensor (states_of reading))
+state_words_shown sensor _ = null
+
 -- its value by the bytes of a full record: none where the sensor has no analog reading or is not linear
 abbrev pub value_shown : List ℕ → Shown → Option ℤ
 value_shown bytes (Shown.Value reading) = reading_value (factors_in bytes) reading.raw
@@ -88,6 +89,7 @@ pub record AreReadingMembers (sensor : Sensor) (value : Option ℤ) (units : Uni
       ∷ (codes "unit", string (unit_text_of units.units1 units.base units.modifier))
       ∷ (codes "reading_raw", integer_or_null (raw_shown shown))
       ∷ (codes "states", integer_or_null (states_shown shown))
+      ∷ (codes "state_words", state_words_shown sensor shown)
       ∷ (codes "status", string status)
       ∷ (codes "status_words", string (status_in_words sensor shown))
       ∷ []
@@ -181,7 +183,7 @@ pub record IsSdrLine (id : ℕ) (view : SdrView) (reading : Option Reading) (lab
   pub told : List Pair
   pub are_told : AreTold view reading told
   pub is_line : IsLineOf (
-      ((head_members id (record_type (record_bytes view)) (kind_word view)
+      ((head_members (codes "sdr_record") id (record_type (record_bytes view)) (kind_word view)
       ++ name_members (name_of view)) ++ told) ++ raw_members (record_bytes view)) labels text
 
 -- ---- a record that has no view

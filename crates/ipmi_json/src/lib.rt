@@ -4,11 +4,14 @@
 mod areas;
 mod fru;
 mod info;
+pub mod laws;
 mod multirecords;
 mod number;
 mod object;
+mod record;
 mod sdr;
 mod sel;
+mod states;
 mod time;
 
 pub use fru::{fru_elsewhere_line, fru_line};

@@ -1,11 +1,12 @@
 //! The objects of multirecords.
 ghost use Rattle.std.specs.Prelude.{◌≡◌, ◌≤◌, IfOk, None, OnOk, length, option_map};
 ghost use Rattle.ipmi_fru.specs.Prelude.{form_of, items_left, record_of};
-ghost use Rattle.ipmi_json.specs.Multirecords.{AreFormMembers, AreObjects, AreRangeMembers, AreRecordMembers, IsRecordObject, access_members, dc_word, fault_among, high_key, low_key, number_members, record_fault_word, record_head, record_raw, record_type_name, records_among};
+ghost use Rattle.ipmi_json.specs.Multirecords.{AreFormMembers, AreObjects, AreRangeMembers, AreRecordMembers, IsRecordObject, access_members, dc_word, fault_among, high_key, low_key, number_members, record_fault_word, record_head, record_type_name, records_among};
 ghost use Rattle.ipmi_json.specs.Object.{Adds, AddsItems, AddsSome, AddsValue};
 
 use crate::number::NumberText;
 use crate::object::{Value, word_or_null, write_members};
+use crate::record::write_raw;
 use ipmi_fru::{
     DcFields, DcKind, MultiFault, MultiView, RecordForm, Records, access_text, form_of,
 };
@@ -47,14 +48,6 @@ fn write_head(out: &mut Writer, kind: &'static str, view: &MultiView) -> Result<
             ("type_name", word_or_null(record_type_name(view.kind))),
         ],
     )
-}
-
-/// Writes what it has last: the record's data.
-fn write_raw(alloc: Global, out: &mut Writer, view: &MultiView) -> Result<(), AllocError>
-    ensures { OnOk result (Adds 1 (record_raw (record_of view.now)) out.old out.new) }
-{
-    let raw = hex::encode(alloc, view.bytes)?;
-    write_members(out, &[("raw", Value::Text(raw))])
 }
 
 /// Writes the number of an output or a load, and whether an output is a standby one.
@@ -178,7 +171,7 @@ fn write_record(alloc: Global, out: &mut Writer, view: &MultiView) -> Result<(),
 {
     out.begin_object()?;
     write_told(alloc, out, form_of(view), view)?;
-    write_raw(alloc, out, view)?;
+    write_raw(alloc, out, view.bytes)?;
     out.end_object()
 }
 

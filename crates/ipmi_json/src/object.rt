@@ -10,7 +10,7 @@ use json::Writer;
 use std::alloc::{AllocError, Global};
 
 /// The capacity for most lines.
-const LINE_CAPACITY: usize = 640;
+const LINE_CAPACITY: usize = 768;
 
 /// A member that a caller adds to an object, a text: it comes after the object's own. Its key must be none of theirs.
 #[derive(Clone, Copy, Debug, PartialEq, Eq)]

@@ -1,13 +1,15 @@
 //! The objects of sensor data records.
 ghost use Rattle.std.specs.Prelude.{◌≡◌, ◌++◌, IfOk, OnOk, option_map, slice_get, string_bytes};
-ghost use Rattle.ipmi_records.specs.Prelude.{locator_in, name_of, record_bytes, record_type, shown_of};
+ghost use Rattle.ipmi_records.specs.Prelude.{locator_in, name_of, shown_of};
 ghost use Rattle.ipmi_events.specs.Entities.{entity_words};
 ghost use Rattle.ipmi_json.specs.Object.{Adds, AddsSome, integer_or_null, IsDecimalOrNull, IsLineOf, json_of};
-ghost use Rattle.ipmi_json.specs.Sdr.{AreCompactMembers, AreFullMembers, AreReadingMembers, AreThresholdMembers, AreTold, IsSdrLine, bytes_members, fault_members, fault_word, fru_members, head_members, kind_word, locator_members, name_members, raw_members, raw_shown, sensor_members, states_shown, threshold_value, value_shown};
+ghost use Rattle.ipmi_json.specs.Sdr.{AreCompactMembers, AreFullMembers, AreReadingMembers, AreThresholdMembers, AreTold, IsSdrLine, bytes_members, fault_members, fault_word, fru_members, kind_word, locator_members, name_members, raw_shown, sensor_members, states_shown, threshold_value, value_shown};
 
 use crate::object::{
     Label, Value, begin, decimal_or_null, finish, integer_or_null, object_line, write_members,
 };
+use crate::record::{write_head, write_raw};
+use crate::states::state_words_shown;
 use ipmi_events::{EntityWords, status_in_words};
 use ipmi_records::SdrView::{Compact, Controller, EventOnly, Fru, Full, Generic, Other};
 use ipmi_records::{
@@ -36,22 +38,6 @@ fn kind_word(view: &SdrView) -> &'static str
     }
 }
 
-/// Writes the members that each record has first.
-fn write_head(out: &mut Writer, id: u16, view: &SdrView) -> Result<(), AllocError>
-    ensures { OnOk result (Adds 1 (head_members id (record_type (record_bytes view.now))
-        (kind_word view.now)) out.old out.new) }
-{
-    write_members(
-        out,
-        &[
-            ("object", Value::Word("sdr_record")),
-            ("record_id", Value::Integer(u64::from(id))),
-            ("record_type", Value::Integer(u64::from(view.record_type()))),
-            ("kind", Value::Word(kind_word(view))),
-        ],
-    )
-}
-
 /// Writes the name of a record, if it has one.
 fn write_name(alloc: Global, out: &mut Writer, view: &SdrView) -> Result<(), AllocError>
     ensures { OnOk result (Adds 1 (name_members (name_of view.now)) out.old out.new) }
@@ -60,14 +46,6 @@ fn write_name(alloc: Global, out: &mut Writer, view: &SdrView) -> Result<(), All
         Some(name) => write_members(out, &[("name", Value::Text(name))]),
         None => write_members(out, &[]),
     }
-}
-
-/// Writes the bytes of a record.
-fn write_raw(alloc: Global, out: &mut Writer, bytes: &[u8]) -> Result<(), AllocError>
-    ensures { OnOk result (Adds 1 (raw_members bytes.now) out.old out.new) }
-{
-    let raw = hex::encode(alloc, bytes)?;
-    write_members(out, &[("raw", Value::Text(raw))])
 }
 
 /// The name of an entity.
@@ -149,6 +127,7 @@ fn write_reading(
 {
     let shown = shown_of(sensor, reading);
     let number = decimal_or_null(alloc, value)?;
+    let state_words = state_words_shown(alloc, sensor, shown)?;
     let unit = unit_text(alloc, units.units1, units.base, units.modifier)?;
     write_members(
         out,
@@ -157,6 +136,7 @@ fn write_reading(
             ("unit", Value::Text(unit)),
             ("reading_raw", integer_or_null(raw_shown(shown))),
             ("states", integer_or_null(states_shown(shown))),
+            ("state_words", state_words),
             ("status", Value::Word(status)),
             (
                 "status_words",
@@ -320,7 +300,13 @@ pub fn sdr_record_line(
     ensures { IfOk result (λ line. IsSdrLine id view.now reading labels.now line.items) }
 {
     let mut out = begin(alloc)?;
-    write_head(&mut out, id, view)?;
+    write_head(
+        &mut out,
+        "sdr_record",
+        id,
+        view.record_type(),
+        kind_word(view),
+    )?;
     write_name(alloc, &mut out, view)?;
     write_told(alloc, &mut out, view, reading)?;
     write_raw(alloc, &mut out, view.bytes())?;

@@ -1,66 +1,127 @@
 //! The objects of the event log's entries.
-ghost use Rattle.std.specs.Prelude.{◌≡◌, IfOk, length, option_map, string_bytes};
+ghost use Rattle.std.specs.Prelude.{◌≡◌, IfOk, OnOk, option_map, string_bytes};
 ghost use Rattle.ipmi_records.specs.Prelude.{event_type, is_deasserted, sensor_type, words_of_event};
-ghost use Rattle.ipmi_events.specs.EventLines.{event_offset};
+ghost use Rattle.ipmi_events.specs.Details.{IsDetails};
+ghost use Rattle.ipmi_events.specs.EventLines.{event_offset, full_of};
 ghost use Rattle.ipmi_events.specs.Words.{event_words};
-ghost use Rattle.ipmi_json.specs.Object.{IsLineOf, json_of};
-ghost use Rattle.ipmi_json.specs.Sel.{IsEventLine, IsSelLine, IsTimedLine, direction_word, name_by, name_of_sensor, plain_members};
+ghost use Rattle.ipmi_json.specs.Object.{Adds, AddsSome, json_of};
+ghost use Rattle.ipmi_json.specs.Sel.{AreEventMembers, AreTimedMembers, AreTold, IsSelLine, data_members, direction_word, kind_word, meaning_members, name_by, sensor_record, source_members, time_members};
 
-use crate::object::{Label, Value, object_line, text_or_null, text_unless_empty, word_or_null};
+use crate::object::{
+    Label, Value, begin, finish, text_or_null, text_unless_empty, word_or_null, write_members,
+};
+use crate::record::{write_head, write_raw};
 use crate::time::time_text;
-use ipmi_events::{Sensors, event_words, push_sensor_name, record_for};
-use ipmi_records::{EventEntry, OemTimestampedEntry, SdrView, SelView};
+use ipmi_events::{Sensors, event_words, push_details, push_sensor_name, record_for};
+use ipmi_records::SelView::{Event, OemPlain, OemTimed, Other};
+use ipmi_records::{EventEntry, FullSensor, OemTimestampedEntry, SdrView, SelView};
 use ipmi_text::{event_text, sensor_type_text};
+use json::Writer;
 use std::alloc::{AllocError, Global};
 
 /// The capacity for most names.
 const NAME_CAPACITY: usize = 24;
 
-/// Where an entry has its type, counted from 0.
-const ENTRY_TYPE: usize = 2;
-
-/// Where what follows its type begins.
-const AFTER_TYPE: usize = 3;
+/// The capacity for most details.
+const DETAILS_CAPACITY: usize = 64;
 
 /// Bits 3:0 of an event's first data byte: its offset.
 const OFFSET_BITS: u8 = 0x0F;
 
-/// The word for an event that comes or goes.
-fn direction_word(event: &EventEntry) -> &'static str
-    ensures { result.now ≡ direction_word (is_deasserted event.now) }
+/// The word for the kind of an entry.
+fn kind_word(entry: &SelView) -> &'static str
+    ensures { result.now ≡ kind_word entry.now }
 {
-    if event.is_deasserted() {
-        "deasserted"
-    } else {
-        "asserted"
+    match entry {
+        Event(_) => "event",
+        OemTimed(_) => "oem_timestamped",
+        OemPlain(_) => "oem",
+        Other(_) => "unknown",
+    }
+}
+
+/// Writes a point in time and the time stamp that it is from.
+fn write_time(out: &mut Writer, time: Option<String>, stamp: u32) -> Result<(), AllocError>
+    ensures { OnOk result
+        (Adds 1 (time_members (option_map (λ s. string_bytes s) time) stamp) out.old out.new) }
+{
+    write_members(
+        out,
+        &[
+            ("timestamp", text_or_null(time)),
+            ("timestamp_raw", Value::Integer(u64::from(stamp))),
+        ],
+    )
+}
+
+/// Writes bytes that the standard gives no meaning.
+fn write_data(alloc: Global, out: &mut Writer, bytes: &[u8]) -> Result<(), AllocError>
+    ensures { OnOk result (Adds 1 (data_members bytes.now) out.old out.new) }
+{
+    let content = hex::encode(alloc, bytes)?;
+    write_members(out, &[("oem_data", Value::Text(content))])
+}
+
+/// The record of an event's sensor, by a table of sensors.
+fn sensor_record<'a>(event: &EventEntry, sensors: Option<&'a Sensors>) -> Option<SdrView<'a>>
+    ensures { result ≡ sensor_record event.now (option_map (λ s. s.now) sensors.entry) }
+{
+    match sensors {
+        Some(sensors) => record_for(event, sensors),
+        None => None,
+    }
+}
+
+/// The full record, if the record is one.
+fn full_of<'a, 'b>(view: Option<&'b SdrView<'a>>) -> Option<&'b FullSensor<'a>>
+    ensures { option_map (λ f. f.now) result ≡ full_of (option_map (λ v. v.now) view.entry) }
+{
+    match view {
+        Some(SdrView::Full(full)) => Some(full),
+        _ => None,
     }
 }
 
 /// The name of an event's sensor, by the record of it.
-fn name_by(alloc: Global, event: &EventEntry, view: Option<SdrView>) -> Result<Value, AllocError>
-    ensures { IfOk result (λ value. json_of value ≡ name_by event.now view.entry) }
+fn name_by(alloc: Global, event: &EventEntry, view: Option<&SdrView>) -> Result<Value, AllocError>
+    ensures { IfOk result
+        (λ value. json_of value ≡ name_by event.now (option_map (λ v. v.now) view.entry)) }
 {
     let Some(view) = view else {
         return Ok(Value::Null);
     };
     let mut name = String::with_capacity(alloc, NAME_CAPACITY)?;
-    push_sensor_name(alloc, &mut name, &view, event.sensor_number())?;
+    push_sensor_name(alloc, &mut name, view, event.sensor_number())?;
     Ok(text_unless_empty(name))
 }
 
-/// The name of an event's sensor, by a table of sensors.
-fn name_of_sensor(
+/// Writes what an event is from.
+fn write_source(
     alloc: Global,
+    out: &mut Writer,
     event: &EventEntry,
-    sensors: Option<&Sensors>,
-) -> Result<Value, AllocError>
-    ensures { IfOk result (λ value. json_of value ≡ name_of_sensor event.now
-        (option_map (λ s. s.now) sensors.entry)) }
+    view: Option<&SdrView>,
+) -> Result<(), AllocError>
+    ensures { OnOk result (Adds 1 (source_members (option_map (λ v. v.now) view.entry) event.now)
+        out.old out.new) }
 {
-    match sensors {
-        Some(sensors) => name_by(alloc, event, record_for(event, sensors)),
-        None => Ok(Value::Null),
-    }
+    let generator = u64::from(event.generator_id());
+    let revision = u64::from(event.revision());
+    let sensor_type = u64::from(event.sensor_type());
+    let number = u64::from(event.sensor_number());
+    let type_name = sensor_type_text(alloc, event.sensor_type())?;
+    let name = name_by(alloc, event, view)?;
+    write_members(
+        out,
+        &[
+            ("generator_id", Value::Integer(generator)),
+            ("event_revision", Value::Integer(revision)),
+            ("sensor_type", Value::Integer(sensor_type)),
+            ("sensor_type_name", Value::Text(type_name)),
+            ("sensor_number", Value::Integer(number)),
+            ("sensor_name", name),
+        ],
+    )
 }
 
 /// The specified text of an event.
@@ -82,131 +143,112 @@ fn words_of(event: &EventEntry) -> Option<&'static str>
     )
 }
 
-/// The line of an event.
-fn event_line(
-    alloc: Global,
-    id: u16,
-    event: &EventEntry,
-    sensors: Option<&Sensors>,
-    labels: &[Label],
-) -> Result<Vec<u8>, AllocError>
-    ensures { IfOk result (λ line. IsEventLine id (option_map (λ s. s.now) sensors.entry) event.now
-        labels.now line.items) }
+/// The word for an event that comes or goes.
+fn direction_word(event: &EventEntry) -> &'static str
+    ensures { result.now ≡ direction_word (is_deasserted event.now) }
 {
-    let time = time_text(alloc, event.time_stamp())?;
-    let sensor = sensor_type_text(alloc, event.sensor_type())?;
-    let name = name_of_sensor(alloc, event, sensors)?;
+    if event.is_deasserted() {
+        "deasserted"
+    } else {
+        "asserted"
+    }
+}
+
+/// The details of an event, by the record of its sensor.
+fn details_of(
+    alloc: Global,
+    event: &EventEntry,
+    view: Option<&SdrView>,
+) -> Result<String, AllocError>
+    ensures { IfOk result (λ text. IsDetails event.now (full_of (option_map (λ v. v.now) view.entry))
+        (string_bytes text)) }
+{
+    let mut details = String::with_capacity(alloc, DETAILS_CAPACITY)?;
+    push_details(&mut details, event, full_of(view))?;
+    Ok(details)
+}
+
+/// Writes what an event says, with its details.
+fn write_meaning(
+    alloc: Global,
+    out: &mut Writer,
+    event: &EventEntry,
+    details: String,
+) -> Result<(), AllocError>
+    ensures { OnOk result
+        (Adds 1 (meaning_members (string_bytes details) event.now) out.old out.new) }
+{
+    let event_type = u64::from(event.event_type());
     let specified = specified_text(alloc, event)?;
     let content = hex::encode(alloc, event.data_bytes())?;
-    let raw = hex::encode(alloc, event.bytes())?;
-    let kind = event.bytes()[ENTRY_TYPE];
-    object_line(
-        alloc,
+    write_members(
+        out,
         &[
-            ("object", Value::Word("sel_entry")),
-            ("record_id", Value::Integer(u64::from(id))),
-            ("record_type", Value::Integer(u64::from(kind))),
-            ("kind", Value::Word("event")),
-            ("timestamp", text_or_null(time)),
-            (
-                "timestamp_raw",
-                Value::Integer(u64::from(event.time_stamp())),
-            ),
-            (
-                "generator_id",
-                Value::Integer(u64::from(event.generator_id())),
-            ),
-            (
-                "event_revision",
-                Value::Integer(u64::from(event.revision())),
-            ),
-            (
-                "sensor_type",
-                Value::Integer(u64::from(event.sensor_type())),
-            ),
-            ("sensor_type_name", Value::Text(sensor)),
-            (
-                "sensor_number",
-                Value::Integer(u64::from(event.sensor_number())),
-            ),
-            ("sensor_name", name),
-            ("event_type", Value::Integer(u64::from(event.event_type()))),
+            ("event_type", Value::Integer(event_type)),
             ("event", Value::Text(specified)),
             ("event_words", word_or_null(words_of(event))),
             ("direction", Value::Word(direction_word(event))),
             ("event_data", Value::Text(content)),
-            ("raw", Value::Text(raw)),
+            ("event_details", text_unless_empty(details)),
         ],
-        labels,
     )
 }
 
-/// The line of an OEM timestamped record.
-fn timed_line(
+/// Writes what an event tells, by the record of its sensor.
+fn write_event(
     alloc: Global,
-    id: u16,
+    out: &mut Writer,
+    event: &EventEntry,
+    view: Option<&SdrView>,
+) -> Result<(), AllocError>
+    ensures { OnOk result (AddsSome 1 (AreEventMembers event.now (option_map (λ v. v.now) view.entry))
+        out.old out.new) }
+{
+    let time = time_text(alloc, event.time_stamp())?;
+    let details = details_of(alloc, event, view)?;
+    write_time(out, time, event.time_stamp())?;
+    write_source(alloc, out, event, view)?;
+    write_meaning(alloc, out, event, details)
+}
+
+/// Writes what an OEM timestamped record tells.
+fn write_timed(
+    alloc: Global,
+    out: &mut Writer,
     entry: &OemTimestampedEntry,
-    labels: &[Label],
-) -> Result<Vec<u8>, AllocError>
-    ensures { IfOk result (λ line. IsTimedLine id entry.now labels.now line.items) }
+) -> Result<(), AllocError>
+    ensures { OnOk result (AddsSome 1 (AreTimedMembers entry.now) out.old out.new) }
 {
     let time = time_text(alloc, entry.time_stamp())?;
-    let content = hex::encode(alloc, entry.data_bytes())?;
-    let raw = hex::encode(alloc, entry.bytes())?;
-    let kind = entry.bytes()[ENTRY_TYPE];
-    object_line(
-        alloc,
-        &[
-            ("object", Value::Word("sel_entry")),
-            ("record_id", Value::Integer(u64::from(id))),
-            ("record_type", Value::Integer(u64::from(kind))),
-            ("kind", Value::Word("oem_timestamped")),
-            ("timestamp", text_or_null(time)),
-            (
-                "timestamp_raw",
-                Value::Integer(u64::from(entry.time_stamp())),
-            ),
-            (
-                "manufacturer_id",
-                Value::Integer(u64::from(entry.manufacturer_id())),
-            ),
-            ("oem_data", Value::Text(content)),
-            ("raw", Value::Text(raw)),
-        ],
-        labels,
-    )
+    let manufacturer = u64::from(entry.manufacturer_id());
+    write_time(out, time, entry.time_stamp())?;
+    write_members(out, &[("manufacturer_id", Value::Integer(manufacturer))])?;
+    write_data(alloc, out, entry.data_bytes())
 }
 
-/// The line of an entry whose bytes after the type have no known meaning.
-fn plain_line(
+/// Writes what the entry tells by its kind.
+fn write_told(
     alloc: Global,
-    id: u16,
-    kind: &'static str,
-    bytes: &[u8],
-    labels: &[Label],
-) -> Result<Vec<u8>, AllocError>
-    requires { length bytes.now ≡ 16 }
-    ensures { IfOk result (λ line. IsLineOf (plain_members id kind.entry.now bytes.now) labels.now
-        line.items) }
+    out: &mut Writer,
+    entry: &SelView,
+    sensors: Option<&Sensors>,
+) -> Result<(), AllocError>
+    ensures { OnOk result (AddsSome 1 (AreTold entry.now (option_map (λ s. s.now) sensors.entry))
+        out.old out.new) }
 {
-    let content = hex::encode(alloc, &bytes[AFTER_TYPE..])?;
-    let raw = hex::encode(alloc, bytes)?;
-    object_line(
-        alloc,
-        &[
-            ("object", Value::Word("sel_entry")),
-            ("record_id", Value::Integer(u64::from(id))),
-            ("record_type", Value::Integer(u64::from(bytes[ENTRY_TYPE]))),
-            ("kind", Value::Word(kind)),
-            ("oem_data", Value::Text(content)),
-            ("raw", Value::Text(raw)),
-        ],
-        labels,
-    )
+    match entry {
+        Event(event) => {
+            let view = sensor_record(event, sensors);
+            write_event(alloc, out, event, view.as_ref())
+        }
+        OemTimed(timed) => write_timed(alloc, out, timed),
+        OemPlain(plain) => write_data(alloc, out, plain.data_bytes()),
+        Other(other) => write_data(alloc, out, other.data_bytes()),
+    }
 }
 
-/// The line of an entry under its id: its object. Of an event `sensors` gives the name of the sensor, if there is a
-/// table.
+/// The line of an entry under its id: its object. Of an event `sensors` gives the name of the sensor, and the units of the
+/// details, if there is a table.
 pub fn sel_entry_line(
     alloc: Global,
     id: u16,
@@ -217,10 +259,15 @@ pub fn sel_entry_line(
     ensures { IfOk result (λ line. IsSelLine id entry.now (option_map (λ s. s.now) sensors.entry)
         labels.now line.items) }
 {
-    match entry {
-        SelView::Event(event) => event_line(alloc, id, event, sensors, labels),
-        SelView::OemTimed(timed) => timed_line(alloc, id, timed, labels),
-        SelView::OemPlain(plain) => plain_line(alloc, id, "oem", plain.bytes(), labels),
-        SelView::Other(other) => plain_line(alloc, id, "unknown", other.bytes(), labels),
-    }
+    let mut out = begin(alloc)?;
+    write_head(
+        &mut out,
+        "sel_entry",
+        id,
+        entry.entry_type(),
+        kind_word(entry),
+    )?;
+    write_told(alloc, &mut out, entry, sensors)?;
+    write_raw(alloc, &mut out, entry.bytes())?;
+    finish(out, labels)
 }

@@ -4,7 +4,6 @@ use ipmi_events::Sensors;
 use ipmi_json::{Label, sel_entry_line};
 use ipmi_records::SelView;
 use std::alloc::{AllocError, Global};
-use std::process::Abort;
 
 /// A threshold event of 2020.
 const THRESHOLD: [u8; 16] = [
@@ -12,7 +11,7 @@ const THRESHOLD: [u8; 16] = [
 ];
 
 const THRESHOLD_LINE: &str =
-    r#"{"object":"sel_entry","record_id":1,"record_type":2,"kind":"event","timestamp":"2020-09-13T12:26:40Z","timestamp_raw":1600000000,"generator_id":32,"event_revision":4,"sensor_type":1,"sensor_type_name":"Temperature","sensor_number":1,"sensor_name":null,"event_type":1,"event":"Upper Non-critical going high","event_words":"Upper Non-critical going high","direction":"asserted","event_data":"574746","raw":"01000200105e5f200004010101574746"}"#;
+    r#"{"object":"sel_entry","record_id":1,"record_type":2,"kind":"event","timestamp":"2020-09-13T12:26:40Z","timestamp_raw":1600000000,"generator_id":32,"event_revision":4,"sensor_type":1,"sensor_type_name":"Temperature","sensor_number":1,"sensor_name":null,"event_type":1,"event":"Upper Non-critical going high","event_words":"Upper Non-critical going high","direction":"asserted","event_data":"574746","event_details":"Reading raw 0x47 > threshold raw 0x46","raw":"01000200105e5f200004010101574746"}"#;
 
 /// A deassertion with no time, of the second of four memory sensors.
 pub(crate) const MEMORY: [u8; 16] = [
@@ -20,7 +19,7 @@ pub(crate) const MEMORY: [u8; 16] = [
 ];
 
 pub(crate) const MEMORY_LINE: &str =
-    r#"{"object":"sel_entry","record_id":2,"record_type":2,"kind":"event","timestamp":null,"timestamp_raw":4294967295,"generator_id":32,"event_revision":4,"sensor_type":12,"sensor_type_name":"Memory","sensor_number":17,"sensor_name":"DIMM 2","event_type":111,"event":"event 0x6f offset 0x1","event_words":"Uncorrectable ECC / other uncorrectable memory error","direction":"deasserted","event_data":"01ffff","raw":"020002ffffffff2000040c11ef01ffff"}"#;
+    r#"{"object":"sel_entry","record_id":2,"record_type":2,"kind":"event","timestamp":null,"timestamp_raw":4294967295,"generator_id":32,"event_revision":4,"sensor_type":12,"sensor_type_name":"Memory","sensor_number":17,"sensor_name":"DIMM 2","event_type":111,"event":"event 0x6f offset 0x1","event_words":"Uncorrectable ECC / other uncorrectable memory error","direction":"deasserted","event_data":"01ffff","event_details":null,"raw":"020002ffffffff2000040c11ef01ffff"}"#;
 
 /// The same event, of an offset that the standard does not name and a sensor without a record.
 const UNKNOWN: [u8; 16] = [
@@ -28,7 +27,15 @@ const UNKNOWN: [u8; 16] = [
 ];
 
 const UNKNOWN_LINE: &str =
-    r#"{"object":"sel_entry","record_id":3,"record_type":2,"kind":"event","timestamp":null,"timestamp_raw":536870912,"generator_id":32,"event_revision":4,"sensor_type":192,"sensor_type_name":"sensor type 0xc0","sensor_number":153,"sensor_name":null,"event_type":111,"event":"event 0x6f offset 0xf","event_words":null,"direction":"asserted","event_data":"0fffff","raw":"03000200000020200004c0996f0fffff"}"#;
+    r#"{"object":"sel_entry","record_id":3,"record_type":2,"kind":"event","timestamp":null,"timestamp_raw":536870912,"generator_id":32,"event_revision":4,"sensor_type":192,"sensor_type_name":"sensor type 0xc0","sensor_number":153,"sensor_name":null,"event_type":111,"event":"event 0x6f offset 0xf","event_words":null,"direction":"asserted","event_data":"0fffff","event_details":null,"raw":"03000200000020200004c0996f0fffff"}"#;
+
+/// A threshold event of the processor's temperature: its record has the name and the units.
+const HOT: [u8; 16] = [
+    0x05, 0x00, 0x02, 0x00, 0x10, 0x5e, 0x5f, 0x20, 0x00, 0x04, 0x01, 0x01, 0x01, 0x59, 0x5c, 0x5a,
+];
+
+const HOT_LINE: &str =
+    r#"{"object":"sel_entry","record_id":5,"record_type":2,"kind":"event","timestamp":"2020-09-13T12:26:40Z","timestamp_raw":1600000000,"generator_id":32,"event_revision":4,"sensor_type":1,"sensor_type_name":"Temperature","sensor_number":1,"sensor_name":"CPU Temp","event_type":1,"event":"Upper Critical going high","event_words":"Upper Critical going high","direction":"asserted","event_data":"595c5a","event_details":"Reading 9.2 degrees C > threshold 9","raw":"05000200105e5f200004010101595c5a"}"#;
 
 /// An OEM timestamped record, one without a time stamp, and an entry of another type.
 const TIMED: [u8; 16] = [
@@ -53,11 +60,9 @@ const OTHER: [u8; 16] = [
 const OTHER_LINE: &str =
     r#"{"object":"sel_entry","record_id":4,"record_type":3,"kind":"unknown","oem_data":"0102030405060708090a0b0c0d","raw":"0400030102030405060708090a0b0c0d","host":"web\"17\\","no\tte":"\u0001\né"}"#;
 
-/// The table of a record of four memory sensors from number 10h on.
-pub(crate) fn sensors(rt: &impl Abort, alloc: Global) -> Sensors {
-    let digits = "0200510220200010200100000c6f0000000000000000000401000000000000c544494d4d20";
-    Sensors::of(alloc, bytes_of(rt, alloc, digits)).expect(rt, "memory")
-}
+/// A record of four memory sensors from number 10h on, and the full record of a temperature.
+pub(crate) const SENSORS: &str =
+    "0200510220200010200100000c6f0000000000000000000401000000000000c544494d4d20010051013320000103017f680101000000003838000100000100000000f00000000000005f5a550000000202000000c84350552054656d70";
 
 /// The line of an entry, without a table of sensors.
 fn line_of(alloc: Global, id: u16, entry: &[u8; 16]) -> Result<Vec<u8>, AllocError> {
@@ -66,7 +71,7 @@ fn line_of(alloc: Global, id: u16, entry: &[u8; 16]) -> Result<Vec<u8>, AllocErr
 }
 
 /// The line of an entry, by a table of sensors.
-pub(crate) fn named_line(
+fn named_line(
     alloc: Global,
     id: u16,
     entry: &[u8; 16],
@@ -79,10 +84,12 @@ pub(crate) fn named_line(
 #[test]
 fn events(rt: HostRuntime) {
     let alloc = rt.alloc();
-    let sensors = sensors(&rt, alloc);
+    let records = bytes_of(&rt, alloc, SENSORS);
+    let sensors = Sensors::of(alloc, records).expect(&rt, "memory");
     assert_line(&rt, line_of(alloc, 1, &THRESHOLD), THRESHOLD_LINE);
     assert_line(&rt, named_line(alloc, 2, &MEMORY, &sensors), MEMORY_LINE);
     assert_line(&rt, named_line(alloc, 3, &UNKNOWN, &sensors), UNKNOWN_LINE);
+    assert_line(&rt, named_line(alloc, 5, &HOT, &sensors), HOT_LINE);
     drop(sensors);
 }
 

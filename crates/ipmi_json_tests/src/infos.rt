@@ -11,11 +11,11 @@ pub(crate) const SEL_INFO_LINE: &str =
     r#"{"object":"sel_info","version":81,"record_count":12,"free_space":15000,"last_addition":"2020-09-13T12:26:40Z","last_addition_raw":1600000000,"last_erase":null,"last_erase_raw":0,"overflow":true,"operation_support":130}"#;
 
 /// The same with an erase at that time, no addition, and bit 7 of the last byte clear.
-const OTHER_INFO: [u8; 14] = [
+pub(crate) const OTHER_INFO: [u8; 14] = [
     0x51, 0xff, 0xff, 0x00, 0x00, 0xff, 0xff, 0xff, 0xff, 0x00, 0x10, 0x5e, 0x5f, 0x2f,
 ];
 
-const SDR_INFO_LINE: &str =
+pub(crate) const SDR_INFO_LINE: &str =
     r#"{"object":"sdr_info","version":81,"record_count":65535,"free_space":0,"last_addition":null,"last_addition_raw":4294967295,"last_erase":"2020-09-13T12:26:40Z","last_erase_raw":1600000000,"overflow":false,"operation_support":47}"#;
 
 pub(crate) const END_LINE: &str = r#"{"object":"end","status":0,"message":null,"count":65536}"#;

@@ -21,8 +21,14 @@ const FAULTY_LINE: &str =
 const ABSENT_LINE: &str =
     r#"{"object":"fru","fru_device_id":255,"name":"é","state":"not_present","fault":null,"chassis":null,"chassis_fault":null,"board":null,"board_fault":null,"product":null,"product_fault":null,"records":null,"records_fault":null,"size":null,"raw":null}"#;
 
-const ELSEWHERE_LINE: &str =
+/// With a label.
+pub(crate) const ELSEWHERE_LINE: &str =
     r#"{"object":"fru","fru_device_id":null,"name":"PSU1","state":"elsewhere","fault":null,"chassis":null,"chassis_fault":null,"board":null,"board_fault":null,"product":null,"product_fault":null,"records":null,"records_fault":null,"size":null,"raw":null,"host":"web17"}"#;
+
+pub(crate) const HOST: Label = Label {
+    key: "host",
+    value: "web17",
+};
 
 #[test]
 fn inventories(rt: HostRuntime) {
@@ -51,13 +57,9 @@ fn devices_that_tell_nothing(rt: HostRuntime) {
         FAULTY_LINE,
     );
     assert_line(&rt, fru_line(alloc, 255, Some("é"), None, &[]), ABSENT_LINE);
-    let labels = [Label {
-        key: "host",
-        value: "web17",
-    }];
     assert_line(
         &rt,
-        fru_elsewhere_line(alloc, Some("PSU1"), &labels),
+        fru_elsewhere_line(alloc, Some("PSU1"), &[HOST]),
         ELSEWHERE_LINE,
     );
 }

@@ -1,51 +1,79 @@
 //! Each call that makes a line, once: with ample memory, and with requests for memory refused.
-use crate::cases::{assert_line, assert_line_or_refused, bytes_of};
-use crate::entries::{MEMORY, MEMORY_LINE, named_line, sensors};
-use crate::infos::{END_LINE, INFO, SEL_INFO_LINE};
-use crate::inventories::{MIXED, MIXED_LINE};
-use crate::records::{FULL, HOT, READ_LINE};
-use ipmi_json::{end_line, fru_line, sdr_record_line, sel_info_line};
-use ipmi_records::SdrView;
+use crate::cases::{assert_line, assert_line_or_refused};
+use crate::entries::{MEMORY, MEMORY_LINE, SENSORS};
+use crate::infos::{END_LINE, INFO, OTHER_INFO, SDR_INFO_LINE, SEL_INFO_LINE};
+use crate::inventories::{ELSEWHERE_LINE, HOST, MIXED, MIXED_LINE};
+use crate::records::{FAULT_LINE, FAULTY, FULL, HOT, OTHER, RAW_LINE, READ_LINE};
+use ipmi_events::Sensors;
+use ipmi_json::{
+    end_line, fru_elsewhere_line, fru_line, sdr_fault_line, sdr_info_line, sdr_raw_line,
+    sdr_record_line, sel_entry_line, sel_info_line,
+};
+use ipmi_records::{SdrFault, SdrView, SelView};
+use std::alloc::{AllocError, Global};
 
-/// Neither is always out of memory: with ample memory each answers with its line.
-#[test]
-fn not_always_out_of_memory(rt: HostRuntime) {
-    let alloc = rt.alloc();
-    let sensors = sensors(&rt, alloc);
-    assert_line(&rt, named_line(alloc, 2, &MEMORY, &sensors), MEMORY_LINE);
-    drop(sensors);
-    let bytes = bytes_of(&rt, alloc, FULL);
-    let view = SdrView::read(&bytes).expect(&rt, "a record");
-    assert_line(
-        &rt,
-        sdr_record_line(alloc, 1, &view, Some(HOT), &[]),
-        READ_LINE,
-    );
-    let bytes = bytes_of(&rt, alloc, MIXED);
-    assert_line(
-        &rt,
-        fru_line(alloc, 1, Some("P\"S\\U"), Some(&bytes), &[]),
-        MIXED_LINE,
-    );
-    assert_line(&rt, sel_info_line(alloc, &INFO, &[]), SEL_INFO_LINE);
-    assert_line(&rt, end_line(alloc, 0, None, 65536, &[]), END_LINE);
+/// The answer of a call, and the line that it gives with ample memory.
+type Case = (Result<Vec<u8>, AllocError>, &'static str);
+
+/// The bytes that hex digits stand for.
+fn decoded(alloc: Global, digits: &str) -> Result<Vec<u8>, AllocError> {
+    match hex::decode(alloc, digits) {
+        Ok(bytes) => Ok(bytes),
+        Err(_) => Err(AllocError),
+    }
 }
 
-/// Where memory is refused, each of them answers with its line or with want of memory.
+fn entry_line(alloc: Global) -> Result<Vec<u8>, AllocError> {
+    let sensors = Sensors::of(alloc, decoded(alloc, SENSORS)?)?;
+    sel_entry_line(alloc, 2, &SelView::read(&MEMORY), Some(&sensors), &[])
+}
+
+fn record_line(alloc: Global) -> Result<Vec<u8>, AllocError> {
+    let bytes = decoded(alloc, FULL)?;
+    match SdrView::read(&bytes) {
+        Ok(view) => sdr_record_line(alloc, 1, &view, Some(HOT), &[]),
+        Err(_) => Err(AllocError),
+    }
+}
+
+fn device_line(alloc: Global) -> Result<Vec<u8>, AllocError> {
+    let bytes = decoded(alloc, MIXED)?;
+    fru_line(alloc, 1, Some("P\"S\\U"), Some(&bytes), &[])
+}
+
+/// A case of each call.
+fn cases(alloc: Global) -> [Case; 9] {
+    [
+        (entry_line(alloc), MEMORY_LINE),
+        (record_line(alloc), READ_LINE),
+        (
+            sdr_fault_line(alloc, 3, SdrFault::Length, &FAULTY, &[]),
+            FAULT_LINE,
+        ),
+        (sdr_raw_line(alloc, 8, 65535, &OTHER, &[]), RAW_LINE),
+        (device_line(alloc), MIXED_LINE),
+        (
+            fru_elsewhere_line(alloc, Some("PSU1"), &[HOST]),
+            ELSEWHERE_LINE,
+        ),
+        (sdr_info_line(alloc, &OTHER_INFO, &[]), SDR_INFO_LINE),
+        (sel_info_line(alloc, &INFO, &[]), SEL_INFO_LINE),
+        (end_line(alloc, 0, None, 65536, &[]), END_LINE),
+    ]
+}
+
+/// None is always out of memory: with ample memory each call answers with its line.
+#[test]
+fn not_always_out_of_memory(rt: HostRuntime) {
+    for (got, wanted) in cases(rt.alloc()) {
+        assert_line(&rt, got, wanted);
+    }
+}
+
+/// Where memory is refused, each answers with its line or with want of memory.
 #[test]
 fn memory_may_be_refused(rt: HostRuntime) {
-    let alloc = rt.alloc();
-    let sensors = sensors(&rt, alloc);
-    let line = named_line(alloc, 2, &MEMORY, &sensors);
-    assert_line_or_refused(&rt, line, MEMORY_LINE);
-    drop(sensors);
-    let bytes = bytes_of(&rt, alloc, FULL);
-    let view = SdrView::read(&bytes).expect(&rt, "a record");
-    let line = sdr_record_line(alloc, 1, &view, Some(HOT), &[]);
-    assert_line_or_refused(&rt, line, READ_LINE);
-    let bytes = bytes_of(&rt, alloc, MIXED);
-    let line = fru_line(alloc, 1, Some("P\"S\\U"), Some(&bytes), &[]);
-    assert_line_or_refused(&rt, line, MIXED_LINE);
-    assert_line_or_refused(&rt, sel_info_line(alloc, &INFO, &[]), SEL_INFO_LINE);
-    assert_line_or_refused(&rt, end_line(alloc, 0, None, 65536, &[]), END_LINE);
+    for (got, wanted) in cases(rt.alloc()) {
+        assert_line_or_refused(&rt, got, wanted);
+    }
 }

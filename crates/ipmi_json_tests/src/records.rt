@@ -9,10 +9,10 @@ pub(crate) const FULL: &str =
     "010051013320000103017f680101000000003838000100000100000000f00000000000005f5a550000000202000000c84350552054656d70";
 
 pub(crate) const READ_LINE: &str =
-    r#"{"object":"sdr_record","record_id":1,"record_type":1,"kind":"full","name":"CPU Temp","owner_id":32,"owner_lun":0,"sensor_number":1,"entity_id":3,"entity_name":"processor","entity_instance":1,"sensor_type":1,"sensor_type_name":"Temperature","event_type":1,"reading":9.2,"unit":"degrees C","reading_raw":92,"states":24,"status":"cr","status_words":"ucr","upper_non_recoverable":9.5,"upper_critical":9,"upper_non_critical":8.5,"lower_non_recoverable":null,"lower_critical":null,"lower_non_critical":null,"raw":"010051013320000103017f680101000000003838000100000100000000f00000000000005f5a550000000202000000c84350552054656d70"}"#;
+    r#"{"object":"sdr_record","record_id":1,"record_type":1,"kind":"full","name":"CPU Temp","owner_id":32,"owner_lun":0,"sensor_number":1,"entity_id":3,"entity_name":"processor","entity_instance":1,"sensor_type":1,"sensor_type_name":"Temperature","event_type":1,"reading":9.2,"unit":"degrees C","reading_raw":92,"states":24,"state_words":null,"status":"cr","status_words":"ucr","upper_non_recoverable":9.5,"upper_critical":9,"upper_non_critical":8.5,"lower_non_recoverable":null,"lower_critical":null,"lower_non_critical":null,"raw":"010051013320000103017f680101000000003838000100000100000000f00000000000005f5a550000000202000000c84350552054656d70"}"#;
 
 const UNREAD_LINE: &str =
-    r#"{"object":"sdr_record","record_id":1,"record_type":1,"kind":"full","name":"CPU Temp","owner_id":32,"owner_lun":0,"sensor_number":1,"entity_id":3,"entity_name":"processor","entity_instance":1,"sensor_type":1,"sensor_type_name":"Temperature","event_type":1,"reading":null,"unit":"degrees C","reading_raw":null,"states":null,"status":"ns","status_words":"ns","upper_non_recoverable":9.5,"upper_critical":9,"upper_non_critical":8.5,"lower_non_recoverable":null,"lower_critical":null,"lower_non_critical":null,"raw":"010051013320000103017f680101000000003838000100000100000000f00000000000005f5a550000000202000000c84350552054656d70"}"#;
+    r#"{"object":"sdr_record","record_id":1,"record_type":1,"kind":"full","name":"CPU Temp","owner_id":32,"owner_lun":0,"sensor_number":1,"entity_id":3,"entity_name":"processor","entity_instance":1,"sensor_type":1,"sensor_type_name":"Temperature","event_type":1,"reading":null,"unit":"degrees C","reading_raw":null,"states":null,"state_words":null,"status":"ns","status_words":"ns","upper_non_recoverable":9.5,"upper_critical":9,"upper_non_critical":8.5,"lower_non_recoverable":null,"lower_critical":null,"lower_non_critical":null,"raw":"010051013320000103017f680101000000003838000100000100000000f00000000000005f5a550000000202000000c84350552054656d70"}"#;
 
 /// What the sensor of the full record answers: above the upper critical threshold.
 pub(crate) const HOT: Reading = Reading {
@@ -22,17 +22,17 @@ pub(crate) const HOT: Reading = Reading {
     more: 0,
 };
 
-/// A compact record of a discrete sensor, whose state 1 is set.
+/// A compact record of a discrete sensor, whose states 1, 3 and 14 are set. The standard names the first alone.
 const COMPACT: &str = "030051021f200305070100000503000000000000c000000000000000000000c4446f6f72";
 
 const COMPACT_LINE: &str =
-    r#"{"object":"sdr_record","record_id":163,"record_type":2,"kind":"compact","name":"Door","owner_id":32,"owner_lun":3,"sensor_number":5,"entity_id":7,"entity_name":"system board","entity_instance":1,"sensor_type":5,"sensor_type_name":"Physical Security","event_type":3,"reading":null,"unit":"","reading_raw":0,"states":2,"status":"ok","status_words":"ok","raw":"030051021f200305070100000503000000000000c000000000000000000000c4446f6f72"}"#;
+    r#"{"object":"sdr_record","record_id":163,"record_type":2,"kind":"compact","name":"Door","owner_id":32,"owner_lun":3,"sensor_number":5,"entity_id":7,"entity_name":"system board","entity_instance":1,"sensor_type":5,"sensor_type_name":"Physical Security","event_type":3,"reading":null,"unit":"","reading_raw":0,"states":16394,"state_words":["State Asserted","state 3","state 14"],"status":"ok","status_words":"ok","raw":"030051021f200305070100000503000000000000c000000000000000000000c4446f6f72"}"#;
 
 const DOOR: Reading = Reading {
     raw: 0,
     flags: 0x40,
-    status: 0x02,
-    more: 0x80,
+    status: 0x0a,
+    more: 0xc0,
 };
 
 /// Records without a reading, each with its line after `record_id`: an event-only one; a generic locator, whose name has
@@ -46,7 +46,10 @@ const OTHERS: &str =
 070051120f24000000000000900100c4424d4331 "record_type":18,"kind":"mc_locator","name":"BMC1","device_address":36,"entity_id":144,"entity_name":"entity 0x90","entity_instance":1,"raw":"070051120f24000000000000900100c4424d4331"}
 080051c003570100 "record_type":192,"kind":"other","raw":"080051c003570100"}"#;
 
-const FAULT_LINE: &str =
+/// A record with a fault.
+pub(crate) const FAULTY: [u8; 5] = [0x03, 0x00, 0x51, 0x01, 0xff];
+
+pub(crate) const FAULT_LINE: &str =
     r#"{"object":"sdr_record","record_id":3,"record_type":1,"kind":"faulty","fault":"wrong_length","raw":"03005101ff"}"#;
 
 const SHORT_LINE: &str =
@@ -55,7 +58,10 @@ const SHORT_LINE: &str =
 const BODY_LINE: &str =
     r#"{"object":"sdr_record","record_id":4,"record_type":1,"kind":"faulty","fault":"body_too_short","raw":"0400510100"}"#;
 
-const RAW_LINE: &str =
+/// A record of another type.
+pub(crate) const OTHER: [u8; 8] = [0x08, 0x00, 0x51, 0xc0, 0x03, 0x57, 0x01, 0x00];
+
+pub(crate) const RAW_LINE: &str =
     r#"{"object":"sdr_raw","record_id":8,"next_record_id":65535,"raw":"080051c003570100"}"#;
 
 #[test]
@@ -102,15 +108,14 @@ fn records_without_a_reading(rt: HostRuntime) {
 #[test]
 fn faults_and_raw_rows(rt: HostRuntime) {
     let alloc = rt.alloc();
-    let bytes = [0x03, 0x00, 0x51, 0x01, 0xff];
     assert_line(
         &rt,
-        sdr_fault_line(alloc, 3, SdrFault::Length, &bytes, &[]),
+        sdr_fault_line(alloc, 3, SdrFault::Length, &FAULTY, &[]),
         FAULT_LINE,
     );
     assert_line(
         &rt,
-        sdr_fault_line(alloc, 65535, SdrFault::Short, &bytes[..3], &[]),
+        sdr_fault_line(alloc, 65535, SdrFault::Short, &FAULTY[..3], &[]),
         SHORT_LINE,
     );
     let bytes = [0x04, 0x00, 0x51, 0x01, 0x00];
@@ -119,6 +124,5 @@ fn faults_and_raw_rows(rt: HostRuntime) {
         sdr_fault_line(alloc, 4, SdrFault::BodyShort, &bytes, &[]),
         BODY_LINE,
     );
-    let bytes = [0x08, 0x00, 0x51, 0xc0, 0x03, 0x57, 0x01, 0x00];
-    assert_line(&rt, sdr_raw_line(alloc, 8, 65535, &bytes, &[]), RAW_LINE);
+    assert_line(&rt, sdr_raw_line(alloc, 8, 65535, &OTHER, &[]), RAW_LINE);
 }

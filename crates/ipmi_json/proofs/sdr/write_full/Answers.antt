@@ -1,4 +1,3 @@
-use Rattle.std.proofs.Common.{◌∙◌}
 use Rattle.std.proofs.lemmas.Result.{on_ok_weaker}
 use Rattle.ipmi_json.proofs.SdrLemmas.{full_told}
 use Rattle.ipmi_json.proofs.sdr.write_full.Goals as goal

@@ -1,0 +1,70 @@
+-- The statements of the laws of lines, for laws that build on them.
+use Rattle.std.specs.Prelude.{◌≡◌, ◌<◌, ℕ, List, Option, length}
+use Rattle.ipmi_text.specs.Bytes.{AreBytes}
+use Rattle.ipmi_text.specs.declared.reading.Reading.{Reading}
+use Rattle.ipmi_records.specs.Prelude.{entry_bytes}
+use Rattle.ipmi_records.specs.declared.sdr.SdrView.{SdrView}
+use Rattle.ipmi_records.specs.declared.sel.SelView.{SelView}
+use Rattle.ipmi_json.specs.declared.object.Label.{Label}
+use Rattle.ipmi_json.specs.Fru.{IsFruLine}
+use Rattle.ipmi_json.specs.Info.{IsInfoLine}
+use Rattle.ipmi_json.specs.Object.{IsLineOf, Pair}
+use Rattle.ipmi_json.specs.Sdr.{IsSdrLine}
+use Rattle.ipmi_json.specs.Sel.{IsSelLine}
+
+-- ---- at most one
+
+-- members and labels have at most one line
+abbrev pub ObjectLineIsUnique : Type 0
+ObjectLineIsUnique = (ms : List Pair) (labels : List Label) (text other : List ℕ)
+    → IsLineOf ms labels text → IsLineOf ms labels other → text ≡ other
+
+-- a record has at most one for an id, a reading and labels
+abbrev pub RecordLineIsUnique : Type 0
+RecordLineIsUnique = (id : ℕ) (view : SdrView) (reading : Option Reading) (labels : List Label)
+    (text other : List ℕ) → IsSdrLine id view reading labels text
+    → IsSdrLine id view reading labels other → text ≡ other
+
+-- an entry has at most one for an id, the records of the sensors and labels
+abbrev pub EntryLineIsUnique : Type 0
+EntryLineIsUnique = (id : ℕ) (view : SelView) (records : Option (List (List ℕ)))
+    (labels : List Label) (text other : List ℕ) → AreBytes (entry_bytes view)
+    → IsSelLine id view records labels text → IsSelLine id view records labels other
+    → text ≡ other
+
+-- an info has at most one under the name of its object
+abbrev pub InfoLineIsUnique : Type 0
+InfoLineIsUnique = (name bytes : List ℕ) (labels : List Label) (text other : List ℕ)
+    → AreBytes bytes → IsInfoLine name bytes labels text → IsInfoLine name bytes labels other
+    → text ≡ other
+
+-- a device has at most one for an id, a name, an inventory and labels
+abbrev pub DeviceLineIsUnique : Type 0
+DeviceLineIsUnique =
+    (id : ℕ) (name inventory : Option (List ℕ)) (labels : List Label) (text other : List ℕ)
+    → IsFruLine id name inventory labels text → IsFruLine id name inventory labels other
+    → text ≡ other
+
+-- ---- no line is empty
+
+abbrev pub NoObjectLineIsEmpty : Type 0
+NoObjectLineIsEmpty = (ms : List Pair) (labels : List Label) (text : List ℕ)
+    → IsLineOf ms labels text → 0 < length text
+
+abbrev pub NoRecordLineIsEmpty : Type 0
+NoRecordLineIsEmpty = (id : ℕ) (view : SdrView) (reading : Option Reading) (labels : List Label)
+    (text : List ℕ) → IsSdrLine id view reading labels text → 0 < length text
+
+abbrev pub NoEntryLineIsEmpty : Type 0
+NoEntryLineIsEmpty = (id : ℕ) (view : SelView) (records : Option (List (List ℕ)))
+    (labels : List Label) (text : List ℕ) → IsSelLine id view records labels text
+    → 0 < length text
+
+abbrev pub NoInfoLineIsEmpty : Type 0
+NoInfoLineIsEmpty = (name bytes : List ℕ) (labels : List Label) (text : List ℕ)
+    → IsInfoLine name bytes labels text → 0 < length text
+
+abbrev pub NoDeviceLineIsEmpty : Type 0
+NoDeviceLineIsEmpty =
+    (id : ℕ) (name inventory : Option (List ℕ)) (labels : List Label) (text : List ℕ)
+    → IsFruLine id name inventory labels text → 0 < length text

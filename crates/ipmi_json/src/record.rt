@@ -1,0 +1,39 @@
+//! What the objects of records and entries have first and last.
+ghost use Rattle.std.specs.Prelude.{OnOk};
+ghost use Rattle.ipmi_json.specs.Object.{Adds};
+ghost use Rattle.ipmi_json.specs.Record.{head_members, raw_members};
+
+use crate::object::{Value, write_members};
+use json::Writer;
+use std::alloc::{AllocError, Global};
+
+/// Writes the members that each record and each entry has first: the word for its object, its id, its type and the word for
+/// its kind.
+pub(crate) fn write_head(
+    out: &mut Writer,
+    object: &'static str,
+    id: u16,
+    record_type: u8,
+    kind: &'static str,
+) -> Result<(), AllocError>
+    ensures { OnOk result
+        (Adds 1 (head_members object.entry.now id record_type kind.entry.now) out.old out.new) }
+{
+    write_members(
+        out,
+        &[
+            ("object", Value::Word(object)),
+            ("record_id", Value::Integer(u64::from(id))),
+            ("record_type", Value::Integer(u64::from(record_type))),
+            ("kind", Value::Word(kind)),
+        ],
+    )
+}
+
+/// Writes the bytes, which each has last.
+pub(crate) fn write_raw(alloc: Global, out: &mut Writer, bytes: &[u8]) -> Result<(), AllocError>
+    ensures { OnOk result (Adds 1 (raw_members bytes.now) out.old out.new) }
+{
+    let raw = hex::encode(alloc, bytes)?;
+    write_members(out, &[("raw", Value::Text(raw))])
+}
